@@ -1,0 +1,2 @@
+//! What attrd means: definitions, and laws about them.
+#![tactic(auto)]

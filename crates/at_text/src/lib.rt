@@ -1,0 +1,2 @@
+//! Tokens, names, quoted texts, decimals and places: the base of every reader.
+#![tactic(auto)]
