@@ -71,9 +71,11 @@ pub fn write_quoted(text: &str, out: &mut Vec<u8>) -> Result<(), AllocError>
 
 /// The character for which the next one or two stand, or `None` at the closing quote.
 fn next_quoted(chars: &mut Chars<'_>) -> Result<Option<char>, QuoteFault>
+    // 34 is the closing quote
     ensures taken { IfOk result (λ next. MatchOption next
         (chars_rest chars.old ≡ 34 ∷ chars_rest chars.new)
         (λ c. chars_rest chars.old ≡ flat_map escaped (encode_utf8 c) ++ chars_rest chars.new)) }
+    // what is left is no text's spelling
     ensures form { OnErr result ((value : List ℕ) → ¬ (EndsIn (chars_rest chars.old) value)) }
     ensures fault { IfErr result (λ e. e ≡ QuoteFault.Form) }
 {
