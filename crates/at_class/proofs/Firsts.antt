@@ -1,12 +1,13 @@
 -- Loops that look for the first fault.
-use Rattle.std.proofs.Common.{◌≡◌, ℕ, ◌+◌, ◌<◌, ◌≤◌, List, [], ◌∷◌, length, take, drop, get_or, map, refl, ap, sym, ◌∙◌, arith, add-one, Option, Some, None}
+use Rattle.std.proofs.Common.{◌≡◌, ℕ, ◌+◌, ◌<◌, ◌≤◌, List, [], ◌∷◌, ◌++◌, subst, length, take, drop, get_or, map, refl, ap, sym, ◌∙◌, arith, add-one, Option, Some, None}
 use Rattle.std.proofs.Math.Seq.{drop-cons}
 use Rattle.std.proofs.lemmas.List.{drop_all, take-map, map-append, map_more}
 use Rattle.indexmap.specs.IndexSet.{insert_key}
 use Rattle.at_grammar.specs.declared.syntax.ClassDecl.{ClassDecl}
 use Rattle.at_class.specs.Grammar.{declaration_view, declarations_view}
 use Rattle.std.specs.String.{string_eq}
-use Rattle.std.specs.Prelude.{◌&&◌, not, String, string_bytes, Bool, true, false, ◌||◌, if◌then◌else◌}
+use Rattle.std.proofs.lemmas.List.Elements.{All-push}
+use Rattle.std.specs.Prelude.{All, ◌&&◌, not, String, string_bytes, Bool, true, false, ◌||◌, if◌then◌else◌}
 use Rattle.std.specs.List.{list_any, list_all}
 use Rattle.std.specs.Str.{bytes_eq}
 use Rattle.std.specs.Option.{option_or}
@@ -98,3 +99,8 @@ names_more keys new xs k d name less is text absent e same =
 pub list_all-map : {A B : Type 0} (p : B → Bool) (f : A → B) (xs : List A) → list_all p (map f xs) ≡ list_all (λ x. p (f x)) xs
 list_all-map p f [] = refl
 list_all-map p f (x ∷ xs) = ap (λ b. p (f x) && b) (list_all-map p f xs)
+
+-- one more of which it holds
+pub all_more : {X A : Type 0} (P : A → Type 0) (v : X → A) (xs : List X) (k : ℕ) (x : X) → k < length xs → x ≡ get_or xs k x → All P (map v (take k xs)) → P (v x) → All P (map v (take (k + 1) xs))
+all_more P v xs k x less is so_far here =
+    subst (All P) (sym (map_more v xs k x less ∙ ap (λ y. map v (take k xs) ++ v y ∷ []) (sym is))) (All-push P (map v (take k xs)) (v x) so_far here)
