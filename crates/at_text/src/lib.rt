@@ -1,2 +1,4 @@
 //! Tokens, names, quoted texts, decimals and places: the base of every reader.
 #![tactic(auto)]
+
+pub mod names;
