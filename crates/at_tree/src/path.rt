@@ -21,6 +21,7 @@ pub struct Path {
 
 mod partial;
 mod read;
+mod steps;
 
 pub use read::read_path;
 
@@ -44,7 +45,7 @@ fn write_steps(path: &Path, out: &mut Vec<u8>) -> Result<(), AllocError>
     ensures err { OnErr result (take (length out.old.items) out.new.items ≡ out.old.items) }
 {
     if path.steps.is_empty() {
-        out.push(b'/')?;
+        return Ok(out.push(b'/')?);
     }
     for step in &path.steps {
         write_step(step, out)?;

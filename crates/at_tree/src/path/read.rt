@@ -1,13 +1,14 @@
-ghost use Rattle.std.specs.Prelude.{◌≡◌, ◌++◌, ◌∷◌, [], Some, IfOk, IfErr};
+ghost use Rattle.std.specs.Prelude.{◌≡◌, ◌++◌, ◌∷◌, [], Some, string_bytes, IfOk, IfErr};
 ghost use Rattle.at_model.specs.Paths.{Path as Steps, IsPath, path_text};
 ghost use Rattle.at_tree.specs.PathView.{path_view, steps_view, step_view};
-ghost use Rattle.at_tree.specs.PartialPath.{whole_path};
+ghost use Rattle.at_tree.specs.PartialPath.{InPart, whole_at, whole_path};
 ghost use Rattle.at_tree.specs.PathSeen.{partial_view};
 ghost use Rattle.at_tree.specs.Stops.{IsPathText};
 ghost use Rattle.at_tree.specs.Answers.{Reads, StopsWith};
 ghost use Rattle.at_tree.specs.Finishes.{Finishes};
 
-use super::partial::{Partial, Place, step};
+use super::partial::{Partial, Place};
+use super::steps::step;
 use super::{Path, Step};
 use crate::fault::{Refused, TermFault};
 use at_text::names::is_reserved;
@@ -23,18 +24,28 @@ fn ends_with(mut steps: Vec<Step>, step: Step) -> Result<Path, TermFault>
     }
 }
 
+/// The path that ends with a name.
+fn ends_with_part(steps: Vec<Step>, part: String, at: usize) -> Result<Path, TermFault>
+    ensures { Finishes path_view result (whole_at (steps_view steps.items) (InPart (string_bytes part))) at }
+{
+    if is_reserved(&part) {
+        return Err(TermFault::Syntax { at });
+    }
+    ends_with(steps, Step { part, index: None })
+}
+
 /// The path that is whole at the end of its text.
 fn finish(partial: Partial, at: usize) -> Result<Path, TermFault>
     ensures { Finishes path_view result (whole_path (partial_view partial)) at }
 {
     let Partial { steps, place } = partial;
     match place {
-        Place::Slash if steps.is_empty() => Ok(Path { steps }),
-        Place::InPart(part) if !is_reserved(&part) => ends_with(steps, Step { part, index: None }),
+        Place::InPart(part) => ends_with_part(steps, part, at),
         Place::InIndex(part, index) => {
             let index = Some(index.value);
             ends_with(steps, Step { part, index })
         }
+        Place::Slash if steps.is_empty() => Ok(Path { steps }),
         _ => Err(TermFault::Syntax { at }),
     }
 }
