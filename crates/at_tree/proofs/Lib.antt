@@ -2,3 +2,4 @@ pub mod PathWritten
 pub mod Machine
 pub mod Pieces
 pub mod Finished
+pub mod PathMachine

@@ -50,6 +50,9 @@ chars_ascii b z h =
     let e = encode_ascii b h in
     ap (λ y. chars (y ++ z)) (sym e) ∙ chars-append (encode_utf8 b) z (utf8_char b s) ∙ ap (λ y. y ++ chars z) (chars_char b s)
 
+pub utf8_ascii : (b : ℕ) → b < 128 → IsUtf8 (b ∷ [])
+utf8_ascii b h = subst IsUtf8 (encode_ascii b h) (utf8_char b (low_scalar b (omega arith)))
+
 -- a run over a byte that is a character
 pub run_byte : {P : Type 0} (step : P → ℕ → Option P) (p : P) (b : ℕ) (z : List ℕ) (r : Option P) → b < 128 → step p b ≡ r → run step (Some p) (chars (b ∷ z)) ≡ run step r (chars z)
 run_byte step p b z r h e = ap (run step (Some p)) (chars_ascii b z h) ∙ ap (λ y. run step y (chars z)) e
