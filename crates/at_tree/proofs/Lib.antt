@@ -6,3 +6,6 @@ pub mod PathMachine
 pub mod Escapes
 pub mod TermSpelled
 pub mod TermSteps
+pub mod TermAlive
+pub mod TermRuns
+pub mod TermMachine
