@@ -9,3 +9,4 @@ pub mod TermSteps
 pub mod TermAlive
 pub mod TermRuns
 pub mod TermMachine
+pub mod TextLaws

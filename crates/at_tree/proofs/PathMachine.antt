@@ -193,7 +193,7 @@ run_rest [] ss s b l = (b.there, rw chars-nil refl, b.ends)
 run_rest (m ∷ ms) ss s b l =
     let after = run_one (ss ++ s ∷ []) m.part m.index l.0 in
     let e : run step (Some b.there) (chars (flat_map step_text (m ∷ ms))) ≡ run step (Some after.there) (chars (flat_map step_text ms)) =
-        run_byte step b.there 47 ((m.part ++ index_text m.index) ++ flat_map step_text ms) _ (lit< tt) b.goes_on ∙ after.run_to (flat_map step_text ms) in
+    run_byte step b.there 47 ((m.part ++ index_text m.index) ++ flat_map step_text ms) _ (lit< tt) b.goes_on ∙ after.run_to (flat_map step_text ms) in
     rw e (subst (Ends (run step (Some after.there) (chars (flat_map step_text ms)))) (append_assoc ss (s ∷ []) (m ∷ ms)) (run_rest ms (ss ++ s ∷ []) m after l.1))
 
 pub completes : (v : Path) → IsPath v → Ends (run step (Some nothing_read) (chars (path_text v))) v
@@ -201,7 +201,7 @@ completes [] h = (at [] Slash, run_byte step nothing_read 47 [] _ (lit< tt) refl
 completes (s ∷ ss) h =
     let after = run_one [] s.part s.index h.0 in
     let e : run step (Some nothing_read) (chars (path_text (s ∷ ss))) ≡ run step (Some after.there) (chars (flat_map step_text ss)) =
-        run_byte step nothing_read 47 ((s.part ++ index_text s.index) ++ flat_map step_text ss) (Some (at [] Slash)) (lit< tt) refl ∙ after.run_to (flat_map step_text ss) in
+    run_byte step nothing_read 47 ((s.part ++ index_text s.index) ++ flat_map step_text ss) (Some (at [] Slash)) (lit< tt) refl ∙ after.run_to (flat_map step_text ss) in
     rw e (run_rest ss [] s after h.1)
 
 abbrev pub path_machine : Machine Partial Path

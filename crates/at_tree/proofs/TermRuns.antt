@@ -181,7 +181,7 @@ module _ (name : List ℕ) (cells : List Cell) (fs : List Level) where
   run_chars (c ∷ cs) text z e =
       let f = both (scalar c) (scalars cs) e in
       let bytes : flat_map escaped (encode_utf8_all (c ∷ cs)) ++ z ≡ flat_map escaped (encode_utf8 c) ++ (flat_map escaped (encode_utf8_all cs) ++ z) =
-          rw (flat_map-append escaped (encode_utf8 c) (encode_utf8_all cs)) (append_assoc (flat_map escaped (encode_utf8 c)) _ z) in
+      rw (flat_map-append escaped (encode_utf8 c) (encode_utf8_all cs)) (append_assoc (flat_map escaped (encode_utf8 c)) _ z) in
       ap (λ y. runs (at here (InText text)) y) bytes ∙ run_char text c _ f.0 ∙ run_chars cs (text ++ encode_utf8 c) z f.1 ∙ ap (λ y. runs (at here (InText y)) z) (append_assoc text (encode_utf8 c) (encode_utf8_all cs))
 
   run_text : (text : List ℕ) (d : ℕ) (z : List ℕ) → IsUtf8 text → Closes d → runs (at here Start) (quoted text ++ d ∷ z) ≡ from (in_cell here (Holds (Text text)) d) z

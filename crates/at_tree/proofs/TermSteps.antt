@@ -104,12 +104,12 @@ cell_steps (f ∷ fs) x c l takes h =
     choose Goes (c == 44) _ _
     (λ e. (
       record { levels = (l.0, record { name = l.1.name; utf8 = l.1.utf8; cells = cells_fit_push _ f.cells x l.1.cells h; items = l.1.items }, l.2); place = tt },
-      rw (ascii c 44 (lit< tt) e, takes, flat_map-append (λ y. cell_text y ++ 44 ∷ []) f.cells (x ∷ [])) (simp append_assoc)
+      rw (ascii c 44 (lit< tt) e, takes, flat_map-append (λ y. cell_text y ++ 44 ∷ []) f.cells (x ∷ [])) (simp append_assoc),
     ))
     (λ e. choose Goes (c == 41) _ _
     (λ g. (
       complete_fits fs _ l.2 (node_fits fs f.name _ l.0 l.1.name l.1.utf8 (cells_fit_push _ f.cells x l.1.cells h)),
-      complete_text fs _ ∙ rw (ascii c 41 (lit< tt) g, takes, cell_texts_of f.cells x) (simp append_assoc)
+      complete_text fs _ ∙ rw (ascii c 41 (lit< tt) g, takes, cell_texts_of f.cells x) (simp append_assoc),
     ))
     (λ g. tt))
 
@@ -121,12 +121,12 @@ item_steps_of f fs (Some ts) t c is l h =
     choose Goes (c == 44) _ _
     (λ e. (
       record { levels = (l.0, record { name = l.1.name; utf8 = l.1.utf8; cells = l.1.cells; items = terms_fit_push _ ts t fit h }, l.2); place = tt },
-      rw (ascii c 44 (lit< tt) e, is, flat_map-append (λ y. term_text y ++ 44 ∷ []) ts (t ∷ [])) (simp append_assoc)
+      rw (ascii c 44 (lit< tt) e, is, flat_map-append (λ y. term_text y ++ 44 ∷ []) ts (t ∷ [])) (simp append_assoc),
     ))
     (λ e. choose Goes (c == 93) _ _
     (λ g. (
       record { levels = (l.0, record { name = l.1.name; utf8 = l.1.utf8; cells = l.1.cells; items = tt }, l.2); place = (refl, terms_fit_push _ ts t fit h) },
-      rw (ascii c 93 (lit< tt) g, is, term_texts_of ts t) (simp append_assoc)
+      rw (ascii c 93 (lit< tt) g, is, term_texts_of ts t) (simp append_assoc),
     ))
     (λ g. tt))
 
@@ -173,10 +173,9 @@ word_steps fs word c s l p =
     choose Goes (c == 40) _ _
     (λ e. choose Goes (can_open fs && not (is_reserved word)) _ _
     (λ o. let q = both (can_open fs) _ o in
-    let name : is_name word ≡ true = rw (p.0, q.1) refl in
-    (
+    let name : is_name word ≡ true = rw (p.0, q.1) refl in (
       record { levels = (opens fs q.0, record { name = name; utf8 = p.1; cells = tt; items = tt }, l); place = tt },
-      rw (ascii c 40 (lit< tt) e) (simp append_assoc)
+      rw (ascii c 40 (lit< tt) e) (simp append_assoc),
     ))
     (λ _. tt))
     (λ _. choose Goes (continues_name c) _ _
@@ -205,10 +204,9 @@ digits_steps fs minus n c l takes most h =
     choose (Steps (openings fs ++ number_text minus n) c) (is_digit c && (nat_lt 0 n && nat_le (n * 10 + (c - 48)) (limit minus))) _ _
     (λ e. let p = both (is_digit c) _ e in let q = both (nat_lt 0 n) _ p.1 in
     let positive : 0 < n = grind (arith, nat_tests, q.0) in
-    let within : n * 10 + (c - 48) ≤ limit minus = grind (arith, nat_tests, q.1) in
-    (
+    let within : n * 10 + (c - 48) ≤ limit minus = grind (arith, nat_tests, q.1) in (
       record { levels = l; place = (takes, within, λ m. omega arith) },
-      rw (number_more minus n c p.0 positive (limit_small minus n most), digit_bytes c p.0) (simp append_assoc)
+      rw (number_more minus n c p.0 positive (limit_small minus n most), digit_bytes c p.0) (simp append_assoc),
     ))
     (λ e. subst (λ y. Steps (openings fs ++ y) c (in_cell fs (Holds (Int (integer minus n))) c)) (integer_text minus n h)
     (cell_steps fs (Holds (Int (integer minus n))) c l takes (integer_fits minus n most h)))
@@ -218,10 +216,9 @@ dash_steps fs c l takes =
     choose (Steps (openings fs ++ 45 ∷ []) c) (is_digit c && not (c == 48)) _ _
     (λ e. let p = both (is_digit c) _ e in
     let b = digit_bounds c p.0 in
-    let other : (c ≡ 48) → ⊥ = λ z. differs z p.1 in
-    (
+    let other : (c ≡ 48) → ⊥ = λ z. differs z p.1 in (
       record { levels = l; place = (takes, omega (arith, b.0, b.1), λ m. omega (arith, b.0, b.1, other)) },
-      rw (one_digit c p.0, digit_bytes c p.0) (simp append_assoc)
+      rw (one_digit c p.0, digit_bytes c p.0) (simp append_assoc),
     ))
     (λ e. cell_steps fs Empty c l takes tt)
   where
@@ -235,10 +232,9 @@ text_steps fs text c s l takes u =
     choose Goes (c == 34) _ _ (λ e. (record { levels = l; place = (takes, u) }, rw (ascii c 34 (lit< tt) e) (simp append_assoc)))
     (λ q. choose Goes (c == 92) _ _ (λ e. (record { levels = l; place = (takes, u) }, rw (ascii c 92 (lit< tt) e) (simp append_assoc)))
     (λ b. choose Goes ((c == 10) || (c == 9)) _ _ (λ _. tt)
-    (λ e. let f = neither (c == 10) (c == 9) e in
-    (
+    (λ e. let f = neither (c == 10) (c == 9) e in (
       record { levels = l; place = (takes, IsUtf8-append text (encode_utf8 c) u (utf8_char c s)) },
-      rw (flat_map-append escaped text (encode_utf8 c), plain_text c q b f.0 f.1) (simp append_assoc)
+      rw (flat_map-append escaped text (encode_utf8 c), plain_text c q b f.0 f.1) (simp append_assoc),
     ))))
   where
     neither : (a b : Bool) → (a || b) ≡ false → (a ≡ false) × (b ≡ false)
@@ -251,10 +247,9 @@ escape_steps fs text c l takes u = of (unescaped c) refl
     of : (o : Option ℕ) → unescaped c ≡ o → Steps (openings fs ++ 34 ∷ (flat_map escaped text ++ 92 ∷ [])) c (option_map (λ d. record { levels = fs; place = InText (text ++ encode_utf8 d) }) o)
     of None is = tt
     of (Some d) is =
-        let t = unescaped_text c d is in
-        (
+        let t = unescaped_text c d is in (
           record { levels = l; place = (takes, IsUtf8-append text (encode_utf8 d) u (utf8_char d t.0)) },
-          rw (flat_map-append escaped text (encode_utf8 d), t.1) (simp append_assoc)
+          rw (flat_map-append escaped text (encode_utf8 d), t.1) (simp append_assoc),
         )
 
 -- the first character
@@ -272,14 +267,14 @@ first_steps_of f fs None c is l =
     (λ _. choose Goes ((c == 41) && is_empty f.cells) _ _
     (λ e. let p = both (c == 41) (is_empty f.cells) e in let none = empty f.cells p.1 in (
       complete_fits fs _ l.2 (node_fits fs f.name no_cells l.0 l.1.name l.1.utf8 tt),
-      complete_text fs _ ∙ rw (ascii c 41 (lit< tt) p.0, is, none) (simp append_assoc)
+      complete_text fs _ ∙ rw (ascii c 41 (lit< tt) p.0, is, none) (simp append_assoc),
     ))
     (λ _. tt)))))
 first_steps_of f fs (Some ts) c is l =
     choose (Steps (openings (f ∷ fs) ++ []) c) ((c == 93) && is_empty ts) _ _
     (λ e. let p = both (c == 93) (is_empty ts) e in (
       record { levels = (l.0, record { name = l.1.name; utf8 = l.1.utf8; cells = l.1.cells; items = tt }, l.2); place = (refl, tt) },
-      rw (ascii c 93 (lit< tt) p.0, is, empty ts p.1) (simp append_assoc)
+      rw (ascii c 93 (lit< tt) p.0, is, empty ts p.1) (simp append_assoc),
     ))
     (λ _. tt)
 

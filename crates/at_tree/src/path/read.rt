@@ -4,7 +4,7 @@ ghost use Rattle.at_tree.specs.PathView.{path_view, steps_view, step_view};
 ghost use Rattle.at_tree.specs.PartialPath.{InPart, whole_at, whole_path};
 ghost use Rattle.at_tree.specs.PathSeen.{partial_view};
 ghost use Rattle.at_tree.specs.Stops.{IsPathText};
-ghost use Rattle.at_tree.specs.Answers.{Reads, StopsWith};
+ghost use Rattle.at_tree.specs.Reads.{Reads, StopsWith};
 ghost use Rattle.at_tree.specs.Finishes.{Finishes};
 
 use super::partial::{Partial, Place};

@@ -4,7 +4,7 @@ ghost use Rattle.at_tree.specs.View.{term_view};
 ghost use Rattle.at_tree.specs.Partial.{whole_term};
 ghost use Rattle.at_tree.specs.Seen.{partial_view};
 ghost use Rattle.at_tree.specs.Stops.{IsTermText};
-ghost use Rattle.at_tree.specs.Answers.{Reads, StopsWith};
+ghost use Rattle.at_tree.specs.Reads.{Reads, StopsWith};
 ghost use Rattle.at_tree.specs.Finishes.{Finishes};
 
 use super::steps::step;
