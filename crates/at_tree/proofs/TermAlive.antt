@@ -1,18 +1,18 @@
 -- Each partial term can be completed.
-use Rattle.std.proofs.Common.{◌≡◌, ℕ, ◌+◌, ◌<◌, Bool, true, false, ◌&&◌, ◌||◌, ◌==◌, nat_eq, List, [], ◌∷◌, ◌++◌, length, take, drop, Option, Some, None, refl, ap, sym, ◌∙◌, subst, append_assoc, append-nil, lit<, arith}
-use Rattle.std.specs.Prelude.{chars, IsUtf8, codes}
+use Rattle.std.proofs.Common.{◌≡◌, ℕ, ◌<◌, Bool, true, false, ◌&&◌, ◌||◌, nat_eq, List, [], ◌∷◌, ◌++◌, length, take, drop, Option, Some, None, refl, ap, sym, ◌∙◌, subst, append_assoc, append-nil, lit<, arith}
+use Rattle.std.specs.Prelude.{IsUtf8, codes}
 use Rattle.std.specs.List.{flat_map, starts_with}
 use Rattle.std.proofs.lemmas.Grind.{flat_map-append}
 use Rattle.std.proofs.lemmas.List.{take-append-drop}
 use Rattle.std.proofs.lemmas.Slice.Eq.{bytes_eq-Decides}
 use Rattle.std.proofs.lemmas.Str.{IsUtf8-append}
-use Rattle.at_model.specs.Names.{is_word, is_name}
+use Rattle.at_model.specs.Names.{is_name}
 use Rattle.at_model.specs.Texts.{escaped}
 use Rattle.at_model.specs.Trees.{Text, Int, Truth}
 use Rattle.at_model.specs.Terms.{Term, Node, no_cells, Cell, One, Many, Empty, Holds, no_terms, term_text, cell_text, token_text, IsTerm, IsTermWithin, IsCellWithin, AreTermsWithin}
 use Rattle.at_tree.specs.Stops.{IsFront}
 use Rattle.at_tree.specs.View.{to_cells, to_terms}
-use Rattle.at_tree.specs.Partial.{Level, Place, Start, InWord, Dash, Digits, InText, Escape, Whole, Item, Done, Partial, integer, takes_cell, can_open, begins_truth, may_be_word}
+use Rattle.at_tree.specs.Partial.{Level, Place, Start, InWord, Dash, Digits, InText, Escape, Whole, Item, Done, Partial, integer, takes_cell, can_open, begins_truth}
 use Rattle.at_tree.proofs.Machine.{IsTextOf}
 use Rattle.at_tree.proofs.Pieces.{both, utf8_ascii, longer_name, shortest_name}
 use Rattle.at_tree.proofs.TermSpelled.{openings, place_text, spelled, cell_texts_of, term_texts_of}

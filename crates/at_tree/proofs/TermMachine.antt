@@ -1,8 +1,8 @@
 -- The reader of terms keeps the laws of a reader.
-use Rattle.std.proofs.Common.{◌≡◌, ℕ, List, [], ◌∷◌, ◌++◌, Option, Some, None, refl, ap, sym, ◌∙◌, append-nil}
+use Rattle.std.proofs.Common.{◌≡◌, List, [], ◌∷◌, ◌++◌, Some, refl, ap, sym, ◌∙◌, append-nil}
 use Rattle.std.specs.Prelude.{chars}
 use Rattle.std.proofs.lemmas.Str.{chars-nil}
-use Rattle.at_model.specs.Terms.{Term, IsTerm, IsTermWithin, term_text}
+use Rattle.at_model.specs.Terms.{Term, IsTerm, term_text}
 use Rattle.at_tree.specs.Partial.{Level, Place, Start, InWord, Dash, Digits, InText, Escape, Whole, Item, Done, Partial, at, nothing_read, step, term_at, whole_term}
 use Rattle.at_tree.proofs.Machine.{Machine, run}
 use Rattle.at_tree.proofs.TermSpelled.{openings, place_text, spelled}

@@ -1,23 +1,22 @@
 -- The text of a term is run through, whatever stands open before it.
-use Rattle.std.proofs.Common.{◌≡◌, ℕ, suc, ◌+◌, ◌-◌, ◌*◌, ◌<◌, ◌≤◌, ℤ, pos, negsuc, Bool, true, false, ◌&&◌, ◌||◌, ◌==◌, nat_lt, nat_le, List, [], ◌∷◌, ◌++◌, length, Option, Some, None, refl, ap, sym, ◌∙◌, append_assoc, append-nil, lit<, arith, encode_utf8_all}
+use Rattle.std.proofs.Common.{◌≡◌, ℕ, suc, ◌+◌, ◌-◌, ◌*◌, ◌<◌, ◌≤◌, ℤ, pos, negsuc, Bool, true, false, ◌||◌, ◌==◌, nat_lt, nat_le, List, [], ◌∷◌, ◌++◌, length, Option, Some, None, refl, ap, sym, ◌∙◌, append_assoc, append-nil, lit<, arith, encode_utf8_all}
 use Rattle.std.specs.Prelude.{⊤, chars, encode_utf8, IsUtf8, ◌/◌, ◌%◌, codes}
 use Rattle.std.specs.Char.{is_ascii_alphabetic, is_ascii_alphanumeric}
-use Rattle.std.specs.List.{flat_map, list_all}
+use Rattle.std.specs.List.{flat_map}
 use Rattle.std.specs.Fmt.{decimal}
 use Rattle.std.proofs.Math.Utf8.{scalar, scalars}
 use Rattle.std.proofs.lemmas.Bool.Decides.{nat_tests}
 use Rattle.std.proofs.lemmas.Grind.{flat_map-append}
 use Rattle.std.proofs.lemmas.Str.{encode_ascii, chars-append, encodes-chars, scalars-chars}
-use Rattle.unicode_ident.specs.Ident.{is_xid_start}
 use Rattle.unicode_ident.proofs.IdentLemmas.{is_xid_start-ascii, is_xid_continue-ascii}
-use Rattle.at_model.specs.Names.{starts_name, continues_name, is_word, is_name, is_reserved}
+use Rattle.at_model.specs.Names.{starts_name, continues_name, is_word, is_reserved}
 use Rattle.at_model.specs.Texts.{escaped, quoted}
 use Rattle.at_model.specs.Trees.{Token, Text, Int, Truth}
 use Rattle.at_model.specs.Terms.{Term, Node, Cells, no_cells, cell, Cell, One, Many, Empty, Holds, Terms, no_terms, term, term_text, cell_texts, term_texts, cell_text, token_text, with_commas, IsTermWithin, IsCellWithin, AreCellsWithin, AreTermsWithin, IsInt32}
 use Rattle.at_tree.specs.View.{to_cells, to_terms}
-use Rattle.at_tree.specs.Partial.{Level, Start, InWord, Dash, Digits, InText, Escape, Whole, Partial, at, is_digit, limit, can_open, begins_truth, may_be_word, complete, in_cell, after_word, open_term, first, in_digits, in_dash, in_text, step}
+use Rattle.at_tree.specs.Partial.{Level, Start, InWord, Dash, Digits, InText, Escape, Whole, Partial, at, is_digit, limit, can_open, begins_truth, may_be_word, complete, in_cell, after_word, first, in_digits, in_dash, in_text, step}
 use Rattle.at_tree.proofs.Machine.{run, utf8_char, chars_char}
-use Rattle.at_tree.proofs.Pieces.{both, same, other, not_true, run_byte, chars_ascii, run_name, low_digit, run_decimal}
+use Rattle.at_tree.proofs.Pieces.{both, same, other, not_true, run_byte, run_name, low_digit, run_decimal}
 use Rattle.at_tree.proofs.Escapes.{plain_text}
 use Rattle.at_tree.proofs.TermSteps.{room}
 

@@ -1,5 +1,5 @@
 -- Each step of the reader of terms keeps that the terms fit, and adds its character to the text.
-use Rattle.std.proofs.Common.{◌≡◌, ℕ, suc, ◌+◌, ◌-◌, ◌*◌, ◌<◌, ◌≤◌, Bool, true, false, ◌&&◌, ◌||◌, ◌==◌, nat_lt, nat_le, not, List, [], ◌∷◌, ◌++◌, length, Option, Some, None, refl, ap, sym, ◌∙◌, subst, append_assoc, append-nil, lit<, arith}
+use Rattle.std.proofs.Common.{◌≡◌, ℕ, suc, ◌+◌, ◌-◌, ◌*◌, ◌<◌, ◌≤◌, Bool, true, false, ◌&&◌, ◌||◌, ◌==◌, nat_lt, nat_le, not, List, [], ◌∷◌, ◌++◌, length, Option, Some, None, refl, ap, ◌∙◌, subst, append_assoc, lit<, arith}
 use Rattle.std.specs.Prelude.{⊤, chars, encode_utf8, IsUtf8, option_map, codes, ◌^◌}
 use Rattle.std.specs.List.{flat_map}
 use Rattle.std.specs.Str.{bytes_eq}
@@ -11,12 +11,12 @@ use Rattle.std.proofs.lemmas.Slice.Eq.{bytes_eq-Decides}
 use Rattle.std.proofs.lemmas.Str.{IsUtf8-append, IsUtf8-nil}
 use Rattle.at_model.specs.Names.{starts_name, continues_name, is_word, is_name, is_reserved}
 use Rattle.at_model.specs.Texts.{escaped}
-use Rattle.at_model.specs.Trees.{Text, Int, Truth}
+use Rattle.at_model.specs.Trees.{Int, Truth}
 use Rattle.at_model.specs.Terms.{Term, Node, Cells, no_cells, Cell, Empty, Holds, term_text, cell_text, token_text, IsTermWithin, IsCellWithin, AreCellsWithin, AreTermsWithin, IsInt32}
 use Rattle.at_tree.specs.View.{to_cells, to_terms}
-use Rattle.at_tree.specs.Partial.{Level, Place, Start, InWord, Dash, Digits, InText, Escape, Whole, Item, Done, Partial, is_empty, is_digit, limit, integer, takes_cell, can_open, truth_of, whole_in, complete, in_cell, in_item_of, in_item, may_be_word, in_word, open_term, after_truth, after_word, first_in, first_inside, first, in_digits, in_dash, in_text, unescaped, in_escape, step_at, step}
+use Rattle.at_tree.specs.Partial.{Level, Place, Start, InWord, Dash, Digits, InText, Escape, Whole, Item, Done, Partial, is_empty, is_digit, limit, integer, takes_cell, can_open, truth_of, whole_in, complete, in_cell, in_item_of, in_item, may_be_word, in_word, after_truth, after_word, first_in, first_inside, first, in_digits, in_dash, in_text, unescaped, in_escape, step_at, step}
 use Rattle.at_tree.proofs.Machine.{utf8_char}
-use Rattle.at_tree.proofs.Pieces.{both, same, not_true, choose, OnStep, ascii, word_one, word_longer, digit_bounds, digit_bytes, one_digit, more_digits}
+use Rattle.at_tree.proofs.Pieces.{both, choose, OnStep, ascii, word_one, word_longer, digit_bounds, digit_bytes, one_digit, more_digits}
 use Rattle.at_tree.proofs.Escapes.{plain_text, unescaped_text}
 use Rattle.at_tree.proofs.TermSpelled.{openings, number_text, place_text, spelled, cell_texts_of, term_texts_of}
 

@@ -1,10 +1,10 @@
 -- The laws about texts follow from what the readers do with them.
-use Rattle.std.proofs.Common.{◌≡◌, ℕ, ◌+◌, List, [], ◌∷◌, ◌++◌, length, Option, Some, None, refl, ap, sym, ◌∙◌, append-nil, length-append, arith}
+use Rattle.std.proofs.Common.{◌≡◌, ℕ, List, [], ◌∷◌, ◌++◌, length, Some, None, refl, ap, sym, ◌∙◌, append-nil, length-append, arith}
 use Rattle.std.specs.Prelude.{chars}
 use Rattle.std.proofs.lemmas.Str.{chars-nil}
-use Rattle.at_model.specs.Terms.{Term, IsTerm, term_text}
+use Rattle.at_model.specs.Terms.{Term, term_text}
 use Rattle.at_tree.specs.Laws.{NoneBeginsAnother, OnePathEach}
-use Rattle.at_tree.specs.Partial.{Start, Done, Partial, at, nothing_read, step}
+use Rattle.at_tree.specs.Partial.{Start, Done, at, nothing_read, step}
 use Rattle.at_tree.proofs.Machine.{run, run_none, unique}
 use Rattle.at_tree.proofs.PathMachine.{path_machine}
 use Rattle.at_tree.proofs.TermRuns.{run_term}
