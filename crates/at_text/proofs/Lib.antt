@@ -1,0 +1,4 @@
+pub mod Fronts
+pub mod Quotes
+pub mod Openings
+pub mod Same

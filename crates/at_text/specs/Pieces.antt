@@ -1,8 +1,8 @@
 -- What a text is made of. A text is its UTF-8 bytes; it is cut into pieces from the left, each the longest that fits there.
 use Rattle.std.specs.Prelude.{◌≡◌, ℕ, ◌+◌, ◌≤◌, List, [], ◌∷◌, ◌++◌, length, Bool, true, false, ◌||◌, ◌&&◌, ◌==◌, not, Option, Some, None, IsUtf8, encode_utf8_all, chars, codes}
 use Rattle.std.specs.List.{flat_map, AllByRecursion, list_any, list_all}
-use Rattle.std.specs.Str.{bytes_eq}
-use Rattle.std.specs.Char.{encode_utf8}
+use Rattle.std.specs.Str.{bytes_eq, all_ascii_digits}
+use Rattle.std.specs.Char.{encode_utf8, is_ascii_digit}
 use Rattle.at_model.specs.Names.{starts_name, continues_name, is_word}
 use Rattle.at_model.specs.Texts.{quoted}
 use Rattle.at_text.specs.declared.token.TokenKind.{TokenKind}
@@ -39,9 +39,6 @@ spell (Sign sign) = sign
 -- a space, a tab, a carriage return or a newline
 abbrev pub is_blank : ℕ → Bool
 is_blank c = (c == 32) || (c == 9) || (c == 13) || (c == 10)
-
-abbrev pub is_digit : ℕ → Bool
-is_digit c = (c == 48) || (c == 49) || (c == 50) || (c == 51) || (c == 52) || (c == 53) || (c == 54) || (c == 55) || (c == 56) || (c == 57)
 
 -- a line ends at its newline
 abbrev pub is_within_line : ℕ → Bool
@@ -88,7 +85,7 @@ IsPiece (LineComment cs) after = IsLongestRun is_within_line cs after
 -- the star of its end belongs to no earlier end
 IsPiece (BlockComment body) after = HasNoEnd (body ++ 42 ∷ [])
 IsPiece (Name c cs) after = (starts_name c ≡ true) × IsLongestRun continues_name cs after
-IsPiece (Number d ds) after = (is_digit d ≡ true) × IsLongestRun is_digit ds after
+IsPiece (Number d ds) after = (is_ascii_digit d ≡ true) × IsLongestRun is_ascii_digit ds after
 IsPiece (Quoted body) after = IsUtf8 body
 IsPiece (Sign sign) after = IsLongestSign sign (sign ++ after) × (opens_comment (sign ++ after) ≡ false)
 
@@ -143,7 +140,7 @@ spelled lexeme = record { kind = lexeme.kind; text = lexeme.text.now; start = le
 -- a digit and digits behind it
 abbrev pub is_number : List ℕ → Bool
 is_number [] = false
-is_number (d ∷ ds) = is_digit d && list_all is_digit ds
+is_number (d ∷ ds) = is_ascii_digit d && all_ascii_digits ds
 
 -- the text of a token of this kind
 abbrev pub IsOfKind : TokenKind → List ℕ → Type 0
