@@ -39,7 +39,7 @@ abbrev all_below : ℕ → (ℕ → Bool) → Bool
 all_below zero test = true
 all_below (suc n) test = test n && all_below n test
 
-both : (a b : Bool) → (a && b) ≡ true → (a ≡ true) × (b ≡ true)
+pub both : (a b : Bool) → (a && b) ≡ true → (a ≡ true) × (b ≡ true)
 both true b e = (refl, e)
 both false b e = absurd (clash false e refl)
 
@@ -141,13 +141,13 @@ sign_opening (b ∷ bs) after e =
       of = family_ascii b h ∙ eqb-true (plain_family b) 4 p.1;
     }
 
-slash : family_at 47 ≡ 4
+pub slash : family_at 47 ≡ 4
 slash = family_ascii 47 (lit< tt)
 
-quote : family_at 34 ≡ 3
+pub quote : family_at 34 ≡ 3
 quote = family_ascii 34 (lit< tt)
 
-plain : (b : ℕ) (rest : List ℕ) → b < 128 → b ∷ rest ≡ encode_utf8 b ++ rest
+pub plain : (b : ℕ) (rest : List ℕ) → b < 128 → b ∷ rest ≡ encode_utf8 b ++ rest
 plain b rest h = ap (λ l. l ++ rest) (sym (encode_ascii b h))
 
 pub opening : (p : Piece) (after : List ℕ) → IsPiece p after → Opening p after

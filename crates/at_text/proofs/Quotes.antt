@@ -19,7 +19,7 @@ unescaped [] = None
 unescaped (b ∷ bs) = cond (b == 34) None (cond (b == 92) (after_backslash bs) (cond (b == 10) None (cond (b == 9) None (Some (b, bs)))))
 
 -- equal to this number, or not
-by_cases : (P : ℕ → Type 0) (n b : ℕ) → P n → ((b == n) ≡ false → P b) → P b
+pub by_cases : (P : ℕ → Type 0) (n b : ℕ) → P n → ((b == n) ≡ false → P b) → P b
 by_cases P n b same other = decide (b == n) refl
   where
     decide : (t : Bool) → (b == n) ≡ t → P b

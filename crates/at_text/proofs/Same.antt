@@ -14,7 +14,7 @@ use Rattle.at_text.proofs.Openings.{family, family_same, digit_small}
 abbrev pub AreSame : Piece → Piece → List ℕ → List ℕ → Type 0
 AreSame p q x y = (p ≡ q) × (x ≡ y)
 
-apart : {A : Type 0} (m n : ℕ) → (m == n) ≡ false → m ≡ n → A
+pub apart : {A : Type 0} (m n : ℕ) → (m == n) ≡ false → m ≡ n → A
 apart m n f e = absurd (clash (m == n) (eq-eqb m n e) f)
 
 -- bytes of one length before the rest
@@ -77,7 +77,7 @@ same_quoted b d x y e =
     let r = same_body b d (34 ∷ x) (34 ∷ y) refl refl (sym (append_assoc (flat_map escaped b) (34 ∷ []) x) ∙ inner ∙ append_assoc (flat_map escaped d) (34 ∷ []) y) in
     ((λ i. Quoted (r.0 i)), tail_same 34 34 x y r.1)
 
-behind_slash : (b c : ℕ) (bs cs : List ℕ) → 47 ∷ b ∷ bs ≡ 47 ∷ c ∷ cs → b ≡ c
+pub behind_slash : (b c : ℕ) (bs cs : List ℕ) → 47 ∷ b ∷ bs ≡ 47 ∷ c ∷ cs → b ≡ c
 behind_slash b c bs cs e = head_same b c bs cs (tail_same 47 47 (b ∷ bs) (c ∷ cs) e)
 
 pub same_piece : (p q : Piece) (x y : List ℕ) → IsPiece p x → IsPiece q y → spell p ++ x ≡ spell q ++ y → AreSame p q x y
