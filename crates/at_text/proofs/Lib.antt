@@ -5,3 +5,4 @@ pub mod Same
 pub mod Stuck
 pub mod Cuts
 pub mod Breaks
+pub mod Signs

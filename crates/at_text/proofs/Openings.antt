@@ -10,7 +10,7 @@ use Rattle.unicode_ident.proofs.IdentLemmas.{is_xid_start-ascii}
 use Rattle.at_model.specs.Names.{starts_name}
 use Rattle.at_model.specs.Texts.{escaped}
 use Rattle.at_text.specs.Pieces.{Piece, Blank, LineComment, BlockComment, Name, Number, Quoted, Sign, spell, IsPiece, is_blank, is_sign, signs}
-use Rattle.at_text.proofs.Fronts.{clash}
+use Rattle.at_text.proofs.Fronts.{clash, both}
 
 abbrev family_by : Bool → ℕ → ℕ
 family_by starts c = cond (is_blank c) 0 (cond starts 1 (cond (is_ascii_digit c) 2 (cond (c == 34) 3 4)))
@@ -35,15 +35,11 @@ family_ascii : (c : ℕ) → c < 128 → family_at c ≡ plain_family c
 family_ascii c h = ap (λ s. family_by (s || (c == 95)) c) (is_xid_start-ascii c h)
 
 -- a test of each number below n
-abbrev all_below : ℕ → (ℕ → Bool) → Bool
+abbrev pub all_below : ℕ → (ℕ → Bool) → Bool
 all_below zero test = true
 all_below (suc n) test = test n && all_below n test
 
-pub both : (a b : Bool) → (a && b) ≡ true → (a ≡ true) × (b ≡ true)
-both true b e = (refl, e)
-both false b e = absurd (clash false e refl)
-
-below : (n : ℕ) (test : ℕ → Bool) → all_below n test ≡ true → (c : ℕ) → c < n → test c ≡ true
+pub below : (n : ℕ) (test : ℕ → Bool) → all_below n test ≡ true → (c : ℕ) → c < n → test c ≡ true
 below zero test e c h = absurd (omega (arith, h))
 below (suc n) test e c h =
     let p = both (test n) (all_below n test) e in
@@ -104,7 +100,7 @@ abbrev begins_sign : List ℕ → Bool
 begins_sign [] = false
 begins_sign (b ∷ bs) = nat_lt b 128 && (plain_family b == 4)
 
-bytes_same : (xs ys : List ℕ) → bytes_eq xs ys ≡ true → xs ≡ ys
+pub bytes_same : (xs ys : List ℕ) → bytes_eq xs ys ≡ true → xs ≡ ys
 bytes_same xs ys e = grind (arith, bytes_eq-Decides)
 
 -- what each of a list passes, the one that is found in it passes

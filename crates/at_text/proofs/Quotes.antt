@@ -1,9 +1,16 @@
 -- Texts between quotes: what is escaped is read back in one way.
-use Rattle.std.proofs.Common.{◌≡◌, ℕ, ◌+◌, List, [], ◌∷◌, ◌++◌, length, Bool, true, false, cond, ◌==◌, ◌||◌, ◌&&◌, not, Option, Some, None, is_some, true≢false, refl, sym, ap, subst, ◌∙◌, append_assoc, eqb-true}
+use Rattle.std.proofs.Common.{◌≡◌, ℕ, ◌+◌, List, [], ◌∷◌, ◌++◌, length, length-append, Bool, true, false, cond, ◌==◌, ◌||◌, ◌&&◌, not, Option, Some, None, is_some, true≢false, refl, sym, ap, subst, ◌∙◌, append_assoc, append-nil, eqb-true, get_or, lit<, ◌<◌, suc, arith, encode_utf8, IsUtf8}
 use Rattle.std.specs.List.{flat_map}
 use Rattle.at_model.specs.Texts.{escaped}
-use Rattle.at_text.specs.Faults.{leaves_open, is_misplaced}
-use Rattle.at_text.proofs.Fronts.{clash}
+use Rattle.std.proofs.lemmas.Bool.Decides.{nat_tests}
+use lib.Utf8.{scalar}
+use Rattle.std.specs.Char.{IsScalar}
+use Rattle.std.specs.Str.{all_scalars}
+use Rattle.std.proofs.lemmas.Grind.{flat_map-append}
+use Rattle.std.proofs.lemmas.Str.{IsUtf8-nil, IsUtf8-append, encode_ascii, IsUtf8-encode, inside_one, char_from_byte, cons_from_encodes, length-encode, len_utf8_bounds}
+use Rattle.at_text.specs.Faults.{makes_escape, leaves_open, is_misplaced}
+use Rattle.at_text.specs.Front.{MeansNone, Means, stands_for_itself}
+use Rattle.at_text.proofs.Fronts.{clash, both}
 
 -- the byte that an escape means
 abbrev meant : ℕ → List ℕ → Option (ℕ × List ℕ)
@@ -63,3 +70,94 @@ same_body (a ∷ b) (c ∷ d) x y f g e =
     let s = some_same a c (escapes b ++ x) (escapes d ++ y) (sym (one_escape a b x) ∙ ap unescaped e ∙ one_escape c d y) in
     let r = same_body b d x y f g s.1 in
     ((λ i. s.0 i ∷ r.0 i), r.1)
+
+pub none_meant : (text : List ℕ) → unescaped text ≡ None → MeansNone text
+none_meant text e b rest f = some_not_none b rest (sym (unescaped-escaped b rest) ∙ ap unescaped (sym f) ∙ e)
+
+-- a character that makes an escape is ASCII
+escape_small : (c : ℕ) → makes_escape c ≡ true → c < 128
+escape_small c e = grind (arith, nat_tests)
+
+-- what an escape means
+pub record Escape (c : ℕ) : Type 0 where
+  pub byte : ℕ
+  pub small : byte < 128
+  pub is : IsScalar byte
+  pub spelled : escaped byte ≡ 92 ∷ c ∷ []
+
+abbrev Escapes : ℕ → Type 0
+Escapes d = makes_escape d ≡ true → Escape d
+
+pub escape_of : (c : ℕ) → makes_escape c ≡ true → Escape c
+escape_of c e =
+    by_cases Escapes 34 c (λ t. record { byte = 34; small = lit< tt; is = refl; spelled = refl })
+    (λ f. by_cases Escapes 92 c (λ t. record { byte = 92; small = lit< tt; is = refl; spelled = refl })
+    (λ g. by_cases Escapes 110 c (λ t. record { byte = 10; small = lit< tt; is = refl; spelled = refl })
+    (λ h. by_cases Escapes 116 c (λ t. record { byte = 9; small = lit< tt; is = refl; spelled = refl })
+    (λ k t. absurd (let z : makes_escape c ≡ false = rw (f, g, h, k) refl in clash (makes_escape c) t z))))) e
+
+pub escape_means : (c : ℕ) (text rest : List ℕ) → makes_escape c ≡ true → text ≡ encode_utf8 92 ++ (encode_utf8 c ++ rest) → IsUtf8 rest → (body : List ℕ) × Means body text rest × (length rest < length text)
+escape_means c text rest t e u =
+    let x = escape_of c t in
+    let spelled : text ≡ 92 ∷ c ∷ rest = e ∙ (λ i. encode_ascii 92 (lit< tt) i ++ (encode_ascii c (escape_small c t) i ++ rest)) in
+    (x.byte ∷ [], (spelled ∙ ap (λ l. l ++ rest) (sym (append-nil (escaped x.byte) ∙ x.spelled)), subst IsUtf8 (encode_ascii x.byte x.small) (IsUtf8-encode x.byte x.is), u), omega (arith, ap length spelled))
+
+pub no_escape : (c : ℕ) (bs : List ℕ) → makes_escape c ≡ false → unescaped (92 ∷ c ∷ bs) ≡ None
+no_escape c bs e = grind (arith, nat_tests)
+
+-- the first byte of a character that makes no escape makes none
+pub escape_means_none : (c : ℕ) (text rest : List ℕ) → makes_escape c ≡ false → text ≡ encode_utf8 92 ++ (encode_utf8 c ++ rest) → MeansNone text
+escape_means_none c text rest f e = none_meant text (ap unescaped (e ∙ ap (λ l. l ++ (encode_utf8 c ++ rest)) (encode_ascii 92 (lit< tt))) ∙ behind (encode_utf8 c ++ rest) refl)
+  where
+    behind : (more : List ℕ) → more ≡ encode_utf8 c ++ rest → unescaped (92 ∷ more) ≡ None
+    behind [] g = refl
+    behind (b ∷ bs) g = no_escape b bs (decide (makes_escape b) refl)
+      where
+        decide : (t : Bool) → makes_escape b ≡ t → makes_escape b ≡ false
+        decide false h = h
+        decide true h = absurd (clash (makes_escape b) h (ap makes_escape (sym (char_from_byte (b ∷ bs) rest c g (escape_small b h) (omega arith))) ∙ f))
+
+abbrev Plain : ℕ → Type 0
+Plain d = stands_for_itself d ≡ true → escaped d ≡ d ∷ []
+
+-- a byte that stands for itself
+pub plain_escape : (b : ℕ) → stands_for_itself b ≡ true → escaped b ≡ b ∷ []
+plain_escape b e = by_cases Plain 34 b (λ t. absurd (clash false t refl)) (λ f. by_cases Plain 92 b (λ t. absurd (clash false t refl)) (λ g. by_cases Plain 10 b (λ t. absurd (clash false t refl)) (λ h. by_cases Plain 9 b (λ t. absurd (clash false t refl)) (λ k t. rw (f, g, h, k) refl)))) e
+
+pub plain_bytes : (bs : List ℕ) → ((k : ℕ) → k < length bs → stands_for_itself (get_or bs k 0) ≡ true) → flat_map escaped bs ≡ bs
+plain_bytes [] h = refl
+plain_bytes (b ∷ bs) h = (λ i. plain_escape b (h 0 (omega arith)) i ++ plain_bytes bs (λ k l. h (suc k) (omega (arith, l))) i)
+
+special_small : (b : ℕ) → stands_for_itself b ≡ false → b < 128
+special_small b e = grind (arith, nat_tests)
+
+pub plain_character : (c : ℕ) → stands_for_itself c ≡ true → flat_map escaped (encode_utf8 c) ≡ encode_utf8 c
+plain_character c e = plain_bytes (encode_utf8 c) (λ k l. decide k l (stands_for_itself (get_or (encode_utf8 c) k 0)) refl)
+  where
+    decide : (k : ℕ) → k < length (encode_utf8 c) → (t : Bool) → stands_for_itself (get_or (encode_utf8 c) k 0) ≡ t → stands_for_itself (get_or (encode_utf8 c) k 0) ≡ true
+    decide k l true h = h
+    decide k l false h = ap stands_for_itself (sym (inside_one c [] (encode_utf8 c) k (sym (append-nil (encode_utf8 c))) l (special_small (get_or (encode_utf8 c) k 0) h))) ∙ e
+
+first_scalar : (c : ℕ) (text rest : List ℕ) → IsUtf8 text → text ≡ encode_utf8 c ++ rest → IsScalar c
+first_scalar c text rest u e =
+    let p = cons_from_encodes u.0 rest c (u.1.1 ∙ e) in
+    (both (scalar c) (all_scalars p.0) (ap all_scalars (sym p.1) ∙ u.1.0)).0
+
+pub plain_means : (c : ℕ) (text rest : List ℕ) → stands_for_itself c ≡ true → IsUtf8 text → text ≡ encode_utf8 c ++ rest → IsUtf8 rest → (body : List ℕ) × Means body text rest × (length rest < length text)
+plain_means c text rest t u e v = (encode_utf8 c, (e ∙ ap (λ l. l ++ rest) (sym (plain_character c t)), IsUtf8-encode c (first_scalar c text rest u e), v), omega (arith, ap length e, length-append (encode_utf8 c) rest, length-encode c, len_utf8_bounds c))
+
+-- what a loop over the characters between quotes has read
+pub record Read (text rest : List ℕ) : Type 0 where
+  pub body : List ℕ
+  pub split : text ≡ flat_map escaped body ++ rest
+  pub is : IsUtf8 body
+
+pub read_none : (text : List ℕ) → Read text text
+read_none text = record { body = []; split = refl; is = IsUtf8-nil }
+
+pub read_more : (text rest after more : List ℕ) → Read text rest → Means more rest after → Read text after
+read_more text rest after more r m = record {
+  body = r.body ++ more;
+  split = r.split ∙ ap (λ l. flat_map escaped r.body ++ l) m.0 ∙ sym (append_assoc (flat_map escaped r.body) (flat_map escaped more) after) ∙ ap (λ l. l ++ after) (sym (flat_map-append escaped r.body more));
+  is = IsUtf8-append r.body more r.is m.1;
+}

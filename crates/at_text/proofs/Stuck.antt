@@ -5,10 +5,10 @@ use Rattle.std.proofs.lemmas.Bool.Decides.{nat_tests}
 use Rattle.std.proofs.lemmas.Str.{encode_same, length-encode, len_utf8_bounds}
 use Rattle.at_model.specs.Texts.{escaped}
 use Rattle.at_text.specs.Pieces.{Piece, Blank, LineComment, BlockComment, Name, Number, Quoted, Sign, spell, IsPiece, HasNoEnd, opens_comment, is_sign, signs}
-use Rattle.at_text.specs.Faults.{leaves_open, is_misplaced, OpensText, IsOpenText, IsOpenComment}
-use Rattle.at_text.proofs.Fronts.{clash, head_same, tail_same}
-use Rattle.at_text.proofs.Quotes.{unescaped, same_body, by_cases}
-use Rattle.at_text.proofs.Openings.{family, family_at, opening, both, plain, slash, quote}
+use Rattle.at_text.specs.Faults.{leaves_open, makes_escape, is_misplaced, OpensText, IsOpenText, IsOpenComment}
+use Rattle.at_text.proofs.Fronts.{clash, both, head_same, tail_same}
+use Rattle.at_text.proofs.Quotes.{unescaped, no_escape, same_body, by_cases}
+use Rattle.at_text.proofs.Openings.{family, family_at, opening, plain, slash, quote}
 use Rattle.at_text.proofs.Same.{apart, behind_slash}
 
 -- no piece stands at the front
@@ -60,16 +60,17 @@ open_means_none [] e = refl
 open_means_none (b ∷ []) e = either (b == 10) (b == 92) e (λ f. subst (λ d. unescaped (d ∷ []) ≡ None) (sym (eqb-true b 10 f)) refl) (λ f. subst (λ d. unescaped (d ∷ []) ≡ None) (sym (eqb-true b 92 f)) refl)
 open_means_none (b ∷ c ∷ bs) e = subst (λ d. unescaped (d ∷ c ∷ bs) ≡ None) (sym (eqb-true b 10 e)) refl
 
-no_escape : (c : ℕ) (bs : List ℕ) → not ((c == 34) || (c == 92) || (c == 110) || (c == 116)) ≡ true → unescaped (92 ∷ c ∷ bs) ≡ None
-no_escape c bs e = grind (arith, nat_tests)
+not_false : (b : Bool) → not b ≡ true → b ≡ false
+not_false true e = absurd (clash false e refl)
+not_false false e = refl
 
 pub misplaced_means_none : (tail : List ℕ) → is_misplaced tail ≡ true → unescaped tail ≡ None
 misplaced_means_none [] e = refl
 misplaced_means_none (b ∷ []) e = subst (λ d. unescaped (d ∷ []) ≡ None) (sym (eqb-true b 9 e)) refl
 misplaced_means_none (b ∷ c ∷ bs) e =
-    either (b == 9) ((b == 92) && not ((c == 34) || (c == 92) || (c == 110) || (c == 116))) e
+    either (b == 9) ((b == 92) && not (makes_escape c)) e
     (λ f. subst (λ d. unescaped (d ∷ c ∷ bs) ≡ None) (sym (eqb-true b 9 f)) refl)
-    (λ f. let p = both (b == 92) (not ((c == 34) || (c == 92) || (c == 110) || (c == 116))) f in subst (λ d. unescaped (d ∷ c ∷ bs) ≡ None) (sym (eqb-true b 92 p.0)) (no_escape c bs p.1))
+    (λ f. let p = both (b == 92) (not (makes_escape c)) f in subst (λ d. unescaped (d ∷ c ∷ bs) ≡ None) (sym (eqb-true b 92 p.0)) (no_escape c bs (not_false (makes_escape c) p.1)))
 
 -- a closing quote is neither
 abbrev closes : List ℕ → Bool

@@ -20,11 +20,15 @@ leaves_open [] = true
 leaves_open (b ∷ []) = (b == 10) || (b == 92)
 leaves_open (b ∷ c ∷ bs) = b == 10
 
+-- behind a backslash
+abbrev pub makes_escape : ℕ → Bool
+makes_escape c = (c == 34) || (c == 92) || (c == 110) || (c == 116)
+
 -- within a text between quotes: a raw tab, or a backslash before a character that makes no escape
 abbrev pub is_misplaced : List ℕ → Bool
 is_misplaced [] = false
 is_misplaced (b ∷ []) = b == 9
-is_misplaced (b ∷ c ∷ bs) = (b == 9) || ((b == 92) && not ((c == 34) || (c == 92) || (c == 110) || (c == 116)))
+is_misplaced (b ∷ c ∷ bs) = (b == 9) || ((b == 92) && not (makes_escape c))
 
 -- a text between quotes opens, and this is left behind the part of it that is in order
 abbrev pub OpensText : List ℕ → List ℕ → List ℕ → Type 0

@@ -1,9 +1,18 @@
 //! A text is cut into tokens.
 
-ghost use Rattle.std.specs.Prelude.{◌≡◌};
+ghost use Rattle.std.specs.Prelude.{◌≡◌, ◌⊎◌, List, [], map, MatchResult, IfOk, IfErr, All, IsCharBoundary};
+ghost use Rattle.at_text.specs.declared.scan.ScanFault.{ScanFault};
 ghost use Rattle.at_text.specs.declared.scan.ScanFault.TheVariants.{Memory};
+ghost use Rattle.at_text.specs.Pieces.{Piece, Cut, tokens_at, spelled_at, spelled, IsOfKind};
+ghost use Rattle.at_text.specs.Faults.{FaultsAt, IsWithin};
 
-use std::alloc::{AllocError, AllocFailed};
+mod front;
+#[cfg(test)]
+mod tests;
+
+use self::front::Break;
+use crate::token::{Lexeme, Token};
+use std::alloc::{AllocError, AllocFailed, Global};
 
 /// Why a text is no row of tokens. Offsets are in bytes from its beginning.
 #[derive(Debug, Drop)]
@@ -33,4 +42,74 @@ impl<T: Drop> From<AllocFailed<T>> for ScanFault {
     fn from(_e: AllocFailed<T>) -> ScanFault {
         ScanFault::Memory
     }
+}
+
+/// The fault of a text that is cut up to `rest`, where no piece stands for this reason.
+fn fault(text: &str, rest: &str, flaw: Break<'_>) -> ScanFault {
+    let start = text.len() - rest.len();
+    match flaw {
+        Break::Bad(tail) => ScanFault::Bad { at: text.len() - tail.len() },
+        Break::OpenText => ScanFault::OpenText { at: start },
+        Break::OpenComment => ScanFault::OpenComment { at: start },
+    }
+}
+
+/// What stands before the end of the text that is `after`.
+fn before<'a>(text: &'a str, after: &str) -> &'a str {
+    let (front, _) = text.split_at(text.len() - after.len());
+    front
+}
+
+/// The tokens of a text with their places, or the first fault from the left. Blanks (space, tab, carriage return, newline)
+/// and comments (`//` to the end of the line, `/*` to the next `*/`) stand between tokens. A word is a character that is an
+/// XID start or `_` and the XID continues behind it (Unicode Standard Annex 31), a number is a run of ASCII digits, a sign is
+/// the longest that fits, and a text between quotes has the escapes `\"`, `\\`, `\n` and `\t` and no others.
+pub fn scan(alloc: Global, text: &str) -> Result<Vec<Token>, ScanFault>
+    ensures tokens { IfOk result (λ v. (ps : List Piece) × Cut text.now ps [] × (v.items ≡ tokens_at 0 ps)) }
+    ensures only { (ps : List Piece) → Cut text.now ps [] → MatchResult result (λ v. v.items ≡ tokens_at 0 ps) (λ e. e ≡ Memory) }
+    ensures fault { IfErr result (FaultsAt text.now) }
+    ensures faulty { (e : ScanFault) → (e ≡ Memory → ⊥) → FaultsAt text.now e → MatchResult result (λ v. ⊥) (λ f. (f ≡ Memory) ⊎ (f ≡ e)) }
+    ensures within { IfErr result (IsWithin text.now) }
+{
+    let mut tokens = Vec::new(alloc);
+    let mut rest = text;
+    while !rest.is_empty() {
+        let (kind, after) = match front::piece(rest) {
+            Ok(found) => found,
+            Err(flaw) => return Err(fault(text, rest, flaw)),
+        };
+        if let Some(kind) = kind {
+            let start = text.len() - rest.len();
+            let end = text.len() - after.len();
+            tokens.push(Token { kind, start, end })?;
+        }
+        rest = after;
+    }
+    Ok(tokens)
+}
+
+/// The tokens of a text with their own texts, where `scan` gives them with their places; the same faults.
+pub fn lexemes<'a>(alloc: Global, text: &'a str) -> Result<Vec<Lexeme<'a>>, ScanFault>
+    ensures tokens { IfOk result (λ v. (ps : List Piece) × Cut text.now ps [] × (map spelled v.items ≡ spelled_at 0 ps)) }
+    ensures only { (ps : List Piece) → Cut text.now ps [] → MatchResult result (λ v. map spelled v.items ≡ spelled_at 0 ps) (λ e. e ≡ Memory) }
+    ensures kinds { IfOk result (λ v. All (λ x. IsOfKind x.kind x.text.now) v.items) }
+    ensures starts { IfOk result (λ v. All (λ x. IsCharBoundary text.now x.start) v.items) }
+    ensures fault { IfErr result (FaultsAt text.now) }
+    ensures faulty { (e : ScanFault) → (e ≡ Memory → ⊥) → FaultsAt text.now e → MatchResult result (λ v. ⊥) (λ f. (f ≡ Memory) ⊎ (f ≡ e)) }
+    ensures within { IfErr result (IsWithin text.now) }
+{
+    let mut lexemes = Vec::new(alloc);
+    let mut rest = text;
+    while !rest.is_empty() {
+        let (kind, after) = match front::piece(rest) {
+            Ok(found) => found,
+            Err(flaw) => return Err(fault(text, rest, flaw)),
+        };
+        if let Some(kind) = kind {
+            let start = text.len() - rest.len();
+            lexemes.push(Lexeme { kind, text: before(rest, after), start })?;
+        }
+        rest = after;
+    }
+    Ok(lexemes)
 }
