@@ -6,3 +6,4 @@ pub mod Stuck
 pub mod Cuts
 pub mod Breaks
 pub mod Signs
+pub mod Found

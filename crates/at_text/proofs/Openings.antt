@@ -160,3 +160,9 @@ family_same p q x y g h e =
     let a = opening p x g in
     let b = opening q y h in
     sym a.of ∙ ap family_at (encode_same a.first b.first a.others b.others (sym a.split ∙ e ∙ b.split)).0 ∙ b.of
+
+-- a piece that begins with this character is of its family
+pub family_in : (c : ℕ) (text after : List ℕ) (p : Piece) (rest : List ℕ) → text ≡ encode_utf8 c ++ after → IsPiece p rest → text ≡ spell p ++ rest → family_at c ≡ family p
+family_in c text after p rest e is g =
+    let o = opening p rest is in
+    ap family_at (encode_same c o.first after o.others (sym e ∙ g ∙ o.split)).0 ∙ o.of

@@ -1,5 +1,5 @@
 -- Texts between quotes: what is escaped is read back in one way.
-use Rattle.std.proofs.Common.{◌≡◌, ℕ, ◌+◌, List, [], ◌∷◌, ◌++◌, length, length-append, Bool, true, false, cond, ◌==◌, ◌||◌, ◌&&◌, not, Option, Some, None, is_some, true≢false, refl, sym, ap, subst, ◌∙◌, append_assoc, append-nil, eqb-true, get_or, lit<, ◌<◌, suc, arith, encode_utf8, IsUtf8}
+use Rattle.std.proofs.Common.{◌≡◌, ℕ, ◌+◌, List, [], ◌∷◌, ◌++◌, length, length-append, Bool, true, false, cond, ◌==◌, ◌||◌, ◌&&◌, not, Option, Some, None, is_some, true≢false, refl, sym, ap, subst, ◌∙◌, append_assoc, append-nil, eqb-true, get_or, lit<, ◌<◌, ◌≢◌, suc, arith, encode_utf8, IsUtf8}
 use Rattle.std.specs.List.{flat_map}
 use Rattle.at_model.specs.Texts.{escaped}
 use Rattle.std.proofs.lemmas.Bool.Decides.{nat_tests}
@@ -161,3 +161,43 @@ read_more text rest after more r m = record {
   split = r.split ∙ ap (λ l. flat_map escaped r.body ++ l) m.0 ∙ sym (append_assoc (flat_map escaped r.body) (flat_map escaped more) after) ∙ ap (λ l. l ++ after) (sym (flat_map-append escaped r.body more));
   is = IsUtf8-append r.body more r.is m.1;
 }
+
+not_meant : (b : ℕ) (more : List ℕ) → MeansNone (b ∷ more) → stands_for_itself b ≡ false
+not_meant b more none = decide (stands_for_itself b) refl
+  where
+    decide : (t : Bool) → stands_for_itself b ≡ t → stands_for_itself b ≡ false
+    decide false h = h
+    decide true h = absurd (none b more (ap (λ l. l ++ more) (sym (plain_escape b h))))
+
+no_quote : (b : ℕ) (bs : List ℕ) → ((more : List ℕ) → b ∷ bs ≢ 34 ∷ more) → (b == 34) ≡ false
+no_quote b bs none = decide (b == 34) refl
+  where
+    decide : (t : Bool) → (b == 34) ≡ t → (b == 34) ≡ false
+    decide false h = h
+    decide true h = absurd (none bs (ap (λ d. d ∷ bs) (eqb-true b 34 h)))
+
+escape_follows : (c : ℕ) (bs : List ℕ) → MeansNone (92 ∷ c ∷ bs) → makes_escape c ≡ false
+escape_follows c bs none = decide (makes_escape c) refl
+  where
+    decide : (t : Bool) → makes_escape c ≡ t → makes_escape c ≡ false
+    decide false h = h
+    decide true h = let x = escape_of c h in absurd (none x.byte bs (ap (λ l. l ++ bs) (sym x.spelled)))
+
+first_false : (a b : Bool) → (a || b) ≡ false → a ≡ false
+first_false true b e = absurd (clash true refl e)
+first_false false b e = refl
+
+abbrev IsNewline : ℕ → List ℕ → ℕ → Type 0
+IsNewline c bs d = MeansNone (d ∷ c ∷ bs) → ((more : List ℕ) → d ∷ c ∷ bs ≢ 34 ∷ more) → is_misplaced (d ∷ c ∷ bs) ≡ false → (d == 10) ≡ true
+
+-- where nothing is meant, no quote stands and nothing is misplaced, the text stays open
+pub stays_open : (rest : List ℕ) → MeansNone rest → ((more : List ℕ) → rest ≢ 34 ∷ more) → is_misplaced rest ≡ false → leaves_open rest ≡ true
+stays_open [] none unquoted placed = refl
+stays_open (b ∷ []) none unquoted placed =
+    let s = not_meant b [] none in
+    let q = no_quote b [] unquoted in
+    grind (arith, nat_tests)
+stays_open (b ∷ c ∷ bs) none unquoted placed =
+    by_cases (IsNewline c bs) 92 b
+    (λ n u p. absurd (clash (not (makes_escape c)) (ap not (escape_follows c bs n)) p))
+    (λ f n u p. let s = not_meant b (c ∷ bs) n in let q = no_quote b (c ∷ bs) u in let t : (b == 9) ≡ false = first_false (b == 9) ((b == 92) && not (makes_escape c)) p in grind (arith, nat_tests)) none unquoted placed

@@ -1,10 +1,11 @@
 //! A text is cut into tokens.
 
-ghost use Rattle.std.specs.Prelude.{◌≡◌, ◌⊎◌, List, [], map, MatchResult, IfOk, IfErr, All, IsCharBoundary};
+ghost use Rattle.std.specs.Prelude.{◌≡◌, ◌≤◌, ◌++◌, ◌⊎◌, ℕ, List, length, [], map, MatchResult, IfOk, IfErr, All, IsCharBoundary};
 ghost use Rattle.at_text.specs.declared.scan.ScanFault.{ScanFault};
 ghost use Rattle.at_text.specs.declared.scan.ScanFault.TheVariants.{Memory};
 ghost use Rattle.at_text.specs.Pieces.{Piece, Cut, tokens_at, spelled_at, spelled, IsOfKind};
 ghost use Rattle.at_text.specs.Faults.{FaultsAt, IsWithin};
+ghost use Rattle.at_text.specs.Front.{BreaksPiece};
 
 mod front;
 #[cfg(test)]
@@ -45,7 +46,11 @@ impl<T: Drop> From<AllocFailed<T>> for ScanFault {
 }
 
 /// The fault of a text that is cut up to `rest`, where no piece stands for this reason.
-fn fault(text: &str, rest: &str, flaw: Break<'_>) -> ScanFault {
+fn fault(text: &str, rest: &str, flaw: Break<'_>) -> ScanFault
+    requires within { length rest.now ≤ length text.now }
+    requires breaks { BreaksPiece rest.now flaw }
+    ensures { (ps : List Piece) → Cut text.now ps rest.now → FaultsAt text.now result × IsWithin text.now result }
+{
     let start = text.len() - rest.len();
     match flaw {
         Break::Bad(tail) => ScanFault::Bad { at: text.len() - tail.len() },
@@ -55,7 +60,10 @@ fn fault(text: &str, rest: &str, flaw: Break<'_>) -> ScanFault {
 }
 
 /// What stands before the end of the text that is `after`.
-fn before<'a>(text: &'a str, after: &str) -> &'a str {
+fn before<'a>(text: &'a str, after: &str) -> &'a str
+    requires { (front : List ℕ) × (text.now ≡ front ++ after.now) }
+    ensures { text.now ≡ result.now ++ after.now }
+{
     let (front, _) = text.split_at(text.len() - after.len());
     front
 }
