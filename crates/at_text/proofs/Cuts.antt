@@ -1,13 +1,12 @@
 -- Cuts of a text, and the tokens among their pieces.
-use Rattle.std.proofs.Common.{◌≡◌, ℕ, ◌+◌, ◌≤◌, ◌<◌, List, [], ◌∷◌, ◌++◌, length, map, Bool, true, false, Option, Some, None, refl, sym, ap, subst, ◌∙◌, append_assoc, append-nil, length-append, arith, inl, inr, ◌⊎◌}
+use Rattle.std.proofs.Common.{◌≡◌, ℕ, ◌+◌, List, [], ◌∷◌, ◌++◌, length, Option, refl, sym, ap, subst, ◌∙◌, append_assoc, append-nil, length-append, arith}
 use Rattle.std.specs.List.{flat_map}
 use Rattle.std.proofs.lemmas.Grind.{flat_map-append}
 use Rattle.std.proofs.lemmas.List.Concat.{flat_map-cons}
 use Rattle.at_text.specs.declared.token.TokenKind.{TokenKind}
-use Rattle.at_text.specs.declared.token.Token.{Token}
-use Rattle.at_text.specs.Pieces.{Piece, spell, IsPiece, kind_of, AreBefore, Cut, token_of, tokens_at, Spelled, spelled_of, spelled_at}
+use Rattle.at_text.specs.Pieces.{Piece, spell, IsPiece, kind_of, AreBefore, Cut, token_of, tokens_at, spelled_of, spelled_at}
 use Rattle.at_text.proofs.Same.{same_piece}
-use Rattle.at_text.proofs.Stuck.{Stuck, stuck_at_end}
+use Rattle.at_text.proofs.Stuck.{Stuck}
 
 -- before a place where no piece stands, a text is cut in one way
 pub same_cut : (ps qs : List Piece) (x y : List ℕ) → Stuck x → Stuck y → AreBefore ps x → AreBefore qs y → flat_map spell ps ++ x ≡ flat_map spell qs ++ y → (ps ≡ qs) × (x ≡ y)

@@ -1,5 +1,5 @@
 -- The piece that stands at the front of a text.
-use Rattle.std.proofs.Common.{◌≡◌, ℕ, ◌+◌, ◌≤◌, ◌<◌, ◌≢◌, List, [], ◌∷◌, ◌++◌, length, Bool, true, false, ◌==◌, ◌||◌, ◌&&◌, ◌⊎◌, inl, inr, Option, Some, None, Result, Ok, Err, MatchResult, refl, sym, ap, subst, ◌∙◌, append_assoc, lit<, eqb-true, length-append, arith, encode_utf8, encode_utf8_all, IsUtf8, Bor}
+use Rattle.std.proofs.Common.{◌≡◌, ℕ, ◌≢◌, List, [], ◌∷◌, ◌++◌, length, Bool, true, false, ◌==◌, ◌||◌, ◌&&◌, inl, inr, Option, Some, None, Result, Ok, Err, MatchResult, refl, sym, ap, subst, ◌∙◌, append_assoc, lit<, eqb-true, length-append, arith, encode_utf8, encode_utf8_all, IsUtf8, Bor}
 use Rattle.std.specs.Char.{is_ascii_digit}
 use Rattle.std.specs.List.{flat_map}
 use Rattle.std.proofs.lemmas.Str.{encode_ascii, encode_same, length-encode, len_utf8_bounds}
@@ -86,11 +86,12 @@ no_quote : (c : ℕ) (text after : List ℕ) → (c == 34) ≡ false → text �
 no_quote c text after q e more g = apart c 34 q (encode_same c 34 after more (sym e ∙ g ∙ plain 34 more (lit< tt))).0
 
 breaks_none : (c : ℕ) (text after : List ℕ) → family_at c ≡ 4 → (c == 34) ≡ false → text ≡ encode_utf8 c ++ after → opens_comment text ≡ false → BeginsNoSign text → BeginsNone text
-breaks_none c text after f q e free none =
-    (omega (arith, ap length e, length-append (encode_utf8 c) after, length-encode c, len_utf8_bounds c),
-     begins_one 34 text (no_quote c text after q e),
-     second_false (begins (47 ∷ 47 ∷ []) text) (begins (47 ∷ 42 ∷ []) text) free,
-     no_piece c text after f e free none)
+breaks_none c text after f q e free none = (
+  omega (arith, ap length e, length-append (encode_utf8 c) after, length-encode c, len_utf8_bounds c),
+  begins_one 34 text (no_quote c text after q e),
+  second_false (begins (47 ∷ 47 ∷ []) text) (begins (47 ∷ 42 ∷ []) text) free,
+  no_piece c text after f e free none,
+)
 
 pub breaks_else : (c : ℕ) (text after : List ℕ) (result : Result (Option TokenKind × Bor (List ℕ)) Break) → family_at c ≡ 4 → (c == 34) ≡ false → text ≡ encode_utf8 c ++ after
     → MatchResult result (λ found. IsFound text found.0 found.1.now) (BreaksSign text) → MatchResult result (λ found. IsFound text found.0 found.1.now) (BreaksPiece text)

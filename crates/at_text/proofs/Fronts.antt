@@ -1,5 +1,5 @@
 -- Characters at the front of a text.
-use Rattle.std.proofs.Common.{◌≡◌, ℕ, ◌+◌, ◌≤◌, ◌<◌, List, [], ◌∷◌, ◌++◌, length, Bool, true, false, ◌&&◌, true≢false, refl, sym, ap, subst, ◌∙◌, append_assoc, append-nil, take, drop, get_or, ◌==◌, eqb-true, Option, Some, None, MatchOption, ◌≢◌, length-append, arith, IsUtf8, IsCharBoundary}
+use Rattle.std.proofs.Common.{◌≡◌, ℕ, ◌+◌, ◌<◌, List, [], ◌∷◌, ◌++◌, length, Bool, true, false, ◌&&◌, true≢false, refl, sym, ap, subst, ◌∙◌, append_assoc, append-nil, drop, get_or, ◌==◌, eqb-true, Option, Some, None, MatchOption, ◌≢◌, length-append, arith, IsUtf8, IsCharBoundary}
 use Rattle.std.specs.Str.{encode_utf8_all}
 use Rattle.std.specs.Char.{encode_utf8}
 use Rattle.std.specs.List.{AllByRecursion}
@@ -74,10 +74,10 @@ comment_ended text front back h u =
     let at = h.2.1 in
     let whole : text ≡ front ++ 42 ∷ 47 ∷ back = sym (take-append-drop i text) ∙ (λ j. sym h.3 j ++ (at.split ∙ ap (λ l. 42 ∷ 47 ∷ l) (sym h.4)) j) in
     let first : HasNoEnd (front ++ 42 ∷ []) = λ before after e.
-        let far : text ≡ before ++ (42 ∷ 47 ∷ (after ++ 47 ∷ back)) =
-            whole ∙ sym (append_assoc front (42 ∷ []) (47 ∷ back)) ∙ ap (λ l. l ++ 47 ∷ back) e ∙ append_assoc before (42 ∷ 47 ∷ after) (47 ∷ back) in
-        let less : length before < i = omega (arith, ap length e, length-append front (42 ∷ []), length-append before (42 ∷ 47 ∷ after), h.6) in
-        lacks (length before) less (after ++ 47 ∷ back) (ap (drop (length before)) far ∙ drop-append_seam before (42 ∷ 47 ∷ (after ++ 47 ∷ back))) in
+    let far : text ≡ before ++ (42 ∷ 47 ∷ (after ++ 47 ∷ back)) =
+    whole ∙ sym (append_assoc front (42 ∷ []) (47 ∷ back)) ∙ ap (λ l. l ++ 47 ∷ back) e ∙ append_assoc before (42 ∷ 47 ∷ after) (47 ∷ back) in
+    let less : length before < i = omega (arith, ap length e, length-append front (42 ∷ []), length-append before (42 ∷ 47 ∷ after), h.6) in
+    lacks (length before) less (after ++ 47 ∷ back) (ap (drop (length before)) far ∙ drop-append_seam before (42 ∷ 47 ∷ (after ++ 47 ∷ back))) in
     (front, whole, first, subst IsUtf8 (sym h.4) (IsUtf8-drop text h.1 u (subst (λ n. IsCharBoundary text n) (sym at.ends) at.after)))
 
 -- what follows a front that the text begins with

@@ -7,3 +7,4 @@ pub mod Cuts
 pub mod Breaks
 pub mod Signs
 pub mod Found
+pub mod Scanned

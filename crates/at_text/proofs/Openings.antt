@@ -1,5 +1,5 @@
 -- By its first character a piece is a blank, a name, a number, a text between quotes, or one of the others.
-use Rattle.std.proofs.Common.{◌≡◌, ℕ, zero, suc, ◌+◌, ◌≤◌, ◌<◌, List, [], ◌∷◌, ◌++◌, length, Bool, true, false, cond, not, ◌==◌, ◌||◌, ◌&&◌, nat_lt, nat_le, refl, sym, ap, subst, ◌∙◌, append_assoc, eqb-true, ltb-true, lit<, arith, encode_utf8, encode_utf8_all}
+use Rattle.std.proofs.Common.{◌≡◌, ℕ, zero, suc, ◌<◌, List, [], ◌∷◌, ◌++◌, Bool, true, false, cond, not, ◌==◌, ◌||◌, ◌&&◌, nat_lt, refl, sym, ap, ◌∙◌, append_assoc, eqb-true, ltb-true, lit<, arith, encode_utf8, encode_utf8_all}
 use Rattle.std.specs.Char.{is_ascii_digit, is_ascii_alphabetic}
 use Rattle.std.specs.List.{list_any, list_all, flat_map}
 use Rattle.std.specs.Str.{bytes_eq}

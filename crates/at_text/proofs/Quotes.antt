@@ -1,5 +1,5 @@
 -- Texts between quotes: what is escaped is read back in one way.
-use Rattle.std.proofs.Common.{◌≡◌, ℕ, ◌+◌, List, [], ◌∷◌, ◌++◌, length, length-append, Bool, true, false, cond, ◌==◌, ◌||◌, ◌&&◌, not, Option, Some, None, is_some, true≢false, refl, sym, ap, subst, ◌∙◌, append_assoc, append-nil, eqb-true, get_or, lit<, ◌<◌, ◌≢◌, suc, arith, encode_utf8, IsUtf8}
+use Rattle.std.proofs.Common.{◌≡◌, ℕ, List, [], ◌∷◌, ◌++◌, length, length-append, Bool, true, false, cond, ◌==◌, ◌||◌, ◌&&◌, not, Option, Some, None, is_some, true≢false, refl, sym, ap, subst, ◌∙◌, append_assoc, append-nil, eqb-true, get_or, lit<, ◌<◌, ◌≢◌, suc, arith, encode_utf8, IsUtf8}
 use Rattle.std.specs.List.{flat_map}
 use Rattle.at_model.specs.Texts.{escaped}
 use Rattle.std.proofs.lemmas.Bool.Decides.{nat_tests}

@@ -1,8 +1,7 @@
 -- The signs, the longer ones first.
-use Rattle.std.proofs.Common.{◌≡◌, ℕ, suc, ◌+◌, ◌≤◌, ◌<◌, ◌≢◌, List, [], ◌∷◌, ◌++◌, length, get_or, Bool, true, false, ◌||◌, nat_lt, nat_le, refl, sym, ap, subst, ◌∙◌, ltb-true, leb-true, lt-ltb, arith, Option, Some, None, MatchOption, IsUtf8, Bor}
+use Rattle.std.proofs.Common.{◌≡◌, ℕ, suc, ◌≤◌, ◌<◌, ◌≢◌, List, [], ◌∷◌, ◌++◌, length, get_or, Bool, true, false, ◌||◌, nat_lt, nat_le, refl, sym, ap, ◌∙◌, ltb-true, leb-true, arith, Option, Some, None, MatchOption, IsUtf8, Bor}
 use Rattle.std.specs.List.{list_any}
 use Rattle.std.specs.Str.{bytes_eq}
-use Rattle.std.proofs.lemmas.Bool.Decides.{nat_tests}
 use Rattle.at_text.specs.Pieces.{is_sign, signs, IsLongestSign}
 use Rattle.at_text.specs.Front.{BeginsNoSign, FitsNone, EndsSign}
 use Rattle.at_text.proofs.Fronts.{clash}
@@ -49,11 +48,14 @@ index_of s e = index_in signs s e
 
 -- the first that fits is the longest
 pub first_is_longest : (text after : List ℕ) (k : ℕ) → k < 27 → ((j : ℕ) (rest : List ℕ) → j < k → text ≢ sign_at j ++ rest) → IsLongestSign (sign_at k) text
-first_is_longest text after k h none = (each_is_sign k h, λ other more is e.
-    let i = index_of other is in
-    let fits : text ≡ sign_at i.0 ++ more = e ∙ ap (λ l. l ++ more) (sym i.2) in
-    let late : k ≤ i.0 = by_order i.0 k (λ less. none i.0 more less fits) in
-    omega (arith, ap length i.2, longer_first k i.0 h i.1 late))
+first_is_longest text after k h none = (
+  each_is_sign k h,
+  λ other more is e.
+      let i = index_of other is in
+      let fits : text ≡ sign_at i.0 ++ more = e ∙ ap (λ l. l ++ more) (sym i.2) in
+      let late : k ≤ i.0 = by_order i.0 k (λ less. none i.0 more less fits) in
+      omega (arith, ap length i.2, longer_first k i.0 h i.1 late),
+)
   where
     by_order : (i k : ℕ) → (i < k → ⊥) → k ≤ i
     by_order i k f = grind (arith, f)

@@ -1,13 +1,13 @@
 -- Where no piece stands: at the end of a text, and at each fault.
-use Rattle.std.proofs.Common.{◌≡◌, ℕ, ◌+◌, ◌≤◌, ◌<◌, List, [], ◌∷◌, ◌++◌, length, Bool, true, false, cond, not, ◌==◌, ◌||◌, ◌&&◌, Option, None, refl, sym, ap, subst, ◌∙◌, append_assoc, eqb-true, lit<, length-append, arith, encode_utf8, encode_utf8_all}
+use Rattle.std.proofs.Common.{◌≡◌, ℕ, ◌<◌, List, [], ◌∷◌, ◌++◌, length, Bool, true, false, not, ◌==◌, ◌||◌, ◌&&◌, None, refl, sym, ap, subst, ◌∙◌, append_assoc, eqb-true, lit<, length-append, arith, encode_utf8, encode_utf8_all}
 use Rattle.std.specs.List.{flat_map}
 use Rattle.std.proofs.lemmas.Bool.Decides.{nat_tests}
 use Rattle.std.proofs.lemmas.Str.{encode_same, length-encode, len_utf8_bounds}
 use Rattle.at_model.specs.Texts.{escaped}
 use Rattle.at_text.specs.Pieces.{Piece, Blank, LineComment, BlockComment, Name, Number, Quoted, Sign, spell, IsPiece, HasNoEnd, opens_comment, is_sign, signs}
-use Rattle.at_text.specs.Faults.{leaves_open, makes_escape, is_misplaced, OpensText, IsOpenText, IsOpenComment}
-use Rattle.at_text.proofs.Fronts.{clash, both, head_same, tail_same}
-use Rattle.at_text.proofs.Quotes.{unescaped, no_escape, same_body, by_cases}
+use Rattle.at_text.specs.Faults.{leaves_open, makes_escape, is_misplaced, OpensText}
+use Rattle.at_text.proofs.Fronts.{clash, both, tail_same}
+use Rattle.at_text.proofs.Quotes.{unescaped, no_escape, same_body}
 use Rattle.at_text.proofs.Openings.{family, family_at, opening, plain, slash, quote}
 use Rattle.at_text.proofs.Same.{apart, behind_slash}
 

@@ -1,8 +1,7 @@
 -- What stands at the front of a text, for the functions that step over it.
-use Rattle.std.specs.Prelude.{◌≡◌, ℕ, ◌+◌, ◌<◌, List, [], ◌∷◌, ◌++◌, length, get_or, Bool, true, false, ◌&&◌, ◌==◌, not, Option, Result, Ok, Err, MatchResult, IsUtf8, encode_utf8_all, ◌⊎◌}
+use Rattle.std.specs.Prelude.{◌≡◌, ℕ, ◌<◌, List, [], ◌∷◌, ◌++◌, get_or, Bool, true, false, ◌&&◌, ◌==◌, not, Option, IsUtf8, encode_utf8_all, ◌⊎◌}
 use Rattle.std.specs.List.{flat_map}
 use Rattle.std.specs.Char.{is_ascii_digit}
-use denote.Ref.{Bor}
 use Rattle.at_model.specs.Names.{continues_name}
 use Rattle.at_model.specs.Texts.{escaped}
 use Rattle.at_text.specs.declared.token.TokenKind.{TokenKind}

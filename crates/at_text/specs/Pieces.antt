@@ -1,6 +1,6 @@
 -- What a text is made of. A text is its UTF-8 bytes; it is cut into pieces from the left, each the longest that fits there.
 use Rattle.std.specs.Prelude.{◌≡◌, ℕ, ◌+◌, ◌≤◌, List, [], ◌∷◌, ◌++◌, length, Bool, true, false, ◌||◌, ◌&&◌, ◌==◌, not, Option, Some, None, IsUtf8, encode_utf8_all, chars, codes}
-use Rattle.std.specs.List.{flat_map, AllByRecursion, list_any, list_all}
+use Rattle.std.specs.List.{flat_map, AllByRecursion, list_any}
 use Rattle.std.specs.Str.{bytes_eq, all_ascii_digits}
 use Rattle.std.specs.Char.{encode_utf8, is_ascii_digit}
 use Rattle.at_model.specs.Names.{starts_name, continues_name, is_word}

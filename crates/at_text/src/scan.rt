@@ -53,7 +53,9 @@ fn fault(text: &str, rest: &str, flaw: Break<'_>) -> ScanFault
 {
     let start = text.len() - rest.len();
     match flaw {
-        Break::Bad(tail) => ScanFault::Bad { at: text.len() - tail.len() },
+        Break::Bad(tail) => ScanFault::Bad {
+            at: text.len() - tail.len(),
+        },
         Break::OpenText => ScanFault::OpenText { at: start },
         Break::OpenComment => ScanFault::OpenComment { at: start },
     }
@@ -115,7 +117,11 @@ pub fn lexemes<'a>(alloc: Global, text: &'a str) -> Result<Vec<Lexeme<'a>>, Scan
         };
         if let Some(kind) = kind {
             let start = text.len() - rest.len();
-            lexemes.push(Lexeme { kind, text: before(rest, after), start })?;
+            lexemes.push(Lexeme {
+                kind,
+                text: before(rest, after),
+                start,
+            })?;
         }
         rest = after;
     }

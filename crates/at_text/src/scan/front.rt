@@ -28,7 +28,8 @@ enum Run {
 
 /// The signs, the longer ones first.
 const SIGNS: [&str; 27] = [
-    "::=", "==", "!=", "<=", ">=", "&&", "||", ":", ";", "*", "[", "]", "<", ">", "/", ".", "(", ")", "{", "}", ",", "=", "!", "-", "+", "%", "?",
+    "::=", "==", "!=", "<=", ">=", "&&", "||", ":", ";", "*", "[", "]", "<", ">", "/", ".", "(",
+    ")", "{", "}", ",", "=", "!", "-", "+", "%", "?",
 ];
 
 fn starts_name(c: char) -> bool
@@ -105,7 +106,11 @@ fn past_meant(text: &str) -> Option<&str>
     let first = chars.next()?;
     if first == '\\' {
         let second = chars.next()?;
-        if makes_escape(second) { Some(chars.as_str()) } else { None }
+        if makes_escape(second) {
+            Some(chars.as_str())
+        } else {
+            None
+        }
     } else if stands_for_itself(first) {
         Some(chars.as_str())
     } else {
@@ -192,7 +197,9 @@ pub fn piece(text: &str) -> Result<(Option<TokenKind>, &str), Break<'_>>
     ensures { MatchResult result (λ found. IsFound text.now found.0 found.1.now) (BreaksPiece text.now) }
 {
     let mut chars = text.chars();
-    let Some(c) = chars.next() else { unreachable!() };
+    let Some(c) = chars.next() else {
+        unreachable!()
+    };
     let after = chars.as_str();
     if is_blank(c) {
         Ok((None, after))

@@ -50,10 +50,26 @@ fn cuts_a_text(rt: HostRuntime) -> Result<(), Fail> {
 fn gives_places(rt: HostRuntime) -> Result<(), Fail> {
     let found = scan(rt.alloc(), " é::=\"\"0")?;
     let wanted = [
-        Token { kind: TokenKind::Word, start: 1, end: 3 },
-        Token { kind: TokenKind::Sign, start: 3, end: 6 },
-        Token { kind: TokenKind::Text, start: 6, end: 8 },
-        Token { kind: TokenKind::Number, start: 8, end: 9 },
+        Token {
+            kind: TokenKind::Word,
+            start: 1,
+            end: 3,
+        },
+        Token {
+            kind: TokenKind::Sign,
+            start: 3,
+            end: 6,
+        },
+        Token {
+            kind: TokenKind::Text,
+            start: 6,
+            end: 8,
+        },
+        Token {
+            kind: TokenKind::Number,
+            start: 8,
+            end: 9,
+        },
     ];
     assert_eq!(rt; found.as_slice(), wanted.as_slice());
     assert_eq!(rt; scan(rt.alloc(), "")?.len(), 0);

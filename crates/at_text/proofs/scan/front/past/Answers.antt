@@ -1,4 +1,4 @@
-use Rattle.std.proofs.Common.{◌≡◌, length, true, false, refl, sym, ap, ◌∙◌, rules, ◌++◌, encode_utf8}
+use Rattle.std.proofs.Common.{◌≡◌, length, true, false, sym, ap, ◌∙◌, rules, ◌++◌, encode_utf8}
 use Rattle.at_text.specs.Front.{takes}
 use Rattle.at_text.proofs.Fronts.{one_passed, stops_at, stops_at_end}
 use Rattle.at_text.proofs.scan.front.past.Goals as goal
