@@ -127,3 +127,14 @@ pub fn lexemes<'a>(alloc: Global, text: &'a str) -> Result<Vec<Lexeme<'a>>, Scan
     }
     Ok(lexemes)
 }
+
+/// A law with no code: a text is cut into pieces in one way.
+pub fn one_cut()
+    ensures { (text : List ℕ) (ps qs : List Piece) → Cut text ps [] → Cut text qs [] → ps ≡ qs }
+{}
+
+/// A law with no code: a text has a cut or a fault, not both, and no two faults.
+pub fn one_fault()
+    ensures uncut { (text : List ℕ) (e : ScanFault) → FaultsAt text e → (ps : List Piece) → Cut text ps [] → e ≡ Memory }
+    ensures first { (text : List ℕ) (e : ScanFault) → FaultsAt text e → (f : ScanFault) → (f ≡ Memory → ⊥) → FaultsAt text f → (e ≡ Memory) ⊎ (e ≡ f) }
+{}
