@@ -14,11 +14,11 @@ use Rattle.at_text.specs.declared.token.Token.{Token}
 use Rattle.at_text.specs.declared.token.Lexeme.{Lexeme}
 use Rattle.at_text.specs.declared.scan.ScanFault.{ScanFault}
 use Rattle.at_text.specs.declared.scan.ScanFault.TheVariants.{Memory, Bad, OpenText, OpenComment}
-use Rattle.at_text.specs.Pieces.{Piece, Blank, LineComment, BlockComment, Name, Number, Quoted, Sign, Cut, is_number, spell, IsPiece, kind_of, token_of, tokens_at, spelled, spelled_of, spelled_at, IsOfKind}
+use Rattle.at_text.specs.Pieces.{Piece, Blank, LineComment, BlockComment, Name, Number, Quoted, Sign, Cut, is_number, spell, IsPiece, kind_of, token_of, tokens_at, IsSpan, spelled, spelled_of, spelled_at, IsOfKind}
 use Rattle.at_text.specs.Faults.{FaultsAt, StandsAt, BeginsNone, HasMisplacedAt, OpensText, is_misplaced}
 use Rattle.at_text.specs.Front.{IsFound}
 use Rattle.at_text.proofs.Fronts.{clash}
-use Rattle.at_text.proofs.Stuck.{shorter, stuck_at_end}
+use Rattle.at_text.proofs.Stuck.{longer, shorter, stuck_at_end}
 use Rattle.at_text.proofs.Cuts.{cut_none, cut_more, tokens_push, spelled_push, one_way}
 use Rattle.at_text.proofs.Breaks.{broken_from, cut_unbroken, one_broken}
 
@@ -62,33 +62,55 @@ fault_only text e h ps c = elim (memory_or {P = ⊥} e (λ none. cut_unbroken te
 pub fault_same : (text : List ℕ) (e : ScanFault) → FaultsAt text e → (f : ScanFault) → (f ≡ Memory → ⊥) → FaultsAt text f → (e ≡ Memory) ⊎ (e ≡ f)
 fault_same text e h f none g = memory_or {P = e ≡ f} e (λ other. one_broken text e f (broken_from text e other h) (broken_from text f none g))
 
+pub within : (text rest : List ℕ) (ps : List Piece) → Cut text ps rest → length rest ≤ length text
+within text rest ps c = omega (arith, ap length c.whole, length-append (flat_map spell ps) rest)
+
 -- the cut that a loop has made, and the tokens among its pieces
 pub record Scanned (text rest : List ℕ) (tokens : List Token) : Type 0 where
   pub pieces : List Piece
   pub cut : Cut text pieces rest
   pub are : tokens ≡ tokens_at 0 pieces
+  pub spans : All (IsSpan text) tokens
 
 pub scanned_none : (text : List ℕ) → Scanned text text []
-scanned_none text = record { pieces = []; cut = cut_none text; are = refl }
+scanned_none text = record { pieces = []; cut = cut_none text; are = refl; spans = λ k d h. absurd (omega (arith, h)) }
 
-pub within : (text rest : List ℕ) (ps : List Piece) → Cut text ps rest → length rest ≤ length text
-within text rest ps c = omega (arith, ap length c.whole, length-append (flat_map spell ps) rest)
+-- the place behind a piece
+piece_end : (text rest after : List ℕ) (ps : List Piece) (p : Piece) → Cut text ps rest → rest ≡ spell p ++ after → length text - length after ≡ 0 + length (flat_map spell ps) + length (spell p)
+piece_end text rest after ps p c e = omega (arith, ap length c.whole, length-append (flat_map spell ps) rest, ap length e, length-append (spell p) after)
 
-pub scanned_more : (text rest after : List ℕ) (old new : List Token) (k : Option TokenKind) → Scanned text rest old → IsFound rest k after
-    → new ≡ old ++ token_of k (length text - length rest) (length text - length after) → Scanned text after new
-scanned_more text rest after old new k s f pushed =
-    let front = flat_map spell s.pieces in
+piece_start : (text rest : List ℕ) (ps : List Piece) → Cut text ps rest → length text - length rest ≡ 0 + length (flat_map spell ps)
+piece_start text rest ps c = omega (arith, ap length c.whole, length-append (flat_map spell ps) rest)
+
+scanned_are : (text rest after : List ℕ) (old new : List Token) (ps : List Piece) (p : Piece) (k : Option TokenKind) → Cut text ps rest → rest ≡ spell p ++ after → kind_of p ≡ k → old ≡ tokens_at 0 ps
+    → new ≡ old ++ token_of k (length text - length rest) (length text - length after) → new ≡ tokens_at 0 (ps ++ p ∷ [])
+scanned_are text rest after old new ps p k c e kind are pushed =
+    pushed ∙ (λ i. are i ++ token_of (sym kind i) (piece_start text rest ps c i) (piece_end text rest after ps p c e i)) ∙ sym (tokens_push 0 ps p)
+
+pub scanned_more : (text rest after : List ℕ) (old new : List Token) (x : Token) → Scanned text rest old → IsFound rest (Some x.kind) after → IsUtf8 rest
+    → x.start ≡ length text - length rest → x.end ≡ length text - length after → new ≡ old ++ x ∷ [] → Scanned text after new
+scanned_more text rest after old new x s f u at to pushed =
     let p = f.0 in
-    let m : length text - length rest ≡ 0 + length front = omega (arith, ap length s.cut.whole, length-append front rest) in
-    let n : length text - length after ≡ 0 + length front + length (spell p) = omega (arith, ap length s.cut.whole, length-append front rest, ap length f.1, length-append (spell p) after) in
+    let front = flat_map spell s.pieces in
+    let one : new ≡ old ++ token_of (Some x.kind) (length text - length rest) (length text - length after) = pushed ∙ (λ i. old ++ token_of (Some x.kind) (at i) (to i)) in
+    let first : IsCharBoundary text x.start = subst (λ k. IsCharBoundary text k) (sym at) (boundary_before text front rest s.cut.whole u) in
+    let behind : text ≡ (front ++ spell p) ++ after = s.cut.whole ∙ ap (λ l. front ++ l) f.1 ∙ sym (append_assoc front (spell p) after) in
+    let last : IsCharBoundary text x.end = subst (λ k. IsCharBoundary text k) (sym to) (boundary_before text (front ++ spell p) after behind f.4) in
+    let some : x.start < x.end = omega (arith, at, to, piece_start text rest s.pieces s.cut, piece_end text rest after s.pieces p s.cut f.1, longer p after f.2) in
     record {
       pieces = s.pieces ++ p ∷ [];
       cut = cut_more text rest after s.pieces p s.cut f.1 f.2;
-      are = pushed ∙ (λ i. s.are i ++ token_of (sym f.3 i) (m i) (n i)) ∙ sym (tokens_push 0 s.pieces p);
+      are = scanned_are text rest after old new s.pieces p (Some x.kind) s.cut f.1 f.3 s.are one;
+      spans = subst (λ (xs : List Token). All (IsSpan text) xs) (sym pushed) (All-push (IsSpan text) old x s.spans (some, first, last));
     }
 
 pub scanned_blank : (text rest after : List ℕ) (old : List Token) → Scanned text rest old → IsFound rest None after → Scanned text after old
-scanned_blank text rest after old s f = scanned_more text rest after old old None s f (sym (append-nil old))
+scanned_blank text rest after old s f = record {
+  pieces = s.pieces ++ f.0 ∷ [];
+  cut = cut_more text rest after s.pieces f.0 s.cut f.1 f.2;
+  are = scanned_are text rest after old old s.pieces f.0 None s.cut f.1 f.3 s.are (sym (append-nil old));
+  spans = s.spans;
+}
 
 no_bytes : (rest : List ℕ) → length rest ≡ 0 → rest ≡ []
 no_bytes [] e = refl

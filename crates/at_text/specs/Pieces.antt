@@ -1,5 +1,5 @@
 -- What a text is made of. A text is its UTF-8 bytes; it is cut into pieces from the left, each the longest that fits there.
-use Rattle.std.specs.Prelude.{◌≡◌, ℕ, ◌+◌, ◌≤◌, List, [], ◌∷◌, ◌++◌, length, Bool, true, false, ◌||◌, ◌&&◌, ◌==◌, not, Option, Some, None, IsUtf8, encode_utf8_all, chars, codes}
+use Rattle.std.specs.Prelude.{◌≡◌, ℕ, ◌+◌, ◌≤◌, ◌<◌, List, [], ◌∷◌, ◌++◌, length, Bool, true, false, ◌||◌, ◌&&◌, ◌==◌, not, Option, Some, None, IsUtf8, IsCharBoundary, encode_utf8_all, chars, codes}
 use Rattle.std.specs.List.{flat_map, AllByRecursion, list_any}
 use Rattle.std.specs.Str.{bytes_eq, all_ascii_digits}
 use Rattle.std.specs.Char.{encode_utf8, is_ascii_digit}
@@ -117,6 +117,10 @@ token_of (Some k) start end = record { kind = k; start = start; end = end } ∷ 
 abbrev pub tokens_at : ℕ → List Piece → List Token
 tokens_at start [] = []
 tokens_at start (p ∷ ps) = token_of (kind_of p) start (start + length (spell p)) ++ tokens_at (start + length (spell p)) ps
+
+-- the token has a byte at least, and the text may be cut before and behind it
+abbrev pub IsSpan : List ℕ → Token → Type 0
+IsSpan text token = (token.start < token.end) × IsCharBoundary text token.start × IsCharBoundary text token.end
 
 -- a token with its text
 pub record Spelled : Type 0 where

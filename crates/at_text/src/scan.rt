@@ -3,7 +3,7 @@
 ghost use Rattle.std.specs.Prelude.{◌≡◌, ◌≤◌, ◌++◌, ◌⊎◌, ℕ, List, length, [], map, MatchResult, IfOk, IfErr, All, IsCharBoundary};
 ghost use Rattle.at_text.specs.declared.scan.ScanFault.{ScanFault};
 ghost use Rattle.at_text.specs.declared.scan.ScanFault.TheVariants.{Memory};
-ghost use Rattle.at_text.specs.Pieces.{Piece, Cut, tokens_at, spelled_at, spelled, IsOfKind};
+ghost use Rattle.at_text.specs.Pieces.{Piece, Cut, tokens_at, IsSpan, spelled_at, spelled, IsOfKind};
 ghost use Rattle.at_text.specs.Faults.{FaultsAt, IsWithin};
 ghost use Rattle.at_text.specs.Front.{BreaksPiece};
 
@@ -77,6 +77,7 @@ fn before<'a>(text: &'a str, after: &str) -> &'a str
 pub fn scan(alloc: Global, text: &str) -> Result<Vec<Token>, ScanFault>
     ensures tokens { IfOk result (λ v. (ps : List Piece) × Cut text.now ps [] × (v.items ≡ tokens_at 0 ps)) }
     ensures only { (ps : List Piece) → Cut text.now ps [] → MatchResult result (λ v. v.items ≡ tokens_at 0 ps) (λ e. e ≡ Memory) }
+    ensures spans { IfOk result (λ v. All (IsSpan text.now) v.items) }
     ensures fault { IfErr result (FaultsAt text.now) }
     ensures faulty { (e : ScanFault) → (e ≡ Memory → ⊥) → FaultsAt text.now e → MatchResult result (λ v. ⊥) (λ f. (f ≡ Memory) ⊎ (f ≡ e)) }
     ensures within { IfErr result (IsWithin text.now) }

@@ -1,7 +1,7 @@
-use Rattle.std.proofs.Common.{◌≡◌, length, Some, ◌∙◌, rules}
+use Rattle.std.proofs.Common.{◌≡◌, ◌-◌, length, ◌∙◌, ap, refl, rules}
 use Rattle.at_text.proofs.Scanned.{scanned_more, scanned_blank, found_shorter, whole_cut, cut_only, cut_faultless, fault_only, fault_same}
+use Rattle.at_text.specs.declared.token.Token.{Token}
 use Rattle.at_text.specs.Pieces.{tokens_at}
-use Rattle.std.proofs.Common.{ap}
 use Rattle.at_text.proofs.scan.scan.Goals as goal
 
 pub returns-in-Err-clause-only : goal.returns-in-Err-clause-only
@@ -19,7 +19,12 @@ loop-rest-smaller c = found_shorter c.loop-rest.rest.now c.in-Ok.found.1.now c.i
 pub loop-rest-preserved-in_ok-push : goal.loop-rest-preserved-in_ok-push
 loop-rest-preserved-in_ok-push c =
     let f = c.in-Ok.ensures in
-    (f.4, scanned_more c.args.text.now c.loop-rest.rest.now c.in-Ok.found.1.now c.loop-rest.tokens.items c.push.new.self.items (Some c.in-Some.kind) c.loop-rest.invariant.1 (f.0, f.1, f.2, f.3 ∙ c.in-Some.is, f.4) c.in_ok-push.ensures.items)
+    let i = c.loop-rest.invariant in
+    let text = c.args.text.now in
+    let rest = c.loop-rest.rest.now in
+    let after = c.in-Ok.found.1.now in
+    let x : Token = record { kind = c.in-Some.kind; start = length text - length rest; end = length text - length after } in
+    (f.4, scanned_more text rest after c.loop-rest.tokens.items c.push.new.self.items x i.1 (f.0, f.1, f.2, f.3 ∙ c.in-Some.is, f.4) i.0 refl refl c.in_ok-push.ensures.items)
 
 pub loop-rest-preserved : goal.loop-rest-preserved
 loop-rest-preserved c =
