@@ -5,3 +5,5 @@ pub mod decimal;
 pub mod names;
 pub mod place;
 pub mod quoted;
+pub mod scan;
+pub mod token;
