@@ -33,8 +33,8 @@ impl Model for ClassTable {
 }
 
 impl ClassTable {
-    ghost use Rattle.std.specs.Prelude.{◌≡◌, ◌<◌, ◌≤◌, IfOk, IfErr, IfSome, None, length, map, not};
-    ghost use Rattle.at_model.specs.Classes.{AreSound, class_of_name, name_of, is_concrete, is_sub, parts};
+    ghost use Rattle.std.specs.Prelude.{◌≡◌, ◌<◌, ◌≤◌, IfOk, IfErr, IfSome, IsTrue, None, length, map, not};
+    ghost use Rattle.at_model.specs.Classes.{AreSound, class_of_name, fits, name_of, is_concrete, is_sub, parts};
     ghost use Rattle.at_model.specs.Declarations.{AreNamed, classes_of, first_fault};
     ghost use Rattle.at_model.specs.Paths.{part_named};
     ghost use Rattle.at_class.specs.View.{part_view};
@@ -98,6 +98,18 @@ impl ClassTable {
         ensures { result ≡ is_sub self.now class above }
     {
         climbs(&self.classes, Some(class), above)
+    }
+
+    /// Whether a tree of the class may stand where the other class is asked: the class is not abstract, and is that one or below it.
+    /// False of a number that is none of this table's.
+    pub fn fits(&self, class: ClassId, above: ClassId) -> bool
+        ensures fits { result ≡ fits self.now class above }
+        ensures within { IsTrue result → class < length self.now }
+    {
+        if class.index() >= self.len() {
+            return false;
+        }
+        !self.is_abstract(class) && self.is_sub(class, above)
     }
 
     /// The components of the class, the inherited ones first.

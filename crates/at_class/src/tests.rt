@@ -1,7 +1,7 @@
 ghost use Rattle.std.specs.Prelude.{◌≡◌, IsTrue, IfSome, All, true, option_map, map, string_bytes};
 ghost use Rattle.at_model.specs.Names.{is_name};
 ghost use Rattle.at_model.specs.Declarations.{AreNamed, IsDeclarationNamed, PartDeclaration};
-ghost use Rattle.at_class.specs.Grammar.{declaration_view, grammar_view, part_declaration_view};
+ghost use Rattle.at_class.specs.Grammar.{declaration_view, declarations_view, grammar_view, part_declaration_view};
 
 use crate::{ClassCode, ClassFault, ClassTable, PartShape, TokenKind};
 use at_grammar::{ClassDecl, Grammar, PartDecl, Shape};
@@ -41,16 +41,22 @@ fn is_named(declaration: &ClassDecl) -> bool
     are_parts_named(&declaration.parts)
 }
 
-// Whether all names are names, as the reader of grammars gives them.
-fn are_named(grammar: &Grammar) -> bool
-    ensures { IsTrue result → AreNamed (grammar_view grammar.now) }
+fn are_all_named(declarations: &[ClassDecl]) -> bool
+    ensures { IsTrue result → AreNamed (declarations_view declarations.now) }
 {
-    for declaration in &grammar.classes {
+    for declaration in declarations {
         if !is_named(declaration) {
             return false;
         }
     }
     true
+}
+
+// Whether all names are names, as the reader of grammars gives them.
+fn are_named(grammar: &Grammar) -> bool
+    ensures { IsTrue result → AreNamed (grammar_view grammar.now) }
+{
+    are_all_named(&grammar.classes)
 }
 
 // A grammar of one line: the classes by name, column and superclass.
