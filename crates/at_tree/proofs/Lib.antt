@@ -11,3 +11,4 @@ pub mod TermRuns
 pub mod TermMachine
 pub mod TextLaws
 pub mod TreeLoops
+pub mod TreeTexts

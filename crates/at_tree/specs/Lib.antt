@@ -11,3 +11,4 @@ pub mod PartialPath
 pub mod PathSeen
 pub mod Laws
 pub mod TreeView
+pub mod Separated

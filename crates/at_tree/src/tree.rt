@@ -1,8 +1,10 @@
 //! Syntax trees: a class, and a cell for each of its components.
 mod conforming;
 mod counts;
+mod writing;
 
 pub use counts::{depth, nodes};
+pub use writing::write_term;
 pub use conforming::fits;
 
 use crate::token::TokVal;
