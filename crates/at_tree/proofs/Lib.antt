@@ -12,3 +12,6 @@ pub mod TermMachine
 pub mod TextLaws
 pub mod TreeLoops
 pub mod TreeTexts
+pub mod Shaping
+pub mod Made
+pub mod ShapeLaws

@@ -12,3 +12,4 @@ pub mod PathSeen
 pub mod Laws
 pub mod TreeView
 pub mod Separated
+pub mod Shape
