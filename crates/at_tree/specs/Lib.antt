@@ -13,3 +13,5 @@ pub mod Laws
 pub mod TreeView
 pub mod Separated
 pub mod Shape
+pub mod TreeTokens
+pub mod TreeLaws

@@ -1,6 +1,7 @@
 //! Syntax trees: a class, and a cell for each of its components.
 mod conforming;
 mod counts;
+pub mod laws;
 mod shaping;
 mod writing;
 
