@@ -4,3 +4,5 @@ pub mod Classes
 pub mod Trees
 pub mod Terms
 pub mod Paths
+pub mod Edits
+pub mod Touches
