@@ -6,3 +6,6 @@ pub mod Terms
 pub mod Paths
 pub mod Edits
 pub mod Touches
+pub mod Shaping
+pub mod Lines
+pub mod Replies
