@@ -4,6 +4,11 @@ pub mod Classes
 pub mod Trees
 pub mod Terms
 pub mod Paths
+pub mod Run
+pub mod Bodies
+pub mod Rules
+pub mod Meaning
+pub mod Support
 pub mod Edits
 pub mod Touches
 pub mod Shaping
