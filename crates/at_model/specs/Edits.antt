@@ -1,12 +1,12 @@
 -- Edits of a nested tree: which are accepted, the tree that each leaves, and where the nodes go.
 use Rattle.std.specs.Prelude.{ℕ, zero, suc, ◌+◌, ◌-◌, Bool, true, false, ◌&&◌, ◌==◌, not, nat_eq, nat_lt, nat_le, if◌then◌else◌, List, [], ◌∷◌, length, Option, Some, None, option_map, option_and_then, is_some, Result, Ok, Err, insert, remove}
-use Rattle.std.specs.List.{slice_get, list_all}
-use Rattle.at_model.specs.Classes.{Classes, Shape, TokenKind, parts}
+use Rattle.std.specs.List.{slice_get}
+use Rattle.at_model.specs.Classes.{Classes, Shape, TokenKind, parts, class_in}
 use Rattle.at_model.specs.Classes as class
 use Rattle.at_model.specs.Trees.{Tree, Cells, Cell, Trees, One, Many, Empty, Filled, Holds, class_of, cells_of, to_cells, from_cells, to_trees, from_trees, conforms, is_of_kind, nodes, depth}
 use Rattle.at_model.specs.Trees as tree
 use Rattle.at_model.specs.Terms.{max_depth}
-use Rattle.at_model.specs.Paths.{Node, tree_at, children_at}
+use Rattle.at_model.specs.Paths.{Node, tree_at, children_at, step_eq, parent_of}
 
 -- a subtree in the place of a node, one into an empty optional, a node taken away, one more element at an index, another token
 pub data Edit : Type 0 where
@@ -15,21 +15,6 @@ pub data Edit : Type 0 where
   Drop : (node : Node) → Edit
   Insert : (node : Node) → (part : ℕ) → (index : ℕ) → Tree → Edit
   Token : (node : Node) → (part : ℕ) → tree.Token → Edit
-
--- where a node stands: the node above it, the component there, and its position among the children
-pub record Position : Type 0 where
-  pub parent : Node
-  pub part : ℕ
-  pub index : ℕ
-
-abbrev pub below : ℕ × ℕ → Position → Position
-below way p = record p { parent = way ∷ p.parent }
-
--- where the node stands: the root stands nowhere
-abbrev pub position_of : Node → Option Position
-position_of [] = None
-position_of (way ∷ []) = Some (record { parent = []; part = way.0; index = way.1 })
-position_of (way ∷ next ∷ ways) = option_map (below way) (position_of (next ∷ ways))
 
 -- the shape of a component of a node
 abbrev pub shape_at : Classes → Tree → Node → ℕ → Option Shape
@@ -52,16 +37,9 @@ abbrev pub token_kind : Shape → Option TokenKind
 token_kind (class.Token kind) = Some kind
 token_kind shape = None
 
--- the class that a component asks of its trees
-abbrev pub child_class : Shape → Option ℕ
-child_class (class.One c) = Some c
-child_class (class.Many c) = Some c
-child_class (class.Maybe c) = Some c
-child_class (class.Token kind) = None
-
 -- the class that is asked where a node stands: of the root it is the start class, the first
 abbrev pub class_asked : Classes → Tree → Node → Option ℕ
-class_asked classes t node = elim (position_of node) [ None ↦ Some 0 | Some p ↦ option_and_then child_class (shape_at classes t p.parent p.part) ]
+class_asked classes t node = elim (parent_of node) [ None ↦ Some 0 | Some p ↦ option_and_then class_in (shape_at classes t p.0 p.1.0) ]
 
 abbrev pub fits_class : Classes → Tree → Option ℕ → Bool
 fits_class classes new None = false
@@ -102,7 +80,7 @@ is_free t (Put node part new) = length (children_of t node part) == 0
 is_free t e = true
 
 abbrev pub is_plain : Classes → Tree → Node → Bool
-is_plain classes t node = elim (position_of node) [ None ↦ true | Some p ↦ is_some (option_and_then plain_class (shape_at classes t p.parent p.part)) ]
+is_plain classes t node = elim (parent_of node) [ None ↦ true | Some p ↦ is_some (option_and_then plain_class (shape_at classes t p.0 p.1.0)) ]
 
 -- what is taken away is neither the root nor a plain child
 abbrev pub is_removable : Classes → Tree → Edit → Bool
@@ -130,7 +108,7 @@ with_cell f part (tree.Node c cells) = tree.Node c (to_cells (changed_at f (from
 -- the tree with f of the tree at the node
 abbrev pub with_node : (Tree → Tree) → Tree → Node → Tree
 with_node f t [] = f t
-with_node f t (way ∷ ways) = with_cell (with_child (λ u. with_node f u ways) way.1) way.0 t
+with_node f t (s ∷ ss) = with_cell (with_child (λ u. with_node f u ss) s.1) s.0 t
 
 -- the cell without the child at the position
 abbrev pub without_child : ℕ → Cell → Cell
@@ -149,7 +127,7 @@ with_one_more new i c = c
 abbrev pub left_by : Tree → Edit → Tree
 left_by t (Set node new) = with_node (λ u. new) t node
 left_by t (Put node part new) = with_node (with_cell (λ c. Filled new) part) t node
-left_by t (Drop node) = elim (position_of node) [ None ↦ t | Some p ↦ with_node (with_cell (without_child p.index) p.part) t p.parent ]
+left_by t (Drop node) = elim (parent_of node) [ None ↦ t | Some p ↦ with_node (with_cell (without_child p.1.1) p.1.0) t p.0 ]
 left_by t (Insert node part index new) = with_node (with_cell (with_one_more new index) part) t node
 left_by t (Token node part v) = with_node (with_cell (λ c. Holds v) part) t node
 
@@ -209,35 +187,32 @@ edited classes t e =
     else (if not (is_within_limits (left_by t e)) then Err Limit
     else Ok (left_by t e))))))
 
-abbrev pub same_way : ℕ × ℕ → ℕ × ℕ → Bool
-same_way v w = nat_eq v.0 w.0 && nat_eq v.1 w.1
+-- where a step from a node to a child leads when one child, to which the first step leads, is replaced: to it nowhere
+abbrev pub past_set : ℕ × ℕ → ℕ × ℕ → Option (ℕ × ℕ)
+past_set place s = if step_eq place s then None else Some s
 
--- where a step from a node to a child leads when that child is replaced: nowhere
-abbrev pub past_set : Position → ℕ × ℕ → Option (ℕ × ℕ)
-past_set p way = if same_way (p.part, p.index) way then None else Some way
+-- when that child is taken away, those behind it in its component move to the front
+abbrev pub past_drop : ℕ × ℕ → ℕ × ℕ → Option (ℕ × ℕ)
+past_drop place s =
+    if step_eq place s then None
+    else (if nat_eq place.0 s.0 && nat_lt place.1 s.1 then Some (s.0, s.1 - 1)
+    else Some s)
 
--- when a child is removed, those behind it move to the front
-abbrev pub past_drop : Position → ℕ × ℕ → Option (ℕ × ℕ)
-past_drop p way =
-    if same_way (p.part, p.index) way then None
-    else (if nat_eq p.part way.0 && nat_lt p.index way.1 then Some (way.0, way.1 - 1)
-    else Some way)
-
--- when a child comes in, it and those behind it move to the back
-abbrev pub past_insert : Position → ℕ × ℕ → Option (ℕ × ℕ)
-past_insert p way = if nat_eq p.part way.0 && nat_le p.index way.1 then Some (way.0, way.1 + 1) else Some way
+-- when a child comes in there, the one that was there and those behind it move to the back
+abbrev pub past_insert : ℕ × ℕ → ℕ × ℕ → Option (ℕ × ℕ)
+past_insert place s = if nat_eq place.0 s.0 && nat_le place.1 s.1 then Some (s.0, s.1 + 1) else Some s
 
 -- where a node goes when the steps from one node to its children lead elsewhere
 abbrev pub moved_under : Node → (ℕ × ℕ → Option (ℕ × ℕ)) → Node → Option Node
 moved_under [] past [] = Some []
-moved_under [] past (way ∷ ways) = option_map (λ w. w ∷ ways) (past way)
+moved_under [] past (s ∷ ss) = option_map (λ u. u ∷ ss) (past s)
 moved_under (up ∷ ups) past [] = Some []
-moved_under (up ∷ ups) past (way ∷ ways) = if same_way up way then option_map (λ ws. way ∷ ws) (moved_under ups past ways) else Some (way ∷ ways)
+moved_under (up ∷ ups) past (s ∷ ss) = if step_eq up s then option_map (λ us. s ∷ us) (moved_under ups past ss) else Some (s ∷ ss)
 
--- where a node goes over an edit: what is replaced or removed, and all below it, goes nowhere
+-- where a node goes over an edit: what is replaced or taken away, and all below it, goes nowhere
 abbrev pub carried : Edit → Node → Option Node
-carried (Set node new) n = elim (position_of node) [ None ↦ None | Some p ↦ moved_under p.parent (past_set p) n ]
+carried (Set node new) n = elim (parent_of node) [ None ↦ None | Some p ↦ moved_under p.0 (past_set p.1) n ]
 carried (Put node part new) n = Some n
-carried (Drop node) n = elim (position_of node) [ None ↦ None | Some p ↦ moved_under p.parent (past_drop p) n ]
-carried (Insert node part index new) n = moved_under node (past_insert (record { parent = node; part = part; index = index })) n
+carried (Drop node) n = elim (parent_of node) [ None ↦ None | Some p ↦ moved_under p.0 (past_drop p.1) n ]
+carried (Insert node part index new) n = moved_under node (past_insert (part, index)) n
 carried (Token node part v) n = Some n

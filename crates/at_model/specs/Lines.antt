@@ -1,5 +1,5 @@
 -- Lines: the commands of sessions, and the one text of each.
-use Rattle.std.specs.Prelude.{◌≡◌, ℕ, ◌+◌, ◌^◌, ◌<◌, ◌≤◌, Bool, true, false, ◌==◌, not, if◌then◌else◌, List, [], ◌∷◌, ◌++◌, ⊤, map, length, filter, decimal, Option, Some, None}
+use Rattle.std.specs.Prelude.{◌≡◌, ℕ, ◌<◌, ◌≤◌, Bool, true, false, ◌==◌, if◌then◌else◌, List, [], ◌∷◌, ◌++◌, ⊤, map, length, filter, decimal, Option, Some, None}
 use Rattle.std.specs.List.{flat_map, join_with_byte, AllByRecursion}
 use Rattle.std.specs.Str.{IsUtf8}
 use lib.Chars.{codes}
@@ -162,11 +162,16 @@ is_filled (b ∷ bs) = true
 abbrev pub lines : List ℕ → List (List ℕ)
 lines bytes = filter is_filled (pieces bytes)
 
+abbrev pub IsSpaceOrEnd : List ℕ → Type 0
+IsSpaceOrEnd [] = ⊤
+IsSpaceOrEnd (b ∷ bs) = b ≡ 32
+
 -- the digits of the session stand at the front, and a space or the end behind them
 pub record BeginsWith (bytes : List ℕ) (session : ℕ) : Type 0 where
-  pub session_exists : session < max_sessions
+  pub exists : session < max_sessions
   pub rest : List ℕ
-  pub front : bytes ++ 32 ∷ [] ≡ decimal session ++ 32 ∷ rest
+  pub front : bytes ≡ decimal session ++ rest
+  pub behind : IsSpaceOrEnd rest
 
 -- the session that can be read from the bytes, or that none can
 abbrev pub IsSessionOf : List ℕ → Option ℕ → Type 0

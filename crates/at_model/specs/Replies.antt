@@ -5,16 +5,7 @@ use lib.Chars.{codes}
 use Rattle.at_model.specs.Trees as tree
 use Rattle.at_model.specs.Terms.{Term, term_text, token_text}
 use Rattle.at_model.specs.Paths.{Path, path_text}
-
--- why an evaluation has no value: a null receiver, an index out of range, an empty optional, a zero divisor, a cast to a
--- class that the node is not of, a text too long
-pub data FaultKind : Type 0 where
-  Null : FaultKind
-  Index : FaultKind
-  Absent : FaultKind
-  Zero : FaultKind
-  Cast : FaultKind
-  Long : FaultKind
+use Rattle.at_model.specs.Run.{FaultKind, Null, Index, Absent, Zero, Cast, Long}
 
 abbrev pub fault_text : FaultKind → List ℕ
 fault_text Null = codes "null"
