@@ -14,3 +14,4 @@ pub mod Touches
 pub mod Shaping
 pub mod Lines
 pub mod Replies
+pub mod Machine
