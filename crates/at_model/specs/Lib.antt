@@ -9,3 +9,4 @@ pub mod Bodies
 pub mod Rules
 pub mod Meaning
 pub mod Support
+pub mod Alike
