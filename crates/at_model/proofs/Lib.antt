@@ -1,0 +1,4 @@
+pub mod Outcomes
+pub mod Tries
+pub mod ExpressionsAlike
+pub mod Carrying
