@@ -2,3 +2,5 @@ pub mod Outcomes
 pub mod Tries
 pub mod ExpressionsAlike
 pub mod Carrying
+pub mod Steps
+pub mod Changes

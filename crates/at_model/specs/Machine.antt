@@ -242,3 +242,19 @@ Runs rules Answered old (line ∷ rest) (b ∷ bs) text new = (mid : State) × (
 -- what the machine writes for these bytes, and the state in which they leave it
 abbrev pub Outputs : Rules → Answering → State → List ℕ → (out_of_memory : List Bool) → List ℕ → State → Type 0
 Outputs rules Answered old bytes named text new = Runs rules Answered old (lines bytes) named text new
+
+-- the command is an edit of the tree
+abbrev pub is_edit : Command → Bool
+is_edit (Set place t) = true
+is_edit (Put place part t) = true
+is_edit (Drop place) = true
+is_edit (Insert place part index t) = true
+is_edit (Token place part v) = true
+is_edit command = false
+
+-- the new state is the old one after an edit that is accepted: of the next version, its marks carried
+pub record IsEdited (classes : Classes) (old new : State) : Type 0 where
+  pub by : Edit
+  pub tree : edited classes old.tree by ≡ Ok new.tree
+  pub version : new.version ≡ old.version + 1
+  pub marks : new.marks ≡ carried_marks by old.marks
