@@ -4,3 +4,5 @@ pub mod ExpressionsAlike
 pub mod Carrying
 pub mod Steps
 pub mod Changes
+pub mod Cutting
+pub mod Runs
