@@ -16,4 +16,5 @@ pub mod Shaping
 pub mod Lines
 pub mod Replies
 pub mod Machine
+pub mod Sparing
 pub mod SampleTrees

@@ -44,7 +44,7 @@ ghost use Rattle.at_model.specs.Replies.{
   reply_text,
 };
 ghost use Rattle.at_model.specs.Replies as code;
-ghost use Rattle.at_model.specs.Machine.{State, Verdict, Refuses, Leaves, Tells, verdict};
+ghost use Rattle.at_model.specs.Machine.{State, Verdict, Refuses, Leaves, Tells, after, verdict};
 ghost use Rattle.at_model.specs.SampleTrees.{
   calc,
   calc_rules,
@@ -83,8 +83,8 @@ pub fn an_insert_moves_what_is_behind()
     ensures first { carried (edit.Insert block 0 0 decl_y) (statement 0) ≡ Some (statement 1) }
     ensures second { carried (edit.Insert block 0 0 decl_y) (statement 1) ≡ Some (statement 2) }
     ensures above { carried (edit.Insert block 0 0 decl_y) block ≡ Some block }
-    ensures state { verdict calc_rules (record opened { marks = mark 1 "u" (statement 1) ∷ [] }) (says (Insert (From_root block_path) (codes "Stmt") 0 decl_y_term))
-        ≡ Leaves (record { tree = program (decl_y ∷ decl_x ∷ print_sum ∷ []); version = 1; marks = mark 1 "u" (statement 2) ∷ [] }) }
+    ensures state { after (record opened { marks = mark 1 "u" (statement 1) ∷ [] }) (verdict calc_rules (record opened { marks = mark 1 "u" (statement 1) ∷ [] }) (says (Insert (From_root block_path) (codes "Stmt") 0 decl_y_term)))
+        ≡ record { tree = program (decl_y ∷ decl_x ∷ print_sum ∷ []); version = 1; marks = mark 1 "u" (statement 2) ∷ [] } }
 {}
 
 /// A mark is asked where its node is now, and only by the session that made it.
@@ -101,8 +101,8 @@ pub fn a_drop_moves_what_is_behind()
     ensures below { carried (edit.Drop (statement 0)) init_x ≡ None }
     ensures behind { carried (edit.Drop (statement 0)) (statement 1) ≡ Some (statement 0) }
     ensures before { carried (edit.Drop (statement 1)) (statement 0) ≡ Some (statement 0) }
-    ensures state { verdict calc_rules (record opened { marks = mark 1 "u" (statement 1) ∷ mark 1 "v" init_x ∷ [] }) (says (Drop (From_root (statement_path 0))))
-        ≡ Leaves (record { tree = program (print_sum ∷ []); version = 1; marks = mark 1 "u" (statement 0) ∷ [] }) }
+    ensures state { after (record opened { marks = mark 1 "u" (statement 1) ∷ mark 1 "v" init_x ∷ [] }) (verdict calc_rules (record opened { marks = mark 1 "u" (statement 1) ∷ mark 1 "v" init_x ∷ [] }) (says (Drop (From_root (statement_path 0)))))
+        ≡ record { tree = program (print_sum ∷ []); version = 1; marks = mark 1 "u" (statement 0) ∷ [] } }
 {}
 
 /// An optional is emptied, and filled again; a filled one is taken.
@@ -126,7 +126,7 @@ pub fn refused_edits()
 /// A line that expects another version is refused, whatever else it says; one that expects this version is not.
 pub fn a_stale_line()
     ensures stale { verdict calc_rules (record opened { version = 1 }) (record { session = 1; expected = Some 0; command = Token (From_root (statement_path 0)) (codes "ID") (tree.Int (pos 5)) }) ≡ Refuses (code.Stale 1) }
-    ensures current { verdict calc_rules (record opened { version = 1 }) (record { session = 1; expected = Some 1; command = Version }) ≡ Leaves (record opened { version = 1 }) }
+    ensures current { verdict calc_rules (record opened { version = 1 }) (record { session = 1; expected = Some 1; command = Version }) ≡ Leaves [] }
 {}
 
 /// A question at a path that leads nowhere, and one of an attribute that there isn't.
