@@ -117,6 +117,14 @@ pub data Verdict : Type 0 where
   Edits : Edit → Tree → Verdict
   Asks : Instance Node → Verdict
 
+-- the state after the verdict: an edit makes the next version, and the marks follow their nodes
+abbrev pub after : State → Verdict → State
+after s (Refuses refusal) = s
+after s (Tells shown) = s
+after s (Leaves marks) = record s { marks = marks }
+after s (Edits e t) = record { tree = t; version = s.version + 1; marks = carried_marks e s.marks }
+after s (Asks q) = s
+
 abbrev pub code_of : edit.Refusal → Code
 code_of edit.Component = code.Component
 code_of edit.Fit = code.Fit
@@ -211,14 +219,6 @@ Answering = Tree → Instance Node → Answer Node → Type 0
 -- by the equations of the rules
 abbrev pub ByEquations : Rules → Answering
 ByEquations rules t q a = Answers (content t) (equations rules) q a
-
--- the state after the verdict: an edit makes the next version, and the marks follow their nodes
-abbrev pub after : State → Verdict → State
-after s (Refuses refusal) = s
-after s (Tells shown) = s
-after s (Leaves marks) = record s { marks = marks }
-after s (Edits e t) = record { tree = t; version = s.version + 1; marks = carried_marks e s.marks }
-after s (Asks q) = s
 
 -- what the session is told by the verdict
 abbrev pub Says : Rules → Answering → State → Verdict → Form → Type 0

@@ -1,5 +1,5 @@
 -- A small language with declarations and sums, a tree of it, edits of that tree, and lines.
-use Rattle.std.specs.Prelude.{ℕ, ℤ, pos, true, false, List, [], ◌∷◌, Some, None}
+use Rattle.std.specs.Prelude.{ℕ, zero, suc, ℤ, pos, true, false, List, [], ◌∷◌, Some, None}
 use lib.Chars.{codes}
 use Prim.Native.String.{String}
 use Rattle.at_model.specs.Classes.{Classes, Class, Component, Shape, One, Many, Maybe, Token, Text, Int}
@@ -106,6 +106,11 @@ num_term n = term.Node (codes "Num") (term.cell (term.Holds (tree.Int n)) term.n
 
 abbrev pub decl_y_term : Term
 decl_y_term = term.Node (codes "Decl") (term.cell (term.Holds (tree.Text (codes "y"))) (term.cell term.Empty term.no_cells))
+
+-- Block([..Block([])..]), so many blocks in one another
+abbrev pub nested : ℕ → Term
+nested zero = term.Node (codes "Block") (term.cell (term.Many term.no_terms) term.no_cells)
+nested (suc n) = term.Node (codes "Block") (term.cell (term.Many (term.term (nested n) term.no_terms)) term.no_cells)
 
 -- the machine as it is opened with the sample, and at another version, or with marks
 abbrev pub opened : State

@@ -3,6 +3,7 @@
 ghost use Rattle.std.specs.Prelude.{◌≡◌, ℕ, pos, true, false, List, [], ◌∷◌, map, Some, None, Ok, Err, codes};
 ghost use Rattle.at_model.specs.Trees as tree;
 ghost use Rattle.at_model.specs.Terms.{tree_text};
+ghost use Rattle.at_model.specs.Terms as term;
 ghost use Rattle.at_model.specs.Paths.{path_text, node_at, path_of};
 ghost use Rattle.at_model.specs.Run.{Location, Is, Tok, Slot, Up, Idx};
 ghost use Rattle.at_model.specs.Run as run;
@@ -44,7 +45,7 @@ ghost use Rattle.at_model.specs.Replies.{
   reply_text,
 };
 ghost use Rattle.at_model.specs.Replies as code;
-ghost use Rattle.at_model.specs.Machine.{State, Verdict, Refuses, Leaves, Tells, after, verdict};
+ghost use Rattle.at_model.specs.Machine.{State, Verdict, Refuses, Leaves, Tells, Edits, after, verdict};
 ghost use Rattle.at_model.specs.SampleTrees.{
   calc,
   calc_rules,
@@ -60,6 +61,7 @@ ghost use Rattle.at_model.specs.SampleTrees.{
   block,
   statement,
   init_x,
+  nested,
   block_path,
   statement_path,
   left_path,
@@ -120,12 +122,21 @@ pub fn refused_edits()
     ensures fit { verdict calc_rules opened (says (Set (From_root block_path) (num_term (pos 1)))) ≡ Refuses code.Fit }
     ensures kind { verdict calc_rules opened (says (Token (From_root (statement_path 0)) (codes "ID") (tree.Int (pos 5)))) ≡ Refuses code.Fit }
     ensures component { verdict calc_rules opened (says (Insert (From_root block_path) (codes "Init") 0 (num_term (pos 1)))) ≡ Refuses code.Component }
+    ensures class { verdict calc_rules opened (says (Set (From_root (statement_path 0)) (term.Node (codes "Expr") term.no_cells))) ≡ Refuses code.Class }
     ensures last { verdict calc_rules (record opened { version = last_version }) (says (Drop (From_root (statement_path 0)))) ≡ Refuses code.Limit }
+{}
+
+/// A tree may be 512 deep, and no deeper.
+pub fn the_deepest_tree()
+    ensures too_deep { verdict calc_rules opened (says (Insert (From_root block_path) (codes "Stmt") 0 (nested 510))) ≡ Refuses code.Limit }
+    ensures deepest { (after opened (verdict calc_rules opened (says (Insert (From_root block_path) (codes "Stmt") 0 (nested 509))))).version ≡ 1 }
 {}
 
 /// A line that expects another version is refused, whatever else it says; one that expects this version is not.
 pub fn a_stale_line()
     ensures stale { verdict calc_rules (record opened { version = 1 }) (record { session = 1; expected = Some 0; command = Token (From_root (statement_path 0)) (codes "ID") (tree.Int (pos 5)) }) ≡ Refuses (code.Stale 1) }
+    ensures current_edit { verdict calc_rules (record opened { version = 1 }) (record { session = 1; expected = Some 1; command = Drop (From_root (statement_path 0)) }) ≡ Edits (edit.Drop (statement 0)) (program (print_sum ∷ [])) }
+    ensures stale_edit { verdict calc_rules (record opened { version = 1 }) (record { session = 1; expected = Some 0; command = Drop (From_root (statement_path 0)) }) ≡ Refuses (code.Stale 1) }
     ensures current { verdict calc_rules (record opened { version = 1 }) (record { session = 1; expected = Some 1; command = Version }) ≡ Leaves [] }
 {}
 
