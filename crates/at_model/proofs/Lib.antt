@@ -2,3 +2,4 @@ pub mod Outcomes
 pub mod Tries
 pub mod ExpressionsAlike
 pub mod Carrying
+pub mod Apart

@@ -10,3 +10,4 @@ pub mod Rules
 pub mod Meaning
 pub mod Support
 pub mod Alike
+pub mod Samples

@@ -1,6 +1,11 @@
 //! What attrd means: definitions, and laws about them.
 #![tactic(auto)]
 
+mod cases;
 mod laws;
 
+pub use cases::{
+    circle, dropped_declaration, first_come, ints, names_and_values, nearest_above, nearest_class,
+    positions, same_nodes, sample_texts, what_is_read,
+};
 pub use laws::{carried, frame, one_circle, one_outcome, outcome_or_circle, try_is_right};
