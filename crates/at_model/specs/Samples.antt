@@ -7,7 +7,7 @@ use Rattle.at_model.specs.Trees.{Tree, Cell, no_cells, cell, to_cells, to_trees,
 use Rattle.at_model.specs.Trees as node
 use Rattle.at_model.specs.Paths.{Node}
 use Rattle.at_model.specs.Run.{Value, Text, Instance, Location, Known, Tried, tried, reads}
-use Rattle.at_model.specs.Bodies.{eval, Over, Plus, Expr, IntLiteral, TruthLiteral, TextLiteral, NullLiteral, This, Name, IndexName, Arithmetic, JoinInt, Same, Differ, And, Choose, Equals, CastTo, Child, Has, TokenOf, Call, First, no_exprs, expr}
+use Rattle.at_model.specs.Bodies.{Scope, eval, Over, Plus, Expr, IntLiteral, TruthLiteral, TextLiteral, NullLiteral, This, Name, IndexName, Arithmetic, JoinInt, Same, Differ, And, Choose, Equals, CastTo, Child, Has, TokenOf, Call, First, no_exprs, expr}
 use Rattle.at_model.specs.Rules.{Rules, Attribute, OwnEquation, InheritedEquation}
 use Rattle.at_model.specs.Rules as kind
 use Rattle.at_model.specs.Meaning.{Answer, Answers, Finds, Outcomes, value_in, outcome_at, node_eq, content, equations}
@@ -146,6 +146,14 @@ calc_tree = program (decl (codes "x") (Filled (num (pos 1))) ∷ print_sum ∷ [
 abbrev pub tree_without_decl : Tree
 tree_without_decl = program (print_sum ∷ [])
 
+-- a block with no statement
+abbrev pub empty_tree : Tree
+empty_tree = program []
+
+-- a declaration without initial value
+abbrev pub bare_tree : Tree
+bare_tree = program (decl (codes "y") Empty ∷ [])
+
 -- tree.txt after `set /Block/Stmt:0/Init Use("x")`
 abbrev pub tree_with_circle : Tree
 tree_with_circle = program (decl (codes "x") (Filled (use_of (codes "x"))) ∷ print_sum ∷ [])
@@ -203,9 +211,17 @@ values t i = value_in (outcome_at (content t) (equations calc) 9 i)
 abbrev pub reads_of : Tree → Instance Node → List (Location Node)
 reads_of t i = reads (content t) (values t) (equations calc i)
 
--- what an expression comes to at a node of tree.txt, with no instance known
-abbrev pub evaluated : Node → Expr → Tried Node (Value Node)
-evaluated n e = tried (content calc_tree) (λ i. None) (eval calc_classes node_eq e (record { this = n; names = []; child = None }))
+-- the names of a body with no parameters, at a node
+abbrev pub scope_at : Node → Scope Node
+scope_at n = record { this = n; names = []; child = None }
+
+-- what an expression comes to at a node, with no instance known
+abbrev pub evaluated : Tree → Node → Expr → Tried Node (Value Node)
+evaluated t n e = tried (content t) (λ i. None) (eval calc_classes node_eq e (scope_at n))
+
+-- and what it reads
+abbrev pub looked : Tree → Node → Expr → List (Location Node)
+looked t n e = reads (content t) (λ i. None) (eval calc_classes node_eq e (scope_at n))
 
 -- calc.ast with inherited equations of a class and of the class above it, for one component and for every one
 abbrev pub layered : Rules

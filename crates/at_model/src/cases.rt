@@ -1,55 +1,15 @@
 //! Worked cases on the samples: each function's contract has a few, and computing proves them.
 
-ghost use Rattle.std.specs.Prelude.{◌≡◌, ◌∷◌, option_map, None, Some, [], codes, false, negsuc, pos, true};
-ghost use Rattle.at_model.specs.Trees.{Tree};
+ghost use Rattle.std.specs.Prelude.{◌≡◌, ◌∷◌, None, Some, [], codes, false, negsuc, option_map, pos, true};
 ghost use Rattle.at_model.specs.Terms.{tree_text};
 ghost use Rattle.at_model.specs.Paths.{Node, path_of, path_text, tree_at};
-ghost use Rattle.at_model.specs.Run.{
-  Absent,
-  Cast,
-  Faulted,
-  Idx,
-  Index,
-  Int,
-  Is,
-  Null,
-  Ref,
-  Slot,
-  Text,
-  Tok,
-  Truth,
-  Up,
-  Valued,
-  Zero,
-};
-ghost use Rattle.at_model.specs.Bodies.{
-  Arithmetic,
-  CastTo,
-  Child,
-  Compare,
-  Count,
-  Element,
-  Exists,
-  Has,
-  IntLiteral,
-  InstanceOf,
-  Modulo,
-  Negate,
-  NullLiteral,
-  Over,
-  Sum,
-  This,
-  TokenOf,
-  AtMost,
-  Name,
-  Or,
-  TruthLiteral,
-};
+ghost use Rattle.at_model.specs.Run.{Idx, Instance, Int, Is, Null, Ref, Slot, Text, Tok, Truth, Up, Zero};
+ghost use Rattle.at_model.specs.Bodies.{IntLiteral};
 ghost use Rattle.at_model.specs.Rules.{inherited_equation, source_of};
 ghost use Rattle.at_model.specs.Meaning.{
-  Answers,
   Circle,
   Circular,
+  Comes,
   Faults,
   Finds,
   Outcomes,
@@ -64,14 +24,11 @@ ghost use Rattle.at_model.specs.Samples.{
   calc,
   calc_classes,
   calc_tree,
-  call_with,
-  evaluated,
   init_of,
   layered,
   left_of,
   of_node,
   of_node_with,
-  one_by_zero,
   printed,
   reads_of,
   right_of,
@@ -127,11 +84,6 @@ pub fn same_nodes()
 pub fn ints()
     ensures big { Gets calc_tree (of_node root 14) (Int (negsuc 2147483647)) }
     ensures join { Gets calc_tree (of_node root 15) (Text (codes "n0-7")) }
-    ensures toward_zero { evaluated root (Arithmetic Over (IntLiteral (negsuc 6)) (IntLiteral (pos 2))) ≡ Valued (Int (negsuc 2)) }
-    ensures dividend { evaluated root (Arithmetic Modulo (IntLiteral (negsuc 6)) (IntLiteral (pos 2))) ≡ Valued (Int (negsuc 0)) }
-    ensures least { evaluated root (Arithmetic Over (IntLiteral (negsuc 2147483647)) (IntLiteral (negsuc 0))) ≡ Valued (Int (negsuc 2147483647)) }
-    ensures nothing_left { evaluated root (Arithmetic Modulo (IntLiteral (negsuc 2147483647)) (IntLiteral (negsuc 0))) ≡ Valued (Int (pos 0)) }
-    ensures negated { evaluated root (Negate (IntLiteral (negsuc 2147483647))) ≡ Valued (Int (negsuc 2147483647)) }
 {}
 
 /// The index of a statement, and the equation for the block that is no element of a list.
@@ -167,4 +119,17 @@ pub fn what_is_read()
     ensures cast { reads_of calc_tree (of_node_with block 2 (codes "x")) ≡ Is block ∷ Slot block 0 ∷ Is (statement 0) ∷ [] }
     ensures index { reads_of calc_tree (of_node (statement 1) 16) ≡ Is (statement 1) ∷ Up (statement 1) ∷ Is block ∷ Idx (statement 1) ∷ [] }
     ensures token { reads_of calc_tree (of_node (right_of 1) 5) ≡ Is (right_of 1) ∷ Tok (right_of 1) 0 ∷ [] }
+{}
+
+/// A second demand of an instance is no circle: the equation of `lookup` demands `local` twice.
+pub fn second_demand()
+    ensures value { Gets calc_tree (of_node_with (left_of 1) 0 (codes "x")) (Ref (Some (statement 0))) }
+    ensures comes { Comes (content calc_tree) (equations calc) (of_node_with (left_of 1) 0 (codes "x")) (of_node_with block 2 (codes "x")) }
+    ensures no_circle { (j : Instance Node) → Circular (content calc_tree) (equations calc) (of_node_with (left_of 1) 0 (codes "x")) j → ⊥ }
+{}
+
+/// The value of the sum rests on the list of statements and on the number in the declaration.
+pub fn support()
+    ensures list { Supports (content calc_tree) (equations calc) (Slot block 0) (of_node (printed 1) 5) }
+    ensures number { Supports (content calc_tree) (equations calc) (Tok (init_of 0) 0) (of_node (printed 1) 5) }
 {}

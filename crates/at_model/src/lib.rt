@@ -2,10 +2,12 @@
 #![tactic(auto)]
 
 mod cases;
+mod forms;
 mod laws;
 
 pub use cases::{
     circle, dropped_declaration, first_come, ints, names_and_values, nearest_above, nearest_class,
-    positions, same_nodes, sample_texts, what_is_read,
+    positions, same_nodes, sample_texts, second_demand, support, what_is_read,
 };
+pub use forms::{accessors, arithmetic, classes, folds, long_texts, order};
 pub use laws::{carried, frame, one_circle, one_outcome, outcome_or_circle, try_is_right};
