@@ -2,6 +2,7 @@ pub mod Outcomes
 pub mod Tries
 pub mod ExpressionsAlike
 pub mod Carrying
+pub mod Apart
 pub mod Steps
 pub mod Changes
 pub mod Cutting

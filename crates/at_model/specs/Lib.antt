@@ -10,6 +10,7 @@ pub mod Rules
 pub mod Meaning
 pub mod Support
 pub mod Alike
+pub mod Samples
 pub mod Edits
 pub mod Touches
 pub mod Shaping
@@ -17,4 +18,4 @@ pub mod Lines
 pub mod Replies
 pub mod Machine
 pub mod Sparing
-pub mod SampleTrees
+pub mod SampleLines

@@ -1,15 +1,23 @@
 //! What attrd means: definitions, and laws about them.
 #![tactic(auto)]
 
+mod cases;
+mod forms;
 mod laws;
 mod machine_cases;
 mod machine_laws;
 
+pub use cases::{
+    circle, dropped_declaration, first_come, ints, names_and_values, nearest_above, nearest_class,
+    positions, same_nodes, sample_texts, second_demand, support, what_is_read,
+};
+pub use forms::{accessors, arithmetic, classes, folds, long_texts, order};
 pub use laws::{carried, frame, one_circle, one_outcome, outcome_or_circle, try_is_right};
 pub use machine_cases::{
     a_drop_moves_what_is_behind, a_line_as_text, a_mark_is_asked_where_it_is, a_stale_line,
     an_insert_moves_what_is_behind, an_optional_is_emptied_and_filled, lines_of_bytes,
-    refused_edits, refused_questions, replies_as_text, sample_texts, the_deepest_tree, what_a_drop_touches,
+    paths_as_text, questions, refused_edits, replies_as_text, the_deepest_tree,
+    what_a_drop_touches,
 };
 pub use machine_laws::{
     a_refused_line_changes_nothing, an_accepted_edit_is_the_next_version, lines_of_one_part,

@@ -1,11 +1,7 @@
 use Rattle.std.proofs.Common.{refl}
 use Rattle.std.specs.Fmt.{digits}
 use Rattle.at_model.specs.Classes.{chain}
-use Rattle.at_model.proofs.machine_cases.sample_texts.Goals as goal
-
-pub returns-clause-tree : goal.returns-clause-tree
-unfolding chain digits
-returns-clause-tree c = refl
+use Rattle.at_model.proofs.machine_cases.paths_as_text.Goals as goal
 
 pub returns-clause-path : goal.returns-clause-path
 unfolding chain digits
