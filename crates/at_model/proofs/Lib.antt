@@ -7,3 +7,6 @@ pub mod Steps
 pub mod Changes
 pub mod Cutting
 pub mod Runs
+pub mod Words
+pub mod QuotedTexts
+pub mod OneTerm
