@@ -10,3 +10,5 @@ pub mod Runs
 pub mod Words
 pub mod QuotedTexts
 pub mod OneTerm
+pub mod OneLine
+pub mod OneOutput

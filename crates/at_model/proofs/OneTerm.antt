@@ -13,7 +13,7 @@ use Rattle.at_model.specs.Terms.{Term, Cells, Cell, Terms, Node, no_cells, cell,
 use Rattle.at_model.proofs.Words.{apart, apart_from_end, ends_delimits, IsInner, Ends, Stops, ends, delimits, same_word, stops, headless, ends_not, ends_wordless, decimal_inner, name_inner}
 use Rattle.at_model.proofs.QuotedTexts.{same_quoted}
 
-abbrev tail : List ℕ → List ℕ
+abbrev pub tail : List ℕ → List ℕ
 tail [] = []
 tail (b ∷ bs) = bs
 

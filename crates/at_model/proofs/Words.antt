@@ -12,7 +12,7 @@ use Rattle.unicode_ident.proofs.IdentLemmas.{is_xid_start-ascii, is_xid_continue
 use Rattle.at_model.specs.Names.{starts_name, continues_name, is_word, is_name, is_reserved}
 
 -- lists that begin with different bytes
-apart_bytes : (a b : ℕ) → nat_eq a b ≡ false → a ≡ b → ⊥
+pub apart_bytes : (a b : ℕ) → nat_eq a b ≡ false → a ≡ b → ⊥
 apart_bytes a b h e = let f : nat_eq a b ≡ true = grind (arith, nat_tests) in cc
 
 pub apart : (a b : ℕ) (x y : List ℕ) → nat_eq a b ≡ false → a ∷ x ≡ b ∷ y → ⊥

@@ -1,29 +1,53 @@
 //! Laws of the machine: each is the contract of a function that does nothing.
 
-ghost use Rattle.std.specs.Prelude.{◌≡◌, ◌≢◌, ℕ, ◌+◌, Bool, true, false, List, [], ◌∷◌, ◌++◌, All, filter};
+ghost use Rattle.std.specs.Prelude.{◌≡◌, ◌≢◌, ℕ, ◌+◌, Bool, true, false, List, [], ◌∷◌, ◌++◌, Option, All, filter};
 ghost use Rattle.at_model.specs.Rules.{Rules};
-ghost use Rattle.at_model.specs.Lines.{Line, lines, is_filled};
+ghost use Rattle.at_model.specs.Terms.{Term, IsTerm, term_text};
+ghost use Rattle.at_model.specs.Lines.{Line, IsLine, IsSessionOf, line_text, lines, is_filled};
 ghost use Rattle.at_model.specs.Replies.{Reply, Code, Done, Refused, reply_text};
 ghost use Rattle.at_model.specs.Machine.{
   State,
   ByEquations,
   Step,
+  Handles,
   Serves,
   Runs,
+  Outputs,
   IsEdited,
   is_edit,
 };
 
-/// A line has at most one reply, and leaves one state.
+/// A text is that of at most one term, and no text of a term begins another one.
+pub fn one_term()
+    ensures { (t u : Term) (r s : List ℕ) → IsTerm t → IsTerm u → term_text t ++ r ≡ term_text u ++ s → (t ≡ u) × (r ≡ s) }
+{}
+
+/// A text is that of at most one line.
+pub fn one_line()
+    ensures { (l m : Line) → IsLine l → IsLine m → line_text l ≡ line_text m → l ≡ m }
+{}
+
+/// At most one session can be read from bytes.
+pub fn one_session()
+    ensures { (bytes : List ℕ) (a b : Option ℕ) → IsSessionOf bytes a → IsSessionOf bytes b → a ≡ b }
+{}
+
+/// The bytes of a line have at most one reply, and leave one state.
 pub fn one_reply()
-    ensures { (rules : Rules) (old : State) (l : Line) (new other : State) (reply told : Reply)
-        → Step rules (ByEquations rules) old l new reply → Step rules (ByEquations rules) old l other told → (new ≡ other) × (reply ≡ told) }
+    ensures { (rules : Rules) (old : State) (bytes : List ℕ) (new other : State) (reply told : Reply)
+        → Handles rules (ByEquations rules) old bytes new reply → Handles rules (ByEquations rules) old bytes other told → (new ≡ other) × (reply ≡ told) }
+{}
+
+/// Where it is said which lines found no memory, all bytes have one output and leave one state.
+pub fn one_output()
+    ensures { (rules : Rules) (old : State) (bytes : List ℕ) (named : List Bool) (text told : List ℕ) (new other : State)
+        → Outputs rules (ByEquations rules) old bytes named text new → Outputs rules (ByEquations rules) old bytes named told other → (text ≡ told) × (new ≡ other) }
 {}
 
 /// A refused line leaves tree, version and marks.
 pub fn a_refused_line_changes_nothing()
-    ensures { (rules : Rules) (old : State) (l : Line) (new : State) (reply : Reply) (refusal : Code)
-        → Step rules (ByEquations rules) old l new reply → reply.form ≡ Refused refusal → new ≡ old }
+    ensures { (rules : Rules) (old : State) (bytes : List ℕ) (new : State) (reply : Reply) (refusal : Code)
+        → Handles rules (ByEquations rules) old bytes new reply → reply.form ≡ Refused refusal → new ≡ old }
 {}
 
 /// An edit that is accepted leaves the tree that it makes, the next version, and the marks where their
