@@ -12,3 +12,4 @@ pub mod QuotedTexts
 pub mod OneTerm
 pub mod OneLine
 pub mod OneOutput
+pub mod Conforming

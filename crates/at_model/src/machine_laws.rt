@@ -1,7 +1,10 @@
 //! Laws of the machine: each is the contract of a function that does nothing.
 
-ghost use Rattle.std.specs.Prelude.{◌≡◌, ◌≢◌, ℕ, ◌+◌, Bool, true, false, List, [], ◌∷◌, ◌++◌, Option, All, filter};
+ghost use Rattle.std.specs.Prelude.{◌≡◌, ◌≢◌, ℕ, ◌+◌, Bool, true, false, List, [], ◌∷◌, ◌++◌, Option, Ok, All, filter};
+ghost use Rattle.at_model.specs.Classes.{Classes};
+ghost use Rattle.at_model.specs.Trees.{Tree, conforms};
 ghost use Rattle.at_model.specs.Rules.{Rules};
+ghost use Rattle.at_model.specs.Edits.{Edit, edited, is_within_limits};
 ghost use Rattle.at_model.specs.Terms.{Term, IsTerm, term_text};
 ghost use Rattle.at_model.specs.Lines.{Line, IsLine, IsSessionOf, line_text, lines, is_filled};
 ghost use Rattle.at_model.specs.Replies.{Reply, Code, Done, Refused, reply_text};
@@ -55,6 +58,12 @@ pub fn a_refused_line_changes_nothing()
 pub fn an_accepted_edit_is_the_next_version()
     ensures { (rules : Rules) (old : State) (l : Line) (new : State) (reply : Reply) (version : ℕ) → is_edit l.command ≡ true
         → Step rules (ByEquations rules) old l new reply → reply.form ≡ Done version → IsEdited rules.classes old new × (version ≡ new.version) }
+{}
+
+/// It conforms to the start class, as the tree before did, and is within the limits.
+pub fn an_accepted_edit_conforms()
+    ensures { (classes : Classes) (t u : Tree) (e : Edit) → conforms classes t 0 ≡ true → edited classes t e ≡ Ok u
+        → (conforms classes u 0 ≡ true) × (is_within_limits u ≡ true) }
 {}
 
 /// No other command changes the tree or the version.
