@@ -9,32 +9,9 @@ use Rattle.at_model.specs.Paths.{cell_at, children_at, tree_at, parent_of}
 use Rattle.at_model.specs.Paths as paths
 use Rattle.at_model.specs.Edits.{Edit, Set, Put, Drop, Insert, Token, Refusal, shape_at, list_class, optional_class, token_kind, class_asked, fits_class, fits_kind, has_component, fits_there, is_in_range, is_free, is_removable, changed_at, with_child, with_cell, with_node, without_child, with_one_more, left_by, is_within_limits, edited}
 use Rattle.at_model.specs.Edits as edit
-
-both : (a b : Bool) → (a && b) ≡ true → (a ≡ true) × (b ≡ true)
-both true true e = (refl, refl)
-both true false e = cc
-both false b e = cc
-
-and_true : (a b : Bool) → a ≡ true → b ≡ true → (a && b) ≡ true
-and_true true true e f = refl
-and_true true false e f = cc
-and_true false b e f = cc
-
--- what an option led to
-led : {A B : Type 0} (f : A → Option B) (o : Option A) (b : B) → option_and_then f o ≡ Some b → (a : A) × (o ≡ Some a) × (f a ≡ Some b)
-led f None b e = absurd cc
-led f (Some a) b e = (a, refl, e)
-
--- what the image of an option came from
-mapped : {A B : Type 0} (f : A → B) (o : Option A) (b : B) → option_map f o ≡ Some b → (a : A) × (o ≡ Some a) × (f a ≡ b)
-mapped f None b e = absurd cc
-mapped f (Some a) b e = (a, refl, cc)
+use Rattle.at_model.proofs.Options.{both, and_true, led, mapped, unmapped}
 
 -- only the root has no parent
-unmapped : {A B : Type 0} (f : A → B) (o : Option A) → option_map f o ≡ None → o ≡ None
-unmapped f None e = refl
-unmapped f (Some a) e = absurd cc
-
 root_alone : (node : paths.Node) → parent_of node ≡ None → node ≡ []
 root_alone [] e = refl
 root_alone (s ∷ []) e = absurd cc

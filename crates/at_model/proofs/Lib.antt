@@ -12,4 +12,6 @@ pub mod QuotedTexts
 pub mod OneTerm
 pub mod OneLine
 pub mod OneOutput
+pub mod Options
 pub mod Conforming
+pub mod Shaped
