@@ -61,6 +61,10 @@ SameLike {N} {M} R same other = (a b : N) (c d : M) → R a c → R b d → same
 abbrev pub Names : {N M : Type 0} → (N → Option M) → N → M → Type 0
 Names name n m = name n ≡ Some m
 
+-- no two have the same name
+abbrev pub IsInjective : {N M : Type 0} → (N → Option M) → Type 0
+IsInjective {N} {M} name = (a b : N) (c : M) → name a ≡ Some c → name b ≡ Some c → a ≡ b
+
 pub data OutcomeLike {N M : Type 0} (R : N → M → Type 0) : Outcome N → Outcome M → Type 0 where
   find : {v : Value N} {w : Value M} → ValueLike R v w → OutcomeLike R (Finds v) (Finds w)
   fault : (f : FaultKind) {i : Instance N} {j : Instance M} → InstanceLike R i j → OutcomeLike R (Faults f i) (Faults f j)

@@ -1,10 +1,12 @@
 //! Laws over the definitions: each is the contract of a function that does nothing.
 
-ghost use Rattle.std.specs.Prelude.{◌≡◌, ℕ, Bool, None, Option, nat_eq};
+ghost use Rattle.std.specs.Prelude.{◌≡◌, ◌↔◌, nat_eq, None, Option, true, ℕ};
 ghost use Rattle.at_model.specs.Classes.{Classes};
+ghost use Rattle.at_model.specs.Trees.{Tree};
 ghost use Rattle.at_model.specs.Paths.{Node};
 ghost use Rattle.at_model.specs.Run.{Contents, Instance, Known, Location, MatchTried, tried};
 ghost use Rattle.at_model.specs.Bodies.{Expr, Scope, eval};
+ghost use Rattle.at_model.specs.Rules.{Rules, evaluation};
 ghost use Rattle.at_model.specs.Meaning.{
   Circular,
   Comes,
@@ -12,8 +14,11 @@ ghost use Rattle.at_model.specs.Meaning.{
   Faults,
   Finds,
   Holds,
+  Leads,
   Outcome,
   Right,
+  content,
+  equations,
   node_eq,
 };
 ghost use Rattle.at_model.specs.Support.{Supports};
@@ -21,10 +26,11 @@ ghost use Rattle.at_model.specs.Alike.{
   AlikeAt,
   EquationsLike,
   InstanceLike,
+  IsInjective,
+  LocationLike,
   Names,
   OutcomeLike,
   RunLike,
-  SameLike,
   ScopeLike,
   ValueLike,
 };
@@ -57,18 +63,62 @@ pub fn try_is_right()
         (λ j. Comes look equation i j × (known j ≡ None)) }
 {}
 
+/// Nodes are the same exactly where their paths are.
+pub fn same_paths()
+    ensures { (a b : Node) → (node_eq a b ≡ true) ↔ (a ≡ b) }
+{}
+
 /// An expression is evaluated over numbered nodes as over the paths that they stand for.
-pub fn frame()
-    ensures { (path : ℕ → Option Node) → SameLike (Names path) nat_eq node_eq
+pub fn expressions_alike()
+    ensures { (path : ℕ → Option Node) → IsInjective path
         → (classes : Classes) (e : Expr) (numbers : Scope ℕ) (paths : Scope Node) → ScopeLike (Names path) numbers paths
         → RunLike (Names path) (ValueLike (Names path)) (eval classes nat_eq e numbers) (eval classes node_eq e paths) }
 {}
 
-/// Where the trees before and after an edit are alike at all that supports an instance, the instance
-/// that it is carried to has the outcome that its outcome is carried to.
-pub fn carried()
-    ensures { (carry : Node → Option Node) (look also : Contents Node) (equation : Equations Node) → EquationsLike (Names carry) equation equation
-        → (i j : Instance Node) (o : Outcome Node) → InstanceLike (Names carry) i j
-        → ((l : Location Node) → Supports look equation l i → AlikeAt (Names carry) look also l)
-        → Holds look equation i o → (p : Outcome Node) × Holds also equation j p × OutcomeLike (Names carry) o p }
+/// Instances are evaluated over numbered nodes as over the paths that they stand for, and over a
+/// tree as over the one after an edit that carries its nodes.
+pub fn equations_alike()
+    ensures numbers { (path : ℕ → Option Node) → IsInjective path → (rules : Rules) → EquationsLike (Names path) (evaluation rules nat_eq) (equations rules) }
+    ensures paths { (carry : Node → Option Node) → IsInjective carry → (rules : Rules) → EquationsLike (Names carry) (equations rules) (equations rules) }
+{}
+
+/// Where two trees are alike at all that supports an instance, the instance that it is carried to
+/// has the outcome that its outcome is carried to.
+pub fn carried_outcome()
+    ensures { (carry : Node → Option Node) → IsInjective carry → (rules : Rules) (before after : Tree) (i j : Instance Node) (o : Outcome Node)
+        → InstanceLike (Names carry) i j
+        → ((l : Location Node) → Supports (content before) (equations rules) l i → AlikeAt (Names carry) (content before) (content after) l)
+        → Holds (content before) (equations rules) i o
+        → (p : Outcome Node) × Holds (content after) (equations rules) j p × OutcomeLike (Names carry) o p }
+{}
+
+/// And it leads to the instances that what it led to is carried to, and to no others.
+pub fn carried_demands()
+    ensures kept { (carry : Node → Option Node) → IsInjective carry → (rules : Rules) (before after : Tree) (i j k : Instance Node)
+        → InstanceLike (Names carry) i j
+        → ((l : Location Node) → Supports (content before) (equations rules) l i → AlikeAt (Names carry) (content before) (content after) l)
+        → Leads (content before) (equations rules) i k
+        → (m : Instance Node) × InstanceLike (Names carry) k m × Leads (content after) (equations rules) j m }
+    ensures no_others { (carry : Node → Option Node) → IsInjective carry → (rules : Rules) (before after : Tree) (i j m : Instance Node) (o : Outcome Node)
+        → InstanceLike (Names carry) i j
+        → ((l : Location Node) → Supports (content before) (equations rules) l i → AlikeAt (Names carry) (content before) (content after) l)
+        → Holds (content before) (equations rules) i o
+        → Leads (content after) (equations rules) j m
+        → (k : Instance Node) × InstanceLike (Names carry) k m × Leads (content before) (equations rules) i k }
+{}
+
+/// And it rests on the locations that those are carried to on which the instance rested, and on no
+/// others.
+pub fn carried_support()
+    ensures kept { (carry : Node → Option Node) → IsInjective carry → (rules : Rules) (before after : Tree) (i j : Instance Node) (l : Location Node)
+        → InstanceLike (Names carry) i j
+        → ((l : Location Node) → Supports (content before) (equations rules) l i → AlikeAt (Names carry) (content before) (content after) l)
+        → Supports (content before) (equations rules) l i
+        → (m : Location Node) × LocationLike (Names carry) l m × Supports (content after) (equations rules) m j }
+    ensures no_others { (carry : Node → Option Node) → IsInjective carry → (rules : Rules) (before after : Tree) (i j : Instance Node) (m : Location Node) (o : Outcome Node)
+        → InstanceLike (Names carry) i j
+        → ((l : Location Node) → Supports (content before) (equations rules) l i → AlikeAt (Names carry) (content before) (content after) l)
+        → Holds (content before) (equations rules) i o
+        → Supports (content after) (equations rules) m j
+        → (l : Location Node) × LocationLike (Names carry) l m × Supports (content before) (equations rules) l i }
 {}

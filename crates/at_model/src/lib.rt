@@ -10,4 +10,7 @@ pub use cases::{
     positions, same_nodes, sample_texts, second_demand, support, what_is_read,
 };
 pub use forms::{accessors, arithmetic, classes, folds, long_texts, order};
-pub use laws::{carried, frame, one_circle, one_outcome, outcome_or_circle, try_is_right};
+pub use laws::{
+    carried_demands, carried_outcome, carried_support, equations_alike, expressions_alike,
+    one_circle, one_outcome, outcome_or_circle, same_paths, try_is_right,
+};
