@@ -6,3 +6,4 @@ pub mod Apart
 pub mod EquationsAlike
 pub mod CarryingSupport
 pub mod Nodes
+pub mod WayUp

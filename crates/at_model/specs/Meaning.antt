@@ -5,7 +5,8 @@ use Rattle.at_model.specs.Trees.{Tree, Token, Cell, Trees, Holds as holds, class
 use Rattle.at_model.specs.Trees as tree
 use Rattle.at_model.specs.Paths.{Node, tree_at, cell_at, children_at}
 use Rattle.at_model.specs.Run.{Value, Instance, Is, Tok, Slot, Up, Idx, Contents, FaultKind, Run, Gives, Fails, Looks, Demands, Known, Tried, Valued, Faulted, Needs, tried}
-use Rattle.at_model.specs.Rules.{Rules, evaluation}
+use Rattle.at_model.specs.Bodies.{eval}
+use Rattle.at_model.specs.Rules.{Rules, Source, evaluation}
 
 -- what an instance comes to: a value, or a fault in the equation of the instance that is named
 pub data Outcome (N : Type 0) : Type 0 where
@@ -122,3 +123,7 @@ content t (Idx n) = elim (parent_of n) [ None ↦ 0 | Some p ↦ p.1.1 ]
 -- how the instances of a tree are evaluated
 abbrev pub equations : Rules → Equations Node
 equations rules i = evaluation rules node_eq i
+
+-- the evaluation by an inherited equation, at the node where it stands
+abbrev pub at_source : Rules → List (Value Node) → Source → Run Node (Value Node)
+at_source rules vs s = eval rules.classes node_eq s.0 (record { this = s.1; names = vs; child = Some (s.1 ++ s.2 ∷ []) })

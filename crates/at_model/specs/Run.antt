@@ -1,5 +1,5 @@
 -- Evaluations: what one asks of a tree and of other instances, in order. The nodes may be named in any way, by paths or by numbers.
-use Rattle.std.specs.Prelude.{ℕ, ℤ, Bool, List, [], ◌∷◌, Option, Some, None}
+use Rattle.std.specs.Prelude.{◌≡◌, ℕ, ℤ, Bool, List, [], ◌∷◌, Option, Some, None}
 use Rattle.at_model.specs.Trees.{Token}
 
 -- the value of an attribute: also a reference to a node, or null (Hedin 2000, "Reference attributed grammars")
@@ -88,3 +88,11 @@ abbrev pub MatchTried : {N A : Type 0} → Tried N A → (A → Type 0) → (Fau
 MatchTried (Valued a) P Q S = P a
 MatchTried (Faulted f) P Q S = Q f
 MatchTried (Needs i) P Q S = S i
+
+-- an evaluation over a tree looks at just these locations, demands nothing, and goes on as the other one
+abbrev pub LooksTo : {N A : Type 0} → Contents N → Run N A → List (Location N) → Run N A → Type 0
+LooksTo look r [] s = r ≡ s
+LooksTo look (Gives a) (l ∷ ls) s = ⊥
+LooksTo look (Fails f) (l ∷ ls) s = ⊥
+LooksTo look (Looks m k) (l ∷ ls) s = (m ≡ l) × LooksTo look (k (look m)) ls s
+LooksTo look (Demands i k) (l ∷ ls) s = ⊥

@@ -1,12 +1,13 @@
 //! Laws over the definitions: each is the contract of a function that does nothing.
 
-ghost use Rattle.std.specs.Prelude.{◌≡◌, ◌↔◌, nat_eq, None, Option, true, ℕ};
+ghost use Rattle.std.specs.Prelude.{◌++◌, ◌∷◌, ◌≤◌, false, length, Some, ◌≡◌, ◌↔◌, nat_eq, None, Option, true, ℕ};
 ghost use Rattle.at_model.specs.Classes.{Classes};
-ghost use Rattle.at_model.specs.Trees.{Tree};
-ghost use Rattle.at_model.specs.Paths.{Node};
-ghost use Rattle.at_model.specs.Run.{Contents, Instance, Known, Location, MatchTried, tried};
+ghost use Rattle.at_model.specs.Trees.{Tree, class_of};
+ghost use Rattle.at_model.specs.Terms.{max_depth};
+ghost use Rattle.at_model.specs.Paths.{Node, tree_at};
+ghost use Rattle.at_model.specs.Run.{Contents, Instance, Is, Known, Location, LooksTo, MatchTried, tried};
 ghost use Rattle.at_model.specs.Bodies.{Expr, Scope, eval};
-ghost use Rattle.at_model.specs.Rules.{Rules, evaluation};
+ghost use Rattle.at_model.specs.Rules.{Rules, Source, attribute_name, evaluation, is_inherited, own_equation, source_of};
 ghost use Rattle.at_model.specs.Meaning.{
   Circular,
   Comes,
@@ -17,11 +18,12 @@ ghost use Rattle.at_model.specs.Meaning.{
   Leads,
   Outcome,
   Right,
+  at_source,
   content,
   equations,
   node_eq,
 };
-ghost use Rattle.at_model.specs.Support.{Supports};
+ghost use Rattle.at_model.specs.Support.{Supports, argument_classes, way_up};
 ghost use Rattle.at_model.specs.Alike.{
   AlikeAt,
   EquationsLike,
@@ -66,6 +68,20 @@ pub fn try_is_right()
 /// Nodes are the same exactly where their paths are.
 pub fn same_paths()
     ensures { (a b : Node) → (node_eq a b ≡ true) ↔ (a ≡ b) }
+{}
+
+/// What is read before an equation is evaluated, and which equation it is: the own equation of the
+/// class of the node, or the inherited one of the longest proper prefix of its path that has one.
+pub fn equations_found()
+    ensures own { (rules : Rules) (t : Tree) (i : Instance Node) (u : Tree) (e : Expr) → tree_at t i.node ≡ Some u
+        → is_inherited rules i.attribute ≡ false → own_equation rules (class_of u) i.attribute ≡ Some e
+        → LooksTo (content t) (equations rules i) (Is i.node ∷ argument_classes i.arguments)
+        (eval rules.classes node_eq e (record { this = i.node; names = i.arguments; child = None })) }
+    ensures inherited { (rules : Rules) (t : Tree) (i : Instance Node) (u : Tree) (s : Source) → tree_at t i.node ≡ Some u
+        → length i.node ≤ max_depth
+        → is_inherited rules i.attribute ≡ true → source_of rules t (attribute_name rules i.attribute) i.node ≡ Some s
+        → LooksTo (content t) (equations rules i) (Is i.node ∷ (argument_classes i.arguments ++ way_up rules t (attribute_name rules i.attribute) i.node))
+        (at_source rules i.arguments s) }
 {}
 
 /// An expression is evaluated over numbered nodes as over the paths that they stand for.
