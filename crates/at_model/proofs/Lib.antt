@@ -7,3 +7,4 @@ pub mod EquationsAlike
 pub mod CarryingSupport
 pub mod Nodes
 pub mod WayUp
+pub mod Complete

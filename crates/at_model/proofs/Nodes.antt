@@ -6,7 +6,7 @@ use Rattle.at_model.specs.Paths.{Node}
 use Rattle.at_model.specs.Meaning.{step_eq, node_eq}
 use Rattle.at_model.specs.Alike.{Names, IsInjective, SameLike}
 
-both_of : (b c : Bool) → (b && c) ≡ true → (b ≡ true) × (c ≡ true)
+pub both_of : (b c : Bool) → (b && c) ≡ true → (b ≡ true) × (c ≡ true)
 both_of true c e = (refl, e)
 both_of false c e = absurd (cc)
 

@@ -13,14 +13,14 @@ use Rattle.at_model.specs.Meaning.{content, equations, node_eq, parent_of, at_so
 use Rattle.at_model.specs.Support.{argument_classes, up_to_first, step_up, way_up}
 
 -- a node is the root, or has a last step
-snoc : (n : Node) → (n ≡ []) ⊎ ((m : Node) × (s : ℕ × ℕ) × (n ≡ m ++ s ∷ []))
+pub snoc : (n : Node) → (n ≡ []) ⊎ ((m : Node) × (s : ℕ × ℕ) × (n ≡ m ++ s ∷ []))
 snoc [] = inl refl
 snoc (s ∷ ss) = elim (snoc ss) [
   | inl e ↦ inr ([], s, ap (λ z. s ∷ z) e)
   | inr (m, u, e) ↦ inr (s ∷ m, u, ap (λ z. s ∷ z) e)
 ]
 
-prefixes-snoc : (m : Node) (s : ℕ × ℕ) → prefixes (m ++ s ∷ []) ≡ (m, s) ∷ prefixes m
+pub prefixes-snoc : (m : Node) (s : ℕ × ℕ) → prefixes (m ++ s ∷ []) ≡ (m, s) ∷ prefixes m
 prefixes-snoc [] s = refl
 prefixes-snoc (x ∷ m) s = rw (prefixes-snoc m s) refl
 
@@ -77,7 +77,7 @@ at_snoc rules t name vs h m s rest u q b src x =
     rw (class_there t m w f) (at_parent rules t name vs h m s src (inherited_equation rules (class_of w) s.0 name) (source_at rules t name (m, s)) g x' (rest w f (omega arith) src)) in
     rw (prefixes-snoc m s) (refl, one_up rules t name vs h (m ++ s ∷ []) m s.0 _ (at_source rules vs src) (option_map (λ p. (p.0, p.1.0)) (parent_of (m ++ s ∷ []))) e l)
 
-too_long : (s : ℕ × ℕ) (ss : Node) → length (s ∷ ss) ≤ 0 → ⊥
+pub too_long : (s : ℕ × ℕ) (ss : Node) → length (s ∷ ss) ≤ 0 → ⊥
 too_long s ss b = omega arith
 
 pub found_above : (rules : Rules) (t : Tree) (name : List ℕ) (vs : List (Value Node)) (h : ℕ) (n : Node) → Found rules t name vs h n

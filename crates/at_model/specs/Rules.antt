@@ -1,6 +1,6 @@
 -- Attributes and their equations: which equation an instance has, and how the instance is evaluated by it (JastAdd2
 -- reference manual, "Attributes"; Knuth 1968, "Semantics of context-free languages").
-use Rattle.std.specs.Prelude.{◌≡◌, ℕ, zero, suc, Bool, true, false, ◌&&◌, nat_eq, List, [], ◌∷◌, ◌++◌, map, Option, Some, None, option_map, option_and_then, slice_get, find, position, bytes_eq}
+use Rattle.std.specs.Prelude.{◌≡◌, ℕ, zero, suc, Bool, true, false, ◌&&◌, nat_eq, List, [], ◌∷◌, ◌++◌, map, Option, Some, None, option_map, option_and_then, IsSome, slice_get, find, position, bytes_eq}
 use Rattle.std.specs.Option.{option_or}
 use Rattle.at_model.specs.Classes.{Classes, Component, Shape, One, Many, Maybe, chain, parts, is_sub, fits}
 use Rattle.at_model.specs.Classes as class
@@ -148,8 +148,13 @@ abbrev pub PassesDown : Rules → List ℕ → (c d : ℕ) → Type 0
 PassesDown rules name c d = (part : ℕ) × (b : ℕ) × (option_and_then (λ p. class_in p.shape) (slice_get (parts rules.classes c) part) ≡ Some b) × (fits rules.classes d b ≡ true) × (inherited_equation rules c part name ≡ None)
 
 -- A class is exposed for an inherited attribute where a tree of it may stand with no equation above: it may be the root,
--- or stands in a component without equation of a class that is exposed. Class 0 is the start class. (Which rules are
--- typed and complete is defined with the checks of rules: among others, no class that has an inherited attribute is exposed.)
+-- or it may stand in a component without equation of a class that is exposed. Class 0 is the start class.
 pub data Exposed (rules : Rules) (name : List ℕ) : ℕ → Type 0 where
   as_root : (c : ℕ) → fits rules.classes c 0 ≡ true → Exposed rules name c
   below : (c d : ℕ) → Exposed rules name c → PassesDown rules name c d → Exposed rules name d
+
+-- Each class of which there may be trees has an equation for each of its synthesized attributes, and is exposed for none of
+-- its inherited ones. (Which rules are accepted, typed ones with the places of their faults, is defined with the reading of rules.)
+pub record AreComplete (rules : Rules) : Type 0 where
+  pub synthesized : (c attribute : ℕ) (a : Attribute) → slice_get rules.attributes attribute ≡ Some a → a.is_inherited ≡ false → fits rules.classes c a.class ≡ true → IsSome (own_equation rules c attribute)
+  pub inherited : (c attribute : ℕ) (a : Attribute) → slice_get rules.attributes attribute ≡ Some a → a.is_inherited ≡ true → fits rules.classes c a.class ≡ true → Exposed rules a.name c → ⊥

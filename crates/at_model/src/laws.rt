@@ -1,13 +1,13 @@
 //! Laws over the definitions: each is the contract of a function that does nothing.
 
-ghost use Rattle.std.specs.Prelude.{◌++◌, ◌∷◌, ◌≤◌, false, length, Some, ◌≡◌, ◌↔◌, nat_eq, None, Option, true, ℕ};
-ghost use Rattle.at_model.specs.Classes.{Classes};
-ghost use Rattle.at_model.specs.Trees.{Tree, class_of};
+ghost use Rattle.std.specs.Prelude.{slice_get, ◌++◌, ◌∷◌, ◌≤◌, false, length, Some, ◌≡◌, ◌↔◌, nat_eq, None, Option, true, ℕ};
+ghost use Rattle.at_model.specs.Classes.{Classes, is_sub};
+ghost use Rattle.at_model.specs.Trees.{Tree, class_of, conforms};
 ghost use Rattle.at_model.specs.Terms.{max_depth};
 ghost use Rattle.at_model.specs.Paths.{Node, tree_at};
 ghost use Rattle.at_model.specs.Run.{Contents, Instance, Is, Known, Location, LooksTo, MatchTried, tried};
 ghost use Rattle.at_model.specs.Bodies.{Expr, Scope, eval};
-ghost use Rattle.at_model.specs.Rules.{Rules, Source, attribute_name, evaluation, is_inherited, own_equation, source_of};
+ghost use Rattle.at_model.specs.Rules.{AreComplete, Attribute, Rules, Source, attribute_name, evaluation, is_inherited, own_equation, source_of};
 ghost use Rattle.at_model.specs.Meaning.{
   Circular,
   Comes,
@@ -82,6 +82,19 @@ pub fn equations_found()
         → is_inherited rules i.attribute ≡ true → source_of rules t (attribute_name rules i.attribute) i.node ≡ Some s
         → LooksTo (content t) (equations rules i) (Is i.node ∷ (argument_classes i.arguments ++ way_up rules t (attribute_name rules i.attribute) i.node))
         (at_source rules i.arguments s) }
+{}
+
+/// With complete rules each node of a tree that conforms has an equation for each attribute of its
+/// class.
+pub fn each_has_an_equation()
+    ensures own { (rules : Rules) → AreComplete rules → (t : Tree) → conforms rules.classes t 0 ≡ true
+        → (n : Node) (u : Tree) (attribute : ℕ) (a : Attribute) → tree_at t n ≡ Some u → slice_get rules.attributes attribute ≡ Some a
+        → is_sub rules.classes (class_of u) a.class ≡ true → a.is_inherited ≡ false
+        → (e : Expr) × (own_equation rules (class_of u) attribute ≡ Some e) }
+    ensures inherited { (rules : Rules) → AreComplete rules → (t : Tree) → conforms rules.classes t 0 ≡ true
+        → (n : Node) (u : Tree) (attribute : ℕ) (a : Attribute) → tree_at t n ≡ Some u → slice_get rules.attributes attribute ≡ Some a
+        → is_sub rules.classes (class_of u) a.class ≡ true → a.is_inherited ≡ true
+        → (s : Source) × (source_of rules t a.name n ≡ Some s) }
 {}
 
 /// An expression is evaluated over numbered nodes as over the paths that they stand for.

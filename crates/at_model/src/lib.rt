@@ -11,6 +11,7 @@ pub use cases::{
 };
 pub use forms::{accessors, arithmetic, classes, folds, long_texts, order};
 pub use laws::{
-    carried_demands, carried_outcome, carried_support, equations_alike, equations_found,
-    expressions_alike, one_circle, one_outcome, outcome_or_circle, same_paths, try_is_right,
+    carried_demands, carried_outcome, carried_support, each_has_an_equation, equations_alike,
+    equations_found, expressions_alike, one_circle, one_outcome, outcome_or_circle, same_paths,
+    try_is_right,
 };
