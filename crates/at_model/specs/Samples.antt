@@ -113,6 +113,10 @@ calc_inherited =
 abbrev pub calc : Rules
 calc = record { classes = calc_classes; attributes = calc_attributes; own = calc_own; inherited = calc_inherited }
 
+-- calc.jrag without `eq Program.getBlock().lookup(String n) = null;`
+abbrev pub calc_without_root : Rules
+calc_without_root = record calc { inherited = below 2 (codes "lookup") NullLiteral ∷ [] }
+
 abbrev pub branch : ℕ → List Cell → Tree
 branch c cells = node.Node c (to_cells cells)
 

@@ -6,8 +6,8 @@ mod forms;
 mod laws;
 
 pub use cases::{
-    circle, dropped_declaration, first_come, ints, names_and_values, nearest_above, nearest_class,
-    positions, same_nodes, sample_texts, second_demand, support, what_is_read,
+    circle, dropped_declaration, exposed_block, first_come, ints, names_and_values, nearest_above,
+    nearest_class, positions, same_nodes, sample_texts, second_demand, support, what_is_read,
 };
 pub use forms::{accessors, arithmetic, classes, folds, long_texts, order};
 pub use laws::{
