@@ -8,3 +8,12 @@ pub mod CarryingSupport
 pub mod Nodes
 pub mod WayUp
 pub mod Complete
+pub mod Steps
+pub mod Changes
+pub mod Cutting
+pub mod Runs
+pub mod Words
+pub mod QuotedTexts
+pub mod OneTerm
+pub mod OneLine
+pub mod OneOutput

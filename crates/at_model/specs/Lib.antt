@@ -11,3 +11,11 @@ pub mod Meaning
 pub mod Support
 pub mod Alike
 pub mod Samples
+pub mod Edits
+pub mod Touches
+pub mod Shaping
+pub mod Lines
+pub mod Replies
+pub mod Machine
+pub mod Sparing
+pub mod SampleLines

@@ -1,9 +1,10 @@
 -- What equations mean: the outcome of each instance, and circles (Knuth 1968, "Semantics of context-free languages";
 -- Hedin 2000, "Reference attributed grammars").
-use Rattle.std.specs.Prelude.{◌≡◌, ◌⊎◌, ℕ, zero, suc, ◌&&◌, nat_eq, Bool, true, false, List, [], ◌∷◌, ◌++◌, Option, Some, None, option_map}
+use Rattle.std.specs.Prelude.{◌≡◌, ◌⊎◌, ℕ, zero, suc, false, List, [], ◌∷◌, ◌++◌, Option, Some, None, option_map}
 use Rattle.at_model.specs.Trees.{Tree, Token, Cell, Trees, Holds as holds, class_of}
 use Rattle.at_model.specs.Trees as tree
 use Rattle.at_model.specs.Paths.{Node, tree_at, cell_at, children_at}
+pub use Rattle.at_model.specs.Paths.{step_eq, node_eq, parent_of}
 use Rattle.at_model.specs.Run.{Value, Instance, Is, Tok, Slot, Up, Idx, Contents, FaultKind, Run, Gives, Fails, Looks, Demands, Known, Tried, Valued, Faulted, Needs, tried}
 use Rattle.at_model.specs.Bodies.{eval}
 use Rattle.at_model.specs.Rules.{Rules, Source, evaluation}
@@ -86,22 +87,6 @@ Answers look equation q (Circle j) = Circular look equation q j
 -- what is known holds
 abbrev pub Right : {N : Type 0} → Contents N → Equations N → Known N → Type 0
 Right {N} look equation known = (j : Instance N) (v : Value N) → known j ≡ Some v → HasValue look equation j v
-
-abbrev pub step_eq : ℕ × ℕ → ℕ × ℕ → Bool
-step_eq s u = nat_eq s.0 u.0 && nat_eq s.1 u.1
-
--- nodes are the same when their paths are
-abbrev pub node_eq : Node → Node → Bool
-node_eq [] [] = true
-node_eq [] (u ∷ us) = false
-node_eq (s ∷ ss) [] = false
-node_eq (s ∷ ss) (u ∷ us) = step_eq s u && node_eq ss us
-
--- the node without its last step, and that step
-abbrev pub parent_of : Node → Option (Node × (ℕ × ℕ))
-parent_of [] = None
-parent_of (s ∷ []) = Some ([], s)
-parent_of (s ∷ u ∷ us) = option_map (λ p. (s ∷ p.0, p.1)) (parent_of (u ∷ us))
 
 -- the nodes of these trees, which stand in a part of the node from this position on
 abbrev pub child_nodes : {A : Type 0} → Node → ℕ → ℕ → List A → List Node

@@ -2,8 +2,8 @@
 -- reference manual, "Attributes"; Knuth 1968, "Semantics of context-free languages").
 use Rattle.std.specs.Prelude.{◌≡◌, ℕ, zero, suc, Bool, true, false, ◌&&◌, nat_eq, List, [], ◌∷◌, ◌++◌, map, Option, Some, None, option_map, option_and_then, IsSome, slice_get, find, position, bytes_eq}
 use Rattle.std.specs.Option.{option_or}
-use Rattle.at_model.specs.Classes.{Classes, Component, Shape, One, Many, Maybe, chain, parts, is_sub, fits}
-use Rattle.at_model.specs.Classes as class
+use Rattle.at_model.specs.Classes.{Classes, chain, parts, is_sub, fits}
+pub use Rattle.at_model.specs.Classes.{class_in}
 use Rattle.at_model.specs.Trees.{Tree, class_of}
 use Rattle.at_model.specs.Terms.{max_depth}
 use Rattle.at_model.specs.Paths.{Node, tree_at}
@@ -135,13 +135,6 @@ evaluation rules same i = evaluation_within max_depth rules same i
 -- the attribute of that name that the class or one above it declares
 abbrev pub attribute_named : Rules → ℕ → List ℕ → Option ℕ
 attribute_named rules c name = position (λ a. bytes_eq a.name name && is_sub rules.classes c a.class) rules.attributes
-
--- the class of the trees in a component
-abbrev pub class_in : Shape → Option ℕ
-class_in (One c) = Some c
-class_in (Many c) = Some c
-class_in (Maybe c) = Some c
-class_in (class.Token kind) = None
 
 -- trees of class d may stand in a component of c for which c has no equation for the attribute
 abbrev pub PassesDown : Rules → List ℕ → (c d : ℕ) → Type 0
