@@ -3,11 +3,11 @@ use Rattle.std.proofs.Common.{◌≡◌, ℕ, zero, suc, true, false, List, [], 
 use Rattle.std.specs.Prelude.{option_map, option_and_then, IsSome}
 use Rattle.std.specs.Option.{option_or}
 use Rattle.std.specs.List.{slice_get}
-use Rattle.at_model.specs.Classes.{Classes, Component, Shape, One, Many, Maybe, parts, fits, is_sub, is_concrete}
+use Rattle.at_model.specs.Classes.{Classes, class_in, Component, Shape, One, Many, Maybe, parts, fits, is_sub, is_concrete}
 use Rattle.at_model.specs.Trees.{Tree, Node as Branch, Cells, no_cells, cell, Cell, Empty, Filled, Holds, Trees, no_trees, tree, class_of, from_cells, from_trees, children, conforms, cells_conform, cell_conforms, trees_conform}
 use Rattle.at_model.specs.Trees as held
 use Rattle.at_model.specs.Paths.{Node, tree_at, children_at}
-use Rattle.at_model.specs.Rules.{Rules, Source, source_at, source_of, inherited_equation, class_in, Exposed, as_root, below, AreComplete, Attribute, own_equation}
+use Rattle.at_model.specs.Rules.{Rules, Source, source_at, source_of, inherited_equation, Exposed, as_root, below, AreComplete, Attribute, own_equation}
 use Rattle.at_model.specs.Bodies.{Expr}
 use Rattle.at_model.proofs.Nodes.{both_of}
 use Rattle.std.specs.Cmp.Derive.{both_true}

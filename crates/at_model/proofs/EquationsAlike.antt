@@ -5,8 +5,8 @@ use Rattle.at_model.specs.Bodies.{Expr, Scope}
 use Rattle.at_model.specs.Rules.{Rules, inherited_equation, own_equation, is_inherited, attribute_name, past_arguments, by_equation, by_inherited, by_own, evaluation_within, evaluation}
 use Rattle.at_model.specs.Terms.{max_depth}
 use Rattle.at_model.specs.Alike.{OptionLike, neither, both, ListLike, end, more, ValueLike, is, up, RunLike, fails, looks, ScopeLike, SameLike, InstanceLike, EquationsLike, IsInjective, Names}
-use Rattle.at_model.specs.Paths.{Node}
-use Rattle.at_model.specs.Meaning.{equations, node_eq}
+use Rattle.at_model.specs.Paths.{Node, node_eq}
+use Rattle.at_model.specs.Meaning.{equations}
 use Rattle.at_model.proofs.Nodes.{same_like, node_eq-is}
 use Rattle.at_model.proofs.ExpressionsAlike.{ref_of-like, eval-like}
 

@@ -2,8 +2,7 @@
 use Rattle.std.proofs.Common.{◌≡◌, ◌↔◌, ℕ, Bool, true, false, ◌&&◌, nat_eq, [], ◌∷◌, Option, Some, refl, ap, sym, ◌∙◌}
 use Rattle.std.proofs.lemmas.Bool.{eqb-true, eq-eqb}
 use Rattle.std.specs.Cmp.Derive.{both_true}
-use Rattle.at_model.specs.Paths.{Node}
-use Rattle.at_model.specs.Meaning.{step_eq, node_eq}
+use Rattle.at_model.specs.Paths.{Node, step_eq, node_eq}
 use Rattle.at_model.specs.Alike.{Names, IsInjective, SameLike}
 
 pub both_of : (b c : Bool) → (b && c) ≡ true → (b ≡ true) × (c ≡ true)

@@ -5,11 +5,11 @@ use Rattle.std.specs.Option.{option_or}
 use Rattle.std.specs.List.{slice_get, flat_map}
 use Rattle.at_model.specs.Trees.{Tree, class_of}
 use Rattle.at_model.specs.Terms.{max_depth}
-use Rattle.at_model.specs.Paths.{Node, tree_at, children_at}
+use Rattle.at_model.specs.Paths.{Node, node_eq, parent_of, tree_at, children_at}
 use Rattle.at_model.specs.Run.{Value, Instance, Location, Is, Contents, Run, Gives, Fails, Looks, Demands, Null, LooksTo}
 use Rattle.at_model.specs.Bodies.{Expr, ref_of, eval}
 use Rattle.at_model.specs.Rules.{Rules, Source, source_at, source_of, prefixes, own_equation, inherited_equation, past_arguments, by_equation, by_inherited, by_own, is_inherited, attribute_name}
-use Rattle.at_model.specs.Meaning.{content, equations, node_eq, parent_of, at_source}
+use Rattle.at_model.specs.Meaning.{content, equations, at_source}
 use Rattle.at_model.specs.Support.{argument_classes, up_to_first, step_up, way_up}
 
 -- a node is the root, or has a last step

@@ -4,7 +4,7 @@ ghost use Rattle.std.specs.Prelude.{slice_get, ◌++◌, ◌∷◌, ◌≤◌, f
 ghost use Rattle.at_model.specs.Classes.{Classes, is_sub};
 ghost use Rattle.at_model.specs.Trees.{Tree, class_of, conforms};
 ghost use Rattle.at_model.specs.Terms.{max_depth};
-ghost use Rattle.at_model.specs.Paths.{Node, tree_at};
+ghost use Rattle.at_model.specs.Paths.{Node, node_eq, tree_at};
 ghost use Rattle.at_model.specs.Run.{Contents, Instance, Is, Known, Location, LooksTo, MatchTried, tried};
 ghost use Rattle.at_model.specs.Bodies.{Expr, Scope, eval};
 ghost use Rattle.at_model.specs.Rules.{AreComplete, Attribute, Rules, Source, attribute_name, evaluation, is_inherited, own_equation, source_of};
@@ -21,7 +21,6 @@ ghost use Rattle.at_model.specs.Meaning.{
   at_source,
   content,
   equations,
-  node_eq,
 };
 ghost use Rattle.at_model.specs.Support.{Supports, argument_classes, way_up};
 ghost use Rattle.at_model.specs.Alike.{

@@ -1,5 +1,5 @@
 use Rattle.std.proofs.Common.{nat_eq}
-use Rattle.at_model.specs.Meaning.{node_eq}
+use Rattle.at_model.specs.Paths.{node_eq}
 use Rattle.at_model.proofs.Nodes.{same_like, nat_eq-is, node_eq-is}
 use Rattle.at_model.proofs.ExpressionsAlike.{eval-like}
 use Rattle.at_model.proofs.laws.expressions_alike.Goals as goal
