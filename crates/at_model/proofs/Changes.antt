@@ -1,20 +1,19 @@
 -- What becomes of an edit: it is refused, or the state after it is the next version's. Other commands keep tree and version.
-use Rattle.std.proofs.Common.{◌≡◌, ℕ, ◌+◌, Bool, true, false, cond, not, nat_eq, nat_le, if◌then◌else◌, List, [], ◌∷◌, ◌++◌, map, Option, Some, None, Result, Ok, Err, ◌⊎◌, inl, inr, refl, sym, ap, ◌∙◌, subst, option_and_then, option_map, is_some}
+use Rattle.std.proofs.Common.{◌≡◌, ℕ, ◌+◌, Bool, true, false, not, nat_eq, nat_le, if◌then◌else◌, List, map, Option, Some, None, Result, Ok, Err, refl, sym, subst, option_and_then}
 use Rattle.std.specs.List.{list_all, count_by}
 use Rattle.at_model.specs.Classes.{Classes, Shape}
 use Rattle.at_model.specs.Trees.{Tree, class_of}
-use Rattle.at_model.specs.Terms.{Term, term_of}
+use Rattle.at_model.specs.Terms.{Term}
 use Rattle.at_model.specs.Paths.{Node, tree_at, part_named}
 use Rattle.at_model.specs.Run.{Instance, Value}
 use Rattle.at_model.specs.Rules.{Rules, attribute_named}
-use Rattle.at_model.specs.Meaning.{Answer}
 use Rattle.at_model.specs.Edits.{Edit, edited, Refusal, class_asked, shape_at, list_class, optional_class, token_kind}
 use Rattle.at_model.specs.Edits as edit
 use Rattle.at_model.specs.Shaping.{shaped, names_classes}
-use Rattle.at_model.specs.Lines.{Line, Place, Argument, Command, Ask, Set, Put, Drop, Insert, Token, Show, Mark, Unmark, Where, Version, last_version}
+use Rattle.at_model.specs.Lines.{Line, Place, Command, Ask, Set, Put, Drop, Insert, Token, Show, Mark, Unmark, Where, Version, last_version}
 use Rattle.at_model.specs.Replies.{Reply, Form, Done, Refused, Code, Written, At}
 use Rattle.at_model.specs.Replies as code
-use Rattle.at_model.specs.Machine.{State, Marked, Verdict, Refuses, Tells, Leaves, Edits, Asks, Answering, Says, after, Step, verdict, obeyed, changed, at_node, with_component, with_tree, carried_marks, code_of, IsEdited, is_edit, is_stale, is_marked, marks_used, node_named, questioned, with_mark, max_marks, each, value_named, fit_parameters, parameters_of, marked, path_to}
+use Rattle.at_model.specs.Machine.{State, Marked, Verdict, Refuses, Tells, Leaves, Edits, Asks, Answering, Says, after, Step, verdict, obeyed, changed, at_node, with_component, with_tree, code_of, IsEdited, is_edit, is_stale, is_marked, marks_used, node_named, questioned, with_mark, max_marks, each, value_named, fit_parameters, parameters_of, marked}
 
 -- the verdict is a refusal, or an edit that is accepted
 pub data IsChange (classes : Classes) (old : State) : Verdict → Type 0 where

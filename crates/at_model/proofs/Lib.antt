@@ -3,6 +3,11 @@ pub mod Tries
 pub mod ExpressionsAlike
 pub mod Carrying
 pub mod Apart
+pub mod EquationsAlike
+pub mod CarryingSupport
+pub mod Nodes
+pub mod WayUp
+pub mod Complete
 pub mod Steps
 pub mod Changes
 pub mod Cutting

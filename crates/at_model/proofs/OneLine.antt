@@ -1,15 +1,15 @@
 -- A text is that of at most one line.
-use Rattle.std.proofs.Common.{◌≡◌, ℕ, zero, suc, ◌+◌, ◌*◌, ◌^◌, ◌<◌, ◌≤◌, Bool, true, false, not, ◌&&◌, nat_eq, List, [], ◌∷◌, ◌++◌, map, drop, Option, Some, None, refl, sym, ap, ◌∙◌, subst, arith, append_assoc}
-use Rattle.std.specs.Prelude.{IsUtf8, chars, ⊤}
-use Rattle.std.specs.List.{list_any, flat_map, join_with_byte, AllByRecursion}
+use Rattle.std.proofs.Common.{◌≡◌, ℕ, ◌+◌, ◌*◌, Bool, true, false, not, ◌&&◌, nat_eq, List, [], ◌∷◌, ◌++◌, map, drop, Option, Some, None, refl, sym, ap, ◌∙◌, arith, append_assoc}
+use Rattle.std.specs.Prelude.{IsUtf8, chars}
+use Rattle.std.specs.List.{flat_map, join_with_byte, AllByRecursion}
 use Rattle.std.specs.Fmt.{decimal}
 use Rattle.std.proofs.lemmas.Str.{chars-nil}
 use lib.Chars.{codes}
 use Rattle.at_model.specs.Names.{is_name, is_word, is_reserved}
-use Rattle.at_model.specs.Terms.{max_depth, term_text, token_text, with_commas}
-use Rattle.at_model.specs.Paths.{Path, Step, path_text, step_text, index_text, IsPath, IsStep, IsIndex}
-use Rattle.at_model.specs.Lines.{Place, From_root, From_mark, Argument, Text, Ref, Null, Command, Ask, Set, Put, Drop, Insert, Token, Show, Mark, Unmark, Where, Version, Line, place_text, argument_text, call_text, command_words, expected_words, line_text, IsPlace, IsArgument, IsCommand, IsVersion, IsLine, last_version, max_sessions}
-use Rattle.at_model.proofs.Words.{apart, apart_bytes, IsInner, Ends, Stops, ends, same_word, stops, ends_not, ends_wordless, name_inner}
+use Rattle.at_model.specs.Terms.{max_depth, with_commas}
+use Rattle.at_model.specs.Paths.{Path, Step, path_text, step_text, index_text, IsPath, IsIndex}
+use Rattle.at_model.specs.Lines.{Place, From_root, From_mark, Argument, Text, Ref, Null, Command, Ask, Set, Put, Drop, Insert, Token, Show, Mark, Unmark, Where, Version, Line, place_text, argument_text, call_text, command_words, expected_words, line_text, IsPlace, IsArgument, IsCommand, IsVersion, IsLine}
+use Rattle.at_model.proofs.Words.{apart, apart_bytes, Ends, Stops, same_word, stops, ends_not, ends_wordless, name_inner}
 use Rattle.at_model.proofs.QuotedTexts.{same_quoted}
 use Rattle.at_model.proofs.OneTerm.{tail, same_decimal, same_token, same_term}
 

@@ -1,9 +1,9 @@
 -- The bytes of a line have at most one reply, and all bytes one output.
-use Rattle.std.proofs.Common.{◌≡◌, ℕ, ◌^◌, ◌<◌, Bool, true, false, List, [], ◌∷◌, ◌++◌, Option, Some, None, refl, sym, ap, ◌∙◌, subst, arith}
+use Rattle.std.proofs.Common.{◌≡◌, ℕ, true, false, List, [], ◌∷◌, Option, Some, None, refl, sym, ap, ◌∙◌, subst, arith}
 use Rattle.at_model.specs.Rules.{Rules}
-use Rattle.at_model.specs.Lines.{Line, Spells, BeginsWith, IsSpaceOrEnd, IsSessionOf, max_sessions}
+use Rattle.at_model.specs.Lines.{Line, BeginsWith, IsSpaceOrEnd, IsSessionOf}
 use Rattle.at_model.specs.Replies.{Reply, Code, Refused}
-use Rattle.at_model.specs.Machine.{State, Answering, Step, Handles, obeys, refuses, Serves}
+use Rattle.at_model.specs.Machine.{State, Answering, Step, Handles, obeys, refuses}
 use Rattle.at_model.proofs.Words.{Stops, delimits}
 use Rattle.at_model.proofs.OneTerm.{same_decimal}
 use Rattle.at_model.proofs.OneLine.{same_line}

@@ -1,13 +1,10 @@
 -- A text is that of at most one term, and no text of a term begins another one.
-use Rattle.std.proofs.Common.{◌≡◌, ℕ, zero, suc, ◌+◌, ◌-◌, ◌^◌, ◌<◌, Bool, true, false, ◌&&◌, nat_eq, nat_le, List, [], ◌∷◌, ◌++◌, length, ℤ, pos, negsuc, refl, sym, ap, ◌∙◌, subst, arith, ◌⊎◌, inl, inr, append_assoc}
-use Rattle.std.specs.Prelude.{IsUtf8, chars, not}
+use Rattle.std.proofs.Common.{◌≡◌, ℕ, suc, ◌-◌, ◌^◌, ◌<◌, Bool, true, false, nat_eq, List, [], ◌∷◌, ◌++◌, length, ℤ, pos, negsuc, refl, sym, ap, ◌∙◌, subst, arith, append_assoc}
 use Rattle.std.specs.List.{list_any}
 use Rattle.std.specs.Fmt.{decimal, signed_decimal}
 use Rattle.std.proofs.lemmas.Fmt.{decimal_injective, decimal_nonempty, decimal_is_IsNumeral}
 use Rattle.std.specs.Str.Parse.{AllDigits}
 use lib.Chars.{codes}
-use Rattle.at_model.specs.Names.{is_name}
-use Rattle.at_model.specs.Texts.{quoted}
 use Rattle.at_model.specs.Trees.{Token, Text, Int, Truth}
 use Rattle.at_model.specs.Terms.{Term, Cells, Cell, Terms, Node, no_cells, cell, One, Many, Empty, Holds, no_terms, term, with_commas, token_text, term_text, cell_texts, cell_text, term_texts, IsInt32, IsToken, IsTermWithin, AreCellsWithin, IsCellWithin, AreTermsWithin}
 use Rattle.at_model.proofs.Words.{apart, apart_from_end, ends_delimits, IsInner, Ends, Stops, ends, delimits, same_word, stops, headless, ends_not, ends_wordless, decimal_inner, name_inner}

@@ -1,15 +1,12 @@
 -- A step has one reply, a refused line leaves the state, and only an accepted edit changes the tree and the version.
-use Rattle.std.proofs.Common.{◌≡◌, ℕ, ◌+◌, Bool, true, false, cond, not, ◌&&◌, nat_eq, nat_le, if◌then◌else◌, List, [], ◌∷◌, ◌++◌, Option, Some, None, Result, Ok, Err, ◌⊎◌, inl, inr, refl, sym, ap, ◌∙◌, subst, option_and_then}
-use Rattle.at_model.specs.Classes.{Classes, Shape}
+use Rattle.std.proofs.Common.{◌≡◌, refl, sym, ap, ◌∙◌}
 use Rattle.at_model.specs.Trees.{Tree}
-use Rattle.at_model.specs.Terms.{Term}
 use Rattle.at_model.specs.Paths.{Node}
 use Rattle.at_model.specs.Run.{Instance}
 use Rattle.at_model.specs.Rules.{Rules}
 use Rattle.at_model.specs.Meaning.{Answer, Outcomes, Circle, content, equations}
-use Rattle.at_model.specs.Edits.{Edit, edited, Refusal}
-use Rattle.at_model.specs.Lines.{Line, Place, Command, last_version}
-use Rattle.at_model.specs.Replies.{Reply, Form, Done, Refused, Code}
+use Rattle.at_model.specs.Lines.{Line}
+use Rattle.at_model.specs.Replies.{Reply, Form, Refused, Code}
 use Rattle.at_model.specs.Machine.{State, Verdict, Refuses, Tells, Leaves, Edits, Asks, Answering, ByEquations, Says, after, Step, answer_form, verdict}
 use Rattle.at_model.proofs.Outcomes.{once, not_both, closes_at_one}
 

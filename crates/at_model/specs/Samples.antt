@@ -5,12 +5,12 @@ use Rattle.at_model.specs.Classes.{Classes, Class, Component, Shape, One, Many, 
 use Rattle.at_model.specs.Classes as token
 use Rattle.at_model.specs.Trees.{Tree, Cell, no_cells, cell, to_cells, to_trees, Holds, Empty, Filled}
 use Rattle.at_model.specs.Trees as node
-use Rattle.at_model.specs.Paths.{Node}
+use Rattle.at_model.specs.Paths.{Node, node_eq}
 use Rattle.at_model.specs.Run.{Value, Text, Instance, Location, Known, Tried, tried, reads}
 use Rattle.at_model.specs.Bodies.{Scope, eval, Over, Plus, Expr, IntLiteral, TruthLiteral, TextLiteral, NullLiteral, This, Name, IndexName, Arithmetic, JoinInt, Same, Differ, And, Choose, Equals, CastTo, Child, Has, TokenOf, Call, First, no_exprs, expr}
 use Rattle.at_model.specs.Rules.{Rules, Attribute, OwnEquation, InheritedEquation}
 use Rattle.at_model.specs.Rules as kind
-use Rattle.at_model.specs.Meaning.{Answer, Answers, Finds, Outcomes, value_in, outcome_at, node_eq, content, equations}
+use Rattle.at_model.specs.Meaning.{Answer, Answers, Finds, Outcomes, value_in, outcome_at, content, equations}
 
 abbrev pub component : List ℕ → Shape → Component
 component name shape = record { name = name; shape = shape }
@@ -112,6 +112,10 @@ calc_inherited =
 -- calc.jrag and probe.jrag over calc.ast
 abbrev pub calc : Rules
 calc = record { classes = calc_classes; attributes = calc_attributes; own = calc_own; inherited = calc_inherited }
+
+-- calc.jrag without `eq Program.getBlock().lookup(String n) = null;`
+abbrev pub calc_without_root : Rules
+calc_without_root = record calc { inherited = below 2 (codes "lookup") NullLiteral ∷ [] }
 
 abbrev pub branch : ℕ → List Cell → Tree
 branch c cells = node.Node c (to_cells cells)

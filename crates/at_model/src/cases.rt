@@ -5,7 +5,7 @@ ghost use Rattle.at_model.specs.Terms.{tree_text};
 ghost use Rattle.at_model.specs.Paths.{Node, path_of, path_text, tree_at};
 ghost use Rattle.at_model.specs.Run.{Idx, Instance, Int, Is, Null, Ref, Slot, Text, Tok, Truth, Up, Zero};
 ghost use Rattle.at_model.specs.Bodies.{IntLiteral};
-ghost use Rattle.at_model.specs.Rules.{inherited_equation, source_of};
+ghost use Rattle.at_model.specs.Rules.{Exposed, inherited_equation, source_of};
 ghost use Rattle.at_model.specs.Meaning.{
   Circle,
   Circular,
@@ -24,6 +24,7 @@ ghost use Rattle.at_model.specs.Samples.{
   calc,
   calc_classes,
   calc_tree,
+  calc_without_root,
   init_of,
   layered,
   left_of,
@@ -107,6 +108,12 @@ pub fn nearest_class()
     ensures other { inherited_equation layered 3 0 (codes "a") ≡ Some (IntLiteral (pos 3)) }
     ensures above { inherited_equation layered 4 0 (codes "a") ≡ Some (IntLiteral (pos 1)) }
     ensures none { inherited_equation layered 4 1 (codes "a") ≡ None }
+{}
+
+/// Without the program's equation a block may stand where its `lookup` has none, and with it none does.
+pub fn exposed_block()
+    ensures without { Exposed calc_without_root (codes "lookup") 2 }
+    ensures with { Exposed calc (codes "lookup") 2 → ⊥ }
 {}
 
 /// What an evaluation reads: the instance's class and the slots that it goes through; the way up to

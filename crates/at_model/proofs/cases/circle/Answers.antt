@@ -1,7 +1,7 @@
 use Rattle.std.proofs.Common.{Some, [], ◌∷◌, inl, inr, refl, nat_eq}
 use Rattle.at_model.specs.Classes.{chain}
 use Rattle.at_model.specs.Run.{Ref}
-use Rattle.at_model.specs.Meaning.{node_eq}
+use Rattle.at_model.specs.Paths.{node_eq}
 use Rattle.at_model.specs.Samples.{of_node, printed, left_of, statement, init_of}
 use Rattle.at_model.proofs.Apart.{apart}
 use Rattle.at_model.proofs.cases.circle.Goals as goal
