@@ -17,3 +17,5 @@ pub mod QuotedTexts
 pub mod OneTerm
 pub mod OneLine
 pub mod OneOutput
+pub mod TriesAlike
+pub mod CarryingCircles
