@@ -19,3 +19,6 @@ pub mod OneLine
 pub mod OneOutput
 pub mod TriesAlike
 pub mod CarryingCircles
+pub mod Options
+pub mod Conforming
+pub mod Shaped

@@ -1,8 +1,12 @@
 //! Laws of the machine: each is the contract of a function that does nothing.
 
-ghost use Rattle.std.specs.Prelude.{◌≡◌, ◌≢◌, ℕ, ◌+◌, Bool, true, false, List, [], ◌∷◌, ◌++◌, Option, All, filter};
+ghost use Rattle.std.specs.Prelude.{◌≡◌, ◌≢◌, ℕ, ◌+◌, Bool, true, false, List, [], ◌∷◌, ◌++◌, Option, Some, Ok, All, filter};
+ghost use Rattle.at_model.specs.Classes.{Classes};
+ghost use Rattle.at_model.specs.Trees.{Tree, conforms};
 ghost use Rattle.at_model.specs.Rules.{Rules};
-ghost use Rattle.at_model.specs.Terms.{Term, IsTerm, term_text};
+ghost use Rattle.at_model.specs.Edits.{Edit, edited, is_within_limits};
+ghost use Rattle.at_model.specs.Terms.{Term, IsTerm, term_of, term_text};
+ghost use Rattle.at_model.specs.Shaping.{AreNamedApart, names_classes, shaped};
 ghost use Rattle.at_model.specs.Lines.{Line, IsLine, IsSessionOf, line_text, lines, is_filled};
 ghost use Rattle.at_model.specs.Replies.{Reply, Code, Done, Refused, reply_text};
 ghost use Rattle.at_model.specs.Machine.{
@@ -20,6 +24,18 @@ ghost use Rattle.at_model.specs.Machine.{
 /// A text is that of at most one term, and no text of a term begins another one.
 pub fn one_term()
     ensures { (t u : Term) (r s : List ℕ) → IsTerm t → IsTerm u → term_text t ++ r ≡ term_text u ++ s → (t ≡ u) × (r ≡ s) }
+{}
+
+/// The tree that a term is shaped to conforms and is written as that term.
+pub fn a_shaped_tree_is_written_as_its_term()
+    ensures { (classes : Classes) (t : Term) (b : ℕ) (u : Tree) → shaped classes t b ≡ Some u → (conforms classes u b ≡ true) × (term_of classes u ≡ t) }
+{}
+
+/// Where each class is the first one of its name, a tree that conforms is what its term is shaped to,
+/// and all names in that term are those of classes that are not abstract.
+pub fn a_written_tree_is_shaped_again()
+    ensures { (classes : Classes) → AreNamedApart classes → (u : Tree) (b : ℕ) → conforms classes u b ≡ true
+        → (shaped classes (term_of classes u) b ≡ Some u) × (names_classes classes (term_of classes u) ≡ true) }
 {}
 
 /// A text is that of at most one line.
@@ -55,6 +71,12 @@ pub fn a_refused_line_changes_nothing()
 pub fn an_accepted_edit_is_the_next_version()
     ensures { (rules : Rules) (old : State) (l : Line) (new : State) (reply : Reply) (version : ℕ) → is_edit l.command ≡ true
         → Step rules (ByEquations rules) old l new reply → reply.form ≡ Done version → IsEdited rules.classes old new × (version ≡ new.version) }
+{}
+
+/// It conforms to the start class, as the tree before did, and is within the limits.
+pub fn an_accepted_edit_conforms()
+    ensures { (classes : Classes) (t u : Tree) (e : Edit) → conforms classes t 0 ≡ true → edited classes t e ≡ Ok u
+        → (conforms classes u 0 ≡ true) × (is_within_limits u ≡ true) }
 {}
 
 /// No other command changes the tree or the version.
