@@ -17,6 +17,8 @@ pub mod QuotedTexts
 pub mod OneTerm
 pub mod OneLine
 pub mod OneOutput
+pub mod TriesAlike
+pub mod CarryingCircles
 pub mod Options
 pub mod Conforming
 pub mod Shaped

@@ -5,10 +5,12 @@ ghost use Rattle.at_model.specs.Classes.{Classes, is_sub};
 ghost use Rattle.at_model.specs.Trees.{Tree, class_of, conforms};
 ghost use Rattle.at_model.specs.Terms.{max_depth};
 ghost use Rattle.at_model.specs.Paths.{Node, node_eq, tree_at};
-ghost use Rattle.at_model.specs.Run.{Contents, Instance, Is, Known, Location, LooksTo, MatchTried, tried};
+ghost use Rattle.at_model.specs.Run.{Contents, Instance, Is, Known, Location, LooksTo, MatchTried, reads, tried};
 ghost use Rattle.at_model.specs.Bodies.{Expr, Scope, eval};
 ghost use Rattle.at_model.specs.Rules.{AreComplete, Attribute, Rules, Source, attribute_name, evaluation, is_inherited, own_equation, source_of};
 ghost use Rattle.at_model.specs.Meaning.{
+  Answer,
+  Answers,
   Circular,
   Comes,
   Equations,
@@ -25,14 +27,18 @@ ghost use Rattle.at_model.specs.Meaning.{
 ghost use Rattle.at_model.specs.Support.{Supports, argument_classes, way_up};
 ghost use Rattle.at_model.specs.Alike.{
   AlikeAt,
+  AnswerLike,
   EquationsLike,
   InstanceLike,
   IsInjective,
+  KnownLike,
+  ListLike,
   LocationLike,
   Names,
   OutcomeLike,
   RunLike,
   ScopeLike,
+  TriedLike,
   ValueLike,
 };
 
@@ -108,6 +114,26 @@ pub fn expressions_alike()
 pub fn equations_alike()
     ensures numbers { (path : ℕ → Option Node) → IsInjective path → (rules : Rules) → EquationsLike (Names path) (evaluation rules nat_eq) (equations rules) }
     ensures paths { (carry : Node → Option Node) → IsInjective carry → (rules : Rules) → EquationsLike (Names carry) (equations rules) (equations rules) }
+{}
+
+/// Over numbered nodes that stand for those of a tree, a try ends as over the paths and reads the
+/// same, and an answer is one over the paths.
+pub fn numbers_for_paths()
+    ensures tries { (path : ℕ → Option Node) → IsInjective path → (rules : Rules) (t : Tree) (numbers : Contents ℕ)
+        → ((l : Location ℕ) → AlikeAt (Names path) numbers (content t) l)
+        → (known : Known ℕ) (also : Known Node) → KnownLike (Names path) known also
+        → (i : Instance ℕ) (j : Instance Node) → InstanceLike (Names path) i j
+        → TriedLike (Names path) (ValueLike (Names path)) (tried numbers known (evaluation rules nat_eq i)) (tried (content t) also (equations rules j)) }
+    ensures reads { (path : ℕ → Option Node) → IsInjective path → (rules : Rules) (t : Tree) (numbers : Contents ℕ)
+        → ((l : Location ℕ) → AlikeAt (Names path) numbers (content t) l)
+        → (known : Known ℕ) (also : Known Node) → KnownLike (Names path) known also
+        → (i : Instance ℕ) (j : Instance Node) → InstanceLike (Names path) i j
+        → ListLike (LocationLike (Names path)) (reads numbers known (evaluation rules nat_eq i)) (reads (content t) also (equations rules j)) }
+    ensures answers { (path : ℕ → Option Node) → IsInjective path → (rules : Rules) (t : Tree) (numbers : Contents ℕ)
+        → ((l : Location ℕ) → AlikeAt (Names path) numbers (content t) l)
+        → (i : Instance ℕ) (j : Instance Node) (a : Answer ℕ) → InstanceLike (Names path) i j
+        → Answers numbers (evaluation rules nat_eq) i a
+        → (b : Answer Node) × AnswerLike (Names path) a b × Answers (content t) (equations rules) j b }
 {}
 
 /// Where two trees are alike at all that supports an instance, the instance that it is carried to
