@@ -1,3 +1,7 @@
+pub mod Places
+pub mod Spelling
+pub mod Characters
+pub mod Reading
 pub mod Fronts
 pub mod Quotes
 pub mod Openings

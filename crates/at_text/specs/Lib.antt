@@ -1,3 +1,5 @@
+pub mod Place
+pub mod Quoted
 pub mod Pieces
 pub mod Faults
 pub mod Front
