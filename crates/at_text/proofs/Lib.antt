@@ -1,1 +1,5 @@
+pub mod Places
+pub mod Spelling
+pub mod Characters
+pub mod Reading
 pub mod ReadingLaws

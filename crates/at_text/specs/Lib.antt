@@ -1,1 +1,3 @@
+pub mod Place
+pub mod Quoted
 pub mod Reading
