@@ -5,7 +5,7 @@ use Rattle.std.specs.List.{flat_map, AllByRecursion}
 use Rattle.std.proofs.lemmas.List.{append-nil, map_push}
 use Rattle.std.proofs.lemmas.Grind.{flat_map-append}
 use Rattle.std.proofs.lemmas.List.Concat.{flat_map-cons}
-use Rattle.at_text.specs.Reading.{first, Reason, Refused, LeftOut, Begins, IsFirstFault, Answer, Takes, Skips, Refuses, LeavesOut, Table, Move, Goes, Halts, answered, after, is_skip, may_end, Outcome, Whole, Stuck, run, Form, Reads, IsReason, Stops, Fails, Parses}
+use Rattle.at_text.specs.Reading.{first, Reason, Refused, LeftOut, Begins, IsFirstFault, Answer, Takes, Skips, Refuses, LeavesOut, Table, Move, Goes, Halts, answered, after, is_skip, may_end, and_then, Outcome, Whole, Stuck, run, Form, Reads, IsReason, Stops, Fails, Parses}
 
 -- ---- one step of a run
 
@@ -104,10 +104,17 @@ pub stops_here : {S W V : Type 0} (table : Table S W) (form : Form S W V) (v : V
 stops_here table form v old is e = record { front = []; split = refl; begins = (v, form.spell v, is, refl); why = tt; stuck = λ ws. run-refuses table form.want ws old e }
 
 -- The form stops at once, since its next symbol begins what is left out.
-pub leaves_here : {S W V : Type 0} (table : Table S W) (form : Form S W V) (v : V) (old rest : List S) (s : S) → old ≡ s ∷ rest → form.Is v → table form.want (Some s) ≡ LeavesOut → form.LeavesAt [] (Some s) → Stops table form LeftOut old old
-leaves_here {S} {W} {V} table form v old rest s e is leaves at =
-    subst (λ (x : List S). Stops table form LeftOut x x) (sym e)
-    (record { front = []; split = refl; begins = (v, form.spell v, is, refl); why = at; stuck = λ ws. run-leaves_out table form.want ws s rest leaves })
+pub leaves_here : {S W V : Type 0} (table : Table S W) (form : Form S W V) (v : V) (old : List S) (s : S) → first old ≡ Some s → form.Is v → table form.want (Some s) ≡ LeavesOut → form.LeavesAt [] (Some s) → Stops table form LeftOut old old
+leaves_here table form v [] s e is leaves at = absurd cc
+leaves_here {S = S} table form v (x ∷ rest) s e is leaves at =
+    let same : s ≡ x = cc in
+    record {
+      front = [];
+      split = refl;
+      begins = (v, form.spell v, is, refl);
+      why = subst (λ (y : S). form.LeavesAt [] (Some y)) same at;
+      stuck = λ ws. run-leaves_out table form.want ws x rest (ap (λ y. table form.want (Some y)) (sym same) ∙ leaves);
+    }
 
 reason_within : {S W U V : Type 0} (inner : Form S W U) (form : Form S W V) (r : Reason) (before front rest : List S) → ((xs : List S) (s : Option S) → inner.LeavesAt xs s → form.LeavesAt (before ++ xs) s) → IsReason inner r front rest → IsReason form r (before ++ front) rest
 reason_within inner form Refused before front rest leaves why = tt
@@ -160,13 +167,6 @@ same table (Takes more) w v ws (s ∷ ss) e f = run-takes table w more ws s ss e
 pub run-same : {S W : Type 0} (table : Table S W) (w v : W) (ws : List W) (ss : List S) → table w (first ss) ≡ table v (first ss) → run table (w ∷ ws) ss ≡ run table (v ∷ ws) ss
 run-same table w v ws ss e = same table (table v (first ss)) w v ws ss e refl
 
--- what one answer is, if more is wanted after what it takes
-abbrev pub and_then : {W : Type 0} → Answer W → List W → Answer W
-and_then (Takes ws) vs = Takes (ws ++ vs)
-and_then Skips vs = Refuses
-and_then Refuses vs = Refuses
-and_then LeavesOut vs = LeavesOut
-
 begins : {S W : Type 0} (table : Table S W) (a : Answer W) (w v : W) (us ws : List W) (ss : List S) → table w (first ss) ≡ and_then a us → table v (first ss) ≡ a → is_skip a ≡ false → run table (w ∷ ws) ss ≡ run table (v ∷ (us ++ ws)) ss
 begins table Skips w v us ws ss e f h = absurd cc
 begins table Refuses w v us ws ss e f h = run-refuses table w ws ss e ∙ sym (run-refuses table v (us ++ ws) ss f)
@@ -195,6 +195,10 @@ pub all_push : {U : Type 0} (P : U → Type 0) (us : List U) (u : U) → AllByRe
 all_push P [] u h p = (p, tt)
 all_push P (x ∷ xs) u h p = (h.0, all_push P xs u h.1 p)
 
+pub all_append : {U : Type 0} (P : U → Type 0) (us vs : List U) → AllByRecursion P us → AllByRecursion P vs → AllByRecursion P (us ++ vs)
+all_append P [] vs h k = k
+all_append P (u ∷ us) vs h k = (h.0, all_append P us vs h.1 k)
+
 pub one_more : {S U : Type 0} (f : U → List S) (us : List U) (u : U) → flat_map f (us ++ u ∷ []) ≡ flat_map f us ++ f u
 one_more f us u = flat_map-append f us (u ∷ []) ∙ ap (λ l. flat_map f us ++ l) (flat_map-cons f u [] ∙ append-nil (f u))
 
@@ -208,3 +212,6 @@ many_more table one want u old mid rest m begins r = record {
 
 pub pushed : {X Y V : Type 0} (f : X → Y) (g : V → Y) (xs : List X) (vs : List V) (x : X) (v : V) → map f xs ≡ map g vs → f x ≡ g v → map f (xs ++ x ∷ []) ≡ map g (vs ++ v ∷ [])
 pushed f g xs vs x v e h = map_push f xs x ∙ ap (λ l. l ++ f x ∷ []) e ∙ ap (λ y. map g vs ++ y ∷ []) h ∙ sym (map_push g vs v)
+
+pub parses_at : {S W V A E : Type 0} (table : Table S W) (reason : E → Option Reason) (form : Form S W V) (M : V → A → Type 0) (r : Result A E) (mid old rest : List S) → mid ≡ old → Parses table reason form M r mid rest → Parses table reason form M r old rest
+parses_at {S} {W} {V} {A} {E} table reason form M r mid old rest e p = subst (λ (x : List S). Parses table reason form M r x rest) e p

@@ -1,3 +1,4 @@
 pub mod Place
 pub mod Quoted
 pub mod Reading
+pub mod Symbols

@@ -32,6 +32,13 @@ pub data Answer (W : Type 0) : Type 0 where
   Refuses : Answer W
   LeavesOut : Answer W
 
+-- the answer, with more that is wanted behind what it takes
+abbrev pub and_then : {W : Type 0} → Answer W → List W → Answer W
+and_then (Takes ws) vs = Takes (ws ++ vs)
+and_then Skips vs = Refuses
+and_then Refuses vs = Refuses
+and_then LeavesOut vs = LeavesOut
+
 -- the answer of each form to the next symbol, or to the end of the text
 abbrev pub Table : Type 0 → Type 0 → Type 0
 Table S W = W → Option S → Answer W

@@ -4,4 +4,5 @@
 pub mod decimal;
 pub mod names;
 pub mod place;
+pub mod placed;
 pub mod quoted;
