@@ -23,8 +23,8 @@ reason_of errors.Syntax = Some Refused
 reason_of errors.LeftOut = Some LeftOut
 
 -- A form was read, or the reader stands where it stops.
-abbrev pub Parses : {V A : Type 0} → Form Symbol Want V → (V → A → Type 0) → Result A ReadError → List Symbol → List Symbol → Type 0
-Parses form Means r old rest = reading.Parses table reason_of form Means r old rest
+abbrev pub Parses : {V A : Type 0} → Form Symbol Want V → (V → A → Type 0) → Result A ReadError → List Placed → List Placed → Type 0
+Parses form Means r old rest = reading.Parses table reason_of form Means r (left old) (left rest)
 
 -- nothing in the form is left out
 abbrev pub Never : List Symbol → Option Symbol → Type 0

@@ -104,3 +104,6 @@ pub fn parse_ast(alloc: Global, text: &str) -> Result<Grammar, AstFault>
         }
     }
 }
+
+#[cfg(test)]
+mod tests;

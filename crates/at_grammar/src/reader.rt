@@ -198,7 +198,7 @@ impl<'a> Reader<'a> {
 
     /// The sign.
     fn expects(&mut self, text: &str) -> Result<(), ReadError>
-        ensures { Parses (mark text.now) (λ _ _. Unit {0}) result (left self.old.rest.now) (left self.new.rest.now) }
+        ensures { Parses (mark text.now) (λ _ _. Unit {0}) result self.old.rest.now self.new.rest.now }
     {
         if self.takes(text) {
             Ok(())
@@ -209,7 +209,7 @@ impl<'a> Reader<'a> {
 
     /// `name`
     fn name(&mut self) -> Result<Name, ReadError>
-        ensures { Parses name (λ w n. (string_bytes n.text ≡ w.text) × (n.at ≡ w.at)) result (left self.old.rest.now) (left self.new.rest.now) }
+        ensures { Parses name (λ w n. (string_bytes n.text ≡ w.text) × (n.at ≡ w.at)) result self.old.rest.now self.new.rest.now }
     {
         match self.takes_name() {
             Some(token) => Ok(Name {
@@ -222,7 +222,7 @@ impl<'a> Reader<'a> {
 
     /// `[":" name]`
     fn kind(&mut self) -> Result<Option<String>, ReadError>
-        ensures { Parses kind (λ k found. bytes_of found ≡ text_of k) result (left self.old.rest.now) (left self.new.rest.now) }
+        ensures { Parses kind (λ k found. bytes_of found ≡ text_of k) result self.old.rest.now self.new.rest.now }
     {
         if self.takes(":") {
             Ok(Some(self.name()?.text))
@@ -233,7 +233,7 @@ impl<'a> Reader<'a> {
 
     /// `name [":" name]`, a component of this shape.
     fn typed(&mut self, shape: Shape) -> Result<PartDecl, ReadError>
-        ensures { Parses typed (λ t p. seen_part p ≡ child_means shape t) result (left self.old.rest.now) (left self.new.rest.now) }
+        ensures { Parses typed (λ t p. seen_part p ≡ child_means shape t) result self.old.rest.now self.new.rest.now }
     {
         let name = self.name()?;
         let written = self.kind()?;
@@ -248,7 +248,7 @@ impl<'a> Reader<'a> {
 
     /// `name [":" name] ["*"]`
     fn child(&mut self) -> Result<PartDecl, ReadError>
-        ensures { Parses child (λ t p. seen_part p ≡ part_means t) result (left self.old.rest.now) (left self.new.rest.now) }
+        ensures { Parses child (λ t p. seen_part p ≡ part_means t) result self.old.rest.now self.new.rest.now }
     {
         let mut part = self.typed(Shape::One)?;
         if self.takes("*") {
@@ -259,7 +259,7 @@ impl<'a> Reader<'a> {
 
     /// An optional component, behind its `[`: `name [":" name] "]"`
     fn optional(&mut self) -> Result<PartDecl, ReadError>
-        ensures { Parses optional (λ t p. seen_part p ≡ child_means shape.Maybe t) result (left self.old.rest.now) (left self.new.rest.now) }
+        ensures { Parses optional (λ t p. seen_part p ≡ child_means shape.Maybe t) result self.old.rest.now self.new.rest.now }
     {
         let part = self.typed(Shape::Maybe)?;
         self.expects("]")?;
@@ -268,7 +268,7 @@ impl<'a> Reader<'a> {
 
     /// A word that may be a token's kind.
     fn kind_name(&mut self) -> Result<String, ReadError>
-        ensures { Parses kind_name (λ w s. string_bytes s ≡ w.text) result (left self.old.rest.now) (left self.new.rest.now) }
+        ensures { Parses kind_name (λ w s. string_bytes s ≡ w.text) result self.old.rest.now self.new.rest.now }
     {
         match self.takes_kind() {
             Some(token) => Ok(String::from_str(self.alloc, token.text)?),
@@ -278,7 +278,7 @@ impl<'a> Reader<'a> {
 
     /// `">"`, where a kind of more than one name, or with arguments, is left out.
     fn close(&mut self) -> Result<(), ReadError>
-        ensures { Parses close (λ _ _. Unit {0}) result (left self.old.rest.now) (left self.new.rest.now) }
+        ensures { Parses close (λ _ _. Unit {0}) result self.old.rest.now self.new.rest.now }
     {
         if self.is_before(".") || self.is_before("<") {
             return Err(ReadError::LeftOut);
@@ -288,7 +288,7 @@ impl<'a> Reader<'a> {
 
     /// A token behind its name: `[":" kind] ">"`
     fn token_kind(&mut self) -> Result<Option<String>, ReadError>
-        ensures { Parses token_kind (λ k found. bytes_of found ≡ text_of k) result (left self.old.rest.now) (left self.new.rest.now) }
+        ensures { Parses token_kind (λ k found. bytes_of found ≡ text_of k) result self.old.rest.now self.new.rest.now }
     {
         if self.takes(">") {
             return Ok(None);
@@ -301,7 +301,7 @@ impl<'a> Reader<'a> {
 
     /// A token behind its `<`: `name [":" kind] ">"`
     fn token(&mut self) -> Result<PartDecl, ReadError>
-        ensures { Parses token (λ t p. seen_part p ≡ token_means t) result (left self.old.rest.now) (left self.new.rest.now) }
+        ensures { Parses token (λ t p. seen_part p ≡ token_means t) result self.old.rest.now self.new.rest.now }
     {
         let name = self.name()?;
         let written = self.token_kind()?;
@@ -316,7 +316,7 @@ impl<'a> Reader<'a> {
 
     /// A component.
     fn part(&mut self) -> Result<PartDecl, ReadError>
-        ensures { Parses part (λ t p. seen_part p ≡ part_means t) result (left self.old.rest.now) (left self.new.rest.now) }
+        ensures { Parses part (λ t p. seen_part p ≡ part_means t) result self.old.rest.now self.new.rest.now }
     {
         if self.takes("<") {
             self.token()
@@ -329,7 +329,7 @@ impl<'a> Reader<'a> {
 
     /// `{ part } ";"`, where a component that begins with `/` is left out.
     fn parts(&mut self) -> Result<Vec<PartDecl>, ReadError>
-        ensures { Parses parts (λ ps v. map seen_part v.items ≡ map part_means ps) result (left self.old.rest.now) (left self.new.rest.now) }
+        ensures { Parses parts (λ ps v. map seen_part v.items ≡ map part_means ps) result self.old.rest.now self.new.rest.now }
     {
         let mut parts = Vec::new(self.alloc);
         loop {
@@ -346,7 +346,7 @@ impl<'a> Reader<'a> {
 
     /// `["::=" { part }] ";"`
     fn body(&mut self) -> Result<Vec<PartDecl>, ReadError>
-        ensures { Parses body (λ b v. map seen_part v.items ≡ body_means b) result (left self.old.rest.now) (left self.new.rest.now) }
+        ensures { Parses body (λ b v. map seen_part v.items ≡ body_means b) result self.old.rest.now self.new.rest.now }
     {
         if self.takes(";") {
             return Ok(Vec::new(self.alloc));
@@ -357,7 +357,7 @@ impl<'a> Reader<'a> {
 
     /// `["abstract"] name [":" name] ["::=" { part }] ";"`
     fn declaration(&mut self) -> Result<ClassDecl, ReadError>
-        ensures { Parses declaration (λ d c. seen_class c ≡ class_means d) result (left self.old.rest.now) (left self.new.rest.now) }
+        ensures { Parses declaration (λ d c. seen_class c ≡ class_means d) result self.old.rest.now self.new.rest.now }
     {
         let is_abstract = self.takes_word("abstract").is_some();
         let name = self.name()?;
@@ -374,7 +374,7 @@ impl<'a> Reader<'a> {
 
     /// `{ decl }`, up to the end.
     pub fn file(&mut self) -> Result<Vec<ClassDecl>, ReadError>
-        ensures read { Parses file (λ ds v. map seen_class v.items ≡ map class_means ds) result (left self.old.rest.now) (left self.new.rest.now) }
+        ensures read { Parses file (λ ds v. map seen_class v.items ≡ map class_means ds) result self.old.rest.now self.new.rest.now }
         ensures end { OnOk result (left self.new.rest.now ≡ []) }
     {
         let mut classes = Vec::new(self.alloc);

@@ -3,3 +3,4 @@ pub mod Spelling
 pub mod Characters
 pub mod Reading
 pub mod ReadingLaws
+pub mod Placing
