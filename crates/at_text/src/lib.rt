@@ -6,3 +6,5 @@ pub mod names;
 pub mod place;
 pub mod placed;
 pub mod quoted;
+pub mod scan;
+pub mod token;
