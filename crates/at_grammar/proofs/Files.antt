@@ -1,6 +1,6 @@
 -- A text's tokens, and what reading them comes to.
 use Rattle.std.proofs.Common.{◌≡◌, ℕ, suc, ◌+◌, ◌-◌, ◌≤◌, ◌<◌, List, [], ◌∷◌, ◌++◌, Option, Some, None, length, map, take, drop, refl, sym, ap, subst, ◌∙◌, append_assoc, length-append, arith}
-use Rattle.std.proofs.lemmas.List.{append-nil, map-append}
+use Rattle.std.proofs.lemmas.List.{append-nil, map-append, length-map}
 use Rattle.std.specs.Prelude.{◌⊎◌}
 use Rattle.std.proofs.Common.{inl, inr}
 use Rattle.at_text.specs.declared.placed.Placed.{Placed}
@@ -30,8 +30,7 @@ seen_symbols [] = refl
 seen_symbols (t ∷ ts) = ap (λ l. symbol words_keep (placed t) ∷ l) (seen_symbols ts)
 
 pub length_left : (ts : List Placed) → length (left ts) ≡ length ts
-length_left [] = refl
-length_left (t ∷ ts) = ap suc (length_left ts)
+length_left ts = length-map ts (λ t. symbol words_keep (placed t))
 
 -- the tokens of a front of symbols
 pub front_of : (ts : List Placed) (front rest : List Symbol) → left ts ≡ front ++ rest → (fs : List Placed) × (rs : List Placed) × (ts ≡ fs ++ rs) × (left fs ≡ front) × (left rs ≡ rest)
@@ -110,18 +109,9 @@ read_whole ts rest ds r e = (r.is, seen_symbols ts ∙ r.text ∙ ap (λ l. gram
 pub same_classes : (ts us : List PlacedToken) (ds es : List Declaration) → ts ≡ us → Spells ts ds → Spells us es → map class_means ds ≡ map class_means es
 same_classes ts us ds es e a b = ap (map class_means) (file_unique ds es a.0 b.0 (sym a.1 ∙ ap (symbols words_keep) e ∙ b.1))
 
--- no file stands where reading stopped
-pub no_file : (r : Reason) (ts rest : List Placed) (us : List PlacedToken) (f : List Declaration) → Stops file r (left ts) (left rest) → us ≡ map placed ts → Spells us f → ⊥
-no_file r ts rest us f s e spells =
-    let fault = first_fault table file r (left ts) (left rest) file_taken s in
-    fault.ends f (left rest) spells.0 refl (sym spells.1 ∙ ap (symbols words_keep) e ∙ seen_symbols ts ∙ s.split)
-
 -- the tokens that the program has are those of the text
 pub has_tokens : (text : List ℕ) (ps : List Piece) (ss : List Spelled) (ts : List PlacedToken) → Cut text ps [] → ss ≡ spelled_at 0 ps → ts ≡ map (placed_in text) ss → HasTokens text ts
 has_tokens text ps ss ts cut e f = (ps, cut, f ∙ ap (map (placed_in text)) e)
-
-pub same_tokens : (text : List ℕ) (ps : List Piece) (ss : List Spelled) (ts us : List PlacedToken) → us ≡ map (placed_in text) (spelled_at 0 ps) → ss ≡ spelled_at 0 ps → ts ≡ map (placed_in text) ss → us ≡ ts
-same_tokens text ps ss ts us a b c = a ∙ ap (map (placed_in text)) (sym b) ∙ sym c
 
 -- ---- a text that can't be cut into tokens
 

@@ -5,3 +5,4 @@ pub mod Tokens
 pub mod Accepts
 pub mod Unique
 pub mod Files
+pub mod OneFault

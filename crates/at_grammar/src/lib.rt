@@ -1,14 +1,14 @@
 //! Abstract grammars (.ast, JastAdd2 reference manual), read from their text.
 #![tactic(auto)]
 
-ghost use Rattle.std.specs.Prelude.{◌≡◌, ◌-◌, ◌≤◌, [], List, length, drop, map, IfOk, IfErr, MatchResult};
+ghost use Rattle.std.specs.Prelude.{◌≡◌, ◌-◌, ◌≤◌, [], List, length, drop, map, IfOk, IfErr, MatchResult, ◌⊎◌};
 ghost use Rattle.at_text.specs.Symbols.{PlacedToken};
 ghost use Rattle.at_grammar.specs.Grammar.{Declaration};
 ghost use Rattle.at_grammar.specs.Meaning.{seen_class, class_means};
 ghost use Rattle.at_text.specs.Symbols.{placed};
 ghost use Rattle.at_text.specs.Faults.{FaultsAt, IsWithin};
 ghost use Rattle.at_grammar.specs.Faults.{HasTokens, Spells, IsFault, next_place};
-ghost use Rattle.at_text.specs.declared.scan.ScanFault.TheVariants as scan;
+ghost use Rattle.at_grammar.specs.declared.AstFault.{AstFault};
 ghost use Rattle.at_grammar.specs.declared.AstFault.TheVariants.{Memory};
 
 mod reader;
@@ -45,9 +45,9 @@ impl From<AllocError> for AstFault {
 
 /// The fault of a text that can't be cut into tokens.
 fn scan_fault(text: &str, fault: ScanFault) -> AstFault
-    requires { IsWithin text.now fault }
-    ensures fault { FaultsAt text.now fault → IsFault text.now result }
-    ensures memory { fault ≡ scan.Memory → result ≡ Memory }
+    requires within { IsWithin text.now fault }
+    requires fault { FaultsAt text.now fault }
+    ensures { IsFault text.now result }
 {
     match fault {
         ScanFault::Memory => AstFault::Memory,
@@ -83,7 +83,10 @@ pub fn parse_ast(alloc: Global, text: &str) -> Result<Grammar, AstFault>
     ensures only { (tokens : List PlacedToken) (f : List Declaration) → HasTokens text.now tokens → Spells tokens f
         → MatchResult result (λ g. map seen_class g.classes.items ≡ map class_means f) (λ e. e ≡ Memory) }
     // A fault is the first one, and says whether what stands there is a form that is left out.
-    ensures fault { IfErr result (λ e. IsFault text.now e) }
+    ensures fault { IfErr result (IsFault text.now) }
+    // A text with a fault is refused for it, unless memory runs out.
+    ensures refused { (e : AstFault) → (e ≡ Memory → ⊥) → IsFault text.now e
+        → MatchResult result (λ g. ⊥) (λ f. (f ≡ Memory) ⊎ (f ≡ e)) }
 {
     let tokens = match lexemes(alloc, text) {
         Ok(tokens) => tokens,

@@ -1,12 +1,11 @@
 -- A place moves with the characters.
-use Rattle.std.proofs.Common.{◌≡◌, ℕ, ◌+◌, ◌-◌, ◌≤◌, ◌^◌, List, [], ◌∷◌, ◌++◌, length, take, drop, refl, sym, ap, subst, ◌∙◌, append_assoc, arith, min}
+use Rattle.std.proofs.Common.{◌≡◌, ℕ, ◌+◌, ◌-◌, ◌≤◌, ◌^◌, List, [], ◌∷◌, ◌++◌, take, drop, sym, ap, subst, ◌∙◌, append_assoc, arith, min}
 use Rattle.std.specs.Prelude.{chars}
 use Rattle.std.specs.Str.{IsUtf8, IsCharBoundary}
-use Rattle.std.specs.List.{count_by, after_last}
 use Rattle.std.proofs.lemmas.Grind.{common_steps}
 use Rattle.std.proofs.lemmas.Str.{chars-append, IsUtf8-take}
 use Rattle.std.proofs.Math.Seq.{take-add}
-use Rattle.at_text.specs.Place.{is_newline, place_after, place_of, counted_from_one}
+use Rattle.at_text.specs.Place.{place_after, place_of}
 use Rattle.at_text.proofs.Places.{column_more}
 
 newline_moves : (xs : List ℕ) (c line new : ℕ) → c ≡ 10 → line ≡ (place_after xs).0 → new ≡ min (line + 1) (2 ^ 32 - 1) → (new ≡ (place_after (xs ++ c ∷ [])).0) × (1 ≡ (place_after (xs ++ c ∷ [])).1)

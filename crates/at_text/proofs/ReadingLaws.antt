@@ -1,6 +1,6 @@
 -- Laws of reading: a run's steps, the first fault, and how reading a form follows from reading its parts.
-use Rattle.std.proofs.Common.{◌≡◌, ℕ, suc, ◌+◌, ◌≤◌, ◌<◌, List, [], ◌∷◌, ◌++◌, Bool, true, false, cond, Option, Some, None, Result, Ok, Err, length, map, refl, sym, ap, subst, ◌∙◌, append_assoc, length-append, arith}
-use Rattle.std.specs.Prelude.{◌&&◌}
+use Rattle.std.proofs.Common.{◌≡◌, suc, ◌≤◌, List, [], ◌∷◌, ◌++◌, Bool, true, false, cond, Option, Some, None, Result, Ok, Err, length, map, refl, sym, ap, subst, ◌∙◌, append_assoc, length-append, arith, inl, inr}
+use Rattle.std.specs.Prelude.{◌&&◌, ◌⊎◌}
 use Rattle.std.specs.List.{flat_map, AllByRecursion}
 use Rattle.std.proofs.lemmas.List.{append-nil, map_push}
 use Rattle.std.proofs.lemmas.Grind.{flat_map-append}
@@ -97,6 +97,47 @@ first_fault table form r old rest accepts s = record {
       absurd cc;
 }
 
+-- ---- one text has one first fault
+
+-- two ways to cut a list: at one place, or one behind the other
+cut_apart : {S : Type 0} (a b x y : List S) → a ++ x ≡ b ++ y
+    → (length a ≡ length b) ⊎ (((s : S) × (z : List S) × (b ≡ a ++ s ∷ z) × (first x ≡ Some s)) ⊎ ((s : S) × (z : List S) × (a ≡ b ++ s ∷ z) × (first y ≡ Some s)))
+cut_apart [] [] x y e = inl refl
+cut_apart [] (t ∷ b) x y e = inr (inl (t, b, refl, ap first e))
+cut_apart (s ∷ a) [] x y e = inr (inr (s, a, refl, ap first (sym e)))
+cut_apart {S} (s ∷ a) (t ∷ b) x y e =
+    let same : s ≡ t = cc in
+    let rest : a ++ x ≡ b ++ y = cc in
+    elim (cut_apart a b x y rest) [
+      | inl l ↦ inl (ap suc l)
+      | inr h ↦ inr (elim h [
+        | inl k ↦ inl (k.0, k.1, (λ i. sym same i ∷ k.2 i), k.3)
+        | inr k ↦ inr (k.0, k.1, (λ i. same i ∷ k.2 i), k.3)
+      ])
+    ]
+
+no_later_fault : {S V : Type 0} (Is : V → Type 0) (spell : V → List S) (a x b : List S) (s : S) (z : List S) → IsFirstFault Is spell a x → Begins Is spell b → b ≡ a ++ s ∷ z → first x ≡ Some s → ⊥
+no_later_fault Is spell a x b s z f begins e at = f.ends begins.0 (s ∷ (z ++ begins.1)) begins.2 (sym at) (begins.3 ∙ ap (λ l. l ++ begins.1) e ∙ append_assoc a (s ∷ z) begins.1)
+
+pub one_first_fault : {S V : Type 0} (Is : V → Type 0) (spell : V → List S) (a x b y : List S) → IsFirstFault Is spell a x → IsFirstFault Is spell b y → a ++ x ≡ b ++ y → length a ≡ length b
+one_first_fault Is spell a x b y f g e = elim (cut_apart a b x y e) [
+  | inl l ↦ l
+  | inr h ↦ elim h [
+    | inl k ↦ absurd (no_later_fault Is spell a x b k.0 k.1 f g.begins k.2 k.3)
+    | inr k ↦ absurd (no_later_fault Is spell b y a k.0 k.1 g f.begins k.2 k.3)
+  ]
+]
+
+pub cut_once : {X : Type 0} (a b x y : List X) → length a ≡ length b → a ++ x ≡ b ++ y → (a ≡ b) × (x ≡ y)
+cut_once [] [] x y l e = (refl, e)
+cut_once [] (t ∷ b) x y l e = absurd (omega arith)
+cut_once (s ∷ a) [] x y l e = absurd (omega arith)
+cut_once (s ∷ a) (t ∷ b) x y l e =
+    let same : s ≡ t = cc in
+    let rest : a ++ x ≡ b ++ y = cc in
+    let r = cut_once a b x y (omega arith) rest in
+    ((λ i. same i ∷ r.0 i), r.1)
+
 -- ---- any forms
 
 -- The form stops at once, since its next symbol begins none.
@@ -129,8 +170,12 @@ pub stops_within : {S W U V : Type 0} (table : Table S W) (inner : Form S W U) (
 stops_within table inner form r old mid rest before us make tail split goes is spelled leaves s = record {
   front = before ++ s.front;
   split = split ∙ ap (λ l. before ++ l) s.split ∙ sym (append_assoc before s.front rest);
-  begins = (make s.begins.0, s.begins.1 ++ tail, is s.begins.0 s.begins.2,
-    spelled s.begins.0 ∙ ap (λ l. before ++ (l ++ tail)) s.begins.3 ∙ ap (λ l. before ++ l) (append_assoc s.front s.begins.1 tail) ∙ sym (append_assoc before s.front (s.begins.1 ++ tail)));
+  begins = (
+    make s.begins.0,
+    s.begins.1 ++ tail,
+    is s.begins.0 s.begins.2,
+    spelled s.begins.0 ∙ ap (λ l. before ++ (l ++ tail)) s.begins.3 ∙ ap (λ l. before ++ l) (append_assoc s.front s.begins.1 tail) ∙ sym (append_assoc before s.front (s.begins.1 ++ tail)),
+  );
   why = reason_within inner form r before s.front rest leaves s.why;
   stuck = λ ws. goes ws ∙ s.stuck (us ++ ws);
 }

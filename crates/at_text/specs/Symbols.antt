@@ -1,5 +1,5 @@
 -- Tokens as a grammar sees them.
-use Rattle.std.specs.Prelude.{ℕ, List, map, Bool, true, false, ◌&&◌, not, Option, Some, None}
+use Rattle.std.specs.Prelude.{ℕ, List, map, Bool, true, false, ◌&&◌, Option, Some, None}
 use Rattle.std.specs.Str.{bytes_eq}
 use Rattle.at_model.specs.Names.{is_name}
 use Rattle.at_text.specs.declared.token.TokenKind.{TokenKind}

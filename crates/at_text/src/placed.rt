@@ -49,7 +49,11 @@ fn place_from(text: &str, from: usize, at: (u32, u32), to: usize) -> (u32, u32)
 
 /// The tokens of the text, each with its line and column in place of its offset. It takes time
 /// linear in the text where the tokens stand in their order.
-pub fn place_all<'a>(alloc: Global, text: &str, tokens: &[Lexeme<'a>]) -> Result<Vec<Placed<'a>>, AllocError>
+pub fn place_all<'a>(
+    alloc: Global,
+    text: &str,
+    tokens: &[Lexeme<'a>],
+) -> Result<Vec<Placed<'a>>, AllocError>
     requires { All (λ t. IsCharBoundary text.now t.start) tokens.now }
     ensures { IfOk result (λ v. map placed v.items ≡ map (placed_in text.now) (map spelled tokens.now)) }
 {

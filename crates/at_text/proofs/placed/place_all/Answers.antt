@@ -1,4 +1,4 @@
-use Rattle.std.proofs.Common.{◌≡◌, ap, sym, refl, map, arith}
+use Rattle.std.proofs.Common.{ap, sym, map}
 use Rattle.std.proofs.lemmas.Str.{IsCharBoundary-start, chars-nil}
 use Rattle.at_text.specs.Place.{place_after}
 use Rattle.at_text.specs.Symbols.{placed}

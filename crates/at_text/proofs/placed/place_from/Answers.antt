@@ -1,4 +1,4 @@
-use Rattle.std.proofs.Common.{◌≡◌, ap, sym, ◌∙◌, ◌++◌, take, arith}
+use Rattle.std.proofs.Common.{ap, ◌∙◌, ◌++◌, take}
 use Rattle.std.specs.Prelude.{chars}
 use Rattle.at_text.specs.Place.{place_after}
 use Rattle.at_text.proofs.Placing.{place_between}
