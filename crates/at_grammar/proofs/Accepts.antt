@@ -1,24 +1,22 @@
 -- What is spelled is taken whole, and what is left out is met.
-use Rattle.std.proofs.Common.{◌≡◌, ℕ, suc, ◌+◌, ◌≤◌, ◌<◌, List, [], ◌∷◌, ◌++◌, Bool, true, false, cond, Option, Some, None, length, map, refl, sym, ap, subst, ◌∙◌, append_assoc, length-append, arith, inl, inr}
-use Rattle.std.specs.Prelude.{◌⊎◌}
-use Rattle.std.specs.List.{flat_map, AllByRecursion}
+use Rattle.std.proofs.Common.{◌≡◌, ℕ, ◌<◌, List, [], ◌∷◌, ◌++◌, Bool, true, false, cond, Option, Some, None, length, refl, sym, ap, subst, ◌∙◌, append_assoc, length-append, arith, inl, inr}
+use Rattle.std.specs.List.{flat_map}
 use Rattle.std.proofs.lemmas.List.{append-nil}
-use Rattle.std.proofs.lemmas.Grind.{flat_map-append}
 use Rattle.std.proofs.lemmas.Slice.Eq.{bytes_eq-Decides}
 use Rattle.std.specs.Str.{bytes_eq}
 use lib.Chars.{codes}
 use Rattle.std.specs.Prelude.{◌&&◌, not, chars}
 use Rattle.at_model.specs.Names.{is_name, is_reserved, reserved_words}
 use Rattle.at_model.specs.Names as names
-use Rattle.at_text.specs.Reading.{first, Reason, Refused, LeftOut, Answer, Takes, Skips, Refuses, LeavesOut, and_then, Whole, Stuck, run}
-use Rattle.at_text.specs.Symbols.{Symbol, word, sign, is_sign, is_word, is_name_next}
-use Rattle.at_text.proofs.ReadingLaws.{run-takes, run-leaves_out, Many, many_none, many_more}
+use Rattle.at_text.specs.Reading.{first, LeftOut, Takes, Refuses, and_then, Whole, Stuck, run}
+use Rattle.at_text.specs.Symbols.{Symbol, sign, is_sign, is_word}
+use Rattle.at_text.proofs.ReadingLaws.{run-takes, run-leaves_out, many_none}
 use Rattle.at_grammar.specs.Grammar as grammar
 use Rattle.at_grammar.specs.Grammar.{Word, Typed, IsName, IsTokenKind, IsTyped, IsToken, IsPart, AreParts, IsBody, IsDeclaration, IsFile, IfWritten, Declaration}
-use Rattle.at_grammar.specs.Faults.{GoesOnKind, IsTokenFront, LeftOutOfParts, IsLeftOut}
+use Rattle.at_grammar.specs.Faults.{GoesOnKind, LeftOutOfParts, IsLeftOut}
 use Rattle.at_grammar.specs.Table as want
 use Rattle.at_grammar.specs.Table.{Want, table}
-use Rattle.at_grammar.specs.Forms.{name, kind_name, mark, kind, typed, child, optional, close, token_kind, token, part, parts, body, modifier, declaration, file}
+use Rattle.at_grammar.specs.Forms.{name, kind, typed, child, optional, token_kind, token, part, parts, body, modifier, declaration}
 use Rattle.at_grammar.proofs.Paths.{Reads, Goes, reads_mark, reads_name, reads_kind_name, kind_none, kind_some, typed_reads, child_reads, children_reads, optional_reads, close_reads, token_kind_none, before_kind, token_kind_some, token_reads, part_token, part_optional, part_child}
 use Rattle.at_grammar.proofs.Loops.{parts_begin, parts_end, body_none, body_some, modifier_none, modifier_some, head_read, HeadRead, head_of, declaration_reads, file_begins}
 

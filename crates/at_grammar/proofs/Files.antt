@@ -1,5 +1,5 @@
 -- A text's tokens, and what reading them comes to.
-use Rattle.std.proofs.Common.{◌≡◌, ℕ, suc, ◌+◌, ◌-◌, ◌≤◌, ◌<◌, List, [], ◌∷◌, ◌++◌, Option, Some, None, length, map, take, drop, refl, sym, ap, subst, ◌∙◌, append_assoc, length-append, arith}
+use Rattle.std.proofs.Common.{◌≡◌, ℕ, ◌-◌, ◌≤◌, List, [], ◌∷◌, ◌++◌, length, map, drop, refl, sym, ap, subst, ◌∙◌, length-append, arith}
 use Rattle.std.proofs.lemmas.List.{append-nil, map-append, length-map}
 use Rattle.std.specs.Prelude.{◌⊎◌}
 use Rattle.std.proofs.Common.{inl, inr}
@@ -14,7 +14,7 @@ use Rattle.at_text.specs.Symbols.{Symbol, PlacedToken, placed, placed_in, symbol
 use Rattle.at_text.proofs.ReadingLaws.{first_fault}
 use Rattle.at_grammar.specs.Grammar as grammar
 use Rattle.at_grammar.specs.Grammar.{IsFile, Declaration}
-use Rattle.at_grammar.specs.Meaning.{Class, class_means}
+use Rattle.at_grammar.specs.Meaning.{class_means}
 use Rattle.at_grammar.specs.Faults.{HasTokens, Spells, IsLeftOut, MeetsLeftOut, StopsAt, IsScanFaultAt, next_place}
 use Rattle.at_grammar.specs.Table as want
 use Rattle.at_grammar.specs.Table.{table}

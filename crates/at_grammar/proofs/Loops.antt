@@ -1,21 +1,21 @@
 -- How reading components, classes and files follows from reading their parts.
-use Rattle.std.proofs.Common.{◌≡◌, ℕ, suc, ◌+◌, ◌≤◌, ◌<◌, List, [], ◌∷◌, ◌++◌, Bool, true, false, cond, Option, Some, None, Result, Ok, Err, length, map, refl, sym, ap, subst, ◌∙◌, append_assoc, length-append, arith, inl, inr}
-use Rattle.std.specs.Prelude.{◌⊎◌, MatchOption}
-use Rattle.std.specs.List.{flat_map, AllByRecursion}
+use Rattle.std.proofs.Common.{◌≡◌, ℕ, ◌<◌, List, [], ◌∷◌, ◌++◌, Bool, true, false, cond, Option, Some, None, length, refl, sym, ap, ◌∙◌, append_assoc, length-append, arith, inl, inr}
+use Rattle.std.specs.Prelude.{MatchOption}
+use Rattle.std.specs.List.{flat_map}
 use Rattle.std.proofs.lemmas.List.{append-nil}
 use Rattle.std.proofs.lemmas.Grind.{flat_map-append}
 use lib.Chars.{codes}
-use Rattle.at_text.specs.Reading.{first, Reason, Refused, LeftOut, Answer, Takes, Skips, Refuses, LeavesOut, and_then, is_skip, Form, run}
+use Rattle.at_text.specs.Reading.{first, Reason, LeftOut, Takes, Skips, Refuses, LeavesOut, and_then, is_skip, run}
 use Rattle.at_text.specs.Symbols.{Symbol, word, sign, is_sign, is_word, is_name_next}
-use Rattle.at_text.proofs.ReadingLaws.{run-takes, run-skips, run-refuses, run-same, run-begins, stops_here, leaves_here, stops_within, Many, many_none, many_more, all_push, all_append, one_more}
+use Rattle.at_text.proofs.ReadingLaws.{run-takes, run-skips, run-begins, leaves_here, stops_within, Many, all_push, all_append, one_more}
 use Rattle.at_grammar.specs.Grammar as grammar
 use Rattle.at_grammar.specs.Grammar.{Word, Typed, IsName, IsPart, AreParts, IsBody, IsDeclaration, IsFile, IfWritten, Declaration}
-use Rattle.at_grammar.specs.Faults.{GoesOnKind, IsTokenFront, LeftOutOfParts, IsLeftOut}
+use Rattle.at_grammar.specs.Faults.{LeftOutOfParts}
 use Rattle.at_grammar.specs.Table as want
 use Rattle.at_grammar.specs.Table.{Want, table, name_answer, child_answer, part_answer, more_parts_answer, declaration_answer, mark_answer}
 use Rattle.at_text.specs.declared.placed.Placed.{Placed}
 use Rattle.at_grammar.specs.Forms.{left, name, mark, kind, part, parts, body, modifier, declaration, file}
-use Rattle.at_grammar.proofs.Paths.{Reads, Stops, Goes, on_never_skips, and_then_never_skips}
+use Rattle.at_grammar.proofs.Paths.{Reads, Stops, Goes, on_never_skips}
 
 -- ---- { part } ";"
 
@@ -44,8 +44,13 @@ more_parts_spelled : (ps us : List grammar.Part) → grammar.parts (ps ++ us) �
 more_parts_spelled ps us = ap (λ l. l ++ sign (codes ";") ∷ []) (flat_map-append grammar.part ps us) ∙ append_assoc (flat_map grammar.part ps) (flat_map grammar.part us) (sign (codes ";") ∷ []) ∙ ap (λ l. flat_map grammar.part ps ++ l) (sym (append-nil (grammar.parts us)))
 
 pub more_left_out : (ps : List grammar.Part) (front : List Symbol) (s : Option Symbol) → AreParts ps → LeftOutOfParts front s → LeftOutOfParts (flat_map grammar.part ps ++ front) s
-more_left_out ps front s are h = (ps ++ h.0, h.1, all_append IsPart ps h.0 are h.2,
-    ap (λ l. flat_map grammar.part ps ++ l) h.3 ∙ sym (append_assoc (flat_map grammar.part ps) (flat_map grammar.part h.0) h.1) ∙ ap (λ l. l ++ h.1) (sym (flat_map-append grammar.part ps h.0)), h.4)
+more_left_out ps front s are h = (
+  ps ++ h.0,
+  h.1,
+  all_append IsPart ps h.0 are h.2,
+  ap (λ l. flat_map grammar.part ps ++ l) h.3 ∙ sym (append_assoc (flat_map grammar.part ps) (flat_map grammar.part h.0) h.1) ∙ ap (λ l. l ++ h.1) (sym (flat_map-append grammar.part ps h.0)),
+  h.4,
+)
 
 pub parts_stop_behind : (q : Reason) (old mid rest : List Symbol) → Many table part want.Parts old mid → Stops parts q mid rest → Stops parts q old rest
 parts_stop_behind q old mid rest m s = stops_within table parts parts q old mid rest (flat_map grammar.part m.items) [] (λ us. m.items ++ us) [] m.text m.goes

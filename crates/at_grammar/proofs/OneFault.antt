@@ -1,14 +1,12 @@
 -- A text spells one grammar or has one fault, and not both.
-use Rattle.std.proofs.Common.{◌≡◌, ℕ, suc, List, [], ◌∷◌, ◌++◌, length, map, refl, sym, ap, subst, ◌∙◌, inl, inr}
+use Rattle.std.proofs.Common.{◌≡◌, ℕ, List, ◌++◌, map, refl, sym, ap, subst, ◌∙◌, inl, inr}
 use Rattle.std.specs.Prelude.{◌⊎◌}
 use Rattle.std.proofs.lemmas.List.{map-append, length-map}
 use Rattle.at_text.specs.declared.scan.ScanFault.{ScanFault}
 use Rattle.at_text.specs.declared.scan.ScanFault.TheVariants as scan
 use Rattle.at_text.specs.Faults as scanning
-use Rattle.at_text.specs.Pieces.{Piece, spelled_at}
-use Rattle.at_text.specs.Place.{place_of}
-use Rattle.at_text.specs.Reading.{first}
-use Rattle.at_text.specs.Symbols.{PlacedToken, placed_in, Symbol, symbol, symbols, words_keep}
+use Rattle.at_text.specs.Pieces.{spelled_at}
+use Rattle.at_text.specs.Symbols.{PlacedToken, placed_in, symbol, symbols, words_keep}
 use Rattle.at_text.proofs.ReadingLaws.{one_first_fault, cut_once}
 use Rattle.at_text.proofs.Scanned as scanned
 use Rattle.at_grammar.specs.declared.AstFault.{AstFault}
@@ -43,7 +41,7 @@ same_scan_fault text a b e f h k =
     let s = scan_fault_of text a e h in
     let t = scan_fault_of text b f k in
     elim (scanned.fault_same text e s.1 f t.0 t.1) [
-      inl none ↦ absurd (s.0 none)
+      | inl none ↦ absurd (s.0 none)
       | inr same ↦ one_place text a b f (subst (λ (x : ScanFault). IsScanFaultAt text a x) same h) k
     ]
 

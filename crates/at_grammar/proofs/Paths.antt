@@ -1,6 +1,6 @@
 -- How reading a form of the grammar follows from reading its parts.
-use Rattle.std.proofs.Common.{◌≡◌, ℕ, suc, ◌+◌, ◌≤◌, List, [], ◌∷◌, ◌++◌, Bool, true, false, cond, Option, Some, None, Result, Ok, Err, length, refl, sym, ap, subst, ◌∙◌, append_assoc, length-append, arith, inl, inr}
-use Rattle.std.specs.Prelude.{◌&&◌, ◌||◌, ◌⊎◌}
+use Rattle.std.proofs.Common.{◌≡◌, ℕ, List, [], ◌∷◌, ◌++◌, Bool, true, false, cond, Option, Some, None, refl, sym, ap, ◌∙◌, append_assoc, inl, inr}
+use Rattle.std.specs.Prelude.{◌||◌, ◌⊎◌}
 use Rattle.std.specs.Str.{bytes_eq}
 use Rattle.std.proofs.lemmas.Slice.Eq.{bytes_eq-Decides}
 use Rattle.std.proofs.lemmas.List.{append-nil}
@@ -11,14 +11,13 @@ use lib.Chars.{codes}
 use Rattle.at_model.specs.Names.{is_name, reserved_words}
 use Rattle.at_text.specs.Reading.{first, Reason, Refused, LeftOut, Answer, Takes, Skips, Refuses, LeavesOut, and_then, is_skip, Form, run}
 use Rattle.at_text.specs.Reading as reading
-use Rattle.at_text.specs.Symbols.{Symbol, word, sign, is_sign, is_word, is_name_next}
-use Rattle.at_text.proofs.ReadingLaws.{run-takes, run-skips, run-refuses, run-same, run-begins, stops_here, leaves_here, stops_within, parses_on, fails_on}
+use Rattle.at_text.specs.Symbols.{Symbol, sign, is_sign, is_name_next}
+use Rattle.at_text.proofs.ReadingLaws.{run-takes, run-skips, run-same, run-begins, stops_here, leaves_here, stops_within}
 use Rattle.at_grammar.specs.Grammar as grammar
 use Rattle.at_grammar.specs.Grammar.{Word, Typed, IsName, IsTokenKind, IsPart, IfWritten, is_token_kind, is_basic_kind, Declaration}
-use Rattle.at_grammar.specs.Faults.{GoesOnKind, IsTokenFront, LeftOutOfParts, IsLeftOut}
 use Rattle.at_grammar.specs.Table as want
 use Rattle.at_grammar.specs.Table.{Want, table, is_kind_next, name_answer, child_answer, part_answer, typed_answer, mark_answer}
-use Rattle.at_grammar.specs.Forms.{name, kind_name, mark, kind, typed, child, optional, close, token_kind, token, part, parts, body, modifier, declaration, file, Never, IsChild}
+use Rattle.at_grammar.specs.Forms.{name, kind_name, mark, kind, typed, child, optional, close, token_kind, token, part, IsChild}
 
 abbrev pub Reads : {V : Type 0} → Form Symbol Want V → V → List Symbol → List Symbol → Type 0
 Reads form v old rest = reading.Reads table form v old rest

@@ -1,10 +1,10 @@
 -- The forms of the grammar, and what the reader's methods say of them.
-use Rattle.std.specs.Prelude.{◌≡◌, ℕ, List, [], ◌∷◌, ◌++◌, map, Option, Some, None, Result, ◌⊎◌}
+use Rattle.std.specs.Prelude.{◌≡◌, ℕ, List, [], ◌∷◌, ◌++◌, map, Option, Some, None, Result}
 use lib.Chars.{codes}
 use Rattle.at_text.specs.declared.placed.Placed.{Placed}
 use Rattle.at_text.specs.Reading as reading
 use Rattle.at_text.specs.Reading.{Reason, Refused, LeftOut, Form}
-use Rattle.at_text.specs.Symbols.{Symbol, word, sign, symbol, placed, words_keep}
+use Rattle.at_text.specs.Symbols.{Symbol, sign, symbol, placed, words_keep}
 use Rattle.at_grammar.specs.declared.reader.ReadError.{ReadError}
 use Rattle.at_grammar.specs.declared.reader.ReadError.TheVariants as errors
 use Rattle.at_grammar.specs.Grammar as grammar

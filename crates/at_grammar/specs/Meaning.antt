@@ -1,5 +1,5 @@
 -- What a grammar as written means.
-use Rattle.std.specs.Prelude.{ℕ, List, [], map, Bool, true, false, Option, Some, None, String}
+use Rattle.std.specs.Prelude.{ℕ, List, [], map, Bool, Option, Some, None, String}
 use Rattle.std.specs.Option.{is_some}
 use Rattle.std.specs.Global.{Global}
 use Rattle.std.specs.String.{string_bytes}

@@ -1,5 +1,5 @@
 -- What may come next in a grammar, by the next token: the reader's decisions as a table, from which its contracts follow.
-use Rattle.std.specs.Prelude.{ℕ, List, [], ◌∷◌, ◌++◌, Bool, true, false, cond, ◌||◌, ◌&&◌, Option, Some, None}
+use Rattle.std.specs.Prelude.{ℕ, List, [], ◌∷◌, Bool, false, cond, ◌||◌, ◌&&◌, Option, Some, None}
 use lib.Chars.{codes}
 use Rattle.at_text.specs.Reading.{Answer, Takes, Skips, Refuses, LeavesOut, and_then, Table}
 use Rattle.at_text.specs.Symbols.{Symbol, is_sign, is_word, is_name_next, is_word_kind}

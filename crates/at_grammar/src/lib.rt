@@ -14,13 +14,12 @@ ghost use Rattle.at_grammar.specs.declared.AstFault.TheVariants.{Memory};
 mod reader;
 mod syntax;
 
-pub use syntax::{ClassDecl, Grammar, PartDecl, Shape};
-
 use at_text::place::place;
 use at_text::placed::{Placed, place_all};
 use at_text::scan::{ScanFault, lexemes};
 use reader::{ReadError, Reader};
 use std::alloc::{AllocError, Global};
+pub use syntax::{ClassDecl, Grammar, PartDecl, Shape};
 
 /// Why a text is no abstract grammar. Places are lines and columns, both from 1.
 #[derive(Debug, Drop)]
@@ -52,7 +51,9 @@ fn scan_fault(text: &str, fault: ScanFault) -> AstFault
     match fault {
         ScanFault::Memory => AstFault::Memory,
         ScanFault::Bad { at } | ScanFault::OpenText { at } | ScanFault::OpenComment { at } => {
-            AstFault::Syntax { at: place(text, at) }
+            AstFault::Syntax {
+                at: place(text, at),
+            }
         }
     }
 }

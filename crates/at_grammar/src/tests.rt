@@ -21,7 +21,14 @@ fn left_out(line: u32, column: u32) -> Option<(bool, (u32, u32))> {
 
 #[test]
 fn what_is_read(rt: HostRuntime) {
-    for text in ["", " // nothing\n", "A ::= ;", "A;A;", "abstract A : B;", "A ::= <X:float> [B:B] C:D*;"] {
+    for text in [
+        "",
+        " // nothing\n",
+        "A ::= ;",
+        "A;A;",
+        "abstract A : B;",
+        "A ::= <X:float> [B:B] C:D*;",
+    ] {
         assert_eq!(rt; refused(&rt, text), None, "{text}");
     }
 }
@@ -75,7 +82,11 @@ fn shown(alloc: Global, class: &ClassDecl) -> Result<String, Fail> {
         write!(text, ":{parent}")?;
     }
     for part in &class.parts {
-        write!(text, " {}:{} {:?} {:?}", part.name, part.kind, part.shape, part.at)?;
+        write!(
+            text,
+            " {}:{} {:?} {:?}",
+            part.name, part.kind, part.shape, part.at
+        )?;
     }
     write!(text, " {:?}", class.at)?;
     Ok(text)
@@ -83,7 +94,8 @@ fn shown(alloc: Global, class: &ClassDecl) -> Result<String, Fail> {
 
 #[test]
 fn the_sample_grammar(rt: HostRuntime) -> Result<(), Fail> {
-    let text = "Program ::= Block;\nabstract Stmt;\nBlock : Stmt ::= Stmt*;\nDecl : Stmt ::= <ID> [Init:Expr];\nPrint : Stmt ::= Expr;\nabstract Expr;\nUse : Expr ::= <ID>;\nNum : Expr ::= <Value:int>;\nAdd : Expr ::= Left:Expr Right:Expr;\n";
+    let text =
+        "Program ::= Block;\nabstract Stmt;\nBlock : Stmt ::= Stmt*;\nDecl : Stmt ::= <ID> [Init:Expr];\nPrint : Stmt ::= Expr;\nabstract Expr;\nUse : Expr ::= <ID>;\nNum : Expr ::= <Value:int>;\nAdd : Expr ::= Left:Expr Right:Expr;\n";
     let classes = [
         "Program Block:Block One (1, 13) (1, 1)",
         "abstract Stmt (2, 10)",

@@ -1,4 +1,4 @@
-use Rattle.std.proofs.Common.{ap, ◌∙◌, sym, map, length, inl, inr, arith}
+use Rattle.std.proofs.Common.{ap, ◌∙◌, sym, map, length, inr, arith}
 use Rattle.at_text.specs.Pieces.{spelled}
 use Rattle.at_text.specs.Symbols.{placed, placed_in}
 use Rattle.at_text.specs.Reading.{Refused, LeftOut}

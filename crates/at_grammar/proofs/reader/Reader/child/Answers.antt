@@ -1,17 +1,11 @@
-use Rattle.std.proofs.Common.{◌≡◌, ◌∷◌, ◌++◌, [], List, Option, Some, None, Ok, Err, refl, sym, ap, subst, ◌∙◌, true, false, rules, arith, length, map, ◌<◌, inl, inr}
-use Rattle.std.specs.String.{string_bytes}
+use Rattle.std.proofs.Common.{ap, ◌∙◌}
 use Rattle.std.proofs.lemmas.Result.{err_from_is_err_and}
-use lib.Chars.{codes}
-use Rattle.at_text.specs.Symbols.{Symbol, symbol, placed, words_keep, is_sign, is_word, is_name_next, word, sign}
-use Rattle.at_text.specs.Reading.{first}
-use Rattle.at_text.proofs.ReadingLaws.{fails_on, parses_on, parses_at, stops_at, reads_at, Many, many_none, many_more, pushed}
+use Rattle.at_text.proofs.ReadingLaws.{fails_on}
 use Rattle.at_grammar.specs.Grammar as grammar
-use Rattle.at_grammar.specs.Meaning.{kind_or, text_of, bytes_of, seen_part, seen_class, part_means, class_means, body_means}
-use Rattle.at_grammar.specs.Table as want
+use Rattle.at_grammar.specs.Meaning.{seen_part}
 use Rattle.at_grammar.specs.Table.{table}
-use Rattle.at_grammar.specs.Forms.{left, reason_of, name, kind_name, mark, kind, typed, child, optional, close, token_kind, token, part, parts, body, modifier, declaration, file}
-use Rattle.at_grammar.proofs.Paths.{reads_mark, stops_mark, reads_name, stops_name, reads_kind_name, stops_kind_name, kind_none, kind_some, kind_stops, typed_reads, typed_stops_name, typed_stops_kind, child_reads, children_reads, child_stops, optional_reads, optional_stops_typed, optional_stops_mark, close_reads, close_stops, close_leaves, token_kind_none, before_kind, token_kind_some, token_kind_stops_mark, token_kind_stops_name, token_kind_stops_close, token_reads, token_stops_name, token_stops_kind, part_token, part_token_stops, part_optional, part_optional_stops, part_child, part_child_stops}
-use Rattle.at_grammar.proofs.Loops.{parts_begin, parts_end, parts_stop, parts_leave, part_shorter, body_none, body_some, body_stops_mark, body_stops_parts, modifier_none, modifier_some, head_read, declaration_reads, declaration_stops_name, declaration_stops_parent, declaration_stops_body, file_begins, file_ends, file_stops, declaration_shorter}
+use Rattle.at_grammar.specs.Forms.{left, typed, child}
+use Rattle.at_grammar.proofs.Paths.{child_reads, children_reads, child_stops}
 use Rattle.at_grammar.specs.declared.syntax.Shape.TheVariants as shape
 use Rattle.at_grammar.specs.Meaning.{Component}
 use Rattle.at_grammar.proofs.reader.Reader.child.Goals.{then-takes, else-takes}
@@ -21,9 +15,9 @@ pub returns-in_err-part : goal.returns-in_err-part
 returns-in_err-part c = let p = err_from_is_err_and c.from_residual.result c.from_residual.ensures.1 in rw (p.1, p.2) (fails_on table typed child _ _ _ _ (λ q. child_stops q _ _) c.in_err-part.ensures)
 
 pub returns : goal.returns
-returns c = 
+returns c =
     let t = c.in_ok-part.ensures in
     elim c.if-takes.branch [
-      then-takes w ↦ (grammar.Children t.0, ap seen_part w.part-is ∙ ap (λ (x : Component). record x { shape = shape.Many }) t.1, children_reads t.0 _ _ _ t.2 (rw w.if-takes.true at c.takes.ensures))
+      | then-takes w ↦ (grammar.Children t.0, ap seen_part w.part-is ∙ ap (λ (x : Component). record x { shape = shape.Many }) t.1, children_reads t.0 _ _ _ t.2 (rw w.if-takes.true at c.takes.ensures))
       | else-takes w ↦ (let e = rw w.if-takes.false at c.takes.ensures in (grammar.Child t.0, ap seen_part w.part-is ∙ t.1, child_reads t.0 _ _ _ t.2 (ap left e.0) e.1))
     ]

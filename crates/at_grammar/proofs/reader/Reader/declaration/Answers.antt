@@ -1,17 +1,8 @@
-use Rattle.std.proofs.Common.{◌≡◌, ◌∷◌, ◌++◌, [], List, Option, Some, None, Ok, Err, refl, sym, ap, subst, ◌∙◌, true, false, rules, arith, length, map, ◌<◌, inl, inr}
-use Rattle.std.specs.String.{string_bytes}
 use Rattle.std.proofs.lemmas.Result.{err_from_is_err_and}
-use lib.Chars.{codes}
-use Rattle.at_text.specs.Symbols.{Symbol, symbol, placed, words_keep, is_sign, is_word, is_name_next, word, sign}
-use Rattle.at_text.specs.Reading.{first}
-use Rattle.at_text.proofs.ReadingLaws.{fails_on, parses_on, parses_at, stops_at, reads_at, Many, many_none, many_more, pushed}
-use Rattle.at_grammar.specs.Grammar as grammar
-use Rattle.at_grammar.specs.Meaning.{kind_or, text_of, bytes_of, seen_part, seen_class, part_means, class_means, body_means}
-use Rattle.at_grammar.specs.Table as want
+use Rattle.at_text.proofs.ReadingLaws.{fails_on}
 use Rattle.at_grammar.specs.Table.{table}
-use Rattle.at_grammar.specs.Forms.{left, reason_of, name, kind_name, mark, kind, typed, child, optional, close, token_kind, token, part, parts, body, modifier, declaration, file}
-use Rattle.at_grammar.proofs.Paths.{reads_mark, stops_mark, reads_name, stops_name, reads_kind_name, stops_kind_name, kind_none, kind_some, kind_stops, typed_reads, typed_stops_name, typed_stops_kind, child_reads, children_reads, child_stops, optional_reads, optional_stops_typed, optional_stops_mark, close_reads, close_stops, close_leaves, token_kind_none, before_kind, token_kind_some, token_kind_stops_mark, token_kind_stops_name, token_kind_stops_close, token_reads, token_stops_name, token_stops_kind, part_token, part_token_stops, part_optional, part_optional_stops, part_child, part_child_stops}
-use Rattle.at_grammar.proofs.Loops.{parts_begin, parts_end, parts_stop, parts_leave, part_shorter, body_none, body_some, body_stops_mark, body_stops_parts, modifier_none, modifier_some, head_read, declaration_reads, declaration_stops_name, declaration_stops_parent, declaration_stops_body, file_begins, file_ends, file_stops, declaration_shorter}
+use Rattle.at_grammar.specs.Forms.{name, kind, body, declaration}
+use Rattle.at_grammar.proofs.Loops.{head_read, declaration_reads, declaration_stops_name, declaration_stops_parent, declaration_stops_body}
 use Rattle.at_grammar.proofs.Meanings.{class_is}
 use Rattle.at_grammar.proofs.Loops.{modifier_reads}
 use Rattle.at_grammar.proofs.reader.Reader.declaration.Goals as goal
@@ -26,11 +17,12 @@ pub returns-in_err-parts : goal.returns-in_err-parts
 returns-in_err-parts c = let x = modifier_reads _ _ _ c.takes_word.ensures in let n = c.in_ok-name.ensures in let k = c.in_ok-parent.ensures in let p = err_from_is_err_and c.from_residual-in_err-parts.result c.from_residual-in_err-parts.ensures.1 in rw (p.1, p.2) (fails_on table body declaration _ _ _ _ (λ q. declaration_stops_body _ n.0 k.0 q _ _ _ (head_read _ n.0 k.0 _ _ _ _ x n.2 k.2)) c.in_err-parts.ensures)
 
 pub returns : goal.returns
-returns c = 
+returns c =
     let x = modifier_reads _ _ _ c.takes_word.ensures in
     let n = c.in_ok-name.ensures in
     let k = c.in_ok-parent.ensures in
-    let b = c.in_ok-parts.ensures in
-    (record { abstract_at = c.takes_word.result; name = n.0; parent = k.0; parts = b.0 },
+    let b = c.in_ok-parts.ensures in (
+      record { abstract_at = c.takes_word.result; name = n.0; parent = k.0; parts = b.0 },
       class_is _ _ _ _ _ _ _ _ _ _ n.1.0 c.is_some-is_abstract.ensures k.1 b.1 n.1.1,
-      declaration_reads _ n.0 k.0 b.0 _ _ _ (head_read _ n.0 k.0 _ _ _ _ x n.2 k.2) b.2)
+      declaration_reads _ n.0 k.0 b.0 _ _ _ (head_read _ n.0 k.0 _ _ _ _ x n.2 k.2) b.2,
+    )

@@ -1,9 +1,9 @@
 use Rattle.std.proofs.Common.{◌≡◌, map, length}
 use Rattle.at_text.proofs.ReadingLaws.{Many}
-use Rattle.at_grammar.specs.Meaning.{seen_part, part_means, seen_class, class_means}
+use Rattle.at_grammar.specs.Meaning.{seen_part, part_means}
 use Rattle.at_grammar.specs.Table as want
 use Rattle.at_grammar.specs.Table.{table}
-use Rattle.at_grammar.specs.Forms.{left, part, declaration}
+use Rattle.at_grammar.specs.Forms.{left, part}
 use Rattle.at_grammar.proofs.reader.Reader.parts.Given as goal
 
 abbrev pub invariant-loop-parts : goal.invariant-loop-parts
