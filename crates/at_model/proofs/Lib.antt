@@ -23,3 +23,4 @@ pub mod Options
 pub mod Conforming
 pub mod Shaped
 pub mod WithinTree
+pub mod Spreading

@@ -5,7 +5,7 @@ ghost use Rattle.at_model.specs.Classes.{Classes, is_sub};
 ghost use Rattle.at_model.specs.Trees.{Tree, class_of, conforms};
 ghost use Rattle.at_model.specs.Terms.{max_depth};
 ghost use Rattle.at_model.specs.Paths.{Node, node_eq, tree_at};
-ghost use Rattle.at_model.specs.Run.{Contents, Instance, Is, Known, Location, LooksTo, MatchTried, Value, reads, tried};
+ghost use Rattle.at_model.specs.Run.{Contents, FaultKind, Instance, Is, Known, Location, LooksTo, MatchTried, Value, reads, tried};
 ghost use Rattle.at_model.specs.Bodies.{Expr, Scope, eval};
 ghost use Rattle.at_model.specs.Rules.{AreComplete, Attribute, Rules, Source, attribute_name, evaluation, is_inherited, own_equation, source_of};
 ghost use Rattle.at_model.specs.Meaning.{
@@ -60,6 +60,15 @@ pub fn outcome_or_circle()
 pub fn one_circle()
     ensures { (look : Contents Node) (equation : Equations Node) (q j k : Instance Node)
         → Circular look equation q j → Circular look equation q k → j ≡ k }
+{}
+
+/// What an instance with a value leads to has a value, and a fault of what an instance leads to is
+/// its outcome.
+pub fn outcomes_spread()
+    ensures values { (look : Contents Node) (equation : Equations Node) (i j : Instance Node) (v : Value Node)
+        → HasValue look equation i v → Leads look equation i j → (w : Value Node) × HasValue look equation j w }
+    ensures faults { (look : Contents Node) (equation : Equations Node) (i j k : Instance Node) (f : FaultKind)
+        → Leads look equation i j → Holds look equation j (Faults f k) → Holds look equation i (Faults f k) }
 {}
 
 /// A try over values that hold finds the outcome of the instance, or an instance that it comes to
