@@ -68,7 +68,8 @@ module _ (classes : Classes) where
   child_changed h (Holds w) shape i v at' k e = absurd cc
 
   child_all_changed : (h : Tree → Tree) → ((v : Tree) → Keeps h v) → (c : Cell) (shape : Shape) (i : ℕ) → cell_conforms classes c shape ≡ true → cell_conforms classes (with_child h i c) shape ≡ true
-  child_all_changed h k (One t) (class.One b) i e = k t b e
+  child_all_changed h k (One t) (class.One b) zero e = k t b e
+  child_all_changed h k (One t) (class.One b) (suc i) e = e
   child_all_changed h k (One t) (class.Many b) i e = cc
   child_all_changed h k (One t) (class.Maybe b) i e = cc
   child_all_changed h k (One t) (class.Token kind) i e = cc
@@ -79,7 +80,8 @@ module _ (classes : Classes) where
   child_all_changed h k Empty shape i e = e
   child_all_changed h k (Filled t) (class.One b) i e = cc
   child_all_changed h k (Filled t) (class.Many b) i e = cc
-  child_all_changed h k (Filled t) (class.Maybe b) i e = k t b e
+  child_all_changed h k (Filled t) (class.Maybe b) zero e = k t b e
+  child_all_changed h k (Filled t) (class.Maybe b) (suc i) e = e
   child_all_changed h k (Filled t) (class.Token kind) i e = cc
   child_all_changed h k (Holds w) shape i e = e
 
@@ -129,7 +131,8 @@ module _ (classes : Classes) where
 
   -- the new child, the new optional, the new element and the new token
   set_child : (new : Tree) (i : ℕ) (c : Cell) (shape : Shape) → fits_class classes new (class_in shape) ≡ true → KeepsCell (with_child (λ u. new) i) c shape
-  set_child new i (One t) (class.One b) h e = h
+  set_child new zero (One t) (class.One b) h e = h
+  set_child new (suc i) (One t) (class.One b) h e = e
   set_child new i (One t) (class.Many b) h e = cc
   set_child new i (One t) (class.Maybe b) h e = cc
   set_child new i (One t) (class.Token kind) h e = cc
@@ -145,7 +148,8 @@ module _ (classes : Classes) where
   set_child new i Empty shape h e = e
   set_child new i (Filled t) (class.One b) h e = cc
   set_child new i (Filled t) (class.Many b) h e = cc
-  set_child new i (Filled t) (class.Maybe b) h e = h
+  set_child new zero (Filled t) (class.Maybe b) h e = h
+  set_child new (suc i) (Filled t) (class.Maybe b) h e = e
   set_child new i (Filled t) (class.Token kind) h e = cc
   set_child new i (Holds w) shape h e = e
 
@@ -191,7 +195,8 @@ module _ (classes : Classes) where
   one_less i Empty shape e = e
   one_less i (Filled t) (class.One b) e = cc
   one_less i (Filled t) (class.Many b) e = cc
-  one_less i (Filled t) (class.Maybe b) e = refl
+  one_less zero (Filled t) (class.Maybe b) e = refl
+  one_less (suc i) (Filled t) (class.Maybe b) e = e
   one_less i (Filled t) (class.Token kind) e = cc
   one_less i (Holds w) shape e = e
 
