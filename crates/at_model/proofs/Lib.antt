@@ -18,5 +18,6 @@ pub mod OneTerm
 pub mod OneLine
 pub mod OneOutput
 pub mod Options
+pub mod Moving
 pub mod Conforming
 pub mod Shaped
