@@ -19,5 +19,6 @@ pub mod OneLine
 pub mod OneOutput
 pub mod Options
 pub mod Moving
+pub mod Ways
 pub mod Conforming
 pub mod Shaped
