@@ -20,5 +20,6 @@ pub mod OneOutput
 pub mod Options
 pub mod Moving
 pub mod Ways
+pub mod Untouched
 pub mod Conforming
 pub mod Shaped
