@@ -21,5 +21,6 @@ pub mod Options
 pub mod Moving
 pub mod Ways
 pub mod Untouched
+pub mod Untouching
 pub mod Conforming
 pub mod Shaped

@@ -148,6 +148,14 @@ module _ (g : Cell → Cell) (part : ℕ) (past : Way → Option Way) where
   abbrev pub FitsAt : Tree → Node → Type 0
   FitsAt t p = (u : Tree) (c : Cell) → tree_at t p ≡ Some u → cell_at u part ≡ Some c → Fits c
 
+  -- the change is not seen at the location, or what is seen there stays
+  abbrev pub Unseen : Tree → Node → Location Node → Type 0
+  Unseen t p (Is n) = ⊤
+  Unseen t p (Tok n q) = (node_eq p n && nat_eq part q) ≡ true → (u : Tree) (c : Cell) → tree_at t n ≡ Some u → cell_at u part ≡ Some c → token_in (Some (g c)) ≡ token_in (Some c)
+  Unseen t p (Slot n q) = (node_eq p n && nat_eq part q) ≡ true → (u : Tree) (c : Cell) → tree_at t n ≡ Some u → cell_at u part ≡ Some c → (children c ≡ []) × (children (g c) ≡ [])
+  Unseen t p (Up n) = ⊤
+  Unseen t p (Idx n) = (m : Node) (s : Way) → n ≡ m ++ s ∷ [] → (node_eq p m && nat_eq part s.0) ≡ true → KeepsIndex past
+
   module _ (keeps : KeepsParts past part) where
     in_cell-moved : (o : Option Cell) → ((c : Cell) → o ≡ Some c → Fits c) → (s u : Way) → s.0 ≡ part → past s ≡ Some u → slice_get (in_cell (option_map g o)) u.1 ≡ slice_get (in_cell o) s.1
     in_cell-moved None fits s u e f = refl
@@ -238,14 +246,6 @@ module _ (g : Cell → Cell) (part : ℕ) (past : Way → Option Way) where
     map_told d f h None same = refl
     map_told d f h (Some v) same = same v refl
 
-    -- the change is not seen at the location, or what is seen there stays
-    abbrev pub Unseen : Tree → Node → Location Node → Type 0
-    Unseen t p (Is n) = ⊤
-    Unseen t p (Tok n q) = (node_eq p n && nat_eq part q) ≡ true → (u : Tree) (c : Cell) → tree_at t n ≡ Some u → cell_at u part ≡ Some c → token_in (Some (g c)) ≡ token_in (Some c)
-    Unseen t p (Slot n q) = (node_eq p n && nat_eq part q) ≡ true → (u : Tree) (c : Cell) → tree_at t n ≡ Some u → cell_at u part ≡ Some c → (children c ≡ []) × (children (g c) ≡ [])
-    Unseen t p (Up n) = ⊤
-    Unseen t p (Idx n) = (m : Node) (s : Way) → n ≡ m ++ s ∷ [] → (node_eq p m && nat_eq part s.0) ≡ true → KeepsIndex past
-
     nodes_alike : (p n m : Node) (q : ℕ) (xs ys : List Tree) (i : ℕ) → length xs ≡ length ys → ((j : ℕ) → moved_under p past (n ++ (q, j) ∷ []) ≡ Some (m ++ (q, j) ∷ [])) → ListLike (Names (moved_under p past)) (child_nodes n q i xs) (child_nodes m q i ys)
     nodes_alike p n m q [] [] i e h = alike.end
     nodes_alike p n m q [] (y ∷ ys) i e h = absurd (cc)
@@ -291,10 +291,6 @@ module _ (g : Cell → Cell) (part : ℕ) (past : Way → Option Way) where
     parents_alike : (p n m : Node) → moved_under p past n ≡ Some m → OptionLike (λ (x y : Node × ℕ). Names (moved_under p past) x.0 y.0 × (x.1 ≡ y.1)) (option_map (λ (x : Node × Way). let y : Node × ℕ = (x.0, x.1.0) in y) (parent_of n)) (option_map (λ (x : Node × Way). let y : Node × ℕ = (x.0, x.1.0) in y) (parent_of m))
     parents_alike p n m e = by_end (snoc n)
       where
-        R : Node × ℕ → Node × ℕ → Type 0
-        R x y = Names (moved_under p past) x.0 y.0 × (x.1 ≡ y.1)
-        seen : Node × Way → Node × ℕ
-        seen x = (x.0, x.1.0)
         by_end : (n ≡ []) ⊎ ((k : Node) × (s : Way) × (n ≡ k ++ s ∷ [])) → OptionLike (λ (x y : Node × ℕ). Names (moved_under p past) x.0 y.0 × (x.1 ≡ y.1)) (option_map (λ (x : Node × Way). let y : Node × ℕ = (x.0, x.1.0) in y) (parent_of n)) (option_map (λ (x : Node × Way). let y : Node × ℕ = (x.0, x.1.0) in y) (parent_of m))
         by_end (inl none) =
             let f : [] ≡ m = same_some [] m (sym (moved-nil past p) ∙ ap (moved_under p past) (sym none) ∙ e) in
