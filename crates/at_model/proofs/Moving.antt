@@ -1,10 +1,8 @@
 -- Where nodes go when the steps from one node to its children lead elsewhere.
-use Rattle.std.proofs.Common.{◌≡◌, ℕ, zero, suc, ◌+◌, ◌-◌, ◌<◌, ◌≤◌, Bool, true, false, not, ◌&&◌, nat_eq, nat_lt, nat_le, if◌then◌else◌, List, [], ◌∷◌, ◌++◌, Option, Some, None, refl, sym, ap, ◌∙◌, subst, arith, option_map, ◌⊎◌, inl, inr}
-use Rattle.std.proofs.lemmas.Bool.Decides.{nat_tests}
-use Rattle.at_model.specs.Paths.{Node, step_eq, node_eq, parent_of}
-use Rattle.at_model.specs.Edits.{moved_under, past_set, past_put, past_drop, past_insert}
+use Rattle.std.proofs.Common.{◌≡◌, ℕ, Bool, true, false, ◌&&◌, nat_eq, if◌then◌else◌, [], ◌∷◌, ◌++◌, Option, Some, refl, sym, ap, ◌∙◌, subst, option_map}
+use Rattle.at_model.specs.Paths.{Node, step_eq, node_eq}
+use Rattle.at_model.specs.Edits.{moved_under}
 use Rattle.at_model.proofs.Options.{mapped}
-use Rattle.at_model.proofs.Nodes.{step_eq-sound, step_eq-refl}
 
 abbrev pub Way : Type 0
 Way = ℕ × ℕ

@@ -1,6 +1,6 @@
 -- The tree that a term is shaped to conforms and is written as that term, and it is the only one where names are apart.
-use Rattle.std.proofs.Common.{◌≡◌, ℕ, ◌<◌, Bool, true, false, ◌&&◌, not, if◌then◌else◌, List, [], ◌∷◌, length, get_or, Option, Some, None, refl, sym, ap, ◌∙◌, subst, option_and_then, option_map}
-use Rattle.std.specs.List.{slice_get, position}
+use Rattle.std.proofs.Common.{◌≡◌, ℕ, ◌<◌, true, false, ◌&&◌, not, if◌then◌else◌, List, [], ◌∷◌, length, Option, Some, None, refl, sym, ap, ◌∙◌, subst, option_and_then, option_map}
+use Rattle.std.specs.List.{slice_get}
 use Rattle.std.specs.Str.{bytes_eq}
 use Rattle.std.proofs.lemmas.List.Quantifiers.{position-Some}
 use Rattle.std.proofs.lemmas.Option.{slice_get-get_or, slice_get_within}
@@ -10,7 +10,7 @@ use Rattle.at_model.specs.Classes as class
 use Rattle.at_model.specs.Trees.{Tree, is_of_kind, conforms, cells_conform, cell_conforms, trees_conform}
 use Rattle.at_model.specs.Trees as tree
 use Rattle.at_model.specs.Terms.{Term, Cells, Cell, Terms, Node, no_cells, cell, One, Many, Empty, Holds, no_terms, term, name_of, term_of, cells_of, cell_of, terms_of}
-use Rattle.at_model.specs.Shaping.{class_named, shaped, cells_shaped, cell_shaped, terms_shaped, names_classes, cells_name_classes, cell_names_classes, terms_name_classes, names_concrete_class, AreNamedApart}
+use Rattle.at_model.specs.Shaping.{class_named, shaped, cells_shaped, cell_shaped, terms_shaped, names_classes, cells_name_classes, cell_names_classes, terms_name_classes, AreNamedApart}
 use Rattle.at_model.proofs.Options.{both, and_true, led, mapped, if_some, if_true}
 
 no_class : Class

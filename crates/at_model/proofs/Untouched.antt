@@ -168,6 +168,7 @@ module _ (g : Cell → Cell) (part : ℕ) (past : Way → Option Way) where
         here same =
             let ends : u.0 ≡ part = keeps.same s u e ∙ sym same in
             ap (λ q. slice_get (children_at (with_cell g part t) q) u.1) ends ∙ ap (λ o. slice_get (in_cell o) u.1) (cell-same g part t) ∙ in_cell-moved (cell_at t part) fits s u (sym same) e ∙ ap (λ q. slice_get (children_at t q) s.1) same
+
         there : (part ≡ s.0 → ⊥) → slice_get (children_at (with_cell g part t) u.0) u.1 ≡ slice_get (children_at t s.0) s.1
         there n =
             let apart : nat_eq part s.0 ≡ false = not_true (nat_eq part s.0) refl in
@@ -197,7 +198,7 @@ module _ (g : Cell → Cell) (part : ℕ) (past : Way → Option Way) where
             let H : Tree → Tree = λ x. with_node (with_cell g part) x p in
             let found = subst (λ (x : Way). slice_get (children_at (with_cell (with_child H a.1) a.0 t) x.0) x.1 ≡ option_map H (slice_get (children_at t x.0) x.1)) way (step-same H a t) in
             let below : (v : Tree) → slice_get (children_at t s.0) s.1 ≡ Some v → FitsAt v p = λ v child u c at' here.
-                fits u c (ap (option_and_then (λ (x : Tree). tree_at x p)) (subst (λ (x : Way). slice_get (children_at t x.0) x.1 ≡ Some v) (sym way) child) ∙ at') here in
+            fits u c (ap (option_and_then (λ (x : Tree). tree_at x p)) (subst (λ (x : Way). slice_get (children_at t x.0) x.1 ≡ Some v) (sym way) child) ∙ at') here in
             subst (λ (x : Node). tree_at (with_node (with_cell g part) t (a ∷ p)) x ≡ option_map (local p ss) (tree_at t (s ∷ ss))) f
             (ap (option_and_then (λ x. tree_at x k)) found ∙ then-map H (λ x. tree_at x k) (λ x. tree_at x ss) (local p ss) (slice_get (children_at t s.0) s.1) (λ v child. more k v (below v child) moves))
         by_step false same e more =
@@ -213,6 +214,7 @@ module _ (g : Cell → Cell) (part : ℕ) (past : Way → Option Way) where
           mapped_told : (o : Option Cell) → ((c : Cell) → o ≡ Some c → told (Some (k c)) ≡ told (Some c)) → told (option_map k o) ≡ told o
           mapped_told None h = refl
           mapped_told (Some c) h = h c refl
+
           here : at' ≡ q → told (cell_at (with_cell k at' v) q) ≡ told (cell_at v q)
           here e = subst (λ (x : ℕ). told (cell_at (with_cell k at' v) x) ≡ told (cell_at v x)) e (ap told (cell-same k at' v) ∙ mapped_told (cell_at v at') (same e))
 
@@ -274,17 +276,21 @@ module _ (g : Cell → Cell) (part : ℕ) (past : Way → Option Way) where
             length_none : (xs : List Tree) → length xs ≡ 0 → xs ≡ []
             length_none [] f = refl
             length_none (x ∷ xs) f = absurd (cc)
+
             in_none : (o : Option Cell) → ((c : Cell) → o ≡ Some c → children c ≡ []) → in_cell o ≡ []
             in_none None k = refl
             in_none (Some c) k = k c refl
+
             q_is : part ≡ q
             q_is = second (node_eq p n) target
               where
                 second : (b : Bool) → (b && nat_eq part q) ≡ true → part ≡ q
                 second true f = grind (arith, nat_tests)
                 second false f = absurd (cc)
+
             before : in_cell (cell_at v q) ≡ []
             before = in_none (cell_at v q) (λ c here. (h target v c refl (ap (cell_at v) q_is ∙ here)).0)
+
             no_items : length (in_cell (cell_at (local p n v) q)) ≡ length (in_cell (cell_at v q)) → in_cell (cell_at (local p n v) q) ≡ []
             no_items f = length_none (in_cell (cell_at (local p n v) q)) (f ∙ ap length before)
 

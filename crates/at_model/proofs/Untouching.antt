@@ -1,6 +1,5 @@
 -- An edit that is accepted leaves the tree alike at all that it doesn't touch.
-use Rattle.std.proofs.Common.{◌≡◌, ◌≢◌, ℕ, zero, suc, ◌+◌, ◌-◌, ◌<◌, ◌≤◌, Bool, true, false, not, ◌&&◌, ◌||◌, nat_eq, nat_lt, nat_le, if◌then◌else◌, List, [], ◌∷◌, ◌++◌, length, take, drop, Option, Some, None, Result, Ok, Err, refl, sym, ap, ◌∙◌, subst, arith, option_and_then, option_map, is_some}
-use Rattle.std.specs.Prelude.{⊤}
+use Rattle.std.proofs.Common.{◌≡◌, ℕ, zero, suc, ◌<◌, ◌≤◌, Bool, true, false, not, ◌&&◌, ◌||◌, nat_eq, if◌then◌else◌, List, [], ◌∷◌, ◌++◌, length, Option, Some, None, Ok, refl, sym, ap, ◌∙◌, subst, arith, option_and_then, option_map, is_some}
 use Rattle.std.specs.List.{slice_get, insert, remove}
 use Rattle.std.proofs.lemmas.Bool.Decides.{nat_tests}
 use Rattle.at_model.specs.Classes.{Classes, Component, Shape, parts}
@@ -14,13 +13,13 @@ use Rattle.at_model.specs.Alike.{LocationLike, ContentLike, Names, AlikeAt}
 use Rattle.at_model.specs.Alike as alike
 use Rattle.at_model.specs.Edits.{Edit, Set, Put, Drop, Insert, Token, Refusal, shape_at, plain_class, list_class, optional_class, token_kind, has_component, fits_there, is_in_range, is_free, is_plain, is_removable, children_of, changed_at, with_child, with_cell, with_node, without_child, with_one_more, left_by, is_within_limits, edited, moved_under, past_set, past_put, past_drop, past_insert, carried}
 use Rattle.at_model.specs.Edits as edit
-use Rattle.at_model.specs.Touches.{touches, is_within, node_of, is_slot, is_index, is_child, is_token, is_slot_around, is_index_around}
-use Rattle.at_model.proofs.Options.{both, led}
+use Rattle.at_model.specs.Touches.{touches, is_within, is_slot, is_index, is_child, is_slot_around, is_index_around}
+use Rattle.at_model.proofs.Options.{both}
 use Rattle.at_model.proofs.Nodes.{node_eq-sound}
 use Rattle.at_model.proofs.Complete.{conforms_at, cell_there}
 use Rattle.at_model.proofs.Conforming.{set_in_parent, passed}
 use Rattle.at_model.proofs.WayUp.{parent_of-snoc}
-use Rattle.at_model.proofs.Moving.{Way, KeepsParts, KeepsIndex}
+use Rattle.at_model.proofs.Moving.{Way, KeepsParts}
 use Rattle.at_model.proofs.Ways.{set_way, put_way, DropWay, drop_way, InsertWay, insert_way, set_keeps, put_keeps, drop_keeps, insert_keeps}
 use Rattle.at_model.proofs.Ways as way
 use Rattle.at_model.proofs.Untouched.{FitsAt, Unseen, cell_alike, child-other, child-token, from_to_trees}
@@ -189,9 +188,9 @@ module _ (classes : Classes) (t : Tree) (ok : conforms classes t 0 ≡ true) whe
       ContentLike (Names (moved_under p.0 (past_set p.1))) s (content t l) (content (left_by t (Set node new)) m)
   set_alike node new p is l m h s =
       let fits : FitsAt (with_child (λ u. new) p.1.1) p.1.0 (past_set p.1) t p.0 = λ u c found here r w same e.
-          let (stays, apart) = set_way p.1 r w e in
-          let differs : p.1.1 ≡ r.1 → ⊥ = λ f. let g : nat_eq p.1.0 r.0 ≡ true = grind (arith, nat_tests) in let k : nat_eq p.1.1 r.1 ≡ true = grind (arith, nat_tests) in not_both (step_eq p.1 r) (ap (λ b. b && nat_eq p.1.1 r.1) g ∙ k) apart in
-          ap (λ (x : Way). slice_get (children (with_child (λ u. new) p.1.1 c)) x.1) (sym stays) ∙ child-other (λ u. new) p.1.1 r.1 c differs in
+      let (stays, apart) = set_way p.1 r w e in
+      let differs : p.1.1 ≡ r.1 → ⊥ = λ f. let g : nat_eq p.1.0 r.0 ≡ true = grind (arith, nat_tests) in let k : nat_eq p.1.1 r.1 ≡ true = grind (arith, nat_tests) in not_both (step_eq p.1 r) (ap (λ b. b && nat_eq p.1.1 r.1) g ∙ k) apart in
+      ap (λ (x : Way). slice_get (children (with_child (λ u. new) p.1.1 c)) x.1) (sym stays) ∙ child-other (λ u. new) p.1.1 r.1 c differs in
       subst (λ (x : Tree). ContentLike (Names (moved_under p.0 (past_set p.1))) s (content t l) (content x m)) (sym (set_in_parent classes new node p is t))
       (cell_alike (with_child (λ u. new) p.1.1) p.1.0 (past_set p.1) (set_keeps p.1) t p.0 fits l m s (set_unseen node new p is l h))
 
@@ -230,8 +229,8 @@ module _ (classes : Classes) (t : Tree) (ok : conforms classes t 0 ≡ true) whe
       (s : LocationLike (Names (moved_under p.0 (past_drop p.1))) l m) → ContentLike (Names (moved_under p.0 (past_drop p.1))) s (content t l) (content (with_node (with_cell (without_child p.1.1) p.1.0) t p.0) m)
   drop_alike node p is plain l m h s =
       let fits : FitsAt (without_child p.1.1) p.1.0 (past_drop p.1) t p.0 = λ u c found here r w same e.
-          let (shape, sees, conf) = shape_there classes t p.0 p.1.0 u c ok found here in
-          dropped-fits classes p.1 r w c shape (selected plain_class (shape_at classes t p.0 p.1.0) false shape sees plain) conf same (drop_way p.1 r w e) in
+      let (shape, sees, conf) = shape_there classes t p.0 p.1.0 u c ok found here in
+      dropped-fits classes p.1 r w c shape (selected plain_class (shape_at classes t p.0 p.1.0) false shape sees plain) conf same (drop_way p.1 r w e) in
       cell_alike (without_child p.1.1) p.1.0 (past_drop p.1) (drop_keeps p.1) t p.0 fits l m s (drop_unseen node p is l h)
 
   insert_unseen : (node : Node) (part index : ℕ) (new : Tree) → (l : Location Node) → touches (Insert node part index new) l ≡ false → Unseen (with_one_more new index) part (past_insert (part, index)) t node l
@@ -256,11 +255,11 @@ module _ (classes : Classes) (t : Tree) (ok : conforms classes t 0 ≡ true) whe
       (s : LocationLike (Names (moved_under node (past_insert (part, index)))) l m) → ContentLike (Names (moved_under node (past_insert (part, index)))) s (content t l) (content (left_by t (Insert node part index new)) m)
   insert_alike node part index new has range l m h s =
       let fits : FitsAt (with_one_more new index) part (past_insert (part, index)) t node = λ u c found here r w same e.
-          let (shape, some, conf) = component_there list_class node part u c has found here in
-          let (ts, is) = list_cell classes c shape some conf in
-          let count : length (children_of t node part) ≡ length (from_trees ts) = ap length (counted node part u ts found (here ∙ ap Some is)) in
-          let bound : index ≤ length (children_of t node part) = grind (arith, nat_tests) in
-          subst (λ (x : Cell). slice_get (children (with_one_more new index x)) w.1 ≡ slice_get (children x) r.1) (sym is) (inserted-fits ts (part, index) r w new (omega arith) same (insert_way (part, index) r w e)) in
+      let (shape, some, conf) = component_there list_class node part u c has found here in
+      let (ts, is) = list_cell classes c shape some conf in
+      let count : length (children_of t node part) ≡ length (from_trees ts) = ap length (counted node part u ts found (here ∙ ap Some is)) in
+      let bound : index ≤ length (children_of t node part) = grind (arith, nat_tests) in
+      subst (λ (x : Cell). slice_get (children (with_one_more new index x)) w.1 ≡ slice_get (children x) r.1) (sym is) (inserted-fits ts (part, index) r w new (omega arith) same (insert_way (part, index) r w e)) in
       cell_alike (with_one_more new index) part (past_insert (part, index)) (insert_keeps (part, index)) t node fits l m s (insert_unseen node part index new l h)
 
   token_unseen : (node : Node) (part : ℕ) (v : trees.Token) → has_component classes t (Token node part v) ≡ true → (l : Location Node) → touches (Token node part v) l ≡ false → Unseen (λ c. Holds v) part (λ (s : Way). Some s) t node l
@@ -277,8 +276,8 @@ module _ (classes : Classes) (t : Tree) (ok : conforms classes t 0 ≡ true) whe
       (s : LocationLike (Names (moved_under node (λ (s : Way). Some s))) l m) → ContentLike (Names (moved_under node (λ (s : Way). Some s))) s (content t l) (content (left_by t (Token node part v)) m)
   token_alike node part v has l m h s =
       let fits : FitsAt (λ c. Holds v) part (λ (s : Way). Some s) t node = λ u c found here r w same e.
-          let (shape, some, conf) = component_there token_kind node part u c has found here in
-          sym (ap (λ (xs : List Tree). slice_get xs r.1) (token_cell classes c shape some conf)) in
+      let (shape, some, conf) = component_there token_kind node part u c has found here in
+      sym (ap (λ (xs : List Tree). slice_get xs r.1) (token_cell classes c shape some conf)) in
       cell_alike (λ c. Holds v) part (λ (s : Way). Some s) (nothing_keeps part) t node fits l m s (token_unseen node part v has l h)
 
   -- a node that has no parent is replaced with all that there is

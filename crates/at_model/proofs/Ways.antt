@@ -1,12 +1,10 @@
 -- Where the steps to children lead over each edit, and that no two nodes are carried to one.
-use Rattle.std.proofs.Common.{◌≡◌, ◌≢◌, ℕ, zero, suc, ◌+◌, ◌-◌, ◌<◌, ◌≤◌, Bool, true, false, not, ◌&&◌, nat_eq, nat_lt, nat_le, if◌then◌else◌, List, [], ◌∷◌, ◌++◌, Option, Some, None, refl, sym, ap, ◌∙◌, subst, arith}
+use Rattle.std.proofs.Common.{◌≡◌, ℕ, ◌+◌, ◌-◌, ◌<◌, ◌≤◌, Bool, true, false, ◌&&◌, nat_eq, nat_lt, nat_le, if◌then◌else◌, Option, Some, None, refl, sym, ap, ◌∙◌, arith}
 use Rattle.std.proofs.lemmas.Bool.Decides.{nat_tests}
-use Rattle.at_model.specs.Trees.{Tree}
 use Rattle.at_model.specs.Paths.{Node, step_eq, parent_of}
 use Rattle.at_model.specs.Alike.{IsInjective}
 use Rattle.at_model.specs.Edits.{Edit, Set, Put, Drop, Insert, Token, moved_under, past_set, past_put, past_drop, past_insert, carried}
-use Rattle.at_model.proofs.Nodes.{step_eq-sound, step_eq-refl}
-use Rattle.at_model.proofs.Moving.{Way, KeepsParts, KeepsIndex, IsApart, moved_apart}
+use Rattle.at_model.proofs.Moving.{Way, KeepsParts, IsApart, moved_apart}
 
 unless : {A : Type 0} (b : Bool) (o : Option A) (a : A) → (if b then None else o) ≡ Some a → (b ≡ false) × (o ≡ Some a)
 unless true o a e = absurd cc
