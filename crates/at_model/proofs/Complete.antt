@@ -14,7 +14,7 @@ use Rattle.std.specs.Cmp.Derive.{both_true}
 use Rattle.at_model.proofs.WayUp.{snoc, prefixes-snoc, parent_there, too_long}
 
 -- the component that a cell stands for, and that the cell conforms
-cell_there : (classes : Classes) (cells : Cells) (ps : List Component) (i : ℕ) (c : Cell) → cells_conform classes cells ps ≡ true → slice_get (from_cells cells) i ≡ Some c → (p : Component) × (slice_get ps i ≡ Some p) × (cell_conforms classes c p.shape ≡ true)
+pub cell_there : (classes : Classes) (cells : Cells) (ps : List Component) (i : ℕ) (c : Cell) → cells_conform classes cells ps ≡ true → slice_get (from_cells cells) i ≡ Some c → (p : Component) × (slice_get ps i ≡ Some p) × (cell_conforms classes c p.shape ≡ true)
 cell_there classes no_cells ps i c e q = absurd (cc)
 cell_there classes (cell d cells) [] i c e q = absurd (cc)
 cell_there classes (cell d cells) (p ∷ ps) zero c e q =

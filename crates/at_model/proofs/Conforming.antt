@@ -12,7 +12,7 @@ use Rattle.at_model.specs.Edits as edit
 use Rattle.at_model.proofs.Options.{both, and_true, led, mapped, unmapped}
 
 -- only the root has no parent
-root_alone : (node : paths.Node) → parent_of node ≡ None → node ≡ []
+pub root_alone : (node : paths.Node) → parent_of node ≡ None → node ≡ []
 root_alone [] e = refl
 root_alone (s ∷ []) e = absurd cc
 root_alone (s ∷ r ∷ rs) e = let f : r ∷ rs ≡ [] = root_alone (r ∷ rs) (unmapped (λ (x : paths.Node × (ℕ × ℕ)). let y : paths.Node × (ℕ × ℕ) = (s ∷ x.0, x.1) in y) (parent_of (r ∷ rs)) e) in absurd cc
@@ -217,7 +217,7 @@ module _ (classes : Classes) where
       part_changed g t node part k u at'
 
   -- a node is set by a change of its parent
-  set_in_parent : (new : Tree) (node : paths.Node) (p : paths.Node × (ℕ × ℕ)) → parent_of node ≡ Some p → (t : Tree) → with_node (λ u. new) t node ≡ with_node (with_cell (with_child (λ u. new) p.1.1) p.1.0) t p.0
+  pub set_in_parent : (new : Tree) (node : paths.Node) (p : paths.Node × (ℕ × ℕ)) → parent_of node ≡ Some p → (t : Tree) → with_node (λ u. new) t node ≡ with_node (with_cell (with_child (λ u. new) p.1.1) p.1.0) t p.0
   set_in_parent new [] p is t = absurd cc
   set_in_parent new (s ∷ []) p is t =
       let P : paths.Node × (ℕ × ℕ) → Type 0 = λ x. with_cell (with_child (λ u. new) s.1) s.0 t ≡ with_node (with_cell (with_child (λ u. new) x.1.1) x.1.0) t x.0 in
@@ -255,7 +255,7 @@ module _ (classes : Classes) where
   left_conforms t (Insert node part index new) has fits e = at_component list_class (with_one_more new index) t node part has (λ c shape sees. one_more new index c shape (seen list_class (fits_class classes new) (shape_at classes t node part) shape sees fits)) 0 e
   left_conforms t (Token node part v) has fits e = at_component token_kind (λ c. Holds v) t node part has (λ c shape sees old. hold v shape (seen token_kind (fits_kind v) (shape_at classes t node part) shape sees fits)) 0 e
 
-  passed : (b : Bool) (r : Refusal) (x : Result Tree Refusal) (u : Tree) → (if not b then Err r else x) ≡ Ok u → (b ≡ true) × (x ≡ Ok u)
+  pub passed : (b : Bool) (r : Refusal) (x : Result Tree Refusal) (u : Tree) → (if not b then Err r else x) ≡ Ok u → (b ≡ true) × (x ≡ Ok u)
   passed true r x u e = (refl, e)
   passed false r x u e = absurd cc
 

@@ -20,6 +20,10 @@ pub mod OneOutput
 pub mod TriesAlike
 pub mod CarryingCircles
 pub mod Options
+pub mod Moving
+pub mod Ways
+pub mod Untouched
+pub mod Untouching
 pub mod Conforming
 pub mod Shaped
 pub mod WithinTree

@@ -9,12 +9,12 @@ pub both_of : (b c : Bool) → (b && c) ≡ true → (b ≡ true) × (c ≡ true
 both_of true c e = (refl, e)
 both_of false c e = absurd (cc)
 
-step_eq-sound : (s u : ℕ × ℕ) → step_eq s u ≡ true → s ≡ u
+pub step_eq-sound : (s u : ℕ × ℕ) → step_eq s u ≡ true → s ≡ u
 step_eq-sound s u e =
     let (p, q) = both_of (nat_eq s.0 u.0) (nat_eq s.1 u.1) e in
     ap (λ z. (z, s.1)) (eqb-true s.0 u.0 p) ∙ ap (λ z. (u.0, z)) (eqb-true s.1 u.1 q)
 
-step_eq-refl : (s : ℕ × ℕ) → step_eq s s ≡ true
+pub step_eq-refl : (s : ℕ × ℕ) → step_eq s s ≡ true
 step_eq-refl s = both_true (eq-eqb s.0 s.0 refl) (eq-eqb s.1 s.1 refl)
 
 pub node_eq-sound : (a b : Node) → node_eq a b ≡ true → a ≡ b

@@ -4,7 +4,12 @@ ghost use Rattle.std.specs.Prelude.{◌≡◌, ◌≢◌, ℕ, ◌+◌, Bool, tr
 ghost use Rattle.at_model.specs.Classes.{Classes};
 ghost use Rattle.at_model.specs.Trees.{Tree, conforms};
 ghost use Rattle.at_model.specs.Rules.{Rules};
-ghost use Rattle.at_model.specs.Edits.{Edit, edited, is_within_limits};
+ghost use Rattle.at_model.specs.Edits.{Edit, carried, edited, is_within_limits};
+ghost use Rattle.at_model.specs.Touches.{touches};
+ghost use Rattle.at_model.specs.Paths.{Node};
+ghost use Rattle.at_model.specs.Run.{Location};
+ghost use Rattle.at_model.specs.Meaning.{content};
+ghost use Rattle.at_model.specs.Alike.{AlikeAt, IsInjective, Names};
 ghost use Rattle.at_model.specs.Terms.{Term, IsTerm, term_of, term_text};
 ghost use Rattle.at_model.specs.Shaping.{AreNamedApart, names_classes, shaped};
 ghost use Rattle.at_model.specs.Lines.{Line, IsLine, IsSessionOf, line_text, lines, is_filled};
@@ -77,6 +82,14 @@ pub fn an_accepted_edit_is_the_next_version()
 pub fn an_accepted_edit_conforms()
     ensures { (classes : Classes) (t u : Tree) (e : Edit) → conforms classes t 0 ≡ true → edited classes t e ≡ Ok u
         → (conforms classes u 0 ≡ true) × (is_within_limits u ≡ true) }
+{}
+
+/// No two nodes are carried to one. Where an edit that is accepted touches nothing, the trees before
+/// and after it show the same, up to where nodes are carried.
+pub fn what_is_not_touched_is_alike()
+    ensures apart { (e : Edit) → IsInjective (carried e) }
+    ensures alike { (classes : Classes) (t u : Tree) (e : Edit) → conforms classes t 0 ≡ true → edited classes t e ≡ Ok u
+        → (l : Location Node) → touches e l ≡ false → AlikeAt (Names (carried e)) (content t) (content u) l }
 {}
 
 /// No other command changes the tree or the version.
