@@ -1,8 +1,8 @@
 //! Tokens with their lines and columns.
-ghost use Rattle.std.specs.Prelude.{◌≡◌, ◌++◌, ℕ, List, map, All, IfOk, IsCharBoundary, chars};
+ghost use Rattle.std.specs.Prelude.{◌≡◌, ◌++◌, ◌-◌, ◌≤◌, ℕ, List, length, drop, map, All, IfOk, IsCharBoundary, chars};
 ghost use Rattle.at_text.specs.Place.{place_after, place_of};
 ghost use Rattle.at_text.specs.Pieces.{spelled};
-ghost use Rattle.at_text.specs.Symbols.{placed, placed_in};
+ghost use Rattle.at_text.specs.Symbols.{placed, placed_in, next_place};
 
 use crate::place::place;
 use crate::token::{Lexeme, TokenKind};
@@ -70,4 +70,15 @@ pub fn place_all<'a>(
         })?;
     }
     Ok(all)
+}
+
+/// The place of the first of the last `left` tokens, or of the end of the text where none is left.
+pub fn place_left(text: &str, tokens: &[Placed<'_>], left: usize) -> (u32, u32)
+    requires { left ≤ length tokens.now }
+    ensures { result ≡ next_place text.now (map placed (drop (length tokens.now - left) tokens.now)) }
+{
+    match tokens.get(tokens.len() - left) {
+        Some(token) => token.at,
+        None => place(text, text.len()),
+    }
 }
