@@ -1,0 +1,103 @@
+//! Laws of the machine: each is the contract of a function that does nothing.
+
+ghost use Rattle.std.specs.Prelude.{◌≡◌, ◌≢◌, ℕ, ◌+◌, Bool, true, false, List, [], ◌∷◌, ◌++◌, Option, Some, Ok, All, filter};
+ghost use Rattle.at_model.specs.Classes.{Classes};
+ghost use Rattle.at_model.specs.Trees.{Tree, conforms};
+ghost use Rattle.at_model.specs.Rules.{Rules};
+ghost use Rattle.at_model.specs.Edits.{Edit, edited, is_within_limits};
+ghost use Rattle.at_model.specs.Terms.{Term, IsTerm, term_of, term_text};
+ghost use Rattle.at_model.specs.Shaping.{AreNamedApart, names_classes, shaped};
+ghost use Rattle.at_model.specs.Lines.{Line, IsLine, IsSessionOf, line_text, lines, is_filled};
+ghost use Rattle.at_model.specs.Replies.{Reply, Code, Done, Refused, reply_text};
+ghost use Rattle.at_model.specs.Machine.{
+  State,
+  ByEquations,
+  Step,
+  Handles,
+  Serves,
+  Runs,
+  Outputs,
+  IsEdited,
+  is_edit,
+};
+
+/// A text is that of at most one term, and no text of a term begins another one.
+pub fn one_term()
+    ensures { (t u : Term) (r s : List ℕ) → IsTerm t → IsTerm u → term_text t ++ r ≡ term_text u ++ s → (t ≡ u) × (r ≡ s) }
+{}
+
+/// The tree that a term is shaped to conforms and is written as that term.
+pub fn a_shaped_tree_is_written_as_its_term()
+    ensures { (classes : Classes) (t : Term) (b : ℕ) (u : Tree) → shaped classes t b ≡ Some u → (conforms classes u b ≡ true) × (term_of classes u ≡ t) }
+{}
+
+/// Where each class is the first one of its name, a tree that conforms is what its term is shaped to,
+/// and all names in that term are those of classes that are not abstract.
+pub fn a_written_tree_is_shaped_again()
+    ensures { (classes : Classes) → AreNamedApart classes → (u : Tree) (b : ℕ) → conforms classes u b ≡ true
+        → (shaped classes (term_of classes u) b ≡ Some u) × (names_classes classes (term_of classes u) ≡ true) }
+{}
+
+/// A text is that of at most one line.
+pub fn one_line()
+    ensures { (l m : Line) → IsLine l → IsLine m → line_text l ≡ line_text m → l ≡ m }
+{}
+
+/// At most one session can be read from bytes.
+pub fn one_session()
+    ensures { (bytes : List ℕ) (a b : Option ℕ) → IsSessionOf bytes a → IsSessionOf bytes b → a ≡ b }
+{}
+
+/// The bytes of a line have at most one reply, and leave one state.
+pub fn one_reply()
+    ensures { (rules : Rules) (old : State) (bytes : List ℕ) (new other : State) (reply told : Reply)
+        → Handles rules (ByEquations rules) old bytes new reply → Handles rules (ByEquations rules) old bytes other told → (new ≡ other) × (reply ≡ told) }
+{}
+
+/// Where it is said which lines found no memory, all bytes have one output and leave one state.
+pub fn one_output()
+    ensures { (rules : Rules) (old : State) (bytes : List ℕ) (named : List Bool) (text told : List ℕ) (new other : State)
+        → Outputs rules (ByEquations rules) old bytes named text new → Outputs rules (ByEquations rules) old bytes named told other → (text ≡ told) × (new ≡ other) }
+{}
+
+/// A refused line leaves tree, version and marks.
+pub fn a_refused_line_changes_nothing()
+    ensures { (rules : Rules) (old : State) (bytes : List ℕ) (new : State) (reply : Reply) (refusal : Code)
+        → Handles rules (ByEquations rules) old bytes new reply → reply.form ≡ Refused refusal → new ≡ old }
+{}
+
+/// An edit that is accepted leaves the tree that it makes, the next version, and the marks where their
+/// nodes are; that version is told.
+pub fn an_accepted_edit_is_the_next_version()
+    ensures { (rules : Rules) (old : State) (l : Line) (new : State) (reply : Reply) (version : ℕ) → is_edit l.command ≡ true
+        → Step rules (ByEquations rules) old l new reply → reply.form ≡ Done version → IsEdited rules.classes old new × (version ≡ new.version) }
+{}
+
+/// It conforms to the start class, as the tree before did, and is within the limits.
+pub fn an_accepted_edit_conforms()
+    ensures { (classes : Classes) (t u : Tree) (e : Edit) → conforms classes t 0 ≡ true → edited classes t e ≡ Ok u
+        → (conforms classes u 0 ≡ true) × (is_within_limits u ≡ true) }
+{}
+
+/// No other command changes the tree or the version.
+pub fn only_edits_change_the_tree()
+    ensures { (rules : Rules) (old : State) (l : Line) (new : State) (reply : Reply) → is_edit l.command ≡ false
+        → Step rules (ByEquations rules) old l new reply → (new.tree ≡ old.tree) × (new.version ≡ old.version) }
+{}
+
+/// Bytes that are cut at a newline have the lines of both parts.
+pub fn lines_of_two_parts()
+    ensures { (a b : List ℕ) → lines (a ++ 10 ∷ b) ≡ lines a ++ lines b }
+{}
+
+/// Bytes without a newline are one line, or none where there are no bytes.
+pub fn lines_of_one_part()
+    ensures { (a : List ℕ) → All (λ b. b ≢ 10) a → lines a ≡ filter is_filled (a ∷ []) }
+{}
+
+/// A run goes on by one more line.
+pub fn one_more_line()
+    ensures { (rules : Rules) (old mid new : State) (ls : List (List ℕ)) (named : List Bool) (text line : List ℕ) (b : Bool) (reply : Reply)
+        → Runs rules (ByEquations rules) old ls named text mid → Serves rules (ByEquations rules) b mid line new reply
+        → Runs rules (ByEquations rules) old (ls ++ line ∷ []) (named ++ b ∷ []) (text ++ reply_text reply) new }
+{}
