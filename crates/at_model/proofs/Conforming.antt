@@ -1,5 +1,5 @@
 -- An edit that is accepted leaves a tree that conforms and is within the limits.
-use Rattle.std.proofs.Common.{◌≡◌, ℕ, zero, suc, Bool, true, false, not, ◌&&◌, if◌then◌else◌, List, [], ◌∷◌, ◌++◌, Option, Some, None, Result, Ok, Err, refl, sym, ap, ◌∙◌, subst, option_and_then, option_map, is_some}
+use Rattle.std.proofs.Common.{◌≡◌, ℕ, zero, suc, Bool, true, false, not, if◌then◌else◌, List, [], ◌∷◌, Option, Some, None, Result, Ok, Err, refl, sym, ap, ◌∙◌, subst, option_and_then, option_map, is_some}
 use Rattle.std.specs.List.{slice_get, insert, remove}
 use Rattle.at_model.specs.Classes.{Classes, Component, Shape, fits, parts, class_in}
 use Rattle.at_model.specs.Classes as class

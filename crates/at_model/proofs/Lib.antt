@@ -22,3 +22,5 @@ pub mod CarryingCircles
 pub mod Options
 pub mod Conforming
 pub mod Shaped
+pub mod WithinTree
+pub mod Spreading

@@ -5,7 +5,7 @@ ghost use Rattle.at_model.specs.Classes.{Classes, is_sub};
 ghost use Rattle.at_model.specs.Trees.{Tree, class_of, conforms};
 ghost use Rattle.at_model.specs.Terms.{max_depth};
 ghost use Rattle.at_model.specs.Paths.{Node, node_eq, tree_at};
-ghost use Rattle.at_model.specs.Run.{Contents, Instance, Is, Known, Location, LooksTo, MatchTried, reads, tried};
+ghost use Rattle.at_model.specs.Run.{Contents, FaultKind, Instance, Is, Known, Location, LooksTo, MatchTried, Value, reads, tried};
 ghost use Rattle.at_model.specs.Bodies.{Expr, Scope, eval};
 ghost use Rattle.at_model.specs.Rules.{AreComplete, Attribute, Rules, Source, attribute_name, evaluation, is_inherited, own_equation, source_of};
 ghost use Rattle.at_model.specs.Meaning.{
@@ -16,6 +16,7 @@ ghost use Rattle.at_model.specs.Meaning.{
   Equations,
   Faults,
   Finds,
+  HasValue,
   Holds,
   Leads,
   Outcome,
@@ -24,7 +25,8 @@ ghost use Rattle.at_model.specs.Meaning.{
   content,
   equations,
 };
-ghost use Rattle.at_model.specs.Support.{Supports, argument_classes, way_up};
+ghost use Rattle.at_model.specs.Support.{IsInstanceThere, IsThere, IsValueThere, Supports, argument_classes, way_up};
+ghost use Rattle.at_model.specs.Touches.{node_of};
 ghost use Rattle.at_model.specs.Alike.{
   AlikeAt,
   AnswerLike,
@@ -58,6 +60,15 @@ pub fn outcome_or_circle()
 pub fn one_circle()
     ensures { (look : Contents Node) (equation : Equations Node) (q j k : Instance Node)
         → Circular look equation q j → Circular look equation q k → j ≡ k }
+{}
+
+/// What an instance with a value leads to has a value, and a fault of what an instance leads to is
+/// its outcome.
+pub fn outcomes_spread()
+    ensures values { (look : Contents Node) (equation : Equations Node) (i j : Instance Node) (v : Value Node)
+        → HasValue look equation i v → Leads look equation i j → (w : Value Node) × HasValue look equation j w }
+    ensures faults { (look : Contents Node) (equation : Equations Node) (i j k : Instance Node) (f : FaultKind)
+        → Leads look equation i j → Holds look equation j (Faults f k) → Holds look equation i (Faults f k) }
 {}
 
 /// A try over values that hold finds the outcome of the instance, or an instance that it comes to
@@ -100,6 +111,17 @@ pub fn each_has_an_equation()
         → (n : Node) (u : Tree) (attribute : ℕ) (a : Attribute) → tree_at t n ≡ Some u → slice_get rules.attributes attribute ≡ Some a
         → is_sub rules.classes (class_of u) a.class ≡ true → a.is_inherited ≡ true
         → (s : Source) × (source_of rules t a.name n ≡ Some s) }
+{}
+
+/// An instance of nodes of a tree leads to such instances alone, refers to such a node where its
+/// value refers to one, and rests on locations of such nodes.
+pub fn within_the_tree()
+    ensures value { (rules : Rules) (t : Tree) (i : Instance Node) (v : Value Node) → IsInstanceThere t i
+        → HasValue (content t) (equations rules) i v → IsValueThere t v }
+    ensures demands { (rules : Rules) (t : Tree) (i j : Instance Node) → IsInstanceThere t i
+        → Leads (content t) (equations rules) i j → IsInstanceThere t j }
+    ensures support { (rules : Rules) (t : Tree) (i : Instance Node) (l : Location Node) → IsInstanceThere t i
+        → Supports (content t) (equations rules) l i → IsThere t (node_of l) }
 {}
 
 /// An expression is evaluated over numbered nodes as over the paths that they stand for.
