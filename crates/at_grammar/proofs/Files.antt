@@ -10,12 +10,12 @@ use Rattle.at_text.specs.Faults.{FaultsAt}
 use Rattle.at_text.specs.Place.{place_of}
 use Rattle.at_text.specs.Pieces.{Piece, Cut, Spelled, spelled_at}
 use Rattle.at_text.specs.Reading.{first, Reason, Refused, LeftOut, IsFirstFault, Stuck, run}
-use Rattle.at_text.specs.Symbols.{Symbol, PlacedToken, placed, placed_in, symbol, symbols, words_keep}
+use Rattle.at_text.specs.Symbols.{HasTokens, next_place, Symbol, PlacedToken, placed, placed_in, symbol, symbols, words_keep}
 use Rattle.at_text.proofs.ReadingLaws.{first_fault}
 use Rattle.at_grammar.specs.Grammar as grammar
 use Rattle.at_grammar.specs.Grammar.{IsFile, Declaration}
 use Rattle.at_grammar.specs.Meaning.{class_means}
-use Rattle.at_grammar.specs.Faults.{HasTokens, Spells, IsLeftOut, MeetsLeftOut, StopsAt, IsScanFaultAt, next_place}
+use Rattle.at_grammar.specs.Faults.{Spells, IsLeftOut, MeetsLeftOut, StopsAt, IsScanFaultAt}
 use Rattle.at_grammar.specs.Table as want
 use Rattle.at_grammar.specs.Table.{table}
 use Rattle.at_grammar.specs.Forms.{left, file}

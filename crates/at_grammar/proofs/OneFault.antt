@@ -6,14 +6,14 @@ use Rattle.at_text.specs.declared.scan.ScanFault.{ScanFault}
 use Rattle.at_text.specs.declared.scan.ScanFault.TheVariants as scan
 use Rattle.at_text.specs.Faults as scanning
 use Rattle.at_text.specs.Pieces.{spelled_at}
-use Rattle.at_text.specs.Symbols.{PlacedToken, placed_in, symbol, symbols, words_keep}
+use Rattle.at_text.specs.Symbols.{HasTokens, next_place, PlacedToken, placed_in, symbol, symbols, words_keep}
 use Rattle.at_text.proofs.ReadingLaws.{one_first_fault, cut_once}
 use Rattle.at_text.proofs.Scanned as scanned
 use Rattle.at_grammar.specs.declared.AstFault.{AstFault}
 use Rattle.at_grammar.specs.declared.AstFault.TheVariants.{Memory, Syntax, LeftOut}
 use Rattle.at_grammar.specs.Grammar as grammar
 use Rattle.at_grammar.specs.Grammar.{IsFile, Declaration}
-use Rattle.at_grammar.specs.Faults.{HasTokens, Spells, MeetsLeftOut, StopsAt, IsScanFaultAt, IsFault, next_place}
+use Rattle.at_grammar.specs.Faults.{Spells, MeetsLeftOut, StopsAt, IsScanFaultAt, IsFault}
 
 -- ---- a text has one row of tokens
 

@@ -25,7 +25,7 @@ Reads form v old rest = reading.Reads table form v old rest
 abbrev pub Stops : {V : Type 0} → Form Symbol Want V → Reason → List Symbol → List Symbol → Type 0
 Stops form r old rest = reading.Stops table form r old rest
 
--- what reading wants goes on so
+-- wanting these at old comes to wanting those at mid, whatever is wanted behind them
 abbrev pub Goes : List Want → List Symbol → List Want → List Symbol → Type 0
 Goes us old vs mid = (ws : List Want) → run table (us ++ ws) old ≡ run table (vs ++ ws) mid
 

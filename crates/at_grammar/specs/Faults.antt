@@ -4,21 +4,14 @@ use Rattle.std.specs.List.{flat_map}
 use lib.Chars.{codes}
 use Rattle.at_text.specs.declared.scan.ScanFault.{ScanFault}
 use Rattle.at_text.specs.declared.scan.ScanFault.TheVariants as scan
-use Rattle.at_text.specs.Pieces.{Piece, Cut, spelled_at}
 use Rattle.at_text.specs.Faults as scanning
 use Rattle.at_text.specs.Place.{place_of}
 use Rattle.at_text.specs.Reading.{first, IsFirstFault}
-use Rattle.at_text.specs.Symbols.{PlacedToken, placed_in, Symbol, sign, symbols, words_keep}
+use Rattle.at_text.specs.Symbols.{PlacedToken, HasTokens, next_place, Symbol, sign, symbols, words_keep}
 use Rattle.at_grammar.specs.declared.AstFault.{AstFault}
 use Rattle.at_grammar.specs.declared.AstFault.TheVariants.{Memory, Syntax, LeftOut}
 use Rattle.at_grammar.specs.Grammar as grammar
 use Rattle.at_grammar.specs.Grammar.{Word, IsName, IsTokenKind, Part, AreParts, Declaration, IsDeclaration, IsFile}
-
--- ---- the tokens of a text
-
--- the text is cut whole, and these are its tokens
-abbrev pub HasTokens : List ℕ → List PlacedToken → Type 0
-HasTokens text tokens = (ps : List Piece) × Cut text ps [] × (tokens ≡ map (placed_in text) (spelled_at 0 ps))
 
 -- the tokens spell the file
 abbrev pub Spells : List PlacedToken → List Declaration → Type 0
@@ -46,11 +39,6 @@ IsLeftOut front s = (ds : List Declaration) × (d : Declaration) × (more : List
     × (front ≡ grammar.file ds ++ (grammar.head d ++ sign (codes "::=") ∷ more)) × LeftOutOfParts more s
 
 -- ---- the faults
-
--- the place of the first token, or of the end of the text
-abbrev pub next_place : List ℕ → List PlacedToken → ℕ × ℕ
-next_place text [] = place_of text (length text)
-next_place text (t ∷ ts) = t.at
 
 -- The front begins a file. No file goes on with the token after it, or with the end of the text; its place is this.
 pub record StopsAt (text : List ℕ) (front rest : List PlacedToken) (at : ℕ × ℕ) : Type 0 where

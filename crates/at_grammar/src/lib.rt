@@ -1,13 +1,12 @@
 //! Abstract grammars (.ast, JastAdd2 reference manual), read from their text.
 #![tactic(auto)]
 
-ghost use Rattle.std.specs.Prelude.{◌≡◌, ◌-◌, ◌≤◌, [], List, length, drop, map, IfOk, IfErr, MatchResult, ◌⊎◌};
-ghost use Rattle.at_text.specs.Symbols.{PlacedToken};
+ghost use Rattle.std.specs.Prelude.{◌≡◌, List, map, IfOk, IfErr, MatchResult, ◌⊎◌};
+ghost use Rattle.at_text.specs.Symbols.{PlacedToken, HasTokens};
 ghost use Rattle.at_grammar.specs.Grammar.{Declaration};
 ghost use Rattle.at_grammar.specs.Meaning.{seen_class, class_means};
-ghost use Rattle.at_text.specs.Symbols.{placed};
 ghost use Rattle.at_text.specs.Faults.{FaultsAt, IsWithin};
-ghost use Rattle.at_grammar.specs.Faults.{HasTokens, Spells, IsFault, next_place};
+ghost use Rattle.at_grammar.specs.Faults.{Spells, IsFault};
 ghost use Rattle.at_grammar.specs.declared.AstFault.{AstFault};
 ghost use Rattle.at_grammar.specs.declared.AstFault.TheVariants.{Memory};
 
@@ -15,7 +14,7 @@ mod reader;
 mod syntax;
 
 use at_text::place::place;
-use at_text::placed::{Placed, place_all};
+use at_text::placed::{place_all, place_left};
 use at_text::scan::{ScanFault, lexemes};
 use reader::{ReadError, Reader};
 use std::alloc::{AllocError, Global};
@@ -58,17 +57,6 @@ fn scan_fault(text: &str, fault: ScanFault) -> AstFault
     }
 }
 
-/// The place of the token behind which so many are left, itself among them, or of the end of the text.
-fn next_place(text: &str, tokens: &[Placed<'_>], left: usize) -> (u32, u32)
-    requires { left ≤ length tokens.now }
-    ensures { result ≡ next_place text.now (map placed (drop (length tokens.now - left) tokens.now)) }
-{
-    match tokens.get(tokens.len() - left) {
-        Some(token) => token.at,
-        None => place(text, text.len()),
-    }
-}
-
 /// The grammar that the text spells.
 ///
 /// # Errors
@@ -99,11 +87,11 @@ pub fn parse_ast(alloc: Global, text: &str) -> Result<Grammar, AstFault>
         Ok(classes) => Ok(Grammar { classes }),
         Err(ReadError::Memory) => Err(AstFault::Memory),
         Err(ReadError::Syntax) => {
-            let at = next_place(text, &tokens, reader.count_left());
+            let at = place_left(text, &tokens, reader.count_left());
             Err(AstFault::Syntax { at })
         }
         Err(ReadError::LeftOut) => {
-            let at = next_place(text, &tokens, reader.count_left());
+            let at = place_left(text, &tokens, reader.count_left());
             Err(AstFault::LeftOut { at })
         }
     }

@@ -1,10 +1,10 @@
 //! The reader of tokens: a method for each form of the grammar.
 
-ghost use Rattle.std.specs.Prelude.{◌≡◌, ◌∷◌, ℕ, length, [], List, IfOk, OnOk, MatchOption, MatchBool, Some, map, true, false};
+ghost use Rattle.std.specs.Prelude.{◌≡◌, ◌∷◌, length, [], IfOk, OnOk, MatchOption, MatchBool, Some, map, true, false};
 ghost use Rattle.std.specs.String.{string_bytes};
 ghost use Rattle.at_text.specs.Reading.{first};
 ghost use Rattle.at_text.specs.Symbols.{sign, word, is_sign, is_word, is_name_next, symbol, placed, words_keep};
-ghost use Rattle.at_grammar.specs.Grammar.{is_token_kind, IsName, IsTokenKind};
+ghost use Rattle.at_grammar.specs.Grammar.{is_token_kind};
 ghost use Rattle.at_model.specs.Names.{is_name};
 ghost use Rattle.at_grammar.specs.Table.{is_kind_next};
 ghost use Rattle.at_grammar.specs.Meaning.{kind_or, bytes_of, text_of, seen_part, seen_class, child_means, token_means, part_means, body_means, class_means};

@@ -1,12 +1,12 @@
 -- Tokens as a grammar sees them.
-use Rattle.std.specs.Prelude.{ℕ, List, map, Bool, true, false, ◌&&◌, Option, Some, None}
+use Rattle.std.specs.Prelude.{◌≡◌, ℕ, List, [], ◌∷◌, length, map, Bool, true, false, ◌&&◌, Option, Some, None}
 use Rattle.std.specs.Str.{bytes_eq}
 use Rattle.at_model.specs.Names.{is_name}
 use Rattle.at_text.specs.declared.token.TokenKind.{TokenKind}
 use Rattle.at_text.specs.declared.token.TokenKind.TheVariants as kind
 use Rattle.at_text.specs.declared.placed.Placed.{Placed}
 use Rattle.at_text.specs.Place.{place_of}
-use Rattle.at_text.specs.Pieces.{Spelled}
+use Rattle.at_text.specs.Pieces.{Piece, Cut, Spelled, spelled_at}
 
 -- a token with its line and column
 pub record PlacedToken : Type 0 where
@@ -21,6 +21,17 @@ placed_in text t = record { kind = t.kind; text = t.text; at = place_of text t.s
 -- what the program hands out for a token with its place
 abbrev pub placed : Placed → PlacedToken
 placed t = record { kind = t.kind; text = t.text.now; at = t.at }
+
+-- the text is cut whole, and these are its tokens
+abbrev pub HasTokens : List ℕ → List PlacedToken → Type 0
+HasTokens text tokens = (ps : List Piece) × Cut text ps [] × (tokens ≡ map (placed_in text) (spelled_at 0 ps))
+
+-- the place of the first token, or of the end of the text
+abbrev pub next_place : List ℕ → List PlacedToken → ℕ × ℕ
+next_place text [] = place_of text (length text)
+next_place text (t ∷ ts) = t.at
+
+-- ---- symbols
 
 -- a token as a grammar sees it, with its place if the grammar's values keep it
 pub record Symbol : Type 0 where

@@ -1,8 +1,8 @@
 //! Tokens with their lines and columns.
-ghost use Rattle.std.specs.Prelude.{◌≡◌, ◌++◌, ℕ, List, map, All, IfOk, IsCharBoundary, chars};
+ghost use Rattle.std.specs.Prelude.{◌≡◌, ◌++◌, ◌-◌, ◌≤◌, ℕ, List, length, drop, map, All, IfOk, IsCharBoundary, chars};
 ghost use Rattle.at_text.specs.Place.{place_after, place_of};
 ghost use Rattle.at_text.specs.Pieces.{spelled};
-ghost use Rattle.at_text.specs.Symbols.{placed, placed_in};
+ghost use Rattle.at_text.specs.Symbols.{placed, placed_in, next_place};
 
 use crate::place::place;
 use crate::token::{Lexeme, TokenKind};
@@ -70,4 +70,38 @@ pub fn place_all<'a>(
         })?;
     }
     Ok(all)
+}
+
+/// The place of the first of the last `left` tokens, or of the end of the text where none is left.
+pub fn place_left(text: &str, tokens: &[Placed<'_>], left: usize) -> (u32, u32)
+    requires { left ≤ length tokens.now }
+    ensures { result ≡ next_place text.now (map placed (drop (length tokens.now - left) tokens.now)) }
+{
+    match tokens.get(tokens.len() - left) {
+        Some(token) => token.at,
+        None => place(text, text.len()),
+    }
+}
+
+#[cfg(test)]
+mod tests {
+    use super::{place_all, place_left};
+    use crate::scan::lexemes;
+    use std::test::Fail;
+
+    #[test]
+    fn tokens_have_places(rt: HostRuntime) -> Result<(), Fail> {
+        let text = "é a\n\n x // y\n";
+        let tokens = lexemes(rt.alloc(), text)?;
+        let placed = place_all(rt.alloc(), text, &tokens)?;
+        assert_eq!(rt; placed.len(), 3);
+        let wanted = [("é", (1, 1)), ("a", (1, 3)), ("x", (3, 2))];
+        for (token, (word, at)) in placed.iter().zip(wanted) {
+            assert_eq!(rt; token.text, word);
+            assert_eq!(rt; token.at, at, "{word}");
+        }
+        assert_eq!(rt; place_left(text, &placed, 1), (3, 2));
+        assert_eq!(rt; place_left(text, &placed, 0), (4, 1));
+        Ok(())
+    }
 }

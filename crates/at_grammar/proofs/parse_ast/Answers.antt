@@ -42,7 +42,7 @@ returns-in-Err-Syntax-clause-fault c =
     let placing = ap (map placed) same ∙ c.in_ok-tokens.ensures ∙ ap (λ x. map (placed_in c.args.text.now) (map spelled x)) c.deref.ensures.value in
     let l = c.in-Ok.ensures.tokens in
     let s = rw c.in-Err-Syntax.field-0-is at c.in-Err-Syntax.ensures.read in
-    let at = place_behind c.args.text.now _ _ _ _ _ (c.deref-in-Err-Syntax.ensures.value ∙ sym same) c.count_left.ensures c.next_place-at.ensures in
+    let at = place_behind c.args.text.now _ _ _ _ _ (c.deref-in-Err-Syntax.ensures.value ∙ sym same) c.count_left.ensures c.place_left-at.ensures in
     let m = met Refused _ _ s in
     let stops = stops_at c.args.text.now Refused _ _ _ (has_tokens c.args.text.now l.0 _ _ l.1 l.2 placing) m at in
     inr (map placed m.front, map placed m.back, stops, not_left_out _ _ s)
@@ -53,8 +53,8 @@ returns-in-Err-Syntax-clause-only c = λ ts f has spells. fault_only c.args.text
 pub returns-in-Err-Syntax-clause-refused : goal.returns-in-Err-Syntax-clause-refused
 returns-in-Err-Syntax-clause-refused c = λ e none h. fault_same c.args.text.now _ (returns-in-Err-Syntax-clause-fault c) e none h
 
-pub next_place-at-requires-in-Err-LeftOut : goal.next_place-at-requires-in-Err-LeftOut
-next_place-at-requires-in-Err-LeftOut c =
+pub place_left-at-requires-in-Err-LeftOut : goal.place_left-at-requires-in-Err-LeftOut
+place_left-at-requires-in-Err-LeftOut c =
     let same = c.new-reader.ensures ∙ c.deref-2.ensures.value in
     let s = rw c.in-Err-LeftOut.field-0-is at c.in-Err-LeftOut.ensures.read in
     let w = left_within LeftOut _ _ s in
@@ -66,7 +66,7 @@ returns-clause-fault c =
     let placing = ap (map placed) same ∙ c.in_ok-tokens.ensures ∙ ap (λ x. map (placed_in c.args.text.now) (map spelled x)) c.deref.ensures.value in
     let l = c.in-Ok.ensures.tokens in
     let s = rw c.in-Err-LeftOut.field-0-is at c.in-Err-LeftOut.ensures.read in
-    let at = place_behind c.args.text.now _ _ _ _ _ (c.deref-in-Err-LeftOut.ensures.value ∙ sym same) c.count_left-in-Err-LeftOut.ensures c.next_place-at-in-Err-LeftOut.ensures in
+    let at = place_behind c.args.text.now _ _ _ _ _ (c.deref-in-Err-LeftOut.ensures.value ∙ sym same) c.count_left-in-Err-LeftOut.ensures c.place_left-at-in-Err-LeftOut.ensures in
     let m = met LeftOut _ _ s in
     let stops = stops_at c.args.text.now LeftOut _ _ _ (has_tokens c.args.text.now l.0 _ _ l.1 l.2 placing) m at in
     (map placed m.front, map placed m.back, stops, left_out _ _ s)
