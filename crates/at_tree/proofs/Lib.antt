@@ -10,3 +10,4 @@ pub mod TermAlive
 pub mod TermRuns
 pub mod TermMachine
 pub mod TextLaws
+pub mod TreeLoops

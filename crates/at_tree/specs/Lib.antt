@@ -10,3 +10,4 @@ pub mod Seen
 pub mod PartialPath
 pub mod PathSeen
 pub mod Laws
+pub mod TreeView

@@ -9,3 +9,4 @@ pub mod term;
 #[cfg(test)]
 mod tests;
 pub mod token;
+pub mod tree;
