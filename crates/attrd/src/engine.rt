@@ -1,0 +1,208 @@
+//! The engine: one tree, its version, and a reply to each line.
+
+use crate::aspects::rules::Rules;
+use crate::evaluate::value_at;
+use crate::line::{Command, LineFault, read_line, session_of};
+use crate::node::{is_long, node_at, set_token, token_at};
+use crate::reply::{Form, Refusal, Reply, write_reply};
+use at_tree::path::Path;
+use at_tree::token::TokVal;
+use at_tree::tree::Tree;
+use at_tree::write::write_term;
+use std::alloc::{AllocError, Global};
+
+/// How many bytes each reply has at most that is no term.
+pub const REPLY_ROOM: usize = 48;
+
+/// Answers questions about one tree, which edits change.
+#[derive(Drop)]
+pub struct Engine {
+    alloc: Global,
+    rules: Rules,
+    tree: Tree,
+    version: u64,
+}
+
+/// An edit that is accepted: a token of a node gets a value.
+#[derive(Drop)]
+struct Edit {
+    path: Path,
+    part: usize,
+    value: TokVal,
+}
+
+/// What a line leads to: a reply, and with it an edit or none.
+#[derive(Drop)]
+struct Outcome {
+    form: Form,
+    edit: Option<Edit>,
+}
+
+impl Outcome {
+    fn reply(form: Form) -> Outcome {
+        Outcome { form, edit: None }
+    }
+
+    fn refused(refusal: Refusal) -> Outcome {
+        Outcome::reply(Form::Refused(refusal))
+    }
+}
+
+/// How a line was answered.
+#[derive(Clone, Copy, Debug, PartialEq, Eq)]
+pub enum Answered {
+    /// Not at all, since it is empty.
+    Empty,
+    /// As it says.
+    Line,
+    /// By want of memory.
+    Memory,
+}
+
+impl Engine {
+    /// An engine of version 0, for a tree of the rules' classes.
+    pub fn new(alloc: Global, rules: Rules, tree: Tree) -> Engine {
+        Engine {
+            alloc,
+            rules,
+            tree,
+            version: 0,
+        }
+    }
+
+    /// The tree as it is.
+    pub fn tree(&self) -> &Tree {
+        &self.tree
+    }
+
+    /// How many edits were accepted.
+    pub fn version(&self) -> u64 {
+        self.version
+    }
+
+    /// The allocator of whatever it takes.
+    pub fn allocator(&self) -> Global {
+        self.alloc
+    }
+
+    /// Appends the reply to a line, which is given without its newline; to an empty one nothing.
+    ///
+    /// # Errors
+    ///
+    /// Where room for 48 bytes is refused, and then nothing has changed. Every other want of memory
+    /// is a reply.
+    pub fn line(&mut self, line: &[u8], out: &mut Vec<u8>) -> Result<(), AllocError> {
+        self.answer(line, out)?;
+        Ok(())
+    }
+
+    /// `line`, which also tells how it was answered.
+    pub fn answer(&mut self, line: &[u8], out: &mut Vec<u8>) -> Result<Answered, AllocError> {
+        out.reserve(REPLY_ROOM)?;
+        if line.is_empty() {
+            return Ok(Answered::Empty);
+        }
+        let session = session_of(line);
+        if self.step(session, line, out) {
+            return Ok(Answered::Line);
+        }
+        let reply = Reply { session, form: Form::Memory };
+        write_reply(&reply, out)?;
+        Ok(Answered::Memory)
+    }
+
+    /// Takes the line's step and appends its reply, or changes nothing for want of memory.
+    fn step(&mut self, session: Option<u16>, line: &[u8], out: &mut Vec<u8>) -> bool {
+        let Ok(outcome) = self.outcome(line) else {
+            return false;
+        };
+        let reply = Reply { session, form: outcome.form };
+        if write_reply(&reply, out).is_err() {
+            return false;
+        }
+        if let Some(edit) = outcome.edit {
+            self.commit(edit);
+        }
+        true
+    }
+
+    fn outcome(&self, line: &[u8]) -> Result<Outcome, AllocError> {
+        match read_line(self.alloc, line) {
+            Ok(line) => self.command(line.command),
+            Err(LineFault::Syntax) => Ok(Outcome::refused(Refusal::Syntax)),
+            Err(LineFault::Memory) => Err(AllocError),
+        }
+    }
+
+    fn command(&self, command: Command) -> Result<Outcome, AllocError> {
+        match command {
+            Command::Ask { path, attribute } => Ok(Outcome::reply(self.ask(&path, attribute.as_str()))),
+            Command::Show { path } => Ok(Outcome::reply(self.show(&path)?)),
+            Command::Token { path, part, value } => Ok(self.token(path, part.as_str(), value)),
+            Command::Version => Ok(Outcome::reply(Form::Ok { version: self.version })),
+        }
+    }
+
+    fn ask(&self, path: &Path, attribute: &str) -> Form {
+        let Some(node) = node_at(self.rules.classes(), &self.tree, &path.steps) else {
+            return Form::Refused(Refusal::Path);
+        };
+        match self.rules.body(node.class, attribute) {
+            Some(body) => Form::Value(value_at(body, node)),
+            None => Form::Refused(Refusal::Attribute),
+        }
+    }
+
+    fn show(&self, path: &Path) -> Result<Form, AllocError> {
+        let classes = self.rules.classes();
+        match node_at(classes, &self.tree, &path.steps) {
+            Some(node) => {
+                let mut text = Vec::new(self.alloc);
+                write_term(classes, node, &mut text)?;
+                Ok(Form::Term(text))
+            }
+            None => Ok(Form::Refused(Refusal::Path)),
+        }
+    }
+
+    fn token(&self, path: Path, part: &str, value: TokVal) -> Outcome {
+        let classes = self.rules.classes();
+        let Some(node) = node_at(classes, &self.tree, &path.steps) else {
+            return Outcome::refused(Refusal::Path);
+        };
+        let Some((part, token)) = token_at(classes, node, part) else {
+            return Outcome::refused(Refusal::Component);
+        };
+        if !is_same_kind(token, &value) {
+            return Outcome::refused(Refusal::Fit);
+        }
+        if is_long(&value) || self.version == u64::MAX {
+            return Outcome::refused(Refusal::Limit);
+        }
+        Outcome {
+            form: Form::Ok { version: self.version + 1 },
+            edit: Some(Edit { path, part, value }),
+        }
+    }
+
+    /// Does an edit that is accepted.
+    fn commit(&mut self, edit: Edit) {
+        set_token(
+            self.rules.classes(),
+            &mut self.tree,
+            &edit.path.steps,
+            edit.part,
+            edit.value,
+        );
+        self.version += 1;
+    }
+}
+
+fn is_same_kind(old: &TokVal, new: &TokVal) -> bool {
+    match (old, new) {
+        (TokVal::Str(_), TokVal::Str(_))
+        | (TokVal::Int(_), TokVal::Int(_))
+        | (TokVal::Bool(_), TokVal::Bool(_)) => true,
+        _ => false,
+    }
+}
