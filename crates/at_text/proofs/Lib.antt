@@ -1,0 +1,4 @@
+pub mod Places
+pub mod Spelling
+pub mod Characters
+pub mod Reading
