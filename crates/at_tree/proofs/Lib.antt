@@ -1,0 +1,4 @@
+pub mod PathWritten
+pub mod Machine
+pub mod Pieces
+pub mod Finished
