@@ -4,3 +4,16 @@ pub mod Classes
 pub mod Trees
 pub mod Terms
 pub mod Paths
+pub mod Run
+pub mod Bodies
+pub mod Rules
+pub mod Meaning
+pub mod Support
+pub mod Alike
+pub mod Edits
+pub mod Touches
+pub mod Shaping
+pub mod Lines
+pub mod Replies
+pub mod Machine
+pub mod SampleTrees
