@@ -2,9 +2,9 @@
 use Rattle.std.proofs.Common.{◌≡◌, ◌↔◌, ℕ, List, [], ◌∷◌, Option, Some, inl, inr, refl, ap, sym, ◌∙◌}
 use Rattle.at_model.specs.Run.{Value, Ref, Instance, Contents}
 use Rattle.at_model.specs.Meaning.{Equations, Walks, Among, Distinct, Circular, Answer, Outcomes, Circle, Answers}
-use Rattle.at_model.specs.Alike.{OptionLike, neither, both, ListLike, end, more, ValueLike, int, truth, text, ref, InstanceLike, EquationsLike, Names, IsInjective, AnswerLike, outcome, circle}
+use Rattle.at_model.specs.Alike.{OptionLike, neither, both, ListLike, end, more, ValueLike, int, truth, text, ref, InstanceLike, EquationsLike, Names, IsInjective, AnswerLike, outcome, circle, AlikeBelow}
 use Rattle.at_model.proofs.Carrying.{carried}
-use Rattle.at_model.proofs.CarryingSupport.{AlikeBelow, alike_next, comes_there}
+use Rattle.at_model.proofs.CarryingSupport.{alike_next, comes_there}
 
 -- what is related is equal on one side where it is on the other
 abbrev pub Agrees : {A B : Type 0} → (A → B → Type 0) → Type 0

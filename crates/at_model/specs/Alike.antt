@@ -4,6 +4,7 @@ use Rattle.std.specs.Prelude.{◌≡◌, ℕ, ℤ, Bool, List, [], ◌∷◌, Op
 use Rattle.at_model.specs.Run.{Value, Int, Truth, Text, Ref, Instance, Location, Is, Tok, Slot, Up, Idx, Content, Contents, FaultKind, Run, Gives, Fails, Looks, Demands, Known, Tried, Valued, Faulted, Needs}
 use Rattle.at_model.specs.Bodies.{Scope}
 use Rattle.at_model.specs.Meaning.{Outcome, Finds, Faults, Answer, Outcomes, Circle, Equations}
+use Rattle.at_model.specs.Support.{Supports}
 
 -- two that are related, or none
 pub data OptionLike {A B : Type 0} (R : A → B → Type 0) : Option A → Option B → Type 0 where
@@ -83,6 +84,10 @@ EquationsLike {N} {M} R equation other = (i : Instance N) (j : Instance M) → I
 -- the two trees show the same at a location
 abbrev pub AlikeAt : {N M : Type 0} → (N → M → Type 0) → Contents N → Contents M → Location N → Type 0
 AlikeAt {N} {M} R look other l = (m : Location M) (s : LocationLike R l m) → ContentLike R s (look l) (other m)
+
+-- and they do at all that supports the instance
+abbrev pub AlikeBelow : {N M : Type 0} → (N → M → Type 0) → Contents N → Contents M → Equations N → Instance N → Type 0
+AlikeBelow {N} R look other equation i = (l : Location N) → Supports look equation l i → AlikeAt R look other l
 
 -- an outcome like o is there
 abbrev pub HasLike : {N M : Type 0} → (N → M → Type 0) → Outcome N → Option (Outcome M) → Type 0

@@ -29,6 +29,7 @@ ghost use Rattle.at_model.specs.Support.{IsInstanceThere, IsThere, IsValueThere,
 ghost use Rattle.at_model.specs.Touches.{node_of};
 ghost use Rattle.at_model.specs.Alike.{
   AlikeAt,
+  AlikeBelow,
   AnswerLike,
   EquationsLike,
   InstanceLike,
@@ -163,7 +164,7 @@ pub fn numbers_for_paths()
 pub fn carried_outcome()
     ensures { (carry : Node → Option Node) → IsInjective carry → (rules : Rules) (before after : Tree) (i j : Instance Node) (o : Outcome Node)
         → InstanceLike (Names carry) i j
-        → ((l : Location Node) → Supports (content before) (equations rules) l i → AlikeAt (Names carry) (content before) (content after) l)
+        → AlikeBelow (Names carry) (content before) (content after) (equations rules) i
         → Holds (content before) (equations rules) i o
         → (p : Outcome Node) × Holds (content after) (equations rules) j p × OutcomeLike (Names carry) o p }
 {}
@@ -172,12 +173,12 @@ pub fn carried_outcome()
 pub fn carried_demands()
     ensures kept { (carry : Node → Option Node) → IsInjective carry → (rules : Rules) (before after : Tree) (i j k : Instance Node)
         → InstanceLike (Names carry) i j
-        → ((l : Location Node) → Supports (content before) (equations rules) l i → AlikeAt (Names carry) (content before) (content after) l)
+        → AlikeBelow (Names carry) (content before) (content after) (equations rules) i
         → Leads (content before) (equations rules) i k
         → (m : Instance Node) × InstanceLike (Names carry) k m × Leads (content after) (equations rules) j m }
     ensures no_others { (carry : Node → Option Node) → IsInjective carry → (rules : Rules) (before after : Tree) (i j m : Instance Node) (o : Outcome Node)
         → InstanceLike (Names carry) i j
-        → ((l : Location Node) → Supports (content before) (equations rules) l i → AlikeAt (Names carry) (content before) (content after) l)
+        → AlikeBelow (Names carry) (content before) (content after) (equations rules) i
         → Holds (content before) (equations rules) i o
         → Leads (content after) (equations rules) j m
         → (k : Instance Node) × InstanceLike (Names carry) k m × Leads (content before) (equations rules) i k }
@@ -188,12 +189,12 @@ pub fn carried_demands()
 pub fn carried_support()
     ensures kept { (carry : Node → Option Node) → IsInjective carry → (rules : Rules) (before after : Tree) (i j : Instance Node) (l : Location Node)
         → InstanceLike (Names carry) i j
-        → ((l : Location Node) → Supports (content before) (equations rules) l i → AlikeAt (Names carry) (content before) (content after) l)
+        → AlikeBelow (Names carry) (content before) (content after) (equations rules) i
         → Supports (content before) (equations rules) l i
         → (m : Location Node) × LocationLike (Names carry) l m × Supports (content after) (equations rules) m j }
     ensures no_others { (carry : Node → Option Node) → IsInjective carry → (rules : Rules) (before after : Tree) (i j : Instance Node) (m : Location Node) (o : Outcome Node)
         → InstanceLike (Names carry) i j
-        → ((l : Location Node) → Supports (content before) (equations rules) l i → AlikeAt (Names carry) (content before) (content after) l)
+        → AlikeBelow (Names carry) (content before) (content after) (equations rules) i
         → Holds (content before) (equations rules) i o
         → Supports (content after) (equations rules) m j
         → (l : Location Node) × LocationLike (Names carry) l m × Supports (content before) (equations rules) l i }
