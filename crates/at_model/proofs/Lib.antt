@@ -22,5 +22,6 @@ pub mod Moving
 pub mod Ways
 pub mod Untouched
 pub mod Untouching
+pub mod Surviving
 pub mod Conforming
 pub mod Shaped
