@@ -187,7 +187,7 @@ same_command Version Version hc hd e = refl
 same_command c d hc hd e = absurd (apart_bytes (two (command_text c)) (two (command_text d)) refl (ap two e))
 
 -- lines
-body_text : Option ℕ → Command → List ℕ
+pub body_text : Option ℕ → Command → List ℕ
 body_text None c = command_text c
 body_text (Some version) c = codes "at" ++ 32 ∷ (decimal version ++ 32 ∷ command_text c)
 
@@ -210,7 +210,7 @@ words_filled Version = filled _ _
 join_filled : (x : List ℕ) (ws : List (List ℕ)) → IsFilled ws → join_with_byte 32 (x ∷ ws) ≡ x ++ (32 ∷ join_with_byte 32 ws)
 join_filled x ws (filled w rest) = refl
 
-line_flat : (session : ℕ) (o : Option ℕ) (c : Command) → join_with_byte 32 (decimal session ∷ (expected_words o ++ command_words c)) ≡ decimal session ++ 32 ∷ body_text o c
+pub line_flat : (session : ℕ) (o : Option ℕ) (c : Command) → join_with_byte 32 (decimal session ∷ (expected_words o ++ command_words c)) ≡ decimal session ++ 32 ∷ body_text o c
 unfolding body_text
 line_flat session None c = join_filled (decimal session) (command_words c) (words_filled c)
 line_flat session (Some version) c = ap (λ z. decimal session ++ 32 ∷ (codes "at" ++ 32 ∷ z)) (join_filled (decimal version) (command_words c) (words_filled c))

@@ -1,6 +1,6 @@
 //! Worked cases of edits, lines and replies: each is the contract of a function that does nothing.
 
-ghost use Rattle.std.specs.Prelude.{◌≡◌, ℕ, pos, true, false, List, [], ◌∷◌, map, Some, None, Ok, Err, codes};
+ghost use Rattle.std.specs.Prelude.{◌≡◌, ℕ, pos, true, false, List, [], ◌∷◌, map, replicate, Some, None, Ok, Err, codes};
 ghost use Rattle.at_model.specs.Trees as tree;
 ghost use Rattle.at_model.specs.Terms as term;
 ghost use Rattle.at_model.specs.Paths.{path_text, node_at, path_of};
@@ -23,6 +23,8 @@ ghost use Rattle.at_model.specs.Lines.{
   Insert,
   Token,
   Show,
+  Mark,
+  Unmark,
   Where,
   Version,
   last_version,
@@ -44,7 +46,7 @@ ghost use Rattle.at_model.specs.Replies.{
   reply_text,
 };
 ghost use Rattle.at_model.specs.Replies as code;
-ghost use Rattle.at_model.specs.Machine.{State, Verdict, Refuses, Leaves, Tells, Edits, Asks, after, verdict};
+ghost use Rattle.at_model.specs.Machine.{State, Verdict, Refuses, Leaves, Tells, Edits, Asks, ByEquations, Outputs, after, verdict};
 ghost use Rattle.at_model.specs.Samples.{
   calc,
   calc_classes,
@@ -95,6 +97,16 @@ pub fn a_mark_is_asked_where_it_is()
         ≡ Tells (At (statement_path 2)) }
     ensures other { verdict calc (record { tree = program (decl_y ∷ decl_x ∷ print_sum ∷ []); version = 1; marks = mark 1 "u" (statement 2) ∷ [] }) (record { session = 2; expected = None; command = Where (codes "u") })
         ≡ Refuses code.Mark }
+{}
+
+/// A mark is made, used, and forgotten; a session has at most a hundred, and one of each name.
+pub fn marks()
+    ensures made { after opened (verdict calc opened (says (Mark (codes "u") (From_root (statement_path 1))))) ≡ record opened { marks = mark 0 "u" (statement 1) ∷ [] } }
+    ensures used { verdict calc (record opened { marks = mark 0 "u" (statement 1) ∷ [] }) (says (Show (From_mark (codes "u") (plain_step "Expr" ∷ plain_step "Right" ∷ [])))) ≡ Tells (Written (num_term (pos 2))) }
+    ensures forgotten { after (record opened { marks = mark 0 "u" (statement 1) ∷ [] }) (verdict calc (record opened { marks = mark 0 "u" (statement 1) ∷ [] }) (says (Unmark (codes "u")))) ≡ opened }
+    ensures unknown { verdict calc opened (says (Unmark (codes "u"))) ≡ Refuses code.Mark }
+    ensures taken { verdict calc (record opened { marks = replicate 100 (mark 0 "u" []) }) (says (Mark (codes "u") (From_root []))) ≡ Refuses code.Taken }
+    ensures too_many { verdict calc (record opened { marks = replicate 100 (mark 0 "u" []) }) (says (Mark (codes "v") (From_root []))) ≡ Refuses code.Limit }
 {}
 
 /// What is dropped is gone with its marks, and what stood behind it moves to the front.
@@ -176,6 +188,13 @@ pub fn replies_as_text()
     ensures stale { reply_text (record { session = Some 1; form = Refused (code.Stale 1) }) ≡ codes "1 refused 2 stale 1\n" }
     ensures syntax { reply_text (record { session = None; form = Refused code.Syntax }) ≡ codes "? refused 1 syntax\n" }
     ensures memory { reply_text (record { session = Some 12; form = Memory }) ≡ codes "12 memory\n" }
+{}
+
+/// The bytes of lines, what is written for them, and the state that they leave.
+pub fn outputs_of_bytes()
+    ensures version { Outputs calc (ByEquations calc) opened (codes "\n0 version") (false ∷ []) (codes "0 ok 0\n") opened }
+    ensures refused { Outputs calc (ByEquations calc) opened (codes "x version") (false ∷ []) (codes "? refused 1 syntax\n") opened }
+    ensures memory { Outputs calc (ByEquations calc) opened (codes "7 version") (true ∷ []) (codes "7 memory\n") opened }
 {}
 
 /// Empty lines are none, and a last line needs no newline.

@@ -1,15 +1,17 @@
 //! Laws of the machine: each is the contract of a function that does nothing.
 
-ghost use Rattle.std.specs.Prelude.{◌≡◌, ◌≢◌, ℕ, ◌+◌, Bool, true, false, List, [], ◌∷◌, ◌++◌, Option, Some, Ok, All, filter};
+ghost use Rattle.std.specs.Prelude.{◌≡◌, ◌≢◌, ℕ, ◌+◌, Bool, true, false, List, [], ◌∷◌, ◌++◌, Option, Some, Ok, All, filter, is_none};
 ghost use Rattle.at_model.specs.Classes.{Classes};
 ghost use Rattle.at_model.specs.Trees.{Tree, conforms};
 ghost use Rattle.at_model.specs.Rules.{Rules};
 ghost use Rattle.at_model.specs.Edits.{Edit, carried, edited, is_within_limits};
 ghost use Rattle.at_model.specs.Touches.{touches};
-ghost use Rattle.at_model.specs.Paths.{Node};
-ghost use Rattle.at_model.specs.Run.{Location};
-ghost use Rattle.at_model.specs.Meaning.{content};
-ghost use Rattle.at_model.specs.Alike.{AlikeAt, IsInjective, Names};
+ghost use Rattle.at_model.specs.Paths.{Node, tree_at};
+ghost use Rattle.at_model.specs.Run.{Instance, Is, Location};
+ghost use Rattle.at_model.specs.Meaning.{Holds, Outcome, content, equations};
+ghost use Rattle.at_model.specs.Support.{Supports};
+ghost use Rattle.at_model.specs.Sparing.{IsUntouched};
+ghost use Rattle.at_model.specs.Alike.{AlikeAt, InstanceLike, IsInjective, LocationLike, Names, OutcomeLike};
 ghost use Rattle.at_model.specs.Terms.{Term, IsTerm, term_of, term_text};
 ghost use Rattle.at_model.specs.Shaping.{AreNamedApart, names_classes, shaped};
 ghost use Rattle.at_model.specs.Lines.{Line, IsLine, IsSessionOf, line_text, lines, is_filled};
@@ -90,6 +92,27 @@ pub fn what_is_not_touched_is_alike()
     ensures apart { (e : Edit) → IsInjective (carried e) }
     ensures alike { (classes : Classes) (t u : Tree) (e : Edit) → conforms classes t 0 ≡ true → edited classes t e ≡ Ok u
         → (l : Location Node) → touches e l ≡ false → AlikeAt (Names (carried e)) (content t) (content u) l }
+{}
+
+/// An edit that is accepted touches that a node is there exactly where the node goes nowhere.
+pub fn a_node_that_goes_nowhere_is_touched()
+    ensures { (classes : Classes) (t u : Tree) (e : Edit) → edited classes t e ≡ Ok u
+        → (n : Node) (v : Tree) → tree_at t n ≡ Some v → is_none (carried e n) ≡ touches e (Is n) }
+{}
+
+/// An instance that rests on nothing that the edit touches has, under the paths to which its nodes are
+/// carried, the outcome that its outcome is carried to, and rests on the locations that those on which
+/// it rested are carried to.
+pub fn what_is_not_touched_stays_right()
+    ensures outcome { (rules : Rules) (t u : Tree) (e : Edit) (i j : Instance Node) (o : Outcome Node) → conforms rules.classes t 0 ≡ true → edited rules.classes t e ≡ Ok u
+        → IsUntouched rules t e i → InstanceLike (Names (carried e)) i j → Holds (content t) (equations rules) i o
+        → (p : Outcome Node) × Holds (content u) (equations rules) j p × OutcomeLike (Names (carried e)) o p }
+    ensures support { (rules : Rules) (t u : Tree) (e : Edit) (i j : Instance Node) (l : Location Node) → conforms rules.classes t 0 ≡ true → edited rules.classes t e ≡ Ok u
+        → IsUntouched rules t e i → InstanceLike (Names (carried e)) i j → Supports (content t) (equations rules) l i
+        → (m : Location Node) × LocationLike (Names (carried e)) l m × Supports (content u) (equations rules) m j }
+    ensures no_others { (rules : Rules) (t u : Tree) (e : Edit) (i j : Instance Node) (m : Location Node) (o : Outcome Node) → conforms rules.classes t 0 ≡ true → edited rules.classes t e ≡ Ok u
+        → IsUntouched rules t e i → InstanceLike (Names (carried e)) i j → Holds (content t) (equations rules) i o → Supports (content u) (equations rules) m j
+        → (l : Location Node) × LocationLike (Names (carried e)) l m × Supports (content t) (equations rules) l i }
 {}
 
 /// No other command changes the tree or the version.
