@@ -3,13 +3,9 @@ use Rattle.std.proofs.Common.{◌≡◌, ℕ, zero, suc, List, [], ◌∷◌, Op
 use Rattle.at_model.specs.Run.{Value, Location, FaultKind, Run, Needs, Contents, tried, Instance}
 use Rattle.at_model.specs.Meaning.{Outcome, Finds, Faults, value_in, Equations, settled, outcome_at, Holds, HasValue, Reaches, Comes, Walks, Leads}
 use Rattle.at_model.specs.Support.{Sees, Supports}
-use Rattle.at_model.specs.Alike.{ValueLike, InstanceLike, LocationLike, RunLike, gives, fails, looks, demands, OutcomeLike, find, EquationsLike, AlikeAt}
+use Rattle.at_model.specs.Alike.{ValueLike, InstanceLike, LocationLike, RunLike, gives, fails, looks, demands, OutcomeLike, find, EquationsLike, AlikeAt, AlikeBelow}
 use Rattle.at_model.proofs.Outcomes.{Settles, once, lower, walked_lower}
 use Rattle.at_model.proofs.Carrying.{first_led, carried}
-
--- the trees are alike at all that supports the instance
-abbrev pub AlikeBelow : {N M : Type 0} → (N → M → Type 0) → Contents N → Contents M → Equations N → Instance N → Type 0
-AlikeBelow {N} R look also equation i = (l : Location N) → Supports look equation l i → AlikeAt R look also l
 
 pub alike_next : {N M : Type 0} {R : N → M → Type 0} (look : Contents N) (also : Contents M) (equation : Equations N) (i j : Instance N) → AlikeBelow R look also equation i → Comes look equation i j → AlikeBelow R look also equation j
 alike_next look also equation i j a c l (b, v, w) = a l (b, first_led look equation i j b c v, w)

@@ -17,6 +17,8 @@ pub mod QuotedTexts
 pub mod OneTerm
 pub mod OneLine
 pub mod OneOutput
+pub mod TriesAlike
+pub mod CarryingCircles
 pub mod Options
 pub mod Moving
 pub mod Ways
@@ -25,3 +27,5 @@ pub mod Untouching
 pub mod Surviving
 pub mod Conforming
 pub mod Shaped
+pub mod WithinTree
+pub mod Spreading

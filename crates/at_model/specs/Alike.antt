@@ -1,9 +1,10 @@
 -- Two trees whose nodes are related, and what is alike in them: a tree of numbered nodes and one of paths, or a tree before
 -- and after an edit.
 use Rattle.std.specs.Prelude.{◌≡◌, ℕ, ℤ, Bool, List, [], ◌∷◌, Option, Some, None}
-use Rattle.at_model.specs.Run.{Value, Int, Truth, Text, Ref, Instance, Location, Is, Tok, Slot, Up, Idx, Content, Contents, FaultKind, Run, Gives, Fails, Looks, Demands}
+use Rattle.at_model.specs.Run.{Value, Int, Truth, Text, Ref, Instance, Location, Is, Tok, Slot, Up, Idx, Content, Contents, FaultKind, Run, Gives, Fails, Looks, Demands, Known, Tried, Valued, Faulted, Needs}
 use Rattle.at_model.specs.Bodies.{Scope}
-use Rattle.at_model.specs.Meaning.{Outcome, Finds, Faults, Equations}
+use Rattle.at_model.specs.Meaning.{Outcome, Finds, Faults, Answer, Outcomes, Circle, Equations}
+use Rattle.at_model.specs.Support.{Supports}
 
 -- two that are related, or none
 pub data OptionLike {A B : Type 0} (R : A → B → Type 0) : Option A → Option B → Type 0 where
@@ -84,6 +85,25 @@ EquationsLike {N} {M} R equation other = (i : Instance N) (j : Instance M) → I
 abbrev pub AlikeAt : {N M : Type 0} → (N → M → Type 0) → Contents N → Contents M → Location N → Type 0
 AlikeAt {N} {M} R look other l = (m : Location M) (s : LocationLike R l m) → ContentLike R s (look l) (other m)
 
+-- and they do at all that supports the instance
+abbrev pub AlikeBelow : {N M : Type 0} → (N → M → Type 0) → Contents N → Contents M → Equations N → Instance N → Type 0
+AlikeBelow {N} R look other equation i = (l : Location N) → Supports look equation l i → AlikeAt R look other l
+
 -- an outcome like o is there
 abbrev pub HasLike : {N M : Type 0} → (N → M → Type 0) → Outcome N → Option (Outcome M) → Type 0
 HasLike {N} {M} R o p = (q : Outcome M) × (p ≡ Some q) × OutcomeLike R o q
+
+-- like answers: like outcomes, or circles at like instances
+pub data AnswerLike {N M : Type 0} (R : N → M → Type 0) : Answer N → Answer M → Type 0 where
+  outcome : {o : Outcome N} {p : Outcome M} → OutcomeLike R o p → AnswerLike R (Outcomes o) (Outcomes p)
+  circle : {i : Instance N} {j : Instance M} → InstanceLike R i j → AnswerLike R (Circle i) (Circle j)
+
+-- like ends of a try
+pub data TriedLike {N M A B : Type 0} (R : N → M → Type 0) (Q : A → B → Type 0) : Tried N A → Tried M B → Type 0 where
+  valued : {a : A} {b : B} → Q a b → TriedLike R Q (Valued a) (Valued b)
+  faulted : (f : FaultKind) → TriedLike R Q (Faulted f) (Faulted f)
+  needs : {i : Instance N} {j : Instance M} → InstanceLike R i j → TriedLike R Q (Needs i) (Needs j)
+
+-- of like instances the like value is known, or none
+abbrev pub KnownLike : {N M : Type 0} → (N → M → Type 0) → Known N → Known M → Type 0
+KnownLike {N} {M} R known other = (i : Instance N) (j : Instance M) → InstanceLike R i j → OptionLike (ValueLike R) (known i) (other j)

@@ -1,6 +1,7 @@
 pub mod Names
 pub mod Texts
 pub mod Classes
+pub mod Declarations
 pub mod Trees
 pub mod Terms
 pub mod Paths

@@ -56,7 +56,7 @@ abbrev pub own_in : Rules → ℕ → ℕ → Option Expr
 own_in rules attribute c = option_map (λ e. e.body) (find (λ e. nat_eq e.class c && nat_eq e.attribute attribute) rules.own)
 
 -- The equation of a class for an attribute of its own nodes: that of the first class upward that has one, so that a subclass
--- overrides (JastAdd2 reference manual, "Synthesized attributes").
+-- overrides (JastAdd2 reference manual, "Attributes").
 abbrev pub own_equation : Rules → (class attribute : ℕ) → Option Expr
 own_equation rules c attribute = first_answer (own_in rules attribute) (chain rules.classes c)
 
@@ -72,7 +72,7 @@ abbrev pub inherited_in : Rules → List ℕ → Option ℕ → ℕ → Option E
 inherited_in rules name part c = option_map (λ e. e.body) (find (λ e. nat_eq e.class c && part_eq e.part part && bytes_eq e.name name) rules.inherited)
 
 -- The equation of a class for an attribute of the nodes below a component: in the first class upward that has one, the
--- one for the component before the one for every component (JastAdd2 reference manual, "Inherited attributes", "Broadcasting").
+-- one for the component before the one for every component (JastAdd2 reference manual, "Attributes").
 abbrev pub inherited_equation : Rules → (class part : ℕ) → List ℕ → Option Expr
 inherited_equation rules c part name = first_answer (λ b. option_or (inherited_in rules name (Some part) b) (inherited_in rules name None b)) (chain rules.classes c)
 

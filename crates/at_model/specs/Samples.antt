@@ -1,4 +1,5 @@
--- The sample grammar, rules and tree of samples/ (calc.ast, calc.jrag, probe.jrag, tree.txt) as values.
+-- The sample grammars, rules and trees of samples/ (calc.ast, calc.jrag, probe.jrag and tree.txt; sum.ast, sum.jrag and sum.txt)
+-- as values.
 use Rattle.std.specs.Prelude.{ℕ, ℤ, pos, negsuc, Bool, true, false, List, [], ◌∷◌, Option, Some, None}
 use lib.Chars.{codes}
 use Rattle.at_model.specs.Classes.{Classes, Class, Component, Shape, One, Many, Maybe, Token}
@@ -7,7 +8,7 @@ use Rattle.at_model.specs.Trees.{Tree, Cell, no_cells, cell, to_cells, to_trees,
 use Rattle.at_model.specs.Trees as node
 use Rattle.at_model.specs.Paths.{Node, node_eq}
 use Rattle.at_model.specs.Run.{Value, Text, Instance, Location, Known, Tried, tried, reads}
-use Rattle.at_model.specs.Bodies.{Scope, eval, Over, Plus, Expr, IntLiteral, TruthLiteral, TextLiteral, NullLiteral, This, Name, IndexName, Arithmetic, JoinInt, Same, Differ, And, Choose, Equals, CastTo, Child, Has, TokenOf, Call, First, no_exprs, expr}
+use Rattle.at_model.specs.Bodies.{Scope, eval, Over, Plus, Times, Expr, IntLiteral, TruthLiteral, TextLiteral, NullLiteral, This, Name, IndexName, Arithmetic, JoinInt, Same, Differ, And, Choose, Equals, CastTo, Child, Has, TokenOf, Call, First, no_exprs, expr}
 use Rattle.at_model.specs.Rules.{Rules, Attribute, OwnEquation, InheritedEquation}
 use Rattle.at_model.specs.Rules as kind
 use Rattle.at_model.specs.Meaning.{Answer, Answers, Finds, Outcomes, value_in, outcome_at, content, equations}
@@ -237,3 +238,19 @@ layered = record calc {
       ∷ record { class = 3; part = Some 1; name = codes "a"; body = IntLiteral (pos 4) }
       ∷ [];
 }
+
+-- sum.ast and sum.jrag: the classes are 0 Sum and 1 Num, the attribute is 0 total
+abbrev pub sum_rules : Rules
+sum_rules = record {
+  classes =
+      class (codes "Sum") None (component (codes "Left") (One 1) ∷ component (codes "Right") (One 1) ∷ [])
+      ∷ class (codes "Num") None (component (codes "Value") (Token token.Int) ∷ [])
+      ∷ [];
+  attributes = synthesized (codes "total") 0 [] kind.Int false ∷ [];
+  own = own 0 0 (Arithmetic Plus (TokenOf (Child This 0) 0) (Arithmetic Times (TokenOf (Child This 1) 0) (IntLiteral (pos 2)))) ∷ [];
+  inherited = [];
+}
+
+-- sum.txt
+abbrev pub sum_tree : Tree
+sum_tree = branch 0 (node.One (branch 1 (Holds (node.Int (pos 3)) ∷ [])) ∷ node.One (branch 1 (Holds (node.Int (pos 4)) ∷ [])) ∷ [])

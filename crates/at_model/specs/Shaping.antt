@@ -1,11 +1,11 @@
 -- Which tree a term is: its names looked up, its cells laid against the components.
 use Rattle.std.specs.Prelude.{◌≡◌, ℕ, ◌<◌, length, Bool, true, false, ◌&&◌, if◌then◌else◌, List, [], ◌∷◌, Option, Some, None, option_map, option_and_then, position}
 use Rattle.std.specs.Str.{bytes_eq}
-use Rattle.at_model.specs.Classes.{Classes, Component, Shape, parts, fits, is_concrete}
+use Rattle.at_model.specs.Classes.{Classes, Component, Shape, parts, fits, is_concrete, name_of}
 use Rattle.at_model.specs.Classes as class
 use Rattle.at_model.specs.Trees.{Tree, is_of_kind}
 use Rattle.at_model.specs.Trees as tree
-use Rattle.at_model.specs.Terms.{Term, Cells, Cell, Terms, name_of, Node, no_cells, cell, One, Many, Empty, Holds, no_terms, term}
+use Rattle.at_model.specs.Terms.{Term, Cells, Cell, Terms, Node, no_cells, cell, One, Many, Empty, Holds, no_terms, term}
 
 -- the class of that name
 abbrev pub class_named : Classes → List ℕ → Option ℕ

@@ -1,8 +1,8 @@
 -- What an instance rests on: the locations that its evaluation and all that it leads to look at.
-use Rattle.std.specs.Prelude.{◌≡◌, ◌⊎◌, ℕ, List, [], ◌∷◌, ◌++◌, Option, Some, None}
-use Rattle.std.specs.List.{flat_map}
+use Rattle.std.specs.Prelude.{◌≡◌, ◌⊎◌, IsSome, IfSome, ℕ, List, [], ◌∷◌, ◌++◌, Option, Some, None}
+use Rattle.std.specs.List.{flat_map, AllByRecursion}
 use Rattle.at_model.specs.Trees.{Tree}
-use Rattle.at_model.specs.Paths.{Node}
+use Rattle.at_model.specs.Paths.{Node, tree_at}
 use Rattle.at_model.specs.Bodies.{ref_of}
 use Rattle.at_model.specs.Rules.{Rules, prefixes, source_at}
 use Rattle.at_model.specs.Run.{Value, Instance, Location, Is, Up, Contents, Run, Gives, Fails, Looks, Demands}
@@ -36,3 +36,16 @@ step_up p = Up (p.0 ++ p.1 ∷ []) ∷ Is p.0 ∷ []
 -- the way up from a node to where its inherited equation stands
 abbrev pub way_up : Rules → Tree → List ℕ → Node → List (Location Node)
 way_up rules t name n = flat_map step_up (up_to_first (source_at rules t name) (prefixes n))
+
+-- the path leads to a node of the tree
+abbrev pub IsThere : Tree → Node → Type 0
+IsThere t n = IsSome (tree_at t n)
+
+-- the value is no reference to a node elsewhere
+abbrev pub IsValueThere : Tree → Value Node → Type 0
+IsValueThere t v = IfSome (ref_of v) (IsThere t)
+
+-- the instance is one of a node of the tree, and so are the nodes among its arguments
+pub record IsInstanceThere (t : Tree) (i : Instance Node) : Type 0 where
+  pub node : IsThere t i.node
+  pub arguments : AllByRecursion (IsValueThere t) i.arguments

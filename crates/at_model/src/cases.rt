@@ -7,6 +7,7 @@ ghost use Rattle.at_model.specs.Run.{Idx, Instance, Int, Is, Null, Ref, Slot, Te
 ghost use Rattle.at_model.specs.Bodies.{IntLiteral};
 ghost use Rattle.at_model.specs.Rules.{Exposed, inherited_equation, source_of};
 ghost use Rattle.at_model.specs.Meaning.{
+  Answers,
   Circle,
   Circular,
   Comes,
@@ -35,6 +36,8 @@ ghost use Rattle.at_model.specs.Samples.{
   right_of,
   root,
   statement,
+  sum_rules,
+  sum_tree,
   tree_of_ones,
   tree_with_circle,
   tree_without_decl,
@@ -44,6 +47,12 @@ ghost use Rattle.at_model.specs.Samples.{
 pub fn sample_texts()
     ensures tree { tree_text calc_classes calc_tree ≡ codes "Program(Block([Decl(\"x\",Num(1)),Print(Add(Use(\"x\"),Num(2)))]))" }
     ensures path { option_map path_text (path_of calc_classes calc_tree (left_of 1)) ≡ Some (codes "/Block/Stmt:1/Expr/Left") }
+{}
+
+/// `total()` of the other sample: 3 + 4 * 2.
+pub fn total()
+    ensures tree { tree_text sum_rules.classes sum_tree ≡ codes "Sum(Num(3),Num(4))" }
+    ensures value { Answers (content sum_tree) (equations sum_rules) (of_node root 0) (Outcomes (Finds (Int (pos 11)))) }
 {}
 
 /// `value()` of the sum, `decl()` of the use in it, and a name that is not declared.

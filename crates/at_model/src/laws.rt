@@ -5,15 +5,18 @@ ghost use Rattle.at_model.specs.Classes.{Classes, is_sub};
 ghost use Rattle.at_model.specs.Trees.{Tree, class_of, conforms};
 ghost use Rattle.at_model.specs.Terms.{max_depth};
 ghost use Rattle.at_model.specs.Paths.{Node, node_eq, tree_at};
-ghost use Rattle.at_model.specs.Run.{Contents, Instance, Is, Known, Location, LooksTo, MatchTried, tried};
+ghost use Rattle.at_model.specs.Run.{Contents, FaultKind, Instance, Is, Known, Location, LooksTo, MatchTried, Value, reads, tried};
 ghost use Rattle.at_model.specs.Bodies.{Expr, Scope, eval};
 ghost use Rattle.at_model.specs.Rules.{AreComplete, Attribute, Rules, Source, attribute_name, evaluation, is_inherited, own_equation, source_of};
 ghost use Rattle.at_model.specs.Meaning.{
+  Answer,
+  Answers,
   Circular,
   Comes,
   Equations,
   Faults,
   Finds,
+  HasValue,
   Holds,
   Leads,
   Outcome,
@@ -22,17 +25,23 @@ ghost use Rattle.at_model.specs.Meaning.{
   content,
   equations,
 };
-ghost use Rattle.at_model.specs.Support.{Supports, argument_classes, way_up};
+ghost use Rattle.at_model.specs.Support.{IsInstanceThere, IsThere, IsValueThere, Supports, argument_classes, way_up};
+ghost use Rattle.at_model.specs.Touches.{node_of};
 ghost use Rattle.at_model.specs.Alike.{
   AlikeAt,
+  AlikeBelow,
+  AnswerLike,
   EquationsLike,
   InstanceLike,
   IsInjective,
+  KnownLike,
+  ListLike,
   LocationLike,
   Names,
   OutcomeLike,
   RunLike,
   ScopeLike,
+  TriedLike,
   ValueLike,
 };
 
@@ -52,6 +61,15 @@ pub fn outcome_or_circle()
 pub fn one_circle()
     ensures { (look : Contents Node) (equation : Equations Node) (q j k : Instance Node)
         → Circular look equation q j → Circular look equation q k → j ≡ k }
+{}
+
+/// What an instance with a value leads to has a value, and a fault of what an instance leads to is
+/// its outcome.
+pub fn outcomes_spread()
+    ensures values { (look : Contents Node) (equation : Equations Node) (i j : Instance Node) (v : Value Node)
+        → HasValue look equation i v → Leads look equation i j → (w : Value Node) × HasValue look equation j w }
+    ensures faults { (look : Contents Node) (equation : Equations Node) (i j k : Instance Node) (f : FaultKind)
+        → Leads look equation i j → Holds look equation j (Faults f k) → Holds look equation i (Faults f k) }
 {}
 
 /// A try over values that hold finds the outcome of the instance, or an instance that it comes to
@@ -96,6 +114,17 @@ pub fn each_has_an_equation()
         → (s : Source) × (source_of rules t a.name n ≡ Some s) }
 {}
 
+/// An instance of nodes of a tree leads to such instances alone, refers to such a node where its
+/// value refers to one, and rests on locations of such nodes.
+pub fn within_the_tree()
+    ensures value { (rules : Rules) (t : Tree) (i : Instance Node) (v : Value Node) → IsInstanceThere t i
+        → HasValue (content t) (equations rules) i v → IsValueThere t v }
+    ensures demands { (rules : Rules) (t : Tree) (i j : Instance Node) → IsInstanceThere t i
+        → Leads (content t) (equations rules) i j → IsInstanceThere t j }
+    ensures support { (rules : Rules) (t : Tree) (i : Instance Node) (l : Location Node) → IsInstanceThere t i
+        → Supports (content t) (equations rules) l i → IsThere t (node_of l) }
+{}
+
 /// An expression is evaluated over numbered nodes as over the paths that they stand for.
 pub fn expressions_alike()
     ensures { (path : ℕ → Option Node) → IsInjective path
@@ -110,12 +139,32 @@ pub fn equations_alike()
     ensures paths { (carry : Node → Option Node) → IsInjective carry → (rules : Rules) → EquationsLike (Names carry) (equations rules) (equations rules) }
 {}
 
+/// Over numbered nodes that stand for those of a tree, a try ends as over the paths and reads the
+/// same, and an answer is one over the paths.
+pub fn numbers_for_paths()
+    ensures tries { (path : ℕ → Option Node) → IsInjective path → (rules : Rules) (t : Tree) (numbers : Contents ℕ)
+        → ((l : Location ℕ) → AlikeAt (Names path) numbers (content t) l)
+        → (known : Known ℕ) (also : Known Node) → KnownLike (Names path) known also
+        → (i : Instance ℕ) (j : Instance Node) → InstanceLike (Names path) i j
+        → TriedLike (Names path) (ValueLike (Names path)) (tried numbers known (evaluation rules nat_eq i)) (tried (content t) also (equations rules j)) }
+    ensures reads { (path : ℕ → Option Node) → IsInjective path → (rules : Rules) (t : Tree) (numbers : Contents ℕ)
+        → ((l : Location ℕ) → AlikeAt (Names path) numbers (content t) l)
+        → (known : Known ℕ) (also : Known Node) → KnownLike (Names path) known also
+        → (i : Instance ℕ) (j : Instance Node) → InstanceLike (Names path) i j
+        → ListLike (LocationLike (Names path)) (reads numbers known (evaluation rules nat_eq i)) (reads (content t) also (equations rules j)) }
+    ensures answers { (path : ℕ → Option Node) → IsInjective path → (rules : Rules) (t : Tree) (numbers : Contents ℕ)
+        → ((l : Location ℕ) → AlikeAt (Names path) numbers (content t) l)
+        → (i : Instance ℕ) (j : Instance Node) (a : Answer ℕ) → InstanceLike (Names path) i j
+        → Answers numbers (evaluation rules nat_eq) i a
+        → (b : Answer Node) × AnswerLike (Names path) a b × Answers (content t) (equations rules) j b }
+{}
+
 /// Where two trees are alike at all that supports an instance, the instance that it is carried to
 /// has the outcome that its outcome is carried to.
 pub fn carried_outcome()
     ensures { (carry : Node → Option Node) → IsInjective carry → (rules : Rules) (before after : Tree) (i j : Instance Node) (o : Outcome Node)
         → InstanceLike (Names carry) i j
-        → ((l : Location Node) → Supports (content before) (equations rules) l i → AlikeAt (Names carry) (content before) (content after) l)
+        → AlikeBelow (Names carry) (content before) (content after) (equations rules) i
         → Holds (content before) (equations rules) i o
         → (p : Outcome Node) × Holds (content after) (equations rules) j p × OutcomeLike (Names carry) o p }
 {}
@@ -124,12 +173,12 @@ pub fn carried_outcome()
 pub fn carried_demands()
     ensures kept { (carry : Node → Option Node) → IsInjective carry → (rules : Rules) (before after : Tree) (i j k : Instance Node)
         → InstanceLike (Names carry) i j
-        → ((l : Location Node) → Supports (content before) (equations rules) l i → AlikeAt (Names carry) (content before) (content after) l)
+        → AlikeBelow (Names carry) (content before) (content after) (equations rules) i
         → Leads (content before) (equations rules) i k
         → (m : Instance Node) × InstanceLike (Names carry) k m × Leads (content after) (equations rules) j m }
     ensures no_others { (carry : Node → Option Node) → IsInjective carry → (rules : Rules) (before after : Tree) (i j m : Instance Node) (o : Outcome Node)
         → InstanceLike (Names carry) i j
-        → ((l : Location Node) → Supports (content before) (equations rules) l i → AlikeAt (Names carry) (content before) (content after) l)
+        → AlikeBelow (Names carry) (content before) (content after) (equations rules) i
         → Holds (content before) (equations rules) i o
         → Leads (content after) (equations rules) j m
         → (k : Instance Node) × InstanceLike (Names carry) k m × Leads (content before) (equations rules) i k }
@@ -140,12 +189,12 @@ pub fn carried_demands()
 pub fn carried_support()
     ensures kept { (carry : Node → Option Node) → IsInjective carry → (rules : Rules) (before after : Tree) (i j : Instance Node) (l : Location Node)
         → InstanceLike (Names carry) i j
-        → ((l : Location Node) → Supports (content before) (equations rules) l i → AlikeAt (Names carry) (content before) (content after) l)
+        → AlikeBelow (Names carry) (content before) (content after) (equations rules) i
         → Supports (content before) (equations rules) l i
         → (m : Location Node) × LocationLike (Names carry) l m × Supports (content after) (equations rules) m j }
     ensures no_others { (carry : Node → Option Node) → IsInjective carry → (rules : Rules) (before after : Tree) (i j : Instance Node) (m : Location Node) (o : Outcome Node)
         → InstanceLike (Names carry) i j
-        → ((l : Location Node) → Supports (content before) (equations rules) l i → AlikeAt (Names carry) (content before) (content after) l)
+        → AlikeBelow (Names carry) (content before) (content after) (equations rules) i
         → Holds (content before) (equations rules) i o
         → Supports (content after) (equations rules) m j
         → (l : Location Node) × LocationLike (Names carry) l m × Supports (content before) (equations rules) l i }

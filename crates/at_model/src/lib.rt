@@ -9,13 +9,14 @@ mod machine_laws;
 
 pub use cases::{
     circle, dropped_declaration, exposed_block, first_come, ints, names_and_values, nearest_above,
-    nearest_class, positions, same_nodes, sample_texts, second_demand, support, what_is_read,
+    nearest_class, positions, same_nodes, sample_texts, second_demand, support, total,
+    what_is_read,
 };
 pub use forms::{accessors, arithmetic, classes, folds, long_texts, order};
 pub use laws::{
     carried_demands, carried_outcome, carried_support, each_has_an_equation, equations_alike,
-    equations_found, expressions_alike, one_circle, one_outcome, outcome_or_circle, same_paths,
-    try_is_right,
+    equations_found, expressions_alike, numbers_for_paths, one_circle, one_outcome,
+    outcome_or_circle, outcomes_spread, same_paths, try_is_right, within_the_tree,
 };
 pub use machine_cases::{
     a_drop_moves_what_is_behind, a_line_as_text, a_mark_is_asked_where_it_is, a_stale_line,
