@@ -21,8 +21,8 @@ pub use laws::{
 pub use machine_cases::{
     a_drop_moves_what_is_behind, a_line_as_text, a_mark_is_asked_where_it_is, a_stale_line,
     an_insert_moves_what_is_behind, an_optional_is_emptied_and_filled, lines_of_bytes, marks,
-    outputs_of_bytes, paths_as_text, questions, refused_edits, replies_as_text,
-    the_deepest_tree, what_a_drop_touches,
+    outputs_of_bytes, paths_as_text, questions, refused_edits, replies_as_text, the_deepest_tree,
+    what_a_drop_touches,
 };
 pub use machine_laws::{
     a_node_that_goes_nowhere_is_touched, a_refused_line_changes_nothing,
