@@ -24,6 +24,7 @@ pub mod Moving
 pub mod Ways
 pub mod Untouched
 pub mod Untouching
+pub mod Carried
 pub mod Surviving
 pub mod Conforming
 pub mod Shaped

@@ -134,6 +134,14 @@ left_by t (Drop node) = elim (parent_of node) [ None ↦ t | Some p ↦ with_nod
 left_by t (Insert node part index new) = with_node (with_cell (with_one_more new index) part) t node
 left_by t (Token node part v) = with_node (with_cell (λ c. Holds v) part) t node
 
+-- the node of which the edit changes a cell: there is none where the root is replaced
+abbrev pub changed_at_node : Edit → Option Node
+changed_at_node (Set node new) = option_map (λ p. p.0) (parent_of node)
+changed_at_node (Put node part new) = Some node
+changed_at_node (Drop node) = option_map (λ p. p.0) (parent_of node)
+changed_at_node (Insert node part index new) = Some node
+changed_at_node (Token node part v) = Some node
+
 -- how many nodes a tree may have, and how many bytes a text among its tokens
 abbrev pub max_nodes : ℕ
 max_nodes = 65536

@@ -25,7 +25,7 @@ pub use machine_cases::{
     what_a_drop_touches,
 };
 pub use machine_laws::{
-    a_node_that_goes_nowhere_is_touched, a_refused_line_changes_nothing,
+    a_carried_node_is_there, a_node_that_goes_nowhere_is_touched, a_refused_line_changes_nothing,
     a_shaped_tree_is_written_as_its_term, a_written_tree_is_shaped_again,
     an_accepted_edit_conforms, an_accepted_edit_is_the_next_version, lines_of_one_part,
     lines_of_two_parts, one_line, one_more_line, one_output, one_reply, one_session, one_term,

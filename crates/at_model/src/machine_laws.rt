@@ -2,10 +2,10 @@
 
 ghost use Rattle.std.specs.Prelude.{◌≡◌, ◌≢◌, ℕ, ◌+◌, Bool, true, false, List, [], ◌∷◌, ◌++◌, Option, Some, Ok, All, filter, is_none};
 ghost use Rattle.at_model.specs.Classes.{Classes};
-ghost use Rattle.at_model.specs.Trees.{Tree, conforms};
+ghost use Rattle.at_model.specs.Trees.{Tree, class_of, conforms};
 ghost use Rattle.at_model.specs.Rules.{Rules};
-ghost use Rattle.at_model.specs.Edits.{Edit, carried, edited, is_within_limits};
-ghost use Rattle.at_model.specs.Touches.{touches};
+ghost use Rattle.at_model.specs.Edits.{Edit, carried, changed_at_node, edited, is_within_limits};
+ghost use Rattle.at_model.specs.Touches.{is_within, touches};
 ghost use Rattle.at_model.specs.Paths.{Node, tree_at};
 ghost use Rattle.at_model.specs.Run.{Instance, Is, Location};
 ghost use Rattle.at_model.specs.Meaning.{Holds, Outcome, content, equations};
@@ -92,6 +92,17 @@ pub fn what_is_not_touched_is_alike()
     ensures apart { (e : Edit) → IsInjective (carried e) }
     ensures alike { (classes : Classes) (t u : Tree) (e : Edit) → conforms classes t 0 ≡ true → edited classes t e ≡ Ok u
         → (l : Location Node) → touches e l ≡ false → AlikeAt (Names (carried e)) (content t) (content u) l }
+{}
+
+/// A node that is carried leads to a tree of the same class, and to the same tree where the edit
+/// changes no cell of it or of a node below it.
+pub fn a_carried_node_is_there()
+    ensures there { (classes : Classes) (t u : Tree) (e : Edit) → conforms classes t 0 ≡ true → edited classes t e ≡ Ok u
+        → (n m : Node) (v : Tree) → carried e n ≡ Some m → tree_at t n ≡ Some v
+        → (w : Tree) × (tree_at u m ≡ Some w) × (class_of w ≡ class_of v) }
+    ensures same { (classes : Classes) (t u : Tree) (e : Edit) → conforms classes t 0 ≡ true → edited classes t e ≡ Ok u
+        → (n m : Node) (v : Tree) → carried e n ≡ Some m → tree_at t n ≡ Some v
+        → ((p : Node) → changed_at_node e ≡ Some p → is_within n p ≡ false) → tree_at u m ≡ Some v }
 {}
 
 /// An edit that is accepted touches that a node is there exactly where the node goes nowhere.
