@@ -1,5 +1,5 @@
 -- A node that is carried is there again, and is the same tree where the edit is elsewhere.
-use Rattle.std.proofs.Common.{◌≡◌, ℕ, Bool, true, false, List, [], ◌∷◌, Option, Some, None, Result, Ok, Err, refl, sym, ap, ◌∙◌, subst, option_and_then, option_map, is_some}
+use Rattle.std.proofs.Common.{◌≡◌, true, false, Option, Some, None, Ok, refl, sym, ap, ◌∙◌, subst, option_and_then, option_map, is_some}
 use Rattle.at_model.specs.Classes.{Classes}
 use Rattle.at_model.specs.Trees.{Tree, Filled, Holds, class_of, conforms}
 use Rattle.at_model.specs.Paths.{Node, tree_at, parent_of}

@@ -26,6 +26,7 @@ pub mod Untouched
 pub mod Untouching
 pub mod Carried
 pub mod Surviving
+pub mod Sound
 pub mod Conforming
 pub mod Shaped
 pub mod WithinTree

@@ -1,9 +1,9 @@
 -- The machine without caches: what each line of each session is told, and in what state it leaves the machine.
-use Rattle.std.specs.Prelude.{◌≡◌, ℕ, ◌+◌, Bool, true, false, ◌&&◌, not, nat_eq, nat_le, if◌then◌else◌, List, [], ◌∷◌, ◌++◌, map, filter, count_by, Option, Some, None, option_map, option_and_then, unwrap_or, is_some, Ok, Err, find, filter_map}
-use Rattle.std.specs.List.{slice_get, flat_map, list_all}
+use Rattle.std.specs.Prelude.{◌≡◌, ℕ, ◌+◌, Bool, true, false, ◌&&◌, not, nat_eq, nat_le, if◌then◌else◌, List, [], ◌∷◌, ◌++◌, map, filter, count_by, Option, Some, None, option_map, option_and_then, unwrap_or, is_some, IsSome, Ok, Err, find, filter_map}
+use Rattle.std.specs.List.{AllByRecursion, slice_get, flat_map, list_all}
 use Rattle.std.specs.Str.{bytes_eq}
 use Rattle.at_model.specs.Classes.{Classes, Shape, is_sub}
-use Rattle.at_model.specs.Trees.{Tree, class_of}
+use Rattle.at_model.specs.Trees.{Tree, class_of, conforms}
 use Rattle.at_model.specs.Trees as tree
 use Rattle.at_model.specs.Terms.{Term, term_of}
 use Rattle.at_model.specs.Paths.{Path, Node, tree_at, node_at, path_of, part_named}
@@ -12,7 +12,7 @@ use Rattle.at_model.specs.Run as run
 use Rattle.at_model.specs.Rules.{Rules, Kind, attribute_named, attribute_name}
 use Rattle.at_model.specs.Rules as kind
 use Rattle.at_model.specs.Meaning.{Answer, Outcomes, Finds, Faults, Circle, Answers, content, equations}
-use Rattle.at_model.specs.Edits.{Edit, edited, shape_at, class_asked, list_class, optional_class, token_kind, carried}
+use Rattle.at_model.specs.Edits.{Edit, edited, is_within_limits, shape_at, class_asked, list_class, optional_class, token_kind, carried}
 use Rattle.at_model.specs.Edits as edit
 use Rattle.at_model.specs.Shaping.{names_classes, shaped}
 use Rattle.at_model.specs.Lines.{Line, Place, From_root, From_mark, Argument, Text, Ref, Null, Command, Ask, Set, Put, Drop, Insert, Token, Show, Mark, Unmark, Where, Version, last_version, Spells, lines, IsSessionOf}
@@ -270,3 +270,9 @@ pub record IsEdited (classes : Classes) (old new : State) : Type 0 where
   pub tree : edited classes old.tree by ≡ Ok new.tree
   pub version : new.version ≡ old.version + 1
   pub marks : new.marks ≡ carried_marks by old.marks
+
+-- the tree conforms to the start class and is within the limits, and each mark leads to a node of it
+pub record IsSound (classes : Classes) (s : State) : Type 0 where
+  pub tree_conforms : conforms classes s.tree 0 ≡ true
+  pub tree_within : is_within_limits s.tree ≡ true
+  pub marks_lead : AllByRecursion (λ m. IsSome (tree_at s.tree m.node)) s.marks

@@ -26,8 +26,9 @@ pub use machine_cases::{
 };
 pub use machine_laws::{
     a_carried_node_is_there, a_node_that_goes_nowhere_is_touched, a_refused_line_changes_nothing,
-    a_shaped_tree_is_written_as_its_term, a_written_tree_is_shaped_again,
-    an_accepted_edit_conforms, an_accepted_edit_is_the_next_version, lines_of_one_part,
-    lines_of_two_parts, one_line, one_more_line, one_output, one_reply, one_session, one_term,
-    only_edits_change_the_tree, what_is_not_touched_is_alike, what_is_not_touched_stays_right,
+    a_shaped_tree_is_written_as_its_term, a_sound_state_stays_sound,
+    a_written_tree_is_shaped_again, an_accepted_edit_conforms,
+    an_accepted_edit_is_the_next_version, lines_of_one_part, lines_of_two_parts, one_line,
+    one_more_line, one_output, one_reply, one_session, one_term, only_edits_change_the_tree,
+    what_is_not_touched_is_alike, what_is_not_touched_stays_right,
 };

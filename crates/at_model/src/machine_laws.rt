@@ -25,6 +25,7 @@ ghost use Rattle.at_model.specs.Machine.{
   Runs,
   Outputs,
   IsEdited,
+  IsSound,
   is_edit,
 };
 
@@ -71,6 +72,12 @@ pub fn one_output()
 pub fn a_refused_line_changes_nothing()
     ensures { (rules : Rules) (old : State) (bytes : List ℕ) (new : State) (reply : Reply) (refusal : Code)
         → Handles rules (ByEquations rules) old bytes new reply → reply.form ≡ Refused refusal → new ≡ old }
+{}
+
+/// Where the tree conforms, is within the limits and holds the nodes of all marks, it is so after each line.
+pub fn a_sound_state_stays_sound()
+    ensures { (rules : Rules) (b : Bool) (old : State) (line : List ℕ) (new : State) (reply : Reply)
+        → IsSound rules.classes old → Serves rules (ByEquations rules) b old line new reply → IsSound rules.classes new }
 {}
 
 /// An edit that is accepted leaves the tree that it makes, the next version, and the marks where their
