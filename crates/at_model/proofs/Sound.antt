@@ -32,6 +32,9 @@ its_value (Some a) h = (a, refl)
 step_leads : (t : Tree) (s : ℕ × ℕ) (ss : Node) (u v : Tree) → slice_get (children_at t s.0) s.1 ≡ Some u → tree_at u ss ≡ Some v → tree_at t (s ∷ ss) ≡ Some v
 step_leads t s ss u v child found = ap (option_and_then (λ x. tree_at x ss)) child ∙ found
 
+there_too : (t : Tree) (a b : Node) (v : Tree) → a ≡ b → tree_at t a ≡ Some v → (w : Tree) × (tree_at t b ≡ Some w)
+there_too t a b v e found = (v, ap (tree_at t) (sym e) ∙ found)
+
 -- a path leads to a node of the tree
 path_leads : (classes : Classes) (t : Tree) (path : Path) (n : Node) → node_at classes t path ≡ Some n → (u : Tree) × (tree_at t n ≡ Some u)
 path_leads classes t [] n e = let f : [] ≡ n = cc in subst (λ (x : Node). (u : Tree) × (tree_at t x ≡ Some u)) f (t, refl)
@@ -40,7 +43,7 @@ path_leads classes t (s ∷ ss) n e =
     let (u, child, g) = led (λ u. option_map (λ ways. way ∷ ways) (node_at classes u ss)) (slice_get (children_at t way.0) way.1) n f in
     let (ways, rest, h) = mapped (λ (ways : Node). way ∷ ways) (node_at classes u ss) n g in
     let (v, found) = path_leads classes u ss ways rest in
-    subst (λ (x : Node). (w : Tree) × (tree_at t x ≡ Some w)) h (v, step_leads t way ways u v child found)
+    there_too t (way ∷ ways) n v h (step_leads t way ways u v child found)
 
 then-assoc : {A B C : Type 0} (f : A → Option B) (g : B → Option C) (o : Option A) → option_and_then (λ a. option_and_then g (f a)) o ≡ option_and_then g (option_and_then f o)
 then-assoc f g None = refl
@@ -64,7 +67,7 @@ place_leads classes s session (From_mark name steps) n e =
     let (u, found, g) = led (λ u. option_map (λ ss. k ++ ss) (node_at classes u steps)) (tree_at s.tree k) n f in
     let (ss, rest, h) = mapped (λ (ss : Node). k ++ ss) (node_at classes u steps) n g in
     let (v, below) = path_leads classes u steps ss rest in
-    subst (λ (x : Node). (w : Tree) × (tree_at s.tree x ≡ Some w)) h (v, under_leads s.tree k ss u v found below)
+    there_too s.tree (k ++ ss) n v h (under_leads s.tree k ss u v found below)
 
 -- marks that lead still lead when one is added, some are forgotten, or all are carried
 leads-append : (t : Tree) (ms : List Marked) (m : Marked) → AllByRecursion (Leads t) ms → Leads t m → AllByRecursion (Leads t) (ms ++ m ∷ [])

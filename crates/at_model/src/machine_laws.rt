@@ -6,7 +6,7 @@ ghost use Rattle.at_model.specs.Trees.{Tree, class_of, conforms};
 ghost use Rattle.at_model.specs.Rules.{Rules};
 ghost use Rattle.at_model.specs.Edits.{Edit, carried, changed_at_node, edited, is_within_limits};
 ghost use Rattle.at_model.specs.Touches.{is_within, touches};
-ghost use Rattle.at_model.specs.Paths.{Node, tree_at};
+ghost use Rattle.at_model.specs.Paths.{ArePartsApart, Node, Path, node_at, path_of, tree_at};
 ghost use Rattle.at_model.specs.Run.{Instance, Is, Location};
 ghost use Rattle.at_model.specs.Meaning.{Holds, Outcome, content, equations};
 ghost use Rattle.at_model.specs.Support.{Supports};
@@ -28,6 +28,13 @@ ghost use Rattle.at_model.specs.Machine.{
   IsSound,
   is_edit,
 };
+
+/// Where each component is the first one of its name in its class, each node of a tree that conforms has
+/// a path, which leads back to it.
+pub fn the_path_of_a_node_leads_back()
+    ensures { (classes : Classes) → ArePartsApart classes → (t : Tree) (b : ℕ) (n : Node) (u : Tree) → conforms classes t b ≡ true → tree_at t n ≡ Some u
+        → (p : Path) × (path_of classes t n ≡ Some p) × (node_at classes t p ≡ Some n) }
+{}
 
 /// A text is that of at most one term, and no text of a term begins another one.
 pub fn one_term()
