@@ -6,6 +6,7 @@ use Rattle.at_model.specs.Trees.{Tree, is_of_kind}
 use Rattle.at_model.specs.Trees as tree
 use Rattle.at_model.specs.Terms.{Term, Cells, Cell, Terms, Node, no_cells, cell, One, Many, Empty, Holds, no_terms, term}
 
+-- the name is that of a class which is not abstract
 abbrev pub names_concrete_class : Classes → List ℕ → Bool
 names_concrete_class classes name = elim (class_of_name classes name) [ None ↦ false | Some c ↦ is_concrete classes c ]
 
