@@ -33,7 +33,8 @@ along look also equation n g i i' o t (demands {i = j} {j = j'} {k = k} {h = h} 
     demanded look also (outcome_at look equation n) g i j i' j' k h o (outcome_at look equation n j) refl (λ q x. d j j' q (inl refl) e x)
     (λ v w x y z. along look also equation n g i i' o t (step v w y) (λ l u. a l (v, (n, x), u)) (λ b b' q u s f. d b b' q (inr (v, (n, x), u)) s f) z) c
 
-first_led : {N : Type 0} (look : Contents N) (equation : Equations N) (i j k : Instance N) → Comes look equation i j → Leads look equation j k → Leads look equation i k
+-- what the next instance leads to
+pub first_led : {N : Type 0} (look : Contents N) (equation : Equations N) (i j k : Instance N) → Comes look equation i j → Leads look equation j k → Leads look equation i k
 first_led {N} look equation i j k c (inl e) = let w : Walks look equation i [] k = subst (λ z. Comes look equation i z) e c in inr ([], w)
 first_led {N} look equation i j k c (inr (is, w)) = inr (j ∷ is, (c, w))
 

@@ -1,32 +1,31 @@
 -- What becomes of an edit: it is refused, or the state after it is the next version's. Other commands keep tree and version.
-use Rattle.std.proofs.Common.{◌≡◌, ℕ, ◌+◌, Bool, true, false, cond, not, nat_eq, nat_le, if◌then◌else◌, List, [], ◌∷◌, ◌++◌, map, Option, Some, None, Result, Ok, Err, ◌⊎◌, inl, inr, refl, sym, ap, ◌∙◌, subst, option_and_then, option_map, is_some}
+use Rattle.std.proofs.Common.{◌≡◌, ℕ, ◌+◌, Bool, true, false, not, nat_eq, nat_le, if◌then◌else◌, List, map, Option, Some, None, Result, Ok, Err, refl, sym, subst, option_and_then}
 use Rattle.std.specs.List.{list_all, count_by}
 use Rattle.at_model.specs.Classes.{Classes, Shape}
 use Rattle.at_model.specs.Trees.{Tree, class_of}
-use Rattle.at_model.specs.Terms.{Term, term_of}
+use Rattle.at_model.specs.Terms.{Term}
 use Rattle.at_model.specs.Paths.{Node, tree_at, part_named}
 use Rattle.at_model.specs.Run.{Instance, Value}
 use Rattle.at_model.specs.Rules.{Rules, attribute_named}
-use Rattle.at_model.specs.Meaning.{Answer}
 use Rattle.at_model.specs.Edits.{Edit, edited, Refusal, class_asked, shape_at, list_class, optional_class, token_kind}
 use Rattle.at_model.specs.Edits as edit
 use Rattle.at_model.specs.Shaping.{shaped, names_classes}
-use Rattle.at_model.specs.Lines.{Line, Place, Argument, Command, Ask, Set, Put, Drop, Insert, Token, Show, Mark, Unmark, Where, Version, last_version}
+use Rattle.at_model.specs.Lines.{Line, Place, Command, Ask, Set, Put, Drop, Insert, Token, Show, Mark, Unmark, Where, Version, last_version}
 use Rattle.at_model.specs.Replies.{Reply, Form, Done, Refused, Code, Written, At}
 use Rattle.at_model.specs.Replies as code
-use Rattle.at_model.specs.Machine.{State, Marked, Verdict, Refuses, Tells, Leaves, Asks, Answering, Follows, Step, verdict, obeyed, changed, at_node, with_component, with_tree, carried_marks, code_of, IsEdited, is_edit, is_stale, is_marked, marks_used, node_named, questioned, with_mark, max_marks, each, value_named, fit_parameters, parameters_of, marked, path_to}
+use Rattle.at_model.specs.Machine.{State, Marked, Verdict, Refuses, Tells, Leaves, Edits, Asks, Answering, Says, after, Step, verdict, obeyed, changed, at_node, with_component, with_tree, code_of, IsEdited, is_edit, is_stale, is_marked, marks_used, node_named, questioned, with_mark, max_marks, each, value_named, fit_parameters, parameters_of, marked}
 
--- the verdict is a refusal, or leaves the state after an edit
+-- the verdict is a refusal, or an edit that is accepted
 pub data IsChange (classes : Classes) (old : State) : Verdict → Type 0 where
   refused : (c : Code) → IsChange classes old (Refuses c)
-  accepted : (new : State) → IsEdited classes old new → IsChange classes old (Leaves new)
+  accepted : (e : Edit) (t : Tree) → edited classes old.tree e ≡ Ok t → IsChange classes old (Edits e t)
 
 -- the verdict keeps the tree and the version
-pub data Keeps (old : State) : Verdict → Type 0 where
-  refused : (c : Code) → Keeps old (Refuses c)
-  told : (shown : code.Shown) → Keeps old (Tells shown)
-  asked : (q : Instance Node) → Keeps old (Asks q)
-  left : (new : State) → new.tree ≡ old.tree → new.version ≡ old.version → Keeps old (Leaves new)
+pub data Keeps : Verdict → Type 0 where
+  refused : (c : Code) → Keeps (Refuses c)
+  told : (shown : code.Shown) → Keeps (Tells shown)
+  asked : (q : Instance Node) → Keeps (Asks q)
+  left : (marks : List Marked) → Keeps (Leaves marks)
 
 if_both : (P : Verdict → Type 0) (b : Bool) (v w : Verdict) → P v → P w → P (if b then v else w)
 if_both P true v w h k = h
@@ -35,10 +34,10 @@ if_both P false v w h k = k
 accepted_change : (classes : Classes) (s : State) (e : Edit) (r : Result Tree Refusal) → edited classes s.tree e ≡ r →
     IsChange classes s (elim r [
       | Err refusal ↦ Refuses (code_of refusal)
-      | Ok t ↦ if nat_eq s.version last_version then Refuses code.Limit else Leaves (record { tree = t; version = s.version + 1; marks = carried_marks e s.marks })
+      | Ok t ↦ if nat_eq s.version last_version then Refuses code.Limit else Edits e t
     ])
 accepted_change classes s e (Err refusal) is = refused (code_of refusal)
-accepted_change classes s e (Ok t) is = if_both (IsChange classes s) (nat_eq s.version last_version) _ _ (refused code.Limit) (accepted _ (record { by = e; tree = is; version = refl; marks = refl }))
+accepted_change classes s e (Ok t) is = if_both (IsChange classes s) (nat_eq s.version last_version) _ _ (refused code.Limit) (accepted e t is)
 
 changed_changes : (classes : Classes) (s : State) (e : Edit) → IsChange classes s (changed classes s e)
 changed_changes classes s e = accepted_change classes s e (edited classes s.tree e) refl
@@ -74,47 +73,48 @@ edit_changes rules s session (Unmark name) e = absurd cc
 edit_changes rules s session (Where name) e = absurd cc
 edit_changes rules s session Version e = absurd cc
 
-question_keeps : (rules : Rules) (s : State) (n : Node) (name : List ℕ) (vs : List (Value Node)) → Keeps s (questioned rules s.tree n name vs)
-question_keeps rules s n name vs = at_option (Keeps s) refused (option_and_then (λ u. attribute_named rules (class_of u) name) (tree_at s.tree n)) code.Attribute _ (λ a. if_both (Keeps s) (fit_parameters rules.classes s.tree (parameters_of rules a) vs) _ _ (asked _) (refused code.Arguments))
+question_keeps : (rules : Rules) (s : State) (n : Node) (name : List ℕ) (vs : List (Value Node)) → Keeps (questioned rules s.tree n name vs)
+question_keeps rules s n name vs = at_option Keeps refused (option_and_then (λ u. attribute_named rules (class_of u) name) (tree_at s.tree n)) code.Attribute _ (λ a. if_both Keeps (fit_parameters rules.classes s.tree (parameters_of rules a) vs) _ _ (asked _) (refused code.Arguments))
 
-mark_keeps : (s : State) (session : ℕ) (name : List ℕ) (n : Node) → Keeps s (with_mark s session name n)
-mark_keeps s session name n = if_both (Keeps s) (is_marked s.marks session name) _ _ (refused code.Taken) (if_both (Keeps s) (nat_le max_marks (count_by (λ m. nat_eq session m.session) s.marks)) _ _ (refused code.Limit) (left _ refl refl))
+mark_keeps : (s : State) (session : ℕ) (name : List ℕ) (n : Node) → Keeps (with_mark s session name n)
+mark_keeps s session name n = if_both Keeps (is_marked s.marks session name) _ _ (refused code.Taken) (if_both Keeps (nat_le max_marks (count_by (λ m. nat_eq session m.session) s.marks)) _ _ (refused code.Limit) (left _))
 
-other_keeps : (rules : Rules) (s : State) (session : ℕ) (c : Command) → is_edit c ≡ false → Keeps s (obeyed rules s session c)
-other_keeps rules s session (Ask place attribute arguments) e = node_all (Keeps s) refused rules.classes s session place _ (λ n. at_option (Keeps s) refused (each (map (value_named rules.classes s session) arguments)) code.Path _ (λ vs. question_keeps rules s n attribute vs))
+other_keeps : (rules : Rules) (s : State) (session : ℕ) (c : Command) → is_edit c ≡ false → Keeps (obeyed rules s session c)
+other_keeps rules s session (Ask place attribute arguments) e = node_all Keeps refused rules.classes s session place _ (λ n. at_option Keeps refused (each (map (value_named rules.classes s session) arguments)) code.Path _ (λ vs. question_keeps rules s n attribute vs))
 other_keeps rules s session (Set place t) e = absurd cc
 other_keeps rules s session (Put place part t) e = absurd cc
 other_keeps rules s session (Drop place) e = absurd cc
 other_keeps rules s session (Insert place part index t) e = absurd cc
 other_keeps rules s session (Token place part v) e = absurd cc
-other_keeps rules s session (Show place) e = node_all (Keeps s) refused rules.classes s session place _ (λ n. at_option (Keeps s) refused (tree_at s.tree n) code.Path _ (λ u. told _))
-other_keeps rules s session (Mark name place) e = node_all (Keeps s) refused rules.classes s session place _ (mark_keeps s session name)
-other_keeps rules s session (Unmark name) e = left _ refl refl
-other_keeps rules s session (Where name) e = at_option (Keeps s) refused (marked s.marks session name) code.Mark _ (λ n. told _)
-other_keeps rules s session Version e = left _ refl refl
+other_keeps rules s session (Show place) e = node_all Keeps refused rules.classes s session place _ (λ n. at_option Keeps refused (tree_at s.tree n) code.Path _ (λ u. told _))
+other_keeps rules s session (Mark name place) e = node_all Keeps refused rules.classes s session place _ (mark_keeps s session name)
+other_keeps rules s session (Unmark name) e = left _
+other_keeps rules s session (Where name) e = at_option Keeps refused (marked s.marks session name) code.Mark _ (λ n. told _)
+other_keeps rules s session Version e = left _
 
 -- so it is with the whole verdict
 whole : (P : Verdict → Type 0) → ((c : Code) → P (Refuses c)) → (rules : Rules) (s : State) (l : Line) → P (obeyed rules s l.session l.command) → P (verdict rules s l)
 whole P if_refused rules s l h = if_both P (is_stale l.expected s.version) _ _ (if_refused (code.Stale s.version)) (if_both P (not (list_all (is_marked s.marks l.session) (marks_used l.command))) _ _ (if_refused code.Mark) h)
 
-accepted_follows : (rules : Rules) (Answered : Answering) (old : State) (v : Verdict) → IsChange rules.classes old v → (new : State) (form : Form) (version : ℕ) →
-    Follows rules Answered old v new form → form ≡ Done version → IsEdited rules.classes old new × (version ≡ new.version)
-accepted_follows rules Answered old v (refused c) new form version (same, saying) e = absurd cc
-accepted_follows rules Answered old v (accepted state h) new form version (same, saying) e =
-    let both : Done version ≡ Done state.version = cc in let versions : version ≡ state.version = cc in
-    let P : State → Type 0 = λ x. IsEdited rules.classes old x × (version ≡ x.version) in subst P (sym same) (h, versions)
+edited_after : (rules : Rules) (Answered : Answering) (old : State) (v : Verdict) → IsChange rules.classes old v → (form : Form) (version : ℕ) →
+    Says rules Answered old v form → form ≡ Done version → IsEdited rules.classes old (after old v) × (version ≡ (after old v).version)
+edited_after rules Answered old v (refused c) form version says e = absurd cc
+edited_after rules Answered old v (accepted by t is) form version says e = let both : Done version ≡ Done (old.version + 1) = cc in (record { by = by; tree = is; version = refl; marks = refl }, cc)
 
 pub accepted_edit : (rules : Rules) (Answered : Answering) (old : State) (l : Line) (new : State) (reply : Reply) (version : ℕ) → is_edit l.command ≡ true →
     Step rules Answered old l new reply → reply.form ≡ Done version → IsEdited rules.classes old new × (version ≡ new.version)
-accepted_edit rules Answered old l new reply version is h e = accepted_follows rules Answered old (verdict rules old l) (whole (IsChange rules.classes old) refused rules old l (edit_changes rules old l.session l.command is)) new reply.form version h.follows e
+accepted_edit rules Answered old l new reply version is h e =
+    let P : State → Type 0 = λ x. IsEdited rules.classes old x × (version ≡ x.version) in
+    subst P (sym h.state) (edited_after rules Answered old (verdict rules old l) (whole (IsChange rules.classes old) refused rules old l (edit_changes rules old l.session l.command is)) reply.form version h.says e)
 
-kept_follows : (rules : Rules) (Answered : Answering) (old : State) (v : Verdict) → Keeps old v → (new : State) (form : Form) →
-    Follows rules Answered old v new form → (new.tree ≡ old.tree) × (new.version ≡ old.version)
-kept_follows rules Answered old v (refused c) new form h = (ap (λ s. s.tree) h.0, ap (λ s. s.version) h.0)
-kept_follows rules Answered old v (told shown) new form h = (ap (λ s. s.tree) h.0, ap (λ s. s.version) h.0)
-kept_follows rules Answered old v (asked q) new form h = (ap (λ s. s.tree) h.0, ap (λ s. s.version) h.0)
-kept_follows rules Answered old v (left state tree version) new form h = (ap (λ s. s.tree) h.0 ∙ tree, ap (λ s. s.version) h.0 ∙ version)
+kept_after : (old : State) (v : Verdict) → Keeps v → ((after old v).tree ≡ old.tree) × ((after old v).version ≡ old.version)
+kept_after old v (refused c) = (refl, refl)
+kept_after old v (told shown) = (refl, refl)
+kept_after old v (asked q) = (refl, refl)
+kept_after old v (left marks) = (refl, refl)
 
 pub other_step : (rules : Rules) (Answered : Answering) (old : State) (l : Line) (new : State) (reply : Reply) → is_edit l.command ≡ false →
     Step rules Answered old l new reply → (new.tree ≡ old.tree) × (new.version ≡ old.version)
-other_step rules Answered old l new reply is h = kept_follows rules Answered old (verdict rules old l) (whole (Keeps old) refused rules old l (other_keeps rules old l.session l.command is)) new reply.form h.follows
+other_step rules Answered old l new reply is h =
+    let P : State → Type 0 = λ x. (x.tree ≡ old.tree) × (x.version ≡ old.version) in
+    subst P (sym h.state) (kept_after old (verdict rules old l) (whole Keeps refused rules old l (other_keeps rules old l.session l.command is)))

@@ -1,7 +1,6 @@
 -- Runs of lines: one line more at the end, and one text and one state for all.
-use Rattle.std.proofs.Common.{◌≡◌, ℕ, Bool, true, false, List, [], ◌∷◌, ◌++◌, Option, Some, None, refl, sym, ap, ◌∙◌, subst, append_assoc}
+use Rattle.std.proofs.Common.{◌≡◌, ℕ, Bool, List, [], ◌∷◌, ◌++◌, refl, sym, ap, ◌∙◌, subst, append_assoc}
 use Rattle.at_model.specs.Rules.{Rules}
-use Rattle.at_model.specs.Lines.{Line}
 use Rattle.at_model.specs.Replies.{Reply, reply_text}
 use Rattle.at_model.specs.Machine.{State, Answering, Serves, Runs}
 

@@ -24,6 +24,7 @@ pub data Order : Type 0 where
   Above : Order
   AtLeast : Order
 
+-- the forms of expression; a component, an attribute and a class are positions
 mutual
   pub data Expr : Type 0 where
     IntLiteral : ℤ → Expr
@@ -64,6 +65,7 @@ mutual
     First : Expr → (part : ℕ) → Expr → Expr
     Sum : Expr → (part : ℕ) → Expr → Expr
 
+  -- the arguments of a call
   pub data Exprs : Type 0 where
     no_exprs : Exprs
     expr : Expr → Exprs → Exprs
@@ -78,29 +80,33 @@ pub record Scope (N : Type 0) : Type 0 where
 abbrev pub bound : {N : Type 0} → Scope N → N → Scope N
 bound scope n = record scope { names = Ref (Some n) ∷ scope.names }
 
--- a value of the kind that the rules ask for, and something where it is of another kind
+-- the int of a value: rules ask for the kind, and a value of another kind counts as zero, false, empty or null
 abbrev pub int_of : {N : Type 0} → Value N → ℤ
 int_of (Int n) = n
 int_of v = pos 0
 
+-- the boolean of a value
 abbrev pub truth_of : {N : Type 0} → Value N → Bool
 truth_of (Truth b) = b
 truth_of v = false
 
+-- the text of a value
 abbrev pub text_of : {N : Type 0} → Value N → List ℕ
 text_of (Text bytes) = bytes
 text_of v = []
 
+-- the node of a value, or null
 abbrev pub ref_of : {N : Type 0} → Value N → Option N
 ref_of (Ref n) = n
 ref_of v = None
 
+-- the value of a token
 abbrev pub value_of : {N : Type 0} → Token → Value N
 value_of (tree.Text bytes) = Text bytes
 value_of (tree.Int n) = Int n
 value_of (tree.Truth b) = Truth b
 
--- the value with that name
+-- what a name stands for
 abbrev pub named : {N : Type 0} → List (Value N) → ℕ → Value N
 named [] i = Ref None
 named (v ∷ vs) zero = v
@@ -119,6 +125,7 @@ node_or fault (Some n) = Gives (Ref (Some n))
 abbrev pub child_of : {N : Type 0} → ℕ → Value N → Run N (Value N)
 child_of part v = node_of v >>= λ n. Looks (Slot n part) (λ ns. node_or (Fails Absent) (slice_get ns 0))
 
+-- the node at an index, counted from 0
 abbrev pub element_at : {N : Type 0} → List N → ℤ → Option N
 element_at ns (pos i) = slice_get ns i
 element_at ns (negsuc i) = None
@@ -143,17 +150,19 @@ token_of part v = node_of v >>= λ n. Looks (Tok n part) (λ t. Gives (value_of 
 abbrev pub demand_of : {N : Type 0} → ℕ → Value N → List (Value N) → Run N (Value N)
 demand_of attribute v vs = node_of v >>= λ n. Demands (record { node = n; attribute = attribute; arguments = vs }) Gives
 
--- two's complement of 32 bits, wrapping; / goes toward zero, % has the sign of the dividend
+-- `/` goes toward zero, and the least int by -1 is the least int; by zero it is the fault `zero`
 abbrev pub quotient : {N : Type 0} → ℤ → ℤ → Run N (Value N)
 quotient m (pos zero) = Fails Zero
 quotient m (pos (suc n)) = Gives (Int (int_wrapping_div w32 m (pos (suc n))))
 quotient m (negsuc n) = Gives (Int (int_wrapping_div w32 m (negsuc n)))
 
+-- `%` has the sign of the dividend, and the least int by -1 leaves 0; by zero it is the fault `zero`
 abbrev pub remainder : {N : Type 0} → ℤ → ℤ → Run N (Value N)
 remainder m (pos zero) = Fails Zero
 remainder m (pos (suc n)) = Gives (Int (int_rem m (pos (suc n))))
 remainder m (negsuc n) = Gives (Int (int_rem m (negsuc n)))
 
+-- ints are 32 bits in two's complement, and wrap
 abbrev pub computed : {N : Type 0} → Operator → ℤ → ℤ → Run N (Value N)
 computed Times m n = Gives (Int (int_wrapping_mul w32 m n))
 computed Over m n = quotient m n
@@ -161,6 +170,7 @@ computed Modulo m n = remainder m n
 computed Plus m n = Gives (Int (int_wrapping_add w32 m n))
 computed Minus m n = Gives (Int (int_wrapping_sub w32 m n))
 
+-- whether the comparison holds
 abbrev pub is_in_order : Order → ℤ → ℤ → Bool
 is_in_order Below m n = int_lt m n
 is_in_order AtMost m n = int_le m n
@@ -175,6 +185,7 @@ max_text = 65535
 abbrev pub joined : {N : Type 0} → List ℕ → Run N (Value N)
 joined bytes = cond (nat_le (length bytes) max_text) (Gives (Text bytes)) (Fails Long)
 
+-- both or neither
 abbrev pub bool_eq : Bool → Bool → Bool
 bool_eq true b = b
 bool_eq false b = not b
@@ -186,6 +197,7 @@ ref_eq same None (Some n) = false
 ref_eq same (Some m) None = false
 ref_eq same (Some m) (Some n) = same m n
 
+-- equal ints, booleans or texts, or the same node, or both null
 abbrev pub value_eq : {N : Type 0} → (N → N → Bool) → Value N → Value N → Bool
 value_eq same (Int n) w = int_eq n (int_of w)
 value_eq same (Truth b) w = bool_eq b (truth_of w)
@@ -226,7 +238,9 @@ sum_in term total (n ∷ ns) = term n >>= λ v. sum_in term (int_wrapping_add w3
 abbrev pub elements_of : {N : Type 0} → ℕ → Value N → Run N (List N)
 elements_of part v = node_of v >>= λ n. Looks (Slot n part) (λ ns. Gives ns)
 
--- The evaluation of an expression; `same` says which nodes are the same.
+-- The evaluation of an expression, from left to right; `same` says which nodes are the same. `&&`, `||`, `?:`, `exists` and
+-- `first` stop when they are decided. A call evaluates the receiver and the arguments, looks whether the receiver is null,
+-- and then demands.
 abbrev mutual
   pub eval : {N : Type 0} → Classes → (N → N → Bool) → Expr → Scope N → Run N (Value N)
   eval classes same (IntLiteral n) scope = Gives (Int n)
@@ -260,6 +274,7 @@ abbrev mutual
   eval classes same (First a part b) scope = eval classes same a scope >>= λ v. elements_of part v >>= first_in (λ n. eval classes same b (bound scope n))
   eval classes same (Sum a part b) scope = eval classes same a scope >>= λ v. elements_of part v >>= sum_in (λ n. eval classes same b (bound scope n)) (pos 0)
 
+  -- the values of the arguments, from left to right
   pub eval_all : {N : Type 0} → Classes → (N → N → Bool) → Exprs → Scope N → Run N (List (Value N))
   eval_all classes same no_exprs scope = Gives []
   eval_all classes same (expr a as') scope = eval classes same a scope >>= λ v. eval_all classes same as' scope >>= λ vs. Gives (v ∷ vs)

@@ -93,12 +93,14 @@ changed_at f [] i = []
 changed_at f (x ∷ xs) zero = f x ∷ xs
 changed_at f (x ∷ xs) (suc i) = x ∷ changed_at f xs i
 
--- the cell with f of the child at the position
+-- the cell with f of the child at the position, where there is one
 abbrev pub with_child : (Tree → Tree) → ℕ → Cell → Cell
-with_child f i (One t) = One (f t)
+with_child f zero (One t) = One (f t)
+with_child f (suc i) (One t) = One t
 with_child f i (Many ts) = Many (to_trees (changed_at f (from_trees ts) i))
 with_child f i Empty = Empty
-with_child f i (Filled t) = Filled (f t)
+with_child f zero (Filled t) = Filled (f t)
+with_child f (suc i) (Filled t) = Filled t
 with_child f i (Holds v) = Holds v
 
 -- the tree with f of one cell of its root
@@ -110,12 +112,13 @@ abbrev pub with_node : (Tree → Tree) → Tree → Node → Tree
 with_node f t [] = f t
 with_node f t (s ∷ ss) = with_cell (with_child (λ u. with_node f u ss) s.1) s.0 t
 
--- the cell without the child at the position
+-- the list or the optional without the child at the position, where there is one
 abbrev pub without_child : ℕ → Cell → Cell
 without_child i (One t) = One t
 without_child i (Many ts) = Many (to_trees (remove (from_trees ts) i))
 without_child i Empty = Empty
-without_child i (Filled t) = Empty
+without_child zero (Filled t) = Empty
+without_child (suc i) (Filled t) = Filled t
 without_child i (Holds v) = Holds v
 
 -- the cell with one more child at the position
@@ -191,6 +194,10 @@ edited classes t e =
 abbrev pub past_set : ℕ × ℕ → ℕ × ℕ → Option (ℕ × ℕ)
 past_set place s = if step_eq place s then None else Some s
 
+-- an optional that is filled had no child
+abbrev pub past_put : ℕ → ℕ × ℕ → Option (ℕ × ℕ)
+past_put part s = if nat_eq part s.0 then None else Some s
+
 -- when that child is taken away, those behind it in its component move to the front
 abbrev pub past_drop : ℕ × ℕ → ℕ × ℕ → Option (ℕ × ℕ)
 past_drop place s =
@@ -212,7 +219,7 @@ moved_under (up ∷ ups) past (s ∷ ss) = if step_eq up s then option_map (λ u
 -- where a node goes over an edit: what is replaced or taken away, and all below it, goes nowhere
 abbrev pub carried : Edit → Node → Option Node
 carried (Set node new) n = elim (parent_of node) [ None ↦ None | Some p ↦ moved_under p.0 (past_set p.1) n ]
-carried (Put node part new) n = Some n
+carried (Put node part new) n = moved_under node (past_put part) n
 carried (Drop node) n = elim (parent_of node) [ None ↦ None | Some p ↦ moved_under p.0 (past_drop p.1) n ]
 carried (Insert node part index new) n = moved_under node (past_insert (part, index)) n
 carried (Token node part v) n = Some n

@@ -1,6 +1,7 @@
 pub mod Names
 pub mod Texts
 pub mod Classes
+pub mod Declarations
 pub mod Trees
 pub mod Terms
 pub mod Paths
@@ -10,10 +11,12 @@ pub mod Rules
 pub mod Meaning
 pub mod Support
 pub mod Alike
+pub mod Samples
 pub mod Edits
 pub mod Touches
 pub mod Shaping
 pub mod Lines
 pub mod Replies
 pub mod Machine
-pub mod SampleTrees
+pub mod Sparing
+pub mod SampleLines

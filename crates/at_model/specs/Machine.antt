@@ -108,12 +108,22 @@ fit_parameters classes t (k ∷ ks) (v ∷ vs) = fits_parameter classes t k v &&
 abbrev pub parameters_of : Rules → ℕ → List Kind
 parameters_of rules attribute = elim (slice_get rules.attributes attribute) [ None ↦ [] | Some a ↦ a.parameters ]
 
--- what becomes of a line: it is refused, told something, leaves another state, or asks for the value of an instance
+-- What becomes of a line: it is refused, is told something, leaves other marks, makes that tree by an edit, or asks for
+-- the value of an instance.
 pub data Verdict : Type 0 where
   Refuses : Code → Verdict
   Tells : Shown → Verdict
-  Leaves : State → Verdict
+  Leaves : (marks : List Marked) → Verdict
+  Edits : Edit → Tree → Verdict
   Asks : Instance Node → Verdict
+
+-- the state after the verdict: an edit makes the next version, and the marks follow their nodes
+abbrev pub after : State → Verdict → State
+after s (Refuses refusal) = s
+after s (Tells shown) = s
+after s (Leaves marks) = record s { marks = marks }
+after s (Edits e t) = record { tree = t; version = s.version + 1; marks = carried_marks e s.marks }
+after s (Asks q) = s
 
 abbrev pub code_of : edit.Refusal → Code
 code_of edit.Component = code.Component
@@ -123,11 +133,11 @@ code_of edit.Taken = code.Taken
 code_of edit.Fixed = code.Fixed
 code_of edit.Limit = code.Limit
 
--- the state after the edit, or its refusal; there is no version after the last
+-- the edit and the tree that it leaves, or its refusal; there is no version after the last
 abbrev pub changed : Classes → State → Edit → Verdict
 changed classes s e = elim (edited classes s.tree e) [
   | Err refusal ↦ Refuses (code_of refusal)
-  | Ok t ↦ if nat_eq s.version last_version then Refuses code.Limit else Leaves (record { tree = t; version = s.version + 1; marks = carried_marks e s.marks })
+  | Ok t ↦ if nat_eq s.version last_version then Refuses code.Limit else Edits e t
 ]
 
 -- the verdict at the node, where the place names one
@@ -163,7 +173,7 @@ abbrev pub with_mark : State → ℕ → List ℕ → Node → Verdict
 with_mark s session name n =
     if is_marked s.marks session name then Refuses code.Taken
     else (if nat_le max_marks (count_by (λ m. nat_eq session m.session) s.marks) then Refuses code.Limit
-    else Leaves (record s { marks = s.marks ++ record { session = session; name = name; node = n } ∷ [] }))
+    else Leaves (s.marks ++ record { session = session; name = name; node = n } ∷ []))
 
 -- what becomes of the command of a session, when the marks that it uses are there
 abbrev pub obeyed : Rules → State → ℕ → Command → Verdict
@@ -175,9 +185,9 @@ obeyed rules s session (Insert place part index t) = at_node rules.classes s ses
 obeyed rules s session (Token place part v) = at_node rules.classes s session place (λ n. with_component rules.classes s.tree n part token_kind (λ p kind. changed rules.classes s (edit.Token n p v)))
 obeyed rules s session (Show place) = at_node rules.classes s session place (λ n. elim (tree_at s.tree n) [ None ↦ Refuses code.Path | Some u ↦ Tells (Written (term_of rules.classes u)) ])
 obeyed rules s session (Mark name place) = at_node rules.classes s session place (with_mark s session name)
-obeyed rules s session (Unmark name) = Leaves (record s { marks = filter (λ m. not (is_mark session name m)) s.marks })
+obeyed rules s session (Unmark name) = Leaves (filter (λ m. not (is_mark session name m)) s.marks)
 obeyed rules s session (Where name) = elim (marked s.marks session name) [ None ↦ Refuses code.Mark | Some n ↦ Tells (At (path_to rules.classes s.tree n)) ]
-obeyed rules s session Version = Leaves s
+obeyed rules s session Version = Leaves s.marks
 
 abbrev pub is_stale : Option ℕ → ℕ → Bool
 is_stale None version = false
@@ -210,17 +220,19 @@ Answering = Tree → Instance Node → Answer Node → Type 0
 abbrev pub ByEquations : Rules → Answering
 ByEquations rules t q a = Answers (content t) (equations rules) q a
 
--- by the verdict, the state before goes over to the new one and the session is told this
-abbrev pub Follows : Rules → Answering → State → Verdict → State → Form → Type 0
-Follows rules Answered old (Refuses refusal) new form = (new ≡ old) × (form ≡ Refused refusal)
-Follows rules Answered old (Tells shown) new form = (new ≡ old) × (form ≡ Shows shown)
-Follows rules Answered old (Leaves state) new form = (new ≡ state) × (form ≡ Done state.version)
-Follows rules Answered old (Asks q) new form = (new ≡ old) × (a : Answer Node) × Answered old.tree q a × (form ≡ answer_form rules old.tree a)
+-- what the session is told by the verdict
+abbrev pub Says : Rules → Answering → State → Verdict → Form → Type 0
+Says rules Answered s (Refuses refusal) form = form ≡ Refused refusal
+Says rules Answered s (Tells shown) form = form ≡ Shows shown
+Says rules Answered s (Leaves marks) form = form ≡ Done s.version
+Says rules Answered s (Edits e t) form = form ≡ Done (s.version + 1)
+Says rules Answered s (Asks q) form = (a : Answer Node) × Answered s.tree q a × (form ≡ answer_form rules s.tree a)
 
 -- one step: the line takes the old state to the new one, and gets the reply
 pub record Step (rules : Rules) (Answered : Answering) (old : State) (l : Line) (new : State) (reply : Reply) : Type 0 where
   pub session : reply.session ≡ Some l.session
-  pub follows : Follows rules Answered old (verdict rules old l) new reply.form
+  pub state : new ≡ after old (verdict rules old l)
+  pub says : Says rules Answered old (verdict rules old l) reply.form
 
 -- The step of the bytes of a line. What is no line is refused, and the state stays.
 pub data Handles (rules : Rules) (Answered : Answering) (old : State) (bytes : List ℕ) (new : State) (reply : Reply) : Type 0 where

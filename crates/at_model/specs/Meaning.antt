@@ -3,16 +3,17 @@
 use Rattle.std.specs.Prelude.{◌≡◌, ◌⊎◌, ℕ, zero, suc, false, List, [], ◌∷◌, ◌++◌, Option, Some, None, option_map}
 use Rattle.at_model.specs.Trees.{Tree, Token, Cell, Trees, Holds as holds, class_of}
 use Rattle.at_model.specs.Trees as tree
-use Rattle.at_model.specs.Paths.{Node, tree_at, cell_at, children_at}
-pub use Rattle.at_model.specs.Paths.{step_eq, node_eq, parent_of}
+use Rattle.at_model.specs.Paths.{Node, node_eq, parent_of, tree_at, cell_at, children_at}
 use Rattle.at_model.specs.Run.{Value, Instance, Is, Tok, Slot, Up, Idx, Contents, FaultKind, Run, Gives, Fails, Looks, Demands, Known, Tried, Valued, Faulted, Needs, tried}
-use Rattle.at_model.specs.Rules.{Rules, evaluation}
+use Rattle.at_model.specs.Bodies.{eval}
+use Rattle.at_model.specs.Rules.{Rules, Source, evaluation}
 
 -- what an instance comes to: a value, or a fault in the equation of the instance that is named
 pub data Outcome (N : Type 0) : Type 0 where
   Finds : Value N → Outcome N
   Faults : FaultKind → Instance N → Outcome N
 
+-- the value that an outcome finds
 abbrev pub value_in : {N : Type 0} → Option (Outcome N) → Option (Value N)
 value_in None = None
 value_in (Some (Finds v)) = Some v
@@ -61,10 +62,12 @@ Walks look equation i (m ∷ ms) j = Comes look equation i m × Walks look equat
 abbrev pub Leads : {N : Type 0} → Contents N → Equations N → Instance N → Instance N → Type 0
 Leads {N} look equation i j = (i ≡ j) ⊎ ((is : List (Instance N)) × Walks look equation i is j)
 
+-- it is one of these
 abbrev pub Among : {A : Type 0} → A → List A → Type 0
 Among a [] = ⊥
 Among a (b ∷ bs) = (a ≡ b) ⊎ Among a bs
 
+-- no two of them are equal
 abbrev pub Distinct : {A : Type 0} → List A → Type 0
 Distinct [] = Unit {0}
 Distinct (a ∷ as') = (¬ (Among a as')) × Distinct as'
@@ -92,6 +95,7 @@ abbrev pub child_nodes : {A : Type 0} → Node → ℕ → ℕ → List A → Li
 child_nodes n part i [] = []
 child_nodes n part i (t ∷ ts) = (n ++ (part, i) ∷ []) ∷ child_nodes n part (suc i) ts
 
+-- the token that a cell holds
 abbrev pub token_in : Option Cell → Token
 token_in (Some (holds v)) = v
 token_in _ = tree.Truth false
@@ -107,3 +111,7 @@ content t (Idx n) = elim (parent_of n) [ None ↦ 0 | Some p ↦ p.1.1 ]
 -- how the instances of a tree are evaluated
 abbrev pub equations : Rules → Equations Node
 equations rules i = evaluation rules node_eq i
+
+-- the evaluation by an inherited equation, at the node where it stands
+abbrev pub at_source : Rules → List (Value Node) → Source → Run Node (Value Node)
+at_source rules vs s = eval rules.classes node_eq s.0 (record { this = s.1; names = vs; child = Some (s.1 ++ s.2 ∷ []) })

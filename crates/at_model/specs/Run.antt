@@ -1,5 +1,5 @@
 -- Evaluations: what one asks of a tree and of other instances, in order. The nodes may be named in any way, by paths or by numbers.
-use Rattle.std.specs.Prelude.{ℕ, ℤ, Bool, List, [], ◌∷◌, Option, Some, None}
+use Rattle.std.specs.Prelude.{◌≡◌, ℕ, ℤ, Bool, List, [], ◌∷◌, Option, Some, None}
 use Rattle.at_model.specs.Trees.{Token}
 
 -- the value of an attribute: also a reference to a node, or null (Hedin 2000, "Reference attributed grammars")
@@ -9,13 +9,14 @@ pub data Value (N : Type 0) : Type 0 where
   Text : List ℕ → Value N
   Ref : Option N → Value N
 
--- an attribute of a node, with arguments
+-- the question for an attribute of a node, with arguments: texts, nodes and null
 pub record Instance (N : Type 0) : Type 0 where
   pub node : N
   pub attribute : ℕ
   pub arguments : List (Value N)
 
--- what an evaluation can look at: the node itself, a token of it, the children in a part, its parent, its index in a list
+-- what an evaluation can look at of a node: that it is there and of which class, a token, the children in a component, its
+-- parent, its index in a list
 pub data Location (N : Type 0) : Type 0 where
   Is : N → Location N
   Tok : N → (part : ℕ) → Location N
@@ -23,7 +24,7 @@ pub data Location (N : Type 0) : Type 0 where
   Up : N → Location N
   Idx : N → Location N
 
--- what stands there: the class, the token, the children, the parent and the part under it, the index
+-- what stands there: the class, the token, the children, the parent with the component of it, the index
 abbrev pub Content : {N : Type 0} → Location N → Type 0
 Content (Is n) = ℕ
 Content (Tok n part) = Token
@@ -35,7 +36,8 @@ Content (Idx n) = ℕ
 abbrev pub Contents : Type 0 → Type 0
 Contents N = (l : Location N) → Content l
 
--- why an evaluation has no value
+-- Why an evaluation has no value: something is asked of null, a list has no such index, an optional is empty, a divisor is
+-- zero, a node is not of the class, a text is too long.
 pub data FaultKind : Type 0 where
   Null : FaultKind
   Index : FaultKind
@@ -88,3 +90,11 @@ abbrev pub MatchTried : {N A : Type 0} → Tried N A → (A → Type 0) → (Fau
 MatchTried (Valued a) P Q S = P a
 MatchTried (Faulted f) P Q S = Q f
 MatchTried (Needs i) P Q S = S i
+
+-- an evaluation over a tree looks at just these locations, demands nothing, and goes on as the other one
+abbrev pub LooksTo : {N A : Type 0} → Contents N → Run N A → List (Location N) → Run N A → Type 0
+LooksTo look r [] s = r ≡ s
+LooksTo look (Gives a) (l ∷ ls) s = ⊥
+LooksTo look (Fails f) (l ∷ ls) s = ⊥
+LooksTo look (Looks m k) (l ∷ ls) s = (m ≡ l) × LooksTo look (k (look m)) ls s
+LooksTo look (Demands i k) (l ∷ ls) s = ⊥

@@ -2,7 +2,7 @@
 use Rattle.std.proofs.Common.{◌≡◌, ℕ, List, length, Result, Ok, Err, IfOk, IfErr, refl, sym, ◌∙◌, subst}
 use Rattle.std.specs.Prelude.{IsUtf8}
 use Rattle.at_tree.specs.Stops.{StopsAt}
-use Rattle.at_tree.specs.Answers.{Reads, StopsWith}
+use Rattle.at_tree.specs.Reads.{Reads, StopsWith}
 use Rattle.at_tree.specs.Finishes.{Finishes}
 use Rattle.at_tree.specs.declared.fault.TermFault.{TermFault}
 use Rattle.at_tree.specs.declared.fault.TermFault.TheVariants.{Syntax, Memory}

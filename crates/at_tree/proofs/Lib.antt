@@ -2,3 +2,12 @@ pub mod PathWritten
 pub mod Machine
 pub mod Pieces
 pub mod Finished
+pub mod PathMachine
+pub mod Escapes
+pub mod TermSpelled
+pub mod TermSteps
+pub mod TermAlive
+pub mod TermRuns
+pub mod TermMachine
+pub mod TextLaws
+pub mod TreeLoops

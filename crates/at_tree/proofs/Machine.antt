@@ -16,7 +16,7 @@ pub run_append : {P : Type 0} (step : P → ℕ → Option P) (r : Option P) (xs
 run_append step r [] ys = refl
 run_append step r (x ∷ xs) ys = run_append step (option_and_then (λ p. step p x) r) xs ys
 
-run_none : {P : Type 0} (step : P → ℕ → Option P) (cs : List ℕ) → run step None cs ≡ None
+pub run_none : {P : Type 0} (step : P → ℕ → Option P) (cs : List ℕ) → run step None cs ≡ None
 run_none step [] = refl
 run_none step (c ∷ cs) = run_none step cs
 
@@ -114,11 +114,11 @@ stuck m p c s utf8 ran none f =
     let v = f.1.0 in
     let d = m.completes v f.1.1 in
     let split : chars (m.text_of v) ≡ chars (m.spelled p) ++ (c ∷ chars f.0) =
-        ap chars (f.1.2 ∙ append_assoc (m.spelled p) (encode_utf8 c) f.0) ∙ chars-append (m.spelled p) (encode_utf8 c ++ f.0) utf8
-        ∙ ap (λ y. chars (m.spelled p) ++ y) (chars-append (encode_utf8 c) f.0 (utf8_char c s) ∙ rw (chars_char c s) refl) in
+    ap chars (f.1.2 ∙ append_assoc (m.spelled p) (encode_utf8 c) f.0) ∙ chars-append (m.spelled p) (encode_utf8 c ++ f.0) utf8
+    ∙ ap (λ y. chars (m.spelled p) ++ y) (chars-append (encode_utf8 c) f.0 (utf8_char c s) ∙ rw (chars_char c s) refl) in
     let lost : read m (m.text_of v) ≡ None =
-        ap (run m.step (Some m.start)) split ∙ run_append m.step (Some m.start) (chars (m.spelled p)) (c ∷ chars f.0)
-        ∙ ap (λ r. run m.step r (c ∷ chars f.0)) ran ∙ ap (λ r. run m.step r (chars f.0)) none ∙ run_none m.step (chars f.0) in
+    ap (run m.step (Some m.start)) split ∙ run_append m.step (Some m.start) (chars (m.spelled p)) (c ∷ chars f.0)
+    ∙ ap (λ r. run m.step r (c ∷ chars f.0)) ran ∙ ap (λ r. run m.step r (chars f.0)) none ∙ run_none m.step (chars f.0) in
     let g : Some d.0 ≡ None = sym d.1 ∙ lost in
     cc
 
@@ -152,8 +152,8 @@ stops_at_end m text offset rest p r e open_still =
     let front : take (length text) text ≡ m.spelled p = rw (r.split, none_left rest e, append-nil) (ap (take (length (m.spelled p))) (sym (append-nil (m.spelled p))) ∙ take-append_seam (m.spelled p) []) in
     let next : chars (drop (length text) text) ≡ [] = ap chars (ap (drop (length text)) (sym (append-nil text)) ∙ drop-append_seam text []) ∙ chars-nil in
     let lost : IsWhole m (m.spelled p) → ⊥ = λ w.
-        let is = whole_of m w.0 p w.1 (ap (read m) w.2 ∙ r.ran) in
-        let f : Some w.0 ≡ None = sym is ∙ open_still in cc in
+    let is = whole_of m w.0 p w.1 (ap (read m) w.2 ∙ r.ran) in
+    let f : Some w.0 ≡ None = sym is ∙ open_still in cc in
     record {
       boundary = IsCharBoundary-at_seam text text [] (sym (append-nil text)) utf8_nil;
       goes_on = subst (IsFront (IsWhole m)) (sym front) (m.alive p r.fits);

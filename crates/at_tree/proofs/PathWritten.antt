@@ -5,7 +5,7 @@ use Rattle.std.specs.List.{flat_map}
 use Rattle.std.proofs.Math.Seq.{take-suc, take-append_seam}
 use Rattle.std.proofs.lemmas.List.{map-append, take-append-drop}
 use Rattle.std.proofs.lemmas.Grind.{flat_map-append}
-use Rattle.at_model.specs.Paths.{Path, path_text, step_text}
+use Rattle.at_model.specs.Paths.{path_text, step_text}
 use Rattle.at_tree.specs.PathView.{step_view, steps_view}
 use Rattle.at_tree.specs.declared.path.Step.{Step as StepValue}
 

@@ -1,6 +1,6 @@
 -- Names and decimals as pieces of a text: what they may go on with, and how a reader runs over them.
-use Rattle.std.proofs.Common.{◌≡◌, ℕ, suc, ◌+◌, ◌-◌, ◌*◌, ◌<◌, ◌≤◌, Bool, true, false, ◌&&◌, ◌||◌, ◌==◌, cond, nat_lt, nat_le, not, List, [], ◌∷◌, ◌++◌, length, Option, Some, None, refl, ap, sym, ◌∙◌, subst, append_assoc, append-nil, lit<, arith, encode_utf8_all}
-use Rattle.std.specs.Prelude.{chars, encode_utf8, IsUtf8, option_and_then, ◌/◌, ◌%◌, ◌^◌}
+use Rattle.std.proofs.Common.{◌≡◌, ℕ, ◌+◌, ◌-◌, ◌*◌, ◌<◌, ◌≤◌, Bool, true, false, ◌&&◌, ◌==◌, cond, nat_le, not, List, [], ◌∷◌, ◌++◌, Option, Some, None, refl, ap, sym, ◌∙◌, subst, append_assoc, append-nil, lit<, arith, encode_utf8_all}
+use Rattle.std.specs.Prelude.{chars, encode_utf8, IsUtf8, ◌/◌, ◌%◌, ◌^◌}
 use Rattle.std.specs.List.{list_all, list_any}
 use Rattle.std.specs.Str.{bytes_eq}
 use Rattle.std.specs.Fmt.{decimal}
@@ -13,7 +13,7 @@ use lib.Utf8.{low_scalar}
 use Rattle.unicode_ident.proofs.IdentLemmas.{is_xid_start-ascii, is_xid_continue-ascii}
 use Rattle.at_model.specs.Names.{starts_name, continues_name, is_word, is_name, is_reserved, reserved_words}
 use Rattle.at_tree.specs.Partial.{is_digit}
-use Rattle.at_tree.proofs.Machine.{run, run_append, utf8_char, chars_char}
+use Rattle.at_tree.proofs.Machine.{run, utf8_char, chars_char}
 
 -- tests
 pub both : (a b : Bool) → (a && b) ≡ true → (a ≡ true) × (b ≡ true)
@@ -49,6 +49,9 @@ chars_ascii b z h =
     let s = low_scalar b (omega arith) in
     let e = encode_ascii b h in
     ap (λ y. chars (y ++ z)) (sym e) ∙ chars-append (encode_utf8 b) z (utf8_char b s) ∙ ap (λ y. y ++ chars z) (chars_char b s)
+
+pub utf8_ascii : (b : ℕ) → b < 128 → IsUtf8 (b ∷ [])
+utf8_ascii b h = subst IsUtf8 (encode_ascii b h) (utf8_char b (low_scalar b (omega arith)))
 
 -- a run over a byte that is a character
 pub run_byte : {P : Type 0} (step : P → ℕ → Option P) (p : P) (b : ℕ) (z : List ℕ) (r : Option P) → b < 128 → step p b ≡ r → run step (Some p) (chars (b ∷ z)) ≡ run step r (chars z)

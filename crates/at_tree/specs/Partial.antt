@@ -3,8 +3,8 @@ use Rattle.std.specs.Prelude.{ℕ, ◌+◌, ◌-◌, ◌*◌, ℤ, pos, negsuc, 
 use Rattle.std.specs.List.{starts_with}
 use Rattle.std.specs.Str.{bytes_eq}
 use Rattle.at_model.specs.Names.{starts_name, continues_name, is_reserved}
-use Rattle.at_model.specs.Trees.{Token, Text, Int, Truth}
-use Rattle.at_model.specs.Terms.{Term, Node, Cells, no_cells, Cell, One, Many, Empty, Holds, Terms, no_terms, max_depth}
+use Rattle.at_model.specs.Trees.{Text, Int, Truth}
+use Rattle.at_model.specs.Terms.{Term, Node, no_cells, Cell, One, Many, Empty, Holds, no_terms, max_depth}
 use Rattle.at_tree.specs.View.{to_cells, to_terms}
 
 -- a term whose parenthesis is open: its cells, and the terms of its open list, as far as a comma follows each

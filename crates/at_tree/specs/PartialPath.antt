@@ -1,5 +1,5 @@
 -- What has been read of a path's text, character by character.
-use Rattle.std.specs.Prelude.{ℕ, ◌+◌, ◌-◌, ◌*◌, Bool, ◌&&◌, ◌==◌, nat_lt, List, [], ◌∷◌, ◌++◌, Option, Some, None, if◌then◌else◌, encode_utf8}
+use Rattle.std.specs.Prelude.{ℕ, ◌+◌, ◌-◌, ◌*◌, ◌&&◌, ◌==◌, nat_lt, List, [], ◌∷◌, ◌++◌, Option, Some, None, if◌then◌else◌, encode_utf8}
 use Rattle.at_model.specs.Names.{starts_name, continues_name, is_reserved}
 use Rattle.at_model.specs.Paths.{Step, Path}
 use Rattle.at_tree.specs.Partial.{is_digit, is_empty}

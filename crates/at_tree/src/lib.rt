@@ -2,10 +2,11 @@
 #![tactic(auto)]
 
 pub mod fault;
+pub mod laws;
 pub mod path;
 pub mod reader;
 pub mod term;
-pub mod token;
-
 #[cfg(test)]
 mod tests;
+pub mod token;
+pub mod tree;

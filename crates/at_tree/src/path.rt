@@ -3,7 +3,7 @@ ghost use Rattle.std.specs.Prelude.{◌≡◌, ◌++◌, OnOk, OnErr, take, leng
 ghost use Rattle.at_model.specs.Paths.{IsPath, path_text, step_text};
 ghost use Rattle.at_tree.specs.PathView.{path_view, step_view};
 
-use itoa::Buffer;
+use at_text::decimal::write_int;
 use std::alloc::AllocError;
 
 /// A step down: a component's name, and an index where it is a list.
@@ -34,7 +34,7 @@ fn write_step(step: &Step, out: &mut Vec<u8>) -> Result<(), AllocError>
     out.extend_from_slice(step.part.as_bytes())?;
     if let Some(index) = step.index {
         out.push(b':')?;
-        out.extend_from_slice(Buffer::new().format(index).as_bytes())?;
+        write_int(i64::from(index), out)?;
     }
     Ok(())
 }

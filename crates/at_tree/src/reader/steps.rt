@@ -13,11 +13,7 @@ use at_text::names::starts_name;
 use std::alloc::Global;
 
 /// The reading goes on inside this level.
-pub(super) fn inside(
-    mut levels: Vec<Level>,
-    level: Level,
-    place: Place,
-) -> Result<Partial, Refused>
+pub(super) fn inside(mut levels: Vec<Level>, level: Level, place: Place) -> Result<Partial, Refused>
     ensures { Gives result (Some (at (level_view level ∷ levels_view levels.items) (place_view place))) }
 {
     levels.push(level)?;
@@ -46,11 +42,7 @@ fn complete(levels: Vec<Level>, term: Term) -> Partial
 }
 
 /// The character behind a cell.
-pub(super) fn in_cell(
-    mut levels: Vec<Level>,
-    cell: TermCell,
-    c: char,
-) -> Result<Partial, Refused>
+pub(super) fn in_cell(mut levels: Vec<Level>, cell: TermCell, c: char) -> Result<Partial, Refused>
     ensures { Gives result (in_cell (levels_view levels.items) (cell_view cell) c) }
 {
     let Some(mut level) = levels.pop() else {
@@ -182,6 +174,7 @@ fn limit(minus: bool) -> u64
 }
 
 impl Number {
+    /// The number itself.
     fn get(self) -> i32
         ensures { result ≡ integer self.minus self.value }
     {

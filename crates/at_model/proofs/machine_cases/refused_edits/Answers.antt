@@ -25,3 +25,7 @@ returns-clause-component c = refl
 pub returns-clause-last : goal.returns-clause-last
 unfolding chain
 returns-clause-last c = refl
+
+pub returns-clause-class : goal.returns-clause-class
+unfolding chain
+returns-clause-class c = refl

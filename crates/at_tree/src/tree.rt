@@ -1,0 +1,27 @@
+//! Syntax trees: a class, and a cell for each of its components.
+mod conforming;
+mod counts;
+
+pub use counts::{depth, nodes};
+pub use conforming::fits;
+
+use crate::token::TokVal;
+use at_class::ClassId;
+
+/// A syntax tree.
+#[cycle(tree)]
+#[derive(Drop)]
+pub struct Tree {
+    pub class: ClassId,
+    pub cells: Vec<Cell>,
+}
+
+/// What a component holds: one tree, a list of trees, at most one tree, or the value of a token.
+#[cycle(tree)]
+#[derive(Drop)]
+pub enum Cell {
+    One(Tree),
+    Many(Vec<Tree>),
+    Maybe(Option<Tree>),
+    Tok(TokVal),
+}
