@@ -1,5 +1,5 @@
 -- What one reading of words says of another.
-use Rattle.std.proofs.Common.{◌≡◌, Option, Some, None, Result, Ok, Err, MatchOption, MatchResult, refl}
+use Rattle.std.proofs.Common.{◌≡◌, Option, Some, None, Ok, MatchOption, MatchResult, refl}
 use Rattle.std.specs.Prelude.{ok_or}
 use Rattle.at_protocol.specs.declared.line.words.WordFault.{WordFault}
 use Rattle.at_protocol.specs.declared.line.words.WordFault.TheVariants.{Form, Memory}

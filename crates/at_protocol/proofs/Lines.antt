@@ -1,10 +1,10 @@
 -- A line is its session, a space, and the text of its command.
-use Rattle.std.proofs.Common.{◌≡◌, ◌≢◌, ℕ, ◌<◌, ◌≤◌, true, List, [], ◌∷◌, ◌++◌, length, Option, Some, None, refl, ap, sym, ◌∙◌, subst, arith}
+use Rattle.std.proofs.Common.{◌≡◌, ℕ, ◌<◌, ◌≤◌, List, ◌∷◌, ◌++◌, length, Option, Some, None, refl, ap, sym, ◌∙◌, subst, arith}
 use Rattle.std.specs.List.{join_with_byte}
 use Rattle.std.specs.Fmt.{decimal}
 use Rattle.std.specs.Str.{IsUtf8}
 use Rattle.std.proofs.lemmas.Fmt.{decimal_injective}
-use Rattle.at_model.specs.Lines.{Command, Line, Spells, IsLine, ExistsToday, line_text, command_words, max_line, max_sessions, BeginsWith, IsSessionOf, IsSpaceOrEnd}
+use Rattle.at_model.specs.Lines.{Command, Line, Spells, line_text, command_words, max_line, max_sessions, BeginsWith, IsSessionOf}
 use Rattle.at_protocol.specs.Commands.{IsCommandText}
 use Rattle.at_protocol.specs.Words.{HasNoSpace, FailsOn}
 use Rattle.at_protocol.specs.declared.line.words.WordFault.{WordFault}

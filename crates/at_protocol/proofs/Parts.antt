@@ -3,11 +3,9 @@ use Rattle.std.proofs.Common.{◌≡◌, ◌≢◌, ℕ, List, [], ◌∷◌, �
 use Rattle.std.specs.Prelude.{codes}
 use Rattle.std.proofs.lemmas.List.{append_cancel_right}
 use Rattle.at_model.specs.Trees as tree
-use Rattle.at_model.specs.Terms.{token_text, IsToken}
-use Rattle.at_model.specs.Paths.{Path, IsPath, path_text}
-use Rattle.at_model.specs.Lines.{Command, Ask, Token, Show, From_root, IsName}
+use Rattle.at_model.specs.Paths.{Path, path_text}
+use Rattle.at_model.specs.Lines.{Command, Ask, Token, From_root}
 use Rattle.at_protocol.specs.Words.{HasNoSpace, IsPathOf, IsNameText, IsValueText, FailsOn}
-use Rattle.at_protocol.specs.Commands.{IsCommandText}
 use Rattle.at_protocol.specs.declared.line.words.WordFault.{WordFault}
 use Rattle.at_protocol.proofs.Answering.{fails_with}
 use Rattle.at_protocol.proofs.Spaces.{space_inside, no_space_path, no_space_name}
@@ -82,6 +80,9 @@ set_path text path rest fault split one none = fails_with (IsPathOf path) (Sets 
         let a = set_token text c h in
         let words = two_words path (path_text a.path) rest _ (sym split ∙ a.split) one (no_space_path a.path a.is_path) in
         (a.path, (a.is_path, sym words.0))
+
+pub as_three : (text path rest part value : List ℕ) → text ≡ path ++ 32 ∷ rest → HasNoSpace path → rest ≡ part ++ 32 ∷ value → HasNoSpace part → IsThree text path part value
+as_three text path rest part value split one split_rest one_part = record { rest = rest; split = split; split_rest = split_rest; one_path = one; one_part = one_part }
 
 -- the component and the value of a command of three words
 record Threefold (part value : List ℕ) (c : Command) : Type 0 where

@@ -1,19 +1,20 @@
 -- Words without spaces, and where the spaces between them stand.
 use Prim.Native.Nat as Nat
-use Rattle.std.proofs.Common.{◌≡◌, ◌≢◌, ℕ, suc, ◌+◌, ◌<◌, ◌≤◌, ◌^◌, Bool, true, false, ◌&&◌, ◌==◌, not, List, [], ◌∷◌, ◌++◌, length, get_or, Option, Some, None, refl, ap, sym, ◌∙◌, subst, append_assoc, append-nil, arith, lit<, length-append}
-use Rattle.std.specs.Prelude.{chars, ⊤}
-use Rattle.std.specs.List.{list_all, flat_map, AllByRecursion}
+use Rattle.std.proofs.Common.{◌≡◌, ◌≢◌, ℕ, suc, ◌<◌, ◌^◌, Bool, true, false, ◌==◌, not, List, [], ◌∷◌, ◌++◌, get_or, Option, Some, None, refl, ap, sym, ◌∙◌, subst, append-nil, arith, lit<, length-append}
+use Rattle.std.specs.Prelude.{chars}
+use Rattle.std.specs.List.{list_all, flat_map}
 use Rattle.std.specs.Fmt.{decimal}
-use Rattle.std.specs.Str.{IsUtf8, NoCharPasses, NonePass}
+use Rattle.std.specs.Str.{NonePass}
 use Rattle.std.proofs.lemmas.Bool.Decides.{nat_tests}
 use Rattle.std.proofs.lemmas.Str.{encodes-chars}
 use Rattle.std.proofs.lemmas.Str.Parse.{digit_at, numerals_by_value, tells_digits}
 use Rattle.std.proofs.lemmas.Str.Pattern.{NoCharPasses-char}
 use Rattle.std.proofs.lemmas.Fmt.{digits_decimal}
 use Rattle.unicode_ident.proofs.IdentLemmas.{is_xid_start-ascii, is_xid_continue-ascii}
-use Rattle.at_model.specs.Names.{starts_name, continues_name, is_word, is_name}
+use Rattle.at_model.specs.Names.{starts_name, continues_name, is_word}
 use Rattle.at_model.specs.Paths.{Path, Step, IsPath, IsStep, IsIndex, step_text, index_text, path_text}
 use Rattle.at_model.specs.Lines.{IsName, IsSpaceOrEnd}
+use Rattle.at_tree.proofs.Pieces.{both}
 use Rattle.at_protocol.specs.Words.{HasNoSpace}
 
 -- a text is cut at its first space in one way
@@ -48,11 +49,6 @@ no_space_cons b bs other rest (suc i) l = rest i (omega (arith, length-append (b
 pub no_space_append : (xs ys : List ℕ) → HasNoSpace xs → HasNoSpace ys → HasNoSpace (xs ++ ys)
 no_space_append [] ys p q = q
 no_space_append (x ∷ xs) ys p q = no_space_cons x (xs ++ ys) (p 0 (omega (arith, length-append (x ∷ []) xs))) (no_space_append xs ys (λ i l. p (suc i) (omega (arith, length-append (x ∷ []) xs))) q)
-
-both : (a b : Bool) → (a && b) ≡ true → (a ≡ true) × (b ≡ true)
-both true true e = (refl, refl)
-both true false e = cc
-both false b e = cc
 
 unequal : (b : ℕ) → not (b == 32) ≡ true → b ≢ 32
 unequal b e is = let f : false ≡ true = rw is at e in cc

@@ -1,5 +1,5 @@
 -- Lines are UTF-8.
-use Rattle.std.proofs.Common.{◌≡◌, ◌≢◌, ℕ, ◌<◌, Bool, true, false, ◌&&◌, ◌==◌, nat_lt, ◌^◌, List, [], ◌∷◌, ◌++◌, Option, Some, None, refl, ap, sym, ◌∙◌, subst, lit<, arith, encode_utf8_all}
+use Rattle.std.proofs.Common.{◌≡◌, ℕ, ◌<◌, Bool, true, false, ◌==◌, nat_lt, ◌^◌, List, [], ◌∷◌, ◌++◌, Option, Some, None, refl, subst, lit<, arith, encode_utf8_all}
 use Rattle.std.specs.Prelude.{codes, encode_utf8, IsUtf8}
 use Rattle.std.specs.List.{flat_map, list_all}
 use Rattle.std.specs.Fmt.{decimal}
@@ -12,21 +12,16 @@ use Rattle.at_model.specs.Texts.{escaped, quoted}
 use Rattle.at_model.specs.Trees.{Token, Text, Int, Truth}
 use Rattle.at_model.specs.Terms.{token_text, IsToken}
 use Rattle.at_model.specs.Paths.{Path, Step, IsPath, IsStep, IsIndex, step_text, index_text, path_text}
-use Rattle.at_model.specs.Lines.{Command, Line, Spells}
+use Rattle.at_model.specs.Lines.{Command}
 use Rattle.at_text.proofs.Characters.{plain}
 use Rattle.at_tree.proofs.Machine.{utf8_char}
-use Rattle.at_tree.proofs.Pieces.{utf8_ascii}
+use Rattle.at_tree.proofs.Pieces.{both, utf8_ascii}
 use Rattle.at_protocol.specs.Commands.{IsCommandText}
 use Rattle.at_protocol.proofs.Values.{mag_small}
 use Rattle.at_protocol.proofs.Commands.{Today, asks, shows, tokens, tells_version, today}
 
 utf8_cons : (b : ℕ) (bs : List ℕ) → b < 128 → IsUtf8 bs → IsUtf8 (b ∷ bs)
 utf8_cons b bs h u = IsUtf8-append (b ∷ []) bs (utf8_ascii b h) u
-
-both : (a b : Bool) → (a && b) ≡ true → (a ≡ true) × (b ≡ true)
-both true true e = (refl, refl)
-both true false e = cc
-both false b e = cc
 
 utf8_pair : (a b : ℕ) → a < 128 → b < 128 → IsUtf8 (a ∷ b ∷ [])
 utf8_pair a b h k = utf8_cons a (b ∷ []) h (utf8_ascii b k)

@@ -1,13 +1,12 @@
 -- The values of tokens: one text for each, and one value for a text.
-use Rattle.std.proofs.Common.{◌≡◌, ◌≢◌, ℕ, ◌+◌, ◌<◌, ◌≤◌, ◌^◌, Bool, true, false, List, [], ◌∷◌, ◌++◌, length, get_or, refl, ap, sym, ◌∙◌, append_assoc, arith}
-use Rattle.std.specs.Prelude.{ℤ, pos, negsuc, codes}
-use Rattle.std.specs.List.{flat_map}
+use Rattle.std.proofs.Common.{◌≡◌, ℕ, ◌<◌, ◌^◌, true, false, List, [], ◌∷◌, get_or, refl, ap, sym, arith}
+use Rattle.std.specs.Prelude.{ℤ, pos, negsuc}
 use Rattle.std.specs.Fmt.{decimal, signed_decimal}
 use Rattle.std.specs.Int.{IsInRange}
 use Rattle.std.proofs.lemmas.Str.Parse.{digit_at, numerals_by_value, tells_digits}
 use Rattle.std.proofs.lemmas.Fmt.{digits_decimal, decimal_nonempty, signed_decimal_injective}
 use lib.Signed.{mag}
-use Rattle.at_model.specs.Texts.{escaped, quoted}
+use Rattle.at_model.specs.Texts.{quoted}
 use Rattle.at_model.specs.Trees.{Token, Text, Int, Truth}
 use Rattle.at_model.specs.Terms.{token_text, IsToken, IsInt32}
 use Rattle.at_text.proofs.Spelling.{one_left}

@@ -1,5 +1,5 @@
 -- What a reply stands for.
-use Rattle.std.specs.Prelude.{◌≡◌, ◌++◌, ◌∷◌, ℕ, List, ⊤}
+use Rattle.std.specs.Prelude.{◌≡◌, ◌∷◌, ℕ, List, ⊤}
 use Rattle.std.specs.List.{join_with_byte}
 use Rattle.at_model.specs.Trees.{Int}
 use Rattle.at_model.specs.Terms.{Term, term_text}

@@ -1,6 +1,7 @@
 //! Replies, each a line.
 ghost use Rattle.std.specs.Prelude.{◌≡◌, ◌≤◌, ◌<◌, ◌+◌, ◌++◌, ◌∷◌, OnOk, OnErr, IsOk, length, vec_len, vec_capacity};
 ghost use Rattle.std.specs.List.{join_with_byte};
+ghost use Rattle.std.specs.Vec.{VecUnchanged};
 ghost use Rattle.at_model.specs.Replies.{Reply as ModelReply, Form as ModelForm, code_words, session_text, reply_text};
 ghost use Rattle.at_protocol.specs.ReplyView.{code_view, told, IsForm, IsReply, IsShort};
 ghost use Rattle.at_text.specs.Quoted.{Extends};
@@ -125,7 +126,7 @@ fn append_reply(reply: &Reply, out: &mut Vec<u8>) -> Result<(), AllocError>
 /// that is no term needs room for 48 bytes at most.
 pub fn write_reply(reply: &Reply, out: &mut Vec<u8>) -> Result<(), AllocError>
     ensures ok { OnOk result ((r : ModelReply) → IsReply reply.now r → out.new.items ≡ out.old.items ++ reply_text r) }
-    ensures err { OnErr result (out.new.items ≡ out.old.items) }
+    ensures err { OnErr result (VecUnchanged out.old out.new) }
     ensures grows { vec_capacity out.old ≤ vec_capacity out.new }
     ensures room { IsShort reply.now.form → vec_len out.old + 48 ≤ vec_capacity out.old → IsOk result }
 {

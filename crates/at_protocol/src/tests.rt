@@ -18,18 +18,6 @@ fn down(alloc: Global, part: &str) -> Result<Path, AllocError> {
     Ok(Path { steps })
 }
 
-/// The token value that the line of session 0 sets at `/Right`, if it is such a line.
-fn new_value(alloc: Global, line: &[u8]) -> Result<Option<TokVal>, Fail> {
-    let right = down(alloc, "Right")?;
-    match read_line(alloc, line)? {
-        Line {
-            session: 0,
-            command: Command::Token { path, part, value },
-        } if path == right && part.as_str() == "Value" => Ok(Some(value)),
-        _ => Ok(None),
-    }
-}
-
 #[test]
 fn commands_are_read(rt: HostRuntime) -> Result<(), Fail> {
     let alloc = rt.alloc();
@@ -52,6 +40,7 @@ fn commands_are_read(rt: HostRuntime) -> Result<(), Fail> {
 #[test]
 fn values_are_read(rt: HostRuntime) -> Result<(), Fail> {
     let alloc = rt.alloc();
+    let right = down(alloc, "Right")?;
     let spaced = String::from_str(alloc, "a b")?;
     let cases = [
         ("0 token /Right Value 5", TokVal::Int(5)),
@@ -61,7 +50,14 @@ fn values_are_read(rt: HostRuntime) -> Result<(), Fail> {
         ("0 token /Right Value \"a b\"", TokVal::Str(spaced)),
     ];
     for (line, value) in cases {
-        assert_eq!(rt; new_value(alloc, line.as_bytes())?, Some(value));
+        let Line {
+            session: _,
+            command,
+        } = read_line(alloc, line.as_bytes())?;
+        assert!(rt;
+            matches!(&command, Command::Token { path, part, value: read }
+            if *path == right && part.as_str() == "Value" && *read == value)
+        );
     }
     Ok(())
 }

@@ -1,8 +1,7 @@
-use Rattle.std.proofs.Common.{◌≡◌, ◌≤◌, length, arith, ◌∙◌, sym}
+use Rattle.std.proofs.Common.{arith}
 use Rattle.std.proofs.lemmas.Result.{err_from_is_err_and}
 use Rattle.at_model.specs.Lines.{Spells}
-use Rattle.at_protocol.specs.LineView.{line_view, command_view}
-use Rattle.at_protocol.specs.declared.line.Line.{Line}
+use Rattle.at_protocol.specs.LineView.{line_view}
 use Rattle.at_protocol.proofs.Answering.{answers_found}
 use Rattle.at_protocol.proofs.Lines.{needs_session, needs_space, needs_command, spells, one_line, line_is_utf8}
 use Rattle.at_protocol.proofs.line.read_spelled.Goals as goal

@@ -1,8 +1,4 @@
-use Rattle.std.proofs.Common.{◌≡◌, ◌∙◌, sym, [], codes}
-use Rattle.std.specs.Prelude.{string_bytes}
 use Rattle.std.proofs.lemmas.Result.{err_from_is_err_and}
-use Rattle.at_model.specs.Lines.{Ask, From_root}
-use Rattle.at_tree.specs.PathView.{path_view}
 use Rattle.at_protocol.specs.LineView.{command_view}
 use Rattle.at_protocol.specs.declared.line.Command.TheVariants as command
 use Rattle.at_protocol.proofs.Answering.{answers_found}

@@ -1,5 +1,5 @@
-use Rattle.std.proofs.Common.{◌≡◌, ◌≤◌, ◌<◌, ℕ, Bool, true, false, cond, ltb, ◌==◌, List, length, take, Option, Some, None, refl, sym, ap, ◌∙◌, arith, rules, tests}
-use Rattle.std.specs.List.{position_or_len, position}
+use Rattle.std.proofs.Common.{◌≡◌, ◌≤◌, ℕ, Bool, true, false, cond, ltb, ◌==◌, List, length, take, Some, None, refl, sym, ap, ◌∙◌, arith, rules, tests}
+use Rattle.std.specs.List.{position_or_len}
 use Rattle.std.proofs.lemmas.Bool.Decides.{nat_tests}
 use Rattle.std.proofs.lemmas.List.{take_all}
 use Rattle.std.proofs.lemmas.Iterator.{YieldsList-from_slice}

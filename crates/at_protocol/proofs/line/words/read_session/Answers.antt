@@ -1,4 +1,4 @@
-use Rattle.std.proofs.Common.{◌≡◌, Ok, sym, ◌∙◌, ap, arith}
+use Rattle.std.proofs.Common.{◌≡◌, sym, ◌∙◌, ap, arith}
 use Rattle.std.specs.Fmt.{decimal}
 use Rattle.at_protocol.proofs.Numbers.{read_decimal, never_unequal}
 use Rattle.at_protocol.proofs.line.words.read_session.Goals as goal

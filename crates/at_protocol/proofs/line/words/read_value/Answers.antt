@@ -1,6 +1,5 @@
-use Rattle.std.proofs.Common.{◌≡◌, true, false, sym, ◌∙◌}
+use Rattle.std.proofs.Common.{true, false, sym, ◌∙◌}
 use Rattle.at_model.specs.Trees.{Int, Truth}
-use Rattle.at_tree.specs.Token.{token_view}
 use Rattle.at_protocol.proofs.Values.{one_value}
 use Rattle.at_protocol.proofs.Numbers.{equal, same_int}
 use Rattle.at_protocol.proofs.line.words.read_value.Goals as goal
