@@ -51,6 +51,13 @@ own_of classes c = elim (slice_get classes c) [ None ↦ [] | Some k ↦ k.own ]
 abbrev pub parts : Classes → ℕ → List Component
 parts classes c = flat_map (own_of classes) (reverse (chain classes c))
 
+-- the class of the trees in a component
+abbrev pub class_in : Shape → Option ℕ
+class_in (One c) = Some c
+class_in (Many c) = Some c
+class_in (Maybe c) = Some c
+class_in (Token kind) = None
+
 -- the class is the other one or below it
 abbrev pub is_sub : Classes → ℕ → ℕ → Bool
 is_sub classes c b = list_any (nat_eq b) (chain classes c)

@@ -12,7 +12,7 @@ use Rattle.at_text.specs.declared.scan.front.Break.TheVariants.{Bad, OpenText, O
 use Rattle.at_text.specs.Pieces.{Piece, Blank, LineComment, BlockComment, Name, Number, Quoted, Sign, spell, IsPiece, is_blank, is_within_line, opens_comment, begins, IsLongestSign}
 use Rattle.at_text.specs.Front.{EndsRun, EndsComment, EndsSign, Means, IsFound, BreaksSign, BreaksPiece, BreaksQuoted, BeginsNoSign}
 use Rattle.at_text.specs.Faults.{BeginsNone}
-use Rattle.at_text.proofs.Fronts.{clash}
+use Rattle.at_text.proofs.Fronts.{clash, neither}
 use Rattle.at_text.proofs.Openings.{family, family_at, family_in, digit_small, plain}
 use Rattle.at_text.proofs.Same.{digits_encode, apart}
 
@@ -64,10 +64,6 @@ found_sign text after f g s = (Sign s.0, s.1, (subst (λ (l : List ℕ). IsLonge
 pub other_family : (c : ℕ) → is_blank c ≡ false → starts_name c ≡ false → is_ascii_digit c ≡ false → (c == 34) ≡ false → family_at c ≡ 4
 other_family c b s d q = rw (b, s, d, q) refl
 
-second_false : (a b : Bool) → (a || b) ≡ false → b ≡ false
-second_false true b e = absurd (clash true refl e)
-second_false false b e = e
-
 no_piece : (c : ℕ) (text after : List ℕ) → family_at c ≡ 4 → text ≡ encode_utf8 c ++ after → opens_comment text ≡ false → BeginsNoSign text → (p : Piece) (rest : List ℕ) → IsPiece p rest → text ≡ spell p ++ rest → ⊥
 no_piece c text after f e free none (LineComment cs) rest is g = clash (opens_comment text) (ap opens_comment g) free
 no_piece c text after f e free none (BlockComment body) rest is g = clash (opens_comment text) (ap opens_comment g) free
@@ -89,7 +85,7 @@ breaks_none : (c : ℕ) (text after : List ℕ) → family_at c ≡ 4 → (c == 
 breaks_none c text after f q e free none = (
   omega (arith, ap length e, length-append (encode_utf8 c) after, length-encode c, len_utf8_bounds c),
   begins_one 34 text (no_quote c text after q e),
-  second_false (begins (47 ∷ 47 ∷ []) text) (begins (47 ∷ 42 ∷ []) text) free,
+  (neither (begins (47 ∷ 47 ∷ []) text) (begins (47 ∷ 42 ∷ []) text) free).1,
   no_piece c text after f e free none,
 )
 

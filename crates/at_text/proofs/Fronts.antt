@@ -1,5 +1,5 @@
 -- Characters at the front of a text.
-use Rattle.std.proofs.Common.{◌≡◌, ℕ, ◌+◌, ◌<◌, List, [], ◌∷◌, ◌++◌, length, Bool, true, false, ◌&&◌, true≢false, refl, sym, ap, subst, ◌∙◌, append_assoc, append-nil, drop, get_or, ◌==◌, eqb-true, Option, Some, None, MatchOption, ◌≢◌, length-append, arith, IsUtf8, IsCharBoundary}
+use Rattle.std.proofs.Common.{◌≡◌, ℕ, ◌+◌, ◌<◌, List, [], ◌∷◌, ◌++◌, length, Bool, true, false, ◌&&◌, ◌||◌, not, true≢false, refl, sym, ap, subst, ◌∙◌, append_assoc, append-nil, drop, get_or, ◌==◌, eqb-true, Option, Some, None, MatchOption, ◌≢◌, length-append, arith, IsUtf8, IsCharBoundary}
 use Rattle.std.specs.Str.{encode_utf8_all}
 use Rattle.std.specs.Char.{encode_utf8}
 use Rattle.std.specs.List.{AllByRecursion}
@@ -19,6 +19,14 @@ clash b t f = true≢false (sym t ∙ f)
 pub both : (a b : Bool) → (a && b) ≡ true → (a ≡ true) × (b ≡ true)
 both true b e = (refl, e)
 both false b e = absurd (clash false e refl)
+
+pub not_false : (b : Bool) → not b ≡ true → b ≡ false
+not_false true e = absurd (clash false e refl)
+not_false false e = refl
+
+pub neither : (a b : Bool) → (a || b) ≡ false → (a ≡ false) × (b ≡ false)
+neither true b e = absurd (clash true refl e)
+neither false b e = (refl, e)
 
 pub head_same : (b c : ℕ) (bs cs : List ℕ) → b ∷ bs ≡ c ∷ cs → b ≡ c
 head_same b c bs cs e = cc

@@ -2,6 +2,8 @@ pub mod Places
 pub mod Spelling
 pub mod Characters
 pub mod Reading
+pub mod ReadingLaws
+pub mod Placing
 pub mod Fronts
 pub mod Quotes
 pub mod Openings

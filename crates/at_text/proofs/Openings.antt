@@ -10,7 +10,7 @@ use Rattle.unicode_ident.proofs.IdentLemmas.{is_xid_start-ascii}
 use Rattle.at_model.specs.Names.{starts_name}
 use Rattle.at_model.specs.Texts.{escaped}
 use Rattle.at_text.specs.Pieces.{Piece, Blank, LineComment, BlockComment, Name, Number, Quoted, Sign, spell, IsPiece, is_blank, is_sign, signs}
-use Rattle.at_text.proofs.Fronts.{clash, both}
+use Rattle.at_text.proofs.Fronts.{clash, both, not_false}
 
 abbrev family_by : Bool → ℕ → ℕ
 family_by starts c = cond (is_blank c) 0 (cond starts 1 (cond (is_ascii_digit c) 2 (cond (c == 34) 3 4)))
@@ -74,16 +74,12 @@ is_letter c = is_ascii_alphabetic c || (c == 95)
 abbrev blank_apart : ℕ → Bool
 blank_apart c = not (is_blank c) || not (is_letter c)
 
-is_false : (b : Bool) → not b ≡ true → b ≡ false
-is_false true e = absurd (clash false e refl)
-is_false false e = refl
-
 blank_starts_none : (c : ℕ) → is_blank c ≡ true → starts_name c ≡ false
 blank_starts_none c t =
     let h : c < 128 = blank_small c t in
     let u : blank_apart c ≡ true = below 128 blank_apart refl c h in
     let v : not (is_letter c) ≡ true = sym (ap (λ b. not b || not (is_letter c)) t) ∙ u in
-    ap (λ s. s || (c == 95)) (is_xid_start-ascii c h) ∙ is_false (is_letter c) v
+    ap (λ s. s || (c == 95)) (is_xid_start-ascii c h) ∙ not_false (is_letter c) v
 
 family_name : (c : ℕ) → starts_name c ≡ true → family_at c ≡ 1
 family_name c e = decide (is_blank c) refl

@@ -1,5 +1,5 @@
 -- Texts between quotes: what is escaped is read back in one way.
-use Rattle.std.proofs.Common.{◌≡◌, ℕ, List, [], ◌∷◌, ◌++◌, length, length-append, Bool, true, false, cond, ◌==◌, ◌||◌, ◌&&◌, not, Option, Some, None, is_some, true≢false, refl, sym, ap, subst, ◌∙◌, append_assoc, append-nil, eqb-true, get_or, lit<, ◌<◌, ◌≢◌, suc, arith, encode_utf8, IsUtf8}
+use Rattle.std.proofs.Common.{◌≡◌, ℕ, List, [], ◌∷◌, ◌++◌, length, length-append, Bool, true, false, cond, ◌==◌, ◌&&◌, not, Option, Some, None, is_some, true≢false, refl, sym, ap, subst, ◌∙◌, append_assoc, append-nil, eqb-true, get_or, lit<, ◌<◌, ◌≢◌, suc, arith, encode_utf8, IsUtf8}
 use Rattle.std.specs.List.{flat_map}
 use Rattle.at_model.specs.Texts.{escaped}
 use Rattle.std.proofs.lemmas.Bool.Decides.{nat_tests}
@@ -10,7 +10,7 @@ use Rattle.std.proofs.lemmas.Grind.{flat_map-append}
 use Rattle.std.proofs.lemmas.Str.{IsUtf8-nil, IsUtf8-append, encode_ascii, IsUtf8-encode, inside_one, char_from_byte, cons_from_encodes, length-encode, len_utf8_bounds}
 use Rattle.at_text.specs.Faults.{makes_escape, leaves_open, is_misplaced}
 use Rattle.at_text.specs.Front.{MeansNone, Means, stands_for_itself}
-use Rattle.at_text.proofs.Fronts.{clash, both}
+use Rattle.at_text.proofs.Fronts.{clash, both, neither}
 
 -- the byte that an escape means
 abbrev meant : ℕ → List ℕ → Option (ℕ × List ℕ)
@@ -183,10 +183,6 @@ escape_follows c bs none = decide (makes_escape c) refl
     decide false h = h
     decide true h = let x = escape_of c h in absurd (none x.byte bs (ap (λ l. l ++ bs) (sym x.spelled)))
 
-first_false : (a b : Bool) → (a || b) ≡ false → a ≡ false
-first_false true b e = absurd (clash true refl e)
-first_false false b e = refl
-
 abbrev IsNewline : ℕ → List ℕ → ℕ → Type 0
 IsNewline c bs d = MeansNone (d ∷ c ∷ bs) → ((more : List ℕ) → d ∷ c ∷ bs ≢ 34 ∷ more) → is_misplaced (d ∷ c ∷ bs) ≡ false → (d == 10) ≡ true
 
@@ -200,4 +196,4 @@ stays_open (b ∷ []) none unquoted placed =
 stays_open (b ∷ c ∷ bs) none unquoted placed =
     by_cases (IsNewline c bs) 92 b
     (λ n u p. absurd (clash (not (makes_escape c)) (ap not (escape_follows c bs n)) p))
-    (λ f n u p. let s = not_meant b (c ∷ bs) n in let q = no_quote b (c ∷ bs) u in let t : (b == 9) ≡ false = first_false (b == 9) ((b == 92) && not (makes_escape c)) p in grind (arith, nat_tests)) none unquoted placed
+    (λ f n u p. let s = not_meant b (c ∷ bs) n in let q = no_quote b (c ∷ bs) u in let t : (b == 9) ≡ false = (neither (b == 9) ((b == 92) && not (makes_escape c)) p).0 in grind (arith, nat_tests)) none unquoted placed

@@ -6,7 +6,7 @@ use Rattle.std.proofs.lemmas.Str.{encode_same, length-encode, len_utf8_bounds}
 use Rattle.at_model.specs.Texts.{escaped}
 use Rattle.at_text.specs.Pieces.{Piece, Blank, LineComment, BlockComment, Name, Number, Quoted, Sign, spell, IsPiece, HasNoEnd, opens_comment, is_sign, signs}
 use Rattle.at_text.specs.Faults.{leaves_open, makes_escape, is_misplaced, OpensText}
-use Rattle.at_text.proofs.Fronts.{clash, both, tail_same}
+use Rattle.at_text.proofs.Fronts.{clash, both, not_false, tail_same}
 use Rattle.at_text.proofs.Quotes.{unescaped, no_escape, same_body}
 use Rattle.at_text.proofs.Openings.{family, family_at, opening, plain, slash, quote}
 use Rattle.at_text.proofs.Same.{apart, behind_slash}
@@ -59,10 +59,6 @@ pub open_means_none : (tail : List ℕ) → leaves_open tail ≡ true → unesca
 open_means_none [] e = refl
 open_means_none (b ∷ []) e = either (b == 10) (b == 92) e (λ f. subst (λ d. unescaped (d ∷ []) ≡ None) (sym (eqb-true b 10 f)) refl) (λ f. subst (λ d. unescaped (d ∷ []) ≡ None) (sym (eqb-true b 92 f)) refl)
 open_means_none (b ∷ c ∷ bs) e = subst (λ d. unescaped (d ∷ c ∷ bs) ≡ None) (sym (eqb-true b 10 e)) refl
-
-not_false : (b : Bool) → not b ≡ true → b ≡ false
-not_false true e = absurd (clash false e refl)
-not_false false e = refl
 
 pub misplaced_means_none : (tail : List ℕ) → is_misplaced tail ≡ true → unescaped tail ≡ None
 misplaced_means_none [] e = refl

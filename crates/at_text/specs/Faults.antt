@@ -14,17 +14,17 @@ StandsAt IsSo text at = (ps : List Piece) × (rest : List ℕ) × Cut text ps re
 abbrev pub IsOpenComment : List ℕ → Type 0
 IsOpenComment rest = (body : List ℕ) × (rest ≡ 47 ∷ 42 ∷ body) × HasNoEnd body
 
--- within a text between quotes: its end comes before the closing quote, by the end, a newline, or a backslash as the last character
+-- what is left within a text between quotes ends before a closing quote: it is nothing, a newline stands there, or a backslash that is the last character
 abbrev pub leaves_open : List ℕ → Bool
 leaves_open [] = true
 leaves_open (b ∷ []) = (b == 10) || (b == 92)
 leaves_open (b ∷ c ∷ bs) = b == 10
 
--- behind a backslash
+-- the character makes an escape behind a backslash
 abbrev pub makes_escape : ℕ → Bool
 makes_escape c = (c == 34) || (c == 92) || (c == 110) || (c == 116)
 
--- within a text between quotes: a raw tab, or a backslash before a character that makes no escape
+-- what is left within a text between quotes begins with a raw tab, or with a backslash before a character that makes no escape
 abbrev pub is_misplaced : List ℕ → Bool
 is_misplaced [] = false
 is_misplaced (b ∷ []) = b == 9

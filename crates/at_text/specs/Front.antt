@@ -26,7 +26,7 @@ EndsRun passes text rest = (cs : List ℕ) × (text ≡ encode_utf8_all cs ++ re
 abbrev pub EndsComment : List ℕ → List ℕ → Type 0
 EndsComment text rest = (body : List ℕ) × (text ≡ body ++ 42 ∷ 47 ∷ rest) × HasNoEnd (body ++ 42 ∷ []) × IsUtf8 rest
 
--- between quotes
+-- the character stands for itself between quotes
 abbrev pub stands_for_itself : ℕ → Bool
 stands_for_itself c = not (c == 34) && not (c == 92) && not (c == 10) && not (c == 9)
 

@@ -70,7 +70,7 @@ HasNoEnd bytes = (before after : List ℕ) → bytes ≡ before ++ 42 ∷ 47 ∷
 abbrev pub NotBefore : (ℕ → Bool) → List ℕ → Type 0
 NotBefore passes text = (c : ℕ) (after : List ℕ) → text ≡ encode_utf8 c ++ after → passes c ≡ false
 
--- the characters pass the test, and the text behind them doesn't go on with such a one
+-- the characters pass the test, and what follows them begins with none that does
 abbrev pub IsLongestRun : (ℕ → Bool) → List ℕ → List ℕ → Type 0
 IsLongestRun passes cs after = AllByRecursion (λ c. passes c ≡ true) cs × NotBefore passes after
 

@@ -4,6 +4,7 @@
 pub mod decimal;
 pub mod names;
 pub mod place;
+pub mod placed;
 pub mod quoted;
 pub mod scan;
 pub mod token;

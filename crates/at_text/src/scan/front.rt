@@ -1,11 +1,11 @@
 //! What stands at the front of a text, and what follows it.
 
 ghost use Rattle.std.specs.Prelude.{◌≡◌, ◌≢◌, ◌<◌, ℕ, List, ◌∷◌, ◌++◌, [], get_or, map, MatchOption, MatchResult, length, IsUtf8};
-ghost use Rattle.at_model.specs.Names.{starts_name, continues_name};
 ghost use Rattle.at_text.specs.Pieces.{is_blank, HasNoEnd};
 ghost use Rattle.at_text.specs.Faults.{makes_escape, is_misplaced};
 ghost use Rattle.at_text.specs.Front.{takes, stands_for_itself, EndsRun, EndsComment, Means, MeansNone, BreaksQuoted, FitsNone, EndsSign, BeginsNoSign, IsFound, BreaksSign, BreaksPiece};
 
+use crate::names::{continues_name, starts_name};
 use crate::token::TokenKind;
 
 /// Why no piece stands at the front of a text.
@@ -31,18 +31,6 @@ const SIGNS: [&str; 27] = [
     "::=", "==", "!=", "<=", ">=", "&&", "||", ":", ";", "*", "[", "]", "<", ">", "/", ".", "(",
     ")", "{", "}", ",", "=", "!", "-", "+", "%", "?",
 ];
-
-fn starts_name(c: char) -> bool
-    ensures { result ≡ starts_name c }
-{
-    unicode_ident::is_xid_start(c) || c == '_'
-}
-
-fn continues_name(c: char) -> bool
-    ensures { result ≡ continues_name c }
-{
-    unicode_ident::is_xid_continue(c)
-}
 
 fn is_blank(c: char) -> bool
     ensures { result ≡ is_blank c }

@@ -1,3 +1,4 @@
+//! The whole run over a path's text.
 ghost use Rattle.std.specs.Prelude.{◌≡◌, ◌++◌, ◌∷◌, [], Some, string_bytes, IfOk, IfErr};
 ghost use Rattle.at_model.specs.Paths.{Path as Steps, IsPath, path_text};
 ghost use Rattle.at_tree.specs.PathView.{path_view, steps_view, step_view};
@@ -50,9 +51,15 @@ fn finish(partial: Partial, at: usize) -> Result<Path, TermFault>
     }
 }
 
-/// The path of a text: a slash for the root, and else a slash, a name, and a colon and an index if
-/// any, for each step. Its work is linear in the text. `Syntax` has the offset of the first
-/// character with which no path's text goes on, or the end of the text; `Memory` is want of memory.
+/// The path of a text. Its work is linear in the text.
+///
+/// ```text
+/// path = "/" | { "/" step }, one step or more      step = name [":" index]
+/// index = "0" | nonzero { digit }, at most 9 digits
+/// ```
+///
+/// `Syntax` has the offset of the first character with which no path's text goes on, or the end of
+/// the text; `Memory` is want of memory.
 pub fn read_path(alloc: Global, text: &str) -> Result<Path, TermFault>
     // What is read is the text's path.
     ensures found { IfOk result (λ p. IsPath (path_view p) × (path_text (path_view p) ≡ text.now)) }

@@ -1,3 +1,4 @@
+//! The whole run over a term's text.
 ghost use Rattle.std.specs.Prelude.{◌≡◌, IfOk, IfErr};
 ghost use Rattle.at_model.specs.Terms.{Term as Words, IsTerm, term_text};
 ghost use Rattle.at_tree.specs.View.{term_view};
@@ -24,10 +25,17 @@ fn finish(partial: Partial, at: usize) -> Result<Term, TermFault>
     }
 }
 
-/// The term of a text: names, and in the parentheses terms, lists, empty optionals and values of
-/// tokens, with no blank between. At most 512 terms stand in one another. Its work is linear in the
-/// text. `Syntax` has the offset of the first character with which no term's text goes on, or the
-/// end of the text; `Memory` is want of memory.
+/// The term of a text: no blank stands outside its quoted texts, and at most 512 terms stand in one
+/// another. Its work is linear in the text.
+///
+/// ```text
+/// term = name "(" [cell { "," cell }] ")"      cell = term | "[" [term { "," term }] "]" | "-" | value
+/// value = int | "true" | "false" | text        int = "0" | ["-"] nonzero { digit }, within 32 bits
+/// ```
+///
+/// A text stands between quotes; in it a quote, a backslash, a newline and a tab are written `\"`,
+/// `\\`, `\n` and `\t`, and nothing else with a backslash. `Syntax` has the offset of the first
+/// character with which no term's text goes on, or the end of the text; `Memory` is want of memory.
 pub fn read_term(alloc: Global, text: &str) -> Result<Term, TermFault>
     // What is read is the text's term.
     ensures found { IfOk result (λ t. IsTerm (term_view t) × (term_text (term_view t) ≡ text.now)) }

@@ -174,6 +174,7 @@ fn limit(minus: bool) -> u64
 }
 
 impl Number {
+    /// The number itself.
     fn get(self) -> i32
         ensures { result ≡ integer self.minus self.value }
     {

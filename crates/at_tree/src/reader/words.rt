@@ -21,6 +21,7 @@ fn takes_cell(levels: &[Level]) -> bool
     }
 }
 
+/// Whether `true` or `false` begins with the word.
 fn begins_truth(word: &str) -> bool
     ensures { result ≡ begins_truth word.now }
 {
@@ -28,6 +29,7 @@ fn begins_truth(word: &str) -> bool
     "true".as_bytes().starts_with(word) || "false".as_bytes().starts_with(word)
 }
 
+/// The truth value that the word spells.
 fn truth_of(word: &str) -> Option<bool>
     ensures { result ≡ truth_of word.now }
 {

@@ -1,0 +1,7 @@
+//! Lines of sessions, read, and replies, written: one text for each.
+#![tactic(auto)]
+
+pub mod line;
+pub mod reply;
+#[cfg(test)]
+mod tests;
