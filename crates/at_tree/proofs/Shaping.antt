@@ -16,7 +16,8 @@ use Rattle.at_tree.specs.declared.term.TermCell.TheFolds.{fold_out-Term}
 use Rattle.std.specs.Prelude.{string_bytes}
 use Rattle.at_tree.specs.declared.tree.shaping.ShapeFault.{ShapeFault}
 use Rattle.at_tree.specs.declared.tree.shaping.ShapeFault.TheVariants.{Class, Fit, Memory}
-use Rattle.at_tree.specs.Shape.{IsNoneAtFit, is_known, is_known_name, are_cells_known, is_cell_known, are_terms_known, shaped, cells_shaped, cell_shaped, trees_shaped}
+use Rattle.at_model.specs.Shaping.{names_classes, names_concrete_class, cells_name_classes, cell_names_classes, terms_name_classes, shaped, cells_shaped, cell_shaped, terms_shaped}
+use Rattle.at_tree.specs.Shape.{IsNoneAtFit}
 
 pub term_view_is : (t : TermValue) → term_view t ≡ TermNode (string_bytes (out-Term t).name) (to_cells (map cell_view (out-Term t).cells.items))
 term_view_is t = fold_out-Term ModelCell Term see_cell see_term t
@@ -24,25 +25,25 @@ term_view_is t = fold_out-Term ModelCell Term see_cell see_term t
 -- names ---------------------------------------------------------------------------------------------------------------
 
 abbrev pub cells_known_from : Classes → List CellValue → ℕ → Bool
-cells_known_from classes xs i = are_cells_known classes (to_cells (map cell_view (drop i xs)))
+cells_known_from classes xs i = cells_name_classes classes (to_cells (map cell_view (drop i xs)))
 
-pub cells_known-here : (classes : Classes) (xs : List CellValue) (i : ℕ) (x : CellValue) → i < length xs → x ≡ get_or xs i x → cells_known_from classes xs i ≡ (is_cell_known classes (cell_view x) && cells_known_from classes xs (i + 1))
+pub cells_known-here : (classes : Classes) (xs : List CellValue) (i : ℕ) (x : CellValue) → i < length xs → x ≡ get_or xs i x → cells_known_from classes xs i ≡ (cell_names_classes classes (cell_view x) && cells_known_from classes xs (i + 1))
 cells_known-here classes xs i x less is = rw (drop-cons xs i x less, ← is, add-one) refl
 
 pub cells_known-end : (classes : Classes) (xs : List CellValue) (i : ℕ) → length xs ≤ i → cells_known_from classes xs i ≡ true
 cells_known-end classes xs i most = rw (drop_all i xs most) refl
 
 abbrev pub terms_known_from : Classes → List TermValue → ℕ → Bool
-terms_known_from classes xs i = are_terms_known classes (to_terms (map term_view (drop i xs)))
+terms_known_from classes xs i = terms_name_classes classes (to_terms (map term_view (drop i xs)))
 
-pub terms_known-here : (classes : Classes) (xs : List TermValue) (i : ℕ) (x : TermValue) → i < length xs → x ≡ get_or xs i x → terms_known_from classes xs i ≡ (is_known classes (term_view x) && terms_known_from classes xs (i + 1))
+pub terms_known-here : (classes : Classes) (xs : List TermValue) (i : ℕ) (x : TermValue) → i < length xs → x ≡ get_or xs i x → terms_known_from classes xs i ≡ (names_classes classes (term_view x) && terms_known_from classes xs (i + 1))
 terms_known-here classes xs i x less is = rw (drop-cons xs i x less, ← is, add-one) refl
 
 pub terms_known-end : (classes : Classes) (xs : List TermValue) (i : ℕ) → length xs ≤ i → terms_known_from classes xs i ≡ true
 terms_known-end classes xs i most = rw (drop_all i xs most) refl
 
-pub known-whole : (classes : Classes) (t : TermValue) (xs : List CellValue) → xs ≡ (out-Term t).cells.items → is_known classes (term_view t) ≡ (is_known_name classes (string_bytes (out-Term t).name) && cells_known_from classes xs 0)
-known-whole classes t xs is = ap (is_known classes) (term_view_is t) ∙ ap (λ ys. is_known_name classes (string_bytes (out-Term t).name) && are_cells_known classes (to_cells (map cell_view ys))) (sym is)
+pub known-whole : (classes : Classes) (t : TermValue) (xs : List CellValue) → xs ≡ (out-Term t).cells.items → names_classes classes (term_view t) ≡ (names_concrete_class classes (string_bytes (out-Term t).name) && cells_known_from classes xs 0)
+known-whole classes t xs is = ap (names_classes classes) (term_view_is t) ∙ ap (λ ys. names_concrete_class classes (string_bytes (out-Term t).name) && cells_name_classes classes (to_cells (map cell_view ys))) (sym is)
 
 -- trees ---------------------------------------------------------------------------------------------------------------
 
@@ -136,7 +137,7 @@ shaped-unfit classes t b c named unfit =
     ∙ ap (λ f. if f then option_map (Node c) (cells_shaped classes (to_cells (map cell_view (out-Term t).cells.items)) (parts classes c)) else None) unfit
 
 abbrev pub trees_from : Classes → List TermValue → ℕ → ℕ → Option Trees
-trees_from classes xs b i = trees_shaped classes (to_terms (map term_view (drop i xs))) b
+trees_from classes xs b i = terms_shaped classes (to_terms (map term_view (drop i xs))) b
 
 trees_from-here : (classes : Classes) (xs : List TermValue) (b i : ℕ) (x : TermValue) → i < length xs → x ≡ get_or xs i x → trees_from classes xs b i ≡ option_and_then (λ u. option_map (tree u) (trees_from classes xs b (i + 1))) (shaped classes (term_view x) b)
 trees_from-here classes xs b i x less is = rw (drop-cons xs i x less, ← is, add-one) refl

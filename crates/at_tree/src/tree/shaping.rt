@@ -6,7 +6,8 @@ ghost use Rattle.at_tree.specs.Token.{token_view};
 ghost use Rattle.at_tree.specs.TreeView.{tree_view};
 ghost use Rattle.at_tree.specs.TreeView.{cell_view as tree_cell_view};
 ghost use Rattle.at_tree.specs.View.{term_view, cell_view, to_terms};
-ghost use Rattle.at_tree.specs.Shape.{IsShaped, IsMisshaped, IsNoneAtFit, is_known, is_cell_known, are_terms_known, is_known_name, shaped, cell_shaped, trees_shaped};
+ghost use Rattle.at_model.specs.Shaping.{names_classes, names_concrete_class, cell_names_classes, terms_name_classes, shaped, cell_shaped, terms_shaped};
+ghost use Rattle.at_tree.specs.Shape.{IsShaped, IsMisshaped, IsNoneAtFit};
 
 use super::conforming::is_of_kind;
 use super::{Cell, Tree};
@@ -60,7 +61,7 @@ pub fn shape(
     term: &Term,
     under: ClassId,
 ) -> Result<Tree, ShapeFault>
-    ensures known { OnOk result (is_known classes.now (term_view term.now) ≡ true) }
+    ensures known { OnOk result (names_classes classes.now (term_view term.now) ≡ true) }
     ensures found { IfOk result (λ t. IsShaped classes.now (term_view term.now) under (tree_view t)) }
     ensures refused { IfErr result (IsMisshaped classes.now (term_view term.now) under) }
 {
@@ -71,7 +72,7 @@ pub fn shape(
 }
 
 fn is_known_name(classes: &ClassTable, name: &str) -> bool
-    ensures { result ≡ is_known_name classes.now name.now }
+    ensures { result ≡ names_concrete_class classes.now name.now }
 {
     match classes.id_of(name) {
         None => false,
@@ -81,7 +82,7 @@ fn is_known_name(classes: &ClassTable, name: &str) -> bool
 
 #[cycle(known)]
 fn is_known(classes: &ClassTable, term: &Term) -> bool
-    ensures { result ≡ is_known classes.now (term_view term.now) }
+    ensures { result ≡ names_classes classes.now (term_view term.now) }
 {
     if !is_known_name(classes, term.name.as_str()) {
         return false;
@@ -96,7 +97,7 @@ fn is_known(classes: &ClassTable, term: &Term) -> bool
 
 #[cycle(known)]
 fn is_cell_known(classes: &ClassTable, cell: &TermCell) -> bool
-    ensures { result ≡ is_cell_known classes.now (cell_view cell.now) }
+    ensures { result ≡ cell_names_classes classes.now (cell_view cell.now) }
 {
     match cell {
         TermCell::One(term) => is_known(classes, term),
@@ -108,7 +109,7 @@ fn is_cell_known(classes: &ClassTable, cell: &TermCell) -> bool
 
 #[cycle(known)]
 fn are_known(classes: &ClassTable, terms: &[Term]) -> bool
-    ensures { result ≡ are_terms_known classes.now (to_terms (map term_view terms.now)) }
+    ensures { result ≡ terms_name_classes classes.now (to_terms (map term_view terms.now)) }
 {
     for term in terms {
         if !is_known(classes, term) {
@@ -195,8 +196,8 @@ fn shape_list(
     terms: &[Term],
     under: ClassId,
 ) -> Result<Vec<Tree>, ShapeFault>
-    ensures found { IfOk result (λ v. trees_shaped classes.now (to_terms (map term_view terms.now)) under ≡ Some (to_trees (map tree_view v.items))) }
-    ensures refused { IfErr result (IsNoneAtFit (trees_shaped classes.now (to_terms (map term_view terms.now)) under)) }
+    ensures found { IfOk result (λ v. terms_shaped classes.now (to_terms (map term_view terms.now)) under ≡ Some (to_trees (map tree_view v.items))) }
+    ensures refused { IfErr result (IsNoneAtFit (terms_shaped classes.now (to_terms (map term_view terms.now)) under)) }
 {
     let mut trees = Vec::new(alloc);
     for term in terms {

@@ -5,7 +5,7 @@ use Rattle.std.proofs.lemmas.Result.{err_from_is_err_and}
 use Rattle.at_class.specs.View.{part_view, shape_view}
 use Rattle.at_model.specs.Classes.{class_of_name, Maybe}
 use Rattle.at_model.specs.Trees.{Node, Filled}
-use Rattle.at_tree.specs.Shape.{cell_shaped, shaped, IsNoneAtFit}
+use Rattle.at_model.specs.Shaping.{cell_shaped, shaped}
 use Rattle.at_tree.specs.TreeView.{tree_view, cell_view}
 use Rattle.at_tree.specs.View.{term_view, cell_view as term_cell_view}
 use Rattle.at_tree.specs.declared.tree.shaping.ShapeFault.{ShapeFault}
