@@ -1,5 +1,5 @@
 -- What the trees and cells that are made stand for.
-use Rattle.std.proofs.Common.{◌≡◌, ◌∙◌, ℕ, List, map, ap, sym, rules, Some, refl}
+use Rattle.std.proofs.Common.{◌≡◌, ◌∙◌, ℕ, map, ap, sym, Some}
 use Rattle.std.specs.Prelude.{Vec}
 use Rattle.std.specs.Global.{Global}
 use Rattle.at_model.specs.Trees.{Tree, Cell, Node, Filled, to_cells}
@@ -12,7 +12,7 @@ use Rattle.at_tree.specs.declared.term.TermCell.TheFolds.{fold-roll-TermCell}
 use Rattle.at_tree.specs.TreeView.{see_tree, see_cell, tree_view, cell_view}
 use Rattle.at_tree.specs.declared.tree.Tree.{Tree as TreeValue}
 use Rattle.at_tree.specs.declared.tree.Cell.{Cell as CellValue}
-use Rattle.at_tree.specs.declared.tree.Cell.TheOpen.{Cell-F, Tree-F}
+use Rattle.at_tree.specs.declared.tree.Cell.TheOpen.{Cell-F}
 use Rattle.at_tree.specs.declared.tree.Cell.TheViews.{roll-Tree}
 use Rattle.at_tree.specs.declared.tree.Cell.TheVariants.{Maybe, rolls-Maybe}
 use Rattle.at_tree.specs.declared.tree.Cell.TheFolds.{fold-roll-Tree, fold-roll-Cell}

@@ -1,19 +1,12 @@
 -- The tree that is found is the one tree that conforms and is written so.
 use Rattle.std.proofs.Common.{◌≡◌, ◌<◌, ◌≤◌, ◌-◌, arith, ℕ, List, [], ◌∷◌, refl, ap, sym, ◌∙◌, Option, Some, None, subst}
-use Rattle.std.specs.Prelude.{Bool, true, false, ◌&&◌, if◌then◌else◌, length, not}
+use Rattle.std.specs.Prelude.{Bool, true, false, ◌&&◌, length, not}
 use Rattle.std.specs.List.{slice_get}
-use Rattle.std.specs.Option.{option_map, option_and_then}
-use Rattle.std.specs.Str.{bytes_eq}
-use Rattle.std.proofs.lemmas.List.Quantifiers.{position-Some}
-use Rattle.std.proofs.Common.{get_or}
-use Rattle.std.proofs.lemmas.Bool.{eqb-true}
-use Rattle.std.specs.Prelude.{nat_eq}
-use Rattle.std.proofs.lemmas.Option.{slice_get-get_or, slice_get_within, option_and_then_some, same_Some, none-some}
+use Rattle.std.proofs.lemmas.Option.{slice_get-get_or, slice_get_within, same_Some, none-some}
 use Rattle.at_model.specs.Classes.{IsNamed, Classes, Class as ClassRecord, Component, Shape, AreSound, class_of_name, name_of, is_concrete, fits, parts, is_sub}
 use Rattle.at_model.specs.Classes as class
 use Rattle.at_model.specs.Terms.{Term, term_of, cells_of, cell_of, terms_of, IsTermWithin, AreCellsWithin, IsCellWithin, AreTermsWithin}
-use Rattle.at_model.specs.Terms as written
-use Rattle.at_model.specs.Trees.{Tree, Node, Cells, no_cells, cell, Cell, One, Many, Empty, Filled, Holds, Trees, no_trees, tree, conforms, cells_conform, cell_conforms, trees_conform, is_of_kind, depth, cells_depth, cell_depth, trees_depth}
+use Rattle.at_model.specs.Trees.{Tree, Node, Cells, no_cells, cell, Cell, One, Many, Empty, Filled, Holds, Trees, no_trees, tree, conforms, cells_conform, cell_conforms, trees_conform, depth, cells_depth, cell_depth, trees_depth}
 use Rattle.at_tree.specs.declared.tree.shaping.ShapeFault.{ShapeFault}
 use Rattle.at_tree.specs.declared.tree.shaping.ShapeFault.TheVariants.{Class, Fit, Memory}
 use Rattle.at_model.specs.Shaping.{shaped, names_classes}

@@ -1,11 +1,11 @@
 -- Loops over terms, as they are looked through and as their tree is made.
-use Rattle.std.proofs.Common.{◌≡◌, ℕ, ◌+◌, ◌<◌, ◌≤◌, List, [], ◌∷◌, ◌++◌, length, take, drop, get_or, map, refl, ap, sym, ◌∙◌, arith, add-one, suc, Option, Some, None}
+use Rattle.std.proofs.Common.{◌≡◌, ℕ, ◌+◌, ◌<◌, ◌≤◌, List, [], ◌∷◌, ◌++◌, length, drop, get_or, map, refl, ap, sym, ◌∙◌, add-one, suc, Option, Some, None}
 use Rattle.std.proofs.Math.Seq.{drop-cons}
-use Rattle.std.proofs.lemmas.List.{drop_all, length-map, map-append}
+use Rattle.std.proofs.lemmas.List.{drop_all, length-map}
 use Rattle.std.specs.Prelude.{Bool, true, false, ◌&&◌, if◌then◌else◌}
 use Rattle.std.specs.Option.{option_map, option_and_then}
 use Rattle.at_model.specs.Classes.{Classes, Component, fits, parts, class_of_name}
-use Rattle.at_model.specs.Terms.{Term, Cell as ModelCell, Node as TermNode, cell as term_cell}
+use Rattle.at_model.specs.Terms.{Term, Cell as ModelCell, Node as TermNode}
 use Rattle.at_model.specs.Trees.{Tree, Cell, Cells, Trees, Node, no_cells, cell, no_trees, tree, to_trees, to_cells as to_tree_cells}
 use Rattle.at_class.specs.declared.part.Part.{Part}
 use Rattle.at_class.specs.View.{part_view}

@@ -1,7 +1,7 @@
 -- Loops over the cells and the lists of trees.
-use Rattle.std.proofs.Common.{◌≡◌, ℕ, ◌+◌, ◌<◌, ◌≤◌, ◌≢◌, List, [], ◌∷◌, ◌++◌, length, take, drop, get_or, map, refl, ap, sym, ◌∙◌, arith, add-one, take_all, suc}
+use Rattle.std.proofs.Common.{◌≡◌, ℕ, ◌+◌, ◌<◌, ◌≤◌, List, [], ◌∷◌, ◌++◌, length, take, drop, get_or, map, refl, ap, sym, ◌∙◌, arith, add-one, take_all, suc}
 use Rattle.std.proofs.Math.Seq.{drop-cons}
-use Rattle.std.proofs.lemmas.List.{map_more, drop_all, length-map}
+use Rattle.std.proofs.lemmas.List.{map_more, drop_all}
 use Rattle.std.specs.Prelude.{Bool, true, false, ◌&&◌, max}
 use Rattle.at_model.specs.Classes.{Classes, Component, fits, parts}
 use Rattle.at_model.specs.Trees.{Tree, Cell, Node, to_cells, to_trees, nodes, cell_nodes, cells_nodes, trees_nodes, depth, cell_depth, cells_depth, trees_depth, conforms, cell_conforms, cells_conform, trees_conform}

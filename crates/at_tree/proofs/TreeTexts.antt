@@ -3,8 +3,8 @@ use Rattle.std.proofs.Common.{◌≡◌, ℕ, ◌+◌, ◌<◌, ◌≤◌, List,
 use Rattle.std.proofs.Math.Seq.{take-suc}
 use Rattle.std.proofs.lemmas.List.{map-append, length-map, take-take, length-append}
 use Rattle.at_model.specs.Classes.{Classes, name_of}
-use Rattle.at_model.specs.Trees.{Tree, Cell, Many, to_cells, to_trees}
-use Rattle.at_model.specs.Terms.{with_commas, tree_text, cell_text, cell_texts, cell_of, cells_of, term_text, term_texts, term_of, terms_of}
+use Rattle.at_model.specs.Trees.{Many, to_cells, to_trees}
+use Rattle.at_model.specs.Terms.{with_commas, tree_text, cell_text, cell_texts, cell_of, cells_of, term_texts, terms_of}
 use Rattle.at_tree.specs.Separated.{separator}
 use Rattle.at_tree.specs.TreeView.{tree_view, cell_view}
 use Rattle.at_tree.specs.declared.tree.Tree.{Tree as TreeValue, out-Tree}

@@ -1,10 +1,10 @@
-use Rattle.std.proofs.Common.{◌≡◌, ◌+◌, ◌≤◌, ◌∙◌, ap, sym, arith, length, List, map}
+use Rattle.std.proofs.Common.{◌≡◌, ◌+◌, ◌≤◌, ◌∙◌, ap, sym, arith, length, map}
 use Rattle.std.specs.Prelude.{Bool, ◌&&◌, true, false}
 use Rattle.std.proofs.lemmas.List.{length-map}
-use Rattle.at_model.specs.Classes.{fits, parts}
+use Rattle.at_model.specs.Classes.{fits}
 use Rattle.at_model.specs.Trees.{cell_conforms}
 use Rattle.at_class.specs.View.{part_view}
-use Rattle.at_tree.specs.TreeView.{tree_view, cell_view}
+use Rattle.at_tree.specs.TreeView.{cell_view}
 use Rattle.at_tree.specs.declared.tree.Tree.{out-Tree}
 use Rattle.at_tree.proofs.TreeLoops.{rest_conforms, rest_conforms-here, rest_conforms-end, cells_conform-lengths, conforms-whole}
 use Rattle.at_tree.proofs.tree.conforming.+fits.Goals as goal

@@ -1,4 +1,4 @@
-use Rattle.std.proofs.Common.{◌≡◌, ◌+◌, ◌<◌, ◌≤◌, ◌∙◌, List, [], ◌∷◌, ap, sym, subst, arith, length, map, Some, None, take}
+use Rattle.std.proofs.Common.{◌+◌, ◌≤◌, ◌∙◌, [], ◌∷◌, ap, sym, arith, length, map, Some}
 use Rattle.std.specs.Option.{option_map}
 use Rattle.std.proofs.lemmas.List.{map-append}
 use Rattle.std.proofs.lemmas.Result.{err_from_is_err_and}
@@ -8,8 +8,6 @@ use Rattle.at_model.specs.Trees.{Node, Filled}
 use Rattle.at_model.specs.Shaping.{cell_shaped, shaped}
 use Rattle.at_tree.specs.TreeView.{tree_view, cell_view}
 use Rattle.at_tree.specs.View.{term_view, cell_view as term_cell_view}
-use Rattle.at_tree.specs.declared.tree.shaping.ShapeFault.{ShapeFault}
-use Rattle.at_tree.specs.declared.tree.shaping.ShapeFault.TheVariants.{Class, Fit, Memory}
 use Rattle.at_tree.proofs.Made.{made_tree, made_filled, term_one}
 use Rattle.at_tree.proofs.Shaping.{cells_from, cells_from-more, cells_from-none, cells_from-end, cells_from-lengths, trees_from, trees_from-more, trees_from-end, shaped-whole, onto_cells, onto_trees, unfit_when}
 use Rattle.at_tree.proofs.tree.shaping.+shape.Goals as goal
