@@ -1,7 +1,7 @@
 -- Loops that look for the first fault.
 use Rattle.std.proofs.Common.{◌≡◌, ℕ, ◌+◌, ◌<◌, ◌≤◌, List, [], ◌∷◌, ◌++◌, subst, length, take, drop, get_or, map, refl, ap, sym, ◌∙◌, arith, add-one, Option, Some, None}
 use Rattle.std.proofs.Math.Seq.{drop-cons}
-use Rattle.std.proofs.lemmas.List.{drop_all, take-map, map-append, map_more}
+use Rattle.std.proofs.lemmas.List.{drop_all, take-map, map-append, map_more, get_or-map, length-map}
 use Rattle.indexmap.specs.IndexSet.{insert_key}
 use Rattle.at_grammar.specs.declared.syntax.ClassDecl.{ClassDecl}
 use Rattle.at_class.specs.Grammar.{declaration_view, declarations_view}
@@ -10,7 +10,6 @@ use Rattle.std.proofs.lemmas.List.Elements.{All-push}
 use Rattle.std.specs.Prelude.{All, ◌&&◌, not, String, string_bytes, Bool, true, false, ◌||◌, if◌then◌else◌}
 use Rattle.std.specs.List.{list_any, list_all}
 use Rattle.std.specs.Str.{bytes_eq}
-use Rattle.std.specs.Option.{option_or}
 use Rattle.at_model.specs.Declarations.{Declarations, Declaration, Place, first_given, is_predefined}
 
 -- one more element at which nothing is given
@@ -104,3 +103,8 @@ list_all-map p f (x ∷ xs) = ap (λ b. p (f x) && b) (list_all-map p f xs)
 pub all_more : {X A : Type 0} (P : A → Type 0) (v : X → A) (xs : List X) (k : ℕ) (x : X) → k < length xs → x ≡ get_or xs k x → All P (map v (take k xs)) → P (v x) → All P (map v (take (k + 1) xs))
 all_more P v xs k x less is so_far here =
     subst (All P) (sym (map_more v xs k x less ∙ ap (λ y. map v (take k xs) ++ v y ∷ []) (sym is))) (All-push P (map v (take k xs)) (v x) so_far here)
+
+-- one of which it doesn't hold
+pub all_fails : {X A : Type 0} (P : A → Type 0) (v : X → A) (xs : List X) (k : ℕ) (x : X) → k < length xs → x ≡ get_or xs k x → (P (v x) → ⊥) → All P (map v xs) → ⊥
+all_fails P v xs k x less is other all =
+    other (subst P (get_or-map v xs k x (v x) less ∙ ap v (sym is)) (all k (v x) (omega (arith, length-map xs v))))

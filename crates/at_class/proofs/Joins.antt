@@ -1,7 +1,7 @@
 -- Tests of lists that are made of others.
 use Rattle.std.proofs.Common.{◌≡◌, ℕ, ◌+◌, ◌<◌, ◌≤◌, List, [], ◌∷◌, ◌++◌, length, take, drop, reverse, map, refl, ap, sym, ◌∙◌, arith, append-nil}
 use Rattle.std.proofs.lemmas.List.Sums.{sum_by-cons}
-use Rattle.std.specs.Prelude.{Bool, true, false, ◌||◌, ◌&&◌, nat_eq, cond}
+use Rattle.std.specs.Prelude.{Bool, true, false, ◌||◌, ◌&&◌, nat_eq}
 use Rattle.std.specs.List.{list_any, flat_map, sum_by}
 use Rattle.std.specs.Str.{bytes_eq}
 use Rattle.std.proofs.lemmas.List.{reverse-append, length-append}
@@ -65,9 +65,9 @@ length-flat_map-reverse f (x ∷ xs) =
     ∙ ap length (flat_map-append f (reverse xs) (x ∷ []))
     ∙ length-append (flat_map f (reverse xs)) (f x ++ [])
     ∙ (let e : length (f x ++ []) ≡ length (f x) = ap length (append-nil (f x)) in
-      let h : length (flat_map f (reverse xs)) ≡ sum_by (λ y. length (f y)) xs = length-flat_map-reverse f xs in
-      let s : sum_by (λ y. length (f y)) (x ∷ xs) ≡ length (f x) + sum_by (λ y. length (f y)) xs = sum_by-cons (λ y. length (f y)) x xs in
-      omega (arith, e, h, s))
+    let h : length (flat_map f (reverse xs)) ≡ sum_by (λ y. length (f y)) xs = length-flat_map-reverse f xs in
+    let s : sum_by (λ y. length (f y)) (x ∷ xs) ≡ length (f x) + sum_by (λ y. length (f y)) xs = sum_by-cons (λ y. length (f y)) x xs in
+    omega (arith, e, h, s))
 
 -- a test of what all above have, and of these
 pub taken_by : {A B X : Type 0} (p : B → Bool) (f : A → List B) (above : List A) (v : X → B) (before : List X) → list_any p (flat_map f (reverse above) ++ map v before) ≡ (list_any (λ a. list_any p (f a)) above || list_any (λ x. p (v x)) before)

@@ -1,11 +1,11 @@
 -- Which class a name names, by whichever list of names.
-use Rattle.std.proofs.Common.{◌≡◌, ℕ, ◌+◌, ◌<◌, ◌≤◌, List, [], ◌∷◌, length, map, take, get_or, refl, ap, sym, ◌∙◌, arith, Option, Some, None, add-one, suc, zero, add-zero, true≢false}
+use Rattle.std.proofs.Common.{◌≡◌, ℕ, ◌+◌, ◌<◌, List, [], ◌∷◌, length, map, take, get_or, refl, ap, sym, ◌∙◌, arith, Some, suc, zero, add-zero, true≢false}
 use Rattle.std.specs.Prelude.{Bool, true, false, ◌||◌, cond, position, String, string_bytes}
 use Rattle.std.specs.List.{list_any, position_from}
 use Rattle.std.specs.Str.{bytes_eq}
 use Rattle.std.proofs.lemmas.Iterator.Adapters.{position_from-zero}
-use Rattle.at_model.specs.Classes.{Classes, Class, class_of_name}
-use Rattle.at_model.specs.Declarations.{Declarations, Declaration, class_named, class_by, classes_of, unknown_class, superclass_circle, component_twice, over_limit}
+use Rattle.at_model.specs.Classes.{Classes, class_of_name}
+use Rattle.at_model.specs.Declarations.{Declarations, class_named, class_by, classes_of, unknown_class, superclass_circle, component_twice, over_limit}
 use Rattle.at_grammar.specs.declared.syntax.ClassDecl.{ClassDecl}
 use Rattle.at_class.specs.declared.class.Class.{Class as ClassValue}
 use Rattle.at_class.specs.View.{class_view, classes_view, named_in}

@@ -1,6 +1,6 @@
 -- The first of the faults.
 use Rattle.std.proofs.Common.{◌≡◌, refl, ap, sym, ◌∙◌, Option, Some, None}
-use Rattle.at_model.specs.Declarations.{Declarations, Declaration, Place, Fault, Code, NoClass, ClassTwice, UnknownClass, SuperclassCircle, TokenKindCode, ComponentTwice, Limit, first_fault, first_of, coded, no_class, class_twice, unknown_class, superclass_circle, token_kind, component_twice, over_limit}
+use Rattle.at_model.specs.Declarations.{Declarations, Place, NoClass, ClassTwice, UnknownClass, SuperclassCircle, TokenKindCode, ComponentTwice, Limit, first_fault, no_class, class_twice, unknown_class, superclass_circle, token_kind, component_twice, over_limit}
 use Rattle.at_class.specs.declared.fault.ClassCode.{ClassCode}
 use Rattle.at_class.specs.declared.fault.ClassFault.{ClassFault}
 use Rattle.at_class.specs.declared.fault.ClassFault.TheVariants.{Refused, Memory}

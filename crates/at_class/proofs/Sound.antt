@@ -1,18 +1,15 @@
 -- The classes that a grammar without faults declares are sound.
-use Rattle.std.proofs.Common.{◌≡◌, ℕ, ◌+◌, ◌<◌, ◌≤◌, List, [], ◌∷◌, length, map, take, get_or, refl, ap, sym, subst, ◌∙◌, arith, Option, Some, None, add-one, suc, zero, eq-eqb}
-use Rattle.std.specs.Prelude.{Bool, true, false, ◌||◌, if◌then◌else◌, position, String, string_bytes, All, IfSome, unwrap_or, option_and_then, option_map}
-use Rattle.std.specs.List.{list_any, slice_get}
+use Rattle.std.proofs.Common.{◌≡◌, ℕ, ◌+◌, ◌<◌, List, [], ◌∷◌, length, map, get_or, refl, ap, sym, subst, ◌∙◌, arith, Option, Some, None, suc, zero, eq-eqb}
+use Rattle.std.specs.Prelude.{Bool, true, false, ◌||◌, if◌then◌else◌, position, All, IfSome, unwrap_or, option_and_then, option_map}
 use Rattle.std.specs.Str.{IsUtf8, bytes_eq}
 use Rattle.std.proofs.lemmas.Str.{IsUtf8-string_bytes}
 use Rattle.std.specs.Option.{option_or}
-use Rattle.std.proofs.lemmas.List.{length-map, get_or-map, take-map}
-use Rattle.std.proofs.lemmas.List.Elements.{All-from_get_or}
+use Rattle.std.proofs.lemmas.List.{length-map, get_or-map}
 use Rattle.std.proofs.lemmas.List.Quantifiers.{position-Some}
 use Rattle.std.proofs.lemmas.Option.{slice_get-get_or, slice_get-map}
-use Rattle.std.proofs.lemmas.Slice.Eq.{bytes_eq-Decides}
-use Rattle.at_model.specs.Classes.{Classes, Class, Component, Shape, AreSound, IsClassSound, IsComponentSound, IsShapeWithin, IsNamed, TokenKind, class_of_name, name_of}
+use Rattle.at_model.specs.Classes.{Class, AreSound, IsClassSound, IsComponentSound, IsShapeWithin, IsNamed, TokenKind, class_of_name, name_of}
 use Rattle.at_model.specs.Declarations.{Declarations, Declaration, PartDeclaration, Form, One, Many, Maybe, Tok, Place, AreNamed, IsDeclarationNamed, class_named, class_by, component_by, shape_in, classes_of, class_twice, first_given, is_predefined}
-use Rattle.at_class.proofs.Firsts.{twice_test, list_any-map}
+use Rattle.at_class.proofs.Firsts.{twice_test}
 use Rattle.at_grammar.specs.declared.syntax.ClassDecl.{ClassDecl}
 use Rattle.at_class.specs.Grammar.{declaration_view, part_declaration_view, declarations_view}
 use Rattle.at_class.proofs.Named.{position-at, position-map}
@@ -125,7 +122,7 @@ classes_sound ds some named texts none =
       each = λ k x less.
           let l : k < length ds = subst (λ n. k < n) len less in
           subst (λ n. IsClassSound n (get_or (map f ds) k x)) (sym len)
-            (subst (IsClassSound (length ds)) (sym (get_or-map f ds k spare x l)) (class_sound ds (get_or ds k spare) some (named k spare l) (texts k spare l)));
+          (subst (IsClassSound (length ds)) (sym (get_or-map f ds k spare x l)) (class_sound ds (get_or ds k spare) some (named k spare l) (texts k spare l)));
       distinct = λ c less.
           let l : c < length ds = subst (λ n. c < n) len less in
           ap (class_of_name (map f ds)) (name_of-class ds (class_named ds) c spare l)

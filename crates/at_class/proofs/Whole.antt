@@ -2,14 +2,14 @@
 use Rattle.std.proofs.Common.{◌≡◌, ◌<◌, ◌∙◌, ℕ, List, [], ◌∷◌, ap, sym, subst, refl, arith, length, map, None, Some, false, true}
 use Rattle.std.proofs.lemmas.Bool.{eqb-true}
 use Rattle.std.proofs.Common.{eq-eqb, true≢false}
-use Rattle.std.specs.Prelude.{String, Vec, string_bytes, nat_eq, ◌==◌}
+use Rattle.std.specs.Prelude.{String, Vec, string_bytes, ◌==◌}
 use Rattle.at_grammar.specs.declared.syntax.ClassDecl.{ClassDecl}
 use Rattle.at_model.specs.Classes.{AreSound, Class as ModelClass}
-use Rattle.at_model.specs.Declarations.{Declaration, no_class, classes_of, class_by, class_named}
+use Rattle.at_model.specs.Declarations.{no_class, classes_of, class_by, class_named}
 use Rattle.at_class.specs.declared.class.Class.{Class}
 use Rattle.at_class.specs.declared.part.Part.{Part}
-use Rattle.at_class.specs.View.{class_view, classes_view}
-use Rattle.at_class.specs.Grammar.{declaration_view, declarations_view}
+use Rattle.at_class.specs.View.{classes_view}
+use Rattle.at_class.specs.Grammar.{declarations_view}
 use Rattle.at_class.specs.Table.{HoldsParts, IsTable}
 
 pub none_declared : (xs : List ClassDecl) → (length xs == 0) ≡ true → no_class (declarations_view xs) ≡ Some (1, 1)

@@ -1,5 +1,5 @@
 -- What a grammar that was read stands for.
-use Rattle.std.specs.Prelude.{map, List, string_bytes, Option, option_map}
+use Rattle.std.specs.Prelude.{map, List, string_bytes, option_map}
 use Rattle.at_model.specs.Declarations.{Form, PartDeclaration, Declaration, Declarations}
 use Rattle.at_model.specs.Declarations as form
 use Rattle.at_grammar.specs.declared.syntax.Shape.{Shape}

@@ -30,7 +30,11 @@ pub fn climbs(classes: &[Class], from: Option<ClassId>, to: ClassId) -> bool
 }
 
 /// The classes on the way up from the class `from`.
-pub fn lineage(alloc: Global, classes: &[Class], from: Option<ClassId>) -> Result<Vec<ClassId>, AllocError>
+pub fn lineage(
+    alloc: Global,
+    classes: &[Class],
+    from: Option<ClassId>,
+) -> Result<Vec<ClassId>, AllocError>
     ensures { IfOk result (λ v. v.items ≡ chain_within (length classes.now) (classes_view classes.now) from) }
 {
     let mut met = Vec::new(alloc);
@@ -44,7 +48,11 @@ pub fn lineage(alloc: Global, classes: &[Class], from: Option<ClassId>) -> Resul
 }
 
 /// All components of the class: those of its superclass, and then its own.
-pub fn whole_parts(alloc: Global, classes: &[Class], class: ClassId) -> Result<Vec<Part>, AllocError>
+pub fn whole_parts(
+    alloc: Global,
+    classes: &[Class],
+    class: ClassId,
+) -> Result<Vec<Part>, AllocError>
     ensures { IfOk result (λ v. map part_view v.items ≡ parts (classes_view classes.now) class) }
 {
     let mut way = lineage(alloc, classes, Some(class))?;
@@ -55,7 +63,12 @@ pub fn whole_parts(alloc: Global, classes: &[Class], class: ClassId) -> Result<V
     Ok(parts)
 }
 
-fn append_own(alloc: Global, classes: &[Class], class: ClassId, parts: &mut Vec<Part>) -> Result<(), AllocError>
+fn append_own(
+    alloc: Global,
+    classes: &[Class],
+    class: ClassId,
+    parts: &mut Vec<Part>,
+) -> Result<(), AllocError>
     ensures { OnOk result (map part_view parts.new.items ≡ map part_view parts.old.items ++ own_of (classes_view classes.now) class) }
 {
     for part in own_parts(classes, class) {

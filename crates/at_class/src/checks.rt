@@ -74,7 +74,11 @@ fn has_wrong_kind(part: &PartDecl) -> bool
 }
 
 /// The first component that clashes with one before it in its class, or with what every tree has.
-pub fn component_twice(alloc: Global, classes: &[Class], declarations: &[ClassDecl]) -> Result<Option<(u32, u32)>, AllocError>
+pub fn component_twice(
+    alloc: Global,
+    classes: &[Class],
+    declarations: &[ClassDecl],
+) -> Result<Option<(u32, u32)>, AllocError>
     ensures { IfOk result (λ place. place ≡ twice_in (classes_view classes.now) (declarations_view declarations.now)) }
 {
     for (position, declaration) in declarations.iter().enumerate() {
@@ -87,7 +91,12 @@ pub fn component_twice(alloc: Global, classes: &[Class], declarations: &[ClassDe
     Ok(None)
 }
 
-fn first_twice(classes: &[Class], class: ClassId, above: &[ClassId], parts: &[PartDecl]) -> Option<(u32, u32)>
+fn first_twice(
+    classes: &[Class],
+    class: ClassId,
+    above: &[ClassId],
+    parts: &[PartDecl],
+) -> Option<(u32, u32)>
     requires { above.now ≡ above_of (classes_view classes.now) class }
     ensures { result ≡ parts_twice (classes_view classes.now) class (map part_declaration_view parts.now) }
 {
@@ -111,7 +120,11 @@ fn is_twice(classes: &[Class], class: ClassId, above: &[ClassId], i: usize) -> b
 }
 
 /// The name of the first class that is one too many, or has too many components.
-pub fn over_limit(alloc: Global, classes: &[Class], declarations: &[ClassDecl]) -> Result<Option<(u32, u32)>, AllocError>
+pub fn over_limit(
+    alloc: Global,
+    classes: &[Class],
+    declarations: &[ClassDecl],
+) -> Result<Option<(u32, u32)>, AllocError>
     ensures { IfOk result (λ place. place ≡ over_in (classes_view classes.now) (declarations_view declarations.now)) }
 {
     for (position, declaration) in declarations.iter().enumerate() {

@@ -40,13 +40,16 @@ fn takes(part: &Part, name: &str) -> bool
     ensures { result ≡ takes (part_view part.now) name.now }
 {
     let own = part.name.as_bytes();
-    is_list(part.shape) && (is_joined(name.as_bytes(), b"Num", own) || is_joined(name.as_bytes(), own, b"List"))
+    is_list(part.shape)
+        && (is_joined(name.as_bytes(), b"Num", own) || is_joined(name.as_bytes(), own, b"List"))
 }
 
 fn clash(part: &Part, other: &Part) -> bool
     ensures { result ≡ clash (part_view part.now) (part_view other.now) }
 {
-    part.name.as_str() == other.name.as_str() || takes(part, other.name.as_str()) || takes(other, part.name.as_str())
+    part.name.as_str() == other.name.as_str()
+        || takes(part, other.name.as_str())
+        || takes(other, part.name.as_str())
 }
 
 // Whether the component clashes with one of these.

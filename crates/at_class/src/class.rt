@@ -48,7 +48,11 @@ fn shape_named(names: &IndexSet<String>, shape: Shape, kind: &str) -> PartShape
     }
 }
 
-fn part_declared(alloc: Global, names: &IndexSet<String>, part: &PartDecl) -> Result<Part, AllocError>
+fn part_declared(
+    alloc: Global,
+    names: &IndexSet<String>,
+    part: &PartDecl,
+) -> Result<Part, AllocError>
     ensures { IfOk result (λ p. part_view p ≡ component_by (named_in names.now.keys) (part_declaration_view part.now)) }
 {
     let name = String::from_str(alloc, part.name.as_str())?;
@@ -58,7 +62,11 @@ fn part_declared(alloc: Global, names: &IndexSet<String>, part: &PartDecl) -> Re
     })
 }
 
-fn parts_declared(alloc: Global, names: &IndexSet<String>, declared: &[PartDecl]) -> Result<Vec<Part>, AllocError>
+fn parts_declared(
+    alloc: Global,
+    names: &IndexSet<String>,
+    declared: &[PartDecl],
+) -> Result<Vec<Part>, AllocError>
     ensures { IfOk result (λ v. map part_view v.items ≡ map (component_by (named_in names.now.keys)) (map part_declaration_view declared.now)) }
 {
     let mut parts = Vec::with_capacity(alloc, declared.len())?;
@@ -68,7 +76,11 @@ fn parts_declared(alloc: Global, names: &IndexSet<String>, declared: &[PartDecl]
     Ok(parts)
 }
 
-fn class_declared(alloc: Global, names: &IndexSet<String>, declaration: &ClassDecl) -> Result<Class, AllocError>
+fn class_declared(
+    alloc: Global,
+    names: &IndexSet<String>,
+    declaration: &ClassDecl,
+) -> Result<Class, AllocError>
     ensures { IfOk result (λ k. class_view k ≡ class_by (named_in names.now.keys) (declaration_view declaration.now)) }
 {
     let name = String::from_str(alloc, declaration.name.as_str())?;
@@ -82,7 +94,11 @@ fn class_declared(alloc: Global, names: &IndexSet<String>, declaration: &ClassDe
 }
 
 /// The classes that are declared, where these are their names.
-pub fn classes_declared(alloc: Global, names: &IndexSet<String>, declarations: &[ClassDecl]) -> Result<Vec<Class>, AllocError>
+pub fn classes_declared(
+    alloc: Global,
+    names: &IndexSet<String>,
+    declarations: &[ClassDecl],
+) -> Result<Vec<Class>, AllocError>
     ensures { IfOk result (λ v. classes_view v.items ≡ map (class_by (named_in names.now.keys)) (declarations_view declarations.now)) }
 {
     let mut classes = Vec::with_capacity(alloc, declarations.len())?;

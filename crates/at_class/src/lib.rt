@@ -7,6 +7,7 @@ mod clash;
 mod class;
 mod fault;
 mod names;
+mod naming;
 mod part;
 mod steps;
 mod table;
@@ -14,5 +15,6 @@ mod table;
 mod tests;
 
 pub use fault::{ClassCode, ClassFault};
+pub use naming::are_named;
 pub use part::{ClassId, Part, PartShape, TokenKind};
 pub use table::ClassTable;

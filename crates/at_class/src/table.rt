@@ -1,5 +1,7 @@
 use crate::chain::climbs;
-use crate::checks::{component_twice, over_limit, superclass_circle, unknown_class, wrong_token_kind};
+use crate::checks::{
+    component_twice, over_limit, superclass_circle, unknown_class, wrong_token_kind,
+};
 use crate::class::{Class, classes_declared};
 use crate::fault::{ClassCode, ClassFault};
 use crate::names::{class_named, class_names};
@@ -151,9 +153,15 @@ fn table_of(alloc: Global, declarations: &[ClassDecl]) -> Result<ClassTable, Cla
     let names = class_names(alloc, declarations)?;
     refuse(ClassCode::UnknownClass, unknown_class(&names, declarations))?;
     let classes = classes_declared(alloc, &names, declarations)?;
-    refuse(ClassCode::SuperclassCircle, superclass_circle(&classes, declarations))?;
+    refuse(
+        ClassCode::SuperclassCircle,
+        superclass_circle(&classes, declarations),
+    )?;
     refuse(ClassCode::TokenKind, wrong_token_kind(declarations))?;
-    refuse(ClassCode::ComponentTwice, component_twice(alloc, &classes, declarations)?)?;
+    refuse(
+        ClassCode::ComponentTwice,
+        component_twice(alloc, &classes, declarations)?,
+    )?;
     refuse(ClassCode::Limit, over_limit(alloc, &classes, declarations)?)?;
     let parts = all_parts(alloc, &classes)?;
     Ok(ClassTable {

@@ -1,63 +1,7 @@
-ghost use Rattle.std.specs.Prelude.{◌≡◌, IsTrue, IfSome, All, true, option_map, map, string_bytes};
-ghost use Rattle.at_model.specs.Names.{is_name};
-ghost use Rattle.at_model.specs.Declarations.{AreNamed, IsDeclarationNamed, PartDeclaration};
-ghost use Rattle.at_class.specs.Grammar.{declaration_view, declarations_view, grammar_view, part_declaration_view};
-
-use crate::{ClassCode, ClassFault, ClassTable, PartShape, TokenKind};
+use crate::{ClassCode, ClassFault, ClassTable, PartShape, TokenKind, are_named};
 use at_grammar::{ClassDecl, Grammar, PartDecl, Shape};
-use at_text::names::is_name;
 use std::alloc::{AllocError, Global};
 use std::test::Fail;
-
-fn are_parts_named(parts: &[PartDecl]) -> bool
-    ensures { IsTrue result → All (λ (p : PartDeclaration). is_name p.name ≡ true) (map part_declaration_view parts.now) }
-{
-    for part in parts {
-        if !is_name(part.name.as_str()) {
-            return false;
-        }
-    }
-    true
-}
-
-fn is_parent_named(parent: &Option<String>) -> bool
-    ensures { IsTrue result → IfSome (option_map string_bytes parent.now) (λ n. is_name n ≡ true) }
-{
-    match parent {
-        None => true,
-        Some(name) => is_name(name.as_str()),
-    }
-}
-
-fn is_named(declaration: &ClassDecl) -> bool
-    ensures { IsTrue result → IsDeclarationNamed (declaration_view declaration.now) }
-{
-    if !is_name(declaration.name.as_str()) {
-        return false;
-    }
-    if !is_parent_named(&declaration.parent) {
-        return false;
-    }
-    are_parts_named(&declaration.parts)
-}
-
-fn are_all_named(declarations: &[ClassDecl]) -> bool
-    ensures { IsTrue result → AreNamed (declarations_view declarations.now) }
-{
-    for declaration in declarations {
-        if !is_named(declaration) {
-            return false;
-        }
-    }
-    true
-}
-
-// Whether all names are names, as the reader of grammars gives them.
-fn are_named(grammar: &Grammar) -> bool
-    ensures { IsTrue result → AreNamed (grammar_view grammar.now) }
-{
-    are_all_named(&grammar.classes)
-}
 
 // A grammar of one line: the classes by name, column and superclass.
 fn grammar(alloc: Global, classes: &[(&str, u32, &str)]) -> Result<Grammar, AllocError> {
@@ -126,14 +70,28 @@ fn classes_that_are_refused(rt: HostRuntime) -> Result<(), Fail> {
     let none = grammar(alloc, &[])?;
     assert_eq!(rt; fault(alloc, &none), Some((ClassCode::NoClass, 1)));
     // A ::= B;
-    let unknown = with(grammar(alloc, &[("A", 1, "")])?, alloc, 0, "B", "B", Shape::One, 7)?;
+    let unknown = with(
+        grammar(alloc, &[("A", 1, "")])?,
+        alloc,
+        0,
+        "B",
+        "B",
+        Shape::One,
+        7,
+    )?;
     assert_eq!(rt; fault(alloc, &unknown), Some((ClassCode::UnknownClass, 1)));
     // A : B; B : A;
     let circle = grammar(alloc, &[("A", 1, "B"), ("B", 8, "A")])?;
-    assert_eq!(rt; fault(alloc, &circle), Some((ClassCode::SuperclassCircle, 1)));
+    assert_eq!(rt;
+        fault(alloc, &circle),
+        Some((ClassCode::SuperclassCircle, 1))
+    );
     // A : B; B : C; C : B;
     let below = grammar(alloc, &[("A", 1, "B"), ("B", 8, "C"), ("C", 15, "B")])?;
-    assert_eq!(rt; fault(alloc, &below), Some((ClassCode::SuperclassCircle, 8)));
+    assert_eq!(rt;
+        fault(alloc, &below),
+        Some((ClassCode::SuperclassCircle, 8))
+    );
     // A;A;
     let twice = grammar(alloc, &[("A", 1, ""), ("A", 3, "")])?;
     assert_eq!(rt; fault(alloc, &twice), Some((ClassCode::ClassTwice, 3)));
@@ -141,7 +99,15 @@ fn classes_that_are_refused(rt: HostRuntime) -> Result<(), Fail> {
     let predefined = grammar(alloc, &[("Opt", 1, "")])?;
     assert_eq!(rt; fault(alloc, &predefined), Some((ClassCode::ClassTwice, 1)));
     // A ::= <X:float>;
-    let kind = with(grammar(alloc, &[("A", 1, "")])?, alloc, 0, "X", "float", Shape::Tok, 8)?;
+    let kind = with(
+        grammar(alloc, &[("A", 1, "")])?,
+        alloc,
+        0,
+        "X",
+        "float",
+        Shape::Tok,
+        8,
+    )?;
     assert_eq!(rt; fault(alloc, &kind), Some((ClassCode::TokenKind, 8)));
     Ok(())
 }
@@ -163,14 +129,28 @@ fn components_that_are_refused(rt: HostRuntime) -> Result<(), Fail> {
     let behind = grammar(alloc, &[("A", 1, ""), ("B", 19, "")])?;
     let behind = with(behind, alloc, 0, "BList", "A", Shape::One, 7)?;
     let behind = with(behind, alloc, 0, "B", "B", Shape::Many, 15)?;
-    assert_eq!(rt; fault(alloc, &behind), Some((ClassCode::ComponentTwice, 15)));
+    assert_eq!(rt;
+        fault(alloc, &behind),
+        Some((ClassCode::ComponentTwice, 15))
+    );
     // A ::= <X>; B : A ::= <X>;
     let inherited = grammar(alloc, &[("A", 1, ""), ("B", 12, "A")])?;
     let inherited = with(inherited, alloc, 0, "X", "String", Shape::Tok, 8)?;
     let inherited = with(inherited, alloc, 1, "X", "String", Shape::Tok, 23)?;
-    assert_eq!(rt; fault(alloc, &inherited), Some((ClassCode::ComponentTwice, 23)));
+    assert_eq!(rt;
+        fault(alloc, &inherited),
+        Some((ClassCode::ComponentTwice, 23))
+    );
     // A ::= <Parent>;
-    let common = with(grammar(alloc, &[("A", 1, "")])?, alloc, 0, "Parent", "String", Shape::Tok, 8)?;
+    let common = with(
+        grammar(alloc, &[("A", 1, "")])?,
+        alloc,
+        0,
+        "Parent",
+        "String",
+        Shape::Tok,
+        8,
+    )?;
     assert_eq!(rt; fault(alloc, &common), Some((ClassCode::ComponentTwice, 8)));
     Ok(())
 }
@@ -179,7 +159,14 @@ fn components_that_are_refused(rt: HostRuntime) -> Result<(), Fail> {
 fn calc(alloc: Global) -> Result<Grammar, AllocError> {
     let mut calc = grammar(
         alloc,
-        &[("Program", 1, ""), ("Stmt", 29, ""), ("Block", 35, "Stmt"), ("Decl", 58, "Stmt"), ("Expr", 99, ""), ("Num", 105, "Expr")],
+        &[
+            ("Program", 1, ""),
+            ("Stmt", 29, ""),
+            ("Block", 35, "Stmt"),
+            ("Decl", 58, "Stmt"),
+            ("Expr", 99, ""),
+            ("Num", 105, "Expr"),
+        ],
     )?;
     for class in calc.classes.iter_mut() {
         class.is_abstract = class.name.as_str() == "Stmt" || class.name.as_str() == "Expr";

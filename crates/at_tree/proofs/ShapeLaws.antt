@@ -108,13 +108,14 @@ mutual
   pub sound-tree : (classes : Classes) (t : Term) (b : ℕ) (u : Tree) → shaped classes t b ≡ Some u → (conforms classes u b ≡ true) × (term_of classes u ≡ t)
   sound-tree classes (written.Node name cells) b u h =
       option_and_then_some (λ c. if fits classes c b then option_map (Node c) (cells_shaped classes cells (parts classes c)) else None) (class_of_name classes name) u h
-        (λ c named g.
-          let fit = if_some (fits classes c b) (option_map (Node c) (cells_shaped classes cells (parts classes c))) u g in
-          let made = map_some (Node c) (cells_shaped classes cells (parts classes c)) u fit.1 in
-          let rest = sound-cells classes cells (parts classes c) made.0 made.1 in
-          subst (λ v. (conforms classes v b ≡ true) × (term_of classes v ≡ written.Node name cells)) made.2
-            ( ap (λ f. f && cells_conform classes made.0 (parts classes c)) fit.0 ∙ rest.0
-            , ap (λ n. written.Node n (cells_of classes made.0)) (name_of-class_of_name classes name c named) ∙ ap (written.Node name) rest.1 ))
+      (λ c named g.
+      let fit = if_some (fits classes c b) (option_map (Node c) (cells_shaped classes cells (parts classes c))) u g in
+      let made = map_some (Node c) (cells_shaped classes cells (parts classes c)) u fit.1 in
+      let rest = sound-cells classes cells (parts classes c) made.0 made.1 in
+      subst (λ v. (conforms classes v b ≡ true) × (term_of classes v ≡ written.Node name cells)) made.2 (
+        ap (λ f. f && cells_conform classes made.0 (parts classes c)) fit.0 ∙ rest.0,
+        ap (λ n. written.Node n (cells_of classes made.0)) (name_of-class_of_name classes name c named) ∙ ap (written.Node name) rest.1,
+      ))
 
   sound-cells : (classes : Classes) (cs : written.Cells) (ps : List Component) (us : Cells) → cells_shaped classes cs ps ≡ Some us → (cells_conform classes us ps ≡ true) × (cells_of classes us ≡ cs)
   sound-cells classes written.no_cells [] us h = subst (λ v. (cells_conform classes v [] ≡ true) × (cells_of classes v ≡ written.no_cells)) (same_Some no_cells us h) (refl, refl)
@@ -122,13 +123,14 @@ mutual
   sound-cells classes (written.cell c cs) [] us h = absurd (cc)
   sound-cells classes (written.cell c cs) (p ∷ ps) us h =
       option_and_then_some (λ x. option_map (cell x) (cells_shaped classes cs ps)) (cell_shaped classes c p.shape) us h
-        (λ x first g.
-          let made = map_some (cell x) (cells_shaped classes cs ps) us g in
-          let one = sound-cell classes c p.shape x first in
-          let rest = sound-cells classes cs ps made.0 made.1 in
-          subst (λ v. (cells_conform classes v (p ∷ ps) ≡ true) × (cells_of classes v ≡ written.cell c cs)) made.2
-            ( ap (λ f. f && cells_conform classes made.0 ps) one.0 ∙ rest.0
-            , ap (λ y. written.cell y (cells_of classes made.0)) one.1 ∙ ap (written.cell c) rest.1 ))
+      (λ x first g.
+      let made = map_some (cell x) (cells_shaped classes cs ps) us g in
+      let one = sound-cell classes c p.shape x first in
+      let rest = sound-cells classes cs ps made.0 made.1 in
+      subst (λ v. (cells_conform classes v (p ∷ ps) ≡ true) × (cells_of classes v ≡ written.cell c cs)) made.2 (
+        ap (λ f. f && cells_conform classes made.0 ps) one.0 ∙ rest.0,
+        ap (λ y. written.cell y (cells_of classes made.0)) one.1 ∙ ap (written.cell c) rest.1,
+      ))
 
   sound-cell : (classes : Classes) (c : written.Cell) (s : Shape) (u : Cell) → cell_shaped classes c s ≡ Some u → (cell_conforms classes u s ≡ true) × (cell_of classes u ≡ c)
   sound-cell classes (written.One t) (class.One b) u h =
@@ -163,13 +165,14 @@ mutual
   sound-trees classes written.no_terms b us h = subst (λ v. (trees_conform classes v b ≡ true) × (terms_of classes v ≡ written.no_terms)) (same_Some no_trees us h) (refl, refl)
   sound-trees classes (written.term t ts) b us h =
       option_and_then_some (λ u. option_map (tree u) (trees_shaped classes ts b)) (shaped classes t b) us h
-        (λ u first g.
-          let made = map_some (tree u) (trees_shaped classes ts b) us g in
-          let one = sound-tree classes t b u first in
-          let rest = sound-trees classes ts b made.0 made.1 in
-          subst (λ v. (trees_conform classes v b ≡ true) × (terms_of classes v ≡ written.term t ts)) made.2
-            ( ap (λ f. f && trees_conform classes made.0 b) one.0 ∙ rest.0
-            , ap (λ y. written.term y (terms_of classes made.0)) one.1 ∙ ap (written.term t) rest.1 ))
+      (λ u first g.
+      let made = map_some (tree u) (trees_shaped classes ts b) us g in
+      let one = sound-tree classes t b u first in
+      let rest = sound-trees classes ts b made.0 made.1 in
+      subst (λ v. (trees_conform classes v b ≡ true) × (terms_of classes v ≡ written.term t ts)) made.2 (
+        ap (λ f. f && trees_conform classes made.0 b) one.0 ∙ rest.0,
+        ap (λ y. written.term y (terms_of classes made.0)) one.1 ∙ ap (written.term t) rest.1,
+      ))
 
 pub found-is : (classes : Classes) (t : Term) (b : ℕ) (u : Tree) → shaped classes t b ≡ Some u → IsShaped classes t b u
 found-is classes t b u h = let both = sound-tree classes t b u h in record { conforms = both.0; written = both.1 }

@@ -5,13 +5,12 @@ pub mod laws;
 mod shaping;
 mod writing;
 
+use crate::token::TokVal;
+use at_class::ClassId;
+pub use conforming::fits;
 pub use counts::{depth, nodes};
 pub use shaping::{ShapeFault, shape};
 pub use writing::write_term;
-pub use conforming::fits;
-
-use crate::token::TokVal;
-use at_class::ClassId;
 
 /// A syntax tree.
 #[cycle(tree)]

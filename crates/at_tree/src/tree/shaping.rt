@@ -54,7 +54,12 @@ impl<T: Drop> From<AllocFailed<T>> for ShapeFault {
 ///
 /// `Class` where any name in the term is that of no class, or of an abstract one; else `Fit` where there is no such tree; `Memory`
 /// where memory is wanting.
-pub fn shape(alloc: Global, classes: &ClassTable, term: &Term, under: ClassId) -> Result<Tree, ShapeFault>
+pub fn shape(
+    alloc: Global,
+    classes: &ClassTable,
+    term: &Term,
+    under: ClassId,
+) -> Result<Tree, ShapeFault>
     ensures known { OnOk result (is_known classes.now (term_view term.now) ≡ true) }
     ensures found { IfOk result (λ t. IsShaped classes.now (term_view term.now) under (tree_view t)) }
     ensures refused { IfErr result (IsMisshaped classes.now (term_view term.now) under) }
@@ -124,7 +129,12 @@ fn copy_value(alloc: Global, value: &TokVal) -> Result<TokVal, AllocError>
 }
 
 #[cycle(shape)]
-fn shape_tree(alloc: Global, classes: &ClassTable, term: &Term, under: ClassId) -> Result<Tree, ShapeFault>
+fn shape_tree(
+    alloc: Global,
+    classes: &ClassTable,
+    term: &Term,
+    under: ClassId,
+) -> Result<Tree, ShapeFault>
     ensures sound { AreSound classes.now }
     ensures found { IfOk result (λ t. shaped classes.now (term_view term.now) under ≡ Some (tree_view t)) }
     ensures refused { IfErr result (IsNoneAtFit (shaped classes.now (term_view term.now) under)) }
@@ -148,14 +158,25 @@ fn shape_tree(alloc: Global, classes: &ClassTable, term: &Term, under: ClassId) 
 }
 
 #[cycle(shape)]
-fn shape_cell(alloc: Global, classes: &ClassTable, cell: &TermCell, shape: PartShape) -> Result<Cell, ShapeFault>
+fn shape_cell(
+    alloc: Global,
+    classes: &ClassTable,
+    cell: &TermCell,
+    shape: PartShape,
+) -> Result<Cell, ShapeFault>
     ensures found { IfOk result (λ c. cell_shaped classes.now (cell_view cell.now) (shape_view shape) ≡ Some (tree_cell_view c)) }
     ensures refused { IfErr result (IsNoneAtFit (cell_shaped classes.now (cell_view cell.now) (shape_view shape))) }
 {
     match (cell, shape) {
-        (TermCell::One(term), PartShape::One(class)) => Ok(Cell::One(shape_tree(alloc, classes, term, class)?)),
-        (TermCell::One(term), PartShape::Maybe(class)) => Ok(Cell::Maybe(Some(shape_tree(alloc, classes, term, class)?))),
-        (TermCell::Many(terms), PartShape::Many(class)) => Ok(Cell::Many(shape_list(alloc, classes, terms, class)?)),
+        (TermCell::One(term), PartShape::One(class)) => Ok(Cell::One(shape_tree(
+            alloc, classes, term, class,
+        )?)),
+        (TermCell::One(term), PartShape::Maybe(class)) => Ok(Cell::Maybe(Some(shape_tree(
+            alloc, classes, term, class,
+        )?))),
+        (TermCell::Many(terms), PartShape::Many(class)) => Ok(Cell::Many(shape_list(
+            alloc, classes, terms, class,
+        )?)),
         (TermCell::Empty, PartShape::Maybe(_)) => Ok(Cell::Maybe(None)),
         (TermCell::Holds(value), PartShape::Tok(kind)) => {
             if !is_of_kind(value, kind) {
@@ -168,7 +189,12 @@ fn shape_cell(alloc: Global, classes: &ClassTable, cell: &TermCell, shape: PartS
 }
 
 #[cycle(shape)]
-fn shape_list(alloc: Global, classes: &ClassTable, terms: &[Term], under: ClassId) -> Result<Vec<Tree>, ShapeFault>
+fn shape_list(
+    alloc: Global,
+    classes: &ClassTable,
+    terms: &[Term],
+    under: ClassId,
+) -> Result<Vec<Tree>, ShapeFault>
     ensures found { IfOk result (λ v. trees_shaped classes.now (to_terms (map term_view terms.now)) under ≡ Some (to_trees (map tree_view v.items))) }
     ensures refused { IfErr result (IsNoneAtFit (trees_shaped classes.now (to_terms (map term_view terms.now)) under)) }
 {

@@ -1,4 +1,4 @@
-use Rattle.std.proofs.Common.{◌≡◌, ◌∙◌, ◌-◌, ◌+◌, ap, sym, arith, length}
+use Rattle.std.proofs.Common.{◌∙◌, ◌-◌, ◌+◌, ap, sym, arith, length}
 use Rattle.std.specs.Prelude.{nat_eq}
 use Rattle.std.specs.List.{list_any}
 use Rattle.at_model.specs.Classes.{chain_within}

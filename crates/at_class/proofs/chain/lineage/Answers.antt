@@ -1,4 +1,4 @@
-use Rattle.std.proofs.Common.{◌≡◌, ◌∙◌, ◌-◌, ◌+◌, ◌++◌, [], ◌∷◌, ap, sym, arith, length, append_assoc, append-nil}
+use Rattle.std.proofs.Common.{◌∙◌, ◌-◌, ◌+◌, ◌++◌, [], ◌∷◌, ap, sym, arith, length, append_assoc, append-nil}
 use Rattle.at_model.specs.Classes.{chain_within, parent_of}
 use Rattle.at_class.specs.View.{classes_view}
 use Rattle.at_class.proofs.Chains.{chain_within-none, chain_within-step}

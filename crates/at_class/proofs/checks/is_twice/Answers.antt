@@ -1,11 +1,11 @@
-use Rattle.std.proofs.Common.{◌≡◌, ◌∙◌, ◌<◌, ◌++◌, ℕ, List, Bool, true, false, ap, sym, refl, arith, length, map, take, reverse, get_or, Some, None}
+use Rattle.std.proofs.Common.{◌≡◌, ◌∙◌, ◌<◌, ◌++◌, ℕ, List, Bool, false, ap, sym, refl, length, map, take, reverse, get_or, Some, None}
 use Rattle.std.specs.List.{slice_get, flat_map}
 use Rattle.std.specs.Option.{option_map}
 use Rattle.std.proofs.lemmas.List.{take-map}
 use Rattle.std.proofs.lemmas.Option.{slice_get-map, slice_get_read}
 use Rattle.std.proofs.lemmas.Bool.{ltb-true}
-use Rattle.at_model.specs.Classes.{Classes, Component, own_of}
-use Rattle.at_model.specs.Declarations.{above, inherited, is_taken, is_twice}
+use Rattle.at_model.specs.Classes.{Component, own_of}
+use Rattle.at_model.specs.Declarations.{inherited, is_taken}
 use Rattle.at_class.specs.declared.part.Part.{Part}
 use Rattle.at_class.specs.View.{part_view, classes_view}
 use Rattle.at_class.proofs.checks.is_twice.Goals as goal

@@ -17,7 +17,7 @@ tested : (xs : List Class) (k id : ℕ) (way items : List ℕ) (r : Bool) → id
     → (nat_le max_classes k || nat_lt max_parts (length (parts (classes_view xs) k))) ≡ r
 tested xs k id way items r same up lent e =
     let all : flat_map (own_of (classes_view xs)) (reverse way) ≡ parts (classes_view xs) k =
-        parts_of_way xs k way (lent ∙ up ∙ ap (λ i. chain_within (length xs) (classes_view xs) (Some i)) same) in
+    parts_of_way xs k way (lent ∙ up ∙ ap (λ i. chain_within (length xs) (classes_view xs) (Some i)) same) in
     sym (e ∙ ap (λ (ps : List Component). nat_le max_classes k || nat_lt max_parts (length ps)) all)
 
 pub returns-then-is_over : goal.returns-then-is_over

@@ -1,5 +1,5 @@
-use Rattle.std.proofs.Common.{◌≡◌, ◌∙◌, ap, sym, arith, length, Option}
-use Rattle.std.specs.Prelude.{ℕ, nat_eq, true}
+use Rattle.std.proofs.Common.{◌≡◌, ◌∙◌, ap, sym, arith, length}
+use Rattle.std.specs.Prelude.{nat_eq, true}
 use Rattle.std.specs.List.{list_any}
 use Rattle.std.proofs.lemmas.List.{length-map}
 use Rattle.at_model.specs.Classes.{chain_within, parent_of}
@@ -18,10 +18,10 @@ returns-then-climbs c =
     let k = c.loop-position.position in
     let d = c.index-declarations-position.result in
     let circle : list_any (nat_eq k) (above classes k) ≡ true =
-        ap (λ m. list_any (nat_eq k) (chain_within m classes (parent_of classes k))) (length-map xs class_view)
-        ∙ ap (λ x. list_any (nat_eq x) (chain_within (length xs) classes (parent_of classes x))) (sym c.new-class.ensures)
-        ∙ ap (λ o. list_any (nat_eq c.new-class.result) (chain_within (length xs) classes o)) (sym c.parent_of.ensures)
-        ∙ sym c.climbs.ensures ∙ c.if-climbs.true in
+    ap (λ m. list_any (nat_eq k) (chain_within m classes (parent_of classes k))) (length-map xs class_view)
+    ∙ ap (λ x. list_any (nat_eq x) (chain_within (length xs) classes (parent_of classes x))) (sym c.new-class.ensures)
+    ∙ ap (λ o. list_any (nat_eq c.new-class.result) (chain_within (length xs) classes o)) (sym c.parent_of.ensures)
+    ∙ sym c.climbs.ensures ∙ c.if-climbs.true in
     sym (first_here (circle_at classes) declaration_view c.args.declarations.now k d d.at (omega arith) c.index-declarations-position.is c.loop-position.invariant (some_if _ _ circle))
 
 pub returns : goal.returns

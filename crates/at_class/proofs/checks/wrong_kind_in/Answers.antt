@@ -1,5 +1,4 @@
-use Rattle.std.proofs.Common.{◌≡◌, ◌∙◌, ap, sym, arith, refl}
-use Rattle.std.specs.Prelude.{◌&&◌}
+use Rattle.std.proofs.Common.{◌∙◌, sym, arith}
 use Rattle.at_class.specs.Checks.{kind_in, kind_at}
 use Rattle.at_class.specs.Grammar.{part_declaration_view}
 use Rattle.at_class.proofs.Firsts.{first_here, none_at_all, some_if}

@@ -1,4 +1,4 @@
-use Rattle.std.proofs.Common.{◌≡◌, ◌+◌, ◌≤◌, ◌<◌, ◌∙◌, ap, sym, arith, length, reverse, take_all, take}
+use Rattle.std.proofs.Common.{◌≡◌, ◌+◌, ◌≤◌, ◌∙◌, ap, sym, arith, length, reverse, take_all, take}
 use Rattle.std.proofs.lemmas.Bool.{lt-ltb, le-ltb}
 use Rattle.std.proofs.lemmas.List.Sums.{sum_by_more_le}
 use Rattle.std.specs.Prelude.{ℕ}
@@ -17,7 +17,7 @@ returns-then-count-gt-MAX_PARTS c =
     let all : length (flat_map (own_of classes) (reverse way)) ≡ sum_by f way = length-flat_map-reverse (own_of classes) way in
     let own : length c.own_parts.result.now ≡ f c.class-item.result = sym (length-map c.own_parts.result.now part_view) ∙ ap length c.own_parts.ensures in
     let le : sum_by f (take c.loop-class.class-index way) + f c.class-item.result ≤ sum_by f way =
-        rw (c.class-item.is) (sum_by_more_le f way c.loop-class.class-index c.class-item.result (omega arith)) in
+    rw (c.class-item.is) (sum_by_more_le f way c.loop-class.class-index c.class-item.result (omega arith)) in
     sym (lt-ltb _ _ (omega (arith, all, own, le, c.loop-class.invariant.0)))
 
 pub returns : goal.returns

@@ -1,4 +1,4 @@
-use Rattle.std.proofs.Common.{◌≡◌, ◌∙◌, ap, sym, arith, length, take, drop}
+use Rattle.std.proofs.Common.{◌∙◌, ap, sym, length, drop}
 use Rattle.std.specs.Prelude.{◌&&◌}
 use Rattle.std.specs.Str.{bytes_eq}
 use Rattle.at_class.proofs.Joins.{bytes_eq-append}

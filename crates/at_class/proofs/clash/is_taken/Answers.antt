@@ -1,4 +1,4 @@
-use Rattle.std.proofs.Common.{◌≡◌, ◌∙◌, ◌++◌, ap, sym, map, reverse}
+use Rattle.std.proofs.Common.{◌∙◌, ◌++◌, ap, sym, map, reverse}
 use Rattle.std.specs.Prelude.{◌||◌}
 use Rattle.std.specs.List.{list_any, flat_map}
 use Rattle.at_model.specs.Classes.{own_of}

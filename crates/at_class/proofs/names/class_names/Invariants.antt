@@ -1,8 +1,6 @@
 use Rattle.std.proofs.Common.{◌≡◌, map, take, drop}
-use Rattle.std.specs.Prelude.{string_bytes, Option, Some, None, ◌||◌, if◌then◌else◌}
-use Rattle.std.specs.List.{list_any}
-use Rattle.std.specs.Str.{bytes_eq}
-use Rattle.at_model.specs.Declarations.{class_twice, first_given, is_predefined}
+use Rattle.std.specs.Prelude.{string_bytes}
+use Rattle.at_model.specs.Declarations.{first_given}
 use Rattle.at_class.specs.Grammar.{declaration_view, declarations_view}
 use Rattle.at_class.proofs.Firsts.{twice_test}
 use Rattle.at_class.proofs.names.class_names.Given as goal

@@ -1,11 +1,8 @@
-use Rattle.std.proofs.Common.{◌≡◌, ◌<◌, ◌∙◌, ℕ, List, ap, sym, subst, refl, arith, length, map, None, Some, false, true, string_bytes}
-use Rattle.std.specs.Prelude.{Option, Bool, nat_eq, ◌==◌}
+use Rattle.std.proofs.Common.{◌∙◌, ap, sym}
 use Rattle.std.proofs.lemmas.Result.{err_from_is_err_and}
-use Rattle.at_grammar.specs.declared.syntax.ClassDecl.{ClassDecl}
-use Rattle.at_model.specs.Declarations.{Place, no_class, class_twice, unknown_class, superclass_circle, token_kind, component_twice, over_limit, first_fault, classes_of}
-use Rattle.at_class.specs.declared.fault.ClassCode.{ClassCode}
-use Rattle.at_class.specs.declared.fault.ClassCode.TheVariants.{NoClass, ClassTwice, UnknownClass, SuperclassCircle, TokenKind, ComponentTwice, Limit}
-use Rattle.at_class.specs.View.{class_view, classes_view}
+use Rattle.at_model.specs.Declarations.{class_twice}
+use Rattle.at_class.specs.declared.fault.ClassCode.TheVariants.{ClassTwice, UnknownClass, SuperclassCircle, TokenKind, ComponentTwice, Limit}
+use Rattle.at_class.specs.View.{classes_view}
 use Rattle.at_class.specs.Grammar.{declarations_view}
 use Rattle.at_class.proofs.Named.{unknown-declared, classes-declared, circle-declared, twice-declared, over-declared}
 use Rattle.at_class.proofs.Order.{refused_for, fault_no_class, fault_class_twice, fault_unknown_class, fault_circle, fault_token_kind, fault_component_twice, fault_limit, no_fault}
@@ -95,7 +92,7 @@ invariant_of-result c =
     let names = c.in_ok-names.ensures.ok in
     let e = classes-declared c.in_ok-names.names.keys xs (classes_view ks) names.1 c.in_ok-classes.ensures in
     is_table c.in_ok-names.names.keys ks c.in_ok-parts.parts.items xs names.1 e c.deref-4.result.now c.deref-4.ensures.value c.in_ok-parts.ensures
-        (classes_sound (declarations_view xs) (longer xs (sym c.is_empty.ensures ∙ c.if-is_empty.false)) c.requires (view_texts xs) names.0)
+    (classes_sound (declarations_view xs) (longer xs (sym c.is_empty.ensures ∙ c.if-is_empty.false)) c.requires (view_texts xs) names.0)
 
 pub returns-clause-faultless : goal.returns-clause-faultless
 returns-clause-faultless c =

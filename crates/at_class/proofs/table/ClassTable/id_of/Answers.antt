@@ -1,4 +1,4 @@
-use Rattle.std.proofs.Common.{◌≡◌, ◌∙◌, ap}
+use Rattle.std.proofs.Common.{◌∙◌, ap}
 use Rattle.at_model.specs.Classes.{class_of_name}
 use Rattle.at_class.proofs.Named.{named_in-classes}
 use Rattle.at_class.proofs.table.ClassTable.id_of.Goals as goal

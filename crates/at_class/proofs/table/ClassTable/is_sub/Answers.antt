@@ -1,8 +1,8 @@
-use Rattle.std.proofs.Common.{◌≡◌, ◌∙◌, ap, sym, length, List}
-use Rattle.std.specs.Prelude.{ℕ, nat_eq, Some}
+use Rattle.std.proofs.Common.{◌∙◌, ap, sym, length, List}
+use Rattle.std.specs.Prelude.{nat_eq, Some}
 use Rattle.std.specs.List.{list_any}
 use Rattle.std.proofs.lemmas.List.{length-map}
-use Rattle.at_model.specs.Classes.{Classes, chain, chain_within}
+use Rattle.at_model.specs.Classes.{chain, chain_within}
 use Rattle.at_class.specs.declared.class.Class.{Class}
 use Rattle.at_class.specs.View.{class_view, classes_view}
 use Rattle.at_class.proofs.table.ClassTable.is_sub.Goals as goal

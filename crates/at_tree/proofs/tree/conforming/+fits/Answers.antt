@@ -20,7 +20,7 @@ fits-returns-then-parts-cells t c =
     let xs = c.as_slice-cells.result.now in
     sym (conforms-whole classes c.args.tree.now c.args.under xs ps c.as_slice-cells.ensures.value c.parts-parts.ensures
     ∙ ap (λ b. fits classes (out-Tree c.args.tree.now).class c.args.under && b)
-        (cells_conform-lengths classes (map cell_view xs) (map part_view ps) (λ e. c.if-parts-cells.true (sym (length-map ps part_view) ∙ e ∙ length-map xs cell_view)))
+    (cells_conform-lengths classes (map cell_view xs) (map part_view ps) (λ e. c.if-parts-cells.true (sym (length-map ps part_view) ∙ e ∙ length-map xs cell_view)))
     ∙ sym (none _))
 
 pub fits-returns-then-not-cell_fits : goal.fits-returns-then-not-cell_fits
@@ -31,7 +31,7 @@ fits-returns-then-not-cell_fits t c =
     let here = rest_conforms-here classes xs ps c.loop-i.i c.index-cells-i.result c.index-parts-i.result (omega arith) (omega (arith, c.if-parts-cells.false)) c.index-cells-i.is c.index-parts-i.is in
     sym (conforms-whole classes c.args.tree.now c.args.under xs ps c.as_slice-cells.ensures.value c.parts-parts.ensures
     ∙ ap (λ b. fits classes (out-Tree c.args.tree.now).class c.args.under && b)
-        (c.loop-i.invariant ∙ here ∙ ap (λ b. b && rest_conforms classes xs ps (c.loop-i.i + 1)) (ap (λ q. cell_conforms classes (cell_view c.index-cells-i.result) (part_view q).shape) c.index-parts-i.is ∙ sym c.cell_fits.ensures ∙ c.if-not-cell_fits.true))
+    (c.loop-i.invariant ∙ here ∙ ap (λ b. b && rest_conforms classes xs ps (c.loop-i.i + 1)) (ap (λ q. cell_conforms classes (cell_view c.index-cells-i.result) (part_view q).shape) c.index-parts-i.is ∙ sym c.cell_fits.ensures ∙ c.if-not-cell_fits.true))
     ∙ sym (none _))
 
 pub fits-returns : goal.fits-returns

@@ -12,4 +12,4 @@ returns-clause-found c =
 pub returns-clause-refused : goal.returns-clause-refused
 returns-clause-refused c =
     MatchResult-weaker c.shape_tree.result c.shape_tree.ensures.refused (λ x p. p)
-        (λ e h. misshaped c.args.classes.now c.shape_tree.ensures.sound (term_view c.args.term.now) c.args.under e (sym c.is_known.ensures ∙ c.if-not-is_known.false) h)
+    (λ e h. misshaped c.args.classes.now c.shape_tree.ensures.sound (term_view c.args.term.now) c.args.under e (sym c.is_known.ensures ∙ c.if-not-is_known.false) h)

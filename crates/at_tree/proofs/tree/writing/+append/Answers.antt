@@ -22,7 +22,7 @@ append_tree-loop-i-preserved t c =
     let classes = c.args.classes.now in
     let next = commas-more (λ x. cell_text (cell_of classes (cell_view x))) c.deref-cell-items.result.now c.loop-i.i c.cell-item.result (omega arith) c.cell-item.is in
     one_more _ (name_of classes c.args.tree.now.class ++ 40 ∷ []) (cells_so_far classes c.deref-cell-items.result.now c.loop-i.i) (separator c.loop-i.i) (cell_text (cell_of classes (cell_view c.cell-item.result))) c.loop-i.out.items c.separate.new.out.items _ _
-        c.loop-i.invariant c.in_ok-separate.ensures.ok c.in_ok-append_cell.ensures.ok next
+    c.loop-i.invariant c.in_ok-separate.ensures.ok c.in_ok-append_cell.ensures.ok next
 
 pub append_tree-returns-clause-ok : goal.append_tree-returns-clause-ok
 append_tree-returns-clause-ok t c =
@@ -47,7 +47,7 @@ append_list-loop-i-preserved t c =
     let classes = c.args.classes.now in
     let next = commas-more (λ x. tree_text classes (tree_view x)) c.args.trees.now c.loop-i.i c.index-trees-i.result (omega arith) c.index-trees-i.is in
     one_more _ (91 ∷ []) (trees_so_far classes c.args.trees.now c.loop-i.i) (separator c.loop-i.i) (tree_text classes (tree_view c.index-trees-i.result)) c.loop-i.out.items c.separate.new.out.items _ _
-        c.loop-i.invariant c.in_ok-separate.ensures.ok c.in_ok-append_tree.ensures.ok next
+    c.loop-i.invariant c.in_ok-separate.ensures.ok c.in_ok-append_tree.ensures.ok next
 
 pub append_list-returns-clause-ok : goal.append_list-returns-clause-ok
 append_list-returns-clause-ok t c =
