@@ -73,6 +73,7 @@ impl ClassTable {
     pub fn id_of(&self, name: &str) -> Option<ClassId>
         ensures found { result ≡ class_of_name self.now name.now }
         ensures within { IfSome result (λ c. c < length self.now) }
+        ensures sound { AreSound self.now }
     {
         class_named(&self.names, name)
     }

@@ -27,7 +27,7 @@ pub data Keeps : Verdict → Type 0 where
   asked : (q : Instance Node) → Keeps (Asks q)
   left : (marks : List Marked) → Keeps (Leaves marks)
 
-if_both : (P : Verdict → Type 0) (b : Bool) (v w : Verdict) → P v → P w → P (if b then v else w)
+pub if_both : (P : Verdict → Type 0) (b : Bool) (v w : Verdict) → P v → P w → P (if b then v else w)
 if_both P true v w h k = h
 if_both P false v w h k = k
 
@@ -43,11 +43,11 @@ changed_changes : (classes : Classes) (s : State) (e : Edit) → IsChange classe
 changed_changes classes s e = accepted_change classes s e (edited classes s.tree e) refl
 
 module _ (P : Verdict → Type 0) (if_refused : (c : Code) → P (Refuses c)) where
-  at_option : {A : Type 0} (o : Option A) (c : Code) (k : A → Verdict) → ((a : A) → P (k a)) → P (elim o [ None ↦ Refuses c | Some a ↦ k a ])
+  pub at_option : {A : Type 0} (o : Option A) (c : Code) (k : A → Verdict) → ((a : A) → P (k a)) → P (elim o [ None ↦ Refuses c | Some a ↦ k a ])
   at_option None c k h = if_refused c
   at_option (Some a) c k h = h a
 
-  node_all : (classes : Classes) (s : State) (session : ℕ) (place : Place) (k : Node → Verdict) → ((n : Node) → P (k n)) → P (at_node classes s session place k)
+  pub node_all : (classes : Classes) (s : State) (session : ℕ) (place : Place) (k : Node → Verdict) → ((n : Node) → P (k n)) → P (at_node classes s session place k)
   node_all classes s session place k h = at_option (node_named classes s session place) code.Path k h
 
   component_all : {A : Type 0} (classes : Classes) (t : Tree) (n : Node) (name : List ℕ) (wanted : Shape → Option A) (k : ℕ → A → Verdict) → ((p : ℕ) (a : A) → P (k p a)) → P (with_component classes t n name wanted k)
@@ -60,7 +60,7 @@ module _ (P : Verdict → Type 0) (if_refused : (c : Code) → P (Refuses c)) wh
   tree_all : (classes : Classes) (t : Term) (wanted : Option ℕ) (k : Tree → Verdict) → ((u : Tree) → P (k u)) → P (with_tree classes t wanted k)
   tree_all classes t wanted k h = at_names (names_classes classes t) _ (at_option (option_and_then (shaped classes t) wanted) code.Fit k h)
 
-edit_changes : (rules : Rules) (s : State) (session : ℕ) (c : Command) → is_edit c ≡ true → IsChange rules.classes s (obeyed rules s session c)
+pub edit_changes : (rules : Rules) (s : State) (session : ℕ) (c : Command) → is_edit c ≡ true → IsChange rules.classes s (obeyed rules s session c)
 edit_changes rules s session (Ask place attribute arguments) e = absurd cc
 edit_changes rules s session (Set place t) e = node_all (IsChange rules.classes s) refused rules.classes s session place _ (λ n. tree_all (IsChange rules.classes s) refused rules.classes t (class_asked rules.classes s.tree n) _ (λ u. changed_changes rules.classes s (edit.Set n u)))
 edit_changes rules s session (Put place part t) e = node_all (IsChange rules.classes s) refused rules.classes s session place _ (λ n. component_all (IsChange rules.classes s) refused rules.classes s.tree n part optional_class _ (λ p b. tree_all (IsChange rules.classes s) refused rules.classes t (Some b) _ (λ u. changed_changes rules.classes s (edit.Put n p u))))
@@ -93,7 +93,7 @@ other_keeps rules s session (Where name) e = at_option Keeps refused (marked s.m
 other_keeps rules s session Version e = left _
 
 -- so it is with the whole verdict
-whole : (P : Verdict → Type 0) → ((c : Code) → P (Refuses c)) → (rules : Rules) (s : State) (l : Line) → P (obeyed rules s l.session l.command) → P (verdict rules s l)
+pub whole : (P : Verdict → Type 0) → ((c : Code) → P (Refuses c)) → (rules : Rules) (s : State) (l : Line) → P (obeyed rules s l.session l.command) → P (verdict rules s l)
 whole P if_refused rules s l h = if_both P (is_stale l.expected s.version) _ _ (if_refused (code.Stale s.version)) (if_both P (not (list_all (is_marked s.marks l.session) (marks_used l.command))) _ _ (if_refused code.Mark) h)
 
 edited_after : (rules : Rules) (Answered : Answering) (old : State) (v : Verdict) → IsChange rules.classes old v → (form : Form) (version : ℕ) →

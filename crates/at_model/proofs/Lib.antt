@@ -24,7 +24,10 @@ pub mod Moving
 pub mod Ways
 pub mod Untouched
 pub mod Untouching
+pub mod Carried
 pub mod Surviving
+pub mod Sound
+pub mod PathsBack
 pub mod Conforming
 pub mod Shaped
 pub mod WithinTree

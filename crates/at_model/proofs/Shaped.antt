@@ -1,16 +1,16 @@
 -- The tree that a term is shaped to conforms and is written as that term, and it is the only one where names are apart.
-use Rattle.std.proofs.Common.{◌≡◌, ℕ, ◌<◌, Bool, true, false, ◌&&◌, not, if◌then◌else◌, List, [], ◌∷◌, length, get_or, Option, Some, None, refl, sym, ap, ◌∙◌, subst, option_and_then, option_map}
-use Rattle.std.specs.List.{slice_get, position}
+use Rattle.std.proofs.Common.{◌≡◌, ℕ, ◌<◌, true, false, ◌&&◌, not, if◌then◌else◌, List, [], ◌∷◌, length, Option, Some, None, refl, sym, ap, ◌∙◌, subst, option_and_then, option_map}
+use Rattle.std.specs.List.{slice_get}
 use Rattle.std.specs.Str.{bytes_eq}
 use Rattle.std.proofs.lemmas.List.Quantifiers.{position-Some}
 use Rattle.std.proofs.lemmas.Option.{slice_get-get_or, slice_get_within}
 use Rattle.std.proofs.lemmas.Slice.Eq.{bytes_eq-Decides}
-use Rattle.at_model.specs.Classes.{Classes, Class, Component, Shape, parts, fits, is_sub, is_concrete, name_of}
+use Rattle.at_model.specs.Classes.{Classes, Class, Component, Shape, parts, fits, is_sub, is_concrete, name_of, class_of_name}
 use Rattle.at_model.specs.Classes as class
 use Rattle.at_model.specs.Trees.{Tree, is_of_kind, conforms, cells_conform, cell_conforms, trees_conform}
 use Rattle.at_model.specs.Trees as tree
 use Rattle.at_model.specs.Terms.{Term, Cells, Cell, Terms, Node, no_cells, cell, One, Many, Empty, Holds, no_terms, term, term_of, cells_of, cell_of, terms_of}
-use Rattle.at_model.specs.Shaping.{class_named, shaped, cells_shaped, cell_shaped, terms_shaped, names_classes, cells_name_classes, cell_names_classes, terms_name_classes, AreNamedApart}
+use Rattle.at_model.specs.Shaping.{shaped, cells_shaped, cell_shaped, terms_shaped, names_classes, cells_name_classes, cell_names_classes, terms_name_classes, AreNamedApart}
 use Rattle.at_model.proofs.Options.{both, and_true, led, mapped, if_some, if_true}
 
 no_class : Class
@@ -19,17 +19,17 @@ no_class = record { name = []; is_abstract = false; parent = None; own = [] }
 same_bytes : (xs ys : List ℕ) → bytes_eq xs ys ≡ true → xs ≡ ys
 same_bytes xs ys e = (bytes_eq-Decides xs ys).0 e
 
-name_found : (classes : Classes) (name : List ℕ) (c : ℕ) → class_named classes name ≡ Some c → name_of classes c ≡ name
+name_found : (classes : Classes) (name : List ℕ) (c : ℕ) → class_of_name classes name ≡ Some c → name_of classes c ≡ name
 name_found classes name c e =
-    let (inside, test, first) = position-Some (λ k. bytes_eq k.name name) classes c no_class e in
+    let (inside, test, first) = position-Some (λ k. bytes_eq name k.name) classes c no_class e in
     let P : Option Class → Type 0 = λ o. elim o [ None ↦ [] | Some k ↦ k.name ] ≡ name in
-    subst P (sym (slice_get-get_or classes c no_class inside)) (same_bytes _ _ test)
+    subst P (sym (slice_get-get_or classes c no_class inside)) (sym (same_bytes _ _ test))
 
 module _ (classes : Classes) where
   mutual
     pub shaped_conforms : (t : Term) (b : ℕ) (u : Tree) → shaped classes t b ≡ Some u → (conforms classes u b ≡ true) × (term_of classes u ≡ t)
     shaped_conforms (Node name cs) b u e =
-        let (c, named, f) = led (λ c. if fits classes c b then option_map (λ ds. tree.Node c ds) (cells_shaped classes cs (parts classes c)) else None) (class_named classes name) u e in
+        let (c, named, f) = led (λ c. if fits classes c b then option_map (λ ds. tree.Node c ds) (cells_shaped classes cs (parts classes c)) else None) (class_of_name classes name) u e in
         let (fit, g) = if_some (fits classes c b) _ u f in
         let (ds, made, h) = mapped (λ ds. tree.Node c ds) (cells_shaped classes cs (parts classes c)) u g in
         let inner = cells_shaped_conform cs (parts classes c) ds made in

@@ -1,15 +1,15 @@
 -- An edit touches that a node is there exactly where the node goes nowhere.
-use Rattle.std.proofs.Common.{◌≡◌, ℕ, zero, suc, ◌+◌, ◌-◌, ◌<◌, Bool, true, false, not, ◌&&◌, ◌||◌, nat_eq, nat_lt, nat_le, if◌then◌else◌, List, [], ◌∷◌, ◌++◌, length, Option, Some, None, Result, Ok, Err, refl, sym, ap, ◌∙◌, subst, arith, option_and_then, option_map, ◌⊎◌, inl, inr}
+use Rattle.std.proofs.Common.{◌≡◌, ℕ, ◌+◌, ◌-◌, Bool, true, false, ◌&&◌, ◌||◌, nat_eq, nat_lt, nat_le, if◌then◌else◌, List, [], ◌∷◌, ◌++◌, length, Option, Some, None, Ok, refl, sym, ap, ◌∙◌, subst, arith, option_and_then, option_map, ◌⊎◌, inl, inr}
 use Rattle.std.specs.Prelude.{is_none, ◌==◌}
 use Rattle.std.specs.List.{slice_get}
 use Rattle.std.proofs.lemmas.Bool.Decides.{nat_tests}
 use Rattle.at_model.specs.Classes.{Classes}
 use Rattle.at_model.specs.Trees.{Tree}
-use Rattle.at_model.specs.Paths.{Node, children_at, tree_at, step_eq, node_eq, parent_of}
-use Rattle.at_model.specs.Run.{Location, Is}
+use Rattle.at_model.specs.Paths.{Node, children_at, tree_at, step_eq, parent_of}
+use Rattle.at_model.specs.Run.{Is}
 use Rattle.at_model.specs.Edits.{Edit, Set, Put, Drop, Insert, Token, has_component, fits_there, is_in_range, is_free, children_of, edited, moved_under, past_set, past_put, past_drop, past_insert, carried}
 use Rattle.at_model.specs.Edits as edit
-use Rattle.at_model.specs.Touches.{touches, is_within, is_slot, is_index}
+use Rattle.at_model.specs.Touches.{touches, is_within, is_slot}
 use Rattle.at_model.proofs.Options.{led}
 use Rattle.at_model.proofs.Conforming.{passed, root_alone}
 use Rattle.at_model.proofs.Nodes.{step_eq-sound}

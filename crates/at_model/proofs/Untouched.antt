@@ -11,6 +11,7 @@ use Rattle.at_model.specs.Meaning.{token_in, child_nodes, content}
 use Rattle.at_model.specs.Alike.{OptionLike, ListLike, LocationLike, ContentLike, Names}
 use Rattle.at_model.specs.Alike as alike
 use Rattle.at_model.specs.Edits.{changed_at, with_child, with_cell, with_node, moved_under}
+use Rattle.at_model.specs.Touches.{is_within}
 use Rattle.at_model.proofs.Options.{mapped}
 use Rattle.at_model.proofs.Nodes.{step_eq-sound}
 use Rattle.at_model.proofs.WayUp.{snoc, parent_of-snoc}
@@ -335,3 +336,22 @@ module _ (g : Cell → Cell) (part : ℕ) (past : Way → Option Way) where
         subst P (sym (tree_moved p n k t fits r)) (slots_alike p n k q (tree_at t n) r h)
     cell_alike t p fits l m (alike.up {n = n} {m = k} r) h = parents_alike p n k r
     cell_alike t p fits l m (alike.idx {n = n} {m = k} r) h = indexes_alike p n k r h
+
+    -- what stands at a node that is not above the change stays
+    local-same : (p n : Node) (v : Tree) → is_within n p ≡ false → local p n v ≡ v
+    local-same p [] v h = absurd (cc)
+    local-same [] (s ∷ ss) v h = refl
+    local-same (a ∷ p) (s ∷ ss) v h = by_step (step_eq a s) refl (local-same p ss v)
+      where
+        by_step : (b : Bool) → step_eq a s ≡ b → (is_within ss p ≡ false → local p ss v ≡ v) → (if b then local p ss v else v) ≡ v
+        by_step false e same = refl
+        by_step true e same =
+            let way = step_eq-sound a s e in
+            let f : step_eq s s ≡ true = subst (λ (x : Way). step_eq x s ≡ true) way e in
+            let g : (step_eq s s && is_within ss p) ≡ false = subst (λ (x : Way). (step_eq s x && is_within ss p) ≡ false) way h in
+            same (sym (ap (λ b. b && is_within ss p) f) ∙ g)
+
+    -- a node that is moved is there again, and is the same tree where the change is elsewhere
+    pub cell_there : (t : Tree) (p n m : Node) (v : Tree) → FitsAt t p → moved_under p past n ≡ Some m → tree_at t n ≡ Some v →
+        (w : Tree) × (tree_at (with_node (with_cell g part) t p) m ≡ Some w) × (class_of w ≡ class_of v) × (is_within n p ≡ false → w ≡ v)
+    cell_there t p n m v fits e found = (local p n v, tree_moved p n m t fits e ∙ ap (option_map (local p n)) found, local_class p n v, local-same p n v)

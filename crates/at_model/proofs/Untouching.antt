@@ -31,7 +31,7 @@ false_or false b e = (refl, e)
 not_both : (b : Bool) → b ≡ true → b ≡ false → ⊥
 not_both b e f = let g : true ≡ false = sym e ∙ f in cc
 
-not_false : (b : Bool) → not b ≡ true → b ≡ false
+pub not_false : (b : Bool) → not b ≡ true → b ≡ false
 not_false true e = absurd cc
 not_false false e = refl
 
@@ -151,7 +151,7 @@ inserted-fits ts place s u new bound same (way.stays is less) =
     ap (λ xs. slice_get xs u.1) (from_to_trees (insert (from_trees ts) place.1 new)) ∙ ap (slice_get (insert (from_trees ts) place.1 new)) (ap (λ (w : Way). w.1) is) ∙ inserted-before (from_trees ts) place.1 s.1 new (less same) bound
 
 -- a token is set and nothing moves
-moved_nowhere : (p n : Node) → moved_under p (λ (s : Way). Some s) n ≡ Some n
+pub moved_nowhere : (p n : Node) → moved_under p (λ (s : Way). Some s) n ≡ Some n
 moved_nowhere [] [] = refl
 moved_nowhere [] (s ∷ ss) = refl
 moved_nowhere (a ∷ p) [] = refl
@@ -161,7 +161,7 @@ moved_nowhere (a ∷ p) (s ∷ ss) = by_step (step_eq a s) (moved_nowhere p ss)
     by_step true e = ap (option_map (λ (us : Node). s ∷ us)) e
     by_step false e = refl
 
-nothing_keeps : (part : ℕ) → KeepsParts (λ (s : Way). Some s) part
+pub nothing_keeps : (part : ℕ) → KeepsParts (λ (s : Way). Some s) part
 nothing_keeps part = record { other = λ s e. refl; same = λ s u e. ap (λ (w : Way). w.0) (sym (way.same_some s u e)) }
 
 -- the index of a child
@@ -184,15 +184,17 @@ module _ (classes : Classes) (t : Tree) (ok : conforms classes t 0 ≡ true) whe
   set_unseen node new p is (Up n) h = tt
   set_unseen node new p is (Idx n) h = λ m s e same r u f. ap (λ (w : Way). w.1) (sym (set_way p.1 r u f).0)
 
+  pub set_fits : (new : Tree) (p : Node × Way) → FitsAt (with_child (λ u. new) p.1.1) p.1.0 (past_set p.1) t p.0
+  set_fits new p u c found here r w same e =
+      let (stays, apart) = set_way p.1 r w e in
+      let differs : p.1.1 ≡ r.1 → ⊥ = λ f. let g : nat_eq p.1.0 r.0 ≡ true = grind (arith, nat_tests) in let k : nat_eq p.1.1 r.1 ≡ true = grind (arith, nat_tests) in not_both (step_eq p.1 r) (ap (λ b. b && nat_eq p.1.1 r.1) g ∙ k) apart in
+      ap (λ (x : Way). slice_get (children (with_child (λ u. new) p.1.1 c)) x.1) (sym stays) ∙ child-other (λ u. new) p.1.1 r.1 c differs
+
   set_alike : (node : Node) (new : Tree) (p : Node × Way) → parent_of node ≡ Some p → (l m : Location Node) → touches (Set node new) l ≡ false → (s : LocationLike (Names (moved_under p.0 (past_set p.1))) l m) →
       ContentLike (Names (moved_under p.0 (past_set p.1))) s (content t l) (content (left_by t (Set node new)) m)
   set_alike node new p is l m h s =
-      let fits : FitsAt (with_child (λ u. new) p.1.1) p.1.0 (past_set p.1) t p.0 = λ u c found here r w same e.
-      let (stays, apart) = set_way p.1 r w e in
-      let differs : p.1.1 ≡ r.1 → ⊥ = λ f. let g : nat_eq p.1.0 r.0 ≡ true = grind (arith, nat_tests) in let k : nat_eq p.1.1 r.1 ≡ true = grind (arith, nat_tests) in not_both (step_eq p.1 r) (ap (λ b. b && nat_eq p.1.1 r.1) g ∙ k) apart in
-      ap (λ (x : Way). slice_get (children (with_child (λ u. new) p.1.1 c)) x.1) (sym stays) ∙ child-other (λ u. new) p.1.1 r.1 c differs in
       subst (λ (x : Tree). ContentLike (Names (moved_under p.0 (past_set p.1))) s (content t l) (content x m)) (sym (set_in_parent classes new node p is t))
-      (cell_alike (with_child (λ u. new) p.1.1) p.1.0 (past_set p.1) (set_keeps p.1) t p.0 fits l m s (set_unseen node new p is l h))
+      (cell_alike (with_child (λ u. new) p.1.1) p.1.0 (past_set p.1) (set_keeps p.1) t p.0 (set_fits new p) l m s (set_unseen node new p is l h))
 
   -- what is seen of the component that an edit needs
   component_there : {A : Type 0} (select : Shape → Option A) (p : Node) (part : ℕ) (u : Tree) (c : Cell) → is_some (option_and_then select (shape_at classes t p part)) ≡ true → tree_at t p ≡ Some u → cell_at u part ≡ Some c → (shape : Shape) × (is_some (select shape) ≡ true) × (cell_conforms classes c shape ≡ true)
@@ -207,11 +209,13 @@ module _ (classes : Classes) (t : Tree) (ok : conforms classes t 0 ≡ true) whe
   put_unseen node part new has (Up n) h = tt
   put_unseen node part new has (Idx n) h = λ m s e same r u f. ap (λ (w : Way). w.1) (sym (put_way part r u f).0)
 
+  pub put_fits : (node : Node) (part : ℕ) (new : Tree) → FitsAt (λ c. Filled new) part (past_put part) t node
+  put_fits node part new u c found here r w same e = absurd (not_both (nat_eq part r.0) (grind (arith, nat_tests)) (put_way part r w e).1)
+
   put_alike : (node : Node) (part : ℕ) (new : Tree) → has_component classes t (Put node part new) ≡ true → (l m : Location Node) → touches (Put node part new) l ≡ false → (s : LocationLike (Names (moved_under node (past_put part))) l m) →
       ContentLike (Names (moved_under node (past_put part))) s (content t l) (content (left_by t (Put node part new)) m)
   put_alike node part new has l m h s =
-      let fits : FitsAt (λ c. Filled new) part (past_put part) t node = λ u c found here r w same e. absurd (not_both (nat_eq part r.0) (grind (arith, nat_tests)) (put_way part r w e).1) in
-      cell_alike (λ c. Filled new) part (past_put part) (put_keeps part) t node fits l m s (put_unseen node part new has l h)
+      cell_alike (λ c. Filled new) part (past_put part) (put_keeps part) t node (put_fits node part new) l m s (put_unseen node part new has l h)
 
   drop_unseen : (node : Node) (p : Node × Way) → parent_of node ≡ Some p → (l : Location Node) → touches (Drop node) l ≡ false → Unseen (without_child p.1.1) p.1.0 (past_drop p.1) t p.0 l
   drop_unseen node p is (Is n) h = tt
@@ -225,13 +229,15 @@ module _ (classes : Classes) (t : Tree) (ok : conforms classes t 0 ≡ true) whe
       let around = false_or (is_within node n || is_slot_around node (Idx n)) (is_index_around node (Idx n)) h in
       absurd (not_both _ same (sym (child_seen p.0 m p.1.0 s n e) ∙ sym (ap (λ (o : Option (Node × Way)). elim o [ None ↦ false | Some x ↦ is_index x.0 x.1.0 (Idx n) ]) is) ∙ around.1))
 
+  pub drop_fits : (p : Node × Way) → is_some (option_and_then plain_class (shape_at classes t p.0 p.1.0)) ≡ false → FitsAt (without_child p.1.1) p.1.0 (past_drop p.1) t p.0
+  drop_fits p plain u c found here r w same e =
+      let (shape, sees, conf) = shape_there classes t p.0 p.1.0 u c ok found here in
+      dropped-fits classes p.1 r w c shape (selected plain_class (shape_at classes t p.0 p.1.0) false shape sees plain) conf same (drop_way p.1 r w e)
+
   drop_alike : (node : Node) (p : Node × Way) → parent_of node ≡ Some p → is_some (option_and_then plain_class (shape_at classes t p.0 p.1.0)) ≡ false → (l m : Location Node) → touches (Drop node) l ≡ false →
       (s : LocationLike (Names (moved_under p.0 (past_drop p.1))) l m) → ContentLike (Names (moved_under p.0 (past_drop p.1))) s (content t l) (content (with_node (with_cell (without_child p.1.1) p.1.0) t p.0) m)
   drop_alike node p is plain l m h s =
-      let fits : FitsAt (without_child p.1.1) p.1.0 (past_drop p.1) t p.0 = λ u c found here r w same e.
-      let (shape, sees, conf) = shape_there classes t p.0 p.1.0 u c ok found here in
-      dropped-fits classes p.1 r w c shape (selected plain_class (shape_at classes t p.0 p.1.0) false shape sees plain) conf same (drop_way p.1 r w e) in
-      cell_alike (without_child p.1.1) p.1.0 (past_drop p.1) (drop_keeps p.1) t p.0 fits l m s (drop_unseen node p is l h)
+      cell_alike (without_child p.1.1) p.1.0 (past_drop p.1) (drop_keeps p.1) t p.0 (drop_fits p plain) l m s (drop_unseen node p is l h)
 
   insert_unseen : (node : Node) (part index : ℕ) (new : Tree) → (l : Location Node) → touches (Insert node part index new) l ≡ false → Unseen (with_one_more new index) part (past_insert (part, index)) t node l
   insert_unseen node part index new (Is n) h = tt
@@ -251,16 +257,18 @@ module _ (classes : Classes) (t : Tree) (ok : conforms classes t 0 ≡ true) whe
   counted : (node : Node) (part : ℕ) (u : Tree) (ts : Trees) → tree_at t node ≡ Some u → cell_at u part ≡ Some (Many ts) → children_of t node part ≡ from_trees ts
   counted node part u ts found here = ap (λ (o : Option Tree). elim o [ None ↦ [] | Some x ↦ children_at x part ]) found ∙ ap (λ (o : Option Cell). elim o [ None ↦ [] | Some c ↦ children c ]) here
 
-  insert_alike : (node : Node) (part index : ℕ) (new : Tree) → has_component classes t (Insert node part index new) ≡ true → is_in_range t (Insert node part index new) ≡ true → (l m : Location Node) → touches (Insert node part index new) l ≡ false →
-      (s : LocationLike (Names (moved_under node (past_insert (part, index)))) l m) → ContentLike (Names (moved_under node (past_insert (part, index)))) s (content t l) (content (left_by t (Insert node part index new)) m)
-  insert_alike node part index new has range l m h s =
-      let fits : FitsAt (with_one_more new index) part (past_insert (part, index)) t node = λ u c found here r w same e.
+  pub insert_fits : (node : Node) (part index : ℕ) (new : Tree) → has_component classes t (Insert node part index new) ≡ true → is_in_range t (Insert node part index new) ≡ true → FitsAt (with_one_more new index) part (past_insert (part, index)) t node
+  insert_fits node part index new has range u c found here r w same e =
       let (shape, some, conf) = component_there list_class node part u c has found here in
       let (ts, is) = list_cell classes c shape some conf in
       let count : length (children_of t node part) ≡ length (from_trees ts) = ap length (counted node part u ts found (here ∙ ap Some is)) in
       let bound : index ≤ length (children_of t node part) = grind (arith, nat_tests) in
-      subst (λ (x : Cell). slice_get (children (with_one_more new index x)) w.1 ≡ slice_get (children x) r.1) (sym is) (inserted-fits ts (part, index) r w new (omega arith) same (insert_way (part, index) r w e)) in
-      cell_alike (with_one_more new index) part (past_insert (part, index)) (insert_keeps (part, index)) t node fits l m s (insert_unseen node part index new l h)
+      subst (λ (x : Cell). slice_get (children (with_one_more new index x)) w.1 ≡ slice_get (children x) r.1) (sym is) (inserted-fits ts (part, index) r w new (omega arith) same (insert_way (part, index) r w e))
+
+  insert_alike : (node : Node) (part index : ℕ) (new : Tree) → has_component classes t (Insert node part index new) ≡ true → is_in_range t (Insert node part index new) ≡ true → (l m : Location Node) → touches (Insert node part index new) l ≡ false →
+      (s : LocationLike (Names (moved_under node (past_insert (part, index)))) l m) → ContentLike (Names (moved_under node (past_insert (part, index)))) s (content t l) (content (left_by t (Insert node part index new)) m)
+  insert_alike node part index new has range l m h s =
+      cell_alike (with_one_more new index) part (past_insert (part, index)) (insert_keeps (part, index)) t node (insert_fits node part index new has range) l m s (insert_unseen node part index new l h)
 
   token_unseen : (node : Node) (part : ℕ) (v : trees.Token) → has_component classes t (Token node part v) ≡ true → (l : Location Node) → touches (Token node part v) l ≡ false → Unseen (λ c. Holds v) part (λ (s : Way). Some s) t node l
   token_unseen node part v has (Is n) h = tt
@@ -272,13 +280,15 @@ module _ (classes : Classes) (t : Tree) (ok : conforms classes t 0 ≡ true) whe
   token_unseen node part v has (Up n) h = tt
   token_unseen node part v has (Idx n) h = λ m s e same r u f. ap (λ (w : Way). w.1) (sym (way.same_some r u f))
 
+  pub token_fits : (node : Node) (part : ℕ) (v : trees.Token) → has_component classes t (Token node part v) ≡ true → FitsAt (λ c. Holds v) part (λ (s : Way). Some s) t node
+  token_fits node part v has u c found here r w same e =
+      let (shape, some, conf) = component_there token_kind node part u c has found here in
+      sym (ap (λ (xs : List Tree). slice_get xs r.1) (token_cell classes c shape some conf))
+
   token_alike : (node : Node) (part : ℕ) (v : trees.Token) → has_component classes t (Token node part v) ≡ true → (l m : Location Node) → touches (Token node part v) l ≡ false →
       (s : LocationLike (Names (moved_under node (λ (s : Way). Some s))) l m) → ContentLike (Names (moved_under node (λ (s : Way). Some s))) s (content t l) (content (left_by t (Token node part v)) m)
   token_alike node part v has l m h s =
-      let fits : FitsAt (λ c. Holds v) part (λ (s : Way). Some s) t node = λ u c found here r w same e.
-      let (shape, some, conf) = component_there token_kind node part u c has found here in
-      sym (ap (λ (xs : List Tree). slice_get xs r.1) (token_cell classes c shape some conf)) in
-      cell_alike (λ c. Holds v) part (λ (s : Way). Some s) (nothing_keeps part) t node fits l m s (token_unseen node part v has l h)
+      cell_alike (λ c. Holds v) part (λ (s : Way). Some s) (nothing_keeps part) t node (token_fits node part v has) l m s (token_unseen node part v has l h)
 
   -- a node that has no parent is replaced with all that there is
   at_set : (node : Node) (new : Tree) (o : Option (Node × Way)) → parent_of node ≡ o → (l : Location Node) → touches (Set node new) l ≡ false →

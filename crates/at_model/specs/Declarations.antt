@@ -196,7 +196,7 @@ first_of (x ∷ xs) = option_or x (first_of xs)
 -- the fault that the grammar is refused for: the first code that applies, at its earliest place
 unfoldable pub first_fault : Declarations → Option Fault
 first_fault ds = first_of
-    ( coded NoClass (no_class ds)
+    (coded NoClass (no_class ds)
     ∷ coded ClassTwice (class_twice ds)
     ∷ coded UnknownClass (unknown_class ds)
     ∷ coded SuperclassCircle (superclass_circle ds)

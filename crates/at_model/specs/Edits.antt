@@ -20,19 +20,22 @@ pub data Edit : Type 0 where
 abbrev pub shape_at : Classes → Tree → Node → ℕ → Option Shape
 shape_at classes t node part = option_and_then (λ u. option_map (λ p. p.shape) (slice_get (parts classes (class_of u)) part)) (tree_at t node)
 
--- the class of a plain child, of a list, of an optional; the kind of a token
+-- the class of the child, where the component is a plain child
 abbrev pub plain_class : Shape → Option ℕ
 plain_class (class.One c) = Some c
 plain_class shape = None
 
+-- the class of the elements, where the component is a list
 abbrev pub list_class : Shape → Option ℕ
 list_class (class.Many c) = Some c
 list_class shape = None
 
+-- the class of what an optional may hold, where the component is one
 abbrev pub optional_class : Shape → Option ℕ
 optional_class (class.Maybe c) = Some c
 optional_class shape = None
 
+-- the kind of the token, where the component is one
 abbrev pub token_kind : Shape → Option TokenKind
 token_kind (class.Token kind) = Some kind
 token_kind shape = None
@@ -41,10 +44,12 @@ token_kind shape = None
 abbrev pub class_asked : Classes → Tree → Node → Option ℕ
 class_asked classes t node = elim (parent_of node) [ None ↦ Some 0 | Some p ↦ option_and_then class_in (shape_at classes t p.0 p.1.0) ]
 
+-- the tree conforms to the class, and one is asked
 abbrev pub fits_class : Classes → Tree → Option ℕ → Bool
 fits_class classes new None = false
 fits_class classes new (Some b) = conforms classes new b
 
+-- the token is of the kind, and one is asked
 abbrev pub fits_kind : tree.Token → Option TokenKind → Bool
 fits_kind v None = false
 fits_kind v (Some kind) = is_of_kind v kind
@@ -79,6 +84,7 @@ abbrev pub is_free : Tree → Edit → Bool
 is_free t (Put node part new) = length (children_of t node part) == 0
 is_free t e = true
 
+-- the node is the root, or a plain child
 abbrev pub is_plain : Classes → Tree → Node → Bool
 is_plain classes t node = elim (parent_of node) [ None ↦ true | Some p ↦ is_some (option_and_then plain_class (shape_at classes t p.0 p.1.0)) ]
 
@@ -134,10 +140,19 @@ left_by t (Drop node) = elim (parent_of node) [ None ↦ t | Some p ↦ with_nod
 left_by t (Insert node part index new) = with_node (with_cell (with_one_more new index) part) t node
 left_by t (Token node part v) = with_node (with_cell (λ c. Holds v) part) t node
 
--- how many nodes a tree may have, and how many bytes a text among its tokens
+-- the node of which the edit changes a cell: there is none where the root is replaced
+abbrev pub changed_at_node : Edit → Option Node
+changed_at_node (Set node new) = option_map (λ p. p.0) (parent_of node)
+changed_at_node (Put node part new) = Some node
+changed_at_node (Drop node) = option_map (λ p. p.0) (parent_of node)
+changed_at_node (Insert node part index new) = Some node
+changed_at_node (Token node part v) = Some node
+
+-- how many nodes a tree may have
 abbrev pub max_nodes : ℕ
 max_nodes = 65536
 
+-- the most bytes of a text among the tokens
 abbrev pub max_token : ℕ
 max_token = 4096
 

@@ -20,6 +20,7 @@ pub data Argument : Type 0 where
   Ref : Place → Argument
   Null : Argument
 
+-- the commands, each with its words
 pub data Command : Type 0 where
   Ask : Place → (attribute : List ℕ) → List Argument → Command
   Set : Place → Term → Command
@@ -44,6 +45,7 @@ abbrev pub place_text : Place → List ℕ
 place_text (From_root path) = path_text path
 place_text (From_mark name steps) = 36 ∷ (name ++ flat_map step_text steps)
 
+-- a text stands between quotes
 abbrev pub argument_text : Argument → List ℕ
 argument_text (Text bytes) = quoted bytes
 argument_text (Ref place) = place_text place
@@ -53,6 +55,7 @@ argument_text Null = codes "null"
 abbrev pub call_text : List ℕ → List Argument → List ℕ
 call_text attribute arguments = attribute ++ 40 ∷ (with_commas (map argument_text arguments) ++ 41 ∷ [])
 
+-- the words of a command
 abbrev pub command_words : Command → List (List ℕ)
 command_words (Ask place attribute arguments) = codes "ask" ∷ place_text place ∷ call_text attribute arguments ∷ []
 command_words (Set place t) = codes "set" ∷ place_text place ∷ term_text t ∷ []
@@ -66,6 +69,7 @@ command_words (Unmark name) = codes "unmark" ∷ name ∷ []
 command_words (Where name) = codes "where" ∷ name ∷ []
 command_words Version = codes "version" ∷ []
 
+-- the words that name the version expected, where one is
 abbrev pub expected_words : Option ℕ → List (List ℕ)
 expected_words None = []
 expected_words (Some version) = codes "at" ∷ decimal version ∷ []
@@ -86,13 +90,16 @@ max_sessions = 1000
 abbrev pub max_line : ℕ
 max_line = 65535
 
+-- the text is a name
 abbrev pub IsName : List ℕ → Type 0
 IsName text = (is_name text ≡ true) × IsUtf8 text
 
+-- the names in a place are names, and its indexes have at most nine digits
 abbrev pub IsPlace : Place → Type 0
 IsPlace (From_root path) = IsPath path
 IsPlace (From_mark name steps) = IsName name × IsPath steps
 
+-- the argument has a text
 abbrev pub IsArgument : Argument → Type 0
 IsArgument (Text bytes) = IsUtf8 bytes
 IsArgument (Ref place) = IsPlace place
@@ -112,15 +119,18 @@ IsCommand (Unmark name) = IsName name
 IsCommand (Where name) = IsName name
 IsCommand Version = ⊤
 
+-- the version is one that there can be
 abbrev pub IsVersion : Option ℕ → Type 0
 IsVersion None = ⊤
 IsVersion (Some version) = version ≤ last_version
 
+-- the session is one of the thousand, the version one that there can be, and the command has a text
 pub record IsLine (l : Line) : Type 0 where
   pub session : l.session < max_sessions
   pub expected : IsVersion l.expected
   pub command : IsCommand l.command
 
+-- the place is a path
 abbrev pub is_from_root : Place → Bool
 is_from_root (From_root path) = true
 is_from_root (From_mark name steps) = false
@@ -154,6 +164,7 @@ abbrev pub pieces : List ℕ → List (List ℕ)
 pieces [] = [] ∷ []
 pieces (b ∷ bs) = if b == 10 then [] ∷ pieces bs else onto_first b (pieces bs)
 
+-- there is a byte
 abbrev pub is_filled : List ℕ → Bool
 is_filled [] = false
 is_filled (b ∷ bs) = true
@@ -162,6 +173,7 @@ is_filled (b ∷ bs) = true
 abbrev pub lines : List ℕ → List (List ℕ)
 lines bytes = filter is_filled (pieces bytes)
 
+-- a space comes next, or nothing
 abbrev pub IsSpaceOrEnd : List ℕ → Type 0
 IsSpaceOrEnd [] = ⊤
 IsSpaceOrEnd (b ∷ bs) = b ≡ 32

@@ -1,9 +1,9 @@
 -- The machine without caches: what each line of each session is told, and in what state it leaves the machine.
-use Rattle.std.specs.Prelude.{◌≡◌, ℕ, ◌+◌, Bool, true, false, ◌&&◌, not, nat_eq, nat_le, if◌then◌else◌, List, [], ◌∷◌, ◌++◌, map, filter, count_by, Option, Some, None, option_map, option_and_then, unwrap_or, is_some, Ok, Err, find, filter_map}
-use Rattle.std.specs.List.{slice_get, flat_map, list_all}
+use Rattle.std.specs.Prelude.{◌≡◌, ℕ, ◌+◌, Bool, true, false, ◌&&◌, not, nat_eq, nat_le, if◌then◌else◌, List, [], ◌∷◌, ◌++◌, map, filter, count_by, Option, Some, None, option_map, option_and_then, unwrap_or, is_some, IsSome, Ok, Err, find, filter_map}
+use Rattle.std.specs.List.{AllByRecursion, slice_get, flat_map, list_all}
 use Rattle.std.specs.Str.{bytes_eq}
 use Rattle.at_model.specs.Classes.{Classes, Shape, is_sub}
-use Rattle.at_model.specs.Trees.{Tree, class_of}
+use Rattle.at_model.specs.Trees.{Tree, class_of, conforms}
 use Rattle.at_model.specs.Trees as tree
 use Rattle.at_model.specs.Terms.{Term, term_of}
 use Rattle.at_model.specs.Paths.{Path, Node, tree_at, node_at, path_of, part_named}
@@ -12,7 +12,7 @@ use Rattle.at_model.specs.Run as run
 use Rattle.at_model.specs.Rules.{Rules, Kind, attribute_named, attribute_name}
 use Rattle.at_model.specs.Rules as kind
 use Rattle.at_model.specs.Meaning.{Answer, Outcomes, Finds, Faults, Circle, Answers, content, equations}
-use Rattle.at_model.specs.Edits.{Edit, edited, shape_at, class_asked, list_class, optional_class, token_kind, carried}
+use Rattle.at_model.specs.Edits.{Edit, edited, is_within_limits, shape_at, class_asked, list_class, optional_class, token_kind, carried}
 use Rattle.at_model.specs.Edits as edit
 use Rattle.at_model.specs.Shaping.{names_classes, shaped}
 use Rattle.at_model.specs.Lines.{Line, Place, From_root, From_mark, Argument, Text, Ref, Null, Command, Ask, Set, Put, Drop, Insert, Token, Show, Mark, Unmark, Where, Version, last_version, Spells, lines, IsSessionOf}
@@ -35,6 +35,7 @@ pub record State : Type 0 where
 abbrev pub max_marks : ℕ
 max_marks = 100
 
+-- it is the session's mark of that name
 abbrev pub is_mark : ℕ → List ℕ → Marked → Bool
 is_mark session name m = nat_eq session m.session && bytes_eq name m.name
 
@@ -42,6 +43,7 @@ is_mark session name m = nat_eq session m.session && bytes_eq name m.name
 abbrev pub marked : List Marked → ℕ → List ℕ → Option Node
 marked marks session name = option_map (λ m. m.node) (find (is_mark session name) marks)
 
+-- the session has a mark of that name
 abbrev pub is_marked : List Marked → ℕ → List ℕ → Bool
 is_marked marks session name = is_some (marked marks session name)
 
@@ -49,10 +51,12 @@ is_marked marks session name = is_some (marked marks session name)
 abbrev pub carried_marks : Edit → List Marked → List Marked
 carried_marks e marks = filter_map (λ m. option_map (λ n. record m { node = n }) (carried e m.node)) marks
 
+-- the mark that a place uses
 abbrev pub marks_in : Place → List (List ℕ)
 marks_in (From_root path) = []
 marks_in (From_mark name steps) = name ∷ []
 
+-- the mark that an argument uses
 abbrev pub marks_in_argument : Argument → List (List ℕ)
 marks_in_argument (Text bytes) = []
 marks_in_argument (Ref place) = marks_in place
@@ -81,6 +85,7 @@ abbrev pub node_named : Classes → State → ℕ → Place → Option Node
 node_named classes s session (From_root path) = node_at classes s.tree path
 node_named classes s session (From_mark name steps) = option_and_then (node_below classes s.tree steps) (marked s.marks session name)
 
+-- the value that an argument names, where it names one
 abbrev pub value_named : Classes → State → ℕ → Argument → Option (Value Node)
 value_named classes s session (Text bytes) = Some (run.Text bytes)
 value_named classes s session (Ref place) = option_map (λ n. run.Ref (Some n)) (node_named classes s session place)
@@ -105,6 +110,7 @@ fit_parameters classes t [] (v ∷ vs) = false
 fit_parameters classes t (k ∷ ks) [] = false
 fit_parameters classes t (k ∷ ks) (v ∷ vs) = fits_parameter classes t k v && fit_parameters classes t ks vs
 
+-- the kinds of the parameters of an attribute
 abbrev pub parameters_of : Rules → ℕ → List Kind
 parameters_of rules attribute = elim (slice_get rules.attributes attribute) [ None ↦ [] | Some a ↦ a.parameters ]
 
@@ -125,6 +131,7 @@ after s (Leaves marks) = record s { marks = marks }
 after s (Edits e t) = record { tree = t; version = s.version + 1; marks = carried_marks e s.marks }
 after s (Asks q) = s
 
+-- the code by which a line with a refused edit is answered
 abbrev pub code_of : edit.Refusal → Code
 code_of edit.Component = code.Component
 code_of edit.Fit = code.Fit
@@ -169,6 +176,7 @@ questioned rules t n name vs = elim (option_and_then (λ u. attribute_named rule
   | Some attribute ↦ if fit_parameters rules.classes t (parameters_of rules attribute) vs then Asks (record { node = n; attribute = attribute; arguments = vs }) else Refuses code.Arguments
 ]
 
+-- one more mark of the session, where the name is free and there are not too many
 abbrev pub with_mark : State → ℕ → List ℕ → Node → Verdict
 with_mark s session name n =
     if is_marked s.marks session name then Refuses code.Taken
@@ -189,6 +197,7 @@ obeyed rules s session (Unmark name) = Leaves (filter (λ m. not (is_mark sessio
 obeyed rules s session (Where name) = elim (marked s.marks session name) [ None ↦ Refuses code.Mark | Some n ↦ Tells (At (path_to rules.classes s.tree n)) ]
 obeyed rules s session Version = Leaves s.marks
 
+-- a version is expected and it is not this one
 abbrev pub is_stale : Option ℕ → ℕ → Bool
 is_stale None version = false
 is_stale (Some expected) version = not (nat_eq expected version)
@@ -200,6 +209,7 @@ verdict rules s l =
     else (if not (list_all (is_marked s.marks l.session) (marks_used l.command)) then Refuses code.Mark
     else obeyed rules s l.session l.command)
 
+-- what is told of a value: of a node its path
 abbrev pub shown_value : Classes → Tree → Value Node → Shown
 shown_value classes t (run.Int n) = Plain (tree.Int n)
 shown_value classes t (run.Truth b) = Plain (tree.Truth b)
@@ -207,6 +217,7 @@ shown_value classes t (run.Text bytes) = Plain (tree.Text bytes)
 shown_value classes t (run.Ref None) = Nothing
 shown_value classes t (run.Ref (Some n)) = At (path_to classes t n)
 
+-- what is told of an answer: a fault and a circle are told with the path of the node
 abbrev pub answer_form : Rules → Tree → Answer Node → Form
 answer_form rules t (Outcomes (Finds v)) = Shows (shown_value rules.classes t v)
 answer_form rules t (Outcomes (Faults kind i)) = Fails kind (path_to rules.classes t i.node) (attribute_name rules i.attribute)
@@ -270,3 +281,9 @@ pub record IsEdited (classes : Classes) (old new : State) : Type 0 where
   pub tree : edited classes old.tree by ≡ Ok new.tree
   pub version : new.version ≡ old.version + 1
   pub marks : new.marks ≡ carried_marks by old.marks
+
+-- the tree conforms to the start class and is within the limits, and each mark leads to a node of it
+pub record IsSound (classes : Classes) (s : State) : Type 0 where
+  pub tree_conforms : conforms classes s.tree 0 ≡ true
+  pub tree_within : is_within_limits s.tree ≡ true
+  pub marks_lead : AllByRecursion (λ m. IsSome (tree_at s.tree m.node)) s.marks

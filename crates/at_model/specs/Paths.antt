@@ -4,7 +4,7 @@ use Rattle.std.specs.Fmt.{decimal}
 use Rattle.std.specs.Str.{IsUtf8, bytes_eq}
 use Rattle.std.specs.List.{slice_get, flat_map, AllByRecursion}
 use Rattle.at_model.specs.Names.{is_name}
-use Rattle.at_model.specs.Classes.{Classes, Shape, One, Many, Maybe, parts}
+use Rattle.at_model.specs.Classes.{Classes, Component, Shape, One, Many, Maybe, parts}
 use Rattle.at_model.specs.Trees.{Tree, Cell, children, class_of, cells_of, from_cells}
 
 -- a component's name, and an index where it is a list
@@ -99,3 +99,7 @@ step_of classes c way = option_map (λ p. record { part = p.name; index = index_
 abbrev pub path_of : Classes → Tree → Node → Option Path
 path_of classes t [] = Some []
 path_of classes t (way ∷ ways) = option_and_then (λ s. option_and_then (λ u. option_map (λ ss. s ∷ ss) (path_of classes u ways)) (slice_get (children_at t way.0) way.1)) (step_of classes (class_of t) way)
+
+-- each component of a class is the first one of its name in the class
+abbrev pub ArePartsApart : Classes → Type 0
+ArePartsApart classes = (c part : ℕ) (p : Component) → slice_get (parts classes c) part ≡ Some p → part_named classes c p.name ≡ Some part

@@ -9,6 +9,7 @@ use Rattle.at_model.specs.Paths as paths
 use Rattle.at_model.specs.Run.{FaultKind}
 use Rattle.at_model.specs.Run as run
 
+-- the word for a fault
 abbrev pub fault_text : FaultKind → List ℕ
 fault_text run.Null = codes "null"
 fault_text run.Index = codes "index"
@@ -56,12 +57,14 @@ pub data Shown : Type 0 where
   Nothing : Shown
   Written : Term → Shown
 
+-- the text of what is told
 abbrev pub shown_text : Shown → List ℕ
 shown_text (Plain v) = token_text v
 shown_text (At path) = path_text path
 shown_text Nothing = codes "null"
 shown_text (Written t) = term_text t
 
+-- what a session is told: its command is done and this is the version, a value, a fault or a circle and where it is, a refusal, or that memory ran out
 pub data Form : Type 0 where
   Done : (version : ℕ) → Form
   Shows : Shown → Form
@@ -74,6 +77,7 @@ pub data Form : Type 0 where
 abbrev pub instance_text : paths.Path → List ℕ → List ℕ
 instance_text path attribute = path_text path ++ 46 ∷ attribute
 
+-- the words of a reply behind its session
 abbrev pub form_words : Form → List (List ℕ)
 form_words (Done version) = codes "ok" ∷ decimal version ∷ []
 form_words (Shows shown) = codes "=" ∷ shown_text shown ∷ []
@@ -87,6 +91,7 @@ pub record Reply : Type 0 where
   pub session : Option ℕ
   pub form : Form
 
+-- the number of the session, or a question mark
 abbrev pub session_text : Option ℕ → List ℕ
 session_text None = codes "?"
 session_text (Some session) = decimal session

@@ -1,18 +1,14 @@
 -- Which tree a term is: its names looked up, its cells laid against the components.
-use Rattle.std.specs.Prelude.{◌≡◌, ℕ, ◌<◌, length, Bool, true, false, ◌&&◌, if◌then◌else◌, List, [], ◌∷◌, Option, Some, None, option_map, option_and_then, position}
-use Rattle.std.specs.Str.{bytes_eq}
-use Rattle.at_model.specs.Classes.{Classes, Component, Shape, parts, fits, is_concrete, name_of}
+use Rattle.std.specs.Prelude.{◌≡◌, ℕ, ◌<◌, length, Bool, true, false, ◌&&◌, if◌then◌else◌, List, [], ◌∷◌, Option, Some, None, option_map, option_and_then}
+use Rattle.at_model.specs.Classes.{Classes, Component, Shape, parts, fits, is_concrete, class_of_name, name_of}
 use Rattle.at_model.specs.Classes as class
 use Rattle.at_model.specs.Trees.{Tree, is_of_kind}
 use Rattle.at_model.specs.Trees as tree
 use Rattle.at_model.specs.Terms.{Term, Cells, Cell, Terms, Node, no_cells, cell, One, Many, Empty, Holds, no_terms, term}
 
--- the class of that name
-abbrev pub class_named : Classes → List ℕ → Option ℕ
-class_named classes name = position (λ k. bytes_eq k.name name) classes
-
+-- the name is that of a class which is not abstract
 abbrev pub names_concrete_class : Classes → List ℕ → Bool
-names_concrete_class classes name = elim (class_named classes name) [ None ↦ false | Some c ↦ is_concrete classes c ]
+names_concrete_class classes name = elim (class_of_name classes name) [ None ↦ false | Some c ↦ is_concrete classes c ]
 
 -- each name in the term is that of a class which is not abstract
 abbrev mutual
@@ -36,7 +32,7 @@ abbrev mutual
 -- the tree of the class asked, or of one below it, that the term writes, where there is one
 abbrev mutual
   pub shaped : Classes → Term → ℕ → Option Tree
-  shaped classes (Node name cells) b = option_and_then (λ c. if fits classes c b then option_map (λ ds. tree.Node c ds) (cells_shaped classes cells (parts classes c)) else None) (class_named classes name)
+  shaped classes (Node name cells) b = option_and_then (λ c. if fits classes c b then option_map (λ ds. tree.Node c ds) (cells_shaped classes cells (parts classes c)) else None) (class_of_name classes name)
 
   pub cells_shaped : Classes → Cells → List Component → Option tree.Cells
   cells_shaped classes no_cells [] = Some tree.no_cells
@@ -58,4 +54,4 @@ abbrev mutual
 
 -- each class is the first one of its name
 abbrev pub AreNamedApart : Classes → Type 0
-AreNamedApart classes = (c : ℕ) → c < length classes → class_named classes (name_of classes c) ≡ Some c
+AreNamedApart classes = (c : ℕ) → c < length classes → class_of_name classes (name_of classes c) ≡ Some c

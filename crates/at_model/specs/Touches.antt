@@ -22,10 +22,12 @@ is_within (s ∷ ss) (u ∷ us) = step_eq s u && is_within ss us
 abbrev pub is_child : Node → ℕ → Node → Bool
 is_child node part n = elim (parent_of n) [ None ↦ false | Some p ↦ node_eq node p.0 && nat_eq part p.1.0 ]
 
+-- that token of the node
 abbrev pub is_token : Node → ℕ → Location Node → Bool
 is_token node part (Tok n p) = node_eq node n && nat_eq part p
 is_token node part l = false
 
+-- what stands in that component of the node
 abbrev pub is_slot : Node → ℕ → Location Node → Bool
 is_slot node part (Slot n p) = node_eq node n && nat_eq part p
 is_slot node part l = false

@@ -21,13 +21,14 @@ pub use laws::{
 pub use machine_cases::{
     a_drop_moves_what_is_behind, a_line_as_text, a_mark_is_asked_where_it_is, a_stale_line,
     an_insert_moves_what_is_behind, an_optional_is_emptied_and_filled, lines_of_bytes, marks,
-    outputs_of_bytes, paths_as_text, questions, refused_edits, replies_as_text,
-    the_deepest_tree, what_a_drop_touches,
+    outputs_of_bytes, paths_as_text, questions, refused_edits, replies_as_text, the_deepest_tree,
+    what_a_drop_touches,
 };
 pub use machine_laws::{
-    a_node_that_goes_nowhere_is_touched, a_refused_line_changes_nothing,
-    a_shaped_tree_is_written_as_its_term, a_written_tree_is_shaped_again,
-    an_accepted_edit_conforms, an_accepted_edit_is_the_next_version, lines_of_one_part,
-    lines_of_two_parts, one_line, one_more_line, one_output, one_reply, one_session, one_term,
-    only_edits_change_the_tree, what_is_not_touched_is_alike, what_is_not_touched_stays_right,
+    a_carried_node_is_there, a_node_that_goes_nowhere_is_touched, a_refused_line_changes_nothing,
+    a_shaped_tree_is_written_as_its_term, a_sound_state_stays_sound,
+    a_written_tree_is_shaped_again, an_accepted_edit_conforms,
+    an_accepted_edit_is_the_next_version, lines_of_one_part, lines_of_two_parts, one_line,
+    one_more_line, one_output, one_reply, one_session, one_term, only_edits_change_the_tree,
+    the_path_of_a_node_leads_back, what_is_not_touched_is_alike, what_is_not_touched_stays_right,
 };

@@ -2,11 +2,11 @@
 
 ghost use Rattle.std.specs.Prelude.{◌≡◌, ◌≢◌, ℕ, ◌+◌, Bool, true, false, List, [], ◌∷◌, ◌++◌, Option, Some, Ok, All, filter, is_none};
 ghost use Rattle.at_model.specs.Classes.{Classes};
-ghost use Rattle.at_model.specs.Trees.{Tree, conforms};
+ghost use Rattle.at_model.specs.Trees.{Tree, class_of, conforms};
 ghost use Rattle.at_model.specs.Rules.{Rules};
-ghost use Rattle.at_model.specs.Edits.{Edit, carried, edited, is_within_limits};
-ghost use Rattle.at_model.specs.Touches.{touches};
-ghost use Rattle.at_model.specs.Paths.{Node, tree_at};
+ghost use Rattle.at_model.specs.Edits.{Edit, carried, changed_at_node, edited, is_within_limits};
+ghost use Rattle.at_model.specs.Touches.{is_within, touches};
+ghost use Rattle.at_model.specs.Paths.{ArePartsApart, Node, Path, node_at, path_of, tree_at};
 ghost use Rattle.at_model.specs.Run.{Instance, Is, Location};
 ghost use Rattle.at_model.specs.Meaning.{Holds, Outcome, content, equations};
 ghost use Rattle.at_model.specs.Support.{Supports};
@@ -25,8 +25,16 @@ ghost use Rattle.at_model.specs.Machine.{
   Runs,
   Outputs,
   IsEdited,
+  IsSound,
   is_edit,
 };
+
+/// Where each component is the first one of its name in its class, each node of a tree that conforms has
+/// a path, which leads back to it.
+pub fn the_path_of_a_node_leads_back()
+    ensures { (classes : Classes) → ArePartsApart classes → (t : Tree) (b : ℕ) (n : Node) (u : Tree) → conforms classes t b ≡ true → tree_at t n ≡ Some u
+        → (p : Path) × (path_of classes t n ≡ Some p) × (node_at classes t p ≡ Some n) }
+{}
 
 /// A text is that of at most one term, and no text of a term begins another one.
 pub fn one_term()
@@ -73,6 +81,12 @@ pub fn a_refused_line_changes_nothing()
         → Handles rules (ByEquations rules) old bytes new reply → reply.form ≡ Refused refusal → new ≡ old }
 {}
 
+/// Where the tree conforms, is within the limits and holds the nodes of all marks, it is so after each line.
+pub fn a_sound_state_stays_sound()
+    ensures { (rules : Rules) (b : Bool) (old : State) (line : List ℕ) (new : State) (reply : Reply)
+        → IsSound rules.classes old → Serves rules (ByEquations rules) b old line new reply → IsSound rules.classes new }
+{}
+
 /// An edit that is accepted leaves the tree that it makes, the next version, and the marks where their
 /// nodes are; that version is told.
 pub fn an_accepted_edit_is_the_next_version()
@@ -92,6 +106,17 @@ pub fn what_is_not_touched_is_alike()
     ensures apart { (e : Edit) → IsInjective (carried e) }
     ensures alike { (classes : Classes) (t u : Tree) (e : Edit) → conforms classes t 0 ≡ true → edited classes t e ≡ Ok u
         → (l : Location Node) → touches e l ≡ false → AlikeAt (Names (carried e)) (content t) (content u) l }
+{}
+
+/// A node that is carried leads to a tree of the same class, and to the same tree where the edit
+/// changes no cell of it or of a node below it.
+pub fn a_carried_node_is_there()
+    ensures there { (classes : Classes) (t u : Tree) (e : Edit) → conforms classes t 0 ≡ true → edited classes t e ≡ Ok u
+        → (n m : Node) (v : Tree) → carried e n ≡ Some m → tree_at t n ≡ Some v
+        → (w : Tree) × (tree_at u m ≡ Some w) × (class_of w ≡ class_of v) }
+    ensures same { (classes : Classes) (t u : Tree) (e : Edit) → conforms classes t 0 ≡ true → edited classes t e ≡ Ok u
+        → (n m : Node) (v : Tree) → carried e n ≡ Some m → tree_at t n ≡ Some v
+        → ((p : Node) → changed_at_node e ≡ Some p → is_within n p ≡ false) → tree_at u m ≡ Some v }
 {}
 
 /// An edit that is accepted touches that a node is there exactly where the node goes nowhere.

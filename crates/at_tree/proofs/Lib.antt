@@ -11,3 +11,7 @@ pub mod TermRuns
 pub mod TermMachine
 pub mod TextLaws
 pub mod TreeLoops
+pub mod TreeTexts
+pub mod Shaping
+pub mod Made
+pub mod ShapeLaws

@@ -11,3 +11,7 @@ pub mod PartialPath
 pub mod PathSeen
 pub mod Laws
 pub mod TreeView
+pub mod Separated
+pub mod Shape
+pub mod TreeTokens
+pub mod TreeLaws

@@ -1,8 +1,13 @@
 //! Syntax trees: a class, and a cell for each of its components.
 mod conforming;
 mod counts;
+pub mod laws;
+mod shaping;
+mod writing;
 
 pub use counts::{depth, nodes};
+pub use shaping::{ShapeFault, shape};
+pub use writing::write_term;
 pub use conforming::fits;
 
 use crate::token::TokVal;

@@ -1,16 +1,16 @@
 -- `version` is a line; no line and no session begins with a letter.
-use Rattle.std.proofs.Common.{◌≡◌, ℕ, ◌^◌, ◌<◌, ◌≤◌, List, [], ◌∷◌, ◌++◌, length, Some, None, refl, sym, ap, ◌∙◌, subst, arith}
+use Rattle.std.proofs.Common.{◌≡◌, ℕ, ◌^◌, ◌<◌, List, [], ◌∷◌, ◌++◌, length, Some, None, refl, sym, ap, ◌∙◌, subst, arith}
 use Rattle.std.specs.Fmt.{decimal, digits}
 use Rattle.std.specs.Char.{digit_value}
 use Rattle.std.specs.Str.Parse.{AllDigits}
 use Rattle.std.proofs.lemmas.Fmt.{decimal_is_IsNumeral}
 use lib.Chars.{codes}
-use Rattle.at_model.specs.Lines.{Line, Spells, BeginsWith, Version}
+use Rattle.at_model.specs.Lines.{Spells, Version}
 use Rattle.at_model.specs.Replies.{Done, Refused, Memory}
 use Rattle.at_model.specs.Replies as code
 use Rattle.at_model.specs.Machine.{obeys, refuses}
 use Rattle.at_model.specs.SampleLines.{opened, says}
-use Rattle.at_model.proofs.OneLine.{line_flat, body_text}
+use Rattle.at_model.proofs.OneLine.{line_flat}
 use Rattle.at_model.proofs.machine_cases.outputs_of_bytes.Goals as goal
 
 first_digit : (n : ℕ) (r : List ℕ) (b : ℕ) (x : List ℕ) → n < 2 ^ 64 → b ∷ x ≡ decimal n ++ r → digit_value b < 10
