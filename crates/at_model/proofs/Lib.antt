@@ -27,6 +27,7 @@ pub mod Untouching
 pub mod Carried
 pub mod Surviving
 pub mod Sound
+pub mod WellKept
 pub mod PathsBack
 pub mod Conforming
 pub mod Shaped

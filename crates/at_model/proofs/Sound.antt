@@ -94,7 +94,7 @@ leads-carried classes t u e ok is (m ∷ ms) h = at_mark (carried e m.node) refl
         (some_is (tree_at u n) there.now there.there, rest)
 
 -- the verdict leaves marks that lead, or makes an edit that is accepted
-data Safe (classes : Classes) (s : State) : Verdict → Type 0 where
+pub data Safe (classes : Classes) (s : State) : Verdict → Type 0 where
   refused : (c : Code) → Safe classes s (Refuses c)
   told : (shown : Shown) → Safe classes s (Tells shown)
   asked : (q : Instance Node) → Safe classes s (Asks q)
@@ -117,7 +117,7 @@ module _ (rules : Rules) (s : State) (sound : IsSound rules.classes s) where
       (if_both (Safe rules.classes s) (nat_le max_marks (count_by (λ m. nat_eq session m.session) s.marks)) _ _ (refused code.Limit)
       (left _ (leads-append s.tree s.marks _ sound.marks_lead (some_is (tree_at s.tree n) u found))))
 
-  safe : (session : ℕ) (c : Command) → Safe rules.classes s (obeyed rules s session c)
+  pub safe : (session : ℕ) (c : Command) → Safe rules.classes s (obeyed rules s session c)
   safe session (Ask place attribute arguments) = node_all (Safe rules.classes s) refused rules.classes s session place _ (λ n. at_option (Safe rules.classes s) refused (each (map (value_named rules.classes s session) arguments)) code.Path _ (λ vs. safe_question n attribute vs))
   safe session (Set place t) = safe_change rules.classes s _ (edit_changes rules s session (Set place t) refl)
   safe session (Put place part t) = safe_change rules.classes s _ (edit_changes rules s session (Put place part t) refl)

@@ -31,6 +31,12 @@ KeptAfter rules s (Leaves marks) Kept j = Kept j
 KeptAfter rules s (Edits e t) Kept j = (i : Instance Node) × Kept i × IsUntouched rules s.tree e i × InstanceLike (Names (carried e)) i j
 KeptAfter rules s (Asks q) Kept j = Kept j ⊎ IsWorthKeeping rules s.tree q j
 
+-- what is kept is lazy and has a value, and with each instance all lazy instances to which it leads are kept
+pub record AreWellKept (rules : Rules) (t : Tree) (Kept : Instance Node → Type 0) : Type 0 where
+  pub lazy : (i : Instance Node) → Kept i → is_lazy rules i.attribute ≡ true
+  pub valued : (i : Instance Node) → Kept i → (v : Value Node) × HasValue (content t) (equations rules) i v
+  pub deep : (i j : Instance Node) → Kept i → Leads (content t) (equations rules) i j → is_lazy rules j.attribute ≡ true → Kept j
+
 -- the list has each instance once that is worth keeping and was not kept
 pub record AreAdded (rules : Rules) (t : Tree) (q : Instance Node) (Kept : Instance Node → Type 0) (added : List (Instance Node)) : Type 0 where
   pub distinct : Distinct added

@@ -30,5 +30,6 @@ pub use machine_laws::{
     a_written_tree_is_shaped_again, an_accepted_edit_conforms,
     an_accepted_edit_is_the_next_version, lines_of_one_part, lines_of_two_parts, one_line,
     one_more_line, one_output, one_reply, one_session, one_term, only_edits_change_the_tree,
-    the_path_of_a_node_leads_back, what_is_not_touched_is_alike, what_is_not_touched_stays_right,
+    the_path_of_a_node_leads_back, what_is_kept_stays_well_kept, what_is_not_touched_is_alike,
+    what_is_not_touched_stays_right,
 };

@@ -10,7 +10,7 @@ ghost use Rattle.at_model.specs.Paths.{ArePartsApart, Node, Path, node_at, path_
 ghost use Rattle.at_model.specs.Run.{Instance, Is, Location};
 ghost use Rattle.at_model.specs.Meaning.{Holds, Outcome, content, equations};
 ghost use Rattle.at_model.specs.Support.{Supports};
-ghost use Rattle.at_model.specs.Sparing.{IsUntouched};
+ghost use Rattle.at_model.specs.Sparing.{AreWellKept, IsUntouched, KeptAfter};
 ghost use Rattle.at_model.specs.Alike.{AlikeAt, InstanceLike, IsInjective, LocationLike, Names, OutcomeLike};
 ghost use Rattle.at_model.specs.Terms.{Term, IsTerm, term_of, term_text};
 ghost use Rattle.at_model.specs.Shaping.{AreNamedApart, names_classes, shaped};
@@ -26,6 +26,8 @@ ghost use Rattle.at_model.specs.Machine.{
   Outputs,
   IsEdited,
   IsSound,
+  after,
+  verdict,
   is_edit,
 };
 
@@ -138,6 +140,13 @@ pub fn what_is_not_touched_stays_right()
     ensures no_others { (rules : Rules) (t u : Tree) (e : Edit) (i j : Instance Node) (m : Location Node) (o : Outcome Node) → conforms rules.classes t 0 ≡ true → edited rules.classes t e ≡ Ok u
         → IsUntouched rules t e i → InstanceLike (Names (carried e)) i j → Holds (content t) (equations rules) i o → Supports (content u) (equations rules) m j
         → (l : Location Node) × LocationLike (Names (carried e)) l m × Supports (content t) (equations rules) l i }
+{}
+
+/// Where what is kept is lazy and has a value, and each holds all lazy instances to which it leads, it is
+/// so after each line.
+pub fn what_is_kept_stays_well_kept()
+    ensures { (rules : Rules) (s : State) (l : Line) (kept : Instance Node → Bool) → IsSound rules.classes s → AreWellKept rules s.tree (λ i. kept i ≡ true)
+        → AreWellKept rules (after s (verdict rules s l)).tree (KeptAfter rules s (verdict rules s l) (λ i. kept i ≡ true)) }
 {}
 
 /// No other command changes the tree or the version.

@@ -3,3 +3,4 @@ pub mod LineView
 pub mod Commands
 pub mod Faults
 pub mod ReplyView
+pub mod Laws

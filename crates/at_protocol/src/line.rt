@@ -1,5 +1,5 @@
 //! Lines of sessions: a session and a command, one space between words.
-ghost use Rattle.std.specs.Prelude.{◌≡◌, ℕ, List, Option, IfOk, IfErr};
+ghost use Rattle.std.specs.Prelude.{IfOk, IfErr};
 ghost use Rattle.at_model.specs.Lines.{Line as ModelLine, Spells, IsSessionOf};
 ghost use Rattle.at_protocol.specs.LineView.{line_view};
 ghost use Rattle.at_protocol.specs.Faults.{Reads, Refuses};
@@ -66,9 +66,9 @@ pub fn session_of(line: &[u8]) -> Option<u16>
     }
 }
 
-/// The line that the bytes spell, which are those before a newline or the end. `Syntax` where they
-/// spell none: they are no UTF-8, more than 65,535, or no session and command. `Memory` where
-/// memory runs out. Either has the session of `session_of`.
+/// The line that the bytes spell, given without its newline. `Syntax` where they spell none: they
+/// are more than 65,535, no UTF-8, or no session and command with one space between words. `Memory`
+/// where memory runs out. Either has the session of `session_of`.
 pub fn read_line(alloc: Global, line: &[u8]) -> Result<Line, LineFault>
     // What is read has this text.
     ensures found { IfOk result (λ l. Spells line.now (line_view l)) }
@@ -103,13 +103,3 @@ fn read_spelled(alloc: Global, session: Option<u16>, line: &[u8]) -> Result<Line
     let command = read_command(alloc, command)?;
     Ok(Line { session, command })
 }
-
-/// Bytes are the text of one line at most.
-pub fn one_line_each()
-    ensures { (bytes : List ℕ) (k l : ModelLine) → Spells bytes k → Spells bytes l → k ≡ l }
-{}
-
-/// Bytes begin with one session at most.
-pub fn one_session_each()
-    ensures { (bytes : List ℕ) (m n : Option ℕ) → IsSessionOf bytes m → IsSessionOf bytes n → m ≡ n }
-{}

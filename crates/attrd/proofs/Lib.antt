@@ -1,0 +1,7 @@
+pub mod Sound
+pub mod Conforming
+pub mod Views
+pub mod Walks
+pub mod Setting
+pub mod Keeping
+pub mod Naming
