@@ -69,6 +69,14 @@ impl Engine {
     ghost use Rattle.at_model.specs.Replies.{Reply as ModelReply, Memory, reply_text};
     ghost use Rattle.attrd.specs.Served.{served, MayDo, done};
     ghost use Rattle.attrd.specs.Edits.{edit_view};
+    ghost use Rattle.attrd.specs.Answering.{asked, IsShown, token_told, edit_there};
+    ghost use Rattle.at_protocol.specs.ReplyView.{IsReply};
+    ghost use Rattle.at_protocol.specs.declared.reply.Reply.{Reply};
+    ghost use Rattle.std.specs.Prelude.{Option};
+    ghost use Rattle.attrd.specs.Served.{TokenEdit};
+    ghost use Rattle.attrd.specs.Lines.{Does, Gets};
+    ghost use Rattle.attrd.specs.Nodes.{tree_on};
+    ghost use Rattle.at_tree.specs.PathView.{path_view};
     ghost use Rattle.attrd.specs.Engines.{engine_view};
     ghost use Rattle.at_model.specs.Trees.{conforms};
     ghost use Rattle.at_tree.specs.TreeView.{tree_view};
@@ -126,6 +134,11 @@ impl Engine {
     /// Serves a line that isn't empty; whether it was answered by want of memory.
     pub fn serve(&mut self, line: &[u8], out: &mut Vec<u8>) -> Result<bool, AllocError>
         requires { 0 < length line.now }
+        // The reply to the line, and the edit that it leads to, if any.
+        ensures gets { IfOk result (λ wants. wants ≡ false → (reply : Reply) × (e : Option TokenEdit)
+            × Gets self.old.rules (tree_view self.old.tree) self.old.version line.now reply e
+            × ((r : ModelReply) → IsReply reply r → out.new.items ≡ out.old.items ++ reply_text r)
+            × (engine_view self.new ≡ done (engine_view self.old) e)) }
         // The reply to want of memory, and nothing else has changed.
         ensures memory { IfOk result (λ wants. wants ≡ true → (reply : ModelReply) × IsSessionOf line.now reply.session × (reply.form ≡ Memory)
             × (out.new.items ≡ out.old.items ++ reply_text reply) × (engine_view self.new ≡ engine_view self.old)) }
@@ -150,6 +163,10 @@ impl Engine {
 
     /// Takes the line's step and appends its reply, or changes nothing for want of memory.
     fn step(&mut self, line: &[u8], out: &mut Vec<u8>) -> bool
+        ensures gets { result ≡ true → (reply : Reply) × (e : Option TokenEdit)
+            × Gets self.old.rules (tree_view self.old.tree) self.old.version line.now reply e
+            × ((r : ModelReply) → IsReply reply r → out.new.items ≡ out.old.items ++ reply_text r)
+            × (engine_view self.new ≡ done (engine_view self.old) e) }
         ensures memory { result ≡ false → (out.new.items ≡ out.old.items) × (engine_view self.new ≡ engine_view self.old) }
         ensures room { vec_capacity out.old ≤ vec_capacity out.new }
     {
@@ -167,7 +184,8 @@ impl Engine {
 
     /// The reply to the line, and the edit that goes with it, if any.
     fn outcome(&self, line: &[u8]) -> Result<(Reply, Option<Edit>), AllocError>
-        ensures { IfOk result (λ o. MayDo (engine_view self.now) (option_map edit_view o.1)) }
+        ensures may { IfOk result (λ o. MayDo (engine_view self.now) (option_map edit_view o.1)) }
+        ensures gets { IfOk result (λ o. Gets self.now.rules (tree_view self.now.tree) self.now.version line.now o.0 (option_map edit_view o.1)) }
     {
         match read_line(self.alloc, line) {
             Ok(line) => {
@@ -184,7 +202,8 @@ impl Engine {
     }
 
     fn command(&self, command: Command) -> Result<Outcome, AllocError>
-        ensures { IfOk result (λ o. MayDo (engine_view self.now) (option_map edit_view o.edit)) }
+        ensures may { IfOk result (λ o. MayDo (engine_view self.now) (option_map edit_view o.edit)) }
+        ensures does { IfOk result (λ o. Does self.now.rules (tree_view self.now.tree) self.now.version command o.form (option_map edit_view o.edit)) }
     {
         match command {
             Command::Ask { path, attribute } => Ok(Outcome::reply(self.ask(
@@ -199,7 +218,10 @@ impl Engine {
         }
     }
 
-    fn ask(&self, path: &Path, attribute: &str) -> Form {
+    /// The attribute's value at the node to which the path leads, or why there is none.
+    fn ask(&self, path: &Path, attribute: &str) -> Form
+        ensures { result ≡ asked self.now.rules (tree_view self.now.tree) (path_view path.now) attribute.now }
+    {
         let Some(node) = node_at(&self.rules.classes, &self.tree, &path.steps) else {
             return Form::Refused(Refusal::Path);
         };
@@ -209,7 +231,10 @@ impl Engine {
         }
     }
 
-    fn show(&self, path: &Path) -> Result<Form, AllocError> {
+    /// The term of the node to which the path leads, or that it leads to none.
+    fn show(&self, path: &Path) -> Result<Form, AllocError>
+        ensures { IfOk result (IsShown self.now.rules (tree_view self.now.tree) (path_view path.now)) }
+    {
         match node_at(&self.rules.classes, &self.tree, &path.steps) {
             Some(node) => {
                 let mut text = Vec::new(self.alloc);
@@ -221,7 +246,9 @@ impl Engine {
     }
 
     fn token(&self, path: Path, part: &str, value: TokVal) -> Outcome
-        ensures { MayDo (engine_view self.now) (option_map edit_view result.edit) }
+        ensures may { MayDo (engine_view self.now) (option_map edit_view result.edit) }
+        ensures form { result.form ≡ token_told self.now.rules part.now (token_view value) self.now.version (tree_on self.now.rules.classes (tree_view self.now.tree) (path_view path)) }
+        ensures edit { option_map edit_view result.edit ≡ edit_there self.now.rules part.now (path_view path) (token_view value) result.form (tree_on self.now.rules.classes (tree_view self.now.tree) (path_view path)) }
     {
         let Some(node) = node_at(&self.rules.classes, &self.tree, &path.steps) else {
             return Outcome::refused(Refusal::Path);
