@@ -1,4 +1,5 @@
 //! The codes of refused files.
+ghost use Rattle.std.specs.Prelude.{◌≡◌};
 
 /// Why a file is refused: what is wrong with a grammar (G), with an aspect (J) or with a tree file (F).
 #[derive(Clone, Copy, Debug, PartialEq, Eq)]
@@ -31,8 +32,12 @@ pub enum Code {
 }
 
 impl Code {
+    ghost use Rattle.attrd.specs.Codes.{code_text};
+
     /// The code and its words, as they are printed.
-    pub fn text(self) -> &'static str {
+    pub fn text(self) -> &'static str
+        ensures { result.now ≡ code_text self }
+    {
         match self {
             Code::GrammarSyntax => "G1 syntax",
             Code::ClassTwice => "G2 class twice",

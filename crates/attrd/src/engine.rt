@@ -1,5 +1,11 @@
 //! The engine: one tree, its version, and a reply to each line.
 
+ghost use Rattle.std.specs.Prelude.{◌≡◌};
+ghost use Rattle.at_tree.specs.Token.{token_view};
+ghost use Rattle.at_tree.specs.TreeView.{tree_view};
+ghost use Rattle.attrd.specs.Served.{IsWhole};
+ghost use Rattle.attrd.specs.Tokens.{is_same_kind};
+
 use crate::aspects::rules::Rules;
 use crate::evaluate::value_at;
 use crate::line::{Command, LineFault, read_line, session_of};
@@ -21,14 +27,15 @@ pub struct Engine {
     rules: Rules,
     tree: Tree,
     version: u64,
+    ghost whole: { IsWhole rules.classes (tree_view tree) },
 }
 
 /// An edit that is accepted: a token of a node gets a value.
 #[derive(Drop)]
-struct Edit {
-    path: Path,
-    part: usize,
-    value: TokVal,
+pub struct Edit {
+    pub path: Path,
+    pub part: usize,
+    pub value: TokVal,
 }
 
 /// What a line leads to: a reply, and with it an edit or none.
@@ -39,11 +46,20 @@ struct Outcome {
 }
 
 impl Outcome {
-    fn reply(form: Form) -> Outcome {
+    ghost use Rattle.std.specs.Prelude.{◌≡◌, None};
+    ghost use Rattle.attrd.specs.declared.reply.Form.TheVariants as form;
+
+    fn reply(form: Form) -> Outcome
+        ensures edit { result.edit ≡ None }
+        ensures form { result.form ≡ form }
+    {
         Outcome { form, edit: None }
     }
 
-    fn refused(refusal: Refusal) -> Outcome {
+    fn refused(refusal: Refusal) -> Outcome
+        ensures edit { result.edit ≡ None }
+        ensures form { result.form ≡ form.Refused refusal }
+    {
         Outcome::reply(Form::Refused(refusal))
     }
 }
@@ -60,8 +76,18 @@ pub enum Answered {
 }
 
 impl Engine {
+    ghost use Rattle.std.specs.Prelude.{◌≡◌, true, IfOk, Some, option_map};
+    ghost use Rattle.attrd.specs.Served.{served, MayDo, done};
+    ghost use Rattle.attrd.specs.Edits.{edit_view};
+    ghost use Rattle.attrd.specs.Engines.{engine_view};
+    ghost use Rattle.at_model.specs.Trees.{conforms};
+    ghost use Rattle.at_tree.specs.TreeView.{tree_view};
+
     /// An engine of version 0, for a tree of the rules' classes.
-    pub fn new(alloc: Global, rules: Rules, tree: Tree) -> Engine {
+    pub fn new(alloc: Global, rules: Rules, tree: Tree) -> Engine
+        requires { conforms rules.classes (tree_view tree) 0 ≡ true }
+        ensures { engine_view result ≡ served rules (tree_view tree) 0 }
+    {
         Engine {
             alloc,
             rules,
@@ -71,12 +97,16 @@ impl Engine {
     }
 
     /// The tree as it is.
-    pub fn tree(&self) -> &Tree {
+    pub fn tree(&self) -> &Tree
+        ensures { tree_view result.now ≡ (engine_view self.now).state.tree }
+    {
         &self.tree
     }
 
     /// How many edits were accepted.
-    pub fn version(&self) -> u64 {
+    pub fn version(&self) -> u64
+        ensures { result ≡ (engine_view self.now).state.version }
+    {
         self.version
     }
 
@@ -113,20 +143,24 @@ impl Engine {
 
     /// Takes the line's step and appends its reply, or changes nothing for want of memory.
     fn step(&mut self, session: Option<u16>, line: &[u8], out: &mut Vec<u8>) -> bool {
-        let Ok(outcome) = self.outcome(line) else {
-            return false;
-        };
-        let reply = Reply { session, form: outcome.form };
-        if write_reply(&reply, out).is_err() {
-            return false;
+        match self.outcome(line) {
+            Ok(Outcome { form, edit }) => {
+                let reply = Reply { session, form };
+                match write_reply(&reply, out) {
+                    Ok(()) => {
+                        self.commit_all(edit);
+                        true
+                    }
+                    Err(_) => false,
+                }
+            }
+            Err(_) => false,
         }
-        if let Some(edit) = outcome.edit {
-            self.commit(edit);
-        }
-        true
     }
 
-    fn outcome(&self, line: &[u8]) -> Result<Outcome, AllocError> {
+    fn outcome(&self, line: &[u8]) -> Result<Outcome, AllocError>
+        ensures { IfOk result (λ o. MayDo (engine_view self.now) (option_map edit_view o.edit)) }
+    {
         match read_line(self.alloc, line) {
             Ok(line) => self.command(line.command),
             Err(LineFault::Syntax) => Ok(Outcome::refused(Refusal::Syntax)),
@@ -134,7 +168,9 @@ impl Engine {
         }
     }
 
-    fn command(&self, command: Command) -> Result<Outcome, AllocError> {
+    fn command(&self, command: Command) -> Result<Outcome, AllocError>
+        ensures { IfOk result (λ o. MayDo (engine_view self.now) (option_map edit_view o.edit)) }
+    {
         match command {
             Command::Ask { path, attribute } => Ok(Outcome::reply(self.ask(&path, attribute.as_str()))),
             Command::Show { path } => Ok(Outcome::reply(self.show(&path)?)),
@@ -144,7 +180,7 @@ impl Engine {
     }
 
     fn ask(&self, path: &Path, attribute: &str) -> Form {
-        let Some(node) = node_at(self.rules.classes(), &self.tree, &path.steps) else {
+        let Some(node) = node_at(&self.rules.classes, &self.tree, &path.steps) else {
             return Form::Refused(Refusal::Path);
         };
         match self.rules.body(node.class, attribute) {
@@ -154,23 +190,23 @@ impl Engine {
     }
 
     fn show(&self, path: &Path) -> Result<Form, AllocError> {
-        let classes = self.rules.classes();
-        match node_at(classes, &self.tree, &path.steps) {
+        match node_at(&self.rules.classes, &self.tree, &path.steps) {
             Some(node) => {
                 let mut text = Vec::new(self.alloc);
-                write_term(classes, node, &mut text)?;
+                write_term(&self.rules.classes, node, &mut text)?;
                 Ok(Form::Term(text))
             }
             None => Ok(Form::Refused(Refusal::Path)),
         }
     }
 
-    fn token(&self, path: Path, part: &str, value: TokVal) -> Outcome {
-        let classes = self.rules.classes();
-        let Some(node) = node_at(classes, &self.tree, &path.steps) else {
+    fn token(&self, path: Path, part: &str, value: TokVal) -> Outcome
+        ensures { MayDo (engine_view self.now) (option_map edit_view result.edit) }
+    {
+        let Some(node) = node_at(&self.rules.classes, &self.tree, &path.steps) else {
             return Outcome::refused(Refusal::Path);
         };
-        let Some((part, token)) = token_at(classes, node, part) else {
+        let Some((part, token)) = token_at(&self.rules.classes, node, part) else {
             return Outcome::refused(Refusal::Component);
         };
         if !is_same_kind(token, &value) {
@@ -185,20 +221,30 @@ impl Engine {
         }
     }
 
+    /// Does the edit, where there is one.
+    fn commit_all(&mut self, edit: Option<Edit>)
+        requires { MayDo (engine_view self.old) (option_map edit_view edit) }
+        ensures { engine_view self.new ≡ done (engine_view self.old) (option_map edit_view edit) }
+    {
+        if let Some(edit) = edit {
+            self.commit(edit);
+        }
+    }
+
     /// Does an edit that is accepted.
-    fn commit(&mut self, edit: Edit) {
-        set_token(
-            self.rules.classes(),
-            &mut self.tree,
-            &edit.path.steps,
-            edit.part,
-            edit.value,
-        );
+    fn commit(&mut self, edit: Edit)
+        requires { MayDo (engine_view self.old) (Some (edit_view edit)) }
+        ensures { engine_view self.new ≡ done (engine_view self.old) (Some (edit_view edit)) }
+    {
+        let Edit { path, part, value } = edit;
+        set_token(&self.rules.classes, &mut self.tree, &path.steps, part, value);
         self.version += 1;
     }
 }
 
-fn is_same_kind(old: &TokVal, new: &TokVal) -> bool {
+fn is_same_kind(old: &TokVal, new: &TokVal) -> bool
+    ensures { result ≡ is_same_kind (token_view old.now) (token_view new.now) }
+{
     match (old, new) {
         (TokVal::Str(_), TokVal::Str(_))
         | (TokVal::Int(_), TokVal::Int(_))

@@ -1,60 +1,135 @@
-//! The nodes of a tree: those that paths lead to, their tokens, and how many there are.
+//! The nodes of a tree whose components are plain children and tokens: those that paths lead to, their
+//! tokens, and how many there are.
 
-use at_class::{ClassTable, PartShape};
+ghost use Rattle.std.specs.Prelude.{◌≡◌, ◌<◌, Some, IfSome, option_map, slice_get, length};
+ghost use Rattle.at_tree.specs.TreeView.{tree_view, cell_view};
+ghost use Rattle.at_tree.specs.PathView.{step_view, steps_view};
+ghost use Rattle.attrd.specs.Nodes.{Conforms, HoldsConforming, child_in, stepped, tree_on, token_in, token_on, with_plain_child, set_on};
+ghost use Rattle.at_model.specs.Edits.{with_cell};
+ghost use Rattle.at_model.specs.Trees.{Holds};
+ghost use Rattle.at_tree.specs.Token.{token_view};
+ghost use Rattle.at_tree.specs.declared.tree.Tree.{out-Tree};
+ghost use Rattle.std.specs.Option.{option_copied};
+
+use at_class::ClassTable;
 use at_tree::path::Step;
 use at_tree::token::TokVal;
 use at_tree::tree::{Cell, Tree};
 
-/// The tree in the cell at that index: an index stands exactly for a list.
-fn child(cell: &Cell, index: Option<u32>) -> Option<&Tree> {
+/// The cell at that position.
+fn cell_in(node: &Tree, part: usize) -> Option<&Cell>
+    ensures { option_copied result ≡ slice_get (out-Tree node.now).cells.items part }
+{
+    node.cells.get(part)
+}
+
+/// The tree in the cell of a plain child, which is named with no index.
+fn child(cell: &Cell, index: Option<u32>) -> Option<&Tree>
+    ensures { option_map (λ u. tree_view u.now) result ≡ child_in index (cell_view cell.now) }
+{
     match (cell, index) {
         (Cell::One(child), None) => Some(child),
-        (Cell::Maybe(Some(child)), None) => Some(child),
-        (Cell::Many(children), Some(index)) => children.get(index as usize),
         _ => None,
     }
 }
 
+/// The node to which the step leads, if it leads to one.
+fn stepped<'t>(classes: &ClassTable, node: &'t Tree, step: &Step) -> Option<&'t Tree>
+    requires { Conforms classes.now (tree_view node.now) }
+    ensures { option_map (λ u. tree_view u.now) result ≡ stepped classes.now (tree_view node.now) (step_view step.now) }
+{
+    let part = classes.part_named(node.class, step.part.as_str())?;
+    child(cell_in(node, part)?, step.index)
+}
+
 /// The node that the steps lead to, if they lead to one.
-pub fn node_at<'t>(classes: &ClassTable, tree: &'t Tree, steps: &[Step]) -> Option<&'t Tree> {
+pub fn node_at<'t>(classes: &ClassTable, tree: &'t Tree, steps: &[Step]) -> Option<&'t Tree>
+    requires { Conforms classes.now (tree_view tree.now) }
+    ensures found { option_map (λ u. tree_view u.now) result ≡ tree_on classes.now (tree_view tree.now) (steps_view steps.now) }
+    ensures conforms { IfSome result (λ u. Conforms classes.now (tree_view u.now)) }
+{
     let mut node = tree;
     for step in steps {
-        let part = classes.part_named(node.class, step.part.as_str())?;
-        node = child(node.cells.get(part)?, step.index)?;
+        node = stepped(classes, node, step)?;
     }
     Some(node)
 }
 
-/// The position and the value of the node's token of that name, if it has one.
-pub fn token_at<'t>(classes: &ClassTable, node: &'t Tree, name: &str) -> Option<(usize, &'t TokVal)> {
-    let part = classes.part_named(node.class, name)?;
-    match node.cells.get(part)? {
-        Cell::Tok(value) => Some((part, value)),
+/// The token in the cell.
+fn token_in(cell: &Cell) -> Option<&TokVal>
+    ensures { option_map (λ v. token_view v.now) result ≡ token_in (cell_view cell.now) }
+{
+    match cell {
+        Cell::Tok(value) => Some(value),
         _ => None,
     }
 }
 
-/// Gives the token at that position a new value, at the node that the steps lead to.
+/// The position and the value of the node's token of that name, if it has one.
+pub fn token_at<'t>(classes: &ClassTable, node: &'t Tree, name: &str) -> Option<(usize, &'t TokVal)>
+    requires { Conforms classes.now (tree_view node.now) }
+    ensures { option_map (λ p. (p.0, token_view p.1.now)) result ≡ token_on classes.now (tree_view node.now) name.now }
+{
+    let part = classes.part_named(node.class, name)?;
+    let value = token_in(cell_in(node, part)?)?;
+    Some((part, value))
+}
+
+/// Gives the token at that position a new value, at the node to which the steps lead.
+#[cycle(setting)]
 pub fn set_token(
     classes: &ClassTable,
     tree: &mut Tree,
     steps: &[Step],
     part: usize,
     value: TokVal,
-) {
-    match steps {
-        [] => replace_cell(tree, part, Cell::Tok(value)),
-        [step, rest @ ..] => {
-            if let Some(way) = classes.part_named(tree.class, step.part.as_str())
-                && let Some(Cell::One(child)) = tree.cells.get_mut(way)
-            {
-                set_token(classes, child, rest, part, value);
-            }
+)
+    requires { Conforms classes.now (tree_view tree.old) }
+    ensures { tree_view tree.new ≡ set_on classes.now (tree_view tree.old) (steps_view steps.now) part (token_view value) }
+{
+    match steps.split_first() {
+        None => {
+            let cell = token_cell(value);
+            replace_cell(tree, part, cell);
         }
+        Some((step, rest)) => match classes.part_named(tree.class, step.part.as_str()) {
+            Some(way) => {
+                if way < tree.cells.len() {
+                    set_below(classes, &mut tree.cells[way], rest, part, value);
+                }
+            }
+            None => {}
+        },
     }
 }
 
-fn replace_cell(tree: &mut Tree, part: usize, cell: Cell) {
+/// The same below the plain child in the cell, where one is.
+#[cycle(setting)]
+fn set_below(
+    classes: &ClassTable,
+    cell: &mut Cell,
+    steps: &[Step],
+    part: usize,
+    value: TokVal,
+)
+    requires { HoldsConforming classes.now (cell_view cell.old) }
+    ensures { cell_view cell.new ≡ with_plain_child (λ u. set_on classes.now u (steps_view steps.now) part (token_view value)) (cell_view cell.old) }
+{
+    if let Cell::One(child) = cell {
+        set_token(classes, child, steps, part, value);
+    }
+}
+
+fn token_cell(value: TokVal) -> Cell
+    ensures { cell_view result ≡ Holds (token_view value) }
+{
+    Cell::Tok(value)
+}
+
+/// Puts the cell in the place of the one at that position.
+fn replace_cell(tree: &mut Tree, part: usize, cell: Cell)
+    ensures { tree_view tree.new ≡ with_cell (λ _. cell_view cell) part (tree_view tree.old) }
+{
     if part < tree.cells.len() {
         tree.cells[part] = cell;
     }
@@ -73,15 +148,8 @@ pub fn nodes(tree: &Tree) -> usize {
 #[cycle(counting)]
 fn cell_nodes(cell: &Cell) -> usize {
     match cell {
-        Cell::One(child) | Cell::Maybe(Some(child)) => nodes(child),
-        Cell::Many(children) => {
-            let mut count = 0usize;
-            for child in children {
-                count = count.saturating_add(nodes(child));
-            }
-            count
-        }
-        Cell::Maybe(None) | Cell::Tok(_) => 0,
+        Cell::One(child) => nodes(child),
+        _ => 0,
     }
 }
 
@@ -99,17 +167,9 @@ pub fn has_long_token(tree: &Tree) -> bool {
 #[cycle(searching)]
 fn cell_has_long_token(cell: &Cell) -> bool {
     match cell {
-        Cell::One(child) | Cell::Maybe(Some(child)) => has_long_token(child),
-        Cell::Many(children) => {
-            for child in children {
-                if has_long_token(child) {
-                    return true;
-                }
-            }
-            false
-        }
-        Cell::Maybe(None) => false,
+        Cell::One(child) => has_long_token(child),
         Cell::Tok(value) => is_long(value),
+        _ => false,
     }
 }
 

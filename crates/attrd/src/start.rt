@@ -1,5 +1,9 @@
 //! The files of a server, and the engine that they make.
 
+ghost use Rattle.std.specs.Prelude.{◌≡◌, true, IfOk};
+ghost use Rattle.at_model.specs.Trees.{conforms};
+ghost use Rattle.at_tree.specs.TreeView.{tree_view};
+
 use crate::aspects::reader::{ReadFault, read_aspects};
 use crate::aspects::rules::{RuleFault, Rules};
 use crate::aspects::syntax::Decl;
@@ -73,7 +77,7 @@ pub fn start(alloc: Global, files: &Files) -> Result<Engine, StartFault> {
     let decls = read_all_aspects(alloc, &files.aspects)?;
     let rules = rules_of(alloc, &grammar, classes, &decls)?;
     let file = files.aspects.len().saturating_add(1);
-    let tree = read_tree(alloc, rules.classes(), file, &files.tree.bytes)?;
+    let tree = read_tree(alloc, &rules.classes, file, &files.tree.bytes)?;
     Ok(Engine::new(alloc, rules, tree))
 }
 
@@ -199,7 +203,9 @@ fn read_tree(
     classes: &ClassTable,
     file: usize,
     bytes: &[u8],
-) -> Result<Tree, StartFault> {
+) -> Result<Tree, StartFault>
+    ensures { IfOk result (λ t. conforms classes.now (tree_view t) 0 ≡ true) }
+{
     let text = match text_of(bytes, Code::TreeLimit, Code::TreeSyntax) {
         Ok(text) => text,
         Err(code) => return Err(tree_fault(file, code)),

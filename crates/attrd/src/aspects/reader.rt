@@ -3,6 +3,9 @@
 //! Of the aspect language this reads synthesized numbers with an equation at their declaration. Where a
 //! file goes on with another form of the language, that form is refused as left out.
 
+ghost use Rattle.std.specs.Prelude.{◌≡◌, ◌+◌, ◌≤◌, ◌<◌, true, length, max, IfOk, OnOk};
+ghost use Rattle.at_text.specs.Faults.{IsWithin};
+
 use super::syntax::{Decl, Expr, Form, Operator, Word};
 use at_text::names::is_reserved;
 use at_text::place::place;
@@ -66,7 +69,9 @@ struct Reader<'a> {
 }
 
 /// The fault of a text that can't be cut into tokens.
-fn scan_fault(text: &str, fault: ScanFault) -> ReadFault {
+fn scan_fault(text: &str, fault: ScanFault) -> ReadFault
+    requires { IsWithin text.now fault }
+{
     match fault {
         ScanFault::Memory => ReadFault::Memory,
         ScanFault::Bad { at } | ScanFault::OpenText { at } | ScanFault::OpenComment { at } => {
@@ -168,7 +173,10 @@ impl<'a> Reader<'a> {
     }
 
     /// Steps over the token that is this sign or this reserved word, if it is next.
-    fn takes(&mut self, text: &str) -> bool {
+    fn takes(&mut self, text: &str) -> bool
+        ensures no_longer { length self.new.tokens.now ≤ length self.old.tokens.now }
+        ensures taken { result ≡ true → length self.new.tokens.now < length self.old.tokens.now }
+    {
         match self.tokens {
             [token, rest @ ..] if is_sign(token, text) || is_word(token, text) => {
                 self.tokens = rest;
@@ -178,12 +186,17 @@ impl<'a> Reader<'a> {
         }
     }
 
-    fn expects(&mut self, text: &str) -> Result<(), ReadFault> {
+    fn expects(&mut self, text: &str) -> Result<(), ReadFault>
+        ensures no_longer { length self.new.tokens.now ≤ length self.old.tokens.now }
+    {
         if self.takes(text) { Ok(()) } else { Err(self.syntax()) }
     }
 
     /// Steps over the reserved word. Another word there begins a form that is left out.
-    fn keyword(&mut self, word: &str) -> Result<(), ReadFault> {
+    fn keyword(&mut self, word: &str) -> Result<(), ReadFault>
+        ensures no_longer { length self.new.tokens.now ≤ length self.old.tokens.now }
+        ensures taken { OnOk result (length self.new.tokens.now < length self.old.tokens.now) }
+    {
         if self.takes(word) {
             return Ok(());
         }
@@ -193,7 +206,9 @@ impl<'a> Reader<'a> {
         }
     }
 
-    fn name(&mut self) -> Result<Word, ReadFault> {
+    fn name(&mut self) -> Result<Word, ReadFault>
+        ensures no_longer { length self.new.tokens.now ≤ length self.old.tokens.now }
+    {
         match self.tokens {
             [token, rest @ ..] if is_name(token) => {
                 self.tokens = rest;
@@ -205,7 +220,9 @@ impl<'a> Reader<'a> {
     }
 
     /// `aspect NAME { .. }`
-    fn aspect(&mut self, aspect: usize, decls: &mut Vec<Decl>) -> Result<(), ReadFault> {
+    fn aspect(&mut self, aspect: usize, decls: &mut Vec<Decl>) -> Result<(), ReadFault>
+        ensures taken { OnOk result (length self.new.tokens.now < length self.old.tokens.now) }
+    {
         self.keyword("aspect")?;
         self.name()?;
         self.expects("{")?;
@@ -217,7 +234,9 @@ impl<'a> Reader<'a> {
     }
 
     /// `syn int CLASS.NAME() = EXPR;`
-    fn declaration(&mut self, aspect: usize) -> Result<Decl, ReadFault> {
+    fn declaration(&mut self, aspect: usize) -> Result<Decl, ReadFault>
+        ensures taken { OnOk result (length self.new.tokens.now < length self.old.tokens.now) }
+    {
         self.declaration = self.place();
         let at = self.declaration;
         self.keyword("syn")?;
@@ -239,7 +258,9 @@ impl<'a> Reader<'a> {
     }
 
     /// `int`, the only kind of a result.
-    fn int(&mut self) -> Result<(), ReadFault> {
+    fn int(&mut self) -> Result<(), ReadFault>
+        ensures no_longer { length self.new.tokens.now ≤ length self.old.tokens.now }
+    {
         if self.takes("int") {
             return Ok(());
         }
@@ -253,7 +274,9 @@ impl<'a> Reader<'a> {
     }
 
     /// `()`
-    fn no_parameters(&mut self) -> Result<(), ReadFault> {
+    fn no_parameters(&mut self) -> Result<(), ReadFault>
+        ensures no_longer { length self.new.tokens.now ≤ length self.old.tokens.now }
+    {
         self.expects("(")?;
         if self.takes(")") {
             return Ok(());
@@ -265,7 +288,9 @@ impl<'a> Reader<'a> {
     }
 
     /// The `=` before an equation's body.
-    fn equals(&mut self) -> Result<(), ReadFault> {
+    fn equals(&mut self) -> Result<(), ReadFault>
+        ensures no_longer { length self.new.tokens.now ≤ length self.old.tokens.now }
+    {
         if self.takes("=") {
             return Ok(());
         }
@@ -280,7 +305,9 @@ impl<'a> Reader<'a> {
     }
 
     /// The sign behind an expression. An operator there belongs to a form that is left out.
-    fn ends_expression(&mut self, sign: &str) -> Result<(), ReadFault> {
+    fn ends_expression(&mut self, sign: &str) -> Result<(), ReadFault>
+        ensures no_longer { length self.new.tokens.now ≤ length self.old.tokens.now }
+    {
         if self.takes(sign) {
             return Ok(());
         }
@@ -291,7 +318,9 @@ impl<'a> Reader<'a> {
     }
 
     /// How deep a part may be, beside a part of this depth in a form that may be so deep.
-    fn within(&self, depth: usize, budget: usize) -> Result<usize, ReadFault> {
+    fn within(&self, depth: usize, budget: usize) -> Result<usize, ReadFault>
+        ensures { IfOk result (λ below. (depth < budget) × (below + 1 ≡ budget)) }
+    {
         if depth < budget {
             Ok(budget - 1)
         } else {
@@ -304,14 +333,20 @@ impl<'a> Reader<'a> {
         left: Measured,
         operator: Operator,
         right: Measured,
-    ) -> Result<Measured, ReadFault> {
+    ) -> Result<Measured, ReadFault>
+        requires left { left.depth < MAX_NESTING }
+        requires right { right.depth < MAX_NESTING }
+        ensures { IfOk result (λ m. m.depth ≡ 1 + max left.depth right.depth) }
+    {
         let depth = 1 + left.depth.max(right.depth);
         let expr = left.expr.operated(self.alloc, operator, right.expr)?;
         Ok(Measured { expr, depth })
     }
 
     /// `+` or `-`, if it is next.
-    fn sum_operator(&mut self) -> Option<Operator> {
+    fn sum_operator(&mut self) -> Option<Operator>
+        ensures no_longer { length self.new.tokens.now ≤ length self.old.tokens.now }
+    {
         if self.takes("+") {
             Some(Operator::Add)
         } else if self.takes("-") {
@@ -322,7 +357,11 @@ impl<'a> Reader<'a> {
     }
 
     #[cycle(expression)]
-    fn expression(&mut self, budget: usize) -> Result<Measured, ReadFault> {
+    fn expression(&mut self, budget: usize) -> Result<Measured, ReadFault>
+        requires budget { budget ≤ MAX_NESTING }
+        ensures no_longer { length self.new.tokens.now ≤ length self.old.tokens.now }
+        ensures depth { IfOk result (λ m. m.depth ≤ budget) }
+    {
         let mut left = self.product(budget)?;
         while let Some(operator) = self.sum_operator() {
             let below = self.within(left.depth, budget)?;
@@ -333,7 +372,11 @@ impl<'a> Reader<'a> {
     }
 
     #[cycle(expression)]
-    fn product(&mut self, budget: usize) -> Result<Measured, ReadFault> {
+    fn product(&mut self, budget: usize) -> Result<Measured, ReadFault>
+        requires budget { budget ≤ MAX_NESTING }
+        ensures no_longer { length self.new.tokens.now ≤ length self.old.tokens.now }
+        ensures depth { IfOk result (λ m. m.depth ≤ budget) }
+    {
         let mut left = self.unary(budget)?;
         while self.takes("*") {
             let below = self.within(left.depth, budget)?;
@@ -345,7 +388,11 @@ impl<'a> Reader<'a> {
 
     /// A minus belongs to the number behind it, if one is there.
     #[cycle(expression)]
-    fn unary(&mut self, budget: usize) -> Result<Measured, ReadFault> {
+    fn unary(&mut self, budget: usize) -> Result<Measured, ReadFault>
+        requires budget { budget ≤ MAX_NESTING }
+        ensures no_longer { length self.new.tokens.now ≤ length self.old.tokens.now }
+        ensures depth { IfOk result (λ m. m.depth ≤ budget) }
+    {
         if budget == 0 {
             return Err(self.too_deep());
         }
@@ -384,7 +431,10 @@ impl<'a> Reader<'a> {
     }
 
     /// Steps over the number that is next, with these digits.
-    fn literal(&mut self, at: (u32, u32), digits: &str, is_negative: bool) -> Result<Measured, ReadFault> {
+    fn literal(&mut self, at: (u32, u32), digits: &str, is_negative: bool) -> Result<Measured, ReadFault>
+        ensures no_longer { length self.new.tokens.now ≤ length self.old.tokens.now }
+        ensures depth { IfOk result (λ m. m.depth ≡ 1) }
+    {
         match number(digits, is_negative) {
             Some(value) => {
                 self.step();
@@ -397,14 +447,21 @@ impl<'a> Reader<'a> {
         }
     }
 
-    fn step(&mut self) {
+    fn step(&mut self)
+        ensures no_longer { length self.new.tokens.now ≤ length self.old.tokens.now }
+    {
         if let [_, rest @ ..] = self.tokens {
             self.tokens = rest;
         }
     }
 
     /// `.NAME()`, any number of times.
-    fn calls(&mut self, first: Measured, budget: usize) -> Result<Measured, ReadFault> {
+    fn calls(&mut self, first: Measured, budget: usize) -> Result<Measured, ReadFault>
+        requires budget { budget ≤ MAX_NESTING }
+        requires first { first.depth ≤ budget }
+        ensures no_longer { length self.new.tokens.now ≤ length self.old.tokens.now }
+        ensures depth { IfOk result (λ m. m.depth ≤ budget) }
+    {
         let mut receiver = first;
         while self.takes(".") {
             self.within(receiver.depth, budget)?;
@@ -418,7 +475,9 @@ impl<'a> Reader<'a> {
     }
 
     /// `()`
-    fn no_arguments(&mut self) -> Result<(), ReadFault> {
+    fn no_arguments(&mut self) -> Result<(), ReadFault>
+        ensures no_longer { length self.new.tokens.now ≤ length self.old.tokens.now }
+    {
         self.expects("(")?;
         if self.takes(")") {
             return Ok(());
@@ -430,7 +489,11 @@ impl<'a> Reader<'a> {
     }
 
     #[cycle(expression)]
-    fn primary(&mut self, budget: usize) -> Result<Measured, ReadFault> {
+    fn primary(&mut self, budget: usize) -> Result<Measured, ReadFault>
+        requires budget { (0 < budget) × (budget ≤ MAX_NESTING) }
+        ensures no_longer { length self.new.tokens.now ≤ length self.old.tokens.now }
+        ensures depth { IfOk result (λ m. m.depth ≤ budget) }
+    {
         let at = self.place();
         if let Some(digits) = self.digits() {
             return self.literal(at, digits, false);
@@ -464,7 +527,11 @@ impl<'a> Reader<'a> {
 
     /// `( EXPR )`
     #[cycle(expression)]
-    fn parenthesis(&mut self, budget: usize) -> Result<Measured, ReadFault> {
+    fn parenthesis(&mut self, budget: usize) -> Result<Measured, ReadFault>
+        requires budget { (0 < budget) × (budget ≤ MAX_NESTING) }
+        ensures no_longer { length self.new.tokens.now ≤ length self.old.tokens.now }
+        ensures depth { IfOk result (λ m. m.depth ≤ budget) }
+    {
         let at = self.place();
         let below = self.within(1, budget)?;
         if self.is_at_cast() {
@@ -482,7 +549,10 @@ impl<'a> Reader<'a> {
     }
 
     /// `NAME()`. A name alone, and whatever else begins an expression, is left out.
-    fn call(&mut self) -> Result<Measured, ReadFault> {
+    fn call(&mut self) -> Result<Measured, ReadFault>
+        ensures no_longer { length self.new.tokens.now ≤ length self.old.tokens.now }
+        ensures depth { IfOk result (λ m. m.depth ≡ 1) }
+    {
         let (is_call, is_left_out) = match self.tokens {
             [name, open, ..] if is_name(name) && is_sign(open, "(") => (true, false),
             [token, ..] => (false, opens_expression(token)),

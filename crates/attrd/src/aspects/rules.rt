@@ -1,6 +1,15 @@
 //! The rules of a server: classes, and for each attribute of a class its equation's body, whose kinds
 //! are right.
 
+ghost use Rattle.std.specs.Prelude.{◌≡◌, ◌<◌, Some, true, length, IfOk, IfSome, option_map, slice_get};
+ghost use Rattle.at_class.specs.View.{shape_view};
+ghost use Rattle.at_model.specs.Classes.{AreSound};
+ghost use Rattle.at_model.specs.Paths.{part_named};
+ghost use Rattle.at_model.specs.Bodies.{Child};
+ghost use Rattle.attrd.specs.Kinds.{shape_of, node_class};
+ghost use Rattle.attrd.specs.Bodies.{node_view};
+ghost use Rattle.attrd.specs.Typed.{IsTyped, IsComponentOf, typed_token};
+
 use super::syntax::{Decl, Expr, Form, Operator};
 use crate::code::Code;
 use at_class::{ClassId, ClassTable, PartShape, TokenKind};
@@ -31,16 +40,16 @@ pub enum IntExpr {
 /// An attribute of a class, and the body of its equation.
 #[derive(Drop)]
 pub struct Attribute {
-    class: ClassId,
-    name: String,
-    body: IntExpr,
+    pub class: ClassId,
+    pub name: String,
+    pub body: IntExpr,
 }
 
 /// Classes and their attributes.
 #[derive(Drop)]
 pub struct Rules {
-    classes: ClassTable,
-    attributes: Vec<Attribute>,
+    pub classes: ClassTable,
+    pub attributes: Vec<Attribute>,
 }
 
 /// Why declarations are no rules.
@@ -81,7 +90,9 @@ impl Rules {
         grammar: &Grammar,
         classes: ClassTable,
         decls: &[Decl],
-    ) -> Result<Rules, RuleFault> {
+    ) -> Result<Rules, RuleFault>
+        ensures { IfOk result (λ r. r.classes ≡ classes) }
+    {
         check_count(decls)?;
         check_names(grammar, decls)?;
         check_once(decls)?;
@@ -90,10 +101,6 @@ impl Rules {
             attributes.push(attribute_of(alloc, &classes, decl)?)?;
         }
         Ok(Rules { classes, attributes })
-    }
-
-    pub fn classes(&self) -> &ClassTable {
-        &self.classes
     }
 
     /// The body of the class's attribute of that name, if it has one.
@@ -175,6 +182,7 @@ fn attribute_of(alloc: Global, classes: &ClassTable, decl: &Decl) -> Result<Attr
         return Err(refused(Code::UnknownName, decl, decl.class.at));
     };
     let name = String::from_str(alloc, decl.name.as_str())?;
+    prove!(class.index() < classes.len());
     let scope = Scope { alloc, classes, class };
     match scope.typed(&decl.body) {
         Ok(Typed::Int(body)) => Ok(Attribute { class, name, body }),
@@ -192,6 +200,17 @@ enum Typed {
     Node(NodeExpr, ClassId),
     Text,
     Truth,
+}
+
+/// The token of that kind, in the node's component.
+fn token_typed(node: NodeExpr, part: usize, kind: TokenKind) -> Typed
+    ensures { result ≡ typed_token node part kind }
+{
+    match kind {
+        TokenKind::Int => Typed::Int(IntExpr::Token(node, part)),
+        TokenKind::Str => Typed::Text,
+        TokenKind::Bool => Typed::Truth,
+    }
 }
 
 /// Why an expression has no kind, and the place of the expression.
@@ -220,12 +239,16 @@ struct Scope<'a> {
     alloc: Global,
     classes: &'a ClassTable,
     class: ClassId,
+    ghost there: { class < length classes.now },
 }
 
 impl Scope<'_> {
     /// The expression with its kind: its parts before the whole, from left to right.
     #[cycle(typed)]
-    fn typed(&self, expr: &Expr) -> Result<Typed, TypeFault> {
+    fn typed(&self, expr: &Expr) -> Result<Typed, TypeFault>
+        requires { AreSound self.now.classes.now }
+        ensures { IfOk result (IsTyped self.now.classes.now self.now.class) }
+    {
         match &expr.form {
             Form::Number(value) => Ok(Typed::Int(IntExpr::Number(*value))),
             Form::This => Ok(Typed::Node(NodeExpr::This, self.class)),
@@ -247,7 +270,10 @@ impl Scope<'_> {
         }
     }
 
-    fn negation(&self, inner: Typed, at: (u32, u32)) -> Result<Typed, TypeFault> {
+    fn negation(&self, inner: Typed, at: (u32, u32)) -> Result<Typed, TypeFault>
+        requires { IsTyped self.now.classes.now self.now.class inner }
+        ensures { IfOk result (IsTyped self.now.classes.now self.now.class) }
+    {
         match inner {
             Typed::Int(inner) => Ok(Typed::Int(IntExpr::Negate(Box::new(self.alloc, inner)?))),
             _ => Err(TypeFault::Kind { at }),
@@ -261,7 +287,11 @@ impl Scope<'_> {
         left: Typed,
         right: Typed,
         at: (u32, u32),
-    ) -> Result<Typed, TypeFault> {
+    ) -> Result<Typed, TypeFault>
+        requires left { IsTyped self.now.classes.now self.now.class left }
+        requires right { IsTyped self.now.classes.now self.now.class right }
+        ensures { IfOk result (IsTyped self.now.classes.now self.now.class) }
+    {
         match (operator, left, right) {
             (operator, Typed::Int(left), Typed::Int(right)) => {
                 let left = Box::new(self.alloc, left)?;
@@ -274,7 +304,11 @@ impl Scope<'_> {
     }
 
     /// A call of a receiver: texts have the method `equals`, but none without arguments.
-    fn call(&self, receiver: Typed, name: &str, at: (u32, u32)) -> Result<Typed, TypeFault> {
+    fn call(&self, receiver: Typed, name: &str, at: (u32, u32)) -> Result<Typed, TypeFault>
+        requires sound { AreSound self.now.classes.now }
+        requires receiver { IsTyped self.now.classes.now self.now.class receiver }
+        ensures { IfOk result (IsTyped self.now.classes.now self.now.class) }
+    {
         match receiver {
             Typed::Node(node, class) => self.access(node, class, name, at),
             Typed::Text if name == "equals" => Err(TypeFault::UnknownName { at }),
@@ -289,29 +323,62 @@ impl Scope<'_> {
         class: ClassId,
         name: &str,
         at: (u32, u32),
-    ) -> Result<Typed, TypeFault> {
+    ) -> Result<Typed, TypeFault>
+        requires sound { AreSound self.now.classes.now }
+        requires node { node_class self.now.classes.now self.now.class (node_view node) ≡ Some class }
+        requires there { class < length self.now.classes.now }
+        ensures { IfOk result (IsTyped self.now.classes.now self.now.class) }
+    {
         let Some(part) = self.accessed(class, name) else {
             return Err(TypeFault::UnknownName { at });
         };
         match self.shape_at(class, part) {
-            Some(PartShape::One(child)) => {
-                let node = Box::new(self.alloc, node)?;
-                Ok(Typed::Node(NodeExpr::Child(node, part), child))
-            }
-            Some(PartShape::Tok(TokenKind::Int)) => Ok(Typed::Int(IntExpr::Token(node, part))),
-            Some(PartShape::Tok(TokenKind::Str)) => Ok(Typed::Text),
-            Some(PartShape::Tok(TokenKind::Bool)) => Ok(Typed::Truth),
-            _ => Err(TypeFault::UnknownName { at }),
+            Some(shape) => self.component(node, part, shape, at),
+            None => Err(TypeFault::UnknownName { at }),
         }
     }
 
+    /// The node's component of that shape.
+    fn component(
+        &self,
+        node: NodeExpr,
+        part: usize,
+        shape: PartShape,
+        at: (u32, u32),
+    ) -> Result<Typed, TypeFault>
+        requires { IsComponentOf self.now.classes.now self.now.class (node_view node) part (shape_view shape) }
+        ensures { IfOk result (IsTyped self.now.classes.now self.now.class) }
+    {
+        match shape {
+            PartShape::One(child) => self.child(node, part, child),
+            PartShape::Tok(kind) => Ok(token_typed(node, part, kind)),
+            PartShape::Many(_) => Err(TypeFault::UnknownName { at }),
+            PartShape::Maybe(_) => Err(TypeFault::UnknownName { at }),
+        }
+    }
+
+    /// The child of that class in the node's component.
+    fn child(&self, node: NodeExpr, part: usize, class: ClassId) -> Result<Typed, TypeFault>
+        requires node { node_class self.now.classes.now self.now.class (Child (node_view node) part) ≡ Some class }
+        requires there { class < length self.now.classes.now }
+        ensures { IfOk result (IsTyped self.now.classes.now self.now.class) }
+    {
+        let node = Box::new(self.alloc, node)?;
+        Ok(Typed::Node(NodeExpr::Child(node, part), class))
+    }
+
     /// The component that the accessor of that name gets.
-    fn accessed(&self, class: ClassId, name: &str) -> Option<usize> {
+    fn accessed(&self, class: ClassId, name: &str) -> Option<usize>
+        requires { class < length self.now.classes.now }
+    {
         let component = name.strip_prefix("get")?;
         self.classes.part_named(class, component)
     }
 
-    fn shape_at(&self, class: ClassId, part: usize) -> Option<PartShape> {
+    fn shape_at(&self, class: ClassId, part: usize) -> Option<PartShape>
+        requires { class < length self.now.classes.now }
+        ensures { option_map shape_view result ≡ shape_of self.now.classes.now part class }
+    {
         self.classes.parts(class).get(part).map(|part| part.shape)
     }
 }

@@ -1,0 +1,75 @@
+-- A tree still conforms when a token in it gets another value of its kind.
+use Rattle.std.proofs.Common.{◌≡◌, ℕ, zero, suc, Bool, true, ◌&&◌, List, [], ◌∷◌, Option, Some, None, slice_get, sym, ap, ◌∙◌, subst, refl}
+use Rattle.std.proofs.lemmas.Option.{none-some}
+use Rattle.std.proofs.lemmas.Bool.{and_parts, and_from}
+use Rattle.std.specs.Option.{option_and_then}
+use Rattle.at_model.specs.Classes.{Classes, Component, Shape, parts}
+use Rattle.at_model.specs.Classes as class
+use Rattle.at_model.specs.Trees.{Tree, Node, Cells, no_cells, cell, Cell, One, Many, Empty, Filled, Holds, Token, class_of, to_cells, from_cells, conforms, cells_conform, cell_conforms}
+use Rattle.at_model.specs.Edits.{changed_at, with_cell}
+use Rattle.at_model.specs.Paths.{Path, Step, part_named, cell_at}
+use Rattle.attrd.specs.Nodes.{child_in, tree_on, with_plain_child, set_on, Fits}
+
+same_cells : (cs : Cells) → to_cells (from_cells cs) ≡ cs
+same_cells no_cells = refl
+same_cells (cell c cs) = ap (λ ds. cell c ds) (same_cells cs)
+
+-- another cell that is of the shape too
+cells_kept : (classes : Classes) (f : Cell → Cell) (cs : Cells) (ps : List Component) (i : ℕ)
+    → ((c : Cell) (shape : Shape) → slice_get (from_cells cs) i ≡ Some c → cell_conforms classes c shape ≡ true → cell_conforms classes (f c) shape ≡ true)
+    → cells_conform classes cs ps ≡ true → cells_conform classes (to_cells (changed_at f (from_cells cs) i)) ps ≡ true
+cells_kept classes f no_cells ps i keeps h = h
+cells_kept classes f (cell c cs) [] i keeps h = absurd cc
+cells_kept classes f (cell c cs) (p ∷ ps) zero keeps h =
+    let both = and_parts _ _ h in
+    and_from _ _ (keeps c p.shape refl both.0) (subst (λ ds. cells_conform classes ds ps ≡ true) (sym (same_cells cs)) both.1)
+cells_kept classes f (cell c cs) (p ∷ ps) (suc i) keeps h =
+    let both = and_parts _ _ h in
+    and_from _ _ both.0 (cells_kept classes f cs ps i keeps both.1)
+
+tree_kept : (classes : Classes) (f : Cell → Cell) (t : Tree) (i b : ℕ)
+    → ((c : Cell) (shape : Shape) → cell_at t i ≡ Some c → cell_conforms classes c shape ≡ true → cell_conforms classes (f c) shape ≡ true)
+    → conforms classes t b ≡ true → conforms classes (with_cell f i t) b ≡ true
+tree_kept classes f (Node c cells) i b keeps h =
+    let both = and_parts _ _ h in
+    and_from _ _ both.0 (cells_kept classes f cells (parts classes c) i keeps both.1)
+
+child_kept : (classes : Classes) (g : Tree → Tree) → (c : Cell) → ((u : Tree) (b : ℕ) → child_in None c ≡ Some u → conforms classes u b ≡ true → conforms classes (g u) b ≡ true)
+    → (shape : Shape) → cell_conforms classes c shape ≡ true → cell_conforms classes (with_plain_child g c) shape ≡ true
+child_kept classes g (One t) keeps (class.One b) h = keeps t b refl h
+child_kept classes g (One t) keeps (class.Many b) h = h
+child_kept classes g (One t) keeps (class.Maybe b) h = h
+child_kept classes g (One t) keeps (class.Token k) h = h
+child_kept classes g (Many ts) keeps shape h = h
+child_kept classes g Empty keeps shape h = h
+child_kept classes g (Filled t) keeps shape h = h
+child_kept classes g (Holds v) keeps shape h = h
+
+pub set_kept : (classes : Classes) (t : Tree) (path : Path) (part : ℕ) (v : Token) (b : ℕ) → Fits classes t path part v → conforms classes t b ≡ true → conforms classes (set_on classes t path part v) b ≡ true
+set_kept classes t [] part v b fit h = tree_kept classes (λ c. Holds v) t part b fit h
+set_kept classes t (s ∷ ss) part v b fit h =
+    (elim (part_named classes (class_of t) s.part) as (λ o. part_named classes (class_of t) s.part ≡ o → conforms classes (elim o [ None ↦ t | Some way ↦ with_cell (with_plain_child (λ u. set_on classes u ss part v)) way t ]) b ≡ true) [
+      | None ↦ λ named. h
+      | Some way ↦ λ named. tree_kept classes (with_plain_child (λ u. set_on classes u ss part v)) t way b
+          (λ c shape at ok. child_kept classes (λ u. set_on classes u ss part v) c (λ u w within fits. set_kept classes u ss part v w (fit way u named (ap (option_and_then (child_in None)) at ∙ within)) fits) shape ok) h
+    ]) refl
+
+led_in : (classes : Classes) (u w : Tree) (index : Option ℕ) (ss : Path) (o : Option Cell) → option_and_then (child_in None) o ≡ Some w → option_and_then (λ x. tree_on classes x ss) (option_and_then (child_in index) o) ≡ Some u → tree_on classes w ss ≡ Some u
+led_in classes u w index ss None is leads = absurd (none-some w is)
+led_in classes u w None ss (Some c) is leads = sym (ap (option_and_then (λ x. tree_on classes x ss)) is) ∙ leads
+led_in classes u w (Some i) ss (Some (One t)) is leads = absurd (none-some u leads)
+led_in classes u w (Some i) ss (Some (Many ts)) is leads = absurd (none-some u leads)
+led_in classes u w (Some i) ss (Some Empty) is leads = absurd (none-some u leads)
+led_in classes u w (Some i) ss (Some (Filled t)) is leads = absurd (none-some u leads)
+led_in classes u w (Some i) ss (Some (Holds v)) is leads = absurd (none-some u leads)
+
+-- the first step leads to the child in the component of that name
+led : (classes : Classes) (t u w : Tree) (s : Step) (ss : Path) (way : ℕ) → part_named classes (class_of t) s.part ≡ Some way → option_and_then (child_in None) (cell_at t way) ≡ Some w → tree_on classes t (s ∷ ss) ≡ Some u → tree_on classes w ss ≡ Some u
+led classes t u w s ss way named is leads =
+    let way_on : Option ℕ → Option Tree = λ o. option_and_then (λ x. tree_on classes x ss) (option_and_then (λ part. option_and_then (child_in s.index) (cell_at t part)) o) in
+    led_in classes u w s.index ss (cell_at t way) is (sym (ap way_on named) ∙ leads)
+
+-- where the steps lead to a node, the token there decides
+pub fits_there : (classes : Classes) (t u : Tree) (path : Path) (part : ℕ) (v : Token) → tree_on classes t path ≡ Some u → Fits classes u [] part v → Fits classes t path part v
+fits_there classes t u [] part v leads fit = let e : t ≡ u = cc in subst (λ w. Fits classes w [] part v) (sym e) fit
+fits_there classes t u (s ∷ ss) part v leads fit = λ way w named is. fits_there classes w u ss part v (led classes t u w s ss way named is leads) fit

@@ -1,0 +1,6 @@
+pub mod Sound
+pub mod Conforming
+pub mod Views
+pub mod Walks
+pub mod Setting
+pub mod Keeping

@@ -1,0 +1,9 @@
+pub mod Codes
+pub mod Bodies
+pub mod Kinds
+pub mod Typed
+pub mod Nodes
+pub mod Tokens
+pub mod Served
+pub mod Edits
+pub mod Engines

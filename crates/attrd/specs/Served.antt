@@ -1,0 +1,52 @@
+-- What an engine serves: rules, and a state of the machine.
+use Rattle.std.specs.Prelude.{◌≡◌, ℕ, suc, ◌+◌, ◌<◌, false, true, List, [], ◌∷◌, map, Option, Some, None, string_bytes}
+use Rattle.at_model.specs.Classes.{Classes}
+use Rattle.at_model.specs.Trees.{Tree, Token, conforms}
+use Rattle.at_model.specs.Paths.{Path}
+use Rattle.at_model.specs.Rules.{Rules, Attribute, OwnEquation}
+use Rattle.at_model.specs.Rules as kind
+use Rattle.at_model.specs.Machine.{State}
+use Rattle.attrd.specs.Bodies.{int_view}
+use Rattle.attrd.specs.Nodes.{set_on, Fits}
+use Rattle.attrd.specs.declared.aspects.rules.Rules.{Rules as RulesValue}
+use Rattle.attrd.specs.declared.aspects.rules.Attribute.{Attribute as AttributeValue}
+
+-- an attribute that is a number, synthesized, with no parameters and not kept
+abbrev pub attribute_view : AttributeValue → Attribute
+attribute_view a = record { name = string_bytes a.name; class = a.class; parameters = []; result = kind.Int; is_lazy = false; is_inherited = false }
+
+-- each attribute has its one equation, from this position on
+abbrev pub equations_from : ℕ → List AttributeValue → List OwnEquation
+equations_from i [] = []
+equations_from i (a ∷ as') = record { class = a.class; attribute = i; body = int_view a.body } ∷ equations_from (suc i) as'
+
+abbrev pub rules_view : RulesValue → Rules
+rules_view r = record { classes = r.classes; attributes = map attribute_view r.attributes.items; own = equations_from 0 r.attributes.items; inherited = [] }
+
+-- the rules, and a tree, a version and marks, of which there are none today
+pub record Served : Type 0 where
+  pub rules : Rules
+  pub state : State
+
+abbrev pub served : RulesValue → Tree → ℕ → Served
+served r t version = record { rules = rules_view r; state = record { tree = t; version = version; marks = [] } }
+
+-- the tree is one of the classes, under the start class
+abbrev pub IsWhole : Classes → Tree → Type 0
+IsWhole classes t = conforms classes t 0 ≡ true
+
+-- a new value for a token of the node to which a path leads
+pub record TokenEdit : Type 0 where
+  pub path : Path
+  pub part : ℕ
+  pub value : Token
+
+-- the edit leaves a tree of the classes, and there is a version after this one
+abbrev pub MayDo : Served → Option TokenEdit → Type 0
+MayDo s None = Unit {0}
+MayDo s (Some e) = Fits s.rules.classes s.state.tree e.path e.part e.value × (s.state.version + 1 < 18446744073709551616)
+
+-- after the edit, where there is one
+abbrev pub done : Served → Option TokenEdit → Served
+done s None = s
+done s (Some e) = record { rules = s.rules; state = record { tree = set_on s.rules.classes s.state.tree e.path e.part e.value; version = s.state.version + 1; marks = s.state.marks } }
