@@ -1,14 +1,15 @@
 -- A tree still conforms when a token in it gets another value of its kind.
 use Rattle.std.proofs.Common.{◌≡◌, ℕ, zero, suc, Bool, true, ◌&&◌, List, [], ◌∷◌, Option, Some, None, slice_get, sym, ap, ◌∙◌, subst, refl}
-use Rattle.std.proofs.lemmas.Option.{none-some}
+use Rattle.std.proofs.lemmas.Option.{none-some, same_Some, some_pair_parts}
 use Rattle.std.proofs.lemmas.Bool.{and_parts, and_from}
 use Rattle.std.specs.Option.{option_and_then}
 use Rattle.at_model.specs.Classes.{Classes, Component, Shape, parts}
 use Rattle.at_model.specs.Classes as class
-use Rattle.at_model.specs.Trees.{Tree, Node, Cells, no_cells, cell, Cell, One, Many, Empty, Filled, Holds, Token, class_of, to_cells, from_cells, conforms, cells_conform, cell_conforms}
+use Rattle.at_model.specs.Trees.{Tree, Node, Cells, no_cells, cell, Cell, One, Many, Empty, Filled, Holds, Token, Text, Int, Truth, class_of, to_cells, from_cells, conforms, cells_conform, cell_conforms}
 use Rattle.at_model.specs.Edits.{changed_at, with_cell}
 use Rattle.at_model.specs.Paths.{Path, Step, part_named, cell_at}
-use Rattle.attrd.specs.Nodes.{child_in, tree_on, with_plain_child, set_on, Fits}
+use Rattle.attrd.specs.Nodes.{child_in, tree_on, token_in, token_beside, token_on, with_plain_child, set_on, Fits}
+use Rattle.attrd.specs.Tokens.{is_same_kind}
 
 same_cells : (cs : Cells) → to_cells (from_cells cs) ≡ cs
 same_cells no_cells = refl
@@ -73,3 +74,42 @@ led classes t u w s ss way named is leads =
 pub fits_there : (classes : Classes) (t u : Tree) (path : Path) (part : ℕ) (v : Token) → tree_on classes t path ≡ Some u → Fits classes u [] part v → Fits classes t path part v
 fits_there classes t u [] part v leads fit = let e : t ≡ u = cc in subst (λ w. Fits classes w [] part v) (sym e) fit
 fits_there classes t u (s ∷ ss) part v leads fit = λ way w named is. fits_there classes w u ss part v (led classes t u w s ss way named is leads) fit
+
+kind_kept : (classes : Classes) (w v : Token) (shape : Shape) → is_same_kind w v ≡ true → cell_conforms classes (Holds w) shape ≡ true → cell_conforms classes (Holds v) shape ≡ true
+kind_kept classes (Text a) (Text b) (class.Token class.Text) same h = refl
+kind_kept classes (Text a) (Text b) (class.Token class.Int) same h = h
+kind_kept classes (Text a) (Text b) (class.Token class.Truth) same h = h
+kind_kept classes (Int m) (Int n) (class.Token class.Text) same h = h
+kind_kept classes (Int m) (Int n) (class.Token class.Int) same h = refl
+kind_kept classes (Int m) (Int n) (class.Token class.Truth) same h = h
+kind_kept classes (Truth a) (Truth b) (class.Token class.Text) same h = h
+kind_kept classes (Truth a) (Truth b) (class.Token class.Int) same h = h
+kind_kept classes (Truth a) (Truth b) (class.Token class.Truth) same h = refl
+kind_kept classes (Text a) (Int n) shape same h = absurd cc
+kind_kept classes (Text a) (Truth b) shape same h = absurd cc
+kind_kept classes (Int m) (Text b) shape same h = absurd cc
+kind_kept classes (Int m) (Truth b) shape same h = absurd cc
+kind_kept classes (Truth a) (Text b) shape same h = absurd cc
+kind_kept classes (Truth a) (Int n) shape same h = absurd cc
+kind_kept classes w v (class.One b) same h = absurd cc
+kind_kept classes w v (class.Many b) same h = absurd cc
+kind_kept classes w v (class.Maybe b) same h = absurd cc
+
+held : (u : Tree) (p part : ℕ) (w : Token) (o : Option Cell) → cell_at u p ≡ o → token_beside p (option_and_then token_in o) ≡ Some (part, w) → (c : Cell) → cell_at u part ≡ Some c → c ≡ Holds w
+held u p part w None at is c here = absurd (none-some (part, w) is)
+held u p part w (Some (One t)) at is c here = absurd (none-some (part, w) is)
+held u p part w (Some (Many ts)) at is c here = absurd (none-some (part, w) is)
+held u p part w (Some Empty) at is c here = absurd (none-some (part, w) is)
+held u p part w (Some (Filled t)) at is c here = absurd (none-some (part, w) is)
+held u p part w (Some (Holds x)) at is c here =
+    let both = some_pair_parts p part x w is in
+    same_Some c (Holds w) (sym here ∙ ap (cell_at u) (sym both.0) ∙ at ∙ ap (λ z. Some (Holds z)) both.1)
+
+held_by : (u : Tree) (part : ℕ) (w : Token) (o : Option ℕ) → option_and_then (λ p. token_beside p (option_and_then token_in (cell_at u p))) o ≡ Some (part, w) → (c : Cell) → cell_at u part ≡ Some c → c ≡ Holds w
+held_by u part w None is c here = absurd (none-some (part, w) is)
+held_by u part w (Some p) is c here = held u p part w (cell_at u p) refl is c here
+
+-- a value of the token's kind may stand in its place
+pub token_fits : (classes : Classes) (u : Tree) (name : List ℕ) (part : ℕ) (w v : Token) → token_on classes u name ≡ Some (part, w) → is_same_kind w v ≡ true → Fits classes u [] part v
+token_fits classes u name part w v is same = λ c shape here ok.
+    kind_kept classes w v shape same (subst (λ d. cell_conforms classes d shape ≡ true) (held_by u part w (part_named classes (class_of u) name) is c here) ok)
