@@ -1,9 +1,8 @@
 -- What stands in a tree that conforms.
-use Rattle.std.proofs.Common.{◌≡◌, ℕ, ◌<◌, Bool, true, false, not, ◌&&◌, List, [], ◌∷◌, length, Option, Some, None, slice_get, sym, ap, subst, refl, zero, suc, arith, nat_eq, eq-eqb}
-use Rattle.std.specs.List.{list_any}
+use Rattle.std.proofs.Common.{◌≡◌, ℕ, ◌<◌, Bool, true, false, not, ◌&&◌, List, [], ◌∷◌, length, Option, Some, None, slice_get, sym, ap, subst, refl, zero, suc}
 use Rattle.std.proofs.lemmas.Option.{slice_get_within, none-some}
-use Rattle.std.proofs.lemmas.Bool.{and_parts, and_from}
-use Rattle.at_model.specs.Classes.{Classes, Class, Component, Shape, fits, parts, is_concrete, is_sub, chain, chain_within}
+use Rattle.std.proofs.lemmas.Bool.{and_parts}
+use Rattle.at_model.specs.Classes.{Classes, Class, Component, Shape, fits, parts, is_concrete}
 use Rattle.at_model.specs.Classes as class
 use Rattle.at_model.specs.Trees.{Tree, Node, Cells, no_cells, cell, Cell, One, Many, Empty, Filled, Holds, Trees, no_trees, tree, class_of, cells_of, from_cells, from_trees, conforms, cells_conform, cell_conforms, trees_conform}
 use Rattle.std.specs.Option.{option_and_then}
@@ -53,18 +52,3 @@ in_part classes t index u h (Some part) is = in_cell classes t index part u h (c
 -- a step leads to a tree that conforms
 pub stepped_conforms : (classes : Classes) (t : Tree) (s : Step) (u : Tree) → Conforms classes t → stepped classes t s ≡ Some u → Conforms classes u
 stepped_conforms classes t s u h is = in_part classes t s.index u h (part_named classes (class_of t) s.part) is
-
-chain_first : (n : ℕ) (classes : Classes) (c : ℕ) → 0 < n → list_any (nat_eq c) (chain_within n classes (Some c)) ≡ true
-chain_first zero classes c few = absurd (omega arith)
-chain_first (suc n) classes c few = rw (eq-eqb c c refl) refl
-
-self_sub : (classes : Classes) (c : ℕ) → 0 < length classes → is_sub classes c c ≡ true
-unfolding chain
-self_sub classes c some = chain_first (length classes) classes c some
-
--- a tree conforms under its own class
-pub own_class : (classes : Classes) (t : Tree) → Conforms classes t → conforms classes t (class_of t) ≡ true
-own_class classes (Node c cells) (b, h) =
-    let both = and_parts _ _ h in
-    let there : c < length classes = class_there classes (Node c cells) (b, h) in
-    and_from _ _ (and_from _ _ (and_parts _ _ both.0).0 (self_sub classes c (omega arith))) both.1

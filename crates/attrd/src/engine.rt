@@ -13,8 +13,7 @@ use crate::node::{is_long, node_at, set_token, token_at};
 use crate::reply::{Form, Refusal, Reply, write_reply};
 use at_tree::path::Path;
 use at_tree::token::TokVal;
-use at_tree::tree::Tree;
-use at_tree::write::write_term;
+use at_tree::tree::{Tree, write_term};
 use std::alloc::{AllocError, Global};
 
 /// How many bytes each reply has at most that is no term.

@@ -1,5 +1,5 @@
-//! The nodes of a tree whose components are plain children and tokens: those that paths lead to, their
-//! tokens, and how many there are.
+//! The nodes of a tree whose components are plain children and tokens: those that paths lead to, and their
+//! tokens.
 
 ghost use Rattle.std.specs.Prelude.{◌≡◌, ◌<◌, Some, IfSome, option_map, slice_get, length};
 ghost use Rattle.at_tree.specs.TreeView.{tree_view, cell_view};
@@ -132,24 +132,6 @@ fn replace_cell(tree: &mut Tree, part: usize, cell: Cell)
 {
     if part < tree.cells.len() {
         tree.cells[part] = cell;
-    }
-}
-
-/// How many nodes the tree has, or the greatest `usize`.
-#[cycle(counting)]
-pub fn nodes(tree: &Tree) -> usize {
-    let mut count = 1usize;
-    for cell in &tree.cells {
-        count = count.saturating_add(cell_nodes(cell));
-    }
-    count
-}
-
-#[cycle(counting)]
-fn cell_nodes(cell: &Cell) -> usize {
-    match cell {
-        Cell::One(child) => nodes(child),
-        _ => 0,
     }
 }
 

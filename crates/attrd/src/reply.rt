@@ -1,5 +1,9 @@
 //! Replies of the protocol, each a line.
 
+ghost use Rattle.std.specs.Prelude.{◌≡◌, ◌++◌, ◌+◌, ◌≤◌, take, length, IsOk, OnOk, OnErr, vec_len, vec_capacity};
+ghost use Rattle.at_model.specs.Replies.{session_text};
+ghost use Rattle.attrd.specs.Words.{refusal_text, form_text, written};
+
 use itoa::Buffer;
 use std::alloc::AllocError;
 
@@ -42,7 +46,9 @@ pub enum Refusal {
 
 impl Refusal {
     /// The code and its name.
-    pub fn text(self) -> &'static str {
+    pub fn text(self) -> &'static str
+        ensures { result.now ≡ refusal_text self }
+    {
         match self {
             Refusal::Syntax => "1 syntax",
             Refusal::Path => "4 path",
@@ -55,7 +61,13 @@ impl Refusal {
 }
 
 /// Appends the reply with its newline. Where memory is wanting the output stays as it was.
-pub fn write_reply(reply: &Reply, out: &mut Vec<u8>) -> Result<(), AllocError> {
+pub fn write_reply(reply: &Reply, out: &mut Vec<u8>) -> Result<(), AllocError>
+    ensures ok { OnOk result (out.new.items ≡ out.old.items ++ written reply.now) }
+    ensures err { OnErr result (out.new.items ≡ out.old.items) }
+    // Where the room is there, the reply is written.
+    ensures room { vec_len out.old + length (written reply.now) ≤ vec_capacity out.old → IsOk result }
+    ensures capacity { vec_capacity out.old ≤ vec_capacity out.new }
+{
     let length = out.len();
     let written = append_reply(reply, out);
     if written.is_err() {
@@ -65,20 +77,35 @@ pub fn write_reply(reply: &Reply, out: &mut Vec<u8>) -> Result<(), AllocError> {
 }
 
 /// Appends the reply, or a front of it where memory is wanting.
-fn append_reply(reply: &Reply, out: &mut Vec<u8>) -> Result<(), AllocError> {
+fn append_reply(reply: &Reply, out: &mut Vec<u8>) -> Result<(), AllocError>
+    ensures ok { OnOk result (out.new.items ≡ out.old.items ++ written reply.now) }
+    ensures err { OnErr result (take (length out.old.items) out.new.items ≡ out.old.items) }
+    ensures room { vec_len out.old + length (written reply.now) ≤ vec_capacity out.old → IsOk result }
+    ensures capacity { vec_capacity out.old ≤ vec_capacity out.new }
+{
     append_session(reply.session, out)?;
     append_form(&reply.form, out)?;
     out.extend_from_slice(b"\n")
 }
 
-fn append_session(session: Option<u16>, out: &mut Vec<u8>) -> Result<(), AllocError> {
+fn append_session(session: Option<u16>, out: &mut Vec<u8>) -> Result<(), AllocError>
+    ensures ok { OnOk result (out.new.items ≡ out.old.items ++ session_text session) }
+    ensures err { OnErr result (take (length out.old.items) out.new.items ≡ out.old.items) }
+    ensures room { vec_len out.old + length (session_text session) ≤ vec_capacity out.old → IsOk result }
+    ensures capacity { vec_capacity out.old ≤ vec_capacity out.new }
+{
     match session {
         Some(session) => out.extend_from_slice(Buffer::new().format(session).as_bytes()),
         None => out.extend_from_slice(b"?"),
     }
 }
 
-fn append_form(form: &Form, out: &mut Vec<u8>) -> Result<(), AllocError> {
+fn append_form(form: &Form, out: &mut Vec<u8>) -> Result<(), AllocError>
+    ensures ok { OnOk result (out.new.items ≡ out.old.items ++ form_text form.now) }
+    ensures err { OnErr result (take (length out.old.items) out.new.items ≡ out.old.items) }
+    ensures room { vec_len out.old + length (form_text form.now) ≤ vec_capacity out.old → IsOk result }
+    ensures capacity { vec_capacity out.old ≤ vec_capacity out.new }
+{
     match form {
         Form::Ok { version } => {
             out.extend_from_slice(b" ok ")?;

@@ -9,13 +9,12 @@ use crate::aspects::rules::{RuleFault, Rules};
 use crate::aspects::syntax::Decl;
 use crate::code::Code;
 use crate::engine::Engine;
-use crate::node::{has_long_token, nodes};
+use crate::node::has_long_token;
 use at_class::{ClassCode, ClassFault, ClassTable};
 use at_grammar::{AstFault, ClassDecl, Grammar, Shape, parse_ast};
-use at_tree::fault::{ShapeFault, TermFault};
+use at_tree::fault::TermFault;
 use at_tree::reader::read_term;
-use at_tree::shape::shape;
-use at_tree::tree::Tree;
+use at_tree::tree::{ShapeFault, Tree, nodes, shape};
 use itoa::Buffer;
 use std::alloc::{AllocError, AllocFailed, Global};
 
