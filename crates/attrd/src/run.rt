@@ -1,4 +1,5 @@
 //! A run: lines from a reader, a reply to each on a writer.
+ghost use Rattle.std.specs.Prelude.{◌<◌, IfSome, length};
 
 use crate::engine::{Answered, Engine, REPLY_ROOM};
 use crate::line::MAX_LINE;
@@ -106,6 +107,14 @@ fn answer_line<W: Write>(
     write_out(writer, reply)
 }
 
+/// The bytes before the first newline and those behind it, if there is one.
+fn cut(bytes: &[u8]) -> Option<(&[u8], &[u8])>
+    ensures { IfSome result (λ p. length p.1.now < length bytes.now) }
+{
+    let end = bytes.iter().position(|b| *b == b'\n')?;
+    Some((&bytes[..end], &bytes[end + 1..]))
+}
+
 /// Answers the lines that end in the piece, of which the first goes on with the front, and keeps the
 /// front of the last.
 fn answer_piece<W: Write>(
@@ -116,15 +125,15 @@ fn answer_piece<W: Write>(
     report: &mut Report,
 ) -> Result<(), RunFault> {
     let mut rest = piece;
-    while let Some(end) = rest.iter().position(|b| *b == b'\n') {
+    while let Some((line, behind)) = cut(rest) {
         if buffers.front.is_empty() {
-            answer_line(engine, &rest[..end], &mut buffers.reply, writer, report)?;
+            answer_line(engine, line, &mut buffers.reply, writer, report)?;
         } else {
-            keep(&mut buffers.front, &rest[..end])?;
+            keep(&mut buffers.front, line)?;
             answer_line(engine, &buffers.front, &mut buffers.reply, writer, report)?;
             buffers.front.clear();
         }
-        rest = &rest[end + 1..];
+        rest = behind;
     }
     keep(&mut buffers.front, rest)?;
     Ok(())
@@ -169,9 +178,14 @@ pub fn run<R: Read, W: Write>(
             report.accepted = u128::from(engine.version().saturating_sub(before));
             return Ok(report);
         }
-        answer_piece(engine, &piece[..count], &mut buffers, writer, &mut report)?;
+        answer_piece(engine, first_bytes(&piece, count), &mut buffers, writer, &mut report)?;
     }
     Err(RunFault::TooManyReads)
+}
+
+/// The first so many of the bytes.
+fn first_bytes(bytes: &[u8], count: usize) -> &[u8] {
+    &bytes[..count.min(bytes.len())]
 }
 
 /// How many bytes a read gave, 0 at the end.

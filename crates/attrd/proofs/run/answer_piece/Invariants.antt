@@ -1,5 +1,5 @@
 use Rattle.std.proofs.Common.{length}
 use Rattle.attrd.proofs.run.answer_piece.Given as goal
 
-abbrev pub decreases-loop-end : goal.decreases-loop-end
-decreases-loop-end g l = length l.rest
+abbrev pub decreases-loop-line : goal.decreases-loop-line
+decreases-loop-line g l = length l.rest
