@@ -4,4 +4,4 @@ pub mod Views
 pub mod Walks
 pub mod Setting
 pub mod Keeping
-pub mod Decimals
+pub mod Naming

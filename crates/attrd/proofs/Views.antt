@@ -1,6 +1,6 @@
 -- What a tree stands for, one level at a time.
-use Rattle.std.proofs.Common.{◌≡◌, ℕ, ◌<◌, length, subst, map, List, [], ◌∷◌, refl, ap, sym, ◌∙◌, Option, Some, None, slice_get, option_map}
-use Rattle.std.specs.Option.{option_and_then}
+use Rattle.std.proofs.Common.{◌≡◌, ℕ, ◌<◌, length, subst, map, List, [], ◌∷◌, refl, ap, sym, ◌∙◌, Option, Some, None, Bor, slice_get, option_map}
+use Rattle.std.specs.Option.{option_copied, option_and_then}
 use Rattle.std.proofs.lemmas.Option.{slice_get-map}
 use Rattle.at_model.specs.Trees.{Node, Cell, class_of, cells_of, to_cells, from_cells, Tree, Token}
 use Rattle.at_model.specs.Classes.{Classes}
@@ -59,3 +59,11 @@ token_is classes t name part o named is =
     ∙ ap (option_and_then at) named
     ∙ ap (λ d. token_beside part (option_and_then token_in d)) (cell_of_view t part ∙ ap (option_map cell_view) is)
     ∙ token_in_view part o
+
+copied_cell : (r : Option (Bor CellValue)) → option_map (λ c. cell_view c.now) r ≡ option_map cell_view (option_copied r)
+copied_cell None = refl
+copied_cell (Some c) = refl
+
+-- the cell at a position, as it is lent
+pub cell_seen : (t : TreeValue) (part : ℕ) (r : Option (Bor CellValue)) → option_copied r ≡ slice_get (out-Tree t).cells.items part → option_map (λ c. cell_view c.now) r ≡ cell_at (tree_view t) part
+cell_seen t part r is = copied_cell r ∙ ap (option_map cell_view) is ∙ sym (cell_of_view t part)

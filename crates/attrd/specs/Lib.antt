@@ -7,4 +7,4 @@ pub mod Tokens
 pub mod Served
 pub mod Edits
 pub mod Engines
-pub mod Words
+pub mod Evaluation

@@ -8,9 +8,9 @@ ghost use Rattle.attrd.specs.Tokens.{is_same_kind};
 
 use crate::aspects::rules::Rules;
 use crate::evaluate::value_at;
-use crate::line::{Command, LineFault, read_line, session_of};
 use crate::node::{is_long, node_at, set_token, token_at};
-use crate::reply::{Form, Refusal, Reply, write_reply};
+use at_protocol::line::{Command, LineFault, read_line, session_of};
+use at_protocol::reply::{Form, Refusal, Reply, write_reply};
 use at_tree::path::Path;
 use at_tree::token::TokVal;
 use at_tree::tree::{Tree, write_term};
@@ -46,7 +46,7 @@ struct Outcome {
 
 impl Outcome {
     ghost use Rattle.std.specs.Prelude.{◌≡◌, None};
-    ghost use Rattle.attrd.specs.declared.reply.Form.TheVariants as form;
+    ghost use Rattle.at_protocol.specs.declared.reply.Form.TheVariants as form;
 
     fn reply(form: Form) -> Outcome
         ensures edit { result.edit ≡ None }
@@ -63,19 +63,10 @@ impl Outcome {
     }
 }
 
-/// How a line was answered.
-#[derive(Clone, Copy, Debug, PartialEq, Eq)]
-pub enum Answered {
-    /// Not at all, since it is empty.
-    Empty,
-    /// As it says.
-    Line,
-    /// By want of memory.
-    Memory,
-}
-
 impl Engine {
-    ghost use Rattle.std.specs.Prelude.{◌≡◌, true, IfOk, Some, option_map};
+    ghost use Rattle.std.specs.Prelude.{◌≡◌, ◌++◌, ◌+◌, ◌<◌, ◌≤◌, true, false, length, IfOk, OnErr, Some, option_map, vec_len, vec_capacity};
+    ghost use Rattle.at_model.specs.Lines.{IsSessionOf};
+    ghost use Rattle.at_model.specs.Replies.{Reply as ModelReply, Memory, reply_text};
     ghost use Rattle.attrd.specs.Served.{served, MayDo, done};
     ghost use Rattle.attrd.specs.Edits.{edit_view};
     ghost use Rattle.attrd.specs.Engines.{engine_view};
@@ -120,50 +111,69 @@ impl Engine {
     ///
     /// Where room for 48 bytes is refused, and then nothing has changed. Every other want of memory
     /// is a reply.
-    pub fn line(&mut self, line: &[u8], out: &mut Vec<u8>) -> Result<(), AllocError> {
-        self.answer(line, out)?;
+    pub fn line(&mut self, line: &[u8], out: &mut Vec<u8>) -> Result<(), AllocError>
+        ensures full { OnErr result (vec_capacity out.old < vec_len out.old + 48) }
+        ensures err { OnErr result ((out.new.items ≡ out.old.items) × (engine_view self.new ≡ engine_view self.old)) }
+        ensures empty { length line.now ≡ 0 → (out.new.items ≡ out.old.items) × (engine_view self.new ≡ engine_view self.old) }
+    {
+        if line.is_empty() {
+            return Ok(out.reserve(REPLY_ROOM)?);
+        }
+        self.serve(line, out)?;
         Ok(())
     }
 
-    /// `line`, which also tells how it was answered.
-    pub fn answer(&mut self, line: &[u8], out: &mut Vec<u8>) -> Result<Answered, AllocError> {
+    /// Serves a line that isn't empty; whether it was answered by want of memory.
+    pub fn serve(&mut self, line: &[u8], out: &mut Vec<u8>) -> Result<bool, AllocError>
+        requires { 0 < length line.now }
+        // The reply to want of memory, and nothing else has changed.
+        ensures memory { IfOk result (λ wants. wants ≡ true → (reply : ModelReply) × IsSessionOf line.now reply.session × (reply.form ≡ Memory)
+            × (out.new.items ≡ out.old.items ++ reply_text reply) × (engine_view self.new ≡ engine_view self.old)) }
+        ensures room { vec_capacity out.old ≤ vec_capacity out.new }
+        ensures full { OnErr result (vec_capacity out.old < vec_len out.old + 48) }
+        ensures err { OnErr result ((out.new.items ≡ out.old.items) × (engine_view self.new ≡ engine_view self.old)) }
+    {
         out.reserve(REPLY_ROOM)?;
-        if line.is_empty() {
-            return Ok(Answered::Empty);
+        if self.step(line, out) {
+            return Ok(false);
         }
         let session = session_of(line);
-        if self.step(session, line, out) {
-            return Ok(Answered::Line);
-        }
-        let reply = Reply { session, form: Form::Memory };
-        write_reply(&reply, out)?;
-        Ok(Answered::Memory)
+        write_reply(&Reply { session, form: Form::Memory }, out)?;
+        Ok(true)
     }
 
     /// Takes the line's step and appends its reply, or changes nothing for want of memory.
-    fn step(&mut self, session: Option<u16>, line: &[u8], out: &mut Vec<u8>) -> bool {
+    fn step(&mut self, line: &[u8], out: &mut Vec<u8>) -> bool
+        ensures memory { result ≡ false → (out.new.items ≡ out.old.items) × (engine_view self.new ≡ engine_view self.old) }
+        ensures room { vec_capacity out.old ≤ vec_capacity out.new }
+    {
         match self.outcome(line) {
-            Ok(Outcome { form, edit }) => {
-                let reply = Reply { session, form };
-                match write_reply(&reply, out) {
-                    Ok(()) => {
-                        self.commit_all(edit);
-                        true
-                    }
-                    Err(_) => false,
+            Ok((reply, edit)) => match write_reply(&reply, out) {
+                Ok(()) => {
+                    self.commit_all(edit);
+                    true
                 }
-            }
+                Err(_) => false,
+            },
             Err(_) => false,
         }
     }
 
-    fn outcome(&self, line: &[u8]) -> Result<Outcome, AllocError>
-        ensures { IfOk result (λ o. MayDo (engine_view self.now) (option_map edit_view o.edit)) }
+    /// The reply to the line, and the edit that goes with it, if any.
+    fn outcome(&self, line: &[u8]) -> Result<(Reply, Option<Edit>), AllocError>
+        ensures { IfOk result (λ o. MayDo (engine_view self.now) (option_map edit_view o.1)) }
     {
         match read_line(self.alloc, line) {
-            Ok(line) => self.command(line.command),
-            Err(LineFault::Syntax) => Ok(Outcome::refused(Refusal::Syntax)),
-            Err(LineFault::Memory) => Err(AllocError),
+            Ok(line) => {
+                let Outcome { form, edit } = self.command(line.command)?;
+                let session = Some(line.session);
+                Ok((Reply { session, form }, edit))
+            }
+            Err(LineFault::Syntax { session }) => {
+                let form = Form::Refused(Refusal::Syntax);
+                Ok((Reply { session, form }, None))
+            }
+            Err(LineFault::Memory { session: _ }) => Err(AllocError),
         }
     }
 

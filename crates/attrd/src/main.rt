@@ -6,9 +6,7 @@ mod aspects;
 mod code;
 mod engine;
 mod evaluate;
-mod line;
 mod node;
-mod reply;
 mod run;
 mod start;
 #[cfg(test)]

@@ -17,7 +17,7 @@ use at_tree::token::TokVal;
 use at_tree::tree::{Cell, Tree};
 
 /// The cell at that position.
-fn cell_in(node: &Tree, part: usize) -> Option<&Cell>
+pub fn cell_in(node: &Tree, part: usize) -> Option<&Cell>
     ensures { option_copied result ≡ slice_get (out-Tree node.now).cells.items part }
 {
     node.cells.get(part)

@@ -1,8 +1,8 @@
 //! A run: lines from a reader, a reply to each on a writer.
 ghost use Rattle.std.specs.Prelude.{◌<◌, IfSome, length};
 
-use crate::engine::{Answered, Engine, REPLY_ROOM};
-use crate::line::MAX_LINE;
+use crate::engine::{Engine, REPLY_ROOM};
+use at_protocol::line::MAX_LINE;
 use std::alloc::{AllocError, Global};
 use std::io::{Read, Write};
 
@@ -97,11 +97,12 @@ fn answer_line<W: Write>(
     writer: &mut W,
     report: &mut Report,
 ) -> Result<(), RunFault> {
+    if line.is_empty() {
+        return Ok(());
+    }
     reply.clear();
-    match engine.answer(line, reply)? {
-        Answered::Empty => return Ok(()),
-        Answered::Line => {}
-        Answered::Memory => report.memory = report.memory.saturating_add(1),
+    if engine.serve(line, reply)? {
+        report.memory = report.memory.saturating_add(1);
     }
     report.lines = report.lines.saturating_add(1);
     write_out(writer, reply)

@@ -1,7 +1,9 @@
 //! The files of a server, and the engine that they make.
 
 ghost use Rattle.std.specs.Prelude.{◌≡◌, true, IfOk};
+ghost use Rattle.at_model.specs.Declarations.{AreNamed};
 ghost use Rattle.at_model.specs.Trees.{conforms};
+ghost use Rattle.at_class.specs.Grammar.{grammar_view};
 ghost use Rattle.at_tree.specs.TreeView.{tree_view};
 
 use crate::aspects::reader::{ReadFault, read_aspects};
@@ -93,21 +95,35 @@ fn text_of(bytes: &[u8], limit: Code, syntax: Code) -> Result<&str, Code> {
     std::str::from_utf8(bytes).map_err(|_| syntax)
 }
 
-fn read_grammar(alloc: Global, bytes: &[u8]) -> Result<Grammar, StartFault> {
+fn read_grammar(alloc: Global, bytes: &[u8]) -> Result<Grammar, StartFault>
+    ensures { IfOk result (λ g. AreNamed (grammar_view g)) }
+{
     let text = match text_of(bytes, Code::GrammarLimit, Code::GrammarSyntax) {
         Ok(text) => text,
         Err(code) => return Err(grammar_fault(code, (1, 1))),
     };
-    let grammar = match parse_ast(alloc, text) {
-        Ok(grammar) => grammar,
-        Err(AstFault::Syntax { at }) => return Err(grammar_fault(Code::GrammarSyntax, at)),
-        Err(AstFault::LeftOut { at }) => return Err(grammar_fault(Code::GrammarFormLeftOut, at)),
-        Err(AstFault::Memory) => return Err(StartFault::Memory),
-    };
-    match grammar.classes.iter().find(|class| !is_plain(class)) {
-        Some(class) => Err(grammar_fault(Code::GrammarFormLeftOut, class.at)),
+    let grammar = parse_grammar(alloc, text)?;
+    match left_out(&grammar) {
+        Some(at) => Err(grammar_fault(Code::GrammarFormLeftOut, at)),
         None => Ok(grammar),
     }
+}
+
+fn parse_grammar(alloc: Global, text: &str) -> Result<Grammar, StartFault>
+    ensures { IfOk result (λ g. AreNamed (grammar_view g)) }
+{
+    match parse_ast(alloc, text) {
+        Ok(grammar) => Ok(grammar),
+        Err(AstFault::Syntax { at }) => Err(grammar_fault(Code::GrammarSyntax, at)),
+        Err(AstFault::LeftOut { at }) => Err(grammar_fault(Code::GrammarFormLeftOut, at)),
+        Err(AstFault::Memory) => Err(StartFault::Memory),
+    }
+}
+
+/// The place of the first class that is of a form that the engine doesn't evaluate.
+fn left_out(grammar: &Grammar) -> Option<(u32, u32)> {
+    let class = grammar.classes.iter().find(|class| !is_plain(class))?;
+    Some(class.at)
 }
 
 /// Whether the class is of the forms that the engine evaluates: concrete, with no superclass, its
@@ -121,7 +137,9 @@ fn is_plain(class: &ClassDecl) -> bool {
             .all(|part| part.shape == Shape::One || part.shape == Shape::Tok)
 }
 
-fn class_table(alloc: Global, grammar: &Grammar) -> Result<ClassTable, StartFault> {
+fn class_table(alloc: Global, grammar: &Grammar) -> Result<ClassTable, StartFault>
+    requires { AreNamed (grammar_view grammar.now) }
+{
     match ClassTable::build(alloc, grammar) {
         Ok(classes) => Ok(classes),
         Err(ClassFault::Refused { code, at }) => Err(grammar_fault(class_code(code), at)),
