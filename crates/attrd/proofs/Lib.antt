@@ -5,3 +5,4 @@ pub mod Walks
 pub mod Setting
 pub mod Keeping
 pub mod Naming
+pub mod Evaluating

@@ -1,9 +1,15 @@
 -- What the bodies of equations are at the root of a tree.
-use Rattle.std.specs.Prelude.{ℕ, ℤ, pos, Option, Some, None}
+use Rattle.std.specs.Prelude.{◌≡◌, ℕ, ℤ, pos, Bool, true, Option, Some, None}
 use Rattle.std.specs.Int.{w32, int_wrapping_add, int_wrapping_sub, int_wrapping_mul, int_wrapping_neg}
-use Rattle.at_model.specs.Trees.{Tree, Cell, One, Holds, Int}
-use Rattle.at_model.specs.Paths.{cell_at}
-use Rattle.at_model.specs.Bodies.{Expr, IntLiteral, This, Negate, Arithmetic, Child, TokenOf, Operator, Plus, Minus, Times}
+use Rattle.at_model.specs.Trees.{Tree, Cell, One, Holds, Int, class_of}
+use Rattle.at_model.specs.Classes.{Classes, parent_of}
+use Rattle.at_model.specs.Paths.{Node, tree_at, cell_at}
+use Rattle.at_model.specs.Run.{Known, Valued, tried}
+use Rattle.at_model.specs.Run as run
+use Rattle.at_model.specs.Meaning.{content}
+use Rattle.at_model.specs.Bodies.{Expr, IntLiteral, This, Negate, Arithmetic, Child, TokenOf, Operator, Plus, Minus, Times, Scope, eval}
+use Rattle.attrd.specs.Nodes.{Conforms}
+use Rattle.attrd.specs.Kinds.{is_number}
 
 -- the tree in the cell of a plain child, else the other one
 abbrev pub plain_or : Tree → Option Cell → Tree
@@ -33,3 +39,16 @@ number_in (TokenOf e part) t = int_or_zero (cell_at (node_in e t) part)
 number_in (Negate e) t = int_wrapping_neg w32 (number_in e t)
 number_in (Arithmetic o a b) t = operated o (number_in a t) (number_in b t)
 number_in e t = pos 0
+
+-- no other instance has a value that is known
+abbrev pub nothing : {N : Type 0} → Known N
+nothing i = None
+
+-- no class has a superclass
+abbrev pub HaveNoParents : Classes → Type 0
+HaveNoParents classes = (c : ℕ) → parent_of classes c ≡ None
+
+-- The body, which is a number, has this value by the equations' meaning, wherever in a tree the node stands.
+abbrev pub IsFound : Expr → Tree → ℤ → Type 0
+IsFound e u z = (classes : Classes) (t : Tree) (same : Node → Node → Bool) (scope : Scope Node) → HaveNoParents classes → tree_at t scope.this ≡ Some u → Conforms classes u
+    → is_number classes (class_of u) e ≡ true → tried (content t) nothing (eval classes same e scope) ≡ Valued (run.Int z)

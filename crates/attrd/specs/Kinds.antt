@@ -2,7 +2,7 @@
 use Rattle.std.specs.Prelude.{◌≡◌, ℕ, Bool, true, false, ◌&&◌, Option, Some, None, option_and_then, slice_get}
 use Rattle.at_model.specs.Classes.{Classes, Shape, parts}
 use Rattle.at_model.specs.Classes as class
-use Rattle.at_model.specs.Bodies.{Expr, IntLiteral, This, Negate, Arithmetic, Child, TokenOf}
+use Rattle.at_model.specs.Bodies.{Expr, IntLiteral, This, Negate, Arithmetic, Child, TokenOf, Operator, Plus, Minus, Times}
 
 abbrev pub shape_of : Classes → ℕ → ℕ → Option Shape
 shape_of classes part c = option_and_then (λ p. Some p.shape) (slice_get (parts classes c) part)
@@ -29,10 +29,17 @@ abbrev pub has_int_token : Classes → ℕ → Option ℕ → Bool
 has_int_token classes part None = false
 has_int_token classes part (Some b) = is_int_token (shape_of classes part b)
 
+-- it has a value for all numbers
+abbrev pub is_total : Operator → Bool
+is_total Plus = true
+is_total Minus = true
+is_total Times = true
+is_total o = false
+
 -- the expression is a number
 abbrev pub is_number : Classes → ℕ → Expr → Bool
 is_number classes c (IntLiteral n) = true
 is_number classes c (TokenOf e part) = has_int_token classes part (node_class classes c e)
 is_number classes c (Negate e) = is_number classes c e
-is_number classes c (Arithmetic o a b) = is_number classes c a && is_number classes c b
+is_number classes c (Arithmetic o a b) = is_total o && (is_number classes c a && is_number classes c b)
 is_number classes c e = false

@@ -3,7 +3,7 @@ ghost use Rattle.std.specs.Prelude.{◌≡◌, option_map};
 ghost use Rattle.at_model.specs.Paths.{cell_at};
 ghost use Rattle.at_tree.specs.TreeView.{tree_view, cell_view};
 ghost use Rattle.attrd.specs.Bodies.{node_view, int_view, operator_view};
-ghost use Rattle.attrd.specs.Evaluation.{plain_or, int_or_zero, node_in, operated, number_in};
+ghost use Rattle.attrd.specs.Evaluation.{plain_or, int_or_zero, node_in, operated, number_in, IsFound};
 
 use crate::aspects::rules::{IntExpr, NodeExpr};
 use crate::aspects::syntax::Operator;
@@ -67,14 +67,22 @@ fn operate(operator: Operator, left: i32, right: i32) -> i32
 
 /// The number that the expression is at a node.
 pub fn value_at(expr: &IntExpr, this: &Tree) -> i32
+    ensures value { result ≡ number_in (int_view expr.now) (tree_view this.now) }
+    // It is what the equations give there.
+    ensures found { IsFound (int_view expr.now) (tree_view this.now) result }
+{
+    number_at(expr, this)
+}
+
+fn number_at(expr: &IntExpr, this: &Tree) -> i32
     ensures { result ≡ number_in (int_view expr.now) (tree_view this.now) }
 {
     match expr {
         IntExpr::Number(value) => *value,
         IntExpr::Token(node, part) => token(node_at(node, this), *part),
-        IntExpr::Negate(inner) => value_at(inner, this).wrapping_neg(),
+        IntExpr::Negate(inner) => number_at(inner, this).wrapping_neg(),
         IntExpr::Operation(operator, left, right) => {
-            operate(*operator, value_at(left, this), value_at(right, this))
+            operate(*operator, number_at(left, this), number_at(right, this))
         }
     }
 }
