@@ -1,6 +1,8 @@
 -- The classes of an abstract grammar (JastAdd2 reference manual, "Abstract syntax"). A class is named by its position.
-use Rattle.std.specs.Prelude.{ℕ, zero, suc, Bool, false, ◌&&◌, not, nat_eq, List, [], ◌∷◌, length, reverse, Option, Some, None, option_and_then}
+use Rattle.std.specs.Prelude.{◌≡◌, ℕ, ◌<◌, zero, suc, ⊤, Bool, true, false, ◌&&◌, not, nat_eq, List, [], ◌∷◌, length, reverse, Option, Some, None, option_and_then, position, IfSome, All}
 use Rattle.std.specs.List.{slice_get, flat_map, list_any}
+use Rattle.std.specs.Str.{IsUtf8, bytes_eq}
+use Rattle.at_model.specs.Names.{is_name}
 
 -- the kinds of tokens: String, int and boolean
 pub data TokenKind : Type 0 where
@@ -49,6 +51,13 @@ own_of classes c = elim (slice_get classes c) [ None ↦ [] | Some k ↦ k.own ]
 abbrev pub parts : Classes → ℕ → List Component
 parts classes c = flat_map (own_of classes) (reverse (chain classes c))
 
+-- the class of the trees in a component
+abbrev pub class_in : Shape → Option ℕ
+class_in (One c) = Some c
+class_in (Many c) = Some c
+class_in (Maybe c) = Some c
+class_in (Token kind) = None
+
 -- the class is the other one or below it
 abbrev pub is_sub : Classes → ℕ → ℕ → Bool
 is_sub classes c b = list_any (nat_eq b) (chain classes c)
@@ -60,3 +69,38 @@ is_concrete classes c = elim (slice_get classes c) [ None ↦ false | Some k ↦
 -- a tree of the class may stand where the other class is asked
 abbrev pub fits : Classes → ℕ → ℕ → Bool
 fits classes c b = is_concrete classes c && is_sub classes c b
+
+abbrev pub name_of : Classes → ℕ → List ℕ
+name_of classes c = elim (slice_get classes c) [ None ↦ [] | Some k ↦ k.name ]
+
+-- the text is a name
+pub record IsNamed (text : List ℕ) : Type 0 where
+  pub name : is_name text ≡ true
+  pub utf8 : IsUtf8 text
+
+-- the class of that name
+abbrev pub class_of_name : Classes → List ℕ → Option ℕ
+class_of_name classes name = position (λ k. bytes_eq name k.name) classes
+
+-- the class that a component names is among so many
+abbrev pub IsShapeWithin : ℕ → Shape → Type 0
+IsShapeWithin n (One c) = c < n
+IsShapeWithin n (Many c) = c < n
+IsShapeWithin n (Maybe c) = c < n
+IsShapeWithin n (Token kind) = ⊤
+
+-- it is named by a name, and names classes that are among so many
+pub record IsComponentSound (n : ℕ) (p : Component) : Type 0 where
+  pub name : IsNamed p.name
+  pub within : IsShapeWithin n p.shape
+
+pub record IsClassSound (n : ℕ) (k : Class) : Type 0 where
+  pub name : IsNamed k.name
+  pub parent : IfSome k.parent (λ b. b < n)
+  pub own : All (IsComponentSound n) k.own
+
+-- there is a class, all names are names, each class has a name of its own, and each class that is named is there
+pub record AreSound (classes : Classes) : Type 0 where
+  pub some : 0 < length classes
+  pub each : All (IsClassSound (length classes)) classes
+  pub distinct : (c : ℕ) → c < length classes → class_of_name classes (name_of classes c) ≡ Some c

@@ -1,8 +1,7 @@
 -- Names: what may name a class, a component, an attribute or a mark. A text is its UTF-8 bytes.
-use Rattle.std.specs.Prelude.{ℕ, Bool, false, ◌&&◌, ◌||◌, ◌==◌, not, List, [], ◌∷◌, chars}
+use Rattle.std.specs.Prelude.{ℕ, Bool, false, ◌&&◌, ◌||◌, ◌==◌, not, List, [], ◌∷◌, chars, codes}
 use Rattle.std.specs.List.{list_all, list_any}
 use Rattle.std.specs.Str.{bytes_eq}
-use lib.Chars.{codes}
 use Rattle.unicode_ident.specs.Ident.{is_xid_start, is_xid_continue}
 
 -- a name begins with such a character (Unicode Standard Annex 31, and the underscore)
@@ -26,7 +25,7 @@ reserved_words =
     ∷ codes "exists" ∷ codes "first" ∷ codes "sum" ∷ codes "int" ∷ codes "boolean" ∷ codes "String" ∷ []
 
 abbrev pub is_reserved : List ℕ → Bool
-is_reserved text = list_any (bytes_eq text) reserved_words
+is_reserved text = list_any (λ word. bytes_eq word text) reserved_words
 
 -- the text is a name: its characters have the form of one, and it is not reserved
 abbrev pub is_name : List ℕ → Bool

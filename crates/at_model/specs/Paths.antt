@@ -1,10 +1,10 @@
 -- Paths to nodes: as they are written, by the names of components, and by their positions.
-use Rattle.std.specs.Prelude.{◌≡◌, ℕ, ◌<◌, true, List, [], ◌∷◌, ◌++◌, Option, Some, None, option_and_then, option_map, position}
+use Rattle.std.specs.Prelude.{◌≡◌, ℕ, ◌<◌, Bool, true, false, ◌&&◌, nat_eq, List, [], ◌∷◌, ◌++◌, Option, Some, None, option_and_then, option_map, position}
 use Rattle.std.specs.Fmt.{decimal}
 use Rattle.std.specs.Str.{IsUtf8, bytes_eq}
 use Rattle.std.specs.List.{slice_get, flat_map, AllByRecursion}
 use Rattle.at_model.specs.Names.{is_name}
-use Rattle.at_model.specs.Classes.{Classes, Shape, One, Many, Maybe, parts}
+use Rattle.at_model.specs.Classes.{Classes, Component, Shape, One, Many, Maybe, parts}
 use Rattle.at_model.specs.Trees.{Tree, Cell, children, class_of, cells_of, from_cells}
 
 -- a component's name, and an index where it is a list
@@ -41,6 +41,22 @@ IsPath = AllByRecursion IsStep
 -- a node: at each step down the position of a component, and that of the child among its children
 abbrev pub Node : Type 0
 Node = List (ℕ × ℕ)
+
+abbrev pub step_eq : ℕ × ℕ → ℕ × ℕ → Bool
+step_eq s u = nat_eq s.0 u.0 && nat_eq s.1 u.1
+
+-- nodes are the same when their paths are
+abbrev pub node_eq : Node → Node → Bool
+node_eq [] [] = true
+node_eq [] (u ∷ us) = false
+node_eq (s ∷ ss) [] = false
+node_eq (s ∷ ss) (u ∷ us) = step_eq s u && node_eq ss us
+
+-- the node without its last step, and that step
+abbrev pub parent_of : Node → Option (Node × (ℕ × ℕ))
+parent_of [] = None
+parent_of (s ∷ []) = Some ([], s)
+parent_of (s ∷ u ∷ us) = option_map (λ p. (s ∷ p.0, p.1)) (parent_of (u ∷ us))
 
 abbrev pub cell_at : Tree → ℕ → Option Cell
 cell_at t part = slice_get (from_cells (cells_of t)) part
@@ -83,3 +99,7 @@ step_of classes c way = option_map (λ p. record { part = p.name; index = index_
 abbrev pub path_of : Classes → Tree → Node → Option Path
 path_of classes t [] = Some []
 path_of classes t (way ∷ ways) = option_and_then (λ s. option_and_then (λ u. option_map (λ ss. s ∷ ss) (path_of classes u ways)) (slice_get (children_at t way.0) way.1)) (step_of classes (class_of t) way)
+
+-- each component of a class is the first one of its name in the class
+abbrev pub ArePartsApart : Classes → Type 0
+ArePartsApart classes = (c part : ℕ) (p : Component) → slice_get (parts classes c) part ≡ Some p → part_named classes c p.name ≡ Some part

@@ -1,12 +1,11 @@
 -- Terms: trees as they are written, with names for classes, and the one text of each.
-use Rattle.std.specs.Prelude.{◌≡◌, ℕ, ◌-◌, ◌<◌, ℤ, pos, negsuc, true, false, List, [], ◌∷◌, ◌++◌, ⊤, Some, None}
+use Rattle.std.specs.Prelude.{◌≡◌, ℕ, ◌-◌, ◌<◌, ℤ, pos, negsuc, true, false, List, [], ◌∷◌, ◌++◌, ⊤}
 use Rattle.std.specs.Fmt.{signed_decimal}
 use Rattle.std.specs.Str.{IsUtf8}
-use Rattle.std.specs.List.{slice_get}
 use lib.Chars.{codes}
 use Rattle.at_model.specs.Names.{is_name}
 use Rattle.at_model.specs.Texts.{quoted}
-use Rattle.at_model.specs.Classes.{Classes}
+use Rattle.at_model.specs.Classes.{Classes, name_of}
 use Rattle.at_model.specs.Trees.{Tree, Cells as TreeCells, Cell as TreeCell, Trees, Token, Text, Int, Truth}
 use Rattle.at_model.specs.Trees as tree
 
@@ -97,9 +96,6 @@ max_depth = 512
 
 abbrev pub IsTerm : Term → Type 0
 IsTerm t = IsTermWithin max_depth t
-
-abbrev pub name_of : Classes → ℕ → List ℕ
-name_of classes c = elim (slice_get classes c) [ None ↦ [] | Some k ↦ k.name ]
 
 -- the term that a tree is written as
 abbrev mutual

@@ -1,0 +1,16 @@
+pub mod Places
+pub mod Spelling
+pub mod Characters
+pub mod Reading
+pub mod ReadingLaws
+pub mod Placing
+pub mod Fronts
+pub mod Quotes
+pub mod Openings
+pub mod Same
+pub mod Stuck
+pub mod Cuts
+pub mod Breaks
+pub mod Signs
+pub mod Found
+pub mod Scanned

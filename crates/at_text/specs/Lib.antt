@@ -1,0 +1,7 @@
+pub mod Place
+pub mod Quoted
+pub mod Reading
+pub mod Symbols
+pub mod Pieces
+pub mod Faults
+pub mod Front

@@ -138,7 +138,13 @@ impl Engine {
             return Ok(false);
         }
         let session = session_of(line);
-        write_reply(&Reply { session, form: Form::Memory }, out)?;
+        write_reply(
+            &Reply {
+                session,
+                form: Form::Memory,
+            },
+            out,
+        )?;
         Ok(true)
     }
 
@@ -181,10 +187,15 @@ impl Engine {
         ensures { IfOk result (λ o. MayDo (engine_view self.now) (option_map edit_view o.edit)) }
     {
         match command {
-            Command::Ask { path, attribute } => Ok(Outcome::reply(self.ask(&path, attribute.as_str()))),
+            Command::Ask { path, attribute } => Ok(Outcome::reply(self.ask(
+                &path,
+                attribute.as_str(),
+            ))),
             Command::Show { path } => Ok(Outcome::reply(self.show(&path)?)),
             Command::Token { path, part, value } => Ok(self.token(path, part.as_str(), value)),
-            Command::Version => Ok(Outcome::reply(Form::Ok { version: self.version })),
+            Command::Version => Ok(Outcome::reply(Form::Ok {
+                version: self.version,
+            })),
         }
     }
 
@@ -225,7 +236,9 @@ impl Engine {
             return Outcome::refused(Refusal::Limit);
         }
         Outcome {
-            form: Form::Ok { version: self.version + 1 },
+            form: Form::Ok {
+                version: self.version + 1,
+            },
             edit: Some(Edit { path, part, value }),
         }
     }
@@ -246,7 +259,13 @@ impl Engine {
         ensures { engine_view self.new ≡ done (engine_view self.old) (Some (edit_view edit)) }
     {
         let Edit { path, part, value } = edit;
-        set_token(&self.rules.classes, &mut self.tree, &path.steps, part, value);
+        set_token(
+            &self.rules.classes,
+            &mut self.tree,
+            &path.steps,
+            part,
+            value,
+        );
         self.version += 1;
     }
 }

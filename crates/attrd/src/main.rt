@@ -15,11 +15,10 @@ mod tests;
 use run::{RunFault, run};
 use start::{Files, MAX_FILE, Source, StartFault, start, write_fault};
 use std::alloc::{AllocError, AllocFailed, Global};
-use std::env;
 use std::fs::File;
-use std::io;
 use std::io::{ErrorKind, Read, Write};
 use std::process::ExitCode;
+use std::{env, io};
 
 /// How the command line is written.
 const USAGE: &str = "usage: attrd GRAMMAR TREE ASPECT...";
@@ -136,7 +135,11 @@ fn read_files(rt: &HostRuntime, words: Vec<String>) -> Result<Files, Failure> {
         aspects.push(read_file(rt, word)?)?;
     }
     let tree = read_file(rt, tree)?;
-    Ok(Files { grammar, tree, aspects })
+    Ok(Files {
+        grammar,
+        tree,
+        aspects,
+    })
 }
 
 /// The file of that name, and one byte more at most than a file may have.

@@ -77,13 +77,7 @@ pub fn token_at<'t>(classes: &ClassTable, node: &'t Tree, name: &str) -> Option<
 
 /// Gives the token at that position a new value, at the node to which the steps lead.
 #[cycle(setting)]
-pub fn set_token(
-    classes: &ClassTable,
-    tree: &mut Tree,
-    steps: &[Step],
-    part: usize,
-    value: TokVal,
-)
+pub fn set_token(classes: &ClassTable, tree: &mut Tree, steps: &[Step], part: usize, value: TokVal)
     requires { Conforms classes.now (tree_view tree.old) }
     ensures { tree_view tree.new ≡ set_on classes.now (tree_view tree.old) (steps_view steps.now) part (token_view value) }
 {
@@ -105,13 +99,7 @@ pub fn set_token(
 
 /// The same below the plain child in the cell, where one is.
 #[cycle(setting)]
-fn set_below(
-    classes: &ClassTable,
-    cell: &mut Cell,
-    steps: &[Step],
-    part: usize,
-    value: TokVal,
-)
+fn set_below(classes: &ClassTable, cell: &mut Cell, steps: &[Step], part: usize, value: TokVal)
     requires { HoldsConforming classes.now (cell_view cell.old) }
     ensures { cell_view cell.new ≡ with_plain_child (λ u. set_on classes.now u (steps_view steps.now) part (token_view value)) (cell_view cell.old) }
 {

@@ -175,11 +175,23 @@ pub fn run<R: Read, W: Write>(
     for _ in 0..MAX_READS {
         let count = read(reader, piece.as_mut_slice())?;
         if count == 0 {
-            answer_line(engine, &buffers.front, &mut buffers.reply, writer, &mut report)?;
+            answer_line(
+                engine,
+                &buffers.front,
+                &mut buffers.reply,
+                writer,
+                &mut report,
+            )?;
             report.accepted = u128::from(engine.version().saturating_sub(before));
             return Ok(report);
         }
-        answer_piece(engine, first_bytes(&piece, count), &mut buffers, writer, &mut report)?;
+        answer_piece(
+            engine,
+            first_bytes(&piece, count),
+            &mut buffers,
+            writer,
+            &mut report,
+        )?;
     }
     Err(RunFault::TooManyReads)
 }

@@ -84,7 +84,11 @@ pub fn start(alloc: Global, files: &Files) -> Result<Engine, StartFault> {
 
 /// The fault of a grammar, at that place.
 fn grammar_fault(code: Code, at: (u32, u32)) -> StartFault {
-    StartFault::Refused { file: 0, code, at: Some(at) }
+    StartFault::Refused {
+        file: 0,
+        code,
+        at: Some(at),
+    }
 }
 
 /// The file's text, or the code for a file that is too long, or for one that is no UTF-8.
@@ -131,10 +135,7 @@ fn left_out(grammar: &Grammar) -> Option<(u32, u32)> {
 fn is_plain(class: &ClassDecl) -> bool {
     !class.is_abstract
         && class.parent.is_none()
-        && class
-            .parts
-            .iter()
-            .all(|part| part.shape == Shape::One || part.shape == Shape::Tok)
+        && class.parts.iter().all(|part| part.shape == Shape::One || part.shape == Shape::Tok)
 }
 
 fn class_table(alloc: Global, grammar: &Grammar) -> Result<ClassTable, StartFault>
@@ -211,7 +212,11 @@ fn rules_of(
 
 /// The fault of a tree file, which is the file of that number.
 fn tree_fault(file: usize, code: Code) -> StartFault {
-    StartFault::Refused { file, code, at: None }
+    StartFault::Refused {
+        file,
+        code,
+        at: None,
+    }
 }
 
 /// The tree of a file that is one term and at most one newline after it.

@@ -10,8 +10,10 @@ use std::process::Abort;
 use std::test::Fail;
 
 const GRAMMAR: &str = "Sum ::= Left:Num Right:Num; Num ::= <Value:int>;\n";
+
 const ASPECT: &str =
     "aspect S { syn int Sum.total() = getLeft().getValue() + getRight().getValue() * 2; }\n";
+
 const TREE: &str = "Sum(Num(3),Num(4))\n";
 
 fn named(alloc: Global, name: &str, text: &str) -> Result<Source, AllocError> {
@@ -166,9 +168,15 @@ fn files_are_refused_by_name_and_place(rt: HostRuntime) -> Result<(), Fail> {
     let text = refusal(alloc, GRAMMAR, ASPECT, "Num(1)")?;
     assert_eq!(rt; text.as_slice(), b"sum.txt: F7 fit\n".as_slice());
     let text = refusal(alloc, "", ASPECT, TREE)?;
-    assert_eq!(rt; text.as_slice(), b"sum.ast: G9 no class at 1:1\n".as_slice());
+    assert_eq!(rt;
+        text.as_slice(),
+        b"sum.ast: G9 no class at 1:1\n".as_slice()
+    );
     let text = refusal(alloc, "Sum ::= Num*; Num;", ASPECT, TREE)?;
-    assert_eq!(rt; text.as_slice(), b"sum.ast: G7 form left out at 1:1\n".as_slice());
+    assert_eq!(rt;
+        text.as_slice(),
+        b"sum.ast: G7 form left out at 1:1\n".as_slice()
+    );
     Ok(())
 }
 
@@ -187,25 +195,116 @@ fn is_refused(alloc: Global, aspect: &str, fault: &str) -> Result<bool, Fail> {
 #[test]
 fn aspects_are_refused_by_their_first_fault(rt: HostRuntime) -> Result<(), Fail> {
     let alloc = rt.alloc();
-    let middle = "aspect S { syn int Sum.total() = getMiddle().getValue() + getRight().getValue() * 2; }";
+    let middle =
+        "aspect S { syn int Sum.total() = getMiddle().getValue() + getRight().getValue() * 2; }";
     assert!(rt; is_refused(alloc, middle, "J3 unknown name at 1:34")?);
     assert!(rt; is_refused(alloc, "", "")?);
-    assert!(rt; is_refused(alloc, "aspect S { syn int Sum.a() = 1; ", "J1 syntax at 1:33")?);
-    assert!(rt; is_refused(alloc, "aspect S { syn int Sum.a() = 007; }", "J1 syntax at 1:30")?);
-    assert!(rt; is_refused(alloc, "aspect S { syn int Sum.a() = 2147483648; }", "J1 syntax at 1:30")?);
+    assert!(rt;
+        is_refused(
+            alloc,
+            "aspect S { syn int Sum.a() = 1; ",
+            "J1 syntax at 1:33"
+        )?
+    );
+    assert!(rt;
+        is_refused(
+            alloc,
+            "aspect S { syn int Sum.a() = 007; }",
+            "J1 syntax at 1:30"
+        )?
+    );
+    assert!(rt;
+        is_refused(
+            alloc,
+            "aspect S { syn int Sum.a() = 2147483648; }",
+            "J1 syntax at 1:30"
+        )?
+    );
     assert!(rt; is_refused(alloc, "aspect S { syn int Sum.a() = - 2147483648; }", "")?);
-    assert!(rt; is_refused(alloc, "aspect S { syn int Sum.a() = /* x", "J1 syntax at 1:30")?);
-    assert!(rt; is_refused(alloc, "aspect S { inh int Sum.a(); }", "J10 form left out at 1:12")?);
-    assert!(rt; is_refused(alloc, "aspect S { syn lazy int Sum.a() = 1; }", "J10 form left out at 1:16")?);
-    assert!(rt; is_refused(alloc, "aspect S { syn int Sum.a() = 1 / 2; }", "J10 form left out at 1:32")?);
-    assert!(rt; is_refused(alloc, "aspect S { syn int Sum.a() = b; }", "J10 form left out at 1:30")?);
-    assert!(rt; is_refused(alloc, "aspect S { syn int Sum.a() = (Sum) this; }", "J10 form left out at 1:30")?);
-    assert!(rt; is_refused(alloc, "aspect S { syn int Sum.a() = b(1); }", "J10 form left out at 1:32")?);
-    assert!(rt; is_refused(alloc, "aspect S { syn int Sum.getValue() = 1; }", "J12 name of an accessor at 1:12")?);
-    assert!(rt; is_refused(alloc, "aspect S { syn int Sum.a() = 1; syn int Sum.a() = 1; }", "J2 attribute twice at 1:33")?);
-    assert!(rt; is_refused(alloc, "aspect S { syn int Nix.a() = b(); }", "J3 unknown name at 1:20")?);
-    assert!(rt; is_refused(alloc, "aspect S { syn int Sum.a() = getLeft(); }", "J4 kind at 1:30")?);
-    assert!(rt; is_refused(alloc, "aspect S { syn int Sum.a() = 2 * -5.b(); }", "J4 kind at 1:34")?);
+    assert!(rt;
+        is_refused(
+            alloc,
+            "aspect S { syn int Sum.a() = /* x",
+            "J1 syntax at 1:30"
+        )?
+    );
+    assert!(rt;
+        is_refused(
+            alloc,
+            "aspect S { inh int Sum.a(); }",
+            "J10 form left out at 1:12"
+        )?
+    );
+    assert!(rt;
+        is_refused(
+            alloc,
+            "aspect S { syn lazy int Sum.a() = 1; }",
+            "J10 form left out at 1:16"
+        )?
+    );
+    assert!(rt;
+        is_refused(
+            alloc,
+            "aspect S { syn int Sum.a() = 1 / 2; }",
+            "J10 form left out at 1:32"
+        )?
+    );
+    assert!(rt;
+        is_refused(
+            alloc,
+            "aspect S { syn int Sum.a() = b; }",
+            "J10 form left out at 1:30"
+        )?
+    );
+    assert!(rt;
+        is_refused(
+            alloc,
+            "aspect S { syn int Sum.a() = (Sum) this; }",
+            "J10 form left out at 1:30"
+        )?
+    );
+    assert!(rt;
+        is_refused(
+            alloc,
+            "aspect S { syn int Sum.a() = b(1); }",
+            "J10 form left out at 1:32"
+        )?
+    );
+    assert!(rt;
+        is_refused(
+            alloc,
+            "aspect S { syn int Sum.getValue() = 1; }",
+            "J12 name of an accessor at 1:12"
+        )?
+    );
+    assert!(rt;
+        is_refused(
+            alloc,
+            "aspect S { syn int Sum.a() = 1; syn int Sum.a() = 1; }",
+            "J2 attribute twice at 1:33"
+        )?
+    );
+    assert!(rt;
+        is_refused(
+            alloc,
+            "aspect S { syn int Nix.a() = b(); }",
+            "J3 unknown name at 1:20"
+        )?
+    );
+    assert!(rt;
+        is_refused(
+            alloc,
+            "aspect S { syn int Sum.a() = getLeft(); }",
+            "J4 kind at 1:30"
+        )?
+    );
+    assert!(rt;
+        is_refused(
+            alloc,
+            "aspect S { syn int Sum.a() = 2 * -5.b(); }",
+            "J4 kind at 1:34"
+        )?
+    );
     Ok(())
 }
 
@@ -227,7 +326,13 @@ fn parenthesized(alloc: Global, pairs: usize) -> Result<String, AllocError> {
 fn expressions_stand_64_deep_and_no_deeper(rt: HostRuntime) -> Result<(), Fail> {
     let alloc = rt.alloc();
     assert!(rt; is_refused(alloc, parenthesized(alloc, 63)?.as_str(), "")?);
-    assert!(rt; is_refused(alloc, parenthesized(alloc, 64)?.as_str(), "J11 limit at 1:12")?);
+    assert!(rt;
+        is_refused(
+            alloc,
+            parenthesized(alloc, 64)?.as_str(),
+            "J11 limit at 1:12"
+        )?
+    );
     Ok(())
 }
 
@@ -279,7 +384,10 @@ impl Write for Narrow {
 fn single_bytes_are_lines_too(rt: HostRuntime) -> Result<(), Fail> {
     let alloc = rt.alloc();
     let mut engine = sum(alloc)?;
-    let mut reader = Dribble { rest: b"0 ask / total()\n\n1 version", fails: false };
+    let mut reader = Dribble {
+        rest: b"0 ask / total()\n\n1 version",
+        fails: false,
+    };
     let mut out = Vec::new(alloc);
     let report = run(&mut engine, &mut reader, &mut out)?;
     assert_eq!(rt; out.as_slice(), b"0 = 11\n1 ok 0\n".as_slice());
@@ -291,7 +399,10 @@ fn single_bytes_are_lines_too(rt: HostRuntime) -> Result<(), Fail> {
 fn an_incomplete_line_is_not_answered_at_a_fault(rt: HostRuntime) -> Result<(), Fail> {
     let alloc = rt.alloc();
     let mut engine = sum(alloc)?;
-    let mut reader = Dribble { rest: b"0 version\n0 ver", fails: true };
+    let mut reader = Dribble {
+        rest: b"0 version\n0 ver",
+        fails: true,
+    };
     let mut out = Vec::new(alloc);
     let result = run(&mut engine, &mut reader, &mut out);
     assert!(rt; matches!(&result, Err(RunFault::Read)));
@@ -304,7 +415,10 @@ fn a_writer_that_fails_ends_the_run(rt: HostRuntime) -> Result<(), Fail> {
     let alloc = rt.alloc();
     let mut engine = sum(alloc)?;
     let mut reader = b"0 version\n0 version\n".as_slice();
-    let mut writer = Narrow { taken: Vec::new(alloc), room: 3 };
+    let mut writer = Narrow {
+        taken: Vec::new(alloc),
+        room: 3,
+    };
     let result = run(&mut engine, &mut reader, &mut writer);
     assert!(rt; matches!(&result, Err(RunFault::Write)));
     assert_eq!(rt; writer.taken.as_slice(), b"0 o".as_slice());

@@ -44,7 +44,18 @@ const MAX_NESTING: usize = 64;
 
 /// What goes on after an expression in forms that are left out.
 const LEFT_OUT_OPERATORS: [&str; 12] = [
-    "?", "||", "&&", "==", "!=", "<", "<=", ">", ">=", "/", "%", "instanceof",
+    "?",
+    "||",
+    "&&",
+    "==",
+    "!=",
+    "<",
+    "<=",
+    ">",
+    ">=",
+    "/",
+    "%",
+    "instanceof",
 ];
 
 /// The reserved words that begin an expression.
@@ -75,7 +86,9 @@ fn scan_fault(text: &str, fault: ScanFault) -> ReadFault
     match fault {
         ScanFault::Memory => ReadFault::Memory,
         ScanFault::Bad { at } | ScanFault::OpenText { at } | ScanFault::OpenComment { at } => {
-            ReadFault::Syntax { at: place(text, at) }
+            ReadFault::Syntax {
+                at: place(text, at),
+            }
         }
     }
 }
@@ -169,7 +182,11 @@ impl<'a> Reader<'a> {
 
     /// Left out where the next token passes the test, else no syntax.
     fn refuse(&self, is_left_out: bool) -> ReadFault {
-        if is_left_out { self.left_out() } else { self.syntax() }
+        if is_left_out {
+            self.left_out()
+        } else {
+            self.syntax()
+        }
     }
 
     /// Steps over the token that is this sign or this reserved word, if it is next.
@@ -189,7 +206,11 @@ impl<'a> Reader<'a> {
     fn expects(&mut self, text: &str) -> Result<(), ReadFault>
         ensures no_longer { length self.new.tokens.now ≤ length self.old.tokens.now }
     {
-        if self.takes(text) { Ok(()) } else { Err(self.syntax()) }
+        if self.takes(text) {
+            Ok(())
+        } else {
+            Err(self.syntax())
+        }
     }
 
     /// Steps over the reserved word. Another word there begins a form that is left out.
@@ -296,8 +317,9 @@ impl<'a> Reader<'a> {
         }
         match self.tokens {
             [token, ..] => {
-                let is_left_out =
-                    is_sign(token, ";") || is_sign(token, "{") || is_word(token, "circular");
+                let is_left_out = is_sign(token, ";")
+                    || is_sign(token, "{")
+                    || is_word(token, "circular");
                 Err(self.refuse(is_left_out))
             }
             [] => Err(self.syntax()),
@@ -324,7 +346,9 @@ impl<'a> Reader<'a> {
         if depth < budget {
             Ok(budget - 1)
         } else {
-            Err(ReadFault::Nesting { at: self.declaration })
+            Err(ReadFault::Nesting {
+                at: self.declaration,
+            })
         }
     }
 
@@ -409,7 +433,10 @@ impl<'a> Reader<'a> {
         let depth = 1 + inner.depth;
         let inner = Box::new(self.alloc, inner.expr)?;
         Ok(Measured {
-            expr: Expr { at, form: Form::Negate(inner) },
+            expr: Expr {
+                at,
+                form: Form::Negate(inner),
+            },
             depth,
         })
     }
@@ -417,7 +444,9 @@ impl<'a> Reader<'a> {
     /// The fault where an expression would begin that is too deep.
     fn too_deep(&self) -> ReadFault {
         match self.tokens {
-            [token, ..] if opens_expression(token) => ReadFault::Nesting { at: self.declaration },
+            [token, ..] if opens_expression(token) => ReadFault::Nesting {
+                at: self.declaration,
+            },
             _ => self.syntax(),
         }
     }
@@ -431,7 +460,12 @@ impl<'a> Reader<'a> {
     }
 
     /// Steps over the number that is next, with these digits.
-    fn literal(&mut self, at: (u32, u32), digits: &str, is_negative: bool) -> Result<Measured, ReadFault>
+    fn literal(
+        &mut self,
+        at: (u32, u32),
+        digits: &str,
+        is_negative: bool,
+    ) -> Result<Measured, ReadFault>
         ensures no_longer { length self.new.tokens.now ≤ length self.old.tokens.now }
         ensures depth { IfOk result (λ m. m.depth ≡ 1) }
     {
@@ -439,7 +473,10 @@ impl<'a> Reader<'a> {
             Some(value) => {
                 self.step();
                 Ok(Measured {
-                    expr: Expr { at, form: Form::Number(value) },
+                    expr: Expr {
+                        at,
+                        form: Form::Number(value),
+                    },
                     depth: 1,
                 })
             }
@@ -500,7 +537,10 @@ impl<'a> Reader<'a> {
         }
         if self.takes("this") {
             return Ok(Measured {
-                expr: Expr { at, form: Form::This },
+                expr: Expr {
+                    at,
+                    form: Form::This,
+                },
                 depth: 1,
             });
         }
@@ -520,7 +560,9 @@ impl<'a> Reader<'a> {
     /// Whether `( NAME )` and what follows it begin a cast.
     fn is_at_cast(&self) -> bool {
         match self.tokens {
-            [_, name, close, next, ..] => is_name(name) && is_sign(close, ")") && follows_cast(next),
+            [_, name, close, next, ..] => is_name(name)
+                && is_sign(close, ")")
+                && follows_cast(next),
             _ => false,
         }
     }
@@ -543,7 +585,10 @@ impl<'a> Reader<'a> {
         let depth = 1 + inner.depth;
         let inner = Box::new(self.alloc, inner.expr)?;
         Ok(Measured {
-            expr: Expr { at, form: Form::Paren(inner) },
+            expr: Expr {
+                at,
+                form: Form::Paren(inner),
+            },
             depth,
         })
     }

@@ -100,7 +100,10 @@ impl Rules {
         for decl in decls {
             attributes.push(attribute_of(alloc, &classes, decl)?)?;
         }
-        Ok(Rules { classes, attributes })
+        Ok(Rules {
+            classes,
+            attributes,
+        })
     }
 
     /// The body of the class's attribute of that name, if it has one.
@@ -115,7 +118,11 @@ impl Rules {
 }
 
 fn refused(code: Code, decl: &Decl, at: (u32, u32)) -> RuleFault {
-    RuleFault::Refused { code, aspect: decl.aspect, at }
+    RuleFault::Refused {
+        code,
+        aspect: decl.aspect,
+        at,
+    }
 }
 
 fn check_count(decls: &[Decl]) -> Result<(), RuleFault> {
@@ -183,7 +190,11 @@ fn attribute_of(alloc: Global, classes: &ClassTable, decl: &Decl) -> Result<Attr
     };
     let name = String::from_str(alloc, decl.name.as_str())?;
     prove!(class.index() < classes.len());
-    let scope = Scope { alloc, classes, class };
+    let scope = Scope {
+        alloc,
+        classes,
+        class,
+    };
     match scope.typed(&decl.body) {
         Ok(Typed::Int(body)) => Ok(Attribute { class, name, body }),
         Ok(_) => Err(refused(Code::Kind, decl, decl.body.at)),
@@ -262,7 +273,12 @@ impl Scope<'_> {
                 let right = self.typed(right)?;
                 self.operation(*operator, left, right, expr.at)
             }
-            Form::Call(None, name) => self.access(NodeExpr::This, self.class, name.as_str(), expr.at),
+            Form::Call(None, name) => self.access(
+                NodeExpr::This,
+                self.class,
+                name.as_str(),
+                expr.at,
+            ),
             Form::Call(Some(receiver), name) => {
                 let receiver = self.typed(receiver)?;
                 self.call(receiver, name.as_str(), expr.at)

@@ -50,14 +50,25 @@ impl Expr {
     pub fn called(self, alloc: Global, name: String) -> Result<Expr, AllocError> {
         let at = self.at;
         let receiver = Box::new(alloc, self)?;
-        Ok(Expr { at, form: Form::Call(Some(receiver), name) })
+        Ok(Expr {
+            at,
+            form: Form::Call(Some(receiver), name),
+        })
     }
 
     /// The expression with this one on its left.
-    pub fn operated(self, alloc: Global, operator: Operator, right: Expr) -> Result<Expr, AllocError> {
+    pub fn operated(
+        self,
+        alloc: Global,
+        operator: Operator,
+        right: Expr,
+    ) -> Result<Expr, AllocError> {
         let at = self.at;
         let left = Box::new(alloc, self)?;
         let right = Box::new(alloc, right)?;
-        Ok(Expr { at, form: Form::Operation(operator, left, right) })
+        Ok(Expr {
+            at,
+            form: Form::Operation(operator, left, right),
+        })
     }
 }

@@ -7,5 +7,5 @@ use Rattle.attrd.proofs.node.node_at.Given as goal
 abbrev pub invariant-loop-step : goal.invariant-loop-step
 invariant-loop-step l = record {
   conforms : Conforms l.classes (tree_view l.node);
-  same : tree_on l.classes (tree_view l.node) (steps_view (drop l.step-index l.steps)) ≡ tree_on l.classes (tree_view l.fn.tree) (steps_view l.steps)
+  same : tree_on l.classes (tree_view l.node) (steps_view (drop l.step-index l.steps)) ≡ tree_on l.classes (tree_view l.fn.tree) (steps_view l.steps);
 }

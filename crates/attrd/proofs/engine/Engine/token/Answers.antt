@@ -13,6 +13,8 @@ returns c =
     let t = tree_view c.args.self.now.tree in
     let u = tree_view c.in-Some.node.now in
     let leads = ap (λ ss. tree_on classes t (steps_view ss)) (sym c.deref.ensures.value) ∙ sym c.node_at.ensures.found ∙ ap (option_map (λ w. tree_view w.now)) c.in-Some.is in
-    let token = sym c.token_at.ensures ∙ ap (option_map _) c.in-Some-token_at.is in
-    (fits_there classes t u (steps_view c.args.path.steps.items) c.in-Some-token_at.part (token_view c.args.value) leads
-        (token_fits classes u c.args.part.now c.in-Some-token_at.part (token_view c.in-Some-token_at.token.now) (token_view c.args.value) token (search rules)), omega arith)
+    let token = sym c.token_at.ensures ∙ ap (option_map _) c.in-Some-token_at.is in (
+      fits_there classes t u (steps_view c.args.path.steps.items) c.in-Some-token_at.part (token_view c.args.value) leads
+          (token_fits classes u c.args.part.now c.in-Some-token_at.part (token_view c.in-Some-token_at.token.now) (token_view c.args.value) token (search rules)),
+      omega arith,
+    )

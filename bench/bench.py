@@ -1,0 +1,86 @@
+#!/usr/bin/env python3
+"""Speed of ./attrd, as ratios in one run. Each time is the best of a few runs; a ratio of 2 is linear."""
+import os
+import subprocess
+import sys
+import tempfile
+import time
+from pathlib import Path
+
+PROGRAM = Path(__file__).resolve().parent.parent / "attrd"
+RUNS = 5
+
+
+def best(folder, names, stdin, statuses=(0,)):
+    """The least time of a few runs over these files, in seconds."""
+    times = []
+    for _ in range(RUNS):
+        with open(stdin, "rb") as lines, open(os.devnull, "wb") as out:
+            began = time.perf_counter()
+            status = subprocess.run([str(PROGRAM), *names], cwd=folder, stdin=lines, stdout=out, stderr=out).returncode
+            times.append(time.perf_counter() - began)
+        if status not in statuses:
+            sys.exit(f"attrd ended with status {status} on {names}")
+    return min(times)
+
+
+def doubling_grammar(levels):
+    """Classes C0 to C(levels-1), each with two children of the next, the last one a number: 2^levels - 1 nodes."""
+    lines = [f"C{k} ::= L:C{k + 1} R:C{k + 1};" for k in range(levels - 1)]
+    return "\n".join(lines + [f"C{levels - 1} ::= <V:int>;"]) + "\n"
+
+
+def doubling_term(levels):
+    text = f"C{levels - 1}(7)"
+    for k in range(levels - 2, -1, -1):
+        text = f"C{k}({text},{text})"
+    return text
+
+
+def source(mebibytes):
+    """Names, signs, numbers, texts and comments; no grammar, so that reading ends where scanning does."""
+    line = ';Größe ::= left:Name [right] <count:int> 1234567890 "a text \\" with \\n escapes" /* a comment */ // to the end\n'
+    return (line * (mebibytes * (1 << 20) // len(line.encode())))
+
+
+def main():
+    if not PROGRAM.exists():
+        sys.exit("make bench builds ./attrd first")
+    with tempfile.TemporaryDirectory() as folder:
+        def put(name, text):
+            (Path(folder) / name).write_text(text, encoding="utf-8")
+            return name
+
+        sum_files = [put("sum.ast", "Sum ::= Left:Num Right:Num; Num ::= <Value:int>;\n"),
+                     put("sum.txt", "Sum(Num(3),Num(4))\n"),
+                     put("sum.jrag", "aspect S { syn int Sum.total() = getLeft().getValue() + getRight().getValue() * 2; }\n")]
+        nothing = Path(folder) / put("nothing", "")
+
+        idle = best(folder, sum_files, nothing)
+        print(f"start and end, no line: {idle * 1000:.1f} ms")
+
+        for name, line in [("show /Right", "0 show /Right\n"), ("ask / total()", "0 ask / total()\n")]:
+            half = best(folder, sum_files, Path(folder) / put("half", line * 100000)) - idle
+            whole = best(folder, sum_files, Path(folder) / put("whole", line * 200000)) - idle
+            print(f"200,000 lines `{name}`: {200000 / whole:,.0f} lines a second; against 100,000: ratio {whole / half:.2f}")
+
+        times = []
+        for levels in (15, 16):
+            files = [put(f"g{levels}.ast", doubling_grammar(levels)), put(f"t{levels}.txt", doubling_term(levels)),
+                     put(f"a{levels}.jrag", "aspect A { }\n")]
+            size = (Path(folder) / files[1]).stat().st_size
+            times.append(best(folder, files, nothing) - idle)
+            print(f"a term of {2 ** levels - 1:,} nodes read and shaped: {times[-1] * 1000:.1f} ms, {size / times[-1] / 2 ** 20:.1f} MiB a second")
+        print(f"  ratio {times[1] / times[0]:.2f}")
+
+        times = []
+        for size in (2, 4):
+            text = source(size)[: size * (1 << 20) - 200]
+            files = [put(f"s{size}.ast", text[: text.rindex("\n") + 1]), sum_files[1], sum_files[2]]
+            times.append(best(folder, files, nothing, statuses=(1,)) - idle)
+            print(f"{size} MiB of source scanned: {times[-1] * 1000:.1f} ms, {size / times[-1]:.1f} MiB a second")
+        print(f"  ratio {times[1] / times[0]:.2f}")
+
+
+if __name__ == "__main__":
+    main()

@@ -1,0 +1,20 @@
+//! The classes of an abstract grammar: their numbers, superclasses and components, or the grammar's first fault.
+#![tactic(auto)]
+
+mod chain;
+mod checks;
+mod clash;
+mod class;
+mod fault;
+mod names;
+mod naming;
+mod part;
+mod steps;
+mod table;
+#[cfg(test)]
+mod tests;
+
+pub use fault::{ClassCode, ClassFault};
+pub use naming::are_named;
+pub use part::{ClassId, Part, PartShape, TokenKind};
+pub use table::ClassTable;

@@ -1,0 +1,84 @@
+use std::alloc::{AllocError, Global};
+use std::marker::Model;
+
+/// A class, by its position among the declarations of its grammar.
+#[derive(Clone, Copy, PartialEq, Eq, Debug)]
+pub struct ClassId(usize);
+
+impl Model for ClassId {
+    ghost use Rattle.std.specs.Prelude.{ℕ};
+
+    ghost Value = { ℕ };
+
+    ghost view = { λ c. c.0 };
+
+    ghost inverse = { λ n. record { 0 = n } };
+}
+
+impl ClassId {
+    ghost use Rattle.std.specs.Prelude.{◌≡◌};
+
+    /// The class at that position.
+    pub fn new(position: usize) -> Self
+        ensures { result ≡ position }
+    {
+        ClassId(position)
+    }
+
+    /// Its position among the declarations.
+    pub fn index(self) -> usize
+        ensures { result ≡ self }
+    {
+        self.0
+    }
+}
+
+/// The kinds of tokens: `String`, `int` and `boolean`.
+#[derive(Clone, Copy, PartialEq, Eq, Debug)]
+pub enum TokenKind {
+    Str,
+    Int,
+    Bool,
+}
+
+/// What a component holds: one tree of the class or below it, a list of such trees, at most one such tree, or a token.
+#[derive(Clone, Copy, PartialEq, Eq, Debug)]
+pub enum PartShape {
+    One(ClassId),
+    Many(ClassId),
+    Maybe(ClassId),
+    Tok(TokenKind),
+}
+
+/// A component of a class.
+#[derive(Debug, Drop)]
+pub struct Part {
+    pub name: String,
+    pub shape: PartShape,
+}
+
+impl Part {
+    ghost use Rattle.std.specs.Prelude.{◌≡◌, IfOk};
+    ghost use Rattle.at_class.specs.View.{part_view};
+
+    /// A component of the same name and shape, or want of memory.
+    pub(crate) fn copied(&self, alloc: Global) -> Result<Part, AllocError>
+        ensures { IfOk result (λ p. part_view p ≡ part_view self.now) }
+    {
+        let name = String::from_str(alloc, self.name.as_str())?;
+        Ok(Part {
+            name,
+            shape: self.shape,
+        })
+    }
+}
+
+ghost use Rattle.std.specs.Prelude.{◌≡◌, position, string_bytes};
+ghost use Rattle.std.specs.Str.{bytes_eq};
+
+/// The position of the component of that name.
+pub fn position_named(parts: &[Part], name: &str) -> Option<usize>
+    ensures { result ≡ position (λ p. bytes_eq (string_bytes p.name) name.now) parts.now }
+{
+    parts.iter().position(|part| part.name.as_str() == name)
+}

@@ -1,0 +1,172 @@
+use crate::chain::climbs;
+use crate::checks::{
+    component_twice, over_limit, superclass_circle, unknown_class, wrong_token_kind,
+};
+use crate::class::{Class, classes_declared};
+use crate::fault::{ClassCode, ClassFault};
+use crate::names::{class_named, class_names};
+use crate::part::{ClassId, Part, position_named};
+use crate::steps::{all_parts, refuse};
+use at_grammar::{ClassDecl, Grammar};
+use indexmap::IndexSet;
+use std::alloc::Global;
+use std::marker::Model;
+
+/// The classes of an abstract grammar without faults. A class is known by its position among the declarations.
+#[derive(Drop)]
+pub struct ClassTable {
+    names: IndexSet<String>,
+    classes: Vec<Class>,
+    // All components of each class, the inherited ones first.
+    parts: Vec<Vec<Part>>,
+}
+
+impl Model for ClassTable {
+    ghost use Rattle.at_model.specs.Classes.{Classes};
+
+    ghost Value = { Classes };
+
+    ghost use Rattle.at_class.specs.View.{classes_view};
+    ghost use Rattle.at_class.specs.Table.{IsTable};
+
+    ghost view = { λ t. classes_view t.classes.items };
+
+    ghost invariant = { λ t. IsTable t.names.keys t.classes.items t.parts.items };
+}
+
+impl ClassTable {
+    ghost use Rattle.std.specs.Prelude.{◌≡◌, ◌<◌, ◌≤◌, IfOk, IfErr, IfSome, IsTrue, None, length, map, not};
+    ghost use Rattle.at_model.specs.Classes.{AreSound, class_of_name, fits, name_of, is_concrete, is_sub, parts};
+    ghost use Rattle.at_model.specs.Declarations.{AreNamed, classes_of, first_fault};
+    ghost use Rattle.at_model.specs.Paths.{part_named};
+    ghost use Rattle.at_class.specs.View.{part_view};
+    ghost use Rattle.at_class.specs.Grammar.{grammar_view};
+    ghost use Rattle.at_class.specs.Faults.{IsRefusedFor};
+
+    /// The table of the classes that the grammar declares. A grammar that breaks a rule is refused: of several rules the first in
+    /// the order of `ClassCode` counts, at its earliest place. `Memory` where memory is wanting.
+    pub fn build(alloc: Global, grammar: &Grammar) -> Result<ClassTable, ClassFault>
+        requires { AreNamed (grammar_view grammar.now) }
+        ensures faultless { IfOk result (λ t. first_fault (grammar_view grammar.now) ≡ None) }
+        ensures built { IfOk result (λ t. t ≡ classes_of (grammar_view grammar.now)) }
+        ensures refused { IfErr result (IsRefusedFor (grammar_view grammar.now)) }
+    {
+        table_of(alloc, &grammar.classes)
+    }
+
+    /// How many classes there are: their numbers are those below.
+    pub fn len(&self) -> usize
+        ensures len { result ≡ length self.now }
+        ensures sound { AreSound self.now }
+    {
+        self.classes.len()
+    }
+
+    /// The first class that is declared.
+    pub fn start(&self) -> ClassId
+        ensures first { result ≡ 0 }
+        ensures within { result < length self.now }
+    {
+        let _ = &self.classes;
+        ClassId::new(0)
+    }
+
+    /// The class of that name.
+    pub fn id_of(&self, name: &str) -> Option<ClassId>
+        ensures found { result ≡ class_of_name self.now name.now }
+        ensures within { IfSome result (λ c. c < length self.now) }
+        ensures sound { AreSound self.now }
+    {
+        class_named(&self.names, name)
+    }
+
+    /// The class's name.
+    pub fn name_of(&self, class: ClassId) -> &str
+        requires { class < length self.now }
+        ensures { result.now ≡ name_of self.now class }
+    {
+        self.classes[class.index()].name.as_str()
+    }
+
+    /// Whether the class is abstract: it has no instances.
+    pub fn is_abstract(&self, class: ClassId) -> bool
+        requires { class < length self.now }
+        ensures { is_concrete self.now class ≡ not result }
+    {
+        self.classes[class.index()].is_abstract
+    }
+
+    /// Whether the class is the other one or below it.
+    pub fn is_sub(&self, class: ClassId, above: ClassId) -> bool
+        ensures { result ≡ is_sub self.now class above }
+    {
+        climbs(&self.classes, Some(class), above)
+    }
+
+    /// Whether a tree of the class may stand where the other class is asked: the class is not abstract, and is that one or below it.
+    /// False of a number that is none of this table's.
+    pub fn fits(&self, class: ClassId, above: ClassId) -> bool
+        ensures fits { result ≡ fits self.now class above }
+        ensures within { IsTrue result → class < length self.now }
+    {
+        if class.index() >= self.len() {
+            return false;
+        }
+        !self.is_abstract(class) && self.is_sub(class, above)
+    }
+
+    /// The components of the class, the inherited ones first.
+    pub fn parts(&self, class: ClassId) -> &[Part]
+        requires { class < length self.now }
+        ensures { map part_view result.now ≡ parts self.now class }
+    {
+        &self.parts[class.index()]
+    }
+
+    /// The position of the component of that name among those of the class.
+    pub fn part_named(&self, class: ClassId, name: &str) -> Option<usize>
+        requires { class < length self.now }
+        ensures found { result ≡ part_named self.now class name.now }
+        ensures within { IfSome result (λ i. i < length (parts self.now class)) }
+    {
+        position_named(self.parts(class), name)
+    }
+}
+
+ghost use Rattle.std.specs.Prelude.{◌≡◌, IfOk, IfErr, None};
+ghost use Rattle.at_model.specs.Declarations.{AreNamed, classes_of, first_fault};
+ghost use Rattle.at_class.specs.Grammar.{declarations_view};
+ghost use Rattle.at_class.specs.Faults.{IsRefusedFor};
+
+fn table_of(alloc: Global, declarations: &[ClassDecl]) -> Result<ClassTable, ClassFault>
+    requires { AreNamed (declarations_view declarations.now) }
+    ensures faultless { IfOk result (λ t. first_fault (declarations_view declarations.now) ≡ None) }
+    ensures built { IfOk result (λ t. t ≡ classes_of (declarations_view declarations.now)) }
+    ensures refused { IfErr result (IsRefusedFor (declarations_view declarations.now)) }
+{
+    if declarations.is_empty() {
+        return Err(ClassFault::Refused {
+            code: ClassCode::NoClass,
+            at: (1, 1),
+        });
+    }
+    let names = class_names(alloc, declarations)?;
+    refuse(ClassCode::UnknownClass, unknown_class(&names, declarations))?;
+    let classes = classes_declared(alloc, &names, declarations)?;
+    refuse(
+        ClassCode::SuperclassCircle,
+        superclass_circle(&classes, declarations),
+    )?;
+    refuse(ClassCode::TokenKind, wrong_token_kind(declarations))?;
+    refuse(
+        ClassCode::ComponentTwice,
+        component_twice(alloc, &classes, declarations)?,
+    )?;
+    refuse(ClassCode::Limit, over_limit(alloc, &classes, declarations)?)?;
+    let parts = all_parts(alloc, &classes)?;
+    Ok(ClassTable {
+        names,
+        classes,
+        parts,
+    })
+}

@@ -1,0 +1,5 @@
+pub mod Grammar
+pub mod Meaning
+pub mod Faults
+pub mod Table
+pub mod Forms

@@ -1,0 +1,387 @@
+//! The reader of tokens: a method for each form of the grammar.
+
+ghost use Rattle.std.specs.Prelude.{◌≡◌, ◌∷◌, length, [], IfOk, OnOk, MatchOption, MatchBool, Some, map, true, false};
+ghost use Rattle.std.specs.String.{string_bytes};
+ghost use Rattle.at_text.specs.Reading.{first};
+ghost use Rattle.at_text.specs.Symbols.{sign, word, is_sign, is_word, is_name_next, symbol, placed, words_keep};
+ghost use Rattle.at_grammar.specs.Grammar.{is_token_kind};
+ghost use Rattle.at_model.specs.Names.{is_name};
+ghost use Rattle.at_grammar.specs.Table.{is_kind_next};
+ghost use Rattle.at_grammar.specs.Meaning.{kind_or, bytes_of, text_of, seen_part, seen_class, child_means, token_means, part_means, body_means, class_means};
+ghost use Rattle.at_grammar.specs.Forms.{left, Parses, name, kind_name, mark, kind, typed, child, optional, close, token_kind, token, part, parts, body, declaration, file};
+ghost use Rattle.at_grammar.specs.declared.syntax.Shape.TheVariants as shape;
+ghost use Rattle.at_grammar.specs.declared.reader.ReadError.TheVariants.{Memory};
+
+use crate::syntax::{ClassDecl, PartDecl, Shape};
+use at_text::names::is_name;
+use at_text::placed::Placed;
+use at_text::token::TokenKind;
+use std::alloc::{AllocError, AllocFailed, Global};
+
+/// Why nothing was read.
+#[derive(Debug, Drop)]
+pub enum ReadError {
+    /// The next token, or the end, doesn't go on.
+    Syntax,
+    /// The next token begins a form that is left out.
+    LeftOut,
+    Memory,
+}
+
+impl From<AllocError> for ReadError {
+    ghost from_gives = { λ _ e. e ≡ Memory };
+
+    fn from(_e: AllocError) -> ReadError {
+        ReadError::Memory
+    }
+}
+
+impl<T: Drop> From<AllocFailed<T>> for ReadError {
+    ghost from_gives = { λ _ e. e ≡ Memory };
+
+    fn from(_e: AllocFailed<T>) -> ReadError {
+        ReadError::Memory
+    }
+}
+
+/// A name with its line and column.
+#[derive(Debug, Drop)]
+struct Name {
+    text: String,
+    at: (u32, u32),
+}
+
+/// Whether the word may stand as a token's kind.
+fn is_token_kind(word: &str) -> bool
+    ensures { result ≡ is_token_kind word.now }
+{
+    is_name(word) || word == "String" || word == "int" || word == "boolean"
+}
+
+/// The kind that is written, or else the other.
+fn kind_or(alloc: Global, written: Option<String>, other: &str) -> Result<String, AllocError>
+    ensures { IfOk result (λ s. string_bytes s ≡ kind_or other.now (bytes_of written)) }
+{
+    match written {
+        Some(kind) => Ok(kind),
+        None => String::from_str(alloc, other),
+    }
+}
+
+/// Whether the token is this sign.
+fn is_sign(token: &Placed<'_>, text: &str) -> bool
+    ensures value { result ≡ is_sign text.now (Some (symbol words_keep (placed token.now))) }
+    ensures same { result ≡ true → symbol words_keep (placed token.now) ≡ sign text.now }
+{
+    token.kind == TokenKind::Sign && token.text == text
+}
+
+/// Whether the token is this word.
+fn is_word(token: &Placed<'_>, text: &str) -> bool
+    ensures value { result ≡ is_word text.now (Some (symbol words_keep (placed token.now))) }
+    ensures same { result ≡ true → symbol words_keep (placed token.now) ≡ word text.now token.now.at }
+{
+    token.kind == TokenKind::Word && token.text == text
+}
+
+/// Whether the token is a name.
+fn is_name_token(token: &Placed<'_>) -> bool
+    ensures value { result ≡ is_name_next (Some (symbol words_keep (placed token.now))) }
+    ensures same { result ≡ true → symbol words_keep (placed token.now) ≡ word token.now.text.now token.now.at }
+{
+    token.kind == TokenKind::Word && is_name(token.text)
+}
+
+/// Whether the token may stand as a token's kind.
+fn is_kind_token(token: &Placed<'_>) -> bool
+    ensures value { result ≡ is_kind_next (Some (symbol words_keep (placed token.now))) }
+    ensures same { result ≡ true → symbol words_keep (placed token.now) ≡ word token.now.text.now token.now.at }
+{
+    token.kind == TokenKind::Word && is_token_kind(token.text)
+}
+
+/// A reader of tokens. It stands before what is left.
+#[derive(Drop)]
+pub struct Reader<'a> {
+    alloc: Global,
+    rest: &'a [Placed<'a>],
+}
+
+impl<'a> Reader<'a> {
+    /// A reader before the first token.
+    pub fn new(alloc: Global, tokens: &'a [Placed<'a>]) -> Reader<'a>
+        ensures { result.rest.now ≡ tokens.now }
+    {
+        Reader {
+            alloc,
+            rest: tokens,
+        }
+    }
+
+    /// How many tokens are left.
+    pub fn count_left(&self) -> usize
+        ensures { result ≡ length self.now.rest.now }
+    {
+        self.rest.len()
+    }
+
+    /// Whether the sign is next.
+    fn is_before(&self, text: &str) -> bool
+        ensures value { result ≡ is_sign text.now (first (left self.now.rest.now)) }
+        ensures same { result ≡ true → first (left self.now.rest.now) ≡ Some (sign text.now) }
+    {
+        match self.rest {
+            [token, ..] => is_sign(token, text),
+            [] => false,
+        }
+    }
+
+    /// Steps over the sign, if it is next.
+    fn takes(&mut self, text: &str) -> bool
+        ensures { MatchBool result
+            (left self.old.rest.now ≡ sign text.now ∷ left self.new.rest.now)
+            ((self.new.rest.now ≡ self.old.rest.now) × (is_sign text.now (first (left self.old.rest.now)) ≡ false)) }
+    {
+        match self.rest {
+            [token, rest @ ..] if is_sign(token, text) => {
+                self.rest = rest;
+                true
+            }
+            _ => false,
+        }
+    }
+
+    /// Steps over the word, if it is next, and answers its place.
+    fn takes_word(&mut self, text: &str) -> Option<(u32, u32)>
+        ensures { MatchOption result
+            ((self.new.rest.now ≡ self.old.rest.now) × (is_word text.now (first (left self.old.rest.now)) ≡ false))
+            (λ at. left self.old.rest.now ≡ word text.now at ∷ left self.new.rest.now) }
+    {
+        match self.rest {
+            [token, rest @ ..] if is_word(token, text) => {
+                self.rest = rest;
+                Some(token.at)
+            }
+            _ => None,
+        }
+    }
+
+    /// Steps over a name, if one is next.
+    fn takes_name(&mut self) -> Option<&'a Placed<'a>>
+        ensures { MatchOption result
+            ((self.new.rest.now ≡ self.old.rest.now) × (is_name_next (first (left self.old.rest.now)) ≡ false))
+            (λ t. (left self.old.rest.now ≡ word t.now.text.now t.now.at ∷ left self.new.rest.now) × (is_name t.now.text.now ≡ true)) }
+    {
+        match self.rest {
+            [token, rest @ ..] if is_name_token(token) => {
+                self.rest = rest;
+                Some(token)
+            }
+            _ => None,
+        }
+    }
+
+    /// Steps over a token's kind, if one is next.
+    fn takes_kind(&mut self) -> Option<&'a Placed<'a>>
+        ensures { MatchOption result
+            ((self.new.rest.now ≡ self.old.rest.now) × (is_kind_next (first (left self.old.rest.now)) ≡ false))
+            (λ t. (left self.old.rest.now ≡ word t.now.text.now t.now.at ∷ left self.new.rest.now) × (is_token_kind t.now.text.now ≡ true)) }
+    {
+        match self.rest {
+            [token, rest @ ..] if is_kind_token(token) => {
+                self.rest = rest;
+                Some(token)
+            }
+            _ => None,
+        }
+    }
+
+    /// The sign.
+    fn expects(&mut self, text: &str) -> Result<(), ReadError>
+        ensures { Parses (mark text.now) (λ _ _. Unit {0}) result self.old.rest.now self.new.rest.now }
+    {
+        if self.takes(text) {
+            Ok(())
+        } else {
+            Err(ReadError::Syntax)
+        }
+    }
+
+    /// `name`
+    fn name(&mut self) -> Result<Name, ReadError>
+        ensures { Parses name (λ w n. (string_bytes n.text ≡ w.text) × (n.at ≡ w.at)) result self.old.rest.now self.new.rest.now }
+    {
+        match self.takes_name() {
+            Some(token) => Ok(Name {
+                text: String::from_str(self.alloc, token.text)?,
+                at: token.at,
+            }),
+            None => Err(ReadError::Syntax),
+        }
+    }
+
+    /// `[":" name]`
+    fn kind(&mut self) -> Result<Option<String>, ReadError>
+        ensures { Parses kind (λ k found. bytes_of found ≡ text_of k) result self.old.rest.now self.new.rest.now }
+    {
+        if self.takes(":") {
+            Ok(Some(self.name()?.text))
+        } else {
+            Ok(None)
+        }
+    }
+
+    /// `name [":" name]`, a component of this shape.
+    fn typed(&mut self, shape: Shape) -> Result<PartDecl, ReadError>
+        ensures { Parses typed (λ t p. seen_part p ≡ child_means shape t) result self.old.rest.now self.new.rest.now }
+    {
+        let name = self.name()?;
+        let written = self.kind()?;
+        let kind = kind_or(self.alloc, written, name.text.as_str())?;
+        Ok(PartDecl {
+            name: name.text,
+            kind,
+            shape,
+            at: name.at,
+        })
+    }
+
+    /// `name [":" name] ["*"]`
+    fn child(&mut self) -> Result<PartDecl, ReadError>
+        ensures { Parses child (λ t p. seen_part p ≡ part_means t) result self.old.rest.now self.new.rest.now }
+    {
+        let mut part = self.typed(Shape::One)?;
+        if self.takes("*") {
+            part.shape = Shape::Many;
+        }
+        Ok(part)
+    }
+
+    /// An optional component, behind its `[`: `name [":" name] "]"`
+    fn optional(&mut self) -> Result<PartDecl, ReadError>
+        ensures { Parses optional (λ t p. seen_part p ≡ child_means shape.Maybe t) result self.old.rest.now self.new.rest.now }
+    {
+        let part = self.typed(Shape::Maybe)?;
+        self.expects("]")?;
+        Ok(part)
+    }
+
+    /// A word that may be a token's kind.
+    fn kind_name(&mut self) -> Result<String, ReadError>
+        ensures { Parses kind_name (λ w s. string_bytes s ≡ w.text) result self.old.rest.now self.new.rest.now }
+    {
+        match self.takes_kind() {
+            Some(token) => Ok(String::from_str(self.alloc, token.text)?),
+            None => Err(ReadError::Syntax),
+        }
+    }
+
+    /// `">"`, where a kind of more than one name, or with arguments, is left out.
+    fn close(&mut self) -> Result<(), ReadError>
+        ensures { Parses close (λ _ _. Unit {0}) result self.old.rest.now self.new.rest.now }
+    {
+        if self.is_before(".") || self.is_before("<") {
+            return Err(ReadError::LeftOut);
+        }
+        self.expects(">")
+    }
+
+    /// A token behind its name: `[":" kind] ">"`
+    fn token_kind(&mut self) -> Result<Option<String>, ReadError>
+        ensures { Parses token_kind (λ k found. bytes_of found ≡ text_of k) result self.old.rest.now self.new.rest.now }
+    {
+        if self.takes(">") {
+            return Ok(None);
+        }
+        self.expects(":")?;
+        let kind = self.kind_name()?;
+        self.close()?;
+        Ok(Some(kind))
+    }
+
+    /// A token behind its `<`: `name [":" kind] ">"`
+    fn token(&mut self) -> Result<PartDecl, ReadError>
+        ensures { Parses token (λ t p. seen_part p ≡ token_means t) result self.old.rest.now self.new.rest.now }
+    {
+        let name = self.name()?;
+        let written = self.token_kind()?;
+        let kind = kind_or(self.alloc, written, "String")?;
+        Ok(PartDecl {
+            name: name.text,
+            kind,
+            shape: Shape::Tok,
+            at: name.at,
+        })
+    }
+
+    /// A component.
+    fn part(&mut self) -> Result<PartDecl, ReadError>
+        ensures { Parses part (λ t p. seen_part p ≡ part_means t) result self.old.rest.now self.new.rest.now }
+    {
+        if self.takes("<") {
+            self.token()
+        } else if self.takes("[") {
+            self.optional()
+        } else {
+            self.child()
+        }
+    }
+
+    /// `{ part } ";"`, where a component that begins with `/` is left out.
+    fn parts(&mut self) -> Result<Vec<PartDecl>, ReadError>
+        ensures { Parses parts (λ ps v. map seen_part v.items ≡ map part_means ps) result self.old.rest.now self.new.rest.now }
+    {
+        let mut parts = Vec::new(self.alloc);
+        loop {
+            if self.takes(";") {
+                return Ok(parts);
+            }
+            if self.is_before("/") {
+                return Err(ReadError::LeftOut);
+            }
+            let part = self.part()?;
+            parts.push(part)?;
+        }
+    }
+
+    /// `["::=" { part }] ";"`
+    fn body(&mut self) -> Result<Vec<PartDecl>, ReadError>
+        ensures { Parses body (λ b v. map seen_part v.items ≡ body_means b) result self.old.rest.now self.new.rest.now }
+    {
+        if self.takes(";") {
+            return Ok(Vec::new(self.alloc));
+        }
+        self.expects("::=")?;
+        self.parts()
+    }
+
+    /// `["abstract"] name [":" name] ["::=" { part }] ";"`
+    fn declaration(&mut self) -> Result<ClassDecl, ReadError>
+        ensures { Parses declaration (λ d c. seen_class c ≡ class_means d) result self.old.rest.now self.new.rest.now }
+    {
+        let is_abstract = self.takes_word("abstract").is_some();
+        let name = self.name()?;
+        let parent = self.kind()?;
+        let parts = self.body()?;
+        Ok(ClassDecl {
+            name: name.text,
+            is_abstract,
+            parent,
+            parts,
+            at: name.at,
+        })
+    }
+
+    /// `{ decl }`, up to the end.
+    pub fn file(&mut self) -> Result<Vec<ClassDecl>, ReadError>
+        ensures read { Parses file (λ ds v. map seen_class v.items ≡ map class_means ds) result self.old.rest.now self.new.rest.now }
+        ensures end { OnOk result (left self.new.rest.now ≡ []) }
+    {
+        let mut classes = Vec::new(self.alloc);
+        while !self.rest.is_empty() {
+            let class = self.declaration()?;
+            classes.push(class)?;
+        }
+        Ok(classes)
+    }
+}

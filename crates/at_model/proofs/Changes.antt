@@ -1,0 +1,120 @@
+-- What becomes of an edit: it is refused, or the state after it is the next version's. Other commands keep tree and version.
+use Rattle.std.proofs.Common.{◌≡◌, ℕ, ◌+◌, Bool, true, false, not, nat_eq, nat_le, if◌then◌else◌, List, map, Option, Some, None, Result, Ok, Err, refl, sym, subst, option_and_then}
+use Rattle.std.specs.List.{list_all, count_by}
+use Rattle.at_model.specs.Classes.{Classes, Shape}
+use Rattle.at_model.specs.Trees.{Tree, class_of}
+use Rattle.at_model.specs.Terms.{Term}
+use Rattle.at_model.specs.Paths.{Node, tree_at, part_named}
+use Rattle.at_model.specs.Run.{Instance, Value}
+use Rattle.at_model.specs.Rules.{Rules, attribute_named}
+use Rattle.at_model.specs.Edits.{Edit, edited, Refusal, class_asked, shape_at, list_class, optional_class, token_kind}
+use Rattle.at_model.specs.Edits as edit
+use Rattle.at_model.specs.Shaping.{shaped, names_classes}
+use Rattle.at_model.specs.Lines.{Line, Place, Command, Ask, Set, Put, Drop, Insert, Token, Show, Mark, Unmark, Where, Version, last_version}
+use Rattle.at_model.specs.Replies.{Reply, Form, Done, Refused, Code, Written, At}
+use Rattle.at_model.specs.Replies as code
+use Rattle.at_model.specs.Machine.{State, Marked, Verdict, Refuses, Tells, Leaves, Edits, Asks, Answering, Says, after, Step, verdict, obeyed, changed, at_node, with_component, with_tree, code_of, IsEdited, is_edit, is_stale, is_marked, marks_used, node_named, questioned, with_mark, max_marks, each, value_named, fit_parameters, parameters_of, marked}
+
+-- the verdict is a refusal, or an edit that is accepted
+pub data IsChange (classes : Classes) (old : State) : Verdict → Type 0 where
+  refused : (c : Code) → IsChange classes old (Refuses c)
+  accepted : (e : Edit) (t : Tree) → edited classes old.tree e ≡ Ok t → IsChange classes old (Edits e t)
+
+-- the verdict keeps the tree and the version
+pub data Keeps : Verdict → Type 0 where
+  refused : (c : Code) → Keeps (Refuses c)
+  told : (shown : code.Shown) → Keeps (Tells shown)
+  asked : (q : Instance Node) → Keeps (Asks q)
+  left : (marks : List Marked) → Keeps (Leaves marks)
+
+pub if_both : (P : Verdict → Type 0) (b : Bool) (v w : Verdict) → P v → P w → P (if b then v else w)
+if_both P true v w h k = h
+if_both P false v w h k = k
+
+accepted_change : (classes : Classes) (s : State) (e : Edit) (r : Result Tree Refusal) → edited classes s.tree e ≡ r →
+    IsChange classes s (elim r [
+      | Err refusal ↦ Refuses (code_of refusal)
+      | Ok t ↦ if nat_eq s.version last_version then Refuses code.Limit else Edits e t
+    ])
+accepted_change classes s e (Err refusal) is = refused (code_of refusal)
+accepted_change classes s e (Ok t) is = if_both (IsChange classes s) (nat_eq s.version last_version) _ _ (refused code.Limit) (accepted e t is)
+
+changed_changes : (classes : Classes) (s : State) (e : Edit) → IsChange classes s (changed classes s e)
+changed_changes classes s e = accepted_change classes s e (edited classes s.tree e) refl
+
+module _ (P : Verdict → Type 0) (if_refused : (c : Code) → P (Refuses c)) where
+  pub at_option : {A : Type 0} (o : Option A) (c : Code) (k : A → Verdict) → ((a : A) → P (k a)) → P (elim o [ None ↦ Refuses c | Some a ↦ k a ])
+  at_option None c k h = if_refused c
+  at_option (Some a) c k h = h a
+
+  pub node_all : (classes : Classes) (s : State) (session : ℕ) (place : Place) (k : Node → Verdict) → ((n : Node) → P (k n)) → P (at_node classes s session place k)
+  node_all classes s session place k h = at_option (node_named classes s session place) code.Path k h
+
+  component_all : {A : Type 0} (classes : Classes) (t : Tree) (n : Node) (name : List ℕ) (wanted : Shape → Option A) (k : ℕ → A → Verdict) → ((p : ℕ) (a : A) → P (k p a)) → P (with_component classes t n name wanted k)
+  component_all classes t n name wanted k h = at_option (option_and_then (λ u. part_named classes (class_of u) name) (tree_at t n)) code.Component _ (λ p. at_option (option_and_then wanted (shape_at classes t n p)) code.Component (k p) (h p))
+
+  at_names : (b : Bool) (v : Verdict) → P v → P (elim b [ false ↦ Refuses code.Class | true ↦ v ])
+  at_names true v h = h
+  at_names false v h = if_refused code.Class
+
+  tree_all : (classes : Classes) (t : Term) (wanted : Option ℕ) (k : Tree → Verdict) → ((u : Tree) → P (k u)) → P (with_tree classes t wanted k)
+  tree_all classes t wanted k h = at_names (names_classes classes t) _ (at_option (option_and_then (shaped classes t) wanted) code.Fit k h)
+
+pub edit_changes : (rules : Rules) (s : State) (session : ℕ) (c : Command) → is_edit c ≡ true → IsChange rules.classes s (obeyed rules s session c)
+edit_changes rules s session (Ask place attribute arguments) e = absurd cc
+edit_changes rules s session (Set place t) e = node_all (IsChange rules.classes s) refused rules.classes s session place _ (λ n. tree_all (IsChange rules.classes s) refused rules.classes t (class_asked rules.classes s.tree n) _ (λ u. changed_changes rules.classes s (edit.Set n u)))
+edit_changes rules s session (Put place part t) e = node_all (IsChange rules.classes s) refused rules.classes s session place _ (λ n. component_all (IsChange rules.classes s) refused rules.classes s.tree n part optional_class _ (λ p b. tree_all (IsChange rules.classes s) refused rules.classes t (Some b) _ (λ u. changed_changes rules.classes s (edit.Put n p u))))
+edit_changes rules s session (Drop place) e = node_all (IsChange rules.classes s) refused rules.classes s session place _ (λ n. changed_changes rules.classes s (edit.Drop n))
+edit_changes rules s session (Insert place part index t) e = node_all (IsChange rules.classes s) refused rules.classes s session place _ (λ n. component_all (IsChange rules.classes s) refused rules.classes s.tree n part list_class _ (λ p b. tree_all (IsChange rules.classes s) refused rules.classes t (Some b) _ (λ u. changed_changes rules.classes s (edit.Insert n p index u))))
+edit_changes rules s session (Token place part v) e = node_all (IsChange rules.classes s) refused rules.classes s session place _ (λ n. component_all (IsChange rules.classes s) refused rules.classes s.tree n part token_kind _ (λ p kind. changed_changes rules.classes s (edit.Token n p v)))
+edit_changes rules s session (Show place) e = absurd cc
+edit_changes rules s session (Mark name place) e = absurd cc
+edit_changes rules s session (Unmark name) e = absurd cc
+edit_changes rules s session (Where name) e = absurd cc
+edit_changes rules s session Version e = absurd cc
+
+question_keeps : (rules : Rules) (s : State) (n : Node) (name : List ℕ) (vs : List (Value Node)) → Keeps (questioned rules s.tree n name vs)
+question_keeps rules s n name vs = at_option Keeps refused (option_and_then (λ u. attribute_named rules (class_of u) name) (tree_at s.tree n)) code.Attribute _ (λ a. if_both Keeps (fit_parameters rules.classes s.tree (parameters_of rules a) vs) _ _ (asked _) (refused code.Arguments))
+
+mark_keeps : (s : State) (session : ℕ) (name : List ℕ) (n : Node) → Keeps (with_mark s session name n)
+mark_keeps s session name n = if_both Keeps (is_marked s.marks session name) _ _ (refused code.Taken) (if_both Keeps (nat_le max_marks (count_by (λ m. nat_eq session m.session) s.marks)) _ _ (refused code.Limit) (left _))
+
+other_keeps : (rules : Rules) (s : State) (session : ℕ) (c : Command) → is_edit c ≡ false → Keeps (obeyed rules s session c)
+other_keeps rules s session (Ask place attribute arguments) e = node_all Keeps refused rules.classes s session place _ (λ n. at_option Keeps refused (each (map (value_named rules.classes s session) arguments)) code.Path _ (λ vs. question_keeps rules s n attribute vs))
+other_keeps rules s session (Set place t) e = absurd cc
+other_keeps rules s session (Put place part t) e = absurd cc
+other_keeps rules s session (Drop place) e = absurd cc
+other_keeps rules s session (Insert place part index t) e = absurd cc
+other_keeps rules s session (Token place part v) e = absurd cc
+other_keeps rules s session (Show place) e = node_all Keeps refused rules.classes s session place _ (λ n. at_option Keeps refused (tree_at s.tree n) code.Path _ (λ u. told _))
+other_keeps rules s session (Mark name place) e = node_all Keeps refused rules.classes s session place _ (mark_keeps s session name)
+other_keeps rules s session (Unmark name) e = left _
+other_keeps rules s session (Where name) e = at_option Keeps refused (marked s.marks session name) code.Mark _ (λ n. told _)
+other_keeps rules s session Version e = left _
+
+-- so it is with the whole verdict
+pub whole : (P : Verdict → Type 0) → ((c : Code) → P (Refuses c)) → (rules : Rules) (s : State) (l : Line) → P (obeyed rules s l.session l.command) → P (verdict rules s l)
+whole P if_refused rules s l h = if_both P (is_stale l.expected s.version) _ _ (if_refused (code.Stale s.version)) (if_both P (not (list_all (is_marked s.marks l.session) (marks_used l.command))) _ _ (if_refused code.Mark) h)
+
+edited_after : (rules : Rules) (Answered : Answering) (old : State) (v : Verdict) → IsChange rules.classes old v → (form : Form) (version : ℕ) →
+    Says rules Answered old v form → form ≡ Done version → IsEdited rules.classes old (after old v) × (version ≡ (after old v).version)
+edited_after rules Answered old v (refused c) form version says e = absurd cc
+edited_after rules Answered old v (accepted by t is) form version says e = let both : Done version ≡ Done (old.version + 1) = cc in (record { by = by; tree = is; version = refl; marks = refl }, cc)
+
+pub accepted_edit : (rules : Rules) (Answered : Answering) (old : State) (l : Line) (new : State) (reply : Reply) (version : ℕ) → is_edit l.command ≡ true →
+    Step rules Answered old l new reply → reply.form ≡ Done version → IsEdited rules.classes old new × (version ≡ new.version)
+accepted_edit rules Answered old l new reply version is h e =
+    let P : State → Type 0 = λ x. IsEdited rules.classes old x × (version ≡ x.version) in
+    subst P (sym h.state) (edited_after rules Answered old (verdict rules old l) (whole (IsChange rules.classes old) refused rules old l (edit_changes rules old l.session l.command is)) reply.form version h.says e)
+
+kept_after : (old : State) (v : Verdict) → Keeps v → ((after old v).tree ≡ old.tree) × ((after old v).version ≡ old.version)
+kept_after old v (refused c) = (refl, refl)
+kept_after old v (told shown) = (refl, refl)
+kept_after old v (asked q) = (refl, refl)
+kept_after old v (left marks) = (refl, refl)
+
+pub other_step : (rules : Rules) (Answered : Answering) (old : State) (l : Line) (new : State) (reply : Reply) → is_edit l.command ≡ false →
+    Step rules Answered old l new reply → (new.tree ≡ old.tree) × (new.version ≡ old.version)
+other_step rules Answered old l new reply is h =
+    let P : State → Type 0 = λ x. (x.tree ≡ old.tree) × (x.version ≡ old.version) in
+    subst P (sym h.state) (kept_after old (verdict rules old l) (whole Keeps refused rules old l (other_keeps rules old l.session l.command is)))

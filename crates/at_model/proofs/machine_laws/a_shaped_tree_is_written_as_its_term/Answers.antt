@@ -1,0 +1,5 @@
+use Rattle.at_model.proofs.Shaped.{shaped_conforms}
+use Rattle.at_model.proofs.machine_laws.a_shaped_tree_is_written_as_its_term.Goals as goal
+
+pub returns : goal.returns
+returns c = λ classes t b u. shaped_conforms classes t b u

@@ -1,0 +1,289 @@
+-- The machine without caches: what each line of each session is told, and in what state it leaves the machine.
+use Rattle.std.specs.Prelude.{◌≡◌, ℕ, ◌+◌, Bool, true, false, ◌&&◌, not, nat_eq, nat_le, if◌then◌else◌, List, [], ◌∷◌, ◌++◌, map, filter, count_by, Option, Some, None, option_map, option_and_then, unwrap_or, is_some, IsSome, Ok, Err, find, filter_map}
+use Rattle.std.specs.List.{AllByRecursion, slice_get, flat_map, list_all}
+use Rattle.std.specs.Str.{bytes_eq}
+use Rattle.at_model.specs.Classes.{Classes, Shape, is_sub}
+use Rattle.at_model.specs.Trees.{Tree, class_of, conforms}
+use Rattle.at_model.specs.Trees as tree
+use Rattle.at_model.specs.Terms.{Term, term_of}
+use Rattle.at_model.specs.Paths.{Path, Node, tree_at, node_at, path_of, part_named}
+use Rattle.at_model.specs.Run.{Value, Instance}
+use Rattle.at_model.specs.Run as run
+use Rattle.at_model.specs.Rules.{Rules, Kind, attribute_named, attribute_name}
+use Rattle.at_model.specs.Rules as kind
+use Rattle.at_model.specs.Meaning.{Answer, Outcomes, Finds, Faults, Circle, Answers, content, equations}
+use Rattle.at_model.specs.Edits.{Edit, edited, is_within_limits, shape_at, class_asked, list_class, optional_class, token_kind, carried}
+use Rattle.at_model.specs.Edits as edit
+use Rattle.at_model.specs.Shaping.{names_classes, shaped}
+use Rattle.at_model.specs.Lines.{Line, Place, From_root, From_mark, Argument, Text, Ref, Null, Command, Ask, Set, Put, Drop, Insert, Token, Show, Mark, Unmark, Where, Version, last_version, Spells, lines, IsSessionOf}
+use Rattle.at_model.specs.Replies.{Reply, Form, Done, Shows, Fails, Circular, Refused, Memory, Code, Shown, Plain, At, Nothing, Written, reply_text}
+use Rattle.at_model.specs.Replies as code
+
+-- a session's name for a node
+pub record Marked : Type 0 where
+  pub session : ℕ
+  pub name : List ℕ
+  pub node : Node
+
+-- the tree, how many edits were accepted, and the marks of all sessions
+pub record State : Type 0 where
+  pub tree : Tree
+  pub version : ℕ
+  pub marks : List Marked
+
+-- how many marks a session may have
+abbrev pub max_marks : ℕ
+max_marks = 100
+
+-- it is the session's mark of that name
+abbrev pub is_mark : ℕ → List ℕ → Marked → Bool
+is_mark session name m = nat_eq session m.session && bytes_eq name m.name
+
+-- the node that the session has marked by the name
+abbrev pub marked : List Marked → ℕ → List ℕ → Option Node
+marked marks session name = option_map (λ m. m.node) (find (is_mark session name) marks)
+
+-- the session has a mark of that name
+abbrev pub is_marked : List Marked → ℕ → List ℕ → Bool
+is_marked marks session name = is_some (marked marks session name)
+
+-- marks follow their nodes, and one whose node is gone is gone
+abbrev pub carried_marks : Edit → List Marked → List Marked
+carried_marks e marks = filter_map (λ m. option_map (λ n. record m { node = n }) (carried e m.node)) marks
+
+-- the mark that a place uses
+abbrev pub marks_in : Place → List (List ℕ)
+marks_in (From_root path) = []
+marks_in (From_mark name steps) = name ∷ []
+
+-- the mark that an argument uses
+abbrev pub marks_in_argument : Argument → List (List ℕ)
+marks_in_argument (Text bytes) = []
+marks_in_argument (Ref place) = marks_in place
+marks_in_argument Null = []
+
+-- the marks that the command uses: the one that it makes is none of these
+abbrev pub marks_used : Command → List (List ℕ)
+marks_used (Ask place attribute arguments) = marks_in place ++ flat_map marks_in_argument arguments
+marks_used (Set place t) = marks_in place
+marks_used (Put place part t) = marks_in place
+marks_used (Drop place) = marks_in place
+marks_used (Insert place part index t) = marks_in place
+marks_used (Token place part v) = marks_in place
+marks_used (Show place) = marks_in place
+marks_used (Mark name place) = marks_in place
+marks_used (Unmark name) = name ∷ []
+marks_used (Where name) = name ∷ []
+marks_used Version = []
+
+-- the node below that one to which the steps lead
+abbrev pub node_below : Classes → Tree → Path → Node → Option Node
+node_below classes t steps n = option_and_then (λ u. option_map (λ ss. n ++ ss) (node_at classes u steps)) (tree_at t n)
+
+-- the node that the place names, where it names one
+abbrev pub node_named : Classes → State → ℕ → Place → Option Node
+node_named classes s session (From_root path) = node_at classes s.tree path
+node_named classes s session (From_mark name steps) = option_and_then (node_below classes s.tree steps) (marked s.marks session name)
+
+-- the value that an argument names, where it names one
+abbrev pub value_named : Classes → State → ℕ → Argument → Option (Value Node)
+value_named classes s session (Text bytes) = Some (run.Text bytes)
+value_named classes s session (Ref place) = option_map (λ n. run.Ref (Some n)) (node_named classes s session place)
+value_named classes s session Null = Some (run.Ref None)
+
+-- all of the values, where each is there
+abbrev pub each : {A : Type 0} → List (Option A) → Option (List A)
+each [] = Some []
+each (o ∷ os) = option_and_then (λ a. option_map (λ as'. a ∷ as') (each os)) o
+
+-- null and the nodes of the class or below it fit a class, texts fit a text
+abbrev pub fits_parameter : Classes → Tree → Kind → Value Node → Bool
+fits_parameter classes t kind.Text (run.Text bytes) = true
+fits_parameter classes t (kind.Class b) (run.Ref None) = true
+fits_parameter classes t (kind.Class b) (run.Ref (Some n)) = elim (tree_at t n) [ None ↦ false | Some u ↦ is_sub classes (class_of u) b ]
+fits_parameter classes t k v = false
+
+-- as many values as parameters, and each fits
+abbrev pub fit_parameters : Classes → Tree → List Kind → List (Value Node) → Bool
+fit_parameters classes t [] [] = true
+fit_parameters classes t [] (v ∷ vs) = false
+fit_parameters classes t (k ∷ ks) [] = false
+fit_parameters classes t (k ∷ ks) (v ∷ vs) = fits_parameter classes t k v && fit_parameters classes t ks vs
+
+-- the kinds of the parameters of an attribute
+abbrev pub parameters_of : Rules → ℕ → List Kind
+parameters_of rules attribute = elim (slice_get rules.attributes attribute) [ None ↦ [] | Some a ↦ a.parameters ]
+
+-- What becomes of a line: it is refused, is told something, leaves other marks, makes that tree by an edit, or asks for
+-- the value of an instance.
+pub data Verdict : Type 0 where
+  Refuses : Code → Verdict
+  Tells : Shown → Verdict
+  Leaves : (marks : List Marked) → Verdict
+  Edits : Edit → Tree → Verdict
+  Asks : Instance Node → Verdict
+
+-- the state after the verdict: an edit makes the next version, and the marks follow their nodes
+abbrev pub after : State → Verdict → State
+after s (Refuses refusal) = s
+after s (Tells shown) = s
+after s (Leaves marks) = record s { marks = marks }
+after s (Edits e t) = record { tree = t; version = s.version + 1; marks = carried_marks e s.marks }
+after s (Asks q) = s
+
+-- the code by which a line with a refused edit is answered
+abbrev pub code_of : edit.Refusal → Code
+code_of edit.Component = code.Component
+code_of edit.Fit = code.Fit
+code_of edit.Index = code.Index
+code_of edit.Taken = code.Taken
+code_of edit.Fixed = code.Fixed
+code_of edit.Limit = code.Limit
+
+-- the edit and the tree that it leaves, or its refusal; there is no version after the last
+abbrev pub changed : Classes → State → Edit → Verdict
+changed classes s e = elim (edited classes s.tree e) [
+  | Err refusal ↦ Refuses (code_of refusal)
+  | Ok t ↦ if nat_eq s.version last_version then Refuses code.Limit else Edits e t
+]
+
+-- the verdict at the node, where the place names one
+abbrev pub at_node : Classes → State → ℕ → Place → (Node → Verdict) → Verdict
+at_node classes s session place verdict_at = elim (node_named classes s session place) [ None ↦ Refuses code.Path | Some n ↦ verdict_at n ]
+
+-- the verdict with the component of that name, where the node has one of the shape
+abbrev pub with_component : {A : Type 0} → Classes → Tree → Node → List ℕ → (Shape → Option A) → (ℕ → A → Verdict) → Verdict
+with_component classes t n name wanted verdict_with = elim (option_and_then (λ u. part_named classes (class_of u) name) (tree_at t n)) [
+  | None ↦ Refuses code.Component
+  | Some part ↦ elim (option_and_then wanted (shape_at classes t n part)) [ None ↦ Refuses code.Component | Some a ↦ verdict_with part a ]
+]
+
+-- the verdict with the tree of the term, where its names are those of classes and it fits
+abbrev pub with_tree : Classes → Term → Option ℕ → (Tree → Verdict) → Verdict
+with_tree classes t asked verdict_with = elim (names_classes classes t) [
+  | false ↦ Refuses code.Class
+  | true ↦ elim (option_and_then (shaped classes t) asked) [ None ↦ Refuses code.Fit | Some u ↦ verdict_with u ]
+]
+
+-- the path of a node of the tree
+abbrev pub path_to : Classes → Tree → Node → Path
+path_to classes t n = unwrap_or (path_of classes t n) []
+
+-- a question of that attribute, where the node has it and the values fit
+abbrev pub questioned : Rules → Tree → Node → List ℕ → List (Value Node) → Verdict
+questioned rules t n name vs = elim (option_and_then (λ u. attribute_named rules (class_of u) name) (tree_at t n)) [
+  | None ↦ Refuses code.Attribute
+  | Some attribute ↦ if fit_parameters rules.classes t (parameters_of rules attribute) vs then Asks (record { node = n; attribute = attribute; arguments = vs }) else Refuses code.Arguments
+]
+
+-- one more mark of the session, where the name is free and there are not too many
+abbrev pub with_mark : State → ℕ → List ℕ → Node → Verdict
+with_mark s session name n =
+    if is_marked s.marks session name then Refuses code.Taken
+    else (if nat_le max_marks (count_by (λ m. nat_eq session m.session) s.marks) then Refuses code.Limit
+    else Leaves (s.marks ++ record { session = session; name = name; node = n } ∷ []))
+
+-- what becomes of the command of a session, when the marks that it uses are there
+abbrev pub obeyed : Rules → State → ℕ → Command → Verdict
+obeyed rules s session (Ask place attribute arguments) = at_node rules.classes s session place (λ n. elim (each (map (value_named rules.classes s session) arguments)) [ None ↦ Refuses code.Path | Some vs ↦ questioned rules s.tree n attribute vs ])
+obeyed rules s session (Set place t) = at_node rules.classes s session place (λ n. with_tree rules.classes t (class_asked rules.classes s.tree n) (λ u. changed rules.classes s (edit.Set n u)))
+obeyed rules s session (Put place part t) = at_node rules.classes s session place (λ n. with_component rules.classes s.tree n part optional_class (λ p b. with_tree rules.classes t (Some b) (λ u. changed rules.classes s (edit.Put n p u))))
+obeyed rules s session (Drop place) = at_node rules.classes s session place (λ n. changed rules.classes s (edit.Drop n))
+obeyed rules s session (Insert place part index t) = at_node rules.classes s session place (λ n. with_component rules.classes s.tree n part list_class (λ p b. with_tree rules.classes t (Some b) (λ u. changed rules.classes s (edit.Insert n p index u))))
+obeyed rules s session (Token place part v) = at_node rules.classes s session place (λ n. with_component rules.classes s.tree n part token_kind (λ p kind. changed rules.classes s (edit.Token n p v)))
+obeyed rules s session (Show place) = at_node rules.classes s session place (λ n. elim (tree_at s.tree n) [ None ↦ Refuses code.Path | Some u ↦ Tells (Written (term_of rules.classes u)) ])
+obeyed rules s session (Mark name place) = at_node rules.classes s session place (with_mark s session name)
+obeyed rules s session (Unmark name) = Leaves (filter (λ m. not (is_mark session name m)) s.marks)
+obeyed rules s session (Where name) = elim (marked s.marks session name) [ None ↦ Refuses code.Mark | Some n ↦ Tells (At (path_to rules.classes s.tree n)) ]
+obeyed rules s session Version = Leaves s.marks
+
+-- a version is expected and it is not this one
+abbrev pub is_stale : Option ℕ → ℕ → Bool
+is_stale None version = false
+is_stale (Some expected) version = not (nat_eq expected version)
+
+-- what becomes of a line: first the version that it expects is looked at, and then the marks that it uses
+abbrev pub verdict : Rules → State → Line → Verdict
+verdict rules s l =
+    if is_stale l.expected s.version then Refuses (code.Stale s.version)
+    else (if not (list_all (is_marked s.marks l.session) (marks_used l.command)) then Refuses code.Mark
+    else obeyed rules s l.session l.command)
+
+-- what is told of a value: of a node its path
+abbrev pub shown_value : Classes → Tree → Value Node → Shown
+shown_value classes t (run.Int n) = Plain (tree.Int n)
+shown_value classes t (run.Truth b) = Plain (tree.Truth b)
+shown_value classes t (run.Text bytes) = Plain (tree.Text bytes)
+shown_value classes t (run.Ref None) = Nothing
+shown_value classes t (run.Ref (Some n)) = At (path_to classes t n)
+
+-- what is told of an answer: a fault and a circle are told with the path of the node
+abbrev pub answer_form : Rules → Tree → Answer Node → Form
+answer_form rules t (Outcomes (Finds v)) = Shows (shown_value rules.classes t v)
+answer_form rules t (Outcomes (Faults kind i)) = Fails kind (path_to rules.classes t i.node) (attribute_name rules i.attribute)
+answer_form rules t (Circle i) = Circular (path_to rules.classes t i.node) (attribute_name rules i.attribute)
+
+-- how questions are answered: which answers the instance has in the tree
+abbrev pub Answering : Type 1
+Answering = Tree → Instance Node → Answer Node → Type 0
+
+-- by the equations of the rules
+abbrev pub ByEquations : Rules → Answering
+ByEquations rules t q a = Answers (content t) (equations rules) q a
+
+-- what the session is told by the verdict
+abbrev pub Says : Rules → Answering → State → Verdict → Form → Type 0
+Says rules Answered s (Refuses refusal) form = form ≡ Refused refusal
+Says rules Answered s (Tells shown) form = form ≡ Shows shown
+Says rules Answered s (Leaves marks) form = form ≡ Done s.version
+Says rules Answered s (Edits e t) form = form ≡ Done (s.version + 1)
+Says rules Answered s (Asks q) form = (a : Answer Node) × Answered s.tree q a × (form ≡ answer_form rules s.tree a)
+
+-- one step: the line takes the old state to the new one, and gets the reply
+pub record Step (rules : Rules) (Answered : Answering) (old : State) (l : Line) (new : State) (reply : Reply) : Type 0 where
+  pub session : reply.session ≡ Some l.session
+  pub state : new ≡ after old (verdict rules old l)
+  pub says : Says rules Answered old (verdict rules old l) reply.form
+
+-- The step of the bytes of a line. What is no line is refused, and the state stays.
+pub data Handles (rules : Rules) (Answered : Answering) (old : State) (bytes : List ℕ) (new : State) (reply : Reply) : Type 0 where
+  obeys : (l : Line) → Spells bytes l → Step rules Answered old l new reply → Handles rules Answered old bytes new reply
+  refuses : ((l : Line) → Spells bytes l → ⊥) → IsSessionOf bytes reply.session → new ≡ old → reply.form ≡ Refused code.Syntax → Handles rules Answered old bytes new reply
+
+-- The same, where the line may be named as one for which memory ran out: then the state stays.
+abbrev pub Serves : Rules → Answering → (out_of_memory : Bool) → State → List ℕ → State → Reply → Type 0
+Serves rules Answered false old bytes new reply = Handles rules Answered old bytes new reply
+Serves rules Answered true old bytes new reply = IsSessionOf bytes reply.session × (new ≡ old) × (reply.form ≡ Memory)
+
+-- the lines take the old state to the new one, one after the other, and their replies are this text; each is named or not
+abbrev pub Runs : Rules → Answering → State → List (List ℕ) → (out_of_memory : List Bool) → List ℕ → State → Type 0
+Runs rules Answered old [] [] text new = (text ≡ []) × (new ≡ old)
+Runs rules Answered old [] (b ∷ bs) text new = ⊥
+Runs rules Answered old (line ∷ rest) [] text new = ⊥
+Runs rules Answered old (line ∷ rest) (b ∷ bs) text new = (mid : State) × (reply : Reply) × (more : List ℕ) × Serves rules Answered b old line mid reply × (text ≡ reply_text reply ++ more) × Runs rules Answered mid rest bs more new
+
+-- what the machine writes for these bytes, and the state in which they leave it
+abbrev pub Outputs : Rules → Answering → State → List ℕ → (out_of_memory : List Bool) → List ℕ → State → Type 0
+Outputs rules Answered old bytes named text new = Runs rules Answered old (lines bytes) named text new
+
+-- the command is an edit of the tree
+abbrev pub is_edit : Command → Bool
+is_edit (Set place t) = true
+is_edit (Put place part t) = true
+is_edit (Drop place) = true
+is_edit (Insert place part index t) = true
+is_edit (Token place part v) = true
+is_edit command = false
+
+-- the new state is the old one after an edit that is accepted: of the next version, its marks carried
+pub record IsEdited (classes : Classes) (old new : State) : Type 0 where
+  pub by : Edit
+  pub tree : edited classes old.tree by ≡ Ok new.tree
+  pub version : new.version ≡ old.version + 1
+  pub marks : new.marks ≡ carried_marks by old.marks
+
+-- the tree conforms to the start class and is within the limits, and each mark leads to a node of it
+pub record IsSound (classes : Classes) (s : State) : Type 0 where
+  pub tree_conforms : conforms classes s.tree 0 ≡ true
+  pub tree_within : is_within_limits s.tree ≡ true
+  pub marks_lead : AllByRecursion (λ m. IsSome (tree_at s.tree m.node)) s.marks

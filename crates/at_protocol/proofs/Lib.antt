@@ -1,0 +1,9 @@
+pub mod Spaces
+pub mod Values
+pub mod Commands
+pub mod Utf8
+pub mod Lines
+pub mod Answering
+pub mod Sessions
+pub mod Numbers
+pub mod Parts

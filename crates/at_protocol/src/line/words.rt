@@ -1,0 +1,157 @@
+//! The words of lines.
+ghost use Rattle.std.specs.Prelude.{◌≡◌, ◌≢◌, ◌==◌, ◌++◌, ◌∷◌, ◌<◌, ℕ, ℤ, List, codes, MatchOption, MatchResult, string_bytes};
+ghost use Rattle.std.specs.List.{before_first};
+ghost use Rattle.std.specs.Fmt.{decimal, signed_decimal};
+ghost use Rattle.at_model.specs.Lines.{max_sessions};
+ghost use Rattle.at_model.specs.Terms.{IsInt32};
+ghost use Rattle.at_tree.specs.PathView.{path_view};
+ghost use Rattle.at_tree.specs.Token.{token_view};
+ghost use Rattle.at_protocol.specs.Words.{HasNoSpace, Answers, IsNameText, IsQuotedText, IsPathOf, IsValueText};
+
+use at_text::names::is_name;
+use at_text::quoted::{QuoteFault, read_quoted};
+use at_tree::fault::TermFault;
+use at_tree::path::{Path, read_path};
+use at_tree::token::TokVal;
+use itoa::Buffer;
+use std::alloc::{AllocError, Global};
+
+/// The sessions are those below.
+const MAX_SESSIONS: u16 = 1000;
+
+/// Why words were not read.
+#[derive(Clone, Copy)]
+pub(super) enum WordFault {
+    /// They have another form.
+    Form,
+    /// Memory ran out.
+    Memory,
+}
+
+impl From<AllocError> for WordFault {
+    ghost use Rattle.std.specs.Prelude.{◌≡◌};
+    ghost use Rattle.at_protocol.specs.declared.line.words.WordFault.TheVariants.{Memory};
+
+    ghost from_gives = { λ _ e. e ≡ Memory };
+
+    fn from(_: AllocError) -> WordFault {
+        WordFault::Memory
+    }
+}
+
+/// The bytes before the first space, or all.
+pub(super) fn first_word(line: &[u8]) -> &[u8]
+    ensures { result.now ≡ before_first (λ b. b == 32) line.now }
+{
+    match line.iter().position(|b| *b == b' ') {
+        Some(end) => &line[..end],
+        None => line,
+    }
+}
+
+/// The text before the first space, and the text behind it.
+pub(super) fn cut(text: &str) -> Result<(&str, &str), WordFault>
+    ensures { MatchResult result
+        (λ cut. (text.now ≡ cut.0.now ++ 32 ∷ cut.1.now) × HasNoSpace cut.0.now)
+        (λ fault. (fault ≡ WordFault.Form) × HasNoSpace text.now) }
+{
+    text.split_once(' ').ok_or(WordFault::Form)
+}
+
+/// The session that the word spells.
+pub(super) fn read_session(word: &str) -> Option<u16>
+    ensures { MatchOption result
+        ((session : ℕ) → session < max_sessions → word.now ≢ decimal session)
+        (λ session. (session < max_sessions) × (word.now ≡ decimal session)) }
+{
+    let Ok(session) = word.parse::<u16>() else {
+        return None;
+    };
+    if session < MAX_SESSIONS && Buffer::new().format(session) == word {
+        Some(session)
+    } else {
+        None
+    }
+}
+
+/// The name that the word is.
+pub(super) fn read_name(alloc: Global, word: &str) -> Result<String, WordFault>
+    ensures { Answers (λ name. string_bytes name) (IsNameText word.now) result }
+{
+    if is_name(word) {
+        Ok(String::from_str(alloc, word)?)
+    } else {
+        Err(WordFault::Form)
+    }
+}
+
+/// The path that the word spells.
+pub(super) fn read_place(alloc: Global, word: &str) -> Result<Path, WordFault>
+    ensures { Answers path_view (IsPathOf word.now) result }
+{
+    match read_path(alloc, word) {
+        Ok(path) => Ok(path),
+        Err(TermFault::Syntax { at: _ }) => Err(WordFault::Form),
+        Err(TermFault::Memory) => Err(WordFault::Memory),
+    }
+}
+
+/// What stands before a pair of parentheses.
+pub(super) fn before_parentheses(call: &str) -> Result<&str, WordFault>
+    ensures { MatchResult result
+        (λ front. call.now ≡ front.now ++ codes "()")
+        (λ fault. (fault ≡ WordFault.Form) × ((front : List ℕ) → call.now ≢ front ++ codes "()")) }
+{
+    match call.strip_suffix(')') {
+        Some(inside) => inside.strip_suffix('(').ok_or(WordFault::Form),
+        None => Err(WordFault::Form),
+    }
+}
+
+/// The number of 32 bits whose decimal the word is.
+fn read_int(word: &str) -> Option<i32>
+    ensures { MatchOption result
+        ((n : ℤ) → IsInt32 n → word.now ≢ signed_decimal n)
+        (λ n. IsInt32 n × (word.now ≡ signed_decimal n)) }
+{
+    let Ok(value) = word.parse::<i32>() else {
+        return None;
+    };
+    if Buffer::new().format(value) == word {
+        Some(value)
+    } else {
+        None
+    }
+}
+
+/// The text whose spelling between quotes the whole of this is.
+fn read_text(alloc: Global, text: &str) -> Result<String, WordFault>
+    ensures { Answers (λ value. string_bytes value) (IsQuotedText text.now) result }
+{
+    let (value, length) = match read_quoted(alloc, text) {
+        Ok(read) => read,
+        Err(QuoteFault::Form) => return Err(WordFault::Form),
+        Err(QuoteFault::Memory) => return Err(WordFault::Memory),
+    };
+    if length == text.len() {
+        Ok(value)
+    } else {
+        Err(WordFault::Form)
+    }
+}
+
+/// The value that the text spells: a decimal within 32 bits, `true`, `false` or a quoted text.
+pub(super) fn read_value(alloc: Global, text: &str) -> Result<TokVal, WordFault>
+    ensures { Answers token_view (IsValueText text.now) result }
+{
+    if text == "true" {
+        return Ok(TokVal::Bool(true));
+    }
+    if text == "false" {
+        return Ok(TokVal::Bool(false));
+    }
+    if let Some(value) = read_int(text) {
+        return Ok(TokVal::Int(value));
+    }
+    Ok(TokVal::Str(read_text(alloc, text)?))
+}

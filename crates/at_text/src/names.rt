@@ -1,0 +1,83 @@
+//! Names: what may name a class, a component, an attribute or a mark.
+ghost use Rattle.std.specs.Prelude.{◌≡◌, chars};
+ghost use Rattle.at_model.specs.Names.{starts_name, continues_name, is_reserved, is_word, is_name};
+
+/// The words that have a meaning of their own in grammars and aspects.
+const RESERVED: [&str; 20] = [
+    "abstract",
+    "aspect",
+    "syn",
+    "inh",
+    "eq",
+    "lazy",
+    "circular",
+    "nta",
+    "return",
+    "true",
+    "false",
+    "null",
+    "this",
+    "instanceof",
+    "exists",
+    "first",
+    "sum",
+    "int",
+    "boolean",
+    "String",
+];
+
+/// Whether a name may begin with the character (Unicode Standard Annex 31, and the underscore).
+pub fn starts_name(c: char) -> bool
+    ensures { result ≡ starts_name c }
+{
+    unicode_ident::is_xid_start(c) || c == '_'
+}
+
+/// Whether a name may go on with the character (Unicode Standard Annex 31).
+pub fn continues_name(c: char) -> bool
+    ensures { result ≡ continues_name c }
+{
+    unicode_ident::is_xid_continue(c)
+}
+
+/// Whether the word has a meaning of its own in grammars and aspects, so that it names nothing.
+pub fn is_reserved(word: &str) -> bool
+    ensures { result ≡ is_reserved word.now }
+{
+    RESERVED.contains(&word)
+}
+
+/// Whether the text has the form of a name.
+fn is_word(text: &str) -> bool
+    ensures { result ≡ is_word (chars text.now) }
+{
+    let mut chars = text.chars();
+    match chars.next() {
+        Some(c) => starts_name(c) && chars.all(continues_name),
+        None => false,
+    }
+}
+
+/// Whether the text is a name: it has the form of one and is no reserved word.
+pub fn is_name(text: &str) -> bool
+    ensures { result ≡ is_name text.now }
+{
+    is_word(text) && !is_reserved(text)
+}
+
+#[cfg(test)]
+mod tests {
+    use super::is_name;
+    use std::test::Fail;
+
+    #[test]
+    fn names_are_words_of_unicode(rt: HostRuntime) -> Result<(), Fail> {
+        for name in ["x", "_", "Décl", "_9", "mañana_2", "名前", "ints", "string"] {
+            assert!(rt; is_name(name));
+        }
+        for other in ["", "9x", "a b", "x-y", "int", "String", "·x", "é "] {
+            assert!(rt; !is_name(other));
+        }
+        Ok(())
+    }
+}

@@ -1,0 +1,17 @@
+pub mod PathWritten
+pub mod Machine
+pub mod Pieces
+pub mod Finished
+pub mod PathMachine
+pub mod Escapes
+pub mod TermSpelled
+pub mod TermSteps
+pub mod TermAlive
+pub mod TermRuns
+pub mod TermMachine
+pub mod TextLaws
+pub mod TreeLoops
+pub mod TreeTexts
+pub mod Shaping
+pub mod Made
+pub mod ShapeLaws

@@ -1,0 +1,29 @@
+-- The laws about texts follow from what the readers do with them.
+use Rattle.std.proofs.Common.{◌≡◌, ℕ, List, [], ◌∷◌, ◌++◌, length, Some, None, refl, ap, sym, ◌∙◌, append-nil, length-append, arith}
+use Rattle.std.specs.Prelude.{chars}
+use Rattle.std.proofs.lemmas.Str.{chars-nil}
+use Rattle.at_model.specs.Terms.{Term, term_text}
+use Rattle.at_tree.specs.Laws.{NoneBeginsAnother, OnePathEach}
+use Rattle.at_tree.specs.Partial.{Start, Done, at, nothing_read, step}
+use Rattle.at_tree.proofs.Machine.{run, run_none, unique}
+use Rattle.at_tree.proofs.PathMachine.{path_machine}
+use Rattle.at_tree.proofs.TermRuns.{run_term}
+
+-- nothing follows a whole term
+nothing_behind : (t u : Term) (cs : List ℕ) → run step (Some (at [] (Done t))) cs ≡ Some (at [] (Done u)) → t ≡ u
+nothing_behind t u [] e = let f : Done t ≡ Done u = ap (λ r. elim r [ None ↦ Start | Some p ↦ p.place ]) e in cc
+nothing_behind t u (c ∷ cs) e = let g : None ≡ Some (at [] (Done u)) = sym (run_none step cs) ∙ e in cc
+
+no_rest : (text rest : List ℕ) → text ≡ text ++ rest → rest ≡ []
+no_rest text [] e = refl
+no_rest text (c ∷ cs) e = absurd (omega (arith, ap length e, length-append text (c ∷ cs)))
+
+pub none_begins_another : NoneBeginsAnother
+none_begins_another t u rest h k e =
+    let over : run step (Some nothing_read) (chars (term_text u)) ≡ run step (Some (at [] (Done t))) (chars rest) = ap (λ y. run step (Some nothing_read) (chars y)) e ∙ run_term t [] rest h in
+    let whole : run step (Some nothing_read) (chars (term_text u)) ≡ Some (at [] (Done u)) = ap (λ y. run step (Some nothing_read) (chars y)) (sym (append-nil (term_text u))) ∙ run_term u [] [] k ∙ rw chars-nil refl in
+    let same : t ≡ u = nothing_behind t u (chars rest) (sym over ∙ whole) in
+    (same, no_rest (term_text t) rest (ap term_text same ∙ e))
+
+pub one_path_each : OnePathEach
+one_path_each p q h k e = unique path_machine p q h k e

@@ -1,0 +1,17 @@
+pub mod Token
+pub mod View
+pub mod PathView
+pub mod Stops
+pub mod Reads
+pub mod Finishes
+pub mod Gives
+pub mod Partial
+pub mod Seen
+pub mod PartialPath
+pub mod PathSeen
+pub mod Laws
+pub mod TreeView
+pub mod Separated
+pub mod Shape
+pub mod TreeTokens
+pub mod TreeLaws

@@ -1,0 +1,12 @@
+//! Terms, nested trees and paths, and the one text of each.
+#![tactic(auto)]
+
+pub mod fault;
+pub mod laws;
+pub mod path;
+pub mod reader;
+pub mod term;
+#[cfg(test)]
+mod tests;
+pub mod token;
+pub mod tree;

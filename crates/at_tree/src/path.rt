@@ -1,0 +1,70 @@
+//! Paths to nodes: as they are written, by the names of components.
+ghost use Rattle.std.specs.Prelude.{◌≡◌, ◌++◌, OnOk, OnErr, take, length};
+ghost use Rattle.at_model.specs.Paths.{IsPath, path_text, step_text};
+ghost use Rattle.at_tree.specs.PathView.{path_view, step_view};
+
+use at_text::decimal::write_int;
+use std::alloc::AllocError;
+
+/// A step down: a component's name, and an index where it is a list.
+#[derive(Debug, PartialEq, Drop)]
+pub struct Step {
+    pub part: String,
+    pub index: Option<u32>,
+}
+
+/// A path: the steps from the root down.
+#[derive(Debug, PartialEq, Drop)]
+pub struct Path {
+    pub steps: Vec<Step>,
+}
+
+mod partial;
+mod read;
+mod steps;
+
+pub use read::read_path;
+
+/// Appends a step's text. Where memory is wanting, it may have appended a part of it.
+fn write_step(step: &Step, out: &mut Vec<u8>) -> Result<(), AllocError>
+    ensures ok { OnOk result (out.new.items ≡ out.old.items ++ step_text (step_view step.now)) }
+    ensures err { OnErr result (take (length out.old.items) out.new.items ≡ out.old.items) }
+{
+    out.push(b'/')?;
+    out.extend_from_slice(step.part.as_bytes())?;
+    if let Some(index) = step.index {
+        out.push(b':')?;
+        write_int(i64::from(index), out)?;
+    }
+    Ok(())
+}
+
+/// Appends a path's text. Where memory is wanting, it may have appended a part of it.
+fn write_steps(path: &Path, out: &mut Vec<u8>) -> Result<(), AllocError>
+    ensures ok { OnOk result (out.new.items ≡ out.old.items ++ path_text (path_view path.now)) }
+    ensures err { OnErr result (take (length out.old.items) out.new.items ≡ out.old.items) }
+{
+    if path.steps.is_empty() {
+        return Ok(out.push(b'/')?);
+    }
+    for step in &path.steps {
+        write_step(step, out)?;
+    }
+    Ok(())
+}
+
+/// Appends the text of a path whose parts are names and whose indexes have at most nine digits: a
+/// slash for the root, and else a slash, the name, and a colon and the index if any, for each step.
+/// Where memory is wanting, the output stays as it was.
+pub fn write_path(path: &Path, out: &mut Vec<u8>) -> Result<(), AllocError>
+    requires { IsPath (path_view path.now) }
+    ensures ok { OnOk result (out.new.items ≡ out.old.items ++ path_text (path_view path.now)) }
+    ensures err { OnErr result (out.new.items ≡ out.old.items) }
+{
+    let len = out.len();
+    let written = write_steps(path, out);
+    if written.is_err() {
+        out.truncate(len);
+    }
+    written
+}

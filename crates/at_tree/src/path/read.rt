@@ -1,0 +1,83 @@
+//! The whole run over a path's text.
+ghost use Rattle.std.specs.Prelude.{◌≡◌, ◌++◌, ◌∷◌, [], Some, string_bytes, IfOk, IfErr};
+ghost use Rattle.at_model.specs.Paths.{Path as Steps, IsPath, path_text};
+ghost use Rattle.at_tree.specs.PathView.{path_view, steps_view, step_view};
+ghost use Rattle.at_tree.specs.PartialPath.{InPart, whole_at, whole_path};
+ghost use Rattle.at_tree.specs.PathSeen.{partial_view};
+ghost use Rattle.at_tree.specs.Stops.{IsPathText};
+ghost use Rattle.at_tree.specs.Reads.{Reads, StopsWith};
+ghost use Rattle.at_tree.specs.Finishes.{Finishes};
+
+use super::partial::{Partial, Place};
+use super::steps::step;
+use super::{Path, Step};
+use crate::fault::{Refused, TermFault};
+use at_text::names::is_reserved;
+use std::alloc::Global;
+
+/// The path that ends with this step.
+fn ends_with(mut steps: Vec<Step>, step: Step) -> Result<Path, TermFault>
+    ensures { Finishes path_view result (Some (steps_view steps.items ++ step_view step ∷ [])) 0 }
+{
+    match steps.push(step) {
+        Ok(()) => Ok(Path { steps }),
+        Err(_) => Err(TermFault::Memory),
+    }
+}
+
+/// The path that ends with a name.
+fn ends_with_part(steps: Vec<Step>, part: String, at: usize) -> Result<Path, TermFault>
+    ensures { Finishes path_view result (whole_at (steps_view steps.items) (InPart (string_bytes part))) at }
+{
+    if is_reserved(&part) {
+        return Err(TermFault::Syntax { at });
+    }
+    ends_with(steps, Step { part, index: None })
+}
+
+/// The path that is whole at the end of its text.
+fn finish(partial: Partial, at: usize) -> Result<Path, TermFault>
+    ensures { Finishes path_view result (whole_path (partial_view partial)) at }
+{
+    let Partial { steps, place } = partial;
+    match place {
+        Place::InPart(part) => ends_with_part(steps, part, at),
+        Place::InIndex(part, index) => {
+            let index = Some(index.value);
+            ends_with(steps, Step { part, index })
+        }
+        Place::Slash if steps.is_empty() => Ok(Path { steps }),
+        _ => Err(TermFault::Syntax { at }),
+    }
+}
+
+/// The path of a text. Its work is linear in the text.
+///
+/// ```text
+/// path = "/" | { "/" step }, one step or more      step = name [":" index]
+/// index = "0" | nonzero { digit }, at most 9 digits
+/// ```
+///
+/// `Syntax` has the offset of the first character with which no path's text goes on, or the end of
+/// the text; `Memory` is want of memory.
+pub fn read_path(alloc: Global, text: &str) -> Result<Path, TermFault>
+    // What is read is the text's path.
+    ensures found { IfOk result (λ p. IsPath (path_view p) × (path_text (path_view p) ≡ text.now)) }
+    // A path's text is read as that path, unless memory runs out.
+    ensures only { (p : Steps) → IsPath p → path_text p ≡ text.now → Reads path_view result p }
+    // Else the fault stands at the first character that leads to no path's text.
+    ensures fault { IfErr result (StopsWith IsPathText text.now) }
+{
+    let mut partial = Partial {
+        steps: Vec::new(alloc),
+        place: Place::Start,
+    };
+    for (at, c) in text.char_indices() {
+        partial = match step(alloc, partial, c) {
+            Ok(next) => next,
+            Err(Refused::Character) => return Err(TermFault::Syntax { at }),
+            Err(Refused::Memory) => return Err(TermFault::Memory),
+        };
+    }
+    finish(partial, text.len())
+}

@@ -1,0 +1,58 @@
+//! The reader of terms: a term as it is read, character by character.
+ghost use Rattle.std.specs.Prelude.{◌≡◌, ◌≤◌, ◌<◌, true};
+ghost use Rattle.at_tree.specs.Partial.{limit};
+
+use crate::term::{Term, TermCell};
+
+/// How many terms may stand in one another.
+pub const MAX_DEPTH: usize = 512;
+
+/// A term whose parenthesis is open: its cells, and the terms of its open list, as far as a comma
+/// follows each.
+#[derive(Drop)]
+struct Level {
+    name: String,
+    cells: Vec<TermCell>,
+    items: Option<Vec<Term>>,
+}
+
+/// A minus sign or none, and digits.
+#[derive(Clone, Copy)]
+struct Number {
+    minus: bool,
+    value: u32,
+    ghost in_range: { value ≤ limit minus },
+    ghost not_minus_zero: { minus ≡ true → 0 < value },
+}
+
+/// What stands right before the next character.
+#[derive(Drop)]
+enum Place {
+    /// A bracket, a comma or nothing.
+    Start,
+    /// The front of a name, of `true` or of `false`.
+    InWord(String),
+    Dash,
+    Digits(Number),
+    /// A quote, and what the characters behind it stand for.
+    InText(String),
+    /// The same, and a backslash.
+    Escape(String),
+    Whole(TermCell),
+    Item(Term),
+    Done(Term),
+}
+
+/// What has been read of a term's text: the open terms, from outside in, and the place in the
+/// innermost.
+#[derive(Drop)]
+struct Partial {
+    levels: Vec<Level>,
+    place: Place,
+}
+
+mod read;
+mod steps;
+mod words;
+
+pub use read::read_term;

@@ -1,0 +1,206 @@
+ghost use Rattle.std.specs.Prelude.{◌≡◌, IfOk, IfErr, OnOk, Some, map, true};
+ghost use Rattle.at_model.specs.Classes.{AreSound};
+ghost use Rattle.at_model.specs.Trees.{to_trees};
+ghost use Rattle.at_class.specs.View.{shape_view};
+ghost use Rattle.at_tree.specs.Token.{token_view};
+ghost use Rattle.at_tree.specs.TreeView.{tree_view};
+ghost use Rattle.at_tree.specs.TreeView.{cell_view as tree_cell_view};
+ghost use Rattle.at_tree.specs.View.{term_view, cell_view, to_terms};
+ghost use Rattle.at_tree.specs.Shape.{IsShaped, IsMisshaped, IsNoneAtFit, is_known, is_cell_known, are_terms_known, is_known_name, shaped, cell_shaped, trees_shaped};
+
+use super::conforming::is_of_kind;
+use super::{Cell, Tree};
+use crate::term::{Term, TermCell};
+use crate::token::TokVal;
+use at_class::{ClassId, ClassTable, PartShape};
+use std::alloc::{AllocError, AllocFailed, Global};
+
+/// Why a term is no tree under a class.
+#[derive(Clone, Copy, PartialEq, Eq, Debug)]
+pub enum ShapeFault {
+    /// A name in it is that of no class, or of an abstract one.
+    Class,
+    /// No tree that conforms is written so.
+    Fit,
+    /// Memory was wanting.
+    Memory,
+}
+
+impl From<AllocError> for ShapeFault {
+    ghost use Rattle.std.specs.Prelude.{◌≡◌};
+    ghost use Rattle.at_tree.specs.declared.tree.shaping.ShapeFault.TheVariants.{Memory};
+
+    ghost from_gives = { λ _ e. e ≡ Memory };
+
+    fn from(_: AllocError) -> Self {
+        ShapeFault::Memory
+    }
+}
+
+impl<T: Drop> From<AllocFailed<T>> for ShapeFault {
+    ghost use Rattle.std.specs.Prelude.{◌≡◌};
+    ghost use Rattle.at_tree.specs.declared.tree.shaping.ShapeFault.TheVariants.{Memory};
+
+    ghost from_gives = { λ _ e. e ≡ Memory };
+
+    fn from(_: AllocFailed<T>) -> Self {
+        ShapeFault::Memory
+    }
+}
+
+/// The tree that conforms under the class and is written as the term.
+///
+/// # Errors
+///
+/// `Class` where any name in the term is that of no class, or of an abstract one; else `Fit` where there is no such tree; `Memory`
+/// where memory is wanting.
+pub fn shape(
+    alloc: Global,
+    classes: &ClassTable,
+    term: &Term,
+    under: ClassId,
+) -> Result<Tree, ShapeFault>
+    ensures known { OnOk result (is_known classes.now (term_view term.now) ≡ true) }
+    ensures found { IfOk result (λ t. IsShaped classes.now (term_view term.now) under (tree_view t)) }
+    ensures refused { IfErr result (IsMisshaped classes.now (term_view term.now) under) }
+{
+    if !is_known(classes, term) {
+        return Err(ShapeFault::Class);
+    }
+    shape_tree(alloc, classes, term, under)
+}
+
+fn is_known_name(classes: &ClassTable, name: &str) -> bool
+    ensures { result ≡ is_known_name classes.now name.now }
+{
+    match classes.id_of(name) {
+        None => false,
+        Some(class) => !classes.is_abstract(class),
+    }
+}
+
+#[cycle(known)]
+fn is_known(classes: &ClassTable, term: &Term) -> bool
+    ensures { result ≡ is_known classes.now (term_view term.now) }
+{
+    if !is_known_name(classes, term.name.as_str()) {
+        return false;
+    }
+    for cell in &term.cells {
+        if !is_cell_known(classes, cell) {
+            return false;
+        }
+    }
+    true
+}
+
+#[cycle(known)]
+fn is_cell_known(classes: &ClassTable, cell: &TermCell) -> bool
+    ensures { result ≡ is_cell_known classes.now (cell_view cell.now) }
+{
+    match cell {
+        TermCell::One(term) => is_known(classes, term),
+        TermCell::Many(terms) => are_known(classes, terms),
+        TermCell::Empty => true,
+        TermCell::Holds(_) => true,
+    }
+}
+
+#[cycle(known)]
+fn are_known(classes: &ClassTable, terms: &[Term]) -> bool
+    ensures { result ≡ are_terms_known classes.now (to_terms (map term_view terms.now)) }
+{
+    for term in terms {
+        if !is_known(classes, term) {
+            return false;
+        }
+    }
+    true
+}
+
+fn copy_value(alloc: Global, value: &TokVal) -> Result<TokVal, AllocError>
+    ensures { IfOk result (λ v. token_view v ≡ token_view value.now) }
+{
+    match value {
+        TokVal::Str(text) => Ok(TokVal::Str(String::from_str(alloc, text.as_str())?)),
+        TokVal::Int(n) => Ok(TokVal::Int(*n)),
+        TokVal::Bool(b) => Ok(TokVal::Bool(*b)),
+    }
+}
+
+#[cycle(shape)]
+fn shape_tree(
+    alloc: Global,
+    classes: &ClassTable,
+    term: &Term,
+    under: ClassId,
+) -> Result<Tree, ShapeFault>
+    ensures sound { AreSound classes.now }
+    ensures found { IfOk result (λ t. shaped classes.now (term_view term.now) under ≡ Some (tree_view t)) }
+    ensures refused { IfErr result (IsNoneAtFit (shaped classes.now (term_view term.now) under)) }
+{
+    let Some(class) = classes.id_of(term.name.as_str()) else {
+        return Err(ShapeFault::Fit);
+    };
+    if !classes.fits(class, under) {
+        return Err(ShapeFault::Fit);
+    }
+    let parts = classes.parts(class);
+    let written = term.cells.as_slice();
+    if parts.len() != written.len() {
+        return Err(ShapeFault::Fit);
+    }
+    let mut cells = Vec::new(alloc);
+    for (i, cell) in written.iter().enumerate() {
+        cells.push(shape_cell(alloc, classes, cell, parts[i].shape)?)?;
+    }
+    Ok(Tree { class, cells })
+}
+
+#[cycle(shape)]
+fn shape_cell(
+    alloc: Global,
+    classes: &ClassTable,
+    cell: &TermCell,
+    shape: PartShape,
+) -> Result<Cell, ShapeFault>
+    ensures found { IfOk result (λ c. cell_shaped classes.now (cell_view cell.now) (shape_view shape) ≡ Some (tree_cell_view c)) }
+    ensures refused { IfErr result (IsNoneAtFit (cell_shaped classes.now (cell_view cell.now) (shape_view shape))) }
+{
+    match (cell, shape) {
+        (TermCell::One(term), PartShape::One(class)) => Ok(Cell::One(shape_tree(
+            alloc, classes, term, class,
+        )?)),
+        (TermCell::One(term), PartShape::Maybe(class)) => Ok(Cell::Maybe(Some(shape_tree(
+            alloc, classes, term, class,
+        )?))),
+        (TermCell::Many(terms), PartShape::Many(class)) => Ok(Cell::Many(shape_list(
+            alloc, classes, terms, class,
+        )?)),
+        (TermCell::Empty, PartShape::Maybe(_)) => Ok(Cell::Maybe(None)),
+        (TermCell::Holds(value), PartShape::Tok(kind)) => {
+            if !is_of_kind(value, kind) {
+                return Err(ShapeFault::Fit);
+            }
+            Ok(Cell::Tok(copy_value(alloc, value)?))
+        }
+        _ => Err(ShapeFault::Fit),
+    }
+}
+
+#[cycle(shape)]
+fn shape_list(
+    alloc: Global,
+    classes: &ClassTable,
+    terms: &[Term],
+    under: ClassId,
+) -> Result<Vec<Tree>, ShapeFault>
+    ensures found { IfOk result (λ v. trees_shaped classes.now (to_terms (map term_view terms.now)) under ≡ Some (to_trees (map tree_view v.items))) }
+    ensures refused { IfErr result (IsNoneAtFit (trees_shaped classes.now (to_terms (map term_view terms.now)) under)) }
+{
+    let mut trees = Vec::new(alloc);
+    for term in terms {
+        trees.push(shape_tree(alloc, classes, term, under)?)?;
+    }
+    Ok(trees)
+}

@@ -1,0 +1,110 @@
+ghost use Rattle.std.specs.Prelude.{◌≡◌, [], ◌∷◌, ◌++◌, OnOk, OnErr, length, take, map};
+ghost use Rattle.at_model.specs.Classes.{name_of};
+ghost use Rattle.at_model.specs.Terms.{tree_text, cell_text, cell_of, token_text};
+ghost use Rattle.at_model.specs.Trees.{Many, to_trees};
+ghost use Rattle.at_tree.specs.Token.{token_view};
+ghost use Rattle.at_tree.specs.TreeView.{tree_view, cell_view};
+ghost use Rattle.at_tree.specs.Separated.{separator};
+
+use super::{Cell, Tree};
+use crate::token::TokVal;
+use at_class::{ClassId, ClassTable};
+use at_text::decimal::write_int;
+use at_text::quoted::write_quoted;
+use std::alloc::AllocError;
+
+/// Appends the text of the tree. A class number that is none of the table's has no name: such a tree fits nowhere. Where memory is
+/// wanting, the output stays as it was.
+pub fn write_term(classes: &ClassTable, tree: &Tree, out: &mut Vec<u8>) -> Result<(), AllocError>
+    ensures ok { OnOk result (out.new.items ≡ out.old.items ++ tree_text classes.now (tree_view tree.now)) }
+    ensures err { OnErr result (out.new.items ≡ out.old.items) }
+{
+    let len = out.len();
+    let written = append_tree(classes, tree, out);
+    if written.is_err() {
+        out.truncate(len);
+    }
+    written
+}
+
+fn name_or_none(classes: &ClassTable, class: ClassId) -> &str
+    ensures { result.now ≡ name_of classes.now class }
+{
+    if class.index() >= classes.len() {
+        return "";
+    }
+    classes.name_of(class)
+}
+
+// A comma before each element but the first.
+fn separate(i: usize, out: &mut Vec<u8>) -> Result<(), AllocError>
+    ensures ok { OnOk result (out.new.items ≡ out.old.items ++ separator i) }
+    ensures err { OnErr result (take (length out.old.items) out.new.items ≡ out.old.items) }
+{
+    if i == 0 {
+        return Ok(());
+    }
+    Ok(out.push(b',')?)
+}
+
+// A class's name and a parenthesis.
+fn open(classes: &ClassTable, class: ClassId, out: &mut Vec<u8>) -> Result<(), AllocError>
+    ensures ok { OnOk result (out.new.items ≡ out.old.items ++ (name_of classes.now class ++ 40 ∷ [])) }
+    ensures err { OnErr result (take (length out.old.items) out.new.items ≡ out.old.items) }
+{
+    out.extend_from_slice(name_or_none(classes, class).as_bytes())?;
+    Ok(out.push(b'(')?)
+}
+
+fn append_value(value: &TokVal, out: &mut Vec<u8>) -> Result<(), AllocError>
+    ensures ok { OnOk result (out.new.items ≡ out.old.items ++ token_text (token_view value.now)) }
+    ensures err { OnErr result (take (length out.old.items) out.new.items ≡ out.old.items) }
+{
+    match value {
+        TokVal::Str(text) => write_quoted(text.as_str(), out),
+        TokVal::Int(n) => write_int(i64::from(*n), out),
+        TokVal::Bool(true) => out.extend_from_slice(b"true"),
+        TokVal::Bool(false) => out.extend_from_slice(b"false"),
+    }
+}
+
+// Appends the text. Where memory is wanting, it may have appended a part of it.
+#[cycle(append)]
+fn append_tree(classes: &ClassTable, tree: &Tree, out: &mut Vec<u8>) -> Result<(), AllocError>
+    ensures ok { OnOk result (out.new.items ≡ out.old.items ++ tree_text classes.now (tree_view tree.now)) }
+    ensures err { OnErr result (take (length out.old.items) out.new.items ≡ out.old.items) }
+{
+    open(classes, tree.class, out)?;
+    for (i, cell) in tree.cells.iter().enumerate() {
+        separate(i, out)?;
+        append_cell(classes, cell, out)?;
+    }
+    Ok(out.push(b')')?)
+}
+
+#[cycle(append)]
+fn append_cell(classes: &ClassTable, cell: &Cell, out: &mut Vec<u8>) -> Result<(), AllocError>
+    ensures ok { OnOk result (out.new.items ≡ out.old.items ++ cell_text (cell_of classes.now (cell_view cell.now))) }
+    ensures err { OnErr result (take (length out.old.items) out.new.items ≡ out.old.items) }
+{
+    match cell {
+        Cell::One(tree) => append_tree(classes, tree, out),
+        Cell::Many(trees) => append_list(classes, trees, out),
+        Cell::Maybe(Some(tree)) => append_tree(classes, tree, out),
+        Cell::Maybe(None) => Ok(out.push(b'-')?),
+        Cell::Tok(value) => append_value(value, out),
+    }
+}
+
+#[cycle(append)]
+fn append_list(classes: &ClassTable, trees: &[Tree], out: &mut Vec<u8>) -> Result<(), AllocError>
+    ensures ok { OnOk result (out.new.items ≡ out.old.items ++ cell_text (cell_of classes.now (Many (to_trees (map tree_view trees.now))))) }
+    ensures err { OnErr result (take (length out.old.items) out.new.items ≡ out.old.items) }
+{
+    out.push(b'[')?;
+    for (i, tree) in trees.iter().enumerate() {
+        separate(i, out)?;
+        append_tree(classes, tree, out)?;
+    }
+    Ok(out.push(b']')?)
+}
