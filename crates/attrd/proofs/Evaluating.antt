@@ -41,7 +41,7 @@ shape_held classes (Node k cells) (b, h) part shape is = by_part (slice_get (par
     by_part None e f = absurd (none-some shape f)
     by_part (Some p) e f =
         let found = component_held classes cells (parts classes k) part p (and_parts _ _ h).1 e in
-        let same : p.shape ≡ shape = cc in
+        let same : p.shape ≡ shape = same_Some p.shape shape f in
         (found.0, found.1, subst (λ (s : Shape). cell_conforms classes found.0 s ≡ true) same found.2)
 
 one_held : (classes : Classes) (c : Cell) (b : ℕ) → cell_conforms classes c (class.One b) ≡ true → (u : Tree) × (c ≡ One u) × (conforms classes u b ≡ true)
