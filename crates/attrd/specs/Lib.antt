@@ -8,3 +8,5 @@ pub mod Served
 pub mod Edits
 pub mod Engines
 pub mod Evaluation
+pub mod Lookups
+pub mod Answering

@@ -69,6 +69,8 @@ impl Engine {
     ghost use Rattle.at_model.specs.Replies.{Reply as ModelReply, Memory, reply_text};
     ghost use Rattle.attrd.specs.Served.{served, MayDo, done};
     ghost use Rattle.attrd.specs.Edits.{edit_view};
+    ghost use Rattle.attrd.specs.Answering.{asked, IsShown};
+    ghost use Rattle.at_tree.specs.PathView.{path_view};
     ghost use Rattle.attrd.specs.Engines.{engine_view};
     ghost use Rattle.at_model.specs.Trees.{conforms};
     ghost use Rattle.at_tree.specs.TreeView.{tree_view};
@@ -199,7 +201,10 @@ impl Engine {
         }
     }
 
-    fn ask(&self, path: &Path, attribute: &str) -> Form {
+    /// The attribute's value at the node to which the path leads, or why there is none.
+    fn ask(&self, path: &Path, attribute: &str) -> Form
+        ensures { result ≡ asked self.now.rules (tree_view self.now.tree) (path_view path.now) attribute.now }
+    {
         let Some(node) = node_at(&self.rules.classes, &self.tree, &path.steps) else {
             return Form::Refused(Refusal::Path);
         };
@@ -209,7 +214,10 @@ impl Engine {
         }
     }
 
-    fn show(&self, path: &Path) -> Result<Form, AllocError> {
+    /// The term of the node to which the path leads, or that it leads to none.
+    fn show(&self, path: &Path) -> Result<Form, AllocError>
+        ensures { IfOk result (IsShown self.now.rules (tree_view self.now.tree) (path_view path.now)) }
+    {
         match node_at(&self.rules.classes, &self.tree, &path.steps) {
             Some(node) => {
                 let mut text = Vec::new(self.alloc);

@@ -7,7 +7,8 @@ ghost use Rattle.at_model.specs.Classes.{AreSound};
 ghost use Rattle.at_model.specs.Paths.{part_named};
 ghost use Rattle.at_model.specs.Bodies.{Child};
 ghost use Rattle.attrd.specs.Kinds.{shape_of, node_class};
-ghost use Rattle.attrd.specs.Bodies.{node_view};
+ghost use Rattle.attrd.specs.Bodies.{node_view, int_view};
+ghost use Rattle.attrd.specs.Lookups.{body_of};
 ghost use Rattle.attrd.specs.Typed.{IsTyped, IsComponentOf, typed_token};
 
 use super::syntax::{Decl, Expr, Form, Operator};
@@ -43,6 +44,17 @@ pub struct Attribute {
     pub class: ClassId,
     pub name: String,
     pub body: IntExpr,
+}
+
+impl Attribute {
+    ghost use Rattle.std.specs.Prelude.{◌≡◌};
+    ghost use Rattle.attrd.specs.Lookups.{is_of};
+
+    fn is_of(&self, class: ClassId, name: &str) -> bool
+        ensures { result ≡ is_of self.now class name.now }
+    {
+        self.class == class && self.name.as_str() == name
+    }
 }
 
 /// Classes and their attributes.
@@ -107,9 +119,11 @@ impl Rules {
     }
 
     /// The body of the class's attribute of that name, if it has one.
-    pub fn body(&self, class: ClassId, name: &str) -> Option<&IntExpr> {
+    pub fn body(&self, class: ClassId, name: &str) -> Option<&IntExpr>
+        ensures { option_map (λ b. int_view b.now) result ≡ body_of self.now.attributes.items class name.now }
+    {
         for attribute in &self.attributes {
-            if attribute.class == class && attribute.name.as_str() == name {
+            if attribute.is_of(class, name) {
                 return Some(&attribute.body);
             }
         }
