@@ -69,7 +69,8 @@ impl Engine {
     ghost use Rattle.at_model.specs.Replies.{Reply as ModelReply, Memory, reply_text};
     ghost use Rattle.attrd.specs.Served.{served, MayDo, done};
     ghost use Rattle.attrd.specs.Edits.{edit_view};
-    ghost use Rattle.attrd.specs.Answering.{asked, IsShown};
+    ghost use Rattle.attrd.specs.Answering.{asked, IsShown, token_told, edit_there};
+    ghost use Rattle.attrd.specs.Nodes.{tree_on};
     ghost use Rattle.at_tree.specs.PathView.{path_view};
     ghost use Rattle.attrd.specs.Engines.{engine_view};
     ghost use Rattle.at_model.specs.Trees.{conforms};
@@ -229,7 +230,9 @@ impl Engine {
     }
 
     fn token(&self, path: Path, part: &str, value: TokVal) -> Outcome
-        ensures { MayDo (engine_view self.now) (option_map edit_view result.edit) }
+        ensures may { MayDo (engine_view self.now) (option_map edit_view result.edit) }
+        ensures form { result.form ≡ token_told self.now.rules part.now (token_view value) self.now.version (tree_on self.now.rules.classes (tree_view self.now.tree) (path_view path)) }
+        ensures edit { option_map edit_view result.edit ≡ edit_there self.now.rules part.now (path_view path) (token_view value) result.form (tree_on self.now.rules.classes (tree_view self.now.tree) (path_view path)) }
     {
         let Some(node) = node_at(&self.rules.classes, &self.tree, &path.steps) else {
             return Outcome::refused(Refusal::Path);

@@ -1,11 +1,11 @@
 //! The nodes of a tree whose components are plain children and tokens: those that paths lead to, and their
 //! tokens.
 
-ghost use Rattle.std.specs.Prelude.{◌≡◌, ◌<◌, Some, IfSome, option_map, slice_get, length};
+ghost use Rattle.std.specs.Prelude.{◌≡◌, ◌<◌, Some, IfSome, not, option_map, slice_get, length};
 ghost use Rattle.at_tree.specs.TreeView.{tree_view, cell_view};
 ghost use Rattle.at_tree.specs.PathView.{step_view, steps_view};
 ghost use Rattle.attrd.specs.Nodes.{Conforms, HoldsConforming, child_in, stepped, tree_on, token_in, token_on, with_plain_child, set_on};
-ghost use Rattle.at_model.specs.Edits.{with_cell};
+ghost use Rattle.at_model.specs.Edits.{with_cell, is_short};
 ghost use Rattle.at_model.specs.Trees.{Holds};
 ghost use Rattle.at_tree.specs.Token.{token_view};
 ghost use Rattle.at_tree.specs.declared.tree.Tree.{out-Tree};
@@ -147,7 +147,9 @@ fn cell_has_long_token(cell: &Cell) -> bool {
 const MAX_TOKEN: usize = 4096;
 
 /// Whether the token's text is longer than a text may be.
-pub fn is_long(value: &TokVal) -> bool {
+pub fn is_long(value: &TokVal) -> bool
+    ensures { result ≡ not (is_short (token_view value.now)) }
+{
     match value {
         TokVal::Str(text) => text.len() > MAX_TOKEN,
         _ => false,

@@ -7,8 +7,8 @@ use Rattle.attrd.specs.Nodes.{tree_on}
 use Rattle.attrd.proofs.Keeping.{fits_there, token_fits}
 use Rattle.attrd.proofs.engine.Engine.token.Goals as goal
 
-pub returns : goal.returns
-returns c =
+pub returns-clause-may : goal.returns-clause-may
+returns-clause-may c =
     let classes = c.args.self.now.rules.classes in
     let t = tree_view c.args.self.now.tree in
     let u = tree_view c.in-Some.node.now in
