@@ -10,3 +10,4 @@ pub mod Engines
 pub mod Evaluation
 pub mod Lookups
 pub mod Answering
+pub mod Lines

@@ -70,6 +70,11 @@ impl Engine {
     ghost use Rattle.attrd.specs.Served.{served, MayDo, done};
     ghost use Rattle.attrd.specs.Edits.{edit_view};
     ghost use Rattle.attrd.specs.Answering.{asked, IsShown, token_told, edit_there};
+    ghost use Rattle.at_protocol.specs.ReplyView.{IsReply};
+    ghost use Rattle.at_protocol.specs.declared.reply.Reply.{Reply};
+    ghost use Rattle.std.specs.Prelude.{Option};
+    ghost use Rattle.attrd.specs.Served.{TokenEdit};
+    ghost use Rattle.attrd.specs.Lines.{Does, Gets};
     ghost use Rattle.attrd.specs.Nodes.{tree_on};
     ghost use Rattle.at_tree.specs.PathView.{path_view};
     ghost use Rattle.attrd.specs.Engines.{engine_view};
@@ -129,6 +134,11 @@ impl Engine {
     /// Serves a line that isn't empty; whether it was answered by want of memory.
     pub fn serve(&mut self, line: &[u8], out: &mut Vec<u8>) -> Result<bool, AllocError>
         requires { 0 < length line.now }
+        // The reply to the line, and the edit that it leads to, if any.
+        ensures gets { IfOk result (λ wants. wants ≡ false → (reply : Reply) × (e : Option TokenEdit)
+            × Gets self.old.rules (tree_view self.old.tree) self.old.version line.now reply e
+            × ((r : ModelReply) → IsReply reply r → out.new.items ≡ out.old.items ++ reply_text r)
+            × (engine_view self.new ≡ done (engine_view self.old) e)) }
         // The reply to want of memory, and nothing else has changed.
         ensures memory { IfOk result (λ wants. wants ≡ true → (reply : ModelReply) × IsSessionOf line.now reply.session × (reply.form ≡ Memory)
             × (out.new.items ≡ out.old.items ++ reply_text reply) × (engine_view self.new ≡ engine_view self.old)) }
@@ -153,6 +163,10 @@ impl Engine {
 
     /// Takes the line's step and appends its reply, or changes nothing for want of memory.
     fn step(&mut self, line: &[u8], out: &mut Vec<u8>) -> bool
+        ensures gets { result ≡ true → (reply : Reply) × (e : Option TokenEdit)
+            × Gets self.old.rules (tree_view self.old.tree) self.old.version line.now reply e
+            × ((r : ModelReply) → IsReply reply r → out.new.items ≡ out.old.items ++ reply_text r)
+            × (engine_view self.new ≡ done (engine_view self.old) e) }
         ensures memory { result ≡ false → (out.new.items ≡ out.old.items) × (engine_view self.new ≡ engine_view self.old) }
         ensures room { vec_capacity out.old ≤ vec_capacity out.new }
     {
@@ -170,7 +184,8 @@ impl Engine {
 
     /// The reply to the line, and the edit that goes with it, if any.
     fn outcome(&self, line: &[u8]) -> Result<(Reply, Option<Edit>), AllocError>
-        ensures { IfOk result (λ o. MayDo (engine_view self.now) (option_map edit_view o.1)) }
+        ensures may { IfOk result (λ o. MayDo (engine_view self.now) (option_map edit_view o.1)) }
+        ensures gets { IfOk result (λ o. Gets self.now.rules (tree_view self.now.tree) self.now.version line.now o.0 (option_map edit_view o.1)) }
     {
         match read_line(self.alloc, line) {
             Ok(line) => {
@@ -187,7 +202,8 @@ impl Engine {
     }
 
     fn command(&self, command: Command) -> Result<Outcome, AllocError>
-        ensures { IfOk result (λ o. MayDo (engine_view self.now) (option_map edit_view o.edit)) }
+        ensures may { IfOk result (λ o. MayDo (engine_view self.now) (option_map edit_view o.edit)) }
+        ensures does { IfOk result (λ o. Does self.now.rules (tree_view self.now.tree) self.now.version command o.form (option_map edit_view o.edit)) }
     {
         match command {
             Command::Ask { path, attribute } => Ok(Outcome::reply(self.ask(
