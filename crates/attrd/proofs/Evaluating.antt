@@ -112,11 +112,12 @@ child_found classes t same scope u lone a part b d (m, gives, (at, is, held)) na
     let there : cell_at w part ≡ Some (One v) = found.1 ∙ ap (λ c. Some c) one.1 in
     let next : Place = m ++ (part, 0) ∷ [] in
     let node : plain_or w (cell_at w part) ≡ v = ap (plain_or w) there in
-    let tree : tree_at t next ≡ Some v = tree_at-snoc t m (part, 0) w at ∙ ap (λ (o : Option Cell). slice_get (elim o [ None ↦ [] | Some c ↦ children c ]) 0) there in
-    (next,
-        after_value (content t) (eval classes same a scope) (child_of part) (Ref (Some m)) gives
-            ∙ ap (λ (ns : List Place). tried (content t) nothing (node_or (Fails Absent) (slice_get ns 0))) (slot_is t m w v part at there),
-        subst (λ (x : Tree). (tree_at t next ≡ Some x) × (class_of x ≡ b) × Conforms classes x) (sym node) (tree, own_only classes v b lone one.2, (b, one.2)))
+    let tree : tree_at t next ≡ Some v = tree_at-snoc t m (part, 0) w at ∙ ap (λ (o : Option Cell). slice_get (elim o [ None ↦ [] | Some c ↦ children c ]) 0) there in (
+      next,
+      after_value (content t) (eval classes same a scope) (child_of part) (Ref (Some m)) gives
+          ∙ ap (λ (ns : List Place). tried (content t) nothing (node_or (Fails Absent) (slice_get ns 0))) (slot_is t m w v part at there),
+      subst (λ (x : Tree). (tree_at t next ≡ Some x) × (class_of x ≡ b) × Conforms classes x) (sym node) (tree, own_only classes v b lone one.2, (b, one.2)),
+    )
 
 pub node_found : (classes : Classes) (t : Tree) (same : Place → Place → Bool) (scope : Scope Place) (u : Tree) → HaveNoParents classes → tree_at t scope.this ≡ Some u → Conforms classes u
     → (e : Expr) (b : ℕ) → node_class classes (class_of u) e ≡ Some b → Found classes t same scope u e b

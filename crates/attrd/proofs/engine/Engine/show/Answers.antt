@@ -17,4 +17,4 @@ returns-in_ok-write_term-in-Some c =
     let leads = ap (λ ss. tree_on r.classes t (steps_view ss)) (sym c.deref.ensures.value) ∙ sym c.node_at.ensures.found ∙ ap (option_map (λ w. tree_view w.now)) c.in-Some.is in
     let text = c.write_term.new.out in
     subst (λ (o : Option Tree). IsShownOf r (form.Term text) o) (sym leads)
-        (text, refl, c.in_ok-write_term-in-Some.ensures.ok ∙ ap (λ xs. xs ++ tree_text r.classes u) c.new-text.ensures.items)
+    (text, refl, c.in_ok-write_term-in-Some.ensures.ok ∙ ap (λ xs. xs ++ tree_text r.classes u) c.new-text.ensures.items)
