@@ -11,3 +11,4 @@ pub mod Evaluation
 pub mod Lookups
 pub mod Answering
 pub mod Lines
+pub mod StartFaults

@@ -1,6 +1,7 @@
 //! The files of a server, and the engine that they make.
 
-ghost use Rattle.std.specs.Prelude.{◌≡◌, true, IfOk};
+ghost use Rattle.std.specs.Prelude.{◌≡◌, ◌++◌, true, Some, take, length, string_bytes, IfOk, OnOk, OnErr};
+ghost use Rattle.attrd.specs.StartFaults.{fault_text, place_text, file_name};
 ghost use Rattle.at_model.specs.Declarations.{AreNamed};
 ghost use Rattle.at_model.specs.Trees.{conforms};
 ghost use Rattle.at_class.specs.Grammar.{grammar_view};
@@ -250,7 +251,9 @@ fn read_tree(
 }
 
 /// The file of that number, in the order grammar, aspects, tree.
-fn numbered_file(files: &Files, file: usize) -> &Source {
+fn numbered_file(files: &Files, file: usize) -> &Source
+    ensures { string_bytes result.now.name ≡ file_name files.now file }
+{
     if file == 0 {
         return &files.grammar;
     }
@@ -259,7 +262,10 @@ fn numbered_file(files: &Files, file: usize) -> &Source {
 
 /// Appends the fault as it is printed, with its newline. Where memory is wanting the output stays as
 /// it was.
-pub fn write_fault(files: &Files, fault: &StartFault, out: &mut Vec<u8>) -> Result<(), AllocError> {
+pub fn write_fault(files: &Files, fault: &StartFault, out: &mut Vec<u8>) -> Result<(), AllocError>
+    ensures ok { OnOk result (out.new.items ≡ out.old.items ++ fault_text files.now fault.now) }
+    ensures err { OnErr result (out.new.items ≡ out.old.items) }
+{
     let length = out.len();
     let written = append_fault(files, fault, out);
     if written.is_err() {
@@ -269,7 +275,10 @@ pub fn write_fault(files: &Files, fault: &StartFault, out: &mut Vec<u8>) -> Resu
 }
 
 /// Appends the fault, or a front of it where memory is wanting.
-fn append_fault(files: &Files, fault: &StartFault, out: &mut Vec<u8>) -> Result<(), AllocError> {
+fn append_fault(files: &Files, fault: &StartFault, out: &mut Vec<u8>) -> Result<(), AllocError>
+    ensures ok { OnOk result (out.new.items ≡ out.old.items ++ fault_text files.now fault.now) }
+    ensures err { OnErr result (take (length out.old.items) out.new.items ≡ out.old.items) }
+{
     match fault {
         StartFault::Refused { file, code, at } => {
             out.extend_from_slice(numbered_file(files, *file).name.as_bytes())?;
@@ -284,8 +293,24 @@ fn append_fault(files: &Files, fault: &StartFault, out: &mut Vec<u8>) -> Result<
     out.extend_from_slice(b"\n")
 }
 
-/// Appends ` at LINE:COLUMN`.
-fn append_place(at: (u32, u32), out: &mut Vec<u8>) -> Result<(), AllocError> {
+/// Appends ` at LINE:COLUMN`. Where memory is wanting the output stays as it was.
+fn append_place(at: (u32, u32), out: &mut Vec<u8>) -> Result<(), AllocError>
+    ensures ok { OnOk result (out.new.items ≡ out.old.items ++ place_text (Some at)) }
+    ensures err { OnErr result (out.new.items ≡ out.old.items) }
+{
+    let length = out.len();
+    let written = append_numbers(at, out);
+    if written.is_err() {
+        out.truncate(length);
+    }
+    written
+}
+
+/// Appends ` at LINE:COLUMN`, or a front of it where memory is wanting.
+fn append_numbers(at: (u32, u32), out: &mut Vec<u8>) -> Result<(), AllocError>
+    ensures ok { OnOk result (out.new.items ≡ out.old.items ++ place_text (Some at)) }
+    ensures err { OnErr result (take (length out.old.items) out.new.items ≡ out.old.items) }
+{
     let (line, column) = at;
     out.extend_from_slice(b" at ")?;
     out.extend_from_slice(Buffer::new().format(line).as_bytes())?;
