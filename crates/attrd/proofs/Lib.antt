@@ -5,3 +5,5 @@ pub mod Walks
 pub mod Setting
 pub mod Keeping
 pub mod Naming
+pub mod Starting
+pub mod StartingTokens

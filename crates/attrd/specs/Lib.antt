@@ -8,3 +8,4 @@ pub mod Served
 pub mod Edits
 pub mod Engines
 pub mod Evaluation
+pub mod Starting
