@@ -1,10 +1,11 @@
 //! The files of a server, and the engine that they make.
 
-ghost use Rattle.std.specs.Prelude.{◌≡◌, ◌&&◌, true, IfOk, not, is_none, option_map, string_bytes};
+ghost use Rattle.std.specs.Prelude.{◌≡◌, ◌&&◌, true, IfOk, OnErr, not, is_none, option_map, string_bytes};
 ghost use Rattle.std.specs.List.{find, list_all};
 ghost use Rattle.at_model.specs.Declarations.{AreNamed};
 ghost use Rattle.at_model.specs.Trees.{conforms};
 ghost use Rattle.at_model.specs.Edits.{is_within_limits};
+ghost use Rattle.at_text.specs.Quoted.{Extends};
 ghost use Rattle.at_class.specs.Grammar.{grammar_view, declaration_view, part_declaration_view};
 ghost use Rattle.attrd.specs.Starting.{AreFlat, ArePlain, are_plain, is_plain, is_plain_part, left_out};
 ghost use Rattle.at_tree.specs.TreeView.{tree_view};
@@ -319,7 +320,10 @@ fn numbered_file(files: &Files, file: usize) -> &Source {
 
 /// Appends the fault as it is printed, with its newline. Where memory is wanting the output stays as
 /// it was.
-pub fn write_fault(files: &Files, fault: &StartFault, out: &mut Vec<u8>) -> Result<(), AllocError> {
+pub fn write_fault(files: &Files, fault: &StartFault, out: &mut Vec<u8>) -> Result<(), AllocError>
+    ensures err { OnErr result (out.new.items ≡ out.old.items) }
+    ensures kept { Extends out.old.items out.new.items }
+{
     let length = out.len();
     let written = append_fault(files, fault, out);
     if written.is_err() {
@@ -329,7 +333,9 @@ pub fn write_fault(files: &Files, fault: &StartFault, out: &mut Vec<u8>) -> Resu
 }
 
 /// Appends the fault, or a front of it where memory is wanting.
-fn append_fault(files: &Files, fault: &StartFault, out: &mut Vec<u8>) -> Result<(), AllocError> {
+fn append_fault(files: &Files, fault: &StartFault, out: &mut Vec<u8>) -> Result<(), AllocError>
+    ensures { Extends out.old.items out.new.items }
+{
     match fault {
         StartFault::Refused { file, code, at } => {
             out.extend_from_slice(numbered_file(files, *file).name.as_bytes())?;
@@ -345,7 +351,9 @@ fn append_fault(files: &Files, fault: &StartFault, out: &mut Vec<u8>) -> Result<
 }
 
 /// Appends ` at LINE:COLUMN`.
-fn append_place(at: (u32, u32), out: &mut Vec<u8>) -> Result<(), AllocError> {
+fn append_place(at: (u32, u32), out: &mut Vec<u8>) -> Result<(), AllocError>
+    ensures { Extends out.old.items out.new.items }
+{
     let (line, column) = at;
     out.extend_from_slice(b" at ")?;
     out.extend_from_slice(Buffer::new().format(line).as_bytes())?;
