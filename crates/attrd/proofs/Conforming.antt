@@ -1,10 +1,10 @@
 -- What stands in a tree that conforms.
-use Rattle.std.proofs.Common.{◌≡◌, ℕ, ◌<◌, Bool, true, false, not, ◌&&◌, List, [], ◌∷◌, length, Option, Some, None, slice_get, sym, ap, subst, refl, zero, suc}
+use Rattle.std.proofs.Common.{◌≡◌, ℕ, ◌<◌, true, false, not, List, [], ◌∷◌, length, Option, Some, None, slice_get, subst, refl, zero, suc}
 use Rattle.std.proofs.lemmas.Option.{slice_get_within, none-some}
 use Rattle.std.proofs.lemmas.Bool.{and_parts}
 use Rattle.at_model.specs.Classes.{Classes, Class, Component, Shape, fits, parts, is_concrete}
 use Rattle.at_model.specs.Classes as class
-use Rattle.at_model.specs.Trees.{Tree, Node, Cells, no_cells, cell, Cell, One, Many, Empty, Filled, Holds, Trees, no_trees, tree, class_of, cells_of, from_cells, from_trees, conforms, cells_conform, cell_conforms, trees_conform}
+use Rattle.at_model.specs.Trees.{Tree, Node, Cells, no_cells, cell, Cell, One, Many, Empty, Filled, Holds, class_of, cells_of, from_cells, cells_conform, cell_conforms}
 use Rattle.std.specs.Option.{option_and_then}
 use Rattle.at_model.specs.Paths.{Step, cell_at, part_named}
 use Rattle.attrd.specs.Nodes.{Conforms, child_in, stepped}

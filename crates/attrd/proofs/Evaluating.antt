@@ -1,5 +1,5 @@
 -- What the machine finds for a body of today is the number that the body is.
-use Rattle.std.proofs.Common.{◌≡◌, ℕ, zero, suc, ℤ, Bool, true, false, ◌&&◌, List, [], ◌∷◌, ◌++◌, Option, Some, None, slice_get, refl, sym, ap, ◌∙◌, subst, length, nat_eq, arith}
+use Rattle.std.proofs.Common.{◌≡◌, ℕ, zero, suc, ℤ, Bool, true, false, List, [], ◌∷◌, ◌++◌, Option, Some, None, slice_get, refl, sym, ap, ◌∙◌, subst, length, nat_eq, arith}
 use Rattle.std.proofs.lemmas.Bool.Decides.{nat_tests}
 use Rattle.std.specs.List.{list_any}
 use Rattle.std.specs.Int.{w32, int_wrapping_neg}
@@ -11,7 +11,7 @@ use Rattle.at_model.specs.Classes as class
 use Rattle.at_model.specs.Trees.{Tree, Node, Cells, no_cells, cell, Cell, One, Many, Empty, Filled, Holds, Token, class_of, from_cells, children, conforms, cells_conform, cell_conforms}
 use Rattle.at_model.specs.Trees as tree
 use Rattle.at_model.specs.Paths.{Node as Place, tree_at, cell_at, children_at}
-use Rattle.at_model.specs.Run.{Value, Int, Ref, Tok, Slot, Absent, Instance, Known, Contents, Run, Gives, Fails, Looks, Demands, ◌>>=◌, Tried, Valued, Faulted, Needs, tried}
+use Rattle.at_model.specs.Run.{Int, Ref, Tok, Slot, Absent, Contents, Run, Gives, Fails, Looks, Demands, ◌>>=◌, Valued, tried}
 use Rattle.at_model.specs.Bodies.{Expr, IntLiteral, This, Negate, Arithmetic, Child, TokenOf, Operator, Plus, Minus, Times, Scope, eval, child_of, token_of, node_or, value_of, computed, int_of}
 use Rattle.at_model.specs.Meaning.{content, child_nodes, token_in}
 use Rattle.at_model.proofs.WithinTree.{tree_at-snoc}

@@ -6,3 +6,12 @@ pub mod Setting
 pub mod Keeping
 pub mod Naming
 pub mod Evaluating
+pub mod Starting
+pub mod StartingTokens
+pub mod Replying
+pub mod Kept
+pub mod KeptLines
+pub mod Pieces
+pub mod Progressing
+pub mod Takings
+pub mod Runnings

@@ -10,7 +10,7 @@ use Rattle.at_class.specs.Grammar.{declaration_view, part_declaration_view}
 use Rattle.at_grammar.specs.declared.syntax.ClassDecl.{ClassDecl}
 use Rattle.at_grammar.specs.declared.syntax.PartDecl.{PartDecl}
 use Rattle.at_grammar.specs.Grammar.{Word, Part, Child, Children, Optional, Token, Declaration, IsFile, IsDeclaration, IfWritten, IsName, IsBody, IsPart}
-use Rattle.at_grammar.specs.Meaning.{Component, Class, seen_class, seen_part, class_means, part_means, body_means, text_of, bytes_of}
+use Rattle.at_grammar.specs.Meaning.{seen_class, seen_part, class_means, part_means, body_means, text_of, bytes_of}
 
 part_named : (p : PartDecl) (q : Part) → IsPart q → (part_means q).name ≡ string_bytes p.name → is_name (string_bytes p.name) ≡ true
 part_named p (Child t) h e = subst (λ (n : List ℕ). is_name n ≡ true) e h.0

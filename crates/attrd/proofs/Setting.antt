@@ -1,10 +1,10 @@
 -- One cell of a tree replaced.
-use Rattle.std.proofs.Common.{◌≡◌, ℕ, ◌<◌, ◌≤◌, zero, suc, List, [], ◌∷◌, length, map, Some, None, slice_get, refl, ap, sym, ◌∙◌, subst, arith, set, string_bytes, true, option_map}
+use Rattle.std.proofs.Common.{◌≡◌, ℕ, ◌≤◌, zero, suc, List, [], ◌∷◌, length, map, Some, None, slice_get, refl, ap, sym, ◌∙◌, arith, set, string_bytes, true, option_map}
 use Rattle.std.proofs.lemmas.Option.{none-some}
 use Rattle.std.proofs.lemmas.List.{length-map}
 use Rattle.std.specs.Vec.{with_item}
 use Rattle.at_model.specs.Classes.{Classes, Shape}
-use Rattle.at_model.specs.Trees.{Tree, Node, Cell, One, Many, Empty, Filled, Holds, to_cells, from_cells, class_of, cell_conforms}
+use Rattle.at_model.specs.Trees.{Tree, Node, Cell, One, Many, Empty, Filled, Holds, to_cells, class_of, cell_conforms}
 use Rattle.at_model.specs.Edits.{changed_at, with_cell}
 use Rattle.at_model.specs.Paths.{part_named}
 use Rattle.at_tree.specs.TreeView.{see_tree, see_cell, tree_view, cell_view}
@@ -12,7 +12,7 @@ use Rattle.at_tree.specs.declared.tree.Tree.{Tree as TreeValue, out-Tree, roll-T
 use Rattle.at_tree.specs.declared.tree.Cell.{Cell as CellValue}
 use Rattle.at_tree.specs.declared.tree.Cell.TheFolds.{fold-roll-Tree}
 use Rattle.at_model.specs.Trees.{Token}
-use Rattle.at_tree.specs.PathView.{step_view, steps_view}
+use Rattle.at_tree.specs.PathView.{steps_view}
 use Rattle.at_tree.specs.declared.path.Step.{Step as StepValue}
 use Rattle.attrd.specs.Nodes.{Conforms, HoldsConforming, with_plain_child, set_on}
 use Rattle.attrd.proofs.Conforming.{component_there, child_conforms}

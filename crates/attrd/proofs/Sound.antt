@@ -1,5 +1,5 @@
 -- The components of sound classes name classes that are there.
-use Rattle.std.proofs.Common.{◌≡◌, ℕ, ◌<◌, List, [], ◌∷◌, ◌++◌, length, reverse, Option, Some, None, slice_get, sym, subst, refl}
+use Rattle.std.proofs.Common.{◌≡◌, ℕ, List, [], ◌∷◌, length, reverse, Option, Some, None, slice_get, sym, subst, refl}
 use Rattle.std.specs.List.{All, flat_map}
 use Rattle.std.specs.Option.{option_and_then}
 use Rattle.attrd.specs.Kinds.{shape_of}

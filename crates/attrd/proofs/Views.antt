@@ -2,7 +2,7 @@
 use Rattle.std.proofs.Common.{◌≡◌, ℕ, ◌<◌, length, subst, map, List, [], ◌∷◌, refl, ap, sym, ◌∙◌, Option, Some, None, Bor, slice_get, option_map}
 use Rattle.std.specs.Option.{option_copied, option_and_then}
 use Rattle.std.proofs.lemmas.Option.{slice_get-map}
-use Rattle.at_model.specs.Trees.{Node, Cell, class_of, cells_of, to_cells, from_cells, Tree, Token}
+use Rattle.at_model.specs.Trees.{Node, Cell, class_of, to_cells, from_cells, Tree, Token}
 use Rattle.at_model.specs.Classes.{Classes}
 use Rattle.at_model.specs.Paths.{cell_at, Step, part_named}
 use Rattle.attrd.specs.Nodes.{Conforms, child_in, stepped, token_in, token_beside, token_on}

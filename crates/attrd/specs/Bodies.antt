@@ -1,5 +1,4 @@
 -- What the bodies of equations stand for.
-use Rattle.std.specs.Prelude.{ℕ, ℤ}
 use Rattle.at_model.specs.Bodies.{Expr, IntLiteral, This, Negate, Arithmetic, Child, TokenOf, Operator as Arithmetical, Times, Plus, Minus}
 use Rattle.attrd.specs.declared.aspects.syntax.Operator.{Operator}
 use Rattle.attrd.specs.declared.aspects.syntax.Operator.TheVariants.{Add, Subtract, Multiply}

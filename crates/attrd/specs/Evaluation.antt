@@ -7,7 +7,7 @@ use Rattle.at_model.specs.Paths.{Node, tree_at, cell_at}
 use Rattle.at_model.specs.Run.{Known, Valued, tried}
 use Rattle.at_model.specs.Run as run
 use Rattle.at_model.specs.Meaning.{content}
-use Rattle.at_model.specs.Bodies.{Expr, IntLiteral, This, Negate, Arithmetic, Child, TokenOf, Operator, Plus, Minus, Times, Scope, eval}
+use Rattle.at_model.specs.Bodies.{Expr, IntLiteral, Negate, Arithmetic, Child, TokenOf, Operator, Plus, Minus, Times, Scope, eval}
 use Rattle.attrd.specs.Nodes.{Conforms}
 use Rattle.attrd.specs.Kinds.{is_number}
 

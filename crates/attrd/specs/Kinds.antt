@@ -1,5 +1,5 @@
 -- The kinds of the expressions that there are today.
-use Rattle.std.specs.Prelude.{◌≡◌, ℕ, Bool, true, false, ◌&&◌, Option, Some, None, option_and_then, slice_get}
+use Rattle.std.specs.Prelude.{ℕ, Bool, true, false, ◌&&◌, Option, Some, None, option_and_then, slice_get}
 use Rattle.at_model.specs.Classes.{Classes, Shape, parts}
 use Rattle.at_model.specs.Classes as class
 use Rattle.at_model.specs.Bodies.{Expr, IntLiteral, This, Negate, Arithmetic, Child, TokenOf, Operator, Plus, Minus, Times}

@@ -12,3 +12,9 @@ pub mod Lookups
 pub mod Answering
 pub mod Lines
 pub mod StartFaults
+pub mod Starting
+pub mod Serving
+pub mod Loop
+pub mod Taking
+pub mod Running
+pub mod RunFaults

@@ -1,5 +1,5 @@
 -- What is printed of files that make no engine.
-use Rattle.std.specs.Prelude.{ℕ, ◌-◌, ◌+◌, ◌==◌, List, [], ◌∷◌, ◌++◌, decimal, codes, Option, Some, None, slice_get, string_bytes, if◌then◌else◌}
+use Rattle.std.specs.Prelude.{ℕ, ◌-◌, ◌==◌, List, [], ◌∷◌, ◌++◌, decimal, codes, Option, Some, None, slice_get, string_bytes, if◌then◌else◌}
 use Rattle.attrd.specs.Codes.{code_text}
 use Rattle.attrd.specs.declared.start.Source.{Source}
 use Rattle.attrd.specs.declared.start.Files.{Files}

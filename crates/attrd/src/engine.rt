@@ -77,14 +77,16 @@ impl Engine {
     ghost use Rattle.attrd.specs.Lines.{Does, Gets};
     ghost use Rattle.attrd.specs.Nodes.{tree_on};
     ghost use Rattle.at_tree.specs.PathView.{path_view};
-    ghost use Rattle.attrd.specs.Engines.{engine_view};
+    ghost use Rattle.attrd.specs.Engines.{engine_view, rules_of, state_of};
+    ghost use Rattle.attrd.specs.Serving.{Serves};
     ghost use Rattle.at_model.specs.Trees.{conforms};
     ghost use Rattle.at_tree.specs.TreeView.{tree_view};
 
     /// An engine of version 0, for a tree of the rules' classes.
     pub fn new(alloc: Global, rules: Rules, tree: Tree) -> Engine
         requires { conforms rules.classes (tree_view tree) 0 ≡ true }
-        ensures { engine_view result ≡ served rules (tree_view tree) 0 }
+        ensures rules { rules_of result ≡ rules }
+        ensures state { engine_view result ≡ served rules (tree_view tree) 0 }
     {
         Engine {
             alloc,
@@ -134,14 +136,9 @@ impl Engine {
     /// Serves a line that isn't empty; whether it was answered by want of memory.
     pub fn serve(&mut self, line: &[u8], out: &mut Vec<u8>) -> Result<bool, AllocError>
         requires { 0 < length line.now }
-        // The reply to the line, and the edit that it leads to, if any.
-        ensures gets { IfOk result (λ wants. wants ≡ false → (reply : Reply) × (e : Option TokenEdit)
-            × Gets self.old.rules (tree_view self.old.tree) self.old.version line.now reply e
-            × ((r : ModelReply) → IsReply reply r → out.new.items ≡ out.old.items ++ reply_text r)
-            × (engine_view self.new ≡ done (engine_view self.old) e)) }
-        // The reply to want of memory, and nothing else has changed.
-        ensures memory { IfOk result (λ wants. wants ≡ true → (reply : ModelReply) × IsSessionOf line.now reply.session × (reply.form ≡ Memory)
-            × (out.new.items ≡ out.old.items ++ reply_text reply) × (engine_view self.new ≡ engine_view self.old)) }
+        // The reply to the line and the state that it leads to, or want of memory and the state as it was.
+        ensures served { IfOk result (λ wants. (reply : ModelReply) × Serves (rules_of self.old) wants (state_of self.old) line.now (state_of self.new) reply × (out.new.items ≡ out.old.items ++ reply_text reply)) }
+        ensures rules { rules_of self.new ≡ rules_of self.old }
         ensures room { vec_capacity out.old ≤ vec_capacity out.new }
         ensures full { OnErr result (vec_capacity out.old < vec_len out.old + 48) }
         ensures err { OnErr result ((out.new.items ≡ out.old.items) × (engine_view self.new ≡ engine_view self.old)) }
@@ -168,6 +165,7 @@ impl Engine {
             × ((r : ModelReply) → IsReply reply r → out.new.items ≡ out.old.items ++ reply_text r)
             × (engine_view self.new ≡ done (engine_view self.old) e) }
         ensures memory { result ≡ false → (out.new.items ≡ out.old.items) × (engine_view self.new ≡ engine_view self.old) }
+        ensures rules { rules_of self.new ≡ rules_of self.old }
         ensures room { vec_capacity out.old ≤ vec_capacity out.new }
     {
         match self.outcome(line) {
@@ -273,7 +271,8 @@ impl Engine {
     /// Does the edit, where there is one.
     fn commit_all(&mut self, edit: Option<Edit>)
         requires { MayDo (engine_view self.old) (option_map edit_view edit) }
-        ensures { engine_view self.new ≡ done (engine_view self.old) (option_map edit_view edit) }
+        ensures done { engine_view self.new ≡ done (engine_view self.old) (option_map edit_view edit) }
+        ensures rules { rules_of self.new ≡ rules_of self.old }
     {
         if let Some(edit) = edit {
             self.commit(edit);
@@ -283,7 +282,8 @@ impl Engine {
     /// Does an edit that is accepted.
     fn commit(&mut self, edit: Edit)
         requires { MayDo (engine_view self.old) (Some (edit_view edit)) }
-        ensures { engine_view self.new ≡ done (engine_view self.old) (Some (edit_view edit)) }
+        ensures done { engine_view self.new ≡ done (engine_view self.old) (Some (edit_view edit)) }
+        ensures rules { rules_of self.new ≡ rules_of self.old }
     {
         let Edit { path, part, value } = edit;
         set_token(

@@ -7,18 +7,18 @@ mod code;
 mod engine;
 mod evaluate;
 mod node;
-mod run;
 mod start;
+mod stream;
 #[cfg(test)]
 mod tests;
 
-use run::{RunFault, run};
 use start::{Files, MAX_FILE, Source, StartFault, start, write_fault};
 use std::alloc::{AllocError, AllocFailed, Global};
 use std::fs::File;
 use std::io::{ErrorKind, Read, Write};
 use std::process::ExitCode;
 use std::{env, io};
+use stream::{RunFault, run};
 
 /// How the command line is written.
 const USAGE: &str = "usage: attrd GRAMMAR TREE ASPECT...";

@@ -1,12 +1,12 @@
 //! The nodes of a tree whose components are plain children and tokens: those that paths lead to, and their
 //! tokens.
 
-ghost use Rattle.std.specs.Prelude.{◌≡◌, ◌<◌, Some, IfSome, not, option_map, slice_get, length};
+ghost use Rattle.std.specs.Prelude.{◌≡◌, ◌<◌, Some, IfSome, not, option_map, slice_get, length, map};
 ghost use Rattle.at_tree.specs.TreeView.{tree_view, cell_view};
 ghost use Rattle.at_tree.specs.PathView.{step_view, steps_view};
 ghost use Rattle.attrd.specs.Nodes.{Conforms, HoldsConforming, child_in, stepped, tree_on, token_in, token_on, with_plain_child, set_on};
-ghost use Rattle.at_model.specs.Edits.{with_cell, is_short};
-ghost use Rattle.at_model.specs.Trees.{Holds};
+ghost use Rattle.at_model.specs.Edits.{with_cell, is_short, tokens_short, cell_tokens_short, trees_tokens_short};
+ghost use Rattle.at_model.specs.Trees.{Holds, to_trees};
 ghost use Rattle.at_tree.specs.Token.{token_view};
 ghost use Rattle.at_tree.specs.declared.tree.Tree.{out-Tree};
 ghost use Rattle.std.specs.Option.{option_copied};
@@ -125,7 +125,9 @@ fn replace_cell(tree: &mut Tree, part: usize, cell: Cell)
 
 /// Whether a token of the tree is longer than a text may be.
 #[cycle(searching)]
-pub fn has_long_token(tree: &Tree) -> bool {
+pub fn has_long_token(tree: &Tree) -> bool
+    ensures { tokens_short (tree_view tree.now) ≡ not result }
+{
     for cell in &tree.cells {
         if cell_has_long_token(cell) {
             return true;
@@ -135,12 +137,28 @@ pub fn has_long_token(tree: &Tree) -> bool {
 }
 
 #[cycle(searching)]
-fn cell_has_long_token(cell: &Cell) -> bool {
+fn cell_has_long_token(cell: &Cell) -> bool
+    ensures { cell_tokens_short (cell_view cell.now) ≡ not result }
+{
     match cell {
-        Cell::One(child) => has_long_token(child),
+        Cell::One(tree) => has_long_token(tree),
+        Cell::Many(trees) => list_has_long_token(trees),
+        Cell::Maybe(Some(tree)) => has_long_token(tree),
+        Cell::Maybe(None) => false,
         Cell::Tok(value) => is_long(value),
-        _ => false,
     }
+}
+
+#[cycle(searching)]
+fn list_has_long_token(trees: &[Tree]) -> bool
+    ensures { trees_tokens_short (to_trees (map tree_view trees.now)) ≡ not result }
+{
+    for tree in trees {
+        if has_long_token(tree) {
+            return true;
+        }
+    }
+    false
 }
 
 /// How many bytes the text of a token may have.

@@ -1,10 +1,15 @@
 //! The files of a server, and the engine that they make.
 
-ghost use Rattle.std.specs.Prelude.{◌≡◌, ◌++◌, true, Some, take, length, string_bytes, IfOk, OnOk, OnErr};
+ghost use Rattle.std.specs.Prelude.{◌≡◌, ◌++◌, true, Some, take, length, string_bytes, IfOk, OnOk, OnErr, ◌&&◌, not, is_none, option_map};
+ghost use Rattle.attrd.specs.Engines.{rules_of, state_of};
 ghost use Rattle.attrd.specs.StartFaults.{fault_text, place_text, file_name};
+ghost use Rattle.std.specs.List.{find, list_all};
 ghost use Rattle.at_model.specs.Declarations.{AreNamed};
 ghost use Rattle.at_model.specs.Trees.{conforms};
-ghost use Rattle.at_class.specs.Grammar.{grammar_view};
+ghost use Rattle.at_model.specs.Edits.{is_within_limits};
+ghost use Rattle.at_text.specs.Quoted.{Extends};
+ghost use Rattle.at_class.specs.Grammar.{grammar_view, declaration_view, part_declaration_view};
+ghost use Rattle.attrd.specs.Starting.{AreFlat, ArePlain, are_plain, is_plain, is_plain_part, left_out};
 ghost use Rattle.at_tree.specs.TreeView.{tree_view};
 
 use crate::aspects::reader::{ReadFault, read_aspects};
@@ -14,10 +19,10 @@ use crate::code::Code;
 use crate::engine::Engine;
 use crate::node::has_long_token;
 use at_class::{ClassCode, ClassFault, ClassTable};
-use at_grammar::{AstFault, ClassDecl, Grammar, Shape, parse_ast};
+use at_grammar::{AstFault, ClassDecl, Grammar, PartDecl, Shape, parse_ast};
 use at_tree::fault::TermFault;
 use at_tree::reader::read_term;
-use at_tree::tree::{ShapeFault, Tree, nodes, shape};
+use at_tree::tree::{ShapeFault, Tree, depth, nodes, shape};
 use itoa::Buffer;
 use std::alloc::{AllocError, AllocFailed, Global};
 
@@ -26,6 +31,9 @@ pub const MAX_FILE: usize = 4_194_304;
 
 /// How many nodes a tree may have.
 const MAX_NODES: usize = 65536;
+
+/// How deep a tree may be.
+const MAX_DEPTH: usize = 512;
 
 /// A file: the name under which it was given, and its bytes.
 #[derive(Drop)]
@@ -73,7 +81,13 @@ impl<T: Drop> From<AllocFailed<T>> for StartFault {
 /// # Errors
 ///
 /// `Refused` for the first file that is refused, `Memory` for want of memory.
-pub fn start(alloc: Global, files: &Files) -> Result<Engine, StartFault> {
+pub fn start(alloc: Global, files: &Files) -> Result<Engine, StartFault>
+    ensures flat { IfOk result (λ e. AreFlat (rules_of e).classes) }
+    ensures plain { IfOk result (λ e. ArePlain (rules_of e).classes) }
+    ensures conforms { IfOk result (λ e. conforms (rules_of e).classes (state_of e).tree 0 ≡ true) }
+    ensures limits { IfOk result (λ e. is_within_limits (state_of e).tree ≡ true) }
+    ensures version { IfOk result (λ e. (state_of e).version ≡ 0) }
+{
     let grammar = read_grammar(alloc, &files.grammar.bytes)?;
     let classes = class_table(alloc, &grammar)?;
     let decls = read_all_aspects(alloc, &files.aspects)?;
@@ -101,7 +115,8 @@ fn text_of(bytes: &[u8], limit: Code, syntax: Code) -> Result<&str, Code> {
 }
 
 fn read_grammar(alloc: Global, bytes: &[u8]) -> Result<Grammar, StartFault>
-    ensures { IfOk result (λ g. AreNamed (grammar_view g)) }
+    ensures named { IfOk result (λ g. AreNamed (grammar_view g)) }
+    ensures plain { IfOk result (λ g. are_plain (grammar_view g) ≡ true) }
 {
     let text = match text_of(bytes, Code::GrammarLimit, Code::GrammarSyntax) {
         Ok(text) => text,
@@ -126,21 +141,54 @@ fn parse_grammar(alloc: Global, text: &str) -> Result<Grammar, StartFault>
 }
 
 /// The place of the first class that is of a form that the engine doesn't evaluate.
-fn left_out(grammar: &Grammar) -> Option<(u32, u32)> {
-    let class = grammar.classes.iter().find(|class| !is_plain(class))?;
+fn left_out(grammar: &Grammar) -> Option<(u32, u32)>
+    ensures { result ≡ left_out (grammar_view grammar.now) }
+{
+    let class = class_left_out(&grammar.classes)?;
     Some(class.at)
+}
+
+/// The first class that is of such a form.
+fn class_left_out(classes: &[ClassDecl]) -> Option<&ClassDecl>
+    ensures { option_map (λ c. c.now) result ≡ find (λ d. not (is_plain (declaration_view d))) classes.now }
+{
+    classes.iter().find(|class| !is_plain(class))
 }
 
 /// Whether the class is of the forms that the engine evaluates: concrete, with no superclass, its
 /// components plain children and tokens.
-fn is_plain(class: &ClassDecl) -> bool {
-    !class.is_abstract
-        && class.parent.is_none()
-        && class.parts.iter().all(|part| part.shape == Shape::One || part.shape == Shape::Tok)
+fn is_plain(class: &ClassDecl) -> bool
+    ensures { result ≡ is_plain (declaration_view class.now) }
+{
+    is_concrete_root(class) && are_plain(&class.parts)
 }
 
+/// Whether the class is concrete and has no superclass.
+fn is_concrete_root(class: &ClassDecl) -> bool
+    ensures { result ≡ (not class.now.is_abstract && is_none (option_map string_bytes class.now.parent)) }
+{
+    !class.is_abstract && class.parent.is_none()
+}
+
+fn are_plain(parts: &[PartDecl]) -> bool
+    ensures { result ≡ list_all (λ p. is_plain_part (part_declaration_view p)) parts.now }
+{
+    parts.iter().all(|part| is_plain_part(part))
+}
+
+/// Whether the component is a plain child or a token.
+fn is_plain_part(part: &PartDecl) -> bool
+    ensures { result ≡ is_plain_part (part_declaration_view part.now) }
+{
+    matches!(part.shape, Shape::One | Shape::Tok)
+}
+
+/// The classes of a grammar from which no class is left out.
 fn class_table(alloc: Global, grammar: &Grammar) -> Result<ClassTable, StartFault>
-    requires { AreNamed (grammar_view grammar.now) }
+    requires named { AreNamed (grammar_view grammar.now) }
+    requires plain { are_plain (grammar_view grammar.now) ≡ true }
+    ensures flat { IfOk result AreFlat }
+    ensures plain { IfOk result ArePlain }
 {
     match ClassTable::build(alloc, grammar) {
         Ok(classes) => Ok(classes),
@@ -203,7 +251,9 @@ fn rules_of(
     grammar: &Grammar,
     classes: ClassTable,
     decls: &[Decl],
-) -> Result<Rules, StartFault> {
+) -> Result<Rules, StartFault>
+    ensures { IfOk result (λ r. r.classes ≡ classes) }
+{
     match Rules::build(alloc, grammar, classes, decls) {
         Ok(rules) => Ok(rules),
         Err(RuleFault::Refused { code, aspect, at }) => Err(aspect_fault(aspect, code, at)),
@@ -227,7 +277,8 @@ fn read_tree(
     file: usize,
     bytes: &[u8],
 ) -> Result<Tree, StartFault>
-    ensures { IfOk result (λ t. conforms classes.now (tree_view t) 0 ≡ true) }
+    ensures conforms { IfOk result (λ t. conforms classes.now (tree_view t) 0 ≡ true) }
+    ensures limits { IfOk result (λ t. is_within_limits (tree_view t) ≡ true) }
 {
     let text = match text_of(bytes, Code::TreeLimit, Code::TreeSyntax) {
         Ok(text) => text,
@@ -244,10 +295,17 @@ fn read_tree(
         Err(ShapeFault::Fit) => return Err(tree_fault(file, Code::TreeFit)),
         Err(ShapeFault::Memory) => return Err(StartFault::Memory),
     };
-    if nodes(&tree) > MAX_NODES || has_long_token(&tree) {
+    if !is_within_limits(&tree) {
         return Err(tree_fault(file, Code::TreeLimit));
     }
     Ok(tree)
+}
+
+/// Whether the tree has no more nodes, is no deeper and has no longer token than a tree may.
+fn is_within_limits(tree: &Tree) -> bool
+    ensures { result ≡ is_within_limits (tree_view tree.now) }
+{
+    nodes(tree) <= MAX_NODES && depth(tree) <= MAX_DEPTH && !has_long_token(tree)
 }
 
 /// The file of that number, in the order grammar, aspects, tree.

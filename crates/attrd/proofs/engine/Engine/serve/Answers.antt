@@ -1,9 +1,20 @@
 use Rattle.std.proofs.Common.{◌++◌, ◌∙◌, ap, refl}
 use Rattle.at_model.specs.Replies.{Reply as ModelReply, Memory, reply_text}
+use Rattle.attrd.specs.Served.{Served}
+use Rattle.attrd.proofs.Replying.{reply_stands}
 use Rattle.attrd.proofs.engine.Engine.serve.Goals as goal
 
-pub returns-clause-memory : goal.returns-clause-memory
-returns-clause-memory c = λ _.
+pub returns-then-step-clause-served : goal.returns-then-step-clause-served
+returns-then-step-clause-served c =
+    let s = c.step.ensures.gets c.if-step.true in
+    let m = reply_stands _ _ _ _ s.0 s.1 s.2 in (
+      m.0,
+      record { value = s.0; edit = s.1; gets = s.2; stands = m.1; state = ap (λ (v : Served). v.state) s.4 },
+      s.3 m.0 m.1 ∙ ap (λ xs. xs ++ reply_text m.0) c.reserve.ensures.items,
+    )
+
+pub returns-clause-served : goal.returns-clause-served
+returns-clause-served c =
     let r : ModelReply = record { session = c.session_of-session.result; form = Memory } in
     let kept = c.step.ensures.memory c.if-step.false in
-    (r, c.session_of-session.ensures, refl, c.in_ok-write_reply.ensures.ok r (record { session = refl; form = refl }) ∙ ap (λ xs. xs ++ reply_text r) (kept.0 ∙ c.reserve.ensures.items), kept.1)
+    (r, (c.session_of-session.ensures, ap (λ (v : Served). v.state) kept.1, refl), c.in_ok-write_reply.ensures.ok r (record { session = refl; form = refl }) ∙ ap (λ xs. xs ++ reply_text r) (kept.0 ∙ c.reserve.ensures.items))

@@ -1,7 +1,5 @@
-use Rattle.std.proofs.Common.{◌≡◌, ap, sym, ◌∙◌, Option, Some, None, slice_get, option_map}
+use Rattle.std.proofs.Common.{ap, sym, ◌∙◌, option_map}
 use Rattle.std.specs.Option.{option_and_then}
-use Rattle.at_model.specs.Classes.{Classes, Component, Shape, parts, AreSound, IsShapeWithin, IsComponentSound}
-use Rattle.std.proofs.Common.{ℕ, length, subst}
 use Rattle.attrd.specs.Kinds.{shape_of}
 use Rattle.attrd.proofs.Sound.{shape_sound}
 use Rattle.attrd.proofs.aspects.rules.Scope.access.Goals as goal
