@@ -37,6 +37,12 @@ def doubling_term(levels):
     return text
 
 
+def flat_grammar(classes):
+    """Classes of which each has a token and thirty children, but for the first, which the tree is of."""
+    parts = " ".join(f"P{i}:C0" for i in range(30))
+    return "C0 ::= <V:int>;\n" + "".join(f"C{k} ::= <V:int> {parts};\n" for k in range(1, classes))
+
+
 def source(mebibytes):
     """Names, signs, numbers, texts and comments; no grammar, so that reading ends where scanning does."""
     line = ';Größe ::= left:Name [right] <count:int> 1234567890 "a text \\" with \\n escapes" /* a comment */ // to the end\n'
@@ -64,14 +70,20 @@ def main():
             whole = best(folder, sum_files, Path(folder) / put("whole", line * 200000)) - idle
             print(f"200,000 lines `{name}`: {200000 / whole:,.0f} lines a second; against 100,000: ratio {whole / half:.2f}")
 
-        times = []
+        times, written = [], []
+        whole_tree = Path(folder) / put("whole_tree", "0 show /\n")
         for levels in (15, 16):
             files = [put(f"g{levels}.ast", doubling_grammar(levels)), put(f"t{levels}.txt", doubling_term(levels)),
                      put(f"a{levels}.jrag", "aspect A { }\n")]
             size = (Path(folder) / files[1]).stat().st_size
             times.append(best(folder, files, nothing) - idle)
+            written.append(best(folder, files, whole_tree) - idle - times[-1])
+            print(f"a term of {2 ** levels - 1:,} nodes written: {written[-1] * 1000:.1f} ms, {size / written[-1] / 2 ** 20:.1f} MiB a second")
             print(f"a term of {2 ** levels - 1:,} nodes read and shaped: {times[-1] * 1000:.1f} ms, {size / times[-1] / 2 ** 20:.1f} MiB a second")
-        print(f"  ratio {times[1] / times[0]:.2f}")
+        print(f"  ratio {times[1] / times[0]:.2f}, written {written[1] / written[0]:.2f}")
+
+        classes = [put("classes.ast", flat_grammar(1000)), put("classes.txt", "C0(1)\n"), put("classes.jrag", "aspect A { }\n")]
+        print(f"a grammar of 1,000 classes with 31 components each: {(best(folder, classes, nothing) - idle) * 1000:.1f} ms")
 
         times = []
         for size in (2, 4):
