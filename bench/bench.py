@@ -71,13 +71,13 @@ def main():
             print(f"200,000 lines `{name}`: {200000 / whole:,.0f} lines a second; against 100,000: ratio {whole / half:.2f}")
 
         times, written = [], []
-        whole_tree = Path(folder) / put("whole_tree", "0 show /\n")
+        whole_tree = Path(folder) / put("whole_tree", "0 show /\n" * 40)
         for levels in (15, 16):
             files = [put(f"g{levels}.ast", doubling_grammar(levels)), put(f"t{levels}.txt", doubling_term(levels)),
                      put(f"a{levels}.jrag", "aspect A { }\n")]
             size = (Path(folder) / files[1]).stat().st_size
             times.append(best(folder, files, nothing) - idle)
-            written.append(best(folder, files, whole_tree) - idle - times[-1])
+            written.append((best(folder, files, whole_tree) - idle - times[-1]) / 40)
             print(f"a term of {2 ** levels - 1:,} nodes written: {written[-1] * 1000:.1f} ms, {size / written[-1] / 2 ** 20:.1f} MiB a second")
             print(f"a term of {2 ** levels - 1:,} nodes read and shaped: {times[-1] * 1000:.1f} ms, {size / times[-1] / 2 ** 20:.1f} MiB a second")
         print(f"  ratio {times[1] / times[0]:.2f}, written {written[1] / written[0]:.2f}")
