@@ -1,8 +1,8 @@
-# attrd: make run, make test, make try, make build, make bench.
+# attrd: make run, make test, make try, make build, make bench, make starve.
 SHELL := /bin/bash
 SAMPLE := crates/attrd/data
 
-.PHONY: run test try build bench tools
+.PHONY: run test try build bench starve tools
 
 # The sample session, answered by the proved program.
 run: build
@@ -20,6 +20,10 @@ try: tools
 build: tools
 	cd crates/attrd && rt run > ../../.build.log 2>&1 < stdin -- data/sum.ast data/sum.txt data/sum.jrag || { tail -20 ../../.build.log; exit 1; }
 	@cp crates/attrd/out/attrd attrd && rm -f .build.log
+
+# The tests of the text layers, with each allocation refused in turn.
+starve: tools
+	python3 tools/starve.py at_text at_grammar at_class at_tree at_protocol
 
 # Speed, by the proved program, as ratios in one run.
 bench: build
