@@ -5,6 +5,7 @@ import re
 import subprocess
 import sys
 
+WANT_OF_MEMORY = re.compile("memory|AllocError|AllocFailed", re.I)
 NEW_TEST = re.compile(r"^test \S+ \.\.\. ", re.M)
 
 
@@ -23,7 +24,7 @@ def starved(crate, nth):
         sys.exit(f"{crate}: no tests ran\n{text[-2000:]}")
     failed = [block for block in blocks(text) if "... FAILED" in block.splitlines()[0]]
     for block in failed:
-        if "memory" not in block.lower():
+        if not WANT_OF_MEMORY.search(block):
             sys.exit(f"{crate}: with allocation {nth} refused, a test got another answer\n{block}")
     return len(failed)
 
