@@ -18,12 +18,12 @@ try: tools
 
 # The proved program, as ./attrd.
 build: tools
-	cd crates/attrd && rt run > ../../.build.log 2>&1 < stdin -- data/sum.ast data/sum.txt data/sum.jrag || { tail -20 ../../.build.log; exit 1; }
+	@cd crates/attrd && rt run > ../../.build.log 2>&1 < stdin -- data/sum.ast data/sum.txt data/sum.jrag || { tail -20 ../../.build.log; exit 1; }
 	@cp crates/attrd/out/attrd attrd && rm -f .build.log
 
-# The tests of the text layers, with each allocation refused in turn.
+# The tests of the text layer, with each allocation refused in turn.
 starve: tools
-	python3 tools/starve.py at_text at_grammar at_class at_tree at_protocol
+	python3 tools/starve.py at_text
 
 # Speed, by the proved program, as ratios in one run.
 bench: build
