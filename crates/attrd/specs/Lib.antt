@@ -2,11 +2,13 @@ pub mod Codes
 pub mod Bodies
 pub mod Kinds
 pub mod Typed
+pub mod TypedRules
 pub mod Nodes
 pub mod Tokens
 pub mod Served
 pub mod Edits
 pub mod Engines
+pub mod Loading
 pub mod Evaluation
 pub mod Lookups
 pub mod Answering

@@ -10,30 +10,24 @@ ghost use Rattle.at_model.specs.Edits.{is_within_limits};
 ghost use Rattle.at_text.specs.Quoted.{Extends};
 ghost use Rattle.at_class.specs.Grammar.{grammar_view, declaration_view, part_declaration_view};
 ghost use Rattle.attrd.specs.Starting.{AreFlat, ArePlain, are_plain, is_plain, is_plain_part, left_out};
+ghost use Rattle.attrd.specs.TypedRules.{AreTyped};
 ghost use Rattle.at_tree.specs.TreeView.{tree_view};
 
 use crate::aspects::reader::{ReadFault, read_aspects};
 use crate::aspects::rules::{RuleFault, Rules};
 use crate::aspects::syntax::Decl;
 use crate::code::Code;
-use crate::engine::Engine;
-use crate::node::has_long_token;
+use crate::engine::{Engine, LoadFault};
 use at_class::{ClassCode, ClassFault, ClassTable};
 use at_grammar::{AstFault, ClassDecl, Grammar, PartDecl, Shape, parse_ast};
 use at_tree::fault::TermFault;
 use at_tree::reader::read_term;
-use at_tree::tree::{ShapeFault, Tree, depth, nodes, shape};
+use at_tree::tree::{ShapeFault, Tree, shape};
 use itoa::Buffer;
 use std::alloc::{AllocError, AllocFailed, Global};
 
 /// How many bytes a file may have.
 pub const MAX_FILE: usize = 4_194_304;
-
-/// How many nodes a tree may have.
-const MAX_NODES: usize = 65536;
-
-/// How deep a tree may be.
-const MAX_DEPTH: usize = 512;
 
 /// A file: the name under which it was given, and its bytes.
 #[derive(Drop)]
@@ -94,7 +88,11 @@ pub fn start(alloc: Global, files: &Files) -> Result<Engine, StartFault>
     let rules = rules_of(alloc, &grammar, classes, &decls)?;
     let file = files.aspects.len().saturating_add(1);
     let tree = read_tree(alloc, &rules.classes, file, &files.tree.bytes)?;
-    Ok(Engine::new(alloc, rules, tree))
+    match Engine::new(alloc, rules, tree) {
+        Ok(engine) => Ok(engine),
+        Err(LoadFault::Fit) => Err(tree_fault(file, Code::TreeFit)),
+        Err(LoadFault::Limit) => Err(tree_fault(file, Code::TreeLimit)),
+    }
 }
 
 /// The fault of a grammar, at that place.
@@ -252,7 +250,8 @@ fn rules_of(
     classes: ClassTable,
     decls: &[Decl],
 ) -> Result<Rules, StartFault>
-    ensures { IfOk result (λ r. r.classes ≡ classes) }
+    ensures classes { IfOk result (λ r. r.classes ≡ classes) }
+    ensures typed { IfOk result AreTyped }
 {
     match Rules::build(alloc, grammar, classes, decls) {
         Ok(rules) => Ok(rules),
@@ -277,8 +276,7 @@ fn read_tree(
     file: usize,
     bytes: &[u8],
 ) -> Result<Tree, StartFault>
-    ensures conforms { IfOk result (λ t. conforms classes.now (tree_view t) 0 ≡ true) }
-    ensures limits { IfOk result (λ t. is_within_limits (tree_view t) ≡ true) }
+    ensures { IfOk result (λ t. conforms classes.now (tree_view t) 0 ≡ true) }
 {
     let text = match text_of(bytes, Code::TreeLimit, Code::TreeSyntax) {
         Ok(text) => text,
@@ -289,23 +287,12 @@ fn read_tree(
         Err(TermFault::Syntax { at: _ }) => return Err(tree_fault(file, Code::TreeSyntax)),
         Err(TermFault::Memory) => return Err(StartFault::Memory),
     };
-    let tree = match shape(alloc, classes, &term, classes.start()) {
-        Ok(tree) => tree,
-        Err(ShapeFault::Class) => return Err(tree_fault(file, Code::TreeClass)),
-        Err(ShapeFault::Fit) => return Err(tree_fault(file, Code::TreeFit)),
-        Err(ShapeFault::Memory) => return Err(StartFault::Memory),
-    };
-    if !is_within_limits(&tree) {
-        return Err(tree_fault(file, Code::TreeLimit));
+    match shape(alloc, classes, &term, classes.start()) {
+        Ok(tree) => Ok(tree),
+        Err(ShapeFault::Class) => Err(tree_fault(file, Code::TreeClass)),
+        Err(ShapeFault::Fit) => Err(tree_fault(file, Code::TreeFit)),
+        Err(ShapeFault::Memory) => Err(StartFault::Memory),
     }
-    Ok(tree)
-}
-
-/// Whether the tree has no more nodes, is no deeper and has no longer token than a tree may.
-fn is_within_limits(tree: &Tree) -> bool
-    ensures { result ≡ is_within_limits (tree_view tree.now) }
-{
-    nodes(tree) <= MAX_NODES && depth(tree) <= MAX_DEPTH && !has_long_token(tree)
 }
 
 /// The file of that number, in the order grammar, aspects, tree.

@@ -9,6 +9,7 @@ ghost use Rattle.at_model.specs.Bodies.{Child};
 ghost use Rattle.attrd.specs.Kinds.{shape_of, node_class};
 ghost use Rattle.attrd.specs.Bodies.{node_view, int_view};
 ghost use Rattle.attrd.specs.Lookups.{body_of};
+ghost use Rattle.attrd.specs.TypedRules.{AreTyped, IsAttributeTyped};
 ghost use Rattle.attrd.specs.Typed.{IsTyped, IsComponentOf, typed_token};
 
 use super::syntax::{Decl, Expr, Form, Operator};
@@ -103,7 +104,8 @@ impl Rules {
         classes: ClassTable,
         decls: &[Decl],
     ) -> Result<Rules, RuleFault>
-        ensures { IfOk result (λ r. r.classes ≡ classes) }
+        ensures classes { IfOk result (λ r. r.classes ≡ classes) }
+        ensures typed { IfOk result AreTyped }
     {
         check_count(decls)?;
         check_names(grammar, decls)?;
@@ -198,7 +200,9 @@ fn check_once(decls: &[Decl]) -> Result<(), RuleFault> {
     Ok(())
 }
 
-fn attribute_of(alloc: Global, classes: &ClassTable, decl: &Decl) -> Result<Attribute, RuleFault> {
+fn attribute_of(alloc: Global, classes: &ClassTable, decl: &Decl) -> Result<Attribute, RuleFault>
+    ensures { IfOk result (IsAttributeTyped classes.now) }
+{
     let Some(class) = classes.id_of(decl.class.text.as_str()) else {
         return Err(refused(Code::UnknownName, decl, decl.class.at));
     };
