@@ -15,3 +15,12 @@ pub mod Pieces
 pub mod Progressing
 pub mod Takings
 pub mod Runnings
+pub mod Leading
+pub mod Retokening
+pub mod Telling
+pub mod VersionObeyed
+pub mod ShowObeyed
+pub mod AskObeyed
+pub mod TokenObeyed
+pub mod SameText
+pub mod Joining
