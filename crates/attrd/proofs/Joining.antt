@@ -68,8 +68,8 @@ module _ (r : RulesValue) (plain : ArePlain r.classes) (answering : AreAnswering
           says = subst (λ v. Says (rules_view r) (ByEquations (rules_view r)) s v follows.told) (sym is) follows.says;
         }),
       )
-  steps s h bytes value e (unspelled none session form unchanged) = (
+  steps s h bytes value e (unspelled none session told unchanged) = (
     record { session = value.session; form = Refused code.Syntax },
-    record { session = refl; form = is_form_of value.form (form.Refused refusal.Syntax) (Refused code.Syntax) form refl },
+    record { session = refl; form = is_form_of value.form (form.Refused refusal.Syntax) (Refused code.Syntax) told refl },
     refuses none session (unedited r s e unchanged) refl,
   )
