@@ -6,6 +6,7 @@ pub mod Setting
 pub mod Keeping
 pub mod Naming
 pub mod Evaluating
+pub mod Asking
 pub mod Starting
 pub mod StartingTokens
 pub mod Replying

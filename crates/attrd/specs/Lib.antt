@@ -2,6 +2,7 @@ pub mod Codes
 pub mod Bodies
 pub mod Kinds
 pub mod Typed
+pub mod TypedRules
 pub mod Nodes
 pub mod Tokens
 pub mod Served
