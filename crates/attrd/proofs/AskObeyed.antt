@@ -19,47 +19,34 @@ use Rattle.attrd.specs.Evaluation.{number_in}
 use Rattle.attrd.specs.Lookups.{body_of}
 use Rattle.attrd.specs.Nodes.{Conforms, tree_on}
 use Rattle.attrd.specs.Served.{TokenEdit, rules_view}
-use Rattle.attrd.specs.Starting.{ArePlain}
+use Rattle.attrd.specs.Starting.{AreFlat, ArePlain}
+use Rattle.attrd.specs.TypedRules.{AreTyped}
 use Rattle.attrd.specs.declared.aspects.rules.Rules.{Rules}
-use Rattle.attrd.proofs.Conforming.{class_there}
+use Rattle.attrd.proofs.Asking.{named_nowhere, answered}
 use Rattle.attrd.proofs.Leading.{Led, nowhere, there, leads, walk_there}
 use Rattle.attrd.proofs.Telling.{Follows, is_form_of, unedited, follows_refusal}
 
 -- the question without arguments
-abbrev pub question : Place → ℕ → Instance Place
+abbrev question : Place → ℕ → Instance Place
 question n i = record { node = n; attribute = i; arguments = [] }
-
--- an attribute without parameters, whose equation gives the number there
-pub record IsAnswered (r : Rules) (t u : Tree) (n : Place) (name : List ℕ) (e : Expr) : Type 0 where
-  pub attribute : ℕ
-  pub named : attribute_named (rules_view r) (class_of u) name ≡ Some attribute
-  pub plain : parameters_of (rules_view r) attribute ≡ []
-  pub answers : ByEquations (rules_view r) t (question n attribute) (Outcomes (Finds (Int (number_in e u))))
-
--- names without a body name no attribute, and each body is an equation
-pub record AreAnswering (r : Rules) : Type 0 where
-  pub nowhere : (c : ℕ) (name : List ℕ) → c < length r.classes → body_of r.attributes.items c name ≡ None → attribute_named (rules_view r) c name ≡ None
-  pub there : (t u : Tree) (n : Place) (name : List ℕ) (e : Expr) → tree_at t n ≡ Some u → Conforms r.classes u → body_of r.attributes.items (class_of u) name ≡ Some e → IsAnswered r t u n name e
 
 -- the verdict with the attribute that is named, if one is
 abbrev asked_by : Rules → Tree → Place → Option ℕ → Verdict
 asked_by r t n o = elim o [ None ↦ Refuses code.Attribute | Some i ↦ if fit_parameters r.classes t (parameters_of (rules_view r) i) [] then Asks (question n i) else Refuses code.Arguments ]
 
-module _ (r : Rules) (s : State) (answering : AreAnswering r) (f : FormValue) (e : Option TokenEdit) (none : e ≡ None) (name : List ℕ) where
-  answered_there : (u : Tree) (n : Place) (b : Expr) → IsAnswered r s.tree u n name b → f ≡ form.Value (number_in b u) → Follows r s (asked_by r s.tree n (attribute_named (rules_view r) (class_of u) name)) f e
-  answered_there u n b a is =
-      let told : Form = Shows (Plain (tree.Int (number_in b u))) in
-      let asks : Follows r s (Asks (question n a.attribute)) f e =
-      record { told = told; is_form = is_form_of f (form.Value (number_in b u)) told is refl; state = unedited r s e none; says = (Outcomes (Finds (Int (number_in b u))), a.answers, refl) } in
-      let fits : Follows r s (asked_by r s.tree n (Some a.attribute)) f e =
-      subst (λ (ks : List Kind). Follows r s (if fit_parameters r.classes s.tree ks [] then Asks (question n a.attribute) else Refuses code.Arguments) f e) (sym a.plain) asks in
-      subst (λ (o : Option ℕ). Follows r s (asked_by r s.tree n o) f e) (sym a.named) fits
-
+module _ (r : Rules) (flat : AreFlat r.classes) (typed : AreTyped r) (s : State) (f : FormValue) (e : Option TokenEdit) (none : e ≡ None) (name : List ℕ) where
   by_body : (u : Tree) (n : Place) (b : Option Expr) → tree_at s.tree n ≡ Some u → Conforms r.classes u → body_of r.attributes.items (class_of u) name ≡ b → f ≡ told_by b u
       → Follows r s (asked_by r s.tree n (attribute_named (rules_view r) (class_of u) name)) f e
   by_body u n None at h body is =
-      subst (λ (o : Option ℕ). Follows r s (asked_by r s.tree n o) f e) (sym (answering.nowhere (class_of u) name (class_there r.classes u h) body)) (follows_refusal r s refusal.Attribute f e is none)
-  by_body u n (Some b) at h body is = answered_there u n b (answering.there s.tree u n name b at h body) is
+      subst (λ (o : Option ℕ). Follows r s (asked_by r s.tree n o) f e) (sym (named_nowhere r flat (class_of u) name body)) (follows_refusal r s refusal.Attribute f e is none)
+  by_body u n (Some b) at h body is =
+      let (i, named, bare, answers) = answered r flat typed s.tree u n name b at h body in
+      let told : Form = Shows (Plain (tree.Int (number_in b u))) in
+      let asks : Follows r s (Asks (question n i)) f e =
+      record { told = told; is_form = is_form_of f (form.Value (number_in b u)) told is refl; state = unedited r s e none; says = (Outcomes (Finds (Int (number_in b u))), answers, refl) } in
+      let fits : Follows r s (asked_by r s.tree n (Some i)) f e =
+      subst (λ (ks : List Kind). Follows r s (if fit_parameters r.classes s.tree ks [] then Asks (question n i) else Refuses code.Arguments) f e) (sym bare) asks in
+      subst (λ (o : Option ℕ). Follows r s (asked_by r s.tree n o) f e) (sym named) fits
 
   ask_led : (path : Path) (o : Option Tree) (m : Option Place) → Led r.classes s.tree path o m → f ≡ asked_of r name o
       → Follows r s (elim m [ None ↦ Refuses code.Path | Some n ↦ questioned (rules_view r) s.tree n name [] ]) f e
@@ -69,6 +56,7 @@ module _ (r : Rules) (s : State) (answering : AreAnswering r) (f : FormValue) (e
       subst (λ (o : Option Tree). Follows r s (asked_by r s.tree n (option_and_then (λ v. attribute_named (rules_view r) (class_of v) name) o)) f e) (sym at)
       (by_body u n (body_of r.attributes.items (class_of u) name) at h refl is)
 
-pub ask_obeyed : (r : Rules) → ArePlain r.classes → AreAnswering r → (s : State) → Conforms r.classes s.tree → (session : ℕ) (path : Path) (name : List ℕ) (f : FormValue) (e : Option TokenEdit)
+pub ask_obeyed : (r : Rules) → AreFlat r.classes → ArePlain r.classes → AreTyped r → (s : State) → Conforms r.classes s.tree → (session : ℕ) (path : Path) (name : List ℕ) (f : FormValue) (e : Option TokenEdit)
     → f ≡ asked r s.tree path name → e ≡ None → Follows r s (obeyed (rules_view r) s session (Ask (From_root path) name [])) f e
-ask_obeyed r plain answering s h session path name f e is none = ask_led r s answering f e none name path (tree_on r.classes s.tree path) (node_at r.classes s.tree path) (leads r.classes plain s.tree path h) is
+ask_obeyed r flat plain typed s h session path name f e is none =
+    ask_led r flat typed s f e none name path (tree_on r.classes s.tree path) (node_at r.classes s.tree path) (leads r.classes plain s.tree path h) is
