@@ -1,5 +1,5 @@
 -- A question for an attribute is answered by its equation.
-use Rattle.std.proofs.Common.{◌≡◌, ℕ, ◌<◌, List, [], length, Option, Some, None, refl, sym, ap, ◌∙◌, subst, option_and_then, if◌then◌else◌}
+use Rattle.std.proofs.Common.{◌≡◌, ℕ, List, [], Option, Some, None, refl, sym, subst, option_and_then, if◌then◌else◌}
 use Rattle.at_model.specs.Trees.{Tree, class_of}
 use Rattle.at_model.specs.Trees as tree
 use Rattle.at_model.specs.Paths.{Path, Node as Place, tree_at, node_at}
@@ -10,7 +10,7 @@ use Rattle.at_model.specs.Meaning.{Outcomes, Finds}
 use Rattle.at_model.specs.Lines.{Ask, From_root}
 use Rattle.at_model.specs.Replies.{Form, Shows, Plain}
 use Rattle.at_model.specs.Replies as code
-use Rattle.at_model.specs.Machine.{State, Verdict, Refuses, Asks, ByEquations, fit_parameters, parameters_of, questioned, obeyed}
+use Rattle.at_model.specs.Machine.{State, Verdict, Refuses, Asks, fit_parameters, parameters_of, questioned, obeyed}
 use Rattle.at_protocol.specs.declared.reply.Form.{Form as FormValue}
 use Rattle.at_protocol.specs.declared.reply.Form.TheVariants as form
 use Rattle.at_protocol.specs.declared.reply.Refusal.TheVariants as refusal

@@ -23,13 +23,12 @@ use Rattle.at_protocol.specs.declared.reply.Form.TheVariants as form
 use Rattle.at_protocol.specs.declared.reply.Refusal.TheVariants as refusal
 use Rattle.at_protocol.specs.declared.reply.Reply.{Reply as ReplyValue}
 use Rattle.attrd.specs.Lines.{Does, Gets, obeyed as spelled, refused as unspelled}
-use Rattle.attrd.specs.Nodes.{Conforms}
 use Rattle.attrd.specs.Served.{TokenEdit, rules_view}
-use Rattle.attrd.specs.Serving.{edited, Handles as LineHandles, Serves as LineServes, Runs as LineRuns, Outputs as LineOutputs}
+use Rattle.attrd.specs.Serving.{edited, Serves as LineServes, Runs as LineRuns, Outputs as LineOutputs}
 use Rattle.attrd.specs.Starting.{AreFlat, ArePlain}
 use Rattle.attrd.specs.TypedRules.{AreTyped}
 use Rattle.attrd.specs.declared.aspects.rules.Rules.{Rules as RulesValue}
-use Rattle.attrd.proofs.Telling.{Follows, is_form_of, unedited, follows_refusal}
+use Rattle.attrd.proofs.Telling.{Follows, is_form_of, unedited}
 use Rattle.attrd.proofs.AskObeyed.{ask_obeyed}
 use Rattle.attrd.proofs.ShowObeyed.{show_obeyed}
 use Rattle.attrd.proofs.TokenObeyed.{token_obeyed}
@@ -37,10 +36,10 @@ use Rattle.attrd.proofs.VersionObeyed.{version_obeyed}
 use Rattle.attrd.proofs.SameText.{same_text}
 
 -- the tree conforms under the start class and is within the limits, and there are no marks
-record IsServable (classes : Classes) (s : State) : Type 0 where
-  tree_conforms : conforms classes s.tree 0 ≡ true
-  tree_within : is_within_limits s.tree ≡ true
-  unmarked : s.marks ≡ []
+pub record IsServable (classes : Classes) (s : State) : Type 0 where
+  pub tree_conforms : conforms classes s.tree 0 ≡ true
+  pub tree_within : is_within_limits s.tree ≡ true
+  pub unmarked : s.marks ≡ []
 
 -- a line of today expects no version and uses no mark
 verdict_is : (rules : Rules) (s : State) (session : ℕ) (c : Command) → verdict rules s (record { session = session; expected = None; command = command_view c }) ≡ obeyed rules s session (command_view c)
@@ -98,14 +97,16 @@ module _ (r : RulesValue) (flat : AreFlat r.classes) (plain : ArePlain r.classes
       let sound : IsSound r.classes (edited r s e) = sound_served (rules_view r) (ByEquations (rules_view r)) false s bytes (edited r s e) step.0 (unmarked_sound r.classes s h) step.2 in
       record { tree_conforms = sound.tree_conforms; tree_within = sound.tree_within; unmarked = edited_marks r s e ∙ h.unmarked }
 
-  serves : (b : Bool) (old : State) → IsServable r.classes old → (bytes : List ℕ) (new : State) (reply : Reply) → LineServes r b old bytes new reply → ServesAlike r b old bytes new reply × IsServable r.classes new
+  -- a line that is served, or named as one for which memory ran out
+  pub serves : (b : Bool) (old : State) → IsServable r.classes old → (bytes : List ℕ) (new : State) (reply : Reply) → LineServes r b old bytes new reply → ServesAlike r b old bytes new reply × IsServable r.classes new
   serves false old ok bytes new reply h =
       let step = steps old ok bytes h.value h.edit h.gets in
       let P : State → Type 0 = λ x. ServesAlike r false old bytes x reply × IsServable r.classes x in
       subst P (sym h.state) ((step.0, same_text h.value step.0 reply step.1 h.stands, step.2), stays_servable old ok bytes h.value h.edit h.gets)
   serves true old ok bytes new reply h = ((reply, refl, h), subst (IsServable r.classes) (sym h.1) ok)
 
-  runs : (old : State) → IsServable r.classes old → (ls : List (List ℕ)) (named : List Bool) (text : List ℕ) (new : State) → LineRuns r old ls named text new → Runs (rules_view r) (ByEquations (rules_view r)) old ls named text new × IsServable r.classes new
+  -- the lines, one after the other
+  pub runs : (old : State) → IsServable r.classes old → (ls : List (List ℕ)) (named : List Bool) (text : List ℕ) (new : State) → LineRuns r old ls named text new → Runs (rules_view r) (ByEquations (rules_view r)) old ls named text new × IsServable r.classes new
   runs old ok [] [] text new h = (h, subst (IsServable r.classes) (sym h.1) ok)
   runs old ok [] (b ∷ bs) text new h = absurd h
   runs old ok (line ∷ rest) [] text new h = absurd h

@@ -7,7 +7,7 @@ use Rattle.at_model.specs.Paths.{Path, Step, Node as Place, cell_at, children_at
 use Rattle.at_model.specs.Edits.{changed_at, with_cell, with_child, with_node}
 use Rattle.attrd.specs.Nodes.{Conforms, child_in, tree_on, with_plain_child, set_on}
 use Rattle.attrd.specs.Starting.{ArePlain, IsPlainShape}
-use Rattle.attrd.proofs.Conforming.{component_there, child_conforms}
+use Rattle.attrd.proofs.Conforming.{component_there}
 
 -- the way down from a root to the tree at a node
 pub data Walk : Tree → Place → Tree → Type 0 where

@@ -1,5 +1,5 @@
 -- A tree with another token is within the limits where the token is.
-use Rattle.std.proofs.Common.{◌≡◌, ℕ, zero, suc, ◌+◌, max, Bool, true, false, ◌&&◌, nat_le, List, [], ◌∷◌, Option, Some, None, slice_get, refl, sym, ap, ap₂, ◌∙◌}
+use Rattle.std.proofs.Common.{◌≡◌, ℕ, zero, suc, ◌+◌, max, Bool, true, false, ◌&&◌, nat_le, Some, slice_get, refl, sym, ap, ap₂, ◌∙◌}
 use Rattle.std.proofs.lemmas.Option.{none-some}
 use Rattle.std.proofs.lemmas.Bool.{and_parts}
 use Rattle.at_model.specs.Trees.{Tree, Node, Cells, no_cells, cell, Cell, One, Holds, Token, to_cells, from_cells, nodes, cells_nodes, cell_nodes, depth, cells_depth, cell_depth}

@@ -1,7 +1,6 @@
 -- All replies for which a reply's value stands have one text.
 use Rattle.std.proofs.Common.{◌≡◌, ℕ, ◌++◌, List, [], ◌∷◌, codes, sym, ap, ap₂, ◌∙◌}
 use Rattle.std.specs.List.{join_with_byte}
-use Rattle.at_model.specs.Terms.{term_text}
 use Rattle.at_model.specs.Replies.{Reply, Form, form_words, session_text, reply_text}
 use Rattle.at_protocol.specs.ReplyView.{IsForm, IsReply}
 use Rattle.at_protocol.specs.declared.reply.Form.{Form as FormValue}

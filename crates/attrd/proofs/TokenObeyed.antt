@@ -17,7 +17,7 @@ use Rattle.at_protocol.specs.declared.reply.Form.{Form as FormValue}
 use Rattle.at_protocol.specs.declared.reply.Form.TheVariants as form
 use Rattle.at_protocol.specs.declared.reply.Refusal.TheVariants as refusal
 use Rattle.attrd.specs.Answering.{settled, settled_of, token_told, edit_of, edit_there}
-use Rattle.attrd.specs.Nodes.{Conforms, tree_on, set_on, token_in, token_beside, token_on}
+use Rattle.attrd.specs.Nodes.{Conforms, tree_on, set_on, token_in, token_beside}
 use Rattle.attrd.specs.Served.{TokenEdit, rules_view}
 use Rattle.attrd.specs.Serving.{edited}
 use Rattle.attrd.specs.Starting.{ArePlain}
@@ -27,7 +27,7 @@ use Rattle.attrd.proofs.Conforming.{component_there}
 use Rattle.attrd.proofs.Evaluating.{component_held}
 use Rattle.attrd.proofs.Leading.{Walk, Led, nowhere, there, leads, walk_there}
 use Rattle.attrd.proofs.Retokening.{limits_set}
-use Rattle.attrd.proofs.Telling.{Follows, is_form_of, unedited, follows_refusal}
+use Rattle.attrd.proofs.Telling.{Follows, is_form_of, follows_refusal}
 
 -- a token of the kind is of the kind of each other one that is
 kinds_agree : (old v : Token) (kind : TokenKind) → is_of_kind old kind ≡ true → is_of_kind v kind ≡ is_same_kind old v
