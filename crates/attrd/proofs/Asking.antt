@@ -1,6 +1,6 @@
 -- By the equations of the rules, a question is answered with the number that the attribute's body is.
 use Rattle.std.proofs.Common.{◌≡◌, ◌⊎◌, inl, inr, ◌+◌, ℕ, zero, suc, Bool, true, false, List, [], ◌∷◌, length, map, Option, Some, None, slice_get, option_map, refl, sym, ap, ◌∙◌, subst, nat_eq, arith, true≢false}
-use Rattle.std.specs.Prelude.{All, ◌&&◌, ◌||◌, string_bytes, bytes_eq, if◌then◌else◌}
+use Rattle.std.specs.Prelude.{All, ◌&&◌, ◌||◌, string_bytes, bytes_eq}
 use Rattle.std.specs.List.{list_any, find, position_from}
 use Rattle.std.proofs.lemmas.Bool.{and_parts, eqb-true, eq-eqb}
 use Rattle.std.proofs.lemmas.Bool.Decides.{nat_tests}
@@ -11,7 +11,7 @@ use Rattle.at_model.specs.Classes.{Classes, chain, chain_within}
 use Rattle.at_model.specs.Trees.{Tree, Node, class_of}
 use Rattle.at_model.specs.Terms.{max_depth}
 use Rattle.at_model.specs.Paths.{Node as Place, node_eq, tree_at}
-use Rattle.at_model.specs.Run.{Int, Is, Run, Value, Instance, Fails, Null, Valued, tried}
+use Rattle.at_model.specs.Run.{Int, Is, Value, Instance, Fails, Null, Valued, tried}
 use Rattle.at_model.specs.Bodies.{Expr, eval}
 use Rattle.at_model.specs.Rules.{Rules, Attribute, attribute_named, attribute_name, own_equation, is_inherited, first_answer, own_in, by_own, by_equation, by_inherited, evaluation_within}
 use Rattle.at_model.specs.Meaning.{content, equations, settled, outcome_at, Outcomes, Finds}
