@@ -6,6 +6,7 @@ pub mod Setting
 pub mod Keeping
 pub mod Naming
 pub mod Evaluating
+pub mod Asking
 pub mod Starting
 pub mod StartingTokens
 pub mod Replying
@@ -15,3 +16,12 @@ pub mod Pieces
 pub mod Progressing
 pub mod Takings
 pub mod Runnings
+pub mod Leading
+pub mod Retokening
+pub mod Telling
+pub mod VersionObeyed
+pub mod ShowObeyed
+pub mod AskObeyed
+pub mod TokenObeyed
+pub mod SameText
+pub mod Joining
