@@ -1,16 +1,15 @@
 -- What serves a line steps as the machine without caches does.
-use Rattle.std.proofs.Common.{◌≡◌, ℕ, Bool, true, false, List, [], ◌∷◌, ◌++◌, Option, Some, None, refl, sym, ap, ◌∙◌, subst, string_bytes}
+use Rattle.std.proofs.Common.{◌≡◌, ℕ, true, false, List, [], Option, Some, None, refl, sym, ap, ◌∙◌, subst, string_bytes}
 use Rattle.std.specs.Prelude.{IsSome}
 use Rattle.std.specs.List.{AllByRecursion}
 use Rattle.at_model.specs.Classes.{Classes}
 use Rattle.at_model.specs.Trees.{conforms}
 use Rattle.at_model.specs.Paths.{tree_at}
 use Rattle.at_model.specs.Edits.{is_within_limits}
-use Rattle.at_model.specs.Lines.{lines}
 use Rattle.at_model.specs.Replies.{Reply, Refused, Memory, reply_text}
 use Rattle.at_model.specs.Replies as code
 use Rattle.at_model.specs.Rules.{Rules}
-use Rattle.at_model.specs.Machine.{State, Marked, Says, ByEquations, Handles, obeys, refuses, Serves, Runs, Outputs, IsSound, after, verdict, obeyed}
+use Rattle.at_model.specs.Machine.{State, Marked, Says, ByEquations, Handles, obeys, refuses, IsSound, after, verdict, obeyed}
 use Rattle.at_model.proofs.Sound.{sound_served}
 use Rattle.at_tree.specs.PathView.{path_view}
 use Rattle.at_tree.specs.Token.{token_view}
@@ -24,7 +23,7 @@ use Rattle.at_protocol.specs.declared.reply.Refusal.TheVariants as refusal
 use Rattle.at_protocol.specs.declared.reply.Reply.{Reply as ReplyValue}
 use Rattle.attrd.specs.Lines.{Does, Gets, obeyed as spelled, refused as unspelled}
 use Rattle.attrd.specs.Served.{TokenEdit, rules_view}
-use Rattle.attrd.specs.Serving.{edited, Serves as LineServes, Runs as LineRuns, Outputs as LineOutputs}
+use Rattle.attrd.specs.Served.{edited}
 use Rattle.attrd.specs.Starting.{AreFlat, ArePlain}
 use Rattle.attrd.specs.TypedRules.{AreTyped}
 use Rattle.attrd.specs.declared.aspects.rules.Rules.{Rules as RulesValue}
@@ -33,7 +32,6 @@ use Rattle.attrd.proofs.AskObeyed.{ask_obeyed}
 use Rattle.attrd.proofs.ShowObeyed.{show_obeyed}
 use Rattle.attrd.proofs.TokenObeyed.{token_obeyed}
 use Rattle.attrd.proofs.VersionObeyed.{version_obeyed}
-use Rattle.attrd.proofs.SameText.{same_text}
 
 -- the tree conforms under the start class and is within the limits, and there are no marks
 pub record IsServable (classes : Classes) (s : State) : Type 0 where
@@ -60,10 +58,6 @@ unmarked_sound classes s h = record { tree_conforms = h.tree_conforms; tree_with
 -- tree's, with a name that is none, may have the same text as the node's.
 abbrev pub Steps : RulesValue → State → List ℕ → State → ReplyValue → Type 0
 Steps r s bytes new value = (reply : Reply) × IsReply value reply × Handles (rules_view r) (ByEquations (rules_view r)) s bytes new reply
-
--- the machine serves the line so, by a reply of the same text
-abbrev pub ServesAlike : RulesValue → Bool → State → List ℕ → State → Reply → Type 0
-ServesAlike r b old bytes new reply = (told : Reply) × (reply_text told ≡ reply_text reply) × Serves (rules_view r) (ByEquations (rules_view r)) b old bytes new told
 
 module _ (r : RulesValue) (flat : AreFlat r.classes) (plain : ArePlain r.classes) (typed : AreTyped r) where
   command_obeyed : (s : State) → IsServable r.classes s → (session : ℕ) (c : Command) (f : FormValue) (e : Option TokenEdit) → Does r s.tree s.version c f e → Follows r s (obeyed (rules_view r) s session (command_view c)) f e
@@ -97,24 +91,6 @@ module _ (r : RulesValue) (flat : AreFlat r.classes) (plain : ArePlain r.classes
       let sound : IsSound r.classes (edited r s e) = sound_served (rules_view r) (ByEquations (rules_view r)) false s bytes (edited r s e) step.0 (unmarked_sound r.classes s h) step.2 in
       record { tree_conforms = sound.tree_conforms; tree_within = sound.tree_within; unmarked = edited_marks r s e ∙ h.unmarked }
 
-  -- a line that is served, or named as one for which memory ran out
-  pub serves : (b : Bool) (old : State) → IsServable r.classes old → (bytes : List ℕ) (new : State) (reply : Reply) → LineServes r b old bytes new reply → ServesAlike r b old bytes new reply × IsServable r.classes new
-  serves false old ok bytes new reply h =
-      let step = steps old ok bytes h.value h.edit h.gets in
-      let P : State → Type 0 = λ x. ServesAlike r false old bytes x reply × IsServable r.classes x in
-      subst P (sym h.state) ((step.0, same_text h.value step.0 reply step.1 h.stands, step.2), stays_servable old ok bytes h.value h.edit h.gets)
-  serves true old ok bytes new reply h = ((reply, refl, h), subst (IsServable r.classes) (sym h.1) ok)
-
-  -- the lines, one after the other
-  pub runs : (old : State) → IsServable r.classes old → (ls : List (List ℕ)) (named : List Bool) (text : List ℕ) (new : State) → LineRuns r old ls named text new → Runs (rules_view r) (ByEquations (rules_view r)) old ls named text new × IsServable r.classes new
-  runs old ok [] [] text new h = (h, subst (IsServable r.classes) (sym h.1) ok)
-  runs old ok [] (b ∷ bs) text new h = absurd h
-  runs old ok (line ∷ rest) [] text new h = absurd h
-  runs old ok (line ∷ rest) (b ∷ bs) text new (mid, reply, more, h, is, others) =
-      let (alike, served) = serves b old ok line mid reply h in
-      let (next, stays) = runs mid served rest bs more new others in
-      ((mid, alike.0, more, alike.2, is ∙ ap (λ x. x ++ more) (sym alike.1), next), stays)
-
 -- What a line gets and the edit that it leads to are the machine's step.
 pub handled : (r : RulesValue) → AreFlat r.classes → ArePlain r.classes → AreTyped r → (s : State) → conforms r.classes s.tree 0 ≡ true → is_within_limits s.tree ≡ true → s.marks ≡ []
     → (bytes : List ℕ) (value : ReplyValue) (e : Option TokenEdit) → Gets r s.tree s.version bytes value e → Steps r s bytes (edited r s e) value
@@ -127,9 +103,3 @@ pub kept_within : (r : RulesValue) → AreFlat r.classes → ArePlain r.classes 
 kept_within r flat plain typed s conforming within unmarked bytes value e gets =
     let h = stays_servable r flat plain typed s (record { tree_conforms = conforming; tree_within = within; unmarked = unmarked }) bytes value e gets in
     (h.tree_conforms, h.tree_within, h.unmarked)
-
--- What is written for the lines is what the machine writes for them, and the state is its state.
-pub outputs : (r : RulesValue) → AreFlat r.classes → ArePlain r.classes → AreTyped r → (s : State) → conforms r.classes s.tree 0 ≡ true → is_within_limits s.tree ≡ true → s.marks ≡ []
-    → (bytes : List ℕ) (named : List Bool) (text : List ℕ) (new : State) → LineOutputs r s bytes named text new → Outputs (rules_view r) (ByEquations (rules_view r)) s bytes named text new
-outputs r flat plain typed s conforming within unmarked bytes named text new h =
-    (runs r flat plain typed s (record { tree_conforms = conforming; tree_within = within; unmarked = unmarked }) (lines bytes) named text new h).0

@@ -67,9 +67,9 @@ module _ (classes : Classes) (plain : ArePlain classes) (t : Tree) (s : Step) (s
   at_shape part (One w) (class.One b) (Some i) named held flat h = nowhere
   at_shape part (Holds v) (class.Token kind) None named held flat h = nowhere
   at_shape part (Holds v) (class.Token kind) (Some i) named held flat h = nowhere
-  at_shape part (Many ts) (class.Many b) index named held flat h = absurd flat
-  at_shape part Empty (class.Maybe b) index named held flat h = absurd flat
-  at_shape part (Filled w) (class.Maybe b) index named held flat h = absurd flat
+  at_shape part (Many ts) (class.Many b) index named held flat h = absurd (true≢false (sym flat))
+  at_shape part Empty (class.Maybe b) index named held flat h = absurd (true≢false (sym flat))
+  at_shape part (Filled w) (class.Maybe b) index named held flat h = absurd (true≢false (sym flat))
   at_shape part c shape index named held flat h = absurd (true≢false (sym h))
 
   at_cell : (part : ℕ) (o : Option Cell) → Conforms classes t → part_named classes (class_of t) s.part ≡ Some part → cell_at t part ≡ o

@@ -9,7 +9,6 @@ pub mod Evaluating
 pub mod Asking
 pub mod Starting
 pub mod StartingTokens
-pub mod Replying
 pub mod Kept
 pub mod KeptLines
 pub mod Pieces
@@ -23,5 +22,4 @@ pub mod VersionObeyed
 pub mod ShowObeyed
 pub mod AskObeyed
 pub mod TokenObeyed
-pub mod SameText
 pub mod Joining

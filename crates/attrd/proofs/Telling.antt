@@ -7,7 +7,7 @@ use Rattle.at_protocol.specs.declared.reply.Refusal.{Refusal}
 use Rattle.at_protocol.specs.declared.reply.Form.{Form as FormValue}
 use Rattle.at_protocol.specs.declared.reply.Form.TheVariants as form
 use Rattle.attrd.specs.Served.{TokenEdit, rules_view}
-use Rattle.attrd.specs.Serving.{edited}
+use Rattle.attrd.specs.Served.{edited}
 use Rattle.attrd.specs.declared.aspects.rules.Rules.{Rules}
 
 -- the form stands for what the verdict tells, and the edit leads to the state after the verdict

@@ -19,7 +19,7 @@ use Rattle.at_protocol.specs.declared.reply.Refusal.TheVariants as refusal
 use Rattle.attrd.specs.Answering.{settled, settled_of, token_told, edit_of, edit_there}
 use Rattle.attrd.specs.Nodes.{Conforms, tree_on, set_on, token_in, token_beside}
 use Rattle.attrd.specs.Served.{TokenEdit, rules_view}
-use Rattle.attrd.specs.Serving.{edited}
+use Rattle.attrd.specs.Served.{edited}
 use Rattle.attrd.specs.Starting.{ArePlain}
 use Rattle.attrd.specs.Tokens.{is_same_kind}
 use Rattle.attrd.specs.declared.aspects.rules.Rules.{Rules}

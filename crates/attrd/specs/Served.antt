@@ -52,10 +52,10 @@ abbrev pub done : Served → Option TokenEdit → Served
 done s None = s
 done s (Some e) = record { rules = s.rules; state = record { tree = set_on s.rules.classes s.state.tree e.path e.part e.value; version = s.state.version + 1; marks = s.state.marks } }
 
--- the edit leaves a tree of the classes within the limits, and there is a version after this one
+-- the edit leaves a tree of the classes, and there is a version after this one
 abbrev pub MayDo : Served → Option TokenEdit → Type 0
 MayDo s None = Unit {0}
-MayDo s (Some e) = Fits s.rules.classes s.state.tree e.path e.part e.value × IsWithin (done s (Some e)).state.tree × (s.state.version + 1 < 18446744073709551616)
+MayDo s (Some e) = Fits s.rules.classes s.state.tree e.path e.part e.value × (s.state.version + 1 < 18446744073709551616)
 
 -- the state after the edit, where there is one
 abbrev pub edited : RulesValue → State → Option TokenEdit → State

@@ -300,7 +300,8 @@ impl Engine {
 
     /// Does the edit, where there is one.
     fn commit_all(&mut self, edit: Option<Edit>)
-        requires { MayDo (engine_view self.old) (option_map edit_view edit) }
+        requires may { MayDo (engine_view self.old) (option_map edit_view edit) }
+        requires within { IsWithin (done (engine_view self.old) (option_map edit_view edit)).state.tree }
         ensures done { engine_view self.new ≡ done (engine_view self.old) (option_map edit_view edit) }
         ensures rules { rules_of self.new ≡ rules_of self.old }
     {
@@ -311,7 +312,8 @@ impl Engine {
 
     /// Does an edit that is accepted.
     fn commit(&mut self, edit: Edit)
-        requires { MayDo (engine_view self.old) (Some (edit_view edit)) }
+        requires may { MayDo (engine_view self.old) (Some (edit_view edit)) }
+        requires within { IsWithin (done (engine_view self.old) (Some (edit_view edit))).state.tree }
         ensures done { engine_view self.new ≡ done (engine_view self.old) (Some (edit_view edit)) }
         ensures rules { rules_of self.new ≡ rules_of self.old }
     {

