@@ -8,6 +8,8 @@ pub mod Naming
 pub mod Evaluating
 pub mod Asking
 pub mod Starting
+pub mod Declaring
+pub mod TermFiles
 pub mod StartingTokens
 pub mod Kept
 pub mod KeptLines

@@ -14,7 +14,10 @@ pub mod Lookups
 pub mod Answering
 pub mod Lines
 pub mod StartFaults
+pub mod Files
 pub mod Starting
+pub mod GrammarFiles
+pub mod TreeFiles
 pub mod Serving
 pub mod Loop
 pub mod Taking

@@ -1,10 +1,10 @@
 -- What is printed of files that make no engine.
 use Rattle.std.specs.Prelude.{ℕ, ◌-◌, ◌==◌, List, [], ◌∷◌, ◌++◌, decimal, codes, Option, Some, None, slice_get, string_bytes, if◌then◌else◌}
 use Rattle.attrd.specs.Codes.{code_text}
-use Rattle.attrd.specs.declared.start.Source.{Source}
-use Rattle.attrd.specs.declared.start.Files.{Files}
-use Rattle.attrd.specs.declared.start.StartFault.{StartFault}
-use Rattle.attrd.specs.declared.start.StartFault.TheVariants.{Refused, Memory}
+use Rattle.attrd.specs.declared.start.files.Source.{Source}
+use Rattle.attrd.specs.declared.start.files.Files.{Files}
+use Rattle.attrd.specs.declared.start.fault.StartFault.{StartFault}
+use Rattle.attrd.specs.declared.start.fault.StartFault.TheVariants.{Refused, Memory}
 
 abbrev pub name_or : Source → Option Source → List ℕ
 name_or other None = string_bytes other.name

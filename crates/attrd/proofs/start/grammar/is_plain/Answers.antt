@@ -4,7 +4,7 @@ use Rattle.std.specs.List.{list_all}
 use Rattle.at_class.specs.Grammar.{part_declaration_view}
 use Rattle.attrd.specs.Starting.{is_plain_part}
 use Rattle.attrd.proofs.Starting.{list_all-map}
-use Rattle.attrd.proofs.start.is_plain.Goals as goal
+use Rattle.attrd.proofs.start.grammar.is_plain.Goals as goal
 
 pub returns-then-is_concrete_root : goal.returns-then-is_concrete_root
 returns-then-is_concrete_root c =

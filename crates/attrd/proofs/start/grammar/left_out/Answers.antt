@@ -4,7 +4,7 @@ use Rattle.std.specs.List.{find}
 use Rattle.at_class.specs.Grammar.{declaration_view}
 use Rattle.attrd.specs.Starting.{is_plain}
 use Rattle.attrd.proofs.Starting.{left_out-read}
-use Rattle.attrd.proofs.start.left_out.Goals as goal
+use Rattle.attrd.proofs.start.grammar.left_out.Goals as goal
 
 pub returns-in_err-class : goal.returns-in_err-class
 returns-in_err-class c =
