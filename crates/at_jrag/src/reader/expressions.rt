@@ -9,7 +9,7 @@ impl<'a> Reader<'a> {
     /// `or ["?" expr ":" expr]`
     #[cycle(expression)]
     pub fn expression(&mut self, budget: usize) -> Result<Measured, ReadError> {
-        let condition = self.binary(0, budget)?;
+        let condition = self.binary(1, budget)?;
         let Some(behind) = self.takes_within("?", condition.depth, budget)? else {
             return Ok(condition);
         };

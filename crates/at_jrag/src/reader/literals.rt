@@ -43,13 +43,6 @@ impl<'a> Reader<'a> {
         }
     }
 
-    /// Steps over the next token.
-    pub fn step(&mut self) {
-        if let [_, rest @ ..] = self.rest {
-            self.rest = rest;
-        }
-    }
-
     /// The number that is next, with these digits.
     fn digits(&mut self, at: (u32, u32), digits: &str, is_negative: bool) -> Result<Measured, ReadError> {
         match number(digits, is_negative) {

@@ -8,10 +8,10 @@ use at_text::placed::Placed;
 use at_text::token::TokenKind;
 
 /// The level of `<` and its like, which is that of `instanceof`.
-const RELATIONAL: usize = 3;
+const RELATIONAL: usize = 4;
 
 /// The level of what holds its parts together more than any operator between two.
-pub const UNARY: usize = 6;
+pub const UNARY: usize = 7;
 
 /// What follows a left operand.
 #[derive(Clone, Copy)]
@@ -31,19 +31,19 @@ pub enum Prefix {
 /// The operator that the sign is, and its level.
 fn operator_of(sign: &str) -> Option<(Operator, usize)> {
     match sign {
-        "||" => Some((Operator::Or, 0)),
-        "&&" => Some((Operator::And, 1)),
-        "==" => Some((Operator::Same, 2)),
-        "!=" => Some((Operator::Differs, 2)),
+        "||" => Some((Operator::Or, 1)),
+        "&&" => Some((Operator::And, 2)),
+        "==" => Some((Operator::Same, 3)),
+        "!=" => Some((Operator::Differs, 3)),
         "<" => Some((Operator::Below, RELATIONAL)),
         "<=" => Some((Operator::AtMost, RELATIONAL)),
         ">" => Some((Operator::Above, RELATIONAL)),
         ">=" => Some((Operator::AtLeast, RELATIONAL)),
-        "+" => Some((Operator::Add, 4)),
-        "-" => Some((Operator::Subtract, 4)),
-        "*" => Some((Operator::Multiply, 5)),
-        "/" => Some((Operator::Divide, 5)),
-        "%" => Some((Operator::Remainder, 5)),
+        "+" => Some((Operator::Add, 5)),
+        "-" => Some((Operator::Subtract, 5)),
+        "*" => Some((Operator::Multiply, 6)),
+        "/" => Some((Operator::Divide, 6)),
+        "%" => Some((Operator::Remainder, 6)),
         _ => None,
     }
 }
