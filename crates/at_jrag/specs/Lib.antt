@@ -3,3 +3,4 @@ pub mod View
 pub mod Grammar
 pub mod Left
 pub mod Read
+pub mod Heads
