@@ -1,2 +1,6 @@
 pub mod Syntax
 pub mod View
+pub mod Grammar
+pub mod Left
+pub mod Read
+pub mod Heads
