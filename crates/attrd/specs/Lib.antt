@@ -1,3 +1,9 @@
+pub mod LeftOut
+pub mod Located
+pub mod Judging
+pub mod Ruling
+pub mod Ruled
+pub mod TypedRules
 pub mod Codes
 pub mod Bodies
 pub mod Kinds

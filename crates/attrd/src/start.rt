@@ -2,6 +2,7 @@
 
 ghost use Rattle.std.specs.Prelude.{◌≡◌, ◌++◌, true, Some, take, length, string_bytes, IfOk, OnOk, OnErr, ◌&&◌, not, is_none, option_map};
 ghost use Rattle.attrd.specs.Engines.{rules_of, state_of};
+ghost use Rattle.attrd.specs.TypedRules.{AreTyped};
 ghost use Rattle.attrd.specs.StartFaults.{fault_text, place_text, file_name};
 ghost use Rattle.std.specs.List.{find, list_all};
 ghost use Rattle.at_model.specs.Declarations.{AreNamed};
@@ -12,14 +13,14 @@ ghost use Rattle.at_class.specs.Grammar.{grammar_view, declaration_view, part_de
 ghost use Rattle.attrd.specs.Starting.{AreFlat, ArePlain, are_plain, is_plain, is_plain_part, left_out};
 ghost use Rattle.at_tree.specs.TreeView.{tree_view};
 
-use crate::aspects::reader::{ReadFault, read_aspects};
-use crate::aspects::rules::{RuleFault, Rules};
-use crate::aspects::syntax::Decl;
+use crate::aspects::fault::RuleFault;
+use crate::aspects::rules::Rules;
 use crate::code::Code;
 use crate::engine::Engine;
 use crate::node::has_long_token;
 use at_class::{ClassCode, ClassFault, ClassTable};
 use at_grammar::{AstFault, ClassDecl, Grammar, PartDecl, Shape, parse_ast};
+use at_jrag::{Aspect, JragFault, parse_jrag};
 use at_tree::fault::TermFault;
 use at_tree::reader::read_term;
 use at_tree::tree::{ShapeFault, Tree, depth, nodes, shape};
@@ -84,14 +85,15 @@ impl<T: Drop> From<AllocFailed<T>> for StartFault {
 pub fn start(alloc: Global, files: &Files) -> Result<Engine, StartFault>
     ensures flat { IfOk result (λ e. AreFlat (rules_of e).classes) }
     ensures plain { IfOk result (λ e. ArePlain (rules_of e).classes) }
+    ensures typed { IfOk result (λ e. AreTyped (rules_of e)) }
     ensures conforms { IfOk result (λ e. conforms (rules_of e).classes (state_of e).tree 0 ≡ true) }
     ensures limits { IfOk result (λ e. is_within_limits (state_of e).tree ≡ true) }
     ensures version { IfOk result (λ e. (state_of e).version ≡ 0) }
 {
     let grammar = read_grammar(alloc, &files.grammar.bytes)?;
     let classes = class_table(alloc, &grammar)?;
-    let decls = read_all_aspects(alloc, &files.aspects)?;
-    let rules = rules_of(alloc, &grammar, classes, &decls)?;
+    let aspects = read_all_aspects(alloc, &files.aspects)?;
+    let rules = rules_of(alloc, classes, &aspects)?;
     let file = files.aspects.len().saturating_add(1);
     let tree = read_tree(alloc, &rules.classes, file, &files.tree.bytes)?;
     Ok(Engine::new(alloc, rules, tree))
@@ -218,45 +220,44 @@ fn aspect_fault(aspect: usize, code: Code, at: (u32, u32)) -> StartFault {
     }
 }
 
-fn read_all_aspects(alloc: Global, aspects: &[Source]) -> Result<Vec<Decl>, StartFault> {
-    let mut decls = Vec::new(alloc);
+/// The aspects of each file, in order.
+fn read_all_aspects(
+    alloc: Global,
+    aspects: &[Source],
+) -> Result<Vec<Vec<Aspect>>, StartFault> {
+    let mut all = Vec::new(alloc);
     for (i, source) in aspects.iter().enumerate() {
-        read_aspect(alloc, i, &source.bytes, &mut decls)?;
+        all.push(read_aspects(alloc, i, &source.bytes)?)?;
     }
-    Ok(decls)
+    Ok(all)
 }
 
-/// Appends the declarations of the aspect file of that number.
-fn read_aspect(
-    alloc: Global,
-    aspect: usize,
-    bytes: &[u8],
-    decls: &mut Vec<Decl>,
-) -> Result<(), StartFault> {
+/// The aspects of the aspect file of that number.
+fn read_aspects(alloc: Global, aspect: usize, bytes: &[u8]) -> Result<Vec<Aspect>, StartFault> {
     let text = match text_of(bytes, Code::AspectLimit, Code::AspectSyntax) {
         Ok(text) => text,
         Err(code) => return Err(aspect_fault(aspect, code, (1, 1))),
     };
-    match read_aspects(alloc, aspect, text, decls) {
-        Ok(()) => Ok(()),
-        Err(ReadFault::Syntax { at }) => Err(aspect_fault(aspect, Code::AspectSyntax, at)),
-        Err(ReadFault::LeftOut { at }) => Err(aspect_fault(aspect, Code::AspectFormLeftOut, at)),
-        Err(ReadFault::Nesting { at }) => Err(aspect_fault(aspect, Code::AspectLimit, at)),
-        Err(ReadFault::Memory) => Err(StartFault::Memory),
+    match parse_jrag(alloc, text) {
+        Ok(aspects) => Ok(aspects),
+        Err(JragFault::Syntax { at }) => Err(aspect_fault(aspect, Code::AspectSyntax, at)),
+        Err(JragFault::LeftOut { at }) => Err(aspect_fault(aspect, Code::AspectFormLeftOut, at)),
+        Err(JragFault::Nesting { at }) => Err(aspect_fault(aspect, Code::AspectLimit, at)),
+        Err(JragFault::Memory) => Err(StartFault::Memory),
     }
 }
 
 fn rules_of(
     alloc: Global,
-    grammar: &Grammar,
     classes: ClassTable,
-    decls: &[Decl],
+    aspects: &[Vec<Aspect>],
 ) -> Result<Rules, StartFault>
-    ensures { IfOk result (λ r. r.classes ≡ classes) }
+    ensures classes { IfOk result (λ r. r.classes ≡ classes) }
+    ensures typed { IfOk result AreTyped }
 {
-    match Rules::build(alloc, grammar, classes, decls) {
+    match Rules::build(alloc, classes, aspects) {
         Ok(rules) => Ok(rules),
-        Err(RuleFault::Refused { code, aspect, at }) => Err(aspect_fault(aspect, code, at)),
+        Err(RuleFault::Refused(fault)) => Err(aspect_fault(fault.aspect, fault.code, fault.at)),
         Err(RuleFault::Memory) => Err(StartFault::Memory),
     }
 }
