@@ -1,4 +1,4 @@
--- The declarations of all aspect files, in order, each with the number of its file.
+-- The declarations of all aspect files, in order, each with the number of its file. They are counted from 1: the grammar is 0.
 use Rattle.std.specs.Prelude.{ℕ, ◌+◌, List, [], ◌∷◌, ◌++◌, map, Vec}
 use Rattle.std.specs.List.{flat_map}
 use Rattle.at_jrag.specs.Syntax.{Word, DeclForm, Synthesized, Inherited, Equation, InheritedEquation, Decl, Aspect}
@@ -40,4 +40,4 @@ name_word (InheritedEquation class getter index name params body) = name
 
 -- those of files that were read
 abbrev pub declarations_in : {Z : Type 0} → List (Vec AspectValue Z) → List Located
-declarations_in files = located 0 (map (λ f. map aspect_view f.items) files)
+declarations_in files = located 1 (map (λ f. map aspect_view f.items) files)

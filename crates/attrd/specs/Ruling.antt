@@ -16,7 +16,7 @@ use Rattle.attrd.specs.declared.code.Code.TheVariants as code
 use Rattle.attrd.specs.declared.aspects.fault.Fault.{Fault}
 
 abbrev pub fault_at : Code → Located → Place → Fault
-fault_at c d at = record { code = c; aspect = d.file; at = at }
+fault_at c d at = record { code = c; file = d.file; at = at }
 
 -- at the declaration's first token
 abbrev pub fault_if : Bool → Code → Located → Option Fault

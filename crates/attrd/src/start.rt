@@ -1,9 +1,12 @@
 //! The files of a server, and the engine that they make.
 
-ghost use Rattle.std.specs.Prelude.{◌≡◌, ◌++◌, true, Some, take, length, string_bytes, IfOk, OnOk, OnErr, ◌&&◌, not, is_none, option_map};
+ghost use Rattle.std.specs.Prelude.{◌≡◌, ◌++◌, true, Some, None, take, length, map, string_bytes, IfOk, IfErr, OnOk, OnErr, ◌&&◌, not, is_none, option_map};
 ghost use Rattle.attrd.specs.Engines.{rules_of, state_of};
 ghost use Rattle.attrd.specs.TypedRules.{AreTyped};
-ghost use Rattle.attrd.specs.StartFaults.{fault_text, place_text, file_name};
+ghost use Rattle.attrd.specs.StartFaults.{fault_text, place_text, file_name, IsToldOf};
+ghost use Rattle.attrd.specs.Located.{declarations_in};
+ghost use Rattle.attrd.specs.Ruling.{first_fault, meant, Means};
+ghost use Rattle.attrd.specs.Ruled.{meant_view};
 ghost use Rattle.std.specs.List.{find, list_all};
 ghost use Rattle.at_model.specs.Declarations.{AreNamed};
 ghost use Rattle.at_model.specs.Trees.{conforms};
@@ -99,10 +102,12 @@ pub fn start(alloc: Global, files: &Files) -> Result<Engine, StartFault>
     Ok(Engine::new(alloc, rules, tree))
 }
 
-/// The fault of a grammar, at that place.
-fn grammar_fault(code: Code, at: (u32, u32)) -> StartFault {
+/// The fault of the file of that number, at that place.
+fn fault_at(file: usize, code: Code, at: (u32, u32)) -> StartFault
+    ensures { result ≡ StartFault.Refused file code (Some at) }
+{
     StartFault::Refused {
-        file: 0,
+        file,
         code,
         at: Some(at),
     }
@@ -122,11 +127,11 @@ fn read_grammar(alloc: Global, bytes: &[u8]) -> Result<Grammar, StartFault>
 {
     let text = match text_of(bytes, Code::GrammarLimit, Code::GrammarSyntax) {
         Ok(text) => text,
-        Err(code) => return Err(grammar_fault(code, (1, 1))),
+        Err(code) => return Err(fault_at(0, code, (1, 1))),
     };
     let grammar = parse_grammar(alloc, text)?;
     match left_out(&grammar) {
-        Some(at) => Err(grammar_fault(Code::GrammarFormLeftOut, at)),
+        Some(at) => Err(fault_at(0, Code::GrammarFormLeftOut, at)),
         None => Ok(grammar),
     }
 }
@@ -136,8 +141,8 @@ fn parse_grammar(alloc: Global, text: &str) -> Result<Grammar, StartFault>
 {
     match parse_ast(alloc, text) {
         Ok(grammar) => Ok(grammar),
-        Err(AstFault::Syntax { at }) => Err(grammar_fault(Code::GrammarSyntax, at)),
-        Err(AstFault::LeftOut { at }) => Err(grammar_fault(Code::GrammarFormLeftOut, at)),
+        Err(AstFault::Syntax { at }) => Err(fault_at(0, Code::GrammarSyntax, at)),
+        Err(AstFault::LeftOut { at }) => Err(fault_at(0, Code::GrammarFormLeftOut, at)),
         Err(AstFault::Memory) => Err(StartFault::Memory),
     }
 }
@@ -194,7 +199,7 @@ fn class_table(alloc: Global, grammar: &Grammar) -> Result<ClassTable, StartFaul
 {
     match ClassTable::build(alloc, grammar) {
         Ok(classes) => Ok(classes),
-        Err(ClassFault::Refused { code, at }) => Err(grammar_fault(class_code(code), at)),
+        Err(ClassFault::Refused { code, at }) => Err(fault_at(0, class_code(code), at)),
         Err(ClassFault::Memory) => Err(StartFault::Memory),
     }
 }
@@ -211,15 +216,6 @@ fn class_code(code: ClassCode) -> Code {
     }
 }
 
-/// The fault of the aspect file of that number, at that place.
-fn aspect_fault(aspect: usize, code: Code, at: (u32, u32)) -> StartFault {
-    StartFault::Refused {
-        file: aspect.saturating_add(1),
-        code,
-        at: Some(at),
-    }
-}
-
 /// The aspects of each file, in order.
 fn read_all_aspects(
     alloc: Global,
@@ -227,22 +223,22 @@ fn read_all_aspects(
 ) -> Result<Vec<Vec<Aspect>>, StartFault> {
     let mut all = Vec::new(alloc);
     for (i, source) in aspects.iter().enumerate() {
-        all.push(read_aspects(alloc, i, &source.bytes)?)?;
+        all.push(read_aspects(alloc, i + 1, &source.bytes)?)?;
     }
     Ok(all)
 }
 
-/// The aspects of the aspect file of that number.
-fn read_aspects(alloc: Global, aspect: usize, bytes: &[u8]) -> Result<Vec<Aspect>, StartFault> {
+/// The aspects of the file of that number.
+fn read_aspects(alloc: Global, file: usize, bytes: &[u8]) -> Result<Vec<Aspect>, StartFault> {
     let text = match text_of(bytes, Code::AspectLimit, Code::AspectSyntax) {
         Ok(text) => text,
-        Err(code) => return Err(aspect_fault(aspect, code, (1, 1))),
+        Err(code) => return Err(fault_at(file, code, (1, 1))),
     };
     match parse_jrag(alloc, text) {
         Ok(aspects) => Ok(aspects),
-        Err(JragFault::Syntax { at }) => Err(aspect_fault(aspect, Code::AspectSyntax, at)),
-        Err(JragFault::LeftOut { at }) => Err(aspect_fault(aspect, Code::AspectFormLeftOut, at)),
-        Err(JragFault::Nesting { at }) => Err(aspect_fault(aspect, Code::AspectLimit, at)),
+        Err(JragFault::Syntax { at }) => Err(fault_at(file, Code::AspectSyntax, at)),
+        Err(JragFault::LeftOut { at }) => Err(fault_at(file, Code::AspectFormLeftOut, at)),
+        Err(JragFault::Nesting { at }) => Err(fault_at(file, Code::AspectLimit, at)),
         Err(JragFault::Memory) => Err(StartFault::Memory),
     }
 }
@@ -252,12 +248,15 @@ fn rules_of(
     classes: ClassTable,
     aspects: &[Vec<Aspect>],
 ) -> Result<Rules, StartFault>
+    ensures faultless { IfOk result (λ r. first_fault classes (declarations_in aspects.now) ≡ None) }
     ensures classes { IfOk result (λ r. r.classes ≡ classes) }
+    ensures attributes { IfOk result (λ r. map (λ a. Means (meant_view a)) r.attributes.items ≡ map (λ d. meant classes d.decl) (declarations_in aspects.now)) }
     ensures typed { IfOk result AreTyped }
+    ensures refused { IfErr result (IsToldOf (first_fault classes (declarations_in aspects.now))) }
 {
     match Rules::build(alloc, classes, aspects) {
         Ok(rules) => Ok(rules),
-        Err(RuleFault::Refused(fault)) => Err(aspect_fault(fault.aspect, fault.code, fault.at)),
+        Err(RuleFault::Refused(fault)) => Err(fault_at(fault.file, fault.code, fault.at)),
         Err(RuleFault::Memory) => Err(StartFault::Memory),
     }
 }

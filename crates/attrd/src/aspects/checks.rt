@@ -39,7 +39,7 @@ fn fault_at(code: Code, located: &Located, at: (u32, u32)) -> Fault
 {
     Fault {
         code,
-        aspect: located.file,
+        file: located.file,
         at,
     }
 }

@@ -6,11 +6,12 @@ ghost use Rattle.attrd.specs.declared.aspects.fault.RuleFault.TheVariants.{Memor
 use crate::code::Code;
 use std::alloc::{AllocError, AllocFailed};
 
-/// A rule that a declaration breaks: its code, the number of the aspect file, and the place in it.
+/// A rule that a declaration breaks: its code, the number of the aspect file, from 1, and the place in
+/// it.
 #[derive(Clone, Copy, Debug, PartialEq, Eq)]
 pub struct Fault {
     pub code: Code,
-    pub aspect: usize,
+    pub file: usize,
     pub at: (u32, u32),
 }
 

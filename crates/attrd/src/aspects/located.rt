@@ -7,7 +7,7 @@ ghost use Rattle.attrd.specs.Located.{located, located_view, from_file, from_asp
 use at_jrag::{Aspect, Decl, DeclForm, Word};
 use std::alloc::{AllocError, Global};
 
-/// A declaration, with the number of its aspect file.
+/// A declaration, with the number of its aspect file, from 1.
 #[derive(Clone, Copy)]
 pub struct Located<'a> {
     pub file: usize,
@@ -19,11 +19,11 @@ pub fn locate<'a>(
     alloc: Global,
     files: &'a [Vec<Aspect>],
 ) -> Result<Vec<Located<'a>>, AllocError>
-    ensures { IfOk result (λ v. map located_view v.items ≡ located 0 (map (λ f. map aspect_view f.items) files.now)) }
+    ensures { IfOk result (λ v. map located_view v.items ≡ located 1 (map (λ f. map aspect_view f.items) files.now)) }
 {
     let mut all = Vec::new(alloc);
-    for (file, aspects) in files.iter().enumerate() {
-        append_file(file, aspects, &mut all)?;
+    for (i, aspects) in files.iter().enumerate() {
+        append_file(i + 1, aspects, &mut all)?;
     }
     Ok(all)
 }

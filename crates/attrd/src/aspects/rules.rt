@@ -145,7 +145,7 @@ fn attribute_of(
         Ok(attribute) => Ok(attribute),
         Err(TypeFault::Refused { code, at }) => Err(RuleFault::Refused(Fault {
             code,
-            aspect: located.file,
+            file: located.file,
             at,
         })),
         Err(TypeFault::Memory) => Err(RuleFault::Memory),
