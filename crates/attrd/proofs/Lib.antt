@@ -1,4 +1,8 @@
 pub mod Sound
+pub mod Firsts
+pub mod Joined
+pub mod Locating
+pub mod Calls
 pub mod Conforming
 pub mod Views
 pub mod Walks

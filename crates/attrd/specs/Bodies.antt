@@ -1,7 +1,7 @@
 -- What the bodies of equations stand for.
 use Rattle.at_model.specs.Bodies.{Expr, IntLiteral, This, Negate, Arithmetic, Child, TokenOf, Operator as Arithmetical, Times, Plus, Minus}
-use Rattle.attrd.specs.declared.aspects.syntax.Operator.{Operator}
-use Rattle.attrd.specs.declared.aspects.syntax.Operator.TheVariants.{Add, Subtract, Multiply}
+use Rattle.attrd.specs.declared.aspects.rules.Operator.{Operator}
+use Rattle.attrd.specs.declared.aspects.rules.Operator.TheVariants.{Add, Subtract, Multiply}
 use Rattle.attrd.specs.declared.aspects.rules.NodeExpr.{NodeExpr}
 use Rattle.attrd.specs.declared.aspects.rules.NodeExpr as node
 use Rattle.attrd.specs.declared.aspects.rules.IntExpr.{IntExpr}

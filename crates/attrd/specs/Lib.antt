@@ -1,8 +1,13 @@
+pub mod LeftOut
+pub mod Located
+pub mod Judging
+pub mod Ruling
+pub mod Ruled
+pub mod TypedRules
 pub mod Codes
 pub mod Bodies
 pub mod Kinds
 pub mod Typed
-pub mod TypedRules
 pub mod Nodes
 pub mod Tokens
 pub mod Served

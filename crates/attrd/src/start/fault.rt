@@ -1,8 +1,7 @@
 //! Why files make no server, and how that is printed.
 
 ghost use Rattle.std.specs.Prelude.{◌≡◌, ◌++◌, Some, take, length, string_bytes, OnOk, OnErr};
-ghost use Rattle.attrd.specs.StartFaults.{fault_text, place_text, file_name};
-ghost use Rattle.attrd.specs.declared.start.fault.FileFault.TheVariants as file;
+ghost use Rattle.attrd.specs.StartFaults.{fault_text, place_text, file_name, of_file};
 
 use super::files::{Files, Source};
 use crate::code::Code;
@@ -33,6 +32,16 @@ pub enum FileFault {
     },
     /// Want of memory.
     Memory,
+}
+
+/// The fault of the file of that number.
+pub fn of_file(file: usize, fault: FileFault) -> StartFault
+    ensures { result ≡ of_file file fault }
+{
+    match fault {
+        FileFault::Refused { code, at } => StartFault::Refused { file, code, at },
+        FileFault::Memory => StartFault::Memory,
+    }
 }
 
 impl From<AllocError> for StartFault {

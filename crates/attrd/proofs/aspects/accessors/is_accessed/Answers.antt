@@ -1,0 +1,18 @@
+use Rattle.std.proofs.Common.{◌∙◌, ap, sym, arith}
+use Rattle.std.specs.Prelude.{is_some}
+use Rattle.attrd.specs.Judging.{accessed}
+use Rattle.attrd.proofs.Firsts.{some_below, none_below_more, none_below_all, none_where}
+use Rattle.attrd.proofs.aspects.accessors.is_accessed.Goals as goal
+
+pub returns-then-is_some : goal.returns-then-is_some
+returns-then-is_some c =
+    let get = accessed c.args.classes.now c.args.name.now in
+    sym (some_below get c.args.classes.now c.loop-class.class (omega arith) c.accessed.result (sym (c.accessed.ensures ∙ ap get c.new.ensures)) (sym c.is_some.ensures ∙ c.if-is_some.true) c.loop-class.invariant)
+
+pub loop-class-preserved : goal.loop-class-preserved
+loop-class-preserved c =
+    let get = accessed c.args.classes.now c.args.name.now in
+    none_below_more get c.args.classes.now c.loop-class.class (omega arith) (sym (c.accessed.ensures ∙ ap get c.new.ensures) ∙ none_where c.accessed.result (sym c.is_some.ensures ∙ c.if-is_some.false)) c.loop-class.invariant
+
+pub returns : goal.returns
+returns c = ap is_some (sym (none_below_all (accessed c.args.classes.now c.args.name.now) c.args.classes.now c.loop-class.class (omega arith) c.loop-class.invariant))

@@ -1,0 +1,89 @@
+//! The rules of aspect files.
+
+ghost use Rattle.std.specs.Prelude.{◌≡◌, None, map, IfOk, IfErr};
+ghost use Rattle.attrd.specs.Located.{declarations_in};
+ghost use Rattle.attrd.specs.Ruled.{meant_view};
+ghost use Rattle.attrd.specs.Ruling.{meant, first_fault, Means};
+ghost use Rattle.attrd.specs.StartFaults.{IsToldOf};
+ghost use Rattle.attrd.specs.TypedRules.{AreTyped};
+
+use super::fault::{FileFault, StartFault, of_file};
+use super::files::{Source, text_of};
+use crate::aspects::fault::RuleFault;
+use crate::aspects::rules::Rules;
+use crate::code::Code;
+use at_class::ClassTable;
+use at_jrag::{Aspect, JragFault, parse_jrag};
+use std::alloc::Global;
+
+/// The rules of the aspect files over the classes.
+///
+/// # Errors
+///
+/// The first file that can't be read, or else the first fault of the rules. `Memory` for want of memory.
+pub fn rules_of(
+    alloc: Global,
+    classes: ClassTable,
+    aspects: &[Source],
+) -> Result<Rules, StartFault>
+    ensures classes { IfOk result (λ r. r.classes ≡ classes) }
+    ensures typed { IfOk result AreTyped }
+{
+    let aspects = read_all(alloc, aspects)?;
+    build(alloc, classes, &aspects)
+}
+
+/// The aspects of each file, in order.
+fn read_all(alloc: Global, aspects: &[Source]) -> Result<Vec<Vec<Aspect>>, StartFault> {
+    let mut all = Vec::new(alloc);
+    for (i, source) in aspects.iter().enumerate() {
+        match read(alloc, &source.bytes) {
+            Ok(aspects) => all.push(aspects)?,
+            Err(fault) => return Err(of_file(i + 1, fault)),
+        }
+    }
+    Ok(all)
+}
+
+/// The aspects of a file.
+fn read(alloc: Global, bytes: &[u8]) -> Result<Vec<Aspect>, FileFault> {
+    let text = match text_of(bytes, Code::AspectLimit, Code::AspectSyntax) {
+        Ok(text) => text,
+        Err(code) => return Err(refused(code, (1, 1))),
+    };
+    match parse_jrag(alloc, text) {
+        Ok(aspects) => Ok(aspects),
+        Err(JragFault::Syntax { at }) => Err(refused(Code::AspectSyntax, at)),
+        Err(JragFault::LeftOut { at }) => Err(refused(Code::AspectFormLeftOut, at)),
+        Err(JragFault::Nesting { at }) => Err(refused(Code::AspectLimit, at)),
+        Err(JragFault::Memory) => Err(FileFault::Memory),
+    }
+}
+
+fn refused(code: Code, at: (u32, u32)) -> FileFault {
+    FileFault::Refused { code, at: Some(at) }
+}
+
+fn build(
+    alloc: Global,
+    classes: ClassTable,
+    aspects: &[Vec<Aspect>],
+) -> Result<Rules, StartFault>
+    ensures faultless { IfOk result (λ r. first_fault classes (declarations_in aspects.now) ≡ None) }
+    ensures classes { IfOk result (λ r. r.classes ≡ classes) }
+    ensures attributes { IfOk result (λ r. map (λ a. Means (meant_view a)) r.attributes.items ≡ map (λ d. meant classes d.decl) (declarations_in aspects.now)) }
+    ensures typed { IfOk result AreTyped }
+    ensures refused { IfErr result (IsToldOf (first_fault classes (declarations_in aspects.now))) }
+{
+    match Rules::build(alloc, classes, aspects) {
+        Ok(rules) => Ok(rules),
+        Err(RuleFault::Refused(fault)) => Err(of_file(
+            fault.file,
+            FileFault::Refused {
+                code: fault.code,
+                at: Some(fault.at),
+            },
+        )),
+        Err(RuleFault::Memory) => Err(StartFault::Memory),
+    }
+}
