@@ -217,10 +217,7 @@ fn class_code(code: ClassCode) -> Code {
 }
 
 /// The aspects of each file, in order.
-fn read_all_aspects(
-    alloc: Global,
-    aspects: &[Source],
-) -> Result<Vec<Vec<Aspect>>, StartFault> {
+fn read_all_aspects(alloc: Global, aspects: &[Source]) -> Result<Vec<Vec<Aspect>>, StartFault> {
     let mut all = Vec::new(alloc);
     for (i, source) in aspects.iter().enumerate() {
         all.push(read_aspects(alloc, i + 1, &source.bytes)?)?;
