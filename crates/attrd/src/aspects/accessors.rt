@@ -18,7 +18,9 @@ pub fn accessed(classes: &ClassTable, class: ClassId, name: &str) -> Option<usiz
 fn accessed_among(parts: &[Part], name: &str) -> Option<usize>
     ensures { result ≡ position (λ p. bytes_eq name.now (codes "get" ++ string_bytes p.name)) parts.now }
 {
-    parts.iter().position(|part| is_accessor_of(name, part.name.as_str()))
+    parts
+        .iter()
+        .position(|part| is_accessor_of(name, part.name.as_str()))
 }
 
 fn is_accessor_of(name: &str, component: &str) -> bool

@@ -15,7 +15,14 @@ pub fn decl_left_out(decl: &Decl) -> Option<(u32, u32)>
     ensures { result ≡ decl_left_out (decl_view decl.now) }
 {
     match &decl.form {
-        DeclForm::Synthesized { lazy, kind, class: _, name: _, params, ending } => {
+        DeclForm::Synthesized {
+            lazy,
+            kind,
+            class: _,
+            name: _,
+            params,
+            ending,
+        } => {
             let behind = first_parameter(&params.items).or(ending_left_out(ending));
             lazy.or(kind_left_out(kind).or(behind))
         }

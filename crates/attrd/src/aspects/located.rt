@@ -15,10 +15,7 @@ pub struct Located<'a> {
 }
 
 /// The declarations of the files, in order, or want of memory.
-pub fn locate<'a>(
-    alloc: Global,
-    files: &'a [Vec<Aspect>],
-) -> Result<Vec<Located<'a>>, AllocError>
+pub fn locate<'a>(alloc: Global, files: &'a [Vec<Aspect>]) -> Result<Vec<Located<'a>>, AllocError>
     ensures { IfOk result (λ v. map located_view v.items ≡ located 1 (map (λ f. map aspect_view f.items) files.now)) }
 {
     let mut all = Vec::new(alloc);

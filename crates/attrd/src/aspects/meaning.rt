@@ -20,9 +20,12 @@ pub fn meant(alloc: Global, classes: &ClassTable, decl: &Decl) -> Result<Attribu
     ensures typed { IfOk result (IsAttributeTyped classes.now) }
 {
     match &decl.form {
-        DeclForm::Synthesized { class, name, ending, .. } => {
-            ended(alloc, classes, class, name, ending)
-        }
+        DeclForm::Synthesized {
+            class,
+            name,
+            ending,
+            ..
+        } => { ended(alloc, classes, class, name, ending) }
         _ => Err(TypeFault::Refused {
             code: Code::AspectFormLeftOut,
             at: decl.at,
@@ -72,7 +75,11 @@ fn in_class(
         class: id,
     };
     match scope.typed(expr)? {
-        Typed::Int(body) => Ok(Attribute { class: id, name, body }),
+        Typed::Int(body) => Ok(Attribute {
+            class: id,
+            name,
+            body,
+        }),
         _ => Err(TypeFault::Refused {
             code: Code::Kind,
             at: expr.at,

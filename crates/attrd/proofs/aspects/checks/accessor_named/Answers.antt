@@ -2,7 +2,7 @@ use Rattle.std.proofs.Common.{◌≡◌, true, false, ◌∙◌, ap, sym, arith,
 use Rattle.at_jrag.specs.Syntax.{Word}
 use Rattle.attrd.specs.declared.code.Code.TheVariants as code
 use Rattle.attrd.specs.Located.{located_view, name_word}
-use Rattle.attrd.specs.Ruling.{fault_at, fault_if, accessor_at, is_accessor}
+use Rattle.attrd.specs.Ruling.{accessor_at, is_accessor}
 use Rattle.attrd.proofs.Firsts.{first_here, none_more, none_at_all, fault_where, fault_nowhere}
 use Rattle.attrd.proofs.aspects.checks.accessor_named.Goals as goal
 

@@ -1,4 +1,3 @@
-use Rattle.std.proofs.Common.{map}
 use Rattle.attrd.specs.Ruling.{accessor_at}
 use Rattle.attrd.specs.Located.{located_view}
 use Rattle.attrd.proofs.Firsts.{NoneBefore}

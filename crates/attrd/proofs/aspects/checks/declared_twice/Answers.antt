@@ -1,5 +1,4 @@
-use Rattle.std.proofs.Common.{◌≡◌, true, false, ◌∙◌, ap, sym, arith, Some, map, take}
-use Rattle.std.specs.List.{list_any}
+use Rattle.std.proofs.Common.{◌∙◌, ap, sym, arith, Some, map}
 use Rattle.attrd.specs.declared.code.Code.TheVariants as code
 use Rattle.attrd.specs.Located.{located_view}
 use Rattle.attrd.specs.Ruling.{twice_at, is_same}
