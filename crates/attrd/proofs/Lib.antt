@@ -14,6 +14,8 @@ pub mod Asking
 pub mod Starting
 pub mod Declaring
 pub mod TermFiles
+pub mod Ruled
+pub mod Started
 pub mod StartingTokens
 pub mod Kept
 pub mod KeptLines

@@ -23,6 +23,8 @@ pub mod Files
 pub mod Starting
 pub mod GrammarFiles
 pub mod TreeFiles
+pub mod AspectFiles
+pub mod Starts
 pub mod Serving
 pub mod Loop
 pub mod Taking

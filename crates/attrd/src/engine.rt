@@ -24,7 +24,8 @@ pub const REPLY_ROOM: usize = 48;
 /// Answers questions about one tree, which edits change.
 #[derive(Drop)]
 pub struct Engine {
-    alloc: Global,
+    /// Where all memory comes from.
+    pub alloc: Global,
     rules: Rules,
     tree: Tree,
     version: u64,
@@ -135,12 +136,8 @@ impl Engine {
     pub fn version(&self) -> u64
         ensures { result ≡ (engine_view self.now).state.version }
     {
-        self.version
-    }
-
-    /// The allocator of whatever it takes.
-    pub fn allocator(&self) -> Global {
-        self.alloc
+        let Engine { version, .. } = self;
+        *version
     }
 
     /// Appends the reply to a line, which is given without its newline; to an empty one nothing.

@@ -1,7 +1,8 @@
 //! The files of a server, and the engine that they make.
 
-ghost use Rattle.std.specs.Prelude.{◌≡◌, IfOk};
-ghost use Rattle.attrd.specs.Engines.{state_of};
+ghost use Rattle.std.specs.Prelude.{IfOk, IfErr};
+ghost use Rattle.attrd.specs.Engines.{rules_of, state_of};
+ghost use Rattle.attrd.specs.Starts.{Starts, IsStartFault};
 
 mod aspects;
 mod fault;
@@ -25,14 +26,15 @@ use tree::{refused, tree_of};
 ///
 /// `Refused` for the first file that is refused, `Memory` for want of memory.
 pub fn start(alloc: Global, files: &Files) -> Result<Engine, StartFault>
-    ensures version { IfOk result (λ e. (state_of e).version ≡ 0) }
+    ensures started { IfOk result (λ e. Starts files.now (rules_of e) (state_of e)) }
+    ensures refused { IfErr result (IsStartFault files.now) }
 {
     let classes = match classes_of(alloc, &files.grammar.bytes) {
         Ok(classes) => classes,
         Err(fault) => return Err(of_file(0, fault)),
     };
     let rules = rules_of(alloc, classes, &files.aspects)?;
-    let file = files.aspects.len().saturating_add(1);
+    let file = files.aspects.len() + 1;
     let tree = match tree_of(alloc, &rules.classes, &files.tree.bytes) {
         Ok(tree) => tree,
         Err(fault) => return Err(of_file(file, fault)),

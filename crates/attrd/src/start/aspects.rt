@@ -1,6 +1,11 @@
 //! The rules of aspect files.
 
-ghost use Rattle.std.specs.Prelude.{◌≡◌, None, map, IfOk, IfErr};
+ghost use Rattle.std.specs.Prelude.{◌≡◌, None, Some, map, IfOk, IfErr};
+ghost use Rattle.at_jrag.specs.View.{aspect_view};
+ghost use Rattle.attrd.specs.AspectFiles.{Holds, AllHold, GivesRules, IsReadingFaultOf, IsAspectFault, IsUnread};
+ghost use Rattle.attrd.specs.Served.{rules_view};
+ghost use Rattle.attrd.specs.Starts.{aspect_bytes};
+ghost use Rattle.attrd.specs.declared.start.fault.FileFault.TheVariants.{Refused};
 ghost use Rattle.attrd.specs.Located.{declarations_in};
 ghost use Rattle.attrd.specs.Ruled.{meant_view};
 ghost use Rattle.attrd.specs.Ruling.{meant, first_fault, Means};
@@ -28,13 +33,18 @@ pub fn rules_of(
 ) -> Result<Rules, StartFault>
     ensures classes { IfOk result (λ r. r.classes ≡ classes) }
     ensures typed { IfOk result AreTyped }
+    ensures given { IfOk result (λ r. GivesRules classes (aspect_bytes aspects.now) (rules_view r)) }
+    ensures refused { IfErr result (IsAspectFault classes (aspect_bytes aspects.now)) }
 {
     let aspects = read_all(alloc, aspects)?;
     build(alloc, classes, &aspects)
 }
 
 /// The aspects of each file, in order.
-fn read_all(alloc: Global, aspects: &[Source]) -> Result<Vec<Vec<Aspect>>, StartFault> {
+fn read_all(alloc: Global, aspects: &[Source]) -> Result<Vec<Vec<Aspect>>, StartFault>
+    ensures hold { IfOk result (λ v. AllHold (aspect_bytes aspects.now) (map (λ f. map aspect_view f.items) v.items)) }
+    ensures refused { IfErr result (IsUnread (aspect_bytes aspects.now)) }
+{
     let mut all = Vec::new(alloc);
     for (i, source) in aspects.iter().enumerate() {
         match read(alloc, &source.bytes) {
@@ -46,7 +56,10 @@ fn read_all(alloc: Global, aspects: &[Source]) -> Result<Vec<Vec<Aspect>>, Start
 }
 
 /// The aspects of a file.
-fn read(alloc: Global, bytes: &[u8]) -> Result<Vec<Aspect>, FileFault> {
+fn read(alloc: Global, bytes: &[u8]) -> Result<Vec<Aspect>, FileFault>
+    ensures hold { IfOk result (λ v. Holds bytes.now (map aspect_view v.items)) }
+    ensures refused { IfErr result (IsReadingFaultOf bytes.now) }
+{
     let text = match text_of(bytes, Code::AspectLimit, Code::AspectSyntax) {
         Ok(text) => text,
         Err(code) => return Err(refused(code, (1, 1))),
@@ -60,7 +73,9 @@ fn read(alloc: Global, bytes: &[u8]) -> Result<Vec<Aspect>, FileFault> {
     }
 }
 
-fn refused(code: Code, at: (u32, u32)) -> FileFault {
+fn refused(code: Code, at: (u32, u32)) -> FileFault
+    ensures { result ≡ Refused code (Some at) }
+{
     FileFault::Refused { code, at: Some(at) }
 }
 

@@ -1,6 +1,7 @@
 //! Why files make no server, and how that is printed.
 
 ghost use Rattle.std.specs.Prelude.{◌≡◌, ◌++◌, Some, take, length, string_bytes, OnOk, OnErr};
+ghost use Rattle.attrd.specs.declared.start.fault.StartFault.TheVariants.{Memory};
 ghost use Rattle.attrd.specs.StartFaults.{fault_text, place_text, file_name, of_file};
 
 use super::files::{Files, Source};
@@ -45,12 +46,16 @@ pub fn of_file(file: usize, fault: FileFault) -> StartFault
 }
 
 impl From<AllocError> for StartFault {
+    ghost from_gives = { λ _ e. e ≡ Memory };
+
     fn from(_e: AllocError) -> StartFault {
         StartFault::Memory
     }
 }
 
 impl<T: Drop> From<AllocFailed<T>> for StartFault {
+    ghost from_gives = { λ _ e. e ≡ Memory };
+
     fn from(_e: AllocFailed<T>) -> StartFault {
         StartFault::Memory
     }
