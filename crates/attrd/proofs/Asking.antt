@@ -23,9 +23,10 @@ use Rattle.attrd.specs.Evaluation.{number_in, nothing}
 use Rattle.attrd.specs.Lookups.{is_of, body_of}
 use Rattle.attrd.specs.Served.{attribute_view, equations_from, rules_view}
 use Rattle.attrd.specs.Starting.{AreFlat}
-use Rattle.attrd.specs.TypedRules.{IsAttributeTyped, AreTyped}
+use Rattle.attrd.specs.TypedRules.{AreTyped}
+use Rattle.attrd.specs.Lookups.{IsAttributeTyped}
 use Rattle.attrd.specs.declared.aspects.rules.Rules.{Rules as RulesValue}
-use Rattle.attrd.specs.declared.aspects.rules.Attribute.{Attribute as AttributeValue}
+use Rattle.attrd.specs.declared.aspects.attributes.Attribute.{Attribute as AttributeValue}
 use Rattle.attrd.proofs.Evaluating.{is_found}
 
 -- classes without superclasses ---------------------------------------------------------------------------------------

@@ -22,7 +22,7 @@ use Rattle.attrd.specs.Ruling.{Means, meant, first_fault}
 use Rattle.attrd.specs.Served.{rules_view, attribute_view, equations_from}
 use Rattle.attrd.specs.StartFaults.{told, IsToldOf, of_file}
 use Rattle.attrd.specs.declared.aspects.fault.Fault.{Fault}
-use Rattle.attrd.specs.declared.aspects.rules.Attribute.{Attribute as AttributeValue}
+use Rattle.attrd.specs.declared.aspects.attributes.Attribute.{Attribute as AttributeValue}
 use Rattle.attrd.specs.declared.aspects.rules.Rules.{Rules as RulesValue}
 use Rattle.attrd.specs.declared.start.fault.StartFault.{StartFault}
 use Rattle.attrd.specs.declared.start.fault.StartFault.TheVariants.{Refused, Memory}

@@ -4,7 +4,7 @@ use Rattle.at_model.specs.Classes.{Classes}
 use Rattle.attrd.specs.Bodies.{int_view}
 use Rattle.attrd.specs.Located.{Located}
 use Rattle.attrd.specs.Ruling.{Attribute, Meaning, Means, Refuses, meant, refusal, refused}
-use Rattle.attrd.specs.declared.aspects.rules.Attribute.{Attribute as AttributeValue}
+use Rattle.attrd.specs.declared.aspects.attributes.Attribute.{Attribute as AttributeValue}
 use Rattle.attrd.specs.declared.aspects.typing.TypeFault.{TypeFault}
 use Rattle.attrd.specs.declared.aspects.typing.TypeFault.TheVariants as type
 use Rattle.attrd.specs.declared.aspects.fault.Fault.{Fault}

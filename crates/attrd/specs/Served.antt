@@ -10,7 +10,7 @@ use Rattle.at_model.specs.Machine.{State}
 use Rattle.attrd.specs.Bodies.{int_view}
 use Rattle.attrd.specs.Nodes.{set_on, Fits}
 use Rattle.attrd.specs.declared.aspects.rules.Rules.{Rules as RulesValue}
-use Rattle.attrd.specs.declared.aspects.rules.Attribute.{Attribute as AttributeValue}
+use Rattle.attrd.specs.declared.aspects.attributes.Attribute.{Attribute as AttributeValue}
 
 -- an attribute that is a number, synthesized, with no parameters and not kept
 abbrev pub attribute_view : AttributeValue → Attribute

@@ -6,8 +6,8 @@ use Rattle.attrd.specs.Kinds.{node_class, is_number, shape_of}
 use Rattle.attrd.specs.Bodies.{node_view, int_view}
 use Rattle.at_class.specs.declared.part.TokenKind.{TokenKind}
 use Rattle.at_class.specs.declared.part.TokenKind.TheVariants as kind
-use Rattle.attrd.specs.declared.aspects.rules.NodeExpr.{NodeExpr}
-use Rattle.attrd.specs.declared.aspects.rules.IntExpr as int
+use Rattle.attrd.specs.declared.aspects.attributes.NodeExpr.{NodeExpr}
+use Rattle.attrd.specs.declared.aspects.attributes.IntExpr as int
 use Rattle.attrd.specs.Judging.{Kinded, Judged, Is, Wrong}
 use Rattle.attrd.specs.Judging as judging
 use Rattle.attrd.specs.declared.aspects.typing.Typed.{Typed}

@@ -2,6 +2,8 @@
 //! that declarations make over a class table, and which fault they have.
 
 mod accessors;
+pub mod attributes;
+mod building;
 mod checks;
 pub mod fault;
 mod left_out;

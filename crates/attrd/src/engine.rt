@@ -4,8 +4,6 @@ ghost use Rattle.std.specs.Prelude.{◌≡◌};
 ghost use Rattle.at_tree.specs.Token.{token_view};
 ghost use Rattle.at_tree.specs.TreeView.{tree_view};
 ghost use Rattle.attrd.specs.Served.{IsWhole, IsWithin};
-ghost use Rattle.attrd.specs.Starting.{AreFlat, ArePlain};
-ghost use Rattle.attrd.specs.TypedRules.{AreTyped};
 ghost use Rattle.attrd.specs.Tokens.{is_same_kind};
 
 use crate::aspects::rules::Rules;
@@ -29,9 +27,6 @@ pub struct Engine {
     rules: Rules,
     tree: Tree,
     version: u64,
-    ghost flat: { AreFlat rules.classes },
-    ghost plain: { ArePlain rules.classes },
-    ghost typed: { AreTyped rules },
     ghost whole: { IsWhole rules.classes (tree_view tree) },
     ghost within: { IsWithin (tree_view tree) },
 }
@@ -105,9 +100,6 @@ impl Engine {
     /// `Fit` where the tree doesn't conform to the start class, else `Limit` where it is beyond the
     /// limits of a tree.
     pub fn new(alloc: Global, rules: Rules, tree: Tree) -> Result<Engine, LoadFault>
-        requires flat { AreFlat rules.classes }
-        requires plain { ArePlain rules.classes }
-        requires typed { AreTyped rules }
         ensures loaded { IfOk result (λ e. engine_view e ≡ served rules (tree_view tree) 0) }
         ensures fault { IfErr result (IsLoadFault rules.classes (tree_view tree)) }
     {
@@ -315,8 +307,9 @@ impl Engine {
         ensures rules { rules_of self.new ≡ rules_of self.old }
     {
         let Edit { path, part, value } = edit;
+        let rules = &self.rules;
         set_token(
-            &self.rules.classes,
+            &rules.classes,
             &mut self.tree,
             &path.steps,
             part,

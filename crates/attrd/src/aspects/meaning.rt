@@ -3,11 +3,11 @@
 ghost use Rattle.std.specs.Prelude.{IfOk};
 ghost use Rattle.at_model.specs.Classes.{class_of_name};
 ghost use Rattle.at_jrag.specs.View.{decl_view, expr_view, word_view, ending_view};
-ghost use Rattle.attrd.specs.TypedRules.{IsAttributeTyped};
+ghost use Rattle.attrd.specs.Lookups.{IsAttributeTyped};
 ghost use Rattle.attrd.specs.Ruling.{meant as meant_of, ended as ended_by, in_class as in_class_of};
 ghost use Rattle.attrd.specs.Ruled.{MeansBy};
 
-use super::rules::Attribute;
+use super::attributes::Attribute;
 use super::typing::{Scope, TypeFault, Typed};
 use crate::code::Code;
 use at_class::ClassTable;

@@ -1,106 +1,28 @@
 //! The rules of a server: classes, and for each attribute of a class its equation's body, whose kinds
 //! are right.
 
-ghost use Rattle.std.specs.Prelude.{◌≡◌, Some, None, All, map, option_map, IfOk, IfErr};
-ghost use Rattle.at_jrag.specs.View.{decl_view};
-ghost use Rattle.attrd.specs.Bodies.{int_view};
-ghost use Rattle.attrd.specs.Lookups.{body_of};
-ghost use Rattle.attrd.specs.TypedRules.{IsAttributeTyped, AreTyped};
-ghost use Rattle.attrd.specs.Located.{located_view, declarations_in};
-ghost use Rattle.attrd.specs.Ruling.{meant, first_fault, refused, Means};
-ghost use Rattle.attrd.specs.Ruled.{meant_view, Gives, Listed, IsRefusedFor};
+ghost use Rattle.std.specs.Prelude.{All};
+ghost use Rattle.attrd.specs.Lookups.{IsAttributeTyped};
+ghost use Rattle.attrd.specs.Starting.{AreFlat, ArePlain};
 
-use super::checks::fault_together;
-use super::fault::{Fault, RuleFault};
-use super::located::{Located, locate};
-use super::meaning::meant;
-use super::typing::TypeFault;
+use super::attributes::{Attribute, IntExpr};
 use at_class::{ClassId, ClassTable};
-use at_jrag::Aspect;
-use std::alloc::Global;
 
-/// An expression that is a node.
-#[derive(Debug, Drop)]
-pub enum NodeExpr {
-    This,
-    /// The child of a node in the component of that position.
-    Child(Box<NodeExpr>, usize),
-}
-
-/// The operators on numbers that are evaluated.
-#[derive(Clone, Copy, Debug, PartialEq, Eq)]
-pub enum Operator {
-    Add,
-    Subtract,
-    Multiply,
-}
-
-/// An expression that is a number. Its operations wrap at 32 bits.
-#[derive(Debug, Drop)]
-pub enum IntExpr {
-    Number(i32),
-    /// The token of a node in the component of that position.
-    Token(NodeExpr, usize),
-    Negate(Box<IntExpr>),
-    Operation(Operator, Box<IntExpr>, Box<IntExpr>),
-}
-
-/// An attribute of a class, and the body of its equation.
-#[derive(Drop)]
-pub struct Attribute {
-    pub class: ClassId,
-    pub name: String,
-    pub body: IntExpr,
-}
-
-impl Attribute {
-    ghost use Rattle.std.specs.Prelude.{◌≡◌};
-    ghost use Rattle.attrd.specs.Lookups.{is_of};
-
-    fn is_of(&self, class: ClassId, name: &str) -> bool
-        ensures { result ≡ is_of self.now class name.now }
-    {
-        self.class == class && self.name.as_str() == name
-    }
-}
-
-/// Classes and their attributes.
+/// Classes and their attributes. No class has a superclass, a list or an optional, and each body is
+/// a number.
 #[derive(Drop)]
 pub struct Rules {
     pub classes: ClassTable,
     pub attributes: Vec<Attribute>,
+    ghost flat: { AreFlat classes },
+    ghost plain: { ArePlain classes },
+    ghost typed: { All (IsAttributeTyped classes) attributes.items },
 }
 
 impl Rules {
-    /// The rules of the declarations of the aspect files over the classes.
-    ///
-    /// # Errors
-    ///
-    /// `Refused` for the first of these codes that applies, each at its earliest place: a form that is
-    /// left out, too many declarations, an attribute with an accessor's name, one declared twice, and
-    /// then in the order of the declarations unknown names, wrong arguments and wrong kinds. `Memory`
-    /// for want of memory.
-    pub fn build(
-        alloc: Global,
-        classes: ClassTable,
-        files: &[Vec<Aspect>],
-    ) -> Result<Rules, RuleFault>
-        ensures faultless { IfOk result (λ r. first_fault classes (declarations_in files.now) ≡ None) }
-        ensures classes { IfOk result (λ r. r.classes ≡ classes) }
-        ensures attributes { IfOk result (λ r. map (λ a. Means (meant_view a)) r.attributes.items ≡ map (λ d. meant classes d.decl) (declarations_in files.now)) }
-        ensures typed { IfOk result AreTyped }
-        ensures refused { IfErr result (IsRefusedFor (first_fault classes (declarations_in files.now))) }
-    {
-        let declared = locate(alloc, files)?;
-        if let Some(fault) = fault_together(&classes, &declared) {
-            return Err(RuleFault::Refused(fault));
-        }
-        let attributes = attributes_of(alloc, &classes, &declared)?;
-        Ok(Rules {
-            classes,
-            attributes,
-        })
-    }
+    ghost use Rattle.std.specs.Prelude.{◌≡◌, option_map};
+    ghost use Rattle.attrd.specs.Bodies.{int_view};
+    ghost use Rattle.attrd.specs.Lookups.{body_of};
 
     /// The body of the class's attribute of that name, if it has one.
     pub fn body(&self, class: ClassId, name: &str) -> Option<&IntExpr>
@@ -112,42 +34,5 @@ impl Rules {
             }
         }
         None
-    }
-}
-
-/// The attributes that the declarations mean.
-fn attributes_of(
-    alloc: Global,
-    classes: &ClassTable,
-    declared: &[Located],
-) -> Result<Vec<Attribute>, RuleFault>
-    ensures faultless { IfOk result (λ v. refused classes.now (map located_view declared.now) ≡ None) }
-    ensures listed { Listed classes.now (map located_view declared.now) result }
-    ensures typed { IfOk result (λ v. All (IsAttributeTyped classes.now) v.items) }
-{
-    let mut attributes = Vec::new(alloc);
-    for located in declared {
-        attributes.push(attribute_of(alloc, classes, located)?)?;
-    }
-    Ok(attributes)
-}
-
-/// The attribute that the declaration means.
-fn attribute_of(
-    alloc: Global,
-    classes: &ClassTable,
-    located: &Located,
-) -> Result<Attribute, RuleFault>
-    ensures gives { Gives (located_view located.now) (meant classes.now (decl_view located.now.decl.now)) result }
-    ensures typed { IfOk result (IsAttributeTyped classes.now) }
-{
-    match meant(alloc, classes, located.decl) {
-        Ok(attribute) => Ok(attribute),
-        Err(TypeFault::Refused { code, at }) => Err(RuleFault::Refused(Fault {
-            code,
-            file: located.file,
-            at,
-        })),
-        Err(TypeFault::Memory) => Err(RuleFault::Memory),
     }
 }

@@ -12,7 +12,7 @@ ghost use Rattle.attrd.specs.declared.aspects.typing.TypeFault.TheVariants.{Memo
 ghost use Rattle.attrd.specs.Typed.{IsTyped, IsComponentOf, typed_token, kinded, Judges};
 
 use super::accessors::accessed;
-use super::rules::{IntExpr, NodeExpr, Operator};
+use super::attributes::{IntExpr, NodeExpr, Operator};
 use crate::code::Code;
 use at_class::{ClassId, ClassTable, PartShape, TokenKind};
 use at_jrag::{Expr, Form};

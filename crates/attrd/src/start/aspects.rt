@@ -10,7 +10,7 @@ ghost use Rattle.attrd.specs.Located.{declarations_in};
 ghost use Rattle.attrd.specs.Ruled.{meant_view};
 ghost use Rattle.attrd.specs.Ruling.{meant, first_fault, Means};
 ghost use Rattle.attrd.specs.StartFaults.{IsToldOf};
-ghost use Rattle.attrd.specs.TypedRules.{AreTyped};
+ghost use Rattle.attrd.specs.Starting.{AreFlat, ArePlain};
 
 use super::fault::{FileFault, StartFault, of_file};
 use super::files::{Source, text_of};
@@ -31,8 +31,9 @@ pub fn rules_of(
     classes: ClassTable,
     aspects: &[Source],
 ) -> Result<Rules, StartFault>
+    requires flat { AreFlat classes }
+    requires plain { ArePlain classes }
     ensures classes { IfOk result (λ r. r.classes ≡ classes) }
-    ensures typed { IfOk result AreTyped }
     ensures given { IfOk result (λ r. GivesRules classes (aspect_bytes aspects.now) (rules_view r)) }
     ensures refused { IfErr result (IsAspectFault classes (aspect_bytes aspects.now)) }
 {
@@ -84,10 +85,11 @@ fn build(
     classes: ClassTable,
     aspects: &[Vec<Aspect>],
 ) -> Result<Rules, StartFault>
+    requires flat { AreFlat classes }
+    requires plain { ArePlain classes }
     ensures faultless { IfOk result (λ r. first_fault classes (declarations_in aspects.now) ≡ None) }
     ensures classes { IfOk result (λ r. r.classes ≡ classes) }
     ensures attributes { IfOk result (λ r. map (λ a. Means (meant_view a)) r.attributes.items ≡ map (λ d. meant classes d.decl) (declarations_in aspects.now)) }
-    ensures typed { IfOk result AreTyped }
     ensures refused { IfErr result (IsToldOf (first_fault classes (declarations_in aspects.now))) }
 {
     match Rules::build(alloc, classes, aspects) {

@@ -15,9 +15,6 @@ invariant_of-self c =
     let v = token_view c.args.edit.value in
     let left = c.set_token.ensures ∙ ap (λ ss. set_on classes old (steps_view ss) c.args.edit.part v) c.deref.ensures.value in
     record {
-      flat = c.args.self.now.flat;
-      plain = c.args.self.now.plain;
-      typed = c.args.self.now.typed;
       whole = subst (λ (t : Tree). conforms classes t 0 ≡ true) (sym left) (set_kept classes old (path_view c.args.edit.path) c.args.edit.part v 0 c.requires.may.0 c.args.self.now.whole);
       within = subst IsWithin (sym left) c.requires.within;
     }

@@ -9,7 +9,7 @@ pub returns-then-step-clause-served : goal.returns-then-step-clause-served
 returns-then-step-clause-served c =
     let e = c.args.self.now in
     let s = c.step.ensures.gets c.if-step.true in
-    let m = handled e.rules e.flat e.plain e.typed (state_of e) e.whole e.within refl _ s.0 s.1 s.2 in (
+    let m = handled e.rules e.rules.flat e.rules.plain e.rules.typed (state_of e) e.whole e.within refl _ s.0 s.1 s.2 in (
       m.0,
       rw (ap (λ (v : Served). v.state) s.4) m.2,
       s.3 m.0 m.1 ∙ ap (λ xs. xs ++ reply_text m.0) c.reserve.ensures.items,

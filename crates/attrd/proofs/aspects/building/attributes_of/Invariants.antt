@@ -1,11 +1,11 @@
 use Rattle.std.proofs.Common.{◌≡◌, ◌++◌, map, drop}
 use Rattle.std.specs.Prelude.{All}
-use Rattle.attrd.specs.TypedRules.{IsAttributeTyped}
+use Rattle.attrd.specs.Lookups.{IsAttributeTyped}
 use Rattle.attrd.specs.Located.{located_view}
 use Rattle.attrd.specs.Ruling.{Means, meant, refused_at}
 use Rattle.attrd.specs.Ruled.{meant_view}
 use Rattle.attrd.proofs.Firsts.{NoneBefore}
-use Rattle.attrd.proofs.aspects.rules.attributes_of.Given as goal
+use Rattle.attrd.proofs.aspects.building.attributes_of.Given as goal
 
 abbrev pub invariant-loop-located : goal.invariant-loop-located
 invariant-loop-located l = record {
