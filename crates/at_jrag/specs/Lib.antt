@@ -1,2 +1,3 @@
 pub mod Syntax
 pub mod View
+pub mod Machine
