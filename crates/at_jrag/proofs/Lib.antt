@@ -1,1 +1,2 @@
 mod MachineLaws
+mod MachinePaths

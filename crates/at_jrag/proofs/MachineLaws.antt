@@ -1,6 +1,6 @@
 -- Laws of the machine with a limit: a run's steps, that it looks no further than the next symbol, and what a limited run
 -- says of the one without a limit.
-use Rattle.std.proofs.Common.{◌≡◌, ℕ, suc, ◌≤◌, List, [], ◌∷◌, ◌++◌, Bool, true, false, cond, Option, Some, None, length, refl, sym, ap, ◌∙◌, append_assoc, length-append, arith, inl, inr}
+use Rattle.std.proofs.Common.{◌≡◌, ℕ, suc, ◌≤◌, List, [], ◌∷◌, ◌++◌, Bool, true, false, cond, Some, None, length, refl, sym, ap, ◌∙◌, append_assoc, length-append, arith, inl, inr}
 use Rattle.std.specs.Prelude.{◌||◌, not, ◌⊎◌}
 use Rattle.at_text.specs.Reading.{first, Begins, IsFirstFault}
 use Rattle.at_jrag.specs.Machine.{Reason, Refused, LeftOut, TooDeep, GoesOn, Answer, Takes, Skips, Refuses, LeavesOut, is_skip, Table, Move, Goes, Halts, answered, after, ended, may_end, Outcome, Whole, Stuck, run, Form, IsWithin, BeginsDeeper, Opens, Stops}
@@ -15,12 +15,12 @@ pub run-cons : {S W : Type 0} (limited : Bool) (table : Table S W) (ws : List W)
 unfolding run
 run-cons limited table ws d s ss = refl
 
--- the answer to the next symbol decides
-run-answer : {S W : Type 0} (limited : Bool) (table : Table S W) (w : W) (ws : List W) (d : ℕ) (s : S) (ss : List S) (a : Answer W) → table w d (Some s) ≡ a
+-- the answer to the next symbol, or to the end, decides
+pub run-answer : {S W : Type 0} (limited : Bool) (table : Table S W) (w : W) (ws : List W) (d : ℕ) (s : S) (ss : List S) (a : Answer W) → table w d (Some s) ≡ a
     → run limited table (w ∷ ws) d (s ∷ ss) ≡ goes_on limited table (answered limited a ws (λ e. after limited table ws e s)) s ss
 run-answer limited table w ws d s ss a h = run-cons limited table (w ∷ ws) d s ss ∙ ap (λ x. goes_on limited table (answered limited x ws (λ e. after limited table ws e s)) s ss) h
 
-run-ends : {S W : Type 0} (limited : Bool) (table : Table S W) (w : W) (ws : List W) (d : ℕ) (a : Answer W) → table w d None ≡ a
+pub run-ends : {S W : Type 0} (limited : Bool) (table : Table S W) (w : W) (ws : List W) (d : ℕ) (a : Answer W) → table w d None ≡ a
     → run limited table (w ∷ ws) d [] ≡ cond (ended a (λ e. may_end table ws e)) Whole (Stuck Refused [])
 unfolding run
 run-ends limited table w ws d a h = ap (λ x. cond (ended x (λ e. may_end table ws e)) Whole (Stuck Refused [])) h
