@@ -1,9 +1,9 @@
 -- Laws of the machine with a limit: a run's steps, that it looks no further than the next symbol, and what a limited run
 -- says of the one without a limit.
-use Rattle.std.proofs.Common.{◌≡◌, ℕ, suc, ◌≤◌, List, [], ◌∷◌, ◌++◌, Bool, true, false, cond, Some, None, length, refl, sym, ap, ◌∙◌, append_assoc, length-append, arith, inl, inr}
+use Rattle.std.proofs.Common.{◌≡◌, ℕ, suc, ◌≤◌, List, [], ◌∷◌, ◌++◌, Bool, true, false, cond, Some, None, length, refl, sym, ap, subst, ◌∙◌, length-append, arith, inl, inr}
 use Rattle.std.specs.Prelude.{◌||◌, not, ◌⊎◌}
-use Rattle.at_text.specs.Reading.{first, Begins, IsFirstFault}
-use Rattle.at_jrag.specs.Machine.{Reason, Refused, LeftOut, TooDeep, GoesOn, Answer, Takes, Skips, Refuses, LeavesOut, is_skip, Table, Move, Goes, Halts, answered, after, ended, may_end, Outcome, Whole, Stuck, run, Form, IsWithin, BeginsDeeper, Opens, Stops}
+use Rattle.at_text.specs.Reading.{first}
+use Rattle.at_jrag.specs.Machine.{Begins, GoesOn, IsFirstFault, Reason, Refused, LeftOut, TooDeep, Answer, Takes, Skips, Refuses, LeavesOut, is_skip, Table, Move, Goes, Halts, answered, after, ended, may_end, Outcome, Whole, Stuck, run, Front, Form, BeginsDeeper, Opens, Stops}
 
 -- ---- one step of a run
 
@@ -181,38 +181,50 @@ too_deep_goes_on table r ws d (f ∷ front) rest h k = elim (after_alike table w
 
 -- ---- where reading a form stops
 
-begun : {S W V : Type 0} (form : Form S W V) (front : List S) → Begins (IsWithin form) form.spell [] → Opens form front → Begins (IsWithin form) form.spell front
-begun form front some (inr b) = b
-begun form front some (inl e) = (some.0, some.1, some.2, some.3 ∙ ap (λ l. l ++ some.1) (sym e))
+-- the rows that spell a value of the form, and those that spell one within its limit
+abbrev pub IsTextOf : {S W V : Type 0} → Form S W V → List S → Type 0
+IsTextOf {V = V} form text = (v : V) × form.Spells v text []
 
--- where reading a form stops, is its first fault, if each value within the limit is taken whole
-pub first_fault : {S W V : Type 0} (table : Table S W) (form : Form S W V) (r : Reason) (old rest : List S) → Begins (IsWithin form) form.spell [] → ((v : V) → IsWithin form v → run true table (form.want ∷ []) 0 (form.spell v) ≡ Whole) → (s : Stops table form r old rest) → IsFirstFault (IsWithin form) form.spell s.front rest
-first_fault {S = S} table form r old rest some accepts s = record {
+abbrev pub IsTextWithin : {S W V : Type 0} → Form S W V → List S → Type 0
+IsTextWithin {V = V} form text = (v : V) × form.Spells v text [] × form.Fits v
+
+spelled_in : {S W V : Type 0} (form : Form S W V) (v : V) (a b : List S) → a ≡ b → form.Spells v a [] → form.Spells v b []
+spelled_in {S = S} form v a b e h = subst (λ (l : List S). form.Spells v l []) e h
+
+begun : {S W V : Type 0} (form : Form S W V) (front : Front S) → Begins (IsTextWithin form) [] → Opens form front → Begins (IsTextWithin form) front.symbols
+begun form front some (inr b) = (b.1.before [], (b.0, spelled_in form b.0 _ _ (front.is (b.1.before [])) (b.3 []), b.2))
+begun form front some (inl e) = (some.0, (some.1.0, spelled_in form some.1.0 _ _ (ap (λ l. l ++ some.0) (sym e)) some.1.1, some.1.2))
+
+stuck_at : {S W V : Type 0} (table : Table S W) (form : Form S W V) (r : Reason) (old rest : List S) → (s : Stops table form r old rest) → run true table (form.want ∷ []) 0 (s.front.symbols ++ rest) ≡ Stuck r rest
+stuck_at table form r old rest s = sym (ap (run true table (form.want ∷ []) 0) (s.split ∙ s.front.is rest)) ∙ s.stuck [] 0
+
+-- where reading a form stops, is the first fault of what is within its limit, if each such text is taken whole
+pub first_fault : {S W V : Type 0} (table : Table S W) (form : Form S W V) (r : Reason) (old rest : List S) → Begins (IsTextWithin form) [] → ((text : List S) → IsTextWithin form text → run true table (form.want ∷ []) 0 text ≡ Whole) → (s : Stops table form r old rest) → IsFirstFault (IsTextWithin form) s.front.symbols rest
+first_fault table form r old rest some accepts s = record {
   begins = begun form s.front some s.begins;
-  ends = λ v other is same text.
-      let stuck : run true table (form.want ∷ []) 0 (s.front ++ other) ≡ Stuck r other = one_ahead true table r (form.want ∷ []) 0 s.front rest other same (sym (ap (run true table (form.want ∷ []) 0) s.split) ∙ s.stuck [] 0) in
-      let whole : run true table (form.want ∷ []) 0 (s.front ++ other) ≡ Whole = sym (ap (run true table (form.want ∷ []) 0) text) ∙ accepts v is in
-      absurd cc;
+  ends = λ g.
+      let stuck : run true table (form.want ∷ []) 0 (s.front.symbols ++ g.0) ≡ Stuck r g.0 = one_ahead true table r (form.want ∷ []) 0 s.front.symbols rest g.0 g.1 (stuck_at table form r old rest s) in
+      let whole : run true table (form.want ∷ []) 0 (s.front.symbols ++ g.0) ≡ Whole = accepts _ g.2 in
+      absurd (let q : Stuck r g.0 ≡ Whole = sym stuck ∙ whole in cc);
 }
 
 -- a run that is refused is so with no limit, too
-pub refused_unlimited : {S W V : Type 0} (table : Table S W) (form : Form S W V) (old rest : List S) → Stops table form Refused old rest → (ws : List W) (d : ℕ) → run false table (form.want ∷ ws) d old ≡ Stuck Refused rest
-refused_unlimited table form old rest s ws d = run-unlimited table (form.want ∷ ws) d old (Stuck Refused rest) (λ left e. absurd cc) (s.stuck ws d)
+pub refused_unlimited : {S W V : Type 0} (table : Table S W) (form : Form S W V) (old rest : List S) → (s : Stops table form Refused old rest) → run false table (form.want ∷ []) 0 (s.front.symbols ++ rest) ≡ Stuck Refused rest
+refused_unlimited table form old rest s = run-unlimited table (form.want ∷ []) 0 (s.front.symbols ++ rest) (Stuck Refused rest) (λ left e. absurd cc) (stuck_at table form Refused old rest s)
 
--- Where it is refused, no value of whatever nesting goes on, if each is taken whole with no limit.
-pub refused_ends : {S W V : Type 0} (table : Table S W) (form : Form S W V) (old rest : List S) → ((v : V) → form.Is v → run false table (form.want ∷ []) 0 (form.spell v) ≡ Whole) → (s : Stops table form Refused old rest) → GoesOn form.Is form.spell s.front rest → ⊥
-refused_ends table form old rest accepts s (v, other, is, same, text) =
-    let at : run false table (form.want ∷ []) 0 (s.front ++ rest) ≡ Stuck Refused rest = sym (ap (run false table (form.want ∷ []) 0) s.split) ∙ refused_unlimited table form old rest s [] 0 in
-    let stuck : run false table (form.want ∷ []) 0 (s.front ++ other) ≡ Stuck Refused other = one_ahead false table Refused (form.want ∷ []) 0 s.front rest other same at in
-    let whole : run false table (form.want ∷ []) 0 (s.front ++ other) ≡ Whole = sym (ap (run false table (form.want ∷ []) 0) text) ∙ accepts v is in
-    absurd (let q : Stuck Refused other ≡ Whole = sym stuck ∙ whole in cc)
+-- Where it is refused, no text of whatever nesting goes on, if each is taken whole with no limit.
+pub refused_ends : {S W V : Type 0} (table : Table S W) (form : Form S W V) (old rest : List S) → ((text : List S) → IsTextOf form text → run false table (form.want ∷ []) 0 text ≡ Whole) → (s : Stops table form Refused old rest) → GoesOn (IsTextOf form) s.front.symbols rest → ⊥
+refused_ends table form old rest accepts s g =
+    let stuck : run false table (form.want ∷ []) 0 (s.front.symbols ++ g.0) ≡ Stuck Refused g.0 = one_ahead false table Refused (form.want ∷ []) 0 s.front.symbols rest g.0 g.1 (refused_unlimited table form old rest s) in
+    let whole : run false table (form.want ∷ []) 0 (s.front.symbols ++ g.0) ≡ Whole = accepts _ g.2 in
+    absurd (let q : Stuck Refused g.0 ≡ Whole = sym stuck ∙ whole in cc)
 
--- where the limit stops reading, some value of a deeper nesting goes on
-pub too_deep_begins : {S W V : Type 0} (form : Form S W V) (front rest : List S) → BeginsDeeper form front rest → GoesOn form.Is form.spell front rest
-too_deep_begins form front rest (s, e, b) = (b.0, s ∷ b.1, b.2, sym e, b.3 ∙ append_assoc front (s ∷ []) b.1)
+-- where the limit stops reading, some text of a deeper nesting goes on
+pub too_deep_begins : {S W V : Type 0} (form : Form S W V) (front : Front S) (rest : List S) → BeginsDeeper form front rest → GoesOn (IsTextOf form) front.symbols rest
+too_deep_begins form front rest (s, e, v, tail, spells) = (s ∷ tail.before [], sym e, (v, spelled_in form v _ _ (front.is (s ∷ tail.before [])) (spells [])))
 
 -- where the run with no limit meets what is left out, reading stops for that
-pub left_out_alone : {S W V : Type 0} (table : Table S W) (form : Form S W V) (r : Reason) (old rest : List S) → Stops table form r old rest → run false table (form.want ∷ []) 0 old ≡ Stuck LeftOut rest → r ≡ LeftOut
+pub left_out_alone : {S W V : Type 0} (table : Table S W) (form : Form S W V) (r : Reason) (old rest : List S) → (s : Stops table form r old rest) → run false table (form.want ∷ []) 0 (s.front.symbols ++ rest) ≡ Stuck LeftOut rest → r ≡ LeftOut
 left_out_alone table form LeftOut old rest s h = refl
-left_out_alone table form Refused old rest s h = absurd (let q : Stuck Refused rest ≡ Stuck LeftOut rest = sym (refused_unlimited table form old rest s [] 0) ∙ h in cc)
-left_out_alone table form TooDeep old rest s h = absurd (too_deep_goes_on table LeftOut (form.want ∷ []) 0 s.front rest (sym (ap (run true table (form.want ∷ []) 0) s.split) ∙ s.stuck [] 0) (sym (ap (run false table (form.want ∷ []) 0) s.split) ∙ h))
+left_out_alone table form Refused old rest s h = absurd (let q : Stuck Refused rest ≡ Stuck LeftOut rest = sym (refused_unlimited table form old rest s) ∙ h in cc)
+left_out_alone table form TooDeep old rest s h = absurd (too_deep_goes_on table LeftOut (form.want ∷ []) 0 s.front.symbols rest (stuck_at table form TooDeep old rest s) h)

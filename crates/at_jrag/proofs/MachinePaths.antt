@@ -2,58 +2,63 @@
 -- part, to where it was read or where it stops.
 use Rattle.std.proofs.Common.{◌≡◌, ℕ, List, [], ◌∷◌, ◌++◌, Bool, true, false, cond, Option, Some, None, Result, Ok, Err, refl, sym, ap, subst, ◌∙◌, append_assoc, inl, inr}
 use Rattle.std.specs.Prelude.{◌||◌, not}
-use Rattle.std.specs.List.{flat_map, AllByRecursion}
-use Rattle.std.proofs.lemmas.List.{append-nil}
-use Rattle.at_text.specs.Reading.{first, Begins}
-use Rattle.at_text.proofs.ReadingLaws.{all_push, one_more}
-use Rattle.at_jrag.specs.Machine.{Reason, Refused, LeftOut, TooDeep, Answer, Takes, Skips, Refuses, LeavesOut, and_then, is_skip, Table, Goes, Halts, run, Form, IsWithin, Reads, IsReason, Opens, Stops, Fails, Parses}
+use Rattle.std.specs.List.{AllByRecursion}
+use Rattle.at_text.specs.Reading.{first}
+use Rattle.at_text.proofs.ReadingLaws.{all_push}
+use Rattle.at_jrag.specs.Machine.{Reason, Refused, LeftOut, TooDeep, Answer, Takes, Skips, Refuses, LeavesOut, and_then, is_skip, Table, Goes, Halts, Stuck, run, Front, Form, Reads, BeginsDeeper, IsReason, Opens, Stops, Fails, Parses}
 use Rattle.at_jrag.proofs.MachineLaws.{goes_on, run-answer, run-ends, run-takes, run-too_deep, run-skips, run-refuses, run-leaves_out, run-ended}
+
+-- ---- symbols in front of others
+
+abbrev pub none : {S : Type 0} → Front S
+none = record { symbols = []; before = λ more. more; is = λ more. refl }
+
+abbrev pub then_one : {S : Type 0} → Front S → S → Front S
+then_one f s = record { symbols = f.symbols ++ s ∷ []; before = λ more. f.before (s ∷ more); is = λ more. f.is (s ∷ more) ∙ sym (append_assoc f.symbols (s ∷ []) more) }
+
+abbrev pub then : {S : Type 0} → Front S → Front S → Front S
+then f g = record { symbols = f.symbols ++ g.symbols; before = λ more. f.before (g.before more); is = λ more. f.is (g.before more) ∙ ap (λ l. f.symbols ++ l) (g.is more) ∙ sym (append_assoc f.symbols g.symbols more) }
 
 -- ---- paths
 
 -- This front of the symbols was taken where the form was wanted, and us of it is still wanted, with this register. The
 -- limited machine goes over it where what was read fits.
-pub record Path {S W : Type 0} (table : Table S W) (want : W) (Fits : Type 0) (us : List W) (register : ℕ → ℕ) (front old rest : List S) : Type 0 where
-  pub text : old ≡ front ++ rest
+pub record Path {S W : Type 0} (table : Table S W) (want : W) (Fits : Type 0) (us : List W) (register : ℕ → ℕ) (front : Front S) (old rest : List S) : Type 0 where
+  pub text : old ≡ front.before rest
   pub goes : (limited : Bool) → (limited ≡ true → Fits) → (ws : List W) (d : ℕ) → run limited table (want ∷ ws) d old ≡ run limited table (us ++ ws) (register d) rest
 
-pub path_start : {S W : Type 0} (table : Table S W) (want : W) (Fits : Type 0) (old : List S) → Path table want Fits (want ∷ []) (λ d. d) [] old old
+abbrev pub path_start : {S W : Type 0} (table : Table S W) (want : W) (Fits : Type 0) (old : List S) → Path table want Fits (want ∷ []) (λ d. d) none old old
 path_start table want Fits old = record { text = refl; goes = λ limited fits ws d. refl }
 
--- any step of the machine
-pub path_on : {S W : Type 0} (table : Table S W) (want : W) (Fits : Type 0) (us vs : List W) (e x : ℕ → ℕ) (front more old mid rest : List S)
-    → mid ≡ more ++ rest → ((limited : Bool) → (limited ≡ true → Fits) → (ws : List W) (d : ℕ) → run limited table (us ++ ws) (e d) mid ≡ run limited table (vs ++ ws) (x d) rest)
-    → Path table want Fits us e front old mid → Path table want Fits vs x (front ++ more) old rest
-path_on table want Fits us vs e x front more old mid rest text goes p = record {
-  text = p.text ∙ ap (λ l. front ++ l) text ∙ sym (append_assoc front more rest);
-  goes = λ limited fits ws d. p.goes limited fits ws d ∙ goes limited fits ws d;
-}
-
 -- a step that takes nothing
-pub path_stays : {S W : Type 0} (table : Table S W) (want : W) (Fits : Type 0) (us vs : List W) (e x : ℕ → ℕ) (front old rest : List S)
+pub path_stays : {S W : Type 0} (table : Table S W) (want : W) (Fits : Type 0) (us vs : List W) (e x : ℕ → ℕ) (front : Front S) (old rest : List S)
     → ((limited : Bool) → (limited ≡ true → Fits) → (ws : List W) (d : ℕ) → run limited table (us ++ ws) (e d) rest ≡ run limited table (vs ++ ws) (x d) rest)
     → Path table want Fits us e front old rest → Path table want Fits vs x front old rest
 path_stays table want Fits us vs e x front old rest goes p = record { text = p.text; goes = λ limited fits ws d. p.goes limited fits ws d ∙ goes limited fits ws d }
 
 -- the next symbol is taken
-pub path_takes : {S W : Type 0} (table : Table S W) (want : W) (Fits : Type 0) (w : W) (more us : List W) (e : ℕ → ℕ) (within : Bool) (x : ℕ) (front old mid : List S) (s : S) (rest : List S)
+pub path_takes : {S W : Type 0} (table : Table S W) (want : W) (Fits : Type 0) (w : W) (more us : List W) (e : ℕ → ℕ) (within : Bool) (x : ℕ) (front : Front S) (old mid : List S) (s : S) (rest : List S)
     → mid ≡ s ∷ rest → ((d : ℕ) → table w (e d) (Some s) ≡ Takes within more x) → (Fits → within ≡ true)
-    → Path table want Fits (w ∷ us) e front old mid → Path table want Fits (more ++ us) (λ d. x) (front ++ s ∷ []) old rest
-path_takes table want Fits w more us e within x front old mid s rest text takes fits p = path_on table want Fits (w ∷ us) (more ++ us) e (λ d. x) front (s ∷ []) old mid rest text
-    (λ limited h ws d. ap (run limited table (w ∷ (us ++ ws)) (e d)) text ∙ run-takes limited table w within more (us ++ ws) (e d) x s rest (takes d) (λ l. fits (h l)) ∙ ap (λ l. run limited table l x rest) (sym (append_assoc more us ws))) p
+    → Path table want Fits (w ∷ us) e front old mid → Path table want Fits (more ++ us) (λ d. x) (then_one front s) old rest
+path_takes table want Fits w more us e within x front old mid s rest text takes fits p = record {
+  text = p.text ∙ ap front.before text;
+  goes = λ limited h ws d. p.goes limited h ws d ∙ ap (run limited table (w ∷ (us ++ ws)) (e d)) text ∙ run-takes limited table w within more (us ++ ws) (e d) x s rest (takes d) (λ l. fits (h l)) ∙ ap (λ l. run limited table l x rest) (sym (append_assoc more us ws));
+}
 
 -- what is wanted is there without the next symbol
-pub path_skips : {S W : Type 0} (table : Table S W) (want : W) (Fits : Type 0) (w : W) (us : List W) (e x : ℕ → ℕ) (front old rest : List S)
+pub path_skips : {S W : Type 0} (table : Table S W) (want : W) (Fits : Type 0) (w : W) (us : List W) (e x : ℕ → ℕ) (front : Front S) (old rest : List S)
     → ((d : ℕ) → table w (e d) (first rest) ≡ Skips (x d))
     → Path table want Fits (w ∷ us) e front old rest → Path table want Fits us x front old rest
 path_skips table want Fits w us e x front old rest skips p = path_stays table want Fits (w ∷ us) us e x front old rest (λ limited h ws d. run-skips limited table w (us ++ ws) (e d) (x d) rest (skips d)) p
 
 -- a part is read
-pub path_reads : {S W U : Type 0} (table : Table S W) (want : W) (Fits : Type 0) (inner : Form S W U) (u : U) (us : List W) (e : ℕ → ℕ) (front old mid rest : List S)
-    → Reads table inner u mid rest → (Fits → inner.Fits u)
-    → Path table want Fits (inner.want ∷ us) e front old mid → Path table want Fits us (λ d. inner.register u (e d)) (front ++ inner.spell u) old rest
-path_reads table want Fits inner u us e front old mid rest r fits p = path_on table want Fits (inner.want ∷ us) us e (λ d. inner.register u (e d)) front (inner.spell u) old mid rest r.text
-    (λ limited h ws d. r.goes limited (λ l. fits (h l)) (us ++ ws) (e d)) p
+pub path_reads : {S W U : Type 0} (table : Table S W) (want : W) (Fits : Type 0) (inner : Form S W U) (u : U) (us : List W) (e : ℕ → ℕ) (front : Front S) (old mid rest : List S)
+    → (r : Reads table inner u mid rest) → (Fits → inner.Fits u)
+    → Path table want Fits (inner.want ∷ us) e front old mid → Path table want Fits us (λ d. inner.register u (e d)) (then front r.front) old rest
+path_reads table want Fits inner u us e front old mid rest r fits p = record {
+  text = p.text ∙ ap front.before r.text;
+  goes = λ limited h ws d. p.goes limited h ws d ∙ r.goes limited (λ l. fits (h l)) (us ++ ws) (e d);
+}
 
 -- ---- a want that is others at the next symbol
 
@@ -72,7 +77,7 @@ begins limited table (Takes within more x) w v us ws d (s ∷ ss) e f h =
 pub run-begins : {S W : Type 0} (limited : Bool) (table : Table S W) (w v : W) (us ws : List W) (d : ℕ) (ss : List S) → table w d (first ss) ≡ and_then (table v d (first ss)) us → is_skip (table v d (first ss)) ≡ false → run limited table (w ∷ ws) d ss ≡ run limited table (v ∷ (us ++ ws)) d ss
 run-begins limited table w v us ws d ss e h = begins limited table (table v d (first ss)) w v us ws d ss e refl h
 
-pub path_begins : {S W : Type 0} (table : Table S W) (want : W) (Fits : Type 0) (w v : W) (vs us : List W) (e : ℕ → ℕ) (front old rest : List S)
+pub path_begins : {S W : Type 0} (table : Table S W) (want : W) (Fits : Type 0) (w v : W) (vs us : List W) (e : ℕ → ℕ) (front : Front S) (old rest : List S)
     → ((d : ℕ) → table w d (first rest) ≡ and_then (table v d (first rest)) vs) → ((d : ℕ) → is_skip (table v d (first rest)) ≡ false)
     → Path table want Fits (w ∷ us) e front old rest → Path table want Fits (v ∷ (vs ++ us)) e front old rest
 path_begins table want Fits w v vs us e front old rest same none p = path_stays table want Fits (w ∷ us) (v ∷ (vs ++ us)) e e front old rest
@@ -83,7 +88,7 @@ pub run-same : {S W : Type 0} (limited : Bool) (table : Table S W) (w v : W) (ws
 run-same limited table w v ws d [] h = run-ends limited table w ws d (table v d None) h ∙ sym (run-ends limited table v ws d (table v d None) refl)
 run-same limited table w v ws d (s ∷ ss) h = run-answer limited table w ws d s ss (table v d (Some s)) h ∙ sym (run-answer limited table v ws d s ss (table v d (Some s)) refl)
 
-pub path_same : {S W : Type 0} (table : Table S W) (want : W) (Fits : Type 0) (w v : W) (us : List W) (e : ℕ → ℕ) (front old rest : List S)
+pub path_same : {S W : Type 0} (table : Table S W) (want : W) (Fits : Type 0) (w v : W) (us : List W) (e : ℕ → ℕ) (front : Front S) (old rest : List S)
     → ((d : ℕ) → table w d (first rest) ≡ table v d (first rest))
     → Path table want Fits (w ∷ us) e front old rest → Path table want Fits (v ∷ us) e front old rest
 path_same table want Fits w v us e front old rest same p = path_stays table want Fits (w ∷ us) (v ∷ us) e e front old rest (λ limited h ws d. run-same limited table w v (us ++ ws) (e d) rest (same (e d))) p
@@ -91,17 +96,18 @@ path_same table want Fits w v us e front old rest same p = path_stays table want
 -- ---- the end of a path: the form was read, or it stops
 
 -- nothing of the form is wanted any more
-pub path_end : {S W V : Type 0} (table : Table S W) (form : Form S W V) (Fits : Type 0) (v : V) (e : ℕ → ℕ) (front old rest : List S)
-    → form.Is v → (form.Fits v → Fits) → front ≡ form.spell v → ((d : ℕ) → e d ≡ form.register v d)
+pub path_end : {S W V : Type 0} (table : Table S W) (form : Form S W V) (Fits : Type 0) (v : V) (e : ℕ → ℕ) (front : Front S) (old rest : List S)
+    → ((more : List S) → form.Spells v (front.before more) more) → (form.Fits v → Fits) → ((d : ℕ) → e d ≡ form.register v d)
     → Path table form.want Fits [] e front old rest → Reads table form v old rest
-path_end table form Fits v e front old rest is fits spelled same p = record {
-  is = is;
-  text = p.text ∙ ap (λ l. l ++ rest) spelled;
+path_end table form Fits v e front old rest spells fits same p = record {
+  front = front;
+  text = p.text;
+  spells = spells;
   goes = λ limited h ws d. p.goes limited (λ l. fits (h l)) ws d ∙ ap (λ x. run limited table ws x rest) (same d);
 }
 
 -- what is wanted can't go on with the next symbol
-pub path_refuses : {S W V : Type 0} (table : Table S W) (form : Form S W V) (Fits : Type 0) (w : W) (us : List W) (e : ℕ → ℕ) (front old rest : List S)
+pub path_refuses : {S W V : Type 0} (table : Table S W) (form : Form S W V) (Fits : Type 0) (w : W) (us : List W) (e : ℕ → ℕ) (front : Front S) (old rest : List S)
     → Fits → Opens form front → ((d : ℕ) → table w (e d) (first rest) ≡ Refuses)
     → Path table form.want Fits (w ∷ us) e front old rest → Stops table form Refused old rest
 path_refuses table form Fits w us e front old rest fits opens refuses p = record {
@@ -112,72 +118,89 @@ path_refuses table form Fits w us e front old rest fits opens refuses p = record
   stuck = λ ws d. p.goes true (λ l. fits) ws d ∙ run-refuses true table w (us ++ ws) (e d) rest (refuses d);
 }
 
+deep_at : {S W : Type 0} (table : Table S W) (w : W) (ws : List W) (d : ℕ) (s : S) (rest : List S) → first rest ≡ Some s → (more : List W) × (x : ℕ) × (table w d (Some s) ≡ Takes false more x) → run true table (w ∷ ws) d rest ≡ Stuck TooDeep rest
+deep_at table w ws d s [] e h = absurd cc
+deep_at {S = S} table w ws d s (t ∷ rest) e h = let same : s ≡ t = cc in run-too_deep table w h.0 ws d h.1 t rest (ap (λ (a : S). table w d (Some a)) (sym same) ∙ h.2)
+
 -- the next symbol isn't within the limit
-pub path_too_deep : {S W V : Type 0} (table : Table S W) (form : Form S W V) (Fits : Type 0) (w : W) (us : List W) (e : ℕ → ℕ) (front old : List S) (s : S) (rest : List S)
-    → Fits → Opens form front → ((d : ℕ) → (more : List W) × (x : ℕ) × (table w (e d) (Some s) ≡ Takes false more x)) → Begins form.Is form.spell (front ++ s ∷ [])
-    → Path table form.want Fits (w ∷ us) e front old (s ∷ rest) → Stops table form TooDeep old (s ∷ rest)
-path_too_deep table form Fits w us e front old s rest fits opens takes deeper p = record {
+pub path_too_deep : {S W V : Type 0} (table : Table S W) (form : Form S W V) (Fits : Type 0) (w : W) (us : List W) (e : ℕ → ℕ) (front : Front S) (old rest : List S)
+    → Fits → Opens form front → (b : BeginsDeeper form front rest) → ((d : ℕ) → (more : List W) × (x : ℕ) × (table w (e d) (Some b.0) ≡ Takes false more x))
+    → Path table form.want Fits (w ∷ us) e front old rest → Stops table form TooDeep old rest
+path_too_deep table form Fits w us e front old rest fits opens b takes p = record {
   front = front;
   split = p.text;
   begins = opens;
-  why = (s, refl, deeper);
-  stuck = λ ws d. p.goes true (λ l. fits) ws d ∙ run-too_deep table w (takes d).0 (us ++ ws) (e d) (takes d).1 s rest (takes d).2;
+  why = b;
+  stuck = λ ws d. p.goes true (λ l. fits) ws d ∙ deep_at table w (us ++ ws) (e d) b.0 rest b.1 (takes d);
 }
 
+left_out_at : {S W : Type 0} (table : Table S W) (w : W) (ws : List W) (d : ℕ) (s : S) (rest : List S) → first rest ≡ Some s → table w d (Some s) ≡ LeavesOut → run true table (w ∷ ws) d rest ≡ Stuck LeftOut rest
+left_out_at table w ws d s [] e h = absurd cc
+left_out_at {S = S} table w ws d s (t ∷ rest) e h = let same : s ≡ t = cc in run-leaves_out true table w ws d t rest (ap (λ (a : S). table w d (Some a)) (sym same) ∙ h)
+
 -- the next symbol begins what is left out
-pub path_leaves_out : {S W V : Type 0} (table : Table S W) (form : Form S W V) (Fits : Type 0) (w : W) (us : List W) (e : ℕ → ℕ) (front old : List S) (s : S) (rest : List S)
-    → Fits → Opens form front → ((d : ℕ) → table w (e d) (Some s) ≡ LeavesOut) → form.LeavesAt front (Some s)
-    → Path table form.want Fits (w ∷ us) e front old (s ∷ rest) → Stops table form LeftOut old (s ∷ rest)
-path_leaves_out table form Fits w us e front old s rest fits opens leaves at p = record {
+pub path_leaves_out : {S W V : Type 0} (table : Table S W) (form : Form S W V) (Fits : Type 0) (w : W) (us : List W) (e : ℕ → ℕ) (front : Front S) (old rest : List S) (s : S)
+    → Fits → Opens form front → first rest ≡ Some s → ((d : ℕ) → table w (e d) (Some s) ≡ LeavesOut) → form.LeavesAt front.symbols (first rest)
+    → Path table form.want Fits (w ∷ us) e front old rest → Stops table form LeftOut old rest
+path_leaves_out table form Fits w us e front old rest s fits opens next leaves at p = record {
   front = front;
   split = p.text;
   begins = opens;
   why = at;
-  stuck = λ ws d. p.goes true (λ l. fits) ws d ∙ run-leaves_out true table w (us ++ ws) (e d) s rest (leaves d);
+  stuck = λ ws d. p.goes true (λ l. fits) ws d ∙ left_out_at table w (us ++ ws) (e d) s rest next (leaves d);
 }
 
 -- ---- a part stops
 
-made_begins : {S U V : Type 0} (Is : U → Type 0) (IsMade : V → Type 0) (spell : U → List S) (spell_made : V → List S) (make : U → V) (before tail front : List S)
-    → ((u : U) → Is u → IsMade (make u)) → ((u : U) → spell_made (make u) ≡ before ++ (spell u ++ tail)) → Begins Is spell front → Begins IsMade spell_made (before ++ front)
-made_begins Is IsMade spell spell_made make before tail front is spelled b = (
-  make b.0,
-  b.1 ++ tail,
-  is b.0 b.2,
-  spelled b.0 ∙ ap (λ l. before ++ (l ++ tail)) b.3 ∙ ap (λ l. before ++ l) (append_assoc front b.1 tail) ∙ sym (append_assoc before front (b.1 ++ tail)),
+-- With these symbols before it and behind it, a value of the part that begins with the next symbol is one of the form.
+abbrev pub Makes : {S W U V : Type 0} → Form S W U → Form S W V → (U → V) → Front S → Front S → Option S → Type 0
+Makes {S} {U = U} inner form make before tail next =
+    (u : U) (x : List S → List S) → ((more : List S) → first (x more) ≡ next) → ((more : List S) → inner.Spells u (x more) more) → (more : List S) → form.Spells (make u) (before.before (x (tail.before more))) more
+
+-- the symbols of a front that isn't empty begin as what it is cut from
+first_of_front : {S : Type 0} (xs : List S) (front : Front S) (s : S) → front.symbols ≡ s ∷ xs → (more : List S) → first (front.before more) ≡ Some s
+first_of_front xs front s e more = ap first (front.is more) ∙ ap (λ l. first (l ++ more)) e
+
+opens_on : {S W U V : Type 0} (inner : Form S W U) (form : Form S W V) (make : U → V) (before tail front : Front S) (mid rest xs : List S) → front.symbols ≡ xs → mid ≡ front.before rest
+    → ((u : U) → inner.Fits u → form.Fits (make u)) → Makes inner form make before tail (first mid) → Opens form before → Opens inner front → Opens form (then before front)
+opens_on inner form make before tail front mid rest [] e split fits makes (inl h) o = inl (ap (λ l. l ++ front.symbols) h ∙ e)
+opens_on {S = S} inner form make before tail front mid rest [] e split fits makes (inr b) o = inr (b.0, b.1, b.2, λ more. subst (λ (l : List S). form.Spells b.0 (before.before l) more) (sym (front.is (b.1.before more) ∙ ap (λ l. l ++ b.1.before more) e)) (b.3 more))
+opens_on inner form make before tail front mid rest (s ∷ xs) e split fits makes opens (inl h) = absurd (let q : s ∷ xs ≡ [] = sym e ∙ h in cc)
+opens_on inner form make before tail front mid rest (s ∷ xs) e split fits makes opens (inr b) = inr (
+    make b.0,
+    then b.1 tail,
+    fits b.0 b.2,
+    makes b.0 (λ more. front.before (b.1.before more)) (λ more. first_of_front xs front s e (b.1.before more) ∙ sym (ap first split ∙ first_of_front xs front s e rest)) b.3,
 )
 
-opens_within : {S W U V : Type 0} (inner : Form S W U) (form : Form S W V) (make : U → V) (before tail front : List S)
-    → ((u : U) → IsWithin inner u → IsWithin form (make u)) → ((u : U) → form.spell (make u) ≡ before ++ (inner.spell u ++ tail)) → Opens form before → Opens inner front → Opens form (before ++ front)
-opens_within inner form make before tail front within spelled opens (inr b) = inr (made_begins (IsWithin inner) (IsWithin form) inner.spell form.spell make before tail front within spelled b)
-opens_within {S = S} inner form make before tail front within spelled opens (inl e) = subst (λ (l : List S). Opens form l) (sym (append-nil before) ∙ ap (λ l. before ++ l) (sym e)) opens
+first_with : {S : Type 0} (xs : List S) (front : Front S) (s : S) (rest more : List S) → front.symbols ≡ xs → first rest ≡ Some s → first (front.before (s ∷ more)) ≡ first (front.before rest)
+first_with [] front s rest more e h = ap first (front.is (s ∷ more)) ∙ ap (λ l. first (l ++ s ∷ more)) e ∙ sym h ∙ sym (ap first (front.is rest) ∙ ap (λ l. first (l ++ rest)) e)
+first_with (x ∷ xs) front s rest more e h = first_of_front xs front x e (s ∷ more) ∙ sym (first_of_front xs front x e rest)
 
-reason_within : {S W U V : Type 0} (inner : Form S W U) (form : Form S W V) (r : Reason) (make : U → V) (before tail front rest : List S)
-    → ((u : U) → inner.Is u → form.Is (make u)) → ((u : U) → form.spell (make u) ≡ before ++ (inner.spell u ++ tail)) → ((xs : List S) (s : Option S) → inner.LeavesAt xs s → form.LeavesAt (before ++ xs) s)
-    → IsReason inner r front rest → IsReason form r (before ++ front) rest
-reason_within inner form Refused make before tail front rest is spelled leaves why = tt
-reason_within inner form LeftOut make before tail front rest is spelled leaves why = leaves front (first rest) why
-reason_within {S = S} inner form TooDeep make before tail front rest is spelled leaves (s, e, b) =
-    (s, e, subst (λ (l : List S). Begins form.Is form.spell l) (sym (append_assoc before front (s ∷ []))) (made_begins inner.Is form.Is inner.spell form.spell make before tail (front ++ s ∷ []) is spelled b))
+reason_on : {S W U V : Type 0} (inner : Form S W U) (form : Form S W V) (r : Reason) (make : U → V) (before tail front : Front S) (mid rest : List S) → mid ≡ front.before rest
+    → Makes inner form make before tail (first mid) → ((xs : List S) (s : Option S) → inner.LeavesAt xs s → form.LeavesAt (before.symbols ++ xs) s) → IsReason inner r front rest → IsReason form r (then before front) rest
+reason_on inner form Refused make before tail front mid rest split makes leaves why = tt
+reason_on inner form LeftOut make before tail front mid rest split makes leaves why = leaves front.symbols (first rest) why
+reason_on inner form TooDeep make before tail front mid rest split makes leaves (s, e, u, t, spells) = (
+    s,
+    e,
+    make u,
+    then t tail,
+    makes u (λ more. front.before (s ∷ t.before more)) (λ more. first_with front.symbols front s rest (t.before more) refl e ∙ sym (ap first split)) spells,
+)
 
--- The form stops where a part of it does: make makes a value of the form of one of the part, with this tail behind it.
-pub path_stops : {S W U V : Type 0} (table : Table S W) (inner : Form S W U) (form : Form S W V) (Fits : Type 0) (r : Reason) (us : List W) (e : ℕ → ℕ) (before old mid rest : List S) (make : U → V) (tail : List S)
-    → Fits → Opens form before
-    → ((u : U) → inner.Is u → form.Is (make u)) → ((u : U) → IsWithin inner u → form.Fits (make u)) → ((u : U) → form.spell (make u) ≡ before ++ (inner.spell u ++ tail))
-    → ((xs : List S) (s : Option S) → inner.LeavesAt xs s → form.LeavesAt (before ++ xs) s)
+-- The form stops where a part of it does. Before the part it has this front, that begins a value of it.
+pub path_stops : {S W U V : Type 0} (table : Table S W) (inner : Form S W U) (form : Form S W V) (Fits : Type 0) (r : Reason) (us : List W) (e : ℕ → ℕ) (before : Front S) (old mid rest : List S) (make : U → V) (tail : Front S)
+    → Fits → Opens form before → ((u : U) → inner.Fits u → form.Fits (make u)) → Makes inner form make before tail (first mid)
+    → ((xs : List S) (s : Option S) → inner.LeavesAt xs s → form.LeavesAt (before.symbols ++ xs) s)
     → Path table form.want Fits (inner.want ∷ us) e before old mid → Stops table inner r mid rest → Stops table form r old rest
-path_stops table inner form Fits r us e before old mid rest make tail fits opens is within spelled leaves p s = record {
-  front = before ++ s.front;
-  split = p.text ∙ ap (λ l. before ++ l) s.split ∙ sym (append_assoc before s.front rest);
-  begins = opens_within inner form make before tail s.front (λ u h. (is u h.0, within u h)) spelled opens s.begins;
-  why = reason_within inner form r make before tail s.front rest is spelled leaves s.why;
+path_stops table inner form Fits r us e before old mid rest make tail fits opens within makes leaves p s = record {
+  front = then before s.front;
+  split = p.text ∙ ap before.before s.split;
+  begins = opens_on inner form make before tail s.front mid rest s.front.symbols refl s.split within makes opens s.begins;
+  why = reason_on inner form r make before tail s.front mid rest s.split makes leaves s.why;
   stuck = λ ws d. p.goes true (λ l. fits) ws d ∙ s.stuck (us ++ ws) (e d);
 }
-
--- before the part, if it has a value within its limit
-pub opens_by : {S W U V : Type 0} (inner : Form S W U) (form : Form S W V) (u : U) (make : U → V) (before tail : List S) → IsWithin inner u
-    → ((u : U) → inner.Is u → form.Is (make u)) → ((u : U) → IsWithin inner u → form.Fits (make u)) → ((u : U) → form.spell (make u) ≡ before ++ (inner.spell u ++ tail)) → Opens form before
-opens_by inner form u make before tail h is within spelled = inr (make u, inner.spell u ++ tail, (is u h.0, within u h), spelled u)
 
 -- ---- what a call on a part returned, carried to the form
 
@@ -203,6 +226,15 @@ parses_at {S} {W} {V} {A} {E} table reason form M r mid old rest e p = subst (λ
 
 -- ---- one form after another, as a loop reads them
 
+-- the rows from the first up to the second spell these values in order
+abbrev pub Row : {S V : Type 0} → (V → List S → List S → Type 0) → List V → List S → List S → Type 0
+Row Spells [] old rest = old ≡ rest
+Row {S} Spells (v ∷ vs) old rest = (more : List S) × Spells v old more × Row Spells vs more rest
+
+pub row_push : {S V : Type 0} (Spells : V → List S → List S → Type 0) (vs : List V) (v : V) (old mid rest : List S) → Row Spells vs old mid → Spells v mid rest → Row Spells (vs ++ v ∷ []) old rest
+row_push {S} Spells [] v old mid rest h s = (rest, subst (λ (l : List S). Spells v l rest) (sym h) s, refl)
+row_push Spells (u ∷ us) v old mid rest h s = (h.0, h.1, row_push Spells us v h.0 mid rest h.2 s)
+
 -- the register behind several values
 abbrev pub registers : {U : Type 0} → (U → ℕ → ℕ) → List U → ℕ → ℕ
 registers f [] d = d
@@ -215,24 +247,25 @@ registers-push f (v ∷ us) u d = registers-push f us u (f v d)
 -- the forms that a loop has read, each within its limit, and that more of them are wanted
 pub record Many {S W U : Type 0} (table : Table S W) (one : Form S W U) (want : W) (old rest : List S) : Type 0 where
   pub items : List U
-  pub are : AllByRecursion one.Is items
   pub fit : AllByRecursion one.Fits items
-  pub path : Path table want (AllByRecursion one.Fits items) (want ∷ []) (registers one.register items) (flat_map one.spell items) old rest
+  pub front : Front S
+  pub spells : (more : List S) → Row one.Spells items (front.before more) more
+  pub path : Path table want (AllByRecursion one.Fits items) (want ∷ []) (registers one.register items) front old rest
 
 abbrev pub many_none : {S W U : Type 0} (table : Table S W) (one : Form S W U) (want : W) (old : List S) → Many table one want old old
-many_none table one want old = record { items = []; are = tt; fit = tt; path = path_start table want (Unit {0}) old }
+many_none table one want old = record { items = []; fit = tt; front = none; spells = λ more. refl; path = path_start table want (Unit {0}) old }
 
-all_init : {U : Type 0} (P : U → Type 0) (us : List U) (u : U) → AllByRecursion P (us ++ u ∷ []) → AllByRecursion P us × P u
+pub all_init : {U : Type 0} (P : U → Type 0) (us : List U) (u : U) → AllByRecursion P (us ++ u ∷ []) → AllByRecursion P us × P u
 all_init P [] u h = (tt, h.0)
 all_init P (x ∷ xs) u h = let more = all_init P xs u h.1 in ((h.0, more.0), more.1)
 
 -- one more is read
-pub path_more : {S W U : Type 0} (table : Table S W) (one : Form S W U) (want : W) (us : List U) (u : U) (old mid rest : List S)
-    → ((limited : Bool) (ws : List W) (d : ℕ) → run limited table (want ∷ ws) d mid ≡ run limited table (one.want ∷ want ∷ ws) d mid) → Reads table one u mid rest
-    → Path table want (AllByRecursion one.Fits us) (want ∷ []) (registers one.register us) (flat_map one.spell us) old mid
-    → Path table want (AllByRecursion one.Fits (us ++ u ∷ [])) (want ∷ []) (registers one.register (us ++ u ∷ [])) (flat_map one.spell (us ++ u ∷ [])) old rest
-path_more table one want us u old mid rest begins r p = record {
-  text = p.text ∙ ap (λ l. flat_map one.spell us ++ l) r.text ∙ sym (append_assoc (flat_map one.spell us) (one.spell u) rest) ∙ ap (λ l. l ++ rest) (sym (one_more one.spell us u));
+pub path_more : {S W U : Type 0} (table : Table S W) (one : Form S W U) (want : W) (us : List U) (u : U) (front : Front S) (old mid rest : List S)
+    → ((limited : Bool) (ws : List W) (d : ℕ) → run limited table (want ∷ ws) d mid ≡ run limited table (one.want ∷ want ∷ ws) d mid) → (r : Reads table one u mid rest)
+    → Path table want (AllByRecursion one.Fits us) (want ∷ []) (registers one.register us) front old mid
+    → Path table want (AllByRecursion one.Fits (us ++ u ∷ [])) (want ∷ []) (registers one.register (us ++ u ∷ [])) (then front r.front) old rest
+path_more table one want us u front old mid rest begins r p = record {
+  text = p.text ∙ ap front.before r.text;
   goes = λ limited h ws d.
       p.goes limited (λ l. (all_init one.Fits us u (h l)).0) ws d ∙ begins limited ws (registers one.register us d) ∙ r.goes limited (λ l. (all_init one.Fits us u (h l)).1) (want ∷ ws) (registers one.register us d)
       ∙ ap (λ x. run limited table (want ∷ ws) x rest) (sym (registers-push one.register us u d));
@@ -242,7 +275,8 @@ abbrev pub many_more : {S W U : Type 0} (table : Table S W) (one : Form S W U) (
     → ((limited : Bool) (ws : List W) (d : ℕ) → run limited table (want ∷ ws) d mid ≡ run limited table (one.want ∷ want ∷ ws) d mid) → one.Fits u → Reads table one u mid rest → Many table one want old rest
 many_more table one want u old mid rest m begins fits r = record {
   items = m.items ++ u ∷ [];
-  are = all_push one.Is m.items u m.are r.is;
   fit = all_push one.Fits m.items u m.fit fits;
-  path = path_more table one want m.items u old mid rest begins r m.path;
+  front = then m.front r.front;
+  spells = λ more. row_push one.Spells m.items u (m.front.before (r.front.before more)) (r.front.before more) more (m.spells (r.front.before more)) (r.spells more);
+  path = path_more table one want m.items u m.front old mid rest begins r m.path;
 }

@@ -1,9 +1,22 @@
 -- The machine of a reader of tokens, as at_text's Reading has it, with a limit for nesting: one symbol of look ahead, a
 -- stack of what is wanted, and one register, the depth of what was read last. A want carries how deep it may nest.
 use Rattle.std.specs.Prelude.{◌≡◌, ℕ, List, [], ◌∷◌, ◌++◌, Bool, true, false, cond, not, ◌||◌, Option, Some, None, Result, Ok, Err, ◌⊎◌}
-use Rattle.at_text.specs.Reading.{first, Begins}
+use Rattle.at_text.specs.Reading.{first}
 
--- ---- where reading stops
+-- ---- where a language's texts can't go on
+
+-- some text of the language begins so
+abbrev pub Begins : {S : Type 0} → (List S → Type 0) → List S → Type 0
+Begins {S} IsText front = (more : List S) × IsText (front ++ more)
+
+-- Some text of the language goes on behind the front with the symbol after it, or ends there if that is the end.
+abbrev pub GoesOn : {S : Type 0} → (List S → Type 0) → List S → List S → Type 0
+GoesOn {S} IsText front rest = (other : List S) × (first other ≡ first rest) × IsText (front ++ other)
+
+-- The front begins a text of the language, and none goes on with the symbol after it, or with the end.
+pub record IsFirstFault {S : Type 0} (IsText : List S → Type 0) (front rest : List S) : Type 0 where
+  pub begins : Begins IsText front
+  pub ends : GoesOn IsText front rest → ⊥
 
 -- why reading stops: the next symbol doesn't go on, a form begins there that the profile leaves out, or the symbol goes
 -- on, but not within the limit for nesting
@@ -11,10 +24,6 @@ pub data Reason : Type 0 where
   Refused : Reason
   LeftOut : Reason
   TooDeep : Reason
-
--- Some value goes on behind the front with the symbol after it, or ends there if that is the end.
-abbrev pub GoesOn : {S V : Type 0} → (V → Type 0) → (V → List S) → List S → List S → Type 0
-GoesOn {S} {V} Is spell front rest = (value : V) × (other : List S) × Is value × (first other ≡ first rest) × (spell value ≡ front ++ other)
 
 -- ---- what each want does at the next symbol
 
@@ -81,46 +90,56 @@ run limited table ws d (s ∷ ss) = elim (after limited table ws d s) [ Goes mor
 
 -- ---- what reading a form says
 
--- A form: what is wanted where it stands, how its values are spelled, which values it has, of whatever nesting, and
--- which of them are within its limit; the register behind a value, by the one before it; and after which fronts of it
--- the next symbol begins what is left out.
+-- symbols that stand before others
+pub record Front (S : Type 0) : Type 0 where
+  pub symbols : List S
+  pub before : List S → List S
+  pub is : (more : List S) → before more ≡ symbols ++ more
+
+-- A form: what is wanted where it stands; by which symbols, from the first row up to the second, each of its values is
+-- spelled; which of its values are within its limit; the register behind a value, by the one before it; and after which
+-- fronts of it the next symbol begins what is left out.
 pub record Form (S W V : Type 0) : Type 1 where
   pub want : W
-  pub spell : V → List S
-  pub Is : V → Type 0
+  pub Spells : V → List S → List S → Type 0
   pub Fits : V → Type 0
   pub register : V → ℕ → ℕ
   pub LeavesAt : List S → Option S → Type 0
 
--- the values within the limit
-abbrev pub IsWithin : {S W V : Type 0} → Form S W V → V → Type 0
-IsWithin form value = form.Is value × form.Fits value
+-- A machine in which the value fits goes over it, from the first row up to the second.
+abbrev pub Over : {S W V : Type 0} → Table S W → Form S W V → V → List S → List S → Type 0
+Over {S} {W} table form value old rest = (limited : Bool) → (limited ≡ true → form.Fits value) → (ws : List W) (d : ℕ)
+    → run limited table (form.want ∷ ws) d old ≡ run limited table ws (form.register value d) rest
 
--- The symbols from old up to rest spell the value, and a machine in which it fits goes over them.
+-- The symbols from old up to rest spell the value, whatever stands behind them.
 pub record Reads {S W V : Type 0} (table : Table S W) (form : Form S W V) (value : V) (old rest : List S) : Type 0 where
-  pub is : form.Is value
-  pub text : old ≡ form.spell value ++ rest
-  pub goes : (limited : Bool) → (limited ≡ true → form.Fits value) → (ws : List W) (d : ℕ)
-      → run limited table (form.want ∷ ws) d old ≡ run limited table ws (form.register value d) rest
+  pub front : Front S
+  pub text : old ≡ front.before rest
+  pub spells : (more : List S) → form.Spells value (front.before more) more
+  pub goes : Over table form value old rest
+
+-- a value within the limit begins so
+abbrev pub BeginsWithin : {S W V : Type 0} → Form S W V → Front S → Type 0
+BeginsWithin {S} {V = V} form front = (value : V) × (tail : Front S) × form.Fits value × ((more : List S) → form.Spells value (front.before (tail.before more)) more)
 
 -- the next symbol is this, and with it the front begins a value of whatever nesting
-abbrev pub BeginsDeeper : {S W V : Type 0} → Form S W V → List S → List S → Type 0
-BeginsDeeper {S} form front rest = (s : S) × (first rest ≡ Some s) × Begins form.Is form.spell (front ++ s ∷ [])
+abbrev pub BeginsDeeper : {S W V : Type 0} → Form S W V → Front S → List S → Type 0
+BeginsDeeper {S} {V = V} form front rest = (s : S) × (first rest ≡ Some s) × (value : V) × (tail : Front S) × ((more : List S) → form.Spells value (front.before (s ∷ tail.before more)) more)
 
 -- for this reason the form stops after the front
-abbrev pub IsReason : {S W V : Type 0} → Form S W V → Reason → List S → List S → Type 0
+abbrev pub IsReason : {S W V : Type 0} → Form S W V → Reason → Front S → List S → Type 0
 IsReason form Refused front rest = Unit {0}
-IsReason form LeftOut front rest = form.LeavesAt front (first rest)
+IsReason form LeftOut front rest = form.LeavesAt front.symbols (first rest)
 IsReason form TooDeep front rest = BeginsDeeper form front rest
 
 -- Nothing was read yet, or the front begins a value within the limit. (A form that may not nest at all has none.)
-abbrev pub Opens : {S W V : Type 0} → Form S W V → List S → Type 0
-Opens form front = (front ≡ []) ⊎ Begins (IsWithin form) form.spell front
+abbrev pub Opens : {S W V : Type 0} → Form S W V → Front S → Type 0
+Opens form front = (front.symbols ≡ []) ⊎ BeginsWithin form front
 
 -- The symbols from old up to rest begin a value within the limit, and with the next symbol they begin none.
 pub record Stops {S W V : Type 0} (table : Table S W) (form : Form S W V) (reason : Reason) (old rest : List S) : Type 0 where
-  pub front : List S
-  pub split : old ≡ front ++ rest
+  pub front : Front S
+  pub split : old ≡ front.before rest
   pub begins : Opens form front
   pub why : IsReason form reason front rest
   pub stuck : (ws : List W) (d : ℕ) → run true table (form.want ∷ ws) d old ≡ Stuck reason rest
