@@ -13,8 +13,9 @@ use Rattle.at_jrag.specs.declared.syntax.Operator.TheVariants as operator
 use Rattle.at_jrag.specs.declared.syntax.FoldForm.{FoldForm as FoldFormValue}
 use Rattle.at_jrag.specs.declared.syntax.FoldForm.TheVariants as fold
 use Rattle.at_jrag.specs.declared.syntax.Expr.{Expr as ExprValue}
+use Rattle.at_jrag.specs.declared.syntax.Form.{Form as FormValue}
 use Rattle.at_jrag.specs.declared.syntax.Form.TheOpen.{Form-F, Expr-F}
-use Rattle.at_jrag.specs.declared.syntax.Form.TheFolds.{fold-Expr}
+use Rattle.at_jrag.specs.declared.syntax.Form.TheFolds.{fold-Expr, fold-Form}
 use Rattle.at_jrag.specs.declared.syntax.BodyForm.{BodyForm as BodyFormValue}
 use Rattle.at_jrag.specs.declared.syntax.BodyForm.TheVariants as body
 use Rattle.at_jrag.specs.declared.syntax.Body.{Body as BodyValue}
@@ -84,6 +85,9 @@ see_form (Form-F.Fold f w l b) at = syntax.Fold at (fold_view f) (word_view w) l
 
 abbrev pub see_expr : Expr-F (Place → Expr) Expr → Expr
 see_expr e = e.form e.at
+
+abbrev pub form_view : FormValue → Place → Expr
+form_view = fold-Form (Place → Expr) Expr see_form see_expr
 
 abbrev pub expr_view : ExprValue → Expr
 expr_view = fold-Expr (Place → Expr) Expr see_form see_expr

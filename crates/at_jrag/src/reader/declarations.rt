@@ -1,0 +1,273 @@
+//! Aspects and their declarations.
+
+use super::{ReadError, Reader};
+use crate::syntax::{Aspect, Body, BodyForm, Decl, DeclForm, Ending, Kind, KindWord, Param, Params, Word};
+use at_text::token::TokenKind;
+
+/// How deep expressions may nest.
+const MAX_NESTING: usize = 64;
+
+/// A declared attribute, up to the end of its parameters.
+#[derive(Drop)]
+struct Head {
+    lazy: Option<(u32, u32)>,
+    kind: KindWord,
+    class: Word,
+    name: Word,
+    params: Params,
+}
+
+/// An attribute of a class, as an equation names it.
+#[derive(Drop)]
+struct Target {
+    class: Word,
+    name: Word,
+    params: Params,
+}
+
+/// Whether the parameters may stand behind a getter: there are none, or an `int` alone.
+fn is_getter(params: &Params) -> bool {
+    match params.items.as_slice() {
+        [] => true,
+        [param] => match param.kind.kind {
+            Kind::Int => true,
+            _ => false,
+        },
+        _ => false,
+    }
+}
+
+/// The name of the index among a getter's parameters.
+fn index_of(params: Params) -> Option<Word> {
+    let mut items = params.items;
+    match items.pop() {
+        Some(param) => Some(param.name),
+        None => None,
+    }
+}
+
+impl<'a> Reader<'a> {
+    /// The fault where a keyword was wanted: any other word begins a form that is left out.
+    fn no_keyword(&self) -> ReadError {
+        match self.rest {
+            [token, ..] if token.kind == TokenKind::Word => ReadError::LeftOut,
+            _ => ReadError::Syntax,
+        }
+    }
+
+    /// The fault where a block has one form alone: any other token is left out.
+    fn no_block(&self) -> ReadError {
+        if self.rest.is_empty() {
+            ReadError::Syntax
+        } else {
+            ReadError::LeftOut
+        }
+    }
+
+    /// `{ "aspect" name "{" { decl } "}" }`, up to the end.
+    pub fn file(&mut self) -> Result<Vec<Aspect>, ReadError> {
+        let mut aspects = Vec::new(self.alloc);
+        while !self.rest.is_empty() {
+            let aspect = self.aspect()?;
+            aspects.push(aspect)?;
+        }
+        Ok(aspects)
+    }
+
+    /// `"aspect" name "{" { decl } "}"`
+    fn aspect(&mut self) -> Result<Aspect, ReadError> {
+        if self.takes_word("aspect").is_none() {
+            return Err(self.no_keyword());
+        }
+        let name = self.name()?;
+        self.expects("{")?;
+        let decls = self.decls()?;
+        Ok(Aspect { name, decls })
+    }
+
+    /// `{ decl } "}"`
+    fn decls(&mut self) -> Result<Vec<Decl>, ReadError> {
+        let mut decls = Vec::new(self.alloc);
+        while self.takes("}").is_none() {
+            let decl = self.decl()?;
+            decls.push(decl)?;
+        }
+        Ok(decls)
+    }
+
+    /// A declaration.
+    fn decl(&mut self) -> Result<Decl, ReadError> {
+        if let Some(at) = self.takes_word("syn") {
+            self.declaration = at;
+            return Ok(Decl { at, form: self.synthesized()? });
+        }
+        if let Some(at) = self.takes_word("inh") {
+            self.declaration = at;
+            return Ok(Decl { at, form: self.inherited()? });
+        }
+        match self.takes_word("eq") {
+            Some(at) => {
+                self.declaration = at;
+                Ok(Decl { at, form: self.equation()? })
+            }
+            None => Err(self.no_keyword()),
+        }
+    }
+
+    /// A synthesized attribute behind its `syn`.
+    fn synthesized(&mut self) -> Result<DeclForm, ReadError> {
+        let head = self.head()?;
+        let ending = self.ending()?;
+        Ok(DeclForm::Synthesized {
+            lazy: head.lazy,
+            kind: head.kind,
+            class: head.class,
+            name: head.name,
+            params: head.params,
+            ending,
+        })
+    }
+
+    /// An inherited attribute behind its `inh`.
+    fn inherited(&mut self) -> Result<DeclForm, ReadError> {
+        let head = self.head()?;
+        self.expects(";")?;
+        Ok(DeclForm::Inherited {
+            lazy: head.lazy,
+            kind: head.kind,
+            class: head.class,
+            name: head.name,
+            params: head.params,
+        })
+    }
+
+    /// `["lazy"] kind name "." name "(" [params] ")"`, where `circular` behind it is left out.
+    fn head(&mut self) -> Result<Head, ReadError> {
+        let lazy = self.lazy()?;
+        let kind = self.kind()?;
+        let target = self.target()?;
+        if self.is_before_word("circular") {
+            return Err(ReadError::LeftOut);
+        }
+        Ok(Head {
+            lazy,
+            kind,
+            class: target.class,
+            name: target.name,
+            params: target.params,
+        })
+    }
+
+    /// `["lazy"]`, where `nta` before it or behind it is left out.
+    fn lazy(&mut self) -> Result<Option<(u32, u32)>, ReadError> {
+        let lazy = self.takes_word("lazy");
+        if self.is_before_word("nta") {
+            return Err(ReadError::LeftOut);
+        }
+        Ok(lazy)
+    }
+
+    /// `name "." name "(" [params] ")"`
+    fn target(&mut self) -> Result<Target, ReadError> {
+        let class = self.name()?;
+        self.expects(".")?;
+        let name = self.name()?;
+        let params = self.params(name.text.as_str())?;
+        Ok(Target {
+            class,
+            name,
+            params,
+        })
+    }
+
+    /// `"int" | "boolean" | "String" | name`
+    fn kind(&mut self) -> Result<KindWord, ReadError> {
+        if let Some(at) = self.takes_word("int") {
+            return Ok(KindWord { kind: Kind::Int, at });
+        }
+        if let Some(at) = self.takes_word("boolean") {
+            return Ok(KindWord { kind: Kind::Bool, at });
+        }
+        if let Some(at) = self.takes_word("String") {
+            return Ok(KindWord { kind: Kind::Text, at });
+        }
+        let class = self.name()?;
+        Ok(KindWord { kind: Kind::Class(class.text), at: class.at })
+    }
+
+    /// `kind name`
+    fn param(&mut self) -> Result<Param, ReadError> {
+        let kind = self.kind()?;
+        let name = self.name()?;
+        Ok(Param { kind, name })
+    }
+
+    /// `"(" [kind name { "," kind name }] ")"`, behind this name.
+    fn params(&mut self, name: &str) -> Result<Params, ReadError> {
+        self.opens(name)?;
+        let mut items = Vec::new(self.alloc);
+        if let Some(end) = self.takes(")") {
+            return Ok(Params { items, end });
+        }
+        loop {
+            let param = self.param()?;
+            items.push(param)?;
+            if let Some(end) = self.takes(")") {
+                return Ok(Params { items, end });
+            }
+            self.expects(",")?;
+        }
+    }
+
+    /// An equation behind its `eq`, of a synthesized or of an inherited attribute.
+    fn equation(&mut self) -> Result<DeclForm, ReadError> {
+        let target = self.target()?;
+        if !is_getter(&target.params) || self.takes(".").is_none() {
+            let body = self.body()?;
+            return Ok(DeclForm::Equation {
+                class: target.class,
+                name: target.name,
+                params: target.params,
+                body,
+            });
+        }
+        let name = self.name()?;
+        let params = self.params(name.text.as_str())?;
+        let body = self.body()?;
+        Ok(DeclForm::InheritedEquation {
+            class: target.class,
+            getter: target.name,
+            index: index_of(target.params),
+            name,
+            params,
+            body,
+        })
+    }
+
+    /// `";"`, or a body.
+    fn ending(&mut self) -> Result<Ending, ReadError> {
+        match self.takes(";") {
+            Some(at) => Ok(Ending::Semicolon(at)),
+            None => Ok(Ending::Body(self.body()?)),
+        }
+    }
+
+    /// `"=" expr ";" | "{" "return" expr ";" "}"`
+    fn body(&mut self) -> Result<Body, ReadError> {
+        if let Some(at) = self.takes("=") {
+            let expr = self.expression(MAX_NESTING)?.expr;
+            self.expects(";")?;
+            return Ok(Body { at, form: BodyForm::Equation, expr });
+        }
+        let at = self.expects("{")?;
+        if self.takes_word("return").is_none() {
+            return Err(self.no_block());
+        }
+        let expr = self.expression(MAX_NESTING)?.expr;
+        self.expects(";")?;
+        if self.takes("}").is_none() {
+            return Err(self.no_block());
+        }
+        Ok(Body { at, form: BodyForm::Block, expr })
+    }
+}
