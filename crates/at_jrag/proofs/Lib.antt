@@ -1,2 +1,3 @@
 mod MachineLaws
 mod MachinePaths
+mod ExpressionSteps
