@@ -222,7 +222,7 @@ name_primary b text at is =
     ∙ ap (λ x. cond x (Takes (nat_lt 1 b) (Mark (codes "(") ∷ Name ∷ Mark (codes ":") ∷ Primary (b - 1) ∷ Calls (b - 1) ∷ Mark (codes ")") ∷ FoldBody b ∷ []) 0) (cond (is_name text) (Takes (nat_lt 0 b) (Named (is_get_child (word text at)) b ∷ []) 0) Refuses)) (name_begins_no_fold text at is)
     ∙ ap (λ x. cond x (Takes (nat_lt 0 b) (Named (is_get_child (word text at)) b ∷ []) 0) Refuses) is
 
-takes_alike : (x l : Bool) (us vs : List Want) (e : ℕ) (s : PlacedToken) (ss : Row) → run l table us e ss ≡ run l table vs e ss → goes_on l table (cond x (Goes us e) (Halts TooDeep)) s ss ≡ goes_on l table (cond x (Goes vs e) (Halts TooDeep)) s ss
+pub takes_alike : (x l : Bool) (us vs : List Want) (e : ℕ) (s : PlacedToken) (ss : Row) → run l table us e ss ≡ run l table vs e ss → goes_on l table (cond x (Goes us e) (Halts TooDeep)) s ss ≡ goes_on l table (cond x (Goes vs e) (Halts TooDeep)) s ss
 takes_alike true l us vs e s ss h = h
 takes_alike false l us vs e s ss h = refl
 
