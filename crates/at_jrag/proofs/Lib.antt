@@ -1,3 +1,7 @@
 mod MachineLaws
 mod MachinePaths
 mod ExpressionSteps
+pub mod Tokens
+pub mod Expressions
+mod ExpressionRanks
+mod ExpressionRuns

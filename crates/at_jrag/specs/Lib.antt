@@ -6,3 +6,4 @@ pub mod Wants
 pub mod Table
 pub mod Left
 pub mod Read
+pub mod Heads

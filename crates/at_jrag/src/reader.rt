@@ -1,11 +1,12 @@
 //! The reader of tokens: a method for each form of the language. It stands before the tokens that are left.
 
-ghost use Rattle.std.specs.Prelude.{◌≡◌, ◌∷◌, List, length, IfOk, OnOk, MatchOption, true, false};
+ghost use Rattle.std.specs.Prelude.{◌≡◌, [], ◌∷◌, List, length, IfOk, OnOk, MatchOption, MatchBool, ℕ, true, false};
 ghost use Rattle.at_model.specs.Names.{is_name};
 ghost use Rattle.at_text.specs.Symbols.{PlacedToken, placed};
 ghost use Rattle.at_jrag.specs.View.{word_view};
-ghost use Rattle.at_jrag.specs.Grammar.{sign, word, is_sign, is_word, is_name_token, next_is, Name, Opens};
+ghost use Rattle.at_jrag.specs.Grammar.{Row, sign, word, is_sign, is_word, is_name_token, next_is, Name, Opens};
 ghost use Rattle.at_jrag.specs.Left.{left};
+ghost use Rattle.at_jrag.specs.declared.reader.ReadError.TheVariants.{Memory};
 
 mod declarations;
 mod expressions;
@@ -32,7 +33,7 @@ pub enum ReadError {
 }
 
 impl From<AllocError> for ReadError {
-    ghost from_gives = { λ _ e. e ≡ ReadError.Memory };
+    ghost from_gives = { λ _ e. e ≡ Memory };
 
     fn from(_e: AllocError) -> ReadError {
         ReadError::Memory
@@ -40,7 +41,7 @@ impl From<AllocError> for ReadError {
 }
 
 impl<T: Drop> From<AllocFailed<T>> for ReadError {
-    ghost from_gives = { λ _ e. e ≡ ReadError.Memory };
+    ghost from_gives = { λ _ e. e ≡ Memory };
 
     fn from(_e: AllocFailed<T>) -> ReadError {
         ReadError::Memory
@@ -136,6 +137,16 @@ impl<'a> Reader<'a> {
         }
     }
 
+    /// The next token.
+    fn next(&self) -> Option<&'a Placed<'a>>
+        ensures { MatchOption result (left self.now.rest.now ≡ []) (λ t. (rest : Row) × (left self.now.rest.now ≡ placed t.now ∷ rest)) }
+    {
+        match self.rest {
+            [token, ..] => Some(token),
+            [] => None,
+        }
+    }
+
     /// Steps over the sign, if it is next, and answers its place.
     fn takes(&mut self, text: &str) -> Option<(u32, u32)>
         ensures { MatchOption result
@@ -148,6 +159,18 @@ impl<'a> Reader<'a> {
                 Some(token.at)
             }
             _ => None,
+        }
+    }
+
+    /// Steps over the sign, if it is next.
+    fn skips(&mut self, text: &str) -> bool
+        ensures { MatchBool result
+            ((at : ℕ × ℕ) × (left self.old.rest.now ≡ sign text.now at ∷ left self.new.rest.now) × (self.new.declaration ≡ self.old.declaration))
+            ((self.new ≡ self.old) × (next_is (is_sign text.now) (left self.old.rest.now) ≡ false)) }
+    {
+        match self.takes(text) {
+            Some(_) => true,
+            None => false,
         }
     }
 

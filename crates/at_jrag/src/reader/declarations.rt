@@ -1,5 +1,13 @@
 //! Aspects and their declarations.
 
+ghost use Rattle.std.specs.Prelude.{◌≡◌, ◌∷◌, [], ◌≤◌, map, option_map, IfOk};
+ghost use Rattle.std.specs.List.{AllByRecursion};
+ghost use lib.Chars.{codes};
+ghost use Rattle.at_jrag.specs.View.{kind_word_view, param_view, params_view, body_view, ending_view, decl_form_view, decl_view, aspect_view, word_view};
+ghost use Rattle.at_jrag.specs.Grammar.{Row, KindOf, ParamOf, Signature, Opens, Listed, Lazy, BodyOf, EndingOf, Behind, DeclOf, Decls, AspectOf, File, NestsWithin, IsWithin, nesting, ending_depth, max_nesting, depth, keyword, Sign};
+ghost use Rattle.at_jrag.specs.Left.{left};
+ghost use Rattle.at_jrag.specs.Heads.{HeadOf, TargetOf, is_getter, index, ParamsOf};
+
 use super::{ReadError, Reader};
 use crate::syntax::{Aspect, Body, BodyForm, Decl, DeclForm, Ending, Kind, KindWord, Param, Params, Word};
 use at_text::token::TokenKind;
@@ -26,7 +34,9 @@ struct Target {
 }
 
 /// Whether the parameters may stand behind a getter: there are none, or an `int` alone.
-fn is_getter(params: &Params) -> bool {
+fn is_getter(params: &Params) -> bool
+    ensures { result ≡ is_getter (params_view params.now).items }
+{
     match params.items.as_slice() {
         [] => true,
         [param] => match param.kind.kind {
@@ -38,7 +48,9 @@ fn is_getter(params: &Params) -> bool {
 }
 
 /// The name of the index among a getter's parameters.
-fn index_of(params: Params) -> Option<Word> {
+fn index_of(params: Params) -> Option<Word>
+    ensures { option_map word_view result ≡ index (params_view params).items }
+{
     let mut items = params.items;
     match items.pop() {
         Some(param) => Some(param.name),
@@ -65,7 +77,11 @@ impl<'a> Reader<'a> {
     }
 
     /// `{ "aspect" name "{" { decl } "}" }`, up to the end.
-    pub fn file(&mut self) -> Result<Vec<Aspect>, ReadError> {
+    pub fn file(&mut self) -> Result<Vec<Aspect>, ReadError>
+        ensures found { IfOk result (λ v. File (map aspect_view v.items) (left self.old.rest.now) (left self.new.rest.now)) }
+        ensures within { IfOk result (λ v. IsWithin (map aspect_view v.items)) }
+        ensures end { IfOk result (λ v. left self.new.rest.now ≡ []) }
+    {
         let mut aspects = Vec::new(self.alloc);
         while !self.rest.is_empty() {
             let aspect = self.aspect()?;
@@ -75,7 +91,10 @@ impl<'a> Reader<'a> {
     }
 
     /// `"aspect" name "{" { decl } "}"`
-    fn aspect(&mut self) -> Result<Aspect, ReadError> {
+    fn aspect(&mut self) -> Result<Aspect, ReadError>
+        ensures found { IfOk result (λ a. AspectOf (aspect_view a) (left self.old.rest.now) (left self.new.rest.now)) }
+        ensures within { IfOk result (λ a. AllByRecursion NestsWithin (map decl_view a.decls.items)) }
+    {
         if self.takes_word("aspect").is_none() {
             return Err(self.no_keyword());
         }
@@ -86,9 +105,12 @@ impl<'a> Reader<'a> {
     }
 
     /// `{ decl } "}"`
-    fn decls(&mut self) -> Result<Vec<Decl>, ReadError> {
+    fn decls(&mut self) -> Result<Vec<Decl>, ReadError>
+        ensures found { IfOk result (λ v. (close : Row) × Decls (map decl_view v.items) (left self.old.rest.now) close × Sign (codes "}") close (left self.new.rest.now)) }
+        ensures within { IfOk result (λ v. AllByRecursion NestsWithin (map decl_view v.items)) }
+    {
         let mut decls = Vec::new(self.alloc);
-        while self.takes("}").is_none() {
+        while !self.skips("}") {
             let decl = self.decl()?;
             decls.push(decl)?;
         }
@@ -96,7 +118,10 @@ impl<'a> Reader<'a> {
     }
 
     /// A declaration.
-    fn decl(&mut self) -> Result<Decl, ReadError> {
+    fn decl(&mut self) -> Result<Decl, ReadError>
+        ensures found { IfOk result (λ d. DeclOf (decl_view d) (left self.old.rest.now) (left self.new.rest.now)) }
+        ensures within { IfOk result (λ d. NestsWithin (decl_view d)) }
+    {
         if let Some(at) = self.takes_word("syn") {
             self.declaration = at;
             return Ok(Decl { at, form: self.synthesized()? });
@@ -115,7 +140,11 @@ impl<'a> Reader<'a> {
     }
 
     /// A synthesized attribute behind its `syn`.
-    fn synthesized(&mut self) -> Result<DeclForm, ReadError> {
+    fn synthesized(&mut self) -> Result<DeclForm, ReadError>
+        ensures found { IfOk result (λ f. Behind (decl_form_view f) (left self.old.rest.now) (left self.new.rest.now)) }
+        ensures keyword { IfOk result (λ f. keyword (decl_form_view f) ≡ codes "syn") }
+        ensures within { IfOk result (λ f. nesting (decl_form_view f) ≤ max_nesting) }
+    {
         let head = self.head()?;
         let ending = self.ending()?;
         Ok(DeclForm::Synthesized {
@@ -129,7 +158,11 @@ impl<'a> Reader<'a> {
     }
 
     /// An inherited attribute behind its `inh`.
-    fn inherited(&mut self) -> Result<DeclForm, ReadError> {
+    fn inherited(&mut self) -> Result<DeclForm, ReadError>
+        ensures found { IfOk result (λ f. Behind (decl_form_view f) (left self.old.rest.now) (left self.new.rest.now)) }
+        ensures keyword { IfOk result (λ f. keyword (decl_form_view f) ≡ codes "inh") }
+        ensures within { IfOk result (λ f. nesting (decl_form_view f) ≤ max_nesting) }
+    {
         let head = self.head()?;
         self.expects(";")?;
         Ok(DeclForm::Inherited {
@@ -142,7 +175,9 @@ impl<'a> Reader<'a> {
     }
 
     /// `["lazy"] kind name "." name "(" [params] ")"`, where `circular` behind it is left out.
-    fn head(&mut self) -> Result<Head, ReadError> {
+    fn head(&mut self) -> Result<Head, ReadError>
+        ensures found { IfOk result (λ h. HeadOf h (left self.old.rest.now) (left self.new.rest.now)) }
+    {
         let lazy = self.lazy()?;
         let kind = self.kind()?;
         let target = self.target()?;
@@ -159,7 +194,9 @@ impl<'a> Reader<'a> {
     }
 
     /// `["lazy"]`, where `nta` before it or behind it is left out.
-    fn lazy(&mut self) -> Result<Option<(u32, u32)>, ReadError> {
+    fn lazy(&mut self) -> Result<Option<(u32, u32)>, ReadError>
+        ensures found { IfOk result (λ o. Lazy o (left self.old.rest.now) (left self.new.rest.now)) }
+    {
         let lazy = self.takes_word("lazy");
         if self.is_before_word("nta") {
             return Err(ReadError::LeftOut);
@@ -168,7 +205,9 @@ impl<'a> Reader<'a> {
     }
 
     /// `name "." name "(" [params] ")"`
-    fn target(&mut self) -> Result<Target, ReadError> {
+    fn target(&mut self) -> Result<Target, ReadError>
+        ensures found { IfOk result (λ t. TargetOf t (left self.old.rest.now) (left self.new.rest.now)) }
+    {
         let class = self.name()?;
         self.expects(".")?;
         let name = self.name()?;
@@ -181,7 +220,9 @@ impl<'a> Reader<'a> {
     }
 
     /// `"int" | "boolean" | "String" | name`
-    fn kind(&mut self) -> Result<KindWord, ReadError> {
+    fn kind(&mut self) -> Result<KindWord, ReadError>
+        ensures found { IfOk result (λ k. KindOf (kind_word_view k) (left self.old.rest.now) (left self.new.rest.now)) }
+    {
         if let Some(at) = self.takes_word("int") {
             return Ok(KindWord { kind: Kind::Int, at });
         }
@@ -196,14 +237,18 @@ impl<'a> Reader<'a> {
     }
 
     /// `kind name`
-    fn param(&mut self) -> Result<Param, ReadError> {
+    fn param(&mut self) -> Result<Param, ReadError>
+        ensures found { IfOk result (λ p. ParamOf (param_view p) (left self.old.rest.now) (left self.new.rest.now)) }
+    {
         let kind = self.kind()?;
         let name = self.name()?;
         Ok(Param { kind, name })
     }
 
     /// `"(" [kind name { "," kind name }] ")"`, behind this name.
-    fn params(&mut self, name: &str) -> Result<Params, ReadError> {
+    fn params(&mut self, name: &str) -> Result<Params, ReadError>
+        ensures found { IfOk result (λ p. ParamsOf name.now (params_view p) (left self.old.rest.now) (left self.new.rest.now)) }
+    {
         self.opens(name)?;
         let mut items = Vec::new(self.alloc);
         if let Some(end) = self.takes(")") {
@@ -220,9 +265,13 @@ impl<'a> Reader<'a> {
     }
 
     /// An equation behind its `eq`, of a synthesized or of an inherited attribute.
-    fn equation(&mut self) -> Result<DeclForm, ReadError> {
+    fn equation(&mut self) -> Result<DeclForm, ReadError>
+        ensures found { IfOk result (λ f. Behind (decl_form_view f) (left self.old.rest.now) (left self.new.rest.now)) }
+        ensures keyword { IfOk result (λ f. keyword (decl_form_view f) ≡ codes "eq") }
+        ensures within { IfOk result (λ f. nesting (decl_form_view f) ≤ max_nesting) }
+    {
         let target = self.target()?;
-        if !is_getter(&target.params) || self.takes(".").is_none() {
+        if !is_getter(&target.params) || !self.skips(".") {
             let body = self.body()?;
             return Ok(DeclForm::Equation {
                 class: target.class,
@@ -245,7 +294,10 @@ impl<'a> Reader<'a> {
     }
 
     /// `";"`, or a body.
-    fn ending(&mut self) -> Result<Ending, ReadError> {
+    fn ending(&mut self) -> Result<Ending, ReadError>
+        ensures found { IfOk result (λ e. EndingOf (ending_view e) (left self.old.rest.now) (left self.new.rest.now)) }
+        ensures within { IfOk result (λ e. ending_depth (ending_view e) ≤ max_nesting) }
+    {
         match self.takes(";") {
             Some(at) => Ok(Ending::Semicolon(at)),
             None => Ok(Ending::Body(self.body()?)),
@@ -253,7 +305,10 @@ impl<'a> Reader<'a> {
     }
 
     /// `"=" expr ";" | "{" "return" expr ";" "}"`
-    fn body(&mut self) -> Result<Body, ReadError> {
+    fn body(&mut self) -> Result<Body, ReadError>
+        ensures found { IfOk result (λ b. BodyOf (body_view b) (left self.old.rest.now) (left self.new.rest.now)) }
+        ensures within { IfOk result (λ b. depth (body_view b).expr ≤ max_nesting) }
+    {
         if let Some(at) = self.takes("=") {
             let expr = self.expression(MAX_NESTING)?.expr;
             self.expects(";")?;
@@ -265,7 +320,7 @@ impl<'a> Reader<'a> {
         }
         let expr = self.expression(MAX_NESTING)?.expr;
         self.expects(";")?;
-        if self.takes("}").is_none() {
+        if !self.skips("}") {
             return Err(self.no_block());
         }
         Ok(Body { at, form: BodyForm::Block, expr })

@@ -1,5 +1,13 @@
 //! Expressions: a method for each form, which is told how deep expressions may nest in what it reads.
 
+ghost use Rattle.std.specs.Prelude.{◌≡◌, ◌∷◌, ◌≤◌, ◌<◌, IfOk, false, map};
+ghost use lib.Chars.{codes};
+ghost use Rattle.at_jrag.specs.Syntax.{to_exprs};
+ghost use Rattle.at_jrag.specs.View.{expr_view, fold_view};
+ghost use Rattle.at_jrag.specs.Grammar.{Row, word, next_is, is_sign, fold_text};
+ghost use Rattle.at_jrag.specs.Left.{left};
+ghost use Rattle.at_jrag.specs.Read.{Reads, LinksTo, HasArguments};
+
 use super::forms::{Arguments, Measured, call, call_of, choice, fold, instance_of, leaf, operation, parenthesized, prefixed};
 use super::operators::{Link, UNARY};
 use super::{ReadError, Reader};
@@ -8,7 +16,11 @@ use crate::syntax::{FoldForm, Form};
 impl<'a> Reader<'a> {
     /// `or ["?" expr ":" expr]`
     #[cycle(expression)]
-    pub fn expression(&mut self, budget: usize) -> Result<Measured, ReadError> {
+    pub fn expression(&mut self, budget: usize) -> Result<Measured, ReadError>
+        requires limit { budget ≤ 64 }
+        ensures depth { IfOk result (λ m. m.depth ≤ budget) }
+        ensures found { IfOk result (λ m. Reads 0 m (left self.old.rest.now) (left self.new.rest.now)) }
+    {
         let condition = self.binary(1, budget)?;
         let Some(behind) = self.takes_within("?", condition.depth, budget)? else {
             return Ok(condition);
@@ -21,35 +33,51 @@ impl<'a> Reader<'a> {
 
     /// Operands of this level and what stands between them, which leans left.
     #[cycle(expression)]
-    fn binary(&mut self, level: usize, budget: usize) -> Result<Measured, ReadError> {
+    fn binary(&mut self, level: usize, budget: usize) -> Result<Measured, ReadError>
+        requires limit { budget ≤ 64 }
+        requires level { level ≤ 7 }
+        ensures depth { IfOk result (λ m. m.depth ≤ budget) }
+        ensures found { IfOk result (λ m. Reads level m (left self.old.rest.now) (left self.new.rest.now)) }
+    {
         if level >= UNARY {
             return self.unary(budget);
         }
-        let mut left = self.binary(level + 1, budget)?;
-        while let Some(link) = self.link(level, left.depth, budget)? {
-            left = self.linked(level, left, link, budget)?;
+        let mut operand = self.binary(level + 1, budget)?;
+        while let Some(link) = self.link(level, operand.depth, budget)? {
+            operand = self.linked(level, operand, link, budget)?;
         }
-        Ok(left)
+        Ok(operand)
     }
 
     /// A left operand with what stands behind it.
     #[cycle(expression)]
-    fn linked(&mut self, level: usize, left: Measured, link: Link, budget: usize) -> Result<Measured, ReadError> {
+    fn linked(&mut self, level: usize, operand: Measured, link: Link, budget: usize) -> Result<Measured, ReadError>
+        requires limit { budget ≤ 64 }
+        requires level { level < 7 }
+        requires operand { operand.depth < budget }
+        ensures depth { IfOk result (λ m. m.depth ≤ budget) }
+        ensures deeper { IfOk result (λ m. operand.depth < m.depth) }
+        ensures found { IfOk result (λ m. (old rest : Row) → Reads level operand old rest → LinksTo level link rest (left self.old.rest.now) → Reads level m old (left self.new.rest.now)) }
+    {
         match link {
             Link::Operator(operator) => {
                 let right = self.binary(level + 1, budget - 1)?;
-                Ok(operation(self.alloc, left, operator, right)?)
+                Ok(operation(self.alloc, operand, operator, right)?)
             }
             Link::InstanceOf(behind) => {
                 let class = self.name()?;
-                Ok(instance_of(self.alloc, left, behind, class)?)
+                Ok(instance_of(self.alloc, operand, behind, class)?)
             }
         }
     }
 
     /// `("!" | "-") unary | "(" name ")" cast | post`
     #[cycle(expression)]
-    fn unary(&mut self, budget: usize) -> Result<Measured, ReadError> {
+    fn unary(&mut self, budget: usize) -> Result<Measured, ReadError>
+        requires limit { budget ≤ 64 }
+        ensures depth { IfOk result (λ m. m.depth ≤ budget) }
+        ensures found { IfOk result (λ m. Reads 7 m (left self.old.rest.now) (left self.new.rest.now)) }
+    {
         if budget == 0 {
             return Err(self.too_deep());
         }
@@ -66,9 +94,14 @@ impl<'a> Reader<'a> {
 
     /// `{ "." name "(" [args] ")" }` behind a first receiver.
     #[cycle(expression)]
-    fn calls(&mut self, first: Measured, budget: usize) -> Result<Measured, ReadError> {
+    fn calls(&mut self, first: Measured, budget: usize) -> Result<Measured, ReadError>
+        requires limit { budget ≤ 64 }
+        requires first { first.depth ≤ budget }
+        ensures depth { IfOk result (λ m. m.depth ≤ budget) }
+        ensures found { IfOk result (λ m. (old : Row) → Reads 8 first old (left self.old.rest.now) → Reads 8 m old (left self.new.rest.now)) }
+    {
         let mut receiver = first;
-        while self.takes_within(".", receiver.depth, budget)?.is_some() {
+        while let Some(_) = self.takes_within(".", receiver.depth, budget)? {
             let name = self.name()?;
             let arguments = self.arguments(name.text.as_str(), budget - 1)?;
             receiver = call_of(self.alloc, receiver, name, arguments)?;
@@ -78,18 +111,22 @@ impl<'a> Reader<'a> {
 
     /// `"(" [expr { "," expr }] ")"`, behind this name.
     #[cycle(expression)]
-    fn arguments(&mut self, name: &str, budget: usize) -> Result<Arguments, ReadError> {
+    fn arguments(&mut self, name: &str, budget: usize) -> Result<Arguments, ReadError>
+        requires limit { budget ≤ 64 }
+        ensures depth { IfOk result (λ a. a.depth ≤ budget) }
+        ensures found { IfOk result (λ a. HasArguments name.now a (left self.old.rest.now) (left self.new.rest.now)) }
+    {
         self.opens(name)?;
         let mut items = Vec::new(self.alloc);
         let mut depth = 0;
-        if self.takes(")").is_some() {
+        if self.skips(")") {
             return Ok(Arguments { items, depth });
         }
         loop {
             let next = self.expression(budget)?;
             depth = depth.max(next.depth);
             items.push(next.expr)?;
-            if self.takes(")").is_some() {
+            if self.skips(")") {
                 return Ok(Arguments { items, depth });
             }
             self.expects(",")?;
@@ -98,7 +135,13 @@ impl<'a> Reader<'a> {
 
     /// `number | text | "true" | "false" | "null" | "this" | "(" expr ")" | fold | name | name "(" [args] ")"`
     #[cycle(expression)]
-    fn primary(&mut self, budget: usize) -> Result<Measured, ReadError> {
+    fn primary(&mut self, budget: usize) -> Result<Measured, ReadError>
+        requires some { 0 < budget }
+        requires limit { budget ≤ 64 }
+        ensures depth { IfOk result (λ m. m.depth ≤ budget) }
+        ensures found { IfOk result (λ m. Reads 8 m (left self.old.rest.now) (left self.new.rest.now)) }
+        ensures plain { IfOk result (λ m. next_is (is_sign (codes "-")) (left self.old.rest.now) ≡ false) }
+    {
         if let Some(literal) = self.literal()? {
             return Ok(literal);
         }
@@ -115,7 +158,13 @@ impl<'a> Reader<'a> {
 
     /// `name | name "(" [args] ")"`
     #[cycle(expression)]
-    fn named(&mut self, budget: usize) -> Result<Measured, ReadError> {
+    fn named(&mut self, budget: usize) -> Result<Measured, ReadError>
+        requires some { 0 < budget }
+        requires limit { budget ≤ 64 }
+        ensures depth { IfOk result (λ m. m.depth ≤ budget) }
+        ensures found { IfOk result (λ m. Reads 8 m (left self.old.rest.now) (left self.new.rest.now)) }
+        ensures plain { IfOk result (λ m. next_is (is_sign (codes "-")) (left self.old.rest.now) ≡ false) }
+    {
         let name = self.name()?;
         if !self.is_before("(") {
             return Ok(leaf(name.at, Form::Name(name.text)));
@@ -126,7 +175,12 @@ impl<'a> Reader<'a> {
 
     /// `"(" name ":" post ")" "{" expr "}"`, behind the word of a fold.
     #[cycle(expression)]
-    fn fold(&mut self, at: (u32, u32), form: FoldForm, budget: usize) -> Result<Measured, ReadError> {
+    fn fold(&mut self, at: (u32, u32), form: FoldForm, budget: usize) -> Result<Measured, ReadError>
+        requires some { 1 < budget }
+        requires limit { budget ≤ 64 }
+        ensures depth { IfOk result (λ m. m.depth ≤ budget) }
+        ensures found { IfOk result (λ m. (old : Row) → old ≡ word (fold_text (fold_view form)) at ∷ left self.old.rest.now → Reads 8 m old (left self.new.rest.now)) }
+    {
         self.expects("(")?;
         let name = self.name()?;
         self.expects(":")?;

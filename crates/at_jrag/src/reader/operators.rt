@@ -1,9 +1,17 @@
 //! What stands between, before and behind the parts of an expression.
 
-use super::{ReadError, Reader, is_sign, is_word, is_name_token};
+ghost use Rattle.std.specs.Prelude.{◌≡◌, ◌∷◌, ◌<◌, IfOk, IfSome, MatchOption, true, false};
+ghost use lib.Chars.{codes};
+ghost use Rattle.at_text.specs.Symbols.{placed};
+ghost use Rattle.at_jrag.specs.View.{operator_view, fold_view};
+ghost use Rattle.at_jrag.specs.Grammar.{Row, sign, word, next_is, is_sign, is_word, operator_text, operator_level, fold_text, follows_cast, is_opening};
+ghost use Rattle.at_jrag.specs.Left.{left};
+ghost use Rattle.at_jrag.specs.Read.{LinkIs, LinksTo, opens_negative, opens_cast, StandsBefore};
+
 use super::literals::number;
+use super::{ReadError, Reader, is_name_token, is_sign, is_word};
 use crate::syntax::{FoldForm, Operator, OperatorWord, Word};
-use at_text::names::is_reserved;
+use at_text::names::is_name;
 use at_text::placed::Placed;
 use at_text::token::TokenKind;
 
@@ -29,7 +37,9 @@ pub enum Prefix {
 }
 
 /// The operator that the sign is, and its level.
-fn operator_of(sign: &str) -> Option<(Operator, usize)> {
+fn operator_of(sign: &str) -> Option<(Operator, usize)>
+    ensures { IfSome result (λ o. (sign.now ≡ operator_text (operator_view o.0)) × (o.1 ≡ operator_level (operator_view o.0))) }
+{
     match sign {
         "||" => Some((Operator::Or, 1)),
         "&&" => Some((Operator::And, 2)),
@@ -49,7 +59,9 @@ fn operator_of(sign: &str) -> Option<(Operator, usize)> {
 }
 
 /// What the token is behind a left operand of this level.
-fn link_of(token: &Placed<'_>, level: usize) -> Option<Link> {
+fn link_of(token: &Placed<'_>, level: usize) -> Option<Link>
+    ensures { IfSome result (λ l. LinkIs level l (placed token.now)) }
+{
     if level == RELATIONAL && is_word(token, "instanceof") {
         return Some(Link::InstanceOf(token.at));
     }
@@ -63,7 +75,9 @@ fn link_of(token: &Placed<'_>, level: usize) -> Option<Link> {
 }
 
 /// The fold that the token begins.
-fn fold_of(token: &Placed<'_>) -> Option<FoldForm> {
+fn fold_of(token: &Placed<'_>) -> Option<FoldForm>
+    ensures { IfSome result (λ f. placed token.now ≡ word (fold_text (fold_view f)) token.now.at) }
+{
     if is_word(token, "exists") {
         Some(FoldForm::Exists)
     } else if is_word(token, "first") {
@@ -87,18 +101,22 @@ fn opens_expression(token: &Placed<'_>) -> bool {
 
 /// Whether the language has expressions that begin with the word.
 fn opens_with_word(word: &str) -> bool {
-    !is_reserved(word) || word == "true" || word == "false" || follows_with_reserved(word)
+    is_name(word) || word == "true" || word == "false" || is_opening(word)
 }
 
 /// Whether the reserved word may stand behind a cast.
-fn follows_with_reserved(word: &str) -> bool {
+fn is_opening(word: &str) -> bool
+    ensures { result ≡ is_opening word.now }
+{
     word == "this" || word == "null" || word == "exists" || word == "first" || word == "sum"
 }
 
 /// Whether the token makes a cast of the parentheses with a name that stand before it.
-fn follows_cast(token: &Placed<'_>) -> bool {
+fn follows_cast(token: &Placed<'_>) -> bool
+    ensures { result ≡ follows_cast (placed token.now) }
+{
     match token.kind {
-        TokenKind::Word => !is_reserved(token.text) || follows_with_reserved(token.text),
+        TokenKind::Word => is_name(token.text) || is_opening(token.text),
         TokenKind::Sign => token.text == "(",
         TokenKind::Number | TokenKind::Text => false,
     }
@@ -106,7 +124,16 @@ fn follows_cast(token: &Placed<'_>) -> bool {
 
 impl<'a> Reader<'a> {
     /// Steps over the sign, if it is next, where a part of this depth may stand in a form of this nesting.
-    pub fn takes_within(&mut self, text: &str, depth: usize, budget: usize) -> Result<Option<(u32, u32)>, ReadError> {
+    pub fn takes_within(
+        &mut self,
+        text: &str,
+        depth: usize,
+        budget: usize,
+    ) -> Result<Option<(u32, u32)>, ReadError>
+        ensures found { IfOk result (λ o. MatchOption o
+            ((self.new ≡ self.old) × (next_is (is_sign text.now) (left self.old.rest.now) ≡ false))
+            (λ at. (left self.old.rest.now ≡ sign text.now at ∷ left self.new.rest.now) × (depth < budget))) }
+    {
         if self.is_before(text) && budget <= depth {
             return Err(ReadError::Nesting);
         }
@@ -114,7 +141,10 @@ impl<'a> Reader<'a> {
     }
 
     /// Steps over what goes on behind a left operand of this level and depth, if that is next.
-    pub fn link(&mut self, level: usize, depth: usize, budget: usize) -> Result<Option<Link>, ReadError> {
+    pub fn link(&mut self, level: usize, depth: usize, budget: usize) -> Result<Option<Link>, ReadError>
+        ensures found { IfOk result (λ o. MatchOption o (self.new ≡ self.old)
+            (λ l. (depth < budget) × LinksTo level l (left self.old.rest.now) (left self.new.rest.now))) }
+    {
         let link = match self.rest {
             [token, ..] => link_of(token, level),
             [] => None,
@@ -138,7 +168,10 @@ impl<'a> Reader<'a> {
     }
 
     /// Steps over the word that begins a fold, if one is next.
-    pub fn fold_word(&mut self, budget: usize) -> Result<Option<((u32, u32), FoldForm)>, ReadError> {
+    pub fn fold_word(&mut self, budget: usize) -> Result<Option<((u32, u32), FoldForm)>, ReadError>
+        ensures found { IfOk result (λ o. MatchOption o (self.new ≡ self.old)
+            (λ f. (1 < budget) × (left self.old.rest.now ≡ word (fold_text (fold_view f.1)) f.0 ∷ left self.new.rest.now))) }
+    {
         let [token, ..] = self.rest else {
             return Ok(None);
         };
@@ -153,7 +186,9 @@ impl<'a> Reader<'a> {
     }
 
     /// Whether `( NAME )` is next, and behind it what makes it a cast.
-    fn is_at_cast(&self) -> bool {
+    fn is_at_cast(&self) -> bool
+        ensures { result ≡ opens_cast (left self.now.rest.now) }
+    {
         match self.rest {
             [open, name, close, next, ..] => {
                 is_sign(open, "(") && is_name_token(name) && is_sign(close, ")") && follows_cast(next)
@@ -163,7 +198,10 @@ impl<'a> Reader<'a> {
     }
 
     /// `( NAME )`
-    fn cast(&mut self) -> Result<((u32, u32), Prefix), ReadError> {
+    fn cast(&mut self) -> Result<((u32, u32), Prefix), ReadError>
+        requires { opens_cast (left self.now.rest.now) ≡ true }
+        ensures found { IfOk result (λ p. StandsBefore p.1 p.0 (left self.old.rest.now) (left self.new.rest.now)) }
+    {
         let at = self.expects("(")?;
         let class = self.name()?;
         self.expects(")")?;
@@ -171,7 +209,12 @@ impl<'a> Reader<'a> {
     }
 
     /// What stands before an operand, if that is next: `!`, `-`, or the class of a cast.
-    pub fn prefix(&mut self, budget: usize) -> Result<Option<((u32, u32), Prefix)>, ReadError> {
+    pub fn prefix(&mut self, budget: usize) -> Result<Option<((u32, u32), Prefix)>, ReadError>
+        requires { opens_negative (left self.now.rest.now) ≡ false }
+        ensures found { IfOk result (λ o. MatchOption o
+            ((self.new ≡ self.old) × (next_is (is_sign (codes "-")) (left self.old.rest.now) ≡ false))
+            (λ p. StandsBefore p.1 p.0 (left self.old.rest.now) (left self.new.rest.now))) }
+    {
         if let Some(at) = self.takes("-") {
             return Ok(Some((at, Prefix::Minus)));
         }
