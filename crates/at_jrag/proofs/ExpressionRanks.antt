@@ -1,5 +1,5 @@
 -- Expressions by the rank of their outermost operator: what is read of one rank, is read of each weaker one.
-use Rattle.std.proofs.Common.{◌≡◌, ℕ, zero, suc, ◌+◌, ◌-◌, ◌<◌, ◌≤◌, List, [], ◌∷◌, ◌++◌, Bool, true, false, cond, Option, Some, None, refl, sym, ap, subst, ◌∙◌, append_assoc, arith}
+use Rattle.std.proofs.Common.{◌≡◌, ℕ, zero, suc, ◌+◌, ◌-◌, ◌<◌, ◌≤◌, List, [], ◌∷◌, ◌++◌, Bool, true, false, cond, Option, Some, None, refl, sym, ap, subst, ◌∙◌, arith}
 use Rattle.std.specs.Prelude.{◌==◌, nat_lt}
 use Rattle.std.proofs.lemmas.Bool.{eq-eqb, eqb-true, ltb-true, ltb-false}
 use lib.Chars.{codes}
@@ -10,9 +10,9 @@ use Rattle.at_jrag.specs.Syntax as syntax
 use Rattle.at_jrag.specs.Syntax.{Operator}
 use Rattle.at_jrag.specs.Machine.{Takes, Skips, run}
 use Rattle.at_jrag.specs.Wants.{Want, Expression, Binary, Links, Choice, Otherwise, Join}
-use Rattle.at_jrag.specs.Table.{next, link_rank, table, link_answer, links_answer, binary_answer}
+use Rattle.at_jrag.specs.Table.{next, link_rank, table, link_answer, links_answer}
 use Rattle.at_jrag.proofs.MachineLaws.{run-takes, run-skips}
-use Rattle.at_jrag.proofs.MachinePaths.{run-begins, run-same}
+use Rattle.at_jrag.proofs.MachinePaths.{run-begins}
 use Rattle.at_jrag.proofs.ExpressionSteps.{binary_stays}
 
 -- a value of this depth is gone over, where it is wanted, and us is wanted behind it

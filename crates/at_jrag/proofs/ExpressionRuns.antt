@@ -1,21 +1,20 @@
 -- How the machine goes over a form of an expression, by how it goes over its parts.
-use Rattle.std.proofs.Common.{◌≡◌, ℕ, zero, suc, ◌+◌, ◌-◌, ◌<◌, ◌≤◌, List, [], ◌∷◌, ◌++◌, Bool, true, false, cond, max, Option, Some, None, refl, sym, ap, subst, ◌∙◌, append_assoc, arith}
-use Rattle.std.specs.Prelude.{◌==◌, nat_lt, ◌&&◌, ◌||◌, not}
-use Rattle.std.specs.Str.{bytes_eq}
+use Rattle.std.proofs.Common.{◌≡◌, ℕ, ◌+◌, ◌-◌, ◌≤◌, List, [], ◌∷◌, ◌++◌, Bool, true, false, cond, max, Some, refl, sym, ap, ◌∙◌, arith}
+use Rattle.std.specs.Prelude.{nat_lt, ◌&&◌, ◌||◌, not}
 use Rattle.std.proofs.lemmas.Bool.{lt-ltb}
 use lib.Chars.{codes}
 use Rattle.at_model.specs.Names.{is_name}
 use Rattle.at_text.specs.Reading.{first}
 use Rattle.at_text.specs.Symbols.{PlacedToken}
-use Rattle.at_jrag.specs.Grammar.{Row, is_sign, is_word, is_name_token, is_number, follows_cast, sign, word, number, operator_text, operator_level, fold_text}
+use Rattle.at_jrag.specs.Grammar.{Row, is_sign, is_word, is_number, follows_cast, sign, word, number, operator_text, fold_text}
 use Rattle.at_jrag.specs.Syntax as syntax
 use Rattle.at_jrag.specs.Syntax.{Operator, FoldForm}
 use Rattle.at_jrag.specs.Machine.{Answer, Takes, Skips, Refuses, LeavesOut, and_then, run}
 use Rattle.at_jrag.specs.Wants.{Want, Expression, Binary, Links, Choice, Otherwise, Unary, Minus, Opened, Enclosed, Parenthesized, Calls, Called, Arguments, FirstArgument, MoreArguments, Primary, Named, FoldBody, Deeper, Join, Deepest, Counts, Name, Mark}
-use Rattle.at_jrag.specs.Table.{next, on, table, is_get_child, is_literal, is_number_within, primary_answer, unary_answer, binary_answer, expression_answer, links_answer, begins_fold}
-use Rattle.at_jrag.proofs.MachineLaws.{run-takes, run-skips, run-ended}
-use Rattle.at_jrag.proofs.MachinePaths.{run-begins, run-same}
-use Rattle.at_jrag.proofs.ExpressionSteps.{acts, run-acts, takes_alike, sign_is, NoCast, opened, name_primary, primary_stays, unary_stays, binary_stays, then_stays}
+use Rattle.at_jrag.specs.Table.{next, on, table, is_get_child, is_literal, is_number_within, primary_answer, unary_answer, binary_answer, expression_answer}
+use Rattle.at_jrag.proofs.MachineLaws.{run-takes, run-skips}
+use Rattle.at_jrag.proofs.MachinePaths.{run-begins}
+use Rattle.at_jrag.proofs.ExpressionSteps.{run-acts, takes_alike, sign_is, NoCast, opened, name_primary, primary_stays, unary_stays, binary_stays, then_stays}
 use Rattle.at_jrag.proofs.ExpressionRanks.{Goes, Facts, operator_taken}
 
 -- from one depth to the other, the machine goes on with what is wanted

@@ -22,7 +22,7 @@ and_none : (a b : Bool) → b ≡ false → a && b ≡ false
 and_none true b e = e
 and_none false b e = refl
 
-reserved_is_no_name : (text : List ℕ) → is_reserved text ≡ true → is_name text ≡ false
+pub reserved_is_no_name : (text : List ℕ) → is_reserved text ≡ true → is_name text ≡ false
 reserved_is_no_name text e = and_none (names.is_word (chars text)) (not (is_reserved text)) (ap not e)
 
 differs : (b : Bool) (text word : List ℕ) → is_reserved word ≡ true → is_name text ≡ true → bytes_eq text word ≡ b → b ≡ false

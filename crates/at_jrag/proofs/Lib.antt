@@ -5,3 +5,4 @@ pub mod Tokens
 pub mod Expressions
 mod ExpressionRanks
 mod ExpressionRuns
+mod ExpressionsTaken
