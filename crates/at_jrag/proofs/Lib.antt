@@ -6,3 +6,4 @@ pub mod Expressions
 mod ExpressionRanks
 mod ExpressionRuns
 mod ExpressionsTaken
+pub mod Declarations

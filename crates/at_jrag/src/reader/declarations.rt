@@ -1,6 +1,6 @@
 //! Aspects and their declarations.
 
-ghost use Rattle.std.specs.Prelude.{◌≡◌, ◌∷◌, [], ◌≤◌, map, option_map, IfOk};
+ghost use Rattle.std.specs.Prelude.{◌≡◌, ◌∷◌, [], ◌≤◌, map, option_map, true, IfOk, MatchBool};
 ghost use Rattle.std.specs.List.{AllByRecursion};
 ghost use lib.Chars.{codes};
 ghost use Rattle.at_jrag.specs.View.{kind_word_view, param_view, params_view, body_view, ending_view, decl_form_view, decl_view, aspect_view, word_view};
@@ -47,13 +47,21 @@ fn is_getter(params: &Params) -> bool
     }
 }
 
-/// The name of the index among a getter's parameters.
+/// The parameter's name.
+fn name_of(param: Param) -> Word
+    ensures { word_view result ≡ (param_view param).name }
+{
+    let Param { kind: _, name } = param;
+    name
+}
+
+/// The name of the index, which is the last of a getter's parameters.
 fn index_of(params: Params) -> Option<Word>
     ensures { option_map word_view result ≡ index (params_view params).items }
 {
     let mut items = params.items;
     match items.pop() {
-        Some(param) => Some(param.name),
+        Some(param) => Some(name_of(param)),
         None => None,
     }
 }
@@ -264,6 +272,19 @@ impl<'a> Reader<'a> {
         }
     }
 
+    /// Steps over the `.` behind what may be a getter's parameters, if it is next.
+    fn skips_getter(&mut self, params: &Params) -> bool
+        ensures { MatchBool result
+            ((is_getter (params_view params.now).items ≡ true) × Sign (codes ".") (left self.old.rest.now) (left self.new.rest.now))
+            (self.new ≡ self.old) }
+    {
+        if is_getter(params) {
+            self.skips(".")
+        } else {
+            false
+        }
+    }
+
     /// An equation behind its `eq`, of a synthesized or of an inherited attribute.
     fn equation(&mut self) -> Result<DeclForm, ReadError>
         ensures found { IfOk result (λ f. Behind (decl_form_view f) (left self.old.rest.now) (left self.new.rest.now)) }
@@ -271,22 +292,33 @@ impl<'a> Reader<'a> {
         ensures within { IfOk result (λ f. nesting (decl_form_view f) ≤ max_nesting) }
     {
         let target = self.target()?;
-        if !is_getter(&target.params) || !self.skips(".") {
-            let body = self.body()?;
-            return Ok(DeclForm::Equation {
-                class: target.class,
-                name: target.name,
-                params: target.params,
-                body,
-            });
+        if self.skips_getter(&target.params) {
+            return self.inherited_equation(target);
         }
+        let body = self.body()?;
+        Ok(DeclForm::Equation {
+            class: target.class,
+            name: target.name,
+            params: target.params,
+            body,
+        })
+    }
+
+    /// An equation of an inherited attribute, behind its getter and the `.` there.
+    fn inherited_equation(&mut self, getter: Target) -> Result<DeclForm, ReadError>
+        requires { is_getter (params_view getter.params).items ≡ true }
+        ensures found { IfOk result (λ f. (old mid : Row) → TargetOf getter old mid → Sign (codes ".") mid (left self.old.rest.now)
+            → Behind (decl_form_view f) old (left self.new.rest.now)) }
+        ensures keyword { IfOk result (λ f. keyword (decl_form_view f) ≡ codes "eq") }
+        ensures within { IfOk result (λ f. nesting (decl_form_view f) ≤ max_nesting) }
+    {
         let name = self.name()?;
         let params = self.params(name.text.as_str())?;
         let body = self.body()?;
         Ok(DeclForm::InheritedEquation {
-            class: target.class,
-            getter: target.name,
-            index: index_of(target.params),
+            class: getter.class,
+            getter: getter.name,
+            index: index_of(getter.params),
             name,
             params,
             body,
