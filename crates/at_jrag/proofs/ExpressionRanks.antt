@@ -11,13 +11,10 @@ use Rattle.at_jrag.specs.Syntax.{Operator}
 use Rattle.at_jrag.specs.Machine.{Takes, Skips, run}
 use Rattle.at_jrag.specs.Wants.{Want, Expression, Binary, Links, Choice, Otherwise, Join}
 use Rattle.at_jrag.specs.Table.{next, link_rank, table, link_answer, links_answer}
+use Rattle.at_jrag.specs.Runs.{Goes}
 use Rattle.at_jrag.proofs.MachineLaws.{run-takes, run-skips}
 use Rattle.at_jrag.proofs.MachinePaths.{run-begins}
 use Rattle.at_jrag.proofs.ExpressionSteps.{binary_stays}
-
--- a value of this depth is gone over, where it is wanted, and us is wanted behind it
-abbrev pub Goes : (ℕ → Want) → (ℕ → List Want) → ℕ → Row → Row → Type 0
-Goes want us depth old rest = (l : Bool) (b : ℕ) → (l ≡ true → depth ≤ b) → (ws : List Want) (d : ℕ) → run l table (want b ∷ ws) d old ≡ run l table (us b ++ ws) depth rest
 
 -- the rank of the next token as what goes on behind a left operand
 abbrev pub next_rank : Option PlacedToken → ℕ

@@ -12,14 +12,11 @@ use Rattle.at_jrag.specs.Syntax.{Operator, FoldForm}
 use Rattle.at_jrag.specs.Machine.{Answer, Takes, Skips, Refuses, LeavesOut, and_then, run}
 use Rattle.at_jrag.specs.Wants.{Want, Expression, Binary, Links, Choice, Otherwise, Unary, Minus, Opened, Enclosed, Parenthesized, Calls, Called, Arguments, FirstArgument, MoreArguments, Primary, Named, FoldBody, Deeper, Join, Deepest, Counts, Name, Mark}
 use Rattle.at_jrag.specs.Table.{next, on, table, is_get_child, is_literal, is_number_within, primary_answer, unary_answer, binary_answer, expression_answer}
+use Rattle.at_jrag.specs.Runs.{Goes, Moves}
 use Rattle.at_jrag.proofs.MachineLaws.{run-takes, run-skips}
 use Rattle.at_jrag.proofs.MachinePaths.{run-begins}
 use Rattle.at_jrag.proofs.ExpressionSteps.{run-acts, takes_alike, sign_is, NoCast, opened, name_primary, primary_stays, unary_stays, binary_stays, then_stays}
-use Rattle.at_jrag.proofs.ExpressionRanks.{Goes, Facts, operator_taken}
-
--- from one depth to the other, the machine goes on with what is wanted
-abbrev pub Moves : (ℕ → List Want) → (ℕ → List Want) → ℕ → ℕ → Row → Row → Type 0
-Moves us vs m n old rest = (l : Bool) (b : ℕ) → (l ≡ true → n ≤ b) → (ws : List Want) → run l table (us b ++ ws) m old ≡ run l table (vs b ++ ws) n rest
+use Rattle.at_jrag.proofs.ExpressionRanks.{Facts, operator_taken}
 
 pub then_moves : (want : ℕ → Want) (us vs : ℕ → List Want) (m n : ℕ) (old mid rest : Row) → m ≤ n → Goes want us m old mid → Moves us vs m n mid rest → Goes want vs n old rest
 then_moves want us vs m n old mid rest h g s l b f ws d = g l b (λ e. omega (arith, h, f e)) ws d ∙ s l b f ws

@@ -1,9 +1,9 @@
-mod MachineLaws
-mod MachinePaths
-mod ExpressionSteps
+pub mod MachineLaws
+pub mod MachinePaths
+pub mod ExpressionSteps
 pub mod Tokens
 pub mod Expressions
-mod ExpressionRanks
-mod ExpressionRuns
-mod ExpressionsTaken
+pub mod ExpressionRanks
+pub mod ExpressionRuns
+pub mod ExpressionsTaken
 pub mod Declarations

@@ -4,6 +4,7 @@ pub mod Grammar
 pub mod Machine
 pub mod Wants
 pub mod Table
+pub mod Runs
 pub mod Left
 pub mod Read
 pub mod Heads
