@@ -8,3 +8,4 @@ pub mod Runs
 pub mod Left
 pub mod Read
 pub mod Heads
+pub mod Faults
