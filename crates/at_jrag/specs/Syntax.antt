@@ -1,5 +1,5 @@
 -- Aspects as they are read: declarations and expressions, with their places.
-use Rattle.std.specs.Prelude.{ℕ, ℤ, Bool, List, [], ◌∷◌, Option, Some, None}
+use Rattle.std.specs.Prelude.{ℕ, ℤ, Bool, List, [], ◌∷◌, Option}
 
 -- a line and a column, both from 1
 abbrev pub Place : Type 0

@@ -1,6 +1,6 @@
 //! Aspects and their declarations.
 
-ghost use Rattle.std.specs.Prelude.{◌≡◌, ◌∷◌, [], ◌≤◌, map, option_map, IfOk};
+ghost use Rattle.std.specs.Prelude.{◌≡◌, ◌∷◌, [], ◌≤◌, map, option_map, true, IfOk, MatchBool};
 ghost use Rattle.std.specs.List.{AllByRecursion};
 ghost use lib.Chars.{codes};
 ghost use Rattle.at_jrag.specs.View.{kind_word_view, param_view, params_view, body_view, ending_view, decl_form_view, decl_view, aspect_view, word_view};
@@ -9,7 +9,9 @@ ghost use Rattle.at_jrag.specs.Left.{left};
 ghost use Rattle.at_jrag.specs.Heads.{HeadOf, TargetOf, is_getter, index, ParamsOf};
 
 use super::{ReadError, Reader};
-use crate::syntax::{Aspect, Body, BodyForm, Decl, DeclForm, Ending, Kind, KindWord, Param, Params, Word};
+use crate::syntax::{
+    Aspect, Body, BodyForm, Decl, DeclForm, Ending, Kind, KindWord, Param, Params, Word,
+};
 use at_text::token::TokenKind;
 
 /// How deep expressions may nest.
@@ -47,13 +49,21 @@ fn is_getter(params: &Params) -> bool
     }
 }
 
-/// The name of the index among a getter's parameters.
+/// The parameter's name.
+fn name_of(param: Param) -> Word
+    ensures { word_view result ≡ (param_view param).name }
+{
+    let Param { kind: _, name } = param;
+    name
+}
+
+/// The name of the index, which is the last of a getter's parameters.
 fn index_of(params: Params) -> Option<Word>
     ensures { option_map word_view result ≡ index (params_view params).items }
 {
     let mut items = params.items;
     match items.pop() {
-        Some(param) => Some(param.name),
+        Some(param) => Some(name_of(param)),
         None => None,
     }
 }
@@ -124,16 +134,25 @@ impl<'a> Reader<'a> {
     {
         if let Some(at) = self.takes_word("syn") {
             self.declaration = at;
-            return Ok(Decl { at, form: self.synthesized()? });
+            return Ok(Decl {
+                at,
+                form: self.synthesized()?,
+            });
         }
         if let Some(at) = self.takes_word("inh") {
             self.declaration = at;
-            return Ok(Decl { at, form: self.inherited()? });
+            return Ok(Decl {
+                at,
+                form: self.inherited()?,
+            });
         }
         match self.takes_word("eq") {
             Some(at) => {
                 self.declaration = at;
-                Ok(Decl { at, form: self.equation()? })
+                Ok(Decl {
+                    at,
+                    form: self.equation()?,
+                })
             }
             None => Err(self.no_keyword()),
         }
@@ -224,16 +243,28 @@ impl<'a> Reader<'a> {
         ensures found { IfOk result (λ k. KindOf (kind_word_view k) (left self.old.rest.now) (left self.new.rest.now)) }
     {
         if let Some(at) = self.takes_word("int") {
-            return Ok(KindWord { kind: Kind::Int, at });
+            return Ok(KindWord {
+                kind: Kind::Int,
+                at,
+            });
         }
         if let Some(at) = self.takes_word("boolean") {
-            return Ok(KindWord { kind: Kind::Bool, at });
+            return Ok(KindWord {
+                kind: Kind::Bool,
+                at,
+            });
         }
         if let Some(at) = self.takes_word("String") {
-            return Ok(KindWord { kind: Kind::Text, at });
+            return Ok(KindWord {
+                kind: Kind::Text,
+                at,
+            });
         }
         let class = self.name()?;
-        Ok(KindWord { kind: Kind::Class(class.text), at: class.at })
+        Ok(KindWord {
+            kind: Kind::Class(class.text),
+            at: class.at,
+        })
     }
 
     /// `kind name`
@@ -264,6 +295,19 @@ impl<'a> Reader<'a> {
         }
     }
 
+    /// Steps over the `.` behind what may be a getter's parameters, if it is next.
+    fn skips_getter(&mut self, params: &Params) -> bool
+        ensures { MatchBool result
+            ((is_getter (params_view params.now).items ≡ true) × Sign (codes ".") (left self.old.rest.now) (left self.new.rest.now))
+            (self.new ≡ self.old) }
+    {
+        if is_getter(params) {
+            self.skips(".")
+        } else {
+            false
+        }
+    }
+
     /// An equation behind its `eq`, of a synthesized or of an inherited attribute.
     fn equation(&mut self) -> Result<DeclForm, ReadError>
         ensures found { IfOk result (λ f. Behind (decl_form_view f) (left self.old.rest.now) (left self.new.rest.now)) }
@@ -271,22 +315,33 @@ impl<'a> Reader<'a> {
         ensures within { IfOk result (λ f. nesting (decl_form_view f) ≤ max_nesting) }
     {
         let target = self.target()?;
-        if !is_getter(&target.params) || !self.skips(".") {
-            let body = self.body()?;
-            return Ok(DeclForm::Equation {
-                class: target.class,
-                name: target.name,
-                params: target.params,
-                body,
-            });
+        if self.skips_getter(&target.params) {
+            return self.inherited_equation(target);
         }
+        let body = self.body()?;
+        Ok(DeclForm::Equation {
+            class: target.class,
+            name: target.name,
+            params: target.params,
+            body,
+        })
+    }
+
+    /// An equation of an inherited attribute, behind its getter and the `.` there.
+    fn inherited_equation(&mut self, getter: Target) -> Result<DeclForm, ReadError>
+        requires { is_getter (params_view getter.params).items ≡ true }
+        ensures found { IfOk result (λ f. (old mid : Row) → TargetOf getter old mid → Sign (codes ".") mid (left self.old.rest.now)
+            → Behind (decl_form_view f) old (left self.new.rest.now)) }
+        ensures keyword { IfOk result (λ f. keyword (decl_form_view f) ≡ codes "eq") }
+        ensures within { IfOk result (λ f. nesting (decl_form_view f) ≤ max_nesting) }
+    {
         let name = self.name()?;
         let params = self.params(name.text.as_str())?;
         let body = self.body()?;
         Ok(DeclForm::InheritedEquation {
-            class: target.class,
-            getter: target.name,
-            index: index_of(target.params),
+            class: getter.class,
+            getter: getter.name,
+            index: index_of(getter.params),
             name,
             params,
             body,
@@ -312,7 +367,11 @@ impl<'a> Reader<'a> {
         if let Some(at) = self.takes("=") {
             let expr = self.expression(MAX_NESTING)?.expr;
             self.expects(";")?;
-            return Ok(Body { at, form: BodyForm::Equation, expr });
+            return Ok(Body {
+                at,
+                form: BodyForm::Equation,
+                expr,
+            });
         }
         let at = self.expects("{")?;
         if self.takes_word("return").is_none() {
@@ -323,6 +382,10 @@ impl<'a> Reader<'a> {
         if !self.skips("}") {
             return Err(self.no_block());
         }
-        Ok(Body { at, form: BodyForm::Block, expr })
+        Ok(Body {
+            at,
+            form: BodyForm::Block,
+            expr,
+        })
     }
 }
