@@ -1,5 +1,4 @@
-use Rattle.std.proofs.Common.{List, ℕ, sym, subst, refl}
-use Rattle.at_jrag.specs.Faults.{IsFault}
+use Rattle.std.proofs.Common.{sym, subst, refl}
 use Rattle.at_jrag.specs.declared.JragFault.{JragFault}
 use Rattle.at_jrag.specs.declared.JragFault.TheVariants as jrag
 use Rattle.attrd.specs.AspectFiles.{IsReadingFaultOf, no_text, no_aspects}
@@ -12,20 +11,14 @@ returns-in-Err-clause-refused c = subst (IsReadingFaultOf c.args.bytes.now) (sym
 pub returns-in-Err-Syntax-clause-refused : goal.returns-in-Err-Syntax-clause-refused
 returns-in-Err-Syntax-clause-refused c =
     let e : JragFault = jrag.Syntax c.in-Err-Syntax.at in
-    let fault = subst (λ (x : JragFault). IsFault c.in-Ok.text.now x) c.in-Err-Syntax.field-0-is c.in-Err-Syntax.ensures.fault in
-    let fault' = subst (λ (t : List ℕ). IsFault t e) c.in-Ok.ensures.1 fault in
-    subst (IsReadingFaultOf c.args.bytes.now) (sym c.refused-in-Err-Syntax.ensures) (no_aspects e code.AspectSyntax c.in-Err-Syntax.at c.in-Ok.ensures.0 fault' (refl, refl))
+    subst (IsReadingFaultOf c.args.bytes.now) (sym c.refused-in-Err-Syntax.ensures) (no_aspects e code.AspectSyntax c.in-Err-Syntax.at c.in-Ok.ensures.0 (refl, refl))
 
 pub returns-in-Err-LeftOut-clause-refused : goal.returns-in-Err-LeftOut-clause-refused
 returns-in-Err-LeftOut-clause-refused c =
     let e : JragFault = jrag.LeftOut c.in-Err-LeftOut.at in
-    let fault = subst (λ (x : JragFault). IsFault c.in-Ok.text.now x) c.in-Err-LeftOut.field-0-is c.in-Err-LeftOut.ensures.fault in
-    let fault' = subst (λ (t : List ℕ). IsFault t e) c.in-Ok.ensures.1 fault in
-    subst (IsReadingFaultOf c.args.bytes.now) (sym c.refused-in-Err-LeftOut.ensures) (no_aspects e code.AspectFormLeftOut c.in-Err-LeftOut.at c.in-Ok.ensures.0 fault' (refl, refl))
+    subst (IsReadingFaultOf c.args.bytes.now) (sym c.refused-in-Err-LeftOut.ensures) (no_aspects e code.AspectFormLeftOut c.in-Err-LeftOut.at c.in-Ok.ensures.0 (refl, refl))
 
 pub returns-in-Err-Nesting-clause-refused : goal.returns-in-Err-Nesting-clause-refused
 returns-in-Err-Nesting-clause-refused c =
     let e : JragFault = jrag.Nesting c.in-Err-Nesting.at in
-    let fault = subst (λ (x : JragFault). IsFault c.in-Ok.text.now x) c.in-Err-Nesting.field-0-is c.in-Err-Nesting.ensures.fault in
-    let fault' = subst (λ (t : List ℕ). IsFault t e) c.in-Ok.ensures.1 fault in
-    subst (IsReadingFaultOf c.args.bytes.now) (sym c.refused-in-Err-Nesting.ensures) (no_aspects e code.AspectLimit c.in-Err-Nesting.at c.in-Ok.ensures.0 fault' (refl, refl))
+    subst (IsReadingFaultOf c.args.bytes.now) (sym c.refused-in-Err-Nesting.ensures) (no_aspects e code.AspectLimit c.in-Err-Nesting.at c.in-Ok.ensures.0 (refl, refl))
