@@ -166,7 +166,7 @@ impl<'a> Reader<'a> {
     fn skips(&mut self, text: &str) -> bool
         ensures { MatchBool result
             ((at : ℕ × ℕ) × (left self.old.rest.now ≡ sign text.now at ∷ left self.new.rest.now)
-                × (self.new.declaration ≡ self.old.declaration))
+            × (self.new.declaration ≡ self.old.declaration))
             ((self.new ≡ self.old) × (next_is (is_sign text.now) (left self.old.rest.now) ≡ false)) }
     {
         match self.takes(text) {
@@ -195,7 +195,7 @@ impl<'a> Reader<'a> {
         ensures { MatchOption result
             ((self.new ≡ self.old) × (next_is is_name_token (left self.old.rest.now) ≡ false))
             (λ t. (left self.old.rest.now ≡ word t.now.text.now t.now.at ∷ left self.new.rest.now)
-                × (is_name t.now.text.now ≡ true) × (self.new.declaration ≡ self.old.declaration)) }
+            × (is_name t.now.text.now ≡ true) × (self.new.declaration ≡ self.old.declaration)) }
     {
         match self.rest {
             [token, rest @ ..] if is_name_token(token) => {

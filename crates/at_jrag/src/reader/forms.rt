@@ -183,7 +183,7 @@ pub fn call_of(
     ensures depth { IfOk result (λ m. m.depth ≡ 1 + max receiver.depth arguments.depth) }
     ensures made { IfOk result (λ m. expr_view m.expr
         ≡ syntax.CallOf (place (expr_view receiver.expr)) (expr_view receiver.expr) (string_bytes name.text)
-            (to_exprs (map expr_view arguments.items.items))) }
+        (to_exprs (map expr_view arguments.items.items))) }
 {
     let at = receiver.expr.at;
     let depth = 1 + receiver.depth.max(arguments.depth);

@@ -79,7 +79,7 @@ impl<'a> Reader<'a> {
         ensures found { IfOk result (λ o. MatchOption o
             ((self.new ≡ self.old) × (next_is is_literal (left self.old.rest.now) ≡ false))
             (λ m. Reads 8 m (left self.old.rest.now) (left self.new.rest.now) × (m.depth ≡ 1)
-                × (next_is is_literal (left self.old.rest.now) ≡ true))) }
+            × (next_is is_literal (left self.old.rest.now) ≡ true))) }
     {
         let Some(token) = self.next() else {
             return Ok(None);
