@@ -165,7 +165,8 @@ impl<'a> Reader<'a> {
     /// Steps over the sign, if it is next.
     fn skips(&mut self, text: &str) -> bool
         ensures { MatchBool result
-            ((at : ℕ × ℕ) × (left self.old.rest.now ≡ sign text.now at ∷ left self.new.rest.now) × (self.new.declaration ≡ self.old.declaration))
+            ((at : ℕ × ℕ) × (left self.old.rest.now ≡ sign text.now at ∷ left self.new.rest.now)
+            × (self.new.declaration ≡ self.old.declaration))
             ((self.new ≡ self.old) × (next_is (is_sign text.now) (left self.old.rest.now) ≡ false)) }
     {
         match self.takes(text) {
@@ -193,7 +194,8 @@ impl<'a> Reader<'a> {
     fn takes_name(&mut self) -> Option<&'a Placed<'a>>
         ensures { MatchOption result
             ((self.new ≡ self.old) × (next_is is_name_token (left self.old.rest.now) ≡ false))
-            (λ t. (left self.old.rest.now ≡ word t.now.text.now t.now.at ∷ left self.new.rest.now) × (is_name t.now.text.now ≡ true) × (self.new.declaration ≡ self.old.declaration)) }
+            (λ t. (left self.old.rest.now ≡ word t.now.text.now t.now.at ∷ left self.new.rest.now)
+            × (is_name t.now.text.now ≡ true) × (self.new.declaration ≡ self.old.declaration)) }
     {
         match self.rest {
             [token, rest @ ..] if is_name_token(token) => {

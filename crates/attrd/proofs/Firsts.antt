@@ -2,11 +2,11 @@
 use Rattle.std.proofs.Common.{◌≡◌, ℕ, ◌+◌, ◌<◌, ◌≤◌, List, [], ◌∷◌, length, drop, take, get_or, map, refl, ap, sym, ◌∙◌, add-one, arith, Option, Some, None}
 use Rattle.std.proofs.Math.Seq.{drop-cons}
 use Rattle.std.proofs.lemmas.List.{drop_all, take-map}
-use Rattle.std.specs.Prelude.{Bool, true, false, cond, position, is_some, ◌||◌}
+use Rattle.std.specs.Prelude.{Bool, true, false, cond, position, is_some, MatchOption, ◌||◌}
 use Rattle.std.specs.List.{list_any, position_from}
 use Rattle.std.proofs.lemmas.Iterator.Adapters.{position_from-zero}
 use Rattle.std.specs.List.{slice_get}
-use Rattle.std.specs.Option.{option_map}
+use Rattle.std.specs.Option.{option_map, option_or}
 use Rattle.std.proofs.lemmas.Option.{slice_get-map, slice_get_read, slice_get_past}
 use Rattle.at_model.specs.Declarations.{first_given}
 use Rattle.attrd.specs.declared.code.Code.{Code}
@@ -88,3 +88,27 @@ given_at f v xs n x less is = ap (option_map f) (slice_get-map v xs n ∙ ap (op
 
 pub none_past : {X A B : Type 0} (f : A → B) (v : X → A) (xs : List X) (n : ℕ) → length xs ≤ n → option_map f (slice_get (map v xs) n) ≡ None
 none_past f v xs n past = ap (option_map f) (slice_get-map v xs n ∙ ap (option_map v) (slice_get_past xs n past))
+
+position_from-same : {A : Type 0} (p q : A → Bool) (i : ℕ) (xs : List A) → ((x : A) → p x ≡ q x) → position_from p i xs ≡ position_from q i xs
+position_from-same p q i [] same = refl
+position_from-same p q i (x ∷ xs) same = ap (λ b. cond b (Some i) (position_from p (i + 1) xs)) (same x) ∙ ap (cond (q x) (Some i)) (position_from-same p q (i + 1) xs same)
+
+-- tests that agree
+pub position-same : {A : Type 0} (p q : A → Bool) (xs : List A) → ((x : A) → p x ≡ q x) → position p xs ≡ position q xs
+position-same p q xs same = position_from-zero p xs ∙ position_from-same p q 0 xs same ∙ sym (position_from-zero q xs)
+
+position_from-never : {A : Type 0} (p : A → Bool) (i : ℕ) (xs : List A) → ((x : A) → p x ≡ false) → position_from p i xs ≡ None
+position_from-never p i [] never = refl
+position_from-never p i (x ∷ xs) never = ap (λ b. cond b (Some i) (position_from p (i + 1) xs)) (never x) ∙ position_from-never p (i + 1) xs never
+
+-- a test that always fails
+pub position-never : {A : Type 0} (p : A → Bool) (xs : List A) → ((x : A) → p x ≡ false) → position p xs ≡ None
+position-never p xs never = position_from-zero p xs ∙ position_from-never p 0 xs never
+
+pub given_nowhere : {X B : Type 0} (g : ℕ → Option B) (k : ℕ) (xs : List X) → ((c : ℕ) → g c ≡ None) → first_given (λ c x. g c) k xs ≡ None
+given_nowhere g k [] never = refl
+given_nowhere g k (x ∷ xs) never = ap (λ o. option_or o (first_given (λ c x. g c) (k + 1) xs)) (never k) ∙ given_nowhere g (k + 1) xs never
+
+pub at_none : {A : Type 0} (o : Option A) (P : Type 0) (Q : A → Type 0) → MatchOption o P Q → is_some o ≡ false → P
+at_none None P Q h is = h
+at_none (Some x) P Q h is = absurd cc

@@ -1,6 +1,5 @@
 pub mod Sound
 pub mod Firsts
-pub mod Joined
 pub mod Locating
 pub mod Calls
 pub mod Conforming

@@ -68,7 +68,7 @@ pub data RefusesGrammar (bytes : List ℕ) : Code → Place → Type 0 where
   no_grammar : (e : AstFault) (c : Code) (at : Place) → IsText bytes → IsFault bytes e → IsReadingFault e c at → RefusesGrammar bytes c at
   left_out_at : (ds : Declarations) (at : Place) → IsText bytes → Declares bytes ds → left_out ds ≡ Some at → RefusesGrammar bytes code.GrammarFormLeftOut at
   breaks : (ds : Declarations) (c : ClassCode) (at : Place) → IsText bytes → Declares bytes ds → left_out ds ≡ None
-    → first_fault ds ≡ Some (record { code = code_view c; at = at }) → RefusesGrammar bytes (class_code c) at
+      → first_fault ds ≡ Some (record { code = code_view c; at = at }) → RefusesGrammar bytes (class_code c) at
 
 -- the fault is one by which the file is refused; of want of memory nothing is said
 abbrev pub IsGrammarFault : List ℕ → FileFault → Type 0

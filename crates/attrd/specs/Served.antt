@@ -46,7 +46,6 @@ pub record TokenEdit : Type 0 where
   pub part : ℕ
   pub value : Token
 
-
 -- after the edit, where there is one
 abbrev pub done : Served → Option TokenEdit → Served
 done s None = s

@@ -308,13 +308,7 @@ impl Engine {
     {
         let Edit { path, part, value } = edit;
         let rules = &self.rules;
-        set_token(
-            &rules.classes,
-            &mut self.tree,
-            &path.steps,
-            part,
-            value,
-        );
+        set_token(&rules.classes, &mut self.tree, &path.steps, part, value);
         self.version += 1;
     }
 }

@@ -1,6 +1,6 @@
 //! Accessors: the component that the accessor of a name gets.
 
-ghost use Rattle.std.specs.Prelude.{◌≡◌, ◌<◌, ◌++◌, length, codes, position, string_bytes, is_some};
+ghost use Rattle.std.specs.Prelude.{◌≡◌, ◌<◌, ◌++◌, ℕ, List, false, length, codes, position, string_bytes, MatchOption};
 ghost use Rattle.std.specs.Str.{bytes_eq};
 ghost use Rattle.attrd.specs.Judging.{accessed};
 ghost use Rattle.attrd.specs.Ruling.{is_common, is_accessed, is_accessor};
@@ -12,31 +12,32 @@ pub fn accessed(classes: &ClassTable, class: ClassId, name: &str) -> Option<usiz
     requires { class < length classes.now }
     ensures { result ≡ accessed classes.now name.now class }
 {
-    accessed_among(classes.parts(class), name)
-}
-
-fn accessed_among(parts: &[Part], name: &str) -> Option<usize>
-    ensures { result ≡ position (λ p. bytes_eq name.now (codes "get" ++ string_bytes p.name)) parts.now }
-{
-    parts
-        .iter()
-        .position(|part| is_accessor_of(name, part.name.as_str()))
-}
-
-fn is_accessor_of(name: &str, component: &str) -> bool
-    ensures { result ≡ bytes_eq name.now (codes "get" ++ component.now) }
-{
-    is_joined(name.as_bytes(), b"get", component.as_bytes())
-}
-
-fn is_joined(text: &[u8], front: &[u8], back: &[u8]) -> bool
-    ensures { result ≡ bytes_eq text.now (front.now ++ back.now) }
-{
-    if text.len() < front.len() {
-        return false;
+    match component_in(name) {
+        Some(component) => position_named(classes.parts(class), component),
+        None => None,
     }
-    let (head, rest) = text.split_at(front.len());
-    head == front && rest == back
+}
+
+fn position_named(parts: &[Part], name: &[u8]) -> Option<usize>
+    ensures { result ≡ position (λ p. bytes_eq name.now (string_bytes p.name)) parts.now }
+{
+    parts.iter().position(|part| name == part.name.as_bytes())
+}
+
+/// What stands behind `get`, if the name begins so.
+fn component_in(name: &str) -> Option<&[u8]>
+    ensures { MatchOption result ((x : List ℕ) → bytes_eq name.now (codes "get" ++ x) ≡ false) (λ rest. (x : List ℕ) → bytes_eq name.now (codes "get" ++ x) ≡ bytes_eq rest.now x) }
+{
+    let name = name.as_bytes();
+    if name.len() < 3 {
+        return None;
+    }
+    let (head, rest) = name.split_at(3);
+    if head == b"get".as_slice() {
+        Some(rest)
+    } else {
+        None
+    }
 }
 
 /// Whether a class has an accessor of that name, or each node or text a method.
@@ -56,6 +57,9 @@ fn is_common(name: &str) -> bool
 fn is_accessed(classes: &ClassTable, name: &str) -> bool
     ensures { result ≡ is_accessed classes.now name.now }
 {
+    if component_in(name).is_none() {
+        return false;
+    }
     for class in 0..classes.len() {
         if accessed(classes, ClassId::new(class), name).is_some() {
             return true;

@@ -26,11 +26,7 @@ use std::alloc::Global;
 /// # Errors
 ///
 /// The first file that can't be read, or else the first fault of the rules. `Memory` for want of memory.
-pub fn rules_of(
-    alloc: Global,
-    classes: ClassTable,
-    aspects: &[Source],
-) -> Result<Rules, StartFault>
+pub fn rules_of(alloc: Global, classes: ClassTable, aspects: &[Source]) -> Result<Rules, StartFault>
     requires flat { AreFlat classes }
     requires plain { ArePlain classes }
     ensures classes { IfOk result (λ r. r.classes ≡ classes) }
@@ -80,11 +76,7 @@ fn refused(code: Code, at: (u32, u32)) -> FileFault
     FileFault::Refused { code, at: Some(at) }
 }
 
-fn build(
-    alloc: Global,
-    classes: ClassTable,
-    aspects: &[Vec<Aspect>],
-) -> Result<Rules, StartFault>
+fn build(alloc: Global, classes: ClassTable, aspects: &[Vec<Aspect>]) -> Result<Rules, StartFault>
     requires flat { AreFlat classes }
     requires plain { ArePlain classes }
     ensures faultless { IfOk result (λ r. first_fault classes (declarations_in aspects.now) ≡ None) }

@@ -27,10 +27,7 @@ pub enum StartFault {
 #[derive(Debug, Drop)]
 pub enum FileFault {
     /// The code, and but for a tree file the line and the column, both from 1.
-    Refused {
-        code: Code,
-        at: Option<(u32, u32)>,
-    },
+    Refused { code: Code, at: Option<(u32, u32)> },
     /// Want of memory.
     Memory,
 }
