@@ -7,3 +7,4 @@ pub mod ExpressionRanks
 pub mod ExpressionRuns
 pub mod ExpressionsTaken
 pub mod Declarations
+pub mod Numbers

@@ -6,7 +6,7 @@ use Rattle.at_jrag.proofs.reader.Reader.literal.Goals as goal
 pub returns-in_ok-number-in-Number : goal.returns-in_ok-number-in-Number
 returns-in_ok-number-in-Number c =
     let n = c.in-Some.ensures in
-    let d = c.in_ok-number-in-Number.ensures in
+    let d = c.in_ok-number-in-Number.ensures.found in
     let r = literal_read _ (placed c.in-Some.token.now) _ _ _ _ n.1 (c.step.ensures.stepped _ _ n.1) c.in-Number.is d.0 refl in
     record { found = (r.0, d.1, r.1) }
 
