@@ -1,5 +1,5 @@
 -- How reading a declaration follows from reading its parts.
-use Rattle.std.proofs.Common.{◌≡◌, ℕ, ◌≤◌, ◌<◌, suc, List, [], ◌∷◌, ◌++◌, Bool, true, false, Option, Some, None, length, map, refl, sym, ap, subst, ◌∙◌, append_assoc, arith}
+use Rattle.std.proofs.Common.{◌≡◌, ◌≤◌, ◌<◌, List, [], ◌∷◌, ◌++◌, true, Option, Some, None, length, refl, sym, ap, subst, ◌∙◌, append_assoc, arith}
 use Rattle.std.specs.Prelude.{Result, Ok, Err, IfOk}
 use lib.Chars.{codes}
 use Rattle.at_jrag.specs.View.{decl_form_view}
@@ -7,8 +7,8 @@ use Rattle.at_jrag.specs.declared.syntax.DeclForm.{DeclForm as DeclFormValue}
 use Rattle.at_jrag.specs.declared.reader.declarations.Target.{Target}
 use Rattle.at_jrag.specs.Syntax as syntax
 use Rattle.at_jrag.specs.Syntax.{Place, Word, Param, Params, KindWord, Body, Ending, Decl, DeclForm, Aspect}
-use Rattle.at_jrag.specs.Grammar.{word, kind_text, Row, Sign, Name, Lazy, KindOf, ParamOf, MoreParams, Listed, Opens, Signature, Owner, Index, Getter, Declared, BodyOf, EndingOf, Behind, DeclOf, Decls, AspectOf, File, Spells}
-use Rattle.at_jrag.specs.Heads.{is_getter, is_int, index, ParamsOf, TargetOf}
+use Rattle.at_jrag.specs.Grammar.{word, kind_text, Row, Sign, Lazy, ParamOf, MoreParams, Listed, Signature, Owner, Index, Getter, Declared, BodyOf, EndingOf, Behind, DeclOf, Decls, AspectOf, File}
+use Rattle.at_jrag.specs.Heads.{is_getter, is_int, index, TargetOf}
 use Rattle.at_jrag.proofs.Expressions.{takes_one, spells_shorter}
 
 -- ---- parameters

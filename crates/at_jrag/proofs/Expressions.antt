@@ -1,18 +1,16 @@
 -- How reading an expression follows from reading its parts.
-use Rattle.std.proofs.Common.{◌≡◌, ℕ, ◌+◌, ◌≤◌, ◌<◌, suc, ℤ, List, [], ◌∷◌, ◌++◌, Bool, true, false, length, max, map, refl, sym, ap, subst, ◌∙◌, append_assoc, arith, inl, inr}
-use Rattle.std.proofs.lemmas.List.{map_push}
+use Rattle.std.proofs.Common.{◌≡◌, ℕ, ◌+◌, ◌≤◌, ◌<◌, suc, ℤ, List, [], ◌∷◌, ◌++◌, false, length, max, map, refl, sym, ap, subst, ◌∙◌, append_assoc, arith, inl, inr}
 use lib.Chars.{codes}
 use Rattle.at_text.specs.Symbols.{PlacedToken}
 use Rattle.at_jrag.specs.Syntax as syntax
 use Rattle.at_jrag.specs.Syntax.{Place, Expr, Exprs, to_exprs, place}
 use Rattle.at_jrag.specs.Syntax.{Word, FoldForm}
-use Rattle.at_jrag.specs.View.{expr_view, word_view}
+use Rattle.at_jrag.specs.View.{expr_view}
 use Rattle.at_jrag.specs.Read.{Reads, HasArguments, prefix_view, StandsBefore}
 use Rattle.at_jrag.specs.declared.reader.forms.Measured.{Measured}
 use Rattle.at_jrag.specs.declared.reader.forms.Arguments.{Arguments as ArgumentsValue}
 use Rattle.at_jrag.specs.declared.reader.operators.Prefix.{Prefix}
 use Rattle.at_jrag.specs.declared.reader.operators.Prefix.TheVariants as prefix
-use Rattle.at_jrag.specs.Grammar as grammar
 use Rattle.at_jrag.specs.Grammar.{word, fold_text, is_sign, next_is, Name, Row, Spells, Arguments, MoreArguments, NumberOf, Sign, deepest, depth, level}
 
 -- ---- each form takes a token at least

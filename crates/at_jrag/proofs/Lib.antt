@@ -8,3 +8,4 @@ pub mod ExpressionRuns
 pub mod ExpressionsTaken
 pub mod Declarations
 pub mod Numbers
+pub mod DeclarationRuns

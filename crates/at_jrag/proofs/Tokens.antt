@@ -1,8 +1,7 @@
 -- Tokens that are left.
-use Rattle.std.proofs.Common.{◌≡◌, ℕ, ◌≤◌, List, [], ◌∷◌, length, Bool, true, false, refl, sym, ap, subst, ◌∙◌, arith, slice_index_or}
+use Rattle.std.proofs.Common.{◌≡◌, ◌≤◌, List, [], ◌∷◌, length, true, refl, sym, ap, subst, ◌∙◌, arith, slice_index_or}
 use Rattle.at_text.specs.declared.placed.Placed.{Placed}
 use Rattle.at_text.specs.declared.token.TokenKind.{TokenKind}
-use Rattle.at_text.specs.declared.token.TokenKind.TheVariants as kind
 use Rattle.at_text.specs.Symbols.{PlacedToken, placed}
 use Rattle.at_jrag.specs.Left.{left}
 use Rattle.at_jrag.specs.Grammar.{Row, next_is}

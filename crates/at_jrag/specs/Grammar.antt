@@ -4,7 +4,7 @@ use Rattle.std.specs.Prelude.{◌≡◌, ℕ, ◌+◌, ◌≤◌, ℤ, pos, neg_
 use Rattle.std.specs.List.{AllByRecursion}
 use Rattle.std.specs.Str.{bytes_eq}
 use lib.Chars.{codes}
-use Rattle.at_model.specs.Names.{is_name, is_reserved}
+use Rattle.at_model.specs.Names.{is_name}
 use Rattle.at_model.specs.Texts.{quoted}
 use Rattle.at_text.specs.declared.token.TokenKind.TheVariants as kind
 use Rattle.at_text.specs.Symbols.{PlacedToken, is_word_kind, is_sign_kind}

@@ -1,5 +1,5 @@
 -- What the reader's methods say of the fronts of declarations.
-use Rattle.std.specs.Prelude.{◌≡◌, ◌∷◌, List, [], ℕ, Bool, true, false, Option, Some, None}
+use Rattle.std.specs.Prelude.{◌∷◌, List, [], ℕ, Bool, true, false, Option, Some, None}
 use Rattle.at_jrag.specs.Syntax as syntax
 use Rattle.at_jrag.specs.Syntax.{Word, Param, Params, Kind}
 use Rattle.at_jrag.specs.Grammar.{Row, Owner, Opens, Listed, Signature, Declared}

@@ -3,7 +3,7 @@ use Rattle.std.specs.Prelude.{◌≡◌, ℕ, ◌≤◌, ℤ, pos, neg_ℤ, List
 use Rattle.std.specs.Str.{bytes_eq}
 use lib.Chars.{codes}
 use Rattle.at_text.specs.declared.token.TokenKind.TheVariants as kind
-use Rattle.at_text.specs.Symbols.{PlacedToken, is_word_kind}
+use Rattle.at_text.specs.Symbols.{PlacedToken}
 use Rattle.at_jrag.specs.Syntax as syntax
 use Rattle.at_jrag.specs.Syntax.{Place, Expr, place, to_exprs}
 use Rattle.at_jrag.specs.Grammar as grammar

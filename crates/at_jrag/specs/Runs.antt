@@ -1,6 +1,9 @@
 -- What the reader's methods say of the machine's runs.
-use Rattle.std.specs.Prelude.{◌≡◌, ℕ, ◌≤◌, List, [], ◌∷◌, ◌++◌, Bool, true, Option, Some, None}
-use Rattle.at_jrag.specs.Grammar.{Row}
+use Rattle.std.specs.Prelude.{◌≡◌, ℕ, ◌≤◌, List, [], ◌∷◌, ◌++◌, Bool, true, false, ◌&&◌, Option, Some, None}
+use Rattle.std.specs.Str.{bytes_eq}
+use lib.Chars.{codes}
+use Rattle.at_text.specs.Symbols.{PlacedToken}
+use Rattle.at_jrag.specs.Grammar.{Row, Sign, is_sign, is_word, next_is}
 use Rattle.at_jrag.specs.Machine.{Reason, Refused, LeftOut, TooDeep, Stuck, run}
 use Rattle.at_jrag.specs.Wants.{Want}
 use Rattle.at_jrag.specs.Table.{table}
@@ -30,3 +33,27 @@ Stays us d (Some reason) old rest = (ws : List Want) → run true table (us ++ w
 -- whatever the register
 abbrev pub Halts : Want → Option Reason → Row → Row → Type 0
 Halts w r old rest = (d : ℕ) → Stays (w ∷ []) d r old rest
+
+-- whatever the register, in a row of wants
+abbrev pub Stay : List Want → Option Reason → Row → Row → Type 0
+Stay us r old rest = (d : ℕ) → Stays us d r old rest
+
+-- What is wanted is gone over, with a limit or without one.
+abbrev pub Pass : Bool → List Want → Row → Row → Type 0
+Pass l us old rest = (ws : List Want) (d : ℕ) → (e : ℕ) × (run l table (us ++ ws) d old ≡ run l table ws e rest)
+
+-- ---- single tokens
+
+-- nothing was taken, since the next token doesn't pass the test
+abbrev pub Missing : (PlacedToken → Bool) → ReadError → Row → Row → Type 0
+Missing test errors.Memory old rest = Unit {0}
+Missing test errors.Syntax old rest = (rest ≡ old) × (next_is test old ≡ false)
+Missing test errors.LeftOut old rest = ⊥
+Missing test errors.Nesting old rest = ⊥
+
+-- no "(" is next, or behind the one of `getChild` follows an `int`
+abbrev pub NotOpened : List ℕ → ReadError → Row → Row → Type 0
+NotOpened name errors.Memory old rest = Unit {0}
+NotOpened name errors.Syntax old rest = (rest ≡ old) × (next_is (is_sign (codes "(")) old ≡ false)
+NotOpened name errors.LeftOut old rest = Sign (codes "(") old rest × (bytes_eq name (codes "getChild") && next_is (is_word (codes "int")) rest ≡ true)
+NotOpened name errors.Nesting old rest = ⊥

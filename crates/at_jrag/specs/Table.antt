@@ -6,9 +6,9 @@ use lib.Chars.{codes}
 use Rattle.at_text.specs.declared.token.TokenKind.TheVariants as kind
 use Rattle.at_text.specs.Faults.{makes_escape}
 use Rattle.at_text.specs.Symbols.{PlacedToken, is_word_kind, is_sign_kind}
-use Rattle.at_jrag.specs.Grammar.{is_sign, is_word, is_name_token, is_number, follows_cast}
+use Rattle.at_jrag.specs.Grammar.{is_sign, is_word, is_name_token, is_number, follows_cast, max_nesting}
 use Rattle.at_jrag.specs.Machine.{Answer, Takes, Skips, Refuses, LeavesOut, and_then, Table}
-use Rattle.at_jrag.specs.Wants.{Want, Expression, Binary, Links, Choice, Otherwise, Unary, Minus, Opened, Enclosed, Parenthesized, Calls, Called, Arguments, FirstArgument, MoreArguments, Primary, Named, FoldBody, Deeper, Join, Deepest, Counts, Name, Mark}
+use Rattle.at_jrag.specs.Wants.{Want, Expression, Binary, Links, Choice, Otherwise, Unary, Minus, Opened, Enclosed, Parenthesized, Calls, Called, Arguments, FirstArgument, MoreArguments, Primary, Named, FoldBody, Deeper, Join, Deepest, Counts, Name, Mark, File, Decls, Lazy, NotNta, Kind, Signed, Opening, Params, OneParam, MoreParams, NotCircular, Ending, Body, Defined, Return, Close}
 
 -- ---- the next token
 
@@ -181,6 +181,67 @@ opened_answer b (Some t) = on (is_name_token t) (Takes (nat_lt 0 (b - 1)) (Enclo
 abbrev pub parenthesized_answer : ℕ → ℕ → Option PlacedToken → Answer Want
 parenthesized_answer b d s = on (next follows_cast s) (and_then (unary_answer (b - 1) s) (Deeper ∷ [])) (calls_answer b d s)
 
+-- ---- the rows of declarations
+
+-- another word than a keyword begins what is left out
+abbrev pub no_keyword : PlacedToken → Answer Want
+no_keyword t = cond (is_word_kind t.kind) LeavesOut Refuses
+
+abbrev pub declared : List Want → List Want
+declared ws = Lazy ∷ Kind ∷ Name ∷ Mark (codes ".") ∷ Signed ∷ NotCircular ∷ ws
+
+abbrev pub file_answer : Option PlacedToken → Answer Want
+file_answer None = Skips 0
+file_answer (Some t) = on (is_word (codes "aspect") t) (Takes true (Name ∷ Mark (codes "{") ∷ Decls ∷ File ∷ []) 0) (no_keyword t)
+
+abbrev pub decls_answer : Option PlacedToken → Answer Want
+decls_answer None = Refuses
+decls_answer (Some t) =
+    on (is_sign (codes "}") t) (Takes true [] 0)
+    (on (is_word (codes "syn") t) (Takes true (declared (Ending ∷ Decls ∷ [])) 0)
+    (on (is_word (codes "inh") t) (Takes true (declared (Mark (codes ";") ∷ Decls ∷ [])) 0)
+    (on (is_word (codes "eq") t) (Takes true (Name ∷ Mark (codes ".") ∷ Signed ∷ Defined ∷ Decls ∷ []) 0) (no_keyword t))))
+
+abbrev pub not_nta_answer : Option PlacedToken → Answer Want
+not_nta_answer s = on (next (is_word (codes "nta")) s) LeavesOut (Skips 0)
+
+abbrev pub lazy_answer : Option PlacedToken → Answer Want
+lazy_answer s = on (next (is_word (codes "lazy")) s) (Takes true (NotNta ∷ []) 0) (not_nta_answer s)
+
+abbrev pub is_kind : PlacedToken → Bool
+is_kind t = is_word (codes "int") t || is_word (codes "boolean") t || is_word (codes "String") t || is_name_token t
+
+abbrev pub signed_answer : Option PlacedToken → Answer Want
+signed_answer None = Refuses
+signed_answer (Some t) = on (is_name_token t) (Takes true (Opening (is_get_child t) ∷ []) 0) Refuses
+
+-- behind a parameter, where it ends with this register
+abbrev pub more_params_answer : ℕ → Option PlacedToken → Answer Want
+more_params_answer d s = on (next (is_sign (codes ")")) s) (Takes true [] d) (expects (is_sign (codes ",")) (Takes true (Kind ∷ Name ∷ MoreParams ∷ []) 0) s)
+
+abbrev pub params_answer : Bool → Option PlacedToken → Answer Want
+params_answer g None = Refuses
+params_answer g (Some t) =
+    on (is_sign (codes ")") t) (Takes true [] 0)
+    (on (g && is_word (codes "int") t) LeavesOut
+    (on (is_word (codes "int") t) (Takes true (Name ∷ OneParam ∷ []) 0)
+    (on (is_kind t) (Takes true (Name ∷ MoreParams ∷ []) 0) Refuses)))
+
+abbrev pub body_answer : Option PlacedToken → Answer Want
+body_answer s = on (next (is_sign (codes "=")) s) (Takes true (Expression max_nesting ∷ Mark (codes ";") ∷ []) 0)
+    (expects (is_sign (codes "{")) (Takes true (Return ∷ Expression max_nesting ∷ Mark (codes ";") ∷ Close ∷ []) 0) s)
+
+abbrev pub ending_answer : Option PlacedToken → Answer Want
+ending_answer s = on (next (is_sign (codes ";")) s) (Takes true [] 0) (body_answer s)
+
+abbrev pub defined_answer : ℕ → Option PlacedToken → Answer Want
+defined_answer d s = on ((d == 0) && next (is_sign (codes ".")) s) (Takes true (Signed ∷ Body ∷ []) 0) (body_answer s)
+
+-- any other token is left out
+abbrev pub alone : (PlacedToken → Bool) → Option PlacedToken → Answer Want
+alone test None = Refuses
+alone test (Some t) = on (test t) (Takes true [] 0) LeavesOut
+
 -- ---- the table
 
 -- each form by its first token
@@ -209,3 +270,19 @@ table (Deepest m) d s = Skips (max m d)
 table (Counts n) d s = Skips n
 table Name d s = expects is_name_token (Takes true [] d) s
 table (Mark text) d s = expects (is_sign text) (Takes true [] d) s
+table File d s = file_answer s
+table Decls d s = decls_answer s
+table Lazy d s = lazy_answer s
+table NotNta d s = not_nta_answer s
+table Kind d s = expects is_kind (Takes true [] 0) s
+table Signed d s = signed_answer s
+table (Opening g) d s = expects (is_sign (codes "(")) (Takes true (Params g ∷ []) 0) s
+table (Params g) d s = params_answer g s
+table OneParam d s = more_params_answer 0 s
+table MoreParams d s = more_params_answer 1 s
+table NotCircular d s = on (next (is_word (codes "circular")) s) LeavesOut (Skips 0)
+table Ending d s = ending_answer s
+table Body d s = body_answer s
+table Defined d s = defined_answer d s
+table Return d s = alone (is_word (codes "return")) s
+table Close d s = alone (is_sign (codes "}")) s

@@ -37,3 +37,27 @@ pub data Want : Type 0 where
   Counts : (depth : ℕ) → Want
   Name : Want
   Mark : (text : List ℕ) → Want
+  -- ---- declarations
+  -- { aspect }, up to the end
+  File : Want
+  -- { decl } "}"
+  Decls : Want
+  -- ["lazy"], and behind it
+  Lazy : Want
+  NotNta : Want
+  Kind : Want
+  -- name "(" [params] ")", behind the name, and behind the "("; the register is 0 behind what may be a getter's
+  Signed : Want
+  Opening : (is_get_child : Bool) → Want
+  Params : (is_get_child : Bool) → Want
+  -- behind an `int` alone, and behind other parameters
+  OneParam : Want
+  MoreParams : Want
+  -- behind the parameters of a declared attribute
+  NotCircular : Want
+  Ending : Want
+  Body : Want
+  -- behind the parameters of an equation
+  Defined : Want
+  Return : Want
+  Close : Want

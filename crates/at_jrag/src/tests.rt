@@ -119,7 +119,10 @@ fn forms_that_are_left_out(rt: HostRuntime) {
         ("aspect A { syn nta A A.a() = 1; }", left_out(1, 16)),
         ("aspect A { inh nta A A.a();", left_out(1, 16)),
         ("aspect A { syn lazy nta A A.a() = 1; }", left_out(1, 21)),
-        ("aspect A { syn int Program.a() circular [0] = 1; }", left_out(1, 32)),
+        (
+            "aspect A { syn int Program.a() circular [0] = 1; }",
+            left_out(1, 32),
+        ),
         ("aspect A { inh int Program.a() circular", left_out(1, 32)),
         ("aspect A { eq Program.a() circular", wrong(1, 27)),
         ("aspect A { eq A.a() { int x; }", left_out(1, 23)),
@@ -127,8 +130,14 @@ fn forms_that_are_left_out(rt: HostRuntime) {
         ("aspect A { eq A.a() {", wrong(1, 22)),
         ("aspect A { eq A.a() { return 1; return", left_out(1, 33)),
         ("aspect A { eq A.a() { return 1;", wrong(1, 32)),
-        ("aspect A { eq A.getChild(int i).a() = 1; }", left_out(1, 26)),
-        ("aspect A { syn int A.getChild(int i) = 1; }", left_out(1, 31)),
+        (
+            "aspect A { eq A.getChild(int i).a() = 1; }",
+            left_out(1, 26),
+        ),
+        (
+            "aspect A { syn int A.getChild(int i) = 1; }",
+            left_out(1, 31),
+        ),
         ("aspect A { eq A.a() = getChild(int", left_out(1, 32)),
         ("aspect A { eq A.a() = b.getChild(int", left_out(1, 34)),
         ("aspect A { eq A.getChild().a() = getChild(1); }", None),
@@ -151,7 +160,10 @@ fn what_is_wrong(rt: HostRuntime) {
         ("aspect A { syn int A.a(int) = 1; }", wrong(1, 27)),
         ("aspect A { inh int A.a() = 1; }", wrong(1, 26)),
         ("aspect A { eq A.getB(A a).a() = 1; }", wrong(1, 26)),
-        ("aspect A { eq A.getB(int i, int j).a() = 1; }", wrong(1, 35)),
+        (
+            "aspect A { eq A.getB(int i, int j).a() = 1; }",
+            wrong(1, 35),
+        ),
         ("aspect A { eq A.a(); }", wrong(1, 20)),
         ("aspect A { eq A.a() = 007; }", wrong(1, 23)),
         ("aspect A { eq A.a() = 2147483648; }", wrong(1, 23)),
@@ -175,7 +187,13 @@ fn what_is_wrong(rt: HostRuntime) {
 }
 
 /// An equation whose body is this between that many of the one text and of the other.
-fn nested(alloc: Global, count: usize, before: &str, within: &str, after: &str) -> Result<String, AllocError> {
+fn nested(
+    alloc: Global,
+    count: usize,
+    before: &str,
+    within: &str,
+    after: &str,
+) -> Result<String, AllocError> {
     let mut text = String::from_str(alloc, "aspect A { eq A.a() = ")?;
     for _ in 0..count {
         text.push_str(before)?;
@@ -220,7 +238,11 @@ fn what_nests_too_deep(rt: HostRuntime) -> Result<(), Fail> {
     ];
     for (count, before, within, after, wanted) in texts {
         let text = nested(rt.alloc(), count, before, within, after)?;
-        assert_eq!(rt; refused(&rt, text.as_str()), wanted, "{count} {before} {within}");
+        assert_eq!(rt;
+            refused(&rt, text.as_str()),
+            wanted,
+            "{count} {before} {within}"
+        );
     }
     Ok(())
 }

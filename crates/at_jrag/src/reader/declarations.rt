@@ -9,7 +9,9 @@ ghost use Rattle.at_jrag.specs.Left.{left};
 ghost use Rattle.at_jrag.specs.Heads.{HeadOf, TargetOf, is_getter, index, ParamsOf};
 
 use super::{ReadError, Reader};
-use crate::syntax::{Aspect, Body, BodyForm, Decl, DeclForm, Ending, Kind, KindWord, Param, Params, Word};
+use crate::syntax::{
+    Aspect, Body, BodyForm, Decl, DeclForm, Ending, Kind, KindWord, Param, Params, Word,
+};
 use at_text::token::TokenKind;
 
 /// How deep expressions may nest.
@@ -132,16 +134,25 @@ impl<'a> Reader<'a> {
     {
         if let Some(at) = self.takes_word("syn") {
             self.declaration = at;
-            return Ok(Decl { at, form: self.synthesized()? });
+            return Ok(Decl {
+                at,
+                form: self.synthesized()?,
+            });
         }
         if let Some(at) = self.takes_word("inh") {
             self.declaration = at;
-            return Ok(Decl { at, form: self.inherited()? });
+            return Ok(Decl {
+                at,
+                form: self.inherited()?,
+            });
         }
         match self.takes_word("eq") {
             Some(at) => {
                 self.declaration = at;
-                Ok(Decl { at, form: self.equation()? })
+                Ok(Decl {
+                    at,
+                    form: self.equation()?,
+                })
             }
             None => Err(self.no_keyword()),
         }
@@ -232,16 +243,28 @@ impl<'a> Reader<'a> {
         ensures found { IfOk result (λ k. KindOf (kind_word_view k) (left self.old.rest.now) (left self.new.rest.now)) }
     {
         if let Some(at) = self.takes_word("int") {
-            return Ok(KindWord { kind: Kind::Int, at });
+            return Ok(KindWord {
+                kind: Kind::Int,
+                at,
+            });
         }
         if let Some(at) = self.takes_word("boolean") {
-            return Ok(KindWord { kind: Kind::Bool, at });
+            return Ok(KindWord {
+                kind: Kind::Bool,
+                at,
+            });
         }
         if let Some(at) = self.takes_word("String") {
-            return Ok(KindWord { kind: Kind::Text, at });
+            return Ok(KindWord {
+                kind: Kind::Text,
+                at,
+            });
         }
         let class = self.name()?;
-        Ok(KindWord { kind: Kind::Class(class.text), at: class.at })
+        Ok(KindWord {
+            kind: Kind::Class(class.text),
+            at: class.at,
+        })
     }
 
     /// `kind name`
@@ -344,7 +367,11 @@ impl<'a> Reader<'a> {
         if let Some(at) = self.takes("=") {
             let expr = self.expression(MAX_NESTING)?.expr;
             self.expects(";")?;
-            return Ok(Body { at, form: BodyForm::Equation, expr });
+            return Ok(Body {
+                at,
+                form: BodyForm::Equation,
+                expr,
+            });
         }
         let at = self.expects("{")?;
         if self.takes_word("return").is_none() {
@@ -355,6 +382,10 @@ impl<'a> Reader<'a> {
         if !self.skips("}") {
             return Err(self.no_block());
         }
-        Ok(Body { at, form: BodyForm::Block, expr })
+        Ok(Body {
+            at,
+            form: BodyForm::Block,
+            expr,
+        })
     }
 }

@@ -8,7 +8,10 @@ ghost use Rattle.at_jrag.specs.Grammar.{Row, word, next_is, is_sign, fold_text};
 ghost use Rattle.at_jrag.specs.Left.{left};
 ghost use Rattle.at_jrag.specs.Read.{Reads, LinksTo, HasArguments};
 
-use super::forms::{Arguments, Measured, call, call_of, choice, fold, instance_of, leaf, operation, parenthesized, prefixed};
+use super::forms::{
+    Arguments, Measured, call, call_of, choice, fold, instance_of, leaf, operation, parenthesized,
+    prefixed,
+};
 use super::operators::{Link, UNARY};
 use super::{ReadError, Reader};
 use crate::syntax::{FoldForm, Form};
@@ -51,7 +54,13 @@ impl<'a> Reader<'a> {
 
     /// A left operand with what stands behind it.
     #[cycle(expression)]
-    fn linked(&mut self, level: usize, operand: Measured, link: Link, budget: usize) -> Result<Measured, ReadError>
+    fn linked(
+        &mut self,
+        level: usize,
+        operand: Measured,
+        link: Link,
+        budget: usize,
+    ) -> Result<Measured, ReadError>
         requires limit { budget ≤ 64 }
         requires level { level < 7 }
         requires operand { operand.depth < budget }

@@ -29,7 +29,10 @@ pub fn leaf(at: (u32, u32), form: Form) -> Measured
     ensures depth { result.depth ≡ 1 }
     ensures made { expr_view result.expr ≡ form_view form at }
 {
-    Measured { expr: Expr { at, form }, depth: 1 }
+    Measured {
+        expr: Expr { at, form },
+        depth: 1,
+    }
 }
 
 /// `(E)`
@@ -40,11 +43,22 @@ pub fn parenthesized(alloc: Global, at: (u32, u32), inner: Measured) -> Result<M
 {
     let depth = 1 + inner.depth;
     let inner = Box::new(alloc, inner.expr)?;
-    Ok(Measured { expr: Expr { at, form: Form::Paren(inner) }, depth })
+    Ok(Measured {
+        expr: Expr {
+            at,
+            form: Form::Paren(inner),
+        },
+        depth,
+    })
 }
 
 /// An operand behind what stands before it.
-pub fn prefixed(alloc: Global, at: (u32, u32), prefix: Prefix, inner: Measured) -> Result<Measured, AllocError>
+pub fn prefixed(
+    alloc: Global,
+    at: (u32, u32),
+    prefix: Prefix,
+    inner: Measured,
+) -> Result<Measured, AllocError>
     requires { inner.depth < 64 }
     ensures depth { IfOk result (λ m. m.depth ≡ 1 + inner.depth) }
     ensures made { IfOk result (λ m. expr_view m.expr ≡ prefix_view prefix at (expr_view inner.expr)) }
@@ -56,11 +70,19 @@ pub fn prefixed(alloc: Global, at: (u32, u32), prefix: Prefix, inner: Measured) 
         Prefix::Minus => Form::Negate(inner),
         Prefix::Cast(class) => Form::Cast(class, inner),
     };
-    Ok(Measured { expr: Expr { at, form }, depth })
+    Ok(Measured {
+        expr: Expr { at, form },
+        depth,
+    })
 }
 
 /// `left OPERATOR right`
-pub fn operation(alloc: Global, left: Measured, operator: OperatorWord, right: Measured) -> Result<Measured, AllocError>
+pub fn operation(
+    alloc: Global,
+    left: Measured,
+    operator: OperatorWord,
+    right: Measured,
+) -> Result<Measured, AllocError>
     requires left { left.depth < 64 }
     requires right { right.depth < 64 }
     ensures depth { IfOk result (λ m. m.depth ≡ 1 + max left.depth right.depth) }
@@ -70,11 +92,22 @@ pub fn operation(alloc: Global, left: Measured, operator: OperatorWord, right: M
     let depth = 1 + left.depth.max(right.depth);
     let left = Box::new(alloc, left.expr)?;
     let right = Box::new(alloc, right.expr)?;
-    Ok(Measured { expr: Expr { at, form: Form::Binary(operator, left, right) }, depth })
+    Ok(Measured {
+        expr: Expr {
+            at,
+            form: Form::Binary(operator, left, right),
+        },
+        depth,
+    })
 }
 
 /// `operand instanceof CLASS`
-pub fn instance_of(alloc: Global, operand: Measured, behind: (u32, u32), class: Word) -> Result<Measured, AllocError>
+pub fn instance_of(
+    alloc: Global,
+    operand: Measured,
+    behind: (u32, u32),
+    class: Word,
+) -> Result<Measured, AllocError>
     requires { operand.depth < 64 }
     ensures depth { IfOk result (λ m. m.depth ≡ 1 + operand.depth) }
     ensures made { IfOk result (λ m. expr_view m.expr ≡ syntax.InstanceOf (place (expr_view operand.expr)) (expr_view operand.expr) behind (word_view class)) }
@@ -82,7 +115,13 @@ pub fn instance_of(alloc: Global, operand: Measured, behind: (u32, u32), class: 
     let at = operand.expr.at;
     let depth = 1 + operand.depth;
     let operand = Box::new(alloc, operand.expr)?;
-    Ok(Measured { expr: Expr { at, form: Form::InstanceOf(operand, behind, class) }, depth })
+    Ok(Measured {
+        expr: Expr {
+            at,
+            form: Form::InstanceOf(operand, behind, class),
+        },
+        depth,
+    })
 }
 
 /// `condition ? then : other`
@@ -104,7 +143,13 @@ pub fn choice(
     let condition = Box::new(alloc, condition.expr)?;
     let then = Box::new(alloc, then.expr)?;
     let other = Box::new(alloc, other.expr)?;
-    Ok(Measured { expr: Expr { at, form: Form::Choose(condition, behind, then, other) }, depth })
+    Ok(Measured {
+        expr: Expr {
+            at,
+            form: Form::Choose(condition, behind, then, other),
+        },
+        depth,
+    })
 }
 
 /// `NAME(..)`
@@ -114,11 +159,22 @@ pub fn call(name: Word, arguments: Arguments) -> Measured
     ensures made { expr_view result.expr ≡ syntax.Call name.at (string_bytes name.text) (to_exprs (map expr_view arguments.items.items)) }
 {
     let depth = 1 + arguments.depth;
-    Measured { expr: Expr { at: name.at, form: Form::Call(name.text, arguments.items) }, depth }
+    Measured {
+        expr: Expr {
+            at: name.at,
+            form: Form::Call(name.text, arguments.items),
+        },
+        depth,
+    }
 }
 
 /// `RECEIVER.NAME(..)`
-pub fn call_of(alloc: Global, receiver: Measured, name: Word, arguments: Arguments) -> Result<Measured, AllocError>
+pub fn call_of(
+    alloc: Global,
+    receiver: Measured,
+    name: Word,
+    arguments: Arguments,
+) -> Result<Measured, AllocError>
     requires receiver { receiver.depth < 64 }
     requires arguments { arguments.depth < 64 }
     ensures depth { IfOk result (λ m. m.depth ≡ 1 + max receiver.depth arguments.depth) }
@@ -127,7 +183,13 @@ pub fn call_of(alloc: Global, receiver: Measured, name: Word, arguments: Argumen
     let at = receiver.expr.at;
     let depth = 1 + receiver.depth.max(arguments.depth);
     let receiver = Box::new(alloc, receiver.expr)?;
-    Ok(Measured { expr: Expr { at, form: Form::CallOf(receiver, name.text, arguments.items) }, depth })
+    Ok(Measured {
+        expr: Expr {
+            at,
+            form: Form::CallOf(receiver, name.text, arguments.items),
+        },
+        depth,
+    })
 }
 
 /// A fold over a list.
@@ -147,5 +209,11 @@ pub fn fold(
     let depth = 1 + list.depth.max(body.depth);
     let list = Box::new(alloc, list.expr)?;
     let body = Box::new(alloc, body.expr)?;
-    Ok(Measured { expr: Expr { at, form: Form::Fold(form, name, list, body) }, depth })
+    Ok(Measured {
+        expr: Expr {
+            at,
+            form: Form::Fold(form, name, list, body),
+        },
+        depth,
+    })
 }

@@ -68,14 +68,15 @@ impl<'a> Reader<'a> {
             (λ m. Reads 8 m (left self.old.rest.now) (left self.new.rest.now) × (m.depth ≡ 1))) }
     {
         match self.rest {
-            [minus, digits, rest @ ..] if is_sign(minus, "-") && digits.kind == TokenKind::Number => {
-                self.step();
-                let Some(value) = number(digits.text, true) else {
-                    return Err(ReadError::Syntax);
-                };
-                self.rest = rest;
-                Ok(Some(leaf(minus.at, Form::Number(value))))
-            }
+            [minus, digits, rest @ ..] if is_sign(minus, "-") && digits.kind == TokenKind::Number =>
+                {
+                    self.step();
+                    let Some(value) = number(digits.text, true) else {
+                        return Err(ReadError::Syntax);
+                    };
+                    self.rest = rest;
+                    Ok(Some(leaf(minus.at, Form::Number(value))))
+                }
             _ => Ok(None),
         }
     }

@@ -73,7 +73,10 @@ fn link_of(token: &Placed<'_>, level: usize) -> Option<Link>
         return None;
     }
     match operator_of(token.text) {
-        Some((operator, its)) if its == level => Some(Link::Operator(OperatorWord { operator, at: token.at })),
+        Some((operator, its)) if its == level => Some(Link::Operator(OperatorWord {
+            operator,
+            at: token.at,
+        })),
         _ => None,
     }
 }
@@ -146,7 +149,12 @@ impl<'a> Reader<'a> {
     }
 
     /// Steps over what goes on behind a left operand of this level and depth, if that is next.
-    pub fn link(&mut self, level: usize, depth: usize, budget: usize) -> Result<Option<Link>, ReadError>
+    pub fn link(
+        &mut self,
+        level: usize,
+        depth: usize,
+        budget: usize,
+    ) -> Result<Option<Link>, ReadError>
         requires level { level < 7 }
         ensures found { IfOk result (λ o. MatchOption o (self.new ≡ self.old)
             (λ l. (depth < budget) × LinksTo level l (left self.old.rest.now) (left self.new.rest.now))) }
@@ -201,7 +209,10 @@ impl<'a> Reader<'a> {
     {
         match self.rest {
             [open, name, close, next, ..] => {
-                is_sign(open, "(") && is_name_token(name) && is_sign(close, ")") && follows_cast(next)
+                is_sign(open, "(")
+                    && is_name_token(name)
+                    && is_sign(close, ")")
+                    && follows_cast(next)
             }
             _ => false,
         }

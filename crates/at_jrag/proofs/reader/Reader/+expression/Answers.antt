@@ -1,11 +1,11 @@
-use Rattle.std.proofs.Common.{◌≡◌, ◌∷◌, map, max, refl, sym, ap, subst, ◌∙◌, arith, List}
+use Rattle.std.proofs.Common.{map, max, sym, ap, subst, ◌∙◌, arith, List}
 use Rattle.std.proofs.lemmas.List.{map_push}
 use Rattle.at_jrag.specs.Syntax.{Expr, to_exprs}
 use Rattle.at_jrag.specs.View.{expr_view, fold_view, word_view}
 use Rattle.at_jrag.specs.Grammar.{Row, Arguments, Opens, deepest}
 use Rattle.at_jrag.specs.Left.{left}
-use Rattle.at_jrag.specs.Read.{Reads, HasArguments, StandsBefore}
-use Rattle.at_jrag.proofs.Expressions.{Wanted, wanted_first, wanted_next, wanted_end, next_shorter, deepest_push, call_of_reads, fold_reads, prefix_reads}
+use Rattle.at_jrag.specs.Read.{StandsBefore}
+use Rattle.at_jrag.proofs.Expressions.{Wanted, wanted_next, wanted_end, next_shorter, deepest_push, call_of_reads, fold_reads, prefix_reads}
 use Rattle.at_jrag.proofs.reader.Reader.+expression.Goals as goal
 
 pub arguments-returns-then-skips-2-clause-found : goal.arguments-returns-then-skips-2-clause-found
@@ -15,12 +15,11 @@ arguments-returns-then-skips-2-clause-found t c =
     let q = ap (map expr_view) c.in_ok-push.ensures.items ∙ map_push expr_view c.loop-items.items.items c.in_ok-next.next.expr in
     let s = c.if-skips-2.ensures in
     let g = c.if-skips.ensures in
-    let o = subst (λ (x : Row). Opens c.args.name.now (left c.args.self.now.rest.now) x) (sym (ap (λ r. left r.rest.now) g.0)) c.in_ok-opens.ensures.found in
-    (
+    let o = subst (λ (x : Row). Opens c.args.name.now (left c.args.self.now.rest.now) x) (sym (ap (λ r. left r.rest.now) g.0)) c.in_ok-opens.ensures.found in (
       left c.skips.new.self.rest.now,
       o,
       subst (λ (x : List Expr). Arguments (to_exprs x) (left c.skips.new.self.rest.now) (left c.skips-in-loop-items.new.self.rest.now)) (sym q)
-        (wanted_end _ _ _ _ _ _ i.2 n.0 (s.0, s.1)),
+          (wanted_end _ _ _ _ _ _ i.2 n.0 (s.0, s.1)),
       c.max-depth.ensures ∙ (λ k. max (i.1 k) (n.2 k)) ∙ sym (deepest_push (map expr_view c.loop-items.items.items) (expr_view c.in_ok-next.next.expr)) ∙ ap (λ x. deepest (to_exprs x)) (sym q),
     )
 
@@ -29,8 +28,7 @@ arguments-loop-items-preserved t c =
     let i = c.loop-items.invariant in
     let n = c.in_ok-next.ensures.found in
     let q = ap (map expr_view) c.in_ok-push.ensures.items ∙ map_push expr_view c.loop-items.items.items c.in_ok-next.next.expr in
-    let comma = sym (ap (λ r. left r.rest.now) c.if-skips-2.ensures.0) ∙ c.in_ok-expects.ensures.found in
-    (
+    let comma = sym (ap (λ r. left r.rest.now) c.if-skips-2.ensures.0) ∙ c.in_ok-expects.ensures.found in (
       omega (arith, c.max-depth.ensures, i.0, c.in_ok-next.ensures.depth),
       c.max-depth.ensures ∙ (λ k. max (i.1 k) (n.2 k)) ∙ sym (deepest_push (map expr_view c.loop-items.items.items) (expr_view c.in_ok-next.next.expr)) ∙ ap (λ x. deepest (to_exprs x)) (sym q),
       subst (λ (x : List Expr). Wanted x (left c.skips.new.self.rest.now) (left c.expects.new.self.rest.now)) (sym q) (wanted_next _ _ _ _ _ _ i.2 n.0 (_, comma)),
@@ -54,9 +52,9 @@ calls-loop-receiver-preserved t c =
 pub fold-returns-clause-found : goal.fold-returns-clause-found
 fold-returns-clause-found t c = λ old w.
     fold_reads (fold_view c.args.form) c.args.at _ _ _ (word_view c.in_ok-name.name) old _ _ _ _ _ _ _ _ _
-      c.in_ok-fold.ensures.made c.in_ok-fold.ensures.depth w (_, c.in_ok-expects.ensures.found) c.in_ok-name.ensures.found (_, c.in_ok-expects-2.ensures.found)
-      c.in_ok-list.ensures.plain (c.in_ok-list-2.ensures.found _ c.in_ok-list.ensures.found) (_, c.in_ok-expects-3.ensures.found) (_, c.in_ok-expects-4.ensures.found)
-      c.in_ok-body.ensures.found (_, c.in_ok-expects-5.ensures.found)
+    c.in_ok-fold.ensures.made c.in_ok-fold.ensures.depth w (_, c.in_ok-expects.ensures.found) c.in_ok-name.ensures.found (_, c.in_ok-expects-2.ensures.found)
+    c.in_ok-list.ensures.plain (c.in_ok-list-2.ensures.found _ c.in_ok-list.ensures.found) (_, c.in_ok-expects-3.ensures.found) (_, c.in_ok-expects-4.ensures.found)
+    c.in_ok-body.ensures.found (_, c.in_ok-expects-5.ensures.found)
 
 pub unary-returns-in-Some-2-clause-found : goal.unary-returns-in-Some-2-clause-found
 unary-returns-in-Some-2-clause-found t c =

@@ -1,4 +1,4 @@
-use Rattle.std.proofs.Common.{◌≡◌, ◌∷◌, [], ◌++◌, map, sym, ap, subst, ◌∙◌, List}
+use Rattle.std.proofs.Common.{map, sym, ap, subst, ◌∙◌, List}
 use Rattle.std.specs.List.{AllByRecursion}
 use Rattle.std.proofs.lemmas.List.{map_push}
 use Rattle.at_text.proofs.ReadingLaws.{all_push}
@@ -14,8 +14,7 @@ loop-self-preserved c =
     let same = ap (λ r. left r.rest.now) c.loop-self-test.ensures.0 in
     let i = c.loop-self.invariant in
     let q = ap (map decl_view) c.in_ok-push.ensures.items ∙ map_push decl_view c.loop-self.decls.items c.in_ok-decl.decl in
-    let r = subst (λ (x : Row). DeclOf (decl_view c.in_ok-decl.decl) x (left c.decl.new.self.rest.now)) same c.in_ok-decl.ensures.found in
-    (
+    let r = subst (λ (x : Row). DeclOf (decl_view c.in_ok-decl.decl) x (left c.decl.new.self.rest.now)) same c.in_ok-decl.ensures.found in (
       subst (λ (x : List Decl). Decls x (left c.args.self.now.rest.now) (left c.decl.new.self.rest.now)) (sym q) (decls_push _ _ _ _ _ i.0 r),
       subst (λ (x : List Decl). AllByRecursion NestsWithin x) (sym q) (all_push NestsWithin _ _ i.1 c.in_ok-decl.ensures.within),
     )

@@ -1,4 +1,4 @@
-use Rattle.std.proofs.Common.{sym, subst, Option, option_map}
+use Rattle.std.proofs.Common.{sym, subst, Option}
 use Rattle.at_jrag.specs.Syntax.{Word}
 use Rattle.at_jrag.specs.View.{word_view, params_view}
 use Rattle.at_jrag.specs.Grammar.{Getter}

@@ -17,7 +17,7 @@ returns-in-Some-takes c =
         left c.takes.new.self.rest.now,
         o,
         subst (λ (x : List Param). Listed x c.in-Some-takes.end (left c.takes.new.self.rest.now) (left c.takes-in-loop-items.new.self.rest.now)) (sym q)
-          (i _ _ _ _ _ c.in_ok-param.ensures.found c.in-Some-takes.ensures.0),
+            (i _ _ _ _ _ c.in_ok-param.ensures.found c.in-Some-takes.ensures.0),
       );
     }
 
