@@ -9,3 +9,4 @@ pub mod ExpressionsTaken
 pub mod Declarations
 pub mod Numbers
 pub mod DeclarationRuns
+pub mod Quotations

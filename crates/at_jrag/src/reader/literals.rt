@@ -7,6 +7,7 @@ ghost use Rattle.at_jrag.specs.View.{expr_view};
 ghost use Rattle.at_jrag.specs.Grammar.{Row, word, number, quotation, next_is};
 ghost use Rattle.at_jrag.specs.Left.{left};
 ghost use Rattle.at_jrag.specs.Table.{is_decimal_within};
+ghost use Rattle.at_jrag.specs.Runs.{NoText, NoLiteral};
 ghost use Rattle.at_jrag.specs.declared.reader.ReadError.TheVariants as error;
 ghost use Rattle.at_jrag.specs.Read.{IsNumber, greatest, opens_negative, is_constant, is_literal, Reads};
 
@@ -86,6 +87,7 @@ impl<'a> Reader<'a> {
         ensures found { IfOk result (λ o. MatchOption o
             ((self.new ≡ self.old) × (next_is is_literal (left self.old.rest.now) ≡ false))
             (λ m. Reads 8 m (left self.old.rest.now) (left self.new.rest.now) × (m.depth ≡ 1) × (next_is is_literal (left self.old.rest.now) ≡ true))) }
+        ensures refused { IfErr result (λ e. NoLiteral e (left self.old.rest.now) (left self.new.rest.now)) }
     {
         let Some(token) = self.next() else {
             return Ok(None);
@@ -125,7 +127,8 @@ impl<'a> Reader<'a> {
 
     /// The text of this spelling.
     fn text(&self, at: (u32, u32), spelling: &str) -> Result<Measured, ReadError>
-        ensures { IfOk result (λ m. ((rest : Row) → Reads 8 m (quotation spelling.now at ∷ rest) rest) × (m.depth ≡ 1)) }
+        ensures found { IfOk result (λ m. ((rest : Row) → Reads 8 m (quotation spelling.now at ∷ rest) rest) × (m.depth ≡ 1)) }
+        ensures refused { IfErr result (NoText spelling.now) }
     {
         match read_quoted(self.alloc, spelling) {
             Ok((value, len)) => {
