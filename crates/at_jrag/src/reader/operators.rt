@@ -236,9 +236,9 @@ impl<'a> Reader<'a> {
         ensures found { IfOk result (λ o. MatchOption o
             ((self.new ≡ self.old) × (next_is (is_sign (codes "-")) (left self.old.rest.now) ≡ false))
             (λ p. StandsBefore p.1 p.0 (left self.old.rest.now) (left self.new.rest.now))) }
-        ensures none { IfOk result (λ o. IfNone o ((next_is (is_sign (codes "!")) (left self.old.rest.now) ≡ false) × (1 < budget → opens_cast (left self.old.rest.now) ≡ false))) }
-        ensures refused { IfErr result (λ e. (e ≡ error.Memory)
-            ⊎ ((e ≡ error.Nesting) × (self.new ≡ self.old) × (budget ≤ 1) × (next_is (is_sign (codes "!")) (left self.old.rest.now) ≡ true))) }
+        ensures none { IfOk result (λ o. IfNone o ((next_is (is_sign (codes "!")) (left self.old.rest.now) ≡ false) × (opens_cast (left self.old.rest.now) ≡ false))) }
+        ensures refused { IfErr result (λ e. (e ≡ error.Memory) ⊎ ((e ≡ error.Nesting) × (self.new ≡ self.old) × (budget ≤ 1)
+            × ((next_is (is_sign (codes "!")) (left self.old.rest.now) ≡ true) ⊎ (opens_cast (left self.old.rest.now) ≡ true)))) }
     {
         if let Some(at) = self.takes("-") {
             return Ok(Some((at, Prefix::Minus)));
@@ -246,9 +246,12 @@ impl<'a> Reader<'a> {
         if let Some(at) = self.takes_within("!", 1, budget)? {
             return Ok(Some((at, Prefix::Not)));
         }
-        if budget > 1 && self.is_at_cast() {
-            return Ok(Some(self.cast()?));
+        if !self.is_at_cast() {
+            return Ok(None);
         }
-        Ok(None)
+        if budget <= 1 {
+            return Err(ReadError::Nesting);
+        }
+        Ok(Some(self.cast()?))
     }
 }
