@@ -1,4 +1,4 @@
-use Rattle.std.proofs.Common.{◌≡◌, ℕ, ◌≤◌, Bool, true, false, refl, sym, ap, subst, ◌∙◌, arith, FitsSigned, w32, ℤ}
+use Rattle.std.proofs.Common.{◌≤◌, Bool, true, false, sym, ap, arith}
 use Rattle.at_jrag.specs.Read.{greatest}
 use Rattle.at_jrag.proofs.Numbers.{no_parse, no_decimal, none_within, known, unfit}
 use Rattle.at_jrag.proofs.reader.literals.number.Goals as goal
