@@ -6,10 +6,11 @@ use lib.Chars.{codes}
 use Rattle.at_model.specs.Names.{is_name}
 use Rattle.at_text.specs.Reading.{first}
 use Rattle.at_text.specs.Symbols.{PlacedToken}
-use Rattle.at_jrag.specs.Grammar.{Row, is_sign, is_word, is_number, follows_cast, sign, word, number, operator_text, fold_text}
+use Rattle.at_jrag.specs.Grammar.{Row, is_name_token, is_sign, is_word, is_number, follows_cast, sign, word, number, operator_text, fold_text}
 use Rattle.at_jrag.specs.Syntax as syntax
 use Rattle.at_jrag.specs.Syntax.{Operator, FoldForm}
 use Rattle.at_jrag.specs.Machine.{Answer, Takes, Skips, Refuses, LeavesOut, and_then, run}
+use Rattle.at_jrag.specs.Read.{opens_cast}
 use Rattle.at_jrag.specs.Wants.{Want, Expression, Binary, Links, Choice, Otherwise, Unary, Minus, Opened, Enclosed, Parenthesized, Calls, Called, Arguments, FirstArgument, MoreArguments, Primary, Named, FoldBody, Deeper, Join, Deepest, Counts, Name, Mark}
 use Rattle.at_jrag.specs.Table.{next, on, table, is_get_child, is_literal, is_number_within, primary_answer, unary_answer, binary_answer, expression_answer}
 use Rattle.at_jrag.specs.Runs.{Goes, Moves}
@@ -112,6 +113,18 @@ cast_goes at name_at close_at text n old one rest some e is follows g l b f ws d
 -- a parenthesis that is no cast's
 abbrev pub NoCastBehind : Row → Type 0
 NoCastBehind old = (at : ℕ × ℕ) (one : Row) → old ≡ sign (codes "(") at ∷ one → NoCast one
+
+and_true : (a b : Bool) → a ≡ true → a && b ≡ b
+and_true true b e = refl
+and_true false b e = absurd cc
+
+no_cast_at : (at : ℕ × ℕ) (t c : PlacedToken) (rest : Row) → opens_cast (sign (codes "(") at ∷ t ∷ c ∷ rest) ≡ false → is_name_token t ≡ true → is_sign (codes ")") c ≡ true → next follows_cast (first rest) ≡ false
+no_cast_at at t c [] none named closes = refl
+no_cast_at at t c (d ∷ rest) none named closes = sym (and_true (is_sign (codes ")") c) (follows_cast d) closes) ∙ sym (and_true (is_name_token t) (is_sign (codes ")") c && follows_cast d) named) ∙ none
+
+-- where the reader sees no cast
+pub no_cast : (old : Row) → opens_cast old ≡ false → NoCastBehind old
+no_cast old none at one e t c rest f named closes = no_cast_at at t c rest (sym (ap opens_cast (e ∙ ap (λ r. sign (codes "(") at ∷ r) f)) ∙ none) named closes
 
 paren_unary : (l : Bool) (b : ℕ) (ws : List Want) (d : ℕ) (at : ℕ × ℕ) (one : Row) → NoCast one → run l table (Unary b ∷ ws) d (sign (codes "(") at ∷ one) ≡ run l table (Primary b ∷ Calls b ∷ ws) d (sign (codes "(") at ∷ one)
 unfolding table
