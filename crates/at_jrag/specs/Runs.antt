@@ -1,12 +1,13 @@
 -- What the reader's methods say of the machine's runs.
-use Rattle.std.specs.Prelude.{◌≡◌, ℕ, ◌≤◌, List, [], ◌∷◌, ◌++◌, Bool, true, false, ◌&&◌, Option, Some, None}
+use Rattle.std.specs.Prelude.{◌≡◌, ℕ, ◌≤◌, List, [], ◌∷◌, ◌++◌, Bool, true, false, ◌&&◌, Option, Some, None, ◌⊎◌}
 use Rattle.std.specs.Str.{bytes_eq}
 use lib.Chars.{codes}
 use Rattle.at_text.specs.Symbols.{PlacedToken}
-use Rattle.at_jrag.specs.Grammar.{Row, Sign, is_sign, is_word, next_is}
+use Rattle.at_jrag.specs.Syntax.{KindWord}
+use Rattle.at_jrag.specs.Grammar.{Row, Sign, KindOf, is_sign, is_word, is_name_token, next_is}
 use Rattle.at_jrag.specs.Machine.{Reason, Refused, LeftOut, TooDeep, Stuck, run}
 use Rattle.at_jrag.specs.Wants.{Want}
-use Rattle.at_jrag.specs.Table.{table}
+use Rattle.at_jrag.specs.Table.{table, is_kind}
 use Rattle.at_jrag.specs.declared.reader.ReadError.{ReadError}
 use Rattle.at_jrag.specs.declared.reader.ReadError.TheVariants as errors
 
@@ -57,3 +58,7 @@ NotOpened name errors.Memory old rest = Unit {0}
 NotOpened name errors.Syntax old rest = (rest ≡ old) × (next_is (is_sign (codes "(")) old ≡ false)
 NotOpened name errors.LeftOut old rest = Sign (codes "(") old rest × (bytes_eq name (codes "getChild") && next_is (is_word (codes "int")) rest ≡ true)
 NotOpened name errors.Nesting old rest = ⊥
+
+-- no kind is next, or no name behind it
+abbrev pub NoParam : ReadError → Row → Row → Type 0
+NoParam e old rest = Missing is_kind e old rest ⊎ ((k : KindWord) × (mid : Row) × KindOf k old mid × Missing is_name_token e mid rest)
