@@ -1,0 +1,3 @@
+pub mod Tokens
+pub mod Expressions
+pub mod Declarations
