@@ -116,7 +116,8 @@ Index (Some w) old rest = (one : Row) × (close : Row) × Keyword (codes "int") 
 
 -- name "(" ["int" name] ")" "."
 abbrev pub Getter : Word → Option Word → Row → Row → Type 0
-Getter name index old rest = (paren : Row) × (list : Row) × (dot : Row) × Name name old paren × Opens name.text paren list × Index index list dot × Sign (codes ".") dot rest
+Getter name index old rest =
+    (paren : Row) × (list : Row) × (dot : Row) × Name name old paren × Opens name.text paren list × Index index list dot × Sign (codes ".") dot rest
 
 -- ---- expressions
 
@@ -187,7 +188,8 @@ NumberOf at n old rest =
 
 -- a reserved word that makes a cast of the `( NAME )` before it
 abbrev pub is_opening : List ℕ → Bool
-is_opening text = bytes_eq text (codes "this") || bytes_eq text (codes "null") || bytes_eq text (codes "exists") || bytes_eq text (codes "first") || bytes_eq text (codes "sum")
+is_opening text =
+    bytes_eq text (codes "this") || bytes_eq text (codes "null") || bytes_eq text (codes "exists") || bytes_eq text (codes "first") || bytes_eq text (codes "sum")
 
 -- what makes a cast of the `( NAME )` before it
 abbrev pub follows_cast : PlacedToken → Bool
@@ -208,11 +210,14 @@ abbrev mutual
   -- post "." name "(" [args] ")"
   Spells (syntax.CallOf at e name es) old rest =
       (dot : Row) × (called : Row) × (paren : Row) × (list : Row) × (name_at : Place) × (at ≡ place e) × (8 ≤ level e)
-      × Spells e old dot × Sign (codes ".") dot called × Name (record { text = name; at = name_at }) called paren × Opens name paren list × Arguments es list rest
+      × Spells e old dot × Sign (codes ".") dot called × Name (record { text = name; at = name_at }) called paren
+      × Opens name paren list × Arguments es list rest
   -- "(" expr ")"
-  Spells (syntax.Paren at e) old rest = (one : Row) × (close : Row) × (old ≡ sign (codes "(") at ∷ one) × Spells e one close × Sign (codes ")") close rest
+  Spells (syntax.Paren at e) old rest =
+      (one : Row) × (close : Row) × (old ≡ sign (codes "(") at ∷ one) × Spells e one close × Sign (codes ")") close rest
   -- "-" unary, where no number follows
-  Spells (syntax.Negate at e) old rest = (one : Row) × (old ≡ sign (codes "-") at ∷ one) × (next_is is_number one ≡ false) × (7 ≤ level e) × Spells e one rest
+  Spells (syntax.Negate at e) old rest =
+      (one : Row) × (old ≡ sign (codes "-") at ∷ one) × (next_is is_number one ≡ false) × (7 ≤ level e) × Spells e one rest
   -- "!" unary
   Spells (syntax.Not at e) old rest = (one : Row) × (old ≡ sign (codes "!") at ∷ one) × (7 ≤ level e) × Spells e one rest
   -- "(" name ")" cast
@@ -221,7 +226,8 @@ abbrev mutual
       × (next_is follows_cast one ≡ true) × (7 ≤ level e) × Spells e one rest
   -- rel "instanceof" name
   Spells (syntax.InstanceOf at e behind class) old rest =
-      (link : Row) × (named : Row) × (at ≡ place e) × (4 ≤ level e) × Spells e old link × (link ≡ word (codes "instanceof") behind ∷ named) × Name class named rest
+      (link : Row) × (named : Row) × (at ≡ place e) × (4 ≤ level e)
+      × Spells e old link × (link ≡ word (codes "instanceof") behind ∷ named) × Name class named rest
   -- two operands, of which the left one may be of the operator's level
   Spells (syntax.Binary at o between a b) old rest =
       (link : Row) × (right : Row) × (at ≡ place a) × (operator_level o ≤ level a) × (operator_level o + 1 ≤ level b)
@@ -234,7 +240,8 @@ abbrev mutual
   Spells (syntax.Fold at form name list body) old rest =
       (paren : Row) × (named : Row) × (colon : Row) × (items : Row) × (close : Row) × (brace : Row) × (one : Row) × (end : Row)
       × (old ≡ word (fold_text form) at ∷ paren) × Sign (codes "(") paren named × Name name named colon × Sign (codes ":") colon items
-      × (next_is (is_sign (codes "-")) items ≡ false) × (8 ≤ level list) × Spells list items close × Sign (codes ")") close brace × Sign (codes "{") brace one
+      × (next_is (is_sign (codes "-")) items ≡ false) × (8 ≤ level list)
+      × Spells list items close × Sign (codes ")") close brace × Sign (codes "{") brace one
       × Spells body one end × Sign (codes "}") end rest
 
   -- [expr { "," expr }] ")"
@@ -245,7 +252,8 @@ abbrev mutual
   -- { "," expr } ")"
   pub MoreArguments : Exprs → Row → Row → Type 0
   MoreArguments syntax.no_exprs old rest = Sign (codes ")") old rest
-  MoreArguments (syntax.expr e es) old rest = (one : Row) × (more : Row) × Sign (codes ",") old one × Spells e one more × MoreArguments es more rest
+  MoreArguments (syntax.expr e es) old rest =
+      (one : Row) × (more : Row) × Sign (codes ",") old one × Spells e one more × MoreArguments es more rest
 
 -- ---- nesting
 
@@ -281,7 +289,8 @@ abbrev pub BodyOf : Body → Row → Row → Type 0
 BodyOf b old rest = elim b.form [
   | syntax.Equation' ↦ (one : Row) × (end : Row) × (old ≡ sign (codes "=") b.at ∷ one) × Spells b.expr one end × Sign (codes ";") end rest
   | syntax.Block ↦ (returns : Row) × (one : Row) × (end : Row) × (close : Row)
-      × (old ≡ sign (codes "{") b.at ∷ returns) × Keyword (codes "return") returns one × Spells b.expr one end × Sign (codes ";") end close × Sign (codes "}") close rest
+      × (old ≡ sign (codes "{") b.at ∷ returns) × Keyword (codes "return") returns one × Spells b.expr one end
+      × Sign (codes ";") end close × Sign (codes "}") close rest
 ]
 
 -- ";" | body
@@ -292,15 +301,18 @@ EndingOf (syntax.Semicolon at) old rest = old ≡ sign (codes ";") at ∷ rest
 -- ["lazy"] kind name "." name "(" [params] ")"
 abbrev pub Declared : Option Place → KindWord → Word → Word → Params → Row → Row → Type 0
 Declared lazy k class name ps old rest =
-    (kinds : Row) × (owner : Row) × (called : Row) × Lazy lazy old kinds × KindOf k kinds owner × Owner class owner called × Signature name ps called rest
+    (kinds : Row) × (owner : Row) × (called : Row)
+    × Lazy lazy old kinds × KindOf k kinds owner × Owner class owner called × Signature name ps called rest
 
 -- a declaration behind its first word
 abbrev pub Behind : DeclForm → Row → Row → Type 0
 Behind (syntax.Synthesized lazy k class name ps ending) old rest = (end : Row) × Declared lazy k class name ps old end × EndingOf ending end rest
 Behind (syntax.Inherited lazy k class name ps) old rest = (end : Row) × Declared lazy k class name ps old end × Sign (codes ";") end rest
-Behind (syntax.Equation class name ps b) old rest = (called : Row) × (body : Row) × Owner class old called × Signature name ps called body × BodyOf b body rest
+Behind (syntax.Equation class name ps b) old rest =
+    (called : Row) × (body : Row) × Owner class old called × Signature name ps called body × BodyOf b body rest
 Behind (syntax.InheritedEquation class getter index name ps b) old rest =
-    (got : Row) × (called : Row) × (body : Row) × Owner class old got × Getter getter index got called × Signature name ps called body × BodyOf b body rest
+    (got : Row) × (called : Row) × (body : Row)
+    × Owner class old got × Getter getter index got called × Signature name ps called body × BodyOf b body rest
 
 abbrev pub keyword : DeclForm → List ℕ
 keyword (syntax.Synthesized lazy k class name ps ending) = codes "syn"
@@ -321,7 +333,8 @@ Decls (d ∷ ds) old rest = (more : Row) × DeclOf d old more × Decls ds more r
 abbrev pub AspectOf : Aspect → Row → Row → Type 0
 AspectOf a old rest =
     (named : Row) × (brace : Row) × (inner : Row) × (close : Row)
-    × Keyword (codes "aspect") old named × Name a.name named brace × Sign (codes "{") brace inner × Decls a.decls inner close × Sign (codes "}") close rest
+    × Keyword (codes "aspect") old named × Name a.name named brace × Sign (codes "{") brace inner
+    × Decls a.decls inner close × Sign (codes "}") close rest
 
 -- { aspect }
 abbrev pub File : List Aspect → Row → Row → Type 0

@@ -58,7 +58,8 @@ abbrev pub StandsBefore : Prefix → Place → Row → Row → Type 0
 StandsBefore prefix.Not at old rest = old ≡ sign (codes "!") at ∷ rest
 StandsBefore prefix.Minus at old rest = (old ≡ sign (codes "-") at ∷ rest) × (next_is is_number rest ≡ false)
 StandsBefore (prefix.Cast class) at old rest =
-    (named : Row) × (close : Row) × (old ≡ sign (codes "(") at ∷ named) × Name (word_view class) named close × Sign (codes ")") close rest × (next_is follows_cast rest ≡ true)
+    (named : Row) × (close : Row) × (old ≡ sign (codes "(") at ∷ named)
+    × Name (word_view class) named close × Sign (codes ")") close rest × (next_is follows_cast rest ≡ true)
 
 -- `( NAME )` is next, and behind it what makes it a cast
 abbrev pub opens_cast : Row → Bool

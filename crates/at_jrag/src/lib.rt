@@ -1,12 +1,14 @@
 //! Aspects (.jrag, JastAdd2 reference manual), read from their text.
 #![tactic(auto)]
 
-ghost use Rattle.std.specs.Prelude.{◌≡◌, [], List, map, IfOk};
+ghost use Rattle.std.specs.Prelude.{◌≡◌, ◌⊎◌, ℕ, [], List, map, IfOk, MatchResult};
 ghost use Rattle.at_text.specs.Symbols.{PlacedToken, HasTokens};
 ghost use Rattle.at_text.specs.Faults as scanning;
+ghost use Rattle.at_text.specs.declared.scan.ScanFault.{ScanFault};
 ghost use Rattle.at_jrag.specs.View.{aspect_view};
+ghost use Rattle.at_jrag.specs.Faults.{uncut, IsScanFaultAt};
 ghost use Rattle.at_jrag.specs.Grammar.{File, IsWithin};
-ghost use Rattle.at_jrag.specs.declared.JragFault.TheVariants.{Memory};
+ghost use Rattle.at_jrag.specs.declared.JragFault.TheVariants.{Memory, Syntax};
 
 mod reader;
 mod syntax;
@@ -46,6 +48,7 @@ impl From<AllocError> for JragFault {
 /// The fault of a text that can't be cut into tokens.
 fn scan_fault(text: &str, fault: ScanFault) -> JragFault
     requires within { scanning.IsWithin text.now fault }
+    ensures { result ≡ uncut text.now fault }
 {
     match fault {
         ScanFault::Memory => JragFault::Memory,
@@ -69,6 +72,9 @@ pub fn parse_jrag(alloc: Global, text: &str) -> Result<Vec<Aspect>, JragFault>
     // What is read is what the tokens of the text spell, and its expressions nest at most 64 deep.
     ensures found { IfOk result (λ v. (tokens : List PlacedToken) × HasTokens text.now tokens
         × File (map aspect_view v.items) tokens [] × IsWithin (map aspect_view v.items)) }
+    // A text that can't be cut into tokens is refused where that is met, whatever stands before it.
+    ensures uncut { (fault : ScanFault) (at : ℕ × ℕ) → IsScanFaultAt text.now at fault
+        → MatchResult result (λ v. ⊥) (λ e. (e ≡ Memory) ⊎ (e ≡ Syntax at)) }
 {
     let tokens = match lexemes(alloc, text) {
         Ok(tokens) => tokens,

@@ -1,12 +1,11 @@
 //! The reader of tokens: a method for each form of the language. It stands before the tokens that are left.
 
-ghost use Rattle.std.specs.Prelude.{◌≡◌, [], ◌∷◌, List, length, IfOk, IfErr, OnOk, MatchOption, MatchBool, ℕ, true, false};
+ghost use Rattle.std.specs.Prelude.{◌≡◌, [], ◌∷◌, List, length, IfOk, OnOk, MatchOption, MatchBool, ℕ, true, false};
 ghost use Rattle.at_model.specs.Names.{is_name};
 ghost use Rattle.at_text.specs.Symbols.{PlacedToken, placed};
 ghost use Rattle.at_jrag.specs.View.{word_view};
 ghost use Rattle.at_jrag.specs.Grammar.{Row, sign, word, is_sign, is_word, is_name_token, next_is, Name, Opens};
 ghost use Rattle.at_jrag.specs.Left.{left};
-ghost use Rattle.at_jrag.specs.Runs.{Missing, NotOpened};
 ghost use Rattle.at_jrag.specs.declared.reader.ReadError.TheVariants.{Memory};
 
 mod declarations;
@@ -166,7 +165,8 @@ impl<'a> Reader<'a> {
     /// Steps over the sign, if it is next.
     fn skips(&mut self, text: &str) -> bool
         ensures { MatchBool result
-            ((at : ℕ × ℕ) × (left self.old.rest.now ≡ sign text.now at ∷ left self.new.rest.now) × (self.new.declaration ≡ self.old.declaration))
+            ((at : ℕ × ℕ) × (left self.old.rest.now ≡ sign text.now at ∷ left self.new.rest.now)
+            × (self.new.declaration ≡ self.old.declaration))
             ((self.new ≡ self.old) × (next_is (is_sign text.now) (left self.old.rest.now) ≡ false)) }
     {
         match self.takes(text) {
@@ -194,7 +194,8 @@ impl<'a> Reader<'a> {
     fn takes_name(&mut self) -> Option<&'a Placed<'a>>
         ensures { MatchOption result
             ((self.new ≡ self.old) × (next_is is_name_token (left self.old.rest.now) ≡ false))
-            (λ t. (left self.old.rest.now ≡ word t.now.text.now t.now.at ∷ left self.new.rest.now) × (is_name t.now.text.now ≡ true) × (self.new.declaration ≡ self.old.declaration)) }
+            (λ t. (left self.old.rest.now ≡ word t.now.text.now t.now.at ∷ left self.new.rest.now)
+            × (is_name t.now.text.now ≡ true) × (self.new.declaration ≡ self.old.declaration)) }
     {
         match self.rest {
             [token, rest @ ..] if is_name_token(token) => {
@@ -208,7 +209,6 @@ impl<'a> Reader<'a> {
     /// The sign.
     fn expects(&mut self, text: &str) -> Result<(u32, u32), ReadError>
         ensures found { IfOk result (λ at. left self.old.rest.now ≡ sign text.now at ∷ left self.new.rest.now) }
-        ensures missing { IfErr result (λ e. Missing (is_sign text.now) e (left self.old.rest.now) (left self.new.rest.now)) }
     {
         match self.takes(text) {
             Some(at) => Ok(at),
@@ -219,7 +219,6 @@ impl<'a> Reader<'a> {
     /// `name`
     fn name(&mut self) -> Result<Word, ReadError>
         ensures found { IfOk result (λ w. Name (word_view w) (left self.old.rest.now) (left self.new.rest.now)) }
-        ensures missing { IfErr result (λ e. Missing is_name_token e (left self.old.rest.now) (left self.new.rest.now)) }
     {
         match self.takes_name() {
             Some(token) => Ok(Word {
@@ -233,7 +232,6 @@ impl<'a> Reader<'a> {
     /// `(` behind the name, where `int` behind the parenthesis of `getChild` is left out.
     fn opens(&mut self, name: &str) -> Result<(), ReadError>
         ensures found { OnOk result (Opens name.now (left self.old.rest.now) (left self.new.rest.now)) }
-        ensures missing { IfErr result (λ e. NotOpened name.now e (left self.old.rest.now) (left self.new.rest.now)) }
     {
         self.expects("(")?;
         if name == "getChild" && self.is_before_word("int") {

@@ -246,3 +246,39 @@ fn what_nests_too_deep(rt: HostRuntime) -> Result<(), Fail> {
     }
     Ok(())
 }
+
+/// The declaration that is read alone.
+fn only(alloc: Global, text: &str) -> Option<Decl> {
+    let mut aspects = parse_jrag(alloc, text).ok()?;
+    let mut aspect = aspects.pop()?;
+    aspect.decls.pop()
+}
+
+/// The places of the words of an inherited equation, of its last parenthesis and of its body.
+fn places(form: &DeclForm) -> Option<[(u32, u32); 5]> {
+    match form {
+        DeclForm::InheritedEquation {
+            class,
+            getter,
+            name,
+            params,
+            body,
+            ..
+        } => Some([class.at, getter.at, name.at, params.end, body.at]),
+        _ => None,
+    }
+}
+
+#[test]
+fn an_equation_has_its_places(rt: HostRuntime) -> Result<(), Fail> {
+    let text = "aspect A {\n eq B.getC(int i).d() {\n  return i; } }";
+    match only(rt.alloc(), text) {
+        Some(decl) => {
+            let wanted = [(2, 5), (2, 7), (2, 19), (2, 21), (2, 23)];
+            assert_eq!(rt; decl.at, (2, 2));
+            assert_eq!(rt; places(&decl.form), Some(wanted));
+            Ok(())
+        }
+        None => Err(Fail::new("no declaration")),
+    }
+}

@@ -4,7 +4,8 @@ ghost use Rattle.std.specs.Prelude.{◌≡◌, ◌∷◌, [], ◌≤◌, map, op
 ghost use Rattle.std.specs.List.{AllByRecursion};
 ghost use lib.Chars.{codes};
 ghost use Rattle.at_jrag.specs.View.{kind_word_view, param_view, params_view, body_view, ending_view, decl_form_view, decl_view, aspect_view, word_view};
-ghost use Rattle.at_jrag.specs.Grammar.{Row, KindOf, ParamOf, Signature, Opens, Listed, Lazy, BodyOf, EndingOf, Behind, DeclOf, Decls, AspectOf, File, NestsWithin, IsWithin, nesting, ending_depth, max_nesting, depth, keyword, Sign};
+ghost use Rattle.at_jrag.specs.Grammar.{Row, KindOf, ParamOf, Signature, Opens, Listed, Lazy, BodyOf, EndingOf, Behind, DeclOf, Decls};
+ghost use Rattle.at_jrag.specs.Grammar.{AspectOf, File, NestsWithin, IsWithin, nesting, ending_depth, max_nesting, depth, keyword, Sign};
 ghost use Rattle.at_jrag.specs.Left.{left};
 ghost use Rattle.at_jrag.specs.Heads.{HeadOf, TargetOf, is_getter, index, ParamsOf};
 
@@ -116,7 +117,8 @@ impl<'a> Reader<'a> {
 
     /// `{ decl } "}"`
     fn decls(&mut self) -> Result<Vec<Decl>, ReadError>
-        ensures found { IfOk result (λ v. (close : Row) × Decls (map decl_view v.items) (left self.old.rest.now) close × Sign (codes "}") close (left self.new.rest.now)) }
+        ensures found { IfOk result (λ v. (close : Row) × Decls (map decl_view v.items) (left self.old.rest.now) close
+            × Sign (codes "}") close (left self.new.rest.now)) }
         ensures within { IfOk result (λ v. AllByRecursion NestsWithin (map decl_view v.items)) }
     {
         let mut decls = Vec::new(self.alloc);

@@ -66,7 +66,8 @@ impl<'a> Reader<'a> {
         requires operand { operand.depth < budget }
         ensures depth { IfOk result (λ m. m.depth ≤ budget) }
         ensures deeper { IfOk result (λ m. operand.depth < m.depth) }
-        ensures found { IfOk result (λ m. (old rest : Row) → Reads level operand old rest → LinksTo level link rest (left self.old.rest.now) → Reads level m old (left self.new.rest.now)) }
+        ensures found { IfOk result (λ m. (old rest : Row) → Reads level operand old rest → LinksTo level link rest (left self.old.rest.now)
+            → Reads level m old (left self.new.rest.now)) }
     {
         match link {
             Link::Operator(operator) => {
@@ -188,7 +189,8 @@ impl<'a> Reader<'a> {
         requires some { 1 < budget }
         requires limit { budget ≤ 64 }
         ensures depth { IfOk result (λ m. m.depth ≤ budget) }
-        ensures found { IfOk result (λ m. (old : Row) → old ≡ word (fold_text (fold_view form)) at ∷ left self.old.rest.now → Reads 8 m old (left self.new.rest.now)) }
+        ensures found { IfOk result (λ m. (old : Row) → old ≡ word (fold_text (fold_view form)) at ∷ left self.old.rest.now
+            → Reads 8 m old (left self.new.rest.now)) }
     {
         self.expects("(")?;
         let name = self.name()?;

@@ -86,7 +86,8 @@ pub fn operation(
     requires left { left.depth < 64 }
     requires right { right.depth < 64 }
     ensures depth { IfOk result (λ m. m.depth ≡ 1 + max left.depth right.depth) }
-    ensures made { IfOk result (λ m. expr_view m.expr ≡ syntax.Binary (place (expr_view left.expr)) (operator_view operator.operator) operator.at (expr_view left.expr) (expr_view right.expr)) }
+    ensures made { IfOk result (λ m. expr_view m.expr
+        ≡ syntax.Binary (place (expr_view left.expr)) (operator_view operator.operator) operator.at (expr_view left.expr) (expr_view right.expr)) }
 {
     let at = left.expr.at;
     let depth = 1 + left.depth.max(right.depth);
@@ -110,7 +111,8 @@ pub fn instance_of(
 ) -> Result<Measured, AllocError>
     requires { operand.depth < 64 }
     ensures depth { IfOk result (λ m. m.depth ≡ 1 + operand.depth) }
-    ensures made { IfOk result (λ m. expr_view m.expr ≡ syntax.InstanceOf (place (expr_view operand.expr)) (expr_view operand.expr) behind (word_view class)) }
+    ensures made { IfOk result (λ m. expr_view m.expr
+        ≡ syntax.InstanceOf (place (expr_view operand.expr)) (expr_view operand.expr) behind (word_view class)) }
 {
     let at = operand.expr.at;
     let depth = 1 + operand.depth;
@@ -136,7 +138,8 @@ pub fn choice(
     requires then { then.depth < 64 }
     requires other { other.depth < 64 }
     ensures depth { IfOk result (λ m. m.depth ≡ 1 + max condition.depth (max then.depth other.depth)) }
-    ensures made { IfOk result (λ m. expr_view m.expr ≡ syntax.Choose (place (expr_view condition.expr)) (expr_view condition.expr) behind (expr_view then.expr) (expr_view other.expr)) }
+    ensures made { IfOk result (λ m. expr_view m.expr
+        ≡ syntax.Choose (place (expr_view condition.expr)) (expr_view condition.expr) behind (expr_view then.expr) (expr_view other.expr)) }
 {
     let at = condition.expr.at;
     let depth = 1 + condition.depth.max(then.depth.max(other.depth));
@@ -178,7 +181,9 @@ pub fn call_of(
     requires receiver { receiver.depth < 64 }
     requires arguments { arguments.depth < 64 }
     ensures depth { IfOk result (λ m. m.depth ≡ 1 + max receiver.depth arguments.depth) }
-    ensures made { IfOk result (λ m. expr_view m.expr ≡ syntax.CallOf (place (expr_view receiver.expr)) (expr_view receiver.expr) (string_bytes name.text) (to_exprs (map expr_view arguments.items.items))) }
+    ensures made { IfOk result (λ m. expr_view m.expr
+        ≡ syntax.CallOf (place (expr_view receiver.expr)) (expr_view receiver.expr) (string_bytes name.text)
+        (to_exprs (map expr_view arguments.items.items))) }
 {
     let at = receiver.expr.at;
     let depth = 1 + receiver.depth.max(arguments.depth);
@@ -204,7 +209,8 @@ pub fn fold(
     requires list { list.depth < 64 }
     requires body { body.depth < 64 }
     ensures depth { IfOk result (λ m. m.depth ≡ 1 + max list.depth body.depth) }
-    ensures made { IfOk result (λ m. expr_view m.expr ≡ syntax.Fold at (fold_view form) (word_view name) (expr_view list.expr) (expr_view body.expr)) }
+    ensures made { IfOk result (λ m. expr_view m.expr
+        ≡ syntax.Fold at (fold_view form) (word_view name) (expr_view list.expr) (expr_view body.expr)) }
 {
     let depth = 1 + list.depth.max(body.depth);
     let list = Box::new(alloc, list.expr)?;

@@ -78,7 +78,8 @@ impl<'a> Reader<'a> {
     pub fn literal(&mut self) -> Result<Option<Measured>, ReadError>
         ensures found { IfOk result (λ o. MatchOption o
             ((self.new ≡ self.old) × (next_is is_literal (left self.old.rest.now) ≡ false))
-            (λ m. Reads 8 m (left self.old.rest.now) (left self.new.rest.now) × (m.depth ≡ 1) × (next_is is_literal (left self.old.rest.now) ≡ true))) }
+            (λ m. Reads 8 m (left self.old.rest.now) (left self.new.rest.now) × (m.depth ≡ 1)
+            × (next_is is_literal (left self.old.rest.now) ≡ true))) }
     {
         let Some(token) = self.next() else {
             return Ok(None);
