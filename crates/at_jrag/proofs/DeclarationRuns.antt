@@ -1,6 +1,6 @@
 -- How the machine goes over declarations, and where it stays.
 use Rattle.std.proofs.Common.{arith, ◌≡◌, ℕ, ◌≤◌, List, [], ◌∷◌, ◌++◌, Bool, true, false, cond, Option, Some, None, refl, sym, ap, subst, ◌∙◌, inl, inr}
-use Rattle.std.specs.Prelude.{◌&&◌, ◌||◌, ◌⊎◌, ◌==◌}
+use Rattle.std.specs.Prelude.{◌&&◌, ◌⊎◌, ◌==◌}
 use Rattle.std.specs.List.{AllByRecursion}
 use Rattle.std.specs.Str.{bytes_eq}
 use Rattle.std.proofs.lemmas.Slice.Eq.{bytes_eq-Decides}
@@ -16,8 +16,8 @@ use Rattle.at_jrag.specs.Heads.{is_int, is_getter}
 use Rattle.at_jrag.specs.Machine.{Reason, Refused, LeftOut, Answer, Takes, Skips, Refuses, LeavesOut, Whole, Stuck, run}
 use Rattle.at_jrag.specs.Wants as want
 use Rattle.at_jrag.specs.Wants.{Want}
-use Rattle.at_jrag.specs.Table.{table, next, on, is_get_child, is_kind, body_answer, declared}
-use Rattle.at_jrag.specs.Runs.{Goes, Stays, Stay, Halts, Pass, Missing, NotOpened, reason_of}
+use Rattle.at_jrag.specs.Table.{table, next, on, is_kind, body_answer, declared}
+use Rattle.at_jrag.specs.Runs.{Stay, Pass, Missing, reason_of}
 use Rattle.at_jrag.specs.declared.reader.ReadError.{ReadError}
 use Rattle.at_jrag.specs.declared.reader.ReadError.TheVariants as errors
 use Rattle.at_jrag.proofs.MachineLaws.{run-takes, run-skips, run-refuses, run-leaves_out}
@@ -397,7 +397,7 @@ pub file_then : (l : Bool) (as' : List Aspect) (old rest : Row) → (l ≡ true 
 file_then l [] old rest fits e d = (d, ap (run l table (want.File ∷ []) d) e)
 file_then l (a ∷ as') old rest fits (more, (named, brace, inner, close, k, n, b, h, c), t) d =
     let p = pass_then l want.Name (want.Mark (codes "{") ∷ want.Decls ∷ []) named brace more (name_pass l a.name named brace n)
-        (pass_then l (want.Mark (codes "{")) (want.Decls ∷ []) brace inner more (mark_pass l (codes "{") brace inner b) (decls_pass l a.decls inner close more (λ e. (fits e).0) h c)) in
+    (pass_then l (want.Mark (codes "{")) (want.Decls ∷ []) brace inner more (mark_pass l (codes "{") brace inner b) (decls_pass l a.decls inner close more (λ e. (fits e).0) h c)) in
     let q = p (want.File ∷ []) 0 in
     let r = file_then l as' more rest (λ e. (fits e).1) t q.0 in
     (r.0, ap (run l table (want.File ∷ []) d) k.1 ∙ run-takes l table want.File true (want.Name ∷ want.Mark (codes "{") ∷ want.Decls ∷ want.File ∷ []) [] d 0 (word (codes "aspect") k.0) named (aspect_row k.0 d) (λ h. refl) ∙ q.1 ∙ r.1)

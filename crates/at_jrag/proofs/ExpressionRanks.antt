@@ -1,5 +1,5 @@
 -- Expressions by the rank of their outermost operator: what is read of one rank, is read of each weaker one.
-use Rattle.std.proofs.Common.{◌≡◌, ℕ, zero, suc, ◌+◌, ◌-◌, ◌<◌, ◌≤◌, List, [], ◌∷◌, ◌++◌, Bool, true, false, cond, Option, Some, None, refl, sym, ap, subst, ◌∙◌, arith}
+use Rattle.std.proofs.Common.{◌≡◌, ℕ, zero, suc, ◌+◌, ◌-◌, ◌<◌, ◌≤◌, List, [], ◌∷◌, Bool, true, false, cond, Option, Some, None, refl, sym, ap, subst, ◌∙◌, arith}
 use Rattle.std.specs.Prelude.{◌==◌, nat_lt}
 use Rattle.std.proofs.lemmas.Bool.{eq-eqb, eqb-true, ltb-true, ltb-false}
 use lib.Chars.{codes}
@@ -10,16 +10,11 @@ use Rattle.at_jrag.specs.Syntax as syntax
 use Rattle.at_jrag.specs.Syntax.{Operator}
 use Rattle.at_jrag.specs.Machine.{Takes, Skips, run}
 use Rattle.at_jrag.specs.Wants.{Want, Expression, Binary, Links, Choice, Otherwise, Join}
-use Rattle.at_jrag.specs.Table.{next, link_rank, table, link_answer, links_answer}
+use Rattle.at_jrag.specs.Table.{next, next_rank, link_rank, table, link_answer, links_answer}
 use Rattle.at_jrag.specs.Runs.{Goes}
 use Rattle.at_jrag.proofs.MachineLaws.{run-takes, run-skips}
 use Rattle.at_jrag.proofs.MachinePaths.{run-begins}
 use Rattle.at_jrag.proofs.ExpressionSteps.{binary_stays}
-
--- the rank of the next token as what goes on behind a left operand
-abbrev pub next_rank : Option PlacedToken → ℕ
-next_rank None = 0
-next_rank (Some t) = link_rank t
 
 -- An operand ends here: nothing goes on with it that is a call, or an operator of this rank at most, or makes a cast of it.
 pub record Ends (rank : ℕ) (s : Option PlacedToken) : Type 0 where

@@ -1,15 +1,16 @@
 -- How the machine goes over a form of an expression, by how it goes over its parts.
-use Rattle.std.proofs.Common.{◌≡◌, ℕ, ◌+◌, ◌-◌, ◌≤◌, List, [], ◌∷◌, ◌++◌, Bool, true, false, cond, max, Some, refl, sym, ap, ◌∙◌, arith}
+use Rattle.std.proofs.Common.{◌≡◌, ℕ, ◌+◌, ◌-◌, ◌≤◌, List, [], ◌∷◌, Bool, true, false, cond, max, Some, refl, sym, ap, ◌∙◌, arith}
 use Rattle.std.specs.Prelude.{nat_lt, ◌&&◌, ◌||◌, not}
 use Rattle.std.proofs.lemmas.Bool.{lt-ltb}
 use lib.Chars.{codes}
 use Rattle.at_model.specs.Names.{is_name}
 use Rattle.at_text.specs.Reading.{first}
 use Rattle.at_text.specs.Symbols.{PlacedToken}
-use Rattle.at_jrag.specs.Grammar.{Row, is_sign, is_word, is_number, follows_cast, sign, word, number, operator_text, fold_text}
+use Rattle.at_jrag.specs.Grammar.{Row, is_name_token, is_sign, is_word, is_number, follows_cast, sign, word, number, operator_text, fold_text}
 use Rattle.at_jrag.specs.Syntax as syntax
 use Rattle.at_jrag.specs.Syntax.{Operator, FoldForm}
 use Rattle.at_jrag.specs.Machine.{Answer, Takes, Skips, Refuses, LeavesOut, and_then, run}
+use Rattle.at_jrag.specs.Read.{opens_cast}
 use Rattle.at_jrag.specs.Wants.{Want, Expression, Binary, Links, Choice, Otherwise, Unary, Minus, Opened, Enclosed, Parenthesized, Calls, Called, Arguments, FirstArgument, MoreArguments, Primary, Named, FoldBody, Deeper, Join, Deepest, Counts, Name, Mark}
 use Rattle.at_jrag.specs.Table.{next, on, table, is_get_child, is_literal, is_number_within, primary_answer, unary_answer, binary_answer, expression_answer}
 use Rattle.at_jrag.specs.Runs.{Goes, Moves}
@@ -82,7 +83,7 @@ minus_goes at n old one rest some e none g l b f ws d =
     ap (run l table (Unary b ∷ ws) d) e
     ∙ run-takes l table (Unary b) (nat_lt 0 b) (Minus b ∷ []) ws d 0 (sign (codes "-") at) one refl (λ h. lt-ltb 0 b (omega (arith, some, f h)))
     ∙ run-begins l table (Minus b) (Unary (b - 1)) (Deeper ∷ []) ws 0 one
-        (ap (λ x. cond x (cond (next (is_number_within 2147483648) (first one)) (Takes true (Calls b ∷ []) 1) Refuses) (and_then (unary_answer (b - 1) (first one)) (Deeper ∷ []))) none) (unary_stays (b - 1) (first one))
+    (ap (λ x. cond x (cond (next (is_number_within 2147483648) (first one)) (Takes true (Calls b ∷ []) 1) Refuses) (and_then (unary_answer (b - 1) (first one)) (Deeper ∷ []))) none) (unary_stays (b - 1) (first one))
     ∙ g l (b - 1) (λ h. omega (arith, f h)) (Deeper ∷ ws) 0
     ∙ run-skips l table Deeper ws n (1 + n) rest refl
 
@@ -101,7 +102,7 @@ cast_goes at name_at close_at text n old one rest some e is follows g l b f ws d
     ap (run l table (Unary b ∷ ws) d) e
     ∙ run-takes l table (Unary b) (nat_lt 1 b) (Opened b ∷ []) ws d 0 (sign (codes "(") at) (t ∷ sign (codes ")") close_at ∷ one) refl (λ h. lt-ltb 1 b (omega (arith, some, f h)))
     ∙ run-takes l table (Opened b) (nat_lt 0 (b - 1)) (Enclosed (is_get_child t) b ∷ []) ws 0 0 t (sign (codes ")") close_at ∷ one)
-        (ap (λ x. cond x (Takes (nat_lt 0 (b - 1)) (Enclosed (is_get_child t) b ∷ []) 0) (and_then (expression_answer (b - 1) (Some t)) (Mark (codes ")") ∷ Deeper ∷ Calls b ∷ []))) is) (λ h. lt-ltb 0 (b - 1) (omega (arith, some, f h)))
+    (ap (λ x. cond x (Takes (nat_lt 0 (b - 1)) (Enclosed (is_get_child t) b ∷ []) 0) (and_then (expression_answer (b - 1) (Some t)) (Mark (codes ")") ∷ Deeper ∷ Calls b ∷ []))) is) (λ h. lt-ltb 0 (b - 1) (omega (arith, some, f h)))
     ∙ run-takes l table (Enclosed (is_get_child t) b) true (Parenthesized b ∷ []) ws 0 2 (sign (codes ")") close_at) one refl (λ h. refl)
     ∙ run-begins l table (Parenthesized b) (Unary (b - 1)) (Deeper ∷ []) ws 2 one (ap (λ x. cond x (and_then (unary_answer (b - 1) (first one)) (Deeper ∷ [])) (on (next (is_sign (codes ".")) (first one)) (Takes (nat_lt 2 b) (Called (b - 1) ∷ Join 2 ∷ Calls b ∷ []) 0) (Skips 2))) follows) (unary_stays (b - 1) (first one))
     ∙ g l (b - 1) (λ h. omega (arith, f h)) (Deeper ∷ ws) 2
@@ -112,6 +113,18 @@ cast_goes at name_at close_at text n old one rest some e is follows g l b f ws d
 -- a parenthesis that is no cast's
 abbrev pub NoCastBehind : Row → Type 0
 NoCastBehind old = (at : ℕ × ℕ) (one : Row) → old ≡ sign (codes "(") at ∷ one → NoCast one
+
+and_true : (a b : Bool) → a ≡ true → a && b ≡ b
+and_true true b e = refl
+and_true false b e = absurd cc
+
+no_cast_at : (at : ℕ × ℕ) (t c : PlacedToken) (rest : Row) → opens_cast (sign (codes "(") at ∷ t ∷ c ∷ rest) ≡ false → is_name_token t ≡ true → is_sign (codes ")") c ≡ true → next follows_cast (first rest) ≡ false
+no_cast_at at t c [] none named closes = refl
+no_cast_at at t c (d ∷ rest) none named closes = sym (and_true (is_sign (codes ")") c) (follows_cast d) closes) ∙ sym (and_true (is_name_token t) (is_sign (codes ")") c && follows_cast d) named) ∙ none
+
+-- where the reader sees no cast
+pub no_cast : (old : Row) → opens_cast old ≡ false → NoCastBehind old
+no_cast old none at one e t c rest f named closes = no_cast_at at t c rest (sym (ap opens_cast (e ∙ ap (λ r. sign (codes "(") at ∷ r) f)) ∙ none) named closes
 
 paren_unary : (l : Bool) (b : ℕ) (ws : List Want) (d : ℕ) (at : ℕ × ℕ) (one : Row) → NoCast one → run l table (Unary b ∷ ws) d (sign (codes "(") at ∷ one) ≡ run l table (Primary b ∷ Calls b ∷ ws) d (sign (codes "(") at ∷ one)
 unfolding table
@@ -179,9 +192,9 @@ pub first_goes : (g : Bool) (m n : ℕ) (list more rest : Row) → m ≤ n → n
 unfolding table
 first_goes g m n list more rest h close int e s l b f ws d =
     run-begins l table (FirstArgument g b) (Expression b) (MoreArguments b ∷ []) ws d list
-        (ap (λ x. cond x (Takes true [] 0) (cond (g && next (is_word (codes "int")) (first list)) LeavesOut (and_then (expression_answer b (first list)) (MoreArguments b ∷ [])))) close
-        ∙ ap (λ x. cond x LeavesOut (and_then (expression_answer b (first list)) (MoreArguments b ∷ []))) int)
-        (then_stays (binary_answer 6 b (first list)) (Choice b ∷ []))
+    (ap (λ x. cond x (Takes true [] 0) (cond (g && next (is_word (codes "int")) (first list)) LeavesOut (and_then (expression_answer b (first list)) (MoreArguments b ∷ [])))) close
+    ∙ ap (λ x. cond x LeavesOut (and_then (expression_answer b (first list)) (MoreArguments b ∷ []))) int)
+    (then_stays (binary_answer 6 b (first list)) (Choice b ∷ []))
     ∙ e l b (λ k. omega (arith, h, f k)) (MoreArguments b ∷ ws) d
     ∙ s l b f ws
 
@@ -255,7 +268,7 @@ fold_goes form at paren_at name_at colon_at close_at brace_at end_at text m n ol
     let tail = FoldBody b ∷ ws in
     ap (run l table (Primary b ∷ ws) d) e
     ∙ run-takes l table (Primary b) (nat_lt 1 b) (Mark (codes "(") ∷ Name ∷ Mark (codes ":") ∷ Primary (b - 1) ∷ Calls (b - 1) ∷ Mark (codes ")") ∷ FoldBody b ∷ []) ws d 0 (word (fold_text form) at)
-        (sign (codes "(") paren_at ∷ word text name_at ∷ sign (codes ":") colon_at ∷ items) (fold_taken form at b) (λ h. lt-ltb 1 b (omega (arith, some, f h)))
+    (sign (codes "(") paren_at ∷ word text name_at ∷ sign (codes ":") colon_at ∷ items) (fold_taken form at b) (λ h. lt-ltb 1 b (omega (arith, some, f h)))
     ∙ run-takes l table (Mark (codes "(")) true [] (Name ∷ Mark (codes ":") ∷ Primary (b - 1) ∷ Calls (b - 1) ∷ Mark (codes ")") ∷ tail) 0 0 (sign (codes "(") paren_at) (word text name_at ∷ sign (codes ":") colon_at ∷ items) refl (λ h. refl)
     ∙ run-takes l table Name true [] (Mark (codes ":") ∷ Primary (b - 1) ∷ Calls (b - 1) ∷ Mark (codes ")") ∷ tail) 0 0 (word text name_at) (sign (codes ":") colon_at ∷ items) (ap (λ x. cond x (Takes true [] 0) Refuses) is) (λ h. refl)
     ∙ run-takes l table (Mark (codes ":")) true [] (Primary (b - 1) ∷ Calls (b - 1) ∷ Mark (codes ")") ∷ tail) 0 0 (sign (codes ":") colon_at) items refl (λ h. refl)

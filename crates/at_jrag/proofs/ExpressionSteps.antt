@@ -238,9 +238,9 @@ opened_name l b ws d text at ss is h =
     run-acts l (Opened b) ws d (t ∷ ss)
     ∙ ap (λ x. acts l (cond x (Takes (nat_lt 0 (b - 1)) (Enclosed (is_get_child t) b ∷ []) 0) (and_then (expression_answer (b - 1) (Some t)) (Mark (codes ")") ∷ Deeper ∷ Calls b ∷ []))) ws (t ∷ ss)) is
     ∙ takes_alike (nat_lt 0 (b - 1) || not l) l (Enclosed (is_get_child t) b ∷ ws) (within_parenthesis (is_get_child t) (b - 1) (Deeper ∷ Calls b ∷ ws)) 0 t ss
-        (enclosed_either (next (is_sign (codes ")")) (first ss)) l (is_get_child t) b ws ss refl (λ c rest e f. h t c rest (ap (λ x. t ∷ x) e) is f))
+    (enclosed_either (next (is_sign (codes ")")) (first ss)) l (is_get_child t) b ws ss refl (λ c rest e f. h t c rest (ap (λ x. t ∷ x) e) is f))
     ∙ sym (run-acts l (Expression (b - 1)) (Mark (codes ")") ∷ Deeper ∷ Calls b ∷ ws) d (t ∷ ss)
-        ∙ ap (λ a. acts l (and_then (and_then (and_then (and_then (and_then (and_then (and_then (and_then a (Calls (b - 1) ∷ [])) (Links 0 (b - 1) ∷ [])) (Links 1 (b - 1) ∷ [])) (Links 2 (b - 1) ∷ [])) (Links 3 (b - 1) ∷ [])) (Links 4 (b - 1) ∷ [])) (Links 5 (b - 1) ∷ [])) (Choice (b - 1) ∷ [])) (Mark (codes ")") ∷ Deeper ∷ Calls b ∷ ws) (t ∷ ss)) (name_primary (b - 1) text at is))
+    ∙ ap (λ a. acts l (and_then (and_then (and_then (and_then (and_then (and_then (and_then (and_then a (Calls (b - 1) ∷ [])) (Links 0 (b - 1) ∷ [])) (Links 1 (b - 1) ∷ [])) (Links 2 (b - 1) ∷ [])) (Links 3 (b - 1) ∷ [])) (Links 4 (b - 1) ∷ [])) (Links 5 (b - 1) ∷ [])) (Choice (b - 1) ∷ [])) (Mark (codes ")") ∷ Deeper ∷ Calls b ∷ ws) (t ∷ ss)) (name_primary (b - 1) text at is))
 
 opened_either : (x l : Bool) (b : ℕ) (ws : List Want) (d : ℕ) (t : PlacedToken) (ss : Row) → is_name_token t ≡ x → NoCast (t ∷ ss)
     → run l table (Opened b ∷ ws) d (t ∷ ss) ≡ run l table (Expression (b - 1) ∷ Mark (codes ")") ∷ Deeper ∷ Calls b ∷ ws) d (t ∷ ss)

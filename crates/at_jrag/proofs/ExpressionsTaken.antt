@@ -228,16 +228,16 @@ operation_accepted : (o : syntax.Operator) (at : ℕ × ℕ) (f : Facts o at) (j
     → Accepted j m old link → link ≡ sign (grammar.operator_text o) at ∷ right → Accepted k n right rest → Accepted (grammar.operator_level o) (1 + max m n) old rest
 operation_accepted o at f j k m n old link right rest lj lk a e b = by_taken (grammar.operator_level o) (1 + max m n) old rest f.low (omega (arith, f.level))
     (taken_link (grammar.operator_level o) f.rank (1 + max m n) old rest f.level (λ ends.
-        then_moves (Binary (suc f.rank)) (λ b. Links f.rank b ∷ []) (λ b. Links f.rank b ∷ []) m (1 + max m n) old link rest (omega arith)
-        ((a.taken (omega (arith, f.low, lj))).linked f.rank (omega (arith, f.level, lj)) (ends_at f.rank (sign (grammar.operator_text o) at) link right e (ends_operator o at f)))
-        (operation_moves o at f m n link right rest e ((b.taken (omega (arith, f.low, lk))).whole f.rank (omega (arith, f.level, lk)) ends))))
+    then_moves (Binary (suc f.rank)) (λ b. Links f.rank b ∷ []) (λ b. Links f.rank b ∷ []) m (1 + max m n) old link rest (omega arith)
+    ((a.taken (omega (arith, f.low, lj))).linked f.rank (omega (arith, f.level, lj)) (ends_at f.rank (sign (grammar.operator_text o) at) link right e (ends_operator o at f)))
+    (operation_moves o at f m n link right rest e ((b.taken (omega (arith, f.low, lk))).whole f.rank (omega (arith, f.level, lk)) ends))))
 
 instance_accepted : (at name_at : ℕ × ℕ) (text : List ℕ) (j m : ℕ) (old link rest : Row) → 4 ≤ j → Accepted j m old link → link ≡ word (codes "instanceof") at ∷ word text name_at ∷ rest → is_name text ≡ true → Accepted 4 (1 + m) old rest
 instance_accepted at name_at text j m old link rest h a e is = by_taken 4 (1 + m) old rest (omega arith) (omega arith)
     (taken_link 4 2 (1 + m) old rest refl (λ ends.
-        then_moves (Binary 3) (λ b. Links 2 b ∷ []) (λ b. Links 2 b ∷ []) m (1 + m) old link rest (omega arith)
-        ((a.taken (omega (arith, h))).linked 2 (omega (arith, h)) (ends_at 2 (word (codes "instanceof") at) link (word text name_at ∷ rest) e (instance_ends at)))
-        (instance_moves at name_at text m link rest e is)))
+    then_moves (Binary 3) (λ b. Links 2 b ∷ []) (λ b. Links 2 b ∷ []) m (1 + m) old link rest (omega arith)
+    ((a.taken (omega (arith, h))).linked 2 (omega (arith, h)) (ends_at 2 (word (codes "instanceof") at) link (word text name_at ∷ rest) e (instance_ends at)))
+    (instance_moves at name_at text m link rest e is)))
 
 choice_accepted : (at colon_at : ℕ × ℕ) (j k m n : ℕ) (old link chosen colon other rest : Row) → 1 ≤ j → Accepted j k old link → link ≡ sign (codes "?") at ∷ chosen
     → Goes Expression (λ b. []) m chosen colon → colon ≡ sign (codes ":") colon_at ∷ other → (EndsWhole (first rest) → Goes Expression (λ b. []) n other rest) → Accepted 0 (1 + max k (max m n)) old rest
@@ -347,7 +347,7 @@ mutual
       (λ f. not_goes at (depth e) old one rest (deep e) p (operand (level e) (depth e) one rest post (accepted e one rest r) f))
   accepted (syntax.Cast at class e) old rest (named, close, one, p, n, c, f, post, r) = by_unary 7 (1 + depth e) old rest (omega arith) (omega arith)
       (λ x. cast_goes at class.at c.0 class.text (depth e) old one rest (deep e) (p ∙ ap (λ r. sign (codes "(") at ∷ r) (n.1 ∙ ap (λ r. word class.text class.at ∷ r) c.1)) n.0 (sym (next_first follows_cast one) ∙ f)
-        (operand (level e) (depth e) one rest post (accepted e one rest r) x))
+      (operand (level e) (depth e) one rest post (accepted e one rest r) x))
   accepted (syntax.InstanceOf at e behind class) old rest (link, named, same, lean, r, l, n) =
       instance_accepted behind class.at class.text (level e) (depth e) old link rest lean (accepted e old link r) (l ∙ ap (λ r. word (codes "instanceof") behind ∷ r) n.1) n.0
   accepted (syntax.Binary at o between a b) old rest (link, right, same, lean, strong, p, l, q) =
@@ -357,10 +357,10 @@ mutual
   accepted (syntax.Fold at form name list body) old rest (paren, named, colon, items, close, brace, one, end, w, p, n, m, plain, post, q, c, b, r, z) =
       fold_accepted form at (1 + max (depth list) (depth body)) old paren rest w
       (fold_goes form at p.0 name.at m.0 c.0 b.0 z.0 name.text (depth list) (depth body) old items close one end rest (deep list)
-        (w ∙ ap (λ r. word (grammar.fold_text form) at ∷ r) (p.1 ∙ ap (λ r. sign (codes "(") p.0 ∷ r) (n.1 ∙ ap (λ r. word name.text name.at ∷ r) m.1))) n.0
-        (λ l x fits ws d. (accepted list items close q).primary post (ap (λ r. next follows_cast (first r)) c.1) (sym (next_first (is_sign (codes "-")) items) ∙ plain) l x fits ws d
-          ∙ calls_end (depth list) close (ap (λ r. next (is_sign (codes ".")) (first r)) c.1) l x fits ws)
-        (c.1 ∙ ap (λ r. sign (codes ")") c.0 ∷ r) b.1) ((accepted body one end r).whole (whole_at _ end rest z.1 (brace_ends z.0))) z.1)
+      (w ∙ ap (λ r. word (grammar.fold_text form) at ∷ r) (p.1 ∙ ap (λ r. sign (codes "(") p.0 ∷ r) (n.1 ∙ ap (λ r. word name.text name.at ∷ r) m.1))) n.0
+      (λ l x fits ws d. (accepted list items close q).primary post (ap (λ r. next follows_cast (first r)) c.1) (sym (next_first (is_sign (codes "-")) items) ∙ plain) l x fits ws d
+      ∙ calls_end (depth list) close (ap (λ r. next (is_sign (codes ".")) (first r)) c.1) l x fits ws)
+      (c.1 ∙ ap (λ r. sign (codes ")") c.0 ∷ r) b.1) ((accepted body one end r).whole (whole_at _ end rest z.1 (brace_ends z.0))) z.1)
 
   first_accepted : (es : Exprs) (list rest : Row) → grammar.Arguments es list rest → (g : Bool) → Goes (FirstArgument g) (λ b. []) (deepest es) list rest
   first_accepted syntax.no_exprs list rest h g = no_arguments_go g h.0 list rest h.1
@@ -373,4 +373,4 @@ mutual
   more_accepted (syntax.expr e es) m more rest (one, mid, c, r, s) =
       subst (λ (k : ℕ). Moves (λ b. MoreArguments b ∷ []) (λ b. []) m k more rest) (max_assoc m (depth e) (deepest es))
       (moves_on (λ b. MoreArguments b ∷ []) (λ b. MoreArguments b ∷ []) (λ b. []) m (max m (depth e)) (max (max m (depth e)) (deepest es)) more mid rest (omega arith)
-        (more_moves c.0 m (depth e) more one mid c.1 ((accepted e one mid r).whole (more_ends es mid rest s))) (more_accepted es (max m (depth e)) mid rest s))
+      (more_moves c.0 m (depth e) more one mid c.1 ((accepted e one mid r).whole (more_ends es mid rest s))) (more_accepted es (max m (depth e)) mid rest s))

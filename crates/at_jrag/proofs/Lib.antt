@@ -7,4 +7,6 @@ pub mod ExpressionRanks
 pub mod ExpressionRuns
 pub mod ExpressionsTaken
 pub mod Declarations
+pub mod Numbers
 pub mod DeclarationRuns
+pub mod Quotations

@@ -167,10 +167,10 @@ opens_on inner form make before tail front mid rest [] e split fits makes (inl h
 opens_on {S = S} inner form make before tail front mid rest [] e split fits makes (inr b) o = inr (b.0, b.1, b.2, λ more. subst (λ (l : List S). form.Spells b.0 (before.before l) more) (sym (front.is (b.1.before more) ∙ ap (λ l. l ++ b.1.before more) e)) (b.3 more))
 opens_on inner form make before tail front mid rest (s ∷ xs) e split fits makes opens (inl h) = absurd (let q : s ∷ xs ≡ [] = sym e ∙ h in cc)
 opens_on inner form make before tail front mid rest (s ∷ xs) e split fits makes opens (inr b) = inr (
-    make b.0,
-    then b.1 tail,
-    fits b.0 b.2,
-    makes b.0 (λ more. front.before (b.1.before more)) (λ more. first_of_front xs front s e (b.1.before more) ∙ sym (ap first split ∙ first_of_front xs front s e rest)) b.3,
+  make b.0,
+  then b.1 tail,
+  fits b.0 b.2,
+  makes b.0 (λ more. front.before (b.1.before more)) (λ more. first_of_front xs front s e (b.1.before more) ∙ sym (ap first split ∙ first_of_front xs front s e rest)) b.3,
 )
 
 first_with : {S : Type 0} (xs : List S) (front : Front S) (s : S) (rest more : List S) → front.symbols ≡ xs → first rest ≡ Some s → first (front.before (s ∷ more)) ≡ first (front.before rest)
@@ -182,11 +182,11 @@ reason_on : {S W U V : Type 0} (inner : Form S W U) (form : Form S W V) (r : Rea
 reason_on inner form Refused make before tail front mid rest split makes leaves why = tt
 reason_on inner form LeftOut make before tail front mid rest split makes leaves why = leaves front.symbols (first rest) why
 reason_on inner form TooDeep make before tail front mid rest split makes leaves (s, e, u, t, spells) = (
-    s,
-    e,
-    make u,
-    then t tail,
-    makes u (λ more. front.before (s ∷ t.before more)) (λ more. first_with front.symbols front s rest (t.before more) refl e ∙ sym (ap first split)) spells,
+  s,
+  e,
+  make u,
+  then t tail,
+  makes u (λ more. front.before (s ∷ t.before more)) (λ more. first_with front.symbols front s rest (t.before more) refl e ∙ sym (ap first split)) spells,
 )
 
 -- The form stops where a part of it does. Before the part it has this front, that begins a value of it.

@@ -6,7 +6,7 @@ use Rattle.at_text.specs.Symbols.{PlacedToken}
 use Rattle.at_jrag.specs.Grammar.{Row, Sign, is_sign, is_word, next_is}
 use Rattle.at_jrag.specs.Machine.{Reason, Refused, LeftOut, TooDeep, Stuck, run}
 use Rattle.at_jrag.specs.Wants.{Want}
-use Rattle.at_jrag.specs.Table.{table}
+use Rattle.at_jrag.specs.Table.{table, is_literal, is_plain, is_quoted}
 use Rattle.at_jrag.specs.declared.reader.ReadError.{ReadError}
 use Rattle.at_jrag.specs.declared.reader.ReadError.TheVariants as errors
 
@@ -57,3 +57,17 @@ NotOpened name errors.Memory old rest = Unit {0}
 NotOpened name errors.Syntax old rest = (rest ≡ old) × (next_is (is_sign (codes "(")) old ≡ false)
 NotOpened name errors.LeftOut old rest = Sign (codes "(") old rest × (bytes_eq name (codes "getChild") && next_is (is_word (codes "int")) rest ≡ true)
 NotOpened name errors.Nesting old rest = ⊥
+
+-- what stands between quotes is no text's spelling
+abbrev pub NoText : List ℕ → ReadError → Type 0
+NoText text errors.Memory = Unit {0}
+NoText text errors.Syntax = is_quoted text ≡ false
+NoText text errors.LeftOut = ⊥
+NoText text errors.Nesting = ⊥
+
+-- nothing was taken, since the next token, a number or a text, is none
+abbrev pub NoLiteral : ReadError → Row → Row → Type 0
+NoLiteral errors.Memory old rest = Unit {0}
+NoLiteral errors.Syntax old rest = (rest ≡ old) × (next_is is_literal old ≡ false) × (next_is is_plain old ≡ false)
+NoLiteral errors.LeftOut old rest = ⊥
+NoLiteral errors.Nesting old rest = ⊥

@@ -31,9 +31,17 @@ sign_rank text =
 abbrev pub link_rank : PlacedToken → ℕ
 link_rank t = cond (is_sign_kind t.kind) (sign_rank t.text) (cond (is_word (codes "instanceof") t) 3 0)
 
+-- the rank of the next token, if there is one
+abbrev pub next_rank : Option PlacedToken → ℕ
+next_rank None = 0
+next_rank (Some t) = link_rank t
+
 -- digits without a leading zero, and their value is at most this
+abbrev pub is_decimal_within : ℕ → List ℕ → Bool
+is_decimal_within most text = nat_le (digits_value 10 text) most && bytes_eq (decimal (digits_value 10 text)) text
+
 abbrev pub is_number_within : ℕ → PlacedToken → Bool
-is_number_within most t = is_number t && (nat_le (digits_value 10 t.text) most && bytes_eq (decimal (digits_value 10 t.text)) t.text)
+is_number_within most t = is_number t && is_decimal_within most t.text
 
 -- the name of a call that reads any child
 abbrev pub is_get_child : PlacedToken → Bool
@@ -62,6 +70,14 @@ is_quotation t = elim t.kind [ kind.Word ↦ false | kind.Number ↦ false | kin
 -- a number, a text or a reserved word that is a value
 abbrev pub is_literal : PlacedToken → Bool
 is_literal t = is_number_within 2147483647 t || (is_quotation t || is_constant t)
+
+-- unaries begin with it
+abbrev pub opens_unary : PlacedToken → Bool
+opens_unary t = is_sign (codes "-") t || (is_sign (codes "!") t || (is_sign (codes "(") t || (is_literal t || (begins_fold t || is_name_token t))))
+
+-- it is a sign or a word
+abbrev pub is_plain : PlacedToken → Bool
+is_plain t = is_sign_kind t.kind || is_word_kind t.kind
 
 -- ---- the rows of expressions
 
