@@ -1,3 +1,12 @@
+pub mod MachineLaws
+pub mod MachinePaths
+pub mod ExpressionSteps
 pub mod Tokens
 pub mod Expressions
+pub mod ExpressionRanks
+pub mod ExpressionRuns
+pub mod ExpressionsTaken
 pub mod Declarations
+pub mod Numbers
+pub mod DeclarationRuns
+pub mod Quotations
