@@ -1,11 +1,12 @@
 //! The reader of tokens: a method for each form of the language. It stands before the tokens that are left.
 
-ghost use Rattle.std.specs.Prelude.{◌≡◌, [], ◌∷◌, List, length, IfOk, OnOk, MatchOption, MatchBool, ℕ, true, false};
+ghost use Rattle.std.specs.Prelude.{◌≡◌, [], ◌∷◌, List, length, IfOk, IfErr, OnOk, MatchOption, MatchBool, ℕ, true, false};
 ghost use Rattle.at_model.specs.Names.{is_name};
 ghost use Rattle.at_text.specs.Symbols.{PlacedToken, placed};
 ghost use Rattle.at_jrag.specs.View.{word_view};
 ghost use Rattle.at_jrag.specs.Grammar.{Row, sign, word, is_sign, is_word, is_name_token, next_is, Name, Opens};
 ghost use Rattle.at_jrag.specs.Left.{left};
+ghost use Rattle.at_jrag.specs.Runs.{Missing, NotOpened};
 ghost use Rattle.at_jrag.specs.declared.reader.ReadError.TheVariants.{Memory};
 
 mod declarations;
@@ -209,6 +210,7 @@ impl<'a> Reader<'a> {
     /// The sign.
     fn expects(&mut self, text: &str) -> Result<(u32, u32), ReadError>
         ensures found { IfOk result (λ at. left self.old.rest.now ≡ sign text.now at ∷ left self.new.rest.now) }
+        ensures missing { IfErr result (λ e. Missing (is_sign text.now) e (left self.old.rest.now) (left self.new.rest.now)) }
     {
         match self.takes(text) {
             Some(at) => Ok(at),
@@ -219,6 +221,7 @@ impl<'a> Reader<'a> {
     /// `name`
     fn name(&mut self) -> Result<Word, ReadError>
         ensures found { IfOk result (λ w. Name (word_view w) (left self.old.rest.now) (left self.new.rest.now)) }
+        ensures missing { IfErr result (λ e. Missing is_name_token e (left self.old.rest.now) (left self.new.rest.now)) }
     {
         match self.takes_name() {
             Some(token) => Ok(Word {
@@ -232,6 +235,7 @@ impl<'a> Reader<'a> {
     /// `(` behind the name, where `int` behind the parenthesis of `getChild` is left out.
     fn opens(&mut self, name: &str) -> Result<(), ReadError>
         ensures found { OnOk result (Opens name.now (left self.old.rest.now) (left self.new.rest.now)) }
+        ensures missing { IfErr result (λ e. NotOpened name.now e (left self.old.rest.now) (left self.new.rest.now)) }
     {
         self.expects("(")?;
         if name == "getChild" && self.is_before_word("int") {
