@@ -363,30 +363,48 @@ getter_then l us at old dot called rest p e q ws d =
     let a = q ws 0 in
     (a.0, p (want.Defined ∷ (us ++ ws)) d ∙ ap (run l table (want.Defined ∷ (us ++ ws)) 0) e ∙ run-takes l table want.Defined true (want.Signed ∷ want.Body ∷ []) (us ++ ws) 0 0 (sign (codes ".") at) called (dot_row at) (λ h. refl) ∙ a.1)
 
-behind_then : (l : Bool) (f : DeclForm) (at : Place) (old behind more rest : Row) → (l ≡ true → nesting f ≤ max_nesting) → old ≡ word (grammar.keyword f) at ∷ behind → Behind f behind more → Pass l (want.Decls ∷ []) more rest → Pass l (want.Decls ∷ []) old rest
-behind_then l (syntax.Synthesized lazy k class name ps ending) at old behind more rest fits e (end, h, z) p =
-    pass_takes l want.Decls (declared (want.Ending ∷ want.Decls ∷ [])) (word (codes "syn") at) old behind rest e (λ d. (0, synthesized_row at d))
-    (declared_then l (want.Ending ∷ want.Decls ∷ []) lazy k class name ps behind end rest h (no_circular ending end more z) (pass_then l want.Ending (want.Decls ∷ []) end more rest (ending_goes l ending end more fits z) p))
-behind_then l (syntax.Inherited lazy k class name ps) at old behind more rest fits e (end, h, z) p =
-    pass_takes l want.Decls (declared (want.Mark (codes ";") ∷ want.Decls ∷ [])) (word (codes "inh") at) old behind rest e (λ d. (0, inherited_row at d))
-    (declared_then l (want.Mark (codes ";") ∷ want.Decls ∷ []) lazy k class name ps behind end rest h (ap (λ r. next (is_word (codes "circular")) (first r)) z.1) (pass_then l (want.Mark (codes ";")) (want.Decls ∷ []) end more rest (mark_pass l (codes ";") end more z) p))
-behind_then l (syntax.Equation class name ps b) at old behind more rest fits e (called, body, o, s, z) p =
-    pass_takes l want.Decls (want.Name ∷ want.Mark (codes ".") ∷ want.Signed ∷ want.Defined ∷ want.Decls ∷ []) (word (codes "eq") at) old behind rest e (λ d. (0, equation_row at d))
-    (owner_then l (want.Signed ∷ want.Defined ∷ want.Decls ∷ []) class behind called rest o
-    (pass_then l want.Signed (want.Defined ∷ want.Decls ∷ []) called body rest (signed_pass l name ps called body s) (pass_then l want.Defined (want.Decls ∷ []) body more rest (defined_goes l b body more fits z) p)))
-behind_then l (syntax.InheritedEquation class getter i name ps b) at old behind more rest fits e (got, called, body, o, (paren, list, dot, n, opens, x, s), g, z) p =
-    pass_takes l want.Decls (want.Name ∷ want.Mark (codes ".") ∷ want.Signed ∷ want.Defined ∷ want.Decls ∷ []) (word (codes "eq") at) old behind rest e (λ d. (0, equation_row at d))
-    (owner_then l (want.Signed ∷ want.Defined ∷ want.Decls ∷ []) class behind got rest o
-    (getter_then l (want.Decls ∷ []) s.0 got dot called rest (getter_goes l getter i got rest dot paren list n opens (indexed i list dot x)) s.1
-    (pass_then l want.Signed (want.Body ∷ want.Decls ∷ []) called body rest (signed_pass l name ps called body g) (pass_then l want.Body (want.Decls ∷ []) body more rest (body_goes l b body more fits z) p))))
+-- Where these are wanted, the machine comes to where those are.
+abbrev pub Comes : Bool → List Want → List Want → Row → Row → Type 0
+Comes l us vs old rest = (ws : List Want) (d : ℕ) → (e : ℕ) × (run l table (us ++ ws) d old ≡ run l table (vs ++ ws) e rest)
 
-pub decl_then : (l : Bool) (d : Decl) (old more rest : Row) → (l ≡ true → NestsWithin d) → DeclOf d old more → Pass l (want.Decls ∷ []) more rest → Pass l (want.Decls ∷ []) old rest
-decl_then l d old more rest fits (behind, e, h) p = behind_then l d.form d.at old behind more rest fits e h p
+decl_comes : (l : Bool) (us : List Want) (t : PlacedToken) (old behind more : Row) → old ≡ t ∷ behind
+    → ((ws : List Want) (d : ℕ) → run l table (want.Decls ∷ ws) d (t ∷ behind) ≡ run l table (us ++ want.Decls ∷ ws) 0 behind) → Pass l us behind more → Comes l (want.Decls ∷ []) (want.Decls ∷ []) old more
+decl_comes l us t old behind more e row p ws d = let a = p (want.Decls ∷ ws) 0 in (a.0, ap (run l table (want.Decls ∷ ws) d) e ∙ row ws d ∙ a.1)
+
+behind_comes : (l : Bool) (f : DeclForm) (at : Place) (old behind more : Row) → (l ≡ true → nesting f ≤ max_nesting) → old ≡ word (grammar.keyword f) at ∷ behind → Behind f behind more → Comes l (want.Decls ∷ []) (want.Decls ∷ []) old more
+behind_comes l (syntax.Synthesized lazy k class name ps ending) at old behind more fits e (end, h, z) =
+    decl_comes l (declared (want.Ending ∷ [])) (word (codes "syn") at) old behind more e (λ ws d. run-takes l table want.Decls true (declared (want.Ending ∷ want.Decls ∷ [])) ws d 0 (word (codes "syn") at) behind (synthesized_row at d) (λ h. refl))
+    (declared_then l (want.Ending ∷ []) lazy k class name ps behind end more h (no_circular ending end more z) (ending_goes l ending end more fits z))
+behind_comes l (syntax.Inherited lazy k class name ps) at old behind more fits e (end, h, z) =
+    decl_comes l (declared (want.Mark (codes ";") ∷ [])) (word (codes "inh") at) old behind more e (λ ws d. run-takes l table want.Decls true (declared (want.Mark (codes ";") ∷ want.Decls ∷ [])) ws d 0 (word (codes "inh") at) behind (inherited_row at d) (λ h. refl))
+    (declared_then l (want.Mark (codes ";") ∷ []) lazy k class name ps behind end more h (ap (λ r. next (is_word (codes "circular")) (first r)) z.1) (mark_pass l (codes ";") end more z))
+behind_comes l (syntax.Equation class name ps b) at old behind more fits e (called, body, o, s, z) =
+    decl_comes l (want.Name ∷ want.Mark (codes ".") ∷ want.Signed ∷ want.Defined ∷ []) (word (codes "eq") at) old behind more e
+    (λ ws d. run-takes l table want.Decls true (want.Name ∷ want.Mark (codes ".") ∷ want.Signed ∷ want.Defined ∷ want.Decls ∷ []) ws d 0 (word (codes "eq") at) behind (equation_row at d) (λ h. refl))
+    (owner_then l (want.Signed ∷ want.Defined ∷ []) class behind called more o (pass_then l want.Signed (want.Defined ∷ []) called body more (signed_pass l name ps called body s) (defined_goes l b body more fits z)))
+behind_comes l (syntax.InheritedEquation class getter i name ps b) at old behind more fits e (got, called, body, o, (paren, list, dot, n, opens, x, s), g, z) =
+    decl_comes l (want.Name ∷ want.Mark (codes ".") ∷ want.Signed ∷ want.Defined ∷ []) (word (codes "eq") at) old behind more e
+    (λ ws d. run-takes l table want.Decls true (want.Name ∷ want.Mark (codes ".") ∷ want.Signed ∷ want.Defined ∷ want.Decls ∷ []) ws d 0 (word (codes "eq") at) behind (equation_row at d) (λ h. refl))
+    (owner_then l (want.Signed ∷ want.Defined ∷ []) class behind got more o
+    (getter_then l [] s.0 got dot called more (getter_goes l getter i got more dot paren list n opens (indexed i list dot x)) s.1
+    (pass_then l want.Signed (want.Body ∷ []) called body more (signed_pass l name ps called body g) (body_goes l b body more fits z))))
+
+pub decls_come : (l : Bool) (ds : List Decl) (old rest : Row) → (l ≡ true → AllByRecursion NestsWithin ds) → grammar.Decls ds old rest → Comes l (want.Decls ∷ []) (want.Decls ∷ []) old rest
+decls_come l [] old rest fits e ws d = (d, ap (run l table (want.Decls ∷ ws) d) e)
+decls_come l (x ∷ ds) old rest fits (more, (behind, e, h), k) ws d =
+    let a = behind_comes l x.form x.at old behind more (λ e. (fits e).0) e h ws d in
+    let b = decls_come l ds more rest (λ e. (fits e).1) k ws a.0 in
+    (b.0, a.1 ∙ b.1)
+
+decls_end : (l : Bool) (close rest : Row) → Sign (codes "}") close rest → Pass l (want.Decls ∷ []) close rest
+unfolding table
+decls_end l close rest s = pass_takes l want.Decls [] (sign (codes "}") s.0) close rest rest s.1 (λ d. (0, refl)) (pass_none l rest)
 
 decls_pass : (l : Bool) (ds : List Decl) (old close rest : Row) → (l ≡ true → AllByRecursion NestsWithin ds) → grammar.Decls ds old close → Sign (codes "}") close rest → Pass l (want.Decls ∷ []) old rest
-unfolding table
-decls_pass l [] old close rest fits e s = pass_takes l want.Decls [] (sign (codes "}") s.0) old rest rest (e ∙ s.1) (λ d. (0, refl)) (pass_none l rest)
-decls_pass l (d ∷ ds) old close rest fits (more, h, k) s = decl_then l d old more rest (λ e. (fits e).0) h (decls_pass l ds more close rest (λ e. (fits e).1) k s)
+decls_pass l ds old close rest fits h s ws d =
+    let a = decls_come l ds old close fits h ws d in
+    let b = decls_end l close rest s ws a.0 in
+    (b.0, a.1 ∙ b.1)
 
 aspect_row : (at : Place) (d : ℕ) → table want.File d (Some (word (codes "aspect") at)) ≡ Takes true (want.Name ∷ want.Mark (codes "{") ∷ want.Decls ∷ want.File ∷ []) 0
 unfolding table

@@ -1,12 +1,13 @@
 -- What the reader's methods say of the machine's runs.
-use Rattle.std.specs.Prelude.{◌≡◌, ℕ, ◌≤◌, List, [], ◌∷◌, ◌++◌, Bool, true, false, ◌&&◌, Option, Some, None}
+use Rattle.std.specs.Prelude.{◌≡◌, ℕ, ◌≤◌, List, [], ◌∷◌, ◌++◌, Bool, true, false, ◌&&◌, Option, Some, None, ◌⊎◌}
 use Rattle.std.specs.Str.{bytes_eq}
 use lib.Chars.{codes}
 use Rattle.at_text.specs.Symbols.{PlacedToken}
-use Rattle.at_jrag.specs.Grammar.{Row, Sign, is_sign, is_word, next_is}
+use Rattle.at_jrag.specs.Syntax.{KindWord}
+use Rattle.at_jrag.specs.Grammar.{Row, Sign, KindOf, sign, is_sign, is_word, is_name_token, is_number, next_is}
 use Rattle.at_jrag.specs.Machine.{Reason, Refused, LeftOut, TooDeep, Stuck, run}
 use Rattle.at_jrag.specs.Wants.{Want}
-use Rattle.at_jrag.specs.Table.{table, is_literal, is_plain, is_quoted}
+use Rattle.at_jrag.specs.Table.{table, is_literal, is_plain, is_quoted, is_kind, is_number_within, begins_fold}
 use Rattle.at_jrag.specs.declared.reader.ReadError.{ReadError}
 use Rattle.at_jrag.specs.declared.reader.ReadError.TheVariants as errors
 
@@ -71,3 +72,18 @@ NoLiteral errors.Memory old rest = Unit {0}
 NoLiteral errors.Syntax old rest = (rest ≡ old) × (next_is is_literal old ≡ false) × (next_is is_plain old ≡ false)
 NoLiteral errors.LeftOut old rest = ⊥
 NoLiteral errors.Nesting old rest = ⊥
+
+-- no kind is next, or no name behind it
+abbrev pub NoParam : ReadError → Row → Row → Type 0
+NoParam e old rest = Missing is_kind e old rest ⊎ ((k : KindWord) × (mid : Row) × KindOf k old mid × Missing is_name_token e mid rest)
+
+-- a `-` was taken, and the number behind it is none
+abbrev pub NoNegative : ReadError → Row → Row → Type 0
+NoNegative errors.Memory old rest = ⊥
+NoNegative errors.Syntax old rest = (at : ℕ × ℕ) × (old ≡ sign (codes "-") at ∷ rest) × (next_is is_number rest ≡ true) × (next_is (is_number_within 2147483648) rest ≡ false)
+NoNegative errors.LeftOut old rest = ⊥
+NoNegative errors.Nesting old rest = ⊥
+
+-- what is next is no literal, no parenthesis and no fold
+abbrev pub IsOther : Row → Type 0
+IsOther old = (next_is is_literal old ≡ false) × (next_is (is_sign (codes "(")) old ≡ false) × (next_is begins_fold old ≡ false)

@@ -7,7 +7,7 @@ ghost use Rattle.at_jrag.specs.View.{expr_view};
 ghost use Rattle.at_jrag.specs.Grammar.{Row, word, number, quotation, next_is};
 ghost use Rattle.at_jrag.specs.Left.{left};
 ghost use Rattle.at_jrag.specs.Table.{is_decimal_within};
-ghost use Rattle.at_jrag.specs.Runs.{NoText, NoLiteral};
+ghost use Rattle.at_jrag.specs.Runs.{NoText, NoLiteral, NoNegative};
 ghost use Rattle.at_jrag.specs.declared.reader.ReadError.TheVariants as error;
 ghost use Rattle.at_jrag.specs.Read.{IsNumber, greatest, opens_negative, is_constant, is_literal, Reads};
 
@@ -67,6 +67,7 @@ impl<'a> Reader<'a> {
         ensures found { IfOk result (λ o. MatchOption o
             ((self.new ≡ self.old) × (opens_negative (left self.old.rest.now) ≡ false))
             (λ m. Reads 8 m (left self.old.rest.now) (left self.new.rest.now) × (m.depth ≡ 1))) }
+        ensures refused { IfErr result (λ e. NoNegative e (left self.old.rest.now) (left self.new.rest.now)) }
     {
         match self.rest {
             [minus, digits, rest @ ..] if is_sign(minus, "-") && digits.kind == TokenKind::Number =>
@@ -127,7 +128,7 @@ impl<'a> Reader<'a> {
     }
 
     /// The text of this spelling.
-    fn text(&self, at: (u32, u32), spelling: &str) -> Result<Measured, ReadError>
+    pub fn text(&self, at: (u32, u32), spelling: &str) -> Result<Measured, ReadError>
         ensures found { IfOk result (λ m. ((rest : Row) → Reads 8 m (quotation spelling.now at ∷ rest) rest) × (m.depth ≡ 1)) }
         ensures refused { IfErr result (NoText spelling.now) }
     {

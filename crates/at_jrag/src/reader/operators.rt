@@ -96,18 +96,23 @@ fn fold_of(token: &Placed<'_>) -> Option<FoldForm>
     }
 }
 
-/// Whether the language has expressions that begin with the token.
-fn opens_expression(token: &Placed<'_>) -> bool {
+/// Whether the language has expressions that begin with the token, which is no text.
+fn opens_expression(token: &Placed<'_>) -> bool
+    requires { is_text (placed token.now) ≡ false }
+    ensures { result ≡ opens_unary (placed token.now) }
+{
     match token.kind {
         TokenKind::Number => number(token.text, false).is_some(),
-        TokenKind::Text => true,
+        TokenKind::Text => false,
         TokenKind::Sign => token.text == "(" || token.text == "-" || token.text == "!",
         TokenKind::Word => opens_with_word(token.text),
     }
 }
 
 /// Whether the language has expressions that begin with the word.
-fn opens_with_word(word: &str) -> bool {
+fn opens_with_word(word: &str) -> bool
+    ensures { result ≡ (is_name word.now || is_constant word.now || is_opening word.now) }
+{
     is_name(word) || word == "true" || word == "false" || is_opening(word)
 }
 
@@ -176,10 +181,22 @@ impl<'a> Reader<'a> {
     }
 
     /// The fault where no expression may nest any more.
-    pub fn too_deep(&self) -> ReadError {
-        match self.rest {
-            [token, ..] if opens_expression(token) => ReadError::Nesting,
-            _ => ReadError::Syntax,
+    pub fn too_deep(&self) -> ReadError
+        ensures { (result ≡ error.Memory) ⊎ (result ≡ cond (next_is opens_unary (left self.now.rest.now)) error.Nesting error.Syntax) }
+    {
+        let [token, ..] = self.rest else {
+            return ReadError::Syntax;
+        };
+        if token.kind == TokenKind::Text {
+            return match self.text(token.at, token.text) {
+                Ok(_) => ReadError::Nesting,
+                Err(e) => e,
+            };
+        }
+        if opens_expression(token) {
+            ReadError::Nesting
+        } else {
+            ReadError::Syntax
         }
     }
 
