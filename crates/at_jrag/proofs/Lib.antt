@@ -12,3 +12,4 @@ pub mod DeclarationRuns
 pub mod Quotations
 pub mod Completions
 pub mod CompletionSteps
+pub mod Completed

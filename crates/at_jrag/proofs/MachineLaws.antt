@@ -67,10 +67,10 @@ run-ended limited table w ws d h = run-ends limited table w ws d (table w d None
 
 -- ---- where a run is stuck, it has looked at no more than the next symbol
 
-none_longer : {S : Type 0} (f : S) (front rest : List S) → f ∷ (front ++ rest) ≡ rest → ⊥
+pub none_longer : {S : Type 0} (f : S) (front rest : List S) → f ∷ (front ++ rest) ≡ rest → ⊥
 none_longer f front rest e = let l : suc (length (front ++ rest)) ≡ length rest = ap length e in omega (arith, length-append front rest)
 
-stuck_is : {S : Type 0} (r q : Reason) (xs ys : List S) → Stuck r xs ≡ Stuck q ys → xs ≡ ys
+pub stuck_is : {S : Type 0} (r q : Reason) (xs ys : List S) → Stuck r xs ≡ Stuck q ys → xs ≡ ys
 stuck_is r q xs ys e = cc
 
 halts_alike : {S : Type 0} (r q : Reason) (xs ys : List S) → Stuck r xs ≡ Stuck q ys → r ≡ q
@@ -95,7 +95,7 @@ unfolding run
 stuck_within limited table r ws d [] left h = ends_within (may_end table ws d) r left h
 stuck_within limited table r ws d (s ∷ ss) left h = left_within limited table r (after limited table ws d s) s ss left (λ vs e xs k. stuck_within limited table r vs e ss xs k) h
 
-none_grows : {S W : Type 0} (limited : Bool) (table : Table S W) (r : Reason) (s : S) (rest : List S) (m : Move W) → goes_on limited table m s rest ≡ Stuck r (s ∷ rest) → m ≡ Halts r
+pub none_grows : {S W : Type 0} (limited : Bool) (table : Table S W) (r : Reason) (s : S) (rest : List S) (m : Move W) → goes_on limited table m s rest ≡ Stuck r (s ∷ rest) → m ≡ Halts r
 none_grows limited table r s rest (Halts q) h = ap (λ x. Halts x) (halts_alike q r _ _ h)
 none_grows limited table r s rest (Goes more e) h = let l : suc (length rest) ≤ length rest = stuck_within limited table r more e rest (s ∷ rest) h in absurd (omega arith)
 
@@ -121,7 +121,7 @@ answered_alike (Skips d) ws f g h = h d
 answered_alike Refuses ws f g h = inr refl
 answered_alike LeavesOut ws f g h = inr refl
 
-after_alike : {S W : Type 0} (table : Table S W) (ws : List W) (d : ℕ) (s : S) → (after true table ws d s ≡ Halts TooDeep) ⊎ (after false table ws d s ≡ after true table ws d s)
+pub after_alike : {S W : Type 0} (table : Table S W) (ws : List W) (d : ℕ) (s : S) → (after true table ws d s ≡ Halts TooDeep) ⊎ (after false table ws d s ≡ after true table ws d s)
 after_alike table [] d s = inr refl
 after_alike table (w ∷ ws) d s = answered_alike (table w d (Some s)) ws (λ e. after true table ws e s) (λ e. after false table ws e s) (λ e. after_alike table ws e s)
 
@@ -147,11 +147,11 @@ deep_answered (Skips d) ws f g ih h = ih d h
 deep_answered Refuses ws f g ih h = absurd cc
 deep_answered LeavesOut ws f g ih h = absurd cc
 
-deep_after : {S W : Type 0} (table : Table S W) (ws : List W) (d : ℕ) (s : S) → after true table ws d s ≡ Halts TooDeep → (more : List W) × (e : ℕ) × (after false table ws d s ≡ Goes more e)
+pub deep_after : {S W : Type 0} (table : Table S W) (ws : List W) (d : ℕ) (s : S) → after true table ws d s ≡ Halts TooDeep → (more : List W) × (e : ℕ) × (after false table ws d s ≡ Goes more e)
 deep_after table [] d s h = absurd cc
 deep_after table (w ∷ ws) d s h = deep_answered (table w d (Some s)) ws (λ e. after true table ws e s) (λ e. after false table ws e s) (λ e. deep_after table ws e s) h
 
-never_at_end : {S : Type 0} (b : Bool) (rest : List S) → cond b Whole (Stuck Refused []) ≡ Stuck TooDeep rest → ⊥
+pub never_at_end : {S : Type 0} (b : Bool) (rest : List S) → cond b Whole (Stuck Refused []) ≡ Stuck TooDeep rest → ⊥
 never_at_end true rest h = absurd cc
 never_at_end false rest h = absurd cc
 
