@@ -8,8 +8,8 @@ use Rattle.at_jrag.specs.Wants as want
 use Rattle.at_jrag.specs.Wants.{Want}
 use Rattle.at_jrag.specs.Table.{table}
 use Rattle.at_jrag.proofs.MachineLaws.{goes_on, run-cons, stuck_is, none_longer, none_grows, after_alike, deep_after, never_at_end}
-use Rattle.at_jrag.proofs.Completions.{closing, Needs, Follows, Open, completed}
-use Rattle.at_jrag.proofs.CompletionSteps.{Known, Completes, GoesOpen, symbol_keeps}
+use Rattle.at_jrag.proofs.Completions.{closing, Needs, Open, completed}
+use Rattle.at_jrag.proofs.CompletionSteps.{Completes, GoesOpen, symbol_keeps}
 
 -- What was taken leads both machines to what is wanted, which can be completed.
 abbrev Leads : List Want → ℕ → Row → Type 0
@@ -96,7 +96,8 @@ open_unlimited p [] o = tt
 open_unlimited p (w ∷ ws) o = (needs_less p w o.0, o.1, open_unlimited _ ws o.2)
 
 -- at the symbol where the limit stops the machine, the one without a limit goes on, and is completed
-deeper_from : (vs : List Want) (e : ℕ) (rest : Row) → Completes true vs e → run true table vs e rest ≡ Stuck TooDeep rest → (other : Row) × (first other ≡ first rest) × (run false table vs e other ≡ Whole)
+deeper_from : (vs : List Want) (e : ℕ) (rest : Row) → Completes true vs e → run true table vs e rest ≡ Stuck TooDeep rest
+    → (other : Row) × (first other ≡ first rest) × (run false table vs e other ≡ Whole)
 unfolding run
 deeper_from vs e [] c h = absurd (never_at_end (may_end table vs e) [] h)
 deeper_from vs e (t ∷ rest) c h =
@@ -105,7 +106,8 @@ deeper_from vs e (t ∷ rest) c h =
     (t ∷ closing moves.0, refl, ap (λ m. goes_on false table m t (closing moves.0)) moves.2 ∙ completed false kept.0 moves.0 moves.1 kept.2)
 
 -- Where the limit stops the machine, what was taken and the symbol begin what is taken whole with no limit.
-pub goes_deeper : (front rest : Row) → run true table (want.File ∷ []) 0 (front ++ rest) ≡ Stuck TooDeep rest → (other : Row) × (first other ≡ first rest) × (run false table (want.File ∷ []) 0 (front ++ other) ≡ Whole)
+pub goes_deeper : (front rest : Row) → run true table (want.File ∷ []) 0 (front ++ rest) ≡ Stuck TooDeep rest
+    → (other : Row) × (first other ≡ first rest) × (run false table (want.File ∷ []) 0 (front ++ other) ≡ Whole)
 goes_deeper front rest h =
     let x = leads TooDeep front rest (want.File ∷ []) 0 h file_wanted in
     let y = deeper_from x.0 x.1 rest x.2 (sym (x.3 true rest) ∙ h) in

@@ -1,15 +1,15 @@
 -- Each symbol that is taken leaves what can be completed.
-use Rattle.std.proofs.Common.{arith, ◌≡◌, ℕ, zero, suc, ◌+◌, ◌-◌, ◌≤◌, List, [], ◌∷◌, ◌++◌, Bool, true, false, cond, max, Option, Some, None, refl, sym, ap, subst, ◌∙◌, append_assoc}
-use Rattle.std.specs.Prelude.{◌&&◌, ◌||◌, ◌==◌, not, nat_lt}
+use Rattle.std.proofs.Common.{arith, ◌≡◌, ℕ, zero, suc, ◌+◌, ◌-◌, ◌≤◌, List, [], ◌∷◌, ◌++◌, Bool, true, false, cond, max, Option, Some, None, refl, sym, subst, append_assoc}
+use Rattle.std.specs.Prelude.{◌&&◌, ◌==◌, nat_lt}
 use Rattle.std.proofs.lemmas.Bool.{ltb-true}
 use lib.Chars.{codes}
 use Rattle.at_text.specs.Reading.{first}
 use Rattle.at_text.specs.Symbols.{PlacedToken, is_word_kind}
-use Rattle.at_jrag.specs.Grammar.{Row, is_sign, is_word, is_name_token, is_number, follows_cast, max_nesting}
+use Rattle.at_jrag.specs.Grammar.{is_sign, is_word, is_name_token, is_number, follows_cast, max_nesting}
 use Rattle.at_jrag.specs.Machine.{Answer, Takes, Skips, Refuses, LeavesOut, and_then, Move, Goes, Halts, answered, after}
 use Rattle.at_jrag.specs.Wants.{Want, Expression, Binary, Links, Choice, Otherwise, Unary, Minus, Opened, Enclosed, Parenthesized, Calls, Called, Arguments, FirstArgument, MoreArguments, Primary, Named, FoldBody, Deeper, Join, Deepest, Counts, Name, Mark, File, Decls, Lazy, NotNta, Kind, Signed, Opening, Params, OneParam, MoreParams, NotCircular, Ending, Body, Defined, Return, Close}
 use Rattle.at_jrag.specs.Table.{table, next, is_get_child, is_literal, begins_fold, is_number_within, is_kind, link_rank, or_else, links_from, tails_answer, primary_answer, unary_answer, binary_answer, expression_answer, links_answer, choice_answer, calls_answer, named_answer, enclosed_rest, body_answer, more_params_answer, no_keyword, declared}
-use Rattle.at_jrag.proofs.Completions.{closing, closes, Follows, Needs, leaves, Open}
+use Rattle.at_jrag.proofs.Completions.{closing, closes, leaves, Open}
 
 -- the register is known to be 1 at least, or nothing is known of it
 abbrev pub Known : Bool → ℕ → Type 0
@@ -67,7 +67,8 @@ primary_keeps l p b ws None c o = tt
 primary_keeps l p b ws (Some t) c o =
     either (is_literal t) l p ws _ _ (λ f. (true, known_some 1 (omega arith), o (above l 0 b f)))
     (either (is_sign (codes "(") t) l p ws _ _
-    (takes l p ws (nat_lt 1 b) (Expression (b - 1) ∷ Mark (codes ")") ∷ Deeper ∷ []) 0 (λ f. (below l 1 b (above l 1 b f), refl, (tt, tt, (tt, tt, o (λ h. let k = above l 1 b f h in omega (arith, k)))))))
+    (takes l p ws (nat_lt 1 b) (Expression (b - 1) ∷ Mark (codes ")") ∷ Deeper ∷ []) 0
+    (λ f. (below l 1 b (above l 1 b f), refl, (tt, tt, (tt, tt, o (λ h. let k = above l 1 b f h in omega (arith, k)))))))
     (either (begins_fold t) l p ws _ _
     (takes l p ws (nat_lt 1 b) (Mark (codes "(") ∷ Name ∷ Mark (codes ":") ∷ Primary (b - 1) ∷ Calls (b - 1) ∷ Mark (codes ")") ∷ FoldBody b ∷ []) 0
     (λ f. (tt, tt, (tt, tt, (tt, tt, (below l 1 b (above l 1 b f), refl, (refl, refl, (tt, tt, (above l 1 b f, tt, o (λ h. let k = above l 1 b f h in omega (arith, k)))))))))))
@@ -76,7 +77,8 @@ primary_keeps l p b ws (Some t) c o =
 unary_keeps : (l p : Bool) (b : ℕ) (ws : List Want) (s : Option PlacedToken) → closes (first (closing ws)) ≡ true → ((l ≡ true → 1 ≤ b) → Open l true ws) → Kept l p ws (unary_answer b s)
 unary_keeps l p b ws s c o =
     either (next (is_sign (codes "-")) s) l p ws _ _ (takes l p ws (nat_lt 0 b) (Minus b ∷ []) 0 (λ f. (tt, c, o (above l 0 b f))))
-    (either (next (is_sign (codes "!")) s) l p ws _ _ (takes l p ws (nat_lt 1 b) (Unary (b - 1) ∷ Deeper ∷ []) 0 (λ f. (below l 1 b (above l 1 b f), c, (tt, tt, o (λ h. let k = above l 1 b f h in omega (arith, k))))))
+    (either (next (is_sign (codes "!")) s) l p ws _ _
+    (takes l p ws (nat_lt 1 b) (Unary (b - 1) ∷ Deeper ∷ []) 0 (λ f. (below l 1 b (above l 1 b f), c, (tt, tt, o (λ h. let k = above l 1 b f h in omega (arith, k))))))
     (either (next (is_sign (codes "(")) s) l p ws _ _ (takes l p ws (nat_lt 1 b) (Opened b ∷ []) 0 (λ f. (above l 1 b f, c, o (λ h. let k = above l 1 b f h in omega (arith, k)))))
     (then_keeps l p true (Calls b ∷ []) ws (primary_answer b s) (primary_keeps l true b (Calls b ∷ ws) s c (λ h. (refl, c, o h))))))
 
@@ -135,7 +137,8 @@ enclosed_keeps l p g b d ws s o =
 body_keeps : (l p : Bool) (ws : List Want) (s : Option PlacedToken) → Open l false ws → Kept l p ws (body_answer s)
 body_keeps l p ws s o =
     either (next (is_sign (codes "=")) s) l p ws _ _ (takes l p ws true (Expression max_nesting ∷ Mark (codes ";") ∷ []) 0 (λ f. ((λ h. omega arith), refl, (tt, tt, o))))
-    (either (next (is_sign (codes "{")) s) l p ws _ Refuses (takes l p ws true (Return ∷ Expression max_nesting ∷ Mark (codes ";") ∷ Close ∷ []) 0 (λ f. (tt, tt, ((λ h. omega arith), refl, (tt, tt, (tt, tt, o)))))) tt)
+    (either (next (is_sign (codes "{")) s) l p ws _ Refuses
+    (takes l p ws true (Return ∷ Expression max_nesting ∷ Mark (codes ";") ∷ Close ∷ []) 0 (λ f. (tt, tt, ((λ h. omega arith), refl, (tt, tt, (tt, tt, o)))))) tt)
 
 more_params_keep : (l p : Bool) (d : ℕ) (ws : List Want) (s : Option PlacedToken) → Open l false ws → Kept l p ws (more_params_answer d s)
 more_params_keep l p d ws s o =
@@ -165,7 +168,8 @@ row_keeps l p (Minus b) ws d t k o =
     (then_keeps l true true (Deeper ∷ []) ws (unary_answer (b - 1) (Some t)) (unary_keeps l true (b - 1) (Deeper ∷ ws) (Some t) o.1 (λ h. (tt, tt, o.2))))
 row_keeps l p (Opened b) ws d t k o =
     either (is_name_token t) l true ws _ _ (takes l true ws (nat_lt 0 (b - 1)) (Enclosed (is_get_child t) b ∷ []) 0 (λ f. (tt, o.1, o.2)))
-    (then_keeps l true true (Mark (codes ")") ∷ Deeper ∷ Calls b ∷ []) ws (expression_answer (b - 1) (Some t)) (expression_keeps l true (b - 1) (Mark (codes ")") ∷ Deeper ∷ Calls b ∷ ws) (Some t) refl (λ h. (tt, tt, (tt, tt, (refl, o.1, o.2))))))
+    (then_keeps l true true (Mark (codes ")") ∷ Deeper ∷ Calls b ∷ []) ws (expression_answer (b - 1) (Some t)) (expression_keeps l true (b - 1) (Mark (codes ")") ∷ Deeper ∷ Calls b ∷ ws)
+    (Some t) refl (λ h. (tt, tt, (tt, tt, (refl, o.1, o.2))))))
 row_keeps l p (Enclosed g b) ws d t k o =
     either (is_sign (codes ")") t) l true ws _ _ (λ f. (true, known_some 2 (omega arith), (refl, o.1, o.2)))
     (then_keeps l true true (Deeper ∷ Calls b ∷ []) ws (enclosed_rest g (b - 1) d (Some t)) (enclosed_keeps l true g (b - 1) d (Deeper ∷ Calls b ∷ ws) (Some t) (tt, tt, (refl, o.1, o.2))))
@@ -177,7 +181,8 @@ row_keeps l p (Called b) ws d t k o = either (is_name_token t) l false ws _ Refu
 row_keeps l p (Arguments g b) ws d t k o = either (is_sign (codes "(") t) l false ws _ Refuses (takes l false ws true (FirstArgument g b ∷ []) 0 (λ f. (tt, tt, o.2))) tt
 row_keeps l p (FirstArgument g b) ws d t k o =
     alone_keeps (is_sign (codes ")") t) l false ws 0 _ o.2
-    (either (g && is_word (codes "int") t) l false ws LeavesOut _ tt (then_keeps l false true (MoreArguments b ∷ []) ws (expression_answer b (Some t)) (expression_keeps l true b (MoreArguments b ∷ ws) (Some t) refl (λ h. (h, tt, o.2)))))
+    (either (g && is_word (codes "int") t) l false ws LeavesOut _ tt
+    (then_keeps l false true (MoreArguments b ∷ []) ws (expression_answer b (Some t)) (expression_keeps l true b (MoreArguments b ∷ ws) (Some t) refl (λ h. (h, tt, o.2)))))
 row_keeps l p (MoreArguments b) ws d t k o =
     alone_keeps (is_sign (codes ")") t) l false ws d _ o.2
     (either (is_sign (codes ",") t) l false ws _ Refuses (takes l false ws true (Expression b ∷ Deepest d ∷ MoreArguments b ∷ []) 0 (λ f. (o.0, refl, (tt, tt, (o.0, tt, o.2))))) tt)
@@ -192,14 +197,19 @@ row_keeps l p (Counts n) ws d t k o = known_some n o.0
 row_keeps l p Name ws d t k o = alone_keeps (is_name_token t) l false ws d Refuses o.2 tt
 row_keeps l p (Mark text) ws d t k o = alone_keeps (is_sign text t) l false ws d Refuses o.2 tt
 row_keeps l p File ws d t k o =
-    either (is_word (codes "aspect") t) l false ws _ _ (takes l false ws true (Name ∷ Mark (codes "{") ∷ Decls ∷ File ∷ []) 0 (λ f. (tt, tt, (tt, tt, (tt, tt, (tt, o.1, o.2)))))) (no_keyword_keeps l false ws t)
+    either (is_word (codes "aspect") t) l false ws _ _
+    (takes l false ws true (Name ∷ Mark (codes "{") ∷ Decls ∷ File ∷ []) 0 (λ f. (tt, tt, (tt, tt, (tt, tt, (tt, o.1, o.2)))))) (no_keyword_keeps l false ws t)
 row_keeps l p Decls ws d t k o =
     alone_keeps (is_sign (codes "}") t) l false ws 0 _ o.2
-    (either (is_word (codes "syn") t) l false ws _ _ (takes l false ws true (declared (Ending ∷ Decls ∷ [])) 0 (λ f. (tt, refl, (tt, tt, (tt, tt, (tt, tt, (tt, tt, (tt, refl, (tt, tt, (tt, tt, o.2))))))))))
-    (either (is_word (codes "inh") t) l false ws _ _ (takes l false ws true (declared (Mark (codes ";") ∷ Decls ∷ [])) 0 (λ f. (tt, refl, (tt, tt, (tt, tt, (tt, tt, (tt, tt, (tt, refl, (tt, tt, (tt, tt, o.2))))))))))
-    (either (is_word (codes "eq") t) l false ws _ _ (takes l false ws true (Name ∷ Mark (codes ".") ∷ Signed ∷ Defined ∷ Decls ∷ []) 0 (λ f. (tt, tt, (tt, tt, (tt, tt, (tt, tt, (tt, tt, o.2))))))) (no_keyword_keeps l false ws t))))
+    (either (is_word (codes "syn") t) l false ws _ _
+    (takes l false ws true (declared (Ending ∷ Decls ∷ [])) 0 (λ f. (tt, refl, (tt, tt, (tt, tt, (tt, tt, (tt, tt, (tt, refl, (tt, tt, (tt, tt, o.2))))))))))
+    (either (is_word (codes "inh") t) l false ws _ _
+    (takes l false ws true (declared (Mark (codes ";") ∷ Decls ∷ [])) 0 (λ f. (tt, refl, (tt, tt, (tt, tt, (tt, tt, (tt, tt, (tt, refl, (tt, tt, (tt, tt, o.2))))))))))
+    (either (is_word (codes "eq") t) l false ws _ _
+    (takes l false ws true (Name ∷ Mark (codes ".") ∷ Signed ∷ Defined ∷ Decls ∷ []) 0 (λ f. (tt, tt, (tt, tt, (tt, tt, (tt, tt, (tt, tt, o.2))))))) (no_keyword_keeps l false ws t))))
 row_keeps l p Lazy ws d t k o =
-    either (is_word (codes "lazy") t) l false ws _ _ (takes l false ws true (NotNta ∷ []) 0 (λ f. (tt, o.1, o.2))) (either (is_word (codes "nta") t) l false ws LeavesOut (Skips 0) tt (nothing_known 0))
+    either (is_word (codes "lazy") t) l false ws _ _ (takes l false ws true (NotNta ∷ []) 0 (λ f. (tt, o.1, o.2)))
+    (either (is_word (codes "nta") t) l false ws LeavesOut (Skips 0) tt (nothing_known 0))
 row_keeps l p NotNta ws d t k o = either (is_word (codes "nta") t) l false ws LeavesOut (Skips 0) tt (nothing_known 0)
 row_keeps l p Kind ws d t k o = alone_keeps (is_kind t) l false ws 0 Refuses o.2 tt
 row_keeps l p Signed ws d t k o = either (is_name_token t) l false ws _ Refuses (takes l false ws true (Opening (is_get_child t) ∷ []) 0 (λ f. (tt, tt, o.2))) tt

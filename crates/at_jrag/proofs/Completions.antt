@@ -1,7 +1,6 @@
 -- What is wanted can be completed: symbols for each want that take it to its end, and what the want needs for that.
-use Rattle.std.proofs.Common.{arith, ◌≡◌, ℕ, zero, suc, ◌+◌, ◌-◌, ◌≤◌, List, [], ◌∷◌, ◌++◌, Bool, true, false, cond, max, Option, Some, None, refl, sym, ap, subst, ◌∙◌, inl, inr}
-use Rattle.std.specs.Prelude.{◌&&◌, ◌||◌, ◌⊎◌, ◌==◌, nat_lt}
-use Rattle.std.specs.Str.{bytes_eq}
+use Rattle.std.proofs.Common.{arith, ◌≡◌, ℕ, zero, suc, ◌+◌, ◌-◌, ◌≤◌, List, [], ◌∷◌, ◌++◌, Bool, true, false, cond, max, Option, Some, None, refl, sym, ap, subst, ◌∙◌}
+use Rattle.std.specs.Prelude.{◌&&◌, ◌||◌, ◌==◌, nat_lt}
 use Rattle.std.proofs.lemmas.Bool.{lt-ltb, eqb-true}
 use Rattle.std.proofs.lemmas.Slice.Eq.{bytes_eq-Decides}
 use Rattle.std.proofs.lemmas.Str.{chars-IsAscii}
@@ -310,33 +309,49 @@ takes l w us within t mid rest fits row p ws d =
 takes_one : (l : Bool) (w : Want) (t : PlacedToken) (rest : Row) → ((d : ℕ) → (e : ℕ) × (table w d (Some t) ≡ Takes true [] e)) → Pass l (w ∷ []) (t ∷ rest) rest
 takes_one l w t rest row = takes l w (λ d. []) true t rest rest (λ h. refl) row (λ d. pass_none l rest)
 
+calls_end : (l : Bool) (b : ℕ) (more : Row) → closes (first more) ≡ true → Pass l (Calls b ∷ []) more more
+unfolding table
+calls_end l b more f = pass_skips l (Calls b) more (λ d. (d, (absent (first more) f).calls b d))
+
 unary_ends : (l : Bool) (b : ℕ) (more : Row) → (l ≡ true → 1 ≤ b) → closes (first more) ≡ true → Pass l (Unary b ∷ []) (null ∷ more) more
 unfolding table
-unary_ends l b more n f = takes l (Unary b) (λ d. Calls b ∷ []) (nat_lt 0 b) null more more (λ h. lt-ltb 0 b (n h)) (λ d. (1, refl)) (λ d. pass_skips l (Calls b) more (λ e. (e, (absent (first more) f).calls b e)))
+unary_ends l b more n f = takes l (Unary b) (λ d. Calls b ∷ []) (nat_lt 0 b) null more more (λ h. lt-ltb 0 b (n h)) (λ d. (1, refl)) (λ d. calls_end l b more f)
 
 binary_ends : (l : Bool) (rank b : ℕ) (more : Row) → (l ≡ true → 1 ≤ b) → closes (first more) ≡ true → Pass l (Binary rank b ∷ []) (null ∷ more) more
 unfolding table
-binary_ends l zero b more n f ws d = takes l (Binary 0 b) (λ e. Calls b ∷ []) (nat_lt 0 b) null more more (λ h. lt-ltb 0 b (n h)) (λ e. (1, refl)) (λ e. pass_skips l (Calls b) more (λ x. (x, (absent (first more) f).calls b x))) ws d
+binary_ends l zero b more n f ws d = takes l (Binary 0 b) (λ e. Calls b ∷ []) (nat_lt 0 b) null more more (λ h. lt-ltb 0 b (n h)) (λ e. (1, refl)) (λ e. calls_end l b more f) ws d
 binary_ends l (suc rank) b more n f ws d =
-    let p = binary_ends l rank b more n f (Links rank b ∷ ws) d in
-    (p.0, run-begins l table (Binary (suc rank) b) (Binary rank b) (Links rank b ∷ []) ws d (null ∷ more) refl (binary_stays rank b (Some null)) ∙ p.1 ∙ run-skips l table (Links rank b) ws p.0 p.0 more ((absent (first more) f).links rank b p.0))
+    let p = binary_ends l rank b more n f (Links rank b ∷ ws) d in (
+      p.0,
+      run-begins l table (Binary (suc rank) b) (Binary rank b) (Links rank b ∷ []) ws d (null ∷ more) refl (binary_stays rank b (Some null)) ∙ p.1
+          ∙ run-skips l table (Links rank b) ws p.0 p.0 more ((absent (first more) f).links rank b p.0),
+    )
 
 expression_ends : (l : Bool) (b : ℕ) (more : Row) → (l ≡ true → 1 ≤ b) → closes (first more) ≡ true → Pass l (Expression b ∷ []) (null ∷ more) more
 unfolding table
 expression_ends l b more n f ws d =
-    let p = binary_ends l 6 b more n f (Choice b ∷ ws) d in
-    (p.0, run-begins l table (Expression b) (Binary 6 b) (Choice b ∷ []) ws d (null ∷ more) refl (binary_stays 6 b (Some null)) ∙ p.1 ∙ run-skips l table (Choice b) ws p.0 p.0 more ((absent (first more) f).choice b p.0))
+    let p = binary_ends l 6 b more n f (Choice b ∷ ws) d in (
+      p.0,
+      run-begins l table (Expression b) (Binary 6 b) (Choice b ∷ []) ws d (null ∷ more) refl (binary_stays 6 b (Some null)) ∙ p.1
+          ∙ run-skips l table (Choice b) ws p.0 p.0 more ((absent (first more) f).choice b p.0),
+    )
 
 mark_ends : (l : Bool) (text : List ℕ) (more : Row) → Pass l (Mark text ∷ []) (mark text ∷ more) more
 unfolding table
 mark_ends l text more = takes_one l (Mark text) (mark text) more (λ d. (d, ap (λ b. on b (Takes true [] d) Refuses) ((bytes_eq-Decides text text).1 refl)))
 
 -- an expression and a mark behind it
-marked_ends : (l : Bool) (b : ℕ) (text : List ℕ) (more : Row) (us : List Want) → (l ≡ true → 1 ≤ b) → is_closing (mark text) ≡ true → Pass l us more more → Pass l (Expression b ∷ Mark text ∷ us) (null ∷ mark text ∷ more) more
-marked_ends l b text more us n f p = pass_then l (Expression b) (Mark text ∷ us) (null ∷ mark text ∷ more) (mark text ∷ more) more (expression_ends l b (mark text ∷ more) n f) (pass_then l (Mark text) us (mark text ∷ more) more more (mark_ends l text more) p)
+marked_ends : (l : Bool) (b : ℕ) (text : List ℕ) (more : Row) (us : List Want) → (l ≡ true → 1 ≤ b) → is_closing (mark text) ≡ true → Pass l us more more
+    → Pass l (Expression b ∷ Mark text ∷ us) (null ∷ mark text ∷ more) more
+marked_ends l b text more us n f p =
+    pass_then l (Expression b) (Mark text ∷ us) (null ∷ mark text ∷ more) (mark text ∷ more) more (expression_ends l b (mark text ∷ more) n f)
+    (pass_then l (Mark text) us (mark text ∷ more) more more (mark_ends l text more) p)
 
-body_ends : (l : Bool) (w : Want) (more : Row) → ((d : ℕ) → table w d (Some (mark (codes "="))) ≡ Takes true (Expression max_nesting ∷ Mark (codes ";") ∷ []) 0) → Pass l (w ∷ []) (mark (codes "=") ∷ null ∷ mark (codes ";") ∷ more) more
-body_ends l w more row = takes l w (λ d. Expression max_nesting ∷ Mark (codes ";") ∷ []) true (mark (codes "=")) (null ∷ mark (codes ";") ∷ more) more (λ h. refl) (λ d. (0, row d)) (λ d. marked_ends l max_nesting (codes ";") more [] (λ h. omega arith) refl (pass_none l more))
+body_ends : (l : Bool) (w : Want) (more : Row) → ((d : ℕ) → table w d (Some (mark (codes "="))) ≡ Takes true (Expression max_nesting ∷ Mark (codes ";") ∷ []) 0)
+    → Pass l (w ∷ []) (mark (codes "=") ∷ null ∷ mark (codes ";") ∷ more) more
+body_ends l w more row =
+    takes l w (λ d. Expression max_nesting ∷ Mark (codes ";") ∷ []) true (mark (codes "=")) (null ∷ mark (codes ";") ∷ more) more (λ h. refl) (λ d. (0, row d))
+    (λ d. marked_ends l max_nesting (codes ";") more [] (λ h. omega arith) refl (pass_none l more))
 
 no_both : (x : Bool) → x && false ≡ false
 no_both true = refl
@@ -345,15 +360,20 @@ no_both false = refl
 -- behind the "(" of parameters or arguments, of whatever name
 arguments_end : (l g : Bool) (b : ℕ) (more : Row) → Pass l (Arguments g b ∷ []) (mark (codes "(") ∷ mark (codes ")") ∷ more) more
 unfolding table
-arguments_end l g b more = takes l (Arguments g b) (λ d. FirstArgument g b ∷ []) true (mark (codes "(")) (mark (codes ")") ∷ more) more (λ h. refl) (λ d. (0, refl)) (λ d. takes_one l (FirstArgument g b) (mark (codes ")")) more (λ d. (0, refl)))
+arguments_end l g b more =
+    takes l (Arguments g b) (λ d. FirstArgument g b ∷ []) true (mark (codes "(")) (mark (codes ")") ∷ more) more (λ h. refl) (λ d. (0, refl))
+    (λ d. takes_one l (FirstArgument g b) (mark (codes ")")) more (λ d. (0, refl)))
 
 params_end : (l g : Bool) (more : Row) → Pass l (Opening g ∷ []) (mark (codes "(") ∷ mark (codes ")") ∷ more) more
 unfolding table
-params_end l g more = takes l (Opening g) (λ d. Params g ∷ []) true (mark (codes "(")) (mark (codes ")") ∷ more) more (λ h. refl) (λ d. (0, refl)) (λ d. takes_one l (Params g) (mark (codes ")")) more (λ d. (0, refl)))
+params_end l g more =
+    takes l (Opening g) (λ d. Params g ∷ []) true (mark (codes "(")) (mark (codes ")") ∷ more) more (λ h. refl) (λ d. (0, refl)) (λ d. takes_one l (Params g) (mark (codes ")")) more (λ d. (0, refl)))
 
 enclosed_ends : (l g : Bool) (b : ℕ) (more : Row) → closes (first more) ≡ true → Pass l (Enclosed g b ∷ []) (mark (codes ")") ∷ more) more
 unfolding table
-enclosed_ends l g b more f = takes l (Enclosed g b) (λ d. Parenthesized b ∷ []) true (mark (codes ")")) more more (λ h. refl) (λ d. (2, refl)) (λ d. pass_skips l (Parenthesized b) more (λ e. (e, (absent (first more) f).parenthesized b e)))
+enclosed_ends l g b more f =
+    takes l (Enclosed g b) (λ d. Parenthesized b ∷ []) true (mark (codes ")")) more more (λ h. refl) (λ d. (2, refl))
+    (λ d. pass_skips l (Parenthesized b) more (λ e. (e, (absent (first more) f).parenthesized b e)))
 
 ends : (l p : Bool) (w : Want) (more : Row) → Needs l p w → Follows w more → Pass l (w ∷ []) (completion w ++ more) more
 unfolding table
@@ -366,12 +386,18 @@ ends l p (Otherwise b m) more n f =
     (λ d. pass_then l (Expression (b - 1)) (Deepest d ∷ Join m ∷ []) (null ∷ more) more more (expression_ends l (b - 1) more (λ h. omega (arith, n h)) f)
     (pass_then l (Deepest d) (Join m ∷ []) more more more (pass_skips l (Deepest d) more (λ e. (max d e, refl))) (pass_skips l (Join m) more (λ e. (1 + max m e, refl)))))
 ends l p (Unary b) more n f = unary_ends l b more n f
-ends l p (Minus b) more n f = takes l (Minus b) (λ d. Calls b ∷ []) true (number (codes "0") (1, 1)) more more (λ h. refl) (λ d. (1, ap (λ x. on x (Takes true (Calls b ∷ []) 1) Refuses) is_zero)) (λ d. pass_skips l (Calls b) more (λ e. (e, (absent (first more) f).calls b e)))
-ends l p (Opened b) more n f = takes l (Opened b) (λ d. Enclosed false b ∷ []) (nat_lt 0 (b - 1)) some_name (mark (codes ")") ∷ more) more (λ h. lt-ltb 0 (b - 1) (omega (arith, n h))) (λ d. (0, ap (λ x. on x (Takes (nat_lt 0 (b - 1)) (Enclosed false b ∷ []) 0) (and_then (expression_answer (b - 1) (Some some_name)) (Mark (codes ")") ∷ Deeper ∷ Calls b ∷ []))) is_some_name)) (λ d. enclosed_ends l false b more f)
+ends l p (Minus b) more n f =
+    takes l (Minus b) (λ d. Calls b ∷ []) true (number (codes "0") (1, 1)) more more (λ h. refl) (λ d. (1, ap (λ x. on x (Takes true (Calls b ∷ []) 1) Refuses) is_zero)) (λ d. calls_end l b more f)
+ends l p (Opened b) more n f =
+    let other = and_then (expression_answer (b - 1) (Some some_name)) (Mark (codes ")") ∷ Deeper ∷ Calls b ∷ []) in
+    takes l (Opened b) (λ d. Enclosed false b ∷ []) (nat_lt 0 (b - 1)) some_name (mark (codes ")") ∷ more) more (λ h. lt-ltb 0 (b - 1) (omega (arith, n h)))
+    (λ d. (0, ap (λ x. on x (Takes (nat_lt 0 (b - 1)) (Enclosed false b ∷ []) 0) other) is_some_name)) (λ d. enclosed_ends l false b more f)
 ends l p (Enclosed g b) more n f = enclosed_ends l g b more f
 ends l p (Parenthesized b) more n f = pass_skips l (Parenthesized b) more (λ d. (d, (absent (first more) f).parenthesized b d))
-ends l p (Calls b) more n f = pass_skips l (Calls b) more (λ d. (d, (absent (first more) f).calls b d))
-ends l p (Called b) more n f = takes l (Called b) (λ d. Arguments false b ∷ []) true some_name (mark (codes "(") ∷ mark (codes ")") ∷ more) more (λ h. refl) (λ d. (0, ap (λ x. on x (Takes true (Arguments false b ∷ []) 0) Refuses) is_some_name)) (λ d. arguments_end l false b more)
+ends l p (Calls b) more n f = calls_end l b more f
+ends l p (Called b) more n f =
+    takes l (Called b) (λ d. Arguments false b ∷ []) true some_name (mark (codes "(") ∷ mark (codes ")") ∷ more) more (λ h. refl)
+    (λ d. (0, ap (λ x. on x (Takes true (Arguments false b ∷ []) 0) Refuses) is_some_name)) (λ d. arguments_end l false b more)
 ends l p (Arguments g b) more n f = arguments_end l g b more
 ends l p (FirstArgument g b) more n f = takes_one l (FirstArgument g b) (mark (codes ")")) more (λ d. (0, refl))
 ends l p (MoreArguments b) more n f = takes_one l (MoreArguments b) (mark (codes ")")) more (λ d. (d, refl))
@@ -391,7 +417,9 @@ ends l p Decls more n f = takes_one l Decls (mark (codes "}")) more (λ d. (0, r
 ends l p Lazy more n f = pass_skips l Lazy more (λ d. (0, ap lazy_answer f))
 ends l p NotNta more n f = pass_skips l NotNta more (λ d. (0, ap not_nta_answer f))
 ends l p Kind more n f = takes_one l Kind int_word more (λ d. (0, refl))
-ends l p Signed more n f = takes l Signed (λ d. Opening false ∷ []) true some_name (mark (codes "(") ∷ mark (codes ")") ∷ more) more (λ h. refl) (λ d. (0, ap (λ x. on x (Takes true (Opening false ∷ []) 0) Refuses) is_some_name)) (λ d. params_end l false more)
+ends l p Signed more n f =
+    takes l Signed (λ d. Opening false ∷ []) true some_name (mark (codes "(") ∷ mark (codes ")") ∷ more) more (λ h. refl)
+    (λ d. (0, ap (λ x. on x (Takes true (Opening false ∷ []) 0) Refuses) is_some_name)) (λ d. params_end l false more)
 ends l p (Opening g) more n f = params_end l g more
 ends l p (Params g) more n f = takes_one l (Params g) (mark (codes ")")) more (λ d. (0, refl))
 ends l p OneParam more n f = takes_one l OneParam (mark (codes ")")) more (λ d. (0, refl))
