@@ -11,3 +11,4 @@ pub mod Numbers
 pub mod DeclarationRuns
 pub mod Quotations
 pub mod SoundSays
+pub mod SoundTokens
