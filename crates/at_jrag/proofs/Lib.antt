@@ -12,3 +12,4 @@ pub mod DeclarationRuns
 pub mod Quotations
 pub mod SoundSays
 pub mod SoundTokens
+pub mod SoundExpressions
