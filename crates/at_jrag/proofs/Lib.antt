@@ -13,3 +13,4 @@ pub mod Quotations
 pub mod SoundSays
 pub mod SoundTokens
 pub mod SoundExpressions
+pub mod SoundCalls
