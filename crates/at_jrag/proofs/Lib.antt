@@ -14,3 +14,5 @@ pub mod SoundSays
 pub mod SoundTokens
 pub mod SoundExpressions
 pub mod SoundCalls
+pub mod SoundDeclarations
+pub mod Sound
