@@ -143,7 +143,7 @@ no_paren old e at one same = absurd (let q : false ≡ true = sym e ∙ ap (λ r
 
 -- ---- each form
 
-deep : (e : Expr) → 1 ≤ depth e
+pub deep : (e : Expr) → 1 ≤ depth e
 deep (syntax.Number at n) = omega arith
 deep (syntax.TextLiteral at bytes) = omega arith
 deep (syntax.Truth at b) = omega arith

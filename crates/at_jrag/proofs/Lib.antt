@@ -13,3 +13,9 @@ pub mod Quotations
 pub mod Completions
 pub mod CompletionSteps
 pub mod Completed
+pub mod SoundSays
+pub mod SoundTokens
+pub mod SoundExpressions
+pub mod SoundCalls
+pub mod SoundDeclarations
+pub mod Sound

@@ -18,7 +18,7 @@ pub record Within (most : ℕ) (text : List ℕ) : Type 0 where
   pub small : value ≤ most
   pub digits : text ≡ decimal value
 
-within : (most : ℕ) (text : List ℕ) → is_decimal_within most text ≡ true → Within most text
+pub within : (most : ℕ) (text : List ℕ) → is_decimal_within most text ≡ true → Within most text
 within most text e =
     let h = both (nat_le (digits_value 10 text) most) (bytes_eq (decimal (digits_value 10 text)) text) e in
     record { value = digits_value 10 text; small = leb-true (digits_value 10 text) most h.0; digits = sym ((bytes_eq-Decides (decimal (digits_value 10 text)) text).0 h.1) }
