@@ -19,3 +19,4 @@ pub mod SoundExpressions
 pub mod SoundCalls
 pub mod SoundDeclarations
 pub mod Sound
+pub mod FirstFaults
