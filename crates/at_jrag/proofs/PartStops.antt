@@ -82,6 +82,10 @@ too_deep_at : (test : PlacedToken → Bool) (w : Want) (more : List Want) (x d :
 too_deep_at test w more x d within [] rest n a k s = absurd cc
 too_deep_at test w more x d within (t ∷ ts) rest n a k s = λ ws. run-too_deep table w more ws d x t ts (a ∙ ap (λ y. Takes y more x) k) ∙ ap (λ (y : Row). Stuck TooDeep y) (sym s)
 
+-- an error for the limit
+by_nesting : (us : List Want) (d : ℕ) (e : ReadError) (old rest : Row) → e ≡ errors.Nesting → Stays us d (Some TooDeep) old rest → Stays us d (reason_of e) old rest
+by_nesting us d e old rest h s = subst (λ (x : ReadError). Stays us d (reason_of x) old rest) (sym h) s
+
 missing_halts : (w : Want) (test : PlacedToken → Bool) → ((d : ℕ) (old : Row) → next_is test old ≡ false → table w d (first old) ≡ Refuses) → (e : ReadError) (old rest : Row) → Missing test e old rest → Halts w (reason_of e) old rest
 missing_halts w test h errors.Memory old rest m = λ d. tt
 missing_halts w test h errors.Syntax old rest m = λ d. refused_at w d old rest (h d old m.1) m.0
@@ -120,12 +124,12 @@ calls_from : (b m n : ℕ) (old mid : Row) → AreCalls m n old mid → n ≤ b 
 calls_from b m n old mid g h = record { over = λ ws. g true b (λ l. h) ws }
 
 -- a `.` where the receiver is as deep as the budget
-pub calls_too_deep : (b m n : ℕ) (start old rest : Row) → AreCalls m n start old → n ≤ b → next_is (is_sign (codes ".")) old ≡ true → b ≤ n → rest ≡ old → Stays (Calls b ∷ []) m (Some TooDeep) start rest
+pub calls_too_deep : (b m n : ℕ) (e : ReadError) (start old rest : Row) → AreCalls m n start old → n ≤ b → e ≡ errors.Nesting → next_is (is_sign (codes ".")) old ≡ true → b ≤ n → rest ≡ old → Stays (Calls b ∷ []) m (reason_of e) start rest
 unfolding table
-calls_too_deep b m n start old rest g h dot k s =
-    reach_stays (Calls b) (Some TooDeep) rest (calls_from b m n start old g h)
+calls_too_deep b m n e start old rest g h is dot k s =
+    by_nesting (Calls b ∷ []) m e start rest is (reach_stays (Calls b) (Some TooDeep) rest (calls_from b m n start old g h)
     (too_deep_at (is_sign (codes ".")) (Calls b) (Called (b - 1) ∷ Join n ∷ Calls b ∷ []) 0 n (nat_lt n b) old rest dot
-    (ap (λ x. cond x (Takes (nat_lt n b) (Called (b - 1) ∷ Join n ∷ Calls b ∷ []) 0) (Skips n)) (sym (next_first (is_sign (codes ".")) old) ∙ dot)) (le-ltb n b k) s)
+    (ap (λ x. cond x (Takes (nat_lt n b) (Called (b - 1) ∷ Join n ∷ Calls b ∷ []) 0) (Skips n)) (sym (next_first (is_sign (codes ".")) old) ∙ dot)) (le-ltb n b k) s))
 
 -- no name behind the `.`
 pub calls_no_name : (b m n : ℕ) (at : ℕ × ℕ) (e : ReadError) (start old mid rest : Row) → AreCalls m n start old → n < b → old ≡ sign (codes ".") at ∷ mid → Missing is_name_token e mid rest
@@ -180,6 +184,9 @@ among_first g start close int l b f ws d =
       λ n row. ap (λ x. run l table (MoreArguments b ∷ ws) x row) (omega arith),
     )
 
+pub among_start : (g : Bool) (start old : Row) → start ≡ old → next_is (is_sign (codes ")")) old ≡ false → g && next_is (is_word (codes "int")) old ≡ false → Among g 0 start start
+among_start g start old s close int = subst (λ (x : Row). Among g 0 x x) (sym s) (among_first g old close int)
+
 -- a `,` behind an argument
 pub among_next : (g : Bool) (m n k : ℕ) (at : ℕ × ℕ) (start old more one : Row) → Among g m start old → Goes Expression (λ b. []) n old more → more ≡ sign (codes ",") at ∷ one → k ≡ max m n → Among g k start one
 unfolding table
@@ -228,9 +235,10 @@ more_missing b n errors.LeftOut more rest close m = absurd m
 more_missing b n errors.Nesting more rest close m = absurd m
 
 -- neither `)` nor `,` behind an argument
-pub among_no_comma : (g : Bool) (b m n : ℕ) (e : ReadError) (start old more rest : Row) → Among g m start old → Goes Expression (λ b. []) n old more → m ≤ b → n ≤ b
-    → next_is (is_sign (codes ")")) more ≡ false → Missing (is_sign (codes ",")) e more rest → Halts (FirstArgument g b) (reason_of e) start rest
-among_no_comma g b m n e start old more rest h x k j close none = among_stays g b m n (reason_of e) start old more rest h x k j (more_missing b (max m n) e more rest close none)
+pub among_no_comma : (g : Bool) (b m n : ℕ) (e : ReadError) (start old more same rest : Row) → Among g m start old → Goes Expression (λ b. []) n old more → m ≤ b → n ≤ b
+    → next_is (is_sign (codes ")")) more ≡ false → same ≡ more → Missing (is_sign (codes ",")) e same rest → Halts (FirstArgument g b) (reason_of e) start rest
+among_no_comma g b m n e start old more same rest h x k j close s none =
+    among_stays g b m n (reason_of e) start old more rest h x k j (more_missing b (max m n) e more rest close (subst (λ (y : Row). Missing (is_sign (codes ",")) e y rest) s none))
 
 opens : (g : Bool) (b d : ℕ) (at : ℕ × ℕ) (old list : Row) → old ≡ sign (codes "(") at ∷ list → Reaches (Arguments g b ∷ []) d (FirstArgument g b ∷ []) 0 old list
 unfolding table
@@ -322,9 +330,10 @@ paren_answer b [] e = absurd cc
 paren_answer b (t ∷ ts) e = ap (λ x. primary_answer b (Some x)) (sign_is (codes "(") t e)
 
 -- a `(` where nothing may nest
-pub paren_too_deep : (b : ℕ) (old rest : Row) → next_is (is_sign (codes "(")) old ≡ true → b ≤ 1 → rest ≡ old → Halts (Primary b) (Some TooDeep) old rest
+pub paren_too_deep : (b : ℕ) (e : ReadError) (old rest : Row) → e ≡ errors.Nesting → next_is (is_sign (codes "(")) old ≡ true → b ≤ 1 → rest ≡ old → Halts (Primary b) (reason_of e) old rest
 unfolding table
-paren_too_deep b old rest e h s = λ d. too_deep_at (is_sign (codes "(")) (Primary b) (Expression (b - 1) ∷ Mark (codes ")") ∷ Deeper ∷ []) 0 d (nat_lt 1 b) old rest e (paren_answer b old e) (le-ltb 1 b h) s
+paren_too_deep b e old rest is p h s = λ d. by_nesting (Primary b ∷ []) d e old rest is
+    (too_deep_at (is_sign (codes "(")) (Primary b) (Expression (b - 1) ∷ Mark (codes ")") ∷ Deeper ∷ []) 0 d (nat_lt 1 b) old rest p (paren_answer b old p) (le-ltb 1 b h) s)
 
 abbrev fold_wants : ℕ → List Want
 fold_wants b = Mark (codes "(") ∷ Name ∷ Mark (codes ":") ∷ Primary (b - 1) ∷ Calls (b - 1) ∷ Mark (codes ")") ∷ FoldBody b ∷ []
@@ -334,9 +343,11 @@ fold_answer b [] l p e = absurd cc
 fold_answer b (t ∷ ts) l p e = third_of (tables.is_literal t) (is_sign (codes "(") t) (begins_fold t) _ _ _ _ l p e
 
 -- a fold where nothing may nest
-pub fold_too_deep : (b : ℕ) (old rest : Row) → next_is tables.is_literal old ≡ false → next_is (is_sign (codes "(")) old ≡ false → next_is begins_fold old ≡ true → b ≤ 1 → rest ≡ old → Halts (Primary b) (Some TooDeep) old rest
+pub fold_too_deep : (b : ℕ) (e : ReadError) (old rest : Row) → e ≡ errors.Nesting → next_is tables.is_literal old ≡ false → next_is (is_sign (codes "(")) old ≡ false → next_is begins_fold old ≡ true → b ≤ 1 → rest ≡ old
+    → Halts (Primary b) (reason_of e) old rest
 unfolding table
-fold_too_deep b old rest l p e h s = λ d. too_deep_at begins_fold (Primary b) (fold_wants b) 0 d (nat_lt 1 b) old rest e (fold_answer b old l p e) (le-ltb 1 b h) s
+fold_too_deep b e old rest is l p f h s = λ d. by_nesting (Primary b ∷ []) d e old rest is
+    (too_deep_at begins_fold (Primary b) (fold_wants b) 0 d (nat_lt 1 b) old rest f (fold_answer b old l p f) (le-ltb 1 b h) s)
 
 paren_opens : (b d : ℕ) (at : ℕ × ℕ) (old one : Row) → 1 < b → old ≡ sign (codes "(") at ∷ one → Reaches (Primary b ∷ []) d (Expression (b - 1) ∷ Mark (codes ")") ∷ Deeper ∷ []) 0 old one
 unfolding table
@@ -421,6 +432,17 @@ pub brace_missing : (b : ℕ) (e : ReadError) (old rest : Row) → Missing (is_s
 unfolding table
 brace_missing b e old rest m =
     missing_halts (FoldBody b) (is_sign (codes "{")) (λ d row h. expects_refuses (is_sign (codes "{")) (Takes true (Expression (b - 1) ∷ Mark (codes "}") ∷ Join d ∷ []) 0) row h) e old rest m
+
+-- a fold that was read
+pub fold_done : (form : FoldForm) (at paren_at colon_at close_at brace_at end_at : ℕ × ℕ) (w : Word) (m n k : ℕ) (old paren named colon items mid close brace one end rest : Row) → 1 ≤ m → m ≤ n
+    → old ≡ word (fold_text form) at ∷ paren → paren ≡ sign (codes "(") paren_at ∷ named → grammar.Name w named colon → colon ≡ sign (codes ":") colon_at ∷ items
+    → Goes Primary (λ b. []) m items mid → Moves (λ b. Calls b ∷ []) (λ b. []) m n mid close → close ≡ sign (codes ")") close_at ∷ brace → brace ≡ sign (codes "{") brace_at ∷ one
+    → Goes Expression (λ b. []) k one end → end ≡ sign (codes "}") end_at ∷ rest → Goes Primary (λ b. []) (1 + max n k) old rest
+fold_done form at paren_at colon_at close_at brace_at end_at w m n k old paren named colon items mid close brace one end rest some deeper e p name c g h q r body z =
+    fold_goes form at paren_at w.at colon_at close_at brace_at end_at w.text n k old items close one end rest (omega (arith, some, deeper))
+    (e ∙ ap (λ x. word (fold_text form) at ∷ x) (p ∙ ap (λ x. sign (codes "(") paren_at ∷ x) (name.1 ∙ ap (λ x. word w.text w.at ∷ x) c))) name.0
+    (λ l b f ws d. g l b (λ x. omega (arith, deeper, f x)) (Calls b ∷ ws) d ∙ h l b f ws)
+    (q ∙ ap (λ x. sign (codes ")") close_at ∷ x) r) body z
 
 -- ---- literals
 
