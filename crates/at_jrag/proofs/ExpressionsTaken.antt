@@ -28,7 +28,7 @@ use Rattle.std.proofs.lemmas.Bool.{le-leb}
 
 -- ---- literals
 
-number_is : (most m : ℕ) (at : ℕ × ℕ) → most ≤ 2147483648 → m ≤ most → is_number_within most (number (decimal m) at) ≡ true
+pub number_is : (most m : ℕ) (at : ℕ × ℕ) → most ≤ 2147483648 → m ≤ most → is_number_within most (number (decimal m) at) ≡ true
 number_is most m at h k =
     let small : m < 2 ^ 64 = omega (arith, h, k) in
     ap (λ v. nat_le v most && bytes_eq (decimal v) (decimal m)) (decimal_is_IsNumeral m small).1
@@ -170,7 +170,7 @@ or_first : (a b : Bool) → a ≡ true → a || b ≡ true
 or_first true b e = refl
 or_first false b e = absurd cc
 
-number_literal : (t : PlacedToken) → is_number_within 2147483647 t ≡ true → is_literal t ≡ true
+pub number_literal : (t : PlacedToken) → is_number_within 2147483647 t ≡ true → is_literal t ≡ true
 number_literal t e = or_first (is_number_within 2147483647 t) _ e
 
 number_accepted : (at : ℕ × ℕ) (n : ℤ) (old rest : Row) → grammar.NumberOf at n old rest → Accepted 8 1 old rest

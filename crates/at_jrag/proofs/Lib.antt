@@ -20,3 +20,4 @@ pub mod SoundCalls
 pub mod SoundDeclarations
 pub mod Sound
 pub mod FirstFaults
+pub mod PartStops
