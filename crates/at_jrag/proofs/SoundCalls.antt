@@ -1,6 +1,6 @@
 -- The rows of the table for calls, arguments and parentheses have the sense of their wants.
-use Rattle.std.proofs.Common.{◌≡◌, ℕ, zero, suc, ◌+◌, ◌-◌, ◌≤◌, List, [], ◌∷◌, ◌++◌, Bool, true, false, cond, max, Option, Some, None, refl, sym, ap, subst, ◌∙◌, append_assoc, arith, inl, inr}
-use Rattle.std.specs.Prelude.{◌&&◌, ◌||◌, nat_lt}
+use Rattle.std.proofs.Common.{◌≡◌, ℕ, zero, suc, ◌+◌, ◌-◌, ◌≤◌, List, [], ◌∷◌, ◌++◌, Bool, true, false, max, Some, refl, sym, ap, subst, ◌∙◌, append_assoc, arith}
+use Rattle.std.specs.Prelude.{◌&&◌, nat_lt}
 use Rattle.std.specs.Str.{bytes_eq}
 use Rattle.std.proofs.lemmas.Bool.{ltb-true}
 use lib.Chars.{codes}
@@ -9,17 +9,15 @@ use Rattle.at_text.specs.Reading.{first}
 use Rattle.at_text.specs.Symbols.{PlacedToken}
 use Rattle.at_jrag.specs.Syntax as syntax
 use Rattle.at_jrag.specs.Syntax.{Place, Word, Expr, Exprs, place}
-use Rattle.at_jrag.specs.Grammar as grammar
-use Rattle.at_jrag.specs.Grammar.{Row, sign, word, is_sign, is_word, is_name_token, follows_cast, next_is, Sign, Spells, level, depth, deepest}
+use Rattle.at_jrag.specs.Grammar.{Row, sign, word, is_sign, is_word, is_name_token, follows_cast, next_is, Sign, deepest}
 use Rattle.at_jrag.specs.Machine.{Answer, Takes, Skips, Refuses, LeavesOut, and_then}
-use Rattle.at_jrag.specs.Wants as want
-use Rattle.at_jrag.specs.Wants.{Want, Expression, Links, Choice, Otherwise, Unary, Opened, Enclosed, Parenthesized, Calls, Called, Arguments, FirstArgument, MoreArguments, Named, FoldBody, Deeper, Join, Deepest, Mark}
-use Rattle.at_jrag.specs.Table.{next, on, or_else, is_get_child, expects, unary_answer, expression_answer, links_answer, choice_answer, calls_answer, called_answer, named_answer, first_argument_answer, more_arguments_answer, links_from, tails_answer, enclosed_rest, enclosed_answer, opened_answer, parenthesized_answer}
+use Rattle.at_jrag.specs.Wants.{Want, Expression, Links, Choice, Enclosed, Parenthesized, Calls, Called, Arguments, FirstArgument, MoreArguments, Deeper, Join, Deepest, Mark}
+use Rattle.at_jrag.specs.Table.{next, or_else, is_get_child, expects, unary_answer, expression_answer, links_answer, choice_answer, calls_answer, called_answer, named_answer, first_argument_answer, more_arguments_answer, links_from, tails_answer, enclosed_rest, enclosed_answer, opened_answer, parenthesized_answer}
 use Rattle.at_jrag.proofs.ExpressionSteps.{name_is}
-use Rattle.at_jrag.proofs.ExpressionsTaken.{deep, next_first}
-use Rattle.at_jrag.proofs.SoundTokens.{sign_front}
-use Rattle.at_jrag.proofs.SoundSays.{IsRead, HasArguments, HasMore, IsApplied, IsCalled, IsFoldBody, Says, AllSay, Took, Does, only_says, then_does, else_does, on_does}
-use Rattle.at_jrag.proofs.SoundExpressions.{put, moved, weaken, first_tail, paren_read, cast_read, unary_means, links_mean, choice_means, expression_means}
+use Rattle.at_jrag.proofs.ExpressionsTaken.{next_first}
+use Rattle.at_jrag.proofs.SoundTokens.{and_off, sign_front}
+use Rattle.at_jrag.proofs.SoundSays.{IsRead, HasArguments, HasMore, IsApplied, IsCalled, IsFoldBody, AllSay, Took, Does, only_says, then_does, else_does, on_does}
+use Rattle.at_jrag.proofs.SoundExpressions.{put, moved, weaken, first_tail, sign_alone, paren_read, cast_read, unary_means, links_mean, choice_means, expression_means}
 
 -- ---- calls
 
@@ -59,13 +57,6 @@ arguments_mean l g b old e rest h = on_does l (next (is_sign (codes "(")) (first
 
 -- ---- arguments
 
-none_behind : (l : Bool) (text : List ℕ) (d : ℕ) (old : Row) (e : ℕ) (rest : Row) → next (is_sign text) (first old) ≡ true → Took l true [] d old e rest → Sign text old rest
-none_behind l text d old e rest p k = (k.token.at, sign_front text old k.behind k.token k.front p ∙ ap (λ r. sign text k.token.at ∷ r) (sym k.all.1))
-
-and_off : (a b : Bool) → b ≡ false → a && b ≡ false
-and_off true b e = e
-and_off false b e = refl
-
 first_of : (l g : Bool) (b m : ℕ) (old mid : Row) (e : ℕ) (rest : Row) → g && next_is (is_word (codes "int")) old ≡ false → IsRead l 8 b m old mid → HasMore l b m e mid rest → HasArguments l g b e old rest
 first_of l g b m old mid e rest none x y = record {
   items = syntax.expr x.expr y.items;
@@ -79,7 +70,7 @@ pub first_argument_means : (l g : Bool) (b : ℕ) (old : Row) (e : ℕ) (rest : 
 first_argument_means l g b old e rest h = on_does l (next (is_sign (codes ")")) (first old)) (Takes true [] 0) _ old e rest
     (λ p k. record {
       items = syntax.no_exprs;
-      spells = none_behind l (codes ")") 0 old e rest p k;
+      spells = sign_alone l (codes ")") 0 old e rest p k;
       opens = and_off g _ (next_first (is_word (codes "int")) old ∙ ap (λ r. next (is_word (codes "int")) (first r)) (sign_front (codes ")") old k.behind k.token k.front p));
       deep = k.all.0;
       fits = λ f. let z = k.all.0 in omega (arith, z);
@@ -104,7 +95,7 @@ pub more_arguments_mean : (l : Bool) (b d : ℕ) (old : Row) (e : ℕ) (rest : R
 more_arguments_mean l b d old e rest h = on_does l (next (is_sign (codes ")")) (first old)) (Takes true [] d) _ old e rest
     (λ p k. record {
       items = syntax.no_exprs;
-      spells = none_behind l (codes ")") d old e rest p k;
+      spells = sign_alone l (codes ")") d old e rest p k;
       deep = let z = k.all.0 in omega (arith, z);
       fits = λ f. omega arith;
     })

@@ -1,8 +1,7 @@
 -- The rows of the table for declarations have the sense of their wants.
-use Rattle.std.proofs.Common.{◌≡◌, ℕ, ◌≤◌, List, [], ◌∷◌, Bool, true, false, cond, Option, Some, None, refl, sym, ap, subst, ◌∙◌, arith, inl, inr}
+use Rattle.std.proofs.Common.{◌≡◌, ℕ, ◌≤◌, List, [], ◌∷◌, Bool, true, false, Option, Some, None, refl, sym, ap, subst, ◌∙◌, arith, inl, inr}
 use Rattle.std.specs.Prelude.{◌&&◌, ◌||◌, ◌==◌, ◌⊎◌}
 use Rattle.std.specs.List.{AllByRecursion}
-use Rattle.std.specs.Str.{bytes_eq}
 use Rattle.std.proofs.lemmas.Bool.{eqb-true}
 use lib.Chars.{codes}
 use Rattle.at_text.specs.Reading.{first}
@@ -11,23 +10,16 @@ use Rattle.at_jrag.specs.Syntax as syntax
 use Rattle.at_jrag.specs.Syntax.{Place, Word, Param, KindWord, Ending, Body, Decl, Aspect}
 use Rattle.at_jrag.specs.Grammar as grammar
 use Rattle.at_jrag.specs.Grammar.{Row, sign, word, is_sign, is_word, is_name_token, next_is, kind_text, IsKind, Sign, Keyword, KindOf, ParamOf, Listed, Index, Signature, Owner, Getter, Declared, BodyOf, EndingOf, DeclOf, ending_depth, max_nesting, NestsWithin, IsWithin}
-use Rattle.at_jrag.specs.Machine.{Answer, Takes, Skips, Refuses, LeavesOut}
+use Rattle.at_jrag.specs.Machine.{Takes, Skips, Refuses, LeavesOut}
 use Rattle.at_jrag.specs.Wants as want
 use Rattle.at_jrag.specs.Wants.{Want}
 use Rattle.at_jrag.specs.Table.{next, on, expects, is_get_child, is_kind, no_keyword, declared, file_answer, decls_answer, not_nta_answer, lazy_answer, signed_answer, more_params_answer, params_answer, body_answer, ending_answer, defined_answer, alone}
-use Rattle.at_jrag.proofs.ExpressionSteps.{name_is}
-use Rattle.at_jrag.proofs.ExpressionsTaken.{next_first}
-use Rattle.at_jrag.proofs.SoundTokens.{both_are, or_case, front_passes, sign_front, word_is, word_front}
-use Rattle.at_jrag.proofs.SoundSays.{IsRead, HasParams, HasMoreParams, IsOpened, IsSigned, IsBody, IsDefined, Says, AllSay, Took, Does, only_says, on_does}
-use Rattle.at_jrag.proofs.SoundExpressions.{first_tail}
+use Rattle.at_jrag.proofs.ExpressionSteps.{both, name_is}
+use Rattle.at_jrag.proofs.SoundTokens.{and_off, or_case, front_passes, sign_front, word_is, word_front}
+use Rattle.at_jrag.proofs.SoundSays.{IsRead, HasParams, HasMoreParams, IsOpened, IsSigned, IsBody, IsDefined, AllSay, Took, Does, only_says, on_does}
+use Rattle.at_jrag.proofs.SoundExpressions.{first_tail, sign_alone, word_alone}
 
 -- ---- single tokens
-
-word_alone : (l : Bool) (text : List ℕ) (d : ℕ) (old : Row) (e : ℕ) (rest : Row) → next (is_word text) (first old) ≡ true → Took l true [] d old e rest → Keyword text old rest
-word_alone l text d old e rest p k = (k.token.at, word_front text old k.behind k.token k.front p ∙ ap (λ r. word text k.token.at ∷ r) (sym k.all.1))
-
-sign_alone : (l : Bool) (text : List ℕ) (d : ℕ) (old : Row) (e : ℕ) (rest : Row) → next (is_sign text) (first old) ≡ true → Took l true [] d old e rest → Sign text old rest
-sign_alone l text d old e rest p k = (k.token.at, sign_front text old k.behind k.token k.front p ∙ ap (λ r. sign text k.token.at ∷ r) (sym k.all.1))
 
 return_at : (l : Bool) (t : PlacedToken) (ts : Row) (e : ℕ) (rest : Row) → Does l (alone (is_word (codes "return")) (Some t)) (t ∷ ts) e rest → Keyword (codes "return") (t ∷ ts) rest
 return_at l t ts e rest h = on_does l (is_word (codes "return") t) (Takes true [] 0) LeavesOut (t ∷ ts) e rest (λ p k. word_alone l (codes "return") 0 (t ∷ ts) e rest p k) (λ p k. absurd k) h
@@ -105,10 +97,6 @@ more_params_mean l d old e rest h = on_does l (next (is_sign (codes ")")) (first
 pub other_params_mean : (l : Bool) (old : Row) (e : ℕ) (rest : Row) → Does l (more_params_answer 1 (first old)) old e rest → HasMoreParams e old rest × (e ≡ 1)
 other_params_mean l old e rest h = let r = more_params_mean l 1 old e rest h in (r.0, elim r.1 [ inl x ↦ x | inr x ↦ x ])
 
-and_off : (a b : Bool) → b ≡ false → a && b ≡ false
-and_off true b e = e
-and_off false b e = refl
-
 first_int : (l g : Bool) (at : Place) (old behind : Row) (e : ℕ) (rest : Row) → g && next_is (is_word (codes "int")) old ≡ false → old ≡ word (codes "int") at ∷ behind → AllSay l (want.Name ∷ want.OneParam ∷ []) 0 behind e rest → HasParams g e old rest
 first_int l g at old behind e rest none front (more, d, (w, n, e1), tail) =
     let m = only_says l want.OneParam d more e rest tail in
@@ -180,7 +168,7 @@ ending_means l old e rest h = on_does l (next (is_sign (codes ";")) (first old))
 
 pub defined_means : (l : Bool) (d : ℕ) (old : Row) (e : ℕ) (rest : Row) → Does l (defined_answer d (first old)) old e rest → IsDefined l d old rest
 defined_means l d old e rest h = on_does l ((d == 0) && next (is_sign (codes ".")) (first old)) (Takes true (want.Signed ∷ want.Body ∷ []) 0) (body_answer (first old)) old e rest
-    (λ p k. let q = both_are (d == 0) (next (is_sign (codes ".")) (first old)) p in
+    (λ p k. let q = both (d == 0) (next (is_sign (codes ".")) (first old)) p in
         inr (eqb-true d 0 q.0, k.behind, k.all.0, k.all.1, (k.token.at, sign_front (codes ".") old k.behind k.token k.front q.1), k.all.2, only_says l want.Body k.all.1 k.all.0 e rest k.all.3))
     (λ p h. inl (body_means l old e rest h)) h
 

@@ -1,7 +1,6 @@
 -- The rows of the table for expressions have the sense of their wants.
-use Rattle.std.proofs.Common.{◌≡◌, ℕ, zero, suc, ◌+◌, ◌-◌, ◌≤◌, pos, neg_ℤ, List, [], ◌∷◌, ◌++◌, Bool, true, false, cond, max, Option, Some, None, refl, sym, ap, subst, ◌∙◌, append_assoc, arith, inl, inr}
-use Rattle.std.specs.Prelude.{◌&&◌, ◌||◌, ◌==◌, nat_lt, decimal}
-use Rattle.std.specs.Str.{bytes_eq}
+use Rattle.std.proofs.Common.{◌≡◌, ℕ, zero, suc, ◌+◌, ◌-◌, ◌≤◌, pos, neg_ℤ, List, [], ◌∷◌, Bool, true, false, max, Some, refl, sym, ap, subst, ◌∙◌, arith, inr}
+use Rattle.std.specs.Prelude.{◌==◌, nat_lt}
 use Rattle.std.proofs.lemmas.Bool.{ltb-true, eqb-true}
 use lib.Chars.{codes}
 use Rattle.at_model.specs.Names.{is_name}
@@ -10,15 +9,14 @@ use Rattle.at_text.specs.Symbols.{PlacedToken, is_word_kind}
 use Rattle.at_jrag.specs.Syntax as syntax
 use Rattle.at_jrag.specs.Syntax.{Place, Word, Expr, Exprs, place}
 use Rattle.at_jrag.specs.Grammar as grammar
-use Rattle.at_jrag.specs.Grammar.{Row, sign, word, number, is_sign, is_word, is_number, is_name_token, follows_cast, next_is, Sign, Spells, level, depth, deepest, operator_text, operator_level, fold_text}
-use Rattle.at_jrag.specs.Machine.{Answer, Takes, Skips, Refuses, and_then}
-use Rattle.at_jrag.specs.Wants as want
-use Rattle.at_jrag.specs.Wants.{Want, Expression, Binary, Links, Choice, Otherwise, Unary, Minus, Opened, Enclosed, Parenthesized, Calls, Called, Arguments, FirstArgument, MoreArguments, Primary, Named, FoldBody, Deeper, Join, Deepest, Counts, Name, Mark}
-use Rattle.at_jrag.specs.Table.{next, on, or_else, link_rank, is_get_child, is_literal, is_number_within, begins_fold, expects, primary_answer, unary_answer, minus_answer, binary_answer, expression_answer, link_answer, links_answer, choice_answer, calls_answer, called_answer, named_answer, first_argument_answer, more_arguments_answer, links_from, tails_answer, enclosed_rest, enclosed_answer, opened_answer, parenthesized_answer}
+use Rattle.at_jrag.specs.Grammar.{Row, sign, word, number, is_sign, is_word, is_number, is_name_token, follows_cast, next_is, Sign, Spells, level, depth, deepest, operator_text, operator_level, fold_text, Keyword}
+use Rattle.at_jrag.specs.Machine.{Takes, Skips, Refuses, and_then}
+use Rattle.at_jrag.specs.Wants.{Expression, Binary, Links, Choice, Otherwise, Unary, Minus, Opened, Calls, Primary, Named, FoldBody, Deeper, Join, Deepest, Counts, Name, Mark}
+use Rattle.at_jrag.specs.Table.{next, link_rank, is_get_child, is_literal, is_number_within, begins_fold, expects, primary_answer, unary_answer, minus_answer, binary_answer, expression_answer, link_answer, links_answer, choice_answer}
 use Rattle.at_jrag.proofs.ExpressionSteps.{name_is, sign_is}
 use Rattle.at_jrag.proofs.ExpressionsTaken.{deep, next_first}
 use Rattle.at_jrag.proofs.SoundTokens.{front_passes, sign_front, word_front, number_of, literal_of, fold_of, word_link, sign_link}
-use Rattle.at_jrag.proofs.SoundSays.{IsRead, IsOther, HasArguments, HasMore, IsApplied, IsCalled, IsFoldBody, Says, AllSay, Took, Does, only_says, then_does, else_does, on_does}
+use Rattle.at_jrag.proofs.SoundSays.{IsRead, IsOther, IsFoldBody, AllSay, Took, Does, only_says, then_does, on_does}
 
 -- ---- what was read, at other rows and ranks
 
@@ -33,9 +31,16 @@ weaken r q h x = record { expr = x.expr; spells = x.spells; strong = let s = x.s
 
 -- ---- single tokens
 
+-- a token that is taken alone
+pub sign_alone : (l : Bool) (text : List ℕ) (d : ℕ) (old : Row) (e : ℕ) (rest : Row) → next (is_sign text) (first old) ≡ true → Took l true [] d old e rest → Sign text old rest
+sign_alone l text d old e rest p k = (k.token.at, sign_front text old k.behind k.token k.front p ∙ ap (λ r. sign text k.token.at ∷ r) (sym k.all.1))
+
+pub word_alone : (l : Bool) (text : List ℕ) (d : ℕ) (old : Row) (e : ℕ) (rest : Row) → next (is_word text) (first old) ≡ true → Took l true [] d old e rest → Keyword text old rest
+word_alone l text d old e rest p k = (k.token.at, word_front text old k.behind k.token k.front p ∙ ap (λ r. word text k.token.at ∷ r) (sym k.all.1))
+
 pub mark_means : (l : Bool) (text : List ℕ) (d : ℕ) (old : Row) (e : ℕ) (rest : Row) → Does l (expects (is_sign text) (Takes true [] d) (first old)) old e rest → Sign text old rest × (e ≡ d)
 mark_means l text d old e rest h = on_does l (next (is_sign text) (first old)) (Takes true [] d) Refuses old e rest
-    (λ p k. ((k.token.at, sign_front text old k.behind k.token k.front p ∙ ap (λ r. sign text k.token.at ∷ r) (sym k.all.1)), k.all.0)) (λ p k. absurd k) h
+    (λ p k. (sign_alone l text d old e rest p k, k.all.0)) (λ p k. absurd k) h
 
 pub name_means : (l : Bool) (d : ℕ) (old : Row) (e : ℕ) (rest : Row) → Does l (expects is_name_token (Takes true [] d) (first old)) old e rest → (w : Word) × grammar.Name w old rest × (e ≡ d)
 name_means l d old e rest h = on_does l (next is_name_token (first old)) (Takes true [] d) Refuses old e rest
