@@ -83,7 +83,8 @@ number_literal t e =
     let n = number_of 2147483647 t e in
     literal_at t (number (decimal n.value) t.at) n.is (record { expr = syntax.Number t.at (pos n.value); spells = λ rest. inl (n.value, n.small, refl, refl); strong = omega arith; one = refl; plain = refl })
 
-quotation_kind : (k : TokenKind) (text : List ℕ) → elim k [ kind.Word ↦ false | kind.Number ↦ false | kind.Text ↦ is_quoted text | kind.Sign ↦ false ] ≡ true → (k ≡ kind.Text) × (is_quoted text ≡ true)
+quotation_kind : (k : TokenKind) (text : List ℕ) → elim k [ kind.Word ↦ false | kind.Number ↦ false | kind.Text ↦ is_quoted text | kind.Sign ↦ false ] ≡ true
+    → (k ≡ kind.Text) × (is_quoted text ≡ true)
 quotation_kind kind.Word text e = absurd cc
 quotation_kind kind.Number text e = absurd cc
 quotation_kind kind.Text text e = (refl, e)
@@ -132,15 +133,16 @@ rank_case false k n r f g e = g e
 pub operator_of : (text : List ℕ) (r : ℕ) → sign_rank text ≡ suc r → IsOperator text r
 operator_of text r e = rank_case (bytes_eq text (codes "*") || bytes_eq text (codes "/") || bytes_eq text (codes "%")) 1 _ r
     (λ h k. or_case (bytes_eq text (codes "*") || bytes_eq text (codes "/")) (bytes_eq text (codes "%"))
-        (λ h. or_case (bytes_eq text (codes "*")) (bytes_eq text (codes "/")) (is_operator text r syntax.Multiply (omega (arith, k))) (is_operator text r syntax.Divide (omega (arith, k))) h) (is_operator text r syntax.Remainder (omega (arith, k))) h)
+    (λ h. or_case (bytes_eq text (codes "*")) (bytes_eq text (codes "/")) (is_operator text r syntax.Multiply (omega (arith, k))) (is_operator text r syntax.Divide (omega (arith, k))) h)
+    (is_operator text r syntax.Remainder (omega (arith, k))) h)
     (rank_case (bytes_eq text (codes "+") || bytes_eq text (codes "-")) 2 _ r
     (λ h k. or_case (bytes_eq text (codes "+")) (bytes_eq text (codes "-")) (is_operator text r syntax.Add (omega (arith, k))) (is_operator text r syntax.Subtract (omega (arith, k))) h)
     (rank_case (bytes_eq text (codes "<") || bytes_eq text (codes "<=") || bytes_eq text (codes ">") || bytes_eq text (codes ">=")) 3 _ r
     (λ h k. or_case (bytes_eq text (codes "<") || bytes_eq text (codes "<=") || bytes_eq text (codes ">")) (bytes_eq text (codes ">="))
-        (λ h. or_case (bytes_eq text (codes "<") || bytes_eq text (codes "<=")) (bytes_eq text (codes ">"))
-            (λ h. or_case (bytes_eq text (codes "<")) (bytes_eq text (codes "<=")) (is_operator text r syntax.Below (omega (arith, k))) (is_operator text r syntax.AtMost (omega (arith, k))) h)
-            (is_operator text r syntax.Above (omega (arith, k))) h)
-        (is_operator text r syntax.AtLeast (omega (arith, k))) h)
+    (λ h. or_case (bytes_eq text (codes "<") || bytes_eq text (codes "<=")) (bytes_eq text (codes ">"))
+    (λ h. or_case (bytes_eq text (codes "<")) (bytes_eq text (codes "<=")) (is_operator text r syntax.Below (omega (arith, k))) (is_operator text r syntax.AtMost (omega (arith, k))) h)
+    (is_operator text r syntax.Above (omega (arith, k))) h)
+    (is_operator text r syntax.AtLeast (omega (arith, k))) h)
     (rank_case (bytes_eq text (codes "==") || bytes_eq text (codes "!=")) 4 _ r
     (λ h k. or_case (bytes_eq text (codes "==")) (bytes_eq text (codes "!=")) (is_operator text r syntax.Same (omega (arith, k))) (is_operator text r syntax.Differs (omega (arith, k))) h)
     (rank_case (bytes_eq text (codes "&&")) 5 _ r (λ h k. is_operator text r syntax.And (omega (arith, k)) h)
