@@ -144,7 +144,7 @@ enclosed_goes l g b d ws ss none =
     (λ x. tails_go l 6 b behind ws (λ y. or_else (choice_answer b y (first ss)) (Mark (codes ")") ∷ []) (λ z. Refuses)) x ss
     (λ y. or_else_goes l (Choice b) (Mark (codes ")") ∷ []) ws y (λ z. Refuses) ss (λ z. mark_refuses l (codes ")") ws z ss none))))
 
-both : (a b : Bool) → a && b ≡ true → (a ≡ true) × (b ≡ true)
+pub both : (a b : Bool) → a && b ≡ true → (a ≡ true) × (b ≡ true)
 both true b e = (refl, e)
 both false b e = absurd cc
 
@@ -154,7 +154,7 @@ is_sign_of kind.Number e = absurd cc
 is_sign_of kind.Text e = absurd cc
 is_sign_of kind.Sign e = refl
 
-is_word_of : (k : TokenKind) → is_word_kind k ≡ true → k ≡ kind.Word
+pub is_word_of : (k : TokenKind) → is_word_kind k ≡ true → k ≡ kind.Word
 is_word_of kind.Word e = refl
 is_word_of kind.Number e = absurd cc
 is_word_of kind.Text e = absurd cc

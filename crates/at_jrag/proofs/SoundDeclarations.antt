@@ -1,8 +1,7 @@
 -- The rows of the table for declarations have the sense of their wants.
-use Rattle.std.proofs.Common.{◌≡◌, ℕ, ◌≤◌, List, [], ◌∷◌, Bool, true, false, cond, Option, Some, None, refl, sym, ap, subst, ◌∙◌, arith, inl, inr}
+use Rattle.std.proofs.Common.{◌≡◌, ℕ, ◌≤◌, List, [], ◌∷◌, Bool, true, false, Option, Some, None, refl, sym, ap, subst, ◌∙◌, arith, inl, inr}
 use Rattle.std.specs.Prelude.{◌&&◌, ◌||◌, ◌==◌, ◌⊎◌}
 use Rattle.std.specs.List.{AllByRecursion}
-use Rattle.std.specs.Str.{bytes_eq}
 use Rattle.std.proofs.lemmas.Bool.{eqb-true}
 use lib.Chars.{codes}
 use Rattle.at_text.specs.Reading.{first}
@@ -11,23 +10,16 @@ use Rattle.at_jrag.specs.Syntax as syntax
 use Rattle.at_jrag.specs.Syntax.{Place, Word, Param, KindWord, Ending, Body, Decl, Aspect}
 use Rattle.at_jrag.specs.Grammar as grammar
 use Rattle.at_jrag.specs.Grammar.{Row, sign, word, is_sign, is_word, is_name_token, next_is, kind_text, IsKind, Sign, Keyword, KindOf, ParamOf, Listed, Index, Signature, Owner, Getter, Declared, BodyOf, EndingOf, DeclOf, ending_depth, max_nesting, NestsWithin, IsWithin}
-use Rattle.at_jrag.specs.Machine.{Answer, Takes, Skips, Refuses, LeavesOut}
+use Rattle.at_jrag.specs.Machine.{Takes, Skips, Refuses, LeavesOut}
 use Rattle.at_jrag.specs.Wants as want
 use Rattle.at_jrag.specs.Wants.{Want}
 use Rattle.at_jrag.specs.Table.{next, on, expects, is_get_child, is_kind, no_keyword, declared, file_answer, decls_answer, not_nta_answer, lazy_answer, signed_answer, more_params_answer, params_answer, body_answer, ending_answer, defined_answer, alone}
-use Rattle.at_jrag.proofs.ExpressionSteps.{name_is}
-use Rattle.at_jrag.proofs.ExpressionsTaken.{next_first}
-use Rattle.at_jrag.proofs.SoundTokens.{both_are, or_case, front_passes, sign_front, word_is, word_front}
-use Rattle.at_jrag.proofs.SoundSays.{IsRead, HasParams, HasMoreParams, IsOpened, IsSigned, IsBody, IsDefined, Says, AllSay, Took, Does, only_says, on_does}
-use Rattle.at_jrag.proofs.SoundExpressions.{first_tail}
+use Rattle.at_jrag.proofs.ExpressionSteps.{both, name_is}
+use Rattle.at_jrag.proofs.SoundTokens.{and_off, or_case, front_passes, sign_front, word_is, word_front}
+use Rattle.at_jrag.proofs.SoundSays.{IsRead, HasParams, HasMoreParams, IsOpened, IsSigned, IsBody, IsDefined, AllSay, Does, only_says, on_does}
+use Rattle.at_jrag.proofs.SoundExpressions.{first_tail, sign_alone, word_alone}
 
 -- ---- single tokens
-
-word_alone : (l : Bool) (text : List ℕ) (d : ℕ) (old : Row) (e : ℕ) (rest : Row) → next (is_word text) (first old) ≡ true → Took l true [] d old e rest → Keyword text old rest
-word_alone l text d old e rest p k = (k.token.at, word_front text old k.behind k.token k.front p ∙ ap (λ r. word text k.token.at ∷ r) (sym k.all.1))
-
-sign_alone : (l : Bool) (text : List ℕ) (d : ℕ) (old : Row) (e : ℕ) (rest : Row) → next (is_sign text) (first old) ≡ true → Took l true [] d old e rest → Sign text old rest
-sign_alone l text d old e rest p k = (k.token.at, sign_front text old k.behind k.token k.front p ∙ ap (λ r. sign text k.token.at ∷ r) (sym k.all.1))
 
 return_at : (l : Bool) (t : PlacedToken) (ts : Row) (e : ℕ) (rest : Row) → Does l (alone (is_word (codes "return")) (Some t)) (t ∷ ts) e rest → Keyword (codes "return") (t ∷ ts) rest
 return_at l t ts e rest h = on_does l (is_word (codes "return") t) (Takes true [] 0) LeavesOut (t ∷ ts) e rest (λ p k. word_alone l (codes "return") 0 (t ∷ ts) e rest p k) (λ p k. absurd k) h
@@ -83,39 +75,40 @@ lazy_means l old e rest h = on_does l (next (is_word (codes "lazy")) (first old)
 no_zero : (e : ℕ) → e ≡ 1 → e ≡ 0 → ⊥
 no_zero e one none = omega (arith, one, none)
 
-param_more : (k : KindWord) (w : Word) (old mid more : Row) (e : ℕ) (rest : Row) → KindOf k old mid → grammar.Name w mid more → HasMoreParams e more rest → (ps : syntax.Params) × Listed ps.items ps.end old rest
+param_more : (k : KindWord) (w : Word) (old mid more : Row) (e : ℕ) (rest : Row) → KindOf k old mid → grammar.Name w mid more → HasMoreParams e more rest
+    → (ps : syntax.Params) × Listed ps.items ps.end old rest
 param_more k w old mid more e rest q n m = (record { items = record { kind = k; name = w } ∷ m.params.items; end = m.params.end }, (more, (mid, q, n), m.listed))
 
 params_more : (l : Bool) (old one : Row) (e : ℕ) (rest : Row) → Sign (codes ",") old one → AllSay l (want.Kind ∷ want.Name ∷ want.MoreParams ∷ []) 0 one e rest → HasMoreParams e old rest × (e ≡ 1)
 params_more l old one e rest c (mid, d1, (k, q), (more, d2, (w, n, e2), tail)) =
-    let m = only_says l want.MoreParams d2 more e rest tail in
-    (record {
-      params = record { items = record { kind = k; name = w } ∷ m.0.params.items; end = m.0.params.end };
-      listed = (one, more, c, (mid, q, n), m.0.listed);
-      index = λ z. absurd (no_zero e m.1 z);
-    }, m.1)
+    let m = only_says l want.MoreParams d2 more e rest tail in (
+      record {
+        params = record { items = record { kind = k; name = w } ∷ m.0.params.items; end = m.0.params.end };
+        listed = (one, more, c, (mid, q, n), m.0.listed);
+        index = λ z. absurd (no_zero e m.1 z);
+      },
+      m.1,
+    )
 
 pub more_params_mean : (l : Bool) (d : ℕ) (old : Row) (e : ℕ) (rest : Row) → Does l (more_params_answer d (first old)) old e rest → HasMoreParams e old rest × ((e ≡ d) ⊎ (e ≡ 1))
 more_params_mean l d old e rest h = on_does l (next (is_sign (codes ")")) (first old)) (Takes true [] d) _ old e rest
     (λ p k. let s = sign_alone l (codes ")") d old e rest p k in
-        (record { params = record { items = []; end = s.0 }; listed = s.1; index = λ z. s }, inl k.all.0))
+    (record { params = record { items = []; end = s.0 }; listed = s.1; index = λ z. s }, inl k.all.0))
     (λ p h. on_does l (next (is_sign (codes ",")) (first old)) (Takes true (want.Kind ∷ want.Name ∷ want.MoreParams ∷ []) 0) Refuses old e rest
-        (λ q k. let r = params_more l old k.behind e rest (k.token.at, sign_front (codes ",") old k.behind k.token k.front q) k.all in (r.0, inr r.1)) (λ q k. absurd k) h) h
+    (λ q k. let r = params_more l old k.behind e rest (k.token.at, sign_front (codes ",") old k.behind k.token k.front q) k.all in (r.0, inr r.1)) (λ q k. absurd k) h) h
 
 pub other_params_mean : (l : Bool) (old : Row) (e : ℕ) (rest : Row) → Does l (more_params_answer 1 (first old)) old e rest → HasMoreParams e old rest × (e ≡ 1)
 other_params_mean l old e rest h = let r = more_params_mean l 1 old e rest h in (r.0, elim r.1 [ inl x ↦ x | inr x ↦ x ])
 
-and_off : (a b : Bool) → b ≡ false → a && b ≡ false
-and_off true b e = e
-and_off false b e = refl
-
-first_int : (l g : Bool) (at : Place) (old behind : Row) (e : ℕ) (rest : Row) → g && next_is (is_word (codes "int")) old ≡ false → old ≡ word (codes "int") at ∷ behind → AllSay l (want.Name ∷ want.OneParam ∷ []) 0 behind e rest → HasParams g e old rest
+first_int : (l g : Bool) (at : Place) (old behind : Row) (e : ℕ) (rest : Row) → g && next_is (is_word (codes "int")) old ≡ false → old ≡ word (codes "int") at ∷ behind
+    → AllSay l (want.Name ∷ want.OneParam ∷ []) 0 behind e rest → HasParams g e old rest
 first_int l g at old behind e rest none front (more, d, (w, n, e1), tail) =
     let m = only_says l want.OneParam d more e rest tail in
     let r = param_more (record { kind = syntax.Int; at = at }) w old behind more e rest (tt, front) n m in
     record { params = r.0; listed = r.1; opens = none; index = λ z. (Some w, (behind, more, (at, front), n, m.index z)) }
 
-first_other : (l g : Bool) (k : KindWord) (old behind : Row) (e : ℕ) (rest : Row) → g && next_is (is_word (codes "int")) old ≡ false → KindOf k old behind → AllSay l (want.Name ∷ want.MoreParams ∷ []) 0 behind e rest → HasParams g e old rest
+first_other : (l g : Bool) (k : KindWord) (old behind : Row) (e : ℕ) (rest : Row) → g && next_is (is_word (codes "int")) old ≡ false → KindOf k old behind
+    → AllSay l (want.Name ∷ want.MoreParams ∷ []) 0 behind e rest → HasParams g e old rest
 first_other l g k old behind e rest none q (more, d, (w, n, e1), tail) =
     let m = only_says l want.MoreParams d more e rest tail in
     let r = param_more k w old behind more e rest q n m.0 in
@@ -124,13 +117,13 @@ first_other l g k old behind e rest none q (more, d, (w, n, e1), tail) =
 params_at : (l g : Bool) (t : PlacedToken) (ts : Row) (e : ℕ) (rest : Row) → Does l (params_answer g (Some t)) (t ∷ ts) e rest → HasParams g e (t ∷ ts) rest
 params_at l g t ts e rest h = on_does l (is_sign (codes ")") t) (Takes true [] 0) _ (t ∷ ts) e rest
     (λ p k. let s = sign_alone l (codes ")") 0 (t ∷ ts) e rest p k in
-        record { params = record { items = []; end = s.0 }; listed = s.1; opens = and_off g _ (ap (next_is (is_word (codes "int"))) s.1); index = λ z. (None, s) })
+    record { params = record { items = []; end = s.0 }; listed = s.1; opens = and_off g _ (ap (next_is (is_word (codes "int"))) s.1); index = λ z. (None, s) })
     (λ p h. on_does l (g && is_word (codes "int") t) LeavesOut _ (t ∷ ts) e rest (λ q k. absurd k)
     (λ q h. on_does l (is_word (codes "int") t) (Takes true (want.Name ∷ want.OneParam ∷ []) 0) _ (t ∷ ts) e rest
     (λ r k. first_int l g k.token.at (t ∷ ts) k.behind e rest q (word_front (codes "int") (t ∷ ts) k.behind k.token k.front r) k.all)
     (λ r h. on_does l (is_kind t) (Takes true (want.Name ∷ want.MoreParams ∷ []) 0) Refuses (t ∷ ts) e rest
     (λ s k. let c = kind_word k.token (kind_of k.token (front_passes is_kind (t ∷ ts) k.behind k.token k.front s)) (t ∷ ts) k.behind k.front in
-        first_other l g c.0 (t ∷ ts) k.behind e rest q c.1 k.all) (λ s k. absurd k) h) h) h) h
+    first_other l g c.0 (t ∷ ts) k.behind e rest q c.1 k.all) (λ s k. absurd k) h) h) h) h
 
 pub params_mean : (l g : Bool) (old : Row) (e : ℕ) (rest : Row) → Does l (params_answer g (first old)) old e rest → HasParams g e old rest
 params_mean l g [] e rest h = absurd h
@@ -158,12 +151,14 @@ signed_means l (t ∷ ts) e rest h = signed_at l t ts e rest h
 nests : (l : Bool) (e : ℕ) (old rest : Row) (x : IsRead l 8 max_nesting e old rest) → l ≡ true → grammar.depth x.expr ≤ max_nesting
 nests l e old rest x h = subst (λ (k : ℕ). k ≤ max_nesting) x.deep (x.fits h)
 
-equation_body : (l : Bool) (at : Place) (old one : Row) (e : ℕ) (rest : Row) → old ≡ sign (codes "=") at ∷ one → AllSay l (want.Expression max_nesting ∷ want.Mark (codes ";") ∷ []) 0 one e rest → IsBody l old rest
+equation_body : (l : Bool) (at : Place) (old one : Row) (e : ℕ) (rest : Row) → old ≡ sign (codes "=") at ∷ one
+    → AllSay l (want.Expression max_nesting ∷ want.Mark (codes ";") ∷ []) 0 one e rest → IsBody l old rest
 equation_body l at old one e rest front (end, m, x, tail) =
     let s = only_says l (want.Mark (codes ";")) m end e rest tail in
     (record { at = at; form = syntax.Equation'; expr = x.expr }, (one, end, front, x.spells, s.0), nests l m one end x)
 
-block_body : (l : Bool) (at : Place) (old returns : Row) (e : ℕ) (rest : Row) → old ≡ sign (codes "{") at ∷ returns → AllSay l (want.Return ∷ want.Expression max_nesting ∷ want.Mark (codes ";") ∷ want.Close ∷ []) 0 returns e rest → IsBody l old rest
+block_body : (l : Bool) (at : Place) (old returns : Row) (e : ℕ) (rest : Row)
+    → old ≡ sign (codes "{") at ∷ returns → AllSay l (want.Return ∷ want.Expression max_nesting ∷ want.Mark (codes ";") ∷ want.Close ∷ []) 0 returns e rest → IsBody l old rest
 block_body l at old returns e rest front (one, d, k, (end, m, x, (close, n, (s, e1), tail))) =
     (record { at = at; form = syntax.Block; expr = x.expr }, (returns, one, end, close, front, k, x.spells, s, only_says l want.Close n close e rest tail), nests l m one end x)
 
@@ -180,8 +175,8 @@ ending_means l old e rest h = on_does l (next (is_sign (codes ";")) (first old))
 
 pub defined_means : (l : Bool) (d : ℕ) (old : Row) (e : ℕ) (rest : Row) → Does l (defined_answer d (first old)) old e rest → IsDefined l d old rest
 defined_means l d old e rest h = on_does l ((d == 0) && next (is_sign (codes ".")) (first old)) (Takes true (want.Signed ∷ want.Body ∷ []) 0) (body_answer (first old)) old e rest
-    (λ p k. let q = both_are (d == 0) (next (is_sign (codes ".")) (first old)) p in
-        inr (eqb-true d 0 q.0, k.behind, k.all.0, k.all.1, (k.token.at, sign_front (codes ".") old k.behind k.token k.front q.1), k.all.2, only_says l want.Body k.all.1 k.all.0 e rest k.all.3))
+    (λ p k. let q = both (d == 0) (next (is_sign (codes ".")) (first old)) p in
+    inr (eqb-true d 0 q.0, k.behind, k.all.0, k.all.1, (k.token.at, sign_front (codes ".") old k.behind k.token k.front q.1), k.all.2, only_says l want.Body k.all.1 k.all.0 e rest k.all.3))
     (λ p h. inl (body_means l old e rest h)) h
 
 -- ---- declarations
@@ -198,19 +193,22 @@ Signs old rest = (name : Word) × (ps : syntax.Params) × Signature name ps old 
 signs : (e : ℕ) (old rest : Row) → IsSigned e old rest → Signs old rest
 signs e old rest s = (s.name, s.read.read.params, (s.paren, s.read.list, s.named, (s.read.paren, s.read.read.opens), s.read.read.listed))
 
-synthesized_then : (l : Bool) (at : Place) (old behind : Row) (e : ℕ) (rest : Row) → old ≡ word (codes "syn") at ∷ behind → AllSay l (declared (want.Ending ∷ want.Decls ∷ [])) 0 behind e rest → HasDecls l old rest
+synthesized_then : (l : Bool) (at : Place) (old behind : Row) (e : ℕ) (rest : Row) → old ≡ word (codes "syn") at ∷ behind
+    → AllSay l (declared (want.Ending ∷ want.Decls ∷ [])) 0 behind e rest → HasDecls l old rest
 synthesized_then l at old behind e rest front (kinds, d1, (lazy, z), (owner, d2, (k, t), (dot, d3, (w, n, e3), (called, d4, (s, e4), (end, d5, g, (end2, d6, c, (more, d7, (x, y, f), tail))))))) =
     let q = signs d5 called end g in
     decl_then l (record { at = at; form = syntax.Synthesized lazy k w q.0 q.1 x }) old more rest
     (behind, front, (end2, (kinds, owner, called, z, t, (dot, n, s), subst (λ (r : Row). Signature q.0 q.1 called r) (sym c) q.2), y)) f (only_says l want.Decls d7 more e rest tail)
 
-inherited_then : (l : Bool) (at : Place) (old behind : Row) (e : ℕ) (rest : Row) → old ≡ word (codes "inh") at ∷ behind → AllSay l (declared (want.Mark (codes ";") ∷ want.Decls ∷ [])) 0 behind e rest → HasDecls l old rest
+inherited_then : (l : Bool) (at : Place) (old behind : Row) (e : ℕ) (rest : Row) → old ≡ word (codes "inh") at ∷ behind
+    → AllSay l (declared (want.Mark (codes ";") ∷ want.Decls ∷ [])) 0 behind e rest → HasDecls l old rest
 inherited_then l at old behind e rest front (kinds, d1, (lazy, z), (owner, d2, (k, t), (dot, d3, (w, n, e3), (called, d4, (s, e4), (end, d5, g, (end2, d6, c, (more, d7, (y, e7), tail))))))) =
     let q = signs d5 called end g in
     decl_then l (record { at = at; form = syntax.Inherited lazy k w q.0 q.1 }) old more rest
     (behind, front, (end2, (kinds, owner, called, z, t, (dot, n, s), subst (λ (r : Row). Signature q.0 q.1 called r) (sym c) q.2), y)) (λ h. omega arith) (only_says l want.Decls d7 more e rest tail)
 
-defined_then : (l : Bool) (at : Place) (class : Word) (old behind called body more : Row) (d : ℕ) (rest : Row) → old ≡ word (codes "eq") at ∷ behind → Owner class behind called → IsSigned d called body → IsDefined l d body more → HasDecls l more rest → HasDecls l old rest
+defined_then : (l : Bool) (at : Place) (class : Word) (old behind called body more : Row) (d : ℕ) (rest : Row) → old ≡ word (codes "eq") at ∷ behind → Owner class behind called
+    → IsSigned d called body → IsDefined l d body more → HasDecls l more rest → HasDecls l old rest
 defined_then l at class old behind called body more d rest front o g (inl b) k =
     let q = signs d called body g in
     decl_then l (record { at = at; form = syntax.Equation class q.0 q.1 b.0 }) old more rest (behind, front, (called, body, o, q.2, b.1)) b.2 k
@@ -220,7 +218,8 @@ defined_then l at class old behind called body more d rest front o g (inr (z, na
     decl_then l (record { at = at; form = syntax.InheritedEquation class g.name i.0 q.0 q.1 b.0 }) old more rest
     (behind, front, (called, named, inner, o, (g.paren, g.read.list, body, g.named, (g.read.paren, g.read.read.opens), i.1, s), q.2, b.1)) b.2 k
 
-equation_then : (l : Bool) (at : Place) (old behind : Row) (e : ℕ) (rest : Row) → old ≡ word (codes "eq") at ∷ behind → AllSay l (want.Name ∷ want.Mark (codes ".") ∷ want.Signed ∷ want.Defined ∷ want.Decls ∷ []) 0 behind e rest → HasDecls l old rest
+equation_then : (l : Bool) (at : Place) (old behind : Row) (e : ℕ) (rest : Row) → old ≡ word (codes "eq") at ∷ behind
+    → AllSay l (want.Name ∷ want.Mark (codes ".") ∷ want.Signed ∷ want.Defined ∷ want.Decls ∷ []) 0 behind e rest → HasDecls l old rest
 equation_then l at old behind e rest front (dot, d1, (w, n, e1), (called, d2, (s, e2), (body, d3, g, (more, d4, x, tail)))) =
     defined_then l at w old behind called body more d3 rest front (dot, n, s) g x (only_says l want.Decls d4 more e rest tail)
 
@@ -247,7 +246,8 @@ decls_mean l (t ∷ ts) e rest h = decls_at l t ts e rest h
 abbrev pub HasAspects : Bool → Row → Row → Type 0
 HasAspects l old rest = (aspects : List Aspect) × grammar.File aspects old rest × (l ≡ true → IsWithin aspects)
 
-aspect_then : (l : Bool) (at : Place) (old named : Row) (e : ℕ) (rest : Row) → old ≡ word (codes "aspect") at ∷ named → AllSay l (want.Name ∷ want.Mark (codes "{") ∷ want.Decls ∷ want.File ∷ []) 0 named e rest → HasAspects l old rest
+aspect_then : (l : Bool) (at : Place) (old named : Row) (e : ℕ) (rest : Row) → old ≡ word (codes "aspect") at ∷ named
+    → AllSay l (want.Name ∷ want.Mark (codes "{") ∷ want.Decls ∷ want.File ∷ []) 0 named e rest → HasAspects l old rest
 aspect_then l at old named e rest front (brace, d1, (w, n, e1), (inner, d2, (b, e2), (more, d3, (ds, close, k, c, f), tail))) =
     let r = only_says l want.File d3 more e rest tail in
     (record { name = w; decls = ds } ∷ r.0, (more, (named, brace, inner, close, (at, front), n, b, k, c), r.1), (λ h. (f h, r.2 h)))

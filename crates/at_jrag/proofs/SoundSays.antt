@@ -1,5 +1,5 @@
 -- What the machine's wants say of a row that they go over: a run that takes all has the sense of each of its wants.
-use Rattle.std.proofs.Common.{◌≡◌, ℕ, suc, ◌+◌, ◌-◌, ◌≤◌, List, [], ◌∷◌, ◌++◌, Bool, true, false, cond, max, Option, Some, None, refl, sym, ap, subst, ◌∙◌, inl, inr}
+use Rattle.std.proofs.Common.{◌≡◌, ℕ, ◌+◌, ◌-◌, ◌≤◌, List, [], ◌∷◌, ◌++◌, Bool, true, false, cond, max, Option, Some, None, refl, sym, subst}
 use Rattle.std.specs.Prelude.{◌&&◌, ◌||◌, not, ◌⊎◌}
 use Rattle.std.specs.List.{AllByRecursion}
 use Rattle.std.specs.Str.{bytes_eq}
@@ -112,8 +112,10 @@ Says l (want.Otherwise b m) d old e rest = IsOther l b m d e old rest
 Says l (want.Unary b) d old e rest = IsRead l 1 b e old rest
 Says l (want.Minus b) d old e rest = (at : Place) → (l ≡ true → 1 ≤ b) → IsRead l 1 b e (sign (codes "-") at ∷ old) rest
 Says l (want.Opened b) d old e rest = (at : Place) → IsRead l 1 b e (sign (codes "(") at ∷ old) rest
-Says l (want.Enclosed g b) d old e rest = (at : Place) (w : Word) → is_name w.text ≡ true → g ≡ bytes_eq w.text (codes "getChild") → (l ≡ true → 2 ≤ b) → IsRead l 1 b e (sign (codes "(") at ∷ word w.text w.at ∷ old) rest
-Says l (want.Parenthesized b) d old e rest = (at : Place) (w : Word) (close : Place) → is_name w.text ≡ true → d ≡ 2 → (l ≡ true → 2 ≤ b) → IsRead l 1 b e (sign (codes "(") at ∷ word w.text w.at ∷ sign (codes ")") close ∷ old) rest
+Says l (want.Enclosed g b) d old e rest = (at : Place) (w : Word) → is_name w.text ≡ true → g ≡ bytes_eq w.text (codes "getChild") → (l ≡ true → 2 ≤ b) →
+    IsRead l 1 b e (sign (codes "(") at ∷ word w.text w.at ∷ old) rest
+Says l (want.Parenthesized b) d old e rest = (at : Place) (w : Word) (close : Place) → is_name w.text ≡ true → d ≡ 2 → (l ≡ true → 2 ≤ b) →
+    IsRead l 1 b e (sign (codes "(") at ∷ word w.text w.at ∷ sign (codes ")") close ∷ old) rest
 Says l (want.Calls b) d old e rest = (start : Row) → IsRead l 0 b d start old → IsRead l 0 b e start rest
 Says l (want.Called b) d old e rest = IsCalled l b e old rest
 Says l (want.Arguments g b) d old e rest = IsApplied l g b e old rest
@@ -183,7 +185,8 @@ join_say l (w ∷ ws) us d old m mid e rest (one, n, s, h) k = (one, n, s, join_
 pub only_says : (l : Bool) (w : Want) (d : ℕ) (old : Row) (e : ℕ) (rest : Row) → AllSay l (w ∷ []) d old e rest → Says l w d old e rest
 only_says l w d old e rest (mid, m, s, (x, y)) = subst (λ (r : Row). Says l w d old e r) (sym y) (subst (λ (k : ℕ). Says l w d old k mid) (sym x) s)
 
-pub then_does : (l : Bool) (a : Answer Want) (us : List Want) (old : Row) (e : ℕ) (rest : Row) → Does l (and_then a us) old e rest → (mid : Row) × (m : ℕ) × Does l a old m mid × AllSay l us m mid e rest
+pub then_does : (l : Bool) (a : Answer Want) (us : List Want) (old : Row) (e : ℕ) (rest : Row) → Does l (and_then a us) old e rest
+    → (mid : Row) × (m : ℕ) × Does l a old m mid × AllSay l us m mid e rest
 then_does l (Takes within ws d) us old e rest h =
     let r = split_say l ws us d h.behind e rest h.all in
     (r.0, r.1, record { token = h.token; behind = h.behind; front = h.front; within_is = h.within_is; all = r.2 }, r.3)
@@ -192,7 +195,8 @@ then_does l Refuses us old e rest h = absurd h
 then_does l LeavesOut us old e rest h = absurd h
 
 -- the first of what may be absent, and what is wanted behind it
-pub else_does : (l : Bool) (a : Answer Want) (us : List Want) (f : ℕ → Answer Want) (old : Row) (e : ℕ) (rest : Row) → ((x : ℕ) → Does l (f x) old e rest → AllSay l us x old e rest) → Does l (or_else a us f) old e rest
+pub else_does : (l : Bool) (a : Answer Want) (us : List Want) (f : ℕ → Answer Want) (old : Row) (e : ℕ) (rest : Row) → ((x : ℕ) → Does l (f x) old e rest → AllSay l us x old e rest)
+    → Does l (or_else a us f) old e rest
     → (mid : Row) × (m : ℕ) × Does l a old m mid × AllSay l us m mid e rest
 else_does l (Takes within ws d) us f old e rest g h =
     let r = split_say l ws us d h.behind e rest h.all in
@@ -202,7 +206,8 @@ else_does l Refuses us f old e rest g h = absurd h
 else_does l LeavesOut us f old e rest g h = absurd h
 
 -- a row goes by a test of the next token
-pub on_does : {Z : Type 0} (l x : Bool) (a b : Answer Want) (old : Row) (e : ℕ) (rest : Row) → (x ≡ true → Does l a old e rest → Z) → (x ≡ false → Does l b old e rest → Z) → Does l (cond x a b) old e rest → Z
+pub on_does : {Z : Type 0} (l x : Bool) (a b : Answer Want) (old : Row) (e : ℕ) (rest : Row) → (x ≡ true → Does l a old e rest → Z) → (x ≡ false → Does l b old e rest → Z)
+    → Does l (cond x a b) old e rest → Z
 on_does l true a b old e rest f g h = f refl h
 on_does l false a b old e rest f g h = g refl h
 
@@ -212,7 +217,8 @@ on_does l false a b old e rest f g h = g refl h
 abbrev pub AllSaid : Bool → List Want → ℕ → Row → Type 0
 AllSaid l ws d old = (e : ℕ) × AllSay l ws d old e []
 
-ended_at : (l : Bool) (w : Want) (ws : List Want) (d : ℕ) (a : Answer Want) (f : ℕ → Bool) → Means l → table w d None ≡ a → ((m : ℕ) → f m ≡ true → AllSaid l ws m []) → ended a f ≡ true → AllSaid l (w ∷ ws) d []
+ended_at : (l : Bool) (w : Want) (ws : List Want) (d : ℕ) (a : Answer Want) (f : ℕ → Bool) → Means l → table w d None ≡ a → ((m : ℕ) → f m ≡ true → AllSaid l ws m []) → ended a f ≡ true
+    → AllSaid l (w ∷ ws) d []
 ended_at l w ws d (Takes within more m) f means t ih h = absurd cc
 ended_at l w ws d (Skips m) f means t ih h = let r = ih m h in (r.0, ([], m, means w d [] m [] (subst (λ (x : Answer Want). Does l x [] m []) (sym t) (refl, refl)), r.1))
 ended_at l w ws d Refuses f means t ih h = absurd cc
@@ -222,13 +228,15 @@ ends_said : (l : Bool) (ws : List Want) (d : ℕ) → Means l → may_end table 
 ends_said l [] d means h = (d, (refl, refl))
 ends_said l (w ∷ ws) d means h = ended_at l w ws d (table w d None) (λ e. may_end table ws e) means refl (λ m k. ends_said l ws m means k) h
 
-taken_said : (l within : Bool) (w : Want) (more ws : List Want) (d m : ℕ) (s : PlacedToken) (ss : Row) → Means l → table w d (Some s) ≡ Takes within more m → (l ≡ true → within ≡ true) → AllSaid l (more ++ ws) m ss → AllSaid l (w ∷ ws) d (s ∷ ss)
+taken_said : (l within : Bool) (w : Want) (more ws : List Want) (d m : ℕ) (s : PlacedToken) (ss : Row) → Means l → table w d (Some s) ≡ Takes within more m → (l ≡ true → within ≡ true)
+    → AllSaid l (more ++ ws) m ss → AllSaid l (w ∷ ws) d (s ∷ ss)
 taken_said l within w more ws d m s ss means t fits (e, h) =
     let r = split_say l more ws m ss e [] h in
     let took : Took l within more m (s ∷ ss) r.1 r.0 = record { token = s; behind = ss; front = refl; within_is = fits; all = r.2 } in
     (e, (r.0, r.1, means w d (s ∷ ss) r.1 r.0 (subst (λ (x : Answer Want). Does l x (s ∷ ss) r.1 r.0) (sym t) took), r.3))
 
-moved_said : (l within : Bool) (us : List Want) (m : ℕ) (s : PlacedToken) (ss : Row) → goes_on l table (cond (within || not l) (Goes us m) (Halts TooDeep)) s ss ≡ Whole → (l ≡ true → within ≡ true) × (run l table us m ss ≡ Whole)
+moved_said : (l within : Bool) (us : List Want) (m : ℕ) (s : PlacedToken) (ss : Row) → goes_on l table (cond (within || not l) (Goes us m) (Halts TooDeep)) s ss ≡ Whole
+    → (l ≡ true → within ≡ true) × (run l table us m ss ≡ Whole)
 moved_said l true us m s ss h = ((λ e. refl), h)
 moved_said false false us m s ss h = ((λ e. absurd cc), h)
 moved_said true false us m s ss h = absurd cc
@@ -245,7 +253,8 @@ answered_said l w ws d s ss (Skips m) means ih skip t h =
 answered_said l w ws d s ss Refuses means ih skip t h = absurd cc
 answered_said l w ws d s ss LeavesOut means ih skip t h = absurd cc
 
-after_said : (l : Bool) (ws : List Want) (d : ℕ) (s : PlacedToken) (ss : Row) → Means l → ((vs : List Want) (x : ℕ) → run l table vs x ss ≡ Whole → AllSaid l vs x ss) → goes_on l table (after l table ws d s) s ss ≡ Whole → AllSaid l ws d (s ∷ ss)
+after_said : (l : Bool) (ws : List Want) (d : ℕ) (s : PlacedToken) (ss : Row) → Means l → ((vs : List Want) (x : ℕ) → run l table vs x ss ≡ Whole → AllSaid l vs x ss)
+    → goes_on l table (after l table ws d s) s ss ≡ Whole → AllSaid l ws d (s ∷ ss)
 after_said l [] d s ss means ih h = absurd cc
 after_said l (w ∷ ws) d s ss means ih h = answered_said l w ws d s ss (table w d (Some s)) means ih (λ m k. after_said l ws m s ss means ih k) refl h
 

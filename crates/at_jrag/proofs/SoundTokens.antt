@@ -1,5 +1,5 @@
 -- What a token is that passes a test of the table.
-use Rattle.std.proofs.Common.{◌≡◌, ℕ, suc, ◌+◌, ◌≤◌, pos, List, [], ◌∷◌, Bool, true, false, cond, Option, Some, None, refl, sym, ap, subst, ◌∙◌, arith, inl, inr}
+use Rattle.std.proofs.Common.{◌≡◌, ℕ, suc, ◌+◌, ◌≤◌, pos, List, ◌∷◌, Bool, true, false, cond, refl, sym, ap, subst, ◌∙◌, arith, inl}
 use Rattle.std.specs.Prelude.{◌&&◌, ◌||◌, decimal}
 use Rattle.std.specs.Str.{bytes_eq}
 use Rattle.std.proofs.lemmas.Slice.Eq.{bytes_eq-Decides}
@@ -7,21 +7,21 @@ use lib.Chars.{codes}
 use Rattle.at_text.specs.Reading.{first}
 use Rattle.at_text.specs.declared.token.TokenKind.{TokenKind}
 use Rattle.at_text.specs.declared.token.TokenKind.TheVariants as kind
-use Rattle.at_text.specs.Symbols.{PlacedToken, is_word_kind, is_sign_kind}
+use Rattle.at_text.specs.Symbols.{PlacedToken, is_word_kind}
 use Rattle.at_jrag.specs.Grammar.{Row, sign, word, number, quotation, is_sign, is_word, is_number, Spells, level, depth, operator_text, operator_level, fold_text}
 use Rattle.at_jrag.specs.Syntax as syntax
 use Rattle.at_jrag.specs.Syntax.{Operator, FoldForm, Expr}
 use Rattle.at_jrag.specs.Table.{next, is_literal, is_quotation, is_quoted, is_constant, is_number_within, is_decimal_within, begins_fold, sign_rank, link_rank}
-use Rattle.at_jrag.proofs.ExpressionSteps.{sign_is}
-use Rattle.at_jrag.proofs.Numbers.{Within, within}
+use Rattle.at_jrag.proofs.ExpressionSteps.{both, is_word_of, sign_is}
+use Rattle.at_jrag.proofs.Numbers.{within}
 use Rattle.at_jrag.proofs.Quotations.{quoted_of}
 use Rattle.at_jrag.proofs.Tokens.{of_kind}
 
 -- ---- tests
 
-pub both_are : (a b : Bool) → a && b ≡ true → (a ≡ true) × (b ≡ true)
-both_are true b e = (refl, e)
-both_are false b e = absurd cc
+pub and_off : (a b : Bool) → b ≡ false → a && b ≡ false
+and_off true b e = e
+and_off false b e = refl
 
 pub or_case : {Z : Type 0} (x y : Bool) → (x ≡ true → Z) → (y ≡ true → Z) → x || y ≡ true → Z
 or_case true y f g e = f refl
@@ -34,16 +34,10 @@ front_passes test old behind t f e = sym (ap (λ r. next test (first r)) f) ∙ 
 pub sign_front : (text : List ℕ) (old behind : Row) (t : PlacedToken) → old ≡ t ∷ behind → next (is_sign text) (first old) ≡ true → old ≡ sign text t.at ∷ behind
 sign_front text old behind t f e = f ∙ ap (λ x. x ∷ behind) (sign_is text t (front_passes (is_sign text) old behind t f e))
 
-word_kind : (k : TokenKind) → is_word_kind k ≡ true → k ≡ kind.Word
-word_kind kind.Word e = refl
-word_kind kind.Number e = absurd cc
-word_kind kind.Text e = absurd cc
-word_kind kind.Sign e = absurd cc
-
 pub word_is : (text : List ℕ) (t : PlacedToken) → is_word text t ≡ true → t ≡ word text t.at
 word_is text t e =
-    let h = both_are (is_word_kind t.kind) (bytes_eq t.text text) e in
-    let k = word_kind t.kind h.0 in
+    let h = both (is_word_kind t.kind) (bytes_eq t.text text) e in
+    let k = is_word_of t.kind h.0 in
     let x : t.text ≡ text = (bytes_eq-Decides t.text text).0 h.1 in
     λ i. record { kind = k i; text = x i; at = t.at }
 
@@ -66,7 +60,7 @@ pub record IsNumber (most : ℕ) (t : PlacedToken) : Type 0 where
 
 pub number_of : (most : ℕ) (t : PlacedToken) → is_number_within most t ≡ true → IsNumber most t
 number_of most t e =
-    let h = both_are (is_number t) (is_decimal_within most t.text) e in
+    let h = both (is_number t) (is_decimal_within most t.text) e in
     let k = number_kind t.kind h.0 in
     let w = within most t.text h.1 in
     record { value = w.value; small = w.small; is = λ i. record { kind = k i; text = w.digits i; at = t.at } }
@@ -89,7 +83,8 @@ number_literal t e =
     let n = number_of 2147483647 t e in
     literal_at t (number (decimal n.value) t.at) n.is (record { expr = syntax.Number t.at (pos n.value); spells = λ rest. inl (n.value, n.small, refl, refl); strong = omega arith; one = refl; plain = refl })
 
-quotation_kind : (k : TokenKind) (text : List ℕ) → elim k [ kind.Word ↦ false | kind.Number ↦ false | kind.Text ↦ is_quoted text | kind.Sign ↦ false ] ≡ true → (k ≡ kind.Text) × (is_quoted text ≡ true)
+quotation_kind : (k : TokenKind) (text : List ℕ) → elim k [ kind.Word ↦ false | kind.Number ↦ false | kind.Text ↦ is_quoted text | kind.Sign ↦ false ] ≡ true
+    → (k ≡ kind.Text) × (is_quoted text ≡ true)
 quotation_kind kind.Word text e = absurd cc
 quotation_kind kind.Number text e = absurd cc
 quotation_kind kind.Text text e = (refl, e)
@@ -138,15 +133,16 @@ rank_case false k n r f g e = g e
 pub operator_of : (text : List ℕ) (r : ℕ) → sign_rank text ≡ suc r → IsOperator text r
 operator_of text r e = rank_case (bytes_eq text (codes "*") || bytes_eq text (codes "/") || bytes_eq text (codes "%")) 1 _ r
     (λ h k. or_case (bytes_eq text (codes "*") || bytes_eq text (codes "/")) (bytes_eq text (codes "%"))
-        (λ h. or_case (bytes_eq text (codes "*")) (bytes_eq text (codes "/")) (is_operator text r syntax.Multiply (omega (arith, k))) (is_operator text r syntax.Divide (omega (arith, k))) h) (is_operator text r syntax.Remainder (omega (arith, k))) h)
+    (λ h. or_case (bytes_eq text (codes "*")) (bytes_eq text (codes "/")) (is_operator text r syntax.Multiply (omega (arith, k))) (is_operator text r syntax.Divide (omega (arith, k))) h)
+    (is_operator text r syntax.Remainder (omega (arith, k))) h)
     (rank_case (bytes_eq text (codes "+") || bytes_eq text (codes "-")) 2 _ r
     (λ h k. or_case (bytes_eq text (codes "+")) (bytes_eq text (codes "-")) (is_operator text r syntax.Add (omega (arith, k))) (is_operator text r syntax.Subtract (omega (arith, k))) h)
     (rank_case (bytes_eq text (codes "<") || bytes_eq text (codes "<=") || bytes_eq text (codes ">") || bytes_eq text (codes ">=")) 3 _ r
     (λ h k. or_case (bytes_eq text (codes "<") || bytes_eq text (codes "<=") || bytes_eq text (codes ">")) (bytes_eq text (codes ">="))
-        (λ h. or_case (bytes_eq text (codes "<") || bytes_eq text (codes "<=")) (bytes_eq text (codes ">"))
-            (λ h. or_case (bytes_eq text (codes "<")) (bytes_eq text (codes "<=")) (is_operator text r syntax.Below (omega (arith, k))) (is_operator text r syntax.AtMost (omega (arith, k))) h)
-            (is_operator text r syntax.Above (omega (arith, k))) h)
-        (is_operator text r syntax.AtLeast (omega (arith, k))) h)
+    (λ h. or_case (bytes_eq text (codes "<") || bytes_eq text (codes "<=")) (bytes_eq text (codes ">"))
+    (λ h. or_case (bytes_eq text (codes "<")) (bytes_eq text (codes "<=")) (is_operator text r syntax.Below (omega (arith, k))) (is_operator text r syntax.AtMost (omega (arith, k))) h)
+    (is_operator text r syntax.Above (omega (arith, k))) h)
+    (is_operator text r syntax.AtLeast (omega (arith, k))) h)
     (rank_case (bytes_eq text (codes "==") || bytes_eq text (codes "!=")) 4 _ r
     (λ h k. or_case (bytes_eq text (codes "==")) (bytes_eq text (codes "!=")) (is_operator text r syntax.Same (omega (arith, k))) (is_operator text r syntax.Differs (omega (arith, k))) h)
     (rank_case (bytes_eq text (codes "&&")) 5 _ r (λ h k. is_operator text r syntax.And (omega (arith, k)) h)
@@ -164,7 +160,7 @@ instance_case false r e = absurd (omega (arith, e))
 
 pub word_link : (t : PlacedToken) (r : ℕ) → is_word_kind t.kind ≡ true → link_rank t ≡ suc r → (t ≡ word (codes "instanceof") t.at) × (r ≡ 2)
 word_link t r w e =
-    let is = of_kind t kind.Word (word_kind t.kind w) in
+    let is = of_kind t kind.Word (is_word_of t.kind w) in
     let c = instance_case (bytes_eq t.text (codes "instanceof")) r (sym (ap link_rank is) ∙ e) in
     (is ∙ ap (λ x. word x t.at) ((bytes_eq-Decides t.text (codes "instanceof")).0 c.0), c.1)
 
