@@ -9,4 +9,7 @@ pub mod ExpressionsTaken
 pub mod Declarations
 pub mod Numbers
 pub mod DeclarationRuns
+pub mod ParamStops
+pub mod DeclarationStops
+pub mod Files
 pub mod Quotations
