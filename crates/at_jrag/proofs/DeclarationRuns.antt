@@ -66,7 +66,7 @@ stay_leaves_out w t old mid rest same front row d = λ ws. ap (run true table (w
 
 -- ---- single tokens
 
-next_same : (test : PlacedToken → Bool) (old : Row) → next test (first old) ≡ next_is test old
+pub next_same : (test : PlacedToken → Bool) (old : Row) → next test (first old) ≡ next_is test old
 next_same test [] = refl
 next_same test (t ∷ ts) = refl
 
@@ -186,7 +186,7 @@ one_go l p (q ∷ ps) end old rest int (one, more, c, (mid, k, n), m) =
     (to_then l want.Kind (want.Name ∷ want.MoreParams ∷ []) 1 one mid rest (kind_pass l q.kind one mid k) (to_then l want.Name (want.MoreParams ∷ []) 1 mid more rest (name_pass l q.name mid more n) (more_go l ps end more rest m)))
 
 -- the first parameter's kind
-kind_cases : (k : syntax.Kind) (at : Place) → IsKind k → (k ≡ syntax.Int) ⊎ ((is_word (codes "int") (word (kind_text k) at) ≡ false) × (is_int k ≡ false))
+pub kind_cases : (k : syntax.Kind) (at : Place) → IsKind k → (k ≡ syntax.Int) ⊎ ((is_word (codes "int") (word (kind_text k) at) ≡ false) × (is_int k ≡ false))
 unfolding reserved_words
 kind_cases syntax.Int at is = inl refl
 kind_cases syntax.Bool' at is = inr (refl, refl)
@@ -201,20 +201,20 @@ other_register : (p : Param) (ps : List Param) → is_int p.kind.kind ≡ false 
 other_register p [] h = ap (λ b. cond {A = ℕ} b 0 1) h
 other_register p (q ∷ ps) h = refl
 
-and_off : (g b : Bool) → b ≡ false → g && b ≡ false
+pub and_off : (g b : Bool) → b ≡ false → g && b ≡ false
 and_off true b h = h
 and_off false b h = refl
 
 third_row : (a b c : Bool) (x y z w : Answer Want) → a ≡ false → b ≡ false → c ≡ true → on a x (on b y (on c z w)) ≡ z
 third_row a b c x y z w ea eb ec = ap (λ v. on v x (on b y (on c z w))) ea ∙ ap (λ v. on v y (on c z w)) eb ∙ ap (λ v. on v z w) ec
 
-int_row : (g : Bool) (k : syntax.Kind) (at : Place) (d : ℕ) → k ≡ syntax.Int → g && is_word (codes "int") (word (kind_text k) at) ≡ false → table (want.Params g) d (Some (word (kind_text k) at)) ≡ Takes true (want.Name ∷ want.OneParam ∷ []) 0
+pub int_row : (g : Bool) (k : syntax.Kind) (at : Place) (d : ℕ) → k ≡ syntax.Int → g && is_word (codes "int") (word (kind_text k) at) ≡ false → table (want.Params g) d (Some (word (kind_text k) at)) ≡ Takes true (want.Name ∷ want.OneParam ∷ []) 0
 unfolding table
 int_row g k at d e none =
     let no : g ≡ false = and_true g (sym (ap (λ x. g && is_word (codes "int") (word (kind_text x) at)) e) ∙ none) in
     ap (λ x. table (want.Params g) d (Some (word (kind_text x) at))) e ∙ ap (λ b. on b LeavesOut (Takes true (want.Name ∷ want.OneParam ∷ []) 0)) (ap (λ b. b && true) no)
 
-kind_row : (g : Bool) (k : syntax.Kind) (at : Place) (d : ℕ) → IsKind k → is_word (codes "int") (word (kind_text k) at) ≡ false → table (want.Params g) d (Some (word (kind_text k) at)) ≡ Takes true (want.Name ∷ want.MoreParams ∷ []) 0
+pub kind_row : (g : Bool) (k : syntax.Kind) (at : Place) (d : ℕ) → IsKind k → is_word (codes "int") (word (kind_text k) at) ≡ false → table (want.Params g) d (Some (word (kind_text k) at)) ≡ Takes true (want.Name ∷ want.MoreParams ∷ []) 0
 unfolding table
 kind_row g k at d is none = third_row (g && is_word (codes "int") (word (kind_text k) at)) (is_word (codes "int") (word (kind_text k) at)) (is_kind (word (kind_text k) at)) LeavesOut _ _ Refuses (and_off g _ none) none (kind_is_kind k at is)
 
@@ -232,7 +232,7 @@ unfolding table
 listed_go l g [] end list rest h none = to_last l (want.Params g) (sign (codes ")") end) 0 list rest h (λ d. refl)
 listed_go l g (p ∷ ps) end list rest (more, (mid, k, n), m) none = first_go l g p ps end list mid more rest k n m none (kind_cases p.kind.kind p.kind.at k.0)
 
-signed_row : (text : List ℕ) (at : Place) (d : ℕ) → is_name text ≡ true → table want.Signed d (Some (word text at)) ≡ Takes true (want.Opening (bytes_eq text (codes "getChild")) ∷ []) 0
+pub signed_row : (text : List ℕ) (at : Place) (d : ℕ) → is_name text ≡ true → table want.Signed d (Some (word text at)) ≡ Takes true (want.Opening (bytes_eq text (codes "getChild")) ∷ []) 0
 unfolding table
 signed_row text at d is = ap (λ b. on b (Takes true (want.Opening (bytes_eq text (codes "getChild")) ∷ []) 0) Refuses) is
 
@@ -258,7 +258,7 @@ pub return_pass : (l : Bool) (old rest : Row) → Keyword (codes "return") old r
 unfolding table
 return_pass l old rest (at, e) = pass_takes l want.Return [] (word (codes "return") at) old rest rest e (λ d. (0, refl)) (pass_none l rest)
 
-close_pass : (l : Bool) (old rest : Row) → Sign (codes "}") old rest → Pass l (want.Close ∷ []) old rest
+pub close_pass : (l : Bool) (old rest : Row) → Sign (codes "}") old rest → Pass l (want.Close ∷ []) old rest
 unfolding table
 close_pass l old rest (at, e) = pass_takes l want.Close [] (sign (codes "}") at) old rest rest e (λ d. (0, refl)) (pass_none l rest)
 
@@ -308,7 +308,7 @@ to_pass l us e old rest p ws d = (e, p ws d)
 pub signed_pass : (l : Bool) (name : Word) (ps : Params) (old rest : Row) → Signature name ps old rest → Pass l (want.Signed ∷ []) old rest
 signed_pass l name ps old rest h = to_pass l (want.Signed ∷ []) _ old rest (signature_goes l name ps old rest h)
 
-circular_pass : (l : Bool) (old : Row) → NoWord (codes "circular") old → Pass l (want.NotCircular ∷ []) old old
+pub circular_pass : (l : Bool) (old : Row) → NoWord (codes "circular") old → Pass l (want.NotCircular ∷ []) old old
 unfolding table
 circular_pass l old n = pass_skips l want.NotCircular old (λ d. (0, ap (λ b. on b LeavesOut (Skips 0)) n))
 
@@ -330,19 +330,19 @@ no_circular : (e : Ending) (old rest : Row) → EndingOf e old rest → NoWord (
 no_circular (syntax.With b) old rest h = no_circular_body b.form b.expr b.at old rest h
 no_circular (syntax.Semicolon at) old rest h = ap (λ r. next (is_word (codes "circular")) (first r)) h
 
-synthesized_row : (at : Place) (d : ℕ) → table want.Decls d (Some (word (codes "syn") at)) ≡ Takes true (declared (want.Ending ∷ want.Decls ∷ [])) 0
+pub synthesized_row : (at : Place) (d : ℕ) → table want.Decls d (Some (word (codes "syn") at)) ≡ Takes true (declared (want.Ending ∷ want.Decls ∷ [])) 0
 unfolding table
 synthesized_row at d = refl
 
-inherited_row : (at : Place) (d : ℕ) → table want.Decls d (Some (word (codes "inh") at)) ≡ Takes true (declared (want.Mark (codes ";") ∷ want.Decls ∷ [])) 0
+pub inherited_row : (at : Place) (d : ℕ) → table want.Decls d (Some (word (codes "inh") at)) ≡ Takes true (declared (want.Mark (codes ";") ∷ want.Decls ∷ [])) 0
 unfolding table
 inherited_row at d = refl
 
-equation_row : (at : Place) (d : ℕ) → table want.Decls d (Some (word (codes "eq") at)) ≡ Takes true (want.Name ∷ want.Mark (codes ".") ∷ want.Signed ∷ want.Defined ∷ want.Decls ∷ []) 0
+pub equation_row : (at : Place) (d : ℕ) → table want.Decls d (Some (word (codes "eq") at)) ≡ Takes true (want.Name ∷ want.Mark (codes ".") ∷ want.Signed ∷ want.Defined ∷ want.Decls ∷ []) 0
 unfolding table
 equation_row at d = refl
 
-dot_row : (at : Place) → table want.Defined 0 (Some (sign (codes ".") at)) ≡ Takes true (want.Signed ∷ want.Body ∷ []) 0
+pub dot_row : (at : Place) → table want.Defined 0 (Some (sign (codes ".") at)) ≡ Takes true (want.Signed ∷ want.Body ∷ []) 0
 unfolding table
 dot_row at = refl
 
@@ -406,23 +406,23 @@ decls_pass l ds old close rest fits h s ws d =
     let b = decls_end l close rest s ws a.0 in
     (b.0, a.1 ∙ b.1)
 
-aspect_row : (at : Place) (d : ℕ) → table want.File d (Some (word (codes "aspect") at)) ≡ Takes true (want.Name ∷ want.Mark (codes "{") ∷ want.Decls ∷ want.File ∷ []) 0
+pub aspect_row : (at : Place) (d : ℕ) → table want.File d (Some (word (codes "aspect") at)) ≡ Takes true (want.Name ∷ want.Mark (codes "{") ∷ want.Decls ∷ want.File ∷ []) 0
 unfolding table
 aspect_row at d = refl
 
 -- whole aspects are gone over, and more of them are wanted
-pub file_then : (l : Bool) (as' : List Aspect) (old rest : Row) → (l ≡ true → IsWithin as') → File as' old rest → (d : ℕ) → (e : ℕ) × (run l table (want.File ∷ []) d old ≡ run l table (want.File ∷ []) e rest)
-file_then l [] old rest fits e d = (d, ap (run l table (want.File ∷ []) d) e)
-file_then l (a ∷ as') old rest fits (more, (named, brace, inner, close, k, n, b, h, c), t) d =
+pub file_comes : (l : Bool) (as' : List Aspect) (old rest : Row) → (l ≡ true → IsWithin as') → File as' old rest → Comes l (want.File ∷ []) (want.File ∷ []) old rest
+file_comes l [] old rest fits e ws d = (d, ap (run l table (want.File ∷ ws) d) e)
+file_comes l (a ∷ as') old rest fits (more, (named, brace, inner, close, k, n, b, h, c), t) ws d =
     let p = pass_then l want.Name (want.Mark (codes "{") ∷ want.Decls ∷ []) named brace more (name_pass l a.name named brace n)
     (pass_then l (want.Mark (codes "{")) (want.Decls ∷ []) brace inner more (mark_pass l (codes "{") brace inner b) (decls_pass l a.decls inner close more (λ e. (fits e).0) h c)) in
-    let q = p (want.File ∷ []) 0 in
-    let r = file_then l as' more rest (λ e. (fits e).1) t q.0 in
-    (r.0, ap (run l table (want.File ∷ []) d) k.1 ∙ run-takes l table want.File true (want.Name ∷ want.Mark (codes "{") ∷ want.Decls ∷ want.File ∷ []) [] d 0 (word (codes "aspect") k.0) named (aspect_row k.0 d) (λ h. refl) ∙ q.1 ∙ r.1)
+    let q = p (want.File ∷ ws) 0 in
+    let r = file_comes l as' more rest (λ e. (fits e).1) t ws q.0 in
+    (r.0, ap (run l table (want.File ∷ ws) d) k.1 ∙ run-takes l table want.File true (want.Name ∷ want.Mark (codes "{") ∷ want.Decls ∷ want.File ∷ []) ws d 0 (word (codes "aspect") k.0) named (aspect_row k.0 d) (λ h. refl) ∙ q.1 ∙ r.1)
 
 ends_whole : (l : Bool) (d : ℕ) → run l table (want.File ∷ []) d [] ≡ Whole
 unfolding run table
 ends_whole l d = refl
 
 pub file_taken : (l : Bool) (as' : List Aspect) (old : Row) → (l ≡ true → IsWithin as') → File as' old [] → (d : ℕ) → run l table (want.File ∷ []) d old ≡ Whole
-file_taken l as' old fits h d = let r = file_then l as' old [] fits h d in r.1 ∙ ends_whole l r.0
+file_taken l as' old fits h d = let r = file_comes l as' old [] fits h [] d in r.1 ∙ ends_whole l r.0

@@ -9,6 +9,9 @@ pub mod ExpressionsTaken
 pub mod Declarations
 pub mod Numbers
 pub mod DeclarationRuns
+pub mod ParamStops
+pub mod DeclarationStops
+pub mod Files
 pub mod Quotations
 pub mod Completions
 pub mod CompletionSteps

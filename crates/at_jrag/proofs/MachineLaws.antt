@@ -95,6 +95,21 @@ unfolding run
 stuck_within limited table r ws d [] left h = ends_within (may_end table ws d) r left h
 stuck_within limited table r ws d (s ∷ ss) left h = left_within limited table r (after limited table ws d s) s ss left (λ vs e xs k. stuck_within limited table r vs e ss xs k) h
 
+ends_behind : {S : Type 0} (b : Bool) (r : Reason) (left : List S) → cond b Whole (Stuck Refused []) ≡ Stuck r left → (front : List S) × ([] ≡ front ++ left)
+ends_behind true r left h = absurd cc
+ends_behind false r left h = ([], stuck_is Refused r [] left h)
+
+behind_on : {S W : Type 0} (limited : Bool) (table : Table S W) (r : Reason) (m : Move W) (s : S) (ss left : List S) → ((ws : List W) (d : ℕ) (xs : List S) → run limited table ws d ss ≡ Stuck r xs → (front : List S) × (ss ≡ front ++ xs)) → goes_on limited table m s ss ≡ Stuck r left
+    → (front : List S) × (s ∷ ss ≡ front ++ left)
+behind_on limited table r (Halts q) s ss left ih h = ([], stuck_is q r (s ∷ ss) left h)
+behind_on limited table r (Goes more e) s ss left ih h = let f = ih more e left h in (s ∷ f.0, ap (λ l. s ∷ l) f.1)
+
+-- what is left where a run is stuck ends the symbols
+pub stuck_behind : {S W : Type 0} (limited : Bool) (table : Table S W) (r : Reason) (ws : List W) (d : ℕ) (ss left : List S) → run limited table ws d ss ≡ Stuck r left → (front : List S) × (ss ≡ front ++ left)
+unfolding run
+stuck_behind limited table r ws d [] left h = ends_behind (may_end table ws d) r left h
+stuck_behind limited table r ws d (s ∷ ss) left h = behind_on limited table r (after limited table ws d s) s ss left (λ vs e xs k. stuck_behind limited table r vs e ss xs k) h
+
 pub none_grows : {S W : Type 0} (limited : Bool) (table : Table S W) (r : Reason) (s : S) (rest : List S) (m : Move W) → goes_on limited table m s rest ≡ Stuck r (s ∷ rest) → m ≡ Halts r
 none_grows limited table r s rest (Halts q) h = ap (λ x. Halts x) (halts_alike q r _ _ h)
 none_grows limited table r s rest (Goes more e) h = let l : suc (length rest) ≤ length rest = stuck_within limited table r more e rest (s ∷ rest) h in absurd (omega arith)

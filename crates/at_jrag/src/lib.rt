@@ -10,12 +10,14 @@ ghost use Rattle.at_jrag.specs.Faults.{uncut, IsScanFaultAt};
 ghost use Rattle.at_jrag.specs.Grammar.{File, IsWithin};
 ghost use Rattle.at_jrag.specs.declared.JragFault.TheVariants.{Memory, Syntax};
 
+mod declared;
 mod reader;
 mod syntax;
 
 use at_text::place::place;
 use at_text::placed::{place_all, place_left};
 use at_text::scan::{ScanFault, lexemes};
+use declared::declaration_place;
 use reader::{ReadError, Reader};
 use std::alloc::{AllocError, Global};
 pub use syntax::{
@@ -95,9 +97,11 @@ pub fn parse_jrag(alloc: Global, text: &str) -> Result<Vec<Aspect>, JragFault>
             let at = place_left(text, &tokens, left);
             Err(JragFault::LeftOut { at })
         }
-        Err(ReadError::Nesting) => Err(JragFault::Nesting {
-            at: reader.declaration(),
-        }),
+        Err(ReadError::Nesting) => {
+            let left = reader.count_left().min(tokens.len());
+            let at = declaration_place(tokens.split_at(tokens.len() - left).0);
+            Err(JragFault::Nesting { at })
+        }
     }
 }
 

@@ -58,7 +58,7 @@ fn is_sign(token: &Placed<'_>, text: &str) -> bool
 }
 
 /// Whether the token is this word.
-fn is_word(token: &Placed<'_>, text: &str) -> bool
+pub fn is_word(token: &Placed<'_>, text: &str) -> bool
     ensures value { result ≡ is_word text.now (placed token.now) }
     ensures same { result ≡ true → placed token.now ≡ word text.now token.now.at }
 {
@@ -78,8 +78,6 @@ fn is_name_token(token: &Placed<'_>) -> bool
 pub struct Reader<'a> {
     alloc: Global,
     rest: &'a [Placed<'a>],
-    /// The place of the declaration that is being read.
-    declaration: (u32, u32),
 }
 
 impl<'a> Reader<'a> {
@@ -90,7 +88,6 @@ impl<'a> Reader<'a> {
         Reader {
             alloc,
             rest: tokens,
-            declaration: (1, 1),
         }
     }
 
@@ -99,13 +96,6 @@ impl<'a> Reader<'a> {
         ensures { result ≡ length self.now.rest.now }
     {
         self.rest.len()
-    }
-
-    /// The place of the declaration that is being read.
-    pub fn declaration(&self) -> (u32, u32)
-        ensures { result ≡ self.now.declaration }
-    {
-        self.declaration
     }
 
     /// Whether the sign is next.
@@ -131,7 +121,6 @@ impl<'a> Reader<'a> {
     /// Steps over the next token, if there is one.
     fn step(&mut self)
         ensures stepped { (t : PlacedToken) (ts : List PlacedToken) → left self.old.rest.now ≡ t ∷ ts → left self.new.rest.now ≡ ts }
-        ensures same { self.new.declaration ≡ self.old.declaration }
     {
         if let [_, rest @ ..] = self.rest {
             self.rest = rest;
@@ -152,7 +141,7 @@ impl<'a> Reader<'a> {
     fn takes(&mut self, text: &str) -> Option<(u32, u32)>
         ensures { MatchOption result
             ((self.new ≡ self.old) × (next_is (is_sign text.now) (left self.old.rest.now) ≡ false))
-            (λ at. (left self.old.rest.now ≡ sign text.now at ∷ left self.new.rest.now) × (self.new.declaration ≡ self.old.declaration)) }
+            (λ at. left self.old.rest.now ≡ sign text.now at ∷ left self.new.rest.now) }
     {
         match self.rest {
             [token, rest @ ..] if is_sign(token, text) => {
@@ -166,8 +155,7 @@ impl<'a> Reader<'a> {
     /// Steps over the sign, if it is next.
     fn skips(&mut self, text: &str) -> bool
         ensures { MatchBool result
-            ((at : ℕ × ℕ) × (left self.old.rest.now ≡ sign text.now at ∷ left self.new.rest.now)
-            × (self.new.declaration ≡ self.old.declaration))
+            ((at : ℕ × ℕ) × (left self.old.rest.now ≡ sign text.now at ∷ left self.new.rest.now))
             ((self.new ≡ self.old) × (next_is (is_sign text.now) (left self.old.rest.now) ≡ false)) }
     {
         match self.takes(text) {
@@ -180,7 +168,7 @@ impl<'a> Reader<'a> {
     fn takes_word(&mut self, text: &str) -> Option<(u32, u32)>
         ensures { MatchOption result
             ((self.new ≡ self.old) × (next_is (is_word text.now) (left self.old.rest.now) ≡ false))
-            (λ at. (left self.old.rest.now ≡ word text.now at ∷ left self.new.rest.now) × (self.new.declaration ≡ self.old.declaration)) }
+            (λ at. left self.old.rest.now ≡ word text.now at ∷ left self.new.rest.now) }
     {
         match self.rest {
             [token, rest @ ..] if is_word(token, text) => {
@@ -196,7 +184,7 @@ impl<'a> Reader<'a> {
         ensures { MatchOption result
             ((self.new ≡ self.old) × (next_is is_name_token (left self.old.rest.now) ≡ false))
             (λ t. (left self.old.rest.now ≡ word t.now.text.now t.now.at ∷ left self.new.rest.now)
-            × (is_name t.now.text.now ≡ true) × (self.new.declaration ≡ self.old.declaration)) }
+            × (is_name t.now.text.now ≡ true)) }
     {
         match self.rest {
             [token, rest @ ..] if is_name_token(token) => {

@@ -8,11 +8,11 @@ ghost use Rattle.at_jrag.specs.Grammar.{Row, KindOf, ParamOf, Signature, Opens, 
 ghost use Rattle.at_jrag.specs.Grammar.{AspectOf, File, NestsWithin, IsWithin, nesting, ending_depth, max_nesting, depth, keyword, Sign};
 ghost use Rattle.at_jrag.specs.Left.{left};
 ghost use Rattle.at_jrag.specs.Heads.{HeadOf, TargetOf, is_getter, index, ParamsOf};
-ghost use Rattle.std.specs.Prelude.{ℕ, List, cond, false, ◌&&◌, IfErr};
+ghost use Rattle.std.specs.Prelude.{ℕ, ◌<◌, length, List, cond, false, ◌&&◌, IfErr};
 ghost use Rattle.std.specs.Str.{bytes_eq};
 ghost use Rattle.at_text.specs.Reading.{first};
 ghost use Rattle.at_text.specs.Symbols.{is_word_kind};
-ghost use Rattle.at_jrag.specs.Grammar.{next_is, is_sign};
+ghost use Rattle.at_jrag.specs.Grammar.{next_is, is_sign, is_word};
 ghost use Rattle.at_jrag.specs.Wants as want;
 ghost use Rattle.at_jrag.specs.Wants.{Want};
 ghost use Rattle.at_jrag.specs.Table.{table, is_kind, body_answer, declared};
@@ -118,6 +118,7 @@ impl<'a> Reader<'a> {
 
     /// `"aspect" name "{" { decl } "}"`
     fn aspect(&mut self) -> Result<Aspect, ReadError>
+        requires { 0 < length self.now.rest.now }
         ensures found { IfOk result (λ a. AspectOf (aspect_view a) (left self.old.rest.now) (left self.new.rest.now)) }
         ensures within { IfOk result (λ a. AllByRecursion NestsWithin (map decl_view a.decls.items)) }
         ensures stays { IfErr result (λ e. Stay (want.File ∷ []) (reason_of e) (left self.old.rest.now) (left self.new.rest.now)) }
@@ -154,14 +155,12 @@ impl<'a> Reader<'a> {
         ensures stays { IfErr result (λ e. Stay (want.Decls ∷ []) (reason_of e) (left self.old.rest.now) (left self.new.rest.now)) }
     {
         if let Some(at) = self.takes_word("syn") {
-            self.declaration = at;
             return Ok(Decl {
                 at,
                 form: self.synthesized()?,
             });
         }
         if let Some(at) = self.takes_word("inh") {
-            self.declaration = at;
             return Ok(Decl {
                 at,
                 form: self.inherited()?,
@@ -169,8 +168,7 @@ impl<'a> Reader<'a> {
         }
         match self.takes_word("eq") {
             Some(at) => {
-                self.declaration = at;
-                Ok(Decl {
+                    Ok(Decl {
                     at,
                     form: self.equation()?,
                 })
@@ -219,6 +217,7 @@ impl<'a> Reader<'a> {
     /// `["lazy"] kind name "." name "(" [params] ")"`, where `circular` behind it is left out.
     fn head(&mut self) -> Result<Head, ReadError>
         ensures found { IfOk result (λ h. HeadOf h (left self.old.rest.now) (left self.new.rest.now)) }
+        ensures behind { IfOk result (λ h. next_is (is_word (codes "circular")) (left self.new.rest.now) ≡ false) }
         ensures stays { IfErr result (λ e. (us : List Want) → Stay (declared us) (reason_of e) (left self.old.rest.now) (left self.new.rest.now)) }
     {
         let lazy = self.lazy()?;

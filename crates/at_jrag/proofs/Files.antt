@@ -1,0 +1,102 @@
+-- A text's tokens, and where reading them stops.
+use Rattle.std.proofs.Common.{◌≡◌, ℕ, ◌-◌, ◌≤◌, List, [], ◌∷◌, ◌++◌, true, false, length, map, take, drop, refl, sym, ap, subst, ◌∙◌, length-append, arith, inl}
+use Rattle.std.proofs.lemmas.List.{map-append, length-map}
+use Rattle.at_text.specs.declared.placed.Placed.{Placed}
+use Rattle.at_text.specs.declared.scan.ScanFault.{ScanFault}
+use Rattle.at_text.specs.declared.scan.ScanFault.TheVariants as scan
+use Rattle.at_text.specs.Faults.{FaultsAt}
+use Rattle.at_text.proofs.Scanned as scanned
+use Rattle.at_jrag.specs.Syntax.{Aspect}
+use Rattle.at_jrag.specs.Grammar.{File, IsWithin}
+use Rattle.at_text.specs.Pieces.{Piece, Cut, Spelled, spelled_at}
+use Rattle.at_text.specs.Symbols.{HasTokens, PlacedToken, placed, placed_in}
+use Rattle.at_jrag.specs.Machine.{GoesOn, Reason, Refused, TooDeep, Stuck, Whole, run}
+use Rattle.at_jrag.specs.Wants as want
+use Rattle.at_jrag.specs.Table.{table}
+use Rattle.at_jrag.specs.Left.{left}
+use Rattle.at_jrag.specs.Faults.{IsFile, IsFileWithin, StopsAt, IsFault, uncut}
+use Rattle.at_jrag.proofs.MachineLaws.{one_ahead, run-unlimited, stuck_behind}
+use Rattle.at_jrag.proofs.DeclarationRuns.{file_taken}
+
+-- ---- tokens
+
+-- the tokens that the program has are those of the text
+pub has_tokens : (text : List ℕ) (ps : List Piece) (ss : List Spelled) (ts : List PlacedToken) → Cut text ps [] → ss ≡ spelled_at 0 ps → ts ≡ map (placed_in text) ss → HasTokens text ts
+has_tokens text ps ss ts cut e f = (ps, cut, f ∙ ap (map (placed_in text)) e)
+
+take_front : (fs rs : List Placed) → take (length fs) (fs ++ rs) ≡ fs
+take_front [] rs = refl
+take_front (f ∷ fs) rs = ap (λ l. f ∷ l) (take_front fs rs)
+
+drop_front : (fs rs : List Placed) → drop (length fs) (fs ++ rs) ≡ rs
+drop_front [] rs = refl
+drop_front (f ∷ fs) rs = drop_front fs rs
+
+-- the tokens of a front of what is left
+front_of : (ts : List Placed) (front rest : List PlacedToken) → left ts ≡ front ++ rest → (fs : List Placed) × (rs : List Placed) × (ts ≡ fs ++ rs) × (left fs ≡ front) × (left rs ≡ rest)
+front_of ts [] rest e = ([], ts, refl, refl, e)
+front_of [] (f ∷ front) rest e = absurd (omega (arith, ap length e))
+front_of (t ∷ ts) (f ∷ front) rest e =
+    let tail : left ts ≡ front ++ rest = cc in
+    let head : placed t ≡ f = cc in
+    let more = front_of ts front rest tail in
+    (t ∷ more.0, more.1, ap (λ l. t ∷ l) more.2, (λ i. head i ∷ more.3 i), more.4)
+
+-- ---- where reading stops
+
+-- no file within the limit goes on where the run is stuck
+none_within : (r : Reason) (front rest : List PlacedToken) → run true table (want.File ∷ []) 0 (front ++ rest) ≡ Stuck r rest → GoesOn IsFileWithin front rest → ⊥
+none_within r front rest h (other, same, aspects, file, within) =
+    let stuck : run true table (want.File ∷ []) 0 (front ++ other) ≡ Stuck r other = one_ahead true table r (want.File ∷ []) 0 front rest other same h in
+    let whole : run true table (want.File ∷ []) 0 (front ++ other) ≡ Whole = file_taken true aspects (front ++ other) (λ e. within) file 0 in
+    absurd (let q : Stuck r other ≡ Whole = sym stuck ∙ whole in cc)
+
+-- where it is refused, none goes on, however deep its expressions nest
+pub none_at_all : (front rest : List PlacedToken) → run true table (want.File ∷ []) 0 (front ++ rest) ≡ Stuck Refused rest → GoesOn IsFile front rest → ⊥
+none_at_all front rest h (other, same, aspects, file) =
+    let free : run false table (want.File ∷ []) 0 (front ++ rest) ≡ Stuck Refused rest = run-unlimited table (want.File ∷ []) 0 (front ++ rest) (Stuck Refused rest) (λ left e. absurd cc) h in
+    let stuck : run false table (want.File ∷ []) 0 (front ++ other) ≡ Stuck Refused other = one_ahead false table Refused (want.File ∷ []) 0 front rest other same free in
+    let whole : run false table (want.File ∷ []) 0 (front ++ other) ≡ Whole = file_taken false aspects (front ++ other) (λ e. absurd cc) file 0 in
+    absurd (let q : Stuck Refused other ≡ Whole = sym stuck ∙ whole in cc)
+
+-- where reading stops, among the tokens
+pub record Met (text : List ℕ) (r : Reason) (ts rest : List Placed) : Type 0 where
+  pub front : List Placed
+  pub stops : StopsAt text r (left front) (left rest)
+  pub fits : length rest ≤ length ts
+  pub front_is : left (take (length ts - length rest) ts) ≡ left front
+  pub rest_is : left (drop (length ts - length rest) ts) ≡ left rest
+
+pub met : (text : List ℕ) (r : Reason) (ts rest : List Placed) → HasTokens text (left ts) → run true table (want.File ∷ []) 0 (left ts) ≡ Stuck r (left rest) → Met text r ts rest
+met text r ts rest has h =
+    let s = stuck_behind true table r (want.File ∷ []) 0 (left ts) (left rest) h in
+    let p = front_of ts s.0 (left rest) s.1 in
+    let split : left ts ≡ left p.0 ++ left rest = s.1 ∙ ap (λ l. l ++ left rest) (sym p.3) in
+    let same : length p.1 ≡ length rest = sym (length-map p.1 placed) ∙ ap length p.4 ∙ length-map rest placed in
+    let sum : length ts ≡ length (p.0 ++ p.1) = ap length p.2 in
+    let count : length ts - length rest ≡ length p.0 = omega (arith, sum, length-append p.0 p.1, same) in
+    let stuck : run true table (want.File ∷ []) 0 (left p.0 ++ left rest) ≡ Stuck r (left rest) = sym (ap (run true table (want.File ∷ []) 0) split) ∙ h in
+    record {
+      front = p.0;
+      stops = record { tokens = subst (λ (x : List PlacedToken). HasTokens text x) split has; stuck = stuck; ends = none_within r (left p.0) (left rest) stuck };
+      fits = omega (arith, sum, length-append p.0 p.1, same);
+      front_is = ap left (ap (λ k. take k ts) count ∙ ap (take (length p.0)) p.2 ∙ take_front p.0 p.1);
+      rest_is = ap left (ap (λ k. drop k ts) count ∙ ap (drop (length p.0)) p.2 ∙ drop_front p.0 p.1) ∙ p.4;
+    }
+
+-- ---- a text has one row of tokens
+
+-- a text that spells a file within the limit doesn't stop
+pub file_only : (text : List ℕ) (r : Reason) (ts us rest : List PlacedToken) (aspects : List Aspect) → HasTokens text ts → HasTokens text us → run true table (want.File ∷ []) 0 ts ≡ Stuck r rest → File aspects us [] → IsWithin aspects → ⊥
+file_only text r ts us rest aspects h k stuck file within =
+    let same : ts ≡ us = h.2 ∙ ap (λ ps. map (placed_in text) (spelled_at 0 ps)) (scanned.cut_only text h.0 k.0 h.1 k.1) ∙ sym k.2 in
+    let whole : run true table (want.File ∷ []) 0 us ≡ Whole = file_taken true aspects us (λ e. within) file 0 in
+    absurd (let q : Stuck r rest ≡ Whole = sym stuck ∙ ap (run true table (want.File ∷ []) 0) same ∙ whole in cc)
+
+-- ---- texts that can't be cut into tokens
+
+pub uncut_is_fault : (text : List ℕ) (fault : ScanFault) → FaultsAt text fault → IsFault text (uncut text fault)
+uncut_is_fault text scan.Memory f = tt
+uncut_is_fault text (scan.Bad offset) f = inl (scan.Bad offset, f, refl)
+uncut_is_fault text (scan.OpenText offset) f = inl (scan.OpenText offset, f, refl)
+uncut_is_fault text (scan.OpenComment offset) f = inl (scan.OpenComment offset, f, refl)
