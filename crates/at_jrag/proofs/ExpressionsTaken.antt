@@ -28,7 +28,7 @@ use Rattle.std.proofs.lemmas.Bool.{le-leb}
 
 -- ---- literals
 
-number_is : (most m : ℕ) (at : ℕ × ℕ) → most ≤ 2147483648 → m ≤ most → is_number_within most (number (decimal m) at) ≡ true
+pub number_is : (most m : ℕ) (at : ℕ × ℕ) → most ≤ 2147483648 → m ≤ most → is_number_within most (number (decimal m) at) ≡ true
 number_is most m at h k =
     let small : m < 2 ^ 64 = omega (arith, h, k) in
     ap (λ v. nat_le v most && bytes_eq (decimal v) (decimal m)) (decimal_is_IsNumeral m small).1
@@ -143,7 +143,7 @@ no_paren old e at one same = absurd (let q : false ≡ true = sym e ∙ ap (λ r
 
 -- ---- each form
 
-deep : (e : Expr) → 1 ≤ depth e
+pub deep : (e : Expr) → 1 ≤ depth e
 deep (syntax.Number at n) = omega arith
 deep (syntax.TextLiteral at bytes) = omega arith
 deep (syntax.Truth at b) = omega arith

@@ -10,3 +10,4 @@ pub mod Declarations
 pub mod Numbers
 pub mod DeclarationRuns
 pub mod Quotations
+pub mod OperatorStops

@@ -119,6 +119,7 @@ impl<'a> Reader<'a> {
         requires limit { budget ≤ 64 }
         requires first { first.depth ≤ budget }
         ensures depth { IfOk result (λ m. m.depth ≤ budget) }
+        ensures deeper { IfOk result (λ m. first.depth ≤ m.depth) }
         ensures found { IfOk result (λ m. (old : Row) → Reads 8 first old (left self.old.rest.now) → Reads 8 m old (left self.new.rest.now)) }
         ensures goes { IfOk result (λ m. Moves (λ b. want.Calls b ∷ []) (λ b. []) first.depth m.depth (left self.old.rest.now) (left self.new.rest.now)) }
         ensures halts { IfErr result (λ e. Stays (want.Calls budget ∷ []) first.depth (reason_of e) (left self.old.rest.now) (left self.new.rest.now)) }
