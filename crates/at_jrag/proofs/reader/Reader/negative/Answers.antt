@@ -1,8 +1,7 @@
-use Rattle.std.proofs.Common.{◌≡◌, ◌∷◌, ◌≤◌, refl, sym, ap, ◌∙◌, arith, rules}
+use Rattle.std.proofs.Common.{sym, ap, ◌∙◌, arith, rules}
 use denote.Enum.Bare.{same_true}
 use Rattle.at_text.specs.contracts.token.TokenKind.{the_type}
 use Rattle.at_jrag.specs.Grammar.{number}
-use Rattle.at_jrag.specs.Left.{left}
 use Rattle.at_jrag.specs.Table.{is_number_within}
 use Rattle.at_jrag.proofs.Numbers.{negative_reads, no_negative}
 use Rattle.at_jrag.proofs.ExpressionsTaken.{number_is}
