@@ -1,29 +1,26 @@
 -- Where the machine is stuck within operators and unaries, by where it is within their parts.
-use Rattle.std.proofs.Common.{◌≡◌, ℕ, zero, suc, ◌+◌, ◌-◌, ◌<◌, ◌≤◌, ℤ, List, [], ◌∷◌, ◌++◌, Bool, true, false, cond, max, Option, Some, None, refl, sym, ap, subst, ◌∙◌, arith, inl, inr}
-use Rattle.std.specs.Prelude.{nat_lt, ◌==◌, ◌&&◌, ◌||◌, ◌⊎◌, Result, Ok, Err, IfOk, IfErr, IsErrAnd, MatchOption, IfNone, is_some}
+use Rattle.std.proofs.Common.{◌≡◌, ℕ, suc, ◌+◌, ◌-◌, ◌<◌, ◌≤◌, ℤ, List, [], ◌∷◌, ◌++◌, Bool, true, false, cond, max, Option, Some, None, refl, sym, ap, subst, ◌∙◌, arith, inl, inr}
+use Rattle.std.specs.Prelude.{nat_lt, ◌&&◌, ◌||◌, ◌⊎◌, Result, Ok, Err, IfOk, IfErr, IsErrAnd, MatchOption, IfNone, is_some}
 use Rattle.std.proofs.lemmas.Bool.{lt-ltb, le-ltb, eq-eqb}
 use lib.Chars.{codes}
 use Rattle.at_model.specs.Names.{is_name}
 use Rattle.at_text.specs.Reading.{first}
 use Rattle.at_text.specs.Symbols.{PlacedToken, is_word_kind}
 use Rattle.at_text.specs.declared.token.TokenKind.TheVariants as kind
-use Rattle.at_jrag.specs.Grammar as grammar
-use Rattle.at_jrag.specs.Grammar.{Row, Name, is_name_token, is_sign, is_number, follows_cast, next_is, sign, word, number, operator_text, operator_level}
+use Rattle.at_jrag.specs.Grammar.{Row, Name, is_name_token, is_sign, is_number, follows_cast, next_is, sign, word, operator_text, operator_level}
 use Rattle.at_jrag.specs.Syntax as syntax
 use Rattle.at_jrag.specs.Syntax.{Operator}
 use Rattle.at_jrag.specs.Machine.{Reason, Refused, TooDeep, Answer, Takes, Skips, Refuses, and_then, Stuck, run}
-use Rattle.at_jrag.specs.Read.{opens_cast, StandsBefore, NestsWithin, LinkIs, LinksTo, IsNumber}
-use Rattle.at_jrag.specs.View.{operator_view, word_view}
+use Rattle.at_jrag.specs.Read.{opens_cast, StandsBefore, NestsWithin, IsNumber}
+use Rattle.at_jrag.specs.View.{word_view}
 use Rattle.at_jrag.specs.Wants.{Want, Expression, Binary, Links, Choice, Otherwise, Unary, Minus, Opened, Enclosed, Parenthesized, Calls, Called, Primary, Named, FoldBody, Deeper, Join, Deepest, Counts, Name as NameWant, Mark}
-use Rattle.at_jrag.specs.Table.{next, on, table, next_rank, link_rank, link_answer, links_answer, is_get_child, is_literal, is_decimal_within, is_number_within, is_quoted, begins_fold, opens_unary, primary_answer, unary_answer, expression_answer}
+use Rattle.at_jrag.specs.Table.{next, on, table, next_rank, link_rank, link_answer, is_get_child, is_literal, is_decimal_within, is_number_within, is_quoted, begins_fold, opens_unary, unary_answer, expression_answer}
 use Rattle.at_jrag.specs.Runs.{Goes, Moves, Stays, Halts, reason_of, Missing, NoText, NoNegative, TakesNegative}
 use Rattle.at_jrag.specs.declared.reader.ReadError.{ReadError}
 use Rattle.at_jrag.specs.declared.reader.ReadError.TheVariants as errors
-use Rattle.at_jrag.specs.declared.reader.operators.Link.{Link}
-use Rattle.at_jrag.specs.declared.reader.operators.Link.TheVariants as link
 use Rattle.at_jrag.specs.declared.reader.operators.Prefix.{Prefix}
 use Rattle.at_jrag.specs.declared.reader.operators.Prefix.TheVariants as prefix
-use Rattle.at_jrag.proofs.MachineLaws.{run-takes, run-skips, run-refuses, run-too_deep}
+use Rattle.at_jrag.proofs.MachineLaws.{run-takes, run-refuses, run-too_deep}
 use Rattle.at_jrag.proofs.MachinePaths.{run-begins, run-same}
 use Rattle.at_jrag.proofs.ExpressionSteps.{sign_is, unary_stays, binary_stays}
 use Rattle.at_jrag.proofs.ExpressionRanks.{Facts, operator_facts, operator_taken, links_skip, up}
@@ -70,7 +67,8 @@ stays_missing us w behind m n test errors.LeftOut old mid rest g refuses h = abs
 stays_missing us w behind m n test errors.Nesting old mid rest g refuses h = absurd h
 
 -- the limit stops it
-pub stays_deep : (us : List Want) (m : ℕ) (e : ReadError) (old mid rest : Row) → e ≡ errors.Nesting → rest ≡ mid → ((ws : List Want) → run true table (us ++ ws) m old ≡ Stuck TooDeep mid) → Stays us m (reason_of e) old rest
+pub stays_deep : (us : List Want) (m : ℕ) (e : ReadError) (old mid rest : Row) → e ≡ errors.Nesting → rest ≡ mid → ((ws : List Want) → run true table (us ++ ws) m old ≡ Stuck TooDeep mid)
+    → Stays us m (reason_of e) old rest
 stays_deep us m e old mid rest is same g = subst (λ (x : ReadError). Stays us m (reason_of x) old rest) (sym is) (λ ws. g ws ∙ ap (λ (x : Row). Stuck TooDeep x) (sym same))
 
 pub stays_memory : (us : List Want) (m : ℕ) (e : ReadError) (old rest : Row) → e ≡ errors.Memory → Stays us m (reason_of e) old rest
@@ -99,7 +97,8 @@ by_rows x y rows (inr (q, e, b, d)) = inr (q, ap rows e, b, d)
 number_opens_by : (x : Bool) (t : PlacedToken) → t.kind ≡ kind.Number → is_decimal_within 2147483647 t.text ≡ x → opens_unary t ≡ x
 number_opens_by x t k e = ap opens_unary (of_kind t kind.Number k) ∙ ap (λ b. (b || false) || false) e ∙ plain_or x
 
-pub number_opens : (t : PlacedToken) (o : Option ℤ) (r : Bool) → t.kind ≡ kind.Number → r ≡ is_some o → MatchOption o (Unit {0}) (IsNumber false t.text) → IfNone o (is_decimal_within 2147483647 t.text ≡ false) → r ≡ opens_unary t
+pub number_opens : (t : PlacedToken) (o : Option ℤ) (r : Bool) → t.kind ≡ kind.Number → r ≡ is_some o → MatchOption o (Unit {0}) (IsNumber false t.text)
+    → IfNone o (is_decimal_within 2147483647 t.text ≡ false) → r ≡ opens_unary t
 number_opens t None r k e some none = e ∙ sym (number_opens_by false t k none)
 number_opens t (Some n) r k e (m, small, is, digits) none = e ∙ sym (number_opens_by true t k (ap (λ d. is_decimal_within 2147483647 d) digits ∙ number_is 2147483647 m (1, 1) (omega arith) small))
 
@@ -113,14 +112,11 @@ TooDeepFor r old = (r ≡ errors.Memory) ⊎ (r ≡ cond (next_is opens_unary ol
 pub text_is_deep : (t : PlacedToken) (r : ReadError) (old rest : Row) → old ≡ t ∷ rest → t.kind ≡ kind.Text → r ≡ errors.Nesting → is_quoted t.text ≡ true → TooDeepFor r old
 text_is_deep t r old rest front k is e = inr (is ∙ ap (λ b. cond b errors.Nesting errors.Syntax) (sym (text_opens true t old rest front k e)))
 
-no_text_at : (e : ReadError) (t : PlacedToken) (r : ReadError) (old rest : Row) → old ≡ t ∷ rest → t.kind ≡ kind.Text → r ≡ e → NoText t.text e → TooDeepFor r old
-no_text_at errors.Memory t r old rest front k is h = inl is
-no_text_at errors.Syntax t r old rest front k is h = inr (is ∙ ap (λ b. cond b errors.Nesting errors.Syntax) (sym (text_opens false t old rest front k h)))
-no_text_at errors.LeftOut t r old rest front k is h = absurd h
-no_text_at errors.Nesting t r old rest front k is h = absurd h
-
-pub no_text : (t : PlacedToken) (r e : ReadError) (old rest : Row) → old ≡ t ∷ rest → t.kind ≡ kind.Text → r ≡ e → NoText t.text e → TooDeepFor r old
-no_text t r e old rest front k is h = no_text_at e t r old rest front k is h
+pub no_text : (e : ReadError) (t : PlacedToken) (r : ReadError) (old rest : Row) → old ≡ t ∷ rest → t.kind ≡ kind.Text → r ≡ e → NoText t.text e → TooDeepFor r old
+no_text errors.Memory t r old rest front k is h = inl is
+no_text errors.Syntax t r old rest front k is h = inr (is ∙ ap (λ b. cond b errors.Nesting errors.Syntax) (sym (text_opens false t old rest front k h)))
+no_text errors.LeftOut t r old rest front k is h = absurd h
+no_text errors.Nesting t r old rest front k is h = absurd h
 
 -- ---- choices
 
@@ -168,7 +164,8 @@ colon_halts b k m e at old link chosen colon rest within fits c q t s d =
     stays_missing (Expression b ∷ []) (Otherwise b k) (λ ws. ws) d m (is_sign (codes ":")) e old colon rest (λ ws. answered b k m at old link chosen colon within fits c q t ws d)
     (λ none. ap (λ x. cond x (Takes true (Expression (b - 1) ∷ Deepest m ∷ Join k ∷ []) 0) Refuses) (sym (next_first (is_sign (codes ":")) colon) ∙ none)) s
 
-pub other_halts : (b k m : ℕ) (r : Option Reason) (at colon_at : ℕ × ℕ) (old link chosen colon other rest : Row) → k < b → m ≤ b - 1 → Goes (Binary 6) (λ b. []) k old link → link ≡ sign (codes "?") at ∷ chosen
+pub other_halts : (b k m : ℕ) (r : Option Reason) (at colon_at : ℕ × ℕ) (old link chosen colon other rest : Row) → k < b → m ≤ b - 1 → Goes (Binary 6) (λ b. []) k old link
+    → link ≡ sign (codes "?") at ∷ chosen
     → Goes Expression (λ b. []) m chosen colon → colon ≡ sign (codes ":") colon_at ∷ other → Halts (Expression (b - 1)) r other rest → Halts (Expression b) r old rest
 unfolding table
 other_halts b k m r at colon_at old link chosen colon other rest within fits c q t z s d =
@@ -190,7 +187,8 @@ pub unary_halts : (level b : ℕ) (r : Option Reason) (old rest : Row) → 7 ≤
 unfolding table
 unary_halts level b r old rest h s d =
     let z : 0 ≡ 7 - level = omega (arith, h) in
-    subst (λ (k : ℕ). Stays (Binary k b ∷ []) d r old rest) z (stays_on (Binary 0 b ∷ []) (Unary b) (λ ws. ws) d d r old old rest (λ ws. run-same true table (Binary 0 b) (Unary b) ws d old refl) (s d))
+    subst (λ (k : ℕ). Stays (Binary k b ∷ []) d r old rest) z (stays_on (Binary 0 b ∷ []) (Unary b) (λ ws. ws) d d r old old rest (λ ws. run-same true table (Binary 0 b) (Unary b) ws d old refl)
+    (s d))
 
 -- the first operand was read
 pub operand_goes : (level n : ℕ) (old rest : Row) → level < 7 → Goes (Binary (7 - (level + 1))) (λ b. []) n old rest → Goes (Binary (7 - level)) (λ b. Links (6 - level) b ∷ []) n old rest
@@ -201,7 +199,9 @@ operand_goes level n old rest h g =
 
 operand_stays : (q b : ℕ) (r : Option Reason) (old rest : Row) → Halts (Binary q b) r old rest → Halts (Binary (suc q) b) r old rest
 unfolding table
-operand_stays q b r old rest s d = stays_on (Binary (suc q) b ∷ []) (Binary q b) (λ ws. Links q b ∷ ws) d d r old old rest (λ ws. run-begins true table (Binary (suc q) b) (Binary q b) (Links q b ∷ []) ws d old refl (binary_stays q b (first old))) (s d)
+operand_stays q b r old rest s d =
+    stays_on (Binary (suc q) b ∷ []) (Binary q b) (λ ws. Links q b ∷ ws) d d r old old rest
+    (λ ws. run-begins true table (Binary (suc q) b) (Binary q b) (Links q b ∷ []) ws d old refl (binary_stays q b (first old))) (s d)
 
 pub operand_halts : (level b : ℕ) (r : Option Reason) (old rest : Row) → level < 7 → Halts (Binary (7 - (level + 1)) b) r old rest → Halts (Binary (7 - level) b) r old rest
 operand_halts level b r old rest h s =
@@ -209,7 +209,8 @@ operand_halts level b r old rest h s =
     subst (λ (k : ℕ). Halts (Binary k b) r old rest) z (operand_stays (7 - (level + 1)) b r old rest s)
 
 -- nothing of this level follows
-pub operands_end : (level n : ℕ) (old rest : Row) → level < 7 → (next_rank (first rest) + level ≡ 7 → ⊥) → Goes (Binary (7 - level)) (λ b. Links (6 - level) b ∷ []) n old rest → Goes (Binary (7 - level)) (λ b. []) n old rest
+pub operands_end : (level n : ℕ) (old rest : Row) → level < 7 → (next_rank (first rest) + level ≡ 7 → ⊥) → Goes (Binary (7 - level)) (λ b. Links (6 - level) b ∷ []) n old rest
+    → Goes (Binary (7 - level)) (λ b. []) n old rest
 operands_end level n old rest h none g l b f ws d = g l b f ws d ∙ links_skip l (6 - level) b ws n rest (λ e. none (omega (arith, h, e)))
 
 word_too_deep : (x y : Bool) (us vs : List Want) → y ≡ false → (more : List Want) × (cond x (Takes y us 0) (Takes y vs 0) ≡ Takes false more 0)
@@ -244,7 +245,8 @@ operator_moves o at level m n k start mid rest is deep e g =
     let y : 7 - (level + 1) ≡ f.rank = omega (arith, at_level, is) in
     let z : f.rank ≡ 6 - level = omega (arith, at_level, is) in
     let moves = operation_moves o at f m n start mid rest e (subst (λ (r : ℕ). Goes (Binary r) (λ b. []) n mid rest) y g) in
-    subst (λ (j : ℕ). Moves (λ b. Links (6 - level) b ∷ []) (λ b. Links (6 - level) b ∷ []) m j start rest) (sym deep) (subst (λ (r : ℕ). Moves (λ b. Links r b ∷ []) (λ b. Links r b ∷ []) m (1 + max m n) start rest) z moves)
+    subst (λ (j : ℕ). Moves (λ b. Links (6 - level) b ∷ []) (λ b. Links (6 - level) b ∷ []) m j start rest) (sym deep)
+    (subst (λ (r : ℕ). Moves (λ b. Links r b ∷ []) (λ b. Links r b ∷ []) m (1 + max m n) start rest) z moves)
 
 right_stays : (o : Operator) (at : ℕ × ℕ) (f : Facts o at) (b m : ℕ) (r : Option Reason) (start mid rest : Row) → m < b → start ≡ sign (operator_text o) at ∷ mid
     → Halts (Binary f.rank (b - 1)) r mid rest → Stays (Links f.rank b ∷ []) m r start rest
@@ -265,16 +267,21 @@ pub instance_goes : (at : ℕ × ℕ) (class : syntax.Word) (level m k : ℕ) (s
 instance_goes at class level m k start mid rest is deep e n =
     let z : 2 ≡ 6 - level = omega (arith, is) in
     let moves = instance_moves at class.at class.text m start rest (e ∙ ap (λ r. word (codes "instanceof") at ∷ r) n.1) n.0 in
-    subst (λ (j : ℕ). Moves (λ b. Links (6 - level) b ∷ []) (λ b. Links (6 - level) b ∷ []) m j start rest) (sym deep) (subst (λ (r : ℕ). Moves (λ b. Links r b ∷ []) (λ b. Links r b ∷ []) m (1 + m) start rest) z moves)
+    subst (λ (j : ℕ). Moves (λ b. Links (6 - level) b ∷ []) (λ b. Links (6 - level) b ∷ []) m j start rest) (sym deep)
+    (subst (λ (r : ℕ). Moves (λ b. Links r b ∷ []) (λ b. Links r b ∷ []) m (1 + m) start rest) z moves)
 
-class_stays : (at : ℕ × ℕ) (b m : ℕ) (e : ReadError) (start mid rest : Row) → m < b → start ≡ word (codes "instanceof") at ∷ mid → Missing is_name_token e mid rest → Stays (Links 2 b ∷ []) m (reason_of e) start rest
+class_stays : (at : ℕ × ℕ) (b m : ℕ) (e : ReadError) (start mid rest : Row) → m < b → start ≡ word (codes "instanceof") at ∷ mid → Missing is_name_token e mid rest
+    → Stays (Links 2 b ∷ []) m (reason_of e) start rest
 unfolding table
 class_stays at b m e start mid rest within is s = stays_missing (Links 2 b ∷ []) NameWant (λ ws. Counts (1 + m) ∷ Links 2 b ∷ ws) m 0 is_name_token e start mid rest
-    (λ ws. ap (run true table (Links 2 b ∷ ws) m) is ∙ run-takes true table (Links 2 b) (nat_lt m b) (NameWant ∷ Counts (1 + m) ∷ Links 2 b ∷ []) ws m 0 (word (codes "instanceof") at) mid refl (λ h. lt-ltb m b within))
+    (λ ws. ap (run true table (Links 2 b ∷ ws) m) is ∙ run-takes true table (Links 2 b) (nat_lt m b) (NameWant ∷ Counts (1 + m) ∷ Links 2 b ∷ []) ws m 0 (word (codes "instanceof") at) mid refl
+    (λ h. lt-ltb m b within))
     (λ none. ap (λ x. cond x (Takes true [] 0) Refuses) (sym (next_first is_name_token mid) ∙ none)) s
 
-pub instance_stays : (at : ℕ × ℕ) (level b m : ℕ) (e : ReadError) (start mid rest : Row) → level ≡ 4 → m < b → start ≡ word (codes "instanceof") at ∷ mid → Missing is_name_token e mid rest → Stays (Links (6 - level) b ∷ []) m (reason_of e) start rest
-instance_stays at level b m e start mid rest is within q s = let z : 2 ≡ 6 - level = omega (arith, is) in subst (λ (k : ℕ). Stays (Links k b ∷ []) m (reason_of e) start rest) z (class_stays at b m e start mid rest within q s)
+pub instance_stays : (at : ℕ × ℕ) (level b m : ℕ) (e : ReadError) (start mid rest : Row) → level ≡ 4 → m < b → start ≡ word (codes "instanceof") at ∷ mid → Missing is_name_token e mid rest
+    → Stays (Links (6 - level) b ∷ []) m (reason_of e) start rest
+instance_stays at level b m e start mid rest is within q s =
+    let z : 2 ≡ 6 - level = omega (arith, is) in subst (λ (k : ℕ). Stays (Links k b ∷ []) m (reason_of e) start rest) z (class_stays at b m e start mid rest within q s)
 
 -- ---- unaries
 
@@ -303,9 +310,6 @@ row_none false false false false true c g h = absurd cc
 row_none false false false false false true g h = absurd cc
 row_none false false false false false false g h = refl
 
-abbrev tests : PlacedToken → Bool → Answer Want
-tests t g = row_of (is_sign (codes "-") t) (is_sign (codes "!") t) (is_sign (codes "(") t) (is_literal t) (begins_fold t) (is_name_token t) g
-
 none_fits : (x : Bool) (old : Row) (d : ℕ) → next_is opens_unary old ≡ x → Stays (Unary 0 ∷ []) d (reason_of (cond x errors.Nesting errors.Syntax)) old old
 unfolding table
 none_fits true [] d e = absurd cc
@@ -313,13 +317,16 @@ none_fits true (t ∷ ts) d e = λ ws.
     let r = row_deep (is_sign (codes "-") t) (is_sign (codes "!") t) (is_sign (codes "(") t) (is_literal t) (begins_fold t) (is_name_token t) (is_get_child t) e in
     run-too_deep table (Unary 0) r.0 ws d r.1 t ts r.2
 none_fits false [] d e = λ ws. run-refuses true table (Unary 0) ws d [] refl
-none_fits false (t ∷ ts) d e = λ ws. run-refuses true table (Unary 0) ws d (t ∷ ts) (row_none (is_sign (codes "-") t) (is_sign (codes "!") t) (is_sign (codes "(") t) (is_literal t) (begins_fold t) (is_name_token t) (is_get_child t) e)
+none_fits false (t ∷ ts) d e =
+    λ ws. run-refuses true table (Unary 0) ws d (t ∷ ts) (row_none (is_sign (codes "-") t) (is_sign (codes "!") t)
+    (is_sign (codes "(") t) (is_literal t) (begins_fold t) (is_name_token t) (is_get_child t) e)
 
 -- what the reader says where no unary fits
 pub unary_too_deep : (b : ℕ) (e : ReadError) (old : Row) → b ≡ 0 → (e ≡ errors.Memory) ⊎ (e ≡ cond (next_is opens_unary old) errors.Nesting errors.Syntax) → Halts (Unary b) (reason_of e) old old
 unary_too_deep b e old none (inl is) d = stays_memory (Unary b ∷ []) d e old old is
 unary_too_deep b e old none (inr is) d =
-    subst (λ (k : ℕ). Stays (Unary k ∷ []) d (reason_of e) old old) (sym none) (subst (λ (x : ReadError). Stays (Unary 0 ∷ []) d (reason_of x) old old) (sym is) (none_fits (next_is opens_unary old) old d refl))
+    subst (λ (k : ℕ). Stays (Unary k ∷ []) d (reason_of e) old old) (sym none) (subst (λ (x : ReadError). Stays (Unary 0 ∷ []) d (reason_of x) old old) (sym is)
+    (none_fits (next_is opens_unary old) old d refl))
 
 pub negative_stops : (b : ℕ) (e : ReadError) (old rest : Row) → 1 ≤ b → NoNegative e old rest → Halts (Unary b) (reason_of e) old rest
 unfolding table
@@ -328,7 +335,8 @@ negative_stops b errors.Syntax old rest some (at, is, digits, none) d = λ ws.
     ap (run true table (Unary b ∷ ws) d) is
     ∙ run-takes true table (Unary b) (nat_lt 0 b) (Minus b ∷ []) ws d 0 (sign (codes "-") at) rest refl (λ h. lt-ltb 0 b some)
     ∙ run-refuses true table (Minus b) ws 0 rest
-    (ap (λ x. cond x (cond (next (is_number_within 2147483648) (first rest)) (Takes true (Calls b ∷ []) 1) Refuses) (and_then (unary_answer (b - 1) (first rest)) (Deeper ∷ []))) (sym (next_first is_number rest) ∙ digits)
+    (ap (λ x. cond x (cond (next (is_number_within 2147483648) (first rest)) (Takes true (Calls b ∷ []) 1) Refuses) (and_then (unary_answer (b - 1) (first rest)) (Deeper ∷ [])))
+    (sym (next_first is_number rest) ∙ digits)
     ∙ ap (λ x. cond x (Takes true (Calls b ∷ []) 1) Refuses) (sym (next_first (is_number_within 2147483648) rest) ∙ none))
 negative_stops b errors.LeftOut old rest some h d = absurd h
 negative_stops b errors.Nesting old rest some h d = absurd h
@@ -347,12 +355,15 @@ negative_halts b k r old mid rest some one t s d = stays_on (Unary b ∷ []) (Ca
 
 pub prefix_goes : (p : Prefix) (at : ℕ × ℕ) (n k : ℕ) (old one rest : Row) → 1 ≤ n → k ≡ 1 + n → StandsBefore p at old one → Goes Unary (λ b. []) n one rest → Goes Unary (λ b. []) k old rest
 prefix_goes prefix.Not at n k old one rest some deep s g = subst (λ (j : ℕ). Goes Unary (λ b. []) j old rest) (sym deep) (not_goes at n old one rest some s g)
-prefix_goes prefix.Minus at n k old one rest some deep s g = subst (λ (j : ℕ). Goes Unary (λ b. []) j old rest) (sym deep) (minus_goes at n old one rest some s.0 (sym (next_first is_number one) ∙ s.1) g)
+prefix_goes prefix.Minus at n k old one rest some deep s g =
+    subst (λ (j : ℕ). Goes Unary (λ b. []) j old rest) (sym deep) (minus_goes at n old one rest some s.0 (sym (next_first is_number one) ∙ s.1) g)
 prefix_goes (prefix.Cast class) at n k old one rest some deep (named, close, p, q, c, f) g = subst (λ (j : ℕ). Goes Unary (λ b. []) j old rest) (sym deep)
-    (cast_goes at (word_view class).at c.0 (word_view class).text n old one rest some (p ∙ ap (λ r. sign (codes "(") at ∷ r) (q.1 ∙ ap (λ r. word (word_view class).text (word_view class).at ∷ r) c.1)) q.0 (sym (next_first follows_cast one) ∙ f) g)
+    (cast_goes at (word_view class).at c.0 (word_view class).text n old one rest some (p ∙ ap
+    (λ r. sign (codes "(") at ∷ r) (q.1 ∙ ap (λ r. word (word_view class).text (word_view class).at ∷ r) c.1)) q.0 (sym (next_first follows_cast one) ∙ f) g)
 
 -- up to the operand of a `!`, a `-` and a cast
-not_taken : (at : ℕ × ℕ) (b : ℕ) (old one : Row) → 1 < b → old ≡ sign (codes "!") at ∷ one → (ws : List Want) (d : ℕ) → run true table (Unary b ∷ ws) d old ≡ run true table (Unary (b - 1) ∷ Deeper ∷ ws) 0 one
+not_taken : (at : ℕ × ℕ) (b : ℕ) (old one : Row) → 1 < b → old ≡ sign (codes "!") at ∷ one → (ws : List Want) (d : ℕ)
+    → run true table (Unary b ∷ ws) d old ≡ run true table (Unary (b - 1) ∷ Deeper ∷ ws) 0 one
 unfolding table
 not_taken at b old one some e ws d =
     ap (run true table (Unary b ∷ ws) d) e
@@ -365,9 +376,11 @@ minus_taken at b old one some e none ws d =
     ap (run true table (Unary b ∷ ws) d) e
     ∙ run-takes true table (Unary b) (nat_lt 0 b) (Minus b ∷ []) ws d 0 (sign (codes "-") at) one refl (λ h. lt-ltb 0 b some)
     ∙ run-begins true table (Minus b) (Unary (b - 1)) (Deeper ∷ []) ws 0 one
-    (ap (λ x. cond x (cond (next (is_number_within 2147483648) (first one)) (Takes true (Calls b ∷ []) 1) Refuses) (and_then (unary_answer (b - 1) (first one)) (Deeper ∷ []))) none) (unary_stays (b - 1) (first one))
+    (ap (λ x. cond x (cond (next (is_number_within 2147483648) (first one)) (Takes true (Calls b ∷ []) 1) Refuses) (and_then (unary_answer (b - 1) (first one)) (Deeper ∷ []))) none)
+    (unary_stays (b - 1) (first one))
 
-cast_taken : (at name_at close_at : ℕ × ℕ) (text : List ℕ) (b : ℕ) (old one : Row) → 1 < b → old ≡ sign (codes "(") at ∷ word text name_at ∷ sign (codes ")") close_at ∷ one → is_name text ≡ true → next follows_cast (first one) ≡ true
+cast_taken : (at name_at close_at : ℕ × ℕ) (text : List ℕ) (b : ℕ) (old one : Row) → 1 < b → old ≡ sign (codes "(") at ∷ word text name_at ∷ sign (codes ")") close_at ∷ one → is_name text ≡ true
+    → next follows_cast (first one) ≡ true
     → (ws : List Want) (d : ℕ) → run true table (Unary b ∷ ws) d old ≡ run true table (Unary (b - 1) ∷ Deeper ∷ ws) 2 one
 unfolding table
 cast_taken at name_at close_at text b old one some e is follows ws d =
@@ -375,16 +388,21 @@ cast_taken at name_at close_at text b old one some e is follows ws d =
     ap (run true table (Unary b ∷ ws) d) e
     ∙ run-takes true table (Unary b) (nat_lt 1 b) (Opened b ∷ []) ws d 0 (sign (codes "(") at) (t ∷ sign (codes ")") close_at ∷ one) refl (λ h. lt-ltb 1 b some)
     ∙ run-takes true table (Opened b) (nat_lt 0 (b - 1)) (Enclosed (is_get_child t) b ∷ []) ws 0 0 t (sign (codes ")") close_at ∷ one)
-    (ap (λ x. cond x (Takes (nat_lt 0 (b - 1)) (Enclosed (is_get_child t) b ∷ []) 0) (and_then (expression_answer (b - 1) (Some t)) (Mark (codes ")") ∷ Deeper ∷ Calls b ∷ []))) is) (λ h. lt-ltb 0 (b - 1) (omega (arith, some)))
+    (ap (λ x. cond x (Takes (nat_lt 0 (b - 1)) (Enclosed (is_get_child t) b ∷ []) 0) (and_then (expression_answer (b - 1) (Some t)) (Mark (codes ")") ∷ Deeper ∷ Calls b ∷ []))) is)
+    (λ h. lt-ltb 0 (b - 1) (omega (arith, some)))
     ∙ run-takes true table (Enclosed (is_get_child t) b) true (Parenthesized b ∷ []) ws 0 2 (sign (codes ")") close_at) one refl (λ h. refl)
-    ∙ run-begins true table (Parenthesized b) (Unary (b - 1)) (Deeper ∷ []) ws 2 one (ap (λ x. cond x (and_then (unary_answer (b - 1) (first one)) (Deeper ∷ [])) (on (next (is_sign (codes ".")) (first one)) (Takes (nat_lt 2 b) (Called (b - 1) ∷ Join 2 ∷ Calls b ∷ []) 0) (Skips 2))) follows) (unary_stays (b - 1) (first one))
+    ∙ run-begins true table (Parenthesized b) (Unary (b - 1)) (Deeper ∷ []) ws 2 one (ap (λ x. cond x (and_then (unary_answer (b - 1) (first one)) (Deeper ∷ []))
+    (on (next (is_sign (codes ".")) (first one)) (Takes (nat_lt 2 b) (Called (b - 1) ∷ Join 2 ∷ Calls b ∷ []) 0) (Skips 2))) follows) (unary_stays (b - 1) (first one))
 
 -- the operand stops
-pub inner_halts : (p : Prefix) (at : ℕ × ℕ) (b : ℕ) (r : Option Reason) (old one rest : Row) → 1 ≤ b → NestsWithin p b → StandsBefore p at old one → Halts (Unary (b - 1)) r one rest → Halts (Unary b) r old rest
+pub inner_halts : (p : Prefix) (at : ℕ × ℕ) (b : ℕ) (r : Option Reason) (old one rest : Row) → 1 ≤ b → NestsWithin p b → StandsBefore p at old one → Halts (Unary (b - 1)) r one rest
+    → Halts (Unary b) r old rest
 inner_halts prefix.Not at b r old one rest some nests s g d = stays_on (Unary b ∷ []) (Unary (b - 1)) (λ ws. Deeper ∷ ws) d 0 r old one rest (λ ws. not_taken at b old one nests s ws d) (g 0)
-inner_halts prefix.Minus at b r old one rest some nests s g d = stays_on (Unary b ∷ []) (Unary (b - 1)) (λ ws. Deeper ∷ ws) d 0 r old one rest (λ ws. minus_taken at b old one some s.0 (sym (next_first is_number one) ∙ s.1) ws d) (g 0)
+inner_halts prefix.Minus at b r old one rest some nests s g d =
+    stays_on (Unary b ∷ []) (Unary (b - 1)) (λ ws. Deeper ∷ ws) d 0 r old one rest (λ ws. minus_taken at b old one some s.0 (sym (next_first is_number one) ∙ s.1) ws d) (g 0)
 inner_halts (prefix.Cast class) at b r old one rest some nests (named, close, p, q, c, f) g d = stays_on (Unary b ∷ []) (Unary (b - 1)) (λ ws. Deeper ∷ ws) d 2 r old one rest
-    (λ ws. cast_taken at (word_view class).at c.0 (word_view class).text b old one nests (p ∙ ap (λ r. sign (codes "(") at ∷ r) (q.1 ∙ ap (λ r. word (word_view class).text (word_view class).at ∷ r) c.1)) q.0 (sym (next_first follows_cast one) ∙ f) ws d) (g 2)
+    (λ ws. cast_taken at (word_view class).at c.0 (word_view class).text b old one nests (p ∙ ap
+    (λ r. sign (codes "(") at ∷ r) (q.1 ∙ ap (λ r. word (word_view class).text (word_view class).at ∷ r) c.1)) q.0 (sym (next_first follows_cast one) ∙ f) ws d) (g 2)
 
 both_first : (a b : Bool) → a && b ≡ true → a ≡ true
 both_first true b e = refl
@@ -398,14 +416,16 @@ cast_opens (t ∷ u ∷ []) e = absurd cc
 cast_opens (t ∷ u ∷ v ∷ []) e = absurd cc
 cast_opens (t ∷ u ∷ v ∷ w ∷ ts) e = both_first (is_sign (codes "(") t) (is_name_token u && (is_sign (codes ")") v && follows_cast w)) e
 
-pub prefix_stops : (b : ℕ) (e : ReadError) (old rest : Row) → (e ≡ errors.Memory) ⊎ ((e ≡ errors.Nesting) × (rest ≡ old) × (b ≤ 1) × ((next_is (is_sign (codes "!")) old ≡ true) ⊎ (opens_cast old ≡ true)))
+pub prefix_stops : (b : ℕ) (e : ReadError) (old rest : Row)
+    → (e ≡ errors.Memory) ⊎ ((e ≡ errors.Nesting) × (rest ≡ old) × (b ≤ 1) × ((next_is (is_sign (codes "!")) old ≡ true) ⊎ (opens_cast old ≡ true)))
     → Halts (Unary b) (reason_of e) old rest
 unfolding table
 prefix_stops b e old rest (inl is) d = stays_memory (Unary b ∷ []) d e old rest is
 prefix_stops b e old rest (inr (is, same, deep, inl n)) d =
     let s = at_sign (codes "!") old n in
     stays_deep (Unary b ∷ []) d e old old rest is same (λ ws. ap (run true table (Unary b ∷ ws) d) s.2
-    ∙ run-too_deep table (Unary b) (Unary (b - 1) ∷ Deeper ∷ []) ws d 0 (sign (codes "!") s.0) s.1 (ap (λ x. Takes x (Unary (b - 1) ∷ Deeper ∷ []) 0) (le-ltb 1 b deep)) ∙ ap (λ (x : Row). Stuck TooDeep x) (sym s.2))
+    ∙ run-too_deep table (Unary b) (Unary (b - 1) ∷ Deeper ∷ []) ws d 0 (sign (codes "!") s.0) s.1 (ap (λ x. Takes x (Unary (b - 1) ∷ Deeper ∷ []) 0) (le-ltb 1 b deep)) ∙ ap
+    (λ (x : Row). Stuck TooDeep x) (sym s.2))
 prefix_stops b e old rest (inr (is, same, deep, inr c)) d =
     let s = at_sign (codes "(") old (cast_opens old c) in
     stays_deep (Unary b ∷ []) d e old old rest is same (λ ws. ap (run true table (Unary b ∷ ws) d) s.2

@@ -12,5 +12,5 @@ returns-then-eq c =
     let k = same_true the_type tt _ _ (sym c.eq.ensures ∙ c.if-eq.true) in
     elim c.match-text.branch [
       | in-Ok w ↦ text_is_deep _ _ _ _ n.1 k w.result-is w.in-Ok.ensures.spelled
-      | in-Err w ↦ no_text _ _ w.in-Err.e _ _ n.1 k w.result-is w.in-Err.ensures.refused
+      | in-Err w ↦ no_text w.in-Err.e _ _ _ _ n.1 k w.result-is w.in-Err.ensures.refused
     ]
