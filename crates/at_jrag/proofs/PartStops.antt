@@ -1,6 +1,6 @@
 -- Where a primary, its calls and their arguments stop, and how far the limited machine goes up to there.
 use Rattle.std.proofs.Common.{◌≡◌, ℕ, ◌+◌, ◌-◌, ◌≤◌, ◌<◌, List, [], ◌∷◌, ◌++◌, Bool, true, false, cond, max, Option, Some, None, refl, sym, ap, subst, ◌∙◌, append_assoc, arith, inl, inr}
-use Rattle.std.specs.Prelude.{ℤ, nat_lt, decimal, ◌&&◌, ◌||◌}
+use Rattle.std.specs.Prelude.{ℤ, nat_lt, decimal, ◌&&◌, ◌||◌, Result, Ok, Err, IfErr}
 use Rattle.std.specs.Str.{bytes_eq}
 use Rattle.std.proofs.lemmas.Bool.{lt-ltb, le-ltb, and_parts, or_parts}
 use Rattle.std.proofs.lemmas.Slice.Eq.{bytes_eq-Decides}
@@ -401,6 +401,12 @@ named_reach w b d old mid h name p = record {
 pub named_halts : (w : Word) (b : ℕ) (r : Option Reason) (old mid rest : Row) → 0 < b → grammar.Name w old mid → next_is (is_sign (codes "(")) mid ≡ true → Halts (Arguments (bytes_eq w.text (codes "getChild")) (b - 1)) r mid rest → Halts (Primary b) r old rest
 named_halts w b r old mid rest h name p s = λ d. reach_halts (Arguments (bytes_eq w.text (codes "getChild")) (b - 1)) r rest (named_reach w b d old mid h name p) s
 
+-- a name stops where nothing else of a primary is next
+pub named_here : {A : Type 0} (r : Result A ReadError) (b : ℕ) (old mid rest : Row) → mid ≡ old → IsOther old → IfErr r (λ e. IsOther mid → Halts (Primary b) (reason_of e) mid rest)
+    → IfErr r (λ e. Halts (Primary b) (reason_of e) old rest)
+named_here (Ok a) b old mid rest s o h = h
+named_here (Err e) b old mid rest s o h = subst (λ (x : Row). Halts (Primary b) (reason_of e) x rest) s (h (subst (λ (x : Row). IsOther x) (sym s) o))
+
 -- ---- folds
 
 -- behind its word
@@ -432,6 +438,12 @@ pub brace_missing : (b : ℕ) (e : ReadError) (old rest : Row) → Missing (is_s
 unfolding table
 brace_missing b e old rest m =
     missing_halts (FoldBody b) (is_sign (codes "{")) (λ d row h. expects_refuses (is_sign (codes "{")) (Takes true (Expression (b - 1) ∷ Mark (codes "}") ∷ Join d ∷ []) 0) row h) e old rest m
+
+-- a fold stops behind its word
+pub fold_here : {A : Type 0} (r : Result A ReadError) (b : ℕ) (t : PlacedToken) (old mid rest : Row) → old ≡ t ∷ mid → IfErr r (λ e. (row : Row) → row ≡ t ∷ mid → Halts (Primary b) (reason_of e) row rest)
+    → IfErr r (λ e. Halts (Primary b) (reason_of e) old rest)
+fold_here (Ok a) b t old mid rest s h = h
+fold_here (Err e) b t old mid rest s h = h old s
 
 -- a fold that was read
 pub fold_done : (form : FoldForm) (at paren_at colon_at close_at brace_at end_at : ℕ × ℕ) (w : Word) (m n k : ℕ) (old paren named colon items mid close brace one end rest : Row) → 1 ≤ m → m ≤ n

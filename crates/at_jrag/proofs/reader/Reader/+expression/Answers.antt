@@ -9,14 +9,17 @@ use Rattle.at_jrag.specs.Grammar.{Row, Arguments, Opens, deepest}
 use Rattle.at_jrag.specs.Left.{left}
 use Rattle.at_jrag.specs.Read.{StandsBefore}
 use Rattle.at_jrag.specs.Wants as want
-use Rattle.at_jrag.specs.Runs.{Goes, Halts, reason_of}
+use Rattle.at_jrag.specs.Runs.{Goes, IsOther}
 use Rattle.at_jrag.proofs.Expressions.{Wanted, wanted_next, wanted_end, next_shorter, deepest_push, call_of_reads, fold_reads, prefix_reads}
 use Rattle.at_jrag.specs.Grammar.{sign, word, fold_text, is_sign, next_is}
 use Rattle.at_jrag.specs.Table.{begins_fold}
 use Rattle.at_jrag.proofs.Expressions.{wanted_first}
 use Rattle.at_jrag.proofs.ExpressionRuns.{arguments_go, no_arguments_go, paren_goes, fold_goes}
 use Rattle.at_jrag.proofs.ExpressionsTaken.{deep}
-use Rattle.at_jrag.proofs.PartStops.{reach_goes, reach_stays, reach_halts, mark_missing, name_missing, reach_sign, reach_name, calls_too_deep, calls_no_name, calls_arguments, calls_more, calls_done, among_start, among_next, among_end, among_halts, among_no_comma, arguments_halt, not_opened, literal_missing, primary_missing, no_literal, paren_too_deep, fold_too_deep, paren_halts, paren_open, plain_name, named_goes, named_halts, fold_opens, fold_list, fold_close, fold_body, brace_missing, literal_taken, fold_done}
+use Rattle.at_jrag.proofs.PartStops.{reach_goes, reach_stays, reach_halts, mark_missing, name_missing, reach_sign, reach_name, calls_too_deep, calls_no_name, calls_arguments, calls_more}
+use Rattle.at_jrag.proofs.PartStops.{calls_done, among_start, among_next, among_end, among_halts, among_no_comma, arguments_halt, not_opened, literal_missing, primary_missing, no_literal}
+use Rattle.at_jrag.proofs.PartStops.{paren_too_deep, fold_too_deep, paren_halts, paren_open, plain_name, named_goes, named_halts, fold_opens, fold_list, fold_close, fold_body, brace_missing}
+use Rattle.at_jrag.proofs.PartStops.{literal_taken, named_here, fold_here, fold_done}
 use Rattle.at_jrag.proofs.reader.Reader.+expression.Goals as goal
 
 pub arguments-returns-then-skips-2-clause-found : goal.arguments-returns-then-skips-2-clause-found
@@ -60,7 +63,8 @@ calls-loop-receiver-preserved t c =
     let m = c.in_ok-receiver.ensures in
     let h = rw c.as_str.ensures.value at a.found in
     let w = word_view c.in_ok-name.name in
-    let g = subst (λ (x : List ℕ). Goes (want.Arguments (bytes_eq x (codes "getChild"))) (λ b. []) c.in_ok-arguments.arguments.depth (left c.name.new.self.rest.now) (left c.arguments.new.self.rest.now)) c.as_str.ensures.value a.goes in (
+    let g = subst (λ (x : List ℕ). Goes (want.Arguments (bytes_eq x (codes "getChild"))) (λ b. []) c.in_ok-arguments.arguments.depth (left c.name.new.self.rest.now) (left c.arguments.new.self.rest.now))
+        c.as_str.ensures.value a.goes in (
       omega (arith, m.depth, b.1, i.0, a.depth),
       λ old r. call_of_reads _ _ w c.in_ok-arguments.arguments old _ _ _ _ (i.1 old r) (_, b.0) c.in_ok-name.ensures.found h m.made m.depth,
       calls_more c.args.first.depth c.loop-receiver.receiver.depth c.in_ok-arguments.arguments.depth c.in_ok-receiver.receiver.depth _ w _ _ _ _ _ i.2 b.0 c.in_ok-name.ensures.found g m.depth,
@@ -218,6 +222,27 @@ primary-returns-in_err-at-2-clause-halts t c =
     rw (p.1, p.2) (fold_too_deep c.args.budget _ (left c.args.self.now.rest.now) (left c.fold_word.new.self.rest.now) e.0 (no_literal (left c.args.self.now.rest.now) l.1)
     (sym (ap (λ r. next_is (is_sign (codes "(")) (left r.rest.now)) l.0) ∙ b.1) (sym (ap (λ r. next_is begins_fold (left r.rest.now)) same) ∙ e.3) e.2 (ap (λ r. left r.rest.now) (e.1 ∙ same)))
 
+pub primary-returns-in-Some-3-clause-halts : goal.primary-returns-in-Some-3-clause-halts
+primary-returns-in-Some-3-clause-halts t c =
+    let l = rw c.in_default.is at c.in_ok-literal.ensures.found in
+    let b = rw c.in_default-2.is at c.in_ok-at.ensures.found in
+    let f = rw c.in-Some-3.is at c.in_ok-at-2.ensures.found in
+    fold_here _ c.args.budget _ (left c.args.self.now.rest.now) (left c.fold_word.new.self.rest.now) (left c.fold.new.self.rest.now) (sym (ap (λ r. left r.rest.now) (b.0 ∙ l.0)) ∙ f.1) c.fold.ensures.halts
+
+pub primary-returns-clause-halts : goal.primary-returns-clause-halts
+primary-returns-clause-halts t c =
+    let l = rw c.in_default.is at c.in_ok-literal.ensures.found in
+    let b = rw c.in_default-2.is at c.in_ok-at.ensures.found in
+    let f = rw c.in_default-3.is at c.in_ok-at-2.ensures.found in
+    let none = rw c.in_default-3.is at c.in_ok-at-2.ensures.none in
+    let same = b.0 ∙ l.0 in
+    let other : IsOther (left c.args.self.now.rest.now) = (
+      no_literal (left c.args.self.now.rest.now) l.1,
+      sym (ap (λ r. next_is (is_sign (codes "(")) (left r.rest.now)) l.0) ∙ b.1,
+      sym (ap (λ r. next_is begins_fold (left r.rest.now)) same) ∙ none,
+    ) in
+    named_here _ c.args.budget (left c.args.self.now.rest.now) (left c.fold_word.new.self.rest.now) (left c.named.new.self.rest.now) (ap (λ r. left r.rest.now) (f ∙ same)) other c.named.ensures.halts
+
 pub named-returns-in_err-name-clause-halts : goal.named-returns-in_err-name-clause-halts
 named-returns-in_err-name-clause-halts t c =
     let p = err_from_is_err_and c.from_residual.result c.from_residual.ensures.1 in
@@ -238,7 +263,8 @@ named-returns-in_err-arguments-clause-halts t c =
 pub named-returns-clause-goes : goal.named-returns-clause-goes
 named-returns-clause-goes t c =
     let a = c.in_ok-arguments.ensures in
-    let g = subst (λ (x : List ℕ). Goes (want.Arguments (bytes_eq x (codes "getChild"))) (λ b. []) c.in_ok-arguments.arguments.depth (left c.name.new.self.rest.now) (left c.arguments.new.self.rest.now)) c.as_str.ensures.value a.goes in
+    let g = subst (λ (x : List ℕ). Goes (want.Arguments (bytes_eq x (codes "getChild"))) (λ b. []) c.in_ok-arguments.arguments.depth (left c.name.new.self.rest.now) (left c.arguments.new.self.rest.now))
+        c.as_str.ensures.value a.goes in
     subst (λ (x : ℕ). Goes want.Primary (λ b. []) x (left c.args.self.now.rest.now) (left c.arguments.new.self.rest.now)) (sym c.call.ensures.depth)
     (named_goes (word_view c.in_ok-name.name) c.in_ok-arguments.arguments.depth _ _ _ c.in_ok-name.ensures.found (sym c.if-not-is_before.ensures) g)
 
