@@ -222,7 +222,7 @@ literal_goes t old rest e is l b f ws d =
     ap (run l table (Primary b ∷ ws) d) e
     ∙ run-takes l table (Primary b) (nat_lt 0 b) [] ws d 1 t rest (cond_true (is_literal t) (Takes (nat_lt 0 b) [] 1) _ is) (λ h. lt-ltb 0 b (omega (arith, f h)))
 
-named_taken : (l : Bool) (b : ℕ) (ws : List Want) (d : ℕ) (text : List ℕ) (at : ℕ × ℕ) (mid : Row) → is_name text ≡ true → (l ≡ true → 1 ≤ b) → run l table (Primary b ∷ ws) d (word text at ∷ mid) ≡ run l table (Named (is_get_child (word text at)) b ∷ ws) 0 mid
+pub named_taken : (l : Bool) (b : ℕ) (ws : List Want) (d : ℕ) (text : List ℕ) (at : ℕ × ℕ) (mid : Row) → is_name text ≡ true → (l ≡ true → 1 ≤ b) → run l table (Primary b ∷ ws) d (word text at ∷ mid) ≡ run l table (Named (is_get_child (word text at)) b ∷ ws) 0 mid
 unfolding table
 named_taken l b ws d text at mid is f = run-takes l table (Primary b) (nat_lt 0 b) (Named (is_get_child (word text at)) b ∷ []) ws d 0 (word text at) mid (name_primary b text at is) (λ h. lt-ltb 0 b (omega (arith, f h)))
 
@@ -254,7 +254,7 @@ paren_goes at close_at n old one close rest some e g c l b f ws d =
     ∙ run-takes l table (Mark (codes ")")) true [] (Deeper ∷ ws) n n (sign (codes ")") close_at) rest refl (λ h. refl)
     ∙ run-skips l table Deeper ws n (1 + n) rest refl
 
-fold_taken : (form : FoldForm) (at : ℕ × ℕ) (b : ℕ) → primary_answer b (Some (word (fold_text form) at)) ≡ Takes (nat_lt 1 b) (Mark (codes "(") ∷ Name ∷ Mark (codes ":") ∷ Primary (b - 1) ∷ Calls (b - 1) ∷ Mark (codes ")") ∷ FoldBody b ∷ []) 0
+pub fold_taken : (form : FoldForm) (at : ℕ × ℕ) (b : ℕ) → primary_answer b (Some (word (fold_text form) at)) ≡ Takes (nat_lt 1 b) (Mark (codes "(") ∷ Name ∷ Mark (codes ":") ∷ Primary (b - 1) ∷ Calls (b - 1) ∷ Mark (codes ")") ∷ FoldBody b ∷ []) 0
 fold_taken syntax.Exists at b = refl
 fold_taken syntax.First at b = refl
 fold_taken syntax.Sum at b = refl

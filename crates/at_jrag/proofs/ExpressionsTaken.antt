@@ -170,7 +170,7 @@ or_first : (a b : Bool) → a ≡ true → a || b ≡ true
 or_first true b e = refl
 or_first false b e = absurd cc
 
-number_literal : (t : PlacedToken) → is_number_within 2147483647 t ≡ true → is_literal t ≡ true
+pub number_literal : (t : PlacedToken) → is_number_within 2147483647 t ≡ true → is_literal t ≡ true
 number_literal t e = or_first (is_number_within 2147483647 t) _ e
 
 number_accepted : (at : ℕ × ℕ) (n : ℤ) (old rest : Row) → grammar.NumberOf at n old rest → Accepted 8 1 old rest

@@ -11,3 +11,4 @@ pub mod Numbers
 pub mod DeclarationRuns
 pub mod Quotations
 pub mod OperatorStops
+pub mod PartStops
