@@ -23,4 +23,5 @@ pub mod SoundCalls
 pub mod SoundDeclarations
 pub mod Sound
 pub mod FirstFaults
+pub mod OperatorStops
 pub mod PartStops

@@ -1,6 +1,6 @@
 -- Where a primary, its calls and their arguments stop, and how far the limited machine goes up to there.
 use Rattle.std.proofs.Common.{◌≡◌, ℕ, ◌+◌, ◌-◌, ◌≤◌, ◌<◌, List, [], ◌∷◌, ◌++◌, Bool, true, false, cond, max, Option, Some, None, refl, sym, ap, subst, ◌∙◌, append_assoc, arith, inl, inr}
-use Rattle.std.specs.Prelude.{ℤ, nat_lt, decimal, ◌&&◌, ◌||◌}
+use Rattle.std.specs.Prelude.{ℤ, nat_lt, decimal, ◌&&◌, ◌||◌, Result, Ok, Err, IfErr}
 use Rattle.std.specs.Str.{bytes_eq}
 use Rattle.std.proofs.lemmas.Bool.{lt-ltb, le-ltb, and_parts, or_parts}
 use Rattle.std.proofs.lemmas.Slice.Eq.{bytes_eq-Decides}
@@ -25,8 +25,8 @@ use Rattle.at_jrag.specs.declared.reader.ReadError.{ReadError}
 use Rattle.at_jrag.specs.declared.reader.ReadError.TheVariants as errors
 use Rattle.at_jrag.proofs.MachineLaws.{run-takes, run-skips, run-refuses, run-too_deep, run-leaves_out}
 use Rattle.at_jrag.proofs.MachinePaths.{run-begins}
-use Rattle.at_jrag.proofs.ExpressionSteps.{then_stays, sign_is, name_primary, name_is_no_literal}
-use Rattle.at_jrag.proofs.ExpressionRuns.{moves_on, calls_end, call_moves, more_none, arguments_go, literal_goes, name_goes, named_taken, fold_taken, fold_goes}
+use Rattle.at_jrag.proofs.ExpressionSteps.{then_stays, sign_is, name_is_no_literal}
+use Rattle.at_jrag.proofs.ExpressionRuns.{moves_on, calls_end, call_moves, more_none, literal_goes, name_goes, named_taken, fold_taken, fold_goes}
 use Rattle.at_jrag.proofs.ExpressionsTaken.{next_first, deep, number_is, number_literal, quoted_is}
 
 -- ---- the limited machine, step by step
@@ -50,7 +50,8 @@ reach_takes {vs = vs} {e = e} w more x t rest r m a = record {
 sign_next : (text : List ℕ) (at : ℕ × ℕ) → is_sign text (sign text at) ≡ true
 sign_next text at = (bytes_eq-Decides text text).1 refl
 
-pub reach_sign : {us vs : List Want} {d e : ℕ} {old mid : Row} (text : List ℕ) (at : ℕ × ℕ) (rest : Row) → Reaches us d (Mark text ∷ vs) e old mid → mid ≡ sign text at ∷ rest → Reaches us d vs e old rest
+pub reach_sign : {us vs : List Want} {d e : ℕ} {old mid : Row} (text : List ℕ) (at : ℕ × ℕ) (rest : Row) → Reaches us d (Mark text ∷ vs) e old mid → mid ≡ sign text at ∷ rest
+    → Reaches us d vs e old rest
 unfolding table
 reach_sign {e = e} text at rest r m = reach_takes (Mark text) [] e (sign text at) rest r m (ap (λ x. cond x (Takes true [] e) Refuses) (sign_next text at))
 
@@ -58,14 +59,17 @@ pub reach_name : {us vs : List Want} {d e : ℕ} {old mid : Row} (w : Word) (res
 unfolding table
 reach_name {e = e} w rest r n = reach_takes Name [] e (word w.text w.at) rest r n.1 (ap (λ x. cond x (Takes true [] e) Refuses) n.0)
 
-pub reach_goes : {us vs : List Want} {d e : ℕ} {old mid : Row} (want : ℕ → Want) (b n : ℕ) (rest : Row) → Reaches us d (want b ∷ vs) e old mid → Goes want (λ b. []) n mid rest → n ≤ b → Reaches us d vs n old rest
+pub reach_goes : {us vs : List Want} {d e : ℕ} {old mid : Row} (want : ℕ → Want) (b n : ℕ) (rest : Row) → Reaches us d (want b ∷ vs) e old mid → Goes want (λ b. []) n mid rest → n ≤ b
+    → Reaches us d vs n old rest
 reach_goes {vs = vs} {e = e} want b n rest r g h = record { over = λ ws. r.over ws ∙ g true b (λ l. h) (vs ++ ws) e }
 
-pub reach_moves : {us vs : List Want} {d e : ℕ} {old mid : Row} (want : ℕ → Want) (b n : ℕ) (rest : Row) → Reaches us d (want b ∷ vs) e old mid → Moves (λ b. want b ∷ []) (λ b. []) e n mid rest → n ≤ b → Reaches us d vs n old rest
+pub reach_moves : {us vs : List Want} {d e : ℕ} {old mid : Row} (want : ℕ → Want) (b n : ℕ) (rest : Row) → Reaches us d (want b ∷ vs) e old mid
+    → Moves (λ b. want b ∷ []) (λ b. []) e n mid rest → n ≤ b → Reaches us d vs n old rest
 reach_moves {vs = vs} want b n rest r g h = record { over = λ ws. r.over ws ∙ g true b (λ l. h) (vs ++ ws) }
 
 -- where a part stops
-pub reach_stays : {us vs : List Want} {d e : ℕ} {old mid : Row} (w : Want) (r : Option Reason) (rest : Row) → Reaches us d (w ∷ vs) e old mid → Stays (w ∷ []) e r mid rest → Stays us d r old rest
+pub reach_stays : {us vs : List Want} {d e : ℕ} {old mid : Row} (w : Want) (r : Option Reason) (rest : Row) → Reaches us d (w ∷ vs) e old mid → Stays (w ∷ []) e r mid rest
+    → Stays us d r old rest
 reach_stays w None rest h s = tt
 reach_stays {vs = vs} w (Some r) rest h s = λ ws. h.over ws ∙ s (vs ++ ws)
 
@@ -77,7 +81,8 @@ reach_halts {e = e} w r rest h s = reach_stays w r rest h (s e)
 refused_at : (w : Want) (d : ℕ) (old rest : Row) → table w d (first old) ≡ Refuses → rest ≡ old → Stays (w ∷ []) d (Some Refused) old rest
 refused_at w d old rest a s = λ ws. run-refuses true table w ws d old a ∙ ap (λ (x : Row). Stuck Refused x) (sym s)
 
-too_deep_at : (test : PlacedToken → Bool) (w : Want) (more : List Want) (x d : ℕ) (within : Bool) (old rest : Row) → next_is test old ≡ true → table w d (first old) ≡ Takes within more x → within ≡ false → rest ≡ old
+too_deep_at : (test : PlacedToken → Bool) (w : Want) (more : List Want) (x d : ℕ) (within : Bool) (old rest : Row) → next_is test old ≡ true
+    → table w d (first old) ≡ Takes within more x → within ≡ false → rest ≡ old
     → Stays (w ∷ []) d (Some TooDeep) old rest
 too_deep_at test w more x d within [] rest n a k s = absurd cc
 too_deep_at test w more x d within (t ∷ ts) rest n a k s = λ ws. run-too_deep table w more ws d x t ts (a ∙ ap (λ y. Takes y more x) k) ∙ ap (λ (y : Row). Stuck TooDeep y) (sym s)
@@ -86,7 +91,8 @@ too_deep_at test w more x d within (t ∷ ts) rest n a k s = λ ws. run-too_deep
 by_nesting : (us : List Want) (d : ℕ) (e : ReadError) (old rest : Row) → e ≡ errors.Nesting → Stays us d (Some TooDeep) old rest → Stays us d (reason_of e) old rest
 by_nesting us d e old rest h s = subst (λ (x : ReadError). Stays us d (reason_of x) old rest) (sym h) s
 
-missing_halts : (w : Want) (test : PlacedToken → Bool) → ((d : ℕ) (old : Row) → next_is test old ≡ false → table w d (first old) ≡ Refuses) → (e : ReadError) (old rest : Row) → Missing test e old rest → Halts w (reason_of e) old rest
+missing_halts : (w : Want) (test : PlacedToken → Bool) → ((d : ℕ) (old : Row) → next_is test old ≡ false → table w d (first old) ≡ Refuses) → (e : ReadError) (old rest : Row)
+    → Missing test e old rest → Halts w (reason_of e) old rest
 missing_halts w test h errors.Memory old rest m = λ d. tt
 missing_halts w test h errors.Syntax old rest m = λ d. refused_at w d old rest (h d old m.1) m.0
 missing_halts w test h errors.LeftOut old rest m = absurd m
@@ -124,7 +130,8 @@ calls_from : (b m n : ℕ) (old mid : Row) → AreCalls m n old mid → n ≤ b 
 calls_from b m n old mid g h = record { over = λ ws. g true b (λ l. h) ws }
 
 -- a `.` where the receiver is as deep as the budget
-pub calls_too_deep : (b m n : ℕ) (e : ReadError) (start old rest : Row) → AreCalls m n start old → n ≤ b → e ≡ errors.Nesting → next_is (is_sign (codes ".")) old ≡ true → b ≤ n → rest ≡ old → Stays (Calls b ∷ []) m (reason_of e) start rest
+pub calls_too_deep : (b m n : ℕ) (e : ReadError) (start old rest : Row) → AreCalls m n start old → n ≤ b → e ≡ errors.Nesting → next_is (is_sign (codes ".")) old ≡ true → b ≤ n
+    → rest ≡ old → Stays (Calls b ∷ []) m (reason_of e) start rest
 unfolding table
 calls_too_deep b m n e start old rest g h is dot k s =
     by_nesting (Calls b ∷ []) m e start rest is (reach_stays (Calls b) (Some TooDeep) rest (calls_from b m n start old g h)
@@ -139,7 +146,8 @@ calls_no_name b m n at e start old mid rest g h dot none =
     (missing_halts (Called (b - 1)) is_name_token (called_refuses (b - 1)) e mid rest none)
 
 -- the arguments of a call stop
-pub calls_arguments : (b m n : ℕ) (at : ℕ × ℕ) (w : Word) (r : Option Reason) (start old mid paren rest : Row) → AreCalls m n start old → n < b → old ≡ sign (codes ".") at ∷ mid → grammar.Name w mid paren
+pub calls_arguments : (b m n : ℕ) (at : ℕ × ℕ) (w : Word) (r : Option Reason) (start old mid paren rest : Row) → AreCalls m n start old → n < b → old ≡ sign (codes ".") at ∷ mid
+    → grammar.Name w mid paren
     → Halts (Arguments (bytes_eq w.text (codes "getChild")) (b - 1)) r paren rest → Stays (Calls b ∷ []) m r start rest
 unfolding table
 calls_arguments b m n at w r start old mid paren rest g h dot name s =
@@ -178,9 +186,9 @@ among_first g start close int l b f ws d =
       [],
       d,
       run-begins l table (FirstArgument g b) (Expression b) (MoreArguments b ∷ []) ws d start
-      (ap (λ x. cond x (Takes true [] 0) (cond (g && next (is_word (codes "int")) (first start)) LeavesOut more)) (sym (next_first (is_sign (codes ")")) start) ∙ close)
-      ∙ ap (λ x. cond x LeavesOut more) (ap (λ x. g && x) (sym (next_first (is_word (codes "int")) start)) ∙ int))
-      (then_stays (binary_answer 6 b (first start)) (Choice b ∷ [])),
+          (ap (λ x. cond x (Takes true [] 0) (cond (g && next (is_word (codes "int")) (first start)) LeavesOut more)) (sym (next_first (is_sign (codes ")")) start) ∙ close)
+          ∙ ap (λ x. cond x LeavesOut more) (ap (λ x. g && x) (sym (next_first (is_word (codes "int")) start)) ∙ int))
+          (then_stays (binary_answer 6 b (first start)) (Choice b ∷ [])),
       λ n row. ap (λ x. run l table (MoreArguments b ∷ ws) x row) (omega arith),
     )
 
@@ -188,23 +196,25 @@ pub among_start : (g : Bool) (start old : Row) → start ≡ old → next_is (is
 among_start g start old s close int = subst (λ (x : Row). Among g 0 x x) (sym s) (among_first g old close int)
 
 -- a `,` behind an argument
-pub among_next : (g : Bool) (m n k : ℕ) (at : ℕ × ℕ) (start old more one : Row) → Among g m start old → Goes Expression (λ b. []) n old more → more ≡ sign (codes ",") at ∷ one → k ≡ max m n → Among g k start one
+pub among_next : (g : Bool) (m n k : ℕ) (at : ℕ × ℕ) (start old more one : Row) → Among g m start old → Goes Expression (λ b. []) n old more → more ≡ sign (codes ",") at ∷ one
+    → k ≡ max m n → Among g k start one
 unfolding table
 among_next g m n k at start old more one h e comma size l b f ws d =
     let a = h l b (λ x. omega (arith, size, f x)) ws d in (
       Deepest k ∷ [],
       0,
       a.2
-      ∙ e l b (λ x. omega (arith, size, f x)) (a.0 ++ MoreArguments b ∷ ws) a.1
-      ∙ a.3 n more
-      ∙ ap (λ x. run l table (MoreArguments b ∷ ws) x more) (sym size)
-      ∙ ap (run l table (MoreArguments b ∷ ws) k) comma
-      ∙ run-takes l table (MoreArguments b) true (Expression b ∷ Deepest k ∷ MoreArguments b ∷ []) ws k 0 (sign (codes ",") at) one refl (λ x. refl),
+          ∙ e l b (λ x. omega (arith, size, f x)) (a.0 ++ MoreArguments b ∷ ws) a.1
+          ∙ a.3 n more
+          ∙ ap (λ x. run l table (MoreArguments b ∷ ws) x more) (sym size)
+          ∙ ap (run l table (MoreArguments b ∷ ws) k) comma
+          ∙ run-takes l table (MoreArguments b) true (Expression b ∷ Deepest k ∷ MoreArguments b ∷ []) ws k 0 (sign (codes ",") at) one refl (λ x. refl),
       λ i row. run-skips l table (Deepest k) (MoreArguments b ∷ ws) i (max k i) row refl,
     )
 
 -- a `)` behind an argument
-pub among_end : (g : Bool) (m n k : ℕ) (at : ℕ × ℕ) (start old more rest : Row) → Among g m start old → Goes Expression (λ b. []) n old more → more ≡ sign (codes ")") at ∷ rest → k ≡ max m n → Goes (FirstArgument g) (λ b. []) k start rest
+pub among_end : (g : Bool) (m n k : ℕ) (at : ℕ × ℕ) (start old more rest : Row) → Among g m start old → Goes Expression (λ b. []) n old more
+    → more ≡ sign (codes ")") at ∷ rest → k ≡ max m n → Goes (FirstArgument g) (λ b. []) k start rest
 among_end g m n k at start old more rest h e close size l b f ws d =
     let a = h l b (λ x. omega (arith, size, f x)) ws d in
     a.2
@@ -218,13 +228,15 @@ pub among_halts : (g : Bool) (b m : ℕ) (r : Option Reason) (start old rest : R
 among_halts g b m None start old rest h k s = λ d. tt
 among_halts g b m (Some r) start old rest h k s = λ d ws. let a = h true b (λ x. k) ws d in a.2 ∙ s a.1 (a.0 ++ MoreArguments b ∷ ws)
 
-among_stays : (g : Bool) (b m n : ℕ) (r : Option Reason) (start old more rest : Row) → Among g m start old → Goes Expression (λ b. []) n old more → m ≤ b → n ≤ b → Stays (MoreArguments b ∷ []) (max m n) r more rest → Halts (FirstArgument g b) r start rest
+among_stays : (g : Bool) (b m n : ℕ) (r : Option Reason) (start old more rest : Row) → Among g m start old → Goes Expression (λ b. []) n old more → m ≤ b → n ≤ b
+    → Stays (MoreArguments b ∷ []) (max m n) r more rest → Halts (FirstArgument g b) r start rest
 among_stays g b m n None start old more rest h e k j s = λ d. tt
 among_stays g b m n (Some r) start old more rest h e k j s = λ d ws.
     let a = h true b (λ x. k) ws d in
     a.2 ∙ e true b (λ x. j) (a.0 ++ MoreArguments b ∷ ws) a.1 ∙ a.3 n more ∙ s ws
 
-more_missing : (b n : ℕ) (e : ReadError) (more rest : Row) → next_is (is_sign (codes ")")) more ≡ false → Missing (is_sign (codes ",")) e more rest → Stays (MoreArguments b ∷ []) n (reason_of e) more rest
+more_missing : (b n : ℕ) (e : ReadError) (more rest : Row)
+    → next_is (is_sign (codes ")")) more ≡ false → Missing (is_sign (codes ",")) e more rest → Stays (MoreArguments b ∷ []) n (reason_of e) more rest
 unfolding table
 more_missing b n errors.Memory more rest close m = tt
 more_missing b n errors.Syntax more rest close m =
@@ -245,7 +257,8 @@ unfolding table
 opens g b d at old list e = reach_takes (Arguments g b) (FirstArgument g b ∷ []) 0 (sign (codes "(") at) list (reach_start (Arguments g b ∷ []) d old) e refl
 
 -- the arguments stop behind the `(`
-pub arguments_halt : (g : Bool) (b : ℕ) (r : Option Reason) (at : ℕ × ℕ) (old list rest : Row) → old ≡ sign (codes "(") at ∷ list → Halts (FirstArgument g b) r list rest → Halts (Arguments g b) r old rest
+pub arguments_halt : (g : Bool) (b : ℕ) (r : Option Reason) (at : ℕ × ℕ) (old list rest : Row)
+    → old ≡ sign (codes "(") at ∷ list → Halts (FirstArgument g b) r list rest → Halts (Arguments g b) r old rest
 arguments_halt g b r at old list rest e s = λ d. reach_halts (FirstArgument g b) r rest (opens g b d at old list e) s
 
 word_no_sign : (k : TokenKind) (x y : Bool) → is_word_kind k && x ≡ true → is_sign_kind k && y ≡ false
@@ -314,7 +327,8 @@ primary_missing b errors.Syntax old rest o m = λ d. refused_at (Primary b) d ol
 primary_missing b errors.LeftOut old rest o m = absurd m
 primary_missing b errors.Nesting old rest o m = absurd m
 
-no_literal_at : (k : TokenKind) (text : List ℕ) (at : ℕ × ℕ) → is_literal (record { kind = k; text = text; at = at }) ≡ false → tables.is_literal (record { kind = k; text = text; at = at }) ≡ false
+no_literal_at : (k : TokenKind) (text : List ℕ) (at : ℕ × ℕ) → is_literal (record { kind = k; text = text; at = at }) ≡ false
+    → tables.is_literal (record { kind = k; text = text; at = at }) ≡ false
 no_literal_at kind.Word text at e = e
 no_literal_at kind.Number text at e = absurd cc
 no_literal_at kind.Text text at e = absurd cc
@@ -338,12 +352,14 @@ paren_too_deep b e old rest is p h s = λ d. by_nesting (Primary b ∷ []) d e o
 abbrev fold_wants : ℕ → List Want
 fold_wants b = Mark (codes "(") ∷ Name ∷ Mark (codes ":") ∷ Primary (b - 1) ∷ Calls (b - 1) ∷ Mark (codes ")") ∷ FoldBody b ∷ []
 
-fold_answer : (b : ℕ) (old : Row) → next_is tables.is_literal old ≡ false → next_is (is_sign (codes "(")) old ≡ false → next_is begins_fold old ≡ true → primary_answer b (first old) ≡ Takes (nat_lt 1 b) (fold_wants b) 0
+fold_answer : (b : ℕ) (old : Row) → next_is tables.is_literal old ≡ false
+    → next_is (is_sign (codes "(")) old ≡ false → next_is begins_fold old ≡ true → primary_answer b (first old) ≡ Takes (nat_lt 1 b) (fold_wants b) 0
 fold_answer b [] l p e = absurd cc
 fold_answer b (t ∷ ts) l p e = third_of (tables.is_literal t) (is_sign (codes "(") t) (begins_fold t) _ _ _ _ l p e
 
 -- a fold where nothing may nest
-pub fold_too_deep : (b : ℕ) (e : ReadError) (old rest : Row) → e ≡ errors.Nesting → next_is tables.is_literal old ≡ false → next_is (is_sign (codes "(")) old ≡ false → next_is begins_fold old ≡ true → b ≤ 1 → rest ≡ old
+pub fold_too_deep : (b : ℕ) (e : ReadError) (old rest : Row) → e ≡ errors.Nesting → next_is tables.is_literal old ≡ false
+    → next_is (is_sign (codes "(")) old ≡ false → next_is begins_fold old ≡ true → b ≤ 1 → rest ≡ old
     → Halts (Primary b) (reason_of e) old rest
 unfolding table
 fold_too_deep b e old rest is l p f h s = λ d. by_nesting (Primary b ∷ []) d e old rest is
@@ -356,18 +372,21 @@ paren_opens b d at old one h e =
     reach_takes (Primary b) more 0 (sign (codes "(") at) one (reach_start (Primary b ∷ []) d old) e (ap (λ x. Takes x more 0) (lt-ltb 1 b h))
 
 -- the expression within a parenthesis stops
-pub paren_halts : (b : ℕ) (r : Option Reason) (at : ℕ × ℕ) (old one rest : Row) → 1 < b → old ≡ sign (codes "(") at ∷ one → Halts (Expression (b - 1)) r one rest → Halts (Primary b) r old rest
+pub paren_halts : (b : ℕ) (r : Option Reason) (at : ℕ × ℕ) (old one rest : Row) → 1 < b
+    → old ≡ sign (codes "(") at ∷ one → Halts (Expression (b - 1)) r one rest → Halts (Primary b) r old rest
 paren_halts b r at old one rest h e s = λ d. reach_halts (Expression (b - 1)) r rest (paren_opens b d at old one h e) s
 
 -- no `)` behind it
-pub paren_open : (b n : ℕ) (at : ℕ × ℕ) (e : ReadError) (old one close rest : Row) → 1 < b → old ≡ sign (codes "(") at ∷ one → Goes Expression (λ b. []) n one close → n ≤ b - 1 → Missing (is_sign (codes ")")) e close rest
+pub paren_open : (b n : ℕ) (at : ℕ × ℕ) (e : ReadError) (old one close rest : Row) → 1 < b
+    → old ≡ sign (codes "(") at ∷ one → Goes Expression (λ b. []) n one close → n ≤ b - 1 → Missing (is_sign (codes ")")) e close rest
     → Halts (Primary b) (reason_of e) old rest
 paren_open b n at e old one close rest h p g k m = λ d.
     reach_halts (Mark (codes ")")) (reason_of e) rest (reach_goes Expression (b - 1) n close (paren_opens b d at old one h p) g k) (mark_missing (codes ")") e close rest m)
 
 -- ---- names and calls asked of `this`
 
-named_calls : (l g : Bool) (b : ℕ) (ws : List Want) (d : ℕ) (old : Row) → next_is (is_sign (codes "(")) old ≡ true → run l table (Named g b ∷ ws) d old ≡ run l table (Arguments g (b - 1) ∷ Deeper ∷ ws) d old
+named_calls : (l g : Bool) (b : ℕ) (ws : List Want) (d : ℕ) (old : Row)
+    → next_is (is_sign (codes "(")) old ≡ true → run l table (Named g b ∷ ws) d old ≡ run l table (Arguments g (b - 1) ∷ Deeper ∷ ws) d old
 unfolding table
 named_calls l g b ws d old p =
     let e = sym (next_first (is_sign (codes "(")) old) ∙ p in
@@ -380,7 +399,8 @@ named_calls l g b ws d old p =
 pub plain_name : (w : Word) (old rest : Row) → grammar.Name w old rest → next_is (is_sign (codes "(")) rest ≡ false → Goes Primary (λ b. []) 1 old rest
 plain_name w old rest n none = name_goes w.text w.at old rest n.1 n.0 (sym (next_first (is_sign (codes "(")) rest) ∙ none)
 
-pub named_goes : (w : Word) (n : ℕ) (old mid rest : Row) → grammar.Name w old mid → next_is (is_sign (codes "(")) mid ≡ true → Goes (Arguments (bytes_eq w.text (codes "getChild"))) (λ b. []) n mid rest → Goes Primary (λ b. []) (1 + n) old rest
+pub named_goes : (w : Word) (n : ℕ) (old mid rest : Row) → grammar.Name w old mid
+    → next_is (is_sign (codes "(")) mid ≡ true → Goes (Arguments (bytes_eq w.text (codes "getChild"))) (λ b. []) n mid rest → Goes Primary (λ b. []) (1 + n) old rest
 unfolding table
 named_goes w n old mid rest name p a l b f ws d =
     ap (run l table (Primary b ∷ ws) d) name.1
@@ -389,7 +409,8 @@ named_goes w n old mid rest name p a l b f ws d =
     ∙ a l (b - 1) (λ h. omega (arith, f h)) (Deeper ∷ ws) 0
     ∙ run-skips l table Deeper ws n (1 + n) rest refl
 
-named_reach : (w : Word) (b d : ℕ) (old mid : Row) → 0 < b → grammar.Name w old mid → next_is (is_sign (codes "(")) mid ≡ true → Reaches (Primary b ∷ []) d (Arguments (bytes_eq w.text (codes "getChild")) (b - 1) ∷ Deeper ∷ []) 0 old mid
+named_reach : (w : Word) (b d : ℕ) (old mid : Row) → 0 < b → grammar.Name w old mid
+    → next_is (is_sign (codes "(")) mid ≡ true → Reaches (Primary b ∷ []) d (Arguments (bytes_eq w.text (codes "getChild")) (b - 1) ∷ Deeper ∷ []) 0 old mid
 named_reach w b d old mid h name p = record {
   over = λ ws.
       ap (run true table (Primary b ∷ ws) d) name.1
@@ -398,8 +419,15 @@ named_reach w b d old mid h name p = record {
 }
 
 -- the arguments behind a name stop
-pub named_halts : (w : Word) (b : ℕ) (r : Option Reason) (old mid rest : Row) → 0 < b → grammar.Name w old mid → next_is (is_sign (codes "(")) mid ≡ true → Halts (Arguments (bytes_eq w.text (codes "getChild")) (b - 1)) r mid rest → Halts (Primary b) r old rest
+pub named_halts : (w : Word) (b : ℕ) (r : Option Reason) (old mid rest : Row) → 0 < b → grammar.Name w old mid
+    → next_is (is_sign (codes "(")) mid ≡ true → Halts (Arguments (bytes_eq w.text (codes "getChild")) (b - 1)) r mid rest → Halts (Primary b) r old rest
 named_halts w b r old mid rest h name p s = λ d. reach_halts (Arguments (bytes_eq w.text (codes "getChild")) (b - 1)) r rest (named_reach w b d old mid h name p) s
+
+-- a name stops where nothing else of a primary is next
+pub named_here : {A : Type 0} (r : Result A ReadError) (b : ℕ) (old mid rest : Row) → mid ≡ old → IsOther old → IfErr r (λ e. IsOther mid → Halts (Primary b) (reason_of e) mid rest)
+    → IfErr r (λ e. Halts (Primary b) (reason_of e) old rest)
+named_here (Ok a) b old mid rest s o h = h
+named_here (Err e) b old mid rest s o h = subst (λ (x : Row). Halts (Primary b) (reason_of e) x rest) s (h (subst (λ (x : Row). IsOther x) (sym s) o))
 
 -- ---- folds
 
@@ -410,14 +438,16 @@ fold_opens form at b d old paren h e =
     reach_takes (Primary b) (fold_wants b) 0 (word (fold_text form) at) paren (reach_start (Primary b ∷ []) d old) e (fold_taken form at b ∙ ap (λ x. Takes x (fold_wants b) 0) (lt-ltb 1 b h))
 
 -- up to the list, of which a primary begins
-pub fold_list : (form : FoldForm) (at paren_at colon_at : ℕ × ℕ) (w : Word) (b d : ℕ) (old paren named colon items : Row) → 1 < b → old ≡ word (fold_text form) at ∷ paren → paren ≡ sign (codes "(") paren_at ∷ named → grammar.Name w named colon
+pub fold_list : (form : FoldForm) (at paren_at colon_at : ℕ × ℕ) (w : Word) (b d : ℕ) (old paren named colon items : Row) → 1 < b → old ≡ word (fold_text form) at ∷ paren
+    → paren ≡ sign (codes "(") paren_at ∷ named → grammar.Name w named colon
     → colon ≡ sign (codes ":") colon_at ∷ items → Reaches (Primary b ∷ []) d (Primary (b - 1) ∷ Calls (b - 1) ∷ Mark (codes ")") ∷ FoldBody b ∷ []) 0 old items
 fold_list form at paren_at colon_at w b d old paren named colon items h e p n c =
     reach_sign (codes ":") colon_at items (reach_name w colon (reach_sign (codes "(") paren_at named (fold_opens form at b d old paren h e) p) n) c
 
 -- behind its list
 pub fold_close : {d : ℕ} {old items : Row} (b m n : ℕ) (mid close : Row) → Reaches (Primary b ∷ []) d (Primary (b - 1) ∷ Calls (b - 1) ∷ Mark (codes ")") ∷ FoldBody b ∷ []) 0 old items
-    → Goes Primary (λ b. []) m items mid → m ≤ b - 1 → Moves (λ b. Calls b ∷ []) (λ b. []) m n mid close → n ≤ b - 1 → Reaches (Primary b ∷ []) d (Mark (codes ")") ∷ FoldBody b ∷ []) n old close
+    → Goes Primary (λ b. []) m items mid → m ≤ b - 1 → Moves (λ b. Calls b ∷ []) (λ b. []) m n mid close → n ≤ b - 1
+    → Reaches (Primary b ∷ []) d (Mark (codes ")") ∷ FoldBody b ∷ []) n old close
 fold_close b m n mid close r p h c k = reach_moves Calls (b - 1) n close (reach_goes Primary (b - 1) m mid r p h) c k
 
 -- up to its body
@@ -433,8 +463,16 @@ unfolding table
 brace_missing b e old rest m =
     missing_halts (FoldBody b) (is_sign (codes "{")) (λ d row h. expects_refuses (is_sign (codes "{")) (Takes true (Expression (b - 1) ∷ Mark (codes "}") ∷ Join d ∷ []) 0) row h) e old rest m
 
+-- a fold stops behind its word
+pub fold_here : {A : Type 0} (r : Result A ReadError) (b : ℕ) (t : PlacedToken) (old mid rest : Row) → old ≡ t ∷ mid
+    → IfErr r (λ e. (row : Row) → row ≡ t ∷ mid → Halts (Primary b) (reason_of e) row rest)
+    → IfErr r (λ e. Halts (Primary b) (reason_of e) old rest)
+fold_here (Ok a) b t old mid rest s h = h
+fold_here (Err e) b t old mid rest s h = h old s
+
 -- a fold that was read
-pub fold_done : (form : FoldForm) (at paren_at colon_at close_at brace_at end_at : ℕ × ℕ) (w : Word) (m n k : ℕ) (old paren named colon items mid close brace one end rest : Row) → 1 ≤ m → m ≤ n
+pub fold_done : (form : FoldForm) (at paren_at colon_at close_at brace_at end_at : ℕ × ℕ) (w : Word) (m n k : ℕ) (old paren named colon items mid close brace one end rest : Row)
+    → 1 ≤ m → m ≤ n
     → old ≡ word (fold_text form) at ∷ paren → paren ≡ sign (codes "(") paren_at ∷ named → grammar.Name w named colon → colon ≡ sign (codes ":") colon_at ∷ items
     → Goes Primary (λ b. []) m items mid → Moves (λ b. Calls b ∷ []) (λ b. []) m n mid close → close ≡ sign (codes ")") close_at ∷ brace → brace ≡ sign (codes "{") brace_at ∷ one
     → Goes Expression (λ b. []) k one end → end ≡ sign (codes "}") end_at ∷ rest → Goes Primary (λ b. []) (1 + max n k) old rest

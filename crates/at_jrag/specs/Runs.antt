@@ -4,10 +4,10 @@ use Rattle.std.specs.Str.{bytes_eq}
 use lib.Chars.{codes}
 use Rattle.at_text.specs.Symbols.{PlacedToken}
 use Rattle.at_jrag.specs.Syntax.{KindWord}
-use Rattle.at_jrag.specs.Grammar.{Row, Sign, KindOf, sign, is_sign, is_word, is_name_token, is_number, next_is}
+use Rattle.at_jrag.specs.Grammar.{Row, Sign, KindOf, sign, number, is_sign, is_word, is_name_token, is_number, next_is}
 use Rattle.at_jrag.specs.Machine.{Reason, Refused, LeftOut, TooDeep, Stuck, run}
 use Rattle.at_jrag.specs.Wants.{Want}
-use Rattle.at_jrag.specs.Table.{table, is_literal, is_plain, is_quoted, is_kind, is_number_within, begins_fold}
+use Rattle.at_jrag.specs.Table.{table, is_literal, is_plain, is_quoted, is_kind, is_decimal_within, is_number_within, begins_fold}
 use Rattle.at_jrag.specs.declared.reader.ReadError.{ReadError}
 use Rattle.at_jrag.specs.declared.reader.ReadError.TheVariants as errors
 
@@ -83,6 +83,10 @@ NoNegative errors.Memory old rest = ⊥
 NoNegative errors.Syntax old rest = (at : ℕ × ℕ) × (old ≡ sign (codes "-") at ∷ rest) × (next_is is_number rest ≡ true) × (next_is (is_number_within 2147483648) rest ≡ false)
 NoNegative errors.LeftOut old rest = ⊥
 NoNegative errors.Nesting old rest = ⊥
+
+-- a `-` and a number were taken
+abbrev pub TakesNegative : Row → Row → Type 0
+TakesNegative old rest = (at : ℕ × ℕ) × (digits : List ℕ) × (digits_at : ℕ × ℕ) × (old ≡ sign (codes "-") at ∷ number digits digits_at ∷ rest) × (is_decimal_within 2147483648 digits ≡ true)
 
 -- what is next is no literal, no parenthesis and no fold
 abbrev pub IsOther : Row → Type 0

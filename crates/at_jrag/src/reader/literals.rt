@@ -6,8 +6,8 @@ ghost use Rattle.at_jrag.specs.Syntax as syntax;
 ghost use Rattle.at_jrag.specs.View.{expr_view};
 ghost use Rattle.at_jrag.specs.Grammar.{Row, word, number, quotation, next_is};
 ghost use Rattle.at_jrag.specs.Left.{left};
-ghost use Rattle.at_jrag.specs.Table.{is_decimal_within};
-ghost use Rattle.at_jrag.specs.Runs.{NoText, NoLiteral, NoNegative};
+ghost use Rattle.at_jrag.specs.Table.{is_decimal_within, is_quoted};
+ghost use Rattle.at_jrag.specs.Runs.{NoText, NoLiteral, NoNegative, TakesNegative};
 ghost use Rattle.at_jrag.specs.declared.reader.ReadError.TheVariants as error;
 ghost use Rattle.at_jrag.specs.Read.{IsNumber, greatest, opens_negative, is_constant, is_literal, Reads};
 
@@ -67,6 +67,7 @@ impl<'a> Reader<'a> {
         ensures found { IfOk result (λ o. MatchOption o
             ((self.new ≡ self.old) × (opens_negative (left self.old.rest.now) ≡ false))
             (λ m. Reads 8 m (left self.old.rest.now) (left self.new.rest.now) × (m.depth ≡ 1))) }
+        ensures taken { IfOk result (λ o. MatchOption o (Unit {0}) (λ m. TakesNegative (left self.old.rest.now) (left self.new.rest.now))) }
         ensures refused { IfErr result (λ e. NoNegative e (left self.old.rest.now) (left self.new.rest.now)) }
     {
         match self.rest {
@@ -130,6 +131,7 @@ impl<'a> Reader<'a> {
     /// The text of this spelling.
     pub fn text(&self, at: (u32, u32), spelling: &str) -> Result<Measured, ReadError>
         ensures found { IfOk result (λ m. ((rest : Row) → Reads 8 m (quotation spelling.now at ∷ rest) rest) × (m.depth ≡ 1)) }
+        ensures spelled { IfOk result (λ m. is_quoted spelling.now ≡ true) }
         ensures refused { IfErr result (NoText spelling.now) }
     {
         match read_quoted(self.alloc, spelling) {

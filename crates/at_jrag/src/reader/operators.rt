@@ -1,15 +1,16 @@
 //! What stands between, before and behind the parts of an expression.
 
-ghost use Rattle.std.specs.Prelude.{◌≡◌, ◌∷◌, ◌<◌, ◌≤◌, ◌+◌, IfOk, IfErr, IfNone, MatchOption, true, false, ◌⊎◌};
+ghost use Rattle.std.specs.Prelude.{◌≡◌, ◌∷◌, ◌<◌, ◌≤◌, ◌+◌, ◌||◌, IfOk, IfErr, IfNone, MatchOption, true, false, cond, ◌⊎◌};
+ghost use Rattle.at_model.specs.Names.{is_name};
 ghost use Rattle.at_text.specs.Reading.{first};
-ghost use Rattle.at_jrag.specs.Table.{next_rank, link_rank, sign_rank, begins_fold};
+ghost use Rattle.at_jrag.specs.Table.{next_rank, link_rank, sign_rank, begins_fold, opens_unary};
 ghost use Rattle.at_jrag.specs.declared.reader.ReadError.TheVariants as error;
 ghost use lib.Chars.{codes};
 ghost use Rattle.at_text.specs.Symbols.{placed};
 ghost use Rattle.at_jrag.specs.View.{operator_view, fold_view};
-ghost use Rattle.at_jrag.specs.Grammar.{Row, sign, word, next_is, is_sign, is_word, operator_text, operator_level, fold_text, follows_cast, is_opening};
+ghost use Rattle.at_jrag.specs.Grammar.{Row, sign, word, next_is, is_sign, is_word, is_text, operator_text, operator_level, fold_text, follows_cast, is_opening};
 ghost use Rattle.at_jrag.specs.Left.{left};
-ghost use Rattle.at_jrag.specs.Read.{LinkIs, LinksTo, opens_negative, opens_cast, StandsBefore};
+ghost use Rattle.at_jrag.specs.Read.{LinkIs, LinksTo, opens_negative, opens_cast, is_constant, StandsBefore, NestsWithin};
 
 use super::literals::number;
 use super::{ReadError, Reader, is_name_token, is_sign, is_word};
@@ -253,6 +254,7 @@ impl<'a> Reader<'a> {
         ensures found { IfOk result (λ o. MatchOption o
             ((self.new ≡ self.old) × (next_is (is_sign (codes "-")) (left self.old.rest.now) ≡ false))
             (λ p. StandsBefore p.1 p.0 (left self.old.rest.now) (left self.new.rest.now))) }
+        ensures within { IfOk result (λ o. MatchOption o (Unit {0}) (λ p. NestsWithin p.1 budget)) }
         ensures none { IfOk result (λ o. IfNone o ((next_is (is_sign (codes "!")) (left self.old.rest.now) ≡ false) × (opens_cast (left self.old.rest.now) ≡ false))) }
         ensures refused { IfErr result (λ e. (e ≡ error.Memory) ⊎ ((e ≡ error.Nesting) × (self.new ≡ self.old) × (budget ≤ 1)
             × ((next_is (is_sign (codes "!")) (left self.old.rest.now) ≡ true) ⊎ (opens_cast (left self.old.rest.now) ≡ true)))) }

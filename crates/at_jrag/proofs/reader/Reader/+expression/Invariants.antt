@@ -1,4 +1,4 @@
-use Rattle.std.proofs.Common.{◌≡◌, ◌+◌, ◌-◌, ◌*◌, ◌≤◌, length, map}
+use Rattle.std.proofs.Common.{◌≡◌, ◌+◌, ◌-◌, ◌*◌, ◌≤◌, [], ◌∷◌, length, map}
 use Rattle.std.specs.Str.{bytes_eq}
 use lib.Chars.{codes}
 use Rattle.at_jrag.specs.Left.{left}
@@ -6,6 +6,8 @@ use Rattle.at_jrag.specs.Read.{Reads}
 use Rattle.at_jrag.specs.Syntax.{to_exprs}
 use Rattle.at_jrag.specs.View.{expr_view}
 use Rattle.at_jrag.specs.Grammar.{Row, deepest}
+use Rattle.at_jrag.specs.Runs.{Goes}
+use Rattle.at_jrag.specs.Wants.{Binary, Links}
 use Rattle.at_jrag.proofs.Expressions.{Wanted}
 use Rattle.at_jrag.proofs.PartStops.{AreCalls, Among}
 use Rattle.at_jrag.proofs.reader.Reader.+expression.Given as goal
@@ -38,7 +40,9 @@ abbrev pub decreases-fold : goal.decreases-fold
 decreases-fold l = 16 * l.budget + 4
 
 abbrev pub invariant-binary-loop-operand : goal.invariant-binary-loop-operand
-invariant-binary-loop-operand l = (l.operand.depth ≤ l.budget) × Reads l.level l.operand (left l.fn.self.rest.now) (left l.self.rest.now)
+invariant-binary-loop-operand l =
+    (l.operand.depth ≤ l.budget) × Reads l.level l.operand (left l.fn.self.rest.now) (left l.self.rest.now)
+    × Goes (Binary (7 - l.level)) (λ b. Links (6 - l.level) b ∷ []) l.operand.depth (left l.fn.self.rest.now) (left l.self.rest.now)
 
 abbrev pub decreases-binary-loop-operand : goal.decreases-binary-loop-operand
 decreases-binary-loop-operand l = l.budget - l.operand.depth

@@ -7,7 +7,9 @@ use Rattle.at_jrag.specs.declared.syntax.Form.TheVariants.{rolls-Text}
 use Rattle.at_jrag.specs.declared.syntax.Form.TheFolds.{fold-roll-Form}
 use Rattle.at_jrag.specs.Grammar.{quotation}
 use Rattle.at_jrag.proofs.Expressions.{reads_made}
+use Rattle.at_jrag.specs.Table.{is_quoted}
 use Rattle.at_jrag.proofs.Quotations.{no_form, no_end, whole_text}
+use Rattle.at_jrag.proofs.ExpressionsTaken.{quoted_is}
 use Rattle.at_jrag.proofs.reader.Reader.text.Goals as goal
 
 pub returns-then-len-spelling-clause-refused : goal.returns-then-len-spelling-clause-refused
@@ -22,3 +24,8 @@ returns-else-len-spelling-clause-found c =
 
 pub returns-in-Err-Form-clause-refused : goal.returns-in-Err-Form-clause-refused
 returns-in-Err-Form-clause-refused c = no_form c.args.spelling.now (c.read_quoted.ensures.form (c.in-Err-Form.is ∙ ap (λ e. Err e) c.in-Err-Form.field-0-is))
+
+pub returns-else-len-spelling-clause-spelled : goal.returns-else-len-spelling-clause-spelled
+returns-else-len-spelling-clause-spelled c =
+    let f = c.in-Ok.ensures.found in
+    ap is_quoted (whole_text c.args.spelling.now (string_bytes c.in-Ok.value) c.in-Ok.len f.0 f.1 c.if-len-spelling.false) ∙ quoted_is (string_bytes c.in-Ok.value)
