@@ -242,7 +242,8 @@ more_missing b n errors.Memory more rest close m = tt
 more_missing b n errors.Syntax more rest close m =
     let takes = Takes true (Expression b ∷ Deepest n ∷ MoreArguments b ∷ []) 0 in
     refused_at (MoreArguments b) n more rest
-    (ap (λ x. cond x (Takes true [] n) (expects (is_sign (codes ",")) takes (first more))) (sym (next_first (is_sign (codes ")")) more) ∙ close) ∙ expects_refuses (is_sign (codes ",")) takes more m.1) m.0
+    (ap (λ x. cond x (Takes true [] n) (expects (is_sign (codes ",")) takes (first more))) (sym (next_first (is_sign (codes ")")) more) ∙ close) ∙ expects_refuses (is_sign (codes ","))
+    takes more m.1) m.0
 more_missing b n errors.LeftOut more rest close m = absurd m
 more_missing b n errors.Nesting more rest close m = absurd m
 

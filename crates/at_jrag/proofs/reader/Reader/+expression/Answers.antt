@@ -66,8 +66,9 @@ calls-loop-receiver-preserved t c =
     let m = c.in_ok-receiver.ensures in
     let h = rw c.as_str.ensures.value at a.found in
     let w = word_view c.in_ok-name.name in
-    let g = subst (λ (x : List ℕ). Goes (want.Arguments (bytes_eq x (codes "getChild"))) (λ b. []) c.in_ok-arguments.arguments.depth (left c.name.new.self.rest.now) (left c.arguments.new.self.rest.now))
-    c.as_str.ensures.value a.goes in (
+    let g = subst (λ (x : List ℕ). Goes (want.Arguments (bytes_eq x (codes "getChild"))) (λ b. []) c.in_ok-arguments.arguments.depth (left c.name.new.self.rest.now)
+        (left c.arguments.new.self.rest.now))
+        c.as_str.ensures.value a.goes in (
       omega (arith, m.depth, b.1, i.0, a.depth),
       λ old r. call_of_reads _ _ w c.in_ok-arguments.arguments old _ _ _ _ (i.1 old r) (_, b.0) c.in_ok-name.ensures.found h m.made m.depth,
       calls_more c.args.first.depth c.loop-receiver.receiver.depth c.in_ok-arguments.arguments.depth c.in_ok-receiver.receiver.depth _ w _ _ _ _ _ i.2 b.0 c.in_ok-name.ensures.found g m.depth,
@@ -360,7 +361,8 @@ calls-returns-in_err-takes_within-clause-halts t c =
     let i = c.loop-receiver.invariant in
     let e = c.in_err-takes_within.ensures.refused in
     let p = err_from_is_err_and c.from_residual.result c.from_residual.ensures.1 in
-    rw (p.1, p.2) (calls_too_deep c.args.budget c.args.first.depth c.loop-receiver.receiver.depth _ (left c.args.self.now.rest.now) (left c.loop-receiver.self.rest.now) (left c.takes_within.new.self.rest.now)
+    rw (p.1, p.2) (calls_too_deep c.args.budget c.args.first.depth c.loop-receiver.receiver.depth _ (left c.args.self.now.rest.now) (left c.loop-receiver.self.rest.now)
+    (left c.takes_within.new.self.rest.now)
     i.2 i.0 e.0 e.2 e.3 (ap (λ r. left r.rest.now) e.1))
 
 pub calls-returns-in_err-name-clause-halts : goal.calls-returns-in_err-name-clause-halts
@@ -368,7 +370,8 @@ calls-returns-in_err-name-clause-halts t c =
     let i = c.loop-receiver.invariant in
     let b = rw c.in-Some.is at c.in_ok-takes_within.ensures.found in
     let p = err_from_is_err_and c.from_residual-in_err-name.result c.from_residual-in_err-name.ensures.1 in
-    rw (p.1, p.2) (calls_no_name c.args.budget c.args.first.depth c.loop-receiver.receiver.depth _ _ (left c.args.self.now.rest.now) (left c.loop-receiver.self.rest.now) (left c.takes_within.new.self.rest.now) (left c.name.new.self.rest.now)
+    rw (p.1, p.2) (calls_no_name c.args.budget c.args.first.depth c.loop-receiver.receiver.depth _ _ (left c.args.self.now.rest.now) (left c.loop-receiver.self.rest.now)
+    (left c.takes_within.new.self.rest.now) (left c.name.new.self.rest.now)
     i.2 b.1 b.0 c.in_err-name.ensures.missing)
 
 pub calls-returns-in_err-arguments-clause-halts : goal.calls-returns-in_err-arguments-clause-halts
@@ -377,7 +380,8 @@ calls-returns-in_err-arguments-clause-halts t c =
     let b = rw c.in-Some.is at c.in_ok-takes_within.ensures.found in
     let h = rw c.as_str.ensures.value at c.in_err-arguments.ensures.halts in
     let p = err_from_is_err_and c.from_residual-in_err-arguments.result c.from_residual-in_err-arguments.ensures.1 in
-    rw (p.1, p.2) (calls_arguments c.args.budget c.args.first.depth c.loop-receiver.receiver.depth _ (word_view c.in_ok-name.name) _ (left c.args.self.now.rest.now) (left c.loop-receiver.self.rest.now) (left c.takes_within.new.self.rest.now)
+    rw (p.1, p.2) (calls_arguments c.args.budget c.args.first.depth c.loop-receiver.receiver.depth _ (word_view c.in_ok-name.name) _ (left c.args.self.now.rest.now)
+    (left c.loop-receiver.self.rest.now) (left c.takes_within.new.self.rest.now)
     (left c.name.new.self.rest.now) (left c.arguments.new.self.rest.now) i.2 b.1 b.0 c.in_ok-name.ensures.found h)
 
 pub arguments-loop-items-init : goal.arguments-loop-items-init
@@ -410,7 +414,8 @@ arguments-returns-in_err-next-clause-halts t c =
     let same = sym (ap (λ r. sign (codes "(") o.0 ∷ left r.rest.now) c.if-skips.ensures.0) in
     let p = err_from_is_err_and c.from_residual-in_err-next.result c.from_residual-in_err-next.ensures.1 in
     rw (p.1, p.2) (arguments_halt g c.args.budget _ o.0 (left c.args.self.now.rest.now) (left c.skips.new.self.rest.now) (left c.expression.new.self.rest.now) (o.1 ∙ same)
-    (among_halts g c.args.budget c.loop-items.depth _ (left c.skips.new.self.rest.now) (left c.loop-items.self.rest.now) (left c.expression.new.self.rest.now) i.3 i.0 c.in_err-next.ensures.halts))
+    (among_halts g c.args.budget c.loop-items.depth _ (left c.skips.new.self.rest.now) (left c.loop-items.self.rest.now) (left c.expression.new.self.rest.now) i.3 i.0
+    c.in_err-next.ensures.halts))
 
 pub arguments-returns-then-skips-2-clause-goes : goal.arguments-returns-then-skips-2-clause-goes
 arguments-returns-then-skips-2-clause-goes t c =
@@ -430,7 +435,8 @@ arguments-returns-in_err-expects-clause-halts t c =
     let same = sym (ap (λ r. sign (codes "(") o.0 ∷ left r.rest.now) c.if-skips.ensures.0) in
     let p = err_from_is_err_and c.from_residual-in_err-expects.result c.from_residual-in_err-expects.ensures.1 in
     rw (p.1, p.2) (arguments_halt g c.args.budget _ o.0 (left c.args.self.now.rest.now) (left c.skips.new.self.rest.now) (left c.expects.new.self.rest.now) (o.1 ∙ same)
-    (among_no_comma g c.args.budget c.loop-items.depth c.in_ok-next.next.depth _ (left c.skips.new.self.rest.now) (left c.loop-items.self.rest.now) (left c.expression.new.self.rest.now) (left c.skips-in-loop-items.new.self.rest.now)
+    (among_no_comma g c.args.budget c.loop-items.depth c.in_ok-next.next.depth _ (left c.skips.new.self.rest.now) (left c.loop-items.self.rest.now) (left c.expression.new.self.rest.now)
+    (left c.skips-in-loop-items.new.self.rest.now)
     (left c.expects.new.self.rest.now) i.3 c.in_ok-next.ensures.goes i.0 c.in_ok-next.ensures.depth s.1 (ap (λ r. left r.rest.now) s.0) c.in_err-expects.ensures.missing))
 
 pub primary-returns-in_err-literal-clause-halts : goal.primary-returns-in_err-literal-clause-halts
@@ -449,21 +455,24 @@ primary-returns-in_err-at-clause-halts t c =
     let l = rw c.in_default.is at c.in_ok-literal.ensures.found in
     let e = c.in_err-at.ensures.refused in
     let p = err_from_is_err_and c.from_residual-in_err-at.result c.from_residual-in_err-at.ensures.1 in
-    rw (p.1, p.2) (paren_too_deep c.args.budget _ (left c.args.self.now.rest.now) (left c.takes_within.new.self.rest.now) e.0 (sym (ap (λ r. next_is (is_sign (codes "(")) (left r.rest.now)) l.0) ∙ e.2) e.3 (ap (λ r. left r.rest.now) (e.1 ∙ l.0)))
+    rw (p.1, p.2) (paren_too_deep c.args.budget _ (left c.args.self.now.rest.now) (left c.takes_within.new.self.rest.now) e.0
+    (sym (ap (λ r. next_is (is_sign (codes "(")) (left r.rest.now)) l.0) ∙ e.2) e.3 (ap (λ r. left r.rest.now) (e.1 ∙ l.0)))
 
 pub primary-returns-in_err-inner-clause-halts : goal.primary-returns-in_err-inner-clause-halts
 primary-returns-in_err-inner-clause-halts t c =
     let l = rw c.in_default.is at c.in_ok-literal.ensures.found in
     let b = rw c.in-Some-2.is at c.in_ok-at.ensures.found in
     let p = err_from_is_err_and c.from_residual-in_err-inner.result c.from_residual-in_err-inner.ensures.1 in
-    rw (p.1, p.2) (paren_halts c.args.budget _ _ (left c.args.self.now.rest.now) (left c.takes_within.new.self.rest.now) (left c.expression.new.self.rest.now) b.1 (sym (ap (λ r. left r.rest.now) l.0) ∙ b.0) c.in_err-inner.ensures.halts)
+    rw (p.1, p.2) (paren_halts c.args.budget _ _ (left c.args.self.now.rest.now) (left c.takes_within.new.self.rest.now) (left c.expression.new.self.rest.now) b.1
+    (sym (ap (λ r. left r.rest.now) l.0) ∙ b.0) c.in_err-inner.ensures.halts)
 
 pub primary-returns-in_err-expects-clause-halts : goal.primary-returns-in_err-expects-clause-halts
 primary-returns-in_err-expects-clause-halts t c =
     let l = rw c.in_default.is at c.in_ok-literal.ensures.found in
     let b = rw c.in-Some-2.is at c.in_ok-at.ensures.found in
     let p = err_from_is_err_and c.from_residual-in_err-expects.result c.from_residual-in_err-expects.ensures.1 in
-    rw (p.1, p.2) (paren_open c.args.budget c.in_ok-inner.inner.depth _ _ (left c.args.self.now.rest.now) (left c.takes_within.new.self.rest.now) (left c.expression.new.self.rest.now) (left c.expects.new.self.rest.now)
+    rw (p.1, p.2) (paren_open c.args.budget c.in_ok-inner.inner.depth _ _ (left c.args.self.now.rest.now) (left c.takes_within.new.self.rest.now) (left c.expression.new.self.rest.now)
+    (left c.expects.new.self.rest.now)
     b.1 (sym (ap (λ r. left r.rest.now) l.0) ∙ b.0) c.in_ok-inner.ensures.goes c.in_ok-inner.ensures.depth c.in_err-expects.ensures.missing)
 
 pub primary-returns-in-Some-2-clause-goes : goal.primary-returns-in-Some-2-clause-goes
@@ -490,7 +499,8 @@ primary-returns-in-Some-3-clause-halts t c =
     let l = rw c.in_default.is at c.in_ok-literal.ensures.found in
     let b = rw c.in_default-2.is at c.in_ok-at.ensures.found in
     let f = rw c.in-Some-3.is at c.in_ok-at-2.ensures.found in
-    fold_here _ c.args.budget _ (left c.args.self.now.rest.now) (left c.fold_word.new.self.rest.now) (left c.fold.new.self.rest.now) (sym (ap (λ r. left r.rest.now) (b.0 ∙ l.0)) ∙ f.1) c.fold.ensures.halts
+    fold_here _ c.args.budget _ (left c.args.self.now.rest.now) (left c.fold_word.new.self.rest.now) (left c.fold.new.self.rest.now) (sym (ap (λ r. left r.rest.now) (b.0 ∙ l.0)) ∙ f.1)
+    c.fold.ensures.halts
 
 pub primary-returns-clause-halts : goal.primary-returns-clause-halts
 primary-returns-clause-halts t c =
@@ -504,7 +514,8 @@ primary-returns-clause-halts t c =
       sym (ap (λ r. next_is (is_sign (codes "(")) (left r.rest.now)) l.0) ∙ b.1,
       sym (ap (λ r. next_is begins_fold (left r.rest.now)) same) ∙ none,
     ) in
-    named_here _ c.args.budget (left c.args.self.now.rest.now) (left c.fold_word.new.self.rest.now) (left c.named.new.self.rest.now) (ap (λ r. left r.rest.now) (f ∙ same)) other c.named.ensures.halts
+    named_here _ c.args.budget (left c.args.self.now.rest.now) (left c.fold_word.new.self.rest.now) (left c.named.new.self.rest.now) (ap (λ r. left r.rest.now) (f ∙ same)) other
+    c.named.ensures.halts
 
 pub named-returns-in_err-name-clause-halts : goal.named-returns-in_err-name-clause-halts
 named-returns-in_err-name-clause-halts t c =
@@ -526,22 +537,25 @@ named-returns-in_err-arguments-clause-halts t c =
 pub named-returns-clause-goes : goal.named-returns-clause-goes
 named-returns-clause-goes t c =
     let a = c.in_ok-arguments.ensures in
-    let g = subst (λ (x : List ℕ). Goes (want.Arguments (bytes_eq x (codes "getChild"))) (λ b. []) c.in_ok-arguments.arguments.depth (left c.name.new.self.rest.now) (left c.arguments.new.self.rest.now))
-    c.as_str.ensures.value a.goes in
+    let g = subst (λ (x : List ℕ). Goes (want.Arguments (bytes_eq x (codes "getChild"))) (λ b. []) c.in_ok-arguments.arguments.depth (left c.name.new.self.rest.now)
+        (left c.arguments.new.self.rest.now))
+        c.as_str.ensures.value a.goes in
     subst (λ (x : ℕ). Goes want.Primary (λ b. []) x (left c.args.self.now.rest.now) (left c.arguments.new.self.rest.now)) (sym c.call.ensures.depth)
     (named_goes (word_view c.in_ok-name.name) c.in_ok-arguments.arguments.depth _ _ _ c.in_ok-name.ensures.found (sym c.if-not-is_before.ensures) g)
 
 pub fold-returns-in_err-expects-clause-halts : goal.fold-returns-in_err-expects-clause-halts
 fold-returns-in_err-expects-clause-halts t c =
     let p = err_from_is_err_and c.from_residual.result c.from_residual.ensures.1 in
-    rw (p.1, p.2) (λ old w d. reach_halts (want.Mark (codes "(")) _ (left c.expects.new.self.rest.now) (fold_opens (fold_view c.args.form) c.args.at c.args.budget d old (left c.args.self.now.rest.now) c.requires.some w)
+    rw (p.1, p.2) (λ old w d. reach_halts (want.Mark (codes "(")) _ (left c.expects.new.self.rest.now)
+    (fold_opens (fold_view c.args.form) c.args.at c.args.budget d old (left c.args.self.now.rest.now) c.requires.some w)
     (mark_missing (codes "(") _ _ _ c.in_err-expects.ensures.missing))
 
 pub fold-returns-in_err-name-clause-halts : goal.fold-returns-in_err-name-clause-halts
 fold-returns-in_err-name-clause-halts t c =
     let p = err_from_is_err_and c.from_residual-in_err-name.result c.from_residual-in_err-name.ensures.1 in
     rw (p.1, p.2) (λ old w d. reach_halts want.Name _ (left c.name.new.self.rest.now)
-    (reach_sign (codes "(") _ (left c.expects.new.self.rest.now) (fold_opens (fold_view c.args.form) c.args.at c.args.budget d old (left c.args.self.now.rest.now) c.requires.some w) c.in_ok-expects.ensures.found)
+    (reach_sign (codes "(") _ (left c.expects.new.self.rest.now) (fold_opens (fold_view c.args.form) c.args.at c.args.budget d old (left c.args.self.now.rest.now) c.requires.some w)
+    c.in_ok-expects.ensures.found)
     (name_missing _ _ _ c.in_err-name.ensures.missing))
 
 pub fold-returns-in_err-expects-2-clause-halts : goal.fold-returns-in_err-expects-2-clause-halts
@@ -549,14 +563,16 @@ fold-returns-in_err-expects-2-clause-halts t c =
     let p = err_from_is_err_and c.from_residual-in_err-expects-2.result c.from_residual-in_err-expects-2.ensures.1 in
     rw (p.1, p.2) (λ old w d. reach_halts (want.Mark (codes ":")) _ (left c.expects-2.new.self.rest.now)
     (reach_name (word_view c.in_ok-name.name) (left c.name.new.self.rest.now)
-    (reach_sign (codes "(") _ (left c.expects.new.self.rest.now) (fold_opens (fold_view c.args.form) c.args.at c.args.budget d old (left c.args.self.now.rest.now) c.requires.some w) c.in_ok-expects.ensures.found) c.in_ok-name.ensures.found)
+    (reach_sign (codes "(") _ (left c.expects.new.self.rest.now) (fold_opens (fold_view c.args.form) c.args.at c.args.budget d old (left c.args.self.now.rest.now) c.requires.some w)
+    c.in_ok-expects.ensures.found) c.in_ok-name.ensures.found)
     (mark_missing (codes ":") _ _ _ c.in_err-expects-2.ensures.missing))
 
 pub fold-returns-in_err-list-clause-halts : goal.fold-returns-in_err-list-clause-halts
 fold-returns-in_err-list-clause-halts t c =
     let p = err_from_is_err_and c.from_residual-in_err-list.result c.from_residual-in_err-list.ensures.1 in
     rw (p.1, p.2) (λ old w d. reach_halts (want.Primary (c.args.budget - 1)) _ (left c.primary.new.self.rest.now)
-    (fold_list (fold_view c.args.form) c.args.at _ _ (word_view c.in_ok-name.name) c.args.budget d old _ _ _ _ c.requires.some w c.in_ok-expects.ensures.found c.in_ok-name.ensures.found c.in_ok-expects-2.ensures.found)
+    (fold_list (fold_view c.args.form) c.args.at _ _ (word_view c.in_ok-name.name) c.args.budget d old _ _ _ _ c.requires.some w c.in_ok-expects.ensures.found c.in_ok-name.ensures.found
+    c.in_ok-expects-2.ensures.found)
     c.in_err-list.ensures.halts)
 
 pub fold-returns-in_err-list-2-clause-halts : goal.fold-returns-in_err-list-2-clause-halts
@@ -564,7 +580,8 @@ fold-returns-in_err-list-2-clause-halts t c =
     let p = err_from_is_err_and c.from_residual-in_err-list-2.result c.from_residual-in_err-list-2.ensures.1 in
     rw (p.1, p.2) (λ old w d. reach_stays (want.Calls (c.args.budget - 1)) _ (left c.calls.new.self.rest.now)
     (reach_goes want.Primary (c.args.budget - 1) c.in_ok-list.list.depth (left c.primary.new.self.rest.now)
-    (fold_list (fold_view c.args.form) c.args.at _ _ (word_view c.in_ok-name.name) c.args.budget d old _ _ _ _ c.requires.some w c.in_ok-expects.ensures.found c.in_ok-name.ensures.found c.in_ok-expects-2.ensures.found)
+    (fold_list (fold_view c.args.form) c.args.at _ _ (word_view c.in_ok-name.name) c.args.budget d old _ _ _ _ c.requires.some w c.in_ok-expects.ensures.found c.in_ok-name.ensures.found
+    c.in_ok-expects-2.ensures.found)
     c.in_ok-list.ensures.goes c.in_ok-list.ensures.depth) c.in_err-list-2.ensures.halts)
 
 pub fold-returns-in_err-expects-3-clause-halts : goal.fold-returns-in_err-expects-3-clause-halts
@@ -572,7 +589,8 @@ fold-returns-in_err-expects-3-clause-halts t c =
     let p = err_from_is_err_and c.from_residual-in_err-expects-3.result c.from_residual-in_err-expects-3.ensures.1 in
     rw (p.1, p.2) (λ old w d. reach_halts (want.Mark (codes ")")) _ (left c.expects-3.new.self.rest.now)
     (fold_close c.args.budget c.in_ok-list.list.depth c.in_ok-list-2.list.depth (left c.primary.new.self.rest.now) (left c.calls.new.self.rest.now)
-    (fold_list (fold_view c.args.form) c.args.at _ _ (word_view c.in_ok-name.name) c.args.budget d old _ _ _ _ c.requires.some w c.in_ok-expects.ensures.found c.in_ok-name.ensures.found c.in_ok-expects-2.ensures.found)
+    (fold_list (fold_view c.args.form) c.args.at _ _ (word_view c.in_ok-name.name) c.args.budget d old _ _ _ _ c.requires.some w c.in_ok-expects.ensures.found c.in_ok-name.ensures.found
+    c.in_ok-expects-2.ensures.found)
     c.in_ok-list.ensures.goes c.in_ok-list.ensures.depth c.in_ok-list-2.ensures.goes c.in_ok-list-2.ensures.depth)
     (mark_missing (codes ")") _ _ _ c.in_err-expects-3.ensures.missing))
 
@@ -582,7 +600,8 @@ fold-returns-in_err-expects-4-clause-halts t c =
     rw (p.1, p.2) (λ old w d. reach_halts (want.FoldBody c.args.budget) _ (left c.expects-4.new.self.rest.now)
     (reach_sign (codes ")") _ (left c.expects-3.new.self.rest.now)
     (fold_close c.args.budget c.in_ok-list.list.depth c.in_ok-list-2.list.depth (left c.primary.new.self.rest.now) (left c.calls.new.self.rest.now)
-    (fold_list (fold_view c.args.form) c.args.at _ _ (word_view c.in_ok-name.name) c.args.budget d old _ _ _ _ c.requires.some w c.in_ok-expects.ensures.found c.in_ok-name.ensures.found c.in_ok-expects-2.ensures.found)
+    (fold_list (fold_view c.args.form) c.args.at _ _ (word_view c.in_ok-name.name) c.args.budget d old _ _ _ _ c.requires.some w c.in_ok-expects.ensures.found c.in_ok-name.ensures.found
+    c.in_ok-expects-2.ensures.found)
     c.in_ok-list.ensures.goes c.in_ok-list.ensures.depth c.in_ok-list-2.ensures.goes c.in_ok-list-2.ensures.depth)
     c.in_ok-expects-3.ensures.found)
     (brace_missing c.args.budget _ _ _ c.in_err-expects-4.ensures.missing))
@@ -593,7 +612,8 @@ fold-returns-in_err-body-clause-halts t c =
     rw (p.1, p.2) (λ old w d. reach_halts (want.Expression (c.args.budget - 1)) _ (left c.expression.new.self.rest.now)
     (fold_body c.args.budget _ _ (left c.expects-3.new.self.rest.now) (left c.expects-4.new.self.rest.now)
     (fold_close c.args.budget c.in_ok-list.list.depth c.in_ok-list-2.list.depth (left c.primary.new.self.rest.now) (left c.calls.new.self.rest.now)
-    (fold_list (fold_view c.args.form) c.args.at _ _ (word_view c.in_ok-name.name) c.args.budget d old _ _ _ _ c.requires.some w c.in_ok-expects.ensures.found c.in_ok-name.ensures.found c.in_ok-expects-2.ensures.found)
+    (fold_list (fold_view c.args.form) c.args.at _ _ (word_view c.in_ok-name.name) c.args.budget d old _ _ _ _ c.requires.some w c.in_ok-expects.ensures.found c.in_ok-name.ensures.found
+    c.in_ok-expects-2.ensures.found)
     c.in_ok-list.ensures.goes c.in_ok-list.ensures.depth c.in_ok-list-2.ensures.goes c.in_ok-list-2.ensures.depth)
     c.in_ok-expects-3.ensures.found c.in_ok-expects-4.ensures.found)
     c.in_err-body.ensures.halts)
@@ -605,7 +625,8 @@ fold-returns-in_err-expects-5-clause-halts t c =
     (reach_goes want.Expression (c.args.budget - 1) c.in_ok-body.body.depth (left c.expression.new.self.rest.now)
     (fold_body c.args.budget _ _ (left c.expects-3.new.self.rest.now) (left c.expects-4.new.self.rest.now)
     (fold_close c.args.budget c.in_ok-list.list.depth c.in_ok-list-2.list.depth (left c.primary.new.self.rest.now) (left c.calls.new.self.rest.now)
-    (fold_list (fold_view c.args.form) c.args.at _ _ (word_view c.in_ok-name.name) c.args.budget d old _ _ _ _ c.requires.some w c.in_ok-expects.ensures.found c.in_ok-name.ensures.found c.in_ok-expects-2.ensures.found)
+    (fold_list (fold_view c.args.form) c.args.at _ _ (word_view c.in_ok-name.name) c.args.budget d old _ _ _ _ c.requires.some w c.in_ok-expects.ensures.found c.in_ok-name.ensures.found
+    c.in_ok-expects-2.ensures.found)
     c.in_ok-list.ensures.goes c.in_ok-list.ensures.depth c.in_ok-list-2.ensures.goes c.in_ok-list-2.ensures.depth)
     c.in_ok-expects-3.ensures.found c.in_ok-expects-4.ensures.found)
     c.in_ok-body.ensures.goes c.in_ok-body.ensures.depth)
@@ -615,6 +636,8 @@ pub fold-returns-clause-goes : goal.fold-returns-clause-goes
 fold-returns-clause-goes t c = λ old w.
     let some = subst (λ (x : ℕ). 1 ≤ x) (sym c.in_ok-list.ensures.found.2) (deep (expr_view c.in_ok-list.list.expr)) in
     subst (λ (x : ℕ). Goes want.Primary (λ b. []) x old (left c.expects-5.new.self.rest.now)) (sym c.in_ok-fold.ensures.depth)
-    (fold_done (fold_view c.args.form) c.args.at _ _ _ _ _ (word_view c.in_ok-name.name) c.in_ok-list.list.depth c.in_ok-list-2.list.depth c.in_ok-body.body.depth old _ _ _ _ _ _ _ _ _ _ some c.in_ok-list-2.ensures.deeper
-    w c.in_ok-expects.ensures.found c.in_ok-name.ensures.found c.in_ok-expects-2.ensures.found c.in_ok-list.ensures.goes c.in_ok-list-2.ensures.goes c.in_ok-expects-3.ensures.found c.in_ok-expects-4.ensures.found
+    (fold_done (fold_view c.args.form) c.args.at _ _ _ _ _ (word_view c.in_ok-name.name) c.in_ok-list.list.depth c.in_ok-list-2.list.depth c.in_ok-body.body.depth old _ _ _ _ _ _ _ _ _
+    _ some c.in_ok-list-2.ensures.deeper
+    w c.in_ok-expects.ensures.found c.in_ok-name.ensures.found c.in_ok-expects-2.ensures.found c.in_ok-list.ensures.goes c.in_ok-list-2.ensures.goes c.in_ok-expects-3.ensures.found
+    c.in_ok-expects-4.ensures.found
     c.in_ok-body.ensures.goes c.in_ok-expects-5.ensures.found)

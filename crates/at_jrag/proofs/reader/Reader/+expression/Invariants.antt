@@ -55,7 +55,8 @@ abbrev pub decreases-calls-loop-receiver : goal.decreases-calls-loop-receiver
 decreases-calls-loop-receiver l = l.budget - l.receiver.depth
 
 abbrev pub invariant-arguments-loop-items : goal.invariant-arguments-loop-items
-invariant-arguments-loop-items l = (l.depth ≤ l.budget) × (l.depth ≡ deepest (to_exprs (map expr_view l.items.items))) × Wanted (map expr_view l.items.items) (left l.initial.self.rest.now) (left l.self.rest.now)
+invariant-arguments-loop-items l = (l.depth ≤ l.budget) × (l.depth ≡ deepest (to_exprs (map expr_view l.items.items)))
+    × Wanted (map expr_view l.items.items) (left l.initial.self.rest.now) (left l.self.rest.now)
     × Among (bytes_eq l.fn.name (codes "getChild")) l.depth (left l.initial.self.rest.now) (left l.self.rest.now)
 
 abbrev pub decreases-arguments-loop-items : goal.decreases-arguments-loop-items
