@@ -1,20 +1,17 @@
 -- A text's tokens, and where reading them stops.
-use Rattle.std.proofs.Common.{◌≡◌, ℕ, ◌-◌, ◌≤◌, List, [], ◌∷◌, ◌++◌, true, false, length, map, take, drop, refl, sym, ap, subst, ◌∙◌, length-append, arith, inl}
-use Rattle.std.proofs.lemmas.List.{map-append, length-map}
+use Rattle.std.proofs.Common.{◌≡◌, ℕ, ◌-◌, ◌≤◌, List, [], ◌∷◌, ◌++◌, true, false, length, map, take, drop, refl, sym, ap, subst, ◌∙◌, length-append, arith}
+use Rattle.std.proofs.lemmas.List.{length-map}
 use Rattle.at_text.specs.declared.placed.Placed.{Placed}
-use Rattle.at_text.specs.declared.scan.ScanFault.{ScanFault}
-use Rattle.at_text.specs.declared.scan.ScanFault.TheVariants as scan
-use Rattle.at_text.specs.Faults.{FaultsAt}
 use Rattle.at_text.proofs.Scanned as scanned
 use Rattle.at_jrag.specs.Syntax.{Aspect}
 use Rattle.at_jrag.specs.Grammar.{File, IsWithin}
 use Rattle.at_text.specs.Pieces.{Piece, Cut, Spelled, spelled_at}
-use Rattle.at_text.specs.Symbols.{HasTokens, PlacedToken, placed, placed_in}
-use Rattle.at_jrag.specs.Machine.{GoesOn, Reason, Refused, TooDeep, Stuck, Whole, run}
+use Rattle.at_text.specs.Symbols.{HasTokens, PlacedToken, placed, placed_in, next_place}
+use Rattle.at_jrag.specs.Machine.{GoesOn, Reason, Refused, Stuck, Whole, run}
 use Rattle.at_jrag.specs.Wants as want
 use Rattle.at_jrag.specs.Table.{table}
 use Rattle.at_jrag.specs.Left.{left}
-use Rattle.at_jrag.specs.Faults.{IsFile, IsFileWithin, StopsAt, IsFault, uncut}
+use Rattle.at_jrag.specs.Faults.{IsFile, IsFileWithin, StopsAt, last_declaration}
 use Rattle.at_jrag.proofs.MachineLaws.{one_ahead, run-unlimited, stuck_behind}
 use Rattle.at_jrag.proofs.DeclarationRuns.{file_taken}
 
@@ -46,14 +43,14 @@ front_of (t ∷ ts) (f ∷ front) rest e =
 
 -- no file within the limit goes on where the run is stuck
 none_within : (r : Reason) (front rest : List PlacedToken) → run true table (want.File ∷ []) 0 (front ++ rest) ≡ Stuck r rest → GoesOn IsFileWithin front rest → ⊥
-none_within r front rest h (other, same, aspects, file, within) =
+none_within r front rest h (other, same, (aspects, file, within)) =
     let stuck : run true table (want.File ∷ []) 0 (front ++ other) ≡ Stuck r other = one_ahead true table r (want.File ∷ []) 0 front rest other same h in
     let whole : run true table (want.File ∷ []) 0 (front ++ other) ≡ Whole = file_taken true aspects (front ++ other) (λ e. within) file 0 in
     absurd (let q : Stuck r other ≡ Whole = sym stuck ∙ whole in cc)
 
 -- where it is refused, none goes on, however deep its expressions nest
 pub none_at_all : (front rest : List PlacedToken) → run true table (want.File ∷ []) 0 (front ++ rest) ≡ Stuck Refused rest → GoesOn IsFile front rest → ⊥
-none_at_all front rest h (other, same, aspects, file) =
+none_at_all front rest h (other, same, (aspects, file)) =
     let free : run false table (want.File ∷ []) 0 (front ++ rest) ≡ Stuck Refused rest = run-unlimited table (want.File ∷ []) 0 (front ++ rest) (Stuck Refused rest) (λ left e. absurd cc) h in
     let stuck : run false table (want.File ∷ []) 0 (front ++ other) ≡ Stuck Refused other = one_ahead false table Refused (want.File ∷ []) 0 front rest other same free in
     let whole : run false table (want.File ∷ []) 0 (front ++ other) ≡ Whole = file_taken false aspects (front ++ other) (λ e. absurd cc) file 0 in
@@ -93,10 +90,10 @@ file_only text r ts us rest aspects h k stuck file within =
     let whole : run true table (want.File ∷ []) 0 us ≡ Whole = file_taken true aspects us (λ e. within) file 0 in
     absurd (let q : Stuck r rest ≡ Whole = sym stuck ∙ ap (run true table (want.File ∷ []) 0) same ∙ whole in cc)
 
--- ---- texts that can't be cut into tokens
+-- ---- places
 
-pub uncut_is_fault : (text : List ℕ) (fault : ScanFault) → FaultsAt text fault → IsFault text (uncut text fault)
-uncut_is_fault text scan.Memory f = tt
-uncut_is_fault text (scan.Bad offset) f = inl (scan.Bad offset, f, refl)
-uncut_is_fault text (scan.OpenText offset) f = inl (scan.OpenText offset, f, refl)
-uncut_is_fault text (scan.OpenComment offset) f = inl (scan.OpenComment offset, f, refl)
+pub place_behind : (text : List ℕ) (ts vs : List Placed) (n m : ℕ) (rest : List PlacedToken) (at : ℕ × ℕ) → vs ≡ ts → n ≡ m → at ≡ next_place text (map placed (drop (length vs - n) vs)) → left (drop (length ts - m) ts) ≡ rest → at ≡ next_place text rest
+place_behind text ts vs n m rest at e f p r = p ∙ ap (λ l. next_place text (left (drop (length l - n) l))) e ∙ ap (λ k. next_place text (left (drop (length ts - k) ts))) f ∙ ap (next_place text) r
+
+pub declaration_at : (ts vs fs : List Placed) (j k : ℕ) (front : List PlacedToken) (at : ℕ × ℕ) → at ≡ last_declaration (left fs) → fs ≡ take j vs → vs ≡ ts → j ≡ k → left (take k ts) ≡ front → at ≡ last_declaration front
+declaration_at ts vs fs j k front at p e f g r = p ∙ ap (λ l. last_declaration (left l)) (e ∙ ap (take j) f ∙ ap (λ n. take n ts) g) ∙ ap last_declaration r

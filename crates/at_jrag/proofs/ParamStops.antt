@@ -1,5 +1,5 @@
 -- Where reading kinds and parameters stops.
-use Rattle.std.proofs.Common.{◌≡◌, ℕ, List, [], ◌∷◌, ◌++◌, Bool, true, false, cond, Option, Some, None, refl, sym, ap, ◌∙◌, inl, inr}
+use Rattle.std.proofs.Common.{◌≡◌, ℕ, List, [], ◌∷◌, ◌++◌, Bool, true, false, Option, Some, None, refl, sym, ap, ◌∙◌, inl, inr}
 use Rattle.std.specs.Prelude.{◌&&◌, ◌||◌, ◌⊎◌}
 use Rattle.std.specs.Str.{bytes_eq}
 use lib.Chars.{codes}
@@ -12,7 +12,7 @@ use Rattle.at_jrag.specs.Syntax.{Place, Word, Param, KindWord}
 use Rattle.at_jrag.specs.Grammar as grammar
 use Rattle.at_jrag.specs.Grammar.{Row, sign, word, is_sign, is_word, is_name_token, next_is, kind_text, Sign, KindOf, ParamOf, Opens}
 use Rattle.at_jrag.specs.Heads.{is_int}
-use Rattle.at_jrag.specs.Machine.{Reason, Refused, LeftOut, Answer, Takes, Refuses, LeavesOut, Stuck, run}
+use Rattle.at_jrag.specs.Machine.{Reason, LeftOut, Answer, Takes, Refuses, LeavesOut, run}
 use Rattle.at_jrag.specs.Wants as want
 use Rattle.at_jrag.specs.Wants.{Want}
 use Rattle.at_jrag.specs.Table.{table, next, on, is_kind, is_get_child, more_params_answer}

@@ -1,5 +1,4 @@
 use Rattle.std.proofs.Common.{[], ◌∷◌, ap, subst}
-use Rattle.std.specs.Prelude.{ℕ}
 use Rattle.std.proofs.lemmas.Result.{err_from_is_err_and}
 use Rattle.at_jrag.specs.Left.{left}
 use Rattle.at_jrag.specs.View.{word_view, params_view}
