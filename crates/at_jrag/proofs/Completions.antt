@@ -17,7 +17,7 @@ use Rattle.at_jrag.specs.Wants.{Want, Expression, Binary, Links, Choice, Otherwi
 use Rattle.at_jrag.specs.Table.{table, next, on, is_number_within, expression_answer, link_rank, link_answer, links_answer, choice_answer, calls_answer, named_answer, parenthesized_answer, file_answer, lazy_answer, not_nta_answer, body_answer}
 use Rattle.at_jrag.specs.Runs.{Pass}
 use Rattle.at_jrag.proofs.MachineLaws.{run-takes, run-skips}
-use Rattle.at_jrag.proofs.MachinePaths.{run-begins}
+use Rattle.at_jrag.proofs.MachineLaws.{run-begins}
 use Rattle.at_jrag.proofs.ExpressionSteps.{sign_is, binary_stays}
 use Rattle.at_jrag.proofs.DeclarationRuns.{pass_none, pass_then, pass_skips}
 

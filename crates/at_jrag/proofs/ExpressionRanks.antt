@@ -13,7 +13,7 @@ use Rattle.at_jrag.specs.Wants.{Want, Expression, Binary, Links, Choice, Otherwi
 use Rattle.at_jrag.specs.Table.{next, next_rank, link_rank, table, link_answer, links_answer}
 use Rattle.at_jrag.specs.Runs.{Goes}
 use Rattle.at_jrag.proofs.MachineLaws.{run-takes, run-skips}
-use Rattle.at_jrag.proofs.MachinePaths.{run-begins}
+use Rattle.at_jrag.proofs.MachineLaws.{run-begins}
 use Rattle.at_jrag.proofs.ExpressionSteps.{binary_stays}
 
 -- An operand ends here: nothing goes on with it that is a call, or an operator of this rank at most, or makes a cast of it.

@@ -15,7 +15,7 @@ use Rattle.at_jrag.specs.Wants.{Want, Expression, Binary, Links, Choice, Otherwi
 use Rattle.at_jrag.specs.Table.{next, on, table, is_get_child, is_literal, is_number_within, primary_answer, unary_answer, binary_answer, expression_answer}
 use Rattle.at_jrag.specs.Runs.{Goes, Moves}
 use Rattle.at_jrag.proofs.MachineLaws.{run-takes, run-skips}
-use Rattle.at_jrag.proofs.MachinePaths.{run-begins}
+use Rattle.at_jrag.proofs.MachineLaws.{run-begins}
 use Rattle.at_jrag.proofs.ExpressionSteps.{run-acts, takes_alike, sign_is, NoCast, opened, name_primary, primary_stays, unary_stays, binary_stays, then_stays}
 use Rattle.at_jrag.proofs.ExpressionRanks.{Facts, operator_taken}
 

@@ -20,7 +20,7 @@ use Rattle.at_jrag.specs.Wants as want
 use Rattle.at_jrag.specs.Wants.{Want, Expression, Binary, Links, Unary, Calls, FirstArgument, MoreArguments, Primary}
 use Rattle.at_jrag.specs.Table.{next, table, is_get_child, is_literal, is_number_within, is_quoted, ends_quoted}
 use Rattle.at_jrag.specs.Runs.{Goes, Moves}
-use Rattle.at_jrag.proofs.MachinePaths.{run-same}
+use Rattle.at_jrag.proofs.MachineLaws.{run-same}
 use Rattle.at_jrag.proofs.ExpressionSteps.{no_word, reserved_is_no_name, name_is, sign_is}
 use Rattle.at_jrag.proofs.ExpressionRanks.{Ends, EndsWhole, Taken, taken_unary, taken_link, expression_of, Facts, operator_facts, ends_operator}
 use Rattle.at_jrag.proofs.ExpressionRuns.{NoCastBehind, unary_is_primary, calls_end, then_moves, moves_on, operation_moves, instance_moves, choice_goes, not_goes, minus_goes, negative_goes, cast_goes, call_moves, arguments_go, no_arguments_go, first_goes, more_none, more_moves, literal_goes, name_goes, call_goes, paren_goes, fold_goes}

@@ -12,7 +12,8 @@ use Rattle.at_jrag.specs.Wants as want
 use Rattle.at_jrag.specs.Table.{table}
 use Rattle.at_jrag.specs.Left.{left}
 use Rattle.at_jrag.specs.Faults.{IsFile, IsFileWithin, StopsAt, last_declaration}
-use Rattle.at_jrag.proofs.MachineLaws.{one_ahead, run-unlimited, stuck_behind}
+use Rattle.at_jrag.proofs.MachineLaws.{stuck_behind}
+use Rattle.at_jrag.proofs.FirstFaults.{first_fault}
 use Rattle.at_jrag.proofs.DeclarationRuns.{file_taken}
 
 -- ---- tokens
@@ -41,21 +42,6 @@ front_of (t ∷ ts) (f ∷ front) rest e =
 
 -- ---- where reading stops
 
--- no file within the limit goes on where the run is stuck
-none_within : (r : Reason) (front rest : List PlacedToken) → run true table (want.File ∷ []) 0 (front ++ rest) ≡ Stuck r rest → GoesOn IsFileWithin front rest → ⊥
-none_within r front rest h (other, same, (aspects, file, within)) =
-    let stuck : run true table (want.File ∷ []) 0 (front ++ other) ≡ Stuck r other = one_ahead true table r (want.File ∷ []) 0 front rest other same h in
-    let whole : run true table (want.File ∷ []) 0 (front ++ other) ≡ Whole = file_taken true aspects (front ++ other) (λ e. within) file 0 in
-    absurd (let q : Stuck r other ≡ Whole = sym stuck ∙ whole in cc)
-
--- where it is refused, none goes on, however deep its expressions nest
-pub none_at_all : (front rest : List PlacedToken) → run true table (want.File ∷ []) 0 (front ++ rest) ≡ Stuck Refused rest → GoesOn IsFile front rest → ⊥
-none_at_all front rest h (other, same, (aspects, file)) =
-    let free : run false table (want.File ∷ []) 0 (front ++ rest) ≡ Stuck Refused rest = run-unlimited table (want.File ∷ []) 0 (front ++ rest) (Stuck Refused rest) (λ left e. absurd cc) h in
-    let stuck : run false table (want.File ∷ []) 0 (front ++ other) ≡ Stuck Refused other = one_ahead false table Refused (want.File ∷ []) 0 front rest other same free in
-    let whole : run false table (want.File ∷ []) 0 (front ++ other) ≡ Whole = file_taken false aspects (front ++ other) (λ e. absurd cc) file 0 in
-    absurd (let q : Stuck Refused other ≡ Whole = sym stuck ∙ whole in cc)
-
 -- where reading stops, among the tokens
 pub record Met (text : List ℕ) (r : Reason) (ts rest : List Placed) : Type 0 where
   pub front : List Placed
@@ -75,7 +61,7 @@ met text r ts rest has h =
     let stuck : run true table (want.File ∷ []) 0 (left p.0 ++ left rest) ≡ Stuck r (left rest) = sym (ap (run true table (want.File ∷ []) 0) split) ∙ h in
     record {
       front = p.0;
-      stops = record { tokens = subst (λ (x : List PlacedToken). HasTokens text x) split has; stuck = stuck; ends = none_within r (left p.0) (left rest) stuck };
+      stops = record { tokens = subst (λ (x : List PlacedToken). HasTokens text x) split has; fault = first_fault r (left p.0) (left rest) stuck; stuck = stuck };
       fits = omega (arith, sum, length-append p.0 p.1, same);
       front_is = ap left (ap (λ k. take k ts) count ∙ ap (take (length p.0)) p.2 ∙ take_front p.0 p.1);
       rest_is = ap left (ap (λ k. drop k ts) count ∙ ap (drop (length p.0)) p.2 ∙ drop_front p.0 p.1) ∙ p.4;

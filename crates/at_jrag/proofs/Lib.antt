@@ -1,5 +1,4 @@
 pub mod MachineLaws
-pub mod MachinePaths
 pub mod ExpressionSteps
 pub mod Tokens
 pub mod Expressions

@@ -1,9 +1,9 @@
 -- Laws of the machine with a limit: a run's steps, that it looks no further than the next symbol, and what a limited run
 -- says of the one without a limit.
-use Rattle.std.proofs.Common.{◌≡◌, ℕ, suc, ◌≤◌, List, [], ◌∷◌, ◌++◌, Bool, true, false, cond, Some, None, length, refl, sym, ap, subst, ◌∙◌, length-append, arith, inl, inr}
+use Rattle.std.proofs.Common.{◌≡◌, ℕ, suc, ◌≤◌, List, [], ◌∷◌, ◌++◌, Bool, true, false, cond, Some, None, length, refl, sym, ap, subst, ◌∙◌, length-append, append_assoc, arith, inl, inr}
 use Rattle.std.specs.Prelude.{◌||◌, not, ◌⊎◌}
 use Rattle.at_text.specs.Reading.{first}
-use Rattle.at_jrag.specs.Machine.{Begins, GoesOn, IsFirstFault, Reason, Refused, LeftOut, TooDeep, Answer, Takes, Skips, Refuses, LeavesOut, is_skip, Table, Move, Goes, Halts, answered, after, ended, may_end, Outcome, Whole, Stuck, run, Front, Form, BeginsDeeper, Opens, Stops}
+use Rattle.at_jrag.specs.Machine.{Reason, Refused, LeftOut, TooDeep, Answer, Takes, Skips, Refuses, LeavesOut, and_then, is_skip, Table, Move, Goes, Halts, answered, after, ended, may_end, Outcome, Whole, Stuck, run}
 
 -- ---- one step of a run
 
@@ -64,6 +64,28 @@ none_ended LeavesOut skipped h = refl
 -- the text ends where the want has more to come
 pub run-ended : {S W : Type 0} (limited : Bool) (table : Table S W) (w : W) (ws : List W) (d : ℕ) → is_skip (table w d None) ≡ false → run limited table (w ∷ ws) d [] ≡ Stuck Refused []
 run-ended limited table w ws d h = run-ends limited table w ws d (table w d None) refl ∙ ap (λ b. cond b Whole (Stuck Refused [])) (none_ended (table w d None) (λ e. may_end table ws e) h)
+
+-- ---- wants that go on alike
+
+begins : {S W : Type 0} (limited : Bool) (table : Table S W) (a : Answer W) (w v : W) (us ws : List W) (d : ℕ) (ss : List S) → table w d (first ss) ≡ and_then a us → table v d (first ss) ≡ a → is_skip a ≡ false → run limited table (w ∷ ws) d ss ≡ run limited table (v ∷ (us ++ ws)) d ss
+begins limited table (Skips x) w v us ws d ss e f h = absurd cc
+begins limited table Refuses w v us ws d ss e f h = run-refuses limited table w ws d ss e ∙ sym (run-refuses limited table v (us ++ ws) d ss f)
+begins limited table LeavesOut w v us ws d [] e f h = run-ended limited table w ws d (ap is_skip e) ∙ sym (run-ended limited table v (us ++ ws) d (ap is_skip f))
+begins limited table LeavesOut w v us ws d (s ∷ ss) e f h = run-leaves_out limited table w ws d s ss e ∙ sym (run-leaves_out limited table v (us ++ ws) d s ss f)
+begins limited table (Takes within more x) w v us ws d [] e f h = run-ended limited table w ws d (ap is_skip e) ∙ sym (run-ended limited table v (us ++ ws) d (ap is_skip f))
+begins limited table (Takes within more x) w v us ws d (s ∷ ss) e f h =
+    run-answer limited table w ws d s ss (Takes within (more ++ us) x) e
+    ∙ ap (λ l. goes_on limited table (cond (within || not limited) (Goes l x) (Halts TooDeep)) s ss) (append_assoc more us ws)
+    ∙ sym (run-answer limited table v (us ++ ws) d s ss (Takes within more x) f)
+
+-- a want that begins with another and goes on with us
+pub run-begins : {S W : Type 0} (limited : Bool) (table : Table S W) (w v : W) (us ws : List W) (d : ℕ) (ss : List S) → table w d (first ss) ≡ and_then (table v d (first ss)) us → is_skip (table v d (first ss)) ≡ false → run limited table (w ∷ ws) d ss ≡ run limited table (v ∷ (us ++ ws)) d ss
+run-begins limited table w v us ws d ss e h = begins limited table (table v d (first ss)) w v us ws d ss e refl h
+
+-- two wants with one answer go on alike
+pub run-same : {S W : Type 0} (limited : Bool) (table : Table S W) (w v : W) (ws : List W) (d : ℕ) (ss : List S) → table w d (first ss) ≡ table v d (first ss) → run limited table (w ∷ ws) d ss ≡ run limited table (v ∷ ws) d ss
+run-same limited table w v ws d [] h = run-ends limited table w ws d (table v d None) h ∙ sym (run-ends limited table v ws d (table v d None) refl)
+run-same limited table w v ws d (s ∷ ss) h = run-answer limited table w ws d s ss (table v d (Some s)) h ∙ sym (run-answer limited table v ws d s ss (table v d (Some s)) refl)
 
 -- ---- where a run is stuck, it has looked at no more than the next symbol
 
@@ -169,77 +191,3 @@ deep_after table (w ∷ ws) d s h = deep_answered (table w d (Some s)) ws (λ e.
 pub never_at_end : {S : Type 0} (b : Bool) (rest : List S) → cond b Whole (Stuck Refused []) ≡ Stuck TooDeep rest → ⊥
 never_at_end true rest h = absurd cc
 never_at_end false rest h = absurd cc
-
-halts_apart : {S W : Type 0} (table : Table S W) (m : Move W) (f : S) (front rest : List S) → m ≡ Halts TooDeep → goes_on true table m f (front ++ rest) ≡ Stuck TooDeep rest → ⊥
-halts_apart table m f front rest e h = none_longer f front rest (stuck_is TooDeep TooDeep _ _ (sym (ap (λ x. goes_on true table x f (front ++ rest)) e) ∙ h))
-
-further : {S W : Type 0} (table : Table S W) (r : Reason) (m : Move W) (f : S) (front rest : List S)
-    → ((ws : List W) (d : ℕ) → run true table ws d (front ++ rest) ≡ Stuck TooDeep rest → run false table ws d (front ++ rest) ≡ Stuck r rest → ⊥)
-    → goes_on true table m f (front ++ rest) ≡ Stuck TooDeep rest → goes_on false table m f (front ++ rest) ≡ Stuck r rest → ⊥
-further table r (Halts q) f front rest ih h k = none_longer f front rest (stuck_is q TooDeep _ _ h)
-further table r (Goes more e) f front rest ih h k = ih more e h k
-
--- where the limit stops a run, the one without a limit takes the symbol
-pub too_deep_goes_on : {S W : Type 0} (table : Table S W) (r : Reason) (ws : List W) (d : ℕ) (front rest : List S) → run true table ws d (front ++ rest) ≡ Stuck TooDeep rest → run false table ws d (front ++ rest) ≡ Stuck r rest → ⊥
-unfolding run
-too_deep_goes_on table r ws d [] [] h k = never_at_end (may_end table ws d) [] h
-too_deep_goes_on table r ws d [] (s ∷ rest) h k =
-    let none = none_grows true table TooDeep s rest (after true table ws d s) h in
-    let moves = deep_after table ws d s none in
-    let stuck : run false table moves.0 moves.1 rest ≡ Stuck r (s ∷ rest) = sym (ap (λ m. goes_on false table m s rest) moves.2) ∙ k in
-    let l : suc (length rest) ≤ length rest = stuck_within false table r moves.0 moves.1 rest (s ∷ rest) stuck in
-    absurd (omega arith)
-too_deep_goes_on table r ws d (f ∷ front) rest h k = elim (after_alike table ws d f) [
-  | inl e ↦ halts_apart table (after true table ws d f) f front rest e h
-  | inr e ↦ further table r (after true table ws d f) f front rest (λ vs x. too_deep_goes_on table r vs x front rest) h (sym (ap (λ m. goes_on false table m f (front ++ rest)) e) ∙ k)
-]
-
--- ---- where reading a form stops
-
--- the rows that spell a value of the form, and those that spell one within its limit
-abbrev pub IsTextOf : {S W V : Type 0} → Form S W V → List S → Type 0
-IsTextOf {V = V} form text = (v : V) × form.Spells v text []
-
-abbrev pub IsTextWithin : {S W V : Type 0} → Form S W V → List S → Type 0
-IsTextWithin {V = V} form text = (v : V) × form.Spells v text [] × form.Fits v
-
-spelled_in : {S W V : Type 0} (form : Form S W V) (v : V) (a b : List S) → a ≡ b → form.Spells v a [] → form.Spells v b []
-spelled_in {S = S} form v a b e h = subst (λ (l : List S). form.Spells v l []) e h
-
-begun : {S W V : Type 0} (form : Form S W V) (front : Front S) → Begins (IsTextWithin form) [] → Opens form front → Begins (IsTextWithin form) front.symbols
-begun form front some (inr b) = (b.1.before [], (b.0, spelled_in form b.0 _ _ (front.is (b.1.before [])) (b.3 []), b.2))
-begun form front some (inl e) = (some.0, (some.1.0, spelled_in form some.1.0 _ _ (ap (λ l. l ++ some.0) (sym e)) some.1.1, some.1.2))
-
-stuck_at : {S W V : Type 0} (table : Table S W) (form : Form S W V) (r : Reason) (old rest : List S) → (s : Stops table form r old rest) → run true table (form.want ∷ []) 0 (s.front.symbols ++ rest) ≡ Stuck r rest
-stuck_at table form r old rest s = sym (ap (run true table (form.want ∷ []) 0) (s.split ∙ s.front.is rest)) ∙ s.stuck [] 0
-
--- where reading a form stops, is the first fault of what is within its limit, if each such text is taken whole
-pub first_fault : {S W V : Type 0} (table : Table S W) (form : Form S W V) (r : Reason) (old rest : List S) → Begins (IsTextWithin form) [] → ((text : List S) → IsTextWithin form text → run true table (form.want ∷ []) 0 text ≡ Whole) → (s : Stops table form r old rest) → IsFirstFault (IsTextWithin form) s.front.symbols rest
-first_fault table form r old rest some accepts s = record {
-  begins = begun form s.front some s.begins;
-  ends = λ g.
-      let stuck : run true table (form.want ∷ []) 0 (s.front.symbols ++ g.0) ≡ Stuck r g.0 = one_ahead true table r (form.want ∷ []) 0 s.front.symbols rest g.0 g.1 (stuck_at table form r old rest s) in
-      let whole : run true table (form.want ∷ []) 0 (s.front.symbols ++ g.0) ≡ Whole = accepts _ g.2 in
-      absurd (let q : Stuck r g.0 ≡ Whole = sym stuck ∙ whole in cc);
-}
-
--- a run that is refused is so with no limit, too
-pub refused_unlimited : {S W V : Type 0} (table : Table S W) (form : Form S W V) (old rest : List S) → (s : Stops table form Refused old rest) → run false table (form.want ∷ []) 0 (s.front.symbols ++ rest) ≡ Stuck Refused rest
-refused_unlimited table form old rest s = run-unlimited table (form.want ∷ []) 0 (s.front.symbols ++ rest) (Stuck Refused rest) (λ left e. absurd cc) (stuck_at table form Refused old rest s)
-
--- Where it is refused, no text of whatever nesting goes on, if each is taken whole with no limit.
-pub refused_ends : {S W V : Type 0} (table : Table S W) (form : Form S W V) (old rest : List S) → ((text : List S) → IsTextOf form text → run false table (form.want ∷ []) 0 text ≡ Whole) → (s : Stops table form Refused old rest) → GoesOn (IsTextOf form) s.front.symbols rest → ⊥
-refused_ends table form old rest accepts s g =
-    let stuck : run false table (form.want ∷ []) 0 (s.front.symbols ++ g.0) ≡ Stuck Refused g.0 = one_ahead false table Refused (form.want ∷ []) 0 s.front.symbols rest g.0 g.1 (refused_unlimited table form old rest s) in
-    let whole : run false table (form.want ∷ []) 0 (s.front.symbols ++ g.0) ≡ Whole = accepts _ g.2 in
-    absurd (let q : Stuck Refused g.0 ≡ Whole = sym stuck ∙ whole in cc)
-
--- where the limit stops reading, some text of a deeper nesting goes on
-pub too_deep_begins : {S W V : Type 0} (form : Form S W V) (front : Front S) (rest : List S) → BeginsDeeper form front rest → GoesOn (IsTextOf form) front.symbols rest
-too_deep_begins form front rest (s, e, v, tail, spells) = (s ∷ tail.before [], sym e, (v, spelled_in form v _ _ (front.is (s ∷ tail.before [])) (spells [])))
-
--- where the run with no limit meets what is left out, reading stops for that
-pub left_out_alone : {S W V : Type 0} (table : Table S W) (form : Form S W V) (r : Reason) (old rest : List S) → (s : Stops table form r old rest) → run false table (form.want ∷ []) 0 (s.front.symbols ++ rest) ≡ Stuck LeftOut rest → r ≡ LeftOut
-left_out_alone table form LeftOut old rest s h = refl
-left_out_alone table form Refused old rest s h = absurd (let q : Stuck Refused rest ≡ Stuck LeftOut rest = sym (refused_unlimited table form old rest s) ∙ h in cc)
-left_out_alone table form TooDeep old rest s h = absurd (too_deep_goes_on table LeftOut (form.want ∷ []) 0 s.front.symbols rest (stuck_at table form TooDeep old rest s) h)

@@ -21,7 +21,7 @@ use Rattle.at_jrag.specs.declared.reader.ReadError.TheVariants as errors
 use Rattle.at_jrag.specs.declared.reader.operators.Prefix.{Prefix}
 use Rattle.at_jrag.specs.declared.reader.operators.Prefix.TheVariants as prefix
 use Rattle.at_jrag.proofs.MachineLaws.{run-takes, run-refuses, run-too_deep}
-use Rattle.at_jrag.proofs.MachinePaths.{run-begins, run-same}
+use Rattle.at_jrag.proofs.MachineLaws.{run-begins, run-same}
 use Rattle.at_jrag.proofs.ExpressionSteps.{sign_is, unary_stays, binary_stays}
 use Rattle.at_jrag.proofs.ExpressionRanks.{Facts, operator_facts, operator_taken, links_skip, up}
 use Rattle.at_jrag.proofs.ExpressionRuns.{no_cast, unary_is_primary, then_moves, operation_moves, instance_moves, not_goes, minus_goes, negative_goes, cast_goes}

@@ -24,7 +24,7 @@ use Rattle.at_jrag.specs.Runs.{Goes, Moves, Stays, Halts, Missing, NotOpened, No
 use Rattle.at_jrag.specs.declared.reader.ReadError.{ReadError}
 use Rattle.at_jrag.specs.declared.reader.ReadError.TheVariants as errors
 use Rattle.at_jrag.proofs.MachineLaws.{run-takes, run-skips, run-refuses, run-too_deep, run-leaves_out}
-use Rattle.at_jrag.proofs.MachinePaths.{run-begins}
+use Rattle.at_jrag.proofs.MachineLaws.{run-begins}
 use Rattle.at_jrag.proofs.ExpressionSteps.{then_stays, sign_is, name_is_no_literal}
 use Rattle.at_jrag.proofs.ExpressionRuns.{moves_on, calls_end, call_moves, more_none, literal_goes, name_goes, named_taken, fold_taken, fold_goes}
 use Rattle.at_jrag.proofs.ExpressionsTaken.{next_first, deep, number_is, number_literal, quoted_is}

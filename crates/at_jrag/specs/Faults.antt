@@ -5,7 +5,7 @@ use Rattle.at_text.specs.Symbols.{PlacedToken, HasTokens, next_place}
 use Rattle.at_jrag.specs.Syntax.{Aspect}
 use Rattle.at_jrag.specs.Grammar.{is_word, File, IsWithin}
 use Rattle.at_jrag.specs.Machine as reason
-use Rattle.at_jrag.specs.Machine.{GoesOn, Reason, Stuck, run}
+use Rattle.at_jrag.specs.Machine.{GoesOn, IsFirstFault, Reason, Stuck, run}
 use Rattle.at_jrag.specs.Wants as want
 use Rattle.at_jrag.specs.Table.{table}
 use Rattle.at_text.specs.declared.scan.ScanFault.{ScanFault}
@@ -52,16 +52,18 @@ IsFile tokens = (aspects : List Aspect) × File aspects tokens []
 abbrev pub IsFileWithin : List PlacedToken → Type 0
 IsFileWithin tokens = (aspects : List Aspect) × File aspects tokens [] × IsWithin aspects
 
--- The text's tokens are read up to the rest, where reading stops for this reason. No file within the limit goes on there.
+-- The front begins a file within the limit, and no such file goes on with the token after it, or with the end of the text.
+-- By the table of what may come next, this is the reason.
 pub record StopsAt (text : List ℕ) (reason : Reason) (front rest : List PlacedToken) : Type 0 where
   pub tokens : HasTokens text (front ++ rest)
+  pub fault : IsFirstFault IsFileWithin front rest
   pub stuck : run true table (want.File ∷ []) 0 (front ++ rest) ≡ Stuck reason rest
-  pub ends : GoesOn IsFileWithin front rest → ⊥
 
--- The fault of the text. At a token that is refused no file goes on, however deep its expressions nest. Of want of memory nothing is said.
+-- The fault of the text: it can't be cut into tokens, or reading stops. It is a syntax error where no file goes on, however
+-- deep its expressions nest, and they nest too deep where one does. Of want of memory nothing is said.
 abbrev pub IsFault : List ℕ → JragFault → Type 0
 IsFault text Memory = Unit {0}
 IsFault text (Syntax at) = ((fault : ScanFault) × IsScanFaultAt text at fault)
     ⊎ ((front : List PlacedToken) × (rest : List PlacedToken) × StopsAt text reason.Refused front rest × (GoesOn IsFile front rest → ⊥) × (at ≡ next_place text rest))
 IsFault text (LeftOut at) = (front : List PlacedToken) × (rest : List PlacedToken) × StopsAt text reason.LeftOut front rest × (at ≡ next_place text rest)
-IsFault text (Nesting at) = (front : List PlacedToken) × (rest : List PlacedToken) × StopsAt text reason.TooDeep front rest × (at ≡ last_declaration front)
+IsFault text (Nesting at) = (front : List PlacedToken) × (rest : List PlacedToken) × StopsAt text reason.TooDeep front rest × GoesOn IsFile front rest × (at ≡ last_declaration front)

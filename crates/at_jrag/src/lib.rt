@@ -81,7 +81,7 @@ pub fn parse_jrag(alloc: Global, text: &str) -> Result<Vec<Aspect>, JragFault>
     // A text that spells aspects whose expressions nest at most 64 deep is read, unless memory runs out.
     ensures only { (tokens : List PlacedToken) (aspects : List written.Aspect) → HasTokens text.now tokens → File aspects tokens []
         → IsWithin aspects → MatchResult result (λ v. Unit {0}) (λ e. e ≡ Memory) }
-    // Where reading stops, no text within the limit goes on, and at a syntax error none at all.
+    // A fault is the first one: what stands before it begins such a text, and none goes on there.
     ensures fault { IfErr result (IsFault text.now) }
 {
     let tokens = match lexemes(alloc, text) {

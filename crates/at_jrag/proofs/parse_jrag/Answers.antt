@@ -3,7 +3,8 @@ use Rattle.at_text.specs.Pieces.{spelled}
 use Rattle.at_text.specs.Symbols.{placed, placed_in}
 use Rattle.at_jrag.specs.Left.{left}
 use Rattle.at_jrag.specs.Machine.{Refused, LeftOut, TooDeep}
-use Rattle.at_jrag.proofs.Files.{has_tokens, met, none_at_all, file_only, place_behind, declaration_at}
+use Rattle.at_jrag.proofs.Files.{has_tokens, met, file_only, place_behind, declaration_at}
+use Rattle.at_jrag.proofs.FirstFaults.{none_at_all, one_deeper}
 use Rattle.at_jrag.proofs.parse_jrag.Goals as goal
 
 -- ---- what is refused
@@ -101,4 +102,4 @@ returns-clause-fault c =
     let m = met c.args.text.now TooDeep c.new-reader.result.rest.now c.file.new.self.rest.now has (s 0 []) in
     let size : c.len.result ≡ length c.new-reader.result.rest.now = omega (arith, ap length same, c.len.ensures) in
     let at = declaration_at c.new-reader.result.rest.now _ _ _ _ _ _ c.declaration_place-at.ensures c.split_at.ensures.front (c.deref-in-Err-Nesting.ensures.value ∙ sym same) (λ i. size i - c.count_left-in-Err-Nesting.ensures i) m.front_is in
-    (left m.front, left c.file.new.self.rest.now, m.stops, at)
+    (left m.front, left c.file.new.self.rest.now, m.stops, one_deeper (left m.front) (left c.file.new.self.rest.now) m.stops.stuck, at)
