@@ -168,7 +168,7 @@ impl<'a> Reader<'a> {
         }
         match self.takes_word("eq") {
             Some(at) => {
-                    Ok(Decl {
+                Ok(Decl {
                     at,
                     form: self.equation()?,
                 })
