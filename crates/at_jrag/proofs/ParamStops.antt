@@ -142,9 +142,9 @@ before_more : (g : Bool) (start old : Row) → Comes true (want.Opening g ∷ []
 before_more g start old c = record {
   stays = λ e rest m. comes_stay (want.Opening g ∷ []) (want.Kind ∷ want.Name ∷ want.MoreParams ∷ []) (reason_of e) start old rest c (no_param_stays (want.MoreParams ∷ []) e old rest m);
   goes = λ p mid r. (
-      want.MoreParams,
-      more_ends,
-      comes_then (want.Opening g ∷ []) (want.Kind ∷ want.Name ∷ want.MoreParams ∷ []) (want.MoreParams ∷ []) start old mid c (param_comes p (want.MoreParams ∷ []) old mid r),
+    want.MoreParams,
+    more_ends,
+    comes_then (want.Opening g ∷ []) (want.Kind ∷ want.Name ∷ want.MoreParams ∷ []) (want.MoreParams ∷ []) start old mid c (param_comes p (want.MoreParams ∷ []) old mid r),
   );
 }
 

@@ -167,12 +167,10 @@ impl<'a> Reader<'a> {
             });
         }
         match self.takes_word("eq") {
-            Some(at) => {
-                    Ok(Decl {
-                    at,
-                    form: self.equation()?,
-                })
-            }
+            Some(at) => Ok(Decl {
+                at,
+                form: self.equation()?,
+            }),
             None => Err(self.no_keyword()),
         }
     }

@@ -13,17 +13,22 @@ pub returns-then-skips_getter-clause-found : goal.returns-then-skips_getter-clau
 returns-then-skips_getter-clause-found c = let s = c.if-skips_getter.ensures in equation_read c.inherited_equation.result c.in_ok-target.target _ _ _ _ c.inherited_equation.ensures.found c.in_ok-target.ensures.found s.1
 
 pub returns-in_err-target-clause-stays : goal.returns-in_err-target-clause-stays
-returns-in_err-target-clause-stays c = let p = err_from_is_err_and c.from_residual.result c.from_residual.ensures.1 in rw (p.1, p.2) (c.in_err-target.ensures.stays (want.Defined ∷ want.Decls ∷ []))
+returns-in_err-target-clause-stays c =
+    let p = err_from_is_err_and c.from_residual.result c.from_residual.ensures.1 in
+    rw (p.1, p.2) (c.in_err-target.ensures.stays (want.Defined ∷ want.Decls ∷ []))
 
 pub returns-then-skips_getter-clause-stays : goal.returns-then-skips_getter-clause-stays
-returns-then-skips_getter-clause-stays c = 
+returns-then-skips_getter-clause-stays c =
     let s = c.if-skips_getter.ensures in
     let t = c.in_ok-target.ensures.found in
     behind_getter c.inherited_equation.result (want.Decls ∷ []) (word_view c.in_ok-target.target.class) (word_view c.in_ok-target.target.name) (params_view c.in_ok-target.target.params) (left c.args.self.now.rest.now) t.0 (left c.target.new.self.rest.now) (left c.skips_getter.new.self.rest.now) (left c.inherited_equation.new.self.rest.now) t.1 t.2 s.0 s.1 c.inherited_equation.ensures.stays
 
 pub returns-in_err-body-clause-stays : goal.returns-in_err-body-clause-stays
-returns-in_err-body-clause-stays c = 
+returns-in_err-body-clause-stays c =
     let s = c.if-skips_getter.ensures in
     let t = c.in_ok-target.ensures.found in
     let b = subst (λ (x : Row). BodyStays (reason_of c.in_err-body.field-0.0) x (left c.body.new.self.rest.now)) (ap (λ r. left r.rest.now) s.0) c.in_err-body.ensures.stays in
-    let p = err_from_is_err_and c.from_residual-in_err-body.result c.from_residual-in_err-body.ensures.1 in rw (p.1, p.2) (equation_body (want.Decls ∷ []) (word_view c.in_ok-target.target.class) (word_view c.in_ok-target.target.name) (params_view c.in_ok-target.target.params) (reason_of c.in_err-body.field-0.0) (left c.args.self.now.rest.now) t.0 (left c.target.new.self.rest.now) (left c.body.new.self.rest.now) t.1 t.2 s.1 b)
+    let p = err_from_is_err_and c.from_residual-in_err-body.result c.from_residual-in_err-body.ensures.1 in
+    rw (p.1, p.2)
+    (equation_body (want.Decls ∷ []) (word_view c.in_ok-target.target.class) (word_view c.in_ok-target.target.name) (params_view c.in_ok-target.target.params)
+    (reason_of c.in_err-body.field-0.0) (left c.args.self.now.rest.now) t.0 (left c.target.new.self.rest.now) (left c.body.new.self.rest.now) t.1 t.2 s.1 b)

@@ -29,6 +29,9 @@ loop-self-smaller c =
     aspect_shorter _ _ _ (c.in_ok-aspect.ensures.found)
 
 pub returns-in_err-aspect-clause-stays : goal.returns-in_err-aspect-clause-stays
-returns-in_err-aspect-clause-stays c = 
+returns-in_err-aspect-clause-stays c =
     let i = c.loop-self.invariant in
-    let p = err_from_is_err_and c.from_residual.result c.from_residual.ensures.1 in rw (p.1, p.2) (comes_stay (want.File ∷ []) (want.File ∷ []) (reason_of c.in_err-aspect.field-0.0) (left c.args.self.now.rest.now) (left c.loop-self.self.rest.now) (left c.aspect.new.self.rest.now) (file_comes true _ (left c.args.self.now.rest.now) (left c.loop-self.self.rest.now) (λ e. i.1) i.0) c.in_err-aspect.ensures.stays)
+    let p = err_from_is_err_and c.from_residual.result c.from_residual.ensures.1 in
+    rw (p.1, p.2)
+    (comes_stay (want.File ∷ []) (want.File ∷ []) (reason_of c.in_err-aspect.field-0.0) (left c.args.self.now.rest.now) (left c.loop-self.self.rest.now)
+    (left c.aspect.new.self.rest.now) (file_comes true _ (left c.args.self.now.rest.now) (left c.loop-self.self.rest.now) (λ e. i.1) i.0) c.in_err-aspect.ensures.stays)

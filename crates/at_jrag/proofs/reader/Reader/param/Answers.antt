@@ -4,4 +4,5 @@ use Rattle.at_jrag.proofs.reader.Reader.param.Goals as goal
 
 pub returns-in_err-name-clause-missing : goal.returns-in_err-name-clause-missing
 returns-in_err-name-clause-missing c =
-    let p = err_from_is_err_and c.from_residual-in_err-name.result c.from_residual-in_err-name.ensures.1 in rw (p.1, p.2) (inr (_, _, c.in_ok-kind.ensures.found, c.in_err-name.ensures.missing))
+    let p = err_from_is_err_and c.from_residual-in_err-name.result c.from_residual-in_err-name.ensures.1 in
+    rw (p.1, p.2) (inr (_, _, c.in_ok-kind.ensures.found, c.in_err-name.ensures.missing))

@@ -16,8 +16,7 @@ pub returns-in-Some-takes-clause-found : goal.returns-in-Some-takes-clause-found
 returns-in-Some-takes-clause-found c =
     let i = c.loop-items.invariant in
     let q = ap (map param_view) c.in_ok-push.ensures.items ∙ map_push param_view c.loop-items.items.items c.in_ok-param.param in
-    let o = subst (λ (x : Row). Opens c.args.name.now (left c.args.self.now.rest.now) x) (sym (ap (λ r. left r.rest.now) c.in_default.ensures.0)) c.in_ok-opens.ensures.found in
-    (
+    let o = subst (λ (x : Row). Opens c.args.name.now (left c.args.self.now.rest.now) x) (sym (ap (λ r. left r.rest.now) c.in_default.ensures.0)) c.in_ok-opens.ensures.found in (
       left c.takes.new.self.rest.now,
       o,
       subst (λ (x : List Param). Listed x c.in-Some-takes.end (left c.takes.new.self.rest.now) (left c.takes-in-loop-items.new.self.rest.now)) (sym q)
@@ -47,15 +46,18 @@ loop-items-init c =
 
 pub returns-in_err-opens-clause-stays : goal.returns-in_err-opens-clause-stays
 returns-in_err-opens-clause-stays c =
-    let p = err_from_is_err_and c.from_residual.result c.from_residual.ensures.1 in rw (p.1, p.2) (opens_stays c.args.name.now c.in_err-opens.field-0.0 (left c.args.self.now.rest.now) (left c.opens.new.self.rest.now) c.in_err-opens.ensures.missing)
+    let p = err_from_is_err_and c.from_residual.result c.from_residual.ensures.1 in
+    rw (p.1, p.2) (opens_stays c.args.name.now c.in_err-opens.field-0.0 (left c.args.self.now.rest.now) (left c.opens.new.self.rest.now) c.in_err-opens.ensures.missing)
 
 pub returns-in_err-param-clause-stays : goal.returns-in_err-param-clause-stays
 returns-in_err-param-clause-stays c =
-    let p = err_from_is_err_and c.from_residual-in_err-param.result c.from_residual-in_err-param.ensures.1 in rw (p.1, p.2) (c.loop-items.invariant.1.stays c.in_err-param.field-0.0 (left c.param.new.self.rest.now) c.in_err-param.ensures.missing)
+    let p = err_from_is_err_and c.from_residual-in_err-param.result c.from_residual-in_err-param.ensures.1 in
+    rw (p.1, p.2) (c.loop-items.invariant.1.stays c.in_err-param.field-0.0 (left c.param.new.self.rest.now) c.in_err-param.ensures.missing)
 
 pub returns-in_err-expects-clause-stays : goal.returns-in_err-expects-clause-stays
 returns-in_err-expects-clause-stays c =
     let p = err_from_is_err_and c.from_residual-in_err-expects.result c.from_residual-in_err-expects.ensures.1 in
     let d = c.in_default-takes.ensures in
     let m = subst (λ (x : Row). Missing (is_sign (codes ",")) c.in_err-expects.field-0.0 x (left c.expects.new.self.rest.now)) (ap (λ r. left r.rest.now) d.0) c.in_err-expects.ensures.missing in
-    rw (p.1, p.2) (comma_stays _ (param_view c.in_ok-param.param) c.in_err-expects.field-0.0 _ _ _ (left c.expects.new.self.rest.now) c.loop-items.invariant.1 c.in_ok-param.ensures.found d.1 m)
+    rw (p.1, p.2)
+    (comma_stays _ (param_view c.in_ok-param.param) c.in_err-expects.field-0.0 _ _ _ (left c.expects.new.self.rest.now) c.loop-items.invariant.1 c.in_ok-param.ensures.found d.1 m)
