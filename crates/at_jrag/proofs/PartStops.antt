@@ -19,14 +19,14 @@ use Rattle.at_jrag.specs.Machine.{Answer, Takes, Skips, Refuses, LeavesOut, Reas
 use Rattle.at_jrag.specs.Read.{is_literal}
 use Rattle.at_jrag.specs.Wants.{Want, Expression, Choice, Calls, Called, Arguments, FirstArgument, MoreArguments, Primary, Named, FoldBody, Deeper, Deepest, Join, Name, Mark}
 use Rattle.at_jrag.specs.Table as tables
-use Rattle.at_jrag.specs.Table.{next, expects, table, is_plain, begins_fold, is_number_within, primary_answer, binary_answer, expression_answer}
+use Rattle.at_jrag.specs.Table.{next, expects, table, is_plain, begins_fold, primary_answer, binary_answer, expression_answer}
 use Rattle.at_jrag.specs.Runs.{Goes, Moves, Stays, Halts, Missing, NotOpened, NoLiteral, IsOther, reason_of}
 use Rattle.at_jrag.specs.declared.reader.ReadError.{ReadError}
 use Rattle.at_jrag.specs.declared.reader.ReadError.TheVariants as errors
 use Rattle.at_jrag.proofs.MachineLaws.{run-takes, run-skips, run-refuses, run-too_deep, run-leaves_out}
 use Rattle.at_jrag.proofs.MachinePaths.{run-begins}
-use Rattle.at_jrag.proofs.ExpressionSteps.{then_stays, sign_is, name_primary, name_is_no_literal}
-use Rattle.at_jrag.proofs.ExpressionRuns.{moves_on, calls_end, call_moves, more_none, arguments_go, literal_goes, name_goes, named_taken, fold_taken, fold_goes}
+use Rattle.at_jrag.proofs.ExpressionSteps.{then_stays, sign_is, name_is_no_literal}
+use Rattle.at_jrag.proofs.ExpressionRuns.{moves_on, calls_end, call_moves, more_none, literal_goes, name_goes, named_taken, fold_taken, fold_goes}
 use Rattle.at_jrag.proofs.ExpressionsTaken.{next_first, deep, number_is, number_literal, quoted_is}
 
 -- ---- the limited machine, step by step

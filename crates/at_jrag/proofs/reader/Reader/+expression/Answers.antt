@@ -1,4 +1,4 @@
-use Rattle.std.proofs.Common.{◌≡◌, ◌≤◌, ◌-◌, ℕ, map, max, sym, ap, subst, ◌∙◌, arith, List, [], ◌∷◌, false}
+use Rattle.std.proofs.Common.{◌≤◌, ◌-◌, ℕ, map, max, sym, ap, subst, ◌∙◌, arith, List, [], ◌∷◌}
 use Rattle.std.specs.Str.{bytes_eq}
 use Rattle.std.proofs.lemmas.Result.{err_from_is_err_and}
 use lib.Chars.{codes}
@@ -11,10 +11,10 @@ use Rattle.at_jrag.specs.Read.{StandsBefore}
 use Rattle.at_jrag.specs.Wants as want
 use Rattle.at_jrag.specs.Runs.{Goes, IsOther}
 use Rattle.at_jrag.proofs.Expressions.{Wanted, wanted_next, wanted_end, next_shorter, deepest_push, call_of_reads, fold_reads, prefix_reads}
-use Rattle.at_jrag.specs.Grammar.{sign, word, fold_text, is_sign, next_is}
+use Rattle.at_jrag.specs.Grammar.{sign, is_sign, next_is}
 use Rattle.at_jrag.specs.Table.{begins_fold}
 use Rattle.at_jrag.proofs.Expressions.{wanted_first}
-use Rattle.at_jrag.proofs.ExpressionRuns.{arguments_go, no_arguments_go, paren_goes, fold_goes}
+use Rattle.at_jrag.proofs.ExpressionRuns.{arguments_go, no_arguments_go, paren_goes}
 use Rattle.at_jrag.proofs.ExpressionsTaken.{deep}
 use Rattle.at_jrag.proofs.PartStops.{reach_goes, reach_stays, reach_halts, mark_missing, name_missing, reach_sign, reach_name, calls_too_deep, calls_no_name, calls_arguments, calls_more}
 use Rattle.at_jrag.proofs.PartStops.{calls_done, among_start, among_next, among_end, among_halts, among_no_comma, arguments_halt, not_opened, literal_missing, primary_missing, no_literal}
