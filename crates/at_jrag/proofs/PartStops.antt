@@ -186,9 +186,9 @@ among_first g start close int l b f ws d =
       [],
       d,
       run-begins l table (FirstArgument g b) (Expression b) (MoreArguments b ∷ []) ws d start
-      (ap (λ x. cond x (Takes true [] 0) (cond (g && next (is_word (codes "int")) (first start)) LeavesOut more)) (sym (next_first (is_sign (codes ")")) start) ∙ close)
-      ∙ ap (λ x. cond x LeavesOut more) (ap (λ x. g && x) (sym (next_first (is_word (codes "int")) start)) ∙ int))
-      (then_stays (binary_answer 6 b (first start)) (Choice b ∷ [])),
+          (ap (λ x. cond x (Takes true [] 0) (cond (g && next (is_word (codes "int")) (first start)) LeavesOut more)) (sym (next_first (is_sign (codes ")")) start) ∙ close)
+          ∙ ap (λ x. cond x LeavesOut more) (ap (λ x. g && x) (sym (next_first (is_word (codes "int")) start)) ∙ int))
+          (then_stays (binary_answer 6 b (first start)) (Choice b ∷ [])),
       λ n row. ap (λ x. run l table (MoreArguments b ∷ ws) x row) (omega arith),
     )
 
@@ -204,11 +204,11 @@ among_next g m n k at start old more one h e comma size l b f ws d =
       Deepest k ∷ [],
       0,
       a.2
-      ∙ e l b (λ x. omega (arith, size, f x)) (a.0 ++ MoreArguments b ∷ ws) a.1
-      ∙ a.3 n more
-      ∙ ap (λ x. run l table (MoreArguments b ∷ ws) x more) (sym size)
-      ∙ ap (run l table (MoreArguments b ∷ ws) k) comma
-      ∙ run-takes l table (MoreArguments b) true (Expression b ∷ Deepest k ∷ MoreArguments b ∷ []) ws k 0 (sign (codes ",") at) one refl (λ x. refl),
+          ∙ e l b (λ x. omega (arith, size, f x)) (a.0 ++ MoreArguments b ∷ ws) a.1
+          ∙ a.3 n more
+          ∙ ap (λ x. run l table (MoreArguments b ∷ ws) x more) (sym size)
+          ∙ ap (run l table (MoreArguments b ∷ ws) k) comma
+          ∙ run-takes l table (MoreArguments b) true (Expression b ∷ Deepest k ∷ MoreArguments b ∷ []) ws k 0 (sign (codes ",") at) one refl (λ x. refl),
       λ i row. run-skips l table (Deepest k) (MoreArguments b ∷ ws) i (max k i) row refl,
     )
 
