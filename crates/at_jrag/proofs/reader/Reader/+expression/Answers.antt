@@ -67,8 +67,8 @@ calls-loop-receiver-preserved t c =
     let h = rw c.as_str.ensures.value at a.found in
     let w = word_view c.in_ok-name.name in
     let g = subst (λ (x : List ℕ). Goes (want.Arguments (bytes_eq x (codes "getChild"))) (λ b. []) c.in_ok-arguments.arguments.depth (left c.name.new.self.rest.now)
-        (left c.arguments.new.self.rest.now))
-        c.as_str.ensures.value a.goes in (
+    (left c.arguments.new.self.rest.now))
+    c.as_str.ensures.value a.goes in (
       omega (arith, m.depth, b.1, i.0, a.depth),
       λ old r. call_of_reads _ _ w c.in_ok-arguments.arguments old _ _ _ _ (i.1 old r) (_, b.0) c.in_ok-name.ensures.found h m.made m.depth,
       calls_more c.args.first.depth c.loop-receiver.receiver.depth c.in_ok-arguments.arguments.depth c.in_ok-receiver.receiver.depth _ w _ _ _ _ _ i.2 b.0 c.in_ok-name.ensures.found g m.depth,
@@ -538,8 +538,8 @@ pub named-returns-clause-goes : goal.named-returns-clause-goes
 named-returns-clause-goes t c =
     let a = c.in_ok-arguments.ensures in
     let g = subst (λ (x : List ℕ). Goes (want.Arguments (bytes_eq x (codes "getChild"))) (λ b. []) c.in_ok-arguments.arguments.depth (left c.name.new.self.rest.now)
-        (left c.arguments.new.self.rest.now))
-        c.as_str.ensures.value a.goes in
+    (left c.arguments.new.self.rest.now))
+    c.as_str.ensures.value a.goes in
     subst (λ (x : ℕ). Goes want.Primary (λ b. []) x (left c.args.self.now.rest.now) (left c.arguments.new.self.rest.now)) (sym c.call.ensures.depth)
     (named_goes (word_view c.in_ok-name.name) c.in_ok-arguments.arguments.depth _ _ _ c.in_ok-name.ensures.found (sym c.if-not-is_before.ensures) g)
 
