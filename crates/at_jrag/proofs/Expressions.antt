@@ -84,7 +84,7 @@ next_shorter e old mid next r c = omega (arith, spells_shorter e old mid r, take
 
 -- ---- forms made of their parts
 
-reads_made : (lowest : ℕ) (m : Measured) (e : Expr) (old rest : Row) → expr_view m.expr ≡ e → Spells e old rest → lowest ≤ level e → m.depth ≡ depth e → Reads lowest m old rest
+pub reads_made : (lowest : ℕ) (m : Measured) (e : Expr) (old rest : Row) → expr_view m.expr ≡ e → Spells e old rest → lowest ≤ level e → m.depth ≡ depth e → Reads lowest m old rest
 reads_made lowest m e old rest made r l d = (subst (λ (x : Expr). Spells x old rest) (sym made) r, subst (λ (x : Expr). lowest ≤ level x) (sym made) l, d ∙ ap depth (sym made))
 
 pub call_of_reads : (receiver m : Measured) (name : Word) (args : ArgumentsValue) (old dot called paren rest : Row)

@@ -1,10 +1,13 @@
 -- Tokens that are left.
-use Rattle.std.proofs.Common.{◌≡◌, ◌≤◌, List, [], ◌∷◌, length, true, refl, sym, ap, subst, ◌∙◌, arith, slice_index_or}
+use Rattle.std.proofs.Common.{◌≡◌, ◌-◌, ◌≤◌, List, [], ◌∷◌, length, take, drop, true, refl, sym, ap, subst, ◌∙◌, arith, slice_index_or}
+use Rattle.std.proofs.Math.Seq.{take-length}
+use lib.Chars.{codes}
+use Rattle.at_text.specs.declared.token.TokenKind.TheVariants as kind
 use Rattle.at_text.specs.declared.placed.Placed.{Placed}
 use Rattle.at_text.specs.declared.token.TokenKind.{TokenKind}
 use Rattle.at_text.specs.Symbols.{PlacedToken, placed}
 use Rattle.at_jrag.specs.Left.{left}
-use Rattle.at_jrag.specs.Grammar.{Row, next_is}
+use Rattle.at_jrag.specs.Grammar.{Row, next_is, sign, number}
 use Rattle.at_jrag.specs.Read.{Reads, is_literal}
 use Rattle.at_jrag.specs.declared.reader.forms.Measured.{Measured}
 
@@ -23,3 +26,13 @@ pub literal_read : (m : Measured) (t : PlacedToken) (k : TokenKind) (old rest mo
 literal_read m t k old rest more e s is r l =
     let front : old ≡ record { kind = k; text = t.text; at = t.at } ∷ rest = e ∙ (λ i. of_kind t k is i ∷ sym s i) in
     (subst (λ (x : Row). Reads 8 m x rest) (sym front) (r rest), ap (next_is is_literal) front ∙ l)
+
+-- a `-` and a number are left
+pub negative_left : (ts : List Placed) (other : Placed) → 2 ≤ length ts → placed (slice_index_or ts 0 other) ≡ sign (codes "-") (slice_index_or ts 0 other).at → (slice_index_or ts 1 other).kind ≡ kind.Number
+    → left ts ≡ sign (codes "-") (slice_index_or ts 0 other).at ∷ number (slice_index_or ts 1 other).text.now (slice_index_or ts 1 other).at ∷ left (take (length ts - 2) (drop 2 ts))
+negative_left [] other h m k = absurd (omega (arith, h))
+negative_left (t ∷ []) other h m k = absurd (omega (arith, h))
+negative_left (t ∷ u ∷ ts) other h m k =
+    let n : length (t ∷ u ∷ ts) - 2 ≡ length ts = omega arith in
+    let r = ap (λ l. left l) (sym (ap (λ k. take k ts) n ∙ take-length ts)) in
+    λ i. m i ∷ of_kind (placed u) kind.Number k i ∷ r i

@@ -55,6 +55,9 @@ is_name_token t = is_word_kind t.kind && is_name t.text
 abbrev pub is_number : PlacedToken → Bool
 is_number t = elim t.kind [ kind.Word ↦ false | kind.Number ↦ true | kind.Text ↦ false | kind.Sign ↦ false ]
 
+abbrev pub is_text : PlacedToken → Bool
+is_text t = elim t.kind [ kind.Word ↦ false | kind.Number ↦ false | kind.Text ↦ true | kind.Sign ↦ false ]
+
 -- the next token is one that passes the test
 abbrev pub next_is : (PlacedToken → Bool) → Row → Bool
 next_is test [] = false

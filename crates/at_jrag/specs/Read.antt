@@ -1,5 +1,5 @@
 -- What the reader's methods say of expressions.
-use Rattle.std.specs.Prelude.{◌≡◌, ℕ, ◌≤◌, ℤ, pos, neg_ℤ, List, [], ◌∷◌, map, Bool, true, false, ◌&&◌, ◌||◌, decimal}
+use Rattle.std.specs.Prelude.{◌≡◌, ℕ, ◌<◌, ◌≤◌, ℤ, pos, neg_ℤ, List, [], ◌∷◌, map, Bool, true, false, ◌&&◌, ◌||◌, decimal}
 use Rattle.std.specs.Str.{bytes_eq}
 use lib.Chars.{codes}
 use Rattle.at_text.specs.declared.token.TokenKind.TheVariants as kind
@@ -60,6 +60,12 @@ StandsBefore prefix.Minus at old rest = (old ≡ sign (codes "-") at ∷ rest) �
 StandsBefore (prefix.Cast class) at old rest =
     (named : Row) × (close : Row) × (old ≡ sign (codes "(") at ∷ named)
     × Name (word_view class) named close × Sign (codes ")") close rest × (next_is follows_cast rest ≡ true)
+
+-- what a form that nests this deep may have before its operand; a `-` alone is told by what follows it
+abbrev pub NestsWithin : Prefix → ℕ → Type 0
+NestsWithin prefix.Not budget = 1 < budget
+NestsWithin prefix.Minus budget = Unit {0}
+NestsWithin (prefix.Cast class) budget = 1 < budget
 
 -- `( NAME )` is next, and behind it what makes it a cast
 abbrev pub opens_cast : Row → Bool

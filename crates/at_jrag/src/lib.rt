@@ -1,21 +1,24 @@
 //! Aspects (.jrag, JastAdd2 reference manual), read from their text.
 #![tactic(auto)]
 
-ghost use Rattle.std.specs.Prelude.{◌≡◌, ◌⊎◌, ℕ, [], List, map, IfOk, MatchResult};
+ghost use Rattle.std.specs.Prelude.{◌≡◌, ◌⊎◌, ℕ, [], List, map, IfOk, IfErr, MatchResult};
 ghost use Rattle.at_text.specs.Symbols.{PlacedToken, HasTokens};
 ghost use Rattle.at_text.specs.Faults as scanning;
 ghost use Rattle.at_text.specs.declared.scan.ScanFault.{ScanFault};
 ghost use Rattle.at_jrag.specs.View.{aspect_view};
-ghost use Rattle.at_jrag.specs.Faults.{uncut, IsScanFaultAt};
+ghost use Rattle.at_jrag.specs.Faults.{uncut, IsScanFaultAt, IsFault};
+ghost use Rattle.at_jrag.specs.Syntax as written;
 ghost use Rattle.at_jrag.specs.Grammar.{File, IsWithin};
 ghost use Rattle.at_jrag.specs.declared.JragFault.TheVariants.{Memory, Syntax};
 
+mod declared;
 mod reader;
 mod syntax;
 
 use at_text::place::place;
 use at_text::placed::{place_all, place_left};
 use at_text::scan::{ScanFault, lexemes};
+use declared::declaration_place;
 use reader::{ReadError, Reader};
 use std::alloc::{AllocError, Global};
 pub use syntax::{
@@ -75,6 +78,11 @@ pub fn parse_jrag(alloc: Global, text: &str) -> Result<Vec<Aspect>, JragFault>
     // A text that can't be cut into tokens is refused where that is met, whatever stands before it.
     ensures uncut { (fault : ScanFault) (at : ℕ × ℕ) → IsScanFaultAt text.now at fault
         → MatchResult result (λ v. ⊥) (λ e. (e ≡ Memory) ⊎ (e ≡ Syntax at)) }
+    // A text that spells aspects whose expressions nest at most 64 deep is read, unless memory runs out.
+    ensures only { (tokens : List PlacedToken) (aspects : List written.Aspect) → HasTokens text.now tokens → File aspects tokens []
+        → IsWithin aspects → MatchResult result (λ v. Unit {0}) (λ e. e ≡ Memory) }
+    // A fault is the first one: what stands before it begins such a text, and none goes on there.
+    ensures fault { IfErr result (IsFault text.now) }
 {
     let tokens = match lexemes(alloc, text) {
         Ok(tokens) => tokens,
@@ -86,18 +94,18 @@ pub fn parse_jrag(alloc: Global, text: &str) -> Result<Vec<Aspect>, JragFault>
         Ok(aspects) => Ok(aspects),
         Err(ReadError::Memory) => Err(JragFault::Memory),
         Err(ReadError::Syntax) => {
-            let left = reader.count_left().min(tokens.len());
-            let at = place_left(text, &tokens, left);
+            let at = place_left(text, &tokens, reader.count_left());
             Err(JragFault::Syntax { at })
         }
         Err(ReadError::LeftOut) => {
-            let left = reader.count_left().min(tokens.len());
-            let at = place_left(text, &tokens, left);
+            let at = place_left(text, &tokens, reader.count_left());
             Err(JragFault::LeftOut { at })
         }
-        Err(ReadError::Nesting) => Err(JragFault::Nesting {
-            at: reader.declaration(),
-        }),
+        Err(ReadError::Nesting) => {
+            let front = tokens.split_at(tokens.len() - reader.count_left()).0;
+            let at = declaration_place(front);
+            Err(JragFault::Nesting { at })
+        }
     }
 }
 

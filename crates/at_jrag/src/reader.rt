@@ -1,11 +1,12 @@
 //! The reader of tokens: a method for each form of the language. It stands before the tokens that are left.
 
-ghost use Rattle.std.specs.Prelude.{◌≡◌, [], ◌∷◌, List, length, IfOk, OnOk, MatchOption, MatchBool, ℕ, true, false};
+ghost use Rattle.std.specs.Prelude.{◌≡◌, [], ◌∷◌, List, length, IfOk, IfErr, OnOk, MatchOption, MatchBool, ℕ, true, false};
 ghost use Rattle.at_model.specs.Names.{is_name};
 ghost use Rattle.at_text.specs.Symbols.{PlacedToken, placed};
 ghost use Rattle.at_jrag.specs.View.{word_view};
 ghost use Rattle.at_jrag.specs.Grammar.{Row, sign, word, is_sign, is_word, is_name_token, next_is, Name, Opens};
 ghost use Rattle.at_jrag.specs.Left.{left};
+ghost use Rattle.at_jrag.specs.Runs.{Missing, NotOpened};
 ghost use Rattle.at_jrag.specs.declared.reader.ReadError.TheVariants.{Memory};
 
 mod declarations;
@@ -57,7 +58,7 @@ fn is_sign(token: &Placed<'_>, text: &str) -> bool
 }
 
 /// Whether the token is this word.
-fn is_word(token: &Placed<'_>, text: &str) -> bool
+pub fn is_word(token: &Placed<'_>, text: &str) -> bool
     ensures value { result ≡ is_word text.now (placed token.now) }
     ensures same { result ≡ true → placed token.now ≡ word text.now token.now.at }
 {
@@ -77,8 +78,6 @@ fn is_name_token(token: &Placed<'_>) -> bool
 pub struct Reader<'a> {
     alloc: Global,
     rest: &'a [Placed<'a>],
-    /// The place of the declaration that is being read.
-    declaration: (u32, u32),
 }
 
 impl<'a> Reader<'a> {
@@ -89,7 +88,6 @@ impl<'a> Reader<'a> {
         Reader {
             alloc,
             rest: tokens,
-            declaration: (1, 1),
         }
     }
 
@@ -98,13 +96,6 @@ impl<'a> Reader<'a> {
         ensures { result ≡ length self.now.rest.now }
     {
         self.rest.len()
-    }
-
-    /// The place of the declaration that is being read.
-    pub fn declaration(&self) -> (u32, u32)
-        ensures { result ≡ self.now.declaration }
-    {
-        self.declaration
     }
 
     /// Whether the sign is next.
@@ -130,7 +121,6 @@ impl<'a> Reader<'a> {
     /// Steps over the next token, if there is one.
     fn step(&mut self)
         ensures stepped { (t : PlacedToken) (ts : List PlacedToken) → left self.old.rest.now ≡ t ∷ ts → left self.new.rest.now ≡ ts }
-        ensures same { self.new.declaration ≡ self.old.declaration }
     {
         if let [_, rest @ ..] = self.rest {
             self.rest = rest;
@@ -151,7 +141,7 @@ impl<'a> Reader<'a> {
     fn takes(&mut self, text: &str) -> Option<(u32, u32)>
         ensures { MatchOption result
             ((self.new ≡ self.old) × (next_is (is_sign text.now) (left self.old.rest.now) ≡ false))
-            (λ at. (left self.old.rest.now ≡ sign text.now at ∷ left self.new.rest.now) × (self.new.declaration ≡ self.old.declaration)) }
+            (λ at. left self.old.rest.now ≡ sign text.now at ∷ left self.new.rest.now) }
     {
         match self.rest {
             [token, rest @ ..] if is_sign(token, text) => {
@@ -165,8 +155,7 @@ impl<'a> Reader<'a> {
     /// Steps over the sign, if it is next.
     fn skips(&mut self, text: &str) -> bool
         ensures { MatchBool result
-            ((at : ℕ × ℕ) × (left self.old.rest.now ≡ sign text.now at ∷ left self.new.rest.now)
-            × (self.new.declaration ≡ self.old.declaration))
+            ((at : ℕ × ℕ) × (left self.old.rest.now ≡ sign text.now at ∷ left self.new.rest.now))
             ((self.new ≡ self.old) × (next_is (is_sign text.now) (left self.old.rest.now) ≡ false)) }
     {
         match self.takes(text) {
@@ -179,7 +168,7 @@ impl<'a> Reader<'a> {
     fn takes_word(&mut self, text: &str) -> Option<(u32, u32)>
         ensures { MatchOption result
             ((self.new ≡ self.old) × (next_is (is_word text.now) (left self.old.rest.now) ≡ false))
-            (λ at. (left self.old.rest.now ≡ word text.now at ∷ left self.new.rest.now) × (self.new.declaration ≡ self.old.declaration)) }
+            (λ at. left self.old.rest.now ≡ word text.now at ∷ left self.new.rest.now) }
     {
         match self.rest {
             [token, rest @ ..] if is_word(token, text) => {
@@ -195,7 +184,7 @@ impl<'a> Reader<'a> {
         ensures { MatchOption result
             ((self.new ≡ self.old) × (next_is is_name_token (left self.old.rest.now) ≡ false))
             (λ t. (left self.old.rest.now ≡ word t.now.text.now t.now.at ∷ left self.new.rest.now)
-            × (is_name t.now.text.now ≡ true) × (self.new.declaration ≡ self.old.declaration)) }
+            × (is_name t.now.text.now ≡ true)) }
     {
         match self.rest {
             [token, rest @ ..] if is_name_token(token) => {
@@ -209,6 +198,7 @@ impl<'a> Reader<'a> {
     /// The sign.
     fn expects(&mut self, text: &str) -> Result<(u32, u32), ReadError>
         ensures found { IfOk result (λ at. left self.old.rest.now ≡ sign text.now at ∷ left self.new.rest.now) }
+        ensures missing { IfErr result (λ e. Missing (is_sign text.now) e (left self.old.rest.now) (left self.new.rest.now)) }
     {
         match self.takes(text) {
             Some(at) => Ok(at),
@@ -219,6 +209,7 @@ impl<'a> Reader<'a> {
     /// `name`
     fn name(&mut self) -> Result<Word, ReadError>
         ensures found { IfOk result (λ w. Name (word_view w) (left self.old.rest.now) (left self.new.rest.now)) }
+        ensures missing { IfErr result (λ e. Missing is_name_token e (left self.old.rest.now) (left self.new.rest.now)) }
     {
         match self.takes_name() {
             Some(token) => Ok(Word {
@@ -232,6 +223,7 @@ impl<'a> Reader<'a> {
     /// `(` behind the name, where `int` behind the parenthesis of `getChild` is left out.
     fn opens(&mut self, name: &str) -> Result<(), ReadError>
         ensures found { OnOk result (Opens name.now (left self.old.rest.now) (left self.new.rest.now)) }
+        ensures missing { IfErr result (λ e. NotOpened name.now e (left self.old.rest.now) (left self.new.rest.now)) }
     {
         self.expects("(")?;
         if name == "getChild" && self.is_before_word("int") {

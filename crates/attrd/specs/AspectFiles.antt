@@ -6,6 +6,7 @@ use Rattle.at_model.specs.Rules as model
 use Rattle.at_text.specs.Symbols.{PlacedToken, HasTokens}
 use Rattle.at_jrag.specs.Syntax.{Aspect, Place}
 use Rattle.at_jrag.specs.Grammar.{File, IsWithin}
+use Rattle.at_jrag.specs.Faults.{IsFault}
 use Rattle.at_jrag.specs.declared.JragFault.{JragFault}
 use Rattle.at_jrag.specs.declared.JragFault.TheVariants as jrag
 use Rattle.attrd.specs.Files.{IsText, IsNoText}
@@ -41,11 +42,10 @@ IsReadingFault (jrag.LeftOut p) c at = (c ≡ code.AspectFormLeftOut) × (at ≡
 IsReadingFault (jrag.Nesting p) c at = (c ≡ code.AspectLimit) × (at ≡ p)
 IsReadingFault jrag.Memory c at = ⊥
 
--- The file is refused by the code at the place: it is no text, or the reader refuses its text. (Which fault the reader finds
--- where is not said yet.)
+-- the file is refused by the code at the place: it is no text, or this is the fault of its text
 pub data RefusesReading (bytes : List ℕ) : Code → Place → Type 0 where
   no_text : (c : Code) → IsNoText bytes code.AspectLimit code.AspectSyntax c → RefusesReading bytes c (1, 1)
-  no_aspects : (e : JragFault) (c : Code) (at : Place) → IsText bytes → IsReadingFault e c at → RefusesReading bytes c at
+  no_aspects : (e : JragFault) (c : Code) (at : Place) → IsText bytes → IsFault bytes e → IsReadingFault e c at → RefusesReading bytes c at
 
 -- the fault is one by which the file is refused; of want of memory nothing is said
 abbrev pub IsReadingFaultOf : List ℕ → FileFault → Type 0

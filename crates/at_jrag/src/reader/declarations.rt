@@ -8,6 +8,16 @@ ghost use Rattle.at_jrag.specs.Grammar.{Row, KindOf, ParamOf, Signature, Opens, 
 ghost use Rattle.at_jrag.specs.Grammar.{AspectOf, File, NestsWithin, IsWithin, nesting, ending_depth, max_nesting, depth, keyword, Sign};
 ghost use Rattle.at_jrag.specs.Left.{left};
 ghost use Rattle.at_jrag.specs.Heads.{HeadOf, TargetOf, is_getter, index, ParamsOf};
+ghost use Rattle.std.specs.Prelude.{ℕ, ◌<◌, length, List, cond, false, ◌&&◌, IfErr};
+ghost use Rattle.std.specs.Str.{bytes_eq};
+ghost use Rattle.at_text.specs.Reading.{first};
+ghost use Rattle.at_text.specs.Symbols.{is_word_kind};
+ghost use Rattle.at_jrag.specs.Grammar.{next_is, is_sign, is_word};
+ghost use Rattle.at_jrag.specs.Wants as want;
+ghost use Rattle.at_jrag.specs.Wants.{Want};
+ghost use Rattle.at_jrag.specs.Table.{table, is_kind, body_answer, declared};
+ghost use Rattle.at_jrag.specs.Runs.{Pass, Stay, Stays, Missing, NoParam, reason_of};
+ghost use Rattle.at_jrag.specs.declared.reader.ReadError.TheVariants as errors;
 
 use super::{ReadError, Reader};
 use crate::syntax::{
@@ -71,7 +81,9 @@ fn index_of(params: Params) -> Option<Word>
 
 impl<'a> Reader<'a> {
     /// The fault where a keyword was wanted: any other word begins a form that is left out.
-    fn no_keyword(&self) -> ReadError {
+    fn no_keyword(&self) -> ReadError
+        ensures { result ≡ cond (next_is (λ t. is_word_kind t.kind) (left self.now.rest.now)) errors.LeftOut errors.Syntax }
+    {
         match self.rest {
             [token, ..] if token.kind == TokenKind::Word => ReadError::LeftOut,
             _ => ReadError::Syntax,
@@ -79,7 +91,9 @@ impl<'a> Reader<'a> {
     }
 
     /// The fault where a block has one form alone: any other token is left out.
-    fn no_block(&self) -> ReadError {
+    fn no_block(&self) -> ReadError
+        ensures { result ≡ cond (next_is (λ t. true) (left self.now.rest.now)) errors.LeftOut errors.Syntax }
+    {
         if self.rest.is_empty() {
             ReadError::Syntax
         } else {
@@ -92,6 +106,7 @@ impl<'a> Reader<'a> {
         ensures found { IfOk result (λ v. File (map aspect_view v.items) (left self.old.rest.now) (left self.new.rest.now)) }
         ensures within { IfOk result (λ v. IsWithin (map aspect_view v.items)) }
         ensures end { IfOk result (λ v. left self.new.rest.now ≡ []) }
+        ensures stays { IfErr result (λ e. Stay (want.File ∷ []) (reason_of e) (left self.old.rest.now) (left self.new.rest.now)) }
     {
         let mut aspects = Vec::new(self.alloc);
         while !self.rest.is_empty() {
@@ -103,8 +118,10 @@ impl<'a> Reader<'a> {
 
     /// `"aspect" name "{" { decl } "}"`
     fn aspect(&mut self) -> Result<Aspect, ReadError>
+        requires { 0 < length self.now.rest.now }
         ensures found { IfOk result (λ a. AspectOf (aspect_view a) (left self.old.rest.now) (left self.new.rest.now)) }
         ensures within { IfOk result (λ a. AllByRecursion NestsWithin (map decl_view a.decls.items)) }
+        ensures stays { IfErr result (λ e. Stay (want.File ∷ []) (reason_of e) (left self.old.rest.now) (left self.new.rest.now)) }
     {
         if self.takes_word("aspect").is_none() {
             return Err(self.no_keyword());
@@ -120,6 +137,7 @@ impl<'a> Reader<'a> {
         ensures found { IfOk result (λ v. (close : Row) × Decls (map decl_view v.items) (left self.old.rest.now) close
             × Sign (codes "}") close (left self.new.rest.now)) }
         ensures within { IfOk result (λ v. AllByRecursion NestsWithin (map decl_view v.items)) }
+        ensures stays { IfErr result (λ e. Stay (want.Decls ∷ []) (reason_of e) (left self.old.rest.now) (left self.new.rest.now)) }
     {
         let mut decls = Vec::new(self.alloc);
         while !self.skips("}") {
@@ -131,31 +149,28 @@ impl<'a> Reader<'a> {
 
     /// A declaration.
     fn decl(&mut self) -> Result<Decl, ReadError>
+        requires { next_is (is_sign (codes "}")) (left self.now.rest.now) ≡ false }
         ensures found { IfOk result (λ d. DeclOf (decl_view d) (left self.old.rest.now) (left self.new.rest.now)) }
         ensures within { IfOk result (λ d. NestsWithin (decl_view d)) }
+        ensures stays { IfErr result (λ e. Stay (want.Decls ∷ []) (reason_of e) (left self.old.rest.now) (left self.new.rest.now)) }
     {
         if let Some(at) = self.takes_word("syn") {
-            self.declaration = at;
             return Ok(Decl {
                 at,
                 form: self.synthesized()?,
             });
         }
         if let Some(at) = self.takes_word("inh") {
-            self.declaration = at;
             return Ok(Decl {
                 at,
                 form: self.inherited()?,
             });
         }
         match self.takes_word("eq") {
-            Some(at) => {
-                self.declaration = at;
-                Ok(Decl {
-                    at,
-                    form: self.equation()?,
-                })
-            }
+            Some(at) => Ok(Decl {
+                at,
+                form: self.equation()?,
+            }),
             None => Err(self.no_keyword()),
         }
     }
@@ -165,6 +180,7 @@ impl<'a> Reader<'a> {
         ensures found { IfOk result (λ f. Behind (decl_form_view f) (left self.old.rest.now) (left self.new.rest.now)) }
         ensures keyword { IfOk result (λ f. keyword (decl_form_view f) ≡ codes "syn") }
         ensures within { IfOk result (λ f. nesting (decl_form_view f) ≤ max_nesting) }
+        ensures stays { IfErr result (λ e. Stay (declared (want.Ending ∷ want.Decls ∷ [])) (reason_of e) (left self.old.rest.now) (left self.new.rest.now)) }
     {
         let head = self.head()?;
         let ending = self.ending()?;
@@ -183,6 +199,7 @@ impl<'a> Reader<'a> {
         ensures found { IfOk result (λ f. Behind (decl_form_view f) (left self.old.rest.now) (left self.new.rest.now)) }
         ensures keyword { IfOk result (λ f. keyword (decl_form_view f) ≡ codes "inh") }
         ensures within { IfOk result (λ f. nesting (decl_form_view f) ≤ max_nesting) }
+        ensures stays { IfErr result (λ e. Stay (declared (want.Mark (codes ";") ∷ want.Decls ∷ [])) (reason_of e) (left self.old.rest.now) (left self.new.rest.now)) }
     {
         let head = self.head()?;
         self.expects(";")?;
@@ -198,6 +215,8 @@ impl<'a> Reader<'a> {
     /// `["lazy"] kind name "." name "(" [params] ")"`, where `circular` behind it is left out.
     fn head(&mut self) -> Result<Head, ReadError>
         ensures found { IfOk result (λ h. HeadOf h (left self.old.rest.now) (left self.new.rest.now)) }
+        ensures behind { IfOk result (λ h. next_is (is_word (codes "circular")) (left self.new.rest.now) ≡ false) }
+        ensures stays { IfErr result (λ e. (us : List Want) → Stay (declared us) (reason_of e) (left self.old.rest.now) (left self.new.rest.now)) }
     {
         let lazy = self.lazy()?;
         let kind = self.kind()?;
@@ -217,6 +236,8 @@ impl<'a> Reader<'a> {
     /// `["lazy"]`, where `nta` before it or behind it is left out.
     fn lazy(&mut self) -> Result<Option<(u32, u32)>, ReadError>
         ensures found { IfOk result (λ o. Lazy o (left self.old.rest.now) (left self.new.rest.now)) }
+        ensures goes { IfOk result (λ o. Pass true (want.Lazy ∷ []) (left self.old.rest.now) (left self.new.rest.now)) }
+        ensures stays { IfErr result (λ e. Stay (want.Lazy ∷ []) (reason_of e) (left self.old.rest.now) (left self.new.rest.now)) }
     {
         let lazy = self.takes_word("lazy");
         if self.is_before_word("nta") {
@@ -228,6 +249,7 @@ impl<'a> Reader<'a> {
     /// `name "." name "(" [params] ")"`
     fn target(&mut self) -> Result<Target, ReadError>
         ensures found { IfOk result (λ t. TargetOf t (left self.old.rest.now) (left self.new.rest.now)) }
+        ensures stays { IfErr result (λ e. (us : List Want) → Stay (want.Name ∷ want.Mark (codes ".") ∷ want.Signed ∷ us) (reason_of e) (left self.old.rest.now) (left self.new.rest.now)) }
     {
         let class = self.name()?;
         self.expects(".")?;
@@ -243,6 +265,7 @@ impl<'a> Reader<'a> {
     /// `"int" | "boolean" | "String" | name`
     fn kind(&mut self) -> Result<KindWord, ReadError>
         ensures found { IfOk result (λ k. KindOf (kind_word_view k) (left self.old.rest.now) (left self.new.rest.now)) }
+        ensures missing { IfErr result (λ e. Missing is_kind e (left self.old.rest.now) (left self.new.rest.now)) }
     {
         if let Some(at) = self.takes_word("int") {
             return Ok(KindWord {
@@ -272,6 +295,7 @@ impl<'a> Reader<'a> {
     /// `kind name`
     fn param(&mut self) -> Result<Param, ReadError>
         ensures found { IfOk result (λ p. ParamOf (param_view p) (left self.old.rest.now) (left self.new.rest.now)) }
+        ensures missing { IfErr result (λ e. NoParam e (left self.old.rest.now) (left self.new.rest.now)) }
     {
         let kind = self.kind()?;
         let name = self.name()?;
@@ -281,6 +305,7 @@ impl<'a> Reader<'a> {
     /// `"(" [kind name { "," kind name }] ")"`, behind this name.
     fn params(&mut self, name: &str) -> Result<Params, ReadError>
         ensures found { IfOk result (λ p. ParamsOf name.now (params_view p) (left self.old.rest.now) (left self.new.rest.now)) }
+        ensures stays { IfErr result (λ e. Stay (want.Opening (bytes_eq name.now (codes "getChild")) ∷ []) (reason_of e) (left self.old.rest.now) (left self.new.rest.now)) }
     {
         self.opens(name)?;
         let mut items = Vec::new(self.alloc);
@@ -301,7 +326,7 @@ impl<'a> Reader<'a> {
     fn skips_getter(&mut self, params: &Params) -> bool
         ensures { MatchBool result
             ((is_getter (params_view params.now).items ≡ true) × Sign (codes ".") (left self.old.rest.now) (left self.new.rest.now))
-            (self.new ≡ self.old) }
+            ((self.new ≡ self.old) × (is_getter (params_view params.now).items && next_is (is_sign (codes ".")) (left self.old.rest.now) ≡ false)) }
     {
         if is_getter(params) {
             self.skips(".")
@@ -315,6 +340,7 @@ impl<'a> Reader<'a> {
         ensures found { IfOk result (λ f. Behind (decl_form_view f) (left self.old.rest.now) (left self.new.rest.now)) }
         ensures keyword { IfOk result (λ f. keyword (decl_form_view f) ≡ codes "eq") }
         ensures within { IfOk result (λ f. nesting (decl_form_view f) ≤ max_nesting) }
+        ensures stays { IfErr result (λ e. Stay (want.Name ∷ want.Mark (codes ".") ∷ want.Signed ∷ want.Defined ∷ want.Decls ∷ []) (reason_of e) (left self.old.rest.now) (left self.new.rest.now)) }
     {
         let target = self.target()?;
         if self.skips_getter(&target.params) {
@@ -336,6 +362,7 @@ impl<'a> Reader<'a> {
             → Behind (decl_form_view f) old (left self.new.rest.now)) }
         ensures keyword { IfOk result (λ f. keyword (decl_form_view f) ≡ codes "eq") }
         ensures within { IfOk result (λ f. nesting (decl_form_view f) ≤ max_nesting) }
+        ensures stays { IfErr result (λ e. Stay (want.Signed ∷ want.Body ∷ want.Decls ∷ []) (reason_of e) (left self.old.rest.now) (left self.new.rest.now)) }
     {
         let name = self.name()?;
         let params = self.params(name.text.as_str())?;
@@ -354,6 +381,7 @@ impl<'a> Reader<'a> {
     fn ending(&mut self) -> Result<Ending, ReadError>
         ensures found { IfOk result (λ e. EndingOf (ending_view e) (left self.old.rest.now) (left self.new.rest.now)) }
         ensures within { IfOk result (λ e. ending_depth (ending_view e) ≤ max_nesting) }
+        ensures stays { IfErr result (λ e. Stay (want.Ending ∷ []) (reason_of e) (left self.old.rest.now) (left self.new.rest.now)) }
     {
         match self.takes(";") {
             Some(at) => Ok(Ending::Semicolon(at)),
@@ -365,6 +393,7 @@ impl<'a> Reader<'a> {
     fn body(&mut self) -> Result<Body, ReadError>
         ensures found { IfOk result (λ b. BodyOf (body_view b) (left self.old.rest.now) (left self.new.rest.now)) }
         ensures within { IfOk result (λ b. depth (body_view b).expr ≤ max_nesting) }
+        ensures stays { IfErr result (λ e. (w : Want) (d : ℕ) → table w d (first (left self.old.rest.now)) ≡ body_answer (first (left self.old.rest.now)) → Stays (w ∷ []) d (reason_of e) (left self.old.rest.now) (left self.new.rest.now)) }
     {
         if let Some(at) = self.takes("=") {
             let expr = self.expression(MAX_NESTING)?.expr;

@@ -1,12 +1,15 @@
 //! Expressions: a method for each form, which is told how deep expressions may nest in what it reads.
 
-ghost use Rattle.std.specs.Prelude.{◌≡◌, ◌∷◌, ◌≤◌, ◌<◌, IfOk, false, map};
+ghost use Rattle.std.specs.Prelude.{◌≡◌, [], ◌∷◌, ◌≤◌, ◌<◌, ◌-◌, IfOk, IfErr, false, map};
+ghost use Rattle.std.specs.Str.{bytes_eq};
 ghost use lib.Chars.{codes};
 ghost use Rattle.at_jrag.specs.Syntax.{to_exprs};
 ghost use Rattle.at_jrag.specs.View.{expr_view, fold_view};
 ghost use Rattle.at_jrag.specs.Grammar.{Row, word, next_is, is_sign, fold_text};
 ghost use Rattle.at_jrag.specs.Left.{left};
 ghost use Rattle.at_jrag.specs.Read.{Reads, LinksTo, HasArguments};
+ghost use Rattle.at_jrag.specs.Wants as want;
+ghost use Rattle.at_jrag.specs.Runs.{Goes, Moves, Halts, Stays, IsOther, reason_of};
 
 use super::forms::{
     Arguments, Measured, call, call_of, choice, fold, instance_of, leaf, operation, parenthesized,
@@ -23,6 +26,8 @@ impl<'a> Reader<'a> {
         requires limit { budget ≤ 64 }
         ensures depth { IfOk result (λ m. m.depth ≤ budget) }
         ensures found { IfOk result (λ m. Reads 0 m (left self.old.rest.now) (left self.new.rest.now)) }
+        ensures goes { IfOk result (λ m. Goes want.Expression (λ b. []) m.depth (left self.old.rest.now) (left self.new.rest.now)) }
+        ensures halts { IfErr result (λ e. Halts (want.Expression budget) (reason_of e) (left self.old.rest.now) (left self.new.rest.now)) }
     {
         let condition = self.binary(1, budget)?;
         let Some(behind) = self.takes_within("?", condition.depth, budget)? else {
@@ -41,6 +46,8 @@ impl<'a> Reader<'a> {
         requires level { level ≤ 7 }
         ensures depth { IfOk result (λ m. m.depth ≤ budget) }
         ensures found { IfOk result (λ m. Reads level m (left self.old.rest.now) (left self.new.rest.now)) }
+        ensures goes { IfOk result (λ m. Goes (want.Binary (7 - level)) (λ b. []) m.depth (left self.old.rest.now) (left self.new.rest.now)) }
+        ensures halts { IfErr result (λ e. Halts (want.Binary (7 - level) budget) (reason_of e) (left self.old.rest.now) (left self.new.rest.now)) }
     {
         if level >= UNARY {
             return self.unary(budget);
@@ -68,6 +75,8 @@ impl<'a> Reader<'a> {
         ensures deeper { IfOk result (λ m. operand.depth < m.depth) }
         ensures found { IfOk result (λ m. (old rest : Row) → Reads level operand old rest → LinksTo level link rest (left self.old.rest.now)
             → Reads level m old (left self.new.rest.now)) }
+        ensures goes { IfOk result (λ m. (start : Row) → LinksTo level link start (left self.old.rest.now) → Moves (λ b. want.Links (6 - level) b ∷ []) (λ b. want.Links (6 - level) b ∷ []) operand.depth m.depth start (left self.new.rest.now)) }
+        ensures halts { IfErr result (λ e. (start : Row) → LinksTo level link start (left self.old.rest.now) → Stays (want.Links (6 - level) budget ∷ []) operand.depth (reason_of e) start (left self.new.rest.now)) }
     {
         match link {
             Link::Operator(operator) => {
@@ -87,6 +96,8 @@ impl<'a> Reader<'a> {
         requires limit { budget ≤ 64 }
         ensures depth { IfOk result (λ m. m.depth ≤ budget) }
         ensures found { IfOk result (λ m. Reads 7 m (left self.old.rest.now) (left self.new.rest.now)) }
+        ensures goes { IfOk result (λ m. Goes want.Unary (λ b. []) m.depth (left self.old.rest.now) (left self.new.rest.now)) }
+        ensures halts { IfErr result (λ e. Halts (want.Unary budget) (reason_of e) (left self.old.rest.now) (left self.new.rest.now)) }
     {
         if budget == 0 {
             return Err(self.too_deep());
@@ -108,7 +119,10 @@ impl<'a> Reader<'a> {
         requires limit { budget ≤ 64 }
         requires first { first.depth ≤ budget }
         ensures depth { IfOk result (λ m. m.depth ≤ budget) }
+        ensures deeper { IfOk result (λ m. first.depth ≤ m.depth) }
         ensures found { IfOk result (λ m. (old : Row) → Reads 8 first old (left self.old.rest.now) → Reads 8 m old (left self.new.rest.now)) }
+        ensures goes { IfOk result (λ m. Moves (λ b. want.Calls b ∷ []) (λ b. []) first.depth m.depth (left self.old.rest.now) (left self.new.rest.now)) }
+        ensures halts { IfErr result (λ e. Stays (want.Calls budget ∷ []) first.depth (reason_of e) (left self.old.rest.now) (left self.new.rest.now)) }
     {
         let mut receiver = first;
         while let Some(_) = self.takes_within(".", receiver.depth, budget)? {
@@ -125,6 +139,8 @@ impl<'a> Reader<'a> {
         requires limit { budget ≤ 64 }
         ensures depth { IfOk result (λ a. a.depth ≤ budget) }
         ensures found { IfOk result (λ a. HasArguments name.now a (left self.old.rest.now) (left self.new.rest.now)) }
+        ensures goes { IfOk result (λ m. Goes (want.Arguments (bytes_eq name.now (codes "getChild"))) (λ b. []) m.depth (left self.old.rest.now) (left self.new.rest.now)) }
+        ensures halts { IfErr result (λ e. Halts (want.Arguments (bytes_eq name.now (codes "getChild")) budget) (reason_of e) (left self.old.rest.now) (left self.new.rest.now)) }
     {
         self.opens(name)?;
         let mut items = Vec::new(self.alloc);
@@ -151,6 +167,8 @@ impl<'a> Reader<'a> {
         ensures depth { IfOk result (λ m. m.depth ≤ budget) }
         ensures found { IfOk result (λ m. Reads 8 m (left self.old.rest.now) (left self.new.rest.now)) }
         ensures plain { IfOk result (λ m. next_is (is_sign (codes "-")) (left self.old.rest.now) ≡ false) }
+        ensures goes { IfOk result (λ m. Goes want.Primary (λ b. []) m.depth (left self.old.rest.now) (left self.new.rest.now)) }
+        ensures halts { IfErr result (λ e. Halts (want.Primary budget) (reason_of e) (left self.old.rest.now) (left self.new.rest.now)) }
     {
         if let Some(literal) = self.literal()? {
             return Ok(literal);
@@ -174,6 +192,8 @@ impl<'a> Reader<'a> {
         ensures depth { IfOk result (λ m. m.depth ≤ budget) }
         ensures found { IfOk result (λ m. Reads 8 m (left self.old.rest.now) (left self.new.rest.now)) }
         ensures plain { IfOk result (λ m. next_is (is_sign (codes "-")) (left self.old.rest.now) ≡ false) }
+        ensures goes { IfOk result (λ m. Goes want.Primary (λ b. []) m.depth (left self.old.rest.now) (left self.new.rest.now)) }
+        ensures halts { IfErr result (λ e. IsOther (left self.old.rest.now) → Halts (want.Primary budget) (reason_of e) (left self.old.rest.now) (left self.new.rest.now)) }
     {
         let name = self.name()?;
         if !self.is_before("(") {
@@ -191,6 +211,8 @@ impl<'a> Reader<'a> {
         ensures depth { IfOk result (λ m. m.depth ≤ budget) }
         ensures found { IfOk result (λ m. (old : Row) → old ≡ word (fold_text (fold_view form)) at ∷ left self.old.rest.now
             → Reads 8 m old (left self.new.rest.now)) }
+        ensures goes { IfOk result (λ m. (old : Row) → old ≡ word (fold_text (fold_view form)) at ∷ left self.old.rest.now → Goes want.Primary (λ b. []) m.depth old (left self.new.rest.now)) }
+        ensures halts { IfErr result (λ e. (old : Row) → old ≡ word (fold_text (fold_view form)) at ∷ left self.old.rest.now → Halts (want.Primary budget) (reason_of e) old (left self.new.rest.now)) }
     {
         self.expects("(")?;
         let name = self.name()?;

@@ -1,12 +1,15 @@
 //! Literals, and what they are read from.
 
-ghost use Rattle.std.specs.Prelude.{◌≡◌, ◌∷◌, List, IfOk, MatchOption, true, false, decimal};
+ghost use Rattle.std.specs.Prelude.{◌≡◌, ◌∷◌, List, IfOk, IfErr, IfNone, MatchOption, true, false, decimal};
 ghost use Rattle.std.specs.Str.{bytes_eq};
 ghost use Rattle.at_jrag.specs.Syntax as syntax;
 ghost use Rattle.at_jrag.specs.View.{expr_view};
 ghost use Rattle.at_jrag.specs.Grammar.{Row, word, number, quotation, next_is};
 ghost use Rattle.at_jrag.specs.Left.{left};
-ghost use Rattle.at_jrag.specs.Read.{IsNumber, opens_negative, is_constant, is_literal, Reads};
+ghost use Rattle.at_jrag.specs.Table.{is_decimal_within, is_quoted};
+ghost use Rattle.at_jrag.specs.Runs.{NoText, NoLiteral, NoNegative, TakesNegative};
+ghost use Rattle.at_jrag.specs.declared.reader.ReadError.TheVariants as error;
+ghost use Rattle.at_jrag.specs.Read.{IsNumber, greatest, opens_negative, is_constant, is_literal, Reads};
 
 use super::forms::{Measured, leaf};
 use super::{ReadError, Reader, is_sign};
@@ -24,15 +27,20 @@ fn is_decimal(digits: &str, value: u32) -> bool
 
 /// The number that the digits spell, with a minus before them or without.
 pub fn number(digits: &str, is_negative: bool) -> Option<i32>
-    ensures { MatchOption result (Unit {0}) (IsNumber is_negative digits.now) }
+    ensures value { MatchOption result (Unit {0}) (IsNumber is_negative digits.now) }
+    ensures none { IfNone result (is_decimal_within (greatest is_negative) digits.now ≡ false) }
 {
-    let value = digits.parse::<u32>().ok()?;
+    let Ok(value) = digits.parse::<u32>() else {
+        return None;
+    };
     if !is_decimal(digits, value) {
         return None;
     }
-    let value = i64::from(value);
-    let value = if is_negative { -value } else { value };
-    i32::try_from(value).ok()
+    match i32::try_from(value) {
+        Ok(value) => Some(if is_negative { -value } else { value }),
+        Err(_) if is_negative && value == 2147483648 => Some(i32::MIN),
+        Err(_) => None,
+    }
 }
 
 /// The literal that the reserved word is.
@@ -59,6 +67,8 @@ impl<'a> Reader<'a> {
         ensures found { IfOk result (λ o. MatchOption o
             ((self.new ≡ self.old) × (opens_negative (left self.old.rest.now) ≡ false))
             (λ m. Reads 8 m (left self.old.rest.now) (left self.new.rest.now) × (m.depth ≡ 1))) }
+        ensures taken { IfOk result (λ o. MatchOption o (Unit {0}) (λ m. TakesNegative (left self.old.rest.now) (left self.new.rest.now))) }
+        ensures refused { IfErr result (λ e. NoNegative e (left self.old.rest.now) (left self.new.rest.now)) }
     {
         match self.rest {
             [minus, digits, rest @ ..] if is_sign(minus, "-") && digits.kind == TokenKind::Number =>
@@ -80,6 +90,7 @@ impl<'a> Reader<'a> {
             ((self.new ≡ self.old) × (next_is is_literal (left self.old.rest.now) ≡ false))
             (λ m. Reads 8 m (left self.old.rest.now) (left self.new.rest.now) × (m.depth ≡ 1)
             × (next_is is_literal (left self.old.rest.now) ≡ true))) }
+        ensures refused { IfErr result (λ e. NoLiteral e (left self.old.rest.now) (left self.new.rest.now)) }
     {
         let Some(token) = self.next() else {
             return Ok(None);
@@ -108,7 +119,8 @@ impl<'a> Reader<'a> {
 
     /// The number that these digits are.
     fn digits(&self, at: (u32, u32), digits: &str) -> Result<Measured, ReadError>
-        ensures { IfOk result (λ m. ((rest : Row) → Reads 8 m (number digits.now at ∷ rest) rest) × (m.depth ≡ 1)) }
+        ensures found { IfOk result (λ m. ((rest : Row) → Reads 8 m (number digits.now at ∷ rest) rest) × (m.depth ≡ 1)) }
+        ensures refused { IfErr result (λ e. (e ≡ error.Syntax) × (is_decimal_within 2147483647 digits.now ≡ false)) }
     {
         match number(digits, false) {
             Some(value) => Ok(leaf(at, Form::Number(value))),
@@ -117,8 +129,10 @@ impl<'a> Reader<'a> {
     }
 
     /// The text of this spelling.
-    fn text(&self, at: (u32, u32), spelling: &str) -> Result<Measured, ReadError>
-        ensures { IfOk result (λ m. ((rest : Row) → Reads 8 m (quotation spelling.now at ∷ rest) rest) × (m.depth ≡ 1)) }
+    pub fn text(&self, at: (u32, u32), spelling: &str) -> Result<Measured, ReadError>
+        ensures found { IfOk result (λ m. ((rest : Row) → Reads 8 m (quotation spelling.now at ∷ rest) rest) × (m.depth ≡ 1)) }
+        ensures spelled { IfOk result (λ m. is_quoted spelling.now ≡ true) }
+        ensures refused { IfErr result (NoText spelling.now) }
     {
         match read_quoted(self.alloc, spelling) {
             Ok((value, len)) => {

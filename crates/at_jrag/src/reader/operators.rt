@@ -1,12 +1,16 @@
 //! What stands between, before and behind the parts of an expression.
 
-ghost use Rattle.std.specs.Prelude.{◌≡◌, ◌∷◌, ◌<◌, IfOk, IfSome, MatchOption, true, false};
+ghost use Rattle.std.specs.Prelude.{◌≡◌, ◌∷◌, ◌<◌, ◌≤◌, ◌+◌, ◌||◌, IfOk, IfErr, IfNone, MatchOption, true, false, cond, ◌⊎◌};
+ghost use Rattle.at_model.specs.Names.{is_name};
+ghost use Rattle.at_text.specs.Reading.{first};
+ghost use Rattle.at_jrag.specs.Table.{next_rank, link_rank, sign_rank, begins_fold, opens_unary};
+ghost use Rattle.at_jrag.specs.declared.reader.ReadError.TheVariants as error;
 ghost use lib.Chars.{codes};
 ghost use Rattle.at_text.specs.Symbols.{placed};
 ghost use Rattle.at_jrag.specs.View.{operator_view, fold_view};
-ghost use Rattle.at_jrag.specs.Grammar.{Row, sign, word, next_is, is_sign, is_word, operator_text, operator_level, fold_text, follows_cast, is_opening};
+ghost use Rattle.at_jrag.specs.Grammar.{Row, sign, word, next_is, is_sign, is_word, is_text, operator_text, operator_level, fold_text, follows_cast, is_opening};
 ghost use Rattle.at_jrag.specs.Left.{left};
-ghost use Rattle.at_jrag.specs.Read.{LinkIs, LinksTo, opens_negative, opens_cast, StandsBefore};
+ghost use Rattle.at_jrag.specs.Read.{LinkIs, LinksTo, opens_negative, opens_cast, is_constant, StandsBefore, NestsWithin};
 
 use super::literals::number;
 use super::{ReadError, Reader, is_name_token, is_sign, is_word};
@@ -38,7 +42,7 @@ pub enum Prefix {
 
 /// The operator that the sign is, and its level.
 fn operator_of(sign: &str) -> Option<(Operator, usize)>
-    ensures { IfSome result (λ o. (sign.now ≡ operator_text (operator_view o.0)) × (o.1 ≡ operator_level (operator_view o.0))) }
+    ensures { MatchOption result (sign_rank sign.now ≡ 0) (λ o. (sign.now ≡ operator_text (operator_view o.0)) × (o.1 ≡ operator_level (operator_view o.0)) × (sign_rank sign.now + o.1 ≡ 7)) }
 {
     match sign {
         "||" => Some((Operator::Or, 1)),
@@ -60,7 +64,8 @@ fn operator_of(sign: &str) -> Option<(Operator, usize)>
 
 /// What the token is behind a left operand of this level.
 fn link_of(token: &Placed<'_>, level: usize) -> Option<Link>
-    ensures { IfSome result (λ l. LinkIs level l (placed token.now)) }
+    requires { level < 7 }
+    ensures { MatchOption result (link_rank (placed token.now) + level ≡ 7 → ⊥) (λ l. LinkIs level l (placed token.now) × (link_rank (placed token.now) + level ≡ 7)) }
 {
     if level == RELATIONAL && is_word(token, "instanceof") {
         return Some(Link::InstanceOf(token.at));
@@ -79,7 +84,7 @@ fn link_of(token: &Placed<'_>, level: usize) -> Option<Link>
 
 /// The fold that the token begins.
 fn fold_of(token: &Placed<'_>) -> Option<FoldForm>
-    ensures { IfSome result (λ f. placed token.now ≡ word (fold_text (fold_view f)) token.now.at) }
+    ensures { MatchOption result (begins_fold (placed token.now) ≡ false) (λ f. (placed token.now ≡ word (fold_text (fold_view f)) token.now.at) × (begins_fold (placed token.now) ≡ true)) }
 {
     if is_word(token, "exists") {
         Some(FoldForm::Exists)
@@ -92,18 +97,23 @@ fn fold_of(token: &Placed<'_>) -> Option<FoldForm>
     }
 }
 
-/// Whether the language has expressions that begin with the token.
-fn opens_expression(token: &Placed<'_>) -> bool {
+/// Whether the language has expressions that begin with the token, which is no text.
+fn opens_expression(token: &Placed<'_>) -> bool
+    requires { is_text (placed token.now) ≡ false }
+    ensures { result ≡ opens_unary (placed token.now) }
+{
     match token.kind {
         TokenKind::Number => number(token.text, false).is_some(),
-        TokenKind::Text => true,
+        TokenKind::Text => false,
         TokenKind::Sign => token.text == "(" || token.text == "-" || token.text == "!",
         TokenKind::Word => opens_with_word(token.text),
     }
 }
 
 /// Whether the language has expressions that begin with the word.
-fn opens_with_word(word: &str) -> bool {
+fn opens_with_word(word: &str) -> bool
+    ensures { result ≡ (is_name word.now || is_constant word.now || is_opening word.now) }
+{
     is_name(word) || word == "true" || word == "false" || is_opening(word)
 }
 
@@ -136,6 +146,7 @@ impl<'a> Reader<'a> {
         ensures found { IfOk result (λ o. MatchOption o
             ((self.new ≡ self.old) × (next_is (is_sign text.now) (left self.old.rest.now) ≡ false))
             (λ at. (left self.old.rest.now ≡ sign text.now at ∷ left self.new.rest.now) × (depth < budget))) }
+        ensures refused { IfErr result (λ e. (e ≡ error.Nesting) × (self.new ≡ self.old) × (next_is (is_sign text.now) (left self.old.rest.now) ≡ true) × (budget ≤ depth)) }
     {
         if self.is_before(text) && budget <= depth {
             return Err(ReadError::Nesting);
@@ -150,8 +161,11 @@ impl<'a> Reader<'a> {
         depth: usize,
         budget: usize,
     ) -> Result<Option<Link>, ReadError>
+        requires level { level < 7 }
         ensures found { IfOk result (λ o. MatchOption o (self.new ≡ self.old)
             (λ l. (depth < budget) × LinksTo level l (left self.old.rest.now) (left self.new.rest.now))) }
+        ensures none { IfOk result (λ o. IfNone o (next_rank (first (left self.old.rest.now)) + level ≡ 7 → ⊥)) }
+        ensures refused { IfErr result (λ e. (e ≡ error.Nesting) × (self.new ≡ self.old) × (budget ≤ depth) × (next_rank (first (left self.old.rest.now)) + level ≡ 7)) }
     {
         let link = match self.rest {
             [token, ..] => link_of(token, level),
@@ -168,10 +182,22 @@ impl<'a> Reader<'a> {
     }
 
     /// The fault where no expression may nest any more.
-    pub fn too_deep(&self) -> ReadError {
-        match self.rest {
-            [token, ..] if opens_expression(token) => ReadError::Nesting,
-            _ => ReadError::Syntax,
+    pub fn too_deep(&self) -> ReadError
+        ensures { (result ≡ error.Memory) ⊎ (result ≡ cond (next_is opens_unary (left self.now.rest.now)) error.Nesting error.Syntax) }
+    {
+        let [token, ..] = self.rest else {
+            return ReadError::Syntax;
+        };
+        if token.kind == TokenKind::Text {
+            return match self.text(token.at, token.text) {
+                Ok(_) => ReadError::Nesting,
+                Err(e) => e,
+            };
+        }
+        if opens_expression(token) {
+            ReadError::Nesting
+        } else {
+            ReadError::Syntax
         }
     }
 
@@ -179,6 +205,8 @@ impl<'a> Reader<'a> {
     pub fn fold_word(&mut self, budget: usize) -> Result<Option<((u32, u32), FoldForm)>, ReadError>
         ensures found { IfOk result (λ o. MatchOption o (self.new ≡ self.old)
             (λ f. (1 < budget) × (left self.old.rest.now ≡ word (fold_text (fold_view f.1)) f.0 ∷ left self.new.rest.now))) }
+        ensures none { IfOk result (λ o. IfNone o (next_is begins_fold (left self.old.rest.now) ≡ false)) }
+        ensures refused { IfErr result (λ e. (e ≡ error.Nesting) × (self.new ≡ self.old) × (budget ≤ 1) × (next_is begins_fold (left self.old.rest.now) ≡ true)) }
     {
         let [token, ..] = self.rest else {
             return Ok(None);
@@ -212,6 +240,7 @@ impl<'a> Reader<'a> {
     fn cast(&mut self) -> Result<((u32, u32), Prefix), ReadError>
         requires { opens_cast (left self.now.rest.now) ≡ true }
         ensures found { IfOk result (λ p. StandsBefore p.1 p.0 (left self.old.rest.now) (left self.new.rest.now)) }
+        ensures refused { IfErr result (λ e. e ≡ error.Memory) }
     {
         let at = self.expects("(")?;
         let class = self.name()?;
@@ -225,6 +254,10 @@ impl<'a> Reader<'a> {
         ensures found { IfOk result (λ o. MatchOption o
             ((self.new ≡ self.old) × (next_is (is_sign (codes "-")) (left self.old.rest.now) ≡ false))
             (λ p. StandsBefore p.1 p.0 (left self.old.rest.now) (left self.new.rest.now))) }
+        ensures within { IfOk result (λ o. MatchOption o (Unit {0}) (λ p. NestsWithin p.1 budget)) }
+        ensures none { IfOk result (λ o. IfNone o ((next_is (is_sign (codes "!")) (left self.old.rest.now) ≡ false) × (opens_cast (left self.old.rest.now) ≡ false))) }
+        ensures refused { IfErr result (λ e. (e ≡ error.Memory) ⊎ ((e ≡ error.Nesting) × (self.new ≡ self.old) × (budget ≤ 1)
+            × ((next_is (is_sign (codes "!")) (left self.old.rest.now) ≡ true) ⊎ (opens_cast (left self.old.rest.now) ≡ true)))) }
     {
         if let Some(at) = self.takes("-") {
             return Ok(Some((at, Prefix::Minus)));
@@ -232,9 +265,12 @@ impl<'a> Reader<'a> {
         if let Some(at) = self.takes_within("!", 1, budget)? {
             return Ok(Some((at, Prefix::Not)));
         }
-        if budget > 1 && self.is_at_cast() {
-            return Ok(Some(self.cast()?));
+        if !self.is_at_cast() {
+            return Ok(None);
         }
-        Ok(None)
+        if budget <= 1 {
+            return Err(ReadError::Nesting);
+        }
+        Ok(Some(self.cast()?))
     }
 }
