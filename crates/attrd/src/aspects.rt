@@ -1,13 +1,6 @@
-//! Aspects whose attributes are synthesized numbers (JastAdd2 reference manual, "Aspects"): the rules
-//! that declarations make over a class table, and which fault they have.
+//! Aspects whose attributes are synthesized numbers (JastAdd2 reference manual, "Aspects"): what is
+//! read of a text, and the rules that it makes over a class table.
 
-mod accessors;
-pub mod attributes;
-mod building;
-mod checks;
-pub mod fault;
-mod left_out;
-mod located;
-mod meaning;
+pub mod reader;
 pub mod rules;
-mod typing;
+pub mod syntax;
