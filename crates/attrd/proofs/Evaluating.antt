@@ -27,7 +27,7 @@ after_value look (Looks l h) k a is = after_value look (h (look l)) k a is
 after_value look (Demands i h) k a is = absurd cc
 
 -- the component that a class has stands in a tree of it
-component_held : (classes : Classes) (cs : Cells) (ps : List Component) (i : ℕ) (p : Component) → cells_conform classes cs ps ≡ true → slice_get ps i ≡ Some p → (c : Cell) × (slice_get (from_cells cs) i ≡ Some c) × (cell_conforms classes c p.shape ≡ true)
+pub component_held : (classes : Classes) (cs : Cells) (ps : List Component) (i : ℕ) (p : Component) → cells_conform classes cs ps ≡ true → slice_get ps i ≡ Some p → (c : Cell) × (slice_get (from_cells cs) i ≡ Some c) × (cell_conforms classes c p.shape ≡ true)
 component_held classes no_cells [] i p h is = absurd (none-some p is)
 component_held classes no_cells (q ∷ qs) i p h is = absurd cc
 component_held classes (cell c cs) [] i p h is = absurd cc

@@ -4,14 +4,11 @@ use Rattle.std.proofs.lemmas.List.{take-append-drop}
 use Rattle.std.proofs.Math.Seq.{take-append-add}
 use Rattle.std.proofs.lemmas.Fmt.{length-decimal-le_succ}
 use Rattle.std.proofs.lemmas.Bool.{cases_lt}
-use Rattle.attrd.specs.declared.aspects.rules.Rules.{Rules}
+use Rattle.at_model.specs.Rules.{Rules}
 use Rattle.at_model.specs.Lines.{Line, Spells, BeginsWith, IsSpaceOrEnd, IsSessionOf}
 use Rattle.at_model.specs.Replies.{Reply}
-use Rattle.at_model.specs.Machine.{State}
-use Rattle.attrd.specs.Serving.{Serves, Handles}
-use Rattle.at_protocol.specs.declared.reply.Reply.{Reply as ReplyValue}
-use Rattle.attrd.specs.Lines.{Gets, obeyed, refused}
-use Rattle.attrd.specs.Served.{TokenEdit}
+use Rattle.at_model.specs.Machine.{State, ByEquations, Handles, obeys, refuses}
+use Rattle.attrd.specs.Serving.{Serves}
 use Rattle.attrd.specs.Loop.{kept}
 use Rattle.attrd.proofs.Kept.{kept-short, length-kept}
 
@@ -55,16 +52,13 @@ unfolding kept
 session_kept line (Some session) long b = long_begins 65536 line session (subst (λ (n : ℕ). length (decimal session) < n) (sym (length-kept line long)) (short_session session b.exists)) b
 session_kept line None long none = λ session b. none session (long_begun 65536 line session (short_session session b.exists) b)
 
-too_long : (rules : Rules) (line : List ℕ) → 65536 ≤ length line → (l : Line) → Spells line l → ⊥
-too_long rules line long l s = omega (arith, long, s.short)
+too_long : (line : List ℕ) → 65536 ≤ length line → (l : Line) → Spells line l → ⊥
+too_long line long l s = omega (arith, long, s.short)
 
-gets_kept : (rules : Rules) (old : State) (line : List ℕ) (value : ReplyValue) (edit : Option TokenEdit) → 65536 ≤ length line
-    → Gets rules old.tree old.version (kept line) value edit → Gets rules old.tree old.version line value edit
-gets_kept rules old line value edit long (obeyed l s session does) = absurd (omega (arith, length-kept line long, s.short))
-gets_kept rules old line value edit long (refused none session form none') = refused (too_long rules line long) (session_kept line value.session long session) form none'
-
-handles_kept : (rules : Rules) (old new : State) (line : List ℕ) (reply : Reply) → 65536 ≤ length line → Handles rules old (kept line) new reply → Handles rules old line new reply
-handles_kept rules old new line reply long h = record { value = h.value; edit = h.edit; gets = gets_kept rules old line h.value h.edit long h.gets; stands = h.stands; state = h.state }
+handles_kept : (rules : Rules) (old new : State) (line : List ℕ) (reply : Reply) → 65536 ≤ length line
+    → Handles rules (ByEquations rules) old (kept line) new reply → Handles rules (ByEquations rules) old line new reply
+handles_kept rules old new line reply long (obeys l s step) = absurd (omega (arith, length-kept line long, s.short))
+handles_kept rules old new line reply long (refuses none session state form) = refuses (too_long line long) (session_kept line reply.session long session) state form
 
 long_serves : (rules : Rules) (wants : Bool) (old new : State) (line : List ℕ) (reply : Reply) → 65536 ≤ length line
     → Serves rules wants old (kept line) new reply → Serves rules wants old line new reply

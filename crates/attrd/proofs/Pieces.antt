@@ -1,7 +1,7 @@
 -- Bytes cut at newlines, piece by piece.
 use Rattle.std.proofs.Common.{◌≡◌, ℕ, Bool, true, false, cond, nat_eq, List, [], ◌∷◌, ◌++◌, filter, refl, sym, ap, ◌∙◌, append_assoc, append-nil, subst}
 use Rattle.at_model.specs.Lines.{pieces, onto_first}
-use Rattle.attrd.specs.declared.aspects.rules.Rules.{Rules}
+use Rattle.at_model.specs.Rules.{Rules}
 use Rattle.at_model.specs.Replies.{reply_text}
 use Rattle.at_model.specs.Machine.{State}
 use Rattle.attrd.specs.Serving.{Runs}

@@ -2,7 +2,7 @@
 use Rattle.std.proofs.Common.{◌≡◌, ℕ, suc, ◌-◌, ◌≤◌, Bool, true, List, [], ◌∷◌, ◌++◌, length, take, filter, refl, sym, ap, ◌∙◌, append_assoc, append-nil, subst, arith, length-append, Option, Result, Ok, Err}
 use Rattle.std.proofs.KnownBytes.{Appends-trans, Appends-nil, Consumes-trans}
 use Rattle.std.specs.Io.KnownBytes.{Consumes, IsAtEnd}
-use Rattle.attrd.specs.declared.aspects.rules.Rules.{Rules}
+use Rattle.at_model.specs.Rules.{Rules}
 use Rattle.at_model.specs.Lines.{lines, pieces, is_filled}
 use Rattle.at_model.specs.Replies.{Reply, reply_text}
 use Rattle.at_model.specs.Machine.{State}

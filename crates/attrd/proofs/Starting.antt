@@ -25,10 +25,10 @@ none_named named None h = refl
 none_named named (Some b) h = absurd cc
 
 shape_plain : (f : Form) (c : ℕ) (kind : TokenKind) → is_plain_form f ≡ true → IsPlainShape (shape_in f c kind)
-shape_plain One c kind h = tt
+shape_plain One c kind h = refl
 shape_plain Many c kind h = absurd cc
 shape_plain Maybe c kind h = absurd cc
-shape_plain Tok c kind h = tt
+shape_plain Tok c kind h = refl
 
 parts_plain : (named : List ℕ → Option ℕ) (ps : List PartDeclaration) (part : ℕ) (p : Component) → list_all is_plain_part ps ≡ true → slice_get (map (component_by named) ps) part ≡ Some p → IsPlainShape p.shape
 parts_plain named [] part p h is = absurd cc

@@ -1,11 +1,11 @@
 -- What the bodies of equations stand for.
 use Rattle.at_model.specs.Bodies.{Expr, IntLiteral, This, Negate, Arithmetic, Child, TokenOf, Operator as Arithmetical, Times, Plus, Minus}
-use Rattle.attrd.specs.declared.aspects.syntax.Operator.{Operator}
-use Rattle.attrd.specs.declared.aspects.syntax.Operator.TheVariants.{Add, Subtract, Multiply}
-use Rattle.attrd.specs.declared.aspects.rules.NodeExpr.{NodeExpr}
-use Rattle.attrd.specs.declared.aspects.rules.NodeExpr as node
-use Rattle.attrd.specs.declared.aspects.rules.IntExpr.{IntExpr}
-use Rattle.attrd.specs.declared.aspects.rules.IntExpr as int
+use Rattle.attrd.specs.declared.aspects.attributes.Operator.{Operator}
+use Rattle.attrd.specs.declared.aspects.attributes.Operator.TheVariants.{Add, Subtract, Multiply}
+use Rattle.attrd.specs.declared.aspects.attributes.NodeExpr.{NodeExpr}
+use Rattle.attrd.specs.declared.aspects.attributes.NodeExpr as node
+use Rattle.attrd.specs.declared.aspects.attributes.IntExpr.{IntExpr}
+use Rattle.attrd.specs.declared.aspects.attributes.IntExpr as int
 
 abbrev pub operator_view : Operator → Arithmetical
 operator_view Add = Plus

@@ -1,7 +1,7 @@
 -- Bytes that come in pieces of any size, and the lines that are served by them.
 use Rattle.std.specs.Prelude.{◌≡◌, ℕ, ◌≤◌, Bool, List, [], ◌∷◌, ◌++◌, length, take, filter}
 use Rattle.at_model.specs.Lines.{pieces, is_filled}
-use Rattle.attrd.specs.declared.aspects.rules.Rules.{Rules}
+use Rattle.at_model.specs.Rules.{Rules}
 use Rattle.at_model.specs.Machine.{State}
 use Rattle.attrd.specs.Serving.{Runs}
 

@@ -10,11 +10,14 @@ abbrev pub AreFlat : Classes → Type 0
 AreFlat classes = (c : ℕ) → parent_of classes c ≡ None
 
 -- a plain child, or a token
+abbrev pub is_plain_shape : Shape → Bool
+is_plain_shape (class.One b) = true
+is_plain_shape (class.Many b) = false
+is_plain_shape (class.Maybe b) = false
+is_plain_shape (class.Token kind) = true
+
 abbrev pub IsPlainShape : Shape → Type 0
-IsPlainShape (class.One b) = Unit {0}
-IsPlainShape (class.Many b) = ⊥
-IsPlainShape (class.Maybe b) = ⊥
-IsPlainShape (class.Token kind) = Unit {0}
+IsPlainShape shape = is_plain_shape shape ≡ true
 
 -- no class has a list or an optional
 abbrev pub ArePlain : Classes → Type 0

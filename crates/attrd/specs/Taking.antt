@@ -3,7 +3,7 @@ use Rattle.std.specs.Prelude.{◌≡◌, ℕ, ◌+◌, Bool, List, [], ◌∷◌
 use Rattle.std.specs.Io.KnownBytes.{Appends}
 use Rattle.attrd.specs.declared.stream.desk.RunFault.{RunFault}
 use Rattle.attrd.specs.declared.stream.desk.RunFault.TheVariants as fault
-use Rattle.attrd.specs.declared.aspects.rules.Rules.{Rules}
+use Rattle.at_model.specs.Rules.{Rules}
 use Rattle.at_model.specs.Lines.{is_filled}
 use Rattle.at_model.specs.Machine.{State}
 use Rattle.attrd.specs.Serving.{Runs}

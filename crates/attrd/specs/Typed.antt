@@ -1,15 +1,19 @@
 -- What is known of an expression with its kind.
-use Rattle.std.specs.Prelude.{◌≡◌, ℕ, ◌<◌, true, length, Some, option_and_then}
+use Rattle.std.specs.Prelude.{◌≡◌, ℕ, ◌<◌, true, length, Some, option_and_then, Result, Ok, Err}
 use Rattle.at_model.specs.Classes.{Classes, Shape, IsShapeWithin}
 use Rattle.at_model.specs.Bodies.{Expr}
 use Rattle.attrd.specs.Kinds.{node_class, is_number, shape_of}
 use Rattle.attrd.specs.Bodies.{node_view, int_view}
 use Rattle.at_class.specs.declared.part.TokenKind.{TokenKind}
 use Rattle.at_class.specs.declared.part.TokenKind.TheVariants as kind
-use Rattle.attrd.specs.declared.aspects.rules.NodeExpr.{NodeExpr}
-use Rattle.attrd.specs.declared.aspects.rules.IntExpr as int
-use Rattle.attrd.specs.declared.aspects.rules.Typed.{Typed}
-use Rattle.attrd.specs.declared.aspects.rules.Typed.TheVariants.{Int, Node, Text, Truth}
+use Rattle.attrd.specs.declared.aspects.attributes.NodeExpr.{NodeExpr}
+use Rattle.attrd.specs.declared.aspects.attributes.IntExpr as int
+use Rattle.attrd.specs.Judging.{Kinded, Judged, Is, Wrong}
+use Rattle.attrd.specs.Judging as judging
+use Rattle.attrd.specs.declared.aspects.typing.Typed.{Typed}
+use Rattle.attrd.specs.declared.aspects.typing.Typed.TheVariants.{Int, Node, Text, Truth}
+use Rattle.attrd.specs.declared.aspects.typing.TypeFault.{TypeFault}
+use Rattle.attrd.specs.declared.aspects.typing.TypeFault.TheVariants.{Refused, Memory}
 
 -- it is of its kind, where `this` is a node of class c; a node's class is there
 abbrev pub IsTyped : Classes → ℕ → Typed → Type 0
@@ -28,3 +32,16 @@ abbrev pub typed_token : NodeExpr → ℕ → TokenKind → Typed
 typed_token e part kind.Int = Int (int.Token e part)
 typed_token e part kind.Str = Text
 typed_token e part kind.Bool = Truth
+
+-- its kind, and what it means
+abbrev pub kinded : Typed → Kinded
+kinded (Int body) = judging.Int (int_view body)
+kinded (Node e b) = judging.Node (node_view e) b
+kinded Text = judging.Text
+kinded Truth = judging.Truth
+
+-- it is what an expression is judged to be, or its first fault; of want of memory nothing is said
+abbrev pub Judges : Judged → Result Typed TypeFault → Type 0
+Judges j (Ok t) = j ≡ Is (kinded t)
+Judges j (Err (Refused code at)) = j ≡ Wrong code at
+Judges j (Err Memory) = Unit {0}

@@ -1,6 +1,13 @@
-//! Aspects whose attributes are synthesized numbers (JastAdd2 reference manual, "Aspects"): what is
-//! read of a text, and the rules that it makes over a class table.
+//! Aspects whose attributes are synthesized numbers (JastAdd2 reference manual, "Aspects"): the rules
+//! that declarations make over a class table, and which fault they have.
 
-pub mod reader;
+mod accessors;
+pub mod attributes;
+mod building;
+mod checks;
+pub mod fault;
+mod left_out;
+mod located;
+mod meaning;
 pub mod rules;
-pub mod syntax;
+mod typing;

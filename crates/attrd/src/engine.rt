@@ -3,17 +3,17 @@
 ghost use Rattle.std.specs.Prelude.{◌≡◌};
 ghost use Rattle.at_tree.specs.Token.{token_view};
 ghost use Rattle.at_tree.specs.TreeView.{tree_view};
-ghost use Rattle.attrd.specs.Served.{IsWhole};
+ghost use Rattle.attrd.specs.Served.{IsWhole, IsWithin};
 ghost use Rattle.attrd.specs.Tokens.{is_same_kind};
 
 use crate::aspects::rules::Rules;
 use crate::evaluate::value_at;
-use crate::node::{is_long, node_at, set_token, token_at};
+use crate::node::{is_long, is_within_limits, node_at, set_token, token_at};
 use at_protocol::line::{Command, LineFault, read_line, session_of};
 use at_protocol::reply::{Form, Refusal, Reply, write_reply};
 use at_tree::path::Path;
 use at_tree::token::TokVal;
-use at_tree::tree::{Tree, write_term};
+use at_tree::tree::{Tree, fits, write_term};
 use std::alloc::{AllocError, Global};
 
 /// How many bytes each reply has at most that is no term.
@@ -22,11 +22,22 @@ pub const REPLY_ROOM: usize = 48;
 /// Answers questions about one tree, which edits change.
 #[derive(Drop)]
 pub struct Engine {
-    alloc: Global,
+    /// Where all memory comes from.
+    pub alloc: Global,
     rules: Rules,
     tree: Tree,
     version: u64,
     ghost whole: { IsWhole rules.classes (tree_view tree) },
+    ghost within: { IsWithin (tree_view tree) },
+}
+
+/// Why a tree is none for an engine.
+#[derive(Debug, Drop)]
+pub enum LoadFault {
+    /// It doesn't conform to the start class.
+    Fit,
+    /// It has too many nodes, is too deep, or has a token whose text is too long.
+    Limit,
 }
 
 /// An edit that is accepted: a token of a node gets a value.
@@ -64,7 +75,7 @@ impl Outcome {
 }
 
 impl Engine {
-    ghost use Rattle.std.specs.Prelude.{◌≡◌, ◌++◌, ◌+◌, ◌<◌, ◌≤◌, true, false, length, IfOk, OnErr, Some, option_map, vec_len, vec_capacity};
+    ghost use Rattle.std.specs.Prelude.{◌≡◌, ◌++◌, ◌+◌, ◌<◌, ◌≤◌, true, false, length, IfOk, IfErr, OnOk, OnErr, Some, option_map, vec_len, vec_capacity};
     ghost use Rattle.at_model.specs.Lines.{IsSessionOf};
     ghost use Rattle.at_model.specs.Replies.{Reply as ModelReply, Memory, reply_text};
     ghost use Rattle.attrd.specs.Served.{served, MayDo, done};
@@ -78,22 +89,32 @@ impl Engine {
     ghost use Rattle.attrd.specs.Nodes.{tree_on};
     ghost use Rattle.at_tree.specs.PathView.{path_view};
     ghost use Rattle.attrd.specs.Engines.{engine_view, rules_of, state_of};
-    ghost use Rattle.attrd.specs.Serving.{Serves};
-    ghost use Rattle.at_model.specs.Trees.{conforms};
+    ghost use Rattle.attrd.specs.Serving.{Serves, Steps};
+    ghost use Rattle.attrd.specs.Loading.{IsLoadFault};
     ghost use Rattle.at_tree.specs.TreeView.{tree_view};
 
-    /// An engine of version 0, for a tree of the rules' classes.
-    pub fn new(alloc: Global, rules: Rules, tree: Tree) -> Engine
-        requires { conforms rules.classes (tree_view tree) 0 ≡ true }
-        ensures rules { rules_of result ≡ rules }
-        ensures state { engine_view result ≡ served rules (tree_view tree) 0 }
+    /// An engine of version 0 with these rules and this tree.
+    ///
+    /// # Errors
+    ///
+    /// `Fit` where the tree doesn't conform to the start class, else `Limit` where it is beyond the
+    /// limits of a tree.
+    pub fn new(alloc: Global, rules: Rules, tree: Tree) -> Result<Engine, LoadFault>
+        ensures loaded { IfOk result (λ e. engine_view e ≡ served rules (tree_view tree) 0) }
+        ensures fault { IfErr result (IsLoadFault rules.classes (tree_view tree)) }
     {
-        Engine {
+        if !fits(&rules.classes, &tree, rules.classes.start()) {
+            return Err(LoadFault::Fit);
+        }
+        if !is_within_limits(&tree) {
+            return Err(LoadFault::Limit);
+        }
+        Ok(Engine {
             alloc,
             rules,
             tree,
             version: 0,
-        }
+        })
     }
 
     /// The tree as it is.
@@ -107,12 +128,8 @@ impl Engine {
     pub fn version(&self) -> u64
         ensures { result ≡ (engine_view self.now).state.version }
     {
-        self.version
-    }
-
-    /// The allocator of whatever it takes.
-    pub fn allocator(&self) -> Global {
-        self.alloc
+        let Engine { version, .. } = self;
+        *version
     }
 
     /// Appends the reply to a line, which is given without its newline; to an empty one nothing.
@@ -122,9 +139,11 @@ impl Engine {
     /// Where room for 48 bytes is refused, and then nothing has changed. Every other want of memory
     /// is a reply.
     pub fn line(&mut self, line: &[u8], out: &mut Vec<u8>) -> Result<(), AllocError>
+        // One step of the machine, or want of memory and the state as it was.
+        ensures steps { OnOk result (Steps (rules_of self.old) (state_of self.old) line.now (state_of self.new) out.old.items out.new.items) }
+        ensures rules { rules_of self.new ≡ rules_of self.old }
         ensures full { OnErr result (vec_capacity out.old < vec_len out.old + 48) }
         ensures err { OnErr result ((out.new.items ≡ out.old.items) × (engine_view self.new ≡ engine_view self.old)) }
-        ensures empty { length line.now ≡ 0 → (out.new.items ≡ out.old.items) × (engine_view self.new ≡ engine_view self.old) }
     {
         if line.is_empty() {
             return Ok(out.reserve(REPLY_ROOM)?);
@@ -270,7 +289,8 @@ impl Engine {
 
     /// Does the edit, where there is one.
     fn commit_all(&mut self, edit: Option<Edit>)
-        requires { MayDo (engine_view self.old) (option_map edit_view edit) }
+        requires may { MayDo (engine_view self.old) (option_map edit_view edit) }
+        requires within { IsWithin (done (engine_view self.old) (option_map edit_view edit)).state.tree }
         ensures done { engine_view self.new ≡ done (engine_view self.old) (option_map edit_view edit) }
         ensures rules { rules_of self.new ≡ rules_of self.old }
     {
@@ -281,18 +301,14 @@ impl Engine {
 
     /// Does an edit that is accepted.
     fn commit(&mut self, edit: Edit)
-        requires { MayDo (engine_view self.old) (Some (edit_view edit)) }
+        requires may { MayDo (engine_view self.old) (Some (edit_view edit)) }
+        requires within { IsWithin (done (engine_view self.old) (Some (edit_view edit))).state.tree }
         ensures done { engine_view self.new ≡ done (engine_view self.old) (Some (edit_view edit)) }
         ensures rules { rules_of self.new ≡ rules_of self.old }
     {
         let Edit { path, part, value } = edit;
-        set_token(
-            &self.rules.classes,
-            &mut self.tree,
-            &path.steps,
-            part,
-            value,
-        );
+        let rules = &self.rules;
+        set_token(&rules.classes, &mut self.tree, &path.steps, part, value);
         self.version += 1;
     }
 }

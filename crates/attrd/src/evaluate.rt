@@ -5,8 +5,7 @@ ghost use Rattle.at_tree.specs.TreeView.{tree_view, cell_view};
 ghost use Rattle.attrd.specs.Bodies.{node_view, int_view, operator_view};
 ghost use Rattle.attrd.specs.Evaluation.{plain_or, int_or_zero, node_in, operated, number_in, IsFound};
 
-use crate::aspects::rules::{IntExpr, NodeExpr};
-use crate::aspects::syntax::Operator;
+use crate::aspects::attributes::{IntExpr, NodeExpr, Operator};
 use crate::node::cell_in;
 use at_tree::token::TokVal;
 use at_tree::tree::{Cell, Tree};

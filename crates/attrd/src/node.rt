@@ -5,7 +5,7 @@ ghost use Rattle.std.specs.Prelude.{◌≡◌, ◌<◌, Some, IfSome, not, optio
 ghost use Rattle.at_tree.specs.TreeView.{tree_view, cell_view};
 ghost use Rattle.at_tree.specs.PathView.{step_view, steps_view};
 ghost use Rattle.attrd.specs.Nodes.{Conforms, HoldsConforming, child_in, stepped, tree_on, token_in, token_on, with_plain_child, set_on};
-ghost use Rattle.at_model.specs.Edits.{with_cell, is_short, tokens_short, cell_tokens_short, trees_tokens_short};
+ghost use Rattle.at_model.specs.Edits.{with_cell, is_short, is_within_limits, tokens_short, cell_tokens_short, trees_tokens_short};
 ghost use Rattle.at_model.specs.Trees.{Holds, to_trees};
 ghost use Rattle.at_tree.specs.Token.{token_view};
 ghost use Rattle.at_tree.specs.declared.tree.Tree.{out-Tree};
@@ -14,7 +14,7 @@ ghost use Rattle.std.specs.Option.{option_copied};
 use at_class::ClassTable;
 use at_tree::path::Step;
 use at_tree::token::TokVal;
-use at_tree::tree::{Cell, Tree};
+use at_tree::tree::{Cell, Tree, depth, nodes};
 
 /// The cell at that position.
 pub fn cell_in(node: &Tree, part: usize) -> Option<&Cell>
@@ -121,6 +121,19 @@ fn replace_cell(tree: &mut Tree, part: usize, cell: Cell)
     if part < tree.cells.len() {
         tree.cells[part] = cell;
     }
+}
+
+/// How many nodes a tree may have.
+const MAX_NODES: usize = 65536;
+
+/// How deep a tree may be.
+const MAX_DEPTH: usize = 512;
+
+/// Whether the tree has no more nodes, is no deeper and has no longer token than a tree may.
+pub fn is_within_limits(tree: &Tree) -> bool
+    ensures { result ≡ is_within_limits (tree_view tree.now) }
+{
+    nodes(tree) <= MAX_NODES && depth(tree) <= MAX_DEPTH && !has_long_token(tree)
 }
 
 /// Whether a token of the tree is longer than a text may be.

@@ -142,7 +142,7 @@ pub fn run<R: Read, W: Write>(
     ensures rules { rules_of engine.new ≡ rules_of engine.old }
 {
     let version = engine.version();
-    let Ok(mut desk) = Desk::new(engine.allocator()) else {
+    let Ok(mut desk) = Desk::new(engine.alloc) else {
         return Err(RunFault::Memory);
     };
     let mut piece = [0u8; PIECE];

@@ -308,6 +308,77 @@ fn aspects_are_refused_by_their_first_fault(rt: HostRuntime) -> Result<(), Fail>
     Ok(())
 }
 
+/// The text with which two aspect files are refused, or nothing where they are not.
+fn refusal_of_two(alloc: Global, first: &str, second: &str) -> Result<Vec<u8>, Fail> {
+    let mut files = files(alloc, GRAMMAR, first, TREE)?;
+    files.aspects.push(named(alloc, "more.jrag", second)?)?;
+    let mut text = Vec::new(alloc);
+    if let Err(fault) = start(alloc, &files) {
+        write_fault(&files, &fault, &mut text)?;
+    }
+    Ok(text)
+}
+
+#[test]
+fn all_files_are_read_before_other_rules(rt: HostRuntime) -> Result<(), Fail> {
+    let alloc = rt.alloc();
+    let unknown = "aspect S { syn int Sum.a() = b(); }";
+    let text = refusal_of_two(alloc, unknown, "aspect T { syn")?;
+    assert_eq!(rt;
+        text.as_slice(),
+        b"more.jrag: J1 syntax at 1:15\n".as_slice()
+    );
+    let text = refusal_of_two(alloc, unknown, "aspect T { syn int Num.a() = 1 / 2; }")?;
+    assert_eq!(rt;
+        text.as_slice(),
+        b"more.jrag: J10 form left out at 1:32\n".as_slice()
+    );
+    let text = refusal_of_two(alloc, unknown, "aspect T { syn int Sum.a() = 2; }")?;
+    assert_eq!(rt;
+        text.as_slice(),
+        b"more.jrag: J2 attribute twice at 1:12\n".as_slice()
+    );
+    let text = refusal_of_two(alloc, unknown, "aspect T { syn int Num.a() = this; }")?;
+    assert_eq!(rt;
+        text.as_slice(),
+        b"sum.jrag: J3 unknown name at 1:30\n".as_slice()
+    );
+    let text = refusal_of_two(alloc, ASPECT, "aspect T { syn int Num.a() = this; }")?;
+    assert_eq!(rt; text.as_slice(), b"more.jrag: J4 kind at 1:30\n".as_slice());
+    Ok(())
+}
+
+#[test]
+fn texts_are_told_from_numbers(rt: HostRuntime) -> Result<(), Fail> {
+    let alloc = rt.alloc();
+    let grammar = "A ::= <Name> <Flag:boolean>;";
+    let text = refusal(
+        alloc,
+        grammar,
+        "aspect S { syn int A.a() = getName().equals(); }",
+        TREE,
+    )?;
+    assert_eq!(rt;
+        text.as_slice(),
+        b"sum.jrag: J5 argument at 1:28\n".as_slice()
+    );
+    let text = refusal(
+        alloc,
+        grammar,
+        "aspect S { syn int A.a() = 2 * (getName() + 1); }",
+        TREE,
+    )?;
+    assert_eq!(rt; text.as_slice(), b"sum.jrag: J4 kind at 1:28\n".as_slice());
+    let text = refusal(
+        alloc,
+        grammar,
+        "aspect S { syn int A.a() = 2 + (-getFlag()); }",
+        TREE,
+    )?;
+    assert_eq!(rt; text.as_slice(), b"sum.jrag: J4 kind at 1:33\n".as_slice());
+    Ok(())
+}
+
 /// The front of the aspect `aspect S { syn int Sum.a() = 1; }` in that many pairs of parentheses.
 fn parenthesized(alloc: Global, pairs: usize) -> Result<String, AllocError> {
     let mut text = String::from_str(alloc, "aspect S { syn int Sum.a() = ")?;

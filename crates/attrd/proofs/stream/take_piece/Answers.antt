@@ -1,7 +1,7 @@
 use Rattle.std.proofs.Common.{◌∙◌, ◌+◌, ◌<◌, sym, ap, subst, List, ℕ, [], ◌∷◌, ◌++◌, length, take, drop, get_or, arith, refl}
 use Rattle.std.proofs.lemmas.Result.{err_from_is_err_and}
 use Rattle.std.proofs.lemmas.List.{take-append-drop, take_more}
-use Rattle.attrd.specs.declared.aspects.rules.Rules.{Rules}
+use Rattle.at_model.specs.Rules.{Rules}
 use Rattle.attrd.specs.Taking.{Takes, Stops}
 use Rattle.attrd.specs.Engines.{state_of, rules_of}
 use Rattle.attrd.proofs.Takings.{took_nothing, took_more, stopped_later, stopped_before}

@@ -4,6 +4,7 @@ use Rattle.at_tree.specs.Token.{token_view}
 use Rattle.at_tree.specs.TreeView.{tree_view}
 use Rattle.at_tree.specs.PathView.{path_view, steps_view}
 use Rattle.attrd.specs.Nodes.{set_on}
+use Rattle.attrd.specs.Served.{IsWithin}
 use Rattle.attrd.proofs.Keeping.{set_kept}
 use Rattle.attrd.proofs.engine.Engine.commit.Goals as goal
 
@@ -13,4 +14,7 @@ invariant_of-self c =
     let old = tree_view c.args.self.now.tree in
     let v = token_view c.args.edit.value in
     let left = c.set_token.ensures ∙ ap (λ ss. set_on classes old (steps_view ss) c.args.edit.part v) c.deref.ensures.value in
-    record { whole = subst (λ (t : Tree). conforms classes t 0 ≡ true) (sym left) (set_kept classes old (path_view c.args.edit.path) c.args.edit.part v 0 c.requires.0 c.args.self.now.whole) }
+    record {
+      whole = subst (λ (t : Tree). conforms classes t 0 ≡ true) (sym left) (set_kept classes old (path_view c.args.edit.path) c.args.edit.part v 0 c.requires.may.0 c.args.self.now.whole);
+      within = subst IsWithin (sym left) c.requires.within;
+    }

@@ -1,15 +1,17 @@
 use Rattle.std.proofs.Common.{◌++◌, ◌∙◌, ap, refl}
 use Rattle.at_model.specs.Replies.{Reply as ModelReply, Memory, reply_text}
+use Rattle.attrd.specs.Engines.{state_of}
 use Rattle.attrd.specs.Served.{Served}
-use Rattle.attrd.proofs.Replying.{reply_stands}
+use Rattle.attrd.proofs.Joining.{handled}
 use Rattle.attrd.proofs.engine.Engine.serve.Goals as goal
 
 pub returns-then-step-clause-served : goal.returns-then-step-clause-served
 returns-then-step-clause-served c =
+    let e = c.args.self.now in
     let s = c.step.ensures.gets c.if-step.true in
-    let m = reply_stands _ _ _ _ s.0 s.1 s.2 in (
+    let m = handled e.rules e.rules.flat e.rules.plain e.rules.typed (state_of e) e.whole e.within refl _ s.0 s.1 s.2 in (
       m.0,
-      record { value = s.0; edit = s.1; gets = s.2; stands = m.1; state = ap (λ (v : Served). v.state) s.4 },
+      rw (ap (λ (v : Served). v.state) s.4) m.2,
       s.3 m.0 m.1 ∙ ap (λ xs. xs ++ reply_text m.0) c.reserve.ensures.items,
     )
 

@@ -1,0 +1,350 @@
+-- Where reading declarations stops.
+use Rattle.std.proofs.Common.{◌≡◌, ℕ, ◌≤◌, ◌<◌, List, [], ◌∷◌, ◌++◌, length, Bool, true, false, cond, Option, Some, None, refl, sym, ap, subst, ◌∙◌, arith}
+use Rattle.std.specs.Prelude.{◌&&◌, ◌==◌, MatchOption, Result, Ok, Err, IfErr}
+use Rattle.std.specs.Option.{is_some}
+use Rattle.std.specs.Str.{bytes_eq}
+use lib.Chars.{codes}
+use Rattle.at_text.specs.Reading.{first}
+use Rattle.at_text.specs.Symbols.{PlacedToken, is_word_kind}
+use Rattle.at_jrag.specs.Syntax.{Place, Word, Params, KindWord}
+use Rattle.at_jrag.specs.Grammar as grammar
+use Rattle.at_jrag.specs.Grammar.{Row, sign, word, is_sign, is_word, is_name_token, next_is, Sign, Keyword, Lazy, KindOf, Signature, Owner, Declared, max_nesting}
+use Rattle.at_jrag.specs.Heads.{is_getter}
+use Rattle.at_jrag.specs.Machine.{Reason, Refused, LeftOut, Answer, Takes, Skips, Refuses, LeavesOut, Stuck, run}
+use Rattle.at_jrag.specs.Wants as want
+use Rattle.at_jrag.specs.Wants.{Want}
+use Rattle.at_jrag.specs.Table.{table, next, on, is_kind, body_answer, declared, alone}
+use Rattle.at_jrag.specs.Runs.{Goes, Stay, Stays, Pass, Missing, reason_of}
+use Rattle.at_jrag.specs.declared.reader.ReadError.{ReadError}
+use Rattle.at_jrag.specs.declared.reader.ReadError.TheVariants as errors
+use Rattle.at_jrag.proofs.MachineLaws.{run-takes, run-refuses}
+use Rattle.at_jrag.proofs.DeclarationRuns.{next_same, dot_row, signed_row, aspect_row, synthesized_row, inherited_row, equation_row, pass_none, lazy_pass, kind_pass, name_pass, mark_pass, return_pass, signed_pass, signature_goes, declared_then, stay_then, stay_first, stay_takes, stay_refuses, stay_leaves_out, name_missing, mark_missing}
+use Rattle.at_jrag.proofs.ParamStops.{kind_missing, signed_missing}
+
+-- ---- where a keyword is wanted
+
+-- an error of a reader that took nothing
+at_same : (w : Want) (f : Row → ReadError) (old rest : Row) → rest ≡ old → Stay (w ∷ []) (reason_of (f old)) old old → Stay (w ∷ []) (reason_of (f rest)) old rest
+at_same w f old rest same s = subst (λ (x : Row). Stay (w ∷ []) (reason_of (f x)) old x) (sym same) s
+
+abbrev no_keyword : Row → ReadError
+no_keyword old = cond (next_is (λ t. is_word_kind t.kind) old) errors.LeftOut errors.Syntax
+
+keyword_stays : (w : Want) (t : PlacedToken) (ts : Row) (b : Bool) → ((d : ℕ) → table w d (Some t) ≡ cond b LeavesOut Refuses) → Stay (w ∷ []) (reason_of (cond b errors.LeftOut errors.Syntax)) (t ∷ ts) (t ∷ ts)
+keyword_stays w t ts true row = stay_leaves_out w t (t ∷ ts) ts (t ∷ ts) refl refl row
+keyword_stays w t ts false row = stay_refuses w (t ∷ ts) (t ∷ ts) refl row
+
+aspect_none : (t : PlacedToken) (d : ℕ) → is_word (codes "aspect") t ≡ false → table want.File d (Some t) ≡ cond (is_word_kind t.kind) LeavesOut Refuses
+unfolding table
+aspect_none t d h = ap (λ b. on b (Takes true (want.Name ∷ want.Mark (codes "{") ∷ want.Decls ∷ want.File ∷ []) 0) (cond (is_word_kind t.kind) LeavesOut Refuses)) h
+
+aspect_at : (old : Row) → 0 < length old → next_is (is_word (codes "aspect")) old ≡ false → Stay (want.File ∷ []) (reason_of (no_keyword old)) old old
+aspect_at [] some h = absurd (omega (arith, some))
+aspect_at (t ∷ ts) some h = keyword_stays want.File t ts (is_word_kind t.kind) (λ d. aspect_none t d h)
+
+pub aspect_stays : (old rest : Row) → rest ≡ old → 0 < length old → next_is (is_word (codes "aspect")) old ≡ false → Stay (want.File ∷ []) (reason_of (no_keyword rest)) old rest
+aspect_stays old rest same some h = at_same want.File no_keyword old rest same (aspect_at old some h)
+
+last_row : (a b c d : Bool) (x y z w u : Answer Want) → a ≡ false → b ≡ false → c ≡ false → d ≡ false → on a x (on b y (on c z (on d w u))) ≡ u
+last_row a b c d x y z w u ea eb ec ed =
+    ap (λ v. on v x (on b y (on c z (on d w u)))) ea ∙ ap (λ v. on v y (on c z (on d w u))) eb ∙ ap (λ v. on v z (on d w u)) ec ∙ ap (λ v. on v w u) ed
+
+decl_none : (t : PlacedToken) (d : ℕ) → is_sign (codes "}") t ≡ false → is_word (codes "syn") t ≡ false → is_word (codes "inh") t ≡ false → is_word (codes "eq") t ≡ false → table want.Decls d (Some t) ≡ cond (is_word_kind t.kind) LeavesOut Refuses
+unfolding table
+decl_none t d close syn inh eq = last_row (is_sign (codes "}") t) (is_word (codes "syn") t) (is_word (codes "inh") t) (is_word (codes "eq") t) _ _ _ _ _ close syn inh eq
+
+decls_end : (d : ℕ) → table want.Decls d None ≡ Refuses
+unfolding table
+decls_end d = refl
+
+decl_at : (old : Row) → next_is (is_sign (codes "}")) old ≡ false → next_is (is_word (codes "syn")) old ≡ false → next_is (is_word (codes "inh")) old ≡ false → next_is (is_word (codes "eq")) old ≡ false
+    → Stay (want.Decls ∷ []) (reason_of (no_keyword old)) old old
+decl_at [] close syn inh eq = stay_refuses want.Decls [] [] refl decls_end
+decl_at (t ∷ ts) close syn inh eq = keyword_stays want.Decls t ts (is_word_kind t.kind) (λ d. decl_none t d close syn inh eq)
+
+pub decl_stays : (old rest : Row) → rest ≡ old → next_is (is_sign (codes "}")) old ≡ false → next_is (is_word (codes "syn")) old ≡ false → next_is (is_word (codes "inh")) old ≡ false → next_is (is_word (codes "eq")) old ≡ false
+    → Stay (want.Decls ∷ []) (reason_of (no_keyword rest)) old rest
+decl_stays old rest same close syn inh eq = at_same want.Decls no_keyword old rest same (decl_at old close syn inh eq)
+
+-- ---- where one token alone is wanted
+
+abbrev no_block : Row → ReadError
+no_block old = cond (next_is (λ t. true) old) errors.LeftOut errors.Syntax
+
+alone_at : (w : Want) (test : PlacedToken → Bool) (old : Row) → ((d : ℕ) (s : Option PlacedToken) → table w d s ≡ alone test s) → next_is test old ≡ false → Stay (w ∷ []) (reason_of (no_block old)) old old
+alone_at w test [] row h = stay_refuses w [] [] refl (λ d. row d None)
+alone_at w test (t ∷ ts) row h = stay_leaves_out w t (t ∷ ts) ts (t ∷ ts) refl refl (λ d. row d (Some t) ∙ ap (λ b. on b (Takes true [] 0) LeavesOut) h)
+
+return_row : (d : ℕ) (s : Option PlacedToken) → table want.Return d s ≡ alone (is_word (codes "return")) s
+unfolding table
+return_row d s = refl
+
+close_row : (d : ℕ) (s : Option PlacedToken) → table want.Close d s ≡ alone (is_sign (codes "}")) s
+unfolding table
+close_row d s = refl
+
+return_stays : (old rest : Row) → rest ≡ old → next_is (is_word (codes "return")) old ≡ false → Stay (want.Return ∷ []) (reason_of (no_block rest)) old rest
+return_stays old rest same h = at_same want.Return no_block old rest same (alone_at want.Return (is_word (codes "return")) old return_row h)
+
+close_stays : (old rest : Row) → rest ≡ old → next_is (is_sign (codes "}")) old ≡ false → Stay (want.Close ∷ []) (reason_of (no_block rest)) old rest
+close_stays old rest same h = at_same want.Close no_block old rest same (alone_at want.Close (is_sign (codes "}")) old close_row h)
+
+-- ---- a word that is taken, or not
+
+pub word_missing : {R : Type 0} (old rest : R) (f : R → Row) (text : List ℕ) (o : Option Place) → is_some o ≡ false → MatchOption o ((rest ≡ old) × (next_is (is_word text) (f old) ≡ false)) (λ at. f old ≡ word text at ∷ f rest)
+    → (f rest ≡ f old) × (next_is (is_word text) (f old) ≡ false)
+word_missing old rest f text None n h = (ap f h.0, h.1)
+word_missing old rest f text (Some at) n h = absurd cc
+
+pub word_taken : {R : Type 0} (old rest : R) (f : R → Row) (text : List ℕ) (o : Option Place) → is_some o ≡ true → MatchOption o ((rest ≡ old) × (next_is (is_word text) (f old) ≡ false)) (λ at. f old ≡ word text at ∷ f rest)
+    → Keyword text (f old) (f rest)
+word_taken old rest f text None n h = absurd cc
+word_taken old rest f text (Some at) n h = (at, h)
+
+-- ---- ["lazy"]
+
+-- the word was taken, or it isn't next
+abbrev pub TookLazy : Option Place → Row → Row → Type 0
+TookLazy None old rest = (rest ≡ old) × (next_is (is_word (codes "lazy")) old ≡ false)
+TookLazy (Some at) old rest = old ≡ word (codes "lazy") at ∷ rest
+
+pub took_lazy : {R : Type 0} (old rest : R) (f : R → Row) (o : Option Place) → MatchOption o ((rest ≡ old) × (next_is (is_word (codes "lazy")) (f old) ≡ false)) (λ at. f old ≡ word (codes "lazy") at ∷ f rest) → TookLazy o (f old) (f rest)
+took_lazy old rest f None (e, n) = (ap f e, n)
+took_lazy old rest f (Some at) h = h
+
+pub lazy_goes : (o : Option Place) (old rest : Row) → TookLazy o old rest → next_is (is_word (codes "nta")) rest ≡ false → Pass true (want.Lazy ∷ []) old rest
+lazy_goes None old rest (e, n) h =
+    lazy_pass true None old rest (sym e) (λ k. next_same (is_word (codes "lazy")) rest ∙ ap (next_is (is_word (codes "lazy"))) e ∙ n) (next_same (is_word (codes "nta")) rest ∙ h)
+lazy_goes (Some at) old rest t h = lazy_pass true (Some at) old rest t (λ k. absurd cc) (next_same (is_word (codes "nta")) rest ∙ h)
+
+nta_row : (t : PlacedToken) (d : ℕ) → is_word (codes "nta") t ≡ true → table want.NotNta d (Some t) ≡ LeavesOut
+unfolding table
+nta_row t d h = ap (λ b. on b LeavesOut (Skips 0)) h
+
+not_nta_stays : (old : Row) → next_is (is_word (codes "nta")) old ≡ true → Stay (want.NotNta ∷ []) (Some LeftOut) old old
+not_nta_stays [] h = absurd cc
+not_nta_stays (t ∷ ts) h = stay_leaves_out want.NotNta t (t ∷ ts) ts (t ∷ ts) refl refl (λ d. nta_row t d h)
+
+lazy_nta_row : (t : PlacedToken) (d : ℕ) → is_word (codes "lazy") t ≡ false → is_word (codes "nta") t ≡ true → table want.Lazy d (Some t) ≡ LeavesOut
+unfolding table
+lazy_nta_row t d n h = ap (λ b. on b (Takes true (want.NotNta ∷ []) 0) (on (is_word (codes "nta") t) LeavesOut (Skips 0))) n ∙ ap (λ b. on b LeavesOut (Skips 0)) h
+
+nta_at : (old : Row) → next_is (is_word (codes "lazy")) old ≡ false → next_is (is_word (codes "nta")) old ≡ true → Stay (want.Lazy ∷ []) (Some LeftOut) old old
+nta_at [] n h = absurd cc
+nta_at (t ∷ ts) n h = stay_leaves_out want.Lazy t (t ∷ ts) ts (t ∷ ts) refl refl (λ d. lazy_nta_row t d n h)
+
+lazy_row : (at : Place) (d : ℕ) → table want.Lazy d (Some (word (codes "lazy") at)) ≡ Takes true (want.NotNta ∷ []) 0
+unfolding table
+lazy_row at d = refl
+
+pub lazy_stays : (o : Option Place) (old rest : Row) → TookLazy o old rest → next_is (is_word (codes "nta")) rest ≡ true → Stay (want.Lazy ∷ []) (Some LeftOut) old rest
+lazy_stays None old rest (e, n) h = subst (λ (x : Row). Stay (want.Lazy ∷ []) (Some LeftOut) old x) (sym e) (nta_at old n (ap (next_is (is_word (codes "nta"))) (sym e) ∙ h))
+lazy_stays (Some at) old rest t h = stay_takes want.Lazy (want.NotNta ∷ []) (word (codes "lazy") at) (Some LeftOut) old rest rest t (λ d. (0, lazy_row at d)) (not_nta_stays rest h)
+
+-- ---- name "." name "(" [params] ")"
+
+pub owner_stays : (class : Word) (us : List Want) (r : Option Reason) (old mid rest : Row) → Owner class old mid → Stay us r mid rest → Stay (want.Name ∷ want.Mark (codes ".") ∷ us) r old rest
+owner_stays class us r old mid rest (dot, n, s) st =
+    stay_then want.Name (want.Mark (codes ".") ∷ us) r old dot rest (name_pass true class old dot n) (stay_then (want.Mark (codes ".")) us r dot mid rest (mark_pass true (codes ".") dot mid s) st)
+
+pub no_class : (us : List Want) (e : ReadError) (old rest : Row) → Missing is_name_token e old rest → Stay (want.Name ∷ us) (reason_of e) old rest
+no_class us e old rest m = stay_first want.Name us (reason_of e) old rest (name_missing e old rest m)
+
+pub no_dot : (us : List Want) (class : Word) (e : ReadError) (old dot rest : Row) → grammar.Name class old dot → Missing (is_sign (codes ".")) e dot rest → Stay (want.Name ∷ want.Mark (codes ".") ∷ us) (reason_of e) old rest
+no_dot us class e old dot rest n m =
+    stay_then want.Name (want.Mark (codes ".") ∷ us) (reason_of e) old dot rest (name_pass true class old dot n) (stay_first (want.Mark (codes ".")) us (reason_of e) dot rest (mark_missing (codes ".") e dot rest m))
+
+pub no_name : (us : List Want) (e : ReadError) (old rest : Row) → Missing is_name_token e old rest → Stay (want.Signed ∷ us) (reason_of e) old rest
+no_name us e old rest m = stay_first want.Signed us (reason_of e) old rest (signed_missing e old rest m)
+
+pub signed_stays : (us : List Want) (name : Word) (r : Option Reason) (old paren rest : Row) → grammar.Name name old paren → Stay (want.Opening (bytes_eq name.text (codes "getChild")) ∷ []) r paren rest → Stay (want.Signed ∷ us) r old rest
+signed_stays us name r old paren rest n st =
+    stay_first want.Signed us r old rest
+    (stay_takes want.Signed (want.Opening (bytes_eq name.text (codes "getChild")) ∷ []) (word name.text name.at) r old paren rest n.1 (λ d. (0, signed_row name.text name.at d n.0)) st)
+
+-- ---- a declared attribute
+
+pub no_kind : (us : List Want) (e : ReadError) (old kinds rest : Row) → Pass true (want.Lazy ∷ []) old kinds → Missing is_kind e kinds rest → Stay (declared us) (reason_of e) old rest
+no_kind us e old kinds rest p m =
+    let vs = want.Name ∷ want.Mark (codes ".") ∷ want.Signed ∷ want.NotCircular ∷ us in
+    stay_then want.Lazy (want.Kind ∷ vs) (reason_of e) old kinds rest p (stay_first want.Kind vs (reason_of e) kinds rest (kind_missing e kinds rest m))
+
+pub no_target : (us : List Want) (k : KindWord) (r : Option Reason) (old kinds owner rest : Row) → Pass true (want.Lazy ∷ []) old kinds → KindOf k kinds owner
+    → Stay (want.Name ∷ want.Mark (codes ".") ∷ want.Signed ∷ want.NotCircular ∷ us) r owner rest → Stay (declared us) r old rest
+no_target us k r old kinds owner rest p is st =
+    let vs = want.Name ∷ want.Mark (codes ".") ∷ want.Signed ∷ want.NotCircular ∷ us in
+    stay_then want.Lazy (want.Kind ∷ vs) r old kinds rest p (stay_then want.Kind vs r kinds owner rest (kind_pass true k kinds owner is) st)
+
+circular_row : (t : PlacedToken) (d : ℕ) → is_word (codes "circular") t ≡ true → table want.NotCircular d (Some t) ≡ LeavesOut
+unfolding table
+circular_row t d h = ap (λ b. on b LeavesOut (Skips 0)) h
+
+circular_at : (old : Row) → next_is (is_word (codes "circular")) old ≡ true → Stay (want.NotCircular ∷ []) (Some LeftOut) old old
+circular_at [] h = absurd cc
+circular_at (t ∷ ts) h = stay_leaves_out want.NotCircular t (t ∷ ts) ts (t ∷ ts) refl refl (λ d. circular_row t d h)
+
+pub circular_stays : (us : List Want) (class name : Word) (ps : Params) (owner called end : Row) → Owner class owner called → Signature name ps called end → next_is (is_word (codes "circular")) end ≡ true
+    → Stay (want.Name ∷ want.Mark (codes ".") ∷ want.Signed ∷ want.NotCircular ∷ us) (Some LeftOut) owner end
+circular_stays us class name ps owner called end o s h =
+    owner_stays class (want.Signed ∷ want.NotCircular ∷ us) (Some LeftOut) owner called end o
+    (stay_then want.Signed (want.NotCircular ∷ us) (Some LeftOut) called end end (signed_pass true name ps called end s) (stay_first want.NotCircular us (Some LeftOut) end end (circular_at end h)))
+
+pub declared_stays : (us : List Want) (lazy : Option Place) (k : KindWord) (class name : Word) (ps : Params) (r : Option Reason) (old end rest : Row) → Declared lazy k class name ps old end → next_is (is_word (codes "circular")) end ≡ false
+    → Stay us r end rest → Stay (declared us) r old rest
+declared_stays us lazy k class name ps None old end rest h n st d = tt
+declared_stays us lazy k class name ps (Some q) old end rest h n st d = λ ws.
+    let a = declared_then true [] lazy k class name ps old end end h (next_same (is_word (codes "circular")) end ∙ n) (pass_none true end) (us ++ ws) d in
+    a.1 ∙ st a.0 ws
+
+-- ---- bodies
+
+-- where a body is wanted, the machine is stuck at the rest
+abbrev pub BodyStays : Option Reason → Row → Row → Type 0
+BodyStays r old rest = (w : Want) (d : ℕ) → table w d (first old) ≡ body_answer (first old) → Stays (w ∷ []) d r old rest
+
+body_takes : (us : List Want) (t : PlacedToken) (r : Option Reason) (old mid rest : Row) → old ≡ t ∷ mid → body_answer (Some t) ≡ Takes true us 0 → Stay us r mid rest → BodyStays r old rest
+body_takes us t None old mid rest front answer st w d row = tt
+body_takes us t (Some q) old mid rest front answer st w d row = λ ws.
+    let takes = sym (ap (λ x. table w d (first x)) front) ∙ row ∙ ap (λ x. body_answer (first x)) front ∙ answer in
+    ap (run true table (w ∷ ws) d) front ∙ run-takes true table w true us ws d 0 t mid takes (λ h. refl) ∙ st 0 ws
+
+body_refused : (s : Option PlacedToken) → next (is_sign (codes "=")) s ≡ false → next (is_sign (codes "{")) s ≡ false → body_answer s ≡ Refuses
+body_refused s a b = simp (a, b)
+
+pub no_body : (e : ReadError) (old rest : Row) → next_is (is_sign (codes "=")) old ≡ false → Missing (is_sign (codes "{")) e old rest → BodyStays (reason_of e) old rest
+no_body errors.Memory old rest a m w d row = tt
+no_body errors.Syntax old rest a m w d row = λ ws.
+    run-refuses true table w ws d old (row ∙ body_refused (first old) (next_same (is_sign (codes "=")) old ∙ a) (next_same (is_sign (codes "{")) old ∙ m.1)) ∙ ap (Stuck Refused) (sym m.0)
+no_body errors.LeftOut old rest a m w d row = absurd m
+no_body errors.Nesting old rest a m w d row = absurd m
+
+goes_pass : (n : ℕ) (old rest : Row) → Goes want.Expression (λ b. []) n old rest → n ≤ max_nesting → Pass true (want.Expression max_nesting ∷ []) old rest
+goes_pass n old rest g fits ws d = (n, g true max_nesting (λ e. fits) ws d)
+
+pub equation_stays : (at : Place) (r : Option Reason) (old one rest : Row) → old ≡ sign (codes "=") at ∷ one → Stay (want.Expression max_nesting ∷ []) r one rest → BodyStays r old rest
+equation_stays at r old one rest front st =
+    let vs = want.Mark (codes ";") ∷ [] in
+    body_takes (want.Expression max_nesting ∷ vs) (sign (codes "=") at) r old one rest front refl (stay_first (want.Expression max_nesting) vs r one rest st)
+
+pub equation_ends : (at : Place) (n : ℕ) (e : ReadError) (old one end rest : Row) → old ≡ sign (codes "=") at ∷ one → Goes want.Expression (λ b. []) n one end → n ≤ max_nesting → Missing (is_sign (codes ";")) e end rest → BodyStays (reason_of e) old rest
+equation_ends at n e old one end rest front g fits m =
+    let vs = want.Mark (codes ";") ∷ [] in
+    body_takes (want.Expression max_nesting ∷ vs) (sign (codes "=") at) (reason_of e) old one rest front refl
+    (stay_then (want.Expression max_nesting) vs (reason_of e) one end rest (goes_pass n one end g fits) (mark_missing (codes ";") e end rest m))
+
+abbrev block_wants : List Want
+block_wants = want.Expression max_nesting ∷ want.Mark (codes ";") ∷ want.Close ∷ []
+
+pub no_return : (at : Place) (old mid rest : Row) → old ≡ sign (codes "{") at ∷ mid → rest ≡ mid → next_is (is_word (codes "return")) mid ≡ false → BodyStays (reason_of (no_block rest)) old rest
+no_return at old mid rest front same h =
+    body_takes (want.Return ∷ block_wants) (sign (codes "{") at) (reason_of (no_block rest)) old mid rest front refl (stay_first want.Return block_wants (reason_of (no_block rest)) mid rest (return_stays mid rest same h))
+
+block_then : (at : Place) (r : Option Reason) (old mid one rest : Row) → old ≡ sign (codes "{") at ∷ mid → Keyword (codes "return") mid one → Stay block_wants r one rest → BodyStays r old rest
+block_then at r old mid one rest front k st = body_takes (want.Return ∷ block_wants) (sign (codes "{") at) r old mid rest front refl (stay_then want.Return block_wants r mid one rest (return_pass true mid one k) st)
+
+pub block_stays : (at : Place) (r : Option Reason) (old mid one rest : Row) → old ≡ sign (codes "{") at ∷ mid → Keyword (codes "return") mid one → Stay (want.Expression max_nesting ∷ []) r one rest → BodyStays r old rest
+block_stays at r old mid one rest front k st = block_then at r old mid one rest front k (stay_first (want.Expression max_nesting) (want.Mark (codes ";") ∷ want.Close ∷ []) r one rest st)
+
+pub block_ends : (at : Place) (n : ℕ) (e : ReadError) (old mid one end rest : Row) → old ≡ sign (codes "{") at ∷ mid → Keyword (codes "return") mid one → Goes want.Expression (λ b. []) n one end → n ≤ max_nesting
+    → Missing (is_sign (codes ";")) e end rest → BodyStays (reason_of e) old rest
+block_ends at n e old mid one end rest front k g fits m =
+    block_then at (reason_of e) old mid one rest front k
+    (stay_then (want.Expression max_nesting) (want.Mark (codes ";") ∷ want.Close ∷ []) (reason_of e) one end rest (goes_pass n one end g fits)
+    (stay_first (want.Mark (codes ";")) (want.Close ∷ []) (reason_of e) end rest (mark_missing (codes ";") e end rest m)))
+
+pub no_close : (at : Place) (n : ℕ) (old mid one end close rest : Row) → old ≡ sign (codes "{") at ∷ mid → Keyword (codes "return") mid one → Goes want.Expression (λ b. []) n one end → n ≤ max_nesting
+    → Sign (codes ";") end close → rest ≡ close → next_is (is_sign (codes "}")) close ≡ false → BodyStays (reason_of (no_block rest)) old rest
+no_close at n old mid one end close rest front k g fits s same h =
+    let r = reason_of (no_block rest) in
+    block_then at r old mid one rest front k
+    (stay_then (want.Expression max_nesting) (want.Mark (codes ";") ∷ want.Close ∷ []) r one end rest (goes_pass n one end g fits)
+    (stay_then (want.Mark (codes ";")) (want.Close ∷ []) r end close rest (mark_pass true (codes ";") end close s) (close_stays close rest same h)))
+
+body_stay : (w : Want) (us : List Want) (r : Option Reason) (old rest : Row) → ((d : ℕ) → table w d (first old) ≡ body_answer (first old)) → BodyStays r old rest → Stay (w ∷ us) r old rest
+body_stay w us None old rest row b d = tt
+body_stay w us (Some q) old rest row b d = λ ws. b w d (row d) (us ++ ws)
+
+ending_row : (d : ℕ) (s : Option PlacedToken) → next (is_sign (codes ";")) s ≡ false → table want.Ending d s ≡ body_answer s
+unfolding table
+ending_row d s h = ap (λ x. on x (Takes true [] 0) (body_answer s)) h
+
+pub ending_stays : (us : List Want) (r : Option Reason) (old rest : Row) → next_is (is_sign (codes ";")) old ≡ false → BodyStays r old rest → Stay (want.Ending ∷ us) r old rest
+ending_stays us r old rest h b = body_stay want.Ending us r old rest (λ d. ending_row d (first old) (next_same (is_sign (codes ";")) old ∙ h)) b
+
+body_row : (d : ℕ) (s : Option PlacedToken) → table want.Body d s ≡ body_answer s
+unfolding table
+body_row d s = refl
+
+-- ---- equations
+
+counted : (g b : Bool) → g && b ≡ false → (cond {A = ℕ} g 0 1 == 0) && b ≡ false
+counted true b h = h
+counted false b h = refl
+
+defined_row : (d : ℕ) (s : Option PlacedToken) → (d == 0) && next (is_sign (codes ".")) s ≡ false → table want.Defined d s ≡ body_answer s
+unfolding table
+defined_row d s h = ap (λ x. on x (Takes true (want.Signed ∷ want.Body ∷ []) 0) (body_answer s)) h
+
+defined_stays : (us : List Want) (name : Word) (ps : Params) (r : Option Reason) (called mid rest : Row) → Signature name ps called mid → is_getter ps.items && next_is (is_sign (codes ".")) mid ≡ false → BodyStays r mid rest
+    → Stay (want.Signed ∷ want.Defined ∷ us) r called rest
+defined_stays us name ps None called mid rest s h b d = tt
+defined_stays us name ps (Some q) called mid rest s h b d = λ ws.
+    let none = counted (is_getter ps.items) (next (is_sign (codes ".")) (first mid)) (ap (λ x. is_getter ps.items && x) (next_same (is_sign (codes ".")) mid) ∙ h) in
+    signature_goes true name ps called mid s (want.Defined ∷ (us ++ ws)) d ∙ b want.Defined (cond (is_getter ps.items) 0 1) (defined_row (cond (is_getter ps.items) 0 1) (first mid) none) (us ++ ws)
+
+pub equation_body : (us : List Want) (class name : Word) (ps : Params) (r : Option Reason) (old called mid rest : Row) → Owner class old called → Signature name ps called mid → is_getter ps.items && next_is (is_sign (codes ".")) mid ≡ false
+    → BodyStays r mid rest → Stay (want.Name ∷ want.Mark (codes ".") ∷ want.Signed ∷ want.Defined ∷ us) r old rest
+equation_body us class name ps r old called mid rest o s h b = owner_stays class (want.Signed ∷ want.Defined ∷ us) r old called rest o (defined_stays us name ps r called mid rest s h b)
+
+dotted : (us : List Want) (name : Word) (ps : Params) (r : Option Reason) (called dot mid rest : Row) → Signature name ps called dot → is_getter ps.items ≡ true → Sign (codes ".") dot mid → Stay (want.Signed ∷ want.Body ∷ us) r mid rest
+    → Stay (want.Signed ∷ want.Defined ∷ us) r called rest
+dotted us name ps None called dot mid rest s is c st d = tt
+dotted us name ps (Some q) called dot mid rest s is c st d = λ ws.
+    let vs = want.Defined ∷ (us ++ ws) in
+    signature_goes true name ps called dot s vs d ∙ ap (λ n. run true table vs n dot) (ap (λ b. cond {A = ℕ} b 0 1) is) ∙ ap (run true table vs 0) c.1
+    ∙ run-takes true table want.Defined true (want.Signed ∷ want.Body ∷ []) (us ++ ws) 0 0 (sign (codes ".") c.0) mid (dot_row c.0) (λ h. refl) ∙ st 0 ws
+
+pub getter_stays : (us : List Want) (class name : Word) (ps : Params) (r : Option Reason) (old called dot mid rest : Row) → Owner class old called → Signature name ps called dot → is_getter ps.items ≡ true → Sign (codes ".") dot mid
+    → Stay (want.Signed ∷ want.Body ∷ us) r mid rest → Stay (want.Name ∷ want.Mark (codes ".") ∷ want.Signed ∷ want.Defined ∷ us) r old rest
+getter_stays us class name ps r old called dot mid rest o s is c st = owner_stays class (want.Signed ∷ want.Defined ∷ us) r old called rest o (dotted us name ps r called dot mid rest s is c st)
+
+-- an error of what stands behind a getter is one of the equation
+pub behind_getter : {A : Type 0} (x : Result A ReadError) (us : List Want) (class name : Word) (ps : Params) (old called dot mid rest : Row) → Owner class old called → Signature name ps called dot → is_getter ps.items ≡ true → Sign (codes ".") dot mid
+    → IfErr x (λ e. Stay (want.Signed ∷ want.Body ∷ us) (reason_of e) mid rest) → IfErr x (λ e. Stay (want.Name ∷ want.Mark (codes ".") ∷ want.Signed ∷ want.Defined ∷ us) (reason_of e) old rest)
+behind_getter (Ok a) us class name ps old called dot mid rest o s is c st = tt
+behind_getter (Err e) us class name ps old called dot mid rest o s is c st = getter_stays us class name ps (reason_of e) old called dot mid rest o s is c st
+
+pub inherited_body : (us : List Want) (name : Word) (ps : Params) (r : Option Reason) (old mid rest : Row) → Signature name ps old mid → BodyStays r mid rest → Stay (want.Signed ∷ want.Body ∷ us) r old rest
+inherited_body us name ps r old mid rest s b = stay_then want.Signed (want.Body ∷ us) r old mid rest (signed_pass true name ps old mid s) (body_stay want.Body us r mid rest (λ d. body_row d (first mid)) b)
+
+-- ---- declarations
+
+pub syn_stays : (at : Place) (r : Option Reason) (old mid rest : Row) → old ≡ word (codes "syn") at ∷ mid → Stay (declared (want.Ending ∷ want.Decls ∷ [])) r mid rest → Stay (want.Decls ∷ []) r old rest
+syn_stays at r old mid rest front st = stay_takes want.Decls (declared (want.Ending ∷ want.Decls ∷ [])) (word (codes "syn") at) r old mid rest front (λ d. (0, synthesized_row at d)) st
+
+pub inh_stays : (at : Place) (r : Option Reason) (old mid rest : Row) → old ≡ word (codes "inh") at ∷ mid → Stay (declared (want.Mark (codes ";") ∷ want.Decls ∷ [])) r mid rest → Stay (want.Decls ∷ []) r old rest
+inh_stays at r old mid rest front st = stay_takes want.Decls (declared (want.Mark (codes ";") ∷ want.Decls ∷ [])) (word (codes "inh") at) r old mid rest front (λ d. (0, inherited_row at d)) st
+
+pub eq_stays : (at : Place) (r : Option Reason) (old mid rest : Row) → old ≡ word (codes "eq") at ∷ mid → Stay (want.Name ∷ want.Mark (codes ".") ∷ want.Signed ∷ want.Defined ∷ want.Decls ∷ []) r mid rest → Stay (want.Decls ∷ []) r old rest
+eq_stays at r old mid rest front st =
+    stay_takes want.Decls (want.Name ∷ want.Mark (codes ".") ∷ want.Signed ∷ want.Defined ∷ want.Decls ∷ []) (word (codes "eq") at) r old mid rest front (λ d. (0, equation_row at d)) st
+
+abbrev aspect_wants : List Want
+aspect_wants = want.Mark (codes "{") ∷ want.Decls ∷ want.File ∷ []
+
+pub aspect_no_name : (at : Place) (e : ReadError) (old mid rest : Row) → old ≡ word (codes "aspect") at ∷ mid → Missing is_name_token e mid rest → Stay (want.File ∷ []) (reason_of e) old rest
+aspect_no_name at e old mid rest front m = stay_takes want.File (want.Name ∷ aspect_wants) (word (codes "aspect") at) (reason_of e) old mid rest front (λ d. (0, aspect_row at d)) (no_class aspect_wants e mid rest m)
+
+named_stays : (at : Place) (name : Word) (r : Option Reason) (old mid brace rest : Row) → old ≡ word (codes "aspect") at ∷ mid → grammar.Name name mid brace → Stay aspect_wants r brace rest → Stay (want.File ∷ []) r old rest
+named_stays at name r old mid brace rest front n st =
+    stay_takes want.File (want.Name ∷ aspect_wants) (word (codes "aspect") at) r old mid rest front (λ d. (0, aspect_row at d)) (stay_then want.Name aspect_wants r mid brace rest (name_pass true name mid brace n) st)
+
+pub aspect_no_brace : (at : Place) (name : Word) (e : ReadError) (old mid brace rest : Row) → old ≡ word (codes "aspect") at ∷ mid → grammar.Name name mid brace → Missing (is_sign (codes "{")) e brace rest → Stay (want.File ∷ []) (reason_of e) old rest
+aspect_no_brace at name e old mid brace rest front n m =
+    named_stays at name (reason_of e) old mid brace rest front n (stay_first (want.Mark (codes "{")) (want.Decls ∷ want.File ∷ []) (reason_of e) brace rest (mark_missing (codes "{") e brace rest m))
+
+pub aspect_decls : (at : Place) (name : Word) (r : Option Reason) (old mid brace inner rest : Row) → old ≡ word (codes "aspect") at ∷ mid → grammar.Name name mid brace → Sign (codes "{") brace inner → Stay (want.Decls ∷ []) r inner rest
+    → Stay (want.File ∷ []) r old rest
+aspect_decls at name r old mid brace inner rest front n s st =
+    named_stays at name r old mid brace rest front n
+    (stay_then (want.Mark (codes "{")) (want.Decls ∷ want.File ∷ []) r brace inner rest (mark_pass true (codes "{") brace inner s) (stay_first want.Decls (want.File ∷ []) r inner rest st))

@@ -1,0 +1,85 @@
+-- A text's tokens, and where reading them stops.
+use Rattle.std.proofs.Common.{◌≡◌, ℕ, ◌-◌, ◌≤◌, List, [], ◌∷◌, ◌++◌, true, false, length, map, take, drop, refl, sym, ap, subst, ◌∙◌, length-append, arith}
+use Rattle.std.proofs.lemmas.List.{length-map}
+use Rattle.at_text.specs.declared.placed.Placed.{Placed}
+use Rattle.at_text.proofs.Scanned as scanned
+use Rattle.at_jrag.specs.Syntax.{Aspect}
+use Rattle.at_jrag.specs.Grammar.{File, IsWithin}
+use Rattle.at_text.specs.Pieces.{Piece, Cut, Spelled, spelled_at}
+use Rattle.at_text.specs.Symbols.{HasTokens, PlacedToken, placed, placed_in, next_place}
+use Rattle.at_jrag.specs.Machine.{GoesOn, Reason, Refused, Stuck, Whole, run}
+use Rattle.at_jrag.specs.Wants as want
+use Rattle.at_jrag.specs.Table.{table}
+use Rattle.at_jrag.specs.Left.{left}
+use Rattle.at_jrag.specs.Faults.{IsFile, IsFileWithin, StopsAt, last_declaration}
+use Rattle.at_jrag.proofs.MachineLaws.{stuck_behind}
+use Rattle.at_jrag.proofs.FirstFaults.{first_fault}
+use Rattle.at_jrag.proofs.DeclarationRuns.{file_taken}
+
+-- ---- tokens
+
+-- the tokens that the program has are those of the text
+pub has_tokens : (text : List ℕ) (ps : List Piece) (ss : List Spelled) (ts : List PlacedToken) → Cut text ps [] → ss ≡ spelled_at 0 ps → ts ≡ map (placed_in text) ss → HasTokens text ts
+has_tokens text ps ss ts cut e f = (ps, cut, f ∙ ap (map (placed_in text)) e)
+
+take_front : (fs rs : List Placed) → take (length fs) (fs ++ rs) ≡ fs
+take_front [] rs = refl
+take_front (f ∷ fs) rs = ap (λ l. f ∷ l) (take_front fs rs)
+
+drop_front : (fs rs : List Placed) → drop (length fs) (fs ++ rs) ≡ rs
+drop_front [] rs = refl
+drop_front (f ∷ fs) rs = drop_front fs rs
+
+-- the tokens of a front of what is left
+front_of : (ts : List Placed) (front rest : List PlacedToken) → left ts ≡ front ++ rest → (fs : List Placed) × (rs : List Placed) × (ts ≡ fs ++ rs) × (left fs ≡ front) × (left rs ≡ rest)
+front_of ts [] rest e = ([], ts, refl, refl, e)
+front_of [] (f ∷ front) rest e = absurd (omega (arith, ap length e))
+front_of (t ∷ ts) (f ∷ front) rest e =
+    let tail : left ts ≡ front ++ rest = cc in
+    let head : placed t ≡ f = cc in
+    let more = front_of ts front rest tail in
+    (t ∷ more.0, more.1, ap (λ l. t ∷ l) more.2, (λ i. head i ∷ more.3 i), more.4)
+
+-- ---- where reading stops
+
+-- where reading stops, among the tokens
+pub record Met (text : List ℕ) (r : Reason) (ts rest : List Placed) : Type 0 where
+  pub front : List Placed
+  pub stops : StopsAt text r (left front) (left rest)
+  pub fits : length rest ≤ length ts
+  pub front_is : left (take (length ts - length rest) ts) ≡ left front
+  pub rest_is : left (drop (length ts - length rest) ts) ≡ left rest
+
+pub met : (text : List ℕ) (r : Reason) (ts rest : List Placed) → HasTokens text (left ts) → run true table (want.File ∷ []) 0 (left ts) ≡ Stuck r (left rest) → Met text r ts rest
+met text r ts rest has h =
+    let s = stuck_behind true table r (want.File ∷ []) 0 (left ts) (left rest) h in
+    let p = front_of ts s.0 (left rest) s.1 in
+    let split : left ts ≡ left p.0 ++ left rest = s.1 ∙ ap (λ l. l ++ left rest) (sym p.3) in
+    let same : length p.1 ≡ length rest = sym (length-map p.1 placed) ∙ ap length p.4 ∙ length-map rest placed in
+    let sum : length ts ≡ length (p.0 ++ p.1) = ap length p.2 in
+    let count : length ts - length rest ≡ length p.0 = omega (arith, sum, length-append p.0 p.1, same) in
+    let stuck : run true table (want.File ∷ []) 0 (left p.0 ++ left rest) ≡ Stuck r (left rest) = sym (ap (run true table (want.File ∷ []) 0) split) ∙ h in
+    record {
+      front = p.0;
+      stops = record { tokens = subst (λ (x : List PlacedToken). HasTokens text x) split has; fault = first_fault r (left p.0) (left rest) stuck; stuck = stuck };
+      fits = omega (arith, sum, length-append p.0 p.1, same);
+      front_is = ap left (ap (λ k. take k ts) count ∙ ap (take (length p.0)) p.2 ∙ take_front p.0 p.1);
+      rest_is = ap left (ap (λ k. drop k ts) count ∙ ap (drop (length p.0)) p.2 ∙ drop_front p.0 p.1) ∙ p.4;
+    }
+
+-- ---- a text has one row of tokens
+
+-- a text that spells a file within the limit doesn't stop
+pub file_only : (text : List ℕ) (r : Reason) (ts us rest : List PlacedToken) (aspects : List Aspect) → HasTokens text ts → HasTokens text us → run true table (want.File ∷ []) 0 ts ≡ Stuck r rest → File aspects us [] → IsWithin aspects → ⊥
+file_only text r ts us rest aspects h k stuck file within =
+    let same : ts ≡ us = h.2 ∙ ap (λ ps. map (placed_in text) (spelled_at 0 ps)) (scanned.cut_only text h.0 k.0 h.1 k.1) ∙ sym k.2 in
+    let whole : run true table (want.File ∷ []) 0 us ≡ Whole = file_taken true aspects us (λ e. within) file 0 in
+    absurd (let q : Stuck r rest ≡ Whole = sym stuck ∙ ap (run true table (want.File ∷ []) 0) same ∙ whole in cc)
+
+-- ---- places
+
+pub place_behind : (text : List ℕ) (ts vs : List Placed) (n m : ℕ) (rest : List PlacedToken) (at : ℕ × ℕ) → vs ≡ ts → n ≡ m → at ≡ next_place text (map placed (drop (length vs - n) vs)) → left (drop (length ts - m) ts) ≡ rest → at ≡ next_place text rest
+place_behind text ts vs n m rest at e f p r = p ∙ ap (λ l. next_place text (left (drop (length l - n) l))) e ∙ ap (λ k. next_place text (left (drop (length ts - k) ts))) f ∙ ap (next_place text) r
+
+pub declaration_at : (ts vs fs : List Placed) (j k : ℕ) (front : List PlacedToken) (at : ℕ × ℕ) → at ≡ last_declaration (left fs) → fs ≡ take j vs → vs ≡ ts → j ≡ k → left (take k ts) ≡ front → at ≡ last_declaration front
+declaration_at ts vs fs j k front at p e f g r = p ∙ ap (λ l. last_declaration (left l)) (e ∙ ap (take j) f ∙ ap (λ n. take n ts) g) ∙ ap last_declaration r

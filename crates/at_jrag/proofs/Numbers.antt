@@ -1,0 +1,85 @@
+-- Numbers as digits.
+use Rattle.std.proofs.Common.{◌≡◌, ℕ, ℤ, FitsSigned, w32, pos, ◌<◌, ◌≤◌, List, ◌∷◌, Bool, true, false, Result, Ok, Err, refl, sym, ap, ◌∙◌, arith, inr}
+use lib.Chars.{codes}
+use Rattle.std.specs.Prelude.{◌&&◌, nat_le, nat_lt, decimal}
+use Rattle.std.specs.Str.{bytes_eq}
+use Rattle.std.specs.Str.Parse.{digits_value, ParsesUnsigned}
+use Rattle.std.proofs.lemmas.Bool.{leb-true, ltb-true, ltb-false}
+use Rattle.std.proofs.lemmas.Fmt.{parse-decimal}
+use Rattle.std.proofs.lemmas.Slice.Eq.{bytes_eq-Decides}
+use Rattle.at_jrag.specs.Grammar.{Row, sign, number, next_is, is_number}
+use Rattle.at_jrag.specs.Syntax as syntax
+use Rattle.at_jrag.specs.Syntax.{Place, Expr}
+use Rattle.at_jrag.specs.View.{expr_view, form_view, see_form, see_expr}
+use Rattle.at_jrag.specs.declared.syntax.Form.TheOpen.{Form-F}
+use Rattle.at_jrag.specs.declared.syntax.Form.TheVariants as form
+use Rattle.at_jrag.specs.declared.syntax.Form.TheFolds.{fold-roll-Form}
+use Rattle.at_jrag.specs.Table.{is_decimal_within, is_number_within}
+use Rattle.at_jrag.specs.Read.{Reads, IsNumber}
+use Rattle.at_jrag.specs.Runs.{NoNegative}
+use Rattle.at_jrag.specs.declared.reader.ReadError.TheVariants as errors
+use Rattle.at_jrag.specs.declared.reader.forms.Measured.{Measured}
+use Rattle.at_jrag.proofs.Expressions.{reads_made}
+
+both : (a b : Bool) → a && b ≡ true → (a ≡ true) × (b ≡ true)
+both true b e = (refl, e)
+both false b e = absurd cc
+
+-- what the digits of a number within the bound are
+pub record Within (most : ℕ) (text : List ℕ) : Type 0 where
+  pub value : ℕ
+  pub small : value ≤ most
+  pub digits : text ≡ decimal value
+
+pub within : (most : ℕ) (text : List ℕ) → is_decimal_within most text ≡ true → Within most text
+within most text e =
+    let h = both (nat_le (digits_value 10 text) most) (bytes_eq (decimal (digits_value 10 text)) text) e in
+    record { value = digits_value 10 text; small = leb-true (digits_value 10 text) most h.0; digits = sym ((bytes_eq-Decides (decimal (digits_value 10 text)) text).0 h.1) }
+
+pub parsed : {E : Type 0} (most : ℕ) (text : List ℕ) (r : Result ℕ E) → most ≤ 2147483648 → ParsesUnsigned 32 10 text r → (w : Within most text) → r ≡ Ok w.value
+parsed most text r h p w = parse-decimal 32 w.value text r (omega (arith, h, w.small)) (omega (arith, h, w.small)) w.digits p
+
+decide : (b : Bool) (most : ℕ) (text : List ℕ) → is_decimal_within most text ≡ b → (Within most text → ⊥) → b ≡ false
+decide true most text e none = absurd (none (within most text e))
+decide false most text e none = refl
+
+-- no number within the bound has these digits
+pub none_within : (most : ℕ) (text : List ℕ) → (Within most text → ⊥) → is_decimal_within most text ≡ false
+none_within most text none = decide (is_decimal_within most text) most text refl none
+
+pub no_parse : {E : Type 0} (most : ℕ) (text : List ℕ) (r : Result ℕ E) → most ≤ 2147483648 → ParsesUnsigned 32 10 text r → ((v : ℕ) → r ≡ Ok v → ⊥) → is_decimal_within most text ≡ false
+no_parse most text r h p none = none_within most text (λ w. none w.value (parsed most text r h p w))
+
+abbrev value_of : {E : Type 0} → Result ℕ E → ℕ
+value_of (Ok v) = v
+value_of (Err e) = 0
+
+pub no_decimal : {E : Type 0} (most : ℕ) (text : List ℕ) (r : Result ℕ E) (v : ℕ) → most ≤ 2147483648 → ParsesUnsigned 32 10 text r → r ≡ Ok v → bytes_eq (decimal v) text ≡ false → is_decimal_within most text ≡ false
+no_decimal most text r v h p is other = none_within most text (λ w.
+    let same : v ≡ w.value = ap value_of (sym is ∙ parsed most text r h p w) in
+    let t : bytes_eq (decimal v) text ≡ true = (bytes_eq-Decides (decimal v) text).1 (ap decimal same ∙ sym w.digits) in
+    absurd (let c : true ≡ false = sym t ∙ other in cc))
+
+-- what was parsed is the number within the bound
+pub known : {E : Type 0} (most : ℕ) (text : List ℕ) (r : Result ℕ E) (v : ℕ) → most ≤ 2147483648 → ParsesUnsigned 32 10 text r → r ≡ Ok v → Within most text → v ≤ most
+known most text r v h p is w = let same : v ≡ w.value = ap value_of (sym is ∙ parsed most text r h p w) in omega (arith, same, w.small)
+
+at_least : (x : Bool) (v : ℕ) → nat_lt v 2147483648 ≡ x → (v < 2147483648 → ⊥) → 2147483648 ≤ v
+at_least true v e none = absurd (none (ltb-true v 2147483648 e))
+at_least false v e none = ltb-false v 2147483648 e
+
+-- what doesn't fit into 32 bits
+pub unfit : (v : ℕ) → (FitsSigned w32 (pos v) → ⊥) → 2147483648 ≤ v
+unfit v none = at_least (nat_lt v 2147483648) v refl (λ h. none (omega (arith, h)))
+
+-- ---- a `-` and digits
+
+pub negative_reads : (m : Measured) (v : ℤ) (at digits_at : ℕ × ℕ) (text : List ℕ) (old rest : Row) → old ≡ sign (codes "-") at ∷ number text digits_at ∷ rest → IsNumber true text v
+    → expr_view m.expr ≡ form_view (form.Number v) at → m.depth ≡ 1 → Reads 8 m old rest × (m.depth ≡ 1)
+negative_reads m v at digits_at text old rest front (n, small, is, digits) made deep =
+    (reads_made 8 m (syntax.Number at v) old rest (made ∙ ap (λ f. form_view f at) (sym (form.rolls-Number v)) ∙ ap (λ f. f at) (fold-roll-Form (Place → Expr) Expr see_form see_expr (Form-F.Number v))) (inr (n, digits_at, small, is, front ∙ ap (λ t. sign (codes "-") at ∷ number t digits_at ∷ rest) digits)) (omega arith) deep, deep)
+
+pub no_negative : (text : List ℕ) (at digits_at : ℕ × ℕ) (old here rest : Row) → old ≡ sign (codes "-") at ∷ number text digits_at ∷ rest → here ≡ number text digits_at ∷ rest → is_decimal_within 2147483648 text ≡ false
+    → NoNegative errors.Syntax old here
+no_negative text at digits_at old here rest front stepped none =
+    (at, front ∙ ap (λ r. sign (codes "-") at ∷ r) (sym stepped), ap (next_is is_number) stepped, ap (next_is (is_number_within 2147483648)) stepped ∙ none)

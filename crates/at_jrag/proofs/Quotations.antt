@@ -1,0 +1,89 @@
+-- The spelling of a text between quotes, told by its bytes.
+use Rattle.std.proofs.Common.{◌≡◌, ℕ, List, [], ◌∷◌, ◌++◌, Bool, true, false, cond, refl, sym, ap, subst, ◌∙◌, append_assoc, length-append, arith}
+use Rattle.std.specs.Prelude.{◌==◌, ◌&&◌, ◌||◌, not, length, Result, Ok, String}
+use Rattle.std.proofs.lemmas.List.{append-nil}
+use Rattle.std.specs.List.{flat_map}
+use Rattle.std.proofs.lemmas.Bool.{eqb-true}
+use Rattle.std.proofs.lemmas.List.Concat.{flat_map-cons}
+use Rattle.at_model.specs.Texts.{escaped, quoted}
+use Rattle.at_text.specs.Quoted.{Begins, Reads}
+use Rattle.at_text.specs.declared.quoted.QuoteFault.{QuoteFault}
+use Rattle.at_text.specs.Faults.{makes_escape}
+use Rattle.at_jrag.specs.Table.{is_quoted, ends_quoted}
+
+-- this text is left behind an opening quote, and then the closing one
+pub record Spelled (bytes : List ℕ) : Type 0 where
+  pub text : List ℕ
+  pub is : bytes ≡ flat_map escaped text ++ 34 ∷ []
+
+both : (a b : Bool) → a && b ≡ true → (a ≡ true) × (b ≡ true)
+both true b e = (refl, e)
+both false b e = absurd cc
+
+one_more : (b : ℕ) (front bytes : List ℕ) → escaped b ≡ front → Spelled bytes → Spelled (front ++ bytes)
+one_more b front bytes e s = record {
+  text = b ∷ s.text;
+  is = (λ i. sym e i ++ s.is i) ∙ sym (append_assoc (escaped b) (flat_map escaped s.text) (34 ∷ [])) ∙ ap (λ l. l ++ 34 ∷ []) (sym (flat_map-cons escaped b s.text));
+}
+
+-- what stands behind a backslash
+escape_of : (w x y z : Bool) (c : ℕ) (bytes : List ℕ) → c == 34 ≡ w → c == 92 ≡ x → c == 110 ≡ y → c == 116 ≡ z → w || x || y || z ≡ true → Spelled bytes → Spelled (92 ∷ c ∷ bytes)
+escape_of true x y z c bytes q s n t h k = one_more 34 (92 ∷ c ∷ []) bytes (ap (λ v. 92 ∷ v ∷ []) (sym (eqb-true c 34 q))) k
+escape_of false true y z c bytes q s n t h k = one_more 92 (92 ∷ c ∷ []) bytes (ap (λ v. 92 ∷ v ∷ []) (sym (eqb-true c 92 s))) k
+escape_of false false true z c bytes q s n t h k = one_more 10 (92 ∷ c ∷ []) bytes (ap (λ v. 92 ∷ v ∷ []) (sym (eqb-true c 110 n))) k
+escape_of false false false true c bytes q s n t h k = one_more 9 (92 ∷ c ∷ []) bytes (ap (λ v. 92 ∷ v ∷ []) (sym (eqb-true c 116 t))) k
+escape_of false false false false c bytes q s n t h k = absurd cc
+
+plain_of : (w y z : Bool) (b : ℕ) (bytes : List ℕ) → b == 34 ≡ w → b == 92 ≡ false → b == 10 ≡ y → b == 9 ≡ z → not (w || (y || z)) ≡ true → Spelled bytes → Spelled (b ∷ bytes)
+plain_of true y z b bytes q s n t h k = absurd cc
+plain_of false true z b bytes q s n t h k = absurd cc
+plain_of false false true b bytes q s n t h k = absurd cc
+plain_of false false false b bytes q s n t h k = one_more b (b ∷ []) bytes (simp (q, s, n, t)) k
+
+body_at : (x : Bool) (b c : ℕ) (bs : List ℕ) → b == 92 ≡ x → cond x (makes_escape c && ends_quoted bs) (not ((b == 34) || ((b == 10) || (b == 9))) && ends_quoted (c ∷ bs)) ≡ true
+    → (ends_quoted bs ≡ true → Spelled bs) → (ends_quoted (c ∷ bs) ≡ true → Spelled (c ∷ bs)) → Spelled (b ∷ c ∷ bs)
+body_at true b c bs s e shorter other =
+    let h = both (makes_escape c) (ends_quoted bs) e in
+    subst (λ (v : ℕ). Spelled (v ∷ c ∷ bs)) (sym (eqb-true b 92 s)) (escape_of (c == 34) (c == 92) (c == 110) (c == 116) c bs refl refl refl refl h.0 (shorter h.1))
+body_at false b c bs s e shorter other =
+    let h = both (not ((b == 34) || ((b == 10) || (b == 9)))) (ends_quoted (c ∷ bs)) e in
+    plain_of (b == 34) (b == 10) (b == 9) b (c ∷ bs) refl s refl refl h.0 (other h.1)
+
+body : (bytes : List ℕ) → ends_quoted bytes ≡ true → Spelled bytes
+body [] e = absurd cc
+body (b ∷ []) e = record { text = []; is = ap (λ v. v ∷ []) (eqb-true b 34 e) }
+body (b ∷ c ∷ bs) e = body_at (b == 92) b c bs refl e (λ h. body bs h) (λ h. body (c ∷ bs) h)
+
+-- what is told to be such a spelling, is one
+pub quoted_of : (bytes : List ℕ) → is_quoted bytes ≡ true → (text : List ℕ) × (bytes ≡ quoted text)
+quoted_of [] e = absurd cc
+quoted_of (b ∷ bs) e =
+    let h = both (b == 34) (ends_quoted bs) e in
+    let s = body bs h.1 in
+    (s.text, (λ i. eqb-true b 34 h.0 i ∷ s.is i))
+
+decide : (x : Bool) (bytes : List ℕ) → is_quoted bytes ≡ x → ((text : List ℕ) → bytes ≡ quoted text → ⊥) → x ≡ false
+decide true bytes e none = let q = quoted_of bytes e in absurd (none q.0 q.1)
+decide false bytes e none = refl
+
+begins_of : (bytes text : List ℕ) → bytes ≡ quoted text → Begins bytes text
+begins_of bytes text e = ([], e ∙ sym (append-nil (quoted text)))
+
+-- no text's spelling stands at the front
+pub no_form : (bytes : List ℕ) → ((text : List ℕ) → Begins bytes text → ⊥) → is_quoted bytes ≡ false
+no_form bytes none = decide (is_quoted bytes) bytes refl (λ text e. none text (begins_of bytes text e))
+
+read_length : {Z : Type 0} (r : Result (String Z × ℕ) QuoteFault) (p : String Z × ℕ) (text : List ℕ) → r ≡ Ok p → Reads r text → p.1 ≡ length (quoted text)
+read_length r p text e h = (subst (λ x. Reads x text) e h).1
+
+-- a text's spelling stands at the front, and more behind it
+pub no_end : {Z : Type 0} (bytes : List ℕ) (r : Result (String Z × ℕ) QuoteFault) (p : String Z × ℕ) → r ≡ Ok p → ((text : List ℕ) → Begins bytes text → Reads r text) → (p.1 ≡ length bytes → ⊥) → is_quoted bytes ≡ false
+no_end bytes r p e reads more = decide (is_quoted bytes) bytes refl (λ text q. more (read_length r p text e (reads text (begins_of bytes text q)) ∙ ap length (sym q)))
+
+none_behind : (bytes text rest : List ℕ) → bytes ≡ quoted text ++ rest → length bytes ≡ length (quoted text) → bytes ≡ quoted text
+none_behind bytes text [] e h = e ∙ append-nil (quoted text)
+none_behind bytes text (b ∷ rest) e h = let l = ap length e in absurd (omega (arith, l, h, length-append (quoted text) (b ∷ rest)))
+
+-- a spelling as long as what it stands at the front of
+pub whole_text : (bytes text : List ℕ) (n : ℕ) → Begins bytes text → n ≡ length (quoted text) → n ≡ length bytes → bytes ≡ quoted text
+whole_text bytes text n b e h = none_behind bytes text b.0 b.1 (sym h ∙ e)

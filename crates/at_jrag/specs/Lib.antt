@@ -1,0 +1,11 @@
+pub mod Syntax
+pub mod View
+pub mod Grammar
+pub mod Machine
+pub mod Wants
+pub mod Table
+pub mod Runs
+pub mod Faults
+pub mod Left
+pub mod Read
+pub mod Heads

@@ -1,0 +1,113 @@
+//! Aspects (.jrag, JastAdd2 reference manual), read from their text.
+#![tactic(auto)]
+
+ghost use Rattle.std.specs.Prelude.{◌≡◌, ◌⊎◌, ℕ, [], List, map, IfOk, IfErr, MatchResult};
+ghost use Rattle.at_text.specs.Symbols.{PlacedToken, HasTokens};
+ghost use Rattle.at_text.specs.Faults as scanning;
+ghost use Rattle.at_text.specs.declared.scan.ScanFault.{ScanFault};
+ghost use Rattle.at_jrag.specs.View.{aspect_view};
+ghost use Rattle.at_jrag.specs.Faults.{uncut, IsScanFaultAt, IsFault};
+ghost use Rattle.at_jrag.specs.Syntax as written;
+ghost use Rattle.at_jrag.specs.Grammar.{File, IsWithin};
+ghost use Rattle.at_jrag.specs.declared.JragFault.TheVariants.{Memory, Syntax};
+
+mod declared;
+mod reader;
+mod syntax;
+
+use at_text::place::place;
+use at_text::placed::{place_all, place_left};
+use at_text::scan::{ScanFault, lexemes};
+use declared::declaration_place;
+use reader::{ReadError, Reader};
+use std::alloc::{AllocError, Global};
+pub use syntax::{
+    Aspect, Body, BodyForm, Decl, DeclForm, Ending, Expr, FoldForm, Form, Kind, KindWord, Operator,
+    OperatorWord, Param, Params, Word,
+};
+
+/// Why a text holds no aspects. Places are lines and columns, both from 1.
+#[derive(Debug, Drop)]
+pub enum JragFault {
+    /// The first token that no file goes on with, or the end of the text where more was needed;
+    /// where the text can't be cut into tokens, the place where that is met.
+    Syntax { at: (u32, u32) },
+    /// A form of JastAdd's aspects begins at this token that this profile leaves out.
+    LeftOut { at: (u32, u32) },
+    /// The first token of the declaration in which expressions nest deeper than 64.
+    Nesting { at: (u32, u32) },
+    /// Want of memory.
+    Memory,
+}
+
+impl From<AllocError> for JragFault {
+    ghost from_gives = { λ _ e. e ≡ Memory };
+
+    fn from(_e: AllocError) -> JragFault {
+        JragFault::Memory
+    }
+}
+
+/// The fault of a text that can't be cut into tokens.
+fn scan_fault(text: &str, fault: ScanFault) -> JragFault
+    requires within { scanning.IsWithin text.now fault }
+    ensures { result ≡ uncut text.now fault }
+{
+    match fault {
+        ScanFault::Memory => JragFault::Memory,
+        ScanFault::Bad { at } | ScanFault::OpenText { at } | ScanFault::OpenComment { at } => {
+            JragFault::Syntax {
+                at: place(text, at),
+            }
+        }
+    }
+}
+
+/// The aspects that the text spells, in order.
+///
+/// # Errors
+///
+/// `Syntax` and `LeftOut` at the first token with which no file goes on, or at the end of the
+/// text; `Syntax` where the text can't be cut into tokens, which comes before all. `Nesting` where
+/// files go on with that token, but none in which expressions nest at most 64 deep. `Memory` for
+/// want of memory.
+pub fn parse_jrag(alloc: Global, text: &str) -> Result<Vec<Aspect>, JragFault>
+    // What is read is what the tokens of the text spell, and its expressions nest at most 64 deep.
+    ensures found { IfOk result (λ v. (tokens : List PlacedToken) × HasTokens text.now tokens
+        × File (map aspect_view v.items) tokens [] × IsWithin (map aspect_view v.items)) }
+    // A text that can't be cut into tokens is refused where that is met, whatever stands before it.
+    ensures uncut { (fault : ScanFault) (at : ℕ × ℕ) → IsScanFaultAt text.now at fault
+        → MatchResult result (λ v. ⊥) (λ e. (e ≡ Memory) ⊎ (e ≡ Syntax at)) }
+    // A text that spells aspects whose expressions nest at most 64 deep is read, unless memory runs out.
+    ensures only { (tokens : List PlacedToken) (aspects : List written.Aspect) → HasTokens text.now tokens → File aspects tokens []
+        → IsWithin aspects → MatchResult result (λ v. Unit {0}) (λ e. e ≡ Memory) }
+    // A fault is the first one: what stands before it begins such a text, and none goes on there.
+    ensures fault { IfErr result (IsFault text.now) }
+{
+    let tokens = match lexemes(alloc, text) {
+        Ok(tokens) => tokens,
+        Err(fault) => return Err(scan_fault(text, fault)),
+    };
+    let tokens = place_all(alloc, text, &tokens)?;
+    let mut reader = Reader::new(alloc, &tokens);
+    match reader.file() {
+        Ok(aspects) => Ok(aspects),
+        Err(ReadError::Memory) => Err(JragFault::Memory),
+        Err(ReadError::Syntax) => {
+            let at = place_left(text, &tokens, reader.count_left());
+            Err(JragFault::Syntax { at })
+        }
+        Err(ReadError::LeftOut) => {
+            let at = place_left(text, &tokens, reader.count_left());
+            Err(JragFault::LeftOut { at })
+        }
+        Err(ReadError::Nesting) => {
+            let front = tokens.split_at(tokens.len() - reader.count_left()).0;
+            let at = declaration_place(front);
+            Err(JragFault::Nesting { at })
+        }
+    }
+}
+
+#[cfg(test)]
+mod tests;

@@ -1,0 +1,422 @@
+//! Aspects and their declarations.
+
+ghost use Rattle.std.specs.Prelude.{◌≡◌, ◌∷◌, [], ◌≤◌, map, option_map, true, IfOk, MatchBool};
+ghost use Rattle.std.specs.List.{AllByRecursion};
+ghost use lib.Chars.{codes};
+ghost use Rattle.at_jrag.specs.View.{kind_word_view, param_view, params_view, body_view, ending_view, decl_form_view, decl_view, aspect_view, word_view};
+ghost use Rattle.at_jrag.specs.Grammar.{Row, KindOf, ParamOf, Signature, Opens, Listed, Lazy, BodyOf, EndingOf, Behind, DeclOf, Decls};
+ghost use Rattle.at_jrag.specs.Grammar.{AspectOf, File, NestsWithin, IsWithin, nesting, ending_depth, max_nesting, depth, keyword, Sign};
+ghost use Rattle.at_jrag.specs.Left.{left};
+ghost use Rattle.at_jrag.specs.Heads.{HeadOf, TargetOf, is_getter, index, ParamsOf};
+ghost use Rattle.std.specs.Prelude.{ℕ, ◌<◌, length, List, cond, false, ◌&&◌, IfErr};
+ghost use Rattle.std.specs.Str.{bytes_eq};
+ghost use Rattle.at_text.specs.Reading.{first};
+ghost use Rattle.at_text.specs.Symbols.{is_word_kind};
+ghost use Rattle.at_jrag.specs.Grammar.{next_is, is_sign, is_word};
+ghost use Rattle.at_jrag.specs.Wants as want;
+ghost use Rattle.at_jrag.specs.Wants.{Want};
+ghost use Rattle.at_jrag.specs.Table.{table, is_kind, body_answer, declared};
+ghost use Rattle.at_jrag.specs.Runs.{Pass, Stay, Stays, Missing, NoParam, reason_of};
+ghost use Rattle.at_jrag.specs.declared.reader.ReadError.TheVariants as errors;
+
+use super::{ReadError, Reader};
+use crate::syntax::{
+    Aspect, Body, BodyForm, Decl, DeclForm, Ending, Kind, KindWord, Param, Params, Word,
+};
+use at_text::token::TokenKind;
+
+/// How deep expressions may nest.
+const MAX_NESTING: usize = 64;
+
+/// A declared attribute, up to the end of its parameters.
+#[derive(Drop)]
+struct Head {
+    lazy: Option<(u32, u32)>,
+    kind: KindWord,
+    class: Word,
+    name: Word,
+    params: Params,
+}
+
+/// An attribute of a class, as an equation names it.
+#[derive(Drop)]
+struct Target {
+    class: Word,
+    name: Word,
+    params: Params,
+}
+
+/// Whether the parameters may stand behind a getter: there are none, or an `int` alone.
+fn is_getter(params: &Params) -> bool
+    ensures { result ≡ is_getter (params_view params.now).items }
+{
+    match params.items.as_slice() {
+        [] => true,
+        [param] => match param.kind.kind {
+            Kind::Int => true,
+            _ => false,
+        },
+        _ => false,
+    }
+}
+
+/// The parameter's name.
+fn name_of(param: Param) -> Word
+    ensures { word_view result ≡ (param_view param).name }
+{
+    let Param { kind: _, name } = param;
+    name
+}
+
+/// The name of the index, which is the last of a getter's parameters.
+fn index_of(params: Params) -> Option<Word>
+    ensures { option_map word_view result ≡ index (params_view params).items }
+{
+    let mut items = params.items;
+    match items.pop() {
+        Some(param) => Some(name_of(param)),
+        None => None,
+    }
+}
+
+impl<'a> Reader<'a> {
+    /// The fault where a keyword was wanted: any other word begins a form that is left out.
+    fn no_keyword(&self) -> ReadError
+        ensures { result ≡ cond (next_is (λ t. is_word_kind t.kind) (left self.now.rest.now)) errors.LeftOut errors.Syntax }
+    {
+        match self.rest {
+            [token, ..] if token.kind == TokenKind::Word => ReadError::LeftOut,
+            _ => ReadError::Syntax,
+        }
+    }
+
+    /// The fault where a block has one form alone: any other token is left out.
+    fn no_block(&self) -> ReadError
+        ensures { result ≡ cond (next_is (λ t. true) (left self.now.rest.now)) errors.LeftOut errors.Syntax }
+    {
+        if self.rest.is_empty() {
+            ReadError::Syntax
+        } else {
+            ReadError::LeftOut
+        }
+    }
+
+    /// `{ "aspect" name "{" { decl } "}" }`, up to the end.
+    pub fn file(&mut self) -> Result<Vec<Aspect>, ReadError>
+        ensures found { IfOk result (λ v. File (map aspect_view v.items) (left self.old.rest.now) (left self.new.rest.now)) }
+        ensures within { IfOk result (λ v. IsWithin (map aspect_view v.items)) }
+        ensures end { IfOk result (λ v. left self.new.rest.now ≡ []) }
+        ensures stays { IfErr result (λ e. Stay (want.File ∷ []) (reason_of e) (left self.old.rest.now) (left self.new.rest.now)) }
+    {
+        let mut aspects = Vec::new(self.alloc);
+        while !self.rest.is_empty() {
+            let aspect = self.aspect()?;
+            aspects.push(aspect)?;
+        }
+        Ok(aspects)
+    }
+
+    /// `"aspect" name "{" { decl } "}"`
+    fn aspect(&mut self) -> Result<Aspect, ReadError>
+        requires { 0 < length self.now.rest.now }
+        ensures found { IfOk result (λ a. AspectOf (aspect_view a) (left self.old.rest.now) (left self.new.rest.now)) }
+        ensures within { IfOk result (λ a. AllByRecursion NestsWithin (map decl_view a.decls.items)) }
+        ensures stays { IfErr result (λ e. Stay (want.File ∷ []) (reason_of e) (left self.old.rest.now) (left self.new.rest.now)) }
+    {
+        if self.takes_word("aspect").is_none() {
+            return Err(self.no_keyword());
+        }
+        let name = self.name()?;
+        self.expects("{")?;
+        let decls = self.decls()?;
+        Ok(Aspect { name, decls })
+    }
+
+    /// `{ decl } "}"`
+    fn decls(&mut self) -> Result<Vec<Decl>, ReadError>
+        ensures found { IfOk result (λ v. (close : Row) × Decls (map decl_view v.items) (left self.old.rest.now) close
+            × Sign (codes "}") close (left self.new.rest.now)) }
+        ensures within { IfOk result (λ v. AllByRecursion NestsWithin (map decl_view v.items)) }
+        ensures stays { IfErr result (λ e. Stay (want.Decls ∷ []) (reason_of e) (left self.old.rest.now) (left self.new.rest.now)) }
+    {
+        let mut decls = Vec::new(self.alloc);
+        while !self.skips("}") {
+            let decl = self.decl()?;
+            decls.push(decl)?;
+        }
+        Ok(decls)
+    }
+
+    /// A declaration.
+    fn decl(&mut self) -> Result<Decl, ReadError>
+        requires { next_is (is_sign (codes "}")) (left self.now.rest.now) ≡ false }
+        ensures found { IfOk result (λ d. DeclOf (decl_view d) (left self.old.rest.now) (left self.new.rest.now)) }
+        ensures within { IfOk result (λ d. NestsWithin (decl_view d)) }
+        ensures stays { IfErr result (λ e. Stay (want.Decls ∷ []) (reason_of e) (left self.old.rest.now) (left self.new.rest.now)) }
+    {
+        if let Some(at) = self.takes_word("syn") {
+            return Ok(Decl {
+                at,
+                form: self.synthesized()?,
+            });
+        }
+        if let Some(at) = self.takes_word("inh") {
+            return Ok(Decl {
+                at,
+                form: self.inherited()?,
+            });
+        }
+        match self.takes_word("eq") {
+            Some(at) => Ok(Decl {
+                at,
+                form: self.equation()?,
+            }),
+            None => Err(self.no_keyword()),
+        }
+    }
+
+    /// A synthesized attribute behind its `syn`.
+    fn synthesized(&mut self) -> Result<DeclForm, ReadError>
+        ensures found { IfOk result (λ f. Behind (decl_form_view f) (left self.old.rest.now) (left self.new.rest.now)) }
+        ensures keyword { IfOk result (λ f. keyword (decl_form_view f) ≡ codes "syn") }
+        ensures within { IfOk result (λ f. nesting (decl_form_view f) ≤ max_nesting) }
+        ensures stays { IfErr result (λ e. Stay (declared (want.Ending ∷ want.Decls ∷ [])) (reason_of e) (left self.old.rest.now) (left self.new.rest.now)) }
+    {
+        let head = self.head()?;
+        let ending = self.ending()?;
+        Ok(DeclForm::Synthesized {
+            lazy: head.lazy,
+            kind: head.kind,
+            class: head.class,
+            name: head.name,
+            params: head.params,
+            ending,
+        })
+    }
+
+    /// An inherited attribute behind its `inh`.
+    fn inherited(&mut self) -> Result<DeclForm, ReadError>
+        ensures found { IfOk result (λ f. Behind (decl_form_view f) (left self.old.rest.now) (left self.new.rest.now)) }
+        ensures keyword { IfOk result (λ f. keyword (decl_form_view f) ≡ codes "inh") }
+        ensures within { IfOk result (λ f. nesting (decl_form_view f) ≤ max_nesting) }
+        ensures stays { IfErr result (λ e. Stay (declared (want.Mark (codes ";") ∷ want.Decls ∷ [])) (reason_of e) (left self.old.rest.now) (left self.new.rest.now)) }
+    {
+        let head = self.head()?;
+        self.expects(";")?;
+        Ok(DeclForm::Inherited {
+            lazy: head.lazy,
+            kind: head.kind,
+            class: head.class,
+            name: head.name,
+            params: head.params,
+        })
+    }
+
+    /// `["lazy"] kind name "." name "(" [params] ")"`, where `circular` behind it is left out.
+    fn head(&mut self) -> Result<Head, ReadError>
+        ensures found { IfOk result (λ h. HeadOf h (left self.old.rest.now) (left self.new.rest.now)) }
+        ensures behind { IfOk result (λ h. next_is (is_word (codes "circular")) (left self.new.rest.now) ≡ false) }
+        ensures stays { IfErr result (λ e. (us : List Want) → Stay (declared us) (reason_of e) (left self.old.rest.now) (left self.new.rest.now)) }
+    {
+        let lazy = self.lazy()?;
+        let kind = self.kind()?;
+        let target = self.target()?;
+        if self.is_before_word("circular") {
+            return Err(ReadError::LeftOut);
+        }
+        Ok(Head {
+            lazy,
+            kind,
+            class: target.class,
+            name: target.name,
+            params: target.params,
+        })
+    }
+
+    /// `["lazy"]`, where `nta` before it or behind it is left out.
+    fn lazy(&mut self) -> Result<Option<(u32, u32)>, ReadError>
+        ensures found { IfOk result (λ o. Lazy o (left self.old.rest.now) (left self.new.rest.now)) }
+        ensures goes { IfOk result (λ o. Pass true (want.Lazy ∷ []) (left self.old.rest.now) (left self.new.rest.now)) }
+        ensures stays { IfErr result (λ e. Stay (want.Lazy ∷ []) (reason_of e) (left self.old.rest.now) (left self.new.rest.now)) }
+    {
+        let lazy = self.takes_word("lazy");
+        if self.is_before_word("nta") {
+            return Err(ReadError::LeftOut);
+        }
+        Ok(lazy)
+    }
+
+    /// `name "." name "(" [params] ")"`
+    fn target(&mut self) -> Result<Target, ReadError>
+        ensures found { IfOk result (λ t. TargetOf t (left self.old.rest.now) (left self.new.rest.now)) }
+        ensures stays { IfErr result (λ e. (us : List Want) → Stay (want.Name ∷ want.Mark (codes ".") ∷ want.Signed ∷ us) (reason_of e) (left self.old.rest.now) (left self.new.rest.now)) }
+    {
+        let class = self.name()?;
+        self.expects(".")?;
+        let name = self.name()?;
+        let params = self.params(name.text.as_str())?;
+        Ok(Target {
+            class,
+            name,
+            params,
+        })
+    }
+
+    /// `"int" | "boolean" | "String" | name`
+    fn kind(&mut self) -> Result<KindWord, ReadError>
+        ensures found { IfOk result (λ k. KindOf (kind_word_view k) (left self.old.rest.now) (left self.new.rest.now)) }
+        ensures missing { IfErr result (λ e. Missing is_kind e (left self.old.rest.now) (left self.new.rest.now)) }
+    {
+        if let Some(at) = self.takes_word("int") {
+            return Ok(KindWord {
+                kind: Kind::Int,
+                at,
+            });
+        }
+        if let Some(at) = self.takes_word("boolean") {
+            return Ok(KindWord {
+                kind: Kind::Bool,
+                at,
+            });
+        }
+        if let Some(at) = self.takes_word("String") {
+            return Ok(KindWord {
+                kind: Kind::Text,
+                at,
+            });
+        }
+        let class = self.name()?;
+        Ok(KindWord {
+            kind: Kind::Class(class.text),
+            at: class.at,
+        })
+    }
+
+    /// `kind name`
+    fn param(&mut self) -> Result<Param, ReadError>
+        ensures found { IfOk result (λ p. ParamOf (param_view p) (left self.old.rest.now) (left self.new.rest.now)) }
+        ensures missing { IfErr result (λ e. NoParam e (left self.old.rest.now) (left self.new.rest.now)) }
+    {
+        let kind = self.kind()?;
+        let name = self.name()?;
+        Ok(Param { kind, name })
+    }
+
+    /// `"(" [kind name { "," kind name }] ")"`, behind this name.
+    fn params(&mut self, name: &str) -> Result<Params, ReadError>
+        ensures found { IfOk result (λ p. ParamsOf name.now (params_view p) (left self.old.rest.now) (left self.new.rest.now)) }
+        ensures stays { IfErr result (λ e. Stay (want.Opening (bytes_eq name.now (codes "getChild")) ∷ []) (reason_of e) (left self.old.rest.now) (left self.new.rest.now)) }
+    {
+        self.opens(name)?;
+        let mut items = Vec::new(self.alloc);
+        if let Some(end) = self.takes(")") {
+            return Ok(Params { items, end });
+        }
+        loop {
+            let param = self.param()?;
+            items.push(param)?;
+            if let Some(end) = self.takes(")") {
+                return Ok(Params { items, end });
+            }
+            self.expects(",")?;
+        }
+    }
+
+    /// Steps over the `.` behind what may be a getter's parameters, if it is next.
+    fn skips_getter(&mut self, params: &Params) -> bool
+        ensures { MatchBool result
+            ((is_getter (params_view params.now).items ≡ true) × Sign (codes ".") (left self.old.rest.now) (left self.new.rest.now))
+            ((self.new ≡ self.old) × (is_getter (params_view params.now).items && next_is (is_sign (codes ".")) (left self.old.rest.now) ≡ false)) }
+    {
+        if is_getter(params) {
+            self.skips(".")
+        } else {
+            false
+        }
+    }
+
+    /// An equation behind its `eq`, of a synthesized or of an inherited attribute.
+    fn equation(&mut self) -> Result<DeclForm, ReadError>
+        ensures found { IfOk result (λ f. Behind (decl_form_view f) (left self.old.rest.now) (left self.new.rest.now)) }
+        ensures keyword { IfOk result (λ f. keyword (decl_form_view f) ≡ codes "eq") }
+        ensures within { IfOk result (λ f. nesting (decl_form_view f) ≤ max_nesting) }
+        ensures stays { IfErr result (λ e. Stay (want.Name ∷ want.Mark (codes ".") ∷ want.Signed ∷ want.Defined ∷ want.Decls ∷ []) (reason_of e) (left self.old.rest.now) (left self.new.rest.now)) }
+    {
+        let target = self.target()?;
+        if self.skips_getter(&target.params) {
+            return self.inherited_equation(target);
+        }
+        let body = self.body()?;
+        Ok(DeclForm::Equation {
+            class: target.class,
+            name: target.name,
+            params: target.params,
+            body,
+        })
+    }
+
+    /// An equation of an inherited attribute, behind its getter and the `.` there.
+    fn inherited_equation(&mut self, getter: Target) -> Result<DeclForm, ReadError>
+        requires { is_getter (params_view getter.params).items ≡ true }
+        ensures found { IfOk result (λ f. (old mid : Row) → TargetOf getter old mid → Sign (codes ".") mid (left self.old.rest.now)
+            → Behind (decl_form_view f) old (left self.new.rest.now)) }
+        ensures keyword { IfOk result (λ f. keyword (decl_form_view f) ≡ codes "eq") }
+        ensures within { IfOk result (λ f. nesting (decl_form_view f) ≤ max_nesting) }
+        ensures stays { IfErr result (λ e. Stay (want.Signed ∷ want.Body ∷ want.Decls ∷ []) (reason_of e) (left self.old.rest.now) (left self.new.rest.now)) }
+    {
+        let name = self.name()?;
+        let params = self.params(name.text.as_str())?;
+        let body = self.body()?;
+        Ok(DeclForm::InheritedEquation {
+            class: getter.class,
+            getter: getter.name,
+            index: index_of(getter.params),
+            name,
+            params,
+            body,
+        })
+    }
+
+    /// `";"`, or a body.
+    fn ending(&mut self) -> Result<Ending, ReadError>
+        ensures found { IfOk result (λ e. EndingOf (ending_view e) (left self.old.rest.now) (left self.new.rest.now)) }
+        ensures within { IfOk result (λ e. ending_depth (ending_view e) ≤ max_nesting) }
+        ensures stays { IfErr result (λ e. Stay (want.Ending ∷ []) (reason_of e) (left self.old.rest.now) (left self.new.rest.now)) }
+    {
+        match self.takes(";") {
+            Some(at) => Ok(Ending::Semicolon(at)),
+            None => Ok(Ending::Body(self.body()?)),
+        }
+    }
+
+    /// `"=" expr ";" | "{" "return" expr ";" "}"`
+    fn body(&mut self) -> Result<Body, ReadError>
+        ensures found { IfOk result (λ b. BodyOf (body_view b) (left self.old.rest.now) (left self.new.rest.now)) }
+        ensures within { IfOk result (λ b. depth (body_view b).expr ≤ max_nesting) }
+        ensures stays { IfErr result (λ e. (w : Want) (d : ℕ) → table w d (first (left self.old.rest.now)) ≡ body_answer (first (left self.old.rest.now)) → Stays (w ∷ []) d (reason_of e) (left self.old.rest.now) (left self.new.rest.now)) }
+    {
+        if let Some(at) = self.takes("=") {
+            let expr = self.expression(MAX_NESTING)?.expr;
+            self.expects(";")?;
+            return Ok(Body {
+                at,
+                form: BodyForm::Equation,
+                expr,
+            });
+        }
+        let at = self.expects("{")?;
+        if self.takes_word("return").is_none() {
+            return Err(self.no_block());
+        }
+        let expr = self.expression(MAX_NESTING)?.expr;
+        self.expects(";")?;
+        if !self.skips("}") {
+            return Err(self.no_block());
+        }
+        Ok(Body {
+            at,
+            form: BodyForm::Block,
+            expr,
+        })
+    }
+}

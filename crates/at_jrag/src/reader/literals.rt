@@ -1,0 +1,148 @@
+//! Literals, and what they are read from.
+
+ghost use Rattle.std.specs.Prelude.{◌≡◌, ◌∷◌, List, IfOk, IfErr, IfNone, MatchOption, true, false, decimal};
+ghost use Rattle.std.specs.Str.{bytes_eq};
+ghost use Rattle.at_jrag.specs.Syntax as syntax;
+ghost use Rattle.at_jrag.specs.View.{expr_view};
+ghost use Rattle.at_jrag.specs.Grammar.{Row, word, number, quotation, next_is};
+ghost use Rattle.at_jrag.specs.Left.{left};
+ghost use Rattle.at_jrag.specs.Table.{is_decimal_within, is_quoted};
+ghost use Rattle.at_jrag.specs.Runs.{NoText, NoLiteral, NoNegative, TakesNegative};
+ghost use Rattle.at_jrag.specs.declared.reader.ReadError.TheVariants as error;
+ghost use Rattle.at_jrag.specs.Read.{IsNumber, greatest, opens_negative, is_constant, is_literal, Reads};
+
+use super::forms::{Measured, leaf};
+use super::{ReadError, Reader, is_sign};
+use crate::syntax::Form;
+use at_text::quoted::{QuoteFault, read_quoted};
+use at_text::token::TokenKind;
+use itoa::Buffer;
+
+/// Whether these digits are those of the number.
+fn is_decimal(digits: &str, value: u32) -> bool
+    ensures { result ≡ bytes_eq (decimal value) digits.now }
+{
+    Buffer::new().format(value) == digits
+}
+
+/// The number that the digits spell, with a minus before them or without.
+pub fn number(digits: &str, is_negative: bool) -> Option<i32>
+    ensures value { MatchOption result (Unit {0}) (IsNumber is_negative digits.now) }
+    ensures none { IfNone result (is_decimal_within (greatest is_negative) digits.now ≡ false) }
+{
+    let Ok(value) = digits.parse::<u32>() else {
+        return None;
+    };
+    if !is_decimal(digits, value) {
+        return None;
+    }
+    match i32::try_from(value) {
+        Ok(value) => Some(if is_negative { -value } else { value }),
+        Err(_) if is_negative && value == 2147483648 => Some(i32::MIN),
+        Err(_) => None,
+    }
+}
+
+/// The literal that the reserved word is.
+fn constant(at: (u32, u32), text: &str) -> Option<Measured>
+    ensures { MatchOption result (is_constant text.now ≡ false)
+        (λ m. ((rest : Row) → Reads 8 m (word text.now at ∷ rest) rest) × (m.depth ≡ 1) × (is_constant text.now ≡ true)) }
+{
+    if text == "true" {
+        Some(leaf(at, Form::Truth(true)))
+    } else if text == "false" {
+        Some(leaf(at, Form::Truth(false)))
+    } else if text == "null" {
+        Some(leaf(at, Form::Null))
+    } else if text == "this" {
+        Some(leaf(at, Form::This))
+    } else {
+        None
+    }
+}
+
+impl<'a> Reader<'a> {
+    /// A number that has a `-` before it, where both are next.
+    pub fn negative(&mut self) -> Result<Option<Measured>, ReadError>
+        ensures found { IfOk result (λ o. MatchOption o
+            ((self.new ≡ self.old) × (opens_negative (left self.old.rest.now) ≡ false))
+            (λ m. Reads 8 m (left self.old.rest.now) (left self.new.rest.now) × (m.depth ≡ 1))) }
+        ensures taken { IfOk result (λ o. MatchOption o (Unit {0}) (λ m. TakesNegative (left self.old.rest.now) (left self.new.rest.now))) }
+        ensures refused { IfErr result (λ e. NoNegative e (left self.old.rest.now) (left self.new.rest.now)) }
+    {
+        match self.rest {
+            [minus, digits, rest @ ..] if is_sign(minus, "-") && digits.kind == TokenKind::Number =>
+                {
+                    self.step();
+                    let Some(value) = number(digits.text, true) else {
+                        return Err(ReadError::Syntax);
+                    };
+                    self.rest = rest;
+                    Ok(Some(leaf(minus.at, Form::Number(value))))
+                }
+            _ => Ok(None),
+        }
+    }
+
+    /// A literal, if one is next: a number, a text, or a reserved word that is one.
+    pub fn literal(&mut self) -> Result<Option<Measured>, ReadError>
+        ensures found { IfOk result (λ o. MatchOption o
+            ((self.new ≡ self.old) × (next_is is_literal (left self.old.rest.now) ≡ false))
+            (λ m. Reads 8 m (left self.old.rest.now) (left self.new.rest.now) × (m.depth ≡ 1)
+            × (next_is is_literal (left self.old.rest.now) ≡ true))) }
+        ensures refused { IfErr result (λ e. NoLiteral e (left self.old.rest.now) (left self.new.rest.now)) }
+    {
+        let Some(token) = self.next() else {
+            return Ok(None);
+        };
+        match token.kind {
+            TokenKind::Number => {
+                let number = self.digits(token.at, token.text)?;
+                self.step();
+                Ok(Some(number))
+            }
+            TokenKind::Text => {
+                let text = self.text(token.at, token.text)?;
+                self.step();
+                Ok(Some(text))
+            }
+            TokenKind::Word => match constant(token.at, token.text) {
+                Some(constant) => {
+                    self.step();
+                    Ok(Some(constant))
+                }
+                None => Ok(None),
+            },
+            TokenKind::Sign => Ok(None),
+        }
+    }
+
+    /// The number that these digits are.
+    fn digits(&self, at: (u32, u32), digits: &str) -> Result<Measured, ReadError>
+        ensures found { IfOk result (λ m. ((rest : Row) → Reads 8 m (number digits.now at ∷ rest) rest) × (m.depth ≡ 1)) }
+        ensures refused { IfErr result (λ e. (e ≡ error.Syntax) × (is_decimal_within 2147483647 digits.now ≡ false)) }
+    {
+        match number(digits, false) {
+            Some(value) => Ok(leaf(at, Form::Number(value))),
+            None => Err(ReadError::Syntax),
+        }
+    }
+
+    /// The text of this spelling.
+    pub fn text(&self, at: (u32, u32), spelling: &str) -> Result<Measured, ReadError>
+        ensures found { IfOk result (λ m. ((rest : Row) → Reads 8 m (quotation spelling.now at ∷ rest) rest) × (m.depth ≡ 1)) }
+        ensures spelled { IfOk result (λ m. is_quoted spelling.now ≡ true) }
+        ensures refused { IfErr result (NoText spelling.now) }
+    {
+        match read_quoted(self.alloc, spelling) {
+            Ok((value, len)) => {
+                if len != spelling.len() {
+                    return Err(ReadError::Syntax);
+                }
+                Ok(leaf(at, Form::Text(value)))
+            }
+            Err(QuoteFault::Form) => Err(ReadError::Syntax),
+            Err(QuoteFault::Memory) => Err(ReadError::Memory),
+        }
+    }
+}

@@ -1,0 +1,193 @@
+//! Aspects as they are read. A place is a line and a column, both from 1: of a word where it begins, of a form where its
+//! first token begins.
+
+/// A name where it stands.
+#[derive(Debug, Drop)]
+pub struct Word {
+    pub text: String,
+    pub at: (u32, u32),
+}
+
+/// A kind of values, as it is written.
+#[derive(Debug, Drop)]
+pub enum Kind {
+    Int,
+    Bool,
+    Text,
+    /// A class, by its name.
+    Class(String),
+}
+
+/// A kind where it stands.
+#[derive(Debug, Drop)]
+pub struct KindWord {
+    pub kind: Kind,
+    pub at: (u32, u32),
+}
+
+/// A parameter: its kind and its name.
+#[derive(Debug, Drop)]
+pub struct Param {
+    pub kind: KindWord,
+    pub name: Word,
+}
+
+/// The parameters of a declaration, and the place of the parenthesis that ends them.
+#[derive(Debug, Drop)]
+pub struct Params {
+    pub items: Vec<Param>,
+    pub end: (u32, u32),
+}
+
+/// How a body is written. Both mean the same.
+#[derive(Clone, Copy, Debug, PartialEq, Eq)]
+pub enum BodyForm {
+    /// `= E;`
+    Equation,
+    /// `{ return E; }`
+    Block,
+}
+
+/// The body of an equation, with the place of its `=` or `{`.
+#[derive(Debug, Drop)]
+pub struct Body {
+    pub at: (u32, u32),
+    pub form: BodyForm,
+    pub expr: Expr,
+}
+
+/// What stands behind the parameters of a synthesized attribute.
+#[derive(Debug, Drop)]
+pub enum Ending {
+    Body(Body),
+    /// A `;` alone, with its place: the equations stand elsewhere.
+    Semicolon((u32, u32)),
+}
+
+/// A declaration of an aspect. Where `lazy` is written, its place is kept.
+#[derive(Debug, Drop)]
+pub enum DeclForm {
+    /// `syn KIND CLASS.NAME(..)` with its body, or with a `;`.
+    Synthesized {
+        lazy: Option<(u32, u32)>,
+        kind: KindWord,
+        class: Word,
+        name: Word,
+        params: Params,
+        ending: Ending,
+    },
+    /// `inh KIND CLASS.NAME(..);`
+    Inherited {
+        lazy: Option<(u32, u32)>,
+        kind: KindWord,
+        class: Word,
+        name: Word,
+        params: Params,
+    },
+    /// `eq CLASS.NAME(..) BODY`
+    Equation {
+        class: Word,
+        name: Word,
+        params: Params,
+        body: Body,
+    },
+    /// `eq CLASS.GETTER(..).NAME(..) BODY`, perhaps with the name of an index.
+    InheritedEquation {
+        class: Word,
+        getter: Word,
+        index: Option<Word>,
+        name: Word,
+        params: Params,
+        body: Body,
+    },
+}
+
+/// A declaration, with the place of its first token.
+#[derive(Debug, Drop)]
+pub struct Decl {
+    pub at: (u32, u32),
+    pub form: DeclForm,
+}
+
+/// An aspect: its name, and its declarations in order.
+#[derive(Debug, Drop)]
+pub struct Aspect {
+    pub name: Word,
+    pub decls: Vec<Decl>,
+}
+
+/// The operators with two operands. Those of one level lean left; the levels, from the weakest: `||`; `&&`; `==` and `!=`;
+/// `<`, `<=`, `>` and `>=`; `+` and `-`; `*`, `/` and `%`.
+#[derive(Clone, Copy, Debug, PartialEq, Eq)]
+pub enum Operator {
+    Or,
+    And,
+    Same,
+    Differs,
+    Below,
+    AtMost,
+    Above,
+    AtLeast,
+    Add,
+    Subtract,
+    Multiply,
+    Divide,
+    Remainder,
+}
+
+/// An operator where it stands.
+#[derive(Clone, Copy, Debug, PartialEq, Eq)]
+pub struct OperatorWord {
+    pub operator: Operator,
+    pub at: (u32, u32),
+}
+
+/// What is asked of the elements of a list.
+#[derive(Clone, Copy, Debug, PartialEq, Eq)]
+pub enum FoldForm {
+    Exists,
+    First,
+    Sum,
+}
+
+/// An expression, with the place of its first token.
+#[cycle(expr)]
+#[derive(Debug, Drop)]
+pub struct Expr {
+    pub at: (u32, u32),
+    pub form: Form,
+}
+
+/// The forms of expressions.
+#[cycle(expr)]
+#[derive(Debug, Drop)]
+pub enum Form {
+    /// A number; a `-` directly before its digits belongs to it.
+    Number(i32),
+    /// The text that a quoted text stands for.
+    Text(String),
+    Truth(bool),
+    Null,
+    This,
+    /// The name of a parameter, an index or an element.
+    Name(String),
+    /// `NAME(..)`, which is asked of `this`.
+    Call(String, Vec<Expr>),
+    /// `RECEIVER.NAME(..)`
+    CallOf(Box<Expr>, String, Vec<Expr>),
+    /// `(E)`
+    Paren(Box<Expr>),
+    /// `-E`
+    Negate(Box<Expr>),
+    /// `!E`
+    Not(Box<Expr>),
+    /// `(CLASS) E`
+    Cast(Word, Box<Expr>),
+    /// `E instanceof CLASS`; the place is that of the word `instanceof`.
+    InstanceOf(Box<Expr>, (u32, u32), Word),
+    Binary(OperatorWord, Box<Expr>, Box<Expr>),
+    /// `E ? E : E`; the place is that of the `?`.
+    Choose(Box<Expr>, (u32, u32), Box<Expr>, Box<Expr>),
+    /// `exists (NAME : LIST) { E }`, and so with `first` and `sum`.
+    Fold(FoldForm, Word, Box<Expr>, Box<Expr>),
+}

@@ -1,0 +1,105 @@
+-- Which rules aspect files give, and by which fault of which file they are refused.
+use Rattle.std.specs.Prelude.{◌≡◌, ℕ, ◌+◌, suc, false, List, [], ◌∷◌, ◌++◌, length, map, Some, None}
+use Rattle.at_model.specs.Classes.{Classes}
+use Rattle.at_model.specs.Rules.{Rules, OwnEquation}
+use Rattle.at_model.specs.Rules as model
+use Rattle.at_text.specs.Symbols.{PlacedToken, HasTokens}
+use Rattle.at_jrag.specs.Syntax.{Aspect, Place}
+use Rattle.at_jrag.specs.Grammar.{File, IsWithin}
+use Rattle.at_jrag.specs.Faults.{IsFault}
+use Rattle.at_jrag.specs.declared.JragFault.{JragFault}
+use Rattle.at_jrag.specs.declared.JragFault.TheVariants as jrag
+use Rattle.attrd.specs.Files.{IsText, IsNoText}
+use Rattle.attrd.specs.Located.{located}
+use Rattle.attrd.specs.Ruling.{Attribute, Means, meant, first_fault}
+use Rattle.attrd.specs.declared.aspects.fault.Fault.{Fault}
+use Rattle.attrd.specs.declared.code.Code.{Code}
+use Rattle.attrd.specs.declared.code.Code.TheVariants as code
+use Rattle.attrd.specs.declared.start.fault.FileFault.{FileFault}
+use Rattle.attrd.specs.declared.start.fault.FileFault.TheVariants as fault
+use Rattle.attrd.specs.declared.start.fault.StartFault.{StartFault}
+use Rattle.attrd.specs.declared.start.fault.StartFault.TheVariants as start
+
+-- the file is a text that spells the aspects, whose expressions don't nest too deep
+pub record Holds (bytes : List ℕ) (aspects : List Aspect) : Type 0 where
+  pub text : IsText bytes
+  pub tokens : List PlacedToken
+  pub cut : HasTokens bytes tokens
+  pub spells : File aspects tokens []
+  pub within : IsWithin aspects
+
+-- each file holds its aspects
+abbrev pub AllHold : List (List ℕ) → List (List Aspect) → Type 0
+AllHold [] [] = Unit {0}
+AllHold [] (a ∷ as') = ⊥
+AllHold (f ∷ fs) [] = ⊥
+AllHold (f ∷ fs) (a ∷ as') = Holds f a × AllHold fs as'
+
+-- the code and the place of a text that is no aspect file
+abbrev pub IsReadingFault : JragFault → Code → Place → Type 0
+IsReadingFault (jrag.Syntax p) c at = (c ≡ code.AspectSyntax) × (at ≡ p)
+IsReadingFault (jrag.LeftOut p) c at = (c ≡ code.AspectFormLeftOut) × (at ≡ p)
+IsReadingFault (jrag.Nesting p) c at = (c ≡ code.AspectLimit) × (at ≡ p)
+IsReadingFault jrag.Memory c at = ⊥
+
+-- the file is refused by the code at the place: it is no text, or this is the fault of its text
+pub data RefusesReading (bytes : List ℕ) : Code → Place → Type 0 where
+  no_text : (c : Code) → IsNoText bytes code.AspectLimit code.AspectSyntax c → RefusesReading bytes c (1, 1)
+  no_aspects : (e : JragFault) (c : Code) (at : Place) → IsText bytes → IsFault bytes e → IsReadingFault e c at → RefusesReading bytes c at
+
+-- the fault is one by which the file is refused; of want of memory nothing is said
+abbrev pub IsReadingFaultOf : List ℕ → FileFault → Type 0
+IsReadingFaultOf bytes (fault.Refused c (Some at)) = RefusesReading bytes c at
+IsReadingFaultOf bytes (fault.Refused c None) = ⊥
+IsReadingFaultOf bytes fault.Memory = Unit {0}
+
+-- The fault is that of the first file that can't be read, by its number from 1; of want of memory nothing is said.
+pub record IsUnreadAt (files : List (List ℕ)) (file : ℕ) (c : Code) (at : Place) : Type 0 where
+  pub front : List (List ℕ)
+  pub rest : List (List ℕ)
+  pub bytes : List ℕ
+  pub aspects : List (List Aspect)
+  pub split : files ≡ front ++ bytes ∷ rest
+  pub hold : AllHold front aspects
+  pub refuses : RefusesReading bytes c at
+  pub number : file ≡ length front + 1
+
+abbrev pub IsUnread : List (List ℕ) → StartFault → Type 0
+IsUnread files (start.Refused file c (Some at)) = IsUnreadAt files file c at
+IsUnread files (start.Refused file c None) = ⊥
+IsUnread files start.Memory = Unit {0}
+
+-- a number, synthesized, with no parameters and not kept
+abbrev pub attribute_of : Attribute → model.Attribute
+attribute_of a = record { name = a.name; class = a.class; parameters = []; result = model.Int; is_lazy = false; is_inherited = false }
+
+-- each attribute has its one equation, from this position on
+abbrev pub equations_of : ℕ → List Attribute → List OwnEquation
+equations_of i [] = []
+equations_of i (a ∷ as') = record { class = a.class; attribute = i; body = a.body } ∷ equations_of (suc i) as'
+
+-- the rules of the attributes
+abbrev pub ruled : Classes → List Attribute → Rules
+ruled classes as' = record { classes = classes; attributes = map attribute_of as'; own = equations_of 0 as'; inherited = [] }
+
+-- The files give the rules over the classes: each file holds aspects, their declarations break no rule, and the rules are what
+-- the declarations mean. The first of the files has the number 1.
+pub record GivesRules (classes : Classes) (files : List (List ℕ)) (rules : Rules) : Type 0 where
+  pub aspects : List (List Aspect)
+  pub hold : AllHold files aspects
+  pub faultless : first_fault classes (located 1 aspects) ≡ None
+  pub attributes : List Attribute
+  pub mean : map Means attributes ≡ map (λ d. meant classes d.decl) (located 1 aspects)
+  pub built : rules ≡ ruled classes attributes
+
+-- The files are refused by the code at the place of the file of that number: it is the first that can't be read; or all can,
+-- and it is the first fault of their declarations.
+pub data RefusesAspects (classes : Classes) (files : List (List ℕ)) : (file : ℕ) → Code → Place → Type 0 where
+  no_file : (file : ℕ) (c : Code) (at : Place) → IsUnreadAt files file c at → RefusesAspects classes files file c at
+  breaks : (aspects : List (List Aspect)) (f : Fault) → AllHold files aspects → first_fault classes (located 1 aspects) ≡ Some f → RefusesAspects classes files f.file f.code f.at
+
+-- the fault is one by which the files are refused; of want of memory nothing is said
+abbrev pub IsAspectFault : Classes → List (List ℕ) → StartFault → Type 0
+IsAspectFault classes files (start.Refused file c (Some at)) = RefusesAspects classes files file c at
+IsAspectFault classes files (start.Refused file c None) = ⊥
+IsAspectFault classes files start.Memory = Unit {0}

@@ -1,0 +1,44 @@
+-- What files make: an engine, or the first fault in the order grammar, aspects, tree.
+use Rattle.std.specs.Prelude.{◌≡◌, ℕ, ◌+◌, List, [], length, map, Option, Some, None}
+use Rattle.at_model.specs.Classes.{Classes}
+use Rattle.at_model.specs.Trees.{Tree}
+use Rattle.at_model.specs.Rules.{Rules}
+use Rattle.at_model.specs.Machine.{State}
+use Rattle.attrd.specs.AspectFiles.{GivesRules, RefusesAspects}
+use Rattle.attrd.specs.GrammarFiles.{GivesClasses, RefusesGrammar}
+use Rattle.attrd.specs.TreeFiles.{GivesTree, RefusesTree}
+use Rattle.attrd.specs.declared.code.Code.{Code}
+use Rattle.attrd.specs.declared.start.files.Source.{Source}
+use Rattle.attrd.specs.declared.start.files.Files.{Files}
+use Rattle.attrd.specs.declared.start.fault.StartFault.{StartFault}
+use Rattle.attrd.specs.declared.start.fault.StartFault.TheVariants.{Refused, Memory}
+
+-- what is in the aspect files
+abbrev pub aspect_bytes : List Source → List (List ℕ)
+aspect_bytes = map (λ s. s.bytes.items)
+
+-- the state at the start: that tree, version 0 and no marks
+abbrev pub opening : Tree → State
+opening t = record { tree = t; version = 0; marks = [] }
+
+-- the files give these rules, and this state
+pub record Starts (files : Files) (rules : Rules) (state : State) : Type 0 where
+  pub classes : Classes
+  pub grammar : GivesClasses files.grammar.bytes.items classes
+  pub aspects : GivesRules classes (aspect_bytes files.aspects.items) rules
+  pub opened : Tree
+  pub tree : GivesTree classes files.tree.bytes.items opened
+  pub state_is : state ≡ opening opened
+
+-- The file of that number is the first that is refused, by the code and at the place; a tree file's fault has none.
+pub data Refuses (files : Files) : (file : ℕ) → Code → Option (ℕ × ℕ) → Type 0 where
+  by_grammar : (c : Code) (at : ℕ × ℕ) → RefusesGrammar files.grammar.bytes.items c at → Refuses files 0 c (Some at)
+  by_aspects : (classes : Classes) (file : ℕ) (c : Code) (at : ℕ × ℕ) → GivesClasses files.grammar.bytes.items classes
+      → RefusesAspects classes (aspect_bytes files.aspects.items) file c at → Refuses files file c (Some at)
+  by_tree : (classes : Classes) (rules : Rules) (c : Code) → GivesClasses files.grammar.bytes.items classes → GivesRules classes (aspect_bytes files.aspects.items) rules
+      → RefusesTree classes files.tree.bytes.items c → Refuses files (length files.aspects.items + 1) c None
+
+-- the fault is the first one of the files; of want of memory nothing is said
+abbrev pub IsStartFault : Files → StartFault → Type 0
+IsStartFault files (Refused file c at) = Refuses files file c at
+IsStartFault files Memory = Unit {0}

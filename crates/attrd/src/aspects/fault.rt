@@ -1,0 +1,41 @@
+//! Why declarations are no rules.
+
+ghost use Rattle.std.specs.Prelude.{◌≡◌};
+ghost use Rattle.attrd.specs.declared.aspects.fault.RuleFault.TheVariants.{Memory};
+
+use crate::code::Code;
+use std::alloc::{AllocError, AllocFailed};
+
+/// A rule that a declaration breaks: its code, the number of the aspect file, from 1, and the place in
+/// it.
+#[derive(Clone, Copy, Debug, PartialEq, Eq)]
+pub struct Fault {
+    pub code: Code,
+    pub file: usize,
+    pub at: (u32, u32),
+}
+
+/// Why declarations are no rules.
+#[derive(Debug, Drop)]
+pub enum RuleFault {
+    /// The first fault.
+    Refused(Fault),
+    /// Want of memory.
+    Memory,
+}
+
+impl From<AllocError> for RuleFault {
+    ghost from_gives = { λ _ e. e ≡ Memory };
+
+    fn from(_e: AllocError) -> RuleFault {
+        RuleFault::Memory
+    }
+}
+
+impl<T: Drop> From<AllocFailed<T>> for RuleFault {
+    ghost from_gives = { λ _ e. e ≡ Memory };
+
+    fn from(_e: AllocFailed<T>) -> RuleFault {
+        RuleFault::Memory
+    }
+}

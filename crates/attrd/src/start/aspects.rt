@@ -1,0 +1,98 @@
+//! The rules of aspect files.
+
+ghost use Rattle.std.specs.Prelude.{◌≡◌, None, Some, map, IfOk, IfErr};
+ghost use Rattle.at_jrag.specs.View.{aspect_view};
+ghost use Rattle.attrd.specs.AspectFiles.{Holds, AllHold, GivesRules, IsReadingFaultOf, IsAspectFault, IsUnread};
+ghost use Rattle.attrd.specs.Served.{rules_view};
+ghost use Rattle.attrd.specs.Starts.{aspect_bytes};
+ghost use Rattle.attrd.specs.declared.start.fault.FileFault.TheVariants.{Refused};
+ghost use Rattle.attrd.specs.Located.{declarations_in};
+ghost use Rattle.attrd.specs.Ruled.{meant_view};
+ghost use Rattle.attrd.specs.Ruling.{meant, first_fault, Means};
+ghost use Rattle.attrd.specs.StartFaults.{IsToldOf};
+ghost use Rattle.attrd.specs.Starting.{AreFlat, ArePlain};
+
+use super::fault::{FileFault, StartFault, of_file};
+use super::files::{Source, text_of};
+use crate::aspects::fault::RuleFault;
+use crate::aspects::rules::Rules;
+use crate::code::Code;
+use at_class::ClassTable;
+use at_jrag::{Aspect, JragFault, parse_jrag};
+use std::alloc::Global;
+
+/// The rules of the aspect files over the classes.
+///
+/// # Errors
+///
+/// The first file that can't be read, or else the first fault of the rules. `Memory` for want of memory.
+pub fn rules_of(alloc: Global, classes: ClassTable, aspects: &[Source]) -> Result<Rules, StartFault>
+    requires flat { AreFlat classes }
+    requires plain { ArePlain classes }
+    ensures classes { IfOk result (λ r. r.classes ≡ classes) }
+    ensures given { IfOk result (λ r. GivesRules classes (aspect_bytes aspects.now) (rules_view r)) }
+    ensures refused { IfErr result (IsAspectFault classes (aspect_bytes aspects.now)) }
+{
+    let aspects = read_all(alloc, aspects)?;
+    build(alloc, classes, &aspects)
+}
+
+/// The aspects of each file, in order.
+fn read_all(alloc: Global, aspects: &[Source]) -> Result<Vec<Vec<Aspect>>, StartFault>
+    ensures hold { IfOk result (λ v. AllHold (aspect_bytes aspects.now) (map (λ f. map aspect_view f.items) v.items)) }
+    ensures refused { IfErr result (IsUnread (aspect_bytes aspects.now)) }
+{
+    let mut all = Vec::new(alloc);
+    for (i, source) in aspects.iter().enumerate() {
+        match read(alloc, &source.bytes) {
+            Ok(aspects) => all.push(aspects)?,
+            Err(fault) => return Err(of_file(i + 1, fault)),
+        }
+    }
+    Ok(all)
+}
+
+/// The aspects of a file.
+fn read(alloc: Global, bytes: &[u8]) -> Result<Vec<Aspect>, FileFault>
+    ensures hold { IfOk result (λ v. Holds bytes.now (map aspect_view v.items)) }
+    ensures refused { IfErr result (IsReadingFaultOf bytes.now) }
+{
+    let text = match text_of(bytes, Code::AspectLimit, Code::AspectSyntax) {
+        Ok(text) => text,
+        Err(code) => return Err(refused(code, (1, 1))),
+    };
+    match parse_jrag(alloc, text) {
+        Ok(aspects) => Ok(aspects),
+        Err(JragFault::Syntax { at }) => Err(refused(Code::AspectSyntax, at)),
+        Err(JragFault::LeftOut { at }) => Err(refused(Code::AspectFormLeftOut, at)),
+        Err(JragFault::Nesting { at }) => Err(refused(Code::AspectLimit, at)),
+        Err(JragFault::Memory) => Err(FileFault::Memory),
+    }
+}
+
+fn refused(code: Code, at: (u32, u32)) -> FileFault
+    ensures { result ≡ Refused code (Some at) }
+{
+    FileFault::Refused { code, at: Some(at) }
+}
+
+fn build(alloc: Global, classes: ClassTable, aspects: &[Vec<Aspect>]) -> Result<Rules, StartFault>
+    requires flat { AreFlat classes }
+    requires plain { ArePlain classes }
+    ensures faultless { IfOk result (λ r. first_fault classes (declarations_in aspects.now) ≡ None) }
+    ensures classes { IfOk result (λ r. r.classes ≡ classes) }
+    ensures attributes { IfOk result (λ r. map (λ a. Means (meant_view a)) r.attributes.items ≡ map (λ d. meant classes d.decl) (declarations_in aspects.now)) }
+    ensures refused { IfErr result (IsToldOf (first_fault classes (declarations_in aspects.now))) }
+{
+    match Rules::build(alloc, classes, aspects) {
+        Ok(rules) => Ok(rules),
+        Err(RuleFault::Refused(fault)) => Err(of_file(
+            fault.file,
+            FileFault::Refused {
+                code: fault.code,
+                at: Some(fault.at),
+            },
+        )),
+        Err(RuleFault::Memory) => Err(StartFault::Memory),
+    }
+}

@@ -1,0 +1,64 @@
+//! The tree of a tree file.
+
+ghost use Rattle.std.specs.Prelude.{◌≡◌, true, None, IfOk, IfErr};
+ghost use Rattle.at_model.specs.Trees.{conforms};
+ghost use Rattle.at_tree.specs.TreeView.{tree_view};
+ghost use Rattle.at_tree.specs.View.{term_view};
+ghost use Rattle.attrd.specs.Files.{IsText};
+ghost use Rattle.attrd.specs.declared.start.fault.FileFault.TheVariants.{Refused};
+ghost use Rattle.attrd.specs.TreeFiles.{IsTermFile, IsNoTermFile, IsTreeFault};
+ghost use Rattle.at_model.specs.Terms.{term_of};
+
+use super::fault::FileFault;
+use super::files::text_of;
+use crate::code::Code;
+use at_class::ClassTable;
+use at_tree::fault::TermFault;
+use at_tree::reader::read_term;
+use at_tree::term::Term;
+use at_tree::tree::{ShapeFault, Tree, shape};
+use std::alloc::Global;
+
+/// The tree of a file that is one term and at most one newline after it. Its size is not looked at.
+///
+/// # Errors
+///
+/// The code of the first fault: a file that is too long or no UTF-8, a text that is no term, a name that
+/// is not that of a concrete class, a term that fits no tree. `Memory` for want of memory.
+pub fn tree_of(alloc: Global, classes: &ClassTable, bytes: &[u8]) -> Result<Tree, FileFault>
+    ensures text { IfOk result (λ t. IsText bytes.now) }
+    ensures written { IfOk result (λ t. IsTermFile bytes.now (term_of classes.now (tree_view t))) }
+    ensures whole { IfOk result (λ t. conforms classes.now (tree_view t) 0 ≡ true) }
+    ensures refused { IfErr result (IsTreeFault classes.now bytes.now) }
+{
+    let text = match text_of(bytes, Code::TreeLimit, Code::TreeSyntax) {
+        Ok(text) => text,
+        Err(code) => return Err(refused(code)),
+    };
+    let term = match term_of(alloc, text) {
+        Ok(term) => term,
+        Err(TermFault::Syntax { at: _ }) => return Err(refused(Code::TreeSyntax)),
+        Err(TermFault::Memory) => return Err(FileFault::Memory),
+    };
+    match shape(alloc, classes, &term, classes.start()) {
+        Ok(tree) => Ok(tree),
+        Err(ShapeFault::Class) => Err(refused(Code::TreeClass)),
+        Err(ShapeFault::Fit) => Err(refused(Code::TreeFit)),
+        Err(ShapeFault::Memory) => Err(FileFault::Memory),
+    }
+}
+
+/// The fault of a tree file, which has no place.
+pub fn refused(code: Code) -> FileFault
+    ensures { result ≡ Refused code None }
+{
+    FileFault::Refused { code, at: None }
+}
+
+/// The term of a text that has at most one newline after it.
+fn term_of(alloc: Global, text: &str) -> Result<Term, TermFault>
+    ensures found { IfOk result (λ t. IsTermFile text.now (term_view t)) }
+    ensures fault { IfErr result (IsNoTermFile text.now) }
+{
+    read_term(alloc, text.strip_suffix('\n').unwrap_or(text))
+}
