@@ -6,7 +6,8 @@ use Rattle.at_model.specs.Classes.{Classes, Class, Component, TokenKind, own_of,
 use Rattle.at_model.specs.Declarations.{Form, One, Many, Maybe, Tok, PartDeclaration, Declaration, Declarations, shape_in, component_by, class_by, class_named, classes_of}
 use Rattle.at_grammar.specs.declared.syntax.ClassDecl.{ClassDecl}
 use Rattle.at_class.specs.Grammar.{declaration_view, declarations_view}
-use Rattle.attrd.specs.Starting.{AreFlat, ArePlain, IsPlainShape, is_plain_form, is_plain_part, is_plain, are_plain, left_out}
+use Rattle.attrd.specs.Starting.{is_plain_form, is_plain_part, is_plain, are_plain, left_out}
+use Rattle.at_rules.specs.Plain.{AreFlat, ArePlain, IsPlainShape}
 
 -- two tests that pass ------------------------------------------------------------------------------------------------
 

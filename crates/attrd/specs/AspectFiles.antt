@@ -10,9 +10,11 @@ use Rattle.at_jrag.specs.Faults.{IsFault}
 use Rattle.at_jrag.specs.declared.JragFault.{JragFault}
 use Rattle.at_jrag.specs.declared.JragFault.TheVariants as jrag
 use Rattle.attrd.specs.Files.{IsText, IsNoText}
-use Rattle.attrd.specs.Located.{located}
-use Rattle.attrd.specs.Ruling.{Attribute, Means, meant, first_fault}
-use Rattle.attrd.specs.declared.aspects.fault.Fault.{Fault}
+use Rattle.at_rules.specs.Located.{located}
+use Rattle.at_rules.specs.Ruling.{Attribute, Means, meant, first_fault}
+use Rattle.at_rules.specs.declared.fault.Fault.{Fault}
+use Rattle.at_rules.specs.declared.fault.RuleCode.{RuleCode}
+use Rattle.at_rules.specs.declared.fault.RuleCode.TheVariants as rule
 use Rattle.attrd.specs.declared.code.Code.{Code}
 use Rattle.attrd.specs.declared.code.Code.TheVariants as code
 use Rattle.attrd.specs.declared.start.fault.FileFault.{FileFault}
@@ -92,11 +94,21 @@ pub record GivesRules (classes : Classes) (files : List (List ℕ)) (rules : Rul
   pub mean : map Means attributes ≡ map (λ d. meant classes d.decl) (located 1 aspects)
   pub built : rules ≡ ruled classes attributes
 
+-- a rule's code among those of all files
+abbrev pub rule_code : RuleCode → Code
+rule_code rule.FormLeftOut = code.AspectFormLeftOut
+rule_code rule.Limit = code.AspectLimit
+rule_code rule.NameOfAccessor = code.NameOfAccessor
+rule_code rule.AttributeTwice = code.AttributeTwice
+rule_code rule.UnknownName = code.UnknownName
+rule_code rule.Argument = code.Argument
+rule_code rule.Kind = code.Kind
+
 -- The files are refused by the code at the place of the file of that number: it is the first that can't be read; or all can,
 -- and it is the first fault of their declarations.
 pub data RefusesAspects (classes : Classes) (files : List (List ℕ)) : (file : ℕ) → Code → Place → Type 0 where
   no_file : (file : ℕ) (c : Code) (at : Place) → IsUnreadAt files file c at → RefusesAspects classes files file c at
-  breaks : (aspects : List (List Aspect)) (f : Fault) → AllHold files aspects → first_fault classes (located 1 aspects) ≡ Some f → RefusesAspects classes files f.file f.code f.at
+  breaks : (aspects : List (List Aspect)) (f : Fault) → AllHold files aspects → first_fault classes (located 1 aspects) ≡ Some f → RefusesAspects classes files f.file (rule_code f.code) f.at
 
 -- the fault is one by which the files are refused; of want of memory nothing is said
 abbrev pub IsAspectFault : Classes → List (List ℕ) → StartFault → Type 0

@@ -1,7 +1,8 @@
 -- What is printed of files that make no engine.
 use Rattle.std.specs.Prelude.{ℕ, ◌-◌, ◌==◌, List, [], ◌∷◌, ◌++◌, decimal, codes, ◌≡◌, Option, Some, None, option_map, slice_get, string_bytes, if◌then◌else◌}
+use Rattle.attrd.specs.AspectFiles.{rule_code}
 use Rattle.attrd.specs.Codes.{code_text}
-use Rattle.attrd.specs.declared.aspects.fault.Fault.{Fault}
+use Rattle.at_rules.specs.declared.fault.Fault.{Fault}
 use Rattle.attrd.specs.declared.start.files.Source.{Source}
 use Rattle.attrd.specs.declared.start.files.Files.{Files}
 use Rattle.attrd.specs.declared.start.fault.StartFault.{StartFault}
@@ -27,7 +28,7 @@ fault_text files Memory = codes "memory" ++ 10 ∷ []
 
 -- the fault of an aspect file, as it is told
 abbrev pub told : Fault → StartFault
-told f = Refused f.file f.code (Some f.at)
+told f = Refused f.file (rule_code f.code) (Some f.at)
 
 -- this fault is told; of want of memory nothing is said
 abbrev pub IsToldOf : Option Fault → StartFault → Type 0

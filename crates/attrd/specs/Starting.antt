@@ -1,27 +1,8 @@
--- What a server starts with: classes without superclasses, whose components are plain children and tokens.
-use Rattle.std.specs.Prelude.{◌≡◌, ℕ, Bool, true, false, ◌&&◌, not, Option, Some, None, is_none, option_map}
-use Rattle.std.specs.List.{slice_get, list_all, find}
-use Rattle.at_model.specs.Classes.{Classes, Component, Shape, parent_of, parts}
-use Rattle.at_model.specs.Classes as class
+-- Which grammars are evaluated today: those whose classes are concrete, without superclasses, and whose components are plain children
+-- and tokens.
+use Rattle.std.specs.Prelude.{Bool, true, false, ◌&&◌, not, Option, is_none, option_map}
+use Rattle.std.specs.List.{list_all, find}
 use Rattle.at_model.specs.Declarations.{Form, One, Many, Maybe, Tok, Place, PartDeclaration, Declaration, Declarations}
-
--- no class has a superclass
-abbrev pub AreFlat : Classes → Type 0
-AreFlat classes = (c : ℕ) → parent_of classes c ≡ None
-
--- a plain child, or a token
-abbrev pub is_plain_shape : Shape → Bool
-is_plain_shape (class.One b) = true
-is_plain_shape (class.Many b) = false
-is_plain_shape (class.Maybe b) = false
-is_plain_shape (class.Token kind) = true
-
-abbrev pub IsPlainShape : Shape → Type 0
-IsPlainShape shape = is_plain_shape shape ≡ true
-
--- no class has a list or an optional
-abbrev pub ArePlain : Classes → Type 0
-ArePlain classes = (c part : ℕ) (p : Component) → slice_get (parts classes c) part ≡ Some p → IsPlainShape p.shape
 
 -- it declares a plain child, or a token
 abbrev pub is_plain_form : Form → Bool

@@ -2,23 +2,18 @@
 //! answers lines of standard input on standard output.
 #![tactic(auto)]
 
-mod aspects;
 mod code;
-mod engine;
-mod evaluate;
-mod node;
 mod start;
-mod stream;
 #[cfg(test)]
 mod tests;
 
+use at_engine::{RunFault, run};
 use start::{Files, MAX_FILE, Source, StartFault, start, write_fault};
 use std::alloc::{AllocError, AllocFailed, Global};
 use std::fs::File;
 use std::io::{ErrorKind, Read, Write};
 use std::process::ExitCode;
 use std::{env, io};
-use stream::{RunFault, run};
 
 /// How the command line is written.
 const USAGE: &str = "usage: attrd GRAMMAR TREE ASPECT...";

@@ -1,18 +1,20 @@
 //! The files of a server, and the engine that they make.
 
 ghost use Rattle.std.specs.Prelude.{IfOk, IfErr};
-ghost use Rattle.attrd.specs.Engines.{rules_of, state_of};
+ghost use Rattle.at_engine.specs.Engines.{rules_of, state_of};
 ghost use Rattle.attrd.specs.Starts.{Starts, IsStartFault};
 
 mod aspects;
 mod fault;
 mod files;
 mod grammar;
+#[cfg(test)]
+mod tests;
 mod tree;
 
 use crate::code::Code;
-use crate::engine::{Engine, LoadFault};
 use aspects::rules_of;
+use at_engine::{Engine, LoadFault};
 use fault::of_file;
 pub use fault::{StartFault, write_fault};
 pub use files::{Files, MAX_FILE, Source};

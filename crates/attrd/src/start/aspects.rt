@@ -2,23 +2,22 @@
 
 ghost use Rattle.std.specs.Prelude.{◌≡◌, None, Some, map, IfOk, IfErr};
 ghost use Rattle.at_jrag.specs.View.{aspect_view};
-ghost use Rattle.attrd.specs.AspectFiles.{Holds, AllHold, GivesRules, IsReadingFaultOf, IsAspectFault, IsUnread};
-ghost use Rattle.attrd.specs.Served.{rules_view};
+ghost use Rattle.attrd.specs.AspectFiles.{Holds, AllHold, GivesRules, IsReadingFaultOf, IsAspectFault, IsUnread, rule_code};
+ghost use Rattle.at_rules.specs.RulesView.{rules_view};
 ghost use Rattle.attrd.specs.Starts.{aspect_bytes};
 ghost use Rattle.attrd.specs.declared.start.fault.FileFault.TheVariants.{Refused};
-ghost use Rattle.attrd.specs.Located.{declarations_in};
-ghost use Rattle.attrd.specs.Ruled.{meant_view};
-ghost use Rattle.attrd.specs.Ruling.{meant, first_fault, Means};
+ghost use Rattle.at_rules.specs.Located.{declarations_in};
+ghost use Rattle.at_rules.specs.Ruled.{meant_view};
+ghost use Rattle.at_rules.specs.Ruling.{meant, first_fault, Means};
 ghost use Rattle.attrd.specs.StartFaults.{IsToldOf};
-ghost use Rattle.attrd.specs.Starting.{AreFlat, ArePlain};
+ghost use Rattle.at_rules.specs.Plain.{AreFlat, ArePlain};
 
 use super::fault::{FileFault, StartFault, of_file};
 use super::files::{Source, text_of};
-use crate::aspects::fault::RuleFault;
-use crate::aspects::rules::Rules;
 use crate::code::Code;
 use at_class::ClassTable;
 use at_jrag::{Aspect, JragFault, parse_jrag};
+use at_rules::{RuleCode, RuleFault, Rules};
 use std::alloc::Global;
 
 /// The rules of the aspect files over the classes.
@@ -89,10 +88,24 @@ fn build(alloc: Global, classes: ClassTable, aspects: &[Vec<Aspect>]) -> Result<
         Err(RuleFault::Refused(fault)) => Err(of_file(
             fault.file,
             FileFault::Refused {
-                code: fault.code,
+                code: rule_code(fault.code),
                 at: Some(fault.at),
             },
         )),
         Err(RuleFault::Memory) => Err(StartFault::Memory),
+    }
+}
+
+fn rule_code(code: RuleCode) -> Code
+    ensures { result ≡ rule_code code }
+{
+    match code {
+        RuleCode::FormLeftOut => Code::AspectFormLeftOut,
+        RuleCode::Limit => Code::AspectLimit,
+        RuleCode::NameOfAccessor => Code::NameOfAccessor,
+        RuleCode::AttributeTwice => Code::AttributeTwice,
+        RuleCode::UnknownName => Code::UnknownName,
+        RuleCode::Argument => Code::Argument,
+        RuleCode::Kind => Code::Kind,
     }
 }

@@ -5,13 +5,13 @@ use Rattle.at_model.specs.Classes.{Classes}
 use Rattle.at_model.specs.Terms.{term_of}
 use Rattle.attrd.specs.AspectFiles.{GivesRules, IsAspectFault}
 use Rattle.attrd.specs.GrammarFiles.{GivesClasses, IsGrammarFault}
-use Rattle.attrd.specs.Loading.{IsLoadFault}
-use Rattle.attrd.specs.Served.{rules_view}
+use Rattle.at_engine.specs.Loading.{IsLoadFault}
+use Rattle.at_rules.specs.RulesView.{rules_view}
 use Rattle.attrd.specs.Starts.{aspect_bytes, IsStartFault}
 use Rattle.attrd.specs.TreeFiles.{IsTreeFault, IsTermFile, no_room}
 use Rattle.attrd.specs.Files.{IsText}
 use Rattle.attrd.specs.declared.code.Code.TheVariants as code
-use Rattle.attrd.specs.declared.engine.LoadFault.{LoadFault}
+use Rattle.at_engine.specs.declared.engine.LoadFault.{LoadFault}
 use Rattle.attrd.specs.declared.start.files.Source.{Source}
 use Rattle.attrd.specs.declared.start.fault.FileFault.TheVariants as file
 use Rattle.attrd.proofs.Started.{grammar_refuses, aspects_refuse, tree_refuses}

@@ -1,0 +1,96 @@
+-- Bytes cut at newlines, piece by piece.
+use Rattle.std.proofs.Common.{◌≡◌, ℕ, Bool, true, false, cond, nat_eq, List, [], ◌∷◌, ◌++◌, filter, refl, sym, ap, ◌∙◌, append_assoc, append-nil, subst}
+use Rattle.at_model.specs.Lines.{pieces, onto_first}
+use Rattle.at_model.specs.Rules.{Rules}
+use Rattle.at_model.specs.Replies.{reply_text}
+use Rattle.at_model.specs.Machine.{State}
+use Rattle.at_engine.specs.Serving.{Runs}
+use Rattle.at_engine.specs.Loop.{Splits, IsOpen}
+
+-- the first piece goes on these bytes
+abbrev pub onto_front : List ℕ → List (List ℕ) → List (List ℕ)
+onto_front p [] = p ∷ []
+onto_front p (q ∷ qs) = (p ++ q) ∷ qs
+
+-- the pieces of two texts, one behind the other
+abbrev pub join : List (List ℕ) → List (List ℕ) → List (List ℕ)
+join [] qs = qs
+join (p ∷ []) qs = onto_front p qs
+join (p ∷ q ∷ ps) qs = p ∷ join (q ∷ ps) qs
+
+pub data IsCons : List (List ℕ) → Type 0 where
+  is_cons : (p : List ℕ) (ps : List (List ℕ)) → IsCons (p ∷ ps)
+
+onto_first_cons : (b : ℕ) (ps : List (List ℕ)) → IsCons (onto_first b ps)
+onto_first_cons b [] = is_cons _ _
+onto_first_cons b (p ∷ ps) = is_cons _ _
+
+pub pieces_cons : (bs : List ℕ) → IsCons (pieces bs)
+pieces_cons [] = is_cons _ _
+pieces_cons (b ∷ bs) = elim (nat_eq b 10) as (λ t. IsCons (cond t ([] ∷ pieces bs) (onto_first b (pieces bs)))) [
+  | true ↦ is_cons _ _
+  | false ↦ onto_first_cons b (pieces bs)
+]
+
+onto_front_nothing : (qs : List (List ℕ)) → IsCons qs → onto_front [] qs ≡ qs
+onto_front_nothing (q ∷ qs) h = refl
+onto_front_nothing [] h = elim h [ ]
+
+join_newline : (ps qs : List (List ℕ)) → IsCons ps → [] ∷ join ps qs ≡ join ([] ∷ ps) qs
+join_newline (p ∷ ps) qs h = refl
+join_newline [] qs h = elim h [ ]
+
+join_byte : (b : ℕ) (ps qs : List (List ℕ)) → IsCons ps → onto_first b (join ps qs) ≡ join (onto_first b ps) qs
+join_byte b [] qs h = elim h [ ]
+join_byte b (p ∷ []) [] h = refl
+join_byte b (p ∷ []) (q ∷ qs) h = refl
+join_byte b (p ∷ q ∷ ps) qs h = refl
+
+pub pieces-append : (as' bs : List ℕ) → pieces (as' ++ bs) ≡ join (pieces as') (pieces bs)
+pieces-append [] bs = sym (onto_front_nothing (pieces bs) (pieces_cons bs))
+pieces-append (a ∷ as') bs = elim (nat_eq a 10) as (λ t. cond t ([] ∷ pieces (as' ++ bs)) (onto_first a (pieces (as' ++ bs))) ≡ join (cond t ([] ∷ pieces as') (onto_first a (pieces as'))) (pieces bs)) [
+  | true ↦ ap (λ l. [] ∷ l) (pieces-append as' bs) ∙ join_newline (pieces as') (pieces bs) (pieces_cons as')
+  | false ↦ ap (onto_first a) (pieces-append as' bs) ∙ join_byte a (pieces as') (pieces bs) (pieces_cons as')
+]
+
+pub join-last : (fulls : List (List ℕ)) (p : List ℕ) (qs : List (List ℕ)) → join (fulls ++ p ∷ []) qs ≡ fulls ++ onto_front p qs
+join-last [] p qs = refl
+join-last (f ∷ []) p qs = refl
+join-last (f ∷ g ∷ gs) p qs = ap (λ l. f ∷ l) (join-last (g ∷ gs) p qs)
+
+-- what follows goes on the last piece
+pub splits_then : (as' bs : List ℕ) (fulls : List (List ℕ)) (p : List ℕ) → Splits as' fulls p → pieces (as' ++ bs) ≡ fulls ++ onto_front p (pieces bs)
+splits_then as' bs fulls p h = pieces-append as' bs ∙ ap (λ l. join l (pieces bs)) h ∙ join-last fulls p (pieces bs)
+
+pub pieces-byte : (b : ℕ) → nat_eq b 10 ≡ false → pieces (b ∷ []) ≡ (b ∷ []) ∷ []
+pieces-byte b h = ap (λ t. cond t ([] ∷ [] ∷ []) ((b ∷ []) ∷ [])) h
+
+-- a byte that is no newline goes on the line
+pub splits_byte : (as' : List ℕ) (fulls : List (List ℕ)) (p : List ℕ) (b : ℕ) → nat_eq b 10 ≡ false → Splits as' fulls p → Splits (as' ++ b ∷ []) fulls (p ++ b ∷ [])
+splits_byte as' fulls p b h s = splits_then as' (b ∷ []) fulls p s ∙ ap (λ l. fulls ++ onto_front p l) (pieces-byte b h)
+
+-- a newline ends it
+pub splits_newline : (as' : List ℕ) (fulls : List (List ℕ)) (p : List ℕ) → Splits as' fulls p → Splits (as' ++ 10 ∷ []) (fulls ++ p ∷ []) []
+splits_newline as' fulls p s = splits_then as' (10 ∷ []) fulls p s ∙ ap (λ l. fulls ++ l ∷ [] ∷ []) (append-nil p) ∙ sym (append_assoc fulls (p ∷ []) ([] ∷ []))
+
+-- lines behind an open one
+pub splits_on : (as' bs : List ℕ) (fulls more : List (List ℕ)) (p q : List ℕ) → Splits as' fulls p → IsOpen p → Splits (p ++ bs) more q → Splits (as' ++ bs) (fulls ++ more) q
+splits_on as' bs fulls more p q s o t =
+    splits_then as' bs fulls p s ∙ ap (λ l. fulls ++ l) (sym (splits_then p bs [] p o) ∙ t) ∙ sym (append_assoc fulls more (q ∷ []))
+
+pub filter-append : (test : List ℕ → Bool) (xs ys : List (List ℕ)) → filter test (xs ++ ys) ≡ filter test xs ++ filter test ys
+filter-append test [] ys = refl
+filter-append test (x ∷ xs) ys = elim (test x) as (λ t. cond t (x ∷ filter test (xs ++ ys)) (filter test (xs ++ ys)) ≡ cond t (x ∷ filter test xs) (filter test xs) ++ filter test ys) [
+  | true ↦ ap (λ l. x ∷ l) (filter-append test xs ys)
+  | false ↦ filter-append test xs ys
+]
+
+-- one run and then another
+pub runs-append : (rules : Rules) (old mid new : State) (ls ms : List (List ℕ)) (ks js : List Bool) (text more : List ℕ)
+    → Runs rules old ls ks text mid → Runs rules mid ms js more new → Runs rules old (ls ++ ms) (ks ++ js) (text ++ more) new
+runs-append rules old mid new [] ms [] js text more r s =
+    subst (λ (o : List ℕ). Runs rules old ms js (o ++ more) new) (sym r.0) (subst (λ (a : State). Runs rules a ms js more new) r.1 s)
+runs-append rules old mid new [] ms (k ∷ ks) js text more r s = absurd r
+runs-append rules old mid new (l ∷ ls) ms [] js text more r s = absurd r
+runs-append rules old mid new (l ∷ ls) ms (k ∷ ks) js text more (a, reply, rest, served, e, runs) s =
+    (a, reply, rest ++ more, served, ap (λ o. o ++ more) e ∙ append_assoc (reply_text reply) rest more, runs-append rules a mid new ls ms ks js rest more runs s)

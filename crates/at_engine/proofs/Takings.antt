@@ -1,0 +1,147 @@
+-- What a byte does.
+use Rattle.std.proofs.Common.{◌≡◌, ℕ, ◌+◌, Bool, true, false, cond, nat_eq, List, [], ◌∷◌, ◌++◌, refl, sym, ap, ◌∙◌, append_assoc, subst, arith, length-append, Option, zero-add, add-zero, add_assoc, inl, inr}
+use Rattle.std.proofs.lemmas.Bool.Decides.{eqb_tells}
+use Rattle.std.proofs.KnownBytes.{Appends-nil, Appends-trans}
+use Rattle.std.specs.Io.KnownBytes.{Appends}
+use Rattle.at_model.specs.Rules.{Rules}
+use Rattle.at_model.specs.Lines.{is_filled}
+use Rattle.at_model.specs.Replies.{Reply, reply_text}
+use Rattle.at_model.specs.Machine.{State}
+use Rattle.at_engine.specs.Serving.{Serves}
+use Rattle.at_engine.specs.declared.stream.desk.Desk.{Desk}
+use Rattle.at_engine.specs.Loop.{IsOpen, kept}
+use Rattle.at_engine.specs.Taking.{Takes, Stops, Counts, wants}
+use Rattle.at_engine.proofs.Kept.{kept-more, kept-nil}
+use Rattle.at_engine.proofs.KeptLines.{serves_kept}
+use Rattle.at_engine.proofs.Progressing.{nothing_came, byte_came, empty_line_came, line_came, more_came}
+
+pub wants-append : (xs ys : List Bool) → wants (xs ++ ys) ≡ wants xs + wants ys
+wants-append [] ys = sym (zero-add (wants ys))
+wants-append (x ∷ xs) ys = ap (λ n. cond x 1 0 + n) (wants-append xs ys) ∙ sym (add_assoc (cond x 1 0) (wants xs) (wants ys))
+
+pub no_count : (desk next : Desk) → next.lines ≡ desk.lines → next.memory ≡ desk.memory → Counts desk next []
+no_count desk next l m = record { lines = l ∙ sym (add-zero desk.lines); memory = m ∙ sym (add-zero desk.memory) }
+
+-- a byte of a line
+pub took_byte : (rules : Rules) (s : State) (front : List ℕ) (b : ℕ) (desk next : Desk) (before : Option (List ℕ)) → IsOpen front → nat_eq b 10 ≡ false
+    → desk.line.items ≡ kept front → next.line.items ≡ kept (desk.line.items ++ b ∷ []) → next.lines ≡ desk.lines → next.memory ≡ desk.memory
+    → Takes rules s front (b ∷ []) s desk next before before
+took_byte rules s front b desk next before o h e f l m = record {
+  named = [];
+  text = [];
+  rest = front ++ b ∷ [];
+  progress = byte_came rules s s front [] [] [] front b h (nothing_came rules s front o);
+  line = f ∙ ap (λ i. kept (i ++ b ∷ [])) e ∙ kept-more front b;
+  written = Appends-nil before;
+  counts = no_count desk next l m;
+}
+
+-- the newline behind an empty line
+pub took_empty : (rules : Rules) (s : State) (desk next : Desk) (before : Option (List ℕ))
+    → next.line.items ≡ [] → next.lines ≡ desk.lines → next.memory ≡ desk.memory → Takes rules s [] (10 ∷ []) s desk next before before
+took_empty rules s desk next before f l m = record {
+  named = [];
+  text = [];
+  rest = [];
+  progress = empty_line_came rules s s [] [] [] [] (nothing_came rules s [] refl);
+  line = f ∙ sym kept-nil;
+  written = Appends-nil before;
+  counts = no_count desk next l m;
+}
+
+-- the newline behind a line that was served
+pub took_line : (rules : Rules) (old new : State) (front : List ℕ) (wants : Bool) (reply : Reply) (desk next : Desk) (before after : Option (List ℕ)) → IsOpen front → is_filled front ≡ true
+    → desk.line.items ≡ kept front → Serves rules wants old desk.line.items new reply
+    → next.line.items ≡ [] → Counts desk next (wants ∷ []) → Appends before after (reply_text reply) → Takes rules old front (10 ∷ []) new desk next before after
+took_line rules old new front wants reply desk next before after o h e served f counts written = record {
+  named = wants ∷ [];
+  text = reply_text reply;
+  rest = [];
+  progress = line_came rules old old new front [] [] [] front wants reply h (serves_kept rules wants old new front reply (subst (λ (i : List ℕ). Serves rules wants old i new reply) e served)) (nothing_came rules old front o);
+  line = f ∙ sym kept-nil;
+  written = written;
+  counts = counts;
+}
+
+-- the newline behind a line whose reply could not be written
+pub stopped_at_line : (rules : Rules) (old new : State) (front : List ℕ) (wants : Bool) (reply : Reply) (desk : Desk) (before after : Option (List ℕ)) (done undone : List ℕ) → IsOpen front → is_filled front ≡ true
+    → desk.line.items ≡ kept front → Serves rules wants old desk.line.items new reply
+    → reply_text reply ≡ done ++ undone → Appends before after done → Stops rules old front (10 ∷ []) new before after
+stopped_at_line rules old new front wants reply desk before after done undone o h e served split written = record {
+  used = 10 ∷ [];
+  more = [];
+  split = refl;
+  named = wants ∷ [];
+  text = reply_text reply;
+  rest = [];
+  progress = line_came rules old old new front [] [] [] front wants reply h (serves_kept rules wants old new front reply (subst (λ (i : List ℕ). Serves rules wants old i new reply) e served)) (nothing_came rules old front o);
+  done = done;
+  undone = undone;
+  replies = split;
+  written = written;
+}
+
+pub differs : (a b : ℕ) → (a ≡ b → ⊥) → nat_eq a b ≡ false
+differs a b h = elim (eqb_tells a b) [ inl p ↦ absurd (h p.1) | inr p ↦ p.0 ]
+
+-- more bytes were taken
+pub took_more : (rules : Rules) (old mid new : State) (front bytes more : List ℕ) (desk next last : Desk) (before between after : Option (List ℕ))
+    → (t : Takes rules old front bytes mid desk next before between) → Takes rules mid t.rest more new next last between after → Takes rules old front (bytes ++ more) new desk last before after
+took_more rules old mid new front bytes more desk next last before between after t u = record {
+  named = t.named ++ u.named;
+  text = t.text ++ u.text;
+  rest = u.rest;
+  progress = more_came rules old mid new front bytes more t.named u.named t.text u.text t.rest u.rest t.progress u.progress;
+  line = u.line;
+  written = Appends-trans before between after t.text u.text t.written u.written;
+  counts = record {
+    lines = omega (arith, t.counts.lines, u.counts.lines, length-append t.named u.named);
+    memory = omega (arith, t.counts.memory, u.counts.memory, wants-append t.named u.named);
+  };
+}
+
+-- more bytes were taken, up to a reply that could not be written
+pub stopped_later : (rules : Rules) (old mid new : State) (front bytes more : List ℕ) (desk next : Desk) (before between after : Option (List ℕ))
+    → (t : Takes rules old front bytes mid desk next before between) → Stops rules mid t.rest more new between after → Stops rules old front (bytes ++ more) new before after
+stopped_later rules old mid new front bytes more desk next before between after t u = record {
+  used = bytes ++ u.used;
+  more = u.more;
+  split = ap (λ l. bytes ++ l) u.split ∙ sym (append_assoc bytes u.used u.more);
+  named = t.named ++ u.named;
+  text = t.text ++ u.text;
+  rest = u.rest;
+  progress = more_came rules old mid new front bytes u.used t.named u.named t.text u.text t.rest u.rest t.progress u.progress;
+  done = t.text ++ u.done;
+  undone = u.undone;
+  replies = ap (λ l. t.text ++ l) u.replies ∙ sym (append_assoc t.text u.done u.undone);
+  written = Appends-trans before between after t.text u.done t.written u.written;
+}
+
+-- what was not used makes no difference
+pub stopped_before : (rules : Rules) (old new : State) (front bytes more : List ℕ) (before after : Option (List ℕ))
+    → Stops rules old front bytes new before after → Stops rules old front (bytes ++ more) new before after
+stopped_before rules old new front bytes more before after u = record {
+  used = u.used;
+  more = u.more ++ more;
+  split = ap (λ l. l ++ more) u.split ∙ append_assoc u.used u.more more;
+  named = u.named;
+  text = u.text;
+  rest = u.rest;
+  progress = u.progress;
+  done = u.done;
+  undone = u.undone;
+  replies = u.replies;
+  written = u.written;
+}
+
+-- no byte was taken
+pub took_nothing : (rules : Rules) (old : State) (front : List ℕ) (desk : Desk) (before : Option (List ℕ)) → IsOpen front → desk.line.items ≡ kept front → Takes rules old front [] old desk desk before before
+took_nothing rules old front desk before o e = record {
+  named = [];
+  text = [];
+  rest = front;
+  progress = nothing_came rules old front o;
+  line = e;
+  written = Appends-nil before;
+  counts = no_count desk desk refl refl;
+}

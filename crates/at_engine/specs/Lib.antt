@@ -1,0 +1,15 @@
+pub mod TypedRules
+pub mod Nodes
+pub mod Tokens
+pub mod Served
+pub mod Edits
+pub mod Engines
+pub mod Loading
+pub mod Evaluation
+pub mod Answering
+pub mod Lines
+pub mod Serving
+pub mod Loop
+pub mod Taking
+pub mod Running
+pub mod RunFaults

@@ -1,0 +1,161 @@
+//! The loop over lines: bytes come in pieces of any size, each line is served whole, and its reply is written before the
+//! next line is looked at.
+ghost use Rattle.std.specs.Prelude.{◌≡◌, ◌++◌, ◌∷◌, ◌≤◌, ◌<◌, ◌+◌, ◌^◌, Bool, ℕ, List, [], vec_len, vec_capacity, length};
+ghost use Rattle.at_engine.specs.Serving.{Serves};
+ghost use Rattle.at_model.specs.Replies.{Reply, reply_text};
+ghost use Rattle.at_engine.specs.Engines.{state_of, rules_of};
+ghost use Rattle.at_engine.specs.Loop.{kept, IsOpen};
+ghost use Rattle.at_engine.specs.Taking.{Counts, Written, TakesOrStops, Finishes};
+ghost use Rattle.at_engine.specs.Running.{Ran};
+
+mod desk;
+
+use crate::engine::Engine;
+pub use desk::{Report, RunFault};
+use desk::{Desk, MAX_LINE};
+use std::io::{Read, Write};
+
+/// How many reads a run may take.
+const READS: u64 = 1_000_000_000;
+
+/// How many bytes a read may bring.
+const PIECE: usize = 8_192;
+
+/// Writes all of the bytes and flushes them. Of a failed write some front was written.
+fn write_whole<W: Write>(writer: &mut W, bytes: &[u8]) -> Result<(), RunFault>
+    ensures { Written result (W.contents writer.old) (W.contents writer.new) bytes.now }
+{
+    let mut rest = bytes;
+    while !rest.is_empty() {
+        match writer.write(rest) {
+            Ok(0) | Err(_) => return Err(RunFault::Write),
+            Ok(n) => rest = rest.split_at(n).1,
+        }
+    }
+    match writer.flush() {
+        Ok(()) => Ok(()),
+        Err(_) => Err(RunFault::Write),
+    }
+}
+
+/// One more byte of the line that is being read; of a line that is too long only the front is kept.
+fn keep(line: &mut Vec<u8>, byte: u8)
+    requires room { MAX_LINE < vec_capacity line.old }
+    requires short { vec_len line.old ≤ MAX_LINE + 1 }
+    ensures room { MAX_LINE < vec_capacity line.new }
+    ensures front { line.new.items ≡ kept (line.old.items ++ byte ∷ []) }
+    ensures short { vec_len line.new ≤ MAX_LINE + 1 }
+{
+    if line.len() <= MAX_LINE {
+        match line.push(byte) {
+            Ok(()) => {}
+            Err(_) => unreachable!(),
+        }
+    }
+}
+
+/// Serves the line that was read, and writes its reply.
+fn serve<W: Write>(engine: &mut Engine, desk: &mut Desk, writer: &mut W) -> Result<(), RunFault>
+    requires line { 0 < vec_len desk.old.line }
+    requires count { desk.old.lines + 1 < 2 ^ 128 }
+    ensures served { (wants : Bool) × (reply : Reply)
+        × Serves (rules_of engine.old) wants (state_of engine.old) desk.old.line.items (state_of engine.new) reply
+        × Counts desk.old desk.new (wants ∷ []) × Written result (W.contents writer.old) (W.contents writer.new) (reply_text reply) }
+    ensures rules { rules_of engine.new ≡ rules_of engine.old }
+    ensures line { desk.new.line.items ≡ desk.old.line.items }
+    ensures grows { desk.new.lines ≤ desk.old.lines + 1 }
+{
+    desk.reply.clear();
+    match engine.serve(desk.line.as_slice(), &mut desk.reply) {
+        Ok(wants) => {
+            desk.count(wants);
+            write_whole(writer, desk.reply.as_slice())
+        }
+        Err(_) => unreachable!(),
+    }
+}
+
+/// Takes a byte: a newline ends the line, which is served unless it is empty.
+fn take_byte<W: Write>(
+    engine: &mut Engine,
+    desk: &mut Desk,
+    byte: u8,
+    writer: &mut W,
+) -> Result<(), RunFault>
+    requires { desk.old.lines + 1 < 2 ^ 128 }
+    ensures taken { (front : List ℕ) → IsOpen front → desk.old.line.items ≡ kept front → TakesOrStops result (rules_of engine.old) (state_of engine.old) front (byte ∷ []) (state_of engine.new) desk.old desk.new (W.contents writer.old) (W.contents writer.new) }
+    ensures rules { rules_of engine.new ≡ rules_of engine.old }
+    ensures grows { desk.new.lines ≤ desk.old.lines + 1 }
+{
+    if byte != b'\n' {
+        keep(&mut desk.line, byte);
+    } else if !desk.line.is_empty() {
+        serve(engine, desk, writer)?;
+        desk.line.clear();
+    }
+    Ok(())
+}
+
+/// Takes the bytes of a piece, one after the other.
+fn take_piece<W: Write>(
+    engine: &mut Engine,
+    desk: &mut Desk,
+    piece: &[u8],
+    writer: &mut W,
+) -> Result<(), RunFault>
+    requires { desk.old.lines + length piece.now + 1 < 2 ^ 128 }
+    ensures taken { (front : List ℕ) → IsOpen front → desk.old.line.items ≡ kept front → TakesOrStops result (rules_of engine.old) (state_of engine.old) front piece.now (state_of engine.new) desk.old desk.new (W.contents writer.old) (W.contents writer.new) }
+    ensures rules { rules_of engine.new ≡ rules_of engine.old }
+    ensures grows { desk.new.lines ≤ desk.old.lines + length piece.now }
+{
+    for byte in piece {
+        take_byte(engine, desk, *byte, writer)?;
+    }
+    Ok(())
+}
+
+/// Serves the last line, which no newline ends, unless it is empty.
+fn finish<W: Write>(engine: &mut Engine, desk: &mut Desk, writer: &mut W) -> Result<(), RunFault>
+    requires { desk.old.lines + 1 < 2 ^ 128 }
+    ensures finished { (front : List ℕ) → desk.old.line.items ≡ kept front → Finishes result (rules_of engine.old) (state_of engine.old) front (state_of engine.new) desk.old desk.new (W.contents writer.old) (W.contents writer.new) }
+    ensures rules { rules_of engine.new ≡ rules_of engine.old }
+{
+    if desk.line.is_empty() {
+        return Ok(());
+    }
+    serve(engine, desk, writer)
+}
+
+/// Serves the lines that the reader gives, each whole, and writes the reply to each before the next one is looked at. A
+/// last line needs no newline; an empty line has no reply.
+///
+/// # Errors
+///
+/// `Read` and `Write` where a call of the reader or the writer failed, or a write took no byte; `TooManyReads` where the
+/// input goes on after 1,000,000,000 reads; `Memory` where its two buffers are refused, before the first read.
+pub fn run<R: Read, W: Write>(
+    engine: &mut Engine,
+    reader: &mut R,
+    writer: &mut W,
+) -> Result<Report, RunFault>
+    ensures ran { Ran result (rules_of engine.old) (state_of engine.old) (state_of engine.new) (R.remaining reader.old) (R.remaining reader.new) (W.contents writer.old) (W.contents writer.new) }
+    ensures rules { rules_of engine.new ≡ rules_of engine.old }
+{
+    let version = engine.version();
+    let Ok(mut desk) = Desk::new(engine.alloc) else {
+        return Err(RunFault::Memory);
+    };
+    let mut piece = [0u8; PIECE];
+    for turn in 0..READS {
+        let count = match reader.read(&mut piece) {
+            Ok(count) => count,
+            Err(_) => return Err(RunFault::Read),
+        };
+        if count == 0 {
+            finish(engine, &mut desk, writer)?;
+            return Ok(desk.report(engine.version().saturating_sub(version)));
+        }
+        take_piece(engine, &mut desk, &piece[..count], writer)?;
+    }
+    Err(RunFault::TooManyReads)
+}

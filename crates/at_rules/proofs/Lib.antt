@@ -1,0 +1,4 @@
+pub mod Sound
+pub mod Firsts
+pub mod Locating
+pub mod Calls
