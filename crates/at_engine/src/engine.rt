@@ -6,11 +6,11 @@ ghost use Rattle.at_tree.specs.TreeView.{tree_view};
 ghost use Rattle.at_engine.specs.Served.{IsWhole, IsWithin};
 ghost use Rattle.at_engine.specs.Tokens.{is_same_kind};
 
-use at_rules::Rules;
 use crate::evaluate::value_at;
 use crate::node::{is_long, is_within_limits, node_at, set_token, token_at};
 use at_protocol::line::{Command, LineFault, read_line, session_of};
 use at_protocol::reply::{Form, Refusal, Reply, write_reply};
+use at_rules::Rules;
 use at_tree::path::Path;
 use at_tree::token::TokVal;
 use at_tree::tree::{Tree, fits, write_term};

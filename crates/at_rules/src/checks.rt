@@ -7,10 +7,9 @@ ghost use Rattle.at_rules.specs.Located.{located_view};
 ghost use Rattle.at_rules.specs.Ruling.{fault_together, fault_at, left_out, too_many, accessor_named, declared_twice, is_same, is_same_word};
 
 use crate::accessors::is_accessor;
-use crate::fault::Fault;
+use crate::fault::{Fault, RuleCode};
 use crate::left_out::decl_left_out;
 use crate::located::{Located, class_word, name_word};
-use crate::fault::RuleCode;
 use at_class::ClassTable;
 use at_jrag::{Decl, Word};
 

@@ -8,8 +8,8 @@ ghost use Rattle.at_rules.specs.Ruling.{meant as meant_of, ended as ended_by, in
 ghost use Rattle.at_rules.specs.Ruled.{MeansBy};
 
 use crate::attributes::Attribute;
-use crate::typing::{Scope, TypeFault, Typed};
 use crate::fault::RuleCode;
+use crate::typing::{Scope, TypeFault, Typed};
 use at_class::ClassTable;
 use at_jrag::{Decl, DeclForm, Ending, Expr, Word};
 use std::alloc::Global;

@@ -1,8 +1,7 @@
 //! Whole sessions over the sum sample.
 
-use at_engine::Engine;
 use crate::start::{Files, Source, start, write_fault};
-use at_engine::{Report, RunFault, run};
+use at_engine::{Engine, Report, RunFault, run};
 use std::alloc::{AllocError, Global};
 use std::io;
 use std::io::{Read, Write};
