@@ -15,6 +15,7 @@ use Rattle.at_jrag.specs.Faults.{IsFile, IsFileWithin, StopsAt, last_declaration
 use Rattle.at_jrag.proofs.MachineLaws.{stuck_behind}
 use Rattle.at_jrag.proofs.FirstFaults.{first_fault}
 use Rattle.at_jrag.proofs.DeclarationRuns.{file_taken}
+use Rattle.at_jrag.proofs.Unambiguous.{one_file}
 
 -- ---- tokens
 
@@ -69,12 +70,19 @@ met text r ts rest has h =
 
 -- ---- a text has one row of tokens
 
+tokens_same : (text : List ℕ) (ts us : List PlacedToken) → HasTokens text ts → HasTokens text us → ts ≡ us
+tokens_same text ts us h k = h.2 ∙ ap (λ ps. map (placed_in text) (spelled_at 0 ps)) (scanned.cut_only text h.0 k.0 h.1 k.1) ∙ sym k.2
+
 -- a text that spells a file within the limit doesn't stop
 pub file_only : (text : List ℕ) (r : Reason) (ts us rest : List PlacedToken) (aspects : List Aspect) → HasTokens text ts → HasTokens text us → run true table (want.File ∷ []) 0 ts ≡ Stuck r rest → File aspects us [] → IsWithin aspects → ⊥
 file_only text r ts us rest aspects h k stuck file within =
-    let same : ts ≡ us = h.2 ∙ ap (λ ps. map (placed_in text) (spelled_at 0 ps)) (scanned.cut_only text h.0 k.0 h.1 k.1) ∙ sym k.2 in
+    let same = tokens_same text ts us h k in
     let whole : run true table (want.File ∷ []) 0 us ≡ Whole = file_taken true aspects us (λ e. within) file 0 in
     absurd (let q : Stuck r rest ≡ Whole = sym stuck ∙ ap (run true table (want.File ∷ []) 0) same ∙ whole in cc)
+
+-- what the tokens of a text spell, is what was read
+pub file_same : (text : List ℕ) (ts us : List PlacedToken) (read aspects : List Aspect) → HasTokens text ts → HasTokens text us → File read ts [] → File aspects us [] → read ≡ aspects
+file_same text ts us read aspects h k found file = one_file read aspects us (subst (λ (x : List PlacedToken). File read x []) (tokens_same text ts us h k) found) file
 
 -- ---- places
 

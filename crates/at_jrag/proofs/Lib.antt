@@ -24,3 +24,8 @@ pub mod Sound
 pub mod FirstFaults
 pub mod OperatorStops
 pub mod PartStops
+pub mod OneToken
+pub mod ExpressionLinks
+pub mod ExpressionFronts
+pub mod OneExpression
+pub mod Unambiguous

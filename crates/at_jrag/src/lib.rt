@@ -78,9 +78,9 @@ pub fn parse_jrag(alloc: Global, text: &str) -> Result<Vec<Aspect>, JragFault>
     // A text that can't be cut into tokens is refused where that is met, whatever stands before it.
     ensures uncut { (fault : ScanFault) (at : ℕ × ℕ) → IsScanFaultAt text.now at fault
         → MatchResult result (λ v. ⊥) (λ e. (e ≡ Memory) ⊎ (e ≡ Syntax at)) }
-    // A text that spells aspects whose expressions nest at most 64 deep is read, unless memory runs out.
+    // Of a text that spells aspects whose expressions nest at most 64 deep, these are what is read, unless memory runs out.
     ensures only { (tokens : List PlacedToken) (aspects : List written.Aspect) → HasTokens text.now tokens → File aspects tokens []
-        → IsWithin aspects → MatchResult result (λ v. Unit {0}) (λ e. e ≡ Memory) }
+        → IsWithin aspects → MatchResult result (λ v. map aspect_view v.items ≡ aspects) (λ e. e ≡ Memory) }
     // A fault is the first one: what stands before it begins such a text, and none goes on there.
     ensures fault { IfErr result (IsFault text.now) }
 {
