@@ -1,5 +1,5 @@
 -- A text's tokens, and where reading them stops.
-use Rattle.std.proofs.Common.{◌≡◌, ℕ, ◌-◌, ◌≤◌, List, [], ◌∷◌, ◌++◌, true, false, length, map, take, drop, refl, sym, ap, subst, ◌∙◌, length-append, arith}
+use Rattle.std.proofs.Common.{◌≡◌, ℕ, ◌-◌, ◌≤◌, List, [], ◌∷◌, ◌++◌, true, false, length, map, take, drop, refl, sym, ap, subst, subst₂, ◌∙◌, length-append, arith}
 use Rattle.std.proofs.lemmas.List.{length-map}
 use Rattle.at_text.specs.declared.placed.Placed.{Placed}
 use Rattle.at_text.proofs.Scanned as scanned
@@ -81,8 +81,8 @@ file_only text r ts us rest aspects h k stuck file within =
     absurd (let q : Stuck r rest ≡ Whole = sym stuck ∙ ap (run true table (want.File ∷ []) 0) same ∙ whole in cc)
 
 -- what the tokens of a text spell, is what was read
-pub file_same : (text : List ℕ) (ts us : List PlacedToken) (read aspects : List Aspect) → HasTokens text ts → HasTokens text us → File read ts [] → File aspects us [] → read ≡ aspects
-file_same text ts us read aspects h k found file = one_file read aspects us (subst (λ (x : List PlacedToken). File read x []) (tokens_same text ts us h k) found) file
+pub file_same : (text : List ℕ) (ts us rest : List PlacedToken) (read aspects : List Aspect) → HasTokens text ts → HasTokens text us → File read ts rest → rest ≡ [] → File aspects us [] → read ≡ aspects
+file_same text ts us rest read aspects h k found end file = one_file read aspects us (subst₂ (λ (x y : List PlacedToken). File read x y) (tokens_same text ts us h k) end found) file
 
 -- ---- places
 

@@ -3,9 +3,21 @@ use Rattle.at_text.specs.Pieces.{spelled}
 use Rattle.at_text.specs.Symbols.{placed, placed_in}
 use Rattle.at_jrag.specs.Left.{left}
 use Rattle.at_jrag.specs.Machine.{Refused, LeftOut, TooDeep}
-use Rattle.at_jrag.proofs.Files.{has_tokens, met, file_only, place_behind, declaration_at}
+use Rattle.at_jrag.specs.View.{aspect_view}
+use Rattle.at_jrag.proofs.Files.{has_tokens, met, file_only, file_same, place_behind, declaration_at}
 use Rattle.at_jrag.proofs.FirstFaults.{none_at_all, one_deeper}
 use Rattle.at_jrag.proofs.parse_jrag.Goals as goal
+
+-- ---- what is read
+
+pub returns-in-Ok-file-clause-only : goal.returns-in-Ok-file-clause-only
+returns-in-Ok-file-clause-only c = λ ts aspects given file within.
+    let same = c.new-reader.ensures ∙ c.deref-2.ensures.value in
+    let placing = ap (map placed) same ∙ c.in_ok-tokens.ensures ∙ ap (λ x. map (placed_in c.args.text.now) (map spelled x)) c.deref.ensures.value in
+    let l = c.in-Ok.ensures.tokens in
+    let has = has_tokens c.args.text.now l.0 _ _ l.1 l.2 placing in
+    let read = map aspect_view c.in-Ok-file.aspects.items in
+    file_same c.args.text.now (left c.new-reader.result.rest.now) ts (left c.file.new.self.rest.now) read aspects has given c.in-Ok-file.ensures.found c.in-Ok-file.ensures.end file
 
 -- ---- what is refused
 
