@@ -1,20 +1,18 @@
 -- Which form of an expression without links stands at the front of a row.
-use Rattle.std.proofs.Common.{◌≡◌, ℕ, ◌+◌, ◌<◌, ◌≤◌, ◌^◌, ℤ, pos, neg_ℤ, List, [], ◌∷◌, Bool, true, false, cond, length, refl, sym, ap, subst, ◌∙◌, arith, inl, inr}
+use Rattle.std.proofs.Common.{◌≡◌, ℕ, ◌<◌, ◌≤◌, ℤ, List, [], ◌∷◌, Bool, true, false, cond, length, refl, sym, ap, subst, ◌∙◌, arith, inl, inr}
 use Rattle.std.specs.Prelude.{◌&&◌, ◌||◌}
 use Rattle.std.specs.Str.{bytes_eq}
 use lib.Chars.{codes}
 use Rattle.at_model.specs.Names.{is_name, is_reserved, reserved_words}
-use Rattle.at_model.specs.Texts.{quoted}
 use Rattle.at_text.specs.declared.token.TokenKind.TheVariants as kind
-use Rattle.at_text.specs.Symbols.{PlacedToken}
 use Rattle.at_jrag.specs.Syntax as syntax
 use Rattle.at_jrag.specs.Syntax.{Place, Word, FoldForm, Expr, Exprs}
-use Rattle.at_jrag.specs.Grammar.{Row, sign, word, quotation, is_sign, is_number, is_name_token, next_is, follows_cast, Name, NumberOf, Sign, Spells, level, truth_text, fold_text}
+use Rattle.at_jrag.specs.Grammar.{Row, sign, word, is_sign, is_number, is_name_token, next_is, follows_cast, NumberOf, Spells, level, truth_text, fold_text}
 use Rattle.at_jrag.proofs.ExpressionSteps.{reserved_is_no_name, sign_is, name_is}
 use Rattle.at_jrag.proofs.ExpressionRanks.{operator_facts}
 use Rattle.at_jrag.proofs.Expressions.{takes_one}
 use Rattle.at_jrag.proofs.OneToken.{token_one}
-use Rattle.at_jrag.proofs.ExpressionLinks.{reach, ended, makes_no_cast, opens_no_call, cast_reach, strength}
+use Rattle.at_jrag.proofs.ExpressionLinks.{reach, ended, opens_no_call, cast_reach, strength}
 
 -- What begins later in the row is spelled in one way.
 abbrev pub OneBehind : ℕ → Type 0
@@ -142,7 +140,7 @@ no_cast false size behind at e one close rest is short p c h = refl
 no_cast true size behind at e one close rest is short p c h =
     let ahead = cast_ahead one is in
     let same = behind 0 e (syntax.Name ahead.at ahead.text) one one close (sign (codes ")") ahead.close ∷ ahead.rest) short (omega arith) refl (omega arith) (omega arith)
-        p (ahead.named, ahead.begins) (ended 0 c refl) (omega arith) in
+    p (ahead.named, ahead.begins) (ended 0 c refl) (omega arith) in
     let rows : rest ≡ ahead.rest = (token_one same.1 c refl).1 in
     absurd (omega (arith, h, ap reach rows, cast_reach ahead.rest ahead.follows))
 

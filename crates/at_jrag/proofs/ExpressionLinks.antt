@@ -1,7 +1,6 @@
 -- Expressions as a head and what stands behind it, link by link.
 use Rattle.std.proofs.Common.{◌≡◌, ℕ, zero, suc, ◌+◌, ◌-◌, ◌<◌, ◌≤◌, List, [], ◌∷◌, Bool, true, false, cond, length, refl, sym, ap, subst, subst₂, ◌∙◌, arith, inl, inr, eq-or-lt_of_le}
 use Rattle.std.specs.Prelude.{◌||◌, ◌⊎◌}
-use Rattle.std.specs.Str.{bytes_eq}
 use lib.Chars.{codes}
 use Rattle.at_model.specs.Names.{reserved_words}
 use Rattle.at_text.specs.declared.token.TokenKind.TheVariants as kind
@@ -64,20 +63,17 @@ or_second : (a b : Bool) → a || b ≡ false → b ≡ false
 or_second true b e = absurd cc
 or_second false b e = e
 
--- no cast is made by what is next, and no call of a name
-pub makes_no_cast : (row : Row) → reach row ≤ 9 → next_is follows_cast row ≡ false
-makes_no_cast [] h = refl
-makes_no_cast (t ∷ ts) h = uncast (follows_cast t) (link_reach t) h
-
+-- no call of a name is made by what is next
 pub opens_no_call : (row : Row) → reach row ≤ 9 → next_is (is_sign (codes "(")) row ≡ false
 opens_no_call [] h = refl
 opens_no_call (t ∷ ts) h = or_second _ (is_sign (codes "(") t) (uncast (follows_cast t) (link_reach t) h)
 
+-- what makes a cast of a `( NAME )` before it ends no operand
 pub cast_reach : (row : Row) → next_is follows_cast row ≡ true → reach row ≡ 10
 cast_reach [] h = absurd cc
 cast_reach (t ∷ ts) h = ap (λ x. cond x 10 (link_reach t)) h
 
--- ---- levels, with those of calls told from those of other primaries
+-- ---- levels, those of a receiver's calls told from those of other primaries
 
 abbrev pub strength : Expr → ℕ
 strength (syntax.Number at n) = 9
@@ -97,6 +93,7 @@ strength (syntax.Binary at o between a b) = operator_level o
 strength (syntax.Choose at c behind a b) = 0
 strength (syntax.Fold at form name list body) = 9
 
+-- no weaker than its level says
 pub at_least : (e : Expr) → level e ≤ strength e
 at_least (syntax.Number at n) = omega arith
 at_least (syntax.TextLiteral at bytes) = omega arith
@@ -145,6 +142,7 @@ abbrev pub Links : ℕ → ℕ → Expr → Expr → Row → Row → Type 0
 Links zero l a e old rest = (a ≡ e) × (old ≡ rest)
 Links (suc count) l a e old rest = (b : Expr) × (mid : Row) × Link (front_link old) l a b old mid × Links count l b e mid rest
 
+-- a link of a level goes on by that level
 pub link_reaches : (k : LinkForm) (l : ℕ) (a e : Expr) (old rest : Row) → Link k l a e old rest → reach old ≡ l + 1
 link_reaches OperatorLink l a e old rest (o, between, b, right, is, made, front, strong, p) = ap reach front ∙ operator_reach o between ∙ ap (λ n. n + 1) is
 link_reaches InstanceLink l a e old rest (behind, class, named, is, made, front, n) = ap reach front ∙ instance_reach behind ∙ sym (ap (λ n. n + 1) is)
@@ -161,6 +159,7 @@ pub links_end : (count l : ℕ) (a e : Expr) (old rest : Row) → Links count l 
 links_end zero l a e old rest (made, same) h = omega (arith, ap reach same, h)
 links_end (suc count) l a e old rest (b, mid, k, more) h = omega (arith, link_reaches (front_link old) l a b old mid k)
 
+-- one more link behind the last
 links_push : (count l : ℕ) (a b e : Expr) (old mid rest : Row) → Links count l a b old mid → Link (front_link mid) l b e mid rest → Links (suc count) l a e old rest
 links_push zero l a b e old mid rest (made, same) k =
     (e, rest, subst₂ (λ (x : Expr) (y : Row). Link (front_link y) l x e y rest) (sym made) (sym same) k, (refl, refl))
@@ -180,6 +179,7 @@ pub record Headed (l : ℕ) (e : Expr) (old rest : Row) : Type 0 where
   pub count : ℕ
   pub links : Links count l head e mid rest
 
+-- what is of a higher level is its own head
 itself : (l : ℕ) (e : Expr) (old rest : Row) → l + 1 ≤ strength e → Spells e old rest → Headed l e old rest
 itself l e old rest h p = record { head = e; mid = rest; strong = h; spells = p; count = 0; links = (refl, refl) }
 
@@ -190,7 +190,7 @@ headed_push l a e old mid rest h k = record { head = h.head; mid = h.mid; strong
 abbrev pub Linked : ℕ → Type 0
 Linked l = (l ≤ 6) ⊎ (l ≡ 8)
 
-pub linked_low : (l : ℕ) → Linked l → l ≤ 8
+linked_low : (l : ℕ) → Linked l → l ≤ 8
 linked_low l (inl h) = omega (arith, h)
 linked_low l (inr h) = omega (arith, h)
 
@@ -204,6 +204,7 @@ prefix_above l (inr w) h = absurd (omega (arith, w, h))
 by_level : {P : Type 0} (l k : ℕ) → l ≤ k → (l ≡ k → P) → (l + 1 ≤ k → P) → P
 by_level l k h f g = elim (eq-or-lt_of_le h) [ inl e ↦ f e | inr m ↦ g (omega (arith, m)) ]
 
+-- each expression of this level at least has a head
 pub headed : (e : Expr) (l : ℕ) (old rest : Row) → Linked l → 1 ≤ l → l ≤ strength e → Spells e old rest → Headed l e old rest
 headed (syntax.Number at n) l old rest w low h p = itself l _ old rest (primary_above l w) p
 headed (syntax.TextLiteral at bytes) l old rest w low h p = itself l _ old rest (primary_above l w) p

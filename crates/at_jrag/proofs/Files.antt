@@ -1,5 +1,5 @@
 -- A text's tokens, and where reading them stops.
-use Rattle.std.proofs.Common.{◌≡◌, ℕ, ◌-◌, ◌≤◌, List, [], ◌∷◌, ◌++◌, true, false, length, map, take, drop, refl, sym, ap, subst, subst₂, ◌∙◌, length-append, arith}
+use Rattle.std.proofs.Common.{◌≡◌, ℕ, ◌-◌, ◌≤◌, List, [], ◌∷◌, ◌++◌, true, length, map, take, drop, refl, sym, ap, subst, subst₂, ◌∙◌, length-append, arith}
 use Rattle.std.proofs.lemmas.List.{length-map}
 use Rattle.at_text.specs.declared.placed.Placed.{Placed}
 use Rattle.at_text.proofs.Scanned as scanned
@@ -7,11 +7,11 @@ use Rattle.at_jrag.specs.Syntax.{Aspect}
 use Rattle.at_jrag.specs.Grammar.{File, IsWithin}
 use Rattle.at_text.specs.Pieces.{Piece, Cut, Spelled, spelled_at}
 use Rattle.at_text.specs.Symbols.{HasTokens, PlacedToken, placed, placed_in, next_place}
-use Rattle.at_jrag.specs.Machine.{GoesOn, Reason, Refused, Stuck, Whole, run}
+use Rattle.at_jrag.specs.Machine.{Reason, Stuck, Whole, run}
 use Rattle.at_jrag.specs.Wants as want
 use Rattle.at_jrag.specs.Table.{table}
 use Rattle.at_jrag.specs.Left.{left}
-use Rattle.at_jrag.specs.Faults.{IsFile, IsFileWithin, StopsAt, last_declaration}
+use Rattle.at_jrag.specs.Faults.{StopsAt, last_declaration}
 use Rattle.at_jrag.proofs.MachineLaws.{stuck_behind}
 use Rattle.at_jrag.proofs.FirstFaults.{first_fault}
 use Rattle.at_jrag.proofs.DeclarationRuns.{file_taken}

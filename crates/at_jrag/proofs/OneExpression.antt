@@ -1,13 +1,12 @@
 -- A row of tokens spells one expression, where nothing goes on with it.
-use Rattle.std.proofs.Common.{◌≡◌, ℕ, zero, suc, ◌+◌, ◌-◌, ◌<◌, ◌≤◌, ◌^◌, ℤ, pos, neg_ℤ, List, [], ◌∷◌, ◌++◌, Bool, true, false, cond, length, refl, sym, ap, subst, ◌∙◌, arith, inl, inr, eq-or-lt_of_le}
-use Rattle.std.specs.Prelude.{◌⊎◌, decimal}
+use Rattle.std.proofs.Common.{◌≡◌, ℕ, zero, suc, ◌+◌, ◌-◌, ◌<◌, ◌≤◌, ℤ, pos, neg_ℤ, List, [], ◌∷◌, ◌++◌, Bool, true, false, cond, length, refl, sym, ap, subst, ◌∙◌, arith, inl, inr, eq-or-lt_of_le}
+use Rattle.std.specs.Prelude.{◌⊎◌}
 use Rattle.std.specs.Str.{bytes_eq}
 use Rattle.std.proofs.lemmas.Fmt.{decimal_injective}
 use lib.Chars.{codes}
 use Rattle.at_model.specs.Texts.{quoted}
 use Rattle.at_model.proofs.QuotedTexts.{same_quoted}
 use Rattle.at_text.specs.Reading.{first}
-use Rattle.at_text.specs.Symbols.{PlacedToken}
 use Rattle.at_jrag.specs.Syntax as syntax
 use Rattle.at_jrag.specs.Syntax.{Place, Word, Operator, FoldForm, Expr, Exprs, place}
 use Rattle.at_jrag.specs.Grammar.{Row, sign, is_sign, is_number, NumberOf, Spells, Arguments, MoreArguments, operator_text, truth_text, fold_text}
@@ -16,11 +15,12 @@ use Rattle.at_jrag.proofs.Expressions.{takes_one, spells_shorter}
 use Rattle.at_jrag.proofs.ExpressionRanks.{operator_facts}
 use Rattle.at_jrag.proofs.ExpressionsTaken.{heads}
 use Rattle.at_jrag.proofs.OneToken.{token_one, text_one, at_one, apart, name_one}
-use Rattle.at_jrag.proofs.ExpressionLinks.{reach, ended, strength, at_least, LinkForm, OperatorLink, InstanceLink, CallLink, front_link, Link, Links, link_reaches, link_shorter, links_end, Linked, linked_low, Headed, headed}
+use Rattle.at_jrag.proofs.ExpressionLinks.{reach, ended, strength, at_least, LinkForm, OperatorLink, InstanceLink, CallLink, front_link, Link, Links, link_reaches, link_shorter, links_end, Linked, headed}
 use Rattle.at_jrag.proofs.ExpressionFronts.{OneBehind, Front, NumberFront, TextFront, TruthFront, NullFront, ThisFront, NameFront, CallFront, ParenFront, FoldFront, NegateFront, NotFront, CastFront, front, Made, made, front_level, front_strength}
 
 -- ---- arguments
 
+-- no expression begins with a `)`
 closes_none : (f : Expr) (at : Place) (x y r s : Row) → x ≡ y → x ≡ sign (codes ")") at ∷ r → Spells f y s → ⊥
 closes_none f at x y r s same e p = absurd (let c : true ≡ false = sym (ap (λ row. next (is_sign (codes ")")) (first row)) (sym same ∙ e)) ∙ (heads f y s p).close in cc)
 
@@ -99,6 +99,7 @@ link_one CallLink size behind l a b e f x y r s same short rows (at, name_at, na
     let given = arguments_one size behind es fs list items r s (omega (arith, short, takes_one _ x called begins, takes_one _ called paren n.1, takes_one _ paren list o.0.1)) inner.1 p t in
     (made ∙ (λ i. syntax.CallOf (place (same i)) (same i) (text_one word.0 i) (given.0 i)) ∙ sym makes, given.1)
 
+-- behind one head, rows of links of one level that begin one row are the same
 links_one : (count number size : ℕ) → OneBehind size → (l : ℕ) (a b e f : Expr) (x y r s : Row) → a ≡ b → length x ≤ size → x ≡ y → Links count l a e x r → Links number l b f y s → reach r ≤ l → reach s ≤ l → (e ≡ f) × (r ≡ s)
 links_one zero zero size behind l a b e f x y r s same short rows h k er es = (sym h.0 ∙ same ∙ k.0, sym h.1 ∙ rows ∙ k.1)
 links_one zero (suc number) size behind l a b e f x y r s same short rows h (c, mid, first, more) er es =
@@ -203,6 +204,7 @@ record Bare (e : Expr) (rest : Row) : Type 0 where
   plain : strength e ≡ 8 → ⊥
   ends : reach rest ≤ 9
 
+-- both are of the form that the row begins
 same_front : (size : ℕ) → OneBehind size → (e f : Expr) (x y r s : Row) → length x ≤ size → x ≡ y → Bare e r → Bare f s → Spells e x r → Spells f y s → Made (front x) e x r × Made (front x) f y s
 same_front size behind e f x y r s short same h k p q =
     let longer : length y ≤ size = omega (arith, short, ap length same) in
@@ -244,6 +246,7 @@ prefix_apart size behind e f x y r s short same h k p q er es =
     let level = bare_level size behind e j.head x y r j.mid short same (prefix_bare e r h er) (primary_bare j.head j.mid j.strong ends) p j.spells in
     absurd (omega (arith, level, h, j.strong))
 
+-- with a sign before an operand, or a primary with its calls
 unary_by : (size : ℕ) → OneBehind size → OneHere size 8 → (e f : Expr) (x y r s : Row) → length x ≤ size → x ≡ y → (7 ≡ strength e) ⊎ (7 < strength e) → (7 ≡ strength f) ⊎ (7 < strength f) → Spells e x r → Spells f y s → reach r ≤ 7 → reach s ≤ 7 → (e ≡ f) × (r ≡ s)
 unary_by size behind above e f x y r s short same (inl h) (inl k) p q er es =
     bare_one size behind e f x y r s short same (prefix_bare e r h er) (prefix_bare f s k es) p q (omega (arith, h, er)) (omega (arith, k, es))
@@ -314,6 +317,7 @@ level_one size (suc l) behind eight h = level_by size (suc l) behind eight (unar
 here_one : (size l : ℕ) → OneBehind size → l ≤ 8 → OneHere size l
 here_one size l behind h = level_one size l behind (linked_one size 8 (inr refl) (omega arith) behind (primary_one size behind)) h
 
+-- rows of tokens below any length spell one expression of each level
 behind_one : (size : ℕ) → OneBehind size
 behind_one zero l e f x y r s short low same h k p q er es = absurd (omega (arith, short))
 behind_one (suc size) l e f x y r s short low same h k p q er es =

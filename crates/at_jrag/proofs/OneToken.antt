@@ -1,8 +1,8 @@
 -- Two readings of one row take the same token first.
-use Rattle.std.proofs.Common.{◌≡◌, ℕ, List, ◌∷◌, Bool, true, false, refl, sym, ap, ◌∙◌}
+use Rattle.std.proofs.Common.{◌≡◌, ◌∷◌, Bool, true, false, sym, ap, ◌∙◌}
 use Rattle.at_text.specs.Symbols.{PlacedToken}
-use Rattle.at_jrag.specs.Syntax.{Place, Word}
-use Rattle.at_jrag.specs.Grammar.{Row, word, next_is}
+use Rattle.at_jrag.specs.Syntax.{Word}
+use Rattle.at_jrag.specs.Grammar.{Row, word}
 
 head_is : (t u : PlacedToken) (r s : Row) → t ∷ r ≡ u ∷ s → t ≡ u
 head_is t u r s e = cc

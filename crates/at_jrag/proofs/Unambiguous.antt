@@ -1,5 +1,5 @@
 -- A row of tokens spells one file of aspects.
-use Rattle.std.proofs.Common.{◌≡◌, ℕ, suc, List, [], ◌∷◌, Bool, true, false, cond, Option, Some, None, length, refl, sym, ap, ◌∙◌, arith}
+use Rattle.std.proofs.Common.{◌≡◌, ℕ, List, [], ◌∷◌, true, false, cond, Option, Some, None, refl, sym, ap, ◌∙◌}
 use Rattle.std.specs.Prelude.{◌||◌}
 use Rattle.std.specs.Str.{bytes_eq}
 use Rattle.std.proofs.lemmas.Slice.Eq.{bytes_eq-Decides}
@@ -8,7 +8,7 @@ use Rattle.at_model.specs.Names.{is_name, reserved_words}
 use Rattle.at_text.specs.Symbols.{PlacedToken}
 use Rattle.at_jrag.specs.Syntax as syntax
 use Rattle.at_jrag.specs.Syntax.{Place, Word, Kind, KindWord, Param, Params, BodyForm, Body, Ending, Decl, DeclForm, Aspect}
-use Rattle.at_jrag.specs.Grammar.{Row, sign, is_sign, is_word, next_is, Sign, kind_text, IsKind, KindOf, ParamOf, MoreParams, Listed, Opens, Signature, Owner, Lazy, Index, Getter, Declared, BodyOf, EndingOf, Behind, keyword, DeclOf, Decls, AspectOf, File}
+use Rattle.at_jrag.specs.Grammar.{Row, sign, is_sign, is_word, next_is, Sign, kind_text, IsKind, KindOf, ParamOf, MoreParams, Listed, Signature, Owner, Lazy, Index, Getter, Declared, BodyOf, EndingOf, Behind, keyword, DeclOf, Decls, AspectOf, File}
 use Rattle.at_jrag.proofs.ExpressionSteps.{reserved_is_no_name, no_word}
 use Rattle.at_jrag.proofs.OneToken.{token_one, text_one, at_one, apart, name_one}
 use Rattle.at_jrag.proofs.ExpressionLinks.{ended}
@@ -168,6 +168,7 @@ no_getter (q ∷ []) at (Some w) b x y r s rest next same (mid, (name, j, m), h)
 no_getter (q ∷ o ∷ ps) at (Some w) b x y r s rest next same (mid, (name, j, m), (other, inner, e, u, h)) (one, close, k, n, c) p d =
     apart (is_sign (codes ",")) (name_one q.name w (token_one same j.1 k.1).1 m.1 n.1).1 e.1 c.1 refl refl
 
+-- an equation of a synthesized attribute and one of an inherited attribute begin no one row
 inherited_apart : (v name w : Word) (ps : Params) (b : Body) (getter : Word) (i : Option Word) (x y r end s : Row) → x ≡ y → Owner v x r → Signature name ps r end → (rest : Row) → BodyOf b end rest
     → (got : Row) → Owner w y got → Getter getter i got s → ⊥
 inherited_apart v name w ps b getter i x y r end s same o (paren, list, n, u, l) rest p got q (brackets, items, dot, m, e, k, d) =
@@ -177,6 +178,7 @@ inherited_apart v name w ps b getter i x y r end s same o (paren, list, n, u, l)
 
 -- ---- declarations
 
+-- what stands behind a declaration's first word
 behind_one : (f g : DeclForm) → keyword f ≡ keyword g → (x y r s : Row) → x ≡ y → Behind f x r → Behind g y s → (f ≡ g) × (r ≡ s)
 behind_one (syntax.Synthesized l k c v ps a) (syntax.Synthesized m j d w qs b) e x y r s same (end, h, p) (last, t, q) =
     let one = declared_one l m k j c d v w ps qs x y end last same h t in
