@@ -16,7 +16,7 @@ abbrev Leads : List Want → ℕ → Row → Type 0
 Leads ws d front = (vs : List Want) × (e : ℕ) × Completes true vs e × ((l : Bool) (more : Row) → run l table ws d (front ++ more) ≡ run l table vs e more)
 
 -- a move within the limit is that of the machine without one
-move_of_both : (l : Bool) (ws : List Want) (d : ℕ) (t : PlacedToken) (more : List Want) (e : ℕ) → after true table ws d t ≡ Goes more e → after l table ws d t ≡ Goes more e
+pub move_of_both : (l : Bool) (ws : List Want) (d : ℕ) (t : PlacedToken) (more : List Want) (e : ℕ) → after true table ws d t ≡ Goes more e → after l table ws d t ≡ Goes more e
 move_of_both true ws d t more e h = h
 move_of_both false ws d t more e h = elim (after_alike table ws d t) [
   | inl deep ↦ absurd (let q : Goes more e ≡ Halts TooDeep = sym h ∙ deep in cc)
@@ -37,7 +37,7 @@ leads r (t ∷ front) rest ws d h c =
     leads_on r ws d t front rest (after true table ws d t) refl (symbol_keeps true ws d t c) (λ vs e i k. leads r front rest vs e i k) (sym (run-cons true table ws d t (front ++ rest)) ∙ h)
 
 -- nothing is read yet of a file
-file_wanted : Completes true (want.File ∷ []) 0
+pub file_wanted : Completes true (want.File ∷ []) 0
 file_wanted = (false, (λ h. absurd cc), (tt, refl, tt))
 
 -- What was taken where the machine is stuck, begins what is taken whole.
@@ -91,7 +91,7 @@ needs_less p want.Defined n = n
 needs_less p want.Return n = n
 needs_less p want.Close n = n
 
-open_unlimited : (p : Bool) (ws : List Want) → Open true p ws → Open false p ws
+pub open_unlimited : (p : Bool) (ws : List Want) → Open true p ws → Open false p ws
 open_unlimited p [] o = tt
 open_unlimited p (w ∷ ws) o = (needs_less p w o.0, o.1, open_unlimited _ ws o.2)
 

@@ -46,7 +46,8 @@ front_of (t ∷ ts) (f ∷ front) rest e =
 -- where reading stops, among the tokens
 pub record Met (text : List ℕ) (r : Reason) (ts rest : List Placed) : Type 0 where
   pub front : List Placed
-  pub stops : StopsAt text r (left front) (left rest)
+  pub stops : StopsAt text (left front) (left rest)
+  pub stuck : run true table (want.File ∷ []) 0 (left front ++ left rest) ≡ Stuck r (left rest)
   pub fits : length rest ≤ length ts
   pub front_is : left (take (length ts - length rest) ts) ≡ left front
   pub rest_is : left (drop (length ts - length rest) ts) ≡ left rest
@@ -62,7 +63,8 @@ met text r ts rest has h =
     let stuck : run true table (want.File ∷ []) 0 (left p.0 ++ left rest) ≡ Stuck r (left rest) = sym (ap (run true table (want.File ∷ []) 0) split) ∙ h in
     record {
       front = p.0;
-      stops = record { tokens = subst (λ (x : List PlacedToken). HasTokens text x) split has; fault = first_fault r (left p.0) (left rest) stuck; stuck = stuck };
+      stops = record { tokens = subst (λ (x : List PlacedToken). HasTokens text x) split has; fault = first_fault r (left p.0) (left rest) stuck };
+      stuck = stuck;
       fits = omega (arith, sum, length-append p.0 p.1, same);
       front_is = ap left (ap (λ k. take k ts) count ∙ ap (take (length p.0)) p.2 ∙ take_front p.0 p.1);
       rest_is = ap left (ap (λ k. drop k ts) count ∙ ap (drop (length p.0)) p.2 ∙ drop_front p.0 p.1) ∙ p.4;

@@ -21,6 +21,14 @@ pub mod SoundExpressions
 pub mod SoundCalls
 pub mod SoundDeclarations
 pub mod Sound
+pub mod Reached
+pub mod Shapes
+pub mod Pushes
+pub mod Walks
+pub mod TokenRows
+pub mod SignRows
+pub mod LeftForms
+pub mod KeptForms
 pub mod FirstFaults
 pub mod OperatorStops
 pub mod PartStops

@@ -1,13 +1,10 @@
 -- Where a text is refused.
-use Rattle.std.specs.Prelude.{◌≡◌, ℕ, List, [], ◌∷◌, ◌++◌, Bool, true, cond, ◌||◌, ◌⊎◌}
+use Rattle.std.specs.Prelude.{◌≡◌, ℕ, List, [], ◌∷◌, ◌++◌, Bool, cond, ◌||◌, ◌⊎◌}
 use lib.Chars.{codes}
 use Rattle.at_text.specs.Symbols.{PlacedToken, HasTokens, next_place}
-use Rattle.at_jrag.specs.Syntax.{Aspect}
-use Rattle.at_jrag.specs.Grammar.{is_word, File, IsWithin}
-use Rattle.at_jrag.specs.Machine as reason
-use Rattle.at_jrag.specs.Machine.{GoesOn, IsFirstFault, Reason, Stuck, run}
-use Rattle.at_jrag.specs.Wants as want
-use Rattle.at_jrag.specs.Table.{table}
+use Rattle.at_jrag.specs.Grammar.{is_word}
+use Rattle.at_jrag.specs.FirstFault.{GoesOn, IsFirstFault}
+use Rattle.at_jrag.specs.Forms.{IsFile, IsFileWithin, MeetsLeftOut}
 use Rattle.at_text.specs.declared.scan.ScanFault.{ScanFault}
 use Rattle.at_text.specs.declared.scan.ScanFault.TheVariants as scan
 use Rattle.at_text.specs.Faults.{FaultsAt}
@@ -44,26 +41,18 @@ IsScanFaultAt text at fault = FaultsAt text fault × (uncut text fault ≡ Synta
 
 -- ---- where reading stops
 
--- the tokens are a file
-abbrev pub IsFile : List PlacedToken → Type 0
-IsFile tokens = (aspects : List Aspect) × File aspects tokens []
-
--- one in which no expression nests too deep
-abbrev pub IsFileWithin : List PlacedToken → Type 0
-IsFileWithin tokens = (aspects : List Aspect) × File aspects tokens [] × IsWithin aspects
-
 -- The front begins a file within the limit, and no such file goes on with the token after it, or with the end of the text.
--- By the table of what may come next, this is the reason.
-pub record StopsAt (text : List ℕ) (reason : Reason) (front rest : List PlacedToken) : Type 0 where
+pub record StopsAt (text : List ℕ) (front rest : List PlacedToken) : Type 0 where
   pub tokens : HasTokens text (front ++ rest)
   pub fault : IsFirstFault IsFileWithin front rest
-  pub stuck : run true table (want.File ∷ []) 0 (front ++ rest) ≡ Stuck reason rest
 
--- The fault of the text: it can't be cut into tokens, or reading stops. It is a syntax error where no file goes on, however
--- deep its expressions nest, and they nest too deep where one does. Of want of memory nothing is said.
+-- The fault of the text: it can't be cut into tokens, or reading stops. Where no file goes on, however deep its expressions
+-- nest, it is a syntax error, or a form begins there that is left out; where one does, they nest too deep. Of want of
+-- memory nothing is said.
 abbrev pub IsFault : List ℕ → JragFault → Type 0
 IsFault text Memory = Unit {0}
 IsFault text (Syntax at) = ((fault : ScanFault) × IsScanFaultAt text at fault)
-    ⊎ ((front : List PlacedToken) × (rest : List PlacedToken) × StopsAt text reason.Refused front rest × (GoesOn IsFile front rest → ⊥) × (at ≡ next_place text rest))
-IsFault text (LeftOut at) = (front : List PlacedToken) × (rest : List PlacedToken) × StopsAt text reason.LeftOut front rest × (at ≡ next_place text rest)
-IsFault text (Nesting at) = (front : List PlacedToken) × (rest : List PlacedToken) × StopsAt text reason.TooDeep front rest × GoesOn IsFile front rest × (at ≡ last_declaration front)
+    ⊎ ((front : List PlacedToken) × (rest : List PlacedToken) × StopsAt text front rest × (GoesOn IsFile front rest → ⊥) × (MeetsLeftOut front rest → ⊥) × (at ≡ next_place text rest))
+IsFault text (LeftOut at) =
+    (front : List PlacedToken) × (rest : List PlacedToken) × StopsAt text front rest × (GoesOn IsFile front rest → ⊥) × MeetsLeftOut front rest × (at ≡ next_place text rest)
+IsFault text (Nesting at) = (front : List PlacedToken) × (rest : List PlacedToken) × StopsAt text front rest × GoesOn IsFile front rest × (at ≡ last_declaration front)

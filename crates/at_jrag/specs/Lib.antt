@@ -1,10 +1,12 @@
 pub mod Syntax
 pub mod View
 pub mod Grammar
+pub mod FirstFault
 pub mod Machine
 pub mod Wants
 pub mod Table
 pub mod Runs
+pub mod Forms
 pub mod Faults
 pub mod Left
 pub mod Read

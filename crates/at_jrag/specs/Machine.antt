@@ -1,22 +1,6 @@
 -- The machine of a reader of tokens, as at_text's Reading has it, with a limit for nesting: one symbol of look ahead, a
 -- stack of what is wanted, and one register, the depth of what was read last. A want carries how deep it may nest.
-use Rattle.std.specs.Prelude.{◌≡◌, ℕ, List, [], ◌∷◌, ◌++◌, Bool, true, false, cond, not, ◌||◌, Option, Some, None, Result, Ok, Err, ◌⊎◌}
-use Rattle.at_text.specs.Reading.{first}
-
--- ---- where a language's texts can't go on
-
--- some text of the language begins so
-abbrev pub Begins : {S : Type 0} → (List S → Type 0) → List S → Type 0
-Begins {S} IsText front = (more : List S) × IsText (front ++ more)
-
--- Some text of the language goes on behind the front with the symbol after it, or ends there if that is the end.
-abbrev pub GoesOn : {S : Type 0} → (List S → Type 0) → List S → List S → Type 0
-GoesOn {S} IsText front rest = (other : List S) × (first other ≡ first rest) × IsText (front ++ other)
-
--- The front begins a text of the language, and none goes on with the symbol after it, or with the end.
-pub record IsFirstFault {S : Type 0} (IsText : List S → Type 0) (front rest : List S) : Type 0 where
-  pub begins : Begins IsText front
-  pub ends : GoesOn IsText front rest → ⊥
+use Rattle.std.specs.Prelude.{ℕ, List, [], ◌∷◌, ◌++◌, Bool, true, false, cond, not, ◌||◌, Option, Some, None}
 
 -- why reading stops: the next symbol doesn't go on, a form begins there that the profile leaves out, or the symbol goes
 -- on, but not within the limit for nesting

@@ -68,9 +68,9 @@ fn scan_fault(text: &str, fault: ScanFault) -> JragFault
 /// # Errors
 ///
 /// `Syntax` and `LeftOut` at the first token with which no file goes on, or at the end of the
-/// text; `Syntax` where the text can't be cut into tokens, which comes before all. `Nesting` where
-/// files go on with that token, but none in which expressions nest at most 64 deep. `Memory` for
-/// want of memory.
+/// text: `LeftOut` where a form begins there that is left out, and only there. `Syntax` where the
+/// text can't be cut into tokens, which comes before all. `Nesting` where files go on with that
+/// token, but none in which expressions nest at most 64 deep. `Memory` for want of memory.
 pub fn parse_jrag(alloc: Global, text: &str) -> Result<Vec<Aspect>, JragFault>
     // What is read is what the tokens of the text spell, and its expressions nest at most 64 deep.
     ensures found { IfOk result (λ v. (tokens : List PlacedToken) × HasTokens text.now tokens

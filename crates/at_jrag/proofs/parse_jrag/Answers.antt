@@ -5,7 +5,7 @@ use Rattle.at_jrag.specs.Left.{left}
 use Rattle.at_jrag.specs.Machine.{Refused, LeftOut, TooDeep}
 use Rattle.at_jrag.specs.View.{aspect_view}
 use Rattle.at_jrag.proofs.Files.{has_tokens, met, file_only, file_same, place_behind, declaration_at}
-use Rattle.at_jrag.proofs.FirstFaults.{none_at_all, one_deeper}
+use Rattle.at_jrag.proofs.FirstFaults.{none_at_all, one_deeper, one_left_out, none_left_out_there}
 use Rattle.at_jrag.proofs.parse_jrag.Goals as goal
 
 -- ---- what is read
@@ -49,7 +49,7 @@ returns-in-Err-Syntax-clause-fault c =
     let s = rw c.in-Err-Syntax.field-0-is at c.in-Err-Syntax.ensures.stays in
     let m = met c.args.text.now Refused c.new-reader.result.rest.now c.file.new.self.rest.now has (s 0 []) in
     let at = place_behind c.args.text.now c.new-reader.result.rest.now _ _ _ _ _ (c.deref-in-Err-Syntax.ensures.value ∙ sym same) c.count_left.ensures c.place_left-at.ensures m.rest_is in
-    inr (left m.front, left c.file.new.self.rest.now, m.stops, none_at_all (left m.front) (left c.file.new.self.rest.now) m.stops.stuck, at)
+    inr (left m.front, left c.file.new.self.rest.now, m.stops, none_at_all Refused (left m.front) (left c.file.new.self.rest.now) (λ rest e. absurd cc) m.stuck, none_left_out_there (left m.front) (left c.file.new.self.rest.now) m.stuck, at)
 
 -- ---- what is left out
 
@@ -81,7 +81,7 @@ returns-in-Err-LeftOut-clause-fault c =
     let s = rw c.in-Err-LeftOut.field-0-is at c.in-Err-LeftOut.ensures.stays in
     let m = met c.args.text.now LeftOut c.new-reader.result.rest.now c.file.new.self.rest.now has (s 0 []) in
     let at = place_behind c.args.text.now c.new-reader.result.rest.now _ _ _ _ _ (c.deref-in-Err-LeftOut.ensures.value ∙ sym same) c.count_left-in-Err-LeftOut.ensures c.place_left-at-in-Err-LeftOut.ensures m.rest_is in
-    (left m.front, left c.file.new.self.rest.now, m.stops, at)
+    (left m.front, left c.file.new.self.rest.now, m.stops, none_at_all LeftOut (left m.front) (left c.file.new.self.rest.now) (λ rest e. absurd cc) m.stuck, one_left_out (left m.front) (left c.file.new.self.rest.now) m.stuck, at)
 
 -- ---- what nests too deep
 
@@ -114,4 +114,4 @@ returns-clause-fault c =
     let m = met c.args.text.now TooDeep c.new-reader.result.rest.now c.file.new.self.rest.now has (s 0 []) in
     let size : c.len.result ≡ length c.new-reader.result.rest.now = omega (arith, ap length same, c.len.ensures) in
     let at = declaration_at c.new-reader.result.rest.now _ _ _ _ _ _ c.declaration_place-at.ensures c.split_at.ensures.front (c.deref-in-Err-Nesting.ensures.value ∙ sym same) (λ i. size i - c.count_left-in-Err-Nesting.ensures i) m.front_is in
-    (left m.front, left c.file.new.self.rest.now, m.stops, one_deeper (left m.front) (left c.file.new.self.rest.now) m.stops.stuck, at)
+    (left m.front, left c.file.new.self.rest.now, m.stops, one_deeper (left m.front) (left c.file.new.self.rest.now) m.stuck, at)
