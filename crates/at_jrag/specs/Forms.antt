@@ -21,7 +21,8 @@ SignMayStand text front = (at : Place) × GoesOn IsFile front (sign text at ∷ 
 abbrev pub WordMayStand : List ℕ → List PlacedToken → Type 0
 WordMayStand text front = (at : Place) × GoesOn IsFile front (word text at ∷ [])
 
--- With the token behind the front a form begins that is left out. (`||` may stand behind each whole expression.)
+-- If no file goes on behind the front with the token, a form that is left out begins with it. That an expression may end is
+-- said by `||`, which may stand behind each whole one.
 pub data IsLeftOut (front : List PlacedToken) (t : PlacedToken) : Type 0 where
   -- another word where an aspect may begin
   no_aspect : is_word_kind t.kind ≡ true → WordMayStand (codes "aspect") front → IsLeftOut front t
