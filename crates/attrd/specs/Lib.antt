@@ -6,3 +6,4 @@ pub mod GrammarFiles
 pub mod TreeFiles
 pub mod AspectFiles
 pub mod Starts
+pub mod Statuses

@@ -2,6 +2,10 @@
 //! answers lines of standard input on standard output.
 #![tactic(auto)]
 
+ghost use Rattle.std.specs.Prelude.{◌≡◌};
+ghost use Rattle.attrd.specs.Statuses.{status_of};
+ghost use Rattle.attrd.specs.declared.Failure.TheVariants.{Memory};
+
 mod code;
 mod start;
 #[cfg(test)]
@@ -34,12 +38,16 @@ enum Failure {
 }
 
 impl From<AllocError> for Failure {
+    ghost from_gives = { λ _ e. e ≡ Memory };
+
     fn from(_e: AllocError) -> Failure {
         Failure::Memory
     }
 }
 
 impl<T: Drop> From<AllocFailed<T>> for Failure {
+    ghost from_gives = { λ _ e. e ≡ Memory };
+
     fn from(_e: AllocFailed<T>) -> Failure {
         Failure::Memory
     }
@@ -59,7 +67,10 @@ fn main(rt: HostRuntime) -> ExitCode {
     }
 }
 
-fn status(failure: &Failure) -> u8 {
+/// The status with which the program ends.
+fn status(failure: &Failure) -> u8
+    ensures { result ≡ status_of failure.now }
+{
     match failure {
         Failure::Refused { text: _ } => 1,
         Failure::Usage => 2,
