@@ -1,13 +1,13 @@
 -- Where numbers stand after an edit.
-use Rattle.std.proofs.Common.{◌≡◌, ℕ, zero, suc, ◌+◌, ◌-◌, ◌<◌, ◌≤◌, Bool, true, false, ◌&&◌, nat_eq, nat_lt, nat_le, if◌then◌else◌, List, [], ◌∷◌, length, Option, Some, None, Ok, ◌⊎◌, inl, inr, refl, sym, ap, ◌∙◌, subst, arith, option_and_then, option_map, is_some}
-use Rattle.std.specs.Prelude.{map, ⊤}
+use Rattle.std.proofs.Common.{◌≡◌, ℕ, zero, suc, ◌+◌, ◌-◌, ◌<◌, ◌≤◌, Bool, true, false, ◌&&◌, nat_eq, nat_lt, nat_le, List, [], ◌∷◌, length, Option, Some, None, Ok, ◌⊎◌, inl, inr, refl, sym, ap, ◌∙◌, subst, arith, option_and_then, option_map, is_some}
+use Rattle.std.specs.Prelude.{map}
 use Rattle.std.specs.List.{slice_get, insert, remove}
 use Rattle.std.proofs.lemmas.Bool.{eq-eqb}
 use Rattle.std.proofs.lemmas.Bool.Decides.{nat_tests}
 use Rattle.at_model.specs.Classes.{Classes}
 use Rattle.at_model.specs.Trees.{Tree, Cell, Trees, One, Many, Empty, Filled, Holds, class_of, children, to_trees, from_trees, conforms, cell_conforms}
 use Rattle.at_model.specs.Trees as trees
-use Rattle.at_model.specs.Paths.{Node, tree_at, cell_at, step_eq, parent_of}
+use Rattle.at_model.specs.Paths.{Node, tree_at, cell_at, parent_of}
 use Rattle.at_model.specs.Edits.{Edit, Set, Put, Drop, Insert, Token, shape_at, plain_class, list_class, token_kind, has_component, fits_there, is_in_range, is_free, is_plain, is_removable, is_within_limits, children_of, with_child, with_cell, with_node, without_child, with_one_more, left_by, edited, moved_under, past_set, past_put, past_drop, past_insert, carried}
 use Rattle.at_model.specs.Edits as edit
 use Rattle.at_model.proofs.Conforming.{set_in_parent, passed, root_alone}
@@ -18,7 +18,7 @@ use Rattle.at_model.proofs.Ways as way
 use Rattle.at_model.proofs.Untouched.{FitsAt, child-same, child-other, from_to_trees, by_nat}
 use Rattle.at_model.proofs.Untouching.{shape_there, component_there, counted, list_cell, token_cell, plain_cell, selected, inserted-fits, removed-before, removed-behind, nothing_keeps, moved_nowhere, not_false}
 use Rattle.at_store.specs.Numbers.{relabel, relabel_cell, relabel_edit, path_in, IsApart, IsFreshTree, IsFresh, path_in_new}
-use Rattle.at_store.proofs.Found.{named, number_found}
+use Rattle.at_store.proofs.Found.{named}
 use Rattle.at_store.proofs.Relabelled.{relabelled-tree_at, relabelled-cell_at, relabelled-trees}
 use Rattle.at_store.proofs.Origins.{OriginsOf, OriginsAt, AreNew, apart_after, number_after}
 
@@ -123,19 +123,19 @@ drop_origins part (suc i) (Filled t) n zero x e = inl (zero, e, drop_stays part 
 drop_origins part (suc i) (Filled t) n (suc j) x e = absurd cc
 drop_origins part i (Holds v) n j x e = absurd cc
 
-set_origins : (part i : ℕ) (new : Tree) (c : Cell) → OriginsOf (with_child (λ u. new) i) part (past_set (part, i)) (IsAt new i) c
+pub set_origins : (part i : ℕ) (new : Tree) (c : Cell) → OriginsOf (with_child (λ u. new) i) part (past_set (part, i)) (IsAt new i) c
 set_origins part i new c j x e = by_nat i j _
     (λ same.
-        let e' = subst (λ k. slice_get (children (with_child (λ u. new) i c)) k ≡ Some x) (sym same) e in
-        let (u, is, f) = mapped (λ (u : Tree). new) (slice_get (children c) i) x (sym (child-same (λ u. new) i c) ∙ e') in
-        inr (sym f, sym same))
+    let e' = subst (λ k. slice_get (children (with_child (λ u. new) i c)) k ≡ Some x) (sym same) e in
+    let (u, is, f) = mapped (λ (u : Tree). new) (slice_get (children c) i) x (sym (child-same (λ u. new) i c) ∙ e') in
+    inr (sym f, sym same))
     (λ n. inl (j, sym (child-other (λ u. new) i j c n) ∙ e, set_stays part i j n))
 
-put_origins : (part : ℕ) (new : Tree) (c : Cell) → OriginsOf (λ c. Filled new) part (past_put part) (IsAt new 0) c
+pub put_origins : (part : ℕ) (new : Tree) (c : Cell) → OriginsOf (λ c. Filled new) part (past_put part) (IsAt new 0) c
 put_origins part new c zero x e = inr ((let f : new ≡ x = cc in sym f), refl)
 put_origins part new c (suc j) x e = absurd cc
 
-token_origins : (part : ℕ) (v : _) (c : Cell) → OriginsOf (λ c. Holds v) part (λ (s : Way). Some s) IsNone c
+pub token_origins : (part : ℕ) (v : _) (c : Cell) → OriginsOf (λ c. Holds v) part (λ (s : Way). Some s) IsNone c
 token_origins part v c j x e = absurd cc
 
 -- where children are found again
@@ -286,8 +286,8 @@ module _ (classes : Classes) (f : ℕ → ℕ) (s : Tree) (ok : conforms classes
       let past : Way → Option Way = λ w. Some w in
       let keeps = nothing_keeps part in
       let fits : FitsAt g part past s node = λ u c is here r w same e. (
-          let (shape, some, conf) = component_there classes (relabel f s) ok token_kind node part (relabel f u) (relabel_cell f c) has (there node u is) (cell_of u part c here) in
-          sym (ap (λ (xs : List Tree). slice_get xs r.1) (no_children f c (token_cell classes (relabel_cell f c) shape some conf)))) in
+      let (shape, some, conf) = component_there classes (relabel f s) ok token_kind node part (relabel f u) (relabel_cell f c) has (there node u is) (cell_of u part c here) in
+      sym (ap (λ (xs : List Tree). slice_get xs r.1) (no_children f c (token_cell classes (relabel_cell f c) shape some conf)))) in
       let origins : OriginsAt g part past IsNone s node = λ u c is here. token_origins part v c in
       let news = none_new g part past keeps s in
       (apart_after g part past IsNone keeps s node apart fits origins news, λ k none. number_after g part past IsNone keeps s node apart fits origins news k (λ x j h. absurd h))

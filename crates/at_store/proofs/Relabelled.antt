@@ -6,15 +6,16 @@ use Rattle.at_model.specs.Trees.{Tree, Cells, Cell, Trees, Node as branch, no_ce
 use Rattle.at_model.specs.Trees as trees
 use Rattle.at_model.specs.Paths.{Node, tree_at, cell_at, children_at, parent_of}
 use Rattle.at_model.specs.Run.{Location, Is, Tok, Slot, Up, Idx}
-use Rattle.at_model.specs.Meaning.{token_in, child_nodes, content}
+use Rattle.at_model.specs.Meaning.{child_nodes, content}
 use Rattle.at_model.specs.Alike.{OptionLike, ListLike, LocationLike, ContentLike, Names, AlikeAt}
 use Rattle.at_model.specs.Alike as alike
 use Rattle.at_model.specs.Edits.{Edit, Set, Put, Drop, Insert, Token, changed_at, with_child, with_cell, with_node, without_child, with_one_more, left_by, carried}
 use Rattle.at_model.specs.Touches.{touches}
+use Rattle.at_model.proofs.Options.{mapped}
 use Rattle.at_model.proofs.Untouched.{in_cell as kids}
 use Rattle.at_model.proofs.WayUp.{snoc, parent_of-snoc, parent_there}
 use Rattle.at_model.proofs.WithinTree.{tree_at-snoc}
-use Rattle.at_store.specs.Numbers.{relabel, relabel_cells, relabel_cell, relabel_trees, relabel_edit, path_in, number_at, look, IsApart}
+use Rattle.at_store.specs.Numbers.{relabel, relabel_cells, relabel_cell, relabel_trees, relabel_edit, path_in, number_at, contents, IsApart}
 use Rattle.at_store.proofs.Found.{named, number_found}
 
 module _ (f : ℕ → ℕ) where
@@ -74,7 +75,7 @@ module _ (f : ℕ → ℕ) where
       rest (cell c cs) = ap (cell (relabel_cell f c)) (rest cs)
   relabelled-to_cells g h same (cell c cs) (suc part) = ap (cell (relabel_cell f c)) (relabelled-to_cells g h same cs part)
 
-  relabelled-cell : (g h : Cell → Cell) → ((c : Cell) → relabel_cell f (g c) ≡ h (relabel_cell f c)) → (part : ℕ) (t : Tree) → relabel f (with_cell g part t) ≡ with_cell h part (relabel f t)
+  pub relabelled-cell : (g h : Cell → Cell) → ((c : Cell) → relabel_cell f (g c) ≡ h (relabel_cell f c)) → (part : ℕ) (t : Tree) → relabel f (with_cell g part t) ≡ with_cell h part (relabel f t)
   relabelled-cell g h same part (branch k cells) = ap (branch (f k)) (relabelled-to_cells g h same cells part)
 
   -- lists of trees, after a change of the list
@@ -112,7 +113,7 @@ module _ (f : ℕ → ℕ) where
   relabelled-node g h same [] t = same t
   relabelled-node g h same (s ∷ ss) t = relabelled-cell (with_child (λ u. with_node g u ss) s.1) (with_child (λ u. with_node h u ss) s.1) (relabelled-child _ _ (relabelled-node g h same ss) s.1) s.0 t
 
-  relabelled-one_more : (new : Tree) (i : ℕ) (c : Cell) → relabel_cell f (with_one_more new i c) ≡ with_one_more (relabel f new) i (relabel_cell f c)
+  pub relabelled-one_more : (new : Tree) (i : ℕ) (c : Cell) → relabel_cell f (with_one_more new i c) ≡ with_one_more (relabel f new) i (relabel_cell f c)
   relabelled-one_more new i (One t) = refl
   relabelled-one_more new i (Many ts) = ap Many (relabelled-list _ ∙ ap to_trees (insert-map (from_trees ts) i new ∙ ap (λ us. insert us i (relabel f new)) (sym (relabelled-trees ts))))
   relabelled-one_more new i Empty = refl
@@ -153,71 +154,53 @@ module _ (f : ℕ → ℕ) where
   relabelled-touches (Token node part v) l = refl
 
   -- contents
-  same_token : (o : Option Cell) → token_in (option_map (relabel_cell f) o) ≡ token_in o
-  same_token None = refl
-  same_token (Some (One t)) = refl
-  same_token (Some (Many ts)) = refl
-  same_token (Some Empty) = refl
-  same_token (Some (Filled t)) = refl
-  same_token (Some (Holds v)) = refl
-
   module _ (s : Tree) (apart : IsApart s) where
     number_named : (n : Node) (u : Tree) → tree_at s n ≡ Some u → path_in (number_at s n) s ≡ Some n
     number_named n u is = subst (λ o. path_in (elim o [ None ↦ 0 | Some u ↦ class_of u ]) s ≡ Some n) (sym is) (named s apart n u is)
 
-    children-like : (n : Node) (part i : ℕ) (ts : List Tree) → ((j : ℕ) (x : Tree) → slice_get ts j ≡ Some x → path_in (class_of x) s ≡ Some (n ++ (part, i + j) ∷ [])) →
-        ListLike (Names (λ k. path_in k s)) (map class_of ts) (child_nodes n part i (map (relabel f) ts))
+    there_named : (m : Node) (x : Tree) → tree_at (relabel f s) m ≡ Some x → path_in (number_at s m) s ≡ Some m
+    there_named m x is = let (y, at', same) = mapped (relabel f) (tree_at s m) x (sym (relabelled-tree_at s m) ∙ is) in number_named m y at'
+
+    children-like : (n : Node) (part i : ℕ) (ts : List Tree) → ((j : ℕ) (x : Tree) → slice_get ts j ≡ Some x → path_in (number_at s (n ++ (part, i + j) ∷ [])) s ≡ Some (n ++ (part, i + j) ∷ [])) →
+        ListLike (Names (λ k. path_in k s)) (map (number_at s) (child_nodes n part i ts)) (child_nodes n part i ts)
     children-like n part i [] h = alike.end
     children-like n part i (x ∷ xs) h =
         let e : i + 0 ≡ i = omega arith in
         alike.more
-        (subst (λ z. path_in (class_of x) s ≡ Some (n ++ (part, z) ∷ [])) e (h 0 x refl))
-        (children-like n part (suc i) xs (λ j y is. let g : i + suc j ≡ suc i + j = omega arith in subst (λ z. path_in (class_of y) s ≡ Some (n ++ (part, z) ∷ [])) g (h (suc j) y is)))
+        (subst (λ z. path_in (number_at s (n ++ (part, z) ∷ [])) s ≡ Some (n ++ (part, z) ∷ [])) e (h 0 x refl))
+        (children-like n part (suc i) xs (λ j y is. let g : i + suc j ≡ suc i + j = omega arith in subst (λ z. path_in (number_at s (n ++ (part, z) ∷ [])) s ≡ Some (n ++ (part, z) ∷ [])) g (h (suc j) y is)))
 
-    slot-like : (n : Node) (part : ℕ) (o : Option Tree) → tree_at s n ≡ o →
-        ListLike (Names (λ k. path_in k s)) (elim o [ None ↦ [] | Some u ↦ map class_of (children_at u part) ]) (elim (option_map (relabel f) o) [ None ↦ [] | Some u ↦ child_nodes n part 0 (children_at u part) ])
+    slot-like : (n : Node) (part : ℕ) (o : Option Tree) → tree_at (relabel f s) n ≡ o →
+        ListLike (Names (λ k. path_in k s)) (map (number_at s) (elim o [ None ↦ [] | Some u ↦ child_nodes n part 0 (children_at u part) ])) (elim o [ None ↦ [] | Some u ↦ child_nodes n part 0 (children_at u part) ])
     slot-like n part None is = alike.end
     slot-like n part (Some u) is =
-        subst (λ ts. ListLike (Names (λ k. path_in k s)) (map class_of (children_at u part)) (child_nodes n part 0 ts)) (sym (relabelled-children_at u part))
-        (children-like n part 0 (children_at u part) (λ j x at'. let g : 0 + j ≡ j = omega arith in subst (λ z. path_in (class_of x) s ≡ Some (n ++ (part, z) ∷ [])) (sym g) (named s apart (n ++ (part, j) ∷ []) x (tree_at-snoc s n (part, j) u is ∙ at'))))
+        children-like n part 0 (children_at u part) (λ j x at'. let g : 0 + j ≡ j = omega arith in subst (λ z. path_in (number_at s (n ++ (part, z) ∷ [])) s ≡ Some (n ++ (part, z) ∷ [])) (sym g) (there_named (n ++ (part, j) ∷ []) x (tree_at-snoc (relabel f s) n (part, j) u is ∙ at')))
 
     up-like : (n : Node) (u : Tree) → tree_at s n ≡ Some u →
-        OptionLike (λ (p : ℕ × ℕ) (q : Node × ℕ). Names (λ k. path_in k s) p.0 q.0 × (p.1 ≡ q.1)) (option_map (λ (p : Node × (ℕ × ℕ)). let x : ℕ × ℕ = (number_at s p.0, p.1.0) in x) (parent_of n)) (option_map (λ (p : Node × (ℕ × ℕ)). let x : Node × ℕ = (p.0, p.1.0) in x) (parent_of n))
+        OptionLike (λ (p : ℕ × ℕ) (q : Node × ℕ). Names (λ k. path_in k s) p.0 q.0 × (p.1 ≡ q.1)) (option_map (λ (p : Node × ℕ). let x : ℕ × ℕ = (number_at s p.0, p.1) in x) (content (relabel f s) (Up n))) (content (relabel f s) (Up n))
     up-like n u is = by_end (snoc n)
       where
+        shown : Option (Node × (ℕ × ℕ)) → Option (Node × ℕ)
+        shown o = option_map (λ (p : Node × (ℕ × ℕ)). let x : Node × ℕ = (p.0, p.1.0) in x) o
+
         by_end : (n ≡ []) ⊎ ((k : Node) × (w : ℕ × ℕ) × (n ≡ k ++ w ∷ [])) →
-            OptionLike (λ (p : ℕ × ℕ) (q : Node × ℕ). Names (λ k. path_in k s) p.0 q.0 × (p.1 ≡ q.1)) (option_map (λ (p : Node × (ℕ × ℕ)). let x : ℕ × ℕ = (number_at s p.0, p.1.0) in x) (parent_of n)) (option_map (λ (p : Node × (ℕ × ℕ)). let x : Node × ℕ = (p.0, p.1.0) in x) (parent_of n))
+            OptionLike (λ (p : ℕ × ℕ) (q : Node × ℕ). Names (λ k. path_in k s) p.0 q.0 × (p.1 ≡ q.1)) (option_map (λ (p : Node × ℕ). let x : ℕ × ℕ = (number_at s p.0, p.1) in x) (shown (parent_of n))) (shown (parent_of n))
         by_end (inl none) = rw none alike.neither
         by_end (inr (k, w, e)) =
             let (v, above) = parent_there s k w u (ap (tree_at s) (sym e) ∙ is) in
             rw (e, parent_of-snoc k w) (alike.both (number_named k v above, refl))
 
-    -- what is shown of a tree
-    abbrev told_of : {X : Type 0} → X → (Tree → X) → Option Tree → X
-    told_of d g o = elim o [ None ↦ d | Some u ↦ g u ]
-
-    told-like : {X : Type 0} (d : X) (g h : Tree → X) → ((u : Tree) → g u ≡ h (relabel f u)) → (o : Option Tree) → told_of d g o ≡ told_of d h (option_map (relabel f) o)
-    told-like d g h same None = refl
-    told-like d g h same (Some u) = same u
-
     -- at a number that stands at a node
     at_number : {X : Type 0} (d : X) (g : Node → X) (k : ℕ) (n : Node) → path_in k s ≡ Some n → elim (path_in k s) [ None ↦ d | Some n ↦ g n ] ≡ g n
     at_number {X} d g k n r = ap (λ (o : Option Node). elim o as (λ _. X) [ None ↦ d | Some n ↦ g n ]) r
 
-    pub contents_alike : (l : Location ℕ) → AlikeAt (Names (λ k. path_in k s)) (look s f) (content (relabel f s)) l
-    contents_alike l m (alike.is {n = k} {m = n} r) =
-        at_number 0 (λ n. told_of 0 (λ u. f (class_of u)) (tree_at s n)) k n r ∙
-        told-like 0 (λ u. f (class_of u)) class_of (λ u. sym (relabel-class u)) (tree_at s n) ∙ ap (told_of 0 class_of) (sym (relabelled-tree_at s n))
-    contents_alike l m (alike.tok {n = k} {m = n} part r) =
-        at_number (trees.Truth false) (λ n. told_of (trees.Truth false) (λ u. token_in (cell_at u part)) (tree_at s n)) k n r ∙
-        told-like (trees.Truth false) (λ u. token_in (cell_at u part)) (λ u. token_in (cell_at u part)) (λ u. sym (ap token_in (relabelled-cell_at u part) ∙ same_token (cell_at u part))) (tree_at s n) ∙
-        ap (told_of (trees.Truth false) (λ u. token_in (cell_at u part))) (sym (relabelled-tree_at s n))
+    pub contents_alike : (l : Location ℕ) → AlikeAt (Names (λ k. path_in k s)) (contents s (relabel f s)) (content (relabel f s)) l
+    contents_alike l m (alike.is {n = k} {m = n} r) = at_number 0 (λ n. content (relabel f s) (Is n)) k n r
+    contents_alike l m (alike.tok {n = k} {m = n} part r) = at_number (trees.Truth false) (λ n. content (relabel f s) (Tok n part)) k n r
     contents_alike l m (alike.slot {n = k} {m = n} part r) =
-        let shown : List ℕ → List Node → Type 0 = λ x y. ListLike (Names (λ k. path_in k s)) x y in
-        subst (λ x. shown x (content (relabel f s) (Slot n part))) (sym (at_number [] (λ n. told_of [] (λ u. map class_of (children_at u part)) (tree_at s n)) k n r))
-        (subst (λ o. shown (told_of [] (λ u. map class_of (children_at u part)) (tree_at s n)) (told_of [] (λ u. child_nodes n part 0 (children_at u part)) o)) (sym (relabelled-tree_at s n)) (slot-like n part (tree_at s n) refl))
+        subst (λ (x : List ℕ). ListLike (Names (λ k. path_in k s)) x (content (relabel f s) (Slot n part))) (sym (at_number [] (λ n. map (number_at s) (content (relabel f s) (Slot n part))) k n r)) (slot-like n part (tree_at (relabel f s) n) refl)
     contents_alike l m (alike.up {n = k} {m = n} r) =
         let (u, is, e) = number_found s k n r in
         subst (λ (x : Option (ℕ × ℕ)). OptionLike (λ (p : ℕ × ℕ) (q : Node × ℕ). Names (λ k. path_in k s) p.0 q.0 × (p.1 ≡ q.1)) x (content (relabel f s) (Up n)))
-        (sym (at_number None (λ n. option_map (λ (p : Node × (ℕ × ℕ)). let x : ℕ × ℕ = (number_at s p.0, p.1.0) in x) (parent_of n)) k n r)) (up-like n u is)
-    contents_alike l m (alike.idx {n = k} {m = n} r) = at_number 0 (λ n. elim (parent_of n) [ None ↦ 0 | Some p ↦ p.1.1 ]) k n r
+        (sym (at_number None (λ n. option_map (λ (p : Node × ℕ). let x : ℕ × ℕ = (number_at s p.0, p.1) in x) (content (relabel f s) (Up n))) k n r)) (up-like n u is)
+    contents_alike l m (alike.idx {n = k} {m = n} r) = at_number 0 (λ n. content (relabel f s) (Idx n)) k n r

@@ -1,12 +1,13 @@
 -- The tree that a memory holds below a number, and its code.
-use Rattle.std.specs.Prelude.{◌≡◌, ◌≤◌, length, insert, ℕ, zero, suc, Bool, true, false, ℤ, nat_eq, if◌then◌else◌, List, [], ◌∷◌, map, Option, Some, None, ◌⊎◌, refl, option_map}
+use Rattle.std.specs.Prelude.{◌≡◌, ◌≤◌, length, insert, ℕ, zero, suc, Bool, false, ℤ, nat_eq, if◌then◌else◌, List, [], ◌∷◌, map, Option, Some, None, ◌⊎◌, refl}
 use Rattle.std.proofs.Common.{ap, ◌∙◌, inl, inr}
 use Rattle.std.specs.Coded.{Coded, code_by, coded×, coded⊎, coded_ℕ, coded_ℤ, coded_bool, coded_list, coded_option}
 use Rattle.at_model.specs.Trees.{Tree, Cells, Cell, Trees, Node as branch, no_cells, cell, One, Many, Empty, Filled, Holds, no_trees, tree, Token, to_cells, to_trees, class_of, from_trees}
 use Rattle.at_model.specs.Trees as trees
 use Rattle.at_model.specs.Paths.{Node, tree_at, cell_at}
 use Rattle.at_model.specs.Edits.{Insert, left_by}
-use Rattle.at_store.specs.Memory.{IsShallow, Info, Kept, Kids, Token_of, Plain, List_of, Optional}
+use Rattle.at_store.specs.Numbers.{relabel}
+use Rattle.at_store.specs.Memory.{class_in, IsShallow, Info, Kept, Kids, Token_of, Plain, List_of, Optional}
 
 abbrev pub grown_cell : (ℕ → Tree) → Kept → Cell
 grown_cell deeper (Kids Plain []) = Empty
@@ -24,6 +25,10 @@ grown_node deeper k (Some i) = branch k (to_cells (map (grown_cell deeper) i.cel
 unfoldable pub grown : (ℕ → Option Info) → ℕ → ℕ → Tree
 grown memory zero k = branch k no_cells
 grown memory (suc levels) k = grown_node (grown memory levels) k (memory k)
+
+-- the same with the class of each number
+abbrev pub shown_below : (ℕ → Option Info) → ℕ → ℕ → Tree
+shown_below memory levels k = relabel (class_in memory) (grown memory levels k)
 
 -- a tree as a list of marks, each in front of its parts
 abbrev pub Mark : Type 0

@@ -1,24 +1,38 @@
--- What a contract sees of a store.
-use Rattle.std.specs.Prelude.{◌≡◌, ℕ, ◌≤◌, List, length, map, insert, Option, Some, None, option_map}
-use Rattle.at_model.specs.Trees.{Tree, Trees, Many, class_of, from_trees}
-use Rattle.at_model.specs.Paths.{Node, tree_at, cell_at}
-use Rattle.at_model.specs.Edits.{Insert, left_by}
-use Rattle.at_store.specs.Numbers.{relabel}
+-- What a contract sees of a store: the tree, and which number each node has.
+use Rattle.std.specs.Prelude.{◌≡◌, ℕ, Option, None, true, false}
+use Rattle.at_model.specs.Trees.{Tree, Truth}
+use Rattle.at_model.specs.Paths.{Node}
+use Rattle.at_model.specs.Run.{Contents}
+use Rattle.at_model.specs.Edits.{is_within_limits}
+use Rattle.at_tree.specs.Token.{token_view}
+use Rattle.at_store.specs.Numbers.{path_in, relabel, contents as shown_contents}
 use Rattle.at_store.specs.Memory.{Keeps, class_in}
-use Rattle.at_store.specs.Grown.{Shown, grown}
+use Rattle.at_store.specs.Grown.{grown}
 use Rattle.at_store.specs.View.{memory_of}
-use Rattle.at_store.specs.declared.store.Store.TheInside.{Inside}
+use Rattle.at_store.specs.declared.store.Store.{Store}
 
-abbrev pub grown_of : Inside → ℕ → Tree
-grown_of s k = grown (memory_of s.slab) 512 k
+abbrev pub Shown : Type 0
+Shown = Store
 
-abbrev pub shown_of : Inside → Shown
-shown_of s = record {
-  numbers = grown_of s s.root;
-  tree = relabel (class_in (memory_of s.slab)) (grown_of s s.root);
-  waiting = option_map (grown_of s) s.waiting;
-  brought = option_map (relabel (class_in (memory_of s.slab))) (option_map (grown_of s) s.waiting);
-}
+-- the tree with the number of each node in the place of its class, and the tree itself
+abbrev pub numbers : Shown → Tree
+numbers s = grown (memory_of s.slab) 512 s.root
 
-abbrev pub IsSound : Inside → Type 0
-IsSound s = Keeps (memory_of s.slab) (grown_of s s.root) (option_map (grown_of s) s.waiting)
+abbrev pub tree : Shown → Tree
+tree s = relabel (class_in (memory_of s.slab)) (numbers s)
+
+-- what is shown at each location, named by numbers
+abbrev pub contents : Shown → Contents ℕ
+contents s = shown_contents (numbers s) (tree s)
+
+-- where a number stands
+abbrev pub path : Shown → ℕ → Option Node
+path s k = path_in k (numbers s)
+
+-- no edit is prepared and waits: what is kept is the tree, and nothing else
+pub record IsIdle (s : Shown) : Type 0 where
+  pub waiting : s.waiting ≡ None
+  pub leaving : s.leaving ≡ None
+  pub keeps : Keeps (memory_of s.slab) (numbers s) None
+  pub limits : is_within_limits (tree s) ≡ true
+  pub absent : token_view s.absent ≡ Truth false

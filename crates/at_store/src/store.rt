@@ -1,127 +1,337 @@
-//! The nodes of a tree in a slab: a tree that waits is set in among the elements of a list.
+//! The node store: the nodes of one tree, by number, and checked edits of it.
+ghost use Rattle.std.specs.Prelude.{◌≡◌, ◌<◌, ◌≤◌, IfErr, IfOk, OnOk, Some, [], is_some, length, true};
+ghost use Rattle.std.specs.List.{slice_get};
+ghost use Rattle.at_model.specs.Run.{Idx, Is, Slot as Children, Tok, Up};
+ghost use Rattle.at_tree.specs.Token.{token_view};
+ghost use Rattle.at_tree.specs.TreeView.{tree_view};
+ghost use Rattle.at_model.specs.Paths.{Node as Place, Path as Steps, path_of, tree_at};
+ghost use Rattle.at_model.specs.Edits.{is_within_limits};
+ghost use Rattle.at_model.specs.Trees.{Tree as Nested, conforms};
+ghost use Rattle.at_store.specs.Loading.{IsNotLoaded};
+ghost use Rattle.at_tree.specs.PathView.{path_view, steps_view};
+ghost use Rattle.at_store.specs.Led.{Led};
+ghost use Rattle.at_store.specs.Shown.{IsIdle, contents, numbers, path, tree};
 
-ghost use Rattle.std.specs.Prelude.{◌≡◌, ℕ, ◌≤◌, cond, length, map, nat_eq, insert, is_some, true, None, Some};
-ghost use Rattle.at_model.specs.Trees.{Many, Tree, Trees, class_of, from_trees};
-ghost use Rattle.at_model.specs.Paths.{Node, cell_at, tree_at};
-ghost use Rattle.at_model.specs.Run.{Up};
-ghost use Rattle.at_store.specs.Numbers.{IsApart, look, path_in, relabel};
-ghost use Rattle.at_model.specs.Edits.{Insert, changed_at, left_by};
-ghost use Rattle.at_store.specs.Memory.{class_in, up_in, IsShallow, Keeps, Kids, List_of, with_kept, with_up};
-ghost use Rattle.at_store.specs.View.{kept_view, memory_of};
-
-ghost use Rattle.at_store.specs.Grown.{IsPlace, with_placed};
-
+use crate::changes::{place, replace, set_token, take_away};
+use crate::edit::{Edit, LoadFault, Prepared, Ready, Refusal};
+use crate::entry::{Entry, Form, class_at, index_at, is_there, kid_at, kids_at, token_at, up_at};
+use crate::limits::{MAX_DEPTH, is_within_limits};
+use crate::marks::mark;
+use crate::node::{Loc, Node};
+use crate::plant::{free, plant};
+use crate::refusals::refusal;
+use crate::touching::touches;
+use crate::walks::{steps_to, tree_at, walk};
+use at_class::{ClassId, ClassTable};
+use at_tree::path::{Path, Step};
+use at_tree::token::TokVal;
+use at_tree::tree::{Tree, fits};
 use slab::Slab;
-use std::marker::Model;
+use std::alloc::{AllocError, Global};
 
-#[derive(Drop)]
-pub enum Form {
-    Plain,
-    List,
-    Optional,
-}
-
-#[derive(Drop)]
-pub enum Slot {
-    Kids(Form, Vec<usize>),
-    Token(bool),
-}
-
-#[derive(Drop)]
-pub struct Entry {
-    class: usize,
-    up: Option<(usize, usize)>,
-    cells: Vec<Slot>,
-}
-
+/// The nodes of a syntax tree. Between `check` and the `commit` or `cancel` that spends its answer an edit waits.
 #[derive(Drop)]
 pub struct Store {
     slab: Slab<Entry>,
-    root: usize,
-    waiting: Option<usize>,
+    root: Node,
+    /// The root of the tree that a prepared edit brings.
+    waiting: Option<Node>,
+    /// The node that a prepared edit takes away.
+    leaving: Option<Node>,
+    /// The value of a token that isn't there.
+    absent: TokVal,
 }
 
-impl Model for Store {
-    ghost use Rattle.at_store.specs.Grown.{Shown, shown_code};
-
-    ghost Value = { Shown };
-
-    ghost coded = { shown_code };
-
-    ghost use Rattle.at_store.specs.Shown.{shown_of, IsSound};
-
-    ghost view = { shown_of };
-
-    ghost invariant = { IsSound };
-}
-
-fn parent_of(slab: &Slab<Entry>, node: usize) -> Option<(usize, usize)>
-    ensures { result ≡ up_in (memory_of slab.now node) }
-{
-    match slab.get(node) {
-        Some(entry) => entry.up,
-        None => None,
+/// A list with one more child at a position.
+fn with_one_more(
+    alloc: Global,
+    kids: &[Node],
+    index: usize,
+    new: Node,
+) -> Result<Vec<Node>, AllocError> {
+    let mut all = Vec::from_slice(alloc, kids)?;
+    if index <= all.len() {
+        all.insert(index, new)?;
     }
+    Ok(all)
 }
 
 impl Store {
-    /// Each number stands once, and the tree of classes has the form of the tree of numbers.
-    pub fn form(&self)
-        ensures apart { IsApart self.now.numbers }
-        ensures form { (class : ℕ → ℕ) × (self.now.tree ≡ relabel class self.now.numbers) }
+    /// The store of a tree.
+    ///
+    /// # Errors
+    ///
+    /// `Fit` where the tree doesn't conform to the start class; else `Limit` where it has more than 65,536 nodes, more than 512
+    /// levels or a text of more than 4,096 bytes; `Memory` where memory is wanting.
+    pub fn load(alloc: Global, classes: &ClassTable, tree: Tree) -> Result<Store, LoadFault>
+        ensures fits { OnOk result (conforms classes.now (tree_view tree) 0 ≡ true) }
+        ensures within { OnOk result (is_within_limits (tree_view tree) ≡ true) }
+        ensures refused { IfErr result (IsNotLoaded classes.now (tree_view tree)) }
     {
-        let _root = self.root;
+        if !fits(classes, &tree, classes.start()) {
+            return Err(LoadFault::Fit);
+        }
+        if !is_within_limits(&tree) {
+            return Err(LoadFault::Limit);
+        }
+        let mut slab = Slab::new(alloc);
+        let root = plant(alloc, &mut slab, None, 0, tree)?;
+        Ok(Store {
+            slab,
+            root,
+            waiting: None,
+            leaving: None,
+            absent: TokVal::Bool(false),
+        })
     }
 
-    /// The parent of a node, and the component of it.
-    pub fn up(&self, node: usize) -> Option<(usize, usize)>
-        requires { is_some (path_in node self.now.numbers) ≡ true }
-        ensures { (class : ℕ → ℕ) → result ≡ look self.now.numbers class (Up node) }
+    /// The root.
+    pub fn root(&self) -> Node
+        requires { IsIdle self.now }
+        ensures { path self.now result ≡ Some [] }
     {
-        parent_of(&self.slab, node)
+        self.root
     }
 
-    /// Sets the tree that waits in.
-    pub fn commit(&mut self, parent: usize, part: usize, kids: Vec<usize>, root: usize)
-        requires { IsPlace self.old parent part root kids.items }
-        ensures { (p : IsPlace self.old parent part root kids.items) → self.new ≡ with_placed self.old p }
+    /// Whether the node is there.
+    pub fn live(&self, node: Node) -> bool
+        requires { IsIdle self.now }
+        ensures { result ≡ is_some (path self.now node) }
     {
+        is_there(&self.slab, node)
+    }
+
+    /// The class of a node; the first class where the node isn't there.
+    pub fn class(&self, node: Node) -> ClassId
+        requires { IsIdle self.now }
+        ensures { result ≡ contents self.now (Is node) }
+    {
+        class_at(&self.slab, node)
+    }
+
+    /// The children in a component of a node: one, those of a list, or at most one; none where there is no such component.
+    pub fn children(&self, node: Node, part: usize) -> &[Node]
+        requires { IsIdle self.now }
+        ensures shown { result.now ≡ contents self.now (Children node part) }
+        ensures few { length result.now ≤ 65536 }
+    {
+        kids_at(&self.slab, node, part)
+    }
+
+    /// The first child in a component of a node: the plain child, or what an optional holds.
+    pub fn child(&self, node: Node, part: usize) -> Option<Node>
+        requires { IsIdle self.now }
+        ensures { result ≡ slice_get (contents self.now (Children node part)) 0 }
+    {
+        kid_at(&self.slab, node, part, 0)
+    }
+
+    /// The value of a token of a node; `false` where there is no such token.
+    pub fn token(&self, node: Node, part: usize) -> &TokVal
+        requires { IsIdle self.now }
+        ensures { token_view result.now ≡ contents self.now (Tok node part) }
+    {
+        token_at(&self.slab, node, part, &self.absent)
+    }
+
+    /// The parent of a node, and the component of it in which the node stands; `None` of the root.
+    pub fn up(&self, node: Node) -> Option<(Node, usize)>
+        requires { IsIdle self.now }
+        ensures { result ≡ contents self.now (Up node) }
+    {
+        up_at(&self.slab, node)
+    }
+
+    /// The index of an element in its list; 0 of a node that is none.
+    pub fn index_in(&self, node: Node) -> usize
+        requires { IsIdle self.now }
+        ensures shown { result ≡ contents self.now (Idx node) }
+        ensures within { result < 65536 }
+    {
+        index_at(&self.slab, node)
+    }
+
+    /// The node to which the steps lead from a node, where they lead to one.
+    pub fn resolve(&self, classes: &ClassTable, from: Node, steps: &[Step]) -> Option<Node>
+        requires { IsIdle self.now }
+        ensures { (n : Place) (u : Nested) → path self.now from ≡ Some n → tree_at (tree self.now) n ≡ Some u
+            → Led (numbers self.now) classes.now n u (steps_view steps.now) result }
+    {
+        walk(&self.slab, classes, from, steps)
+    }
+
+    /// The path of a node, or want of memory.
+    pub fn path_of(
+        &self,
+        alloc: Global,
+        classes: &ClassTable,
+        node: Node,
+    ) -> Result<Path, AllocError>
+        requires { IsIdle self.now }
+        ensures { (n : Place) (p : Steps) → path self.now node ≡ Some n → path_of classes.now (tree self.now) n ≡ Some p → IfOk result (λ q. path_view q ≡ p) }
+    {
+        let steps = steps_to(alloc, &self.slab, classes, node, MAX_DEPTH)?;
+        Ok(Path { steps })
+    }
+
+    /// A copy of the tree below a node, or want of memory.
+    pub fn tree_of(&self, alloc: Global, node: Node) -> Result<Tree, AllocError>
+        requires { IsIdle self.now }
+        ensures { (n : Place) (u : Nested) → path self.now node ≡ Some n → tree_at (tree self.now) n ≡ Some u → IfOk result (λ t. tree_view t ≡ u) }
+    {
+        tree_at(alloc, &self.slab, node, MAX_DEPTH)
+    }
+
+    /// Prepares an edit of a node that is there: all memory is taken, and nothing is changed. Exactly one edit may be prepared, and
+    /// its answer is spent by `commit` or `cancel` before anything else is asked but `touches`.
+    ///
+    /// # Errors
+    ///
+    /// The first reason for which the edit is refused. The store is then as it was.
+    pub fn check(
+        &mut self,
+        alloc: Global,
+        classes: &ClassTable,
+        edit: Edit,
+    ) -> Result<Ready, Refusal> {
+        if let Some(reason) = refusal(&self.slab, classes, &edit) {
+            return Err(reason);
+        }
+        let prepared = self.prepare(alloc, edit)?;
+        Ok(Ready { prepared })
+    }
+
+    fn prepare(&mut self, alloc: Global, edit: Edit) -> Result<Prepared, AllocError> {
+        match edit {
+            Edit::Set { node, tree } => {
+                let new = self.bring(alloc, tree)?;
+                self.mark_leaving(node);
+                Ok(Prepared::Set { node, new })
+            }
+            Edit::Put { node, part, tree } => {
+                let (new, kids) = self.bring_child(alloc, node, part, 0, tree)?;
+                Ok(Prepared::Put {
+                    node,
+                    part,
+                    new,
+                    kids,
+                })
+            }
+            Edit::Drop { node } => {
+                self.mark_leaving(node);
+                Ok(Prepared::Drop { node })
+            }
+            Edit::Insert {
+                node,
+                part,
+                index,
+                tree,
+            } => {
+                let (new, kids) = self.bring_child(alloc, node, part, index, tree)?;
+                Ok(Prepared::Insert {
+                    node,
+                    part,
+                    index,
+                    new,
+                    kids,
+                })
+            }
+            Edit::Token { node, part, value } => Ok(Prepared::Token { node, part, value }),
+        }
+    }
+
+    /// The tree waits from now on.
+    fn bring(&mut self, alloc: Global, tree: Tree) -> Result<Node, AllocError> {
+        let new = plant(alloc, &mut self.slab, None, 0, tree)?;
+        self.waiting = Some(new);
+        Ok(new)
+    }
+
+    /// The tree waits from now on; the children of the component with it.
+    fn bring_child(
+        &mut self,
+        alloc: Global,
+        node: Node,
+        part: usize,
+        index: usize,
+        tree: Tree,
+    ) -> Result<(Node, Vec<Node>), AllocError> {
+        let new = self.bring(alloc, tree)?;
+        match with_one_more(alloc, kids_at(&self.slab, node, part), index, new) {
+            Ok(kids) => Ok((new, kids)),
+            Err(error) => {
+                self.unbring();
+                Err(error)
+            }
+        }
+    }
+
+    /// Nothing waits any more.
+    fn unbring(&mut self) {
+        if let Some(new) = self.waiting {
+            self.waiting = None;
+            free(&mut self.slab, new);
+        }
+    }
+
+    fn mark_leaving(&mut self, node: Node) {
+        self.leaving = Some(node);
+        mark(&mut self.slab, node, true, MAX_DEPTH);
+    }
+
+    /// Takes the marks back.
+    fn unmark_leaving(&mut self) {
+        if let Some(node) = self.leaving {
+            self.leaving = None;
+            mark(&mut self.slab, node, false, MAX_DEPTH);
+        }
+    }
+
+    /// Whether the prepared edit touches what stands at a location of a node that is there.
+    pub fn touches(&self, ready: &Ready, loc: Loc) -> bool {
+        touches(&self.slab, &ready.prepared, &loc)
+    }
+
+    /// Does the prepared edit. Each node that isn't replaced or taken away keeps its number.
+    pub fn commit(&mut self, ready: Ready) {
         self.waiting = None;
-        place(&mut self.slab, parent, part, kids, root);
+        self.leaving = None;
+        let Ready { prepared } = ready;
+        match prepared {
+            Prepared::Set { node, new } => self.set(node, new),
+            Prepared::Put {
+                node,
+                part,
+                new,
+                kids,
+            } => place(&mut self.slab, node, part, 0, new, Form::Optional, kids),
+            Prepared::Drop { node } => take_away(&mut self.slab, node),
+            Prepared::Insert {
+                node,
+                part,
+                index,
+                new,
+                kids,
+            } => place(&mut self.slab, node, part, index, new, Form::List, kids),
+            Prepared::Token { node, part, value } => {
+                set_token(&mut self.slab, node, part, value);
+            }
+        }
     }
-}
 
-fn set_slot(cells: &mut Vec<Slot>, part: usize, kids: Vec<usize>)
-    ensures { map kept_view cells.new.items ≡ changed_at (λ old. Kids List_of kids.items) (map kept_view cells.old.items) part }
-{
-    if let Some(slot) = cells.get_mut(part) {
-        *slot = Slot::Kids(Form::List, kids);
+    fn set(&mut self, node: Node, new: Node) {
+        if node == self.root {
+            self.root = new;
+        }
+        replace(&mut self.slab, node, new);
     }
-}
 
-fn swap_kids(slab: &mut Slab<Entry>, parent: usize, part: usize, kids: Vec<usize>)
-    ensures { (k : ℕ) → memory_of slab.new k ≡ cond (nat_eq k parent) (with_kept part (Kids List_of kids.items) (memory_of slab.old k)) (memory_of slab.old k) }
-{
-    if let Some(entry) = slab.get_mut(parent) {
-        set_slot(&mut entry.cells, part, kids);
+    /// Gives the prepared edit up: all is as before it was checked.
+    pub fn cancel(&mut self, ready: Ready) {
+        let Ready {
+            prepared: _prepared,
+        } = ready;
+        self.unbring();
+        self.unmark_leaving();
     }
-}
-
-fn write_up(slab: &mut Slab<Entry>, node: usize, parent: usize, part: usize)
-    ensures { (k : ℕ) → memory_of slab.new k ≡ cond (nat_eq k node) (with_up (Some (parent, part)) (memory_of slab.old k)) (memory_of slab.old k) }
-{
-    if let Some(entry) = slab.get_mut(node) {
-        entry.up = Some((parent, part));
-    }
-}
-
-/// Sets the tree that waits in among the elements of a list.
-pub fn place(slab: &mut Slab<Entry>, parent: usize, part: usize, kids: Vec<usize>, root: usize)
-    ensures classes { (k : ℕ) → class_in (memory_of slab.new) k ≡ class_in (memory_of slab.old) k }
-    ensures keeps { (s w : Tree) (node : Node) (index : ℕ) (u : Tree) (ts : Trees) → Keeps (memory_of slab.old) s (Some w) → tree_at s node ≡ Some u → class_of u ≡ parent → class_of w ≡ root
-        → cell_at u part ≡ Some (Many ts) → index ≤ length (from_trees ts) → kids.items ≡ insert (map class_of (from_trees ts)) index root
-        → IsShallow 512 (left_by s (Insert node part index w)) → Keeps (memory_of slab.new) (left_by s (Insert node part index w)) None }
-{
-    swap_kids(slab, parent, part, kids);
-    write_up(slab, root, parent, part);
 }

@@ -1,5 +1,0 @@
-use Rattle.at_store.proofs.Touched.{touched}
-use Rattle.at_store.proofs.laws.touches_by_numbers.Goals as goal
-
-pub returns : goal.returns
-returns c = touched
