@@ -47,14 +47,14 @@ in_cells no_cells part c e = absurd cc
 in_cells (cell d cs) zero c e = let same : cell_depth d ≡ cell_depth c = ap cell_depth (let f : d ≡ c = cc in f) in left_max (cell_depth c) (cell_depth d) (cells_depth cs) (omega arith)
 in_cells (cell d cs) (suc part) c e = right_max (cell_depth c) (cell_depth d) (cells_depth cs) (in_cells cs part c e)
 
-child_below : (t x : Tree) (w : Way) → slice_get (children_at t w.0) w.1 ≡ Some x → suc (depth x) ≤ depth t
+pub child_below : (t x : Tree) (w : Way) → slice_get (children_at t w.0) w.1 ≡ Some x → suc (depth x) ≤ depth t
 child_below (branch k cells) x w e =
     let (c, here, in_it) = of_cell (slice_get (from_cells cells) w.0) w.1 x e in
     let f = in_cell c w.1 x in_it in
     let g = in_cells cells w.0 c here in
     omega arith
 
-one_at_least : (t : Tree) → 0 < depth t
+pub one_at_least : (t : Tree) → 0 < depth t
 one_at_least (branch k cells) = omega arith
 
 -- no node is deeper than the tree

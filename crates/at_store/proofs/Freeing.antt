@@ -2,6 +2,7 @@
 use Rattle.std.proofs.Common.{◌≡◌, ℕ, suc, ◌<◌, ◌≤◌, Bool, true, false, ◌&&◌, ◌||◌, nat_eq, nat_lt, cond, if◌then◌else◌, [], ◌∷◌, length, Option, Some, None, refl, sym, ap, ◌∙◌, subst, arith, option_and_then, option_map, is_some}
 use Rattle.std.proofs.lemmas.Bool.{eqb-true}
 use Rattle.std.proofs.lemmas.Option.{slice_get-map, slice_get_within}
+use Rattle.std.specs.Prelude.{map}
 use Rattle.std.specs.List.{slice_get}
 use Rattle.std.proofs.lemmas.Bool.Decides.{nat_tests}
 use Rattle.at_model.specs.Trees.{Tree, Cell, Node as branch, class_of, cells_of, from_cells}
@@ -11,10 +12,11 @@ use Rattle.at_model.proofs.Nodes.{step_eq-sound}
 use Rattle.at_model.proofs.Options.{led, mapped}
 use Rattle.at_model.proofs.Untouched.{in_cell as kids}
 use Rattle.at_store.specs.Numbers.{path_in, in_cells, IsApart}
-use Rattle.at_store.specs.Memory.{Info, kept_of, Place, Stored, numbers_in, is_before, IsSpreadTo, IsFreedTo}
+use Rattle.at_store.specs.Memory.{Info, Kept, kept_of, Place, Stored, numbers_in, cells_in, is_before, IsSpreadTo, IsFreedTo, IsFreed}
 use Rattle.at_store.proofs.Found.{number_found, named, met}
 use Rattle.at_store.proofs.Composed.{child_stored}
 use Rattle.at_store.proofs.Looked.{kept_at, same_kids}
+use Rattle.at_store.proofs.Slots.{map_length}
 
 or_true : (b : Bool) → true ≡ (b || true)
 or_true true = refl
@@ -175,3 +177,25 @@ pub child_numbered : (x : Tree) (part i k : ℕ) → slice_get (numbers_in (slic
 child_numbered x part i k e =
     mapped class_of (slice_get (children_at x part) i) k
     (sym (slice_get-map class_of (children_at x part) i) ∙ sym (ap (λ ns. slice_get ns i) (ap numbers_in (kept_at (from_cells (cells_of x)) part) ∙ same_kids (cell_at x part))) ∙ e)
+
+-- the last child of a component
+pub cell_done : {A : Type 0} (a : A) (before later : ℕ → A) (x : Tree) (part i : ℕ) (c : Kept) → slice_get (kept_of x) part ≡ Some c → length (numbers_in (Some c)) ≡ i → IsSpreadTo a before later x (part, i) → IsSpreadTo a before later x (suc part, 0)
+cell_done a before later x part i c is len h =
+    let same : numbers_in (Some c) ≡ map class_of (children_at x part) = ap numbers_in (sym is) ∙ ap numbers_in (kept_at (from_cells (cells_of x)) part) ∙ same_kids (cell_at x part) in
+    let e : i ≡ length (children_at x part) = sym len ∙ ap length same ∙ map_length class_of (children_at x part) in
+    spread_cell a before later x part (subst (λ (j : ℕ). IsSpreadTo a before later x (part, j)) e h)
+
+-- one more child is freed
+pub child_freed : (before later next : ℕ → Option Info) (place : Place) (x : Tree) (part i k : ℕ) (c : Kept) → IsApart x → Stored before place x → slice_get (kept_of x) part ≡ Some c → slice_get (numbers_in (Some c)) i ≡ Some k → IsFreedTo before later x (part, i) →
+    IsFreed k later next → IsFreedTo before next x (part, suc i)
+child_freed before later next place x part i k c apart stored is at' h free =
+    let (y, child, number) = child_numbered x part i k (ap (λ o. slice_get (numbers_in o) i) is ∙ at') in
+    spread_child None before later next x y (part, i) apart child h (free (Some (class_of x, part), i) y number (child_apart x y (part, i) apart child) (child_left before later place x y (part, i) apart stored child h))
+
+-- what is kept of the root's cells
+pub root_cells : (memory : ℕ → Option Info) (place : Place) (x : Tree) (i : Info) → Stored memory place x → memory (class_of x) ≡ Some i → kept_of x ≡ i.cells
+root_cells memory place x i stored is = let e : Some _ ≡ Some i = sym (stored [] x refl).is ∙ is in ap cells_in e
+
+-- no tree is stored at a number that is free
+pub none_stored : (memory : ℕ → Option Info) (place : Place) (x : Tree) → Stored memory place x → memory (class_of x) ≡ None → ⊥
+none_stored memory place x stored is = let e : Some _ ≡ None = sym (stored [] x refl).is ∙ is in absurd cc

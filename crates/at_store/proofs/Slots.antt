@@ -1,5 +1,6 @@
 -- A list with another element, and what is shown of it.
-use Rattle.std.proofs.Common.{◌≡◌, ℕ, zero, suc, ◌≤◌, List, [], ◌∷◌, length, slice_set, Bool, true, false, cond, nat_eq, drop, Option, Some, None, refl, ap, ◌∙◌, arith}
+use Rattle.std.proofs.Common.{◌≡◌, ℕ, zero, suc, ◌≤◌, List, [], ◌∷◌, length, slice_set, Bool, true, false, cond, nat_eq, drop, Option, Some, None, refl, sym, ap, ◌∙◌, arith}
+use lib.ListN.{get_or}
 use Rattle.std.specs.Prelude.{map}
 use Rattle.at_model.specs.Edits.{changed_at}
 use Rattle.std.specs.List.{slice_get, insert}
@@ -10,6 +11,19 @@ set_mapped f [] zero a = refl
 set_mapped f [] (suc i) a = refl
 set_mapped f (x ∷ xs) zero a = refl
 set_mapped f (x ∷ xs) (suc i) a = ap (λ ys. f x ∷ ys) (set_mapped f xs i a)
+
+pub set_changed : {A : Type 0} (xs : List A) (i : ℕ) (a : A) → slice_set xs i a ≡ changed_at (λ old. a) xs i
+set_changed [] zero a = refl
+set_changed [] (suc i) a = refl
+set_changed (x ∷ xs) zero a = refl
+set_changed (x ∷ xs) (suc i) a = ap (λ ys. x ∷ ys) (set_changed xs i a)
+
+-- an element that became what g makes of it
+pub set_shown : {A B : Type 0} (f : A → B) (g : B → B) (xs : List A) (i : ℕ) (a b : A) → get_or xs i a ≡ a → f b ≡ g (f a) → map f (slice_set xs i b) ≡ changed_at g (map f xs) i
+set_shown f g [] zero a b e h = refl
+set_shown f g [] (suc i) a b e h = refl
+set_shown f g (x ∷ xs) zero a b e h = ap (λ y. y ∷ map f xs) (h ∙ ap (λ z. g (f z)) (sym e))
+set_shown f g (x ∷ xs) (suc i) a b e h = ap (λ ys. f x ∷ ys) (set_shown f g xs i a b e h)
 
 pub none_changed : {A : Type 0} (g : A → A) (xs : List A) (i : ℕ) → length xs ≤ i → changed_at g xs i ≡ xs
 none_changed g [] i h = refl
@@ -71,6 +85,15 @@ drop_at (y ∷ ys) (suc i) x e = drop_at ys i x e
 
 pub renumbered_step : (ns : List ℕ) (i n k : ℕ) (o : Option Info) → slice_get ns i ≡ Some n → renumbered (drop i ns) i k o ≡ renumbered (drop (suc i) ns) (suc i) k (indexed n i k o)
 renumbered_step ns i n k o e = ap (λ xs. renumbered xs i k o) (drop_at ns i n e)
+
+-- a child after another is given its index
+pub numbered_on : (ns : List ℕ) (i n k : ℕ) (o q r : Option Info) → slice_get ns i ≡ Some n → q ≡ indexed n i k o → renumbered (drop i ns) i k o ≡ r → renumbered (drop (suc i) ns) (suc i) k q ≡ r
+numbered_on ns i n k o q r e same h = ap (renumbered (drop (suc i) ns) (suc i) k) same ∙ sym (renumbered_step ns i n k o e) ∙ h
+
+pub none_past : {A : Type 0} (xs : List A) (i : ℕ) → slice_get xs i ≡ None → length xs ≤ i
+none_past [] i e = omega arith
+none_past (x ∷ xs) zero e = absurd cc
+none_past (x ∷ xs) (suc i) e = let h = none_past xs i e in omega (arith, h)
 
 pub renumbered_end : (ns : List ℕ) (i k : ℕ) (o : Option Info) → length ns ≤ i → renumbered (drop i ns) i k o ≡ o
 renumbered_end ns i k o h = ap (λ xs. renumbered xs i k o) (none ns i h)

@@ -51,10 +51,10 @@ last_step classes t (y ∷ m) w p e =
     }
 
 module _ (memory : ℕ → Option Info) (s : Tree) (h : Keeps memory s None) where
-  abbrev by_parent : Option (Node × (ℕ × ℕ)) → Place
+  abbrev pub by_parent : Option (Node × (ℕ × ℕ)) → Place
   by_parent o = elim o [ None ↦ top | Some p ↦ (Some (number_at s p.0, p.1.0), p.1.1) ]
 
-  placed_at : (k : ℕ) (n : Node) → path_in k s ≡ Some n → (up_in (memory k) ≡ (by_parent (parent_of n)).0) × (index_in (memory k) ≡ (by_parent (parent_of n)).1)
+  pub placed_at : (k : ℕ) (n : Node) → path_in k s ≡ Some n → (up_in (memory k) ≡ (by_parent (parent_of n)).0) × (index_in (memory k) ≡ (by_parent (parent_of n)).1)
   placed_at k n p =
       let (u, is, number) = number_found s k n p in
       let there = h.stored n u is in
@@ -76,7 +76,7 @@ module _ (memory : ℕ → Option Info) (s : Tree) (h : Keeps memory s None) whe
     pub steps : n ≡ node ++ (part, index_in (memory k)) ∷ []
     pub stands : path_in parent s ≡ Some node
 
-  up_some : (k parent part : ℕ) (n : Node) → path_in k s ≡ Some n → up_in (memory k) ≡ Some (parent, part) → Above k parent part n
+  pub up_some : (k parent part : ℕ) (n : Node) → path_in k s ≡ Some n → up_in (memory k) ≡ Some (parent, part) → Above k parent part n
   up_some k parent part n p some = by_end (snoc n)
     where
       by_end : (n ≡ []) ⊎ ((m : Node) × (w : ℕ × ℕ) × (n ≡ m ++ w ∷ [])) → Above k parent part n

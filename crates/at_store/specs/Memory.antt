@@ -1,5 +1,6 @@
 -- How numbered trees lie in a memory of nodes.
-use Rattle.std.specs.Prelude.{◌≡◌, ⊤, ◌⊎◌, ℕ, suc, ◌<◌, length, Bool, true, false, cond, ◌&&◌, ◌||◌, nat_eq, nat_lt, List, [], ◌∷◌, map, Option, Some, None, is_some, slice_get}
+use Rattle.std.specs.Prelude.{◌≡◌, ⊤, ◌⊎◌, ℕ, suc, ◌<◌, length, Bool, true, false, cond, ◌&&◌, ◌||◌, nat_eq, nat_lt, List, [], ◌∷◌, drop, map, Option, Some, None, is_some, slice_get}
+use Rattle.std.specs.List.{remove}
 use Rattle.at_model.specs.Trees.{Tree, Cell, One, Many, Empty, Filled, Holds, Token, Truth, class_of, cells_of, from_cells, from_trees}
 use Rattle.at_model.specs.Paths.{Node, tree_at, parent_of}
 use Rattle.at_model.specs.Edits.{changed_at}
@@ -83,6 +84,11 @@ abbrev pub with_kept : ℕ → Kept → Option Info → Option Info
 with_kept part c None = None
 with_kept part c (Some i) = Some (record i { cells = changed_at (λ old. c) i.cells part })
 
+-- a node with others of the numbers of a cell
+abbrev pub with_kids : ℕ → (List ℕ → List ℕ) → Option Info → Option Info
+with_kids part f None = None
+with_kids part f (Some i) = Some (record i { cells = changed_at (with_numbers f) i.cells part })
+
 -- a node at another place
 abbrev pub with_place : Place → Option Info → Option Info
 with_place place None = None
@@ -97,10 +103,13 @@ abbrev pub with_up : Option (ℕ × ℕ) → Option Info → Option Info
 with_up up None = None
 with_up up (Some i) = Some (record i { up = up })
 
--- What is kept of the node k after a cell of the node n was written, and after the node n came to another place: below another
--- parent, and to another index.
+-- What is kept of the node k after a cell of the node n was written, after others were written of the numbers of it, and after
+-- the node n came to another place: below another parent, and to another index.
 abbrev pub rewritten : ℕ → ℕ → Kept → ℕ → Option Info → Option Info
 rewritten n part c k o = cond (nat_eq k n) (with_kept part c o) o
+
+abbrev pub relinked : ℕ → ℕ → (List ℕ → List ℕ) → ℕ → Option Info → Option Info
+relinked n part f k o = cond (nat_eq k n) (with_kids part f o) o
 
 abbrev pub placed : ℕ → Place → ℕ → Option Info → Option Info
 placed n place k o = cond (nat_eq k n) (with_place place o) o
@@ -166,3 +175,37 @@ IsSpreadTo a before later x w = (k : ℕ) → later k ≡ cond (is_before w (pat
 -- they are freed
 abbrev pub IsFreedTo : (before later : ℕ → Option Info) → Tree → ℕ × ℕ → Type 0
 IsFreedTo before later x w = IsSpreadTo None before later x w
+
+-- the node is freed with all below it, wherever a tree stands there
+abbrev pub IsFreed : ℕ → (before later : ℕ → Option Info) → Type 0
+IsFreed node before later = (place : Place) (x : Tree) → class_of x ≡ node → IsApart x → Stored before place x → (k : ℕ) → later k ≡ cond (is_some (path_in k x)) None (before k)
+
+-- of a tree that is freed up to a cell that cell is freed too
+abbrev pub IsCellFreed : Kept → (now later : ℕ → Option Info) → Type 0
+IsCellFreed c now later = (before : ℕ → Option Info) (place : Place) (x : Tree) (part : ℕ) → IsApart x → Stored before place x → slice_get (kept_of x) part ≡ Some c → IsFreedTo before now x (part, 0) → IsFreedTo before later x (suc part, 0)
+
+-- what is kept of the node k with another child in a component, before the children are numbered; and without one
+abbrev pub placed_in : (node part new : ℕ) → Kept → (ℕ → Option Info) → ℕ → Option Info
+placed_in node part new c memory k = raised new (Some (node, part)) k (rewritten node part c k (memory k))
+
+abbrev pub cut_in : (node part index : ℕ) → (ℕ → Option Info) → ℕ → Option Info
+cut_in node part index memory k = relinked node part (λ ns. remove ns index) k (memory k)
+
+-- the node is put below this one, as the child at an index of a component of which this is kept from now on
+abbrev pub IsPlacedIn : (node part index new : ℕ) → Kept → (before later : ℕ → Option Info) → Type 0
+IsPlacedIn node part index new c before later = (k : ℕ) → later k ≡ renumbered (drop index (kids_in (placed_in node part new c before node) part)) index k (placed_in node part new c before k)
+
+-- after a node was freed that stood there: another comes in its place, or the children behind it come one to the front
+abbrev pub replaced : Option (ℕ × ℕ) → (index new : ℕ) → (freed : ℕ → Option Info) → ℕ → Option Info
+replaced None index new freed k = freed k
+replaced (Some p) index new freed k = placed new (Some p, index) k (relinked p.0 p.1 (λ ns. changed_at (λ old. new) ns index) k (freed k))
+
+abbrev pub taken_out : Option (ℕ × ℕ) → (index : ℕ) → (freed : ℕ → Option Info) → ℕ → Option Info
+taken_out None index freed k = freed k
+taken_out (Some p) index freed k = renumbered (drop index (kids_in (cut_in p.0 p.1 index freed p.0) p.1)) index k (cut_in p.0 p.1 index freed k)
+
+abbrev pub IsReplaced : (node new : ℕ) → (before later : ℕ → Option Info) → Type 0
+IsReplaced node new before later = (freed : ℕ → Option Info) × (IsFreed node before freed) × ((k : ℕ) → later k ≡ replaced (up_in (before node)) (index_in (before node)) new freed k)
+
+abbrev pub IsTakenAway : (node : ℕ) → (before later : ℕ → Option Info) → Type 0
+IsTakenAway node before later = (freed : ℕ → Option Info) × (IsFreed node before freed) × ((k : ℕ) → later k ≡ taken_out (up_in (before node)) (index_in (before node)) freed k)

@@ -29,5 +29,9 @@ abbrev pub memory_of : Slab Entry → ℕ → Option Info
 memory_of slab k = info_of (get slab k)
 
 -- the node is marked: the edit that is prepared takes it away
+abbrev pub marked : Option Entry → Bool
+marked None = false
+marked (Some e) = e.leaves
+
 abbrev pub leaves_in : Slab Entry → ℕ → Bool
-leaves_in slab k = elim (get slab k) [ None ↦ false | Some e ↦ e.leaves ]
+leaves_in slab k = marked (get slab k)

@@ -1,5 +1,5 @@
 //! The node store: the nodes of one tree, by number, and checked edits of it.
-ghost use Rattle.std.specs.Prelude.{◌≡◌, ◌<◌, ◌≤◌, IfErr, IfOk, OnOk, Some, [], is_some, length, true};
+ghost use Rattle.std.specs.Prelude.{◌≡◌, ◌<◌, ◌≤◌, ℕ, IfErr, IfOk, None, OnOk, Some, [], is_some, length, true};
 ghost use Rattle.std.specs.List.{slice_get};
 ghost use Rattle.at_model.specs.Run.{Idx, Is, Slot as Children, Tok, Up};
 ghost use Rattle.at_tree.specs.Token.{token_view};
@@ -10,7 +10,12 @@ ghost use Rattle.at_model.specs.Trees.{Tree as Nested, conforms};
 ghost use Rattle.at_store.specs.Loading.{IsNotLoaded};
 ghost use Rattle.at_tree.specs.PathView.{path_view, steps_view};
 ghost use Rattle.at_store.specs.Led.{Led};
-ghost use Rattle.at_store.specs.Shown.{IsIdle, contents, numbers, path, tree};
+ghost use Rattle.at_model.specs.Classes.{Classes};
+ghost use Rattle.at_model.specs.Edits.{Edit as EditOf};
+ghost use Rattle.at_store.specs.View.{memory_of};
+ghost use Rattle.at_store.specs.Preparing.{Does, DoesDrop, DoesInsert, DoesPut, DoesToken, IsCancelled, IsCommitted, IsGivenUp, IsPrepared};
+ghost use Rattle.at_store.specs.Shown.{IsIdle, Shown, contents, numbers, path, tree};
+ghost use Rattle.at_store.specs.Shown.{tree as shown};
 
 use crate::changes::{place, replace, set_token, take_away};
 use crate::edit::{Edit, LoadFault, Prepared, Ready, Refusal};
@@ -66,6 +71,8 @@ impl Store {
     pub fn load(alloc: Global, classes: &ClassTable, tree: Tree) -> Result<Store, LoadFault>
         ensures fits { OnOk result (conforms classes.now (tree_view tree) 0 ≡ true) }
         ensures within { OnOk result (is_within_limits (tree_view tree) ≡ true) }
+        ensures loaded { IfOk result (λ s. shown s ≡ tree_view tree) }
+        ensures idle { IfOk result (λ s. IsIdle s) }
         ensures refused { IfErr result (IsNotLoaded classes.now (tree_view tree)) }
     {
         if !fits(classes, &tree, classes.start()) {
@@ -75,7 +82,7 @@ impl Store {
             return Err(LoadFault::Limit);
         }
         let mut slab = Slab::new(alloc);
-        let root = plant(alloc, &mut slab, None, 0, tree)?;
+        let root = plant(alloc, &mut slab, None, 0, &tree)?;
         Ok(Store {
             slab,
             root,
@@ -242,7 +249,7 @@ impl Store {
 
     /// The tree waits from now on.
     fn bring(&mut self, alloc: Global, tree: Tree) -> Result<Node, AllocError> {
-        let new = plant(alloc, &mut self.slab, None, 0, tree)?;
+        let new = plant(alloc, &mut self.slab, None, 0, &tree)?;
         self.waiting = Some(new);
         Ok(new)
     }
@@ -267,7 +274,12 @@ impl Store {
     }
 
     /// Nothing waits any more.
-    fn unbring(&mut self) {
+    fn unbring(&mut self)
+        ensures given_up { IsGivenUp self.old.waiting (memory_of self.old.slab) (memory_of self.new.slab) }
+        ensures root { self.new.root ≡ self.old.root }
+        ensures waiting { self.new.waiting ≡ None }
+        ensures absent { self.new.absent ≡ self.old.absent }
+    {
         if let Some(new) = self.waiting {
             self.waiting = None;
             free(&mut self.slab, new);
@@ -280,7 +292,13 @@ impl Store {
     }
 
     /// Takes the marks back.
-    fn unmark_leaving(&mut self) {
+    fn unmark_leaving(&mut self)
+        ensures stays { (k : ℕ) → memory_of self.new.slab k ≡ memory_of self.old.slab k }
+        ensures root { self.new.root ≡ self.old.root }
+        ensures waiting { self.new.waiting ≡ self.old.waiting }
+        ensures leaving { self.new.leaving ≡ None }
+        ensures absent { self.new.absent ≡ self.old.absent }
+    {
         if let Some(node) = self.leaving {
             self.leaving = None;
             mark(&mut self.slab, node, false, MAX_DEPTH);
@@ -292,34 +310,64 @@ impl Store {
         touches(&self.slab, &ready.prepared, &loc)
     }
 
-    /// Does the prepared edit. Each node that isn't replaced or taken away keeps its number.
-    pub fn commit(&mut self, ready: Ready) {
+    fn commit_token(&mut self, node: Node, part: usize, value: TokVal)
+        ensures { (classes : Classes) (old : Shown) (e : EditOf) → IsPrepared classes old e (DoesToken node part (token_view value)) self.old → IsCommitted old e self.new }
+    {
         self.waiting = None;
         self.leaving = None;
+        set_token(&mut self.slab, node, part, value);
+    }
+
+    fn commit_put(&mut self, node: Node, part: usize, new: Node, kids: Vec<Node>)
+        ensures { (classes : Classes) (old : Shown) (e : EditOf) → IsPrepared classes old e (DoesPut node part new kids.items) self.old → IsCommitted old e self.new }
+    {
+        self.waiting = None;
+        self.leaving = None;
+        place(&mut self.slab, node, part, 0, new, Form::Optional, kids);
+    }
+
+    fn commit_insert(&mut self, node: Node, part: usize, index: usize, new: Node, kids: Vec<Node>)
+        ensures { (classes : Classes) (old : Shown) (e : EditOf) → IsPrepared classes old e (DoesInsert node part index new kids.items) self.old → IsCommitted old e self.new }
+    {
+        self.waiting = None;
+        self.leaving = None;
+        place(&mut self.slab, node, part, index, new, Form::List, kids);
+    }
+
+    /// Does the prepared edit. Each node that isn't replaced or taken away keeps its number.
+    pub fn commit(&mut self, ready: Ready) {
         let Ready { prepared } = ready;
         match prepared {
-            Prepared::Set { node, new } => self.set(node, new),
+            Prepared::Set { node, new } => self.commit_set(node, new),
             Prepared::Put {
                 node,
                 part,
                 new,
                 kids,
-            } => place(&mut self.slab, node, part, 0, new, Form::Optional, kids),
-            Prepared::Drop { node } => take_away(&mut self.slab, node),
+            } => self.commit_put(node, part, new, kids),
+            Prepared::Drop { node } => self.commit_drop(node),
             Prepared::Insert {
                 node,
                 part,
                 index,
                 new,
                 kids,
-            } => place(&mut self.slab, node, part, index, new, Form::List, kids),
-            Prepared::Token { node, part, value } => {
-                set_token(&mut self.slab, node, part, value);
-            }
+            } => self.commit_insert(node, part, index, new, kids),
+            Prepared::Token { node, part, value } => self.commit_token(node, part, value),
         }
     }
 
-    fn set(&mut self, node: Node, new: Node) {
+    fn commit_drop(&mut self, node: Node)
+        ensures { (classes : Classes) (old : Shown) (e : EditOf) → IsPrepared classes old e (DoesDrop node) self.old → IsCommitted old e self.new }
+    {
+        self.waiting = None;
+        self.leaving = None;
+        take_away(&mut self.slab, node);
+    }
+
+    fn commit_set(&mut self, node: Node, new: Node) {
+        self.waiting = None;
+        self.leaving = None;
         if node == self.root {
             self.root = new;
         }
@@ -327,7 +375,9 @@ impl Store {
     }
 
     /// Gives the prepared edit up: all is as before it was checked.
-    pub fn cancel(&mut self, ready: Ready) {
+    pub fn cancel(&mut self, ready: Ready)
+        ensures { (classes : Classes) (old : Shown) (e : EditOf) → IsPrepared classes old e (Does ready.prepared) self.old → IsCancelled old self.new }
+    {
         let Ready {
             prepared: _prepared,
         } = ready;

@@ -93,7 +93,7 @@ fn part_in(parts: &[Part], part: usize) -> Option<&Part>
 }
 
 /// A component of a class.
-fn part_of(classes: &ClassTable, class: ClassId, part: usize) -> Option<&Part>
+pub(crate) fn part_of(classes: &ClassTable, class: ClassId, part: usize) -> Option<&Part>
     ensures { option_map part_view (option_copied result) ≡ slice_get (parts classes.now class) part }
 {
     if class.index() >= classes.len() {
@@ -139,7 +139,8 @@ pub(crate) fn steps_to(
     Ok(steps)
 }
 
-fn copy_value(alloc: Global, value: &TokVal) -> Result<TokVal, AllocError>
+/// The same value, or want of memory.
+pub(crate) fn copy_value(alloc: Global, value: &TokVal) -> Result<TokVal, AllocError>
     ensures { IfOk result (λ v. token_view v ≡ token_view value.now) }
 {
     match value {
