@@ -16,13 +16,13 @@ use Rattle.at_protocol.specs.declared.reply.Form.TheVariants as form
 use Rattle.at_protocol.specs.declared.reply.Refusal.TheVariants as refusal
 use Rattle.at_engine.specs.Answering.{asked, asked_of, told_by}
 use Rattle.at_engine.specs.Evaluation.{number_in}
-use Rattle.at_plain_rules.specs.Lookups.{body_of}
+use Rattle.at_rules.specs.Lookups.{body_of}
 use Rattle.at_engine.specs.Nodes.{Conforms, tree_on}
 use Rattle.at_engine.specs.Served.{TokenEdit}
-use Rattle.at_plain_rules.specs.RulesView.{rules_view}
-use Rattle.at_plain_rules.specs.Plain.{AreFlat, ArePlain}
+use Rattle.at_rules.specs.RulesView.{rules_view}
+use Rattle.at_rules.specs.Plain.{AreFlat, ArePlain}
 use Rattle.at_engine.specs.TypedRules.{AreTyped}
-use Rattle.at_plain_rules.specs.declared.rules.Rules.{Rules}
+use Rattle.at_rules.specs.declared.rules.Rules.{Rules}
 use Rattle.at_engine.proofs.Asking.{named_nowhere, answered}
 use Rattle.at_engine.proofs.Leading.{Led, nowhere, there, leads, walk_there}
 use Rattle.at_engine.proofs.Telling.{Follows, is_form_of, unedited, follows_refusal}

@@ -16,17 +16,17 @@ use Rattle.at_model.specs.Bodies.{Expr, eval}
 use Rattle.at_model.specs.Rules.{Rules, Attribute, attribute_named, attribute_name, own_equation, is_inherited, first_answer, own_in, by_own, by_equation, by_inherited, evaluation_within}
 use Rattle.at_model.specs.Meaning.{content, equations, settled, outcome_at, Outcomes, Finds}
 use Rattle.at_model.specs.Machine.{parameters_of, ByEquations}
-use Rattle.at_plain_rules.specs.Bodies.{int_view}
-use Rattle.at_plain_rules.specs.Kinds.{is_number}
+use Rattle.at_rules.specs.Bodies.{int_view}
+use Rattle.at_rules.specs.Kinds.{is_number}
 use Rattle.at_engine.specs.Nodes.{Conforms}
 use Rattle.at_engine.specs.Evaluation.{number_in, nothing}
-use Rattle.at_plain_rules.specs.Lookups.{is_of, body_of}
-use Rattle.at_plain_rules.specs.RulesView.{attribute_view, equations_from, rules_view}
-use Rattle.at_plain_rules.specs.Plain.{AreFlat}
+use Rattle.at_rules.specs.Lookups.{is_of, body_of}
+use Rattle.at_rules.specs.RulesView.{attribute_view, equations_from, rules_view}
+use Rattle.at_rules.specs.Plain.{AreFlat}
 use Rattle.at_engine.specs.TypedRules.{AreTyped}
-use Rattle.at_plain_rules.specs.Lookups.{IsAttributeTyped}
-use Rattle.at_plain_rules.specs.declared.rules.Rules.{Rules as RulesValue}
-use Rattle.at_plain_rules.specs.declared.attributes.Attribute.{Attribute as AttributeValue}
+use Rattle.at_rules.specs.Lookups.{IsAttributeTyped}
+use Rattle.at_rules.specs.declared.rules.Rules.{Rules as RulesValue}
+use Rattle.at_rules.specs.declared.attributes.Attribute.{Attribute as AttributeValue}
 use Rattle.at_engine.proofs.Evaluating.{is_found}
 
 -- classes without superclasses ---------------------------------------------------------------------------------------

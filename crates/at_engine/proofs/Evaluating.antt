@@ -16,7 +16,7 @@ use Rattle.at_model.specs.Bodies.{Expr, IntLiteral, This, Negate, Arithmetic, Ch
 use Rattle.at_model.specs.Meaning.{content, child_nodes, token_in}
 use Rattle.at_model.proofs.WithinTree.{tree_at-snoc}
 use Rattle.at_engine.specs.Nodes.{Conforms}
-use Rattle.at_plain_rules.specs.Kinds.{shape_of, plain_class, child_class, is_int_token, has_int_token, node_class, is_total, is_number}
+use Rattle.at_rules.specs.Kinds.{shape_of, plain_class, child_class, is_int_token, has_int_token, node_class, is_total, is_number}
 use Rattle.at_engine.specs.Evaluation.{plain_or, int_or_zero, node_in, operated, number_in, nothing, HaveNoParents, IsFound}
 
 -- one evaluation, and then another one with its value

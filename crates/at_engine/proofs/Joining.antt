@@ -23,11 +23,11 @@ use Rattle.at_protocol.specs.declared.reply.Refusal.TheVariants as refusal
 use Rattle.at_protocol.specs.declared.reply.Reply.{Reply as ReplyValue}
 use Rattle.at_engine.specs.Lines.{Does, Gets, obeyed as spelled, refused as unspelled}
 use Rattle.at_engine.specs.Served.{TokenEdit}
-use Rattle.at_plain_rules.specs.RulesView.{rules_view}
+use Rattle.at_rules.specs.RulesView.{rules_view}
 use Rattle.at_engine.specs.Served.{edited}
-use Rattle.at_plain_rules.specs.Plain.{AreFlat, ArePlain}
+use Rattle.at_rules.specs.Plain.{AreFlat, ArePlain}
 use Rattle.at_engine.specs.TypedRules.{AreTyped}
-use Rattle.at_plain_rules.specs.declared.rules.Rules.{Rules as RulesValue}
+use Rattle.at_rules.specs.declared.rules.Rules.{Rules as RulesValue}
 use Rattle.at_engine.proofs.Telling.{Follows, is_form_of, unedited}
 use Rattle.at_engine.proofs.AskObeyed.{ask_obeyed}
 use Rattle.at_engine.proofs.ShowObeyed.{show_obeyed}

@@ -6,7 +6,7 @@ use Rattle.at_model.specs.Trees.{Tree, Node, Cell, One, Many, Empty, Filled, Hol
 use Rattle.at_model.specs.Paths.{Path, Step, Node as Place, cell_at, children_at, tree_at, part_named, place_in, node_at}
 use Rattle.at_model.specs.Edits.{changed_at, with_cell, with_child, with_node}
 use Rattle.at_engine.specs.Nodes.{Conforms, child_in, tree_on, with_plain_child, set_on}
-use Rattle.at_plain_rules.specs.Plain.{ArePlain, IsPlainShape}
+use Rattle.at_rules.specs.Plain.{ArePlain, IsPlainShape}
 use Rattle.at_engine.proofs.Conforming.{component_there}
 
 -- the way down from a root to the tree at a node

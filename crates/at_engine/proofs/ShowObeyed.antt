@@ -13,9 +13,9 @@ use Rattle.at_protocol.specs.declared.reply.Refusal.TheVariants as refusal
 use Rattle.at_engine.specs.Answering.{IsShown, IsShownOf}
 use Rattle.at_engine.specs.Nodes.{Conforms, tree_on}
 use Rattle.at_engine.specs.Served.{TokenEdit}
-use Rattle.at_plain_rules.specs.RulesView.{rules_view}
-use Rattle.at_plain_rules.specs.Plain.{ArePlain}
-use Rattle.at_plain_rules.specs.declared.rules.Rules.{Rules}
+use Rattle.at_rules.specs.RulesView.{rules_view}
+use Rattle.at_rules.specs.Plain.{ArePlain}
+use Rattle.at_rules.specs.declared.rules.Rules.{Rules}
 use Rattle.at_engine.proofs.Leading.{Led, nowhere, there, leads, walk_there}
 use Rattle.at_engine.proofs.Telling.{Follows, is_form_of, unedited, follows_refusal}
 

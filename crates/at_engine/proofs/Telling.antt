@@ -7,9 +7,9 @@ use Rattle.at_protocol.specs.declared.reply.Refusal.{Refusal}
 use Rattle.at_protocol.specs.declared.reply.Form.{Form as FormValue}
 use Rattle.at_protocol.specs.declared.reply.Form.TheVariants as form
 use Rattle.at_engine.specs.Served.{TokenEdit}
-use Rattle.at_plain_rules.specs.RulesView.{rules_view}
+use Rattle.at_rules.specs.RulesView.{rules_view}
 use Rattle.at_engine.specs.Served.{edited}
-use Rattle.at_plain_rules.specs.declared.rules.Rules.{Rules}
+use Rattle.at_rules.specs.declared.rules.Rules.{Rules}
 
 -- the form stands for what the verdict tells, and the edit leads to the state after the verdict
 pub record Follows (r : Rules) (s : State) (v : Verdict) (f : FormValue) (e : Option TokenEdit) : Type 0 where

@@ -19,11 +19,11 @@ use Rattle.at_protocol.specs.declared.reply.Refusal.TheVariants as refusal
 use Rattle.at_engine.specs.Answering.{settled, settled_of, token_told, edit_of, edit_there}
 use Rattle.at_engine.specs.Nodes.{Conforms, tree_on, set_on, token_in, token_beside}
 use Rattle.at_engine.specs.Served.{TokenEdit}
-use Rattle.at_plain_rules.specs.RulesView.{rules_view}
+use Rattle.at_rules.specs.RulesView.{rules_view}
 use Rattle.at_engine.specs.Served.{edited}
-use Rattle.at_plain_rules.specs.Plain.{ArePlain}
+use Rattle.at_rules.specs.Plain.{ArePlain}
 use Rattle.at_engine.specs.Tokens.{is_same_kind}
-use Rattle.at_plain_rules.specs.declared.rules.Rules.{Rules}
+use Rattle.at_rules.specs.declared.rules.Rules.{Rules}
 use Rattle.at_engine.proofs.Conforming.{component_there}
 use Rattle.at_engine.proofs.Evaluating.{component_held}
 use Rattle.at_engine.proofs.Leading.{Walk, Led, nowhere, there, leads, walk_there}

@@ -6,8 +6,8 @@ use Rattle.at_model.specs.Machine.{State, obeyed}
 use Rattle.at_protocol.specs.declared.reply.Form.{Form as FormValue}
 use Rattle.at_protocol.specs.declared.reply.Form.TheVariants as form
 use Rattle.at_engine.specs.Served.{TokenEdit}
-use Rattle.at_plain_rules.specs.RulesView.{rules_view}
-use Rattle.at_plain_rules.specs.declared.rules.Rules.{Rules}
+use Rattle.at_rules.specs.RulesView.{rules_view}
+use Rattle.at_rules.specs.declared.rules.Rules.{Rules}
 use Rattle.at_engine.proofs.Telling.{Follows, is_form_of, unedited}
 
 pub version_obeyed : (r : Rules) (s : State) (session : ℕ) (f : FormValue) (e : Option TokenEdit) → f ≡ form.Ok s.version → e ≡ None → Follows r s (obeyed (rules_view r) s session Version) f e

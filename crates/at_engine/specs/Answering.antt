@@ -11,11 +11,11 @@ use Rattle.at_protocol.specs.declared.reply.Form.{Form}
 use Rattle.at_protocol.specs.declared.reply.Form.TheVariants as form
 use Rattle.at_protocol.specs.declared.reply.Refusal.TheVariants as refusal
 use Rattle.at_engine.specs.Evaluation.{number_in}
-use Rattle.at_plain_rules.specs.Lookups.{body_of}
+use Rattle.at_rules.specs.Lookups.{body_of}
 use Rattle.at_engine.specs.Nodes.{tree_on, token_on}
 use Rattle.at_engine.specs.Served.{TokenEdit}
 use Rattle.at_engine.specs.Tokens.{is_same_kind}
-use Rattle.at_plain_rules.specs.declared.rules.Rules.{Rules}
+use Rattle.at_rules.specs.declared.rules.Rules.{Rules}
 
 -- the body's number, where the node's class has the attribute
 abbrev pub told_by : Option Expr → Tree → Form

@@ -9,7 +9,7 @@ use Rattle.at_model.specs.Run as run
 use Rattle.at_model.specs.Meaning.{content}
 use Rattle.at_model.specs.Bodies.{Expr, IntLiteral, Negate, Arithmetic, Child, TokenOf, Operator, Plus, Minus, Times, Scope, eval}
 use Rattle.at_engine.specs.Nodes.{Conforms}
-use Rattle.at_plain_rules.specs.Kinds.{is_number}
+use Rattle.at_rules.specs.Kinds.{is_number}
 
 -- the tree in the cell of a plain child, else the other one
 abbrev pub plain_or : Tree → Option Cell → Tree

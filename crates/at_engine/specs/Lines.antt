@@ -15,7 +15,7 @@ use Rattle.at_protocol.specs.declared.reply.Refusal.TheVariants as refusal
 use Rattle.at_engine.specs.Answering.{asked, IsShown, token_told, edit_there}
 use Rattle.at_engine.specs.Nodes.{tree_on}
 use Rattle.at_engine.specs.Served.{TokenEdit}
-use Rattle.at_plain_rules.specs.declared.rules.Rules.{Rules}
+use Rattle.at_rules.specs.declared.rules.Rules.{Rules}
 
 -- the command is told this, and leads to this edit or to none
 abbrev pub Does : Rules → Tree → ℕ → Command → Form → Option TokenEdit → Type 0

@@ -6,9 +6,9 @@ use Rattle.at_model.specs.Paths.{Path}
 use Rattle.at_model.specs.Rules.{Rules}
 use Rattle.at_model.specs.Edits.{is_within_limits}
 use Rattle.at_model.specs.Machine.{State}
-use Rattle.at_plain_rules.specs.RulesView.{rules_view}
+use Rattle.at_rules.specs.RulesView.{rules_view}
 use Rattle.at_engine.specs.Nodes.{set_on, Fits}
-use Rattle.at_plain_rules.specs.declared.rules.Rules.{Rules as RulesValue}
+use Rattle.at_rules.specs.declared.rules.Rules.{Rules as RulesValue}
 
 -- the rules, and a tree, a version and marks, of which there are none today
 pub record Served : Type 0 where

@@ -10,7 +10,7 @@ use crate::evaluate::value_at;
 use crate::node::{is_long, is_within_limits, node_at, set_token, token_at};
 use at_protocol::line::{Command, LineFault, read_line, session_of};
 use at_protocol::reply::{Form, Refusal, Reply, write_reply};
-use at_plain_rules::Rules;
+use at_rules::Rules;
 use at_tree::path::Path;
 use at_tree::token::TokVal;
 use at_tree::tree::{Tree, fits, write_term};

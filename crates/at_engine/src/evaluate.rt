@@ -2,11 +2,11 @@
 ghost use Rattle.std.specs.Prelude.{◌≡◌, option_map};
 ghost use Rattle.at_model.specs.Paths.{cell_at};
 ghost use Rattle.at_tree.specs.TreeView.{tree_view, cell_view};
-ghost use Rattle.at_plain_rules.specs.Bodies.{node_view, int_view, operator_view};
+ghost use Rattle.at_rules.specs.Bodies.{node_view, int_view, operator_view};
 ghost use Rattle.at_engine.specs.Evaluation.{plain_or, int_or_zero, node_in, operated, number_in, IsFound};
 
 use crate::node::cell_in;
-use at_plain_rules::{IntExpr, NodeExpr, Operator};
+use at_rules::{IntExpr, NodeExpr, Operator};
 use at_tree::token::TokVal;
 use at_tree::tree::{Cell, Tree};
 

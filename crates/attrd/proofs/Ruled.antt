@@ -15,15 +15,15 @@ use Rattle.at_model.specs.Rules.{Rules, OwnEquation}
 use Rattle.at_model.specs.Rules as model
 use Rattle.at_jrag.specs.Syntax.{Aspect}
 use Rattle.attrd.specs.AspectFiles.{GivesRules, Holds, AllHold, IsReadingFaultOf, ruled, attribute_of, equations_of, IsUnread, IsAspectFault, no_file, breaks}
-use Rattle.at_plain_rules.specs.Located.{located, declarations_in}
+use Rattle.at_rules.specs.Located.{located, declarations_in}
 use Rattle.std.specs.Result.{IfOk, IfErr}
-use Rattle.at_plain_rules.specs.Ruled.{meant_view}
-use Rattle.at_plain_rules.specs.Ruling.{Means, meant, first_fault}
-use Rattle.at_plain_rules.specs.RulesView.{rules_view, attribute_view, equations_from}
+use Rattle.at_rules.specs.Ruled.{meant_view}
+use Rattle.at_rules.specs.Ruling.{Means, meant, first_fault}
+use Rattle.at_rules.specs.RulesView.{rules_view, attribute_view, equations_from}
 use Rattle.attrd.specs.StartFaults.{told, IsToldOf, of_file}
-use Rattle.at_plain_rules.specs.declared.fault.Fault.{Fault}
-use Rattle.at_plain_rules.specs.declared.attributes.Attribute.{Attribute as AttributeValue}
-use Rattle.at_plain_rules.specs.declared.rules.Rules.{Rules as RulesValue}
+use Rattle.at_rules.specs.declared.fault.Fault.{Fault}
+use Rattle.at_rules.specs.declared.attributes.Attribute.{Attribute as AttributeValue}
+use Rattle.at_rules.specs.declared.rules.Rules.{Rules as RulesValue}
 use Rattle.attrd.specs.declared.start.fault.StartFault.{StartFault}
 use Rattle.attrd.specs.declared.start.fault.StartFault.TheVariants.{Refused, Memory}
 

@@ -7,7 +7,7 @@ use Rattle.at_model.specs.Declarations.{Form, One, Many, Maybe, Tok, PartDeclara
 use Rattle.at_grammar.specs.declared.syntax.ClassDecl.{ClassDecl}
 use Rattle.at_class.specs.Grammar.{declaration_view, declarations_view}
 use Rattle.attrd.specs.Starting.{is_plain_form, is_plain_part, is_plain, are_plain, left_out}
-use Rattle.at_plain_rules.specs.Plain.{AreFlat, ArePlain, IsPlainShape}
+use Rattle.at_rules.specs.Plain.{AreFlat, ArePlain, IsPlainShape}
 
 -- two tests that pass ------------------------------------------------------------------------------------------------
 

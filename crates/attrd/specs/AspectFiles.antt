@@ -10,11 +10,11 @@ use Rattle.at_jrag.specs.Faults.{IsFault}
 use Rattle.at_jrag.specs.declared.JragFault.{JragFault}
 use Rattle.at_jrag.specs.declared.JragFault.TheVariants as jrag
 use Rattle.attrd.specs.Files.{IsText, IsNoText}
-use Rattle.at_plain_rules.specs.Located.{located}
-use Rattle.at_plain_rules.specs.Ruling.{Attribute, Means, meant, first_fault}
-use Rattle.at_plain_rules.specs.declared.fault.Fault.{Fault}
-use Rattle.at_plain_rules.specs.declared.fault.RuleCode.{RuleCode}
-use Rattle.at_plain_rules.specs.declared.fault.RuleCode.TheVariants as rule
+use Rattle.at_rules.specs.Located.{located}
+use Rattle.at_rules.specs.Ruling.{Attribute, Means, meant, first_fault}
+use Rattle.at_rules.specs.declared.fault.Fault.{Fault}
+use Rattle.at_rules.specs.declared.fault.RuleCode.{RuleCode}
+use Rattle.at_rules.specs.declared.fault.RuleCode.TheVariants as rule
 use Rattle.attrd.specs.declared.code.Code.{Code}
 use Rattle.attrd.specs.declared.code.Code.TheVariants as code
 use Rattle.attrd.specs.declared.start.fault.FileFault.{FileFault}

@@ -2,7 +2,7 @@
 use Rattle.std.specs.Prelude.{ℕ, ◌-◌, ◌==◌, List, [], ◌∷◌, ◌++◌, decimal, codes, ◌≡◌, Option, Some, None, option_map, slice_get, string_bytes, if◌then◌else◌}
 use Rattle.attrd.specs.AspectFiles.{rule_code}
 use Rattle.attrd.specs.Codes.{code_text}
-use Rattle.at_plain_rules.specs.declared.fault.Fault.{Fault}
+use Rattle.at_rules.specs.declared.fault.Fault.{Fault}
 use Rattle.attrd.specs.declared.start.files.Source.{Source}
 use Rattle.attrd.specs.declared.start.files.Files.{Files}
 use Rattle.attrd.specs.declared.start.fault.StartFault.{StartFault}

@@ -3,21 +3,21 @@
 ghost use Rattle.std.specs.Prelude.{◌≡◌, None, Some, map, IfOk, IfErr};
 ghost use Rattle.at_jrag.specs.View.{aspect_view};
 ghost use Rattle.attrd.specs.AspectFiles.{Holds, AllHold, GivesRules, IsReadingFaultOf, IsAspectFault, IsUnread, rule_code};
-ghost use Rattle.at_plain_rules.specs.RulesView.{rules_view};
+ghost use Rattle.at_rules.specs.RulesView.{rules_view};
 ghost use Rattle.attrd.specs.Starts.{aspect_bytes};
 ghost use Rattle.attrd.specs.declared.start.fault.FileFault.TheVariants.{Refused};
-ghost use Rattle.at_plain_rules.specs.Located.{declarations_in};
-ghost use Rattle.at_plain_rules.specs.Ruled.{meant_view};
-ghost use Rattle.at_plain_rules.specs.Ruling.{meant, first_fault, Means};
+ghost use Rattle.at_rules.specs.Located.{declarations_in};
+ghost use Rattle.at_rules.specs.Ruled.{meant_view};
+ghost use Rattle.at_rules.specs.Ruling.{meant, first_fault, Means};
 ghost use Rattle.attrd.specs.StartFaults.{IsToldOf};
-ghost use Rattle.at_plain_rules.specs.Plain.{AreFlat, ArePlain};
+ghost use Rattle.at_rules.specs.Plain.{AreFlat, ArePlain};
 
 use super::fault::{FileFault, StartFault, of_file};
 use super::files::{Source, text_of};
 use crate::code::Code;
 use at_class::ClassTable;
 use at_jrag::{Aspect, JragFault, parse_jrag};
-use at_plain_rules::{RuleCode, RuleFault, Rules};
+use at_rules::{RuleCode, RuleFault, Rules};
 use std::alloc::Global;
 
 /// The rules of the aspect files over the classes.

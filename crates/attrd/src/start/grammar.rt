@@ -8,7 +8,7 @@ ghost use Rattle.attrd.specs.Files.{IsText};
 ghost use Rattle.attrd.specs.GrammarFiles.{GivesClasses, Declares, IsGrammarFault, class_code};
 ghost use Rattle.attrd.specs.declared.start.fault.FileFault.TheVariants.{Refused};
 ghost use Rattle.attrd.specs.Starting.{is_plain, is_plain_part, left_out};
-ghost use Rattle.at_plain_rules.specs.Plain.{AreFlat, ArePlain};
+ghost use Rattle.at_rules.specs.Plain.{AreFlat, ArePlain};
 
 use super::fault::FileFault;
 use super::files::text_of;

@@ -3,7 +3,7 @@
 use super::aspects::rules_of;
 use super::grammar::classes_of;
 use at_engine::{Engine, LoadFault};
-use at_plain_rules::Rules;
+use at_rules::Rules;
 use at_tree::reader::read_term;
 use at_tree::tree::{Tree, shape};
 use std::alloc::{AllocError, Global};

@@ -1,7 +1,7 @@
 use Rattle.std.proofs.Common.{rules, ℤ, sym, subst, ◌∙◌, w32}
 use Rattle.std.proofs.lemmas.Int.{to_z-of_z}
 use Rattle.at_tree.specs.TreeView.{tree_view}
-use Rattle.at_plain_rules.specs.Bodies.{int_view}
+use Rattle.at_rules.specs.Bodies.{int_view}
 use Rattle.at_engine.specs.Evaluation.{IsFound}
 use Rattle.at_engine.proofs.Evaluating.{is_found}
 use Rattle.at_engine.proofs.evaluate.value_at.Goals as goal

@@ -6,7 +6,7 @@ use Rattle.at_model.specs.Terms.{term_of}
 use Rattle.attrd.specs.AspectFiles.{GivesRules, IsAspectFault}
 use Rattle.attrd.specs.GrammarFiles.{GivesClasses, IsGrammarFault}
 use Rattle.at_engine.specs.Loading.{IsLoadFault}
-use Rattle.at_plain_rules.specs.RulesView.{rules_view}
+use Rattle.at_rules.specs.RulesView.{rules_view}
 use Rattle.attrd.specs.Starts.{aspect_bytes, IsStartFault}
 use Rattle.attrd.specs.TreeFiles.{IsTreeFault, IsTermFile, no_room}
 use Rattle.attrd.specs.Files.{IsText}

@@ -2,7 +2,7 @@ use Rattle.std.proofs.Common.{◌∙◌, sym, subst, List, ℕ}
 use Rattle.at_class.specs.Faults.{IsRefusedFor}
 use Rattle.at_class.specs.Grammar.{grammar_view}
 use Rattle.attrd.specs.GrammarFiles.{Declares, IsGrammarFault, no_text, left_out_at, breaks}
-use Rattle.at_plain_rules.specs.Plain.{AreFlat, ArePlain}
+use Rattle.at_rules.specs.Plain.{AreFlat, ArePlain}
 use Rattle.attrd.proofs.Starting.{none_left, classes_flat, classes_plain}
 use Rattle.attrd.proofs.start.grammar.classes_of.Goals as goal
 
