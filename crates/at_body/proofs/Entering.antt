@@ -3,14 +3,14 @@ use Rattle.std.proofs.Common.{◌≡◌, ◌<◌, ◌+◌, ℕ, List, [], ◌∷
 use Rattle.at_model.specs.Classes.{Classes}
 use Rattle.at_model.specs.Bodies.{Expr, Exprs, no_exprs, expr, Call, truth_of, demand_of}
 use Rattle.at_model.specs.Run.{Value, Ref, Location, Contents, Run, Gives, ◌>>=◌}
-use Rattle.at_body.specs.declared.body.Body.{Body, Row_of-Body, end_of-Body, more_of-Body, items-the_row-Body, Call'}
+use Rattle.at_rules.specs.declared.body.Body.{Body, Row_of-Body, end_of-Body, more_of-Body, items-the_row-Body, Call'}
 use Rattle.at_body.specs.declared.todo.Todo.{Todo}
 use Rattle.at_body.specs.declared.todo.Fold.{Fold}
 use Rattle.at_body.specs.declared.todo.Fold.TheVariants as fold
 use Rattle.at_body.specs.declared.todo.Now.{Now}
 use Rattle.at_body.specs.declared.todo.Now.TheVariants.{Enter}
 use Rattle.at_body.specs.declared.trial.Trial.{Trial}
-use Rattle.at_body.specs.Bodies.{body_view, row_view, bodies_view}
+use Rattle.at_rules.specs.Bodies.{body_view, row_view, bodies_view}
 use Rattle.at_body.specs.Standing.{inside}
 use Rattle.at_model.specs.Follow.{follow}
 use Rattle.at_body.specs.Rest.{rest, ev, ev_all, begun, resumed, used, called, gone_over, over, settled, then, outer, after, place_of, weight, cost, load}

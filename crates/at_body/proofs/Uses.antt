@@ -5,7 +5,7 @@ use Rattle.at_model.specs.Classes.{Classes}
 use Rattle.at_model.specs.Bodies.{Expr, Exprs, demand_of}
 use Rattle.at_model.specs.Run.{Value, Slot, Location, Contents, Run, Gives, ◌>>=◌}
 use Rattle.at_model.specs.Follow.{follow}
-use Rattle.at_body.specs.declared.body.Body.{Body}
+use Rattle.at_rules.specs.declared.body.Body.{Body}
 use Rattle.at_body.specs.declared.value.Value.{Value as ValueCode}
 use Rattle.at_body.specs.declared.todo.Binary.{Binary}
 use Rattle.at_body.specs.declared.todo.Fold.{Fold}
@@ -14,7 +14,7 @@ use Rattle.at_body.specs.declared.todo.Todo.{Todo}
 use Rattle.at_body.specs.declared.todo.Todo.TheVariants.{Right, Apply, Element}
 use Rattle.at_body.specs.declared.trial.Trial.{Trial}
 use Rattle.at_body.specs.Values.{value_view}
-use Rattle.at_body.specs.Bodies.{body_view}
+use Rattle.at_rules.specs.Bodies.{body_view}
 use Rattle.at_body.specs.Stacked.{below}
 use Rattle.at_body.specs.Rest.{rest, resumed, used, called, gone_over, folded, decided, place_of, ev, ev_all, with_two}
 use Rattle.at_body.proofs.Runs.{regroup, fun_ext}

@@ -1,7 +1,6 @@
 pub mod Values
 pub mod Same
 pub mod Sameness
-pub mod Bodies
 pub mod Size
 pub mod Stacked
 pub mod Standing

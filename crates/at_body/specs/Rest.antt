@@ -20,7 +20,7 @@ use Rattle.at_body.specs.declared.trial.Trial.{Trial}
 use Rattle.at_body.specs.declared.trial.Step.{Step}
 use Rattle.at_body.specs.declared.trial.Step.TheVariants as step
 use Rattle.at_body.specs.Values.{value_view, fault_view}
-use Rattle.at_body.specs.Bodies.{body_view, bodies_view, operator_view, order_view}
+use Rattle.at_rules.specs.Bodies.{body_view, bodies_view, operator_view, order_view}
 use Rattle.at_body.specs.Size.{size, sizes, tests, most}
 use Rattle.at_body.specs.Standing.{Place, scope, outside, inside}
 

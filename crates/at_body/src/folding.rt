@@ -5,15 +5,15 @@ ghost use Rattle.at_model.specs.Classes.{Classes};
 ghost use Rattle.at_model.specs.Follow.{follow};
 ghost use Rattle.at_model.specs.Bodies.{Expr};
 ghost use Rattle.at_model.specs.Run.{Gives, Slot};
+ghost use Rattle.at_store.specs.Shown.{contents, IsIdle};
 ghost use Rattle.at_body.specs.Standing.{Place};
 ghost use Rattle.at_body.specs.Size.{size, tests, most};
 ghost use Rattle.at_body.specs.Values.{value_view};
-ghost use Rattle.at_body.specs.Bodies.{body_view};
+ghost use Rattle.at_rules.specs.Bodies.{body_view};
 ghost use Rattle.at_body.specs.Rest.{rest, weight, over, gone_over, folded, decided, load};
 
-use super::body::Body;
-use super::node::{Loc, Node};
-use super::places::Tree;
+use at_rules::Body;
+use at_store::{Loc, Node, Store};
 use super::todo::{Fold, Now, Todo};
 use super::trial::Trial;
 use super::value::{FaultKind, Value};
@@ -21,15 +21,16 @@ use std::alloc::AllocError;
 
 impl<'a> Trial<'a> {
     /// Goes over the elements in a component of a node, or gives a fault.
-    pub(crate) fn elements<S: Tree>(
+    pub(crate) fn elements(
         &mut self,
-        store: &'a S,
+        store: &'a Store,
         fold: Fold,
         part: usize,
         body: &'a Body,
         node: Option<Node>,
     ) -> Result<Now<'a>, AllocError>
-        ensures same { (classes : Classes) → IfOk result (λ now. follow (S.contents store.now) self.old.reads (folded classes self.old fold part (body_view body.now) node) ≡ follow (S.contents store.now) self.new.reads (rest classes now self.new)) }
+        requires idle_store { IsIdle store.now }
+        ensures same { (classes : Classes) → IfOk result (λ now. follow (contents store.now) self.old.reads (folded classes self.old fold part (body_view body.now) node) ≡ follow (contents store.now) self.new.reads (rest classes now self.new)) }
         ensures less { IfOk result (λ now. weight now self.new < tests (size (body_view body.now)) most + load self.old.todo + 1) }
     {
         match node {
@@ -104,8 +105,9 @@ fn come_to(fold: &Fold) -> Value
 }
 
 /// The children in a component.
-fn children<'a, S: Tree>(store: &'a S, node: Node, part: usize) -> &'a [Node]
-    ensures children { result.now ≡ S.contents store.now (Slot node part) }
+fn children<'a>(store: &'a Store, node: Node, part: usize) -> &'a [Node]
+    requires idle_store { IsIdle store.now }
+    ensures children { result.now ≡ contents store.now (Slot node part) }
     ensures few { length result.now ≤ most }
 {
     store.children(node, part)

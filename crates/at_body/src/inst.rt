@@ -3,8 +3,8 @@
 ghost use Rattle.std.specs.Prelude.{◌≡◌, ◌++◌, IfOk, map};
 ghost use Rattle.at_body.specs.Values.{value_view};
 
-use super::body::AttrId;
-use super::node::Node;
+use at_rules::AttrId;
+use at_store::Node;
 use super::value::Value;
 use smallvec::SmallVec;
 use std::alloc::{AllocError, Global};

@@ -2,9 +2,9 @@
 
 ghost use Rattle.std.specs.Prelude.{◌≡◌, ℕ, List, [], ◌∷◌, ◌++◌, OnOk, OnErr, map, length};
 ghost use Rattle.at_model.specs.Run.{Location};
-ghost use Rattle.at_body.specs.Values.{loc_view};
+ghost use Rattle.at_store.specs.Located.{loc_view};
 
-use super::node::Loc;
+use at_store::Loc;
 use std::alloc::{AllocError, Global};
 use std::marker::Model;
 

@@ -4,14 +4,14 @@ ghost use Rattle.std.specs.Prelude.{◌≡◌, ◌++◌, [], ℕ, nat_eq, map, I
 ghost use Rattle.at_model.specs.Rules.{evaluation, by_inherited, attribute_name};
 ghost use Rattle.at_model.specs.Support.{argument_classes};
 ghost use Rattle.at_model.specs.Follow.{follow};
+ghost use Rattle.at_store.specs.Shown.{contents, IsIdle};
 ghost use Rattle.at_body.specs.Values.{value_view};
 ghost use Rattle.at_body.specs.Rest.{rest, reached};
 ghost use Rattle.at_body.specs.Starting.{own_of, by_rule};
 
-use super::body::AttrId;
+use at_rules::{AttrId, Rules};
 use super::inst::{Inst, copied};
-use super::node::Loc;
-use super::places::{Equations, Tree};
+use at_store::{Loc, Store};
 use super::reads::Reads;
 use super::stack::Stack;
 use super::todo::Now;
@@ -25,13 +25,14 @@ const MAX_DEPTH: u32 = 512;
 
 impl<'a> Trial<'a> {
     /// Begins the evaluation of an instance, and goes on up to the end or to a demand. An error where memory is wanting.
-    pub fn start<S: Tree, E: Equations>(
+    pub fn start(
         alloc: Global,
-        rules: &'a E,
-        store: &'a S,
+        rules: &'a Rules,
+        store: &'a Store,
         inst: &Inst,
     ) -> Result<(Trial<'a>, Step), AllocError>
-        ensures { IfOk result (λ r. follow (S.contents store.now) [] (evaluation (E.rules rules.now) nat_eq inst.now) ≡ (reached (E.rules rules.now).classes r.1 r.0, r.0.reads)) }
+        requires idle_store { IsIdle store.now }
+        ensures { IfOk result (λ r. follow (contents store.now) [] (evaluation rules.now nat_eq inst.now) ≡ (reached rules.now.classes r.1 r.0, r.0.reads)) }
     {
         let node = inst.node();
         let attribute = inst.attribute();
@@ -54,17 +55,18 @@ impl<'a> Trial<'a> {
     }
 
     /// Begins with the equation.
-    fn begin<S: Tree, E: Equations>(
+    fn begin(
         &mut self,
-        rules: &'a E,
-        store: &'a S,
+        rules: &'a Rules,
+        store: &'a Store,
         class: ClassId,
         attribute: AttrId,
     ) -> Result<Now<'a>, AllocError>
+        requires idle_store { IsIdle store.now }
         requires idle { self.old.todo ≡ [] }
         requires unbound { self.old.bound ≡ [] }
         requires top { self.old.child ≡ None }
-        ensures { IfOk result (λ now. follow (S.contents store.now) self.old.reads (by_rule (E.rules rules.now) self.old.this attribute (map value_view self.old.arguments.items) class) ≡ follow (S.contents store.now) self.new.reads (rest (E.rules rules.now).classes now self.new)) }
+        ensures { IfOk result (λ now. follow (contents store.now) self.old.reads (by_rule rules.now self.old.this attribute (map value_view self.old.arguments.items) class) ≡ follow (contents store.now) self.new.reads (rest rules.now.classes now self.new)) }
     {
         if rules.is_inherited(attribute) {
             return self.climb(rules, store, attribute, MAX_DEPTH);
@@ -73,11 +75,11 @@ impl<'a> Trial<'a> {
     }
 
     /// Begins with the own equation.
-    fn own<E: Equations>(&self, rules: &'a E, class: ClassId, attribute: AttrId) -> Now<'a>
+    fn own(&self, rules: &'a Rules, class: ClassId, attribute: AttrId) -> Now<'a>
         requires idle { self.now.todo ≡ [] }
         requires unbound { self.now.bound ≡ [] }
         requires top { self.now.child ≡ None }
-        ensures { own_of (E.rules rules.now) self.now.this attribute (map value_view self.now.arguments.items) class ≡ rest (E.rules rules.now).classes result self.now }
+        ensures { own_of rules.now self.now.this attribute (map value_view self.now.arguments.items) class ≡ rest rules.now.classes result self.now }
     {
         match rules.own_body(class, attribute) {
             Some(body) => Now::Enter(body),
@@ -86,16 +88,17 @@ impl<'a> Trial<'a> {
     }
 
     /// Goes up to where the inherited equation stands.
-    fn climb<S: Tree, E: Equations>(
+    fn climb(
         &mut self,
-        rules: &'a E,
-        store: &'a S,
+        rules: &'a Rules,
+        store: &'a Store,
         attribute: AttrId,
         mut height: u32,
     ) -> Result<Now<'a>, AllocError>
+        requires idle_store { IsIdle store.now }
         requires idle { self.old.todo ≡ [] }
         requires unbound { self.old.bound ≡ [] }
-        ensures { IfOk result (λ now. follow (S.contents store.now) self.old.reads (by_inherited (E.rules rules.now) nat_eq (attribute_name (E.rules rules.now) attribute) (map value_view self.old.arguments.items) height self.old.this) ≡ follow (S.contents store.now) self.new.reads (rest (E.rules rules.now).classes now self.new)) }
+        ensures { IfOk result (λ now. follow (contents store.now) self.old.reads (by_inherited rules.now nat_eq (attribute_name rules.now attribute) (map value_view self.old.arguments.items) height self.old.this) ≡ follow (contents store.now) self.new.reads (rest rules.now.classes now self.new)) }
     {
         while height > 0 {
             height -= 1;

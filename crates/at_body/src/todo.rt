@@ -1,8 +1,8 @@
 //! What is left to do.
 
-use super::body::{AttrId, Body, Operator, Order};
+use at_rules::{AttrId, Body, Operator, Order};
 use super::inst::{Arguments, Inst};
-use super::node::Node;
+use at_store::Node;
 use super::value::{FaultKind, Value};
 use at_class::ClassId;
 

@@ -5,17 +5,17 @@ ghost use Rattle.at_model.specs.Classes.{Classes};
 ghost use Rattle.at_model.specs.Follow.{follow};
 ghost use Rattle.at_model.specs.Run.{Ref};
 ghost use Rattle.at_model.specs.Bodies.{named, index_of};
+ghost use Rattle.at_store.specs.Shown.{contents, IsIdle};
 ghost use Rattle.at_body.specs.Size.{size, sizes, tests};
 ghost use Rattle.at_body.specs.Values.{value_view};
-ghost use Rattle.at_body.specs.Bodies.{body_view, bodies_view};
+ghost use Rattle.at_rules.specs.Bodies.{body_view, bodies_view};
 ghost use Rattle.at_body.specs.Standing.{scope};
 ghost use Rattle.at_body.specs.declared.todo.Now.TheVariants.{Enter};
 ghost use Rattle.at_body.specs.Rest.{rest, weight, place_of, onto, begun, resumed, used, called, gone_over, reached, left, load, cost};
 
-use super::body::{AttrId, Body};
+use at_rules::{AttrId, Body, Rules};
 use super::inst::{Arguments, Inst};
-use super::node::{Loc, Node};
-use super::places::{Equations, Tree};
+use at_store::{Loc, Node, Store};
 use super::reads::Reads;
 use super::stack::Stack;
 use super::todo::{Binary, Fold, Now, Todo, Unary};
@@ -47,14 +47,15 @@ pub enum Step {
 impl<'a> Trial<'a> {
     /// Goes on with the value that it waits for, up to the end or to the next demand. An error where memory is wanting; then the
     /// trial is of no use any more.
-    pub fn resume<S: Tree, E: Equations>(
+    pub fn resume(
         &mut self,
         alloc: Global,
-        rules: &'a E,
-        store: &'a S,
+        rules: &'a Rules,
+        store: &'a Store,
         value: Value,
     ) -> Result<Step, AllocError>
-        ensures found { IfOk result (λ step. follow (S.contents store.now) self.old.reads (resumed (E.rules rules.now).classes self.old (value_view value)) ≡ (reached (E.rules rules.now).classes step self.new, self.new.reads)) }
+        requires idle_store { IsIdle store.now }
+        ensures found { IfOk result (λ step. follow (contents store.now) self.old.reads (resumed rules.now.classes self.old (value_view value)) ≡ (reached rules.now.classes step self.new, self.new.reads)) }
         ensures less { IfOk result (λ step. left step self.new ≤ load self.old.todo) }
     {
         self.advance(alloc, rules, store, Now::Back(value))
@@ -68,14 +69,15 @@ impl<'a> Trial<'a> {
     }
 
     /// Goes on up to the end or to a demand.
-    pub(crate) fn advance<S: Tree, E: Equations>(
+    pub(crate) fn advance(
         &mut self,
         alloc: Global,
-        rules: &'a E,
-        store: &'a S,
+        rules: &'a Rules,
+        store: &'a Store,
         mut now: Now<'a>,
     ) -> Result<Step, AllocError>
-        ensures found { IfOk result (λ step. follow (S.contents store.now) self.old.reads (rest (E.rules rules.now).classes now.entry self.old) ≡ (reached (E.rules rules.now).classes step self.new, self.new.reads)) }
+        requires idle_store { IsIdle store.now }
+        ensures found { IfOk result (λ step. follow (contents store.now) self.old.reads (rest rules.now.classes now.entry self.old) ≡ (reached rules.now.classes step self.new, self.new.reads)) }
         ensures less { IfOk result (λ step. left step self.new ≤ weight now.entry self.old) }
     {
         loop {
@@ -92,8 +94,9 @@ impl<'a> Trial<'a> {
     }
 
     /// The first thing to do for the value of an expression.
-    fn enter<S: Tree>(&mut self, store: &'a S, body: &'a Body) -> Result<Now<'a>, AllocError>
-        ensures same { (classes : Classes) → IfOk result (λ now. follow (S.contents store.now) self.old.reads (begun classes self.old (body_view body.now)) ≡ follow (S.contents store.now) self.new.reads (rest classes now self.new)) }
+    fn enter(&mut self, store: &'a Store, body: &'a Body) -> Result<Now<'a>, AllocError>
+        requires idle_store { IsIdle store.now }
+        ensures same { (classes : Classes) → IfOk result (λ now. follow (contents store.now) self.old.reads (begun classes self.old (body_view body.now)) ≡ follow (contents store.now) self.new.reads (rest classes now self.new)) }
         ensures less { IfOk result (λ now. weight now self.new < size (body_view body.now) + load self.old.todo) }
     {
         match body {
@@ -168,8 +171,9 @@ impl<'a> Trial<'a> {
     }
 
     /// The index of the child on the way down.
-    fn index<S: Tree>(&mut self, store: &'a S) -> Result<Now<'a>, AllocError>
-        ensures same { (classes : Classes) → IfOk result (λ now. follow (S.contents store.now) self.old.reads (onto classes self.old (index_of self.old.child)) ≡ follow (S.contents store.now) self.new.reads (rest classes now self.new)) }
+    fn index(&mut self, store: &'a Store) -> Result<Now<'a>, AllocError>
+        requires idle_store { IsIdle store.now }
+        ensures same { (classes : Classes) → IfOk result (λ now. follow (contents store.now) self.old.reads (onto classes self.old (index_of self.old.child)) ≡ follow (contents store.now) self.new.reads (rest classes now self.new)) }
         ensures less { IfOk result (λ now. weight now self.new ≡ load self.old.todo) }
     {
         match self.child {
@@ -182,15 +186,16 @@ impl<'a> Trial<'a> {
     }
 
     /// Uses a value.
-    fn back<S: Tree, E: Equations>(
+    fn back(
         &mut self,
         alloc: Global,
-        rules: &'a E,
-        store: &'a S,
+        rules: &'a Rules,
+        store: &'a Store,
         todo: Todo<'a>,
         value: Value,
     ) -> Result<Now<'a>, AllocError>
-        ensures same { IfOk result (λ now. follow (S.contents store.now) self.old.reads (used (E.rules rules.now).classes todo.entry self.old (value_view value)) ≡ follow (S.contents store.now) self.new.reads (rest (E.rules rules.now).classes now self.new)) }
+        requires idle_store { IsIdle store.now }
+        ensures same { IfOk result (λ now. follow (contents store.now) self.old.reads (used rules.now.classes todo.entry self.old (value_view value)) ≡ follow (contents store.now) self.new.reads (rest rules.now.classes now self.new)) }
         ensures less { IfOk result (λ now. weight now self.new < cost todo.entry + load self.old.todo) }
     {
         match todo {

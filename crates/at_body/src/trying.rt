@@ -4,14 +4,16 @@ ghost use Rattle.std.specs.Prelude.{◌≡◌, ◌++◌, nat_eq, ℕ, IfOk, OnOk
 ghost use Rattle.at_model.specs.Run.{Known, tried};
 ghost use Rattle.at_model.specs.Run as model;
 ghost use Rattle.at_model.specs.Rules.{evaluation};
+ghost use Rattle.at_store.specs.Shown.{contents, IsIdle};
 ghost use Rattle.at_body.specs.Values.{value_view};
 ghost use Rattle.at_body.specs.Trying.{tried_of, tried_view};
 
 use super::inst::Inst;
-use super::places::{Equations, Tree};
 use super::reads::Reads;
 use super::trial::{Step, Trial};
 use super::value::{FaultKind, Value};
+use at_rules::Rules;
+use at_store::Store;
 use std::alloc::{AllocError, Global};
 
 /// The values of instances that are known.
@@ -36,16 +38,17 @@ pub enum Tried {
 
 /// The value or fault of an instance's equation, or the first instance that it needs and that is not known. The reads gain the
 /// locations that are looked at up to there. An error where memory is wanting; then the reads are as they were.
-pub fn try_body<S: Tree, E: Equations, K: Known>(
+pub fn try_body<K: Known>(
     alloc: Global,
-    rules: &E,
-    store: &S,
+    rules: &Rules,
+    store: &Store,
     inst: &Inst,
     known: &K,
     reads: &mut Reads,
 ) -> Result<Tried, AllocError>
-    ensures found { IfOk result (λ t. tried (S.contents store.now) (K.value_of known.now) (evaluation (E.rules rules.now) nat_eq inst.now) ≡ tried_view t) }
-    ensures gained { OnOk result (reads.new ≡ reads.old ++ model.reads (S.contents store.now) (K.value_of known.now) (evaluation (E.rules rules.now) nat_eq inst.now)) }
+    requires idle_store { IsIdle store.now }
+    ensures found { IfOk result (λ t. tried (contents store.now) (K.value_of known.now) (evaluation rules.now nat_eq inst.now) ≡ tried_view t) }
+    ensures gained { OnOk result (reads.new ≡ reads.old ++ model.reads (contents store.now) (K.value_of known.now) (evaluation rules.now nat_eq inst.now)) }
     ensures kept { OnErr result (reads.new ≡ reads.old) }
 {
     let (trial, step) = try_steps(alloc, rules, store, inst, known)?;
@@ -58,15 +61,16 @@ pub fn try_body<S: Tree, E: Equations, K: Known>(
 }
 
 /// A trial of the instance up to its end, or to the first demand that is not known.
-fn try_steps<'a, S: Tree, E: Equations, K: Known>(
+fn try_steps<'a, K: Known>(
     alloc: Global,
-    rules: &'a E,
-    store: &'a S,
+    rules: &'a Rules,
+    store: &'a Store,
     inst: &Inst,
     known: &K,
 ) -> Result<(Trial<'a>, Step), AllocError>
-    ensures found { IfOk result (λ r. tried (S.contents store.now) (K.value_of known.now) (evaluation (E.rules rules.now) nat_eq inst.now) ≡ tried_of r.1) }
-    ensures looked { IfOk result (λ r. model.reads (S.contents store.now) (K.value_of known.now) (evaluation (E.rules rules.now) nat_eq inst.now) ≡ r.0.reads) }
+    requires idle_store { IsIdle store.now }
+    ensures found { IfOk result (λ r. tried (contents store.now) (K.value_of known.now) (evaluation rules.now nat_eq inst.now) ≡ tried_of r.1) }
+    ensures looked { IfOk result (λ r. model.reads (contents store.now) (K.value_of known.now) (evaluation rules.now nat_eq inst.now) ≡ r.0.reads) }
 {
     let (mut trial, mut step) = Trial::start(alloc, rules, store, inst)?;
     loop {

@@ -6,14 +6,14 @@ ghost use Rattle.at_model.specs.Classes.{Classes};
 ghost use Rattle.at_model.specs.Follow.{follow};
 ghost use Rattle.at_model.specs.Run.{Ref};
 ghost use Rattle.at_model.specs.Bodies.{max_text, int_of, text_of, computed, joined, is_in_order, element_at, child_of, element_of, count_of, has_of, token_of, is_instance, cast_to};
+ghost use Rattle.at_store.specs.Shown.{contents, IsIdle};
 ghost use Rattle.at_body.specs.Values.{value_view};
-ghost use Rattle.at_body.specs.Bodies.{operator_view, order_view};
+ghost use Rattle.at_rules.specs.Bodies.{operator_view, order_view};
 ghost use Rattle.at_body.specs.declared.trial.Trial.{Trial};
 ghost use Rattle.at_body.specs.Rest.{rest, weight, onto, load, with_one, with_two};
 
-use super::body::{Operator, Order};
-use super::node::{Loc, Node};
-use super::places::{Equations, Tree};
+use at_rules::{Operator, Order, Rules};
+use at_store::{Loc, Node, Store};
 use super::todo::{Binary, Now, Unary};
 use super::trial::Trial;
 use super::value::{FaultKind, Value};
@@ -26,14 +26,15 @@ const MAX_TEXT: usize = 65535;
 
 impl<'a> Trial<'a> {
     /// What is done with one value.
-    pub(crate) fn unary<S: Tree, E: Equations>(
+    pub(crate) fn unary(
         &mut self,
-        rules: &'a E,
-        store: &'a S,
+        rules: &'a Rules,
+        store: &'a Store,
         unary: Unary,
         value: &Value,
     ) -> Result<Now<'a>, AllocError>
-        ensures same { IfOk result (λ now. follow (S.contents store.now) self.old.reads (onto (E.rules rules.now).classes self.old (with_one (E.rules rules.now).classes unary (value_view value.now))) ≡ follow (S.contents store.now) self.new.reads (rest (E.rules rules.now).classes now self.new)) }
+        requires idle_store { IsIdle store.now }
+        ensures same { IfOk result (λ now. follow (contents store.now) self.old.reads (onto rules.now.classes self.old (with_one rules.now.classes unary (value_view value.now))) ≡ follow (contents store.now) self.new.reads (rest rules.now.classes now self.new)) }
         ensures less { IfOk result (λ now. weight now self.new ≡ load self.old.todo) }
     {
         match unary {
@@ -49,15 +50,16 @@ impl<'a> Trial<'a> {
     }
 
     /// What is done with two values.
-    pub(crate) fn binary<S: Tree>(
+    pub(crate) fn binary(
         &mut self,
         alloc: Global,
-        store: &'a S,
+        store: &'a Store,
         binary: Binary,
         left: Value,
         right: &Value,
     ) -> Result<Now<'a>, AllocError>
-        ensures same { (classes : Classes) → IfOk result (λ now. follow (S.contents store.now) self.old.reads (onto classes self.old (with_two binary (value_view left) (value_view right.now))) ≡ follow (S.contents store.now) self.new.reads (rest classes now self.new)) }
+        requires idle_store { IsIdle store.now }
+        ensures same { (classes : Classes) → IfOk result (λ now. follow (contents store.now) self.old.reads (onto classes self.old (with_two binary (value_view left) (value_view right.now))) ≡ follow (contents store.now) self.new.reads (rest classes now self.new)) }
         ensures less { IfOk result (λ now. weight now self.new ≡ load self.old.todo) }
     {
         match binary {
@@ -75,40 +77,42 @@ impl<'a> Trial<'a> {
     }
 
     /// Whether it is a node of that class or below.
-    fn instance_of<S: Tree, E: Equations>(
+    fn instance_of(
         &mut self,
-        rules: &'a E,
-        store: &'a S,
+        rules: &'a Rules,
+        store: &'a Store,
         class: ClassId,
         node: Option<Node>,
     ) -> Result<Now<'a>, AllocError>
-        ensures same { IfOk result (λ now. follow (S.contents store.now) self.old.reads (onto (E.rules rules.now).classes self.old (is_instance (E.rules rules.now).classes class node)) ≡ follow (S.contents store.now) self.new.reads (rest (E.rules rules.now).classes now self.new)) }
+        requires idle_store { IsIdle store.now }
+        ensures same { IfOk result (λ now. follow (contents store.now) self.old.reads (onto rules.now.classes self.old (is_instance rules.now.classes class node)) ≡ follow (contents store.now) self.new.reads (rest rules.now.classes now self.new)) }
         ensures less { IfOk result (λ now. weight now self.new ≡ load self.old.todo) }
     {
         match node {
             Some(node) => {
                 self.reads.push(Loc::Is(node))?;
-                Ok(Now::Back(Value::Bool(rules.is_sub(store.class(node), class))))
+                Ok(Now::Back(Value::Bool(rules.classes().is_sub(store.class(node), class))))
             }
             None => Ok(Now::Back(Value::Bool(false))),
         }
     }
 
     /// The node of that class or below, null, or a fault.
-    fn cast_to<S: Tree, E: Equations>(
+    fn cast_to(
         &mut self,
-        rules: &'a E,
-        store: &'a S,
+        rules: &'a Rules,
+        store: &'a Store,
         class: ClassId,
         node: Option<Node>,
     ) -> Result<Now<'a>, AllocError>
-        ensures same { IfOk result (λ now. follow (S.contents store.now) self.old.reads (onto (E.rules rules.now).classes self.old (cast_to (E.rules rules.now).classes class node)) ≡ follow (S.contents store.now) self.new.reads (rest (E.rules rules.now).classes now self.new)) }
+        requires idle_store { IsIdle store.now }
+        ensures same { IfOk result (λ now. follow (contents store.now) self.old.reads (onto rules.now.classes self.old (cast_to rules.now.classes class node)) ≡ follow (contents store.now) self.new.reads (rest rules.now.classes now self.new)) }
         ensures less { IfOk result (λ now. weight now self.new ≡ load self.old.todo) }
     {
         match node {
             Some(node) => {
                 self.reads.push(Loc::Is(node))?;
-                if rules.is_sub(store.class(node), class) {
+                if rules.classes().is_sub(store.class(node), class) {
                     return Ok(Now::Back(Value::Ref(Some(node))));
                 }
                 Ok(Now::Fail(FaultKind::Cast))
@@ -118,13 +122,14 @@ impl<'a> Trial<'a> {
     }
 
     /// The child, or a fault.
-    fn child<S: Tree>(
+    fn child(
         &mut self,
-        store: &'a S,
+        store: &'a Store,
         part: usize,
         node: Option<Node>,
     ) -> Result<Now<'a>, AllocError>
-        ensures same { (classes : Classes) → IfOk result (λ now. follow (S.contents store.now) self.old.reads (onto classes self.old (child_of part (Ref node))) ≡ follow (S.contents store.now) self.new.reads (rest classes now self.new)) }
+        requires idle_store { IsIdle store.now }
+        ensures same { (classes : Classes) → IfOk result (λ now. follow (contents store.now) self.old.reads (onto classes self.old (child_of part (Ref node))) ≡ follow (contents store.now) self.new.reads (rest classes now self.new)) }
         ensures less { IfOk result (λ now. weight now self.new ≡ load self.old.todo) }
     {
         match node {
@@ -140,13 +145,14 @@ impl<'a> Trial<'a> {
     }
 
     /// How many nodes are in a component, or a fault.
-    fn count<S: Tree>(
+    fn count(
         &mut self,
-        store: &'a S,
+        store: &'a Store,
         part: usize,
         node: Option<Node>,
     ) -> Result<Now<'a>, AllocError>
-        ensures same { (classes : Classes) → IfOk result (λ now. follow (S.contents store.now) self.old.reads (onto classes self.old (count_of part (Ref node))) ≡ follow (S.contents store.now) self.new.reads (rest classes now self.new)) }
+        requires idle_store { IsIdle store.now }
+        ensures same { (classes : Classes) → IfOk result (λ now. follow (contents store.now) self.old.reads (onto classes self.old (count_of part (Ref node))) ≡ follow (contents store.now) self.new.reads (rest classes now self.new)) }
         ensures less { IfOk result (λ now. weight now self.new ≡ load self.old.todo) }
     {
         match node {
@@ -159,13 +165,14 @@ impl<'a> Trial<'a> {
     }
 
     /// Whether there is a node in a component, or a fault.
-    fn has<S: Tree>(
+    fn has(
         &mut self,
-        store: &'a S,
+        store: &'a Store,
         part: usize,
         node: Option<Node>,
     ) -> Result<Now<'a>, AllocError>
-        ensures same { (classes : Classes) → IfOk result (λ now. follow (S.contents store.now) self.old.reads (onto classes self.old (has_of part (Ref node))) ≡ follow (S.contents store.now) self.new.reads (rest classes now self.new)) }
+        requires idle_store { IsIdle store.now }
+        ensures same { (classes : Classes) → IfOk result (λ now. follow (contents store.now) self.old.reads (onto classes self.old (has_of part (Ref node))) ≡ follow (contents store.now) self.new.reads (rest classes now self.new)) }
         ensures less { IfOk result (λ now. weight now self.new ≡ load self.old.todo) }
     {
         match node {
@@ -178,13 +185,14 @@ impl<'a> Trial<'a> {
     }
 
     /// The token, or a fault.
-    fn token<S: Tree>(
+    fn token(
         &mut self,
-        store: &'a S,
+        store: &'a Store,
         part: usize,
         node: Option<Node>,
     ) -> Result<Now<'a>, AllocError>
-        ensures same { (classes : Classes) → IfOk result (λ now. follow (S.contents store.now) self.old.reads (onto classes self.old (token_of part (Ref node))) ≡ follow (S.contents store.now) self.new.reads (rest classes now self.new)) }
+        requires idle_store { IsIdle store.now }
+        ensures same { (classes : Classes) → IfOk result (λ now. follow (contents store.now) self.old.reads (onto classes self.old (token_of part (Ref node))) ≡ follow (contents store.now) self.new.reads (rest classes now self.new)) }
         ensures less { IfOk result (λ now. weight now self.new ≡ load self.old.todo) }
     {
         match node {
@@ -197,14 +205,15 @@ impl<'a> Trial<'a> {
     }
 
     /// The element at an index, or a fault.
-    fn element<S: Tree>(
+    fn element(
         &mut self,
-        store: &'a S,
+        store: &'a Store,
         part: usize,
         node: &Value,
         index: &Value,
     ) -> Result<Now<'a>, AllocError>
-        ensures same { (classes : Classes) → IfOk result (λ now. follow (S.contents store.now) self.old.reads (onto classes self.old (element_of part (value_view node.now) (value_view index.now))) ≡ follow (S.contents store.now) self.new.reads (rest classes now self.new)) }
+        requires idle_store { IsIdle store.now }
+        ensures same { (classes : Classes) → IfOk result (λ now. follow (contents store.now) self.old.reads (onto classes self.old (element_of part (value_view node.now) (value_view index.now))) ≡ follow (contents store.now) self.new.reads (rest classes now self.new)) }
         ensures less { IfOk result (λ now. weight now self.new ≡ load self.old.todo) }
     {
         match node.node() {

@@ -7,7 +7,7 @@ ghost use Rattle.at_model.specs.Bodies.{int_of, truth_of, text_of, ref_of, value
 ghost use Rattle.at_tree.specs.Token.{token_view};
 ghost use Rattle.at_body.specs.Values.{value_view};
 
-use super::node::Node;
+use at_store::Node;
 use at_tree::token::TokVal;
 use std::alloc::{AllocError, Global};
 use std::hash::{Hash, Hasher};

@@ -5,8 +5,9 @@ use Rattle.std.proofs.lemmas.Option.{none-some, same_Some}
 use Rattle.std.proofs.lemmas.List.Folds.{list_any_at}
 use Rattle.std.proofs.lemmas.List.Elements.{Contains-append_left, Contains-append_right, Contains-push, Contains-push_cases}
 use Rattle.at_model.specs.Run.{Instance, Location}
-use Rattle.at_body.specs.declared.node.Loc.{Loc}
-use Rattle.at_body.specs.Values.{value_view, loc_view}
+use Rattle.at_store.specs.declared.node.Loc.{Loc}
+use Rattle.at_body.specs.Values.{value_view}
+use Rattle.at_store.specs.Located.{loc_view}
 use Rattle.at_cache.specs.declared.keep_recorded.Entry.{Entry}
 use Rattle.at_cache.specs.Kept.{Kept, Answers, same_location}
 use Rattle.at_cache.specs.Recorded.{covers_from, kept_after}

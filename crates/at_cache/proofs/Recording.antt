@@ -13,8 +13,9 @@ use Rattle.indexmap.proofs.MapLemmas.{Found-position, Missing-position, insert_e
 use Rattle.at_model.specs.Run.{Instance, Location}
 use Rattle.at_body.specs.Same.{same_instance}
 use Rattle.at_body.specs.Sameness.{instances_equiv}
-use Rattle.at_body.specs.declared.node.Loc.{Loc}
-use Rattle.at_body.specs.Values.{value_view, loc_view}
+use Rattle.at_store.specs.declared.node.Loc.{Loc}
+use Rattle.at_body.specs.Values.{value_view}
+use Rattle.at_store.specs.Located.{loc_view}
 use Rattle.at_cache.specs.declared.keep_recorded.Entry.{Entry}
 use Rattle.at_cache.specs.Kept.{Kept, Puts, covered, covers_at, same_location}
 use Rattle.at_cache.specs.Recorded.{covers_from, kept_after, all_kept, kept_in}

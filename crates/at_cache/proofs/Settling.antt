@@ -6,7 +6,7 @@ use Rattle.std.proofs.lemmas.List.Elements.{filter-append}
 use Rattle.std.proofs.lemmas.Map.Views.{lookup-from_Contains}
 use Rattle.indexmap.specs.Layout.{set_value_at}
 use Rattle.at_model.specs.Run.{Instance, Location}
-use Rattle.at_body.specs.declared.node.Loc.{Loc}
+use Rattle.at_store.specs.declared.node.Loc.{Loc}
 use Rattle.at_body.specs.Same.{same_instance}
 use Rattle.at_body.specs.Sameness.{instances_equiv}
 use Rattle.at_cache.specs.declared.keep_recorded.Entry.{Entry}

@@ -1,7 +1,7 @@
 -- What a flush settles of each entry, from the first on.
 use Rattle.std.specs.Prelude.{◌≡◌, ℕ, ◌⊎◌, List, Bool, true, false, Option, None, Some, Contains, map, filter, slice_get}
 use Rattle.at_model.specs.Run.{Instance, Location}
-use Rattle.at_body.specs.declared.node.Loc.{Loc}
+use Rattle.at_store.specs.declared.node.Loc.{Loc}
 use Rattle.at_cache.specs.declared.keep_recorded.Entry.{Entry}
 use Rattle.at_cache.specs.Kept.{Kept}
 

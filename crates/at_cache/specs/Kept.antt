@@ -2,9 +2,9 @@
 use Rattle.std.specs.Prelude.{◌≡◌, ℕ, List, Bool, true, false, ◌&&◌, ◌||◌, ◌⊎◌, Option, Some, None, IsSome, Contains, nat_eq, if◌then◌else◌}
 use Rattle.std.specs.List.{list_any}
 use Rattle.at_model.specs.Run.{Value, Instance, Location, Is, Tok, Slot, Up, Idx}
-use Rattle.at_body.specs.declared.node.Loc.{Loc}
+use Rattle.at_store.specs.declared.node.Loc.{Loc}
 use Rattle.at_body.specs.Same.{same_instance}
-use Rattle.at_body.specs.Values.{loc_view}
+use Rattle.at_store.specs.Located.{loc_view}
 
 -- the form of a location, its node, and its component or 0
 abbrev pub form_of : Location ℕ → ℕ

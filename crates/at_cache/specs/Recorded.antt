@@ -3,7 +3,8 @@ use Rattle.std.specs.Prelude.{ℕ, List, [], ◌∷◌, ◌++◌, Bool, false, �
 use Rattle.std.specs.List.{list_any, sum_by}
 use Rattle.std.specs.Map.{lookup, values_of}
 use Rattle.at_model.specs.Run.{Instance, Location}
-use Rattle.at_body.specs.Values.{value_view, loc_view}
+use Rattle.at_body.specs.Values.{value_view}
+use Rattle.at_store.specs.Located.{loc_view}
 use Rattle.at_body.specs.Same.{same_instance}
 use Rattle.at_cache.specs.declared.keep_recorded.Entry.{Entry}
 use Rattle.at_cache.specs.Kept.{Kept, Entries, same_location}

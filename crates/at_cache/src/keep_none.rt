@@ -3,7 +3,8 @@
 ghost use Rattle.std.specs.Prelude.{None, false};
 
 use crate::keeper::Keeper;
-use at_body::{Inst, Loc, Value};
+use at_body::{Inst, Value};
+use at_store::Loc;
 use std::alloc::{AllocError, Global};
 
 /// Keeps nothing.

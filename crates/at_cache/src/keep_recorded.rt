@@ -4,14 +4,15 @@ ghost use Rattle.std.specs.Prelude.{◌≡◌, ◌≤◌, ◌-◌, ◌^◌, ℕ,
 ghost use Rattle.std.specs.List.{list_any};
 ghost use Rattle.indexmap.specs.IndexMap.{index_map_len, IsUnique};
 ghost use Rattle.at_model.specs.Run.{Location};
-ghost use Rattle.at_body.specs.declared.node.Loc.{Loc};
+ghost use Rattle.at_store.specs.declared.node.Loc.{Loc};
 ghost use Rattle.at_body.specs.Same.{same_instance};
 ghost use Rattle.at_cache.specs.Kept.{KeepsAll, Answers, covers_at};
 ghost use Rattle.at_cache.specs.Recorded.{reads_held, all_kept, kept_in, covers_from};
 ghost use Rattle.at_cache.specs.Flushing.{Filters, Stays, Goes, LinksStay, LinksGo, NoneTouched, OneTouched, moved_to, staying};
 
 use crate::keeper::Keeper;
-use at_body::{Inst, Loc, Value};
+use at_body::{Inst, Value};
+use at_store::Loc;
 use indexmap::IndexMap;
 use std::alloc::{AllocError, Global};
 

@@ -5,7 +5,8 @@ ghost use Rattle.at_cache.specs.Kept.{KeepsAll};
 ghost use Rattle.at_cache.specs.UntilEdit.{values_kept};
 
 use crate::keeper::Keeper;
-use at_body::{Inst, Loc, Value};
+use at_body::{Inst, Value};
+use at_store::Loc;
 use indexmap::IndexMap;
 use std::alloc::{AllocError, Global};
 

@@ -3,14 +3,16 @@
 ghost use Rattle.std.specs.Prelude.{◌≡◌, ℕ, Option, None, Bool, IsTrue, OnOk, OnErr, map};
 ghost use Rattle.std.specs.Option.{option_map};
 ghost use Rattle.at_model.specs.Run.{Instance};
-ghost use Rattle.at_body.specs.Values.{value_view, loc_view};
+ghost use Rattle.at_body.specs.Values.{value_view};
+ghost use Rattle.at_store.specs.Located.{loc_view};
 ghost use Rattle.at_cache.specs.Kept.{Kept, KeepsAll, MayPut, AreKept, Answers, LeavesUntouched, LosesTouched};
 
-use at_body::{Inst, Loc, Value};
+use at_body::{Inst, Value};
+use at_store::Loc;
 use std::alloc::AllocError;
 
 /// Keeps values of instances, each with the locations that it stands for.
-pub trait Keeper {
+pub trait Keeper: Drop {
     /// The entries, as a finite map.
     ghost contents: { Self → Instance ℕ → Option Kept };
 

@@ -1,8 +1,8 @@
 -- What a cell that is given stands for.
-use Rattle.std.proofs.Common.{◌≡◌, ◌∙◌, map, ap, sym, None, Some}
+use Rattle.std.proofs.Common.{◌≡◌, ◌∙◌, map, ap, sym, None}
 use Rattle.std.specs.Prelude.{Vec}
 use Rattle.std.specs.Global.{Global}
-use Rattle.at_model.specs.Trees.{Tree, Cell, One, Many, Empty, Filled, Holds, to_trees}
+use Rattle.at_model.specs.Trees.{Tree, Cell, One, Many, Empty, Holds, to_trees}
 use Rattle.at_tree.specs.Token.{token_view}
 use Rattle.at_tree.specs.TreeView.{see_tree, see_cell, tree_view, cell_view}
 use Rattle.at_tree.specs.declared.token.TokVal.{TokVal}

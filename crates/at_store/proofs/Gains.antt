@@ -1,10 +1,10 @@
 -- What each step of planting leaves.
-use Rattle.std.proofs.Common.{◌≡◌, ℕ, ◌+◌, ◌<◌, ◌≤◌, zero, suc, length, take, get_or, true, false, nat_eq, cond, List, [], ◌∷◌, ◌++◌, Option, Some, None, refl, sym, ap, ◌∙◌, subst, arith, is_some}
+use Rattle.std.proofs.Common.{◌≡◌, ℕ, ◌+◌, ◌<◌, ◌≤◌, zero, suc, length, take, get_or, List, [], ◌∷◌, ◌++◌, Option, Some, refl, sym, ap, ◌∙◌, subst, arith}
 use Rattle.std.specs.Prelude.{map, Result, Ok, Err, OnOk, OnErr}
 use Rattle.std.proofs.lemmas.List.{map_more, take_all}
-use Rattle.at_model.specs.Trees.{Tree, Cells, Cell, One, Many, Empty, Filled, Holds, Token, Node as branch, no_cells, cell, no_trees, tree, children, to_cells, from_cells, to_trees, cells_of, class_of}
+use Rattle.at_model.specs.Trees.{Tree, Cells, Cell, Many, Node as branch, no_cells, cell, no_trees, children, to_cells, from_cells, to_trees, cells_of, class_of}
 use Rattle.at_model.proofs.Untouched.{from_to_cells}
-use Rattle.at_store.specs.Numbers.{relabel, relabel_cells, relabel_cell, path_in}
+use Rattle.at_store.specs.Numbers.{relabel, relabel_cells, relabel_cell}
 use Rattle.at_store.specs.Memory.{Form, Plain, List_of, Optional, Info, Kept, Kids, kept, Place, class_in, IsFreed}
 use Rattle.at_store.specs.Planting.{IsPlanted, added, holding, IsAsBefore, IsAdded, IsPushed, IsPushedKid, GainsCell, GainsTree, StaysPlanted}
 use Rattle.at_store.proofs.Planted.{planted_first, unplanted}

@@ -1,10 +1,10 @@
 -- There is room for what an edit brings exactly where the tree that it leaves is within the limits.
-use Rattle.std.proofs.Common.{◌≡◌, ◌≤◌, ◌<◌, ℕ, suc, ◌+◌, ◌-◌, Option, Some, None, length, refl, sym, ap, ◌∙◌, arith, option_map}
+use Rattle.std.proofs.Common.{◌≡◌, ◌≤◌, ℕ, suc, ◌-◌, true, Some, length, sym, ap, ◌∙◌, arith, option_map}
 use Rattle.std.proofs.lemmas.Bool.{leb-true}
 use Rattle.slab.specs.Slab.{Slab, slab_len}
 use Rattle.at_model.specs.Classes.{Classes}
 use Rattle.at_model.specs.Terms.{max_depth}
-use Rattle.at_model.specs.Trees.{Tree, class_of, depth, nodes}
+use Rattle.at_model.specs.Trees.{Tree, class_of, conforms, depth, nodes}
 use Rattle.at_model.specs.Paths.{Node, tree_at}
 use Rattle.at_model.specs.Edits.{is_within_limits, left_by}
 use Rattle.at_model.proofs.Options.{both}
@@ -13,12 +13,14 @@ use Rattle.at_tree.specs.TreeView.{tree_view}
 use Rattle.at_store.specs.Memory.{class_in}
 use Rattle.at_store.specs.Numbers.{path_in, relabel}
 use Rattle.at_store.specs.Refusing.{IsAllowed, IsSettled, edit_at, node_of}
+use Rattle.at_store.specs.Shown.{IsIdle, Shown, numbers, tree as shown_tree}
 use Rattle.at_store.specs.Told.{level_told, room, size_told, within_told}
 use Rattle.at_store.specs.View.{memory_of}
 use Rattle.at_store.specs.declared.edit.Edit.{Edit}
 use Rattle.at_store.specs.declared.edit.Edit.TheVariants.{Set, Put, Drop, Insert, Token}
 use Rattle.at_store.specs.declared.entry.Entry.{Entry}
 use Rattle.at_store.proofs.Classes.{depth_relabelled, nodes_relabelled}
+use Rattle.at_store.proofs.Counted.{slab_counted}
 use Rattle.at_store.proofs.Depths.{level_within}
 use Rattle.at_store.proofs.Found.{number_found}
 use Rattle.at_store.proofs.Levels.{level_is}
@@ -40,7 +42,7 @@ module _ (classes : Classes) (slab : Slab Entry) (s : Tree) (h : IsSettled class
   there n u is = relabelled-tree_at (class_in (memory_of slab)) s n ∙ ap (option_map (relabel (class_in (memory_of slab)))) is
 
   count_is : slab_len slab ≡ nodes shown
-  count_is = h.counted ∙ sym (nodes_relabelled (class_in (memory_of slab)) s)
+  count_is = slab_counted slab s h.keeps ∙ sym (nodes_relabelled (class_in (memory_of slab)) s)
 
   level : (k : ℕ) (n : Node) → path_in k s ≡ Some n → level_told (memory_of slab) max_depth k ≡ length n
   level k n p =
@@ -69,3 +71,7 @@ module _ (classes : Classes) (slab : Slab Entry) (s : Tree) (h : IsSettled class
   limited (Token node part value) n p allowed =
       let (u, is, number) = number_found s node n p in
       token_room classes shown h.conforming h.within n part (token_view value) (relabel (class_in (memory_of slab)) u) (there n u is) allowed
+
+-- so it is of an idle store
+pub settled : (classes : Classes) (s : Shown) → IsIdle s → conforms classes (shown_tree s) 0 ≡ true → IsSettled classes s.slab (numbers s)
+settled classes s idle ok = record { keeps = idle.keeps; conforming = ok; within = idle.limits }

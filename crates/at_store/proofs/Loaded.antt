@@ -1,5 +1,5 @@
 -- A tree that is planted in an empty memory is kept there, and shown.
-use Rattle.std.proofs.Common.{◌≡◌, ℕ, zero, suc, [], get_or, ◌≤◌, Bool, true, false, ◌&&◌, nat_le, Option, Some, None, ◌⊎◌, inl, inr, refl, sym, ap, ◌∙◌, subst, arith, is_some}
+use Rattle.std.proofs.Common.{◌≡◌, ℕ, zero, suc, [], get_or, ◌≤◌, Bool, true, false, ◌&&◌, nat_le, Option, Some, None, ◌⊎◌, inl, refl, sym, ap, ◌∙◌, subst, arith, is_some}
 use Rattle.std.proofs.lemmas.Bool.Decides.{nat_tests}
 use Rattle.at_model.specs.Trees.{Tree, Truth, class_of, nodes, depth}
 use Rattle.at_model.specs.Edits.{is_within_limits, tokens_short}
@@ -11,7 +11,9 @@ use Rattle.at_store.specs.Shown.{Shown, IsIdle, numbers, tree}
 use Rattle.slab.specs.Slab.{Slab}
 use Rattle.at_store.specs.declared.entry.Entry.{Entry}
 use Rattle.at_store.specs.View.{info_of, memory_of}
+use Rattle.at_store.specs.Waiting.{IsBrought}
 use Rattle.at_store.proofs.Classes.{shallow_numbers}
+use Rattle.at_store.proofs.Planted.{planted_waits}
 use Rattle.at_store.proofs.Growing.{grown_kept}
 
 second : (a b c : Bool) → (a && b && c) ≡ true → b ≡ true
@@ -76,3 +78,8 @@ none_there (suc k) d = refl
 
 pub empty_memory : (s : Slab Entry) → s.slots ≡ [] → (k : ℕ) → memory_of s k ≡ None
 empty_memory s e k = ap (λ xs. info_of (get_or xs k None)) e ∙ ap info_of (none_there k None)
+
+-- a tree that is brought into an idle store waits beside its tree, with numbers that are new
+pub brought_waits : (before later : Shown) (t : Tree) (new : ℕ) → IsIdle before → IsBrought before later t new →
+    (w : Tree) × (class_of w ≡ new) × (relabel (class_in (memory_of later.slab)) w ≡ t) × Keeps (memory_of later.slab) (numbers before) (Some w)
+brought_waits before later t new h b = let (w, number, p) = b.0 in (w, number, p.classes, planted_waits (memory_of before.slab) (memory_of later.slab) (numbers before) t w h.keeps p)

@@ -1,7 +1,6 @@
 -- A tree that is within the limits is so after an edit exactly where there is room for what the edit brings.
-use Rattle.std.proofs.Common.{◌≡◌, ◌≤◌, ◌<◌, ℕ, zero, suc, ◌+◌, ◌-◌, Bool, true, false, ◌&&◌, not, nat_eq, nat_le, List, [], ◌∷◌, length, Option, Some, None, refl, sym, ap, ◌∙◌, subst, arith, option_and_then, option_map, is_some}
+use Rattle.std.proofs.Common.{◌≡◌, ◌≤◌, ◌<◌, ℕ, zero, suc, ◌+◌, ◌-◌, Bool, true, false, ◌&&◌, nat_le, List, [], ◌∷◌, length, Option, Some, None, refl, sym, ap, ◌∙◌, subst, arith, option_and_then, option_map, is_some}
 use Rattle.std.specs.List.{slice_get}
-use Rattle.std.specs.Prelude.{◌==◌}
 use Rattle.std.proofs.lemmas.Bool.{leb-true, eqb-true}
 use Rattle.std.proofs.lemmas.Bool.Decides.{nat_tests}
 use Rattle.at_model.specs.Classes.{Classes, Component, Shape, parts}
@@ -10,11 +9,11 @@ use Rattle.at_model.specs.Terms.{max_depth}
 use Rattle.at_model.specs.Trees.{Tree, Cells, Cell, Trees, Node as branch, no_cells, cell, One, Many, Empty, Filled, Holds, class_of, children, from_cells, from_trees, nodes, depth, conforms, cells_conform, cell_conforms}
 use Rattle.at_model.specs.Trees as trees
 use Rattle.at_model.specs.Paths.{Node, tree_at, cell_at, children_at, parent_of}
-use Rattle.at_model.specs.Edits.{Set, Put, Drop, Insert, Token, shape_at, plain_class, list_class, optional_class, token_kind, has_component, is_in_range, is_free, is_removable, is_plain, children_of, with_child, with_cell, with_node, without_child, with_one_more, left_by, max_nodes, tokens_short, is_short, is_within_limits}
+use Rattle.at_model.specs.Edits.{Set, Put, Drop, Insert, Token, shape_at, plain_class, list_class, optional_class, token_kind, is_plain, children_of, with_cell, with_node, without_child, left_by, max_nodes, tokens_short, is_short, is_within_limits}
 use Rattle.at_model.proofs.Complete.{conforms_at}
 use Rattle.at_model.proofs.Options.{both}
 use Rattle.at_model.proofs.Surviving.{parent_is}
-use Rattle.at_model.proofs.Untouching.{shape_there, list_cell, plain_cell, selected, counted, not_false}
+use Rattle.at_model.proofs.Untouching.{shape_there, list_cell, plain_cell, selected, not_false}
 use Rattle.at_store.specs.Told.{room}
 use Rattle.at_store.specs.Refusing.{IsAllowed}
 use Rattle.at_store.proofs.Counts.{of_cell, count_set, count_put, count_insert, count_token, count_drop}

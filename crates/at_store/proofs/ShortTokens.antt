@@ -1,5 +1,5 @@
 -- Whether all texts among the tokens are short after an edit of a tree where they are.
-use Rattle.std.proofs.Common.{◌≡◌, ◌≤◌, ℕ, zero, suc, Bool, true, false, ◌&&◌, ◌∷◌, [], length, Option, Some, None, refl, sym, ap, ◌∙◌, arith}
+use Rattle.std.proofs.Common.{◌≡◌, ◌≤◌, ℕ, zero, suc, Bool, true, false, ◌&&◌, ◌∷◌, [], length, Some, refl, sym, ap, ◌∙◌, arith}
 use Rattle.std.specs.List.{slice_get, insert, remove}
 use Rattle.at_model.specs.Trees.{Tree, Cells, Cell, Trees, Node as branch, no_cells, cell, One, Many, Empty, Filled, Holds, no_trees, tree, children, to_cells, from_cells, to_trees, from_trees}
 use Rattle.at_model.specs.Paths.{Node, tree_at, cell_at, children_at}

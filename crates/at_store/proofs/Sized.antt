@@ -1,8 +1,7 @@
 -- How many nodes a memory tells of, and how many a tree has.
-use Rattle.std.proofs.Common.{◌≡◌, ◌≤◌, ◌<◌, ℕ, zero, suc, ◌+◌, ◌-◌, List, [], ◌∷◌, ◌++◌, length, Option, Some, None, refl, sym, ap, ◌∙◌, arith, drop, map}
-use Rattle.std.specs.Prelude.{min}
+use Rattle.std.proofs.Common.{◌≡◌, ◌≤◌, ◌<◌, ℕ, zero, suc, ◌+◌, ◌-◌, List, [], ◌∷◌, ◌++◌, Option, Some, None, refl, sym, ap, ◌∙◌, arith, map}
 use Rattle.std.specs.List.{slice_get}
-use Rattle.at_model.specs.Trees.{Tree, Cells, Cell, Trees, Node as branch, no_cells, cell, One, Many, Empty, Filled, Holds, class_of, cells_of, children, from_cells, from_trees, to_trees, nodes, cells_nodes, cell_nodes, trees_nodes, depth}
+use Rattle.at_model.specs.Trees.{Tree, Cells, Cell, Node as branch, no_cells, cell, One, Many, Empty, Filled, Holds, class_of, children, from_cells, from_trees, to_trees, nodes, cells_nodes, cell_nodes, trees_nodes, depth}
 use Rattle.at_model.specs.Paths.{Node, tree_at}
 use Rattle.at_model.proofs.Untouched.{in_cell as kids}
 use Rattle.at_model.proofs.WithinTree.{tree_at-snoc}

@@ -1,6 +1,6 @@
 -- What the memory tells of the node that an edit names is what the tree of classes shows there.
-use Rattle.std.proofs.Common.{◌≡◌, ◌⊎◌, inl, inr, ℕ, Bool, true, not, List, [], ◌∷◌, ◌++◌, Option, Some, None, refl, sym, ap, ◌∙◌, length, option_map, option_and_then, is_some, nat_eq}
-use Rattle.std.specs.Prelude.{◌==◌, nat_le, map}
+use Rattle.std.proofs.Common.{◌≡◌, ◌⊎◌, inl, inr, ℕ, true, not, List, [], ◌∷◌, ◌++◌, Option, Some, None, refl, sym, ap, ◌∙◌, length, option_map, option_and_then, is_some}
+use Rattle.std.specs.Prelude.{◌==◌, nat_le}
 use Rattle.std.specs.List.{slice_get}
 use Rattle.std.proofs.lemmas.List.{length-map}
 use Rattle.at_model.specs.Classes.{Classes, Shape, parts, class_in as tree_class}

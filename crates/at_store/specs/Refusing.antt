@@ -1,12 +1,12 @@
 -- Why an edit of a store is refused: the edit by numbers as an edit by paths.
 use Rattle.std.specs.Prelude.{◌≡◌, ℕ, true, Option, Some, None, Ok, Err, Result}
 use Rattle.at_model.specs.Classes.{Classes}
-use Rattle.at_model.specs.Trees.{Tree, nodes, conforms}
+use Rattle.at_model.specs.Trees.{Tree, conforms}
 use Rattle.at_model.specs.Paths.{Node}
 use Rattle.at_model.specs.Edits as model
 use Rattle.at_tree.specs.Token.{token_view}
 use Rattle.at_tree.specs.TreeView.{tree_view}
-use Rattle.slab.specs.Slab.{Slab, slab_len}
+use Rattle.slab.specs.Slab.{Slab}
 use Rattle.at_store.specs.Memory.{Keeps, class_in}
 use Rattle.at_store.specs.Numbers.{relabel}
 use Rattle.at_store.specs.View.{memory_of}
@@ -56,9 +56,8 @@ abbrev pub IsMisfitOf : Classes → Tree → model.Edit → Option Refusal → T
 IsMisfitOf classes t e None = IsAllowed classes t e
 IsMisfitOf classes t e (Some r) = IsRefusalOf (model.edited classes t e) (model.left_by t e) (Some r)
 
--- The slab holds just the tree of these numbers, and counts its nodes; what they show conforms and is within the limits.
+-- The slab holds just the tree of these numbers; what they show conforms and is within the limits.
 pub record IsSettled (classes : Classes) (slab : Slab Entry) (s : Tree) : Type 0 where
   pub keeps : Keeps (memory_of slab) s None
-  pub counted : slab_len slab ≡ nodes s
   pub conforming : conforms classes (relabel (class_in (memory_of slab)) s) 0 ≡ true
   pub within : model.is_within_limits (relabel (class_in (memory_of slab)) s) ≡ true

@@ -1,6 +1,6 @@
 //! The node store: the nodes of one tree, by number, and checked edits of it.
-ghost use Rattle.std.specs.Prelude.{◌≡◌, ◌<◌, ◌≤◌, ℕ, IfErr, IfOk, None, OnOk, Some, [], is_some, length, true};
-ghost use Rattle.std.specs.List.{slice_get};
+ghost use Rattle.std.specs.Prelude.{◌≡◌, ◌<◌, ◌≤◌, ℕ, IfErr, IfOk, None, OnErr, OnOk, Some, [], is_some, length, true};
+ghost use Rattle.std.specs.List.{insert, slice_get};
 ghost use Rattle.at_model.specs.Run.{Idx, Is, Slot as Children, Tok, Up};
 ghost use Rattle.at_tree.specs.Token.{token_view};
 ghost use Rattle.at_tree.specs.TreeView.{tree_view};
@@ -16,6 +16,8 @@ ghost use Rattle.at_store.specs.View.{memory_of};
 ghost use Rattle.at_store.specs.Preparing.{Does, DoesDrop, DoesInsert, DoesPut, DoesToken, IsCancelled, IsCommitted, IsGivenUp, IsPrepared};
 ghost use Rattle.at_store.specs.Shown.{IsIdle, Shown, contents, numbers, path, tree};
 ghost use Rattle.at_store.specs.Shown.{tree as shown};
+ghost use Rattle.at_store.specs.Memory.{kids_in};
+ghost use Rattle.at_store.specs.Waiting.{IsBrought, IsStoreAsBefore, IsUnbrought};
 
 use crate::changes::{place, replace, set_token, take_away};
 use crate::edit::{Edit, LoadFault, Prepared, Ready, Refusal};
@@ -53,7 +55,9 @@ fn with_one_more(
     kids: &[Node],
     index: usize,
     new: Node,
-) -> Result<Vec<Node>, AllocError> {
+) -> Result<Vec<Node>, AllocError>
+    ensures { IfOk result (λ all. index ≤ length kids.now → all.items ≡ insert kids.now index new) }
+{
     let mut all = Vec::from_slice(alloc, kids)?;
     if index <= all.len() {
         all.insert(index, new)?;
@@ -248,7 +252,10 @@ impl Store {
     }
 
     /// The tree waits from now on.
-    fn bring(&mut self, alloc: Global, tree: Tree) -> Result<Node, AllocError> {
+    fn bring(&mut self, alloc: Global, tree: Tree) -> Result<Node, AllocError>
+        ensures brought { IfOk result (IsBrought self.old self.new (tree_view tree)) }
+        ensures kept { OnErr result (IsStoreAsBefore self.old self.new) }
+    {
         let new = plant(alloc, &mut self.slab, None, 0, &tree)?;
         self.waiting = Some(new);
         Ok(new)
@@ -262,7 +269,11 @@ impl Store {
         part: usize,
         index: usize,
         tree: Tree,
-    ) -> Result<(Node, Vec<Node>), AllocError> {
+    ) -> Result<(Node, Vec<Node>), AllocError>
+        ensures brought { IfOk result (λ r. IsBrought self.old self.new (tree_view tree) r.0) }
+        ensures list { IfOk result (λ r. index ≤ length (kids_in (memory_of self.new.slab node) part) → r.1.items ≡ insert (kids_in (memory_of self.new.slab node) part) index r.0) }
+        ensures kept { OnErr result (self.old.waiting ≡ None → IsStoreAsBefore self.old self.new) }
+    {
         let new = self.bring(alloc, tree)?;
         match with_one_more(alloc, kids_at(&self.slab, node, part), index, new) {
             Ok(kids) => Ok((new, kids)),
@@ -279,6 +290,7 @@ impl Store {
         ensures root { self.new.root ≡ self.old.root }
         ensures waiting { self.new.waiting ≡ None }
         ensures absent { self.new.absent ≡ self.old.absent }
+        ensures unbrought { IsUnbrought self.old self.new }
     {
         if let Some(new) = self.waiting {
             self.waiting = None;

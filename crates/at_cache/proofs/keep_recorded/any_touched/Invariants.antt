@@ -1,5 +1,5 @@
 use Rattle.std.proofs.Common.{Contains, take, false}
-use Rattle.at_body.specs.declared.node.Loc.{Loc}
+use Rattle.at_store.specs.declared.node.Loc.{Loc}
 use Rattle.at_cache.proofs.keep_recorded.any_touched.Given as goal
 
 abbrev pub invariant-loop-location : goal.invariant-loop-location

@@ -1,4 +1,4 @@
-use Rattle.std.proofs.Common.{◌≡◌, ◌≤◌, ◌+◌, ◌-◌, [], sym, ap, ◌∙◌, arith, map, drop}
+use Rattle.std.proofs.Common.{◌≡◌, ◌-◌, ap, arith, map, drop}
 use Rattle.std.proofs.lemmas.List.{drop_all}
 use Rattle.at_store.specs.Told.{kids_size, slots_size, size_told}
 use Rattle.at_store.specs.View.{kept_view, memory_of}

@@ -1,12 +1,12 @@
-use Rattle.std.proofs.Common.{◌≡◌, ℕ, suc, ◌+◌, ◌≤◌, nat_eq, cond, length, map, None, Some, refl, sym, ap, ◌∙◌, subst, arith, inl, inr, true, false, option_map}
+use Rattle.std.proofs.Common.{◌≡◌, ℕ, suc, ◌+◌, nat_eq, cond, length, map, None, Some, refl, sym, ap, ◌∙◌, subst, arith, inl, inr, true, false, option_map}
 use Rattle.std.specs.List.{slice_get}
 use Rattle.std.proofs.lemmas.Bool.{eq-eqb, ne_eqb, cases_eq}
 use Rattle.std.proofs.lemmas.Option.{slice_get-map, slice_get-get_or}
 use Rattle.slab.specs.Slab.{Slab, Updates}
-use Rattle.at_model.specs.Trees.{class_of, from_cells, cells_of}
+use Rattle.at_model.specs.Trees.{from_cells, cells_of}
 use Rattle.at_tree.specs.Token.{token_view}
 use Rattle.at_store.specs.declared.entry.Entry.{Entry}
-use Rattle.at_store.specs.Memory.{Info, Token_of, IsFreedTo, kept, kept_of, numbers_in}
+use Rattle.at_store.specs.Memory.{Token_of, IsFreedTo, kept, kept_of}
 use Rattle.at_store.specs.View.{info, info_of, kept_view, marked, memory_of, leaves_in}
 use Rattle.at_store.proofs.Slots.{map_length}
 use Rattle.at_store.proofs.Freeing.{spread_root, spread_whole, cell_done, child_freed, root_cells, none_stored}

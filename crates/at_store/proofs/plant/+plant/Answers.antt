@@ -1,11 +1,10 @@
-use Rattle.std.proofs.Common.{sym, ap, ◌∙◌, subst, refl, take, None, Some}
+use Rattle.std.proofs.Common.{sym, ap, ◌∙◌, subst, refl, take, Some}
 use Rattle.std.specs.Prelude.{map}
 use Rattle.at_model.specs.Trees.{Cell, Node as branch, Many, Empty, Holds, to_cells, to_trees}
 use Rattle.at_tree.specs.declared.tree.Cell.TheVariants as value
 use Rattle.at_tree.specs.Token.{token_view}
 use Rattle.at_tree.proofs.Made.{made_filled}
 use Rattle.at_tree.specs.TreeView.{cell_view, tree_view}
-use Rattle.std.specs.Prelude.{OnOk}
 use Rattle.at_store.specs.Memory.{Kids, List_of, Optional, Token_of}
 use Rattle.at_store.specs.Planting.{GainsCell}
 use Rattle.at_tree.specs.declared.tree.Tree.{out-Tree}

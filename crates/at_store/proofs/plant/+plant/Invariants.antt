@@ -1,4 +1,4 @@
-use Rattle.std.proofs.Common.{◌≤◌, length, take, map}
+use Rattle.std.proofs.Common.{take, map}
 use Rattle.at_tree.specs.TreeView.{cell_view, tree_view}
 use Rattle.at_tree.specs.declared.tree.Tree.{out-Tree}
 use Rattle.at_store.specs.View.{memory_of}

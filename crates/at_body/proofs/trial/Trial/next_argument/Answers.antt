@@ -2,7 +2,7 @@ use Rattle.std.proofs.Common.{map}
 use Rattle.at_body.specs.declared.todo.Todo.TheVariants.{Argument}
 use Rattle.at_model.specs.Run.{Ref}
 use Rattle.at_body.specs.Values.{value_view}
-use Rattle.at_body.specs.Bodies.{body_view, bodies_view}
+use Rattle.at_rules.specs.Bodies.{body_view, bodies_view}
 use Rattle.at_body.proofs.Entering.{enters, first_arg}
 use Rattle.at_body.proofs.trial.Trial.next_argument.Goals as goal
 

@@ -1,5 +1,5 @@
 use Rattle.at_body.specs.declared.todo.Todo.TheVariants.{Element}
-use Rattle.at_body.specs.Bodies.{body_view}
+use Rattle.at_rules.specs.Bodies.{body_view}
 use Rattle.at_body.proofs.Entering.{enters, first_element}
 use Rattle.at_body.proofs.trial.Trial.next_element.Goals as goal
 

@@ -3,7 +3,7 @@ use Rattle.at_tree.specs.TreeView.{tree_view}
 use Rattle.at_tree.specs.declared.token.TokVal.TheVariants as token
 use Rattle.at_store.specs.Shown.{Shown}
 use Rattle.at_store.specs.View.{memory_of}
-use Rattle.at_store.proofs.Loaded.{IsLoaded, loaded_tree, loaded_idle, empty_memory}
+use Rattle.at_store.proofs.Loaded.{loaded_tree, loaded_idle, empty_memory}
 use Rattle.at_store.proofs.store.Store.load.Goals as goal
 
 pub returns-clause-loaded : goal.returns-clause-loaded
