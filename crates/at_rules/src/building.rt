@@ -33,9 +33,7 @@ impl Rules {
         ensures classes { IfOk result (λ r. r.classes ≡ classes) }
     {
         let Declarations { items, names } = Declarations::of(alloc, &classes, files)?;
-        let attributes = Attributes::of(alloc, &items)?;
-        refuse(fault_together(alloc, &classes, &attributes, &items)?)?;
-        let meant = meant_by(alloc, &classes, &attributes, &items)?;
+        let meant = meant_together(alloc, &classes, &items)?;
         let rules = Rules {
             classes,
             names,
@@ -43,11 +41,31 @@ impl Rules {
             own: meant.own,
             inherited: meant.inherited,
         };
-        let hierarchy = Hierarchy::of(alloc, &rules.classes)?;
-        refuse(class_without_equation(alloc, &rules, &hierarchy, &items)?)?;
-        refuse(inherited_without_equation(alloc, &rules, &hierarchy, &items)?)?;
+        refuse_incomplete(alloc, &rules, &items)?;
         Ok(rules)
     }
+}
+
+/// What the declarations mean. Faults of several declarations together come before those of one by itself.
+fn meant_together(
+    alloc: Global,
+    classes: &ClassTable,
+    declared: &[Numbered],
+) -> Result<Meant, RuleFault> {
+    let attributes = Attributes::of(alloc, declared)?;
+    refuse(fault_together(alloc, classes, &attributes, declared)?)?;
+    meant_by(alloc, classes, &attributes, declared)
+}
+
+/// Refuses rules with a class that lacks an equation, for a synthesized attribute before an inherited one.
+fn refuse_incomplete(
+    alloc: Global,
+    rules: &Rules,
+    declared: &[Numbered],
+) -> Result<(), RuleFault> {
+    let hierarchy = Hierarchy::of(alloc, &rules.classes)?;
+    refuse(class_without_equation(alloc, rules, &hierarchy, declared)?)?;
+    refuse(inherited_without_equation(alloc, rules, &hierarchy, declared)?)
 }
 
 fn refuse(fault: Option<Fault>) -> Result<(), RuleFault> {

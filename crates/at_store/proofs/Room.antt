@@ -47,7 +47,7 @@ some_cell classes (cell c cs) [] part q e g = absurd cc
 some_cell classes (cell c cs) (p ∷ ps) zero q e g = (c, refl)
 some_cell classes (cell c cs) (p ∷ ps) (suc part) q e g = some_cell classes cs ps part q (both _ _ e).1 g
 
-empty_cell : (classes : Classes) (c : Cell) (shape : Shape) → is_some (optional_class shape) ≡ true → cell_conforms classes c shape ≡ true → length (children c) ≡ 0 → c ≡ Empty
+pub empty_cell : (classes : Classes) (c : Cell) (shape : Shape) → is_some (optional_class shape) ≡ true → cell_conforms classes c shape ≡ true → length (children c) ≡ 0 → c ≡ Empty
 empty_cell classes c (class.One b) h e z = absurd cc
 empty_cell classes c (class.Many b) h e z = absurd cc
 empty_cell classes (One t) (class.Maybe b) h e z = absurd cc
@@ -57,7 +57,7 @@ empty_cell classes (Filled t) (class.Maybe b) h e z = absurd cc
 empty_cell classes (Holds v) (class.Maybe b) h e z = absurd cc
 empty_cell classes c (class.Token kind) h e z = absurd cc
 
-holds_cell : (classes : Classes) (c : Cell) (shape : Shape) → is_some (token_kind shape) ≡ true → cell_conforms classes c shape ≡ true → (v : trees.Token) × (c ≡ Holds v)
+pub holds_cell : (classes : Classes) (c : Cell) (shape : Shape) → is_some (token_kind shape) ≡ true → cell_conforms classes c shape ≡ true → (v : trees.Token) × (c ≡ Holds v)
 holds_cell classes c (class.One b) h e = absurd cc
 holds_cell classes c (class.Many b) h e = absurd cc
 holds_cell classes c (class.Maybe b) h e = absurd cc
@@ -85,7 +85,7 @@ module _ (classes : Classes) (t : Tree) (ok : conforms classes t 0 ≡ true) (wi
       same_room (left_by t (Set n x)) x (nodes t - nodes u) (length n) count (depth_set max_depth t low x u n found) (node_changed (λ u. x) t n u short found).0
 
   -- a component that a node has holds a cell of its shape
-  held : {A : Type 0} (select : Shape → Option A) (n : Node) (part : ℕ) (u : Tree) → is_some (option_and_then select (shape_at classes t n part)) ≡ true → tree_at t n ≡ Some u →
+  pub held : {A : Type 0} (select : Shape → Option A) (n : Node) (part : ℕ) (u : Tree) → is_some (option_and_then select (shape_at classes t n part)) ≡ true → tree_at t n ≡ Some u →
       (c : Cell) × (shape : Shape) × (cell_at u part ≡ Some c) × (is_some (select shape) ≡ true) × (cell_conforms classes c shape ≡ true)
   held {A} select n part (branch k cells) has found = by_part (slice_get (parts classes k) part) refl
     where
@@ -100,7 +100,7 @@ module _ (classes : Classes) (t : Tree) (ok : conforms classes t 0 ≡ true) (wi
           let (shape, sees, fits) = shape_there classes t n part (branch k cells) c ok found here in
           (c, shape, here, selected select (shape_at classes t n part) true shape sees has, fits)
 
-  children_are : (n : Node) (part : ℕ) (u : Tree) (c : Cell) → tree_at t n ≡ Some u → cell_at u part ≡ Some c → children_of t n part ≡ children c
+  pub children_are : (n : Node) (part : ℕ) (u : Tree) (c : Cell) → tree_at t n ≡ Some u → cell_at u part ≡ Some c → children_of t n part ≡ children c
   children_are n part u c found here = ap (λ (o : Option Tree). elim o as (λ _. List Tree) [ None ↦ [] | Some x ↦ children_at x part ]) found ∙ ap (λ (o : Option Cell). elim o as (λ _. List Tree) [ None ↦ [] | Some c ↦ children c ]) here
 
   pub put_room : (n : Node) (part : ℕ) (x u : Tree) → tree_at t n ≡ Some u → IsAllowed classes t (Put n part x) → room (nodes t) (suc (length n)) x ≡ is_within_limits (left_by t (Put n part x))

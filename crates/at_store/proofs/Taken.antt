@@ -36,7 +36,7 @@ cell_same i Empty = refl
 cell_same i (Filled t) = refl
 cell_same i (Holds v) = refl
 
-one_changed : {A : Type 0} (g : A → A) (xs : List A) (i : ℕ) (a b : A) → slice_get xs i ≡ Some a → g a ≡ b → changed_at g xs i ≡ changed_at (λ old. b) xs i
+pub one_changed : {A : Type 0} (g : A → A) (xs : List A) (i : ℕ) (a b : A) → slice_get xs i ≡ Some a → g a ≡ b → changed_at g xs i ≡ changed_at (λ old. b) xs i
 one_changed g [] i a b e h = refl
 one_changed g (x ∷ xs) zero a b e h = let same : x ≡ a = cc in ap (λ y. y ∷ xs) (ap g same ∙ h)
 one_changed g (x ∷ xs) (suc i) a b e h = ap (λ ys. x ∷ ys) (one_changed g xs i a b e h)

@@ -21,3 +21,7 @@ IsBrought before later t new =
 -- what waited is freed
 abbrev pub IsUnbrought : (before later : Shown) → Type 0
 IsUnbrought before later = ((new : ℕ) → before.waiting ≡ Some new → IsFreed new (memory_of before.slab) (memory_of later.slab)) × (later.waiting ≡ None) × IsRestAsBefore before later
+
+-- nodes are marked; all else is as before
+abbrev pub IsMarking : (before later : Shown) → Type 0
+IsMarking before later = IsAsBefore (memory_of before.slab) (memory_of later.slab) × (later.root ≡ before.root) × (later.waiting ≡ before.waiting) × (later.absent ≡ before.absent)

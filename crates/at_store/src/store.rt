@@ -1,10 +1,10 @@
 //! The node store: the nodes of one tree, by number, and checked edits of it.
-ghost use Rattle.std.specs.Prelude.{◌≡◌, ◌<◌, ◌≤◌, ℕ, IfErr, IfOk, None, OnErr, OnOk, Some, [], is_some, length, true};
+ghost use Rattle.std.specs.Prelude.{◌≡◌, ◌<◌, ◌≤◌, ℕ, IfErr, IfOk, None, OnErr, OnOk, Some, [], cond, is_some, length, nat_eq, true};
 ghost use Rattle.std.specs.List.{insert, slice_get};
-ghost use Rattle.at_model.specs.Run.{Idx, Is, Slot as Children, Tok, Up};
+ghost use Rattle.at_model.specs.Run.{Idx, Is, Location, Slot as Children, Tok, Up};
 ghost use Rattle.at_tree.specs.Token.{token_view};
 ghost use Rattle.at_tree.specs.TreeView.{tree_view};
-ghost use Rattle.at_model.specs.Paths.{Node as Place, Path as Steps, path_of, tree_at};
+ghost use Rattle.at_model.specs.Paths.{IsPath, Node as Place, Path as Steps, path_of, tree_at};
 ghost use Rattle.at_model.specs.Edits.{is_within_limits};
 ghost use Rattle.at_model.specs.Trees.{Tree as Nested, conforms};
 ghost use Rattle.at_store.specs.Loading.{IsNotLoaded};
@@ -12,12 +12,19 @@ ghost use Rattle.at_tree.specs.PathView.{path_view, steps_view};
 ghost use Rattle.at_store.specs.Led.{Led};
 ghost use Rattle.at_model.specs.Classes.{Classes};
 ghost use Rattle.at_model.specs.Edits.{Edit as EditOf};
-ghost use Rattle.at_store.specs.View.{memory_of};
-ghost use Rattle.at_store.specs.Preparing.{Does, DoesDrop, DoesInsert, DoesPut, DoesToken, IsCancelled, IsCommitted, IsGivenUp, IsPrepared};
+ghost use Rattle.at_store.specs.View.{leaves_in, memory_of};
+ghost use Rattle.at_store.specs.Marked.{change_in};
+ghost use Rattle.at_store.specs.Touching.{AreMarked};
+ghost use Rattle.at_store.specs.Located.{loc_view};
+ghost use Rattle.at_model.specs.Alike.{LocationLike, Names};
+ghost use Rattle.at_model.specs.Touches.{touches};
+ghost use Rattle.at_store.specs.Preparing.{Does, DoesDrop, DoesInsert, DoesPut, DoesSet, DoesToken, IsCancelled, IsCommitted, IsGivenUp, IsPrepared};
 ghost use Rattle.at_store.specs.Shown.{IsIdle, Shown, contents, numbers, path, tree};
 ghost use Rattle.at_store.specs.Shown.{tree as shown};
 ghost use Rattle.at_store.specs.Memory.{kids_in};
-ghost use Rattle.at_store.specs.Waiting.{IsBrought, IsStoreAsBefore, IsUnbrought};
+ghost use Rattle.at_store.specs.Waiting.{IsBrought, IsMarking, IsStoreAsBefore, IsUnbrought};
+ghost use Rattle.at_store.specs.Checking.{IsAsked, IsRefused, Prepares};
+ghost use Rattle.at_store.specs.Refusing.{edit_at};
 
 use crate::changes::{place, replace, set_token, take_away};
 use crate::edit::{Edit, LoadFault, Prepared, Ready, Refusal};
@@ -179,7 +186,8 @@ impl Store {
         node: Node,
     ) -> Result<Path, AllocError>
         requires { IsIdle self.now }
-        ensures { (n : Place) (p : Steps) → path self.now node ≡ Some n → path_of classes.now (tree self.now) n ≡ Some p → IfOk result (λ q. path_view q ≡ p) }
+        ensures writable { IfOk result (λ q. IsPath (path_view q)) }
+        ensures shown { (n : Place) (p : Steps) → path self.now node ≡ Some n → path_of classes.now (tree self.now) n ≡ Some p → IfOk result (λ q. path_view q ≡ p) }
     {
         let steps = steps_to(alloc, &self.slab, classes, node, MAX_DEPTH)?;
         Ok(Path { steps })
@@ -204,7 +212,10 @@ impl Store {
         alloc: Global,
         classes: &ClassTable,
         edit: Edit,
-    ) -> Result<Ready, Refusal> {
+    ) -> Result<Ready, Refusal>
+        ensures refused { IfErr result (λ r. (n : Place) → IsAsked classes.now self.old edit n → IsRefused classes.now self.old (edit_at n edit) self.new r) }
+        ensures ready { IfOk result (λ r. (n : Place) → IsAsked classes.now self.old edit n → IsPrepared classes.now self.old (edit_at n edit) (Does r.prepared) self.new) }
+    {
         if let Some(reason) = refusal(&self.slab, classes, &edit) {
             return Err(reason);
         }
@@ -212,7 +223,10 @@ impl Store {
         Ok(Ready { prepared })
     }
 
-    fn prepare(&mut self, alloc: Global, edit: Edit) -> Result<Prepared, AllocError> {
+    fn prepare(&mut self, alloc: Global, edit: Edit) -> Result<Prepared, AllocError>
+        ensures prepared { IfOk result (Prepares self.old edit self.new) }
+        ensures kept { OnErr result (self.old.waiting ≡ None → IsStoreAsBefore self.old self.new) }
+    {
         match edit {
             Edit::Set { node, tree } => {
                 let new = self.bring(alloc, tree)?;
@@ -298,7 +312,10 @@ impl Store {
         }
     }
 
-    fn mark_leaving(&mut self, node: Node) {
+    /// The node leaves, with all below it.
+    fn mark_leaving(&mut self, node: Node)
+        ensures { IsMarking self.old self.new }
+    {
         self.leaving = Some(node);
         mark(&mut self.slab, node, true, MAX_DEPTH);
     }
@@ -318,7 +335,10 @@ impl Store {
     }
 
     /// Whether the prepared edit touches what stands at a location of a node that is there.
-    pub fn touches(&self, ready: &Ready, loc: Loc) -> bool {
+    pub fn touches(&self, ready: &Ready, loc: Loc) -> bool
+        ensures { (classes : Classes) (old : Shown) (e : EditOf) → IsPrepared classes old e (Does ready.now.prepared) self.now → AreMarked (numbers old) (leaves_in self.now.slab) (change_in ready.now.prepared)
+            → (l : Location Place) → LocationLike (Names (path old)) (loc_view loc) l → result ≡ touches e l }
+    {
         touches(&self.slab, &ready.prepared, &loc)
     }
 
@@ -347,7 +367,9 @@ impl Store {
     }
 
     /// Does the prepared edit. Each node that isn't replaced or taken away keeps its number.
-    pub fn commit(&mut self, ready: Ready) {
+    pub fn commit(&mut self, ready: Ready)
+        ensures { (classes : Classes) (old : Shown) (e : EditOf) → IsPrepared classes old e (Does ready.prepared) self.old → IsCommitted old e self.new }
+    {
         let Ready { prepared } = ready;
         match prepared {
             Prepared::Set { node, new } => self.commit_set(node, new),
@@ -377,13 +399,20 @@ impl Store {
         take_away(&mut self.slab, node);
     }
 
-    fn commit_set(&mut self, node: Node, new: Node) {
+    fn commit_set(&mut self, node: Node, new: Node)
+        ensures { (classes : Classes) (old : Shown) (e : EditOf) → IsPrepared classes old e (DoesSet node new) self.old → IsCommitted old e self.new }
+    {
         self.waiting = None;
         self.leaving = None;
-        if node == self.root {
-            self.root = new;
-        }
+        self.root = self.root_after(node, new);
         replace(&mut self.slab, node, new);
+    }
+
+    /// The root after a node was replaced.
+    fn root_after(&self, node: Node, new: Node) -> Node
+        ensures { result ≡ cond (nat_eq node self.now.root) new self.now.root }
+    {
+        if node == self.root { new } else { self.root }
     }
 
     /// Gives the prepared edit up: all is as before it was checked.
