@@ -58,11 +58,7 @@ fn meant_together(
 }
 
 /// Refuses rules with a class that lacks an equation, for a synthesized attribute before an inherited one.
-fn refuse_incomplete(
-    alloc: Global,
-    rules: &Rules,
-    declared: &[Numbered],
-) -> Result<(), RuleFault> {
+fn refuse_incomplete(alloc: Global, rules: &Rules, declared: &[Numbered]) -> Result<(), RuleFault> {
     let hierarchy = Hierarchy::of(alloc, &rules.classes)?;
     refuse(class_without_equation(alloc, rules, &hierarchy, declared)?)?;
     refuse(inherited_without_equation(alloc, rules, &hierarchy, declared)?)
