@@ -1,4 +1,1 @@
-pub mod Sound
-pub mod Firsts
-pub mod Locating
-pub mod Calls
+
