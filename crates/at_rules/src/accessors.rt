@@ -61,17 +61,13 @@ fn position_got(parts: &[Part], name: &str) -> Option<usize> {
 /// The optional with the accessor of that name, `has` and the component's name.
 fn position_had(parts: &[Part], name: &str) -> Option<usize> {
     let component = behind(name.as_bytes(), b"has")?;
-    parts
-        .iter()
-        .position(|part| is_optional(part.shape) && component == part.name.as_bytes())
+    parts.iter().position(|part| is_optional(part.shape) && component == part.name.as_bytes())
 }
 
 /// The list with the accessor of that name, `getNum` and the component's name.
 fn position_counted(parts: &[Part], name: &str) -> Option<usize> {
     let component = behind(name.as_bytes(), b"getNum")?;
-    parts
-        .iter()
-        .position(|part| is_list(part.shape) && component == part.name.as_bytes())
+    parts.iter().position(|part| is_list(part.shape) && component == part.name.as_bytes())
 }
 
 fn is_optional(shape: PartShape) -> bool {

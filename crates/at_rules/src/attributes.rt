@@ -32,12 +32,9 @@ impl Attributes {
     }
 
     fn add(&mut self, numbered: &Numbered) -> Result<(), AllocError> {
-        let (position, _) = self
-            .declared
-            .insert_full((numbered.class, numbered.name))?;
+        let (position, _) = self.declared.insert_full((numbered.class, numbered.name))?;
         if is_inherited(&numbered.decl.form) && self.inherited(numbered.name).is_none() {
-            self.inherited
-                .insert(numbered.name, AttrId::new(position))?;
+            self.inherited.insert(numbered.name, AttrId::new(position))?;
         }
         Ok(())
     }

@@ -1,8 +1,7 @@
 //! The bodies of equations, and the kinds of their values.
 
-use at_class::ClassId;
-
 use crate::signatures::AttrId;
+use at_class::ClassId;
 
 /// The operators on two ints that give an int.
 #[derive(Clone, Copy, Debug, PartialEq, Eq)]

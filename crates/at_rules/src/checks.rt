@@ -13,13 +13,12 @@ use crate::fault::{Fault, RuleCode};
 use crate::numbered::Numbered;
 use accessor_names::accessor_named;
 use at_class::ClassTable;
+pub use completeness::class_without_equation;
 use equations::{equation_twice, without_attribute};
+pub use exposure::inherited_without_equation;
 use limits::over_limit;
 use std::alloc::{AllocError, Global};
 use twice::declared_twice;
-
-pub use completeness::class_without_equation;
-pub use exposure::inherited_without_equation;
 
 /// The first fault of the declarations before any is looked at by itself: too many or too long, an
 /// accessor's name, an attribute declared twice, an equation without attribute, an equation twice.

@@ -114,9 +114,7 @@ impl Among<'_> {
             return Err(undeclared(numbered));
         };
         let body = self.body(class, attribute, numbered, body)?;
-        meant
-            .own
-            .insert((class.index(), attribute.index()), body)?;
+        meant.own.insert((class.index(), attribute.index()), body)?;
         Ok(())
     }
 

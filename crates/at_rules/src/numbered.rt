@@ -78,11 +78,7 @@ impl<'a> Declarations<'a> {
 }
 
 /// The number of the text among these, which it joins where it is new.
-fn number_of(
-    alloc: Global,
-    texts: &mut IndexSet<String>,
-    text: &str,
-) -> Result<usize, AllocError> {
+fn number_of(alloc: Global, texts: &mut IndexSet<String>, text: &str) -> Result<usize, AllocError> {
     if let Some(number) = texts.get_index_of(text) {
         return Ok(number);
     }

@@ -123,12 +123,7 @@ impl Rules {
 
     /// The body of the equation that nodes of the class have for that inherited attribute of the nodes in a
     /// component: in the first class upward that has one, the one for the component before the one for each.
-    pub fn inherited_body(
-        &self,
-        class: ClassId,
-        part: usize,
-        attribute: AttrId,
-    ) -> Option<&Body> {
+    pub fn inherited_body(&self, class: ClassId, part: usize, attribute: AttrId) -> Option<&Body> {
         let name = self.name_number(attribute)?;
         let mut next = Some(class);
         for step in 0..self.classes.len() {

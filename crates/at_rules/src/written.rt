@@ -5,7 +5,7 @@ use crate::located::{is_inherited, is_lazy, name_word, params_in, result_in};
 use crate::numbered::{NamedClass, Numbered};
 use crate::signatures::{Signature, Signatures, WrittenKind};
 use at_class::{ClassId, ClassTable};
-use at_jrag::{KindWord, Kind as KindForm, Param};
+use at_jrag::{Kind as KindForm, KindWord, Param};
 use std::alloc::{AllocError, Global};
 
 /// All attributes that are declared, in order, or want of memory.

@@ -18,11 +18,7 @@ pub fn accessor_named(
     for numbered in declared {
         let form = &numbered.decl.form;
         if is_attribute(form) && accessors.have(name_word(form).text.as_str()) {
-            return Ok(Some(fault_at(
-                RuleCode::NameOfAccessor,
-                numbered,
-                numbered.decl.at,
-            )));
+            return Ok(Some(fault_at(RuleCode::NameOfAccessor, numbered, numbered.decl.at)));
         }
     }
     Ok(None)
@@ -54,8 +50,12 @@ impl<'a> Accessors<'a> {
             let name = part.name.as_bytes();
             self.components.insert(name)?;
             match part.shape {
-                PartShape::Maybe(_) => { self.optionals.insert(name)?; }
-                PartShape::Many(_) => { self.lists.insert(name)?; }
+                PartShape::Maybe(_) => {
+                    self.optionals.insert(name)?;
+                }
+                PartShape::Many(_) => {
+                    self.lists.insert(name)?;
+                }
                 PartShape::One(_) | PartShape::Tok(_) => {}
             }
         }

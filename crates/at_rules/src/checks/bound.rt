@@ -55,9 +55,11 @@ impl<'a> Names<'a> {
             Form::Binary(_, left, right) => {
                 Ok(self.is_bound_again(left)? || self.is_bound_again(right)?)
             }
-            Form::Choose(test, _, then, otherwise) => Ok(self.is_bound_again(test)?
-                || self.is_bound_again(then)?
-                || self.is_bound_again(otherwise)?),
+            Form::Choose(test, _, then, otherwise) => Ok(
+                self.is_bound_again(test)?
+                    || self.is_bound_again(then)?
+                    || self.is_bound_again(otherwise)?,
+            ),
             Form::Fold(_, name, list, body) => {
                 if self.is_bound_again(list)? {
                     return Ok(true);

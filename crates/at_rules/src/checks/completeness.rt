@@ -27,11 +27,7 @@ pub fn class_without_equation(
             continue;
         }
         if lacks_equation(alloc, rules, hierarchy, numbered.class, attribute)? {
-            return Ok(Some(fault_at(
-                RuleCode::ClassWithoutEquation,
-                numbered,
-                numbered.decl.at,
-            )));
+            return Ok(Some(fault_at(RuleCode::ClassWithoutEquation, numbered, numbered.decl.at)));
         }
     }
     Ok(None)

@@ -41,21 +41,14 @@ fn is_of_attribute(classes: &ClassTable, attributes: &Attributes, numbered: &Num
 }
 
 /// The first equation that its class has already: for the attribute, or for the component and the attribute.
-pub fn equation_twice(
-    alloc: Global,
-    declared: &[Numbered],
-) -> Result<Option<Fault>, AllocError> {
+pub fn equation_twice(alloc: Global, declared: &[Numbered]) -> Result<Option<Fault>, AllocError> {
     let mut before = Before {
         own: IndexSet::new(alloc),
         inherited: IndexSet::new(alloc),
     };
     for numbered in declared {
         if !before.add(numbered)? {
-            return Ok(Some(fault_at(
-                RuleCode::EquationTwice,
-                numbered,
-                numbered.decl.at,
-            )));
+            return Ok(Some(fault_at(RuleCode::EquationTwice, numbered, numbered.decl.at)));
         }
     }
     Ok(None)

@@ -19,11 +19,7 @@ pub fn declared_twice(
     let mut before = Before::new(alloc);
     for numbered in declared {
         if before.clashes(classes, numbered) || binds_twice(alloc, &numbered.decl.form)? {
-            return Ok(Some(fault_at(
-                RuleCode::AttributeTwice,
-                numbered,
-                numbered.decl.at,
-            )));
+            return Ok(Some(fault_at(RuleCode::AttributeTwice, numbered, numbered.decl.at)));
         }
         before.add(classes, numbered)?;
     }

@@ -16,10 +16,7 @@ impl Scope<'_> {
 
     /// A quoted text.
     pub(super) fn text(&self, text: &str, at: (u32, u32)) -> Result<Typed, TypeFault> {
-        Ok(Typed::text(
-            Body::Text(String::from_str(self.alloc, text)?),
-            at,
-        ))
+        Ok(Typed::text(Body::Text(String::from_str(self.alloc, text)?), at))
     }
 
     /// A name: of the innermost fold that has it, else of a parameter, else the index name.

@@ -10,10 +10,7 @@ impl Scope<'_> {
     /// `-E`
     pub(super) fn negated(&self, inner: Typed, at: (u32, u32)) -> Result<Typed, TypeFault> {
         match inner.kind {
-            ExprKind::Int => Ok(Typed::int(
-                Body::Negate(Box::new(self.alloc, inner.body)?),
-                at,
-            )),
+            ExprKind::Int => Ok(Typed::int(Body::Negate(Box::new(self.alloc, inner.body)?), at)),
             _ => Err(refused(RuleCode::Kind, at)),
         }
     }
@@ -21,10 +18,7 @@ impl Scope<'_> {
     /// `!E`
     pub(super) fn opposite(&self, inner: Typed, at: (u32, u32)) -> Result<Typed, TypeFault> {
         match inner.kind {
-            ExprKind::Bool => Ok(Typed::truth(
-                Body::Not(Box::new(self.alloc, inner.body)?),
-                at,
-            )),
+            ExprKind::Bool => Ok(Typed::truth(Body::Not(Box::new(self.alloc, inner.body)?), at)),
             _ => Err(refused(RuleCode::Kind, at)),
         }
     }
