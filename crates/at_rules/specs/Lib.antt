@@ -1,0 +1,3 @@
+pub mod Bodies
+pub mod Located
+pub mod RulesView

@@ -1,12 +1,17 @@
 //! Accessors: what of a component the accessor of a name gets.
 
-use at_class::{ClassId, ClassTable, Part, PartShape};
+use crate::body::Kind;
+use at_class::{ClassId, ClassTable, Part, PartShape, TokenKind};
 
 /// An accessor of a node, with the position of the component that it is of.
 #[derive(Clone, Copy, Debug, PartialEq, Eq)]
 pub enum Accessor {
-    /// `getB`, by the component's shape: the child, the child at an index, or the token.
-    Get(usize, PartShape),
+    /// `getB` of a plain child or an optional, with the class of the child.
+    Child(usize, ClassId),
+    /// `getB` of a list, which takes an index, with the class of the elements.
+    Element(usize, ClassId),
+    /// `getB` of a token, with its kind.
+    Token(usize, Kind),
     /// `hasB` of an optional.
     Has(usize),
     /// `getNumB` of a list.
@@ -17,10 +22,10 @@ pub enum Accessor {
 
 /// The accessor of that name that nodes of the class have. Where the name is both the number of one list
 /// and the list of another, it is the number.
-pub fn accessor(classes: &ClassTable, class: ClassId, name: &str) -> Option<Accessor> {
-    let parts = classes.parts(class);
+pub fn accessor_named(classes: &ClassTable, class: ClassId, name: &str) -> Option<Accessor> {
+    let parts = parts_of(classes, class);
     if let Some(part) = position_got(parts, name) {
-        return Some(Accessor::Get(part, parts[part].shape));
+        return Some(getter(part, parts[part].shape));
     }
     if let Some(part) = position_had(parts, name) {
         return Some(Accessor::Has(part));
@@ -28,19 +33,46 @@ pub fn accessor(classes: &ClassTable, class: ClassId, name: &str) -> Option<Acce
     if let Some(part) = position_counted(parts, name) {
         return Some(Accessor::Count(part));
     }
-    Some(Accessor::List(listed(classes, class, name)?.0))
+    let (part, _) = listed(classes, class, name)?;
+    Some(Accessor::List(part))
+}
+
+/// What `get` and the name of a component of that shape gets.
+fn getter(part: usize, shape: PartShape) -> Accessor {
+    match shape {
+        PartShape::One(class) | PartShape::Maybe(class) => Accessor::Child(part, class),
+        PartShape::Many(class) => Accessor::Element(part, class),
+        PartShape::Tok(kind) => Accessor::Token(part, token_kind(kind)),
+    }
+}
+
+fn token_kind(kind: TokenKind) -> Kind {
+    match kind {
+        TokenKind::Int => Kind::Int,
+        TokenKind::Bool => Kind::Bool,
+        TokenKind::Str => Kind::Text,
+    }
+}
+
+/// The components of the class; none where the class isn't there.
+fn parts_of(classes: &ClassTable, class: ClassId) -> &[Part] {
+    if class.index() < classes.len() {
+        classes.parts(class)
+    } else {
+        &[]
+    }
 }
 
 /// The component of the class that has the accessor of that name: `get` and the component's name.
 pub fn accessed(classes: &ClassTable, class: ClassId, name: &str) -> Option<usize> {
-    position_got(classes.parts(class), name)
+    position_got(parts_of(classes, class), name)
 }
 
 /// The list of the class whose list accessor has that name, `get`, the list's name and `List`, and the
 /// class of its elements.
 pub fn listed(classes: &ClassTable, class: ClassId, name: &str) -> Option<(usize, ClassId)> {
     let list = without_end(behind(name.as_bytes(), b"get")?, b"List")?;
-    for (i, part) in classes.parts(class).iter().enumerate() {
+    for (i, part) in parts_of(classes, class).iter().enumerate() {
         if let PartShape::Many(element) = part.shape {
             if list == part.name.as_bytes() {
                 return Some((i, element));
@@ -108,7 +140,7 @@ fn is_common(name: &str) -> bool {
 /// Whether a class has an accessor of that name.
 fn is_accessed(classes: &ClassTable, name: &str) -> bool {
     for class in 0..classes.len() {
-        if accessor(classes, ClassId::new(class), name).is_some() {
+        if accessor_named(classes, ClassId::new(class), name).is_some() {
             return true;
         }
     }

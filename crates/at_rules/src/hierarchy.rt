@@ -1,7 +1,30 @@
-//! The classes below others.
+//! The classes below others, and what holds of classes by whatever number.
 
-use at_class::{ClassId, ClassTable};
+ghost use Rattle.std.specs.Prelude.{◌≡◌};
+ghost use Rattle.at_model.specs.Classes.{is_concrete};
+
+use at_class::{ClassId, ClassTable, Part};
 use std::alloc::{AllocError, Global};
+
+/// Whether the class is there and not abstract.
+pub fn is_concrete(classes: &ClassTable, class: ClassId) -> bool
+    ensures { result ≡ is_concrete classes.now class }
+{
+    if class.index() < classes.len() {
+        !classes.is_abstract(class)
+    } else {
+        false
+    }
+}
+
+/// The components of the class, none where it isn't there.
+pub fn parts_of(classes: &ClassTable, class: ClassId) -> &[Part] {
+    if class.index() < classes.len() {
+        classes.parts(class)
+    } else {
+        &[]
+    }
+}
 
 /// For each class those directly below it.
 #[derive(Drop)]

@@ -4,12 +4,13 @@ use crate::accessors::accessed;
 use crate::attributes::Attributes;
 use crate::body::{Body, Kind};
 use crate::fault::RuleCode;
+use crate::hierarchy::parts_of;
 use crate::located::{body_in, class_word, index_in, is_inherited, is_lazy, params_in};
 use crate::numbered::Numbered;
 use crate::rules::Attribute;
 use crate::signatures::{AttrId, Signature, Signatures, WrittenKind};
 use crate::typing::{Bound, Scope, TypeFault, body_of};
-use crate::written::written_kind;
+use crate::written::{as_written, known_kind};
 use at_class::{ClassId, ClassTable, PartShape};
 use at_jrag::{Body as Written, DeclForm, KindWord, Param, Params, Word};
 use indexmap::IndexMap;
@@ -149,7 +150,9 @@ impl Among<'_> {
         body: &Written,
     ) -> Result<Body, TypeFault> {
         let form = &numbered.decl.form;
-        let signature = self.signatures.get(attribute);
+        let Some(signature) = self.signature(attribute) else {
+            return Err(undeclared(numbered));
+        };
         let params = params_in(form);
         self.params_as_declared(params, signature)?;
         let names = self.names(&params.items)?;
@@ -164,13 +167,23 @@ impl Among<'_> {
         body_of(&scope, &body.expr, signature.result)
     }
 
+    /// What is declared of the attribute, if it is one.
+    fn signature(&self, attribute: AttrId) -> Option<&Signature> {
+        if attribute.index() < self.signatures.len() {
+            Some(self.signatures.get(attribute))
+        } else {
+            None
+        }
+    }
+
     /// The names of the parameters, with their kinds.
     fn names<'p>(&self, params: &'p [Param]) -> Result<Vec<Bound<'p>>, AllocError> {
         let mut names = Vec::new(self.alloc);
         for param in params {
+            let kind: Option<Kind> = known_kind(self.classes, &param.kind.kind);
             names.push(Bound {
                 name: param.name.text.as_str(),
-                kind: written_kind(self.classes, &param.kind.kind),
+                kind: as_written(kind),
             })?;
         }
         Ok(names)
@@ -186,9 +199,9 @@ impl Among<'_> {
 
     /// The kind that is written: J3 at the word where it names a class that isn't there.
     fn kind_named(&self, word: &KindWord) -> Result<Kind, TypeFault> {
-        match written_kind(self.classes, &word.kind) {
-            WrittenKind::Known(kind) => Ok(kind),
-            WrittenKind::Strange => Err(refused(RuleCode::UnknownName, word.at)),
+        match known_kind(self.classes, &word.kind) {
+            Some(kind) => Ok(kind),
+            None => Err(refused(RuleCode::UnknownName, word.at)),
         }
     }
 
@@ -266,7 +279,7 @@ impl Among<'_> {
     }
 
     fn shape(&self, class: ClassId, part: usize) -> Option<PartShape> {
-        Some(self.classes.parts(class).get(part)?.shape)
+        Some(parts_of(self.classes, class).get(part)?.shape)
     }
 }
 

@@ -30,13 +30,22 @@ pub struct Rules {
 }
 
 impl Rules {
+    ghost use Rattle.std.specs.Prelude.{◌≡◌, ◌<◌, length, map, option_map};
+    ghost use Rattle.at_model.specs.Rules.{attribute_name, is_inherited, is_lazy, own_equation, own_in};
+    ghost use Rattle.at_rules.specs.Bodies.{body_view};
+    ghost use Rattle.at_rules.specs.RulesView.{rules_view, text_of};
+
     /// The classes.
-    pub fn classes(&self) -> &ClassTable {
+    pub fn classes(&self) -> &ClassTable
+        ensures { result.now ≡ (rules_view self.now).classes }
+    {
         &self.classes
     }
 
     /// How many attributes are declared: their numbers are those below.
-    pub fn len(&self) -> usize {
+    pub fn len(&self) -> usize
+        ensures { result ≡ length (rules_view self.now).attributes }
+    {
         self.attributes.len()
     }
 
@@ -45,7 +54,7 @@ impl Rules {
         let name = self.names.get_index_of(name)?;
         let mut next = Some(class);
         for step in 0..self.classes.len() {
-            let class = next?;
+            let Some(class) = next else { return None };
             if let Some(position) = self.attributes.get_index_of(&(class.index(), name)) {
                 return Some(AttrId::new(position));
             }
@@ -71,14 +80,18 @@ impl Rules {
     }
 
     /// The attribute's name; nothing for a number that no attribute has.
-    pub fn name_of(&self, attribute: AttrId) -> &str {
+    pub fn name_of(&self, attribute: AttrId) -> &str
+        ensures { result.now ≡ attribute_name (rules_view self.now) attribute }
+    {
         match self.attributes.get_index(attribute.index()) {
             Some((key, _)) => self.text(key.1),
             None => "",
         }
     }
 
-    fn text(&self, name: usize) -> &str {
+    fn text(&self, name: usize) -> &str
+        ensures { result.now ≡ text_of self.now.names.keys name }
+    {
         match self.names.get_index(name) {
             Some(text) => text.as_str(),
             None => "",
@@ -86,7 +99,9 @@ impl Rules {
     }
 
     /// Whether the values of the attribute are kept; `false` for a number that no attribute has.
-    pub fn is_lazy(&self, attribute: AttrId) -> bool {
+    pub fn is_lazy(&self, attribute: AttrId) -> bool
+        ensures { result ≡ is_lazy (rules_view self.now) attribute }
+    {
         match self.attributes.get_index(attribute.index()) {
             Some((_, declared)) => declared.is_lazy,
             None => false,
@@ -95,7 +110,9 @@ impl Rules {
 
     /// Whether the equations of the attribute stand above its nodes; `false` for a number that no attribute
     /// has.
-    pub fn is_inherited(&self, attribute: AttrId) -> bool {
+    pub fn is_inherited(&self, attribute: AttrId) -> bool
+        ensures { result ≡ is_inherited (rules_view self.now) attribute }
+    {
         match self.attributes.get_index(attribute.index()) {
             Some((_, declared)) => declared.is_inherited,
             None => false,
@@ -104,10 +121,12 @@ impl Rules {
 
     /// The body of the equation that nodes of the class have for an attribute of their own: that of the first
     /// class upward that has one.
-    pub fn own_body(&self, class: ClassId, attribute: AttrId) -> Option<&Body> {
+    pub fn own_body(&self, class: ClassId, attribute: AttrId) -> Option<&Body>
+        ensures { option_map (λ b. body_view b.now) result ≡ own_equation (rules_view self.now) class attribute }
+    {
         let mut next = Some(class);
         for step in 0..self.classes.len() {
-            let class = next?;
+            let Some(class) = next else { return None };
             if let Some(body) = self.own_in(class, attribute) {
                 return Some(body);
             }
@@ -117,7 +136,9 @@ impl Rules {
     }
 
     /// The body of the equation that the class itself has for the attribute.
-    pub(crate) fn own_in(&self, class: ClassId, attribute: AttrId) -> Option<&Body> {
+    pub(crate) fn own_in(&self, class: ClassId, attribute: AttrId) -> Option<&Body>
+        ensures { option_map (λ b. body_view b.now) result ≡ own_in (rules_view self.now) attribute class }
+    {
         self.own.get(&(class.index(), attribute.index()))
     }
 
@@ -127,7 +148,7 @@ impl Rules {
         let name = self.name_number(attribute)?;
         let mut next = Some(class);
         for step in 0..self.classes.len() {
-            let class = next?;
+            let Some(class) = next else { return None };
             if let Some(body) = self.inherited_in(class, part, name) {
                 return Some(body);
             }

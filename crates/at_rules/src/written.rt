@@ -35,7 +35,7 @@ fn signature_of(
         name: String::from_str(alloc, name_word(form).text.as_str())?,
         class: known_class(numbered.class),
         params: kinds_of(alloc, classes, &params_in(form).items)?,
-        result: written_kind(classes, &kind.kind),
+        result: as_written(known_kind(classes, &kind.kind)),
         lazy: is_lazy(form),
         inherited: is_inherited(form),
     })
@@ -55,20 +55,26 @@ fn kinds_of(
 ) -> Result<Vec<WrittenKind>, AllocError> {
     let mut kinds = Vec::new(alloc);
     for param in params {
-        kinds.push(written_kind(classes, &param.kind.kind))?;
+        let kind: Option<Kind> = known_kind(classes, &param.kind.kind);
+        kinds.push(as_written(kind))?;
     }
     Ok(kinds)
 }
 
-/// The kind that is written.
-pub fn written_kind(classes: &ClassTable, kind: &KindForm) -> WrittenKind {
+/// The kind that is written, unless it is a class that isn't there.
+pub fn known_kind(classes: &ClassTable, kind: &KindForm) -> Option<Kind> {
     match kind {
-        KindForm::Int => WrittenKind::Known(Kind::Int),
-        KindForm::Bool => WrittenKind::Known(Kind::Bool),
-        KindForm::Text => WrittenKind::Known(Kind::Text),
-        KindForm::Class(name) => match classes.id_of(name.as_str()) {
-            Some(class) => WrittenKind::Known(Kind::Class(class)),
-            None => WrittenKind::Strange,
-        },
+        KindForm::Int => Some(Kind::Int),
+        KindForm::Bool => Some(Kind::Bool),
+        KindForm::Text => Some(Kind::Text),
+        KindForm::Class(name) => Some(Kind::Class(classes.id_of(name.as_str())?)),
+    }
+}
+
+/// A kind as it is written: nothing known is a strange one.
+pub fn as_written(kind: Option<Kind>) -> WrittenKind {
+    match kind {
+        Some(kind) => WrittenKind::Known(kind),
+        None => WrittenKind::Strange,
     }
 }

@@ -2,7 +2,7 @@
 
 use super::fault_at;
 use crate::fault::{Fault, RuleCode};
-use crate::hierarchy::Hierarchy;
+use crate::hierarchy::{Hierarchy, is_concrete};
 use crate::located::{is_attribute, is_inherited};
 use crate::numbered::{NamedClass, Numbered};
 use crate::rules::Rules;
@@ -55,7 +55,7 @@ fn lacks_equation(
         if rules.own_in(class, attribute).is_some() {
             continue;
         }
-        if !rules.classes().is_abstract(class) {
+        if is_concrete(rules.classes(), class) {
             return Ok(true);
         }
         pending.extend_from_slice(hierarchy.below(class))?;

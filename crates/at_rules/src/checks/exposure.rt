@@ -2,7 +2,7 @@
 
 use super::fault_at;
 use crate::fault::{Fault, RuleCode};
-use crate::hierarchy::Hierarchy;
+use crate::hierarchy::{Hierarchy, is_concrete, parts_of};
 use crate::located::{is_attribute, is_inherited};
 use crate::numbered::{NamedClass, Numbered};
 use crate::rules::Rules;
@@ -96,7 +96,7 @@ impl Walk<'_> {
                 return Ok(());
             };
             self.meet_below(class)?;
-            if !classes.is_abstract(class) {
+            if is_concrete(classes, class) {
                 self.meet_within(class)?;
             }
         }
@@ -125,7 +125,7 @@ impl Walk<'_> {
     /// The trees in the components for which the class has no equation.
     fn meet_within(&mut self, class: ClassId) -> Result<(), AllocError> {
         let rules = self.rules;
-        for (position, part) in rules.classes().parts(class).iter().enumerate() {
+        for (position, part) in parts_of(rules.classes(), class).iter().enumerate() {
             if let Some(child) = class_in(part.shape) {
                 if rules
                     .inherited_body(class, position, self.attribute)
@@ -148,7 +148,7 @@ impl Walk<'_> {
         for class in 0..classes.len() {
             let class = ClassId::new(class);
             let is_met = matches!(self.met.get(class.index()), Some(true));
-            if is_met && !classes.is_abstract(class) {
+            if is_met && is_concrete(classes, class) {
                 self.mark(class, &mut marked);
             }
         }

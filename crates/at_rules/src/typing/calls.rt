@@ -2,11 +2,11 @@
 
 use super::kinds::{ExprKind, Typed};
 use super::{Scope, TypeFault, refused};
-use crate::accessors::{Accessor, accessor};
+use crate::accessors::{Accessor, accessor_named};
 use crate::body::{Body, Kind};
 use crate::fault::RuleCode;
 use crate::signatures::{AttrId, WrittenKind};
-use at_class::{ClassId, PartShape};
+use at_class::ClassId;
 
 impl Scope<'_> {
     /// A call of a receiver. Texts have `equals`; nodes have accessors and attributes.
@@ -73,7 +73,7 @@ impl Scope<'_> {
         arguments: Vec<Typed>,
         at: (u32, u32),
     ) -> Result<Typed, TypeFault> {
-        if let Some(accessor) = accessor(self.classes, class, name) {
+        if let Some(accessor) = accessor_named(self.classes, class, name) {
             return self.accessed(accessor, node, arguments, at);
         }
         match self.signatures.attribute(self.classes, class, name) {
@@ -91,43 +91,39 @@ impl Scope<'_> {
         arguments: Vec<Typed>,
         at: (u32, u32),
     ) -> Result<Typed, TypeFault> {
-        if let Accessor::Get(part, PartShape::Many(class)) = accessor {
+        if let Accessor::Element(part, class) = accessor {
             let index = self.one_argument(arguments, ExprKind::Int, at)?;
-            let node = Box::new(self.alloc, node)?;
-            let index = Box::new(self.alloc, index)?;
-            return Ok(Typed::node(class, Body::Element(node, part, index), at));
+            return self.element(class, node, part, index, at);
         }
         if !arguments.is_empty() {
             return Err(refused(RuleCode::Argument, at));
         }
         let node = Box::new(self.alloc, node)?;
         match accessor {
-            Accessor::Get(part, shape) => self.got(shape, node, part, at),
+            Accessor::Child(part, class) => Ok(Typed::node(class, Body::Child(node, part), at)),
+            Accessor::Token(part, kind) => Ok(Typed {
+                at,
+                kind: ExprKind::known(kind),
+                body: Body::TokenOf(node, part),
+            }),
             Accessor::Has(part) => Ok(Typed::truth(Body::Has(node, part), at)),
             Accessor::Count(part) => Ok(Typed::int(Body::Count(node, part), at)),
-            Accessor::List(_) => Err(refused(RuleCode::Kind, at)),
+            Accessor::List(_) | Accessor::Element(_, _) => Err(refused(RuleCode::Kind, at)),
         }
     }
 
-    /// What is in a node's component of that shape, which is no list.
-    fn got(
+    /// The element at an index of a node's list.
+    fn element(
         &self,
-        shape: PartShape,
-        node: Box<Body>,
+        class: ClassId,
+        node: Body,
         part: usize,
+        index: Body,
         at: (u32, u32),
     ) -> Result<Typed, TypeFault> {
-        match shape {
-            PartShape::One(class) | PartShape::Maybe(class) => {
-                Ok(Typed::node(class, Body::Child(node, part), at))
-            }
-            PartShape::Tok(kind) => Ok(Typed {
-                at,
-                kind: ExprKind::token(kind),
-                body: Body::TokenOf(node, part),
-            }),
-            PartShape::Many(_) => Err(refused(RuleCode::Argument, at)),
-        }
+        let node = Box::new(self.alloc, node)?;
+        let index = Box::new(self.alloc, index)?;
+        Ok(Typed::node(class, Body::Element(node, part, index), at))
     }
 
     /// An attribute of a node, with its arguments.

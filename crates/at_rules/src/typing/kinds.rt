@@ -2,7 +2,7 @@
 
 use crate::body::{Body, Kind};
 use crate::signatures::WrittenKind;
-use at_class::{ClassId, ClassTable, TokenKind};
+use at_class::{ClassId, ClassTable};
 
 /// The kind of an expression.
 #[derive(Clone, Copy, Debug, PartialEq, Eq)]
@@ -27,21 +27,13 @@ impl ExprKind {
         }
     }
 
-    fn known(kind: Kind) -> ExprKind {
+    /// The kind of a value of that kind.
+    pub fn known(kind: Kind) -> ExprKind {
         match kind {
             Kind::Int => ExprKind::Int,
             Kind::Bool => ExprKind::Bool,
             Kind::Text => ExprKind::Text,
             Kind::Class(class) => ExprKind::Class(class),
-        }
-    }
-
-    /// The kind of a token's values.
-    pub fn token(kind: TokenKind) -> ExprKind {
-        match kind {
-            TokenKind::Int => ExprKind::Int,
-            TokenKind::Bool => ExprKind::Bool,
-            TokenKind::Str => ExprKind::Text,
         }
     }
 
