@@ -1,3 +1,4 @@
 pub mod Bodies
 pub mod Located
+pub mod Marks
 pub mod RulesView

@@ -1,11 +1,10 @@
 -- What rules are in the words of the model. Each map lists its entries in the order of the declarations.
 use Rattle.std.specs.Prelude.{ℕ, ◌<◌, length, List, [], map, All, Option, None, Some, String, string_bytes}
 use Rattle.std.specs.List.{slice_get}
-use Rattle.at_model.specs.Rules.{Rules, Attribute, OwnEquation, InheritedEquation}
+use Rattle.at_model.specs.Rules.{Attribute, OwnEquation, InheritedEquation}
 use Rattle.at_rules.specs.Bodies.{body_view, kind_view}
 use Rattle.at_rules.specs.declared.body.Body.{Body}
 use Rattle.at_rules.specs.declared.rules.Attribute.{Attribute as AttributeValue}
-use Rattle.at_rules.specs.declared.rules.Rules.{Rules as RulesValue}
 
 -- the name of that number
 abbrev pub text_of : {Z : Type 0} → List (String Z) → ℕ → List ℕ
@@ -29,6 +28,3 @@ own_view e = record { class = e.0.0; attribute = e.0.1; body = body_view e.1 }
 -- an equation for the nodes below stands by its class, its component and the number of the name
 abbrev pub inherited_view : {Z : Type 0} → List (String Z) → (ℕ × Option ℕ × ℕ) × Body → InheritedEquation
 inherited_view names e = record { class = e.0.0; part = e.0.1; name = text_of names e.0.2; body = body_view e.1 }
-
-abbrev pub rules_view : RulesValue → Rules
-rules_view r = record { classes = r.classes; attributes = map (attribute_view r.names.keys) r.attributes.entries; own = map own_view r.own.entries; inherited = map (inherited_view r.names.keys) r.inherited.entries }

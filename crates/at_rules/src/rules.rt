@@ -4,6 +4,7 @@ use crate::body::{Body, Kind};
 use crate::signatures::AttrId;
 use at_class::{ClassId, ClassTable};
 use indexmap::{IndexMap, IndexSet};
+use std::marker::Model;
 
 /// An attribute that a class declares: the kinds of its parameters and of its value, whether its values are
 /// kept, and whether its equations stand above.
@@ -29,22 +30,36 @@ pub struct Rules {
     pub(crate) inherited: IndexMap<(usize, Option<usize>, usize), Body>,
 }
 
+impl Model for Rules {
+    ghost use Rattle.at_model.specs.Rules.{Rules as Meant};
+    ghost use Rattle.at_rules.specs.Marks.{expr_code};
+    ghost use Rattle.std.specs.Coded.{codes};
+
+    ghost Value = { Meant };
+
+    ghost coded = { Prim.hlevel (codes, expr_code) };
+
+    ghost use Rattle.std.specs.Prelude.{map};
+    ghost use Rattle.at_rules.specs.RulesView.{attribute_view, own_view, inherited_view};
+
+    ghost view = { λ r. record { classes = r.classes; attributes = map (attribute_view r.names.keys) r.attributes.entries; own = map own_view r.own.entries; inherited = map (inherited_view r.names.keys) r.inherited.entries } };
+}
+
 impl Rules {
     ghost use Rattle.std.specs.Prelude.{◌≡◌, ◌<◌, length, map, option_map};
     ghost use Rattle.at_model.specs.Rules.{attribute_name, is_inherited, is_lazy, own_equation, own_in};
     ghost use Rattle.at_rules.specs.Bodies.{body_view};
-    ghost use Rattle.at_rules.specs.RulesView.{rules_view, text_of};
 
     /// The classes.
     pub fn classes(&self) -> &ClassTable
-        ensures { result.now ≡ (rules_view self.now).classes }
+        ensures { result.now ≡ self.now.classes }
     {
         &self.classes
     }
 
     /// How many attributes are declared: their numbers are those below.
     pub fn len(&self) -> usize
-        ensures { result ≡ length (rules_view self.now).attributes }
+        ensures { result ≡ length self.now.attributes }
     {
         self.attributes.len()
     }
@@ -81,26 +96,17 @@ impl Rules {
 
     /// The attribute's name; nothing for a number that no attribute has.
     pub fn name_of(&self, attribute: AttrId) -> &str
-        ensures { result.now ≡ attribute_name (rules_view self.now) attribute }
+        ensures { result.now ≡ attribute_name self.now attribute }
     {
         match self.attributes.get_index(attribute.index()) {
-            Some((key, _)) => self.text(key.1),
-            None => "",
-        }
-    }
-
-    fn text(&self, name: usize) -> &str
-        ensures { result.now ≡ text_of self.now.names.keys name }
-    {
-        match self.names.get_index(name) {
-            Some(text) => text.as_str(),
+            Some((key, _)) => text_at(&self.names, key.1),
             None => "",
         }
     }
 
     /// Whether the values of the attribute are kept; `false` for a number that no attribute has.
     pub fn is_lazy(&self, attribute: AttrId) -> bool
-        ensures { result ≡ is_lazy (rules_view self.now) attribute }
+        ensures { result ≡ is_lazy self.now attribute }
     {
         match self.attributes.get_index(attribute.index()) {
             Some((_, declared)) => declared.is_lazy,
@@ -111,7 +117,7 @@ impl Rules {
     /// Whether the equations of the attribute stand above its nodes; `false` for a number that no attribute
     /// has.
     pub fn is_inherited(&self, attribute: AttrId) -> bool
-        ensures { result ≡ is_inherited (rules_view self.now) attribute }
+        ensures { result ≡ is_inherited self.now attribute }
     {
         match self.attributes.get_index(attribute.index()) {
             Some((_, declared)) => declared.is_inherited,
@@ -122,7 +128,7 @@ impl Rules {
     /// The body of the equation that nodes of the class have for an attribute of their own: that of the first
     /// class upward that has one.
     pub fn own_body(&self, class: ClassId, attribute: AttrId) -> Option<&Body>
-        ensures { option_map (λ b. body_view b.now) result ≡ own_equation (rules_view self.now) class attribute }
+        ensures { option_map (λ b. body_view b.now) result ≡ own_equation self.now class attribute }
     {
         let mut next = Some(class);
         for step in 0..self.classes.len() {
@@ -137,7 +143,7 @@ impl Rules {
 
     /// The body of the equation that the class itself has for the attribute.
     pub(crate) fn own_in(&self, class: ClassId, attribute: AttrId) -> Option<&Body>
-        ensures { option_map (λ b. body_view b.now) result ≡ own_in (rules_view self.now) attribute class }
+        ensures { option_map (λ b. body_view b.now) result ≡ own_in self.now attribute class }
     {
         self.own.get(&(class.index(), attribute.index()))
     }
@@ -173,5 +179,18 @@ impl Rules {
             Some((key, _)) => Some(key.1),
             None => self.names.get_index_of(""),
         }
+    }
+}
+
+ghost use Rattle.std.specs.Prelude.{◌≡◌};
+ghost use Rattle.at_rules.specs.RulesView.{text_of};
+
+/// The name of that number, nothing where there is none.
+fn text_at(names: &IndexSet<String>, number: usize) -> &str
+    ensures { result.now ≡ text_of names.now.keys number }
+{
+    match names.get_index(number) {
+        Some(text) => text.as_str(),
+        None => "",
     }
 }
