@@ -194,4 +194,3 @@ expr_code =
     (λ e. marks e [])
     (λ ms. as_expr (read_all ms))
     (λ e. ap as_expr (read_marks e []))
-

@@ -25,7 +25,7 @@ pub enum Accessor {
 pub fn accessor_named(classes: &ClassTable, class: ClassId, name: &str) -> Option<Accessor> {
     let parts = parts_of(classes, class);
     if let Some(part) = position_got(parts, name) {
-        return Some(getter(part, parts[part].shape));
+        return Some(getter(part, parts.get(part)?.shape));
     }
     if let Some(part) = position_had(parts, name) {
         return Some(Accessor::Has(part));

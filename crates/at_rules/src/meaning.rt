@@ -150,7 +150,7 @@ impl Among<'_> {
         body: &Written,
     ) -> Result<Body, TypeFault> {
         let form = &numbered.decl.form;
-        let Some(signature) = self.signature(attribute) else {
+        let Some(signature) = self.signatures.get(attribute) else {
             return Err(undeclared(numbered));
         };
         let params = params_in(form);
@@ -167,22 +167,13 @@ impl Among<'_> {
         body_of(&scope, &body.expr, signature.result)
     }
 
-    /// What is declared of the attribute, if it is one.
-    fn signature(&self, attribute: AttrId) -> Option<&Signature> {
-        if attribute.index() < self.signatures.len() {
-            Some(self.signatures.get(attribute))
-        } else {
-            None
-        }
-    }
-
     /// The names of the parameters, with their kinds.
-    fn names<'p>(&self, params: &'p [Param]) -> Result<Vec<Bound<'p>>, AllocError> {
+    fn names(&self, params: &[Param]) -> Result<Vec<Bound>, AllocError> {
         let mut names = Vec::new(self.alloc);
         for param in params {
             let kind: Option<Kind> = known_kind(self.classes, &param.kind.kind);
             names.push(Bound {
-                name: param.name.text.as_str(),
+                name: String::from_str(self.alloc, param.name.text.as_str())?,
                 kind: as_written(kind),
             })?;
         }

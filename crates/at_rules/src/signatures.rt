@@ -68,6 +68,15 @@ pub struct Signatures {
     first: IndexMap<(usize, usize), AttrId>,
 }
 
+impl Model for Signatures {
+    ghost use Rattle.std.specs.Prelude.{List, map};
+    ghost use Rattle.at_rules.specs.Signatures.{Declared, declared_view};
+
+    ghost Value = { List Declared };
+
+    ghost view = { λ s. map declared_view s.items.items };
+}
+
 impl Signatures {
     /// No attribute.
     pub fn new(alloc: Global) -> Signatures {
@@ -99,9 +108,9 @@ impl Signatures {
         self.items.len()
     }
 
-    /// What is declared of the attribute.
-    pub fn get(&self, attribute: AttrId) -> &Signature {
-        &self.items[attribute.index()]
+    /// What is declared of the attribute, if there is one of that number.
+    pub fn get(&self, attribute: AttrId) -> Option<&Signature> {
+        self.items.get(attribute.index())
     }
 
     /// The first attribute of that name that the class or one above it declares.

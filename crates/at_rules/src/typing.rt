@@ -1,6 +1,9 @@
 //! The kinds of expressions: the body that an expression means, or its first fault. Parts come before the
 //! whole, from left to right.
 
+ghost use Rattle.std.specs.Prelude.{◌≡◌};
+ghost use Rattle.at_rules.specs.declared.typing.TypeFault.TheVariants.{Memory};
+
 mod calls;
 mod classes;
 mod folds;
@@ -28,9 +31,6 @@ pub enum TypeFault {
 }
 
 impl From<AllocError> for TypeFault {
-    ghost use Rattle.std.specs.Prelude.{◌≡◌};
-    ghost use Rattle.at_rules.specs.declared.typing.TypeFault.TheVariants.{Memory};
-
     ghost from_gives = { λ _ e. e ≡ Memory };
 
     fn from(_e: AllocError) -> TypeFault {
@@ -39,9 +39,6 @@ impl From<AllocError> for TypeFault {
 }
 
 impl<T: Drop> From<AllocFailed<T>> for TypeFault {
-    ghost use Rattle.std.specs.Prelude.{◌≡◌};
-    ghost use Rattle.at_rules.specs.declared.typing.TypeFault.TheVariants.{Memory};
-
     ghost from_gives = { λ _ e. e ≡ Memory };
 
     fn from(_e: AllocFailed<T>) -> TypeFault {
@@ -49,14 +46,16 @@ impl<T: Drop> From<AllocFailed<T>> for TypeFault {
     }
 }
 
-fn refused(code: RuleCode, at: (u32, u32)) -> TypeFault {
+fn refused(code: RuleCode, at: (u32, u32)) -> TypeFault
+    ensures { result ≡ TypeFault.Refused code at }
+{
     TypeFault::Refused { code, at }
 }
 
 /// A parameter's or a fold's name, with the kind of what it stands for.
-#[derive(Clone, Copy)]
-pub struct Bound<'a> {
-    pub name: &'a str,
+#[derive(Drop)]
+pub struct Bound {
+    pub name: String,
     pub kind: WrittenKind,
 }
 
@@ -68,7 +67,7 @@ pub struct Scope<'a> {
     pub classes: &'a ClassTable,
     pub signatures: &'a Signatures,
     pub this: ClassId,
-    pub names: &'a [Bound<'a>],
+    pub names: &'a [Bound],
     pub index: Option<&'a str>,
 }
 

@@ -20,8 +20,20 @@ impl Scope<'_> {
         if name == "equals" {
             return self.equal(receiver, arguments, at);
         }
-        match receiver.kind {
-            ExprKind::Class(class) => self.asked(class, receiver.body, name, arguments, at),
+        self.asked_of(receiver.kind, receiver.body, name, arguments, at)
+    }
+
+    /// A call of what is no text.
+    fn asked_of(
+        &self,
+        kind: ExprKind,
+        node: Body,
+        name: &str,
+        arguments: Vec<Typed>,
+        at: (u32, u32),
+    ) -> Result<Typed, TypeFault> {
+        match kind {
+            ExprKind::Class(class) => self.asked(class, node, name, arguments, at),
             ExprKind::Strange => Err(refused(RuleCode::UnknownName, at)),
             _ => Err(refused(RuleCode::Kind, at)),
         }
@@ -134,11 +146,10 @@ impl Scope<'_> {
         arguments: Vec<Typed>,
         at: (u32, u32),
     ) -> Result<Typed, TypeFault> {
-        let signature = self.signatures.get(attribute);
-        if arguments.len() != signature.params.len() {
-            return Err(refused(RuleCode::Argument, at));
-        }
-        let arguments = self.fitted(arguments, &signature.params)?;
+        let Some(signature) = self.signatures.get(attribute) else {
+            return Err(refused(RuleCode::UnknownName, at));
+        };
+        let arguments = self.fitted(arguments, &signature.params, at)?;
         let node = Box::new(self.alloc, node)?;
         Ok(Typed {
             at,
@@ -147,12 +158,16 @@ impl Scope<'_> {
         })
     }
 
-    /// The arguments for parameters of these kinds.
+    /// The arguments for parameters of these kinds, in the call at that place.
     fn fitted(
         &self,
         arguments: Vec<Typed>,
         params: &[WrittenKind],
+        at: (u32, u32),
     ) -> Result<Vec<Body>, TypeFault> {
+        if arguments.len() != params.len() {
+            return Err(refused(RuleCode::Argument, at));
+        }
         let mut bodies = Vec::new(self.alloc);
         for (i, argument) in arguments.into_iter().enumerate() {
             if !self.is_argument(&argument, params[i]) {

@@ -21,7 +21,11 @@ impl Scope<'_> {
 
     /// A name: of the innermost fold that has it, else of a parameter, else the index name.
     pub(super) fn named(&self, name: &str, at: (u32, u32)) -> Result<Typed, TypeFault> {
-        if let Some(position) = self.names.iter().position(|bound| bound.name == name) {
+        if let Some(position) = self
+            .names
+            .iter()
+            .position(|bound| bound.name.as_str() == name)
+        {
             return Ok(Typed {
                 at,
                 kind: ExprKind::written(self.names[position].kind),
@@ -37,19 +41,22 @@ impl Scope<'_> {
 }
 
 /// The names in the braces of a fold over nodes of the class: the fold's own, and then those outside.
-pub fn within<'a>(
+pub fn within(
     alloc: Global,
-    name: &'a str,
+    name: &str,
     class: ClassId,
-    outside: &[Bound<'a>],
-) -> Result<Vec<Bound<'a>>, AllocError> {
-    let mut names = Vec::with_capacity(alloc, 1)?;
+    outside: &[Bound],
+) -> Result<Vec<Bound>, AllocError> {
+    let mut names = Vec::new(alloc);
     names.push(Bound {
-        name,
+        name: String::from_str(alloc, name)?,
         kind: WrittenKind::Known(Kind::Class(class)),
     })?;
     for bound in outside {
-        names.push(*bound)?;
+        names.push(Bound {
+            name: String::from_str(alloc, bound.name.as_str())?,
+            kind: bound.kind,
+        })?;
     }
     Ok(names)
 }

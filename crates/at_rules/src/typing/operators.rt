@@ -1,5 +1,13 @@
 //! Operators and their operands.
 
+ghost use Rattle.std.specs.Prelude.{◌≡◌};
+ghost use Rattle.at_jrag.specs.View.{operator_view as sign_view};
+ghost use Rattle.at_rules.specs.Bodies.{body_view, operator_view, order_view};
+ghost use Rattle.at_rules.specs.Kinds.{are_ints, are_truths, are_alike};
+ghost use Rattle.at_rules.specs.Judging.{negation, opposite as opposite_of, joined as joined_of, added as added_of, text_joined as text_joined_of, computed as computed_of, ordered as ordered_of, kind_if, chosen as chosen_of};
+ghost use Rattle.at_model.specs.Bodies as model;
+ghost use Rattle.at_rules.specs.Typed.{typed_view, Judges};
+
 use super::kinds::{ExprKind, Typed};
 use super::{Scope, TypeFault, refused};
 use crate::body::{Body, Operator, Order};
@@ -8,19 +16,25 @@ use at_jrag::Operator as Sign;
 
 impl Scope<'_> {
     /// `-E`
-    pub(super) fn negated(&self, inner: Typed, at: (u32, u32)) -> Result<Typed, TypeFault> {
-        match inner.kind {
-            ExprKind::Int => Ok(Typed::int(Body::Negate(Box::new(self.alloc, inner.body)?), at)),
-            _ => Err(refused(RuleCode::Kind, at)),
+    pub(super) fn negated(&self, inner: Typed, at: (u32, u32)) -> Result<Typed, TypeFault>
+        ensures { Judges typed_view (negation at (typed_view inner)) result }
+    {
+        if !inner.kind.is_int() {
+            return Err(refused(RuleCode::Kind, at));
         }
+        let inner = Box::new(self.alloc, inner.body)?;
+        Ok(Typed::int(Body::Negate(inner), at))
     }
 
     /// `!E`
-    pub(super) fn opposite(&self, inner: Typed, at: (u32, u32)) -> Result<Typed, TypeFault> {
-        match inner.kind {
-            ExprKind::Bool => Ok(Typed::truth(Body::Not(Box::new(self.alloc, inner.body)?), at)),
-            _ => Err(refused(RuleCode::Kind, at)),
+    pub(super) fn opposite(&self, inner: Typed, at: (u32, u32)) -> Result<Typed, TypeFault>
+        ensures { Judges typed_view (opposite_of at (typed_view inner)) result }
+    {
+        if !inner.kind.is_truth() {
+            return Err(refused(RuleCode::Kind, at));
         }
+        let inner = Box::new(self.alloc, inner.body)?;
+        Ok(Typed::truth(Body::Not(inner), at))
     }
 
     /// Two operands with an operator between.
@@ -30,7 +44,9 @@ impl Scope<'_> {
         left: Typed,
         right: Typed,
         at: (u32, u32),
-    ) -> Result<Typed, TypeFault> {
+    ) -> Result<Typed, TypeFault>
+        ensures { Judges typed_view (joined_of at (sign_view sign) (typed_view left) (typed_view right)) result }
+    {
         match sign {
             Sign::Add => self.added(left, right, at),
             Sign::Subtract => self.computed(Operator::Minus, left, right, at),
@@ -49,15 +65,19 @@ impl Scope<'_> {
     }
 
     /// `+`: of two ints; of a text with a text or with an int.
-    fn added(&self, left: Typed, right: Typed, at: (u32, u32)) -> Result<Typed, TypeFault> {
-        match left.kind {
-            ExprKind::Text => self.text_joined(left.body, right, at),
-            _ => self.computed(Operator::Plus, left, right, at),
+    fn added(&self, left: Typed, right: Typed, at: (u32, u32)) -> Result<Typed, TypeFault>
+        ensures { Judges typed_view (added_of at (typed_view left) (typed_view right)) result }
+    {
+        if left.kind.is_text() {
+            return self.text_joined(left.body, right, at);
         }
+        self.computed(Operator::Plus, left, right, at)
     }
 
     /// A text joined with a text, or with an int.
-    fn text_joined(&self, left: Body, right: Typed, at: (u32, u32)) -> Result<Typed, TypeFault> {
+    fn text_joined(&self, left: Body, right: Typed, at: (u32, u32)) -> Result<Typed, TypeFault>
+        ensures { Judges typed_view (text_joined_of at (body_view left) right.kind (body_view right.body)) result }
+    {
         match right.kind {
             ExprKind::Text => {
                 let left = Box::new(self.alloc, left)?;
@@ -80,7 +100,9 @@ impl Scope<'_> {
         left: Typed,
         right: Typed,
         at: (u32, u32),
-    ) -> Result<Typed, TypeFault> {
+    ) -> Result<Typed, TypeFault>
+        ensures { Judges typed_view (computed_of at (operator_view operator) (typed_view left) (typed_view right)) result }
+    {
         if !are_ints(left.kind, right.kind) {
             return Err(refused(RuleCode::Kind, at));
         }
@@ -96,7 +118,9 @@ impl Scope<'_> {
         left: Typed,
         right: Typed,
         at: (u32, u32),
-    ) -> Result<Typed, TypeFault> {
+    ) -> Result<Typed, TypeFault>
+        ensures { Judges typed_view (ordered_of at (order_view order) (typed_view left) (typed_view right)) result }
+    {
         if !are_ints(left.kind, right.kind) {
             return Err(refused(RuleCode::Kind, at));
         }
@@ -106,7 +130,9 @@ impl Scope<'_> {
     }
 
     /// `==`
-    fn same(&self, left: Typed, right: Typed, at: (u32, u32)) -> Result<Typed, TypeFault> {
+    fn same(&self, left: Typed, right: Typed, at: (u32, u32)) -> Result<Typed, TypeFault>
+        ensures { Judges typed_view (kind_if (are_alike left.kind right.kind) at ExprKind.Bool (model.Same (body_view left.body) (body_view right.body))) result }
+    {
         if !are_alike(left.kind, right.kind) {
             return Err(refused(RuleCode::Kind, at));
         }
@@ -116,7 +142,9 @@ impl Scope<'_> {
     }
 
     /// `!=`
-    fn different(&self, left: Typed, right: Typed, at: (u32, u32)) -> Result<Typed, TypeFault> {
+    fn different(&self, left: Typed, right: Typed, at: (u32, u32)) -> Result<Typed, TypeFault>
+        ensures { Judges typed_view (kind_if (are_alike left.kind right.kind) at ExprKind.Bool (model.Differ (body_view left.body) (body_view right.body))) result }
+    {
         if !are_alike(left.kind, right.kind) {
             return Err(refused(RuleCode::Kind, at));
         }
@@ -126,7 +154,9 @@ impl Scope<'_> {
     }
 
     /// `&&`
-    fn both(&self, left: Typed, right: Typed, at: (u32, u32)) -> Result<Typed, TypeFault> {
+    fn both(&self, left: Typed, right: Typed, at: (u32, u32)) -> Result<Typed, TypeFault>
+        ensures { Judges typed_view (kind_if (are_truths left.kind right.kind) at ExprKind.Bool (model.And (body_view left.body) (body_view right.body))) result }
+    {
         if !are_truths(left.kind, right.kind) {
             return Err(refused(RuleCode::Kind, at));
         }
@@ -136,7 +166,9 @@ impl Scope<'_> {
     }
 
     /// `||`
-    fn either(&self, left: Typed, right: Typed, at: (u32, u32)) -> Result<Typed, TypeFault> {
+    fn either(&self, left: Typed, right: Typed, at: (u32, u32)) -> Result<Typed, TypeFault>
+        ensures { Judges typed_view (kind_if (are_truths left.kind right.kind) at ExprKind.Bool (model.Or (body_view left.body) (body_view right.body))) result }
+    {
         if !are_truths(left.kind, right.kind) {
             return Err(refused(RuleCode::Kind, at));
         }
@@ -152,8 +184,10 @@ impl Scope<'_> {
         left: Typed,
         right: Typed,
         at: (u32, u32),
-    ) -> Result<Typed, TypeFault> {
-        if test.kind != ExprKind::Bool {
+    ) -> Result<Typed, TypeFault>
+        ensures { Judges typed_view (chosen_of self.now.classes.now at (typed_view test) (typed_view left) (typed_view right)) result }
+    {
+        if !test.kind.is_truth() {
             return Err(refused(RuleCode::Kind, at));
         }
         let Some(kind) = left.kind.wider(self.classes, right.kind) else {
@@ -170,19 +204,25 @@ impl Scope<'_> {
     }
 }
 
-fn are_ints(left: ExprKind, right: ExprKind) -> bool {
-    left == ExprKind::Int && right == ExprKind::Int
+fn are_ints(left: ExprKind, right: ExprKind) -> bool
+    ensures { result ≡ are_ints left right }
+{
+    left.is_int() && right.is_int()
 }
 
-fn are_truths(left: ExprKind, right: ExprKind) -> bool {
-    left == ExprKind::Bool && right == ExprKind::Bool
+fn are_truths(left: ExprKind, right: ExprKind) -> bool
+    ensures { result ≡ are_truths left right }
+{
+    left.is_truth() && right.is_truth()
 }
 
 /// Whether `==` may stand between them: two ints, two truth values, or two nodes or null.
-fn are_alike(left: ExprKind, right: ExprKind) -> bool {
+fn are_alike(left: ExprKind, right: ExprKind) -> bool
+    ensures { result ≡ are_alike left right }
+{
     match left {
-        ExprKind::Int => right == ExprKind::Int,
-        ExprKind::Bool => right == ExprKind::Bool,
+        ExprKind::Int => right.is_int(),
+        ExprKind::Bool => right.is_truth(),
         ExprKind::Text => false,
         ExprKind::Class(_) | ExprKind::Strange | ExprKind::Null => right.is_node(),
     }
