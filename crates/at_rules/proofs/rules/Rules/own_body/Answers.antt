@@ -1,5 +1,5 @@
 use Rattle.std.proofs.Common.{◌∙◌, ◌-◌, ◌+◌, ap, sym, arith, length, Some, None}
-use Rattle.at_model.specs.Classes.{chain, chain_within}
+use Rattle.at_model.specs.Classes.{chain, chain_within, parent_of}
 use Rattle.at_model.specs.Rules.{Rules, first_answer, own_in}
 use Rattle.at_rules.proofs.Lookups.{answer_here, answer_above, no_answer, answer_ends}
 use Rattle.at_rules.proofs.rules.Rules.own_body.Goals as goal
@@ -32,6 +32,7 @@ loop-step-preserved c =
     c.loop-step.invariant
     ∙ ap (λ o. first_answer f (chain_within (n - i) classes o)) c.in-Some.is
     ∙ answer_above f classes n i c.in-Some.class (omega (arith, same)) (sym c.in_default-own_in.ensures)
+    ∙ ap (λ (r : Rules). first_answer f (chain_within (n - (i + 1)) classes (parent_of r.classes c.in-Some.class))) (sym c.self.view_is)
     ∙ ap (λ o. first_answer f (chain_within (n - (i + 1)) classes o)) (sym c.parent-next.ensures.found)
 
 pub returns : goal.returns
