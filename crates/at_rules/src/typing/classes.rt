@@ -1,9 +1,5 @@
 //! Casts and `instanceof`.
 
-ghost use Rattle.at_jrag.specs.View.{word_view};
-ghost use Rattle.at_rules.specs.Judging.{cast as cast_of, tested as tested_of};
-ghost use Rattle.at_rules.specs.Typed.{typed_view, Judges};
-
 use super::kinds::Typed;
 use super::{Scope, TypeFault, refused};
 use crate::body::Body;
@@ -18,9 +14,7 @@ impl Scope<'_> {
         class: &Word,
         inner: Typed,
         at: (u32, u32),
-    ) -> Result<Typed, TypeFault>
-        ensures { Judges typed_view (cast_of self.now.classes.now at (word_view class.now) (typed_view inner)) result }
-    {
+    ) -> Result<Typed, TypeFault> {
         let class = self.class_of_node(class, &inner, at)?;
         let inner = Box::new(self.alloc, inner.body)?;
         Ok(Typed::node(class, Body::CastTo(class, inner), at))
@@ -32,9 +26,7 @@ impl Scope<'_> {
         inner: Typed,
         class: &Word,
         at: (u32, u32),
-    ) -> Result<Typed, TypeFault>
-        ensures { Judges typed_view (tested_of self.now.classes.now at (word_view class.now) (typed_view inner)) result }
-    {
+    ) -> Result<Typed, TypeFault> {
         let class = self.class_of_node(class, &inner, at)?;
         let inner = Box::new(self.alloc, inner.body)?;
         Ok(Typed::truth(Body::InstanceOf(inner, class), at))

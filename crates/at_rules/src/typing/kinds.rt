@@ -46,33 +46,33 @@ impl ExprKind {
         }
     }
 
-    pub fn is_int(self) -> bool
-        ensures { result ≡ is_int_kind self }
+    pub fn is_int(&self) -> bool
+        ensures { result ≡ is_int_kind self.now }
     {
         matches!(self, ExprKind::Int)
     }
 
-    pub fn is_truth(self) -> bool
-        ensures { result ≡ is_truth_kind self }
+    pub fn is_truth(&self) -> bool
+        ensures { result ≡ is_truth_kind self.now }
     {
         matches!(self, ExprKind::Bool)
     }
 
-    pub fn is_text(self) -> bool
-        ensures { result ≡ is_text_kind self }
+    pub fn is_text(&self) -> bool
+        ensures { result ≡ is_text_kind self.now }
     {
         matches!(self, ExprKind::Text)
     }
 
-    fn is_null(self) -> bool
-        ensures { result ≡ is_null_kind self }
+    fn is_null(&self) -> bool
+        ensures { result ≡ is_null_kind self.now }
     {
         matches!(self, ExprKind::Null)
     }
 
     /// Whether its values are nodes and null.
-    pub fn is_node(self) -> bool
-        ensures { result ≡ is_node_kind self }
+    pub fn is_node(&self) -> bool
+        ensures { result ≡ is_node_kind self.now }
     {
         match self {
             ExprKind::Class(_) | ExprKind::Strange | ExprKind::Null => true,
