@@ -1,6 +1,7 @@
 //! Accessors: what of a component the accessor of a name gets.
 
 use crate::body::Kind;
+use crate::hierarchy::parts_of;
 use at_class::{ClassId, ClassTable, Part, PartShape, TokenKind};
 
 /// An accessor of a node, with the position of the component that it is of.
@@ -51,15 +52,6 @@ fn token_kind(kind: TokenKind) -> Kind {
         TokenKind::Int => Kind::Int,
         TokenKind::Bool => Kind::Bool,
         TokenKind::Str => Kind::Text,
-    }
-}
-
-/// The components of the class; none where the class isn't there.
-fn parts_of(classes: &ClassTable, class: ClassId) -> &[Part] {
-    if class.index() < classes.len() {
-        classes.parts(class)
-    } else {
-        &[]
     }
 }
 
@@ -126,23 +118,4 @@ fn without_end<'a>(name: &'a [u8], end: &[u8]) -> Option<&'a [u8]> {
     }
     let (rest, tail) = name.split_at(name.len() - end.len());
     if tail == end { Some(rest) } else { None }
-}
-
-/// Whether a class has an accessor of that name, or each node or text a method.
-pub fn is_accessor(classes: &ClassTable, name: &str) -> bool {
-    is_common(name) || is_accessed(classes, name)
-}
-
-fn is_common(name: &str) -> bool {
-    name == "equals" || name == "getParent" || name == "getChild" || name == "getNumChild"
-}
-
-/// Whether a class has an accessor of that name.
-fn is_accessed(classes: &ClassTable, name: &str) -> bool {
-    for class in 0..classes.len() {
-        if accessor_named(classes, ClassId::new(class), name).is_some() {
-            return true;
-        }
-    }
-    false
 }

@@ -14,6 +14,8 @@ use at_jrag::Aspect;
 use std::alloc::Global;
 
 impl Rules {
+    ghost use Rattle.std.specs.Prelude.{◌≡◌, IfOk};
+
     /// The rules of the declarations of the aspect files over the classes.
     ///
     /// # Errors
@@ -27,7 +29,9 @@ impl Rules {
         alloc: Global,
         classes: ClassTable,
         files: &[Vec<Aspect>],
-    ) -> Result<Rules, RuleFault> {
+    ) -> Result<Rules, RuleFault>
+        ensures classes { IfOk result (λ r. r.classes ≡ classes) }
+    {
         let Declarations { items, names } = Declarations::of(alloc, &classes, files)?;
         let attributes = Attributes::of(alloc, &items)?;
         refuse(fault_together(alloc, &classes, &attributes, &items)?)?;

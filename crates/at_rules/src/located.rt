@@ -122,6 +122,11 @@ pub fn index_in(form: &DeclForm) -> Option<&Word> {
     }
 }
 
+/// The text of that name.
+pub fn index_name(form: &DeclForm) -> Option<&str> {
+    Some(index_in(form)?.text.as_str())
+}
+
 /// The body of the declaration's equation, if it has one.
 pub fn body_in(form: &DeclForm) -> Option<&Body> {
     match form {

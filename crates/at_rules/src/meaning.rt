@@ -5,7 +5,7 @@ use crate::attributes::Attributes;
 use crate::body::{Body, Kind};
 use crate::fault::RuleCode;
 use crate::hierarchy::parts_of;
-use crate::located::{body_in, class_word, index_in, is_inherited, is_lazy, params_in};
+use crate::located::{body_in, class_word, index_in, index_name, is_inherited, is_lazy, params_in};
 use crate::numbered::Numbered;
 use crate::rules::Attribute;
 use crate::signatures::{AttrId, Signature, Signatures, WrittenKind};
@@ -162,7 +162,7 @@ impl Among<'_> {
             signatures: self.signatures,
             this: class,
             names: &names,
-            index: index_in(form).map(|index| index.text.as_str()),
+            index: index_name(form),
         };
         body_of(&scope, &body.expr, signature.result)
     }

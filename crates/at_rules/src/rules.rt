@@ -46,9 +46,10 @@ impl Model for Rules {
 }
 
 impl Rules {
-    ghost use Rattle.std.specs.Prelude.{◌≡◌, ◌<◌, length, map, option_map};
+    ghost use Rattle.std.specs.Prelude.{◌≡◌, ◌<◌, length, map, option_map, IfSome};
+    ghost use Rattle.at_model.specs.Machine.{parameters_of};
     ghost use Rattle.at_model.specs.Rules.{attribute_name, is_inherited, is_lazy, own_equation, own_in};
-    ghost use Rattle.at_rules.specs.Bodies.{body_view};
+    ghost use Rattle.at_rules.specs.Bodies.{body_view, kind_view};
 
     /// The classes.
     pub fn classes(&self) -> &ClassTable
@@ -65,7 +66,9 @@ impl Rules {
     }
 
     /// The attribute of that name that the class or one above it declares.
-    pub fn attribute(&self, class: ClassId, name: &str) -> Option<AttrId> {
+    pub fn attribute(&self, class: ClassId, name: &str) -> Option<AttrId>
+        ensures within { IfSome result (λ a. a < length self.now.attributes) }
+    {
         let name = self.names.get_index_of(name)?;
         let mut next = Some(class);
         for step in 0..self.classes.len() {
@@ -79,7 +82,9 @@ impl Rules {
     }
 
     /// The kinds of the attribute's parameters.
-    pub fn params(&self, attribute: AttrId) -> &[Kind] {
+    pub fn params(&self, attribute: AttrId) -> &[Kind]
+        ensures { map kind_view result.now ≡ parameters_of self.now attribute }
+    {
         match self.attributes.get_index(attribute.index()) {
             Some((_, declared)) => &declared.params,
             None => &[],
