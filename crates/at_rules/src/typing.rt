@@ -15,7 +15,7 @@ use crate::body::Body;
 use crate::fault::RuleCode;
 use crate::signatures::{Signatures, WrittenKind};
 use at_class::{ClassId, ClassTable};
-use at_jrag::{Expr, FoldForm, Form, Word};
+use at_jrag::{Expr, FoldForm, Form, Operator, Word};
 use folds::List;
 use kinds::Typed;
 use names::within;
@@ -98,33 +98,95 @@ impl Scope<'_> {
             Form::Null => Ok(Typed::null(at)),
             Form::This => Ok(self.this(at)),
             Form::Name(name) => self.named(name.as_str(), at),
-            Form::Call(name, arguments) => {
-                let arguments = self.typed_all(arguments)?;
-                self.called(self.this(at), name.as_str(), arguments, at)
-            }
+            Form::Call(name, arguments) => self.call(name.as_str(), arguments, at),
             Form::CallOf(receiver, name, arguments) => {
-                let receiver = self.typed(receiver)?;
-                let arguments = self.typed_all(arguments)?;
-                self.called(receiver, name.as_str(), arguments, at)
+                self.call_of(receiver, name.as_str(), arguments, at)
             }
-            Form::Paren(inner) => Ok(self.typed(inner)?.placed(at)),
-            Form::Negate(inner) => self.negated(self.typed(inner)?, at),
-            Form::Not(inner) => self.opposite(self.typed(inner)?, at),
-            Form::Cast(class, inner) => self.cast(class, self.typed(inner)?, at),
-            Form::InstanceOf(inner, _, class) => self.tested(self.typed(inner)?, class, at),
-            Form::Binary(word, left, right) => {
-                let left = self.typed(left)?;
-                let right = self.typed(right)?;
-                self.joined(word.operator, left, right, at)
-            }
-            Form::Choose(test, _, left, right) => {
-                let test = self.typed(test)?;
-                let left = self.typed(left)?;
-                let right = self.typed(right)?;
-                self.chosen(test, left, right, at)
-            }
+            Form::Paren(inner) => self.paren(inner, at),
+            Form::Negate(inner) => self.negation(inner, at),
+            Form::Not(inner) => self.complement(inner, at),
+            Form::Cast(class, inner) => self.cast_of(class, inner, at),
+            Form::InstanceOf(inner, _, class) => self.test_of(inner, class, at),
+            Form::Binary(word, left, right) => self.binary(word.operator, left, right, at),
+            Form::Choose(test, _, left, right) => self.choice(test, left, right, at),
             Form::Fold(form, name, list, body) => self.fold(*form, name, list, body, at),
         }
+    }
+
+    /// A call of `this`.
+    #[cycle(typed)]
+    fn call(&self, name: &str, arguments: &[Expr], at: (u32, u32)) -> Result<Typed, TypeFault> {
+        let arguments = self.typed_all(arguments)?;
+        self.called(self.this(at), name, arguments, at)
+    }
+
+    #[cycle(typed)]
+    fn call_of(
+        &self,
+        receiver: &Expr,
+        name: &str,
+        arguments: &[Expr],
+        at: (u32, u32),
+    ) -> Result<Typed, TypeFault> {
+        let receiver = self.typed(receiver)?;
+        let arguments = self.typed_all(arguments)?;
+        self.called(receiver, name, arguments, at)
+    }
+
+    #[cycle(typed)]
+    fn paren(&self, inner: &Expr, at: (u32, u32)) -> Result<Typed, TypeFault> {
+        Ok(self.typed(inner)?.placed(at))
+    }
+
+    #[cycle(typed)]
+    fn negation(&self, inner: &Expr, at: (u32, u32)) -> Result<Typed, TypeFault> {
+        let inner = self.typed(inner)?;
+        self.negated(inner, at)
+    }
+
+    #[cycle(typed)]
+    fn complement(&self, inner: &Expr, at: (u32, u32)) -> Result<Typed, TypeFault> {
+        let inner = self.typed(inner)?;
+        self.opposite(inner, at)
+    }
+
+    #[cycle(typed)]
+    fn cast_of(&self, class: &Word, inner: &Expr, at: (u32, u32)) -> Result<Typed, TypeFault> {
+        let inner = self.typed(inner)?;
+        self.cast(class, inner, at)
+    }
+
+    #[cycle(typed)]
+    fn test_of(&self, inner: &Expr, class: &Word, at: (u32, u32)) -> Result<Typed, TypeFault> {
+        let inner = self.typed(inner)?;
+        self.tested(inner, class, at)
+    }
+
+    #[cycle(typed)]
+    fn binary(
+        &self,
+        sign: Operator,
+        left: &Expr,
+        right: &Expr,
+        at: (u32, u32),
+    ) -> Result<Typed, TypeFault> {
+        let left = self.typed(left)?;
+        let right = self.typed(right)?;
+        self.joined(sign, left, right, at)
+    }
+
+    #[cycle(typed)]
+    fn choice(
+        &self,
+        test: &Expr,
+        left: &Expr,
+        right: &Expr,
+        at: (u32, u32),
+    ) -> Result<Typed, TypeFault> {
+        let test = self.typed(test)?;
+        let left = self.typed(left)?;
+        let right = self.typed(right)?;
+        self.chosen(test, left, right, at)
     }
 
     /// The expressions with their kinds, from left to right.
@@ -165,19 +227,41 @@ impl Scope<'_> {
     #[cycle(typed)]
     fn list(&self, list: &Expr, fold: (u32, u32)) -> Result<List, TypeFault> {
         match &list.form {
-            Form::Call(name, arguments) => {
-                let arguments = self.typed_all(arguments)?;
-                self.list_called(self.this(list.at), name.as_str(), arguments, list.at, fold)
-            }
+            Form::Call(name, arguments) => self.list_call(name.as_str(), arguments, list.at, fold),
             Form::CallOf(receiver, name, arguments) => {
-                let receiver = self.typed(receiver)?;
-                let arguments = self.typed_all(arguments)?;
-                self.list_called(receiver, name.as_str(), arguments, list.at, fold)
+                self.list_call_of(receiver, name.as_str(), arguments, list.at, fold)
             }
             _ => {
                 self.typed(list)?;
                 Err(refused(RuleCode::Kind, fold))
             }
         }
+    }
+
+    /// A list of `this`.
+    #[cycle(typed)]
+    fn list_call(
+        &self,
+        name: &str,
+        arguments: &[Expr],
+        at: (u32, u32),
+        fold: (u32, u32),
+    ) -> Result<List, TypeFault> {
+        let arguments = self.typed_all(arguments)?;
+        self.list_called(self.this(at), name, arguments, at, fold)
+    }
+
+    #[cycle(typed)]
+    fn list_call_of(
+        &self,
+        receiver: &Expr,
+        name: &str,
+        arguments: &[Expr],
+        at: (u32, u32),
+        fold: (u32, u32),
+    ) -> Result<List, TypeFault> {
+        let receiver = self.typed(receiver)?;
+        let arguments = self.typed_all(arguments)?;
+        self.list_called(receiver, name, arguments, at, fold)
     }
 }
