@@ -5,5 +5,6 @@ pub mod Kinds
 pub mod Judging
 pub mod Typed
 pub mod Located
+pub mod Numbered
 pub mod Marks
 pub mod RulesView

@@ -57,13 +57,19 @@ fn refuse(fault: Option<Fault>) -> Result<(), RuleFault> {
     }
 }
 
+ghost use Rattle.std.specs.Prelude.{IfOk};
+ghost use Rattle.at_rules.specs.Numbered.{AreNumbered};
+ghost use Rattle.at_rules.specs.RulesView.{AreNamed};
+
 /// What the declarations mean, each by itself.
 fn meant_by(
     alloc: Global,
     classes: &ClassTable,
     attributes: &Attributes,
     declared: &[Numbered],
-) -> Result<Meant, RuleFault> {
+) -> Result<Meant, RuleFault>
+    ensures named { (n : ℕ) → AreNumbered n declared.now → IfOk result (λ m. AreNamed n m.inherited.entries) }
+{
     let signatures = signatures_of(alloc, classes, declared)?;
     let among = Among {
         alloc,

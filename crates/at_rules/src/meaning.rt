@@ -48,13 +48,18 @@ pub struct Among<'a> {
 }
 
 impl Among<'_> {
+    ghost use Rattle.std.specs.Prelude.{◌≡◌, ◌<◌, OnOk};
+    ghost use Rattle.at_rules.specs.RulesView.{AreNamed};
+
     /// Adds what the declaration means.
     ///
     /// # Errors
     ///
     /// `Refused` for its first fault: of its classes, then of its component and index name, of its
     /// parameters, of its body. `Memory` for want of memory.
-    pub fn add(&self, numbered: &Numbered, meant: &mut Meant) -> Result<(), TypeFault> {
+    pub fn add(&self, numbered: &Numbered, meant: &mut Meant) -> Result<(), TypeFault>
+        ensures named { OnOk result ((n : ℕ) → numbered.now.name < n → AreNamed n meant.old.inherited.entries → AreNamed n meant.new.inherited.entries) }
+    {
         match &numbered.decl.form {
             DeclForm::Synthesized { kind, .. } => {
                 let class = self.declare(numbered, kind, meant)?;
@@ -82,7 +87,9 @@ impl Among<'_> {
         numbered: &Numbered,
         kind: &KindWord,
         meant: &mut Meant,
-    ) -> Result<ClassId, TypeFault> {
+    ) -> Result<ClassId, TypeFault>
+        ensures kept { OnOk result (meant.new.inherited ≡ meant.old.inherited) }
+    {
         let form = &numbered.decl.form;
         let result = self.kind_named(kind)?;
         let class = self.class_named(class_word(form))?;
@@ -104,7 +111,9 @@ impl Among<'_> {
         class: ClassId,
         numbered: &Numbered,
         meant: &mut Meant,
-    ) -> Result<(), TypeFault> {
+    ) -> Result<(), TypeFault>
+        ensures kept { OnOk result (meant.new.inherited ≡ meant.old.inherited) }
+    {
         let Some(body) = body_in(&numbered.decl.form) else {
             return Ok(());
         };
@@ -126,7 +135,9 @@ impl Among<'_> {
         part: Option<usize>,
         numbered: &Numbered,
         meant: &mut Meant,
-    ) -> Result<(), TypeFault> {
+    ) -> Result<(), TypeFault>
+        ensures named { OnOk result ((n : ℕ) → numbered.now.name < n → AreNamed n meant.old.inherited.entries → AreNamed n meant.new.inherited.entries) }
+    {
         self.index_of_list(class, part, &numbered.decl.form)?;
         let Some(body) = body_in(&numbered.decl.form) else {
             return Ok(());

@@ -1,6 +1,9 @@
 //! The declarations with numbers for their classes and their attributes' names, so that no two texts need be
 //! compared again.
 
+ghost use Rattle.std.specs.Prelude.{◌<◌, ◌≤◌, length, IfOk, OnOk};
+ghost use Rattle.at_rules.specs.Numbered.{AreNumbered};
+
 use crate::located::{class_word, locate, name_word};
 use at_class::{ClassId, ClassTable};
 use at_jrag::{Aspect, Decl};
@@ -53,7 +56,9 @@ impl<'a> Declarations<'a> {
         alloc: Global,
         classes: &ClassTable,
         files: &'a [Vec<Aspect>],
-    ) -> Result<Declarations<'a>, AllocError> {
+    ) -> Result<Declarations<'a>, AllocError>
+        ensures named { IfOk result (λ d. AreNumbered (length d.names.keys) d.items.items) }
+    {
         let located = locate(alloc, files)?;
         let mut items = Vec::new(alloc);
         let mut names = IndexSet::new(alloc);
@@ -78,7 +83,10 @@ impl<'a> Declarations<'a> {
 }
 
 /// The number of the text among these, which it joins where it is new.
-fn number_of(alloc: Global, texts: &mut IndexSet<String>, text: &str) -> Result<usize, AllocError> {
+fn number_of(alloc: Global, texts: &mut IndexSet<String>, text: &str) -> Result<usize, AllocError>
+    ensures within { IfOk result (λ n. n < length texts.new.keys) }
+    ensures grows { OnOk result (length texts.old.keys ≤ length texts.new.keys) }
+{
     if let Some(number) = texts.get_index_of(text) {
         return Ok(number);
     }
