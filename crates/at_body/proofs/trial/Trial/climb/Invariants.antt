@@ -1,0 +1,16 @@
+use Rattle.std.proofs.Common.{◌≡◌, [], nat_eq, map}
+use Rattle.at_model.specs.Rules.{by_inherited, attribute_name}
+use Rattle.at_model.specs.Follow.{follow}
+use Rattle.at_body.specs.Values.{value_view}
+use Rattle.at_body.proofs.trial.Trial.climb.Given as goal
+
+abbrev pub invariant-loop-height : goal.invariant-loop-height
+invariant-loop-height g l = record {
+  idle : l.self.todo ≡ [];
+  unbound : l.self.bound ≡ [];
+  same : follow (g.S.Tree.contents l.store) l.initial.self.reads (by_inherited (g.E.Equations.rules l.rules) nat_eq (attribute_name (g.E.Equations.rules l.rules) l.attribute) (map value_view l.initial.self.arguments.items) l.initial.height l.initial.self.this)
+      ≡ follow (g.S.Tree.contents l.store) l.self.reads (by_inherited (g.E.Equations.rules l.rules) nat_eq (attribute_name (g.E.Equations.rules l.rules) l.attribute) (map value_view l.self.arguments.items) l.height l.self.this);
+}
+
+abbrev pub decreases-loop-height : goal.decreases-loop-height
+decreases-loop-height g l = l.height

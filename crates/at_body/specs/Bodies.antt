@@ -1,0 +1,65 @@
+-- What the bodies of equations stand for.
+use Rattle.std.specs.Prelude.{List, [], ◌∷◌, string_bytes}
+use Rattle.at_model.specs.Bodies.{Expr, Exprs, no_exprs, expr, IntLiteral, TruthLiteral, TextLiteral, NullLiteral, Negate, Not, Arithmetic, Compare, Join, JoinInt, Same, Differ, And, Or, Choose, Equals, InstanceOf, CastTo, Child, Element, Count, Has, TokenOf, Call, Exists, First, Sum, Times, Over, Modulo, Plus, Minus, Below, AtMost, Above, AtLeast}
+use Rattle.at_model.specs.Bodies as model
+use Rattle.at_body.specs.declared.body.Operator.{Operator}
+use Rattle.at_body.specs.declared.body.Operator.TheVariants as operator
+use Rattle.at_body.specs.declared.body.Order.{Order}
+use Rattle.at_body.specs.declared.body.Order.TheVariants as order
+use Rattle.at_body.specs.declared.body.Body.{Body, Row_of-Body, end_of-Body, more_of-Body}
+use Rattle.at_body.specs.declared.body.Body as body
+
+abbrev pub operator_view : Operator → model.Operator
+operator_view operator.Times = Times
+operator_view operator.Over = Over
+operator_view operator.Modulo = Modulo
+operator_view operator.Plus = Plus
+operator_view operator.Minus = Minus
+
+abbrev pub order_view : Order → model.Order
+order_view order.Below = Below
+order_view order.AtMost = AtMost
+order_view order.Above = Above
+order_view order.AtLeast = AtLeast
+
+abbrev mutual
+  pub body_view : Body → Expr
+  body_view (body.Int n) = IntLiteral n
+  body_view (body.Truth b) = TruthLiteral b
+  body_view (body.Text text) = TextLiteral (string_bytes text)
+  body_view body.Null = NullLiteral
+  body_view body.This = model.This
+  body_view (body.Name i) = model.Name i
+  body_view body.IndexName = model.IndexName
+  body_view (body.Negate' p a) = Negate (body_view a)
+  body_view (body.Not' p a) = Not (body_view a)
+  body_view (body.Arithmetic' o p a q b) = Arithmetic (operator_view o) (body_view a) (body_view b)
+  body_view (body.Compare' o p a q b) = Compare (order_view o) (body_view a) (body_view b)
+  body_view (body.Join' p a q b) = Join (body_view a) (body_view b)
+  body_view (body.JoinInt' p a q b) = JoinInt (body_view a) (body_view b)
+  body_view (body.Same' p a q b) = Same (body_view a) (body_view b)
+  body_view (body.Differ' p a q b) = Differ (body_view a) (body_view b)
+  body_view (body.And' p a q b) = And (body_view a) (body_view b)
+  body_view (body.Or' p a q b) = Or (body_view a) (body_view b)
+  body_view (body.Choose' p c q a r b) = Choose (body_view c) (body_view a) (body_view b)
+  body_view (body.Equals' p a q b) = Equals (body_view a) (body_view b)
+  body_view (body.InstanceOf' p a class) = InstanceOf (body_view a) class
+  body_view (body.CastTo' class p a) = CastTo class (body_view a)
+  body_view (body.Child' p a part) = Child (body_view a) part
+  body_view (body.Element' p a part q b) = Element (body_view a) part (body_view b)
+  body_view (body.Count' p a part) = Count (body_view a) part
+  body_view (body.Has' p a part) = Has (body_view a) part
+  body_view (body.TokenOf' p a part) = TokenOf (body_view a) part
+  body_view (body.Call' p a attribute shape row) = Call (body_view a) attribute (row_view row)
+  body_view (body.Exists' p a part q b) = Exists (body_view a) part (body_view b)
+  body_view (body.First' p a part q b) = First (body_view a) part (body_view b)
+  body_view (body.Sum' p a part q b) = Sum (body_view a) part (body_view b)
+
+  pub row_view : {m : _} → Row_of-Body m → Exprs
+  row_view end_of-Body = no_exprs
+  row_view (more_of-Body b rest) = expr (body_view b) (row_view rest)
+
+-- the bodies of arguments in a list
+abbrev pub bodies_view : List Body → Exprs
+bodies_view [] = no_exprs
+bodies_view (b ∷ bs) = expr (body_view b) (bodies_view bs)
