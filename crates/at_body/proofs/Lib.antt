@@ -6,3 +6,5 @@ pub mod Climbing
 pub mod Waiting
 pub mod OneTry
 pub mod Few
+pub mod Joining
+pub mod Sameness

@@ -1,11 +1,11 @@
 //! What is done with one value, and with two.
 
-ghost use Rattle.std.specs.Prelude.{◌≡◌, ◌++◌, ℕ, List, string_bytes, IfOk};
+ghost use Rattle.std.specs.Prelude.{◌≡◌, ◌++◌, ◌+◌, ℕ, List, length, nat_le, string_bytes, IfOk};
 ghost use Rattle.std.specs.Fmt.{signed_decimal};
 ghost use Rattle.at_model.specs.Classes.{Classes};
 ghost use Rattle.at_model.specs.Follow.{follow};
 ghost use Rattle.at_model.specs.Run.{Ref};
-ghost use Rattle.at_model.specs.Bodies.{int_of, text_of, computed, joined, is_in_order, element_at, child_of, element_of, count_of, has_of, token_of, is_instance, cast_to};
+ghost use Rattle.at_model.specs.Bodies.{max_text, int_of, text_of, computed, joined, is_in_order, element_at, child_of, element_of, count_of, has_of, token_of, is_instance, cast_to};
 ghost use Rattle.at_body.specs.Values.{value_view};
 ghost use Rattle.at_body.specs.Bodies.{operator_view, order_view};
 ghost use Rattle.at_body.specs.declared.trial.Trial.{Trial};
@@ -66,7 +66,7 @@ impl<'a> Trial<'a> {
                 Ok(Now::Back(Value::Bool(is_in_order(order, left.int(), right.int()))))
             }
             Binary::Join => joined(left.into_text(alloc), right.text()),
-            Binary::JoinInt => joined_int(left.into_text(alloc), right.int()),
+            Binary::JoinInt => joined_int(left.into_text(alloc), right),
             Binary::Same => Ok(Now::Back(Value::Bool(left.is_same(right)))),
             Binary::Differ => Ok(Now::Back(Value::Bool(!left.is_same(right)))),
             Binary::Equals => Ok(Now::Back(Value::Bool(left.text() == right.text()))),
@@ -257,26 +257,32 @@ fn joined<'a>(left: String, right: &str) -> Result<Now<'a>, AllocError>
     ensures same { (classes : Classes) (t : Trial) → IfOk result (λ now. onto classes t (joined (string_bytes left ++ right.now)) ≡ rest classes now t) }
     ensures less { (t : Trial) → IfOk result (λ now. weight now t ≡ load t.todo) }
 {
-    if !fits(left.as_str(), right) {
-        return Ok(Now::Fail(FaultKind::Long));
+    if fits(left.as_str(), right) {
+        let mut text = left;
+        text.push_str(right)?;
+        return Ok(Now::Back(Value::Text(text)));
     }
-    let mut text = left;
-    text.push_str(right)?;
-    Ok(Now::Back(Value::Text(text)))
+    Ok(Now::Fail(FaultKind::Long))
 }
 
 /// Whether the texts behind each other are no longer than a text may be.
-fn fits(left: &str, right: &str) -> bool {
-    left.len() <= MAX_TEXT && right.len() <= MAX_TEXT - left.len()
+fn fits(left: &str, right: &str) -> bool
+    ensures { result ≡ nat_le (length left.now + length right.now) max_text }
+{
+    if left.len() > MAX_TEXT {
+        return false;
+    }
+    right.len() <= MAX_TEXT - left.len()
 }
 
 /// The text and the int in decimal, or a fault where that is too long.
-fn joined_int<'a>(left: String, right: i32) -> Result<Now<'a>, AllocError>
-    ensures same { (classes : Classes) (t : Trial) → IfOk result (λ now. onto classes t (joined (string_bytes left ++ signed_decimal right)) ≡ rest classes now t) }
+fn joined_int<'a>(left: String, right: &Value) -> Result<Now<'a>, AllocError>
+    ensures same { (classes : Classes) (t : Trial) → IfOk result (λ now. onto classes t (joined (string_bytes left ++ signed_decimal (int_of (value_view right.now)))) ≡ rest classes now t) }
     ensures less { (t : Trial) → IfOk result (λ now. weight now t ≡ load t.todo) }
 {
     let mut digits = Buffer::new();
-    joined(left, digits.format(right))
+    let number = right.int();
+    joined(left, digits.format(number))
 }
 
 /// The node at an index.

@@ -3,4 +3,4 @@ use Rattle.at_body.proofs.Climbing.{started}
 use Rattle.at_body.proofs.trial.Trial.start.Goals as goal
 
 pub returns : goal.returns
-returns g c = started (g.E.Equations.rules c.args.rules.now) (g.S.Tree.contents c.args.store.now) c.args.inst.now c.look_at.new.reads _ _ c.class-class.result _ _ c.node.ensures c.attribute.ensures (c.in_ok-arguments.ensures ∙ c.arguments-2.ensures) (rw (c.in_ok-look_at.ensures, c.as_slice.ensures, c.in_ok-push.ensures.gained, c.new-reads.ensures) refl) c.class-class.ensures (c.in_ok-now.ensures ∙ c.in_ok-step.ensures.found)
+returns g c = started (g.E.Equations.rules c.args.rules.now) (g.S.Tree.contents c.args.store.now) c.args.inst.now c.look_at.new.reads _ _ c.class-class.result _ _ c.node-node.ensures c.attribute-attribute.ensures (c.in_ok-arguments.ensures ∙ c.arguments.ensures) (rw (c.in_ok-look_at.ensures, c.as_slice.ensures, c.in_ok-push.ensures.gained, c.new-reads.ensures) refl) c.class-class.ensures (c.in_ok-now.ensures ∙ c.in_ok-step.ensures.found)
