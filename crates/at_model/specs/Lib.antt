@@ -6,6 +6,7 @@ pub mod Trees
 pub mod Terms
 pub mod Paths
 pub mod Run
+pub mod Follow
 pub mod Bodies
 pub mod Rules
 pub mod Meaning

@@ -7,6 +7,8 @@ ghost use Rattle.attrd.specs.Statuses.{status_of};
 ghost use Rattle.attrd.specs.declared.Failure.TheVariants.{Memory};
 
 mod code;
+#[cfg(test)]
+mod sessions;
 mod start;
 #[cfg(test)]
 mod tests;

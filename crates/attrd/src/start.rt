@@ -14,7 +14,9 @@ mod tree;
 
 use crate::code::Code;
 use aspects::rules_of;
-use at_engine::{Engine, LoadFault};
+use at_cache::KeepRecorded;
+use at_engine::Engine;
+use at_store::LoadFault;
 use fault::of_file;
 pub use fault::{StartFault, write_fault};
 pub use files::{Files, MAX_FILE, Source};
@@ -27,7 +29,7 @@ use tree::{refused, tree_of};
 /// # Errors
 ///
 /// `Refused` for the first file that is refused, `Memory` for want of memory.
-pub fn start(alloc: Global, files: &Files) -> Result<Engine, StartFault>
+pub fn start(alloc: Global, files: &Files) -> Result<Engine<KeepRecorded>, StartFault>
     ensures started { IfOk result (λ e. Starts files.now (rules_of e) (state_of e)) }
     ensures refused { IfErr result (IsStartFault files.now) }
 {
@@ -37,13 +39,14 @@ pub fn start(alloc: Global, files: &Files) -> Result<Engine, StartFault>
     };
     let rules = rules_of(alloc, classes, &files.aspects)?;
     let file = files.aspects.len() + 1;
-    let tree = match tree_of(alloc, &rules.classes, &files.tree.bytes) {
+    let tree = match tree_of(alloc, rules.classes(), &files.tree.bytes) {
         Ok(tree) => tree,
         Err(fault) => return Err(of_file(file, fault)),
     };
-    match Engine::new(alloc, rules, tree) {
+    match Engine::new(alloc, rules, tree, KeepRecorded::new(alloc)) {
         Ok(engine) => Ok(engine),
         Err(LoadFault::Fit) => Err(of_file(file, refused(Code::TreeFit))),
         Err(LoadFault::Limit) => Err(of_file(file, refused(Code::TreeLimit))),
+        Err(LoadFault::Memory) => Err(StartFault::Memory),
     }
 }

@@ -1,6 +1,7 @@
 //! Whole sessions over the sum sample.
 
 use crate::start::{Files, Source, start, write_fault};
+use at_cache::KeepRecorded;
 use at_engine::{Engine, Report, RunFault, run};
 use std::alloc::{AllocError, Global};
 use std::io;
@@ -33,7 +34,7 @@ fn files(alloc: Global, grammar: &str, aspect: &str, tree: &str) -> Result<Files
 }
 
 /// The engine of the sum sample.
-fn sum(alloc: Global) -> Result<Engine, Fail> {
+fn sum(alloc: Global) -> Result<Engine<KeepRecorded>, Fail> {
     Ok(start(alloc, &files(alloc, GRAMMAR, ASPECT, TREE)?)?)
 }
 
@@ -84,7 +85,7 @@ fn what_cannot_be_asked_is_refused(rt: HostRuntime) -> Result<(), Fail> {
     assert!(rt; answers(alloc, b"0 show /Left/Value\n", b"0 refused 4 path\n")?);
     assert!(rt; answers(alloc, b"0 show / \n", b"0 refused 1 syntax\n")?);
     assert!(rt; answers(alloc, b"0 ask / total(1)\n", b"0 refused 1 syntax\n")?);
-    assert!(rt; answers(alloc, b"0 drop /Left\n", b"0 refused 1 syntax\n")?);
+    assert!(rt; answers(alloc, b"0 drop /Left\n", b"0 refused 10 fixed\n")?);
     Ok(())
 }
 
@@ -171,10 +172,10 @@ fn files_are_refused_by_name_and_place(rt: HostRuntime) -> Result<(), Fail> {
         text.as_slice(),
         b"sum.ast: G9 no class at 1:1\n".as_slice()
     );
-    let text = refusal(alloc, "Sum ::= Num*; Num;", ASPECT, TREE)?;
+    let text = refusal(alloc, "Sum ::= /Num/; Num;", ASPECT, TREE)?;
     assert_eq!(rt;
         text.as_slice(),
-        b"sum.ast: G7 form left out at 1:1\n".as_slice()
+        b"sum.ast: G7 form left out at 1:9\n".as_slice()
     );
     Ok(())
 }
@@ -231,42 +232,21 @@ fn aspects_are_refused_by_their_first_fault(rt: HostRuntime) -> Result<(), Fail>
         is_refused(
             alloc,
             "aspect S { inh int Sum.a(); }",
-            "J10 form left out at 1:12"
-        )?
-    );
-    assert!(rt;
-        is_refused(
-            alloc,
-            "aspect S { syn lazy int Sum.a() = 1; }",
-            "J10 form left out at 1:16"
-        )?
-    );
-    assert!(rt;
-        is_refused(
-            alloc,
-            "aspect S { syn int Sum.a() = 1 / 2; }",
-            "J10 form left out at 1:32"
+            "J8 inherited without equation at 1:12"
         )?
     );
     assert!(rt;
         is_refused(
             alloc,
             "aspect S { syn int Sum.a() = b; }",
-            "J10 form left out at 1:30"
+            "J3 unknown name at 1:30"
         )?
     );
     assert!(rt;
         is_refused(
             alloc,
-            "aspect S { syn int Sum.a() = (Sum) this; }",
-            "J10 form left out at 1:30"
-        )?
-    );
-    assert!(rt;
-        is_refused(
-            alloc,
-            "aspect S { syn int Sum.a() = b(1); }",
-            "J10 form left out at 1:32"
+            "aspect S { syn int Sum.a() = total(1); syn int Sum.total() = 1; }",
+            "J5 argument at 1:30"
         )?
     );
     assert!(rt;
@@ -326,11 +306,6 @@ fn all_files_are_read_before_other_rules(rt: HostRuntime) -> Result<(), Fail> {
     assert_eq!(rt;
         text.as_slice(),
         b"more.jrag: J1 syntax at 1:15\n".as_slice()
-    );
-    let text = refusal_of_two(alloc, unknown, "aspect T { syn int Num.a() = 1 / 2; }")?;
-    assert_eq!(rt;
-        text.as_slice(),
-        b"more.jrag: J10 form left out at 1:32\n".as_slice()
     );
     let text = refusal_of_two(alloc, unknown, "aspect T { syn int Sum.a() = 2; }")?;
     assert_eq!(rt;

@@ -2,7 +2,9 @@
 
 use super::aspects::rules_of;
 use super::grammar::classes_of;
-use at_engine::{Engine, LoadFault};
+use at_cache::KeepNone;
+use at_engine::Engine;
+use at_store::LoadFault;
 use at_rules::Rules;
 use at_tree::reader::read_term;
 use at_tree::tree::{Tree, shape};
@@ -17,10 +19,10 @@ fn rules(alloc: Global, grammar: &str) -> Result<Rules, Fail> {
 
 /// The tree that is written so, under that class.
 fn tree(alloc: Global, rules: &Rules, class: &str, term: &str) -> Result<Tree, Fail> {
-    match rules.classes.id_of(class) {
+    match rules.classes().id_of(class) {
         Some(class) => {
             let term = read_term(alloc, term)?;
-            Ok(shape(alloc, &rules.classes, &term, class)?)
+            Ok(shape(alloc, rules.classes(), &term, class)?)
         }
         None => Err(Fail::new("no such class")),
     }
@@ -41,7 +43,7 @@ fn a_tree_of_another_class_fits_no_engine(rt: HostRuntime) -> Result<(), Fail> {
     let alloc = rt.alloc();
     let rules = rules(alloc, "Sum ::= Left:Num Right:Num; Num ::= <Value:int>;")?;
     let tree = tree(alloc, &rules, "Num", "Num(3)")?;
-    assert!(rt; matches!(&Engine::new(alloc, rules, tree), Err(LoadFault::Fit)));
+    assert!(rt; matches!(&Engine::new(alloc, rules, tree, KeepNone::new(alloc)), Err(LoadFault::Fit)));
     Ok(())
 }
 
@@ -50,7 +52,7 @@ fn a_tree_with_a_long_token_is_beyond_the_limits(rt: HostRuntime) -> Result<(), 
     let alloc = rt.alloc();
     let rules = rules(alloc, "A ::= <Name>;")?;
     let tree = tree(alloc, &rules, "A", named(alloc, 4097)?.as_str())?;
-    assert!(rt; matches!(&Engine::new(alloc, rules, tree), Err(LoadFault::Limit)));
+    assert!(rt; matches!(&Engine::new(alloc, rules, tree, KeepNone::new(alloc)), Err(LoadFault::Limit)));
     Ok(())
 }
 
@@ -59,8 +61,8 @@ fn an_engine_starts_at_version_zero(rt: HostRuntime) -> Result<(), Fail> {
     let alloc = rt.alloc();
     let rules = rules(alloc, "A ::= <Name>;")?;
     let tree = tree(alloc, &rules, "A", named(alloc, 4096)?.as_str())?;
-    let engine = Engine::new(alloc, rules, tree)?;
+    let engine = Engine::new(alloc, rules, tree, KeepNone::new(alloc))?;
     assert_eq!(rt; engine.version(), 0);
-    assert_eq!(rt; engine.tree().cells.len(), 1);
+    assert!(rt; engine.tree().live(engine.tree().root()));
     Ok(())
 }

@@ -1,0 +1,12 @@
+//! Questions: the answer that the equations give for an instance, by demands, each of an instance at most once.
+#![tactic(auto)]
+
+mod answer;
+mod demand;
+mod gathering;
+mod question;
+#[cfg(test)]
+mod tests;
+
+pub use answer::Answer;
+pub use demand::Demand;
