@@ -1,5 +1,5 @@
-use crate::{AttrId, Fault, RuleCode, RuleFault, Rules};
-use at_class::{ClassTable, are_named};
+use crate::{AttrId, Body, Fault, Kind, RuleCode, RuleFault, Rules};
+use at_class::{ClassId, ClassTable, are_named};
 use at_grammar::parse_ast;
 use at_jrag::{Aspect, parse_jrag};
 use std::alloc::{AllocError, Global};
@@ -421,53 +421,77 @@ fn limits_are_met(rt: HostRuntime) -> Result<(), Fail> {
     Ok(())
 }
 
+/// The rules of the sample.
+fn sample(alloc: Global) -> Result<Rules, Fail> {
+    match built(alloc, &[NAMES, PROBE])? {
+        Ok(rules) => Ok(rules),
+        Err(_) => Err(Fail::new("refused")),
+    }
+}
+
+fn class(rules: &Rules, name: &str) -> Result<ClassId, Fail> {
+    Ok(rules.classes().id_of(name).ok_or("no class")?)
+}
+
+fn attribute(rules: &Rules, of: &str, name: &str) -> Result<AttrId, Fail> {
+    Ok(rules
+        .attribute(class(rules, of)?, name)
+        .ok_or("no attribute")?)
+}
+
+fn own<'a>(rules: &'a Rules, of: &str, attribute: AttrId) -> Result<Option<&'a Body>, Fail> {
+    Ok(rules.own_body(class(rules, of)?, attribute))
+}
+
 #[test]
-fn attributes_and_equations_are_found(rt: HostRuntime) -> Result<(), Fail> {
-    let alloc = rt.alloc();
-    let Ok(rules) = built(alloc, &[NAMES, PROBE])? else {
-        return Err(Fail::new("refused"));
-    };
-    let id_of = |name: &str| rules.classes().id_of(name).ok_or("no class");
-    let (program, block, usage) = (id_of("Program")?, id_of("Block")?, id_of("Use")?);
-    let (number, decl) = (id_of("Num")?, id_of("Decl")?);
+fn attributes_are_found(rt: HostRuntime) -> Result<(), Fail> {
+    let rules = sample(rt.alloc())?;
+    let number = class(&rules, "Num")?;
     assert_eq!(rt; rules.len(), 17);
-    let lookup = rules.attribute(usage, "lookup").ok_or("no lookup")?;
-    assert_eq!(rt; lookup, AttrId::new(0));
-    assert_eq!(rt; rules.attribute(block, "lookup"), Some(AttrId::new(1)));
+    assert_eq!(rt; attribute(&rules, "Use", "lookup")?, AttrId::new(0));
+    assert_eq!(rt; attribute(&rules, "Block", "lookup")?, AttrId::new(1));
     assert_eq!(rt; rules.attribute(number, "lookup"), None);
     assert_eq!(rt; rules.attribute(number, "nix"), None);
+    Ok(())
+}
+
+#[test]
+fn what_is_declared_is_told(rt: HostRuntime) -> Result<(), Fail> {
+    let rules = sample(rt.alloc())?;
+    let lookup = attribute(&rules, "Use", "lookup")?;
+    let value = attribute(&rules, "Num", "value")?;
     assert_eq!(rt; rules.name_of(lookup), "lookup");
-    assert_eq!(rt; rules.params(lookup), [crate::Kind::Text].as_slice());
-    assert_eq!(rt; rules.result_kind(lookup), crate::Kind::Class(decl));
+    assert_eq!(rt; rules.name_of(AttrId::new(17)), "");
+    assert_eq!(rt; rules.params(lookup), [Kind::Text].as_slice());
+    assert_eq!(rt; rules.result_kind(lookup), Kind::Class(class(&rules, "Decl")?));
     assert!(rt; rules.is_lazy(lookup) && !rules.is_lazy(AttrId::new(1)));
-    let value = rules.attribute(number, "value").ok_or("no value")?;
     assert!(rt; rules.is_inherited(lookup) && !rules.is_inherited(value));
-    assert!(rt;
-        rules.own_body(number, value).is_some() && rules.own_body(id_of("Expr")?, value).is_none()
-    );
-    let declares = rules.attribute(block, "declares").ok_or("no declares")?;
-    assert!(rt;
-        matches!(
-            rules.own_body(block, declares),
-            Some(crate::Body::Truth(false))
-        )
-    );
-    assert!(rt;
-        matches!(
-            rules.own_body(decl, declares),
-            Some(crate::Body::Equals(_, _))
-        )
-    );
-    assert!(rt;
-        matches!(
-            rules.inherited_body(program, 0, lookup),
-            Some(crate::Body::Null)
-        )
-    );
+    Ok(())
+}
+
+#[test]
+fn own_equations_are_found(rt: HostRuntime) -> Result<(), Fail> {
+    let rules = sample(rt.alloc())?;
+    let value = attribute(&rules, "Num", "value")?;
+    let declares = attribute(&rules, "Block", "declares")?;
+    assert!(rt; own(&rules, "Num", value)?.is_some());
+    assert!(rt; own(&rules, "Expr", value)?.is_none());
+    assert!(rt; matches!(own(&rules, "Block", declares)?, Some(Body::Truth(false))));
+    assert!(rt; matches!(own(&rules, "Decl", declares)?, Some(Body::Equals(_, _))));
+    Ok(())
+}
+
+#[test]
+fn inherited_equations_are_found(rt: HostRuntime) -> Result<(), Fail> {
+    let rules = sample(rt.alloc())?;
+    let lookup = attribute(&rules, "Use", "lookup")?;
+    let program = class(&rules, "Program")?;
+    let block = class(&rules, "Block")?;
+    let decl = class(&rules, "Decl")?;
+    assert!(rt; matches!(rules.inherited_body(program, 0, lookup), Some(Body::Null)));
     assert!(rt; rules.inherited_body(block, 0, lookup).is_some());
     assert!(rt; rules.inherited_body(block, 1, lookup).is_none());
     assert!(rt; rules.inherited_body(decl, 1, lookup).is_none());
     assert!(rt; rules.inherited_body(program, 0, AttrId::new(17)).is_none());
-    assert_eq!(rt; rules.name_of(AttrId::new(17)), "");
     Ok(())
 }
