@@ -1,2 +1,3 @@
 mod Locating
 mod Lookups
+mod Numbers

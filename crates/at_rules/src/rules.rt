@@ -40,15 +40,15 @@ impl Model for Rules {
     ghost coded = { Prim.hlevel (codes, expr_code) };
 
     ghost use Rattle.std.specs.Prelude.{map};
-    ghost use Rattle.at_rules.specs.RulesView.{attribute_view, own_view, inherited_view};
+    ghost use Rattle.at_rules.specs.RulesView.{attribute_view, own_view, inherited_view, named};
 
-    ghost view = { λ r. record { classes = r.classes; attributes = map (attribute_view r.names.keys) r.attributes.entries; own = map own_view r.own.entries; inherited = map (inherited_view r.names.keys) r.inherited.entries } };
+    ghost view = { λ r. record { classes = r.classes; attributes = map (attribute_view r.names.keys) r.attributes.entries; own = map own_view r.own.entries; inherited = map (inherited_view r.names.keys) (named r.names.keys r.inherited.entries) } };
 }
 
 impl Rules {
     ghost use Rattle.std.specs.Prelude.{◌≡◌, ◌<◌, length, map, option_map, IfSome};
     ghost use Rattle.at_model.specs.Machine.{parameters_of};
-    ghost use Rattle.at_model.specs.Rules.{attribute_name, is_inherited, is_lazy, own_equation, own_in};
+    ghost use Rattle.at_model.specs.Rules.{attribute_name, inherited_equation, is_inherited, is_lazy, own_equation, own_in};
     ghost use Rattle.at_rules.specs.Bodies.{body_view, kind_view};
 
     /// The classes.
@@ -155,40 +155,78 @@ impl Rules {
 
     /// The body of the equation that nodes of the class have for that inherited attribute of the nodes in a
     /// component: in the first class upward that has one, the one for the component before the one for each.
-    pub fn inherited_body(&self, class: ClassId, part: usize, attribute: AttrId) -> Option<&Body> {
-        let name = self.name_number(attribute)?;
-        let mut next = Some(class);
-        for step in 0..self.classes.len() {
-            let Some(class) = next else { return None };
-            if let Some(body) = self.inherited_in(class, part, name) {
-                return Some(body);
-            }
-            next = self.classes.parent(class);
-        }
-        None
-    }
-
-    /// The body of the equation that the class itself has for the name and the component, or for the name and
-    /// each component.
-    fn inherited_in(&self, class: ClassId, part: usize, name: usize) -> Option<&Body> {
-        match self.inherited.get(&(class.index(), Some(part), name)) {
-            Some(body) => Some(body),
-            None => self.inherited.get(&(class.index(), None, name)),
-        }
-    }
-
-    /// The number of the attribute's name. A number that no attribute has stands for the name without
-    /// characters.
-    fn name_number(&self, attribute: AttrId) -> Option<usize> {
-        match self.attributes.get_index(attribute.index()) {
-            Some((key, _)) => Some(key.1),
-            None => self.names.get_index_of(""),
-        }
+    pub fn inherited_body(&self, class: ClassId, part: usize, attribute: AttrId) -> Option<&Body>
+        ensures { option_map (λ b. body_view b.now) result ≡ inherited_equation self.now class part (attribute_name self.now attribute) }
+    {
+        let name = name_number(&self.names, &self.attributes, attribute)?;
+        inherited_above(&self.classes, &self.inherited, class, part, name)
     }
 }
 
-ghost use Rattle.std.specs.Prelude.{◌≡◌};
-ghost use Rattle.at_rules.specs.RulesView.{text_of};
+ghost use Rattle.std.specs.Prelude.{◌≡◌, ◌<◌, length, option_map, IfNone, IfSome};
+ghost use Rattle.std.specs.List.{IsDistinct};
+ghost use Rattle.std.specs.String.{string_eq};
+ghost use Rattle.at_model.specs.Classes.{chain};
+ghost use Rattle.at_model.specs.Rules.{first_answer};
+ghost use Rattle.at_rules.specs.Bodies.{body_view};
+ghost use Rattle.at_rules.specs.RulesView.{text_of, name_in, numbered_in, LacksText};
+
+/// The number of the attribute's name. A number that no attribute has stands for the name without characters.
+fn name_number(
+    names: &IndexSet<String>,
+    attributes: &IndexMap<(usize, usize), Attribute>,
+    attribute: AttrId,
+) -> Option<usize>
+    ensures found { IfSome result (λ n. (n < length names.now.keys) × (text_of names.now.keys n ≡ name_in names.now.keys attributes.now.entries attribute)) }
+    ensures absent { IfNone result (LacksText names.now.keys (name_in names.now.keys attributes.now.entries attribute)) }
+    ensures distinct { IsDistinct string_eq names.now.keys }
+{
+    let count = names.len();
+    if let Some((key, _)) = attributes.get_index(attribute.index()) {
+        if key.1 < count {
+            return Some(key.1);
+        }
+    }
+    names.get_index_of("")
+}
+
+/// The body of the equation for the name of that number and a component: in the first class upward that has
+/// one, the one for the component before the one for each.
+fn inherited_above<'a>(
+    classes: &ClassTable,
+    inherited: &'a IndexMap<(usize, Option<usize>, usize), Body>,
+    class: ClassId,
+    part: usize,
+    name: usize,
+) -> Option<&'a Body>
+    ensures { option_map (λ b. body_view b.now) result ≡ first_answer (numbered_in inherited.now.entries name part) (chain classes.now class) }
+{
+    let mut next = Some(class);
+    for step in 0..classes.len() {
+        let Some(class) = next else { return None };
+        if let Some(body) = inherited_in(inherited, class, part, name) {
+            return Some(body);
+        }
+        next = classes.parent(class);
+    }
+    None
+}
+
+/// The body of the equation that the class itself has for the name and the component, or for the name and
+/// each component.
+fn inherited_in<'a>(
+    inherited: &'a IndexMap<(usize, Option<usize>, usize), Body>,
+    class: ClassId,
+    part: usize,
+    name: usize,
+) -> Option<&'a Body>
+    ensures { option_map (λ b. body_view b.now) result ≡ numbered_in inherited.now.entries name part class }
+{
+    match inherited.get(&(class.index(), Some(part), name)) {
+        Some(body) => Some(body),
+        None => inherited.get(&(class.index(), None, name)),
+    }
+}
 
 /// The name of that number, nothing where there is none.
 fn text_at(names: &IndexSet<String>, number: usize) -> &str
