@@ -12,11 +12,11 @@ ghost use Rattle.at_body.specs.Values.{value_view};
 ghost use Rattle.at_rules.specs.Bodies.{body_view};
 ghost use Rattle.at_body.specs.Rest.{rest, weight, over, gone_over, folded, decided, load};
 
-use at_rules::Body;
-use at_store::{Loc, Node, Store};
 use super::todo::{Fold, Now, Todo};
 use super::trial::Trial;
 use super::value::{FaultKind, Value};
+use at_rules::Body;
+use at_store::{Loc, Node, Store};
 use std::alloc::AllocError;
 
 impl<'a> Trial<'a> {

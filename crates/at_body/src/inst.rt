@@ -3,9 +3,9 @@
 ghost use Rattle.std.specs.Prelude.{◌≡◌, ◌++◌, IfOk, map};
 ghost use Rattle.at_body.specs.Values.{value_view};
 
+use super::value::Value;
 use at_rules::AttrId;
 use at_store::Node;
-use super::value::Value;
 use smallvec::SmallVec;
 use std::alloc::{AllocError, Global};
 use std::hash::{Hash, Hasher};

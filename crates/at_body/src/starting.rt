@@ -9,15 +9,15 @@ ghost use Rattle.at_body.specs.Values.{value_view};
 ghost use Rattle.at_body.specs.Rest.{rest, reached};
 ghost use Rattle.at_body.specs.Starting.{own_of, by_rule};
 
-use at_rules::{AttrId, Rules};
 use super::inst::{Inst, copied};
-use at_store::{Loc, Store};
 use super::reads::Reads;
 use super::stack::Stack;
 use super::todo::Now;
 use super::trial::{Step, Trial};
 use super::value::{FaultKind, Value};
 use at_class::ClassId;
+use at_rules::{AttrId, Rules};
+use at_store::{Loc, Store};
 use std::alloc::{AllocError, Global};
 
 /// The most nodes on a way down.

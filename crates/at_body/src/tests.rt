@@ -159,7 +159,12 @@ fn reads_stand_in_order(rt: HostRuntime) -> Result<(), Fail> {
     let block = at(alloc, &sample, "/Block")?;
     let (tried, reads) = tried(alloc, "/Block/Stmt:1", "pos")?;
     assert!(rt; is_value(&tried, &Value::Int(1)));
-    let looked = [Loc::Is(print), Loc::Up(print), Loc::Is(block), Loc::Idx(print)];
+    let looked = [
+        Loc::Is(print),
+        Loc::Up(print),
+        Loc::Is(block),
+        Loc::Idx(print),
+    ];
     assert!(rt; reads.as_slice() == looked.as_slice());
     assert_eq!(rt; reads.len(), 4);
     Ok(())

@@ -1,10 +1,10 @@
 //! What is left to do.
 
-use at_rules::{AttrId, Body, Operator, Order};
 use super::inst::{Arguments, Inst};
-use at_store::Node;
 use super::value::{FaultKind, Value};
 use at_class::ClassId;
+use at_rules::{AttrId, Body, Operator, Order};
+use at_store::Node;
 
 /// What is done with one value.
 #[derive(Clone, Copy, Debug)]

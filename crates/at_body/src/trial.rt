@@ -13,13 +13,13 @@ ghost use Rattle.at_body.specs.Standing.{scope};
 ghost use Rattle.at_body.specs.declared.todo.Now.TheVariants.{Enter};
 ghost use Rattle.at_body.specs.Rest.{rest, weight, place_of, onto, begun, resumed, used, called, gone_over, reached, left, load, cost};
 
-use at_rules::{AttrId, Body, Rules};
 use super::inst::{Arguments, Inst};
-use at_store::{Loc, Node, Store};
 use super::reads::Reads;
 use super::stack::Stack;
 use super::todo::{Binary, Fold, Now, Todo, Unary};
 use super::value::{FaultKind, Value};
+use at_rules::{AttrId, Body, Rules};
+use at_store::{Loc, Node, Store};
 use std::alloc::{AllocError, Global};
 
 /// An evaluation under way: where it stands, what is left to do, and the locations that it has looked at.

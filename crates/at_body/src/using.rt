@@ -12,12 +12,12 @@ ghost use Rattle.at_rules.specs.Bodies.{operator_view, order_view};
 ghost use Rattle.at_body.specs.declared.trial.Trial.{Trial};
 ghost use Rattle.at_body.specs.Rest.{rest, weight, onto, load, with_one, with_two};
 
-use at_rules::{Operator, Order, Rules};
-use at_store::{Loc, Node, Store};
 use super::todo::{Binary, Now, Unary};
 use super::trial::Trial;
 use super::value::{FaultKind, Value};
 use at_class::ClassId;
+use at_rules::{Operator, Order, Rules};
+use at_store::{Loc, Node, Store};
 use itoa::Buffer;
 use std::alloc::{AllocError, Global};
 
