@@ -11,6 +11,8 @@ ghost use Rattle.at_body.specs.Values.{value_view};
 ghost use Rattle.at_rules.specs.Bodies.{body_view, bodies_view};
 ghost use Rattle.at_body.specs.Standing.{scope};
 ghost use Rattle.at_body.specs.declared.todo.Now.TheVariants.{Enter};
+ghost use Rattle.at_body.specs.declared.todo.Todo.TheVariants.{And, Choose, Elements, Or, Right};
+ghost use Rattle.at_body.specs.declared.trial.Trial.{Trial};
 ghost use Rattle.at_body.specs.Rest.{rest, weight, place_of, onto, begun, resumed, used, called, gone_over, reached, left, load, cost};
 
 use super::inst::{Arguments, Inst};
@@ -109,33 +111,27 @@ impl<'a> Trial<'a> {
             Body::IndexName => self.index(store),
             Body::Negate(a) => self.then(Todo::Use(Unary::Negate), a),
             Body::Not(a) => self.then(Todo::Use(Unary::Not), a),
-            Body::Arithmetic(operator, a, b) => {
-                self.then(Todo::Right(Binary::Arithmetic(*operator), b), a)
-            }
-            Body::Compare(order, a, b) => self.then(Todo::Right(Binary::Compare(*order), b), a),
-            Body::Join(a, b) => self.then(Todo::Right(Binary::Join, b), a),
-            Body::JoinInt(a, b) => self.then(Todo::Right(Binary::JoinInt, b), a),
-            Body::Same(a, b) => self.then(Todo::Right(Binary::Same, b), a),
-            Body::Differ(a, b) => self.then(Todo::Right(Binary::Differ, b), a),
+            Body::Arithmetic(operator, a, b) => self.operands(Binary::Arithmetic(*operator), a, b),
+            Body::Compare(order, a, b) => self.operands(Binary::Compare(*order), a, b),
+            Body::Join(a, b) => self.operands(Binary::Join, a, b),
+            Body::JoinInt(a, b) => self.operands(Binary::JoinInt, a, b),
+            Body::Same(a, b) => self.operands(Binary::Same, a, b),
+            Body::Differ(a, b) => self.operands(Binary::Differ, a, b),
             Body::And(a, b) => self.then(Todo::And(b), a),
             Body::Or(a, b) => self.then(Todo::Or(b), a),
             Body::Choose(test, yes, no) => self.then(Todo::Choose(yes, no), test),
-            Body::Equals(a, b) => self.then(Todo::Right(Binary::Equals, b), a),
+            Body::Equals(a, b) => self.operands(Binary::Equals, a, b),
             Body::InstanceOf(a, class) => self.then(Todo::Use(Unary::InstanceOf(*class)), a),
             Body::CastTo(class, a) => self.then(Todo::Use(Unary::CastTo(*class)), a),
             Body::Child(a, part) => self.then(Todo::Use(Unary::Child(*part)), a),
-            Body::Element(a, part, b) => self.then(Todo::Right(Binary::Element(*part), b), a),
+            Body::Element(a, part, b) => self.operands(Binary::Element(*part), a, b),
             Body::Count(a, part) => self.then(Todo::Use(Unary::Count(*part)), a),
             Body::Has(a, part) => self.then(Todo::Use(Unary::Has(*part)), a),
             Body::TokenOf(a, part) => self.then(Todo::Use(Unary::Token(*part)), a),
-            Body::Call(a, attribute, arguments) => {
-                self.then(Todo::Arguments(*attribute, arguments), a)
-            }
-            Body::Exists(a, part, b) => self.then(Todo::Elements(Fold::Exists, *part, b), a),
-            Body::First(a, part, b) => self.then(Todo::Elements(Fold::First, *part, b), a),
-            Body::Sum(a, part, b) => {
-                self.then(Todo::Elements(Fold::Sum(Value::Int(0)), *part, b), a)
-            }
+            Body::Call(a, attribute, passed) => self.then(Todo::Arguments(*attribute, passed), a),
+            Body::Exists(a, part, b) => self.over(Fold::Exists, a, *part, b),
+            Body::First(a, part, b) => self.over(Fold::First, a, *part, b),
+            Body::Sum(a, part, b) => self.over(Fold::Sum(Value::Int(0)), a, *part, b),
         }
     }
 
@@ -145,6 +141,31 @@ impl<'a> Trial<'a> {
     {
         self.todo.push(todo)?;
         Ok(Now::Enter(body))
+    }
+
+    /// Evaluates the operands, the left one first, for a use of both values.
+    fn operands(
+        &mut self,
+        binary: Binary,
+        left: &'a Body,
+        right: &'a Body,
+    ) -> Result<Now<'a>, AllocError>
+        ensures { IfOk result (λ now. (now ≡ Enter left.entry) × (self.new ≡ record self.old { todo = Right binary right.entry ∷ self.old.todo })) }
+    {
+        self.then(Todo::Right(binary, right), left)
+    }
+
+    /// Evaluates the node over whose elements in a component the fold of an expression goes.
+    fn over(
+        &mut self,
+        fold: Fold,
+        node: &'a Body,
+        part: usize,
+        body: &'a Body,
+    ) -> Result<Now<'a>, AllocError>
+        ensures { IfOk result (λ now. (now ≡ Enter node.entry) × (self.new ≡ record self.old { todo = Elements fold part body.entry ∷ self.old.todo })) }
+    {
+        self.then(Todo::Elements(fold, part, body), node)
     }
 
     /// What a name stands for.
@@ -202,27 +223,9 @@ impl<'a> Trial<'a> {
             Todo::Use(unary) => self.unary(rules, store, unary, &value),
             Todo::Right(binary, right) => self.then(Todo::Apply(binary, value), right),
             Todo::Apply(binary, left) => self.binary(alloc, store, binary, left, &value),
-            Todo::And(right) => {
-                if value.truth() {
-                    Ok(Now::Enter(right))
-                } else {
-                    Ok(Now::Back(Value::Bool(false)))
-                }
-            }
-            Todo::Or(right) => {
-                if value.truth() {
-                    Ok(Now::Back(Value::Bool(true)))
-                } else {
-                    Ok(Now::Enter(right))
-                }
-            }
-            Todo::Choose(yes, no) => {
-                if value.truth() {
-                    Ok(Now::Enter(yes))
-                } else {
-                    Ok(Now::Enter(no))
-                }
-            }
+            Todo::And(right) => Ok(and(&value, right)),
+            Todo::Or(right) => Ok(or(&value, right)),
+            Todo::Choose(yes, no) => Ok(choose(&value, yes, no)),
             Todo::Arguments(attribute, arguments) => {
                 self.next_argument(attribute, value.node(), Arguments::new(alloc), arguments)
             }
@@ -269,4 +272,37 @@ fn at(arguments: &[Value], position: usize) -> Option<&Value>
     ensures { option_copied result ≡ slice_get arguments.now position }
 {
     arguments.iter().nth(position)
+}
+
+/// The right operand of `&&` where the left one is true.
+fn and<'a>(left: &Value, right: &'a Body) -> Now<'a>
+    ensures same { (classes : Classes) (t : Trial) → used classes (And right.entry) t (value_view left.now) ≡ rest classes result t }
+    ensures less { (t : Trial) → weight result t < cost (And right.entry) + load t.todo }
+{
+    if left.truth() {
+        return Now::Enter(right);
+    }
+    Now::Back(Value::Bool(false))
+}
+
+/// The right operand of `||` where the left one is false.
+fn or<'a>(left: &Value, right: &'a Body) -> Now<'a>
+    ensures same { (classes : Classes) (t : Trial) → used classes (Or right.entry) t (value_view left.now) ≡ rest classes result t }
+    ensures less { (t : Trial) → weight result t < cost (Or right.entry) + load t.todo }
+{
+    if left.truth() {
+        return Now::Back(Value::Bool(true));
+    }
+    Now::Enter(right)
+}
+
+/// The expression that a truth value chooses.
+fn choose<'a>(test: &Value, yes: &'a Body, no: &'a Body) -> Now<'a>
+    ensures same { (classes : Classes) (t : Trial) → used classes (Choose yes.entry no.entry) t (value_view test.now) ≡ rest classes result t }
+    ensures less { (t : Trial) → weight result t < cost (Choose yes.entry no.entry) + load t.todo }
+{
+    if test.truth() {
+        return Now::Enter(yes);
+    }
+    Now::Enter(no)
 }

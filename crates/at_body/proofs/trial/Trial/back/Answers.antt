@@ -1,7 +1,8 @@
 use Rattle.at_store.specs.Shown.{contents}
-use Rattle.std.proofs.Common.{refl}
+use Rattle.std.proofs.Common.{ap, refl}
 use Rattle.at_body.specs.declared.todo.Todo.TheVariants.{Apply}
 use Rattle.at_model.specs.Run.{Ref}
+use Rattle.at_model.specs.Follow.{follow}
 use Rattle.at_body.specs.Values.{value_view}
 use Rattle.at_rules.specs.Bodies.{bodies_view}
 use Rattle.at_body.proofs.Uses.{followed, puts, right_shape, one_more, unbound}
@@ -24,3 +25,12 @@ returns-clause-same c = rw c.in-Element.is (unbound _ (contents c.args.store.now
 
 pub returns-in-Apply-clause-same : goal.returns-in-Apply-clause-same
 returns-in-Apply-clause-same c = rw c.in-Apply.is (c.binary.ensures.same c.args.rules.now.classes)
+
+pub returns-in-And-clause-same : goal.returns-in-And-clause-same
+returns-in-And-clause-same c = rw c.in-And.is (ap (follow (contents c.args.store.now) c.args.self.now.reads) (c.and.ensures.same c.args.rules.now.classes c.args.self.now))
+
+pub returns-in-Or-clause-same : goal.returns-in-Or-clause-same
+returns-in-Or-clause-same c = rw c.in-Or.is (ap (follow (contents c.args.store.now) c.args.self.now.reads) (c.or.ensures.same c.args.rules.now.classes c.args.self.now))
+
+pub returns-in-Choose-clause-same : goal.returns-in-Choose-clause-same
+returns-in-Choose-clause-same c = rw c.in-Choose.is (ap (follow (contents c.args.store.now) c.args.self.now.reads) (c.choose.ensures.same c.args.rules.now.classes c.args.self.now))
