@@ -47,11 +47,11 @@ same_key names apart c a o p n m within other =
     ∙ ap (λ x. (nat_eq a c && x) && nat_eq n m) (same_part o p)
     ∙ ap (λ x. (nat_eq a c && part_eq p o) && x) (same_either n m ∙ sym (same_text names apart m n other within))
 
-off : (a b : Bool) → b ≡ false → (a && b) ≡ false
+pub off : (a b : Bool) → b ≡ false → (a && b) ≡ false
 off true b is = is
 off false b is = refl
 
-beyond : (n i l : ℕ) → n < l → nat_lt i l ≡ false → nat_eq n i ≡ false
+pub beyond : (n i l : ℕ) → n < l → nat_lt i l ≡ false → nat_eq n i ≡ false
 beyond n i l within out = by (nat_eq n i) refl
   where
     by : (b : Bool) → nat_eq n i ≡ b → nat_eq n i ≡ false
@@ -85,7 +85,7 @@ or_false : (a b : Bool) → (a || b) ≡ false → (a ≡ false) × (b ≡ false
 or_false false b is = (refl, is)
 or_false true b is = absurd (true≢false is)
 
-lacks_each : {Z : Type 0} (names : List (String Z)) (text : List ℕ) → LacksText names text → (i : ℕ) → i < length names → bytes_eq (text_of names i) text ≡ false
+pub lacks_each : {Z : Type 0} (names : List (String Z)) (text : List ℕ) → LacksText names text → (i : ℕ) → i < length names → bytes_eq (text_of names i) text ≡ false
 lacks_each [] text lacks i within = absurd (omega arith)
 lacks_each (s ∷ ss) text lacks zero within = nat_list_eq_equiv.symm (string_bytes s) text ∙ (or_false (bytes_eq text (string_bytes s)) (list_any (λ k. bytes_eq text (string_bytes k)) ss) lacks).0
 lacks_each (s ∷ ss) text lacks (suc i) within = lacks_each ss text (or_false (bytes_eq text (string_bytes s)) (list_any (λ k. bytes_eq text (string_bytes k)) ss) lacks).1 i (omega arith)

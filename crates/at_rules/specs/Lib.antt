@@ -7,3 +7,4 @@ pub mod Typed
 pub mod Located
 pub mod Marks
 pub mod RulesView
+pub mod Upward

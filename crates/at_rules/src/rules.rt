@@ -46,10 +46,11 @@ impl Model for Rules {
 }
 
 impl Rules {
-    ghost use Rattle.std.specs.Prelude.{◌≡◌, ◌<◌, length, map, option_map, IfSome};
+    ghost use Rattle.std.specs.Prelude.{◌≡◌, ◌<◌, [], length, map, option_map, IfSome};
     ghost use Rattle.at_model.specs.Machine.{parameters_of};
-    ghost use Rattle.at_model.specs.Rules.{attribute_name, inherited_equation, is_inherited, is_lazy, own_equation, own_in};
+    ghost use Rattle.at_model.specs.Rules.{attribute_name, attribute_named, inherited_equation, is_inherited, is_lazy, own_equation, own_in};
     ghost use Rattle.at_rules.specs.Bodies.{body_view, kind_view};
+    ghost use Rattle.at_rules.specs.Upward.{result_of};
 
     /// The classes.
     pub fn classes(&self) -> &ClassTable
@@ -65,20 +66,15 @@ impl Rules {
         self.attributes.len()
     }
 
-    /// The attribute of that name that the class or one above it declares.
+    /// The attribute of that name that the class or one above it declares: the first one among the
+    /// declarations. Of the name without characters, which no attribute has, nothing is said.
     pub fn attribute(&self, class: ClassId, name: &str) -> Option<AttrId>
         ensures within { IfSome result (λ a. a < length self.now.attributes) }
+        ensures named { (name.now ≡ [] → ⊥) → result ≡ attribute_named self.now class name.now }
     {
-        let name = self.names.get_index_of(name)?;
-        let mut next = Some(class);
-        for step in 0..self.classes.len() {
-            let Some(class) = next else { return None };
-            if let Some(position) = self.attributes.get_index_of(&(class.index(), name)) {
-                return Some(AttrId::new(position));
-            }
-            next = self.classes.parent(class);
-        }
-        None
+        let name = number_named(&self.names, name)?;
+        let position = declared_above(&self.classes, &self.attributes, class, name)?;
+        Some(AttrId::new(position))
     }
 
     /// The kinds of the attribute's parameters.
@@ -92,7 +88,9 @@ impl Rules {
     }
 
     /// The kind of the attribute's values.
-    pub fn result_kind(&self, attribute: AttrId) -> Kind {
+    pub fn result_kind(&self, attribute: AttrId) -> Kind
+        ensures { kind_view result ≡ result_of self.now attribute }
+    {
         match self.attributes.get_index(attribute.index()) {
             Some((_, declared)) => declared.result,
             None => Kind::Int,
@@ -170,6 +168,50 @@ ghost use Rattle.at_model.specs.Classes.{chain};
 ghost use Rattle.at_model.specs.Rules.{first_answer};
 ghost use Rattle.at_rules.specs.Bodies.{body_view};
 ghost use Rattle.at_rules.specs.RulesView.{text_of, name_in, numbered_in, LacksText};
+ghost use Rattle.at_rules.specs.Upward.{earlier, declared_in};
+ghost use Rattle.std.specs.Map.{keys_of};
+ghost use Rattle.std.specs.Prelude.{position, is_some, string_bytes, bytes_eq};
+ghost use Rattle.std.specs.List.{list_any};
+
+/// The number of the name, where it is one.
+fn number_named(names: &IndexSet<String>, name: &str) -> Option<usize>
+    ensures index { result ≡ position (λ k. bytes_eq name.now (string_bytes k)) names.now.keys }
+    ensures found { is_some result ≡ list_any (λ k. bytes_eq name.now (string_bytes k)) names.now.keys }
+    ensures distinct { IsDistinct string_eq names.now.keys }
+{
+    if names.len() == 0 {
+        return None;
+    }
+    names.get_index_of(name)
+}
+
+/// The position of the first attribute of the name of that number that the class or one above it declares.
+fn declared_above(
+    classes: &ClassTable,
+    attributes: &IndexMap<(usize, usize), Attribute>,
+    class: ClassId,
+    name: usize,
+) -> Option<usize>
+    ensures { result ≡ declared_in (keys_of attributes.now.entries) name (chain classes.now class) }
+{
+    let mut found = None;
+    let mut next = Some(class);
+    for step in 0..classes.len() {
+        let Some(class) = next else { return found };
+        found = earlier(found, attributes.get_index_of(&(class.index(), name)));
+        next = classes.parent(class);
+    }
+    found
+}
+
+/// The lesser of two positions, where they are.
+fn earlier(found: Option<usize>, other: Option<usize>) -> Option<usize>
+    ensures { result ≡ earlier found other }
+{
+    let Some(i) = found else { return other };
+    let Some(j) = other else { return found };
+    Some(i.min(j))
+}
 
 /// The number of the attribute's name. A number that no attribute has stands for the name without characters.
 fn name_number(

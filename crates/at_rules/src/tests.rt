@@ -434,9 +434,11 @@ fn class(rules: &Rules, name: &str) -> Result<ClassId, Fail> {
 }
 
 fn attribute(rules: &Rules, of: &str, name: &str) -> Result<AttrId, Fail> {
-    Ok(rules
-        .attribute(class(rules, of)?, name)
-        .ok_or("no attribute")?)
+    Ok(
+        rules
+            .attribute(class(rules, of)?, name)
+            .ok_or("no attribute")?,
+    )
 }
 
 fn own<'a>(rules: &'a Rules, of: &str, attribute: AttrId) -> Result<Option<&'a Body>, Fail> {
@@ -463,7 +465,10 @@ fn what_is_declared_is_told(rt: HostRuntime) -> Result<(), Fail> {
     assert_eq!(rt; rules.name_of(lookup), "lookup");
     assert_eq!(rt; rules.name_of(AttrId::new(17)), "");
     assert_eq!(rt; rules.params(lookup), [Kind::Text].as_slice());
-    assert_eq!(rt; rules.result_kind(lookup), Kind::Class(class(&rules, "Decl")?));
+    assert_eq!(rt;
+        rules.result_kind(lookup),
+        Kind::Class(class(&rules, "Decl")?)
+    );
     assert!(rt; rules.is_lazy(lookup) && !rules.is_lazy(AttrId::new(1)));
     assert!(rt; rules.is_inherited(lookup) && !rules.is_inherited(value));
     Ok(())
