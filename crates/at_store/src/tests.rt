@@ -1,4 +1,10 @@
-use crate::{Edit, LoadFault, Loc, Node, Refusal, Store};
+//! Worked cases, with expected values from outside.
+ghost use Rattle.std.specs.Prelude.{◌≡◌, IfSome, true};
+ghost use Rattle.at_model.specs.Trees.{conforms};
+ghost use Rattle.at_store.specs.Refusing.{node_of};
+ghost use Rattle.at_store.specs.Shown.{IsIdle, tree};
+
+use crate::{Edit, LoadFault, Loc, Node, Ready, Refusal, Store};
 use at_class::{ClassTable, are_named};
 use at_grammar::parse_ast;
 use at_tree::path::{read_path, write_path};
@@ -36,12 +42,20 @@ fn term(alloc: Global, classes: &ClassTable, text: &str) -> Option<Tree> {
     shape(alloc, classes, &term, class).ok()
 }
 
-fn loaded(alloc: Global, classes: &ClassTable, text: &str) -> Option<Store> {
-    Store::load(alloc, classes, term(alloc, classes, text)?).ok()
+fn loaded(alloc: Global, classes: &ClassTable, text: &str) -> Option<Store>
+    ensures idle { IfSome result (λ s. IsIdle s) }
+    ensures conforming { IfSome result (λ s. conforms classes.now (tree s) 0 ≡ true) }
+{
+    match Store::load(alloc, classes, term(alloc, classes, text)?) {
+        Ok(store) => Some(store),
+        Err(_) => None,
+    }
 }
 
 // The node at a path.
-fn at(alloc: Global, classes: &ClassTable, store: &Store, text: &str) -> Option<Node> {
+fn at(alloc: Global, classes: &ClassTable, store: &Store, text: &str) -> Option<Node>
+    requires { IsIdle store.now }
+{
     let path = read_path(alloc, text).ok()?;
     store.resolve(classes, store.root(), &path.steps)
 }
@@ -52,7 +66,9 @@ fn shows(
     classes: &ClassTable,
     store: &Store,
     text: &str,
-) -> Result<bool, AllocError> {
+) -> Result<bool, AllocError>
+    requires { IsIdle store.now }
+{
     let mut out = Vec::new(alloc);
     write_term(classes, &store.tree_of(alloc, store.root())?, &mut out)?;
     Ok(out.as_slice() == text.as_bytes())
@@ -65,7 +81,9 @@ fn stands_at(
     store: &Store,
     node: Node,
     text: &str,
-) -> Option<bool> {
+) -> Option<bool>
+    requires { IsIdle store.now }
+{
     let path = store.path_of(alloc, classes, node).ok()?;
     if read_path(alloc, text).ok()? != path {
         return Some(false);
@@ -73,8 +91,29 @@ fn stands_at(
     Some(store.resolve(classes, store.root(), &path.steps) == Some(node))
 }
 
-// Checks an edit and commits it.
-fn done(alloc: Global, classes: &ClassTable, store: &mut Store, edit: Edit) -> bool {
+// The node that an edit names.
+fn named(edit: &Edit) -> Node
+    ensures { result ≡ node_of edit.now }
+{
+    match edit {
+        Edit::Set { node, .. } => *node,
+        Edit::Put { node, .. } => *node,
+        Edit::Drop { node } => *node,
+        Edit::Insert { node, .. } => *node,
+        Edit::Token { node, .. } => *node,
+    }
+}
+
+// Checks an edit of a node that is there, and commits it.
+fn done(alloc: Global, classes: &ClassTable, store: &mut Store, edit: Edit) -> bool
+    requires idle { IsIdle store.old }
+    requires conforming { conforms classes.now (tree store.old) 0 ≡ true }
+    ensures idle { IsIdle store.new }
+    ensures conforming { conforms classes.now (tree store.new) 0 ≡ true }
+{
+    if !store.live(named(&edit)) {
+        return false;
+    }
     match store.check(alloc, classes, edit) {
         Ok(ready) => {
             store.commit(ready);
@@ -84,14 +123,93 @@ fn done(alloc: Global, classes: &ClassTable, store: &mut Store, edit: Edit) -> b
     }
 }
 
-// Why an edit is refused.
-fn refused(alloc: Global, classes: &ClassTable, store: &mut Store, edit: Edit) -> Option<Refusal> {
+// Why an edit of a node that is there is refused.
+fn refused(alloc: Global, classes: &ClassTable, store: &mut Store, edit: Edit) -> Option<Refusal>
+    requires idle { IsIdle store.old }
+    requires conforming { conforms classes.now (tree store.old) 0 ≡ true }
+    ensures idle { IsIdle store.new }
+    ensures conforming { conforms classes.now (tree store.new) 0 ≡ true }
+{
+    if !store.live(named(&edit)) {
+        return None;
+    }
     match store.check(alloc, classes, edit) {
         Ok(ready) => {
             store.cancel(ready);
             None
         }
         Err(reason) => Some(reason),
+    }
+}
+
+// Whether the prepared edit touches each of the one locations and none of the others.
+fn touches_just(store: &Store, ready: &Ready, touched: &[Loc], others: &[Loc]) -> bool {
+    for loc in touched {
+        if !store.touches(ready, *loc) {
+            return false;
+        }
+    }
+    for loc in others {
+        if store.touches(ready, *loc) {
+            return false;
+        }
+    }
+    true
+}
+
+// Whether an edit of a node that is there is prepared, and touches each of the one locations and none of the others. It is then
+// cancelled.
+fn would_touch(
+    alloc: Global,
+    classes: &ClassTable,
+    store: &mut Store,
+    edit: Edit,
+    touched: &[Loc],
+    others: &[Loc],
+) -> bool
+    requires idle { IsIdle store.old }
+    requires conforming { conforms classes.now (tree store.old) 0 ≡ true }
+    ensures idle { IsIdle store.new }
+    ensures conforming { conforms classes.now (tree store.new) 0 ≡ true }
+{
+    if !store.live(named(&edit)) {
+        return false;
+    }
+    match store.check(alloc, classes, edit) {
+        Ok(ready) => {
+            let just = touches_just(store, &ready, touched, others);
+            store.cancel(ready);
+            just
+        }
+        Err(_) => false,
+    }
+}
+
+// Whether an edit of a node that is there is prepared, and touches each of the one locations and none of the others. It is then
+// committed.
+fn done_touching(
+    alloc: Global,
+    classes: &ClassTable,
+    store: &mut Store,
+    edit: Edit,
+    touched: &[Loc],
+    others: &[Loc],
+) -> bool
+    requires idle { IsIdle store.old }
+    requires conforming { conforms classes.now (tree store.old) 0 ≡ true }
+    ensures idle { IsIdle store.new }
+    ensures conforming { conforms classes.now (tree store.new) 0 ≡ true }
+{
+    if !store.live(named(&edit)) {
+        return false;
+    }
+    match store.check(alloc, classes, edit) {
+        Ok(ready) => {
+            let just = touches_just(store, &ready, touched, others);
+            store.commit(ready);
+            just
+        }
+        Err(_) => false,
     }
 }
 
@@ -115,7 +233,9 @@ fn blocks(alloc: Global, times: usize) -> Result<String, AllocError> {
 fn reads_a_tree(rt: HostRuntime) -> Result<(), Fail> {
     let alloc = rt.alloc();
     let classes = calc(alloc).ok_or("calc")?;
-    let store = loaded(alloc, &classes, TREE).ok_or("store")?;
+    let Some(store) = loaded(alloc, &classes, TREE) else {
+        return Err("store".into());
+    };
     assert!(rt; shows(alloc, &classes, &store, TREE)?);
     let root = store.root();
     let block = store.child(root, 0).ok_or("no block")?;
@@ -184,7 +304,9 @@ fn decl_z(alloc: Global, classes: &ClassTable) -> Option<Tree> {
 fn refuses_edits(rt: HostRuntime) -> Result<(), Fail> {
     let alloc = rt.alloc();
     let classes = calc(alloc).ok_or("calc")?;
-    let mut store = loaded(alloc, &classes, TREE).ok_or("store")?;
+    let Some(mut store) = loaded(alloc, &classes, TREE) else {
+        return Err("store".into());
+    };
     let block = at(alloc, &classes, &store, "/Block").ok_or("no block")?;
     let decl = at(alloc, &classes, &store, "/Block/Stmt:0").ok_or("no declaration")?;
     let print = at(alloc, &classes, &store, "/Block/Stmt:1").ok_or("no print")?;
@@ -309,50 +431,42 @@ fn refuses_edits(rt: HostRuntime) -> Result<(), Fail> {
 fn touches_what_a_drop_takes(rt: HostRuntime) -> Result<(), Fail> {
     let alloc = rt.alloc();
     let classes = calc(alloc).ok_or("calc")?;
-    let mut store = loaded(alloc, &classes, TREE).ok_or("store")?;
+    let Some(mut store) = loaded(alloc, &classes, TREE) else {
+        return Err("store".into());
+    };
     let block = at(alloc, &classes, &store, "/Block").ok_or("no block")?;
     let decl = at(alloc, &classes, &store, "/Block/Stmt:0").ok_or("no declaration")?;
     let init = at(alloc, &classes, &store, "/Block/Stmt:0/Init").ok_or("no number")?;
     let print = at(alloc, &classes, &store, "/Block/Stmt:1").ok_or("no print")?;
-    for round in 0..2 {
-        let Ok(ready) = store.check(alloc, &classes, Edit::Drop { node: decl }) else {
-            return Err("refused".into());
-        };
-        for loc in [
-            Loc::Slot(block, 0),
-            Loc::Idx(decl),
-            Loc::Idx(print),
-            Loc::Is(decl),
-            Loc::Tok(decl, 0),
-            Loc::Slot(decl, 1),
-            Loc::Up(decl),
-            Loc::Is(init),
-            Loc::Tok(init, 0),
-            Loc::Up(init),
-            Loc::Idx(init),
-        ] {
-            assert!(rt; store.touches(&ready, loc));
-        }
-        for loc in [
-            Loc::Is(print),
-            Loc::Up(print),
-            Loc::Slot(print, 0),
-            Loc::Is(block),
-            Loc::Idx(block),
-        ] {
-            assert!(rt; !store.touches(&ready, loc));
-        }
-        if round == 0 {
-            store.cancel(ready);
-            assert!(rt; shows(alloc, &classes, &store, TREE)?);
-            assert_eq!(rt;
-                stands_at(alloc, &classes, &store, init, "/Block/Stmt:0/Init"),
-                Some(true)
-            );
-        } else {
-            store.commit(ready);
-        }
-    }
+    let touched = [
+        Loc::Slot(block, 0),
+        Loc::Idx(decl),
+        Loc::Idx(print),
+        Loc::Is(decl),
+        Loc::Tok(decl, 0),
+        Loc::Slot(decl, 1),
+        Loc::Up(decl),
+        Loc::Is(init),
+        Loc::Tok(init, 0),
+        Loc::Up(init),
+        Loc::Idx(init),
+    ];
+    let others = [
+        Loc::Is(print),
+        Loc::Up(print),
+        Loc::Slot(print, 0),
+        Loc::Is(block),
+        Loc::Idx(block),
+    ];
+    let edit = Edit::Drop { node: decl };
+    assert!(rt; would_touch(alloc, &classes, &mut store, edit, &touched, &others));
+    assert!(rt; shows(alloc, &classes, &store, TREE)?);
+    assert_eq!(rt;
+        stands_at(alloc, &classes, &store, init, "/Block/Stmt:0/Init"),
+        Some(true)
+    );
+    let edit = Edit::Drop { node: decl };
+    assert!(rt; done_touching(alloc, &classes, &mut store, edit, &touched, &others));
     assert!(rt; !store.live(decl));
     assert!(rt; !store.live(init));
     assert_eq!(rt;
@@ -374,19 +488,19 @@ fn touches_what_a_drop_takes(rt: HostRuntime) -> Result<(), Fail> {
 fn a_cancelled_drop_leaves_no_mark(rt: HostRuntime) -> Result<(), Fail> {
     let alloc = rt.alloc();
     let classes = calc(alloc).ok_or("calc")?;
-    let mut store = loaded(alloc, &classes, TREE).ok_or("store")?;
+    let Some(mut store) = loaded(alloc, &classes, TREE) else {
+        return Err("store".into());
+    };
     let decl = at(alloc, &classes, &store, "/Block/Stmt:0").ok_or("no declaration")?;
     let print = at(alloc, &classes, &store, "/Block/Stmt:1").ok_or("no print")?;
     assert_eq!(rt;
         refused(alloc, &classes, &mut store, Edit::Drop { node: decl }),
         None
     );
-    let Ok(ready) = store.check(alloc, &classes, Edit::Drop { node: print }) else {
-        return Err("refused".into());
-    };
-    assert!(rt; !store.touches(&ready, Loc::Is(decl)));
-    assert!(rt; store.touches(&ready, Loc::Is(print)));
-    store.cancel(ready);
+    let edit = Edit::Drop { node: print };
+    let touched = [Loc::Is(print)];
+    let others = [Loc::Is(decl)];
+    assert!(rt; would_touch(alloc, &classes, &mut store, edit, &touched, &others));
     Ok(())
 }
 
@@ -394,7 +508,9 @@ fn a_cancelled_drop_leaves_no_mark(rt: HostRuntime) -> Result<(), Fail> {
 fn drops_and_inserts(rt: HostRuntime) -> Result<(), Fail> {
     let alloc = rt.alloc();
     let classes = calc(alloc).ok_or("calc")?;
-    let mut store = loaded(alloc, &classes, TREE).ok_or("store")?;
+    let Some(mut store) = loaded(alloc, &classes, TREE) else {
+        return Err("store".into());
+    };
     let block = at(alloc, &classes, &store, "/Block").ok_or("no block")?;
     let decl = at(alloc, &classes, &store, "/Block/Stmt:0").ok_or("no declaration")?;
     let print = at(alloc, &classes, &store, "/Block/Stmt:1").ok_or("no print")?;
@@ -423,7 +539,9 @@ fn drops_and_inserts(rt: HostRuntime) -> Result<(), Fail> {
 fn fills_and_empties_an_optional(rt: HostRuntime) -> Result<(), Fail> {
     let alloc = rt.alloc();
     let classes = calc(alloc).ok_or("calc")?;
-    let mut store = loaded(alloc, &classes, TREE).ok_or("store")?;
+    let Some(mut store) = loaded(alloc, &classes, TREE) else {
+        return Err("store".into());
+    };
     let decl = at(alloc, &classes, &store, "/Block/Stmt:0").ok_or("no declaration")?;
     let init = at(alloc, &classes, &store, "/Block/Stmt:0/Init").ok_or("no number")?;
     assert!(rt; done(alloc, &classes, &mut store, Edit::Drop { node: init }));
@@ -463,7 +581,9 @@ fn fills_and_empties_an_optional(rt: HostRuntime) -> Result<(), Fail> {
 fn replaces_nodes_and_tokens(rt: HostRuntime) -> Result<(), Fail> {
     let alloc = rt.alloc();
     let classes = calc(alloc).ok_or("calc")?;
-    let mut store = loaded(alloc, &classes, TREE).ok_or("store")?;
+    let Some(mut store) = loaded(alloc, &classes, TREE) else {
+        return Err("store".into());
+    };
     let print = at(alloc, &classes, &store, "/Block/Stmt:1").ok_or("no print")?;
     let sum = at(alloc, &classes, &store, "/Block/Stmt:1/Expr").ok_or("no sum")?;
     let tree = term(alloc, &classes, "Add(Num(1),Num(1))").ok_or("no term")?;
@@ -509,7 +629,9 @@ fn replaces_nodes_and_tokens(rt: HostRuntime) -> Result<(), Fail> {
 fn keeps_to_the_depth(rt: HostRuntime) -> Result<(), Fail> {
     let alloc = rt.alloc();
     let classes = calc(alloc).ok_or("calc")?;
-    let mut store = loaded(alloc, &classes, TREE).ok_or("store")?;
+    let Some(mut store) = loaded(alloc, &classes, TREE) else {
+        return Err("store".into());
+    };
     let block = at(alloc, &classes, &store, "/Block").ok_or("no block")?;
     let tree = term(alloc, &classes, &blocks(alloc, 511)?).ok_or("no term")?;
     let edit = Edit::Insert {
@@ -550,7 +672,9 @@ fn keeps_to_the_number_of_nodes(rt: HostRuntime) -> Result<(), Fail> {
     let mut text = String::from_str(alloc, "Program(Block([Block([])")?;
     text.push_str(&repeated(alloc, ",Block([])", 65532)?)?;
     text.push_str("]))")?;
-    let mut store = loaded(alloc, &classes, &text).ok_or("store")?;
+    let Some(mut store) = loaded(alloc, &classes, &text) else {
+        return Err("store".into());
+    };
     let block = at(alloc, &classes, &store, "/Block").ok_or("no block")?;
     let two = term(alloc, &classes, "Block([Block([])])").ok_or("no term")?;
     let edit = Edit::Insert {
