@@ -6,3 +6,6 @@ pub mod Takings
 pub mod Runnings
 pub mod Telling
 pub mod Within
+pub mod Editing
+pub mod Sessions
+pub mod Attempting

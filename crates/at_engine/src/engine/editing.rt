@@ -1,8 +1,8 @@
 //! Edits: the trees and tokens that lines bring, and what becomes of marks and of what is kept.
 
-ghost use Rattle.std.specs.Prelude.{◌≡◌, IfOk, IfErr, OnErr};
-ghost use Rattle.at_store.specs.Shown.{IsIdle};
-ghost use Rattle.at_store.specs.Stub.{IsOfLive};
+ghost use Rattle.std.specs.Prelude.{◌≡◌, IfOk, IfErr, OnErr, is_some, true};
+ghost use Rattle.at_store.specs.Shown.{IsIdle, path as path_shown};
+ghost use Rattle.at_store.specs.Refusing.{node_of};
 ghost use Rattle.at_engine.specs.Serving.{Seen};
 ghost use Rattle.at_engine.specs.Engines.{rules_of, seen_of, IsWhole};
 ghost use Rattle.at_engine.specs.Telling.{IsObstacle, Tells};
@@ -256,7 +256,7 @@ impl<K: Keeper> Engine<K> {
     fn edit(&mut self, edit: Edit) -> Result<Form, AllocError>
         requires idle { IsIdle self.old.store }
         requires whole { IsWhole self.old }
-        requires live { IsOfLive self.old.store edit }
+        requires there { is_some (path_shown self.old.store (node_of edit)) ≡ true }
         ensures tells { IfOk result (Tells (seen_of self.old) (seen_of self.new)) }
         ensures err { OnErr result (seen_of self.new ≡ seen_of self.old) }
         ensures rules { rules_of self.new ≡ rules_of self.old }

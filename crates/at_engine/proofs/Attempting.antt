@@ -1,0 +1,37 @@
+-- What comes of writing what a line is told.
+use Rattle.std.proofs.Common.{◌≡◌, ◌++◌, ℕ, true, false, List, [], ◌∷◌, length, ◌<◌, arith, Option, refl, ◌∙◌, ap, Result, Ok, Err, Bool}
+use Rattle.at_model.specs.Rules.{Rules}
+use Rattle.at_model.specs.Lines.{IsSessionOf}
+use Rattle.at_model.specs.Replies.{Reply, reply_text}
+use Rattle.at_protocol.specs.ReplyView.{IsReply}
+use Rattle.at_protocol.specs.Writable.{IsShort}
+use Rattle.at_protocol.specs.declared.reply.Form.{Form as FormValue}
+use Rattle.at_protocol.specs.declared.reply.Reply.{Reply as ReplyValue}
+use Rattle.at_engine.specs.Serving.{Seen, Serves, Steps}
+use Rattle.at_engine.specs.Telling.{Told}
+use Rattle.at_engine.proofs.Sessions.{session_of_reply}
+
+-- the reply to a line, and that it was appended
+pub record Replies (rules : Rules) (wants : Bool) (old : Seen) (bytes : List ℕ) (new : Seen) (before after : List ℕ) : Type 0 where
+  pub reply : Reply
+  pub serves : Serves rules wants old bytes new reply
+  pub written : after ≡ before ++ reply_text reply
+
+-- what was written whole is the reply
+pub answered : (rules : Rules) (old new : Seen) (bytes : List ℕ) (session : Option ℕ) (f : FormValue) (before after : List ℕ) → Told rules old bytes new session f
+    → ((r : Reply) → IsReply (record { session = session; form = f }) r → after ≡ before ++ reply_text r)
+    → (reply : Reply) × Serves rules false old bytes new reply × (after ≡ before ++ reply_text reply)
+answered rules old new bytes session f before after t writes =
+    let r : Reply = record { session = session; form = t.form } in
+    (r, t.handles, writes r (record { session = refl; form = t.is_form }))
+
+-- where no room was found for it all is as it was
+pub unanswered : (rules : Rules) (old new : Seen) (bytes : List ℕ) (session : Option ℕ) (f : FormValue) → Told rules old bytes new session f → (IsShort f → ⊥)
+    → IsSessionOf bytes session × (new ≡ old)
+unanswered rules old new bytes session f t long = (session_of_reply rules old new bytes (record { session = session; form = t.form }) t.handles, t.kept long)
+
+-- a line that isn't empty is served so
+pub stepped : (rules : Rules) (old new : Seen) (line : List ℕ) (wants : Bool) (before after : List ℕ) → 0 < length line
+    → (reply : Reply) × Serves rules wants old line new reply × (after ≡ before ++ reply_text reply) → Steps rules old line new before after
+stepped rules old new [] wants before after some s = absurd (omega (arith, some))
+stepped rules old new (b ∷ bs) wants before after some s = (wants, s.0, s.1, s.2)
