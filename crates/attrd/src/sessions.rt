@@ -1,5 +1,8 @@
 //! Whole sessions over the calculator sample, with the work that they cost.
 
+ghost use Rattle.std.specs.Prelude.{IfOk};
+ghost use Rattle.attrd.specs.Starts.{IsReady};
+
 use crate::start::{Files, Source, start, write_fault};
 use at_cache::KeepRecorded;
 use at_engine::{Engine, run};
@@ -74,7 +77,9 @@ fn files(alloc: Global, tree: &str, name: &str, last: &str) -> Result<Files, All
 }
 
 /// The engine of the calculator's files.
-fn calculator(alloc: Global, tree: &str) -> Result<Engine<KeepRecorded>, Fail> {
+fn calculator(alloc: Global, tree: &str) -> Result<Engine<KeepRecorded>, Fail>
+    ensures { IfOk result IsReady }
+{
     Ok(start(alloc, &files(alloc, tree, "probe.jrag", PROBE)?)?)
 }
 

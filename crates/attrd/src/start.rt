@@ -1,8 +1,8 @@
 //! The files of a server, and the engine that they make.
 
 ghost use Rattle.std.specs.Prelude.{IfOk, IfErr};
-ghost use Rattle.at_engine.specs.Engines.{rules_of, state_of};
-ghost use Rattle.attrd.specs.Starts.{Starts, IsStartFault};
+ghost use Rattle.at_engine.specs.Engines.{rules_of, seen_of};
+ghost use Rattle.attrd.specs.Starts.{Starts, IsReady, IsStartFault};
 
 mod aspects;
 mod fault;
@@ -30,7 +30,8 @@ use tree::{refused, tree_of};
 ///
 /// `Refused` for the first file that is refused, `Memory` for want of memory.
 pub fn start(alloc: Global, files: &Files) -> Result<Engine<KeepRecorded>, StartFault>
-    ensures started { IfOk result (λ e. Starts files.now (rules_of e) (state_of e)) }
+    ensures started { IfOk result (λ e. Starts files.now (rules_of e) (seen_of e)) }
+    ensures ready { IfOk result IsReady }
     ensures refused { IfErr result (IsStartFault files.now) }
 {
     let classes = match classes_of(alloc, &files.grammar.bytes) {

@@ -1,5 +1,8 @@
 //! Whole sessions over the sum sample.
 
+ghost use Rattle.std.specs.Prelude.{IfOk};
+ghost use Rattle.attrd.specs.Starts.{IsReady};
+
 use crate::start::{Files, Source, start, write_fault};
 use at_cache::KeepRecorded;
 use at_engine::{Engine, Report, RunFault, run};
@@ -34,7 +37,9 @@ fn files(alloc: Global, grammar: &str, aspect: &str, tree: &str) -> Result<Files
 }
 
 /// The engine of the sum sample.
-fn sum(alloc: Global) -> Result<Engine<KeepRecorded>, Fail> {
+fn sum(alloc: Global) -> Result<Engine<KeepRecorded>, Fail>
+    ensures { IfOk result IsReady }
+{
     Ok(start(alloc, &files(alloc, GRAMMAR, ASPECT, TREE)?)?)
 }
 

@@ -61,8 +61,10 @@ fn an_engine_starts_at_version_zero(rt: HostRuntime) -> Result<(), Fail> {
     let alloc = rt.alloc();
     let rules = rules(alloc, "A ::= <Name>;")?;
     let tree = tree(alloc, &rules, "A", named(alloc, 4096)?.as_str())?;
-    let engine = Engine::new(alloc, rules, tree, KeepNone::new(alloc))?;
+    let mut engine = Engine::new(alloc, rules, tree, KeepNone::new(alloc))?;
     assert_eq!(rt; engine.version(), 0);
-    assert!(rt; engine.tree().live(engine.tree().root()));
+    let mut out = Vec::new(alloc);
+    engine.line(b"7 version", &mut out)?;
+    assert_eq!(rt; out.as_slice(), b"7 ok 0\n".as_slice());
     Ok(())
 }
