@@ -120,6 +120,25 @@ moved : (entries : Entries) (ws ws' : List (Instance ℕ × Frame)) (fs fs' : Li
 moved entries ws ws' fs fs' i i' ks ks' q a b c d =
     subst (λ x. IsOrderly entries ws' fs' i' x) d (subst (λ x. IsOrderly entries ws' fs' x ks) c (subst (λ x. IsOrderly entries ws' x i ks) b (subst (λ x. IsOrderly entries x fs i ks) a q)))
 
+-- no entry is there
+pub none_there : {X : Type 0} (es : List X) → (0 < length es → ⊥) → es ≡ []
+none_there [] h = refl
+none_there (e ∷ es) h = absurd (h (omega arith))
+
+-- a question as it begins
+pub begun : (entries : Entries) (ws : List (Instance ℕ × Frame)) (fs : List (Instance ℕ × Find)) (i asked : Instance ℕ) (ks : List (Instance ℕ)) → ws ≡ [] → fs ≡ [] → i ≡ asked → ks ≡ [] → entries asked ≡ None → IsOrderly entries ws fs i ks
+begun entries ws fs i asked ks alone nothing same fresh none = moved entries [] ws [] fs asked i [] ks (record {
+  distinct = (λ h. h, tt);
+  open_ones = λ j h. refl;
+  unkept = λ j h. elim h [ inl e ↦ subst (λ x. entries x ≡ None) (sym e) none | inr z ↦ absurd z ];
+  waiting_kept = tt;
+  found_kept = λ j f e. absurd (nothing_found f e);
+  last_kept = none_kept entries;
+}) (sym alone) (sym nothing) (sym same) (sym fresh)
+  where
+    nothing_found : (f : Find) → ◌≡◌ {A = Option Find} None (Some f) → ⊥
+    nothing_found f e = absurd cc
+
 further : (m n m' n' : ℕ) → m' ≡ m → n' ≡ suc n → 2 * m + n < 2 * m' + n'
 further m n m' n' a b = omega (arith, a, b)
 

@@ -3,7 +3,7 @@ use Rattle.std.proofs.Common.{◌≡◌, ◌⊎◌, ℕ, List, [], ◌∷◌, �
 use Rattle.std.specs.Map.{keys_of, lookup}
 use Rattle.std.specs.Option.{option_map}
 use Rattle.indexmap.specs.IndexMap.{insert_entry}
-use Rattle.at_model.specs.Run.{Value, Instance, Contents, FaultKind}
+use Rattle.at_model.specs.Run.{Value, Instance, Contents, FaultKind, Known}
 use Rattle.at_model.specs.Follow.{follow}
 use Rattle.at_model.specs.Rules.{Rules, evaluation}
 use Rattle.at_model.specs.Meaning.{Among, Distinct, Holds, HasValue, Right, Circular, Faults, Finds, Answers, Circle, Outcomes}
@@ -20,12 +20,18 @@ use Rattle.at_demand.specs.declared.question.Find.{Find}
 use Rattle.at_demand.specs.declared.question.Frame.{Frame}
 use Rattle.at_demand.specs.declared.question.Question.{Question}
 use Rattle.at_demand.specs.Known.{meaning, kept_values, found_values, known_in, MayAdd}
-use Rattle.at_demand.specs.UnderWay.{left_of, HasStepped, AreWaiting, first_of, chain_of, IsOrderlyIn, IsTrue, IsTrueIn}
+use Rattle.at_demand.specs.UnderWay.{left_of, HasStepped, AreWaiting, first_of, chain_of, IsOrderlyIn, IsTrue, IsTrueIn, IsOpen}
 use Rattle.at_demand.proofs.Sameness.{same_refl}
 use Rattle.at_demand.proofs.Keys.{lookup_push}
 use Rattle.at_demand.proofs.Coming.{begins, goes_on, has_value, has_fault}
 use Rattle.at_demand.proofs.Chains.{first_push, wait_push, wait_pop, circle, fault_up}
 use Rattle.at_demand.proofs.Orderly.{waits_last, found_last}
+
+-- an evaluation at its end needs nothing
+pub open_end : (known : Known ℕ) (s : Step) → ((j : Instance ℕ) → s ≡ step.Need j → ⊥) → IsOpen known s
+open_end known (step.Value v) h = tt
+open_end known (step.Fault f) h = tt
+open_end known (step.Need j) h = absurd (h j refl)
 
 module _ (rules : Rules) (look : Contents ℕ) where
   pub started : (i : Instance ℕ) (t : Trial) (s : Step) → follow look [] (evaluation rules nat_eq i) ≡ (reached rules.classes s t, t.reads) → HasStepped rules look i t s
@@ -52,6 +58,23 @@ module _ (rules : Rules) (look : Contents ℕ) where
   ]
 
   module _ (asked : Instance ℕ) (entries : Entries) where
+    -- a question as it begins
+    pub begun_true : (ws : List (Instance ℕ × Frame)) (fs : List (Instance ℕ × Find)) (i : Instance ℕ) (t : Trial) (s : Step) → ws ≡ [] → fs ≡ [] → i ≡ asked → HasStepped rules look i t s → Right look (meaning rules) (kept_values entries) → IsTrue rules look asked entries ws fs i t s
+    begun_true ws fs i t s alone nothing same stepped right = record {
+      starts = ap (λ x. first_of x i) alone ∙ same;
+      waits = subst (λ x. AreWaiting rules look x i) (sym alone) tt;
+      last = stepped;
+      kept = right;
+      finds = subst (λ x. Right look (meaning rules) (found_values x)) (sym nothing) (λ j v e. absurd (nothing_found v e));
+    }
+      where
+        nothing_found : (v : Value ℕ) → ◌≡◌ {A = Option (Value ℕ)} None (Some v) → ⊥
+        nothing_found v e = absurd cc
+
+    -- the last one has come further
+    pub steps_on : (ws : List (Instance ℕ × Frame)) (fs : List (Instance ℕ × Find)) (i : Instance ℕ) (t u : Trial) (s r : Step) → IsTrue rules look asked entries ws fs i t s → HasStepped rules look i u r → IsTrue rules look asked entries ws fs i u r
+    steps_on ws fs i t u s r h stepped = record { starts = h.starts; waits = h.waits; last = stepped; kept = h.kept; finds = h.finds }
+
     -- the last one needs an instance that isn't under way
     pub deepens_true : (old new : Question) (j : Instance ℕ) (s : Step) → IsOrderlyIn entries old → IsTrueIn rules look asked entries old (step.Need j) →
         new.waiting.entries ≡ insert_entry same_instance old.waiting.entries old.inst old.frame → new.found.entries ≡ old.found.entries → new.inst ≡ j → HasStepped rules look j new.frame.trial s → IsTrueIn rules look asked entries new s
