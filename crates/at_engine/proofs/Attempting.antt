@@ -1,5 +1,5 @@
 -- What comes of writing what a line is told.
-use Rattle.std.proofs.Common.{◌≡◌, ◌++◌, ℕ, true, false, List, [], ◌∷◌, length, ◌<◌, arith, Option, Some, refl, ◌∙◌, ap, Result, Ok, Err, IfOk, OnErr, Bool}
+use Rattle.std.proofs.Common.{◌≡◌, ◌++◌, ℕ, true, false, List, [], ◌∷◌, length, ◌<◌, arith, Option, Some, refl, ◌∙◌, ap, subst, Result, Ok, Err, IfOk, OnErr, Bool}
 use Rattle.at_model.specs.Rules.{Rules}
 use Rattle.at_model.specs.Lines.{IsSessionOf}
 use Rattle.at_model.specs.Replies.{Reply, reply_text}
@@ -26,6 +26,9 @@ pub got : {E : Type 0} (rules : Rules) (old new : Seen) (bytes : List ℕ) (l : 
 got rules old new bytes l (Ok f) spells tells stale kept err whole = told rules old bytes l new f spells tells stale kept whole
 got rules old new bytes l (Err e) spells tells stale kept err whole = (session_of_line bytes (line_view l) spells, err)
 
+pub told_of : {E : Type 0} (rules : Rules) (old : Seen) (bytes : List ℕ) (new : Seen) (session : Option ℕ) (r : Result FormValue E) (f : FormValue) → r ≡ Ok f → Gets rules old bytes new session r → Told rules old bytes new session f
+told_of {E} rules old bytes new session r f is gets = subst (λ (x : Result FormValue E). Gets rules old bytes new session x) is gets
+
 -- what was written whole is the reply
 pub answered : (rules : Rules) (old new : Seen) (bytes : List ℕ) (session : Option ℕ) (f : FormValue) (before after : List ℕ) → Told rules old bytes new session f
     → ((r : Reply) → IsReply (record { session = session; form = f }) r → after ≡ before ++ reply_text r)
@@ -33,6 +36,10 @@ pub answered : (rules : Rules) (old new : Seen) (bytes : List ℕ) (session : Op
 answered rules old new bytes session f before after t writes =
     let r : Reply = record { session = session; form = t.form } in
     (r, t.handles, writes r (record { session = refl; form = t.is_form }))
+
+-- no test is both
+pub not_both : false ≡ true → ⊥
+not_both e = absurd cc
 
 -- where no room was found for it all is as it was
 pub unanswered : (rules : Rules) (old new : Seen) (bytes : List ℕ) (session : Option ℕ) (f : FormValue) → Told rules old bytes new session f → (IsShort f → ⊥)
