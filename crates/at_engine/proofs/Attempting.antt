@@ -1,12 +1,11 @@
 -- What comes of writing what a line is told.
-use Rattle.std.proofs.Common.{◌≡◌, ◌++◌, ℕ, true, false, List, [], ◌∷◌, length, ◌<◌, arith, Option, Some, refl, ◌∙◌, ap, subst, Result, Ok, Err, IfOk, OnErr, Bool}
+use Rattle.std.proofs.Common.{◌≡◌, ◌++◌, ℕ, true, false, List, [], ◌∷◌, length, ◌<◌, arith, Option, Some, refl, subst, Result, Ok, Err, IfOk, OnErr, Bool}
 use Rattle.at_model.specs.Rules.{Rules}
 use Rattle.at_model.specs.Lines.{IsSessionOf}
 use Rattle.at_model.specs.Replies.{Reply, reply_text}
 use Rattle.at_protocol.specs.ReplyView.{IsReply}
 use Rattle.at_protocol.specs.Writable.{IsShort}
 use Rattle.at_protocol.specs.declared.reply.Form.{Form as FormValue}
-use Rattle.at_protocol.specs.declared.reply.Reply.{Reply as ReplyValue}
 use Rattle.at_engine.specs.Serving.{Seen, Serves, Steps}
 use Rattle.at_engine.specs.Telling.{Told, Tells, Gets}
 use Rattle.at_engine.proofs.Sessions.{session_of_line, session_of_reply}
