@@ -1,21 +1,32 @@
 -- What comes of writing what a line is told.
-use Rattle.std.proofs.Common.{◌≡◌, ◌++◌, ℕ, true, false, List, [], ◌∷◌, length, ◌<◌, arith, Option, refl, ◌∙◌, ap, Result, Ok, Err, Bool}
+use Rattle.std.proofs.Common.{◌≡◌, ◌++◌, ℕ, true, false, List, [], ◌∷◌, length, ◌<◌, arith, Option, Some, refl, subst, Result, Ok, Err, IfOk, OnErr, Bool}
 use Rattle.at_model.specs.Rules.{Rules}
 use Rattle.at_model.specs.Lines.{IsSessionOf}
 use Rattle.at_model.specs.Replies.{Reply, reply_text}
 use Rattle.at_protocol.specs.ReplyView.{IsReply}
 use Rattle.at_protocol.specs.Writable.{IsShort}
 use Rattle.at_protocol.specs.declared.reply.Form.{Form as FormValue}
-use Rattle.at_protocol.specs.declared.reply.Reply.{Reply as ReplyValue}
 use Rattle.at_engine.specs.Serving.{Seen, Serves, Steps}
-use Rattle.at_engine.specs.Telling.{Told}
-use Rattle.at_engine.proofs.Sessions.{session_of_reply}
+use Rattle.at_engine.specs.Telling.{Told, Tells, Gets}
+use Rattle.at_engine.proofs.Sessions.{session_of_line, session_of_reply}
+use Rattle.at_engine.proofs.Telling.{told}
+use Rattle.at_model.specs.Lines.{Spells}
+use Rattle.at_model.specs.Machine.{is_stale, is_edit}
+use Rattle.at_model.specs.Trees.{conforms}
+use Rattle.at_protocol.specs.LineView.{command_view, line_view}
+use Rattle.at_protocol.specs.declared.line.Line.{Line as LineValue}
+use Rattle.at_protocol.specs.declared.reply.Form.TheVariants as form
+use Rattle.at_protocol.specs.declared.reply.Refusal.TheVariants as refusal
 
--- the reply to a line, and that it was appended
-pub record Replies (rules : Rules) (wants : Bool) (old : Seen) (bytes : List ℕ) (new : Seen) (before after : List ℕ) : Type 0 where
-  pub reply : Reply
-  pub serves : Serves rules wants old bytes new reply
-  pub written : after ≡ before ++ reply_text reply
+-- a line that was read gets what it is told
+pub got : {E : Type 0} (rules : Rules) (old new : Seen) (bytes : List ℕ) (l : LineValue) (r : Result FormValue E) → Spells bytes (line_view l) → IfOk r (Tells old new)
+    → IfOk r (λ f. is_stale l.expected old.version ≡ true → f ≡ form.Refused (refusal.Stale old.version)) → (is_edit (command_view l.command) ≡ false → new ≡ old) → OnErr r (new ≡ old)
+    → conforms rules.classes new.tree 0 ≡ true → Gets rules old bytes new (Some l.session) r
+got rules old new bytes l (Ok f) spells tells stale kept err whole = told rules old bytes l new f spells tells stale kept whole
+got rules old new bytes l (Err e) spells tells stale kept err whole = (session_of_line bytes (line_view l) spells, err)
+
+pub told_of : {E : Type 0} (rules : Rules) (old : Seen) (bytes : List ℕ) (new : Seen) (session : Option ℕ) (r : Result FormValue E) (f : FormValue) → r ≡ Ok f → Gets rules old bytes new session r → Told rules old bytes new session f
+told_of {E} rules old bytes new session r f is gets = subst (λ (x : Result FormValue E). Gets rules old bytes new session x) is gets
 
 -- what was written whole is the reply
 pub answered : (rules : Rules) (old new : Seen) (bytes : List ℕ) (session : Option ℕ) (f : FormValue) (before after : List ℕ) → Told rules old bytes new session f
@@ -24,6 +35,10 @@ pub answered : (rules : Rules) (old new : Seen) (bytes : List ℕ) (session : Op
 answered rules old new bytes session f before after t writes =
     let r : Reply = record { session = session; form = t.form } in
     (r, t.handles, writes r (record { session = refl; form = t.is_form }))
+
+-- no test is both
+pub not_both : false ≡ true → ⊥
+not_both e = absurd cc
 
 -- where no room was found for it all is as it was
 pub unanswered : (rules : Rules) (old new : Seen) (bytes : List ℕ) (session : Option ℕ) (f : FormValue) → Told rules old bytes new session f → (IsShort f → ⊥)

@@ -1,5 +1,5 @@
 -- What becomes of a store when an edit is checked, and then done or given up.
-use Rattle.std.proofs.Common.{◌≡◌, true, Option, Some, None, Ok, refl, sym, ap, ◌∙◌, subst, is_some}
+use Rattle.std.proofs.Common.{◌≡◌, ℕ, true, Option, Some, None, Result, Ok, Err, IfOk, OnErr, refl, sym, ap, ◌∙◌, subst, is_some}
 use Rattle.at_model.specs.Classes.{Classes}
 use Rattle.at_model.specs.Trees.{Tree, conforms}
 use Rattle.at_model.specs.Paths.{Node}
@@ -13,6 +13,9 @@ use Rattle.at_store.specs.Checking.{IsAsked, IsRefused}
 use Rattle.at_store.specs.Preparing.{Does, IsCancelled, IsCommitted, IsPrepared}
 use Rattle.at_store.specs.Refusing.{edit_at, node_of}
 use Rattle.at_store.specs.Shown.{IsIdle, Shown, path, tree}
+use Rattle.at_protocol.specs.declared.reply.Form.{Form as FormValue}
+use Rattle.at_engine.specs.Serving.{Seen}
+use Rattle.at_engine.specs.Telling.{Tells}
 
 found : (o : Option Node) → is_some o ≡ true → (n : Node) × (o ≡ Some n)
 found None h = absurd cc
@@ -72,3 +75,16 @@ done classes old mid new edit q idle whole there ready commits =
     let left = left_is classes (tree old) (edit_at a.0 edit) p.left p.accepted in
     let fits = accepted_conforms classes (tree old) (edit_at a.0 edit) p.left whole p.accepted in
     record { idle = is.idle; conforming = subst (λ (t : Tree). conforms classes t 0 ≡ true) (sym (is.tree_is ∙ left)) fits.0 }
+
+-- what is seen of an engine is the same, where the tree is
+pub same_seen : (s t : Tree) (version : ℕ) → t ≡ s → ◌≡◌ {A = Seen} (record { tree = t; version = version }) (record { tree = s; version = version })
+same_seen s t version h = ap (λ (u : Tree). let seen : Seen = record { tree = u; version = version } in seen) h
+
+-- a refusal tells that all is as it was
+pub refused_so : {E : Type 0} (old new : Seen) (r : Result FormValue E) → new ≡ old → IfOk r (λ f. (s : Seen) → Tells s s f) → IfOk r (Tells old new)
+refused_so old new (Ok f) same h = subst (λ (s : Seen). Tells old s f) (sym same) (h old)
+refused_so old new (Err e) same h = tt
+
+pub on_err : {T E : Type 0} (r : Result T E) (P : Type 0) → P → OnErr r P
+on_err (Ok x) P p = tt
+on_err (Err e) P p = p

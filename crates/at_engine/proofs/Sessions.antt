@@ -1,5 +1,5 @@
 -- The session of a line, and the session that its reply names.
-use Rattle.std.proofs.Common.{◌≡◌, ◌∷◌, ℕ, List, Option, Some, refl, sym, subst}
+use Rattle.std.proofs.Common.{◌∷◌, ℕ, List, Option, Some, refl, sym, subst}
 use Rattle.at_model.specs.Lines.{Line, Spells, IsSessionOf}
 use Rattle.at_model.specs.Rules.{Rules}
 use Rattle.at_model.specs.Replies.{Reply}

@@ -17,7 +17,7 @@ use Rattle.at_protocol.specs.declared.reply.Refusal.TheVariants as refusal
 use Rattle.at_protocol.specs.declared.reply.Shown.TheVariants as shown
 use Rattle.at_protocol.specs.declared.reply.Form.{Form as FormValue}
 use Rattle.at_protocol.specs.declared.reply.Form.TheVariants as form
-use Rattle.at_engine.specs.Serving.{Seen, Leaves, Step, Handles, obeys, refuses}
+use Rattle.at_engine.specs.Serving.{Seen, Leaves, obeys, refuses}
 use Rattle.at_engine.specs.Telling.{IsOfLine, Tells, Told}
 
 pub writable : (old new : Seen) (f : FormValue) → Tells old new f → IsWritable f

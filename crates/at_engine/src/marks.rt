@@ -47,7 +47,11 @@ impl Marks {
 
     /// Whether the session has as many marks as it may.
     pub fn is_full(&self, session: u16) -> bool {
-        self.items.iter().filter(|mark| mark.session == session).count() >= MAX_MARKS
+        self.items
+            .iter()
+            .filter(|mark| mark.session == session)
+            .count()
+            >= MAX_MARKS
     }
 
     /// One more mark, behind the others. Where memory is wanting the marks stay as they were.

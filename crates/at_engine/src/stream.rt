@@ -57,7 +57,11 @@ fn keep(line: &mut Vec<u8>, byte: u8)
 }
 
 /// Serves the line that was read, and writes its reply.
-fn serve<K: Keeper, W: Write>(engine: &mut Engine<K>, desk: &mut Desk, writer: &mut W) -> Result<(), RunFault>
+fn serve<K: Keeper, W: Write>(
+    engine: &mut Engine<K>,
+    desk: &mut Desk,
+    writer: &mut W,
+) -> Result<(), RunFault>
     requires idle { IsIdle engine.old.store }
     requires whole { IsWhole engine.old }
     requires line { 0 < vec_len desk.old.line }
@@ -129,7 +133,11 @@ fn take_piece<K: Keeper, W: Write>(
 }
 
 /// Serves the last line, which no newline ends, unless it is empty.
-fn finish<K: Keeper, W: Write>(engine: &mut Engine<K>, desk: &mut Desk, writer: &mut W) -> Result<(), RunFault>
+fn finish<K: Keeper, W: Write>(
+    engine: &mut Engine<K>,
+    desk: &mut Desk,
+    writer: &mut W,
+) -> Result<(), RunFault>
     requires idle { IsIdle engine.old.store }
     requires whole { IsWhole engine.old }
     requires few { desk.old.lines + 1 < 2 ^ 128 }
