@@ -505,10 +505,10 @@ fn a_session_has_100_marks_and_no_more(rt: HostRuntime) -> Result<(), Fail> {
     Ok(())
 }
 
-/// A program of one block with so many declarations.
-fn wide(alloc: Global, declarations: usize) -> Result<String, AllocError> {
+/// A program of one block with a declaration and so many more.
+fn wide(alloc: Global, more: usize) -> Result<String, AllocError> {
     let mut tree = String::from_str(alloc, "Program(Block([Decl(\"x\",-)")?;
-    tree.push_str(&repeated(alloc, ",Decl(\"x\",-)", declarations - 1)?)?;
+    tree.push_str(&repeated(alloc, ",Decl(\"x\",-)", more)?)?;
     tree.push_str("]))")?;
     Ok(tree)
 }
@@ -516,7 +516,7 @@ fn wide(alloc: Global, declarations: usize) -> Result<String, AllocError> {
 #[test]
 fn a_tree_has_65536_nodes_and_no_more(rt: HostRuntime) -> Result<(), Fail> {
     let alloc = rt.alloc();
-    let tree = wide(alloc, 65_534)?;
+    let tree = wide(alloc, 65_533)?;
     let insert = "0 insert /Block Stmt 0 Decl(\"y\",-)\n";
     let (told, _) = played(alloc, &tree, insert)?;
     assert_eq!(rt; told.as_str(), "0 refused 12 limit\n");
@@ -546,7 +546,7 @@ fn files_of_the_calculator_are_refused(rt: HostRuntime) -> Result<(), Fail> {
     assert_eq!(rt; text.as_slice(), b"tree.txt: F1 syntax\n".as_slice());
     let text = refusal(&files(alloc, "Num(1)", "probe.jrag", PROBE)?, alloc)?;
     assert_eq!(rt; text.as_slice(), b"tree.txt: F7 fit\n".as_slice());
-    let tree = wide(alloc, 65_535)?;
+    let tree = wide(alloc, 65_534)?;
     let text = refusal(&files(alloc, &tree, "probe.jrag", PROBE)?, alloc)?;
     assert_eq!(rt; text.as_slice(), b"tree.txt: F12 limit\n".as_slice());
     Ok(())

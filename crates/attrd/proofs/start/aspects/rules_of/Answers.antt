@@ -1,4 +1,3 @@
-use Rattle.std.proofs.Common.{List, Vec, subst}
 use Rattle.std.proofs.lemmas.Result.{err_from_is_err_and}
 use Rattle.attrd.specs.Starts.{aspect_bytes}
 use Rattle.attrd.proofs.Ruled.{unread_refuses, given_by, refused_by}
