@@ -122,11 +122,7 @@ fn ask<K: Keeper>(
 }
 
 /// The int that is the value of the sum that is printed.
-fn printed<K: Keeper>(
-    alloc: Global,
-    demand: &mut Demand<K>,
-    sample: &Sample,
-) -> Result<i32, Fail> {
+fn printed<K: Keeper>(alloc: Global, demand: &mut Demand<K>, sample: &Sample) -> Result<i32, Fail> {
     match ask(alloc, demand, sample, "/Block/Stmt:1/Expr", "value")? {
         Answer::Value(Value::Int(n)) => Ok(n),
         _ => Err(Fail::new("no int")),
@@ -159,7 +155,16 @@ fn set_right<K: Keeper>(
 ) -> Result<(), Fail> {
     let node = at(alloc, sample, "/Block/Stmt:1/Expr/Right")?;
     let value = TokVal::Int(value);
-    edit(alloc, demand, sample, Edit::Token { node, part: 0, value })
+    edit(
+        alloc,
+        demand,
+        sample,
+        Edit::Token {
+            node,
+            part: 0,
+            value,
+        },
+    )
 }
 
 #[test]
@@ -198,7 +203,13 @@ fn a_declaration_is_found(rt: HostRuntime) -> Result<(), Fail> {
     let sample = sample(alloc)?;
     let mut demand = Demand::new(alloc, KeepRecorded::new(alloc));
     let declared = at(alloc, &sample, "/Block/Stmt:0")?;
-    let answer = ask(alloc, &mut demand, &sample, "/Block/Stmt:1/Expr/Left", "decl")?;
+    let answer = ask(
+        alloc,
+        &mut demand,
+        &sample,
+        "/Block/Stmt:1/Expr/Left",
+        "decl",
+    )?;
     match answer {
         Answer::Value(Value::Ref(node)) => assert!(rt; node == Some(declared)),
         _ => return Err(Fail::new("no node")),

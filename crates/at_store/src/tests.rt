@@ -61,12 +61,7 @@ fn at(alloc: Global, classes: &ClassTable, store: &Store, text: &str) -> Option<
 }
 
 // Whether the whole tree has this text.
-fn shows(
-    alloc: Global,
-    classes: &ClassTable,
-    store: &Store,
-    text: &str,
-) -> Result<bool, AllocError>
+fn shows(alloc: Global, classes: &ClassTable, store: &Store, text: &str) -> Result<bool, AllocError>
     requires { IsIdle store.now }
 {
     let mut out = Vec::new(alloc);

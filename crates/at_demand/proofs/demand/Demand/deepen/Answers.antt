@@ -19,10 +19,10 @@ pub returns-clause-turn : goal.returns-clause-turn
 returns-clause-turn g c =
     let e = c.in_ok-next.ensures in
     deepens (g.K.Keeper.contents c.args.self.now.keeper) c.args.question c.in_ok-next.next c.args.needed c.requires.orderly c.requires.found c.requires.kept c.if-has.ensures
-        e.waiting e.found e.inst e.fresh e.few e.finds
+    e.waiting e.found e.inst e.fresh e.few e.finds
 
 pub returns-clause-answers : goal.returns-clause-answers
 returns-clause-answers g c asked h =
     let e = c.in_ok-next.ensures in
     deepens_true c.args.rules.now (contents c.args.store.now) asked (g.K.Keeper.contents c.args.self.now.keeper) c.args.question c.in_ok-next.next c.args.needed c.in_ok-next.step c.requires.orderly h
-        e.waiting e.found e.inst e.stepped
+    e.waiting e.found e.inst e.stepped

@@ -61,11 +61,11 @@ returns-clause-turn g c =
     let more = g.K.Keeper.contents c.keep.new.self.keeper in
     let new : Question = record { waiting = c.pop.new.self; found = c.insert.new.self; inst = c.in-Some.below; frame = c.in-Some.frame } in
     settles old more c.args.question new (value_view c.args.value) c.requires.orderly
-        (subst (λ (v : ValueCode). MayAdd old more c.args.question.inst (value_view v)) c.in_ok-find.ensures.value c.in_ok-keep.ensures)
-        c.in-Some.below c.in-Some.frame c.in_ok-find.find c.in-Some.ensures.entries
-        (subst (λ (x : Demanded). AreKept old x.kept.items) (sym c.in_ok-find.ensures.demanded) c.requires.orderly.last_kept)
-        c.in_ok-insert.ensures.entries refl refl
-        (subst (λ n. n < 2 ^ 64) c.len-2.ensures.len c.len-2.type_inv) (subst (λ n. n < 2 ^ 64) c.len.ensures.len c.len.type_inv)
+    (subst (λ (v : ValueCode). MayAdd old more c.args.question.inst (value_view v)) c.in_ok-find.ensures.value c.in_ok-keep.ensures)
+    c.in-Some.below c.in-Some.frame c.in_ok-find.find c.in-Some.ensures.entries
+    (subst (λ (x : Demanded). AreKept old x.kept.items) (sym c.in_ok-find.ensures.demanded) c.requires.orderly.last_kept)
+    c.in_ok-insert.ensures.entries refl refl
+    (subst (λ n. n < 2 ^ 64) c.len-2.ensures.len c.len-2.type_inv) (subst (λ n. n < 2 ^ 64) c.len.ensures.len c.len.type_inv)
 
 pub returns-clause-answers : goal.returns-clause-answers
 returns-clause-answers g c look asked h =
@@ -73,5 +73,5 @@ returns-clause-answers g c look asked h =
     let more = g.K.Keeper.contents c.keep.new.self.keeper in
     let new : Question = record { waiting = c.pop.new.self; found = c.insert.new.self; inst = c.in-Some.below; frame = c.in-Some.frame } in
     settles_true c.args.rules.now look asked old more c.args.question c.args.value h new c.in_ok-needed.needed c.in-Some.below c.in-Some.frame c.in_ok-find.find c.requires.orderly
-        (subst (λ (v : ValueCode). MayAdd old more c.args.question.inst (value_view v)) c.in_ok-find.ensures.value c.in_ok-keep.ensures)
-        c.in_ok-find.ensures.value c.in-Some.ensures.entries c.in_ok-insert.ensures.entries refl refl c.in_ok-needed.ensures
+    (subst (λ (v : ValueCode). MayAdd old more c.args.question.inst (value_view v)) c.in_ok-find.ensures.value c.in_ok-keep.ensures)
+    c.in_ok-find.ensures.value c.in-Some.ensures.entries c.in_ok-insert.ensures.entries refl refl c.in_ok-needed.ensures
