@@ -92,7 +92,10 @@ fn played(alloc: Global, tree: &str, lines: &str) -> Result<(String, u64), Fail>
     if report.memory > 0 {
         return Err(Fail::new("memory ran out"));
     }
-    Ok((String::from_str(alloc, std::str::from_utf8(&out)?)?, report.work))
+    Ok((
+        String::from_str(alloc, std::str::from_utf8(&out)?)?,
+        report.work,
+    ))
 }
 
 #[test]
@@ -466,9 +469,15 @@ fn a_tree_is_512_deep_and_no_deeper(rt: HostRuntime) -> Result<(), Fail> {
     assert_eq!(rt; told.as_str(), "0 ok 1\n0 = Decl(\"x\",Num(1))\n");
     let unchanged = "0 = Print(Add(Use(\"x\"),Num(2)))\n";
     let (told, _) = played(alloc, TREE, &deep_insert(alloc, 511)?)?;
-    assert_eq!(rt; told.as_str().strip_suffix(unchanged), Some("0 refused 12 limit\n"));
+    assert_eq!(rt;
+        told.as_str().strip_suffix(unchanged),
+        Some("0 refused 12 limit\n")
+    );
     let (told, _) = played(alloc, TREE, &deep_insert(alloc, 513)?)?;
-    assert_eq!(rt; told.as_str().strip_suffix(unchanged), Some("0 refused 1 syntax\n"));
+    assert_eq!(rt;
+        told.as_str().strip_suffix(unchanged),
+        Some("0 refused 1 syntax\n")
+    );
     Ok(())
 }
 
@@ -541,8 +550,14 @@ fn files_of_the_calculator_are_refused(rt: HostRuntime) -> Result<(), Fail> {
     let alloc = rt.alloc();
     let bad = "aspect Bad {\n  syn Decl Use.odd() = lookup(getID() + \"x\");\n}\n";
     let text = refusal(&files(alloc, TREE, "bad.jrag", bad)?, alloc)?;
-    assert_eq!(rt; text.as_slice(), b"bad.jrag: J5 argument at 2:31\n".as_slice());
-    let text = refusal(&files(alloc, "Program(Block([", "probe.jrag", PROBE)?, alloc)?;
+    assert_eq!(rt;
+        text.as_slice(),
+        b"bad.jrag: J5 argument at 2:31\n".as_slice()
+    );
+    let text = refusal(
+        &files(alloc, "Program(Block([", "probe.jrag", PROBE)?,
+        alloc,
+    )?;
     assert_eq!(rt; text.as_slice(), b"tree.txt: F1 syntax\n".as_slice());
     let text = refusal(&files(alloc, "Num(1)", "probe.jrag", PROBE)?, alloc)?;
     assert_eq!(rt; text.as_slice(), b"tree.txt: F7 fit\n".as_slice());

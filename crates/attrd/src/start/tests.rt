@@ -4,8 +4,8 @@ use super::aspects::rules_of;
 use super::grammar::classes_of;
 use at_cache::KeepNone;
 use at_engine::Engine;
-use at_store::LoadFault;
 use at_rules::Rules;
+use at_store::LoadFault;
 use at_tree::reader::read_term;
 use at_tree::tree::{Tree, shape};
 use std::alloc::{AllocError, Global};
@@ -43,7 +43,12 @@ fn a_tree_of_another_class_fits_no_engine(rt: HostRuntime) -> Result<(), Fail> {
     let alloc = rt.alloc();
     let rules = rules(alloc, "Sum ::= Left:Num Right:Num; Num ::= <Value:int>;")?;
     let tree = tree(alloc, &rules, "Num", "Num(3)")?;
-    assert!(rt; matches!(&Engine::new(alloc, rules, tree, KeepNone::new(alloc)), Err(LoadFault::Fit)));
+    assert!(rt;
+        matches!(
+            &Engine::new(alloc, rules, tree, KeepNone::new(alloc)),
+            Err(LoadFault::Fit)
+        )
+    );
     Ok(())
 }
 
@@ -52,7 +57,12 @@ fn a_tree_with_a_long_token_is_beyond_the_limits(rt: HostRuntime) -> Result<(), 
     let alloc = rt.alloc();
     let rules = rules(alloc, "A ::= <Name>;")?;
     let tree = tree(alloc, &rules, "A", named(alloc, 4097)?.as_str())?;
-    assert!(rt; matches!(&Engine::new(alloc, rules, tree, KeepNone::new(alloc)), Err(LoadFault::Limit)));
+    assert!(rt;
+        matches!(
+            &Engine::new(alloc, rules, tree, KeepNone::new(alloc)),
+            Err(LoadFault::Limit)
+        )
+    );
     Ok(())
 }
 
