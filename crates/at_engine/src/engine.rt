@@ -38,6 +38,8 @@ impl<K: Keeper> Engine<K> {
     ghost use Rattle.at_protocol.specs.LineView.{command_view};
     ghost use Rattle.at_protocol.specs.declared.reply.Form.TheVariants as form;
     ghost use Rattle.at_protocol.specs.declared.reply.Refusal.TheVariants as refusal;
+    ghost use Rattle.at_tree.specs.TreeView.{tree_view};
+    ghost use Rattle.at_store.specs.Loading.{IsNotLoaded};
     ghost use Rattle.at_store.specs.Shown.{tree as tree_shown};
     ghost use Rattle.at_store.specs.Shown.{IsIdle};
     ghost use Rattle.at_engine.specs.Engines.{rules_of, seen_of, IsWhole};
@@ -53,8 +55,10 @@ impl<K: Keeper> Engine<K> {
     pub fn new(alloc: Global, rules: Rules, tree: Tree, keeper: K) -> Result<Engine<K>, LoadFault>
         ensures first { IfOk result (λ e. e.version ≡ 0) }
         ensures rules { IfOk result (λ e. rules_of e ≡ rules) }
+        ensures loaded { IfOk result (λ e. (seen_of e).tree ≡ tree_view tree) }
         ensures idle { IfOk result (λ e. IsIdle e.store) }
         ensures whole { IfOk result IsWhole }
+        ensures refused { IfErr result (IsNotLoaded rules.classes (tree_view tree)) }
     {
         let store = Store::load(alloc, rules.classes(), tree)?;
         Ok(Engine {
