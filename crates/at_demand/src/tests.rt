@@ -1,3 +1,8 @@
+ghost use Rattle.std.specs.Prelude.{◌≡◌, IfOk, OnOk, true};
+ghost use Rattle.at_model.specs.Trees.{conforms};
+ghost use Rattle.at_store.specs.Shown.{IsIdle, tree};
+ghost use Rattle.at_store.specs.Refusing.{node_of};
+
 use crate::answer::Answer;
 use crate::demand::Demand;
 use at_body::{Arguments, FaultKind, Inst, Value};
@@ -65,7 +70,10 @@ struct Sample {
     store: Store,
 }
 
-fn sample(alloc: Global) -> Result<Sample, Fail> {
+fn loaded(alloc: Global) -> Result<Sample, Fail>
+    ensures idle { IfOk result (λ s. IsIdle s.store) }
+    ensures conforming { IfOk result (λ s. conforms s.rules.classes (tree s.store) 0 ≡ true) }
+{
     let grammar = parse_ast(alloc, CALC)?;
     if !are_named(&grammar) {
         return Err(Fail::new("not named"));
@@ -81,7 +89,9 @@ fn sample(alloc: Global) -> Result<Sample, Fail> {
 }
 
 /// The node at a path.
-fn at(alloc: Global, sample: &Sample, path: &str) -> Result<Node, Fail> {
+fn at(alloc: Global, sample: &Sample, path: &str) -> Result<Node, Fail>
+    requires { IsIdle sample.now.store }
+{
     let path = read_path(alloc, path)?;
     let store = &sample.store;
     match store.resolve(sample.rules.classes(), store.root(), &path.steps) {
@@ -91,7 +101,9 @@ fn at(alloc: Global, sample: &Sample, path: &str) -> Result<Node, Fail> {
 }
 
 /// The attribute of the node at a path.
-fn inst(alloc: Global, sample: &Sample, path: &str, attribute: &str) -> Result<Inst, Fail> {
+fn inst(alloc: Global, sample: &Sample, path: &str, attribute: &str) -> Result<Inst, Fail>
+    requires { IsIdle sample.now.store }
+{
     let node = at(alloc, sample, path)?;
     let class = sample.store.class(node);
     match sample.rules.attribute(class, attribute) {
@@ -116,27 +128,91 @@ fn ask<K: Keeper>(
     sample: &Sample,
     path: &str,
     attribute: &str,
-) -> Result<Answer, Fail> {
+) -> Result<Answer, Fail>
+    requires { IsIdle sample.now.store }
+{
     let inst = inst(alloc, sample, path, attribute)?;
     Ok(demand.answer(&sample.rules, &sample.store, &inst)?)
 }
 
-/// The int that is the value of the sum that is printed.
-fn printed<K: Keeper>(alloc: Global, demand: &mut Demand<K>, sample: &Sample) -> Result<i32, Fail> {
-    match ask(alloc, demand, sample, "/Block/Stmt:1/Expr", "value")? {
-        Answer::Value(Value::Int(n)) => Ok(n),
-        _ => Err(Fail::new("no int")),
+/// Whether the answer is that value.
+fn is_value(answer: &Answer, value: &Value) -> bool {
+    match answer {
+        Answer::Value(found) => *found == *value,
+        _ => false,
     }
 }
 
-/// Makes an edit.
+/// Whether the answer is that null was used in the equation of that instance.
+fn is_null_at(answer: &Answer, inst: &Inst) -> bool {
+    match answer {
+        Answer::Fault { kind, at } => *kind == FaultKind::Null && *at == *inst,
+        _ => false,
+    }
+}
+
+/// Whether the answer is that the demands lead back to that instance.
+fn is_circle_at(answer: &Answer, inst: &Inst) -> bool {
+    match answer {
+        Answer::Circular { at } => *at == *inst,
+        _ => false,
+    }
+}
+
+/// Whether the sum that is printed has that value.
+fn prints<K: Keeper>(
+    alloc: Global,
+    demand: &mut Demand<K>,
+    sample: &Sample,
+    value: i32,
+) -> Result<bool, Fail>
+    requires { IsIdle sample.now.store }
+{
+    let answer = ask(alloc, demand, sample, "/Block/Stmt:1/Expr", "value")?;
+    Ok(is_value(&answer, &Value::Int(value)))
+}
+
+/// The node that an edit is of.
+fn node_of(edit: &Edit) -> Node
+    ensures { result ≡ node_of edit.now }
+{
+    match edit {
+        Edit::Set { node, tree: _ } => *node,
+        Edit::Put {
+            node,
+            part: _,
+            tree: _,
+        } => *node,
+        Edit::Drop { node } => *node,
+        Edit::Insert {
+            node,
+            part: _,
+            index: _,
+            tree: _,
+        } => *node,
+        Edit::Token {
+            node,
+            part: _,
+            value: _,
+        } => *node,
+    }
+}
+
+/// Makes an edit of the sample's tree as it was loaded.
 fn edit<K: Keeper>(
     alloc: Global,
     demand: &mut Demand<K>,
     sample: &mut Sample,
     edit: Edit,
-) -> Result<(), Fail> {
+) -> Result<(), Fail>
+    requires idle { IsIdle sample.old.store }
+    requires conforming { conforms sample.old.rules.classes (tree sample.old.store) 0 ≡ true }
+    ensures { OnOk result (IsIdle sample.new.store) }
+{
     let Sample { rules, store } = sample;
+    if !store.live(node_of(&edit)) {
+        return Err(Fail::new("no such node"));
+    }
     let Ok(ready) = store.check(alloc, rules.classes(), edit) else {
         return Err(Fail::new("refused"));
     };
@@ -152,68 +228,68 @@ fn set_right<K: Keeper>(
     demand: &mut Demand<K>,
     sample: &mut Sample,
     value: i32,
-) -> Result<(), Fail> {
+) -> Result<(), Fail>
+    requires idle { IsIdle sample.old.store }
+    requires conforming { conforms sample.old.rules.classes (tree sample.old.store) 0 ≡ true }
+    ensures { OnOk result (IsIdle sample.new.store) }
+{
     let node = at(alloc, sample, "/Block/Stmt:1/Expr/Right")?;
     let value = TokVal::Int(value);
-    edit(
-        alloc,
-        demand,
-        sample,
-        Edit::Token {
-            node,
-            part: 0,
-            value,
-        },
-    )
+    edit(alloc, demand, sample, Edit::Token { node, part: 0, value })
+}
+
+#[test]
+fn nothing_is_asked_yet(rt: HostRuntime) -> Result<(), Fail> {
+    let alloc = rt.alloc();
+    let mut demand = Demand::new(alloc, KeepRecorded::new(alloc));
+    demand.after_edit(&|_loc: Loc| true);
+    assert_eq!(rt; demand.work(), 0);
+    Ok(())
 }
 
 #[test]
 fn kept_values_are_not_evaluated_again(rt: HostRuntime) -> Result<(), Fail> {
     let alloc = rt.alloc();
-    let mut sample = sample(alloc)?;
+    let mut sample = loaded(alloc)?;
     let mut demand = Demand::new(alloc, KeepRecorded::new(alloc));
-    assert_eq!(rt; printed(alloc, &mut demand, &sample)?, 3);
+    assert!(rt; prints(alloc, &mut demand, &sample, 3)?);
     assert_eq!(rt; demand.work(), 8);
-    assert_eq!(rt; printed(alloc, &mut demand, &sample)?, 3);
+    assert!(rt; prints(alloc, &mut demand, &sample, 3)?);
     assert_eq!(rt; demand.work(), 8);
     set_right(alloc, &mut demand, &mut sample, 5)?;
-    assert_eq!(rt; printed(alloc, &mut demand, &sample)?, 6);
+    assert!(rt; prints(alloc, &mut demand, &sample, 6)?);
     assert_eq!(rt; demand.work(), 10);
     Ok(())
+}
+
+/// Whether the sum has these values, before and after an edit.
+fn goes_over<K: Keeper>(alloc: Global, keeper: K, before: i32, after: i32) -> Result<bool, Fail> {
+    let mut sample = loaded(alloc)?;
+    let mut demand = Demand::new(alloc, keeper);
+    if !prints(alloc, &mut demand, &sample, before)? {
+        return Ok(false);
+    }
+    set_right(alloc, &mut demand, &mut sample, 5)?;
+    prints(alloc, &mut demand, &sample, after)
 }
 
 #[test]
 fn every_keeper_gives_the_same_values(rt: HostRuntime) -> Result<(), Fail> {
     let alloc = rt.alloc();
-    let mut sample = sample(alloc)?;
-    let mut none = Demand::new(alloc, KeepNone::new(alloc));
-    assert_eq!(rt; printed(alloc, &mut none, &sample)?, 3);
-    set_right(alloc, &mut none, &mut sample, 5)?;
-    assert_eq!(rt; printed(alloc, &mut none, &sample)?, 6);
-    let mut until = Demand::new(alloc, KeepUntilEdit::new(alloc));
-    assert_eq!(rt; printed(alloc, &mut until, &sample)?, 6);
-    set_right(alloc, &mut until, &mut sample, 2)?;
-    assert_eq!(rt; printed(alloc, &mut until, &sample)?, 3);
+    assert!(rt; goes_over(alloc, KeepNone::new(alloc), 3, 6)?);
+    assert!(rt; goes_over(alloc, KeepUntilEdit::new(alloc), 3, 6)?);
+    assert!(rt; goes_over(alloc, KeepRecorded::new(alloc), 3, 6)?);
     Ok(())
 }
 
 #[test]
 fn a_declaration_is_found(rt: HostRuntime) -> Result<(), Fail> {
     let alloc = rt.alloc();
-    let sample = sample(alloc)?;
+    let sample = loaded(alloc)?;
     let mut demand = Demand::new(alloc, KeepRecorded::new(alloc));
     let declared = at(alloc, &sample, "/Block/Stmt:0")?;
-    let answer = ask(
-        alloc,
-        &mut demand,
-        &sample,
-        "/Block/Stmt:1/Expr/Left",
-        "decl",
-    )?;
-    match answer {
-        Answer::Value(Value::Ref(node)) => assert!(rt; node == Some(declared)),
-        _ => return Err(Fail::new("no node")),
-    }
+    let answer = ask(alloc, &mut demand, &sample, "/Block/Stmt:1/Expr/Left", "decl")?;
+    assert!(rt; is_value(&answer, &Value::Ref(Some(declared))));
     assert_eq!(rt; demand.work(), 3);
     Ok(())
 }
@@ -221,15 +297,13 @@ fn a_declaration_is_found(rt: HostRuntime) -> Result<(), Fail> {
 #[test]
 fn a_fault_names_its_instance(rt: HostRuntime) -> Result<(), Fail> {
     let alloc = rt.alloc();
-    let mut sample = sample(alloc)?;
+    let mut sample = loaded(alloc)?;
     let mut demand = Demand::new(alloc, KeepRecorded::new(alloc));
     let node = at(alloc, &sample, "/Block/Stmt:0")?;
     edit(alloc, &mut demand, &mut sample, Edit::Drop { node })?;
     let usage = inst(alloc, &sample, "/Block/Stmt:0/Expr/Left", "value")?;
-    match demand.answer(&sample.rules, &sample.store, &usage)? {
-        Answer::Fault { kind, at } => assert!(rt; kind == FaultKind::Null && at == usage),
-        _ => return Err(Fail::new("no fault")),
-    }
+    let answer = demand.answer(&sample.rules, &sample.store, &usage)?;
+    assert!(rt; is_null_at(&answer, &usage));
     assert_eq!(rt; demand.work(), 3);
     Ok(())
 }
@@ -237,16 +311,13 @@ fn a_fault_names_its_instance(rt: HostRuntime) -> Result<(), Fail> {
 #[test]
 fn a_circle_is_found(rt: HostRuntime) -> Result<(), Fail> {
     let alloc = rt.alloc();
-    let mut sample = sample(alloc)?;
+    let mut sample = loaded(alloc)?;
     let mut demand = Demand::new(alloc, KeepRecorded::new(alloc));
     let node = at(alloc, &sample, "/Block/Stmt:0/Init")?;
     let tree = term(alloc, &sample, "Use(\"x\")")?;
     edit(alloc, &mut demand, &mut sample, Edit::Set { node, tree })?;
     let declared = inst(alloc, &sample, "/Block/Stmt:0", "value")?;
     let answer = ask(alloc, &mut demand, &sample, "/Block/Stmt:1/Expr", "value")?;
-    match answer {
-        Answer::Circular { at } => assert!(rt; at == declared),
-        _ => return Err(Fail::new("no circle")),
-    }
+    assert!(rt; is_circle_at(&answer, &declared));
     Ok(())
 }
