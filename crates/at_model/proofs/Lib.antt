@@ -33,3 +33,6 @@ pub mod Conforming
 pub mod Shaped
 pub mod WithinTree
 pub mod Spreading
+pub mod PlainLines
+pub mod Played
+pub mod SampleCircles

@@ -6,6 +6,7 @@ mod forms;
 mod laws;
 mod machine_cases;
 mod machine_laws;
+mod session_cases;
 
 pub use cases::{
     circle, dropped_declaration, exposed_block, first_come, ints, names_and_values, nearest_above,
@@ -32,4 +33,7 @@ pub use machine_laws::{
     one_more_line, one_output, one_reply, one_session, one_term, only_edits_change_the_tree,
     the_path_of_a_node_leads_back, what_is_kept_stays_well_kept, what_is_not_touched_is_alike,
     what_is_not_touched_stays_right,
+};
+pub use session_cases::{
+    a_circle_is_closed_and_opened, a_list_is_edited, a_mark_follows_its_node, a_refused_edit_leaves_the_tree, a_text_with_quotes, a_token_is_edited, an_index_follows_the_list, an_old_version_is_expected, an_optional_is_edited, each_refusal_is_told, ints_wrap_and_join, nodes_are_told_apart, the_other_sample, values_are_asked, what_comes_first_is_told,
 };
