@@ -36,3 +36,4 @@ pub mod Spreading
 pub mod PlainLines
 pub mod Played
 pub mod SampleCircles
+pub mod Unread

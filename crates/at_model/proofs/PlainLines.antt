@@ -12,12 +12,12 @@ use Rattle.at_model.specs.Terms.{Term, Cells, Cell, Terms, Node, no_cells, cell,
 use Rattle.at_model.specs.Paths.{Path, Step, IsIndex, IsStep, IsPath}
 use Rattle.at_model.specs.Lines.{Place, From_root, From_mark, Argument, Text, Ref, Null, Command, Ask, Set, Put, Drop, Insert, Token, Show, Mark, Unmark, Where, Version, Line, line_text, IsName, IsPlace, IsArgument, IsCommand, IsVersion, IsLine, Spells, last_version, max_sessions, max_line}
 
-all_and : (a b : Bool) → (a && b) ≡ true → (a ≡ true) × (b ≡ true)
+pub all_and : (a b : Bool) → (a && b) ≡ true → (a ≡ true) × (b ≡ true)
 all_and true true e = (refl, refl)
 all_and true false e = cc
 all_and false b e = cc
 
-and_true : (a b : Bool) → a ≡ true → b ≡ true → (a && b) ≡ true
+pub and_true : (a b : Bool) → a ≡ true → b ≡ true → (a && b) ≡ true
 and_true true true e f = refl
 and_true true false e f = cc
 and_true false b e f = cc
@@ -41,11 +41,11 @@ at_front : (b : ℕ) (bs : List ℕ) → b < 128 → IsAscii bs → IsAscii (b �
 at_front b bs h more zero = h
 at_front b bs h more (suc i) = more i
 
-low : (bytes : List ℕ) → list_all is_low bytes ≡ true → IsAscii bytes
+pub low : (bytes : List ℕ) → list_all is_low bytes ≡ true → IsAscii bytes
 low [] h = λ i. omega arith
 low (b ∷ bs) h = let g = all_and (is_low b) (list_all is_low bs) h in at_front b bs (below b 128 g.0) (low bs g.1)
 
-low_utf8 : (bytes : List ℕ) → list_all is_low bytes ≡ true → IsUtf8 bytes
+pub low_utf8 : (bytes : List ℕ) → list_all is_low bytes ≡ true → IsUtf8 bytes
 low_utf8 bytes h = IsUtf8-from_ascii bytes (low bytes h)
 
 abbrev pub begins_plain : ℕ → Bool
@@ -96,7 +96,7 @@ is_plain_step s = is_plain_name s.part && is_plain_index s.index
 step : (s : Step) → is_plain_step s ≡ true → IsStep s
 step s h = let g = all_and (is_plain_name s.part) (is_plain_index s.index) h in let n = named s.part g.0 in (n.0, n.1, index s.index g.1)
 
-path : (p : Path) → list_all is_plain_step p ≡ true → IsPath p
+pub path : (p : Path) → list_all is_plain_step p ≡ true → IsPath p
 path p h = each is_plain_step IsStep step p h
 
 abbrev pub is_plain_place : Place → Bool

@@ -22,3 +22,4 @@ pub mod Machine
 pub mod Sparing
 pub mod SampleLines
 pub mod Playing
+pub mod SampleSessions

@@ -3,10 +3,15 @@
 
 mod cases;
 mod forms;
+mod form_cases;
+mod edit_cases;
 mod laws;
+mod limit_cases;
 mod machine_cases;
 mod machine_laws;
+mod refusal_cases;
 mod session_cases;
+mod unread_cases;
 
 pub use cases::{
     circle, dropped_declaration, exposed_block, first_come, ints, names_and_values, nearest_above,
@@ -37,3 +42,10 @@ pub use machine_laws::{
 pub use session_cases::{
     a_circle_is_closed_and_opened, a_list_is_edited, a_mark_follows_its_node, a_refused_edit_leaves_the_tree, a_text_with_quotes, a_token_is_edited, an_index_follows_the_list, an_old_version_is_expected, an_optional_is_edited, each_refusal_is_told, ints_wrap_and_join, nodes_are_told_apart, the_other_sample, values_are_asked, what_comes_first_is_told,
 };
+pub use refusal_cases::{
+    a_hundred_marks, a_parameter_takes_a_class, marks_beside_others, marks_of_two_sessions, the_first_refusal_is_told, the_last_version_is_looked_at_last,
+};
+pub use limit_cases::{line_lengths, numbers_of_lines, token_lengths, tree_sizes};
+pub use form_cases::{comparisons, equality, ints_below_zero, long_decimals, right_sides, what_accessors_read, what_folds_read};
+pub use edit_cases::{what_a_list_touches, what_a_set_touches, what_a_token_touches, what_an_optional_touches, where_nodes_stay};
+pub use unread_cases::{bytes_that_are_no_line};
