@@ -21,3 +21,5 @@ pub mod Replies
 pub mod Machine
 pub mod Sparing
 pub mod SampleLines
+pub mod Playing
+pub mod SampleSessions
