@@ -235,7 +235,16 @@ fn set_right<K: Keeper>(
 {
     let node = at(alloc, sample, "/Block/Stmt:1/Expr/Right")?;
     let value = TokVal::Int(value);
-    edit(alloc, demand, sample, Edit::Token { node, part: 0, value })
+    edit(
+        alloc,
+        demand,
+        sample,
+        Edit::Token {
+            node,
+            part: 0,
+            value,
+        },
+    )
 }
 
 #[test]
@@ -288,7 +297,13 @@ fn a_declaration_is_found(rt: HostRuntime) -> Result<(), Fail> {
     let sample = loaded(alloc)?;
     let mut demand = Demand::new(alloc, KeepRecorded::new(alloc));
     let declared = at(alloc, &sample, "/Block/Stmt:0")?;
-    let answer = ask(alloc, &mut demand, &sample, "/Block/Stmt:1/Expr/Left", "decl")?;
+    let answer = ask(
+        alloc,
+        &mut demand,
+        &sample,
+        "/Block/Stmt:1/Expr/Left",
+        "decl",
+    )?;
     assert!(rt; is_value(&answer, &Value::Ref(Some(declared))));
     assert_eq!(rt; demand.work(), 3);
     Ok(())
