@@ -7,8 +7,6 @@ mod laws;
 mod reads;
 mod stack;
 mod starting;
-#[cfg(test)]
-mod tests;
 mod todo;
 mod trial;
 mod trying;

@@ -21,6 +21,3 @@ pub use body::{Body, Kind, Operator, Order};
 pub use fault::{Fault, RuleCode, RuleFault};
 pub use rules::Rules;
 pub use signatures::AttrId;
-
-#[cfg(test)]
-mod tests;
