@@ -5,8 +5,6 @@ mod answer;
 mod demand;
 mod gathering;
 mod question;
-#[cfg(test)]
-mod tests;
 
 pub use answer::Answer;
 pub use demand::Demand;
