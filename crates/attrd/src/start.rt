@@ -8,8 +8,6 @@ mod aspects;
 mod fault;
 mod files;
 mod grammar;
-#[cfg(test)]
-mod tests;
 mod tree;
 
 use crate::code::Code;
