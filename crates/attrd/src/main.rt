@@ -10,8 +10,6 @@ mod code;
 #[cfg(test)]
 mod sessions;
 mod start;
-#[cfg(test)]
-mod tests;
 
 use at_engine::{RunFault, run};
 use start::{Files, MAX_FILE, Source, StartFault, start, write_fault};

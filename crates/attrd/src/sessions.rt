@@ -5,7 +5,7 @@ ghost use Rattle.attrd.specs.Starts.{IsReady};
 
 use crate::start::{Files, Source, start, write_fault};
 use at_cache::KeepRecorded;
-use at_engine::{Engine, run};
+use at_engine::{Engine, Report, run};
 use std::alloc::{AllocError, Global};
 use std::test::Fail;
 
@@ -83,12 +83,18 @@ fn calculator(alloc: Global, tree: &str) -> Result<Engine<KeepRecorded>, Fail>
     Ok(start(alloc, &files(alloc, tree, "probe.jrag", PROBE)?)?)
 }
 
-/// What a fresh engine over the tree writes for the lines, and its work.
-fn played(alloc: Global, tree: &str, lines: &str) -> Result<(String, u64), Fail> {
+/// What a fresh engine over the tree writes for the lines, and what the run reports.
+fn served(alloc: Global, tree: &str, lines: &str) -> Result<(Vec<u8>, Report), Fail> {
     let mut engine = calculator(alloc, tree)?;
     let mut reader = lines.as_bytes();
     let mut out = Vec::new(alloc);
     let report = run(&mut engine, &mut reader, &mut out)?;
+    Ok((out, report))
+}
+
+/// What a fresh engine over the tree writes for the lines, and its work.
+fn played(alloc: Global, tree: &str, lines: &str) -> Result<(String, u64), Fail> {
+    let (out, report) = served(alloc, tree, lines)?;
     if report.memory > 0 {
         return Err(Fail::new("memory ran out"));
     }
