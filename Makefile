@@ -6,7 +6,7 @@ SAMPLE := crates/attrd/data
 
 # The sample session, answered by the proved program.
 run: build
-	@cd $(SAMPLE) && printf '0 ask / total()\n0 show /Right\n' | ../../../attrd sum.ast sum.txt sum.jrag
+	@cd $(SAMPLE) && ../../../attrd calc.ast tree.txt calc.jrag < session
 
 # The gate: every proof from nothing, the must-fail edits, the tests, the programs.
 test: tools
@@ -14,7 +14,7 @@ test: tools
 
 # The sample session with no proof, in seconds.
 try: tools
-	@cd crates/attrd && printf '0 ask / total()\n0 show /Right\n' | rt try attrd -- data/sum.ast data/sum.txt data/sum.jrag
+	@cd crates/attrd && rt try attrd -- data/calc.ast data/tree.txt data/calc.jrag < data/session
 
 # The proved program, as ./attrd.
 build: tools

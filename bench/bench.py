@@ -44,6 +44,15 @@ def flat_grammar(classes):
     return "C0 ::= <V:int>;\n" + "".join(f"C{k} ::= <V:int> {parts};\n" for k in range(1, classes))
 
 
+def calculator(put, statements):
+    """The sample grammar and aspects, over a block of that many statements, of which the last two are the sample's."""
+    samples = PROGRAM.parent / "samples"
+    filler = ",".join(f'Decl("f{i}",Num({i}))' for i in range(statements - 2))
+    block = (filler + "," if filler else "") + 'Decl("x",Num(1)),Print(Add(Use("x"),Num(2)))'
+    return [put("calc.ast", (samples / "calc.ast").read_text()), put(f"tree{statements}.txt", f"Program(Block([{block}]))"),
+            put("calc.jrag", (samples / "calc.jrag").read_text())]
+
+
 def source(mebibytes):
     """Names, signs, numbers, texts and comments; no grammar, so that reading ends where scanning does."""
     line = ';Größe ::= left:Name [right] <count:int> 1234567890 "a text \\" with \\n escapes" /* a comment */ // to the end\n'
@@ -70,6 +79,23 @@ def main():
             half = best(folder, sum_files, Path(folder) / put("half", line * 100000)) - idle
             whole = best(folder, sum_files, Path(folder) / put("whole", line * 200000)) - idle
             print(f"200,000 lines `{name}`: {200000 / whole:,.0f} lines a second; against 100,000: ratio {whole / half:.2f}")
+
+        def ratio(files, what, lines, count):
+            """What these lines cost, each as a multiple of a `version` line of the same run."""
+            begun = best(folder, files, nothing)
+            versions = best(folder, files, Path(folder) / put("versions", "0 version\n" * count)) - begun
+            spent = best(folder, files, Path(folder) / put("lines", lines)) - begun
+            print(f"{count:,} lines, {what}: {spent * 1000:.0f} ms, {spent / versions:.1f} times as many `version` lines")
+            return spent
+
+        small = calculator(put, 2)
+        ratio(small, "a question whose answer is kept", "0 ask /Block/Stmt:1/Expr value()\n" * 100000, 100000)
+        ratio(small, "the term of a leaf", "0 show /Block/Stmt:1/Expr/Right\n" * 100000, 100000)
+        ratio(small, "a token edit and a question, by turns",
+              "0 token /Block/Stmt:1/Expr/Right Value 5\n0 ask /Block/Stmt:1/Expr value()\n" * 50000, 100000)
+        ends = [ratio(calculator(put, size), f"an insert and a drop at the front of {size:,} statements, by turns",
+                      "0 insert /Block Stmt 0 Decl(\"y\",-)\n0 drop /Block/Stmt:0\n" * 1000, 2000) for size in (1000, 10000)]
+        print(f"  ratio {ends[1] / ends[0]:.2f}, of lists ten times as long")
 
         times, written = [], []
         whole_tree = Path(folder) / put("whole_tree", "0 show /\n" * 40)

@@ -1,4 +1,4 @@
-use crate::chain::climbs;
+use crate::chain::{climbs, parent_of};
 use crate::checks::{
     component_twice, over_limit, superclass_circle, unknown_class, wrong_token_kind,
 };
@@ -36,7 +36,7 @@ impl Model for ClassTable {
 
 impl ClassTable {
     ghost use Rattle.std.specs.Prelude.{◌≡◌, ◌<◌, ◌≤◌, IfOk, IfErr, IfSome, IsTrue, None, length, map, not};
-    ghost use Rattle.at_model.specs.Classes.{AreSound, class_of_name, fits, name_of, is_concrete, is_sub, parts};
+    ghost use Rattle.at_model.specs.Classes.{AreSound, class_of_name, fits, name_of, is_concrete, is_sub, parent_of, parts};
     ghost use Rattle.at_model.specs.Declarations.{AreNamed, classes_of, first_fault};
     ghost use Rattle.at_model.specs.Paths.{part_named};
     ghost use Rattle.at_class.specs.View.{part_view};
@@ -94,6 +94,14 @@ impl ClassTable {
         ensures { is_concrete self.now class ≡ not result }
     {
         self.classes[class.index()].is_abstract
+    }
+
+    /// The class's superclass, where it has one.
+    pub fn parent(&self, class: ClassId) -> Option<ClassId>
+        ensures found { result ≡ parent_of self.now class }
+        ensures sound { AreSound self.now }
+    {
+        parent_of(&self.classes, class)
     }
 
     /// Whether the class is the other one or below it.

@@ -1,15 +1,17 @@
 -- What an engine serves.
-use Rattle.at_tree.specs.TreeView.{tree_view}
-use Rattle.at_model.specs.Machine.{State}
+use Rattle.std.specs.Prelude.{◌≡◌, true}
 use Rattle.at_model.specs.Rules.{Rules}
-use Rattle.at_engine.specs.Served.{Served, served}
+use Rattle.at_model.specs.Trees.{conforms}
+use Rattle.at_store.specs.Shown.{tree}
+use Rattle.at_engine.specs.Serving.{Seen}
 use Rattle.at_engine.specs.declared.engine.Engine.{Engine}
 
-abbrev pub engine_view : Engine → Served
-engine_view e = served e.rules (tree_view e.tree) e.version
+abbrev pub rules_of : {K : Type 0} → Engine K → Rules
+rules_of e = e.rules
 
-abbrev pub rules_of : Engine → Rules
-rules_of e = (engine_view e).rules
+abbrev pub seen_of : {K : Type 0} → Engine K → Seen
+seen_of e = record { tree = tree e.store; version = e.version }
 
-abbrev pub state_of : Engine → State
-state_of e = (engine_view e).state
+-- the tree conforms to the start class
+abbrev pub IsWhole : {K : Type 0} → Engine K → Type 0
+IsWhole e = conforms e.rules.classes (tree e.store) 0 ≡ true

@@ -1,14 +1,6 @@
-pub mod TypedRules
-pub mod Nodes
-pub mod Tokens
-pub mod Served
-pub mod Edits
-pub mod Engines
-pub mod Loading
-pub mod Evaluation
-pub mod Answering
-pub mod Lines
 pub mod Serving
+pub mod Engines
+pub mod Telling
 pub mod Loop
 pub mod Taking
 pub mod Running

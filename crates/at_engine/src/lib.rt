@@ -1,11 +1,9 @@
-//! The engine: it holds a tree and its rules, answers questions line by line, and takes edits. Nothing
-//! is kept between two questions yet.
+//! The engine: it holds a tree, its rules and marks, answers questions line by line, and takes edits.
 #![tactic(auto)]
 
 mod engine;
-mod evaluate;
-mod node;
+mod marks;
 mod stream;
 
-pub use engine::{Engine, LoadFault};
+pub use engine::Engine;
 pub use stream::{Report, RunFault, run};

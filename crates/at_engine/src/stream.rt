@@ -3,14 +3,16 @@
 ghost use Rattle.std.specs.Prelude.{◌≡◌, ◌++◌, ◌∷◌, ◌≤◌, ◌<◌, ◌+◌, ◌^◌, Bool, ℕ, List, [], vec_len, vec_capacity, length};
 ghost use Rattle.at_engine.specs.Serving.{Serves};
 ghost use Rattle.at_model.specs.Replies.{Reply, reply_text};
-ghost use Rattle.at_engine.specs.Engines.{state_of, rules_of};
+ghost use Rattle.at_engine.specs.Engines.{seen_of, rules_of, IsWhole};
 ghost use Rattle.at_engine.specs.Loop.{kept, IsOpen};
 ghost use Rattle.at_engine.specs.Taking.{Counts, Written, TakesOrStops, Finishes};
 ghost use Rattle.at_engine.specs.Running.{Ran};
+ghost use Rattle.at_store.specs.Shown.{IsIdle};
 
 mod desk;
 
 use crate::engine::Engine;
+use at_cache::Keeper;
 pub use desk::{Report, RunFault};
 use desk::{Desk, MAX_LINE};
 use std::io::{Read, Write};
@@ -55,15 +57,23 @@ fn keep(line: &mut Vec<u8>, byte: u8)
 }
 
 /// Serves the line that was read, and writes its reply.
-fn serve<W: Write>(engine: &mut Engine, desk: &mut Desk, writer: &mut W) -> Result<(), RunFault>
+fn serve<K: Keeper, W: Write>(
+    engine: &mut Engine<K>,
+    desk: &mut Desk,
+    writer: &mut W,
+) -> Result<(), RunFault>
+    requires idle { IsIdle engine.old.store }
+    requires whole { IsWhole engine.old }
     requires line { 0 < vec_len desk.old.line }
     requires count { desk.old.lines + 1 < 2 ^ 128 }
     ensures served { (wants : Bool) × (reply : Reply)
-        × Serves (rules_of engine.old) wants (state_of engine.old) desk.old.line.items (state_of engine.new) reply
+        × Serves (rules_of engine.old) wants (seen_of engine.old) desk.old.line.items (seen_of engine.new) reply
         × Counts desk.old desk.new (wants ∷ []) × Written result (W.contents writer.old) (W.contents writer.new) (reply_text reply) }
     ensures rules { rules_of engine.new ≡ rules_of engine.old }
     ensures line { desk.new.line.items ≡ desk.old.line.items }
     ensures grows { desk.new.lines ≤ desk.old.lines + 1 }
+    ensures idle { IsIdle engine.new.store }
+    ensures whole { IsWhole engine.new }
 {
     desk.reply.clear();
     match engine.serve(desk.line.as_slice(), &mut desk.reply) {
@@ -76,16 +86,20 @@ fn serve<W: Write>(engine: &mut Engine, desk: &mut Desk, writer: &mut W) -> Resu
 }
 
 /// Takes a byte: a newline ends the line, which is served unless it is empty.
-fn take_byte<W: Write>(
-    engine: &mut Engine,
+fn take_byte<K: Keeper, W: Write>(
+    engine: &mut Engine<K>,
     desk: &mut Desk,
     byte: u8,
     writer: &mut W,
 ) -> Result<(), RunFault>
-    requires { desk.old.lines + 1 < 2 ^ 128 }
-    ensures taken { (front : List ℕ) → IsOpen front → desk.old.line.items ≡ kept front → TakesOrStops result (rules_of engine.old) (state_of engine.old) front (byte ∷ []) (state_of engine.new) desk.old desk.new (W.contents writer.old) (W.contents writer.new) }
+    requires idle { IsIdle engine.old.store }
+    requires whole { IsWhole engine.old }
+    requires few { desk.old.lines + 1 < 2 ^ 128 }
+    ensures taken { (front : List ℕ) → IsOpen front → desk.old.line.items ≡ kept front → TakesOrStops result (rules_of engine.old) (seen_of engine.old) front (byte ∷ []) (seen_of engine.new) desk.old desk.new (W.contents writer.old) (W.contents writer.new) }
     ensures rules { rules_of engine.new ≡ rules_of engine.old }
     ensures grows { desk.new.lines ≤ desk.old.lines + 1 }
+    ensures idle { IsIdle engine.new.store }
+    ensures whole { IsWhole engine.new }
 {
     if byte != b'\n' {
         keep(&mut desk.line, byte);
@@ -97,16 +111,20 @@ fn take_byte<W: Write>(
 }
 
 /// Takes the bytes of a piece, one after the other.
-fn take_piece<W: Write>(
-    engine: &mut Engine,
+fn take_piece<K: Keeper, W: Write>(
+    engine: &mut Engine<K>,
     desk: &mut Desk,
     piece: &[u8],
     writer: &mut W,
 ) -> Result<(), RunFault>
-    requires { desk.old.lines + length piece.now + 1 < 2 ^ 128 }
-    ensures taken { (front : List ℕ) → IsOpen front → desk.old.line.items ≡ kept front → TakesOrStops result (rules_of engine.old) (state_of engine.old) front piece.now (state_of engine.new) desk.old desk.new (W.contents writer.old) (W.contents writer.new) }
+    requires idle { IsIdle engine.old.store }
+    requires whole { IsWhole engine.old }
+    requires few { desk.old.lines + length piece.now + 1 < 2 ^ 128 }
+    ensures taken { (front : List ℕ) → IsOpen front → desk.old.line.items ≡ kept front → TakesOrStops result (rules_of engine.old) (seen_of engine.old) front piece.now (seen_of engine.new) desk.old desk.new (W.contents writer.old) (W.contents writer.new) }
     ensures rules { rules_of engine.new ≡ rules_of engine.old }
     ensures grows { desk.new.lines ≤ desk.old.lines + length piece.now }
+    ensures idle { IsIdle engine.new.store }
+    ensures whole { IsWhole engine.new }
 {
     for byte in piece {
         take_byte(engine, desk, *byte, writer)?;
@@ -115,10 +133,18 @@ fn take_piece<W: Write>(
 }
 
 /// Serves the last line, which no newline ends, unless it is empty.
-fn finish<W: Write>(engine: &mut Engine, desk: &mut Desk, writer: &mut W) -> Result<(), RunFault>
-    requires { desk.old.lines + 1 < 2 ^ 128 }
-    ensures finished { (front : List ℕ) → desk.old.line.items ≡ kept front → Finishes result (rules_of engine.old) (state_of engine.old) front (state_of engine.new) desk.old desk.new (W.contents writer.old) (W.contents writer.new) }
+fn finish<K: Keeper, W: Write>(
+    engine: &mut Engine<K>,
+    desk: &mut Desk,
+    writer: &mut W,
+) -> Result<(), RunFault>
+    requires idle { IsIdle engine.old.store }
+    requires whole { IsWhole engine.old }
+    requires few { desk.old.lines + 1 < 2 ^ 128 }
+    ensures finished { (front : List ℕ) → desk.old.line.items ≡ kept front → Finishes result (rules_of engine.old) (seen_of engine.old) front (seen_of engine.new) desk.old desk.new (W.contents writer.old) (W.contents writer.new) }
     ensures rules { rules_of engine.new ≡ rules_of engine.old }
+    ensures idle { IsIdle engine.new.store }
+    ensures whole { IsWhole engine.new }
 {
     if desk.line.is_empty() {
         return Ok(());
@@ -133,13 +159,17 @@ fn finish<W: Write>(engine: &mut Engine, desk: &mut Desk, writer: &mut W) -> Res
 ///
 /// `Read` and `Write` where a call of the reader or the writer failed, or a write took no byte; `TooManyReads` where the
 /// input goes on after 1,000,000,000 reads; `Memory` where its two buffers are refused, before the first read.
-pub fn run<R: Read, W: Write>(
-    engine: &mut Engine,
+pub fn run<K: Keeper, R: Read, W: Write>(
+    engine: &mut Engine<K>,
     reader: &mut R,
     writer: &mut W,
 ) -> Result<Report, RunFault>
-    ensures ran { Ran result (rules_of engine.old) (state_of engine.old) (state_of engine.new) (R.remaining reader.old) (R.remaining reader.new) (W.contents writer.old) (W.contents writer.new) }
+    requires idle { IsIdle engine.old.store }
+    requires whole { IsWhole engine.old }
+    ensures ran { Ran result (rules_of engine.old) (seen_of engine.old) (seen_of engine.new) (R.remaining reader.old) (R.remaining reader.new) (W.contents writer.old) (W.contents writer.new) }
     ensures rules { rules_of engine.new ≡ rules_of engine.old }
+    ensures idle { IsIdle engine.new.store }
+    ensures whole { IsWhole engine.new }
 {
     let version = engine.version();
     let Ok(mut desk) = Desk::new(engine.alloc) else {
@@ -153,7 +183,8 @@ pub fn run<R: Read, W: Write>(
         };
         if count == 0 {
             finish(engine, &mut desk, writer)?;
-            return Ok(desk.report(engine.version().saturating_sub(version)));
+            let accepted = engine.version().saturating_sub(version);
+            return Ok(desk.report(accepted, engine.work()));
         }
         take_piece(engine, &mut desk, &piece[..count], writer)?;
     }

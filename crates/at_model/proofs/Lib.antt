@@ -33,3 +33,7 @@ pub mod Conforming
 pub mod Shaped
 pub mod WithinTree
 pub mod Spreading
+pub mod PlainLines
+pub mod Played
+pub mod SampleCircles
+pub mod Unread

@@ -14,7 +14,7 @@ use Rattle.at_model.proofs.QuotedTexts.{same_quoted}
 use Rattle.at_model.proofs.OneTerm.{tail, same_decimal, same_token, same_term}
 
 -- steps
-behind_step : (ps : Path) (r : List ℕ) → Ends r → Stops (flat_map step_text ps ++ r) × ((y : List ℕ) → flat_map step_text ps ++ r ≡ 58 ∷ y → ⊥)
+pub behind_step : (ps : Path) (r : List ℕ) → Ends r → Stops (flat_map step_text ps ++ r) × ((y : List ℕ) → flat_map step_text ps ++ r ≡ 58 ∷ y → ⊥)
 behind_step [] r hr = (stops r hr, λ y. ends_not r y 58 hr refl)
 behind_step (p ∷ ps) r hr = (refl, λ y e. apart 47 58 _ y refl e)
 
@@ -62,18 +62,18 @@ same_path [] (q ∷ qs) r s hp hq hr hs e = absurd (ends_nameless r q.part _ hr 
 same_path (p ∷ ps) [] r s hp hq hr hs e = absurd (ends_nameless s p.part _ hs hp.0.0 hp.0.1 (ap tail (sym e ∙ step_flat p ps r)))
 same_path (p ∷ ps) (q ∷ qs) r s hp hq hr hs e = same_steps (p ∷ ps) (q ∷ qs) r s hp hq hr hs e
 
-path_head : (p : Path) (r y : List ℕ) (d : ℕ) → nat_eq 47 d ≡ false → path_text p ++ r ≡ d ∷ y → ⊥
+pub path_head : (p : Path) (r y : List ℕ) (d : ℕ) → nat_eq 47 d ≡ false → path_text p ++ r ≡ d ∷ y → ⊥
 path_head [] r y d h e = apart 47 d r y h e
 path_head (p ∷ ps) r y d h e = apart 47 d _ y h e
 
-place_head : (p : Place) (r y : List ℕ) (d : ℕ) → nat_eq 47 d ≡ false → nat_eq 36 d ≡ false → place_text p ++ r ≡ d ∷ y → ⊥
+pub place_head : (p : Place) (r y : List ℕ) (d : ℕ) → nat_eq 47 d ≡ false → nat_eq 36 d ≡ false → place_text p ++ r ≡ d ∷ y → ⊥
 place_head (From_root path) r y d h k e = path_head path r y d h e
 place_head (From_mark name steps) r y d h k e = apart 36 d _ y k e
 
-mark_flat : (name : List ℕ) (steps : Path) (r : List ℕ) → place_text (From_mark name steps) ++ r ≡ 36 ∷ (name ++ (flat_map step_text steps ++ r))
+pub mark_flat : (name : List ℕ) (steps : Path) (r : List ℕ) → place_text (From_mark name steps) ++ r ≡ 36 ∷ (name ++ (flat_map step_text steps ++ r))
 mark_flat name steps r = ap (λ z. 36 ∷ z) (append_assoc name (flat_map step_text steps) r)
 
-same_place : (p q : Place) (r s : List ℕ) → IsPlace p → IsPlace q → Ends r → Ends s → place_text p ++ r ≡ place_text q ++ s → (p ≡ q) × (r ≡ s)
+pub same_place : (p q : Place) (r s : List ℕ) → IsPlace p → IsPlace q → Ends r → Ends s → place_text p ++ r ≡ place_text q ++ s → (p ≡ q) × (r ≡ s)
 same_place (From_root p) (From_root q) r s hp hq hr hs e = let both = same_path p q r s hp hq hr hs e in (ap From_root both.0, both.1)
 same_place (From_root p) (From_mark b qs) r s hp hq hr hs e = absurd (path_head p r _ 36 refl e)
 same_place (From_mark a ps) (From_root q) r s hp hq hr hs e = absurd (path_head q s _ 36 refl (sym e))
@@ -84,7 +84,7 @@ same_place (From_mark a ps) (From_mark b qs) r s hp hq hr hs e =
     (λ i. From_mark (names.0 i) (steps.0 i), steps.1)
 
 -- arguments
-same_argument : (a b : Argument) (r s : List ℕ) → IsArgument a → IsArgument b → Ends r → Ends s → argument_text a ++ r ≡ argument_text b ++ s → (a ≡ b) × (r ≡ s)
+pub same_argument : (a b : Argument) (r s : List ℕ) → IsArgument a → IsArgument b → Ends r → Ends s → argument_text a ++ r ≡ argument_text b ++ s → (a ≡ b) × (r ≡ s)
 same_argument (Text x) (Text y) r s ha hb hr hs e = let both = same_quoted x y r s e in (ap Text both.0, both.1)
 same_argument (Text x) (Ref q) r s ha hb hr hs e = absurd (place_head q s _ 34 refl refl (sym e))
 same_argument (Text x) Null r s ha hb hr hs e = absurd (apart 34 110 _ _ refl e)
@@ -95,7 +95,7 @@ same_argument Null (Text y) r s ha hb hr hs e = absurd (apart 110 34 _ _ refl e)
 same_argument Null (Ref q) r s ha hb hr hs e = absurd (place_head q s _ 110 refl refl (sym e))
 same_argument Null Null r s ha hb hr hs e = (refl, ap (drop 4) e)
 
-argument_head : (a : Argument) (r y : List ℕ) → argument_text a ++ r ≡ 41 ∷ y → ⊥
+pub argument_head : (a : Argument) (r y : List ℕ) → argument_text a ++ r ≡ 41 ∷ y → ⊥
 argument_head (Text x) r y e = apart 34 41 _ y refl e
 argument_head (Ref p) r y e = place_head p r y 41 refl refl e
 argument_head Null r y e = apart 110 41 _ y refl e
@@ -132,7 +132,7 @@ same_arguments (a ∷ as') (b ∷ bs) r s ha hb e =
     let rest = same_behind as' bs r s (same_arguments as' bs r s ha.1 hb.1) first.1 in
     (λ i. first.0 i ∷ rest.0 i, rest.1)
 
-same_call : (a b : List ℕ) (as' bs : List Argument) → is_name a ≡ true → IsUtf8 a → is_name b ≡ true → IsUtf8 b → AllByRecursion IsArgument as' → AllByRecursion IsArgument bs → call_text a as' ≡ call_text b bs → (a ≡ b) × (as' ≡ bs)
+pub same_call : (a b : List ℕ) (as' bs : List Argument) → is_name a ≡ true → IsUtf8 a → is_name b ≡ true → IsUtf8 b → AllByRecursion IsArgument as' → AllByRecursion IsArgument bs → call_text a as' ≡ call_text b bs → (a ≡ b) × (as' ≡ bs)
 same_call a b as' bs ha ua hb ub has hbs e =
     let names = same_word a b _ _ (name_inner a ha ua) (name_inner b hb ub) refl refl e in
     (names.0, (same_arguments as' bs [] [] has hbs (ap tail names.1)).0)
@@ -187,7 +187,7 @@ same_command Version Version hc hd e = refl
 same_command c d hc hd e = absurd (apart_bytes (two (command_text c)) (two (command_text d)) refl (ap two e))
 
 -- lines
-pub body_text : Option ℕ → Command → List ℕ
+unfoldable pub body_text : Option ℕ → Command → List ℕ
 body_text None c = command_text c
 body_text (Some version) c = codes "at" ++ 32 ∷ (decimal version ++ 32 ∷ command_text c)
 
@@ -215,7 +215,7 @@ unfolding body_text
 line_flat session None c = join_filled (decimal session) (command_words c) (words_filled c)
 line_flat session (Some version) c = ap (λ z. decimal session ++ 32 ∷ (codes "at" ++ 32 ∷ z)) (join_filled (decimal version) (command_words c) (words_filled c))
 
-no_at : (c : Command) (y : List ℕ) → command_text c ≡ codes "at" ++ 32 ∷ y → ⊥
+pub no_at : (c : Command) (y : List ℕ) → command_text c ≡ codes "at" ++ 32 ∷ y → ⊥
 no_at (Ask p a as') y e = apart_bytes 29537 29793 refl (ap two e)
 no_at (Set p t) y e = apart 115 97 _ _ refl e
 no_at (Put p a t) y e = apart 112 97 _ _ refl e

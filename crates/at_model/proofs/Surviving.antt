@@ -30,7 +30,7 @@ or_none true = refl
 or_none false = refl
 
 -- a node goes nowhere exactly where it stands within the child whose step does
-moved_out : (past : Way → Option Way) (s : Way) → ((r : Way) → is_none (past r) ≡ step_eq s r) → (p n : Node) → is_none (moved_under p past n) ≡ is_within (p ++ s ∷ []) n
+pub moved_out : (past : Way → Option Way) (s : Way) → ((r : Way) → is_none (past r) ≡ step_eq s r) → (p n : Node) → is_none (moved_under p past n) ≡ is_within (p ++ s ∷ []) n
 moved_out past s h [] [] = refl
 moved_out past s h [] (r ∷ rs) = none_mapped (λ (w : Way). w ∷ rs) (past r) ∙ h r ∙ and_one (step_eq s r)
 moved_out past s h (a ∷ p) [] = refl
@@ -57,7 +57,7 @@ set_out s r = by_test (step_eq s r)
     by_test true = refl
     by_test false = refl
 
-drop_out : (s r : Way) → is_none (past_drop s r) ≡ step_eq s r
+pub drop_out : (s r : Way) → is_none (past_drop s r) ≡ step_eq s r
 drop_out s r = by_tests (step_eq s r) (nat_eq s.0 r.0 && nat_lt s.1 r.1)
   where
     by_tests : (b c : Bool) → is_none (if b then None else (if c then Some (r.0, r.1 - 1) else Some r)) ≡ b
@@ -96,7 +96,7 @@ put_out part (a ∷ p) (r ∷ rs) t v free found = by_step (step_eq a r) refl (p
         let free' : children_of u p part ≡ [] = sym (ap (λ (o : Option Tree). elim (option_and_then (λ x. tree_at x p) o) [ None ↦ [] | Some x ↦ children_at x part ]) child') ∙ free in
         none_mapped (λ (us : Node). r ∷ us) (moved_under p (past_put part) rs) ∙ more u v free' below
 
-parent_is : (node : Node) (p : Node × Way) → parent_of node ≡ Some p → node ≡ p.0 ++ p.1 ∷ []
+pub parent_is : (node : Node) (p : Node × Way) → parent_of node ≡ Some p → node ≡ p.0 ++ p.1 ∷ []
 parent_is node p e = by_end (snoc node)
   where
     by_end : (node ≡ []) ⊎ ((m : Node) × (s : Way) × (node ≡ m ++ s ∷ [])) → node ≡ p.0 ++ p.1 ∷ []

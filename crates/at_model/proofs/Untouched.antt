@@ -45,17 +45,17 @@ length-changed f (x ∷ xs) zero = refl
 length-changed f (x ∷ xs) (suc i) = ap suc (length-changed f xs i)
 
 -- one cell changed
-cell-same : (g : Cell → Cell) (part : ℕ) (t : Tree) → cell_at (with_cell g part t) part ≡ option_map g (cell_at t part)
+pub cell-same : (g : Cell → Cell) (part : ℕ) (t : Tree) → cell_at (with_cell g part t) part ≡ option_map g (cell_at t part)
 cell-same g part (branch c cells) = ap (λ xs. slice_get xs part) (from_to_cells (changed_at g (from_cells cells) part)) ∙ changed-same g (from_cells cells) part
 
-cell-other : (g : Cell → Cell) (part q : ℕ) (t : Tree) → (part ≡ q → ⊥) → cell_at (with_cell g part t) q ≡ cell_at t q
+pub cell-other : (g : Cell → Cell) (part q : ℕ) (t : Tree) → (part ≡ q → ⊥) → cell_at (with_cell g part t) q ≡ cell_at t q
 cell-other g part q (branch c cells) h = ap (λ xs. slice_get xs q) (from_to_cells (changed_at g (from_cells cells) part)) ∙ changed-other g (from_cells cells) part q h
 
-class-same : (g : Cell → Cell) (part : ℕ) (t : Tree) → class_of (with_cell g part t) ≡ class_of t
+pub class-same : (g : Cell → Cell) (part : ℕ) (t : Tree) → class_of (with_cell g part t) ≡ class_of t
 class-same g part (branch c cells) = refl
 
 -- one child changed
-child-same : (f : Tree → Tree) (i : ℕ) (c : Cell) → slice_get (children (with_child f i c)) i ≡ option_map f (slice_get (children c) i)
+pub child-same : (f : Tree → Tree) (i : ℕ) (c : Cell) → slice_get (children (with_child f i c)) i ≡ option_map f (slice_get (children c) i)
 child-same f zero (One t) = refl
 child-same f (suc i) (One t) = refl
 child-same f i (Many ts) = ap (λ xs. slice_get xs i) (from_to_trees (changed_at f (from_trees ts) i)) ∙ changed-same f (from_trees ts) i
@@ -96,14 +96,14 @@ child-token f i (Holds v) = refl
 abbrev pub in_cell : Option Cell → List Tree
 in_cell o = elim o [ None ↦ [] | Some c ↦ children c ]
 
-by_nat : (a b : ℕ) (P : Type 0) → (a ≡ b → P) → ((a ≡ b → ⊥) → P) → P
+pub by_nat : (a b : ℕ) (P : Type 0) → (a ≡ b → P) → ((a ≡ b → ⊥) → P) → P
 by_nat a b P h k = decide (nat_eq a b) refl
   where
     decide : (t : Bool) → nat_eq a b ≡ t → P
     decide true e = h (grind (arith, nat_tests))
     decide false e = k (λ f. let g : nat_eq a b ≡ true = grind (arith, nat_tests) in cc)
 
-true_if : (a b : ℕ) → a ≡ b → nat_eq a b ≡ true
+pub true_if : (a b : ℕ) → a ≡ b → nat_eq a b ≡ true
 true_if a b e = grind (arith, nat_tests)
 
 -- a child of a tree where one child is changed: that one, and any other
@@ -115,10 +115,10 @@ in_cell-other : (h : Tree → Tree) (i j : ℕ) (o : Option Cell) → (i ≡ j �
 in_cell-other h i j None n = refl
 in_cell-other h i j (Some c) n = child-other h i j c n
 
-step-same : (h : Tree → Tree) (a : Way) (t : Tree) → slice_get (children_at (with_cell (with_child h a.1) a.0 t) a.0) a.1 ≡ option_map h (slice_get (children_at t a.0) a.1)
+pub step-same : (h : Tree → Tree) (a : Way) (t : Tree) → slice_get (children_at (with_cell (with_child h a.1) a.0 t) a.0) a.1 ≡ option_map h (slice_get (children_at t a.0) a.1)
 step-same h a t = ap (λ o. slice_get (in_cell o) a.1) (cell-same (with_child h a.1) a.0 t) ∙ in_cell-same h a.1 (cell_at t a.0)
 
-step-other : (h : Tree → Tree) (a s : Way) (t : Tree) → step_eq a s ≡ false → slice_get (children_at (with_cell (with_child h a.1) a.0 t) s.0) s.1 ≡ slice_get (children_at t s.0) s.1
+pub step-other : (h : Tree → Tree) (a s : Way) (t : Tree) → step_eq a s ≡ false → slice_get (children_at (with_cell (with_child h a.1) a.0 t) s.0) s.1 ≡ slice_get (children_at t s.0) s.1
 step-other h a s t e = by_nat a.0 s.0 _ here (λ n. ap (λ o. slice_get (in_cell o) s.1) (cell-other (with_child h a.1) a.0 s.0 t n))
   where
     here : a.0 ≡ s.0 → slice_get (children_at (with_cell (with_child h a.1) a.0 t) s.0) s.1 ≡ slice_get (children_at t s.0) s.1

@@ -36,27 +36,27 @@ not_false true e = absurd cc
 not_false false e = refl
 
 -- lists after one is removed or inserted
-removed-before : {A : Type 0} (xs : List A) (i j : ℕ) → j < i → slice_get (remove xs i) j ≡ slice_get xs j
+pub removed-before : {A : Type 0} (xs : List A) (i j : ℕ) → j < i → slice_get (remove xs i) j ≡ slice_get xs j
 removed-before [] zero j h = refl
 removed-before [] (suc i) j h = refl
 removed-before (x ∷ xs) zero j h = absurd (omega arith)
 removed-before (x ∷ xs) (suc i) zero h = refl
 removed-before (x ∷ xs) (suc i) (suc j) h = removed-before xs i j (omega arith)
 
-removed-behind : {A : Type 0} (xs : List A) (i j : ℕ) → i ≤ j → slice_get (remove xs i) j ≡ slice_get xs (suc j)
+pub removed-behind : {A : Type 0} (xs : List A) (i j : ℕ) → i ≤ j → slice_get (remove xs i) j ≡ slice_get xs (suc j)
 removed-behind [] zero j h = refl
 removed-behind [] (suc i) j h = refl
 removed-behind (x ∷ xs) zero j h = refl
 removed-behind (x ∷ xs) (suc i) zero h = absurd (omega arith)
 removed-behind (x ∷ xs) (suc i) (suc j) h = removed-behind xs i j (omega arith)
 
-inserted-before : {A : Type 0} (xs : List A) (i j : ℕ) (a : A) → j < i → i ≤ length xs → slice_get (insert xs i a) j ≡ slice_get xs j
+pub inserted-before : {A : Type 0} (xs : List A) (i j : ℕ) (a : A) → j < i → i ≤ length xs → slice_get (insert xs i a) j ≡ slice_get xs j
 inserted-before [] i j a h k = let f : i ≤ 0 = k in absurd (omega arith)
 inserted-before (x ∷ xs) zero j a h k = absurd (omega arith)
 inserted-before (x ∷ xs) (suc i) zero a h k = refl
 inserted-before (x ∷ xs) (suc i) (suc j) a h k = let f : suc i ≤ suc (length xs) = k in inserted-before xs i j a (omega arith) (omega arith)
 
-inserted-behind : {A : Type 0} (xs : List A) (i j : ℕ) (a : A) → i ≤ j → slice_get (insert xs i a) (suc j) ≡ slice_get xs j
+pub inserted-behind : {A : Type 0} (xs : List A) (i j : ℕ) (a : A) → i ≤ j → slice_get (insert xs i a) (suc j) ≡ slice_get xs j
 inserted-behind [] zero j a h = refl
 inserted-behind [] (suc i) j a h = refl
 inserted-behind (x ∷ xs) zero j a h = refl
@@ -74,7 +74,7 @@ optional_cell classes (Holds v) (class.Many b) h e = absurd cc
 optional_cell classes (Holds v) (class.Maybe b) h e = absurd cc
 optional_cell classes (Holds v) (class.Token kind) h e = absurd cc
 
-list_cell : (classes : Classes) (c : Cell) (shape : Shape) → is_some (list_class shape) ≡ true → cell_conforms classes c shape ≡ true → (ts : Trees) × (c ≡ Many ts)
+pub list_cell : (classes : Classes) (c : Cell) (shape : Shape) → is_some (list_class shape) ≡ true → cell_conforms classes c shape ≡ true → (ts : Trees) × (c ≡ Many ts)
 list_cell classes c (class.One b) h e = absurd cc
 list_cell classes (Many ts) (class.Many b) h e = (ts, refl)
 list_cell classes (One t) (class.Many b) h e = absurd cc
@@ -84,7 +84,7 @@ list_cell classes (Holds v) (class.Many b) h e = absurd cc
 list_cell classes c (class.Maybe b) h e = absurd cc
 list_cell classes c (class.Token kind) h e = absurd cc
 
-token_cell : (classes : Classes) (c : Cell) (shape : Shape) → is_some (token_kind shape) ≡ true → cell_conforms classes c shape ≡ true → children c ≡ []
+pub token_cell : (classes : Classes) (c : Cell) (shape : Shape) → is_some (token_kind shape) ≡ true → cell_conforms classes c shape ≡ true → children c ≡ []
 token_cell classes c (class.One b) h e = absurd cc
 token_cell classes c (class.Many b) h e = absurd cc
 token_cell classes c (class.Maybe b) h e = absurd cc
@@ -94,20 +94,20 @@ token_cell classes (Many ts) (class.Token kind) h e = absurd cc
 token_cell classes Empty (class.Token kind) h e = absurd cc
 token_cell classes (Filled t) (class.Token kind) h e = absurd cc
 
-plain_cell : (classes : Classes) (t : Tree) (shape : Shape) → is_some (plain_class shape) ≡ false → cell_conforms classes (One t) shape ≡ true → ⊥
+pub plain_cell : (classes : Classes) (t : Tree) (shape : Shape) → is_some (plain_class shape) ≡ false → cell_conforms classes (One t) shape ≡ true → ⊥
 plain_cell classes t (class.One b) h e = cc
 plain_cell classes t (class.Many b) h e = cc
 plain_cell classes t (class.Maybe b) h e = cc
 plain_cell classes t (class.Token kind) h e = cc
 
 -- the shape of a component that is there, and its cell conforms
-shape_there : (classes : Classes) (t : Tree) (p : Node) (part : ℕ) (u : Tree) (c : Cell) → conforms classes t 0 ≡ true → tree_at t p ≡ Some u → cell_at u part ≡ Some c → (shape : Shape) × (shape_at classes t p part ≡ Some shape) × (cell_conforms classes c shape ≡ true)
+pub shape_there : (classes : Classes) (t : Tree) (p : Node) (part : ℕ) (u : Tree) (c : Cell) → conforms classes t 0 ≡ true → tree_at t p ≡ Some u → cell_at u part ≡ Some c → (shape : Shape) × (shape_at classes t p part ≡ Some shape) × (cell_conforms classes c shape ≡ true)
 shape_there classes t p part (branch k cells) c ok found here =
     let (b, ok') = conforms_at classes t 0 p (branch k cells) ok found in
     let (q, is, fits) = cell_there classes cells (parts classes k) part c (both _ _ ok').1 here in
     (q.shape, ap (option_and_then (λ x. option_map (λ q. q.shape) (slice_get (parts classes (class_of x)) part))) found ∙ ap (option_map (λ q. q.shape)) is, fits)
 
-selected : {A : Type 0} (select : Shape → Option A) (o : Option Shape) (b : Bool) (shape : Shape) → o ≡ Some shape → is_some (option_and_then select o) ≡ b → is_some (select shape) ≡ b
+pub selected : {A : Type 0} (select : Shape → Option A) (o : Option Shape) (b : Bool) (shape : Shape) → o ≡ Some shape → is_some (option_and_then select o) ≡ b → is_some (select shape) ≡ b
 selected select o b shape is h = subst (λ (x : Option Shape). is_some (option_and_then select x) ≡ b) is h
 
 -- an element behind the first is none of an optional
@@ -115,7 +115,7 @@ unfilled : (t : Tree) (j : ℕ) → 0 < j → slice_get (t ∷ []) j ≡ None
 unfilled t zero h = absurd (omega arith)
 unfilled t (suc j) h = refl
 
-dropped-fits : (classes : Classes) (place s u : Way) (c : Cell) (shape : Shape) → is_some (plain_class shape) ≡ false → cell_conforms classes c shape ≡ true → s.0 ≡ place.0 → DropWay place s u →
+pub dropped-fits : (classes : Classes) (place s u : Way) (c : Cell) (shape : Shape) → is_some (plain_class shape) ≡ false → cell_conforms classes c shape ≡ true → s.0 ≡ place.0 → DropWay place s u →
     slice_get (children (without_child place.1 c)) u.1 ≡ slice_get (children c) s.1
 dropped-fits classes place s u (One t) shape h e same w = absurd (plain_cell classes t shape h e)
 dropped-fits classes place s u (Many ts) shape h e same (way.behind a less b next) =
@@ -142,7 +142,7 @@ dropped-token zero (Filled t) = refl
 dropped-token (suc i) (Filled t) = refl
 dropped-token i (Holds v) = refl
 
-inserted-fits : (ts : Trees) (place s u : Way) (new : Tree) → place.1 ≤ length (from_trees ts) → s.0 ≡ place.0 → InsertWay place s u →
+pub inserted-fits : (ts : Trees) (place s u : Way) (new : Tree) → place.1 ≤ length (from_trees ts) → s.0 ≡ place.0 → InsertWay place s u →
     slice_get (children (with_one_more new place.1 (Many ts))) u.1 ≡ slice_get (from_trees ts) s.1
 inserted-fits ts place s u new bound same (way.behind a less b next) =
     let is : u.1 ≡ suc s.1 = omega arith in
@@ -197,7 +197,7 @@ module _ (classes : Classes) (t : Tree) (ok : conforms classes t 0 ≡ true) whe
       (cell_alike (with_child (λ u. new) p.1.1) p.1.0 (past_set p.1) (set_keeps p.1) t p.0 (set_fits new p) l m s (set_unseen node new p is l h))
 
   -- what is seen of the component that an edit needs
-  component_there : {A : Type 0} (select : Shape → Option A) (p : Node) (part : ℕ) (u : Tree) (c : Cell) → is_some (option_and_then select (shape_at classes t p part)) ≡ true → tree_at t p ≡ Some u → cell_at u part ≡ Some c → (shape : Shape) × (is_some (select shape) ≡ true) × (cell_conforms classes c shape ≡ true)
+  pub component_there : {A : Type 0} (select : Shape → Option A) (p : Node) (part : ℕ) (u : Tree) (c : Cell) → is_some (option_and_then select (shape_at classes t p part)) ≡ true → tree_at t p ≡ Some u → cell_at u part ≡ Some c → (shape : Shape) × (is_some (select shape) ≡ true) × (cell_conforms classes c shape ≡ true)
   component_there select p part u c has found here = let (shape, is, fits) = shape_there classes t p part u c ok found here in (shape, selected select (shape_at classes t p part) true shape is has, fits)
 
   put_unseen : (node : Node) (part : ℕ) (new : Tree) → has_component classes t (Put node part new) ≡ true → (l : Location Node) → touches (Put node part new) l ≡ false → Unseen (λ c. Filled new) part (past_put part) t node l
@@ -254,7 +254,7 @@ module _ (classes : Classes) (t : Tree) (ok : conforms classes t 0 ≡ true) whe
   insert_unseen node part index new (Idx n) h = λ m s e same. absurd (not_both _ same (sym (child_seen node m part s n e) ∙ h))
 
   -- the children that the test of the index counts
-  counted : (node : Node) (part : ℕ) (u : Tree) (ts : Trees) → tree_at t node ≡ Some u → cell_at u part ≡ Some (Many ts) → children_of t node part ≡ from_trees ts
+  pub counted : (node : Node) (part : ℕ) (u : Tree) (ts : Trees) → tree_at t node ≡ Some u → cell_at u part ≡ Some (Many ts) → children_of t node part ≡ from_trees ts
   counted node part u ts found here = ap (λ (o : Option Tree). elim o [ None ↦ [] | Some x ↦ children_at x part ]) found ∙ ap (λ (o : Option Cell). elim o [ None ↦ [] | Some c ↦ children c ]) here
 
   pub insert_fits : (node : Node) (part index : ℕ) (new : Tree) → has_component classes t (Insert node part index new) ≡ true → is_in_range t (Insert node part index new) ≡ true → FitsAt (with_one_more new index) part (past_insert (part, index)) t node

@@ -6,6 +6,7 @@ pub mod Trees
 pub mod Terms
 pub mod Paths
 pub mod Run
+pub mod Follow
 pub mod Bodies
 pub mod Rules
 pub mod Meaning
@@ -20,3 +21,5 @@ pub mod Replies
 pub mod Machine
 pub mod Sparing
 pub mod SampleLines
+pub mod Playing
+pub mod SampleSessions

@@ -130,27 +130,9 @@ pub record IsLine (l : Line) : Type 0 where
   pub expected : IsVersion l.expected
   pub command : IsCommand l.command
 
--- the place is a path
-abbrev pub is_from_root : Place → Bool
-is_from_root (From_root path) = true
-is_from_root (From_mark name steps) = false
-
--- the commands that there are today, and their forms
-abbrev pub exists_today : Command → Bool
-exists_today (Ask place attribute []) = is_from_root place
-exists_today (Show place) = is_from_root place
-exists_today (Token place part v) = is_from_root place
-exists_today Version = true
-exists_today command = false
-
--- today no line names a version that it expects
-abbrev pub ExistsToday : Line → Type 0
-ExistsToday l = (l.expected ≡ None) × (exists_today l.command ≡ true)
-
 -- the bytes are the text of the line
 pub record Spells (bytes : List ℕ) (l : Line) : Type 0 where
   pub is_line : IsLine l
-  pub exists : ExistsToday l
   pub text : bytes ≡ line_text l
   pub short : length bytes ≤ max_line
 

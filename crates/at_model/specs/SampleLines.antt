@@ -9,7 +9,7 @@ use Rattle.at_model.specs.Terms as term
 use Rattle.at_model.specs.Paths.{Path, Step, Node}
 use Rattle.at_model.specs.Lines.{Line, Command}
 use Rattle.at_model.specs.Machine.{State, Marked}
-use Rattle.at_model.specs.Samples.{decl, num, calc_tree}
+use Rattle.at_model.specs.Samples.{decl, num, calc_tree, sum_tree}
 
 -- Decl("x",Num(1))
 abbrev pub decl_x : Tree
@@ -55,6 +55,10 @@ nested (suc n) = term.Node (codes "Block") (term.cell (term.Many (term.term (nes
 -- the machine as it is opened with the sample
 abbrev pub opened : State
 opened = record { tree = calc_tree; version = 0; marks = [] }
+
+-- and with the other sample
+abbrev pub sum_opened : State
+sum_opened = record { tree = sum_tree; version = 0; marks = [] }
 
 -- a session's mark
 abbrev pub mark : ℕ → String → Node → Marked

@@ -2,34 +2,124 @@
 #![tactic(auto)]
 
 mod cases;
+mod edit_cases;
+mod form_cases;
 mod forms;
 mod laws;
+mod limit_cases;
 mod machine_cases;
 mod machine_laws;
+mod refusal_cases;
+mod session_cases;
+mod unread_cases;
 
-pub use cases::{
-    circle, dropped_declaration, exposed_block, first_come, ints, names_and_values, nearest_above,
-    nearest_class, positions, same_nodes, sample_texts, second_demand, support, total,
-    what_is_read,
-};
-pub use forms::{accessors, arithmetic, classes, folds, long_texts, order};
-pub use laws::{
-    carried_demands, carried_outcome, carried_support, each_has_an_equation, equations_alike,
-    equations_found, expressions_alike, numbers_for_paths, one_circle, one_outcome,
-    outcome_or_circle, outcomes_spread, same_paths, try_is_right, within_the_tree,
-};
-pub use machine_cases::{
-    a_drop_moves_what_is_behind, a_line_as_text, a_mark_is_asked_where_it_is, a_stale_line,
-    an_insert_moves_what_is_behind, an_optional_is_emptied_and_filled, lines_of_bytes, marks,
-    outputs_of_bytes, paths_as_text, questions, refused_edits, replies_as_text, the_deepest_tree,
-    what_a_drop_touches,
-};
-pub use machine_laws::{
-    a_carried_node_is_there, a_node_that_goes_nowhere_is_touched, a_refused_line_changes_nothing,
-    a_shaped_tree_is_written_as_its_term, a_sound_state_stays_sound,
-    a_written_tree_is_shaped_again, an_accepted_edit_conforms,
-    an_accepted_edit_is_the_next_version, lines_of_one_part, lines_of_two_parts, one_line,
-    one_more_line, one_output, one_reply, one_session, one_term, only_edits_change_the_tree,
-    the_path_of_a_node_leads_back, what_is_kept_stays_well_kept, what_is_not_touched_is_alike,
-    what_is_not_touched_stays_right,
-};
+pub use cases::circle;
+pub use cases::dropped_declaration;
+pub use cases::exposed_block;
+pub use cases::first_come;
+pub use cases::ints;
+pub use cases::names_and_values;
+pub use cases::nearest_above;
+pub use cases::nearest_class;
+pub use cases::positions;
+pub use cases::same_nodes;
+pub use cases::sample_texts;
+pub use cases::second_demand;
+pub use cases::support;
+pub use cases::total;
+pub use cases::what_is_read;
+pub use edit_cases::what_a_list_touches;
+pub use edit_cases::what_a_set_touches;
+pub use edit_cases::what_a_token_touches;
+pub use edit_cases::what_an_optional_touches;
+pub use edit_cases::where_nodes_stay;
+pub use form_cases::comparisons;
+pub use form_cases::equality;
+pub use form_cases::ints_below_zero;
+pub use form_cases::long_decimals;
+pub use form_cases::right_sides;
+pub use form_cases::what_accessors_read;
+pub use form_cases::what_folds_read;
+pub use forms::accessors;
+pub use forms::arithmetic;
+pub use forms::classes;
+pub use forms::folds;
+pub use forms::long_texts;
+pub use forms::order;
+pub use laws::carried_demands;
+pub use laws::carried_outcome;
+pub use laws::carried_support;
+pub use laws::each_has_an_equation;
+pub use laws::equations_alike;
+pub use laws::equations_found;
+pub use laws::expressions_alike;
+pub use laws::numbers_for_paths;
+pub use laws::one_circle;
+pub use laws::one_outcome;
+pub use laws::outcome_or_circle;
+pub use laws::outcomes_spread;
+pub use laws::same_paths;
+pub use laws::try_is_right;
+pub use laws::within_the_tree;
+pub use limit_cases::line_lengths;
+pub use limit_cases::numbers_of_lines;
+pub use limit_cases::token_lengths;
+pub use limit_cases::tree_sizes;
+pub use machine_cases::a_drop_moves_what_is_behind;
+pub use machine_cases::a_line_as_text;
+pub use machine_cases::a_mark_is_asked_where_it_is;
+pub use machine_cases::a_stale_line;
+pub use machine_cases::an_insert_moves_what_is_behind;
+pub use machine_cases::an_optional_is_emptied_and_filled;
+pub use machine_cases::lines_of_bytes;
+pub use machine_cases::marks;
+pub use machine_cases::outputs_of_bytes;
+pub use machine_cases::paths_as_text;
+pub use machine_cases::questions;
+pub use machine_cases::refused_edits;
+pub use machine_cases::replies_as_text;
+pub use machine_cases::the_deepest_tree;
+pub use machine_cases::what_a_drop_touches;
+pub use machine_laws::a_carried_node_is_there;
+pub use machine_laws::a_node_that_goes_nowhere_is_touched;
+pub use machine_laws::a_refused_line_changes_nothing;
+pub use machine_laws::a_shaped_tree_is_written_as_its_term;
+pub use machine_laws::a_sound_state_stays_sound;
+pub use machine_laws::a_written_tree_is_shaped_again;
+pub use machine_laws::an_accepted_edit_conforms;
+pub use machine_laws::an_accepted_edit_is_the_next_version;
+pub use machine_laws::lines_of_one_part;
+pub use machine_laws::lines_of_two_parts;
+pub use machine_laws::one_line;
+pub use machine_laws::one_more_line;
+pub use machine_laws::one_output;
+pub use machine_laws::one_reply;
+pub use machine_laws::one_session;
+pub use machine_laws::one_term;
+pub use machine_laws::only_edits_change_the_tree;
+pub use machine_laws::the_path_of_a_node_leads_back;
+pub use machine_laws::what_is_kept_stays_well_kept;
+pub use machine_laws::what_is_not_touched_is_alike;
+pub use machine_laws::what_is_not_touched_stays_right;
+pub use refusal_cases::a_hundred_marks;
+pub use refusal_cases::a_parameter_takes_a_class;
+pub use refusal_cases::marks_beside_others;
+pub use refusal_cases::marks_of_two_sessions;
+pub use refusal_cases::the_first_refusal_is_told;
+pub use refusal_cases::the_last_version_is_looked_at_last;
+pub use session_cases::a_circle_is_closed_and_opened;
+pub use session_cases::a_list_is_edited;
+pub use session_cases::a_mark_follows_its_node;
+pub use session_cases::a_refused_edit_leaves_the_tree;
+pub use session_cases::a_text_with_quotes;
+pub use session_cases::a_token_is_edited;
+pub use session_cases::an_index_follows_the_list;
+pub use session_cases::an_old_version_is_expected;
+pub use session_cases::an_optional_is_edited;
+pub use session_cases::each_refusal_is_told;
+pub use session_cases::ints_wrap_and_join;
+pub use session_cases::nodes_are_told_apart;
+pub use session_cases::the_other_sample;
+pub use session_cases::values_are_asked;
+pub use session_cases::what_comes_first_is_told;
+pub use unread_cases::bytes_that_are_no_line;

@@ -1,9 +1,11 @@
 pub mod Spaces
 pub mod Values
+pub mod Answering
 pub mod Commands
+pub mod Parts
+pub mod Calls
 pub mod Utf8
 pub mod Lines
-pub mod Answering
 pub mod Sessions
 pub mod Numbers
-pub mod Parts
+pub mod Places

@@ -1,52 +1,40 @@
--- A line is its session, a space, and the text of its command.
-use Rattle.std.proofs.Common.{◌≡◌, ℕ, ◌<◌, ◌≤◌, List, ◌∷◌, ◌++◌, length, Option, Some, None, refl, ap, sym, ◌∙◌, subst, arith}
-use Rattle.std.specs.List.{join_with_byte}
+-- A line is its session, a space, the version that it expects, where it names one, and the text of its command.
+use Rattle.std.proofs.Common.{◌≡◌, ◌≢◌, ℕ, ◌<◌, ◌≤◌, List, ◌∷◌, ◌++◌, drop, length, Option, Some, None, refl, ap, sym, ◌∙◌, subst, arith}
+use Rattle.std.specs.Prelude.{codes}
 use Rattle.std.specs.Fmt.{decimal}
 use Rattle.std.specs.Str.{IsUtf8}
 use Rattle.std.proofs.lemmas.Fmt.{decimal_injective}
-use Rattle.at_model.specs.Lines.{Command, Line, Spells, line_text, command_words, max_line, max_sessions, BeginsWith, IsSessionOf}
+use Rattle.at_model.specs.Lines.{Command, Line, Spells, IsVersion, max_line, max_sessions, last_version, BeginsWith, IsSessionOf}
+use Rattle.at_model.proofs.OneLine.{command_text, body_text, line_flat, no_at, same_line}
 use Rattle.at_protocol.specs.Commands.{IsCommandText}
-use Rattle.at_protocol.specs.Words.{HasNoSpace, FailsOn}
+use Rattle.at_protocol.specs.Words.{HasNoSpace, FailsOn, IsExpected}
 use Rattle.at_protocol.specs.declared.line.words.WordFault.{WordFault}
 use Rattle.at_protocol.proofs.Answering.{fails_with}
-use Rattle.at_protocol.proofs.Spaces.{one_front, no_space_decimal, space_inside}
-use Rattle.at_protocol.proofs.Commands.{Today, asks, shows, tokens, tells_version, today, one_command, two_words}
+use Rattle.at_protocol.proofs.Spaces.{one_front, no_space_decimal, space_inside, two_words}
 use Rattle.at_protocol.proofs.Utf8.{utf8_line}
 
-behind_word : (word : List ℕ) (c : Command) → Today c → join_with_byte 32 (word ∷ command_words c) ≡ word ++ 32 ∷ join_with_byte 32 (command_words c)
-behind_word word _ (asks path attribute) = refl
-behind_word word _ (shows path) = refl
-behind_word word _ (tokens path part v) = refl
-behind_word word _ tells_version = refl
+abbrev pub line_of : ℕ → Option ℕ → Command → Line
+line_of session expected c = record { session = session; expected = expected; command = c }
 
-abbrev pub line_of : ℕ → Command → Line
-line_of session c = record { session = session; expected = None; command = c }
+-- a text has one line
+pub one_line : (bytes : List ℕ) (k l : Line) → Spells bytes k → Spells bytes l → k ≡ l
+one_line bytes k l h j = same_line k l h.is_line j.is_line (sym h.text ∙ j.text)
+
+pub line_is_utf8 : (bytes : List ℕ) (l : Line) → Spells bytes l → IsUtf8 bytes
+line_is_utf8 bytes l h = subst IsUtf8 (sym h.text) (utf8_line l h.is_line)
 
 pub record IsLineText (bytes : List ℕ) (l : Line) : Type 0 where
   pub rest : List ℕ
   pub small : l.session < max_sessions
   pub split : bytes ≡ decimal l.session ++ 32 ∷ rest
-  pub is_command : IsCommandText rest l.command
-  pub none : l.expected ≡ None
+  pub is_body : rest ≡ body_text l.expected l.command
 
 pub taken_apart : (bytes : List ℕ) (l : Line) → Spells bytes l → IsLineText bytes l
-taken_apart bytes l h =
-    let c = l.command in
-    let t : line_text l ≡ decimal l.session ++ 32 ∷ join_with_byte 32 (command_words c) = rw h.exists.0 (behind_word (decimal l.session) c (today c h.exists.1)) in
-    record {
-      rest = join_with_byte 32 (command_words c);
-      small = h.is_line.session;
-      split = h.text ∙ t;
-      is_command = record { is_command = h.is_line.command; exists = h.exists.1; is_text = refl };
-      none = h.exists.0;
-    }
-
-pub put_together : (bytes rest : List ℕ) (session : ℕ) (c : Command) → session < max_sessions → bytes ≡ decimal session ++ 32 ∷ rest → IsCommandText rest c → length bytes ≤ max_line → Spells bytes (line_of session c)
-put_together bytes rest session c small split h short = record {
-  is_line = record { session = small; expected = tt; command = h.is_command };
-  exists = (refl, h.exists);
-  text = split ∙ ap (λ y. decimal session ++ 32 ∷ y) h.is_text ∙ sym (behind_word (decimal session) c (today c h.exists));
-  short = short;
+taken_apart bytes l h = record {
+  rest = body_text l.expected l.command;
+  small = h.is_line.session;
+  split = h.text ∙ line_flat l.session l.expected l.command;
+  is_body = refl;
 }
 
 -- a text has one session
@@ -55,25 +43,9 @@ one_session bytes m n h k =
     let cut = one_front (decimal m) (decimal n) h.rest k.rest (sym h.front ∙ k.front) (no_space_decimal m (omega (arith, h.exists))) (no_space_decimal n (omega (arith, k.exists))) h.behind k.behind in
     decimal_injective m n (omega (arith, h.exists)) (omega (arith, k.exists)) cut.0
 
-pub begins : (bytes : List ℕ) (l : Line) → IsLineText bytes l → BeginsWith bytes l.session
+begins : (bytes : List ℕ) (l : Line) → IsLineText bytes l → BeginsWith bytes l.session
 begins bytes l h = record { exists = h.small; rest = 32 ∷ h.rest; front = h.split; behind = refl }
 
--- and one line
-pub one_line : (bytes : List ℕ) (k l : Line) → Spells bytes k → Spells bytes l → k ≡ l
-one_line bytes k l h j =
-    let a = taken_apart bytes k h in
-    let b = taken_apart bytes l j in
-    let cut = one_front (decimal k.session) (decimal l.session) (32 ∷ a.rest) (32 ∷ b.rest) (sym a.split ∙ b.split) (no_space_decimal k.session (omega (arith, a.small))) (no_space_decimal l.session (omega (arith, b.small))) refl refl in
-    let same_rest : a.rest ≡ b.rest = (let e = cut.1 in cc) in
-    let same_command = one_command a.rest k.command l.command a.is_command (rw same_rest b.is_command) in
-    let same_session = one_session bytes k.session l.session (begins bytes k a) (begins bytes l b) in
-    let same_expected : k.expected ≡ l.expected = a.none ∙ sym b.none in
-    λ i. record { session = same_session i; expected = same_expected i; command = same_command i }
-
-pub line_is_utf8 : (bytes : List ℕ) (l : Line) → Spells bytes l → IsUtf8 bytes
-line_is_utf8 bytes l h = let a = taken_apart bytes l h in subst IsUtf8 (sym a.split) (utf8_line l.session a.rest l.command a.small a.is_command)
-
--- what a line's text needs
 pub session_is : (bytes : List ℕ) (session : Option ℕ) (l : Line) → IsSessionOf bytes session → Spells bytes l → session ≡ Some l.session
 session_is bytes None l none h = absurd (none l.session (begins bytes l (taken_apart bytes l h)))
 session_is bytes (Some session) l b h = ap Some (one_session bytes session l.session b (begins bytes l (taken_apart bytes l h)))
@@ -86,20 +58,73 @@ needs_space bytes text same none l h =
     let a = taken_apart bytes l h in
     space_inside (decimal l.session) a.rest text (sym a.split ∙ sym same) (no_space_decimal l.session (omega (arith, a.small))) none
 
-pub needs_command : (bytes text word rest : List ℕ) (fault : WordFault) → text ≡ bytes → text ≡ word ++ 32 ∷ rest → HasNoSpace word → FailsOn (IsCommandText rest) fault → FailsOn (Spells bytes) fault
-needs_command bytes text word rest fault same split one none = fails_with (IsCommandText rest) (Spells bytes) fault part none
-  where
-    part : (l : Line) → Spells bytes l → (c : Command) × IsCommandText rest c
-    part l h =
-        let a = taken_apart bytes l h in
-        let words = two_words (decimal l.session) word a.rest rest (sym a.split ∙ sym same ∙ split) (no_space_decimal l.session (omega (arith, a.small))) one in
-        (l.command, subst (λ y. IsCommandText y l.command) words.1 a.is_command)
+-- the version that the line expects
+expected_in : (text : List ℕ) (expected : Option ℕ) (c : Command) → IsVersion expected → text ≡ body_text expected c → IsExpected text (expected, command_text c)
+unfolding body_text
+expected_in text None c v e = (sym e, λ more is. no_at c more (sym e ∙ is))
+expected_in text (Some version) c v e = (v, e)
 
--- and that it needs no more
-pub spells : (bytes text word rest : List ℕ) (session : ℕ) (c : Command) → text ≡ bytes → text ≡ word ++ 32 ∷ rest → HasNoSpace word → BeginsWith bytes session → IsCommandText rest c → length bytes ≤ max_line → Spells bytes (line_of session c)
-spells bytes text word rest session c same split one b h short =
+pub one_rest : (text : List ℕ) (a b : Option ℕ) (r s : List ℕ) → IsExpected text (a, r) → IsExpected text (b, s) → r ≡ s
+one_rest text None None r s h k = h.0 ∙ sym k.0
+one_rest text None (Some w) r s h k = absurd (h.1 _ k.1)
+one_rest text (Some v) None r s h k = absurd (k.1 _ h.1)
+one_rest text (Some v) (Some w) r s h k = (two_words (decimal v) (decimal w) r s (ap (drop 3) (sym h.1 ∙ k.1)) (no_space_decimal v (omega (arith, h.0))) (no_space_decimal w (omega (arith, k.0)))).1
+
+-- what stands behind the first word of a line
+behind_session : (bytes text word rest : List ℕ) (l : Line) → text ≡ bytes → text ≡ word ++ 32 ∷ rest → HasNoSpace word → Spells bytes l → rest ≡ body_text l.expected l.command
+behind_session bytes text word rest l same split one h =
+    let a = taken_apart bytes l h in
+    let words = two_words (decimal l.session) word a.rest rest (sym a.split ∙ sym same ∙ split) (no_space_decimal l.session (omega (arith, a.small))) one in
+    sym words.1 ∙ a.is_body
+
+pub needs_expected : (bytes text word rest : List ℕ) (fault : WordFault) → text ≡ bytes → text ≡ word ++ 32 ∷ rest → HasNoSpace word → FailsOn (IsExpected rest) fault → FailsOn (Spells bytes) fault
+needs_expected bytes text word rest fault same split one = fails_with (IsExpected rest) (Spells bytes) fault part
+  where
+    part : (l : Line) → Spells bytes l → (first : Option ℕ × List ℕ) × IsExpected rest first
+    part l h = ((l.expected, command_text l.command), expected_in rest l.expected l.command h.is_line.expected (behind_session bytes text word rest l same split one h))
+
+pub needs_command : (bytes text word rest end : List ℕ) (expected : Option ℕ) (fault : WordFault) → text ≡ bytes → text ≡ word ++ 32 ∷ rest → HasNoSpace word → IsExpected rest (expected, end) → FailsOn (IsCommandText end) fault → FailsOn (Spells bytes) fault
+needs_command bytes text word rest end expected fault same split one k = fails_with (IsCommandText end) (Spells bytes) fault part
+  where
+    part : (l : Line) → Spells bytes l → (c : Command) × IsCommandText end c
+    part l h =
+        let e = expected_in rest l.expected l.command h.is_line.expected (behind_session bytes text word rest l same split one h) in
+        (l.command, record { is_command = h.is_line.command; is_text = one_rest rest expected l.expected end (command_text l.command) k e })
+
+-- and a line needs no more
+body_of : (rest end : List ℕ) (expected : Option ℕ) (c : Command) → IsExpected rest (expected, end) → end ≡ command_text c → rest ≡ body_text expected c
+unfolding body_text
+body_of rest end None c k e = sym k.0 ∙ e
+body_of rest end (Some version) c k e = k.1 ∙ ap (λ y. codes "at" ++ 32 ∷ (decimal version ++ 32 ∷ y)) e
+
+version_of : (rest end : List ℕ) (expected : Option ℕ) → IsExpected rest (expected, end) → IsVersion expected
+version_of rest end None k = tt
+version_of rest end (Some version) k = k.0
+
+pub spells : (bytes text word rest end : List ℕ) (session : ℕ) (expected : Option ℕ) (c : Command) → text ≡ bytes → text ≡ word ++ 32 ∷ rest → HasNoSpace word → BeginsWith bytes session → IsExpected rest (expected, end) → IsCommandText end c → length bytes ≤ max_line → Spells bytes (line_of session expected c)
+spells bytes text word rest end session expected c same split one b k h short =
     let cut = one_front (decimal session) word b.rest (32 ∷ rest) (sym b.front ∙ sym same ∙ split) (no_space_decimal session (omega (arith, b.exists))) one b.behind refl in
-    put_together bytes rest session c b.exists (b.front ∙ ap (λ y. decimal session ++ y) cut.1) h short
+    let body = body_of rest end expected c k h.is_text in
+    record {
+      is_line = record { session = b.exists; expected = version_of rest end expected k; command = h.is_command };
+      text = b.front ∙ ap (λ y. decimal session ++ y) (cut.1 ∙ ap (λ y. 32 ∷ y) body) ∙ sym (line_flat session expected c);
+      short = short;
+    }
+
+-- behind `at` stands a version
+behind_at : (text rest : List ℕ) (expected : Option ℕ) (end : List ℕ) → text ≡ codes "at" ++ 32 ∷ rest → IsExpected text (expected, end) → (version : ℕ) × (version ≤ last_version) × (rest ≡ decimal version ++ 32 ∷ end)
+behind_at text rest None end split k = absurd (k.1 rest split)
+behind_at text rest (Some version) end split k = (version, k.0, ap (drop 3) (sym split ∙ k.1))
+
+pub at_alone : (text rest : List ℕ) → text ≡ codes "at" ++ 32 ∷ rest → HasNoSpace rest → (first : Option ℕ × List ℕ) → IsExpected text first → ⊥
+at_alone text rest split none first k =
+    let v = behind_at text rest first.0 first.1 split k in
+    space_inside (decimal v.0) first.1 rest (sym v.2) (no_space_decimal v.0 (omega (arith, v.1))) none
+
+pub no_version : (text rest word end : List ℕ) → text ≡ codes "at" ++ 32 ∷ rest → rest ≡ word ++ 32 ∷ end → HasNoSpace word → ((n : ℕ) → n ≤ last_version → word ≢ decimal n) → (first : Option ℕ × List ℕ) → IsExpected text first → ⊥
+no_version text rest word end split cut one none first k =
+    let v = behind_at text rest first.0 first.1 split k in
+    none v.0 v.1 (two_words word (decimal v.0) end first.1 (sym cut ∙ v.2) one (no_space_decimal v.0 (omega (arith, v.1)))).0
 
 pub one_session_of : (bytes : List ℕ) (m n : Option ℕ) → IsSessionOf bytes m → IsSessionOf bytes n → m ≡ n
 one_session_of bytes None None h k = refl

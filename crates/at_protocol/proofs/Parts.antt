@@ -1,112 +1,46 @@
--- What stands behind `ask` and behind `token`, word by word.
-use Rattle.std.proofs.Common.{◌≡◌, ◌≢◌, ℕ, List, [], ◌∷◌, ◌++◌, refl, ap, sym, ◌∙◌}
+-- The parts that were read behind the word of a command make it.
+use Rattle.std.proofs.Common.{◌≡◌, ℕ, List, ◌∷◌, ◌++◌, refl, ap, sym, ◌∙◌}
 use Rattle.std.specs.Prelude.{codes}
-use Rattle.std.proofs.lemmas.List.{append_cancel_right}
+use Rattle.std.specs.Fmt.{decimal}
 use Rattle.at_model.specs.Trees as tree
-use Rattle.at_model.specs.Paths.{Path, path_text}
-use Rattle.at_model.specs.Lines.{Command, Ask, Token, From_root}
-use Rattle.at_protocol.specs.Words.{HasNoSpace, IsPathOf, IsNameText, IsValueText, FailsOn}
-use Rattle.at_protocol.specs.declared.line.words.WordFault.{WordFault}
-use Rattle.at_protocol.proofs.Answering.{fails_with}
-use Rattle.at_protocol.proofs.Spaces.{space_inside, no_space_path, no_space_name}
-use Rattle.at_protocol.proofs.Commands.{Behind, asked, set_token, two_words}
+use Rattle.at_model.specs.Terms.{Term}
+use Rattle.at_model.specs.Lines.{Place, Argument, place_text, Ask, Set, Put, Insert, Token, Mark}
+use Rattle.at_protocol.specs.Words.{IsFirst, IsPlaceText, IsNameText, IsIndexText, IsTermText, IsValueText}
+use Rattle.at_protocol.specs.Calls.{IsCallText}
+use Rattle.at_protocol.proofs.Commands.{Behind}
 
-abbrev pub Asks : List ℕ → Command → Type 0
-Asks text c = Behind (codes "ask") text c
+place_split : (text rest end : List ℕ) (place : Place) → IsFirst IsPlaceText text (place, rest) → rest ≡ end → text ≡ place_text place ++ 32 ∷ end
+place_split text rest end place h e = h.split ∙ rw (← h.is_text.1, e) refl
 
-abbrev pub Sets : List ℕ → Command → Type 0
-Sets text c = Behind (codes "token") text c
+name_split : (text rest end name : List ℕ) → IsFirst IsNameText text (name, rest) → rest ≡ end → text ≡ name ++ 32 ∷ end
+name_split text rest end name h e = h.split ∙ rw (← h.is_text.1, e) refl
 
--- `ask`: one word alone
-pub ask_alone : (text : List ℕ) → HasNoSpace text → (c : Command) → Asks text c → ⊥
-ask_alone text none c h = let a = asked text c h in space_inside (path_text a.path) _ text (sym a.split) (no_space_path a.path a.is_path) none
+index_split : (text rest end : List ℕ) (index : ℕ) → IsFirst IsIndexText text (index, rest) → rest ≡ end → text ≡ decimal index ++ 32 ∷ end
+index_split text rest end index h e = h.split ∙ rw (← h.is_text.1, e) refl
 
--- two words: a path and a call
-pub ask_call : (text path call : List ℕ) → text ≡ path ++ 32 ∷ call → HasNoSpace path → ((front : List ℕ) → call ≢ front ++ codes "()") → (c : Command) → Asks text c → ⊥
-ask_call text path call split one none c h =
-    let a = asked text c h in
-    let words = two_words path (path_text a.path) call _ (sym split ∙ a.split) one (no_space_path a.path a.is_path) in
-    none a.attribute words.1
+pub ask_text : (text call : List ℕ) (place : Place) (attribute : List ℕ) (arguments : List Argument) → IsFirst IsPlaceText text (place, call) → IsCallText call (attribute, arguments) → Behind (codes "ask") text (Ask place attribute arguments)
+ask_text text call place attribute arguments h k = record { is_command = (h.is_text.0, k.0, k.1); is_text = ap (λ y. codes "ask" ++ 32 ∷ y) (place_split text call _ place h (sym k.2)) }
 
-pub ask_path : (text path call : List ℕ) (fault : WordFault) → text ≡ path ++ 32 ∷ call → HasNoSpace path → FailsOn (IsPathOf path) fault → FailsOn (Asks text) fault
-ask_path text path call fault split one none = fails_with (IsPathOf path) (Asks text) fault part none
-  where
-    part : (c : Command) → Asks text c → (p : Path) × IsPathOf path p
-    part c h =
-        let a = asked text c h in
-        let words = two_words path (path_text a.path) call _ (sym split ∙ a.split) one (no_space_path a.path a.is_path) in
-        (a.path, (a.is_path, sym words.0))
+pub set_text : (text rest : List ℕ) (place : Place) (t : Term) → IsFirst IsPlaceText text (place, rest) → IsTermText rest t → Behind (codes "set") text (Set place t)
+set_text text rest place t h k = record { is_command = (h.is_text.0, k.0); is_text = ap (λ y. codes "set" ++ 32 ∷ y) (place_split text rest _ place h (sym k.1)) }
 
-pub ask_name : (text path call name : List ℕ) (fault : WordFault) → text ≡ path ++ 32 ∷ call → HasNoSpace path → call ≡ name ++ codes "()" → FailsOn (IsNameText name) fault → FailsOn (Asks text) fault
-ask_name text path call name fault split one is none = fails_with (IsNameText name) (Asks text) fault part none
-  where
-    part : (c : Command) → Asks text c → (a : List ℕ) × IsNameText name a
-    part c h =
-        let a = asked text c h in
-        let words = two_words path (path_text a.path) call _ (sym split ∙ a.split) one (no_space_path a.path a.is_path) in
-        (a.attribute, (a.is_name, append_cancel_right a.attribute name (codes "()") (sym words.1 ∙ is)))
-
-pub ask_text : (text path call name : List ℕ) (p : Path) (a : List ℕ) → text ≡ path ++ 32 ∷ call → call ≡ name ++ codes "()" → IsPathOf path p → IsNameText name a → Asks text (Ask (From_root p) a [])
-ask_text text path call name p a split is h k = record {
-  is_command = (h.0, k.0, tt);
-  exists = refl;
-  is_text = ap (λ y. codes "ask" ++ 32 ∷ y) (split ∙ rw (is, ← h.1, ← k.1) refl);
+pub put_text : (text rest end : List ℕ) (place : Place) (part : List ℕ) (t : Term) → IsFirst IsPlaceText text (place, rest) → IsFirst IsNameText rest (part, end) → IsTermText end t → Behind (codes "put") text (Put place part t)
+put_text text rest end place part t h k w = record {
+  is_command = (h.is_text.0, k.is_text.0, w.0);
+  is_text = ap (λ y. codes "put" ++ 32 ∷ y) (place_split text rest _ place h (name_split rest end _ part k (sym w.1)));
 }
 
--- `token`: one word alone
-pub set_alone : (text : List ℕ) → HasNoSpace text → (c : Command) → Sets text c → ⊥
-set_alone text none c h = let a = set_token text c h in space_inside (path_text a.path) _ text (sym a.split) (no_space_path a.path a.is_path) none
-
--- two words
-pub set_rest : (text path rest : List ℕ) → text ≡ path ++ 32 ∷ rest → HasNoSpace path → HasNoSpace rest → (c : Command) → Sets text c → ⊥
-set_rest text path rest split one none c h =
-    let a = set_token text c h in
-    let words = two_words path (path_text a.path) rest _ (sym split ∙ a.split) one (no_space_path a.path a.is_path) in
-    space_inside a.part _ rest (sym words.1) (no_space_name a.part a.is_name) none
-
--- three: a path, a component and a value
-pub record IsThree (text path part value : List ℕ) : Type 0 where
-  pub rest : List ℕ
-  pub split : text ≡ path ++ 32 ∷ rest
-  pub split_rest : rest ≡ part ++ 32 ∷ value
-  pub one_path : HasNoSpace path
-  pub one_part : HasNoSpace part
-
-pub set_path : (text path rest : List ℕ) (fault : WordFault) → text ≡ path ++ 32 ∷ rest → HasNoSpace path → FailsOn (IsPathOf path) fault → FailsOn (Sets text) fault
-set_path text path rest fault split one none = fails_with (IsPathOf path) (Sets text) fault part none
-  where
-    part : (c : Command) → Sets text c → (p : Path) × IsPathOf path p
-    part c h =
-        let a = set_token text c h in
-        let words = two_words path (path_text a.path) rest _ (sym split ∙ a.split) one (no_space_path a.path a.is_path) in
-        (a.path, (a.is_path, sym words.0))
-
-pub as_three : (text path rest part value : List ℕ) → text ≡ path ++ 32 ∷ rest → HasNoSpace path → rest ≡ part ++ 32 ∷ value → HasNoSpace part → IsThree text path part value
-as_three text path rest part value split one split_rest one_part = record { rest = rest; split = split; split_rest = split_rest; one_path = one; one_part = one_part }
-
--- the component and the value of a command of three words
-record Threefold (part value : List ℕ) (c : Command) : Type 0 where
-  name : List ℕ
-  new : tree.Token
-  is_name : IsNameText part name
-  is_value : IsValueText value new
-
-threefold : (text path part value : List ℕ) → IsThree text path part value → (c : Command) → Sets text c → Threefold part value c
-threefold text path part value t c h =
-    let a = set_token text c h in
-    let words = two_words path (path_text a.path) t.rest _ (sym t.split ∙ a.split) t.one_path (no_space_path a.path a.is_path) in
-    let more = two_words part a.part value _ (sym t.split_rest ∙ words.1) t.one_part (no_space_name a.part a.is_name) in
-    record { name = a.part; new = a.value; is_name = (a.is_name, sym more.0); is_value = (a.is_token, sym more.1) }
-
-pub set_part : (text path part value : List ℕ) (fault : WordFault) → IsThree text path part value → FailsOn (IsNameText part) fault → FailsOn (Sets text) fault
-set_part text path part value fault t none = fails_with (IsNameText part) (Sets text) fault (λ c h. let three = threefold text path part value t c h in (three.name, three.is_name)) none
-
-pub set_value : (text path part value : List ℕ) (fault : WordFault) → IsThree text path part value → FailsOn (IsValueText value) fault → FailsOn (Sets text) fault
-set_value text path part value fault t none = fails_with (IsValueText value) (Sets text) fault (λ c h. let three = threefold text path part value t c h in (three.new, three.is_value)) none
-
-pub set_text : (text path part value : List ℕ) (p : Path) (name : List ℕ) (v : tree.Token) → IsThree text path part value → IsPathOf path p → IsNameText part name → IsValueText value v → Sets text (Token (From_root p) name v)
-set_text text path part value p name v t h k w = record {
-  is_command = (h.0, k.0, w.0);
-  exists = refl;
-  is_text = ap (λ y. codes "token" ++ 32 ∷ y) (t.split ∙ rw (t.split_rest, ← h.1, ← k.1, ← w.1) refl);
+pub insert_text : (text rest more end : List ℕ) (place : Place) (part : List ℕ) (index : ℕ) (t : Term) → IsFirst IsPlaceText text (place, rest) → IsFirst IsNameText rest (part, more) → IsFirst IsIndexText more (index, end) → IsTermText end t → Behind (codes "insert") text (Insert place part index t)
+insert_text text rest more end place part index t h k j w = record {
+  is_command = (h.is_text.0, k.is_text.0, j.is_text.0, w.0);
+  is_text = ap (λ y. codes "insert" ++ 32 ∷ y) (place_split text rest _ place h (name_split rest more _ part k (index_split more end _ index j (sym w.1))));
 }
+
+pub token_text_of : (text rest end : List ℕ) (place : Place) (part : List ℕ) (v : tree.Token) → IsFirst IsPlaceText text (place, rest) → IsFirst IsNameText rest (part, end) → IsValueText end v → Behind (codes "token") text (Token place part v)
+token_text_of text rest end place part v h k w = record {
+  is_command = (h.is_text.0, k.is_text.0, w.0);
+  is_text = ap (λ y. codes "token" ++ 32 ∷ y) (place_split text rest _ place h (name_split rest end _ part k (sym w.1)));
+}
+
+pub mark_text : (text rest name : List ℕ) (place : Place) → IsFirst IsNameText text (name, rest) → IsPlaceText rest place → Behind (codes "mark") text (Mark name place)
+mark_text text rest name place h k = record { is_command = (h.is_text.0, k.0); is_text = ap (λ y. codes "mark" ++ 32 ∷ y) (name_split text rest _ name h (sym k.1)) }

@@ -8,7 +8,7 @@ use Rattle.std.proofs.lemmas.Fmt.{IsAscii-decimal}
 use Rattle.std.proofs.lemmas.Str.{IsUtf8-from_ascii}
 use Rattle.at_model.specs.Lines.{max_sessions, BeginsWith, IsSessionOf, IsSpaceOrEnd}
 use Rattle.at_protocol.specs.Words.{HasNoSpace}
-use Rattle.at_protocol.proofs.Spaces.{one_front, no_space_nil, no_space_cons, no_space_decimal}
+use Rattle.at_protocol.proofs.Spaces.{one_front, has_no_nil, has_no_cons, no_space_decimal}
 
 abbrev front : List ℕ → List ℕ
 front bytes = before_first (λ b. b == 32) bytes
@@ -24,12 +24,12 @@ take_more : (k b : ℕ) (bs : List ℕ) → take (1 + k) (b ∷ bs) ≡ b ∷ ta
 take_more k b bs = let e : 1 + k ≡ suc k = omega arith in rw e refl
 
 first_word : (bytes : List ℕ) → IsFirstWord bytes (front bytes)
-first_word [] = record { rest = []; split = refl; behind = tt; one = no_space_nil }
+first_word [] = record { rest = []; split = refl; behind = tt; one = has_no_nil 32 }
 first_word (b ∷ bs) = decide (b == 32) refl (first_word bs)
   where
     decide : (r : Bool) → (b == 32) ≡ r → IsFirstWord bs (front bs) → IsFirstWord (b ∷ bs) (front (b ∷ bs))
-    decide true e more = let is : b ≡ 32 = grind (arith, nat_tests) in rw e (record { rest = b ∷ bs; split = refl; behind = is; one = no_space_nil })
-    decide false e more = rw (e, take_more) (record { rest = more.rest; split = ap (λ y. b ∷ y) more.split; behind = more.behind; one = no_space_cons b (front bs) (grind (arith, nat_tests)) more.one })
+    decide true e more = let is : b ≡ 32 = grind (arith, nat_tests) in rw e (record { rest = b ∷ bs; split = refl; behind = is; one = has_no_nil 32 })
+    decide false e more = rw (e, take_more) (record { rest = more.rest; split = ap (λ y. b ∷ y) more.split; behind = more.behind; one = has_no_cons 32 b (front bs) (grind (arith, nat_tests)) more.one })
 
 the_word : (bytes word : List ℕ) (session : ℕ) → word ≡ front bytes → BeginsWith bytes session → word ≡ decimal session
 the_word bytes word session is b =

@@ -1,7 +1,7 @@
 -- Lines are UTF-8.
-use Rattle.std.proofs.Common.{◌≡◌, ℕ, ◌<◌, Bool, true, false, ◌==◌, nat_lt, ◌^◌, List, [], ◌∷◌, ◌++◌, Option, Some, None, refl, subst, lit<, arith, encode_utf8_all}
+use Rattle.std.proofs.Common.{◌≡◌, ℕ, ◌<◌, Bool, true, false, ◌==◌, nat_lt, ◌^◌, ◌-◌, List, [], ◌∷◌, ◌++◌, map, Option, Some, None, refl, sym, subst, lit<, arith, encode_utf8_all}
 use Rattle.std.specs.Prelude.{codes, encode_utf8, IsUtf8}
-use Rattle.std.specs.List.{flat_map, list_all}
+use Rattle.std.specs.List.{flat_map, list_all, join_with_byte, AllByRecursion}
 use Rattle.std.specs.Fmt.{decimal}
 use Rattle.std.proofs.Math.Utf8.{scalar, scalars}
 use Rattle.std.proofs.lemmas.Bool.Decides.{nat_tests}
@@ -9,16 +9,17 @@ use Rattle.std.proofs.lemmas.Grind.{flat_map-append}
 use Rattle.std.proofs.lemmas.Fmt.{IsAscii-decimal, IsAscii-signed}
 use Rattle.std.proofs.lemmas.Str.{IsUtf8-nil, IsUtf8-append, IsUtf8-from_ascii, encode_ascii}
 use Rattle.at_model.specs.Texts.{escaped, quoted}
-use Rattle.at_model.specs.Trees.{Token, Text, Int, Truth}
-use Rattle.at_model.specs.Terms.{token_text, IsToken}
+use Rattle.at_model.specs.Trees as tree
+use Rattle.at_model.specs.Trees.{Text, Int, Truth}
+use Rattle.at_model.specs.Terms.{Term, Node, Cells, no_cells, cell, Cell, One, Many, Empty, Holds, Terms, no_terms, term, with_commas, term_text, cell_texts, cell_text, term_texts, token_text, max_depth, IsToken, IsTermWithin, AreCellsWithin, IsCellWithin, AreTermsWithin}
 use Rattle.at_model.specs.Paths.{Path, Step, IsPath, IsStep, IsIndex, step_text, index_text, path_text}
-use Rattle.at_model.specs.Lines.{Command}
+use Rattle.at_model.specs.Lines as line
+use Rattle.at_model.specs.Lines.{Place, From_root, From_mark, Argument, Command, Ask, Set, Put, Drop, Insert, Token, Show, Mark, Unmark, Where, Version, Line, place_text, argument_text, call_text, command_words, line_text, IsName, IsPlace, IsArgument, IsCommand, IsVersion, IsLine}
+use Rattle.at_model.proofs.OneLine.{body_text, line_flat}
 use Rattle.at_text.proofs.Characters.{plain}
 use Rattle.at_tree.proofs.Machine.{utf8_char}
 use Rattle.at_tree.proofs.Pieces.{both, utf8_ascii}
-use Rattle.at_protocol.specs.Commands.{IsCommandText}
 use Rattle.at_protocol.proofs.Values.{mag_small}
-use Rattle.at_protocol.proofs.Commands.{Today, asks, shows, tokens, tells_version, today}
 
 utf8_cons : (b : ℕ) (bs : List ℕ) → b < 128 → IsUtf8 bs → IsUtf8 (b ∷ bs)
 utf8_cons b bs h u = IsUtf8-append (b ∷ []) bs (utf8_ascii b h) u
@@ -52,7 +53,7 @@ utf8_codes : (bs : List ℕ) → list_all (λ b. nat_lt b 128) bs ≡ true → I
 utf8_codes [] e = IsUtf8-nil
 utf8_codes (b ∷ bs) e = let p = both (nat_lt b 128) _ e in utf8_cons b bs (grind (arith, nat_tests, p.0)) (utf8_codes bs p.1)
 
-utf8_value : (v : Token) → IsToken v → IsUtf8 (token_text v)
+pub utf8_value : (v : tree.Token) → IsToken v → IsUtf8 (token_text v)
 utf8_value (Text text) h = utf8_quoted text h
 utf8_value (Int n) h = IsUtf8-from_ascii _ (IsAscii-signed n (mag_small n h))
 utf8_value (Truth true) h = utf8_codes (codes "true") refl
@@ -76,18 +77,74 @@ utf8_path : (path : Path) → IsPath path → IsUtf8 (path_text path)
 utf8_path [] h = utf8_ascii 47 (lit< tt)
 utf8_path (s ∷ ss) h = utf8_steps (s ∷ ss) h
 
+utf8_place : (place : Place) → IsPlace place → IsUtf8 (place_text place)
+utf8_place (From_root path) h = utf8_path path h
+utf8_place (From_mark name steps) h = utf8_cons 36 _ (lit< tt) (IsUtf8-append name (flat_map step_text steps) h.0.1 (utf8_steps steps h.1))
+
+-- texts with commas between them, in brackets
+utf8_bracketed : (a b : ℕ) (bs : List ℕ) → a < 128 → b < 128 → IsUtf8 bs → IsUtf8 (a ∷ (bs ++ b ∷ []))
+utf8_bracketed a b bs h k u = utf8_cons a _ h (IsUtf8-append bs (b ∷ []) u (utf8_ascii b k))
+
+utf8_comma : (x y : List ℕ) → IsUtf8 x → IsUtf8 y → IsUtf8 (x ++ 44 ∷ y)
+utf8_comma x y u v = IsUtf8-append x (44 ∷ y) u (utf8_cons 44 y (lit< tt) v)
+
+-- terms
+mutual
+  utf8_term : (d : ℕ) (t : Term) → IsTermWithin d t → IsUtf8 (term_text t)
+  utf8_term d (Node name cells) (p, n, u, h) = IsUtf8-append name _ u (utf8_bracketed 40 41 (with_commas (cell_texts cells)) (lit< tt) (lit< tt) (utf8_cells (d - 1) cells h))
+
+  utf8_cells : (d : ℕ) (cs : Cells) → AreCellsWithin d cs → IsUtf8 (with_commas (cell_texts cs))
+  utf8_cells d no_cells h = IsUtf8-nil
+  utf8_cells d (cell c no_cells) h = utf8_cell d c h.0
+  utf8_cells d (cell c (cell e cs)) h = utf8_comma (cell_text c) (with_commas (cell_texts (cell e cs))) (utf8_cell d c h.0) (utf8_cells d (cell e cs) h.1)
+
+  utf8_cell : (d : ℕ) (c : Cell) → IsCellWithin d c → IsUtf8 (cell_text c)
+  utf8_cell d (One t) h = utf8_term d t h
+  utf8_cell d (Many ts) h = utf8_bracketed 91 93 (with_commas (term_texts ts)) (lit< tt) (lit< tt) (utf8_terms d ts h)
+  utf8_cell d Empty h = utf8_ascii 45 (lit< tt)
+  utf8_cell d (Holds v) h = utf8_value v h
+
+  utf8_terms : (d : ℕ) (ts : Terms) → AreTermsWithin d ts → IsUtf8 (with_commas (term_texts ts))
+  utf8_terms d no_terms h = IsUtf8-nil
+  utf8_terms d (term t no_terms) h = utf8_term d t h.0
+  utf8_terms d (term t (term u us)) h = utf8_comma (term_text t) (with_commas (term_texts (term u us))) (utf8_term d t h.0) (utf8_terms d (term u us) h.1)
+
+-- arguments
+utf8_argument : (a : Argument) → IsArgument a → IsUtf8 (argument_text a)
+utf8_argument (line.Text text) h = utf8_quoted text h
+utf8_argument (line.Ref place) h = utf8_place place h
+utf8_argument line.Null h = utf8_codes (codes "null") refl
+
+utf8_arguments : (as' : List Argument) → AllByRecursion IsArgument as' → IsUtf8 (with_commas (map argument_text as'))
+utf8_arguments [] h = IsUtf8-nil
+utf8_arguments (a ∷ []) h = utf8_argument a h.0
+utf8_arguments (a ∷ b ∷ bs) h = utf8_comma (argument_text a) _ (utf8_argument a h.0) (utf8_arguments (b ∷ bs) h.1)
+
+utf8_call : (attribute : List ℕ) (as' : List Argument) → IsName attribute → AllByRecursion IsArgument as' → IsUtf8 (call_text attribute as')
+utf8_call attribute as' n h = IsUtf8-append attribute _ n.1 (utf8_bracketed 40 41 _ (lit< tt) (lit< tt) (utf8_arguments as' h))
+
 -- two words with a space between them
 utf8_words : (word rest : List ℕ) → IsUtf8 word → IsUtf8 rest → IsUtf8 (word ++ 32 ∷ rest)
 utf8_words word rest u v = IsUtf8-append word (32 ∷ rest) u (utf8_cons 32 rest (lit< tt) v)
 
-utf8_command_of : (text : List ℕ) (c : Command) → Today c → IsCommandText text c → IsUtf8 text
-utf8_command_of text _ (asks path attribute) h =
-    rw h.is_text (utf8_words (codes "ask") _ (utf8_codes (codes "ask") refl) (utf8_words (path_text path) _ (utf8_path path h.is_command.0) (IsUtf8-append attribute (codes "()") h.is_command.1.1 (utf8_codes (codes "()") refl))))
-utf8_command_of text _ (shows path) h =
-    rw h.is_text (utf8_words (codes "show") _ (utf8_codes (codes "show") refl) (utf8_path path h.is_command))
-utf8_command_of text _ (tokens path part v) h =
-    rw h.is_text (utf8_words (codes "token") _ (utf8_codes (codes "token") refl) (utf8_words (path_text path) _ (utf8_path path h.is_command.0) (utf8_words part _ h.is_command.1.1 (utf8_value v h.is_command.2))))
-utf8_command_of text _ tells_version h = rw h.is_text (utf8_codes (codes "version") refl)
+utf8_command : (c : Command) → IsCommand c → IsUtf8 (join_with_byte 32 (command_words c))
+utf8_command (Ask place attribute arguments) h = utf8_words (codes "ask") _ (utf8_codes (codes "ask") refl) (utf8_words (place_text place) _ (utf8_place place h.0) (utf8_call attribute arguments h.1 h.2))
+utf8_command (Set place t) h = utf8_words (codes "set") _ (utf8_codes (codes "set") refl) (utf8_words (place_text place) _ (utf8_place place h.0) (utf8_term max_depth t h.1))
+utf8_command (Put place part t) h = utf8_words (codes "put") _ (utf8_codes (codes "put") refl) (utf8_words (place_text place) _ (utf8_place place h.0) (utf8_words part _ h.1.1 (utf8_term max_depth t h.2)))
+utf8_command (Drop place) h = utf8_words (codes "drop") _ (utf8_codes (codes "drop") refl) (utf8_place place h)
+utf8_command (Insert place part index t) h =
+    utf8_words (codes "insert") _ (utf8_codes (codes "insert") refl) (utf8_words (place_text place) _ (utf8_place place h.0) (utf8_words part _ h.1.1 (utf8_words (decimal index) _ (utf8_decimal index (omega (arith, h.2))) (utf8_term max_depth t h.3))))
+utf8_command (Token place part v) h = utf8_words (codes "token") _ (utf8_codes (codes "token") refl) (utf8_words (place_text place) _ (utf8_place place h.0) (utf8_words part _ h.1.1 (utf8_value v h.2)))
+utf8_command (Show place) h = utf8_words (codes "show") _ (utf8_codes (codes "show") refl) (utf8_place place h)
+utf8_command (Mark name place) h = utf8_words (codes "mark") _ (utf8_codes (codes "mark") refl) (utf8_words name _ h.0.1 (utf8_place place h.1))
+utf8_command (Unmark name) h = utf8_words (codes "unmark") _ (utf8_codes (codes "unmark") refl) h.1
+utf8_command (Where name) h = utf8_words (codes "where") _ (utf8_codes (codes "where") refl) h.1
+utf8_command Version h = utf8_codes (codes "version") refl
 
-pub utf8_line : (session : ℕ) (text : List ℕ) (c : Command) → session < 1000 → IsCommandText text c → IsUtf8 (decimal session ++ 32 ∷ text)
-utf8_line session text c small h = utf8_words (decimal session) text (utf8_decimal session (omega arith)) (utf8_command_of text c (today c h.exists) h)
+utf8_body : (expected : Option ℕ) (c : Command) → IsVersion expected → IsCommand c → IsUtf8 (body_text expected c)
+unfolding body_text
+utf8_body None c v h = utf8_command c h
+utf8_body (Some version) c v h = utf8_words (codes "at") _ (utf8_codes (codes "at") refl) (utf8_words (decimal version) _ (utf8_decimal version (omega arith)) (utf8_command c h))
+
+pub utf8_line : (l : Line) → IsLine l → IsUtf8 (line_text l)
+utf8_line l h = subst IsUtf8 (sym (line_flat l.session l.expected l.command)) (utf8_words (decimal l.session) _ (utf8_decimal l.session (omega (arith, h.session))) (utf8_body l.expected l.command h.expected h.command))

@@ -6,13 +6,18 @@ ghost use Rattle.at_protocol.specs.Faults.{Reads, Refuses};
 ghost use Rattle.at_protocol.specs.Words.{Answers};
 
 use at_tree::path::Path;
+use at_tree::term::Term;
 use at_tree::token::TokVal;
 use std::alloc::Global;
 
+mod arguments;
 mod commands;
+mod first;
+mod places;
 mod words;
 
 use commands::read_command;
+use first::read_expected;
 use words::{WordFault, cut, first_word, read_session};
 
 /// The most bytes of a line, its newline not counted.
@@ -21,26 +26,85 @@ pub const MAX_LINE: usize = 65535;
 /// What a session asks or tells.
 #[derive(Drop)]
 pub struct Line {
+    /// Whose line it is: 0 to 999.
     pub session: u16,
+    /// The version that the line expects, where it names one.
+    pub expected: Option<u64>,
     pub command: Command,
 }
 
+/// A node, as a line names it.
+#[derive(Debug, PartialEq, Drop)]
+pub enum Place {
+    /// `/..`: the steps from the root.
+    FromRoot(Path),
+    /// `$NAME/..`: the steps from the node that the session has marked so.
+    FromMark { name: String, steps: Path },
+}
+
+/// An argument of a question.
+#[derive(Debug, PartialEq, Drop)]
+pub enum Argument {
+    /// A text between quotes.
+    Text(String),
+    Node(Place),
+    /// `null`: no node.
+    Null,
+}
+
+/// What is asked or told.
 #[derive(Drop)]
 pub enum Command {
-    /// `ask PATH ATTRIBUTE()`: the attribute's value.
+    /// `ask PLACE ATTRIBUTE(ARGUMENTS)`: the attribute's value.
     Ask {
-        path: Path,
+        place: Place,
         attribute: String,
+        arguments: Vec<Argument>,
     },
-    /// `show PATH`: the node's term.
-    Show {
-        path: Path,
+    /// `set PLACE TERM`: another tree in the place of the node's.
+    Set {
+        place: Place,
+        term: Term,
     },
-    /// `token PATH PART VALUE`: a new token value.
+    /// `put PLACE PART TERM`: a tree into an empty optional component.
+    Put {
+        place: Place,
+        part: String,
+        term: Term,
+    },
+    /// `drop PLACE`: the element of a list goes, or an optional component gets empty.
+    Drop {
+        place: Place,
+    },
+    /// `insert PLACE PART INDEX TERM`: a new element of a list.
+    Insert {
+        place: Place,
+        part: String,
+        index: u32,
+        term: Term,
+    },
+    /// `token PLACE PART VALUE`: a new token value.
     Token {
-        path: Path,
+        place: Place,
         part: String,
         value: TokVal,
+    },
+    /// `show PLACE`: the node's term.
+    Show {
+        place: Place,
+    },
+    /// `mark NAME PLACE`: a name for the node, in this session.
+    Mark {
+        name: String,
+        place: Place,
+    },
+    /// `unmark NAME`: the name is forgotten.
+    Unmark {
+        name: String,
+    },
+    /// `where NAME`: the path of the marked node.
+    Where {
+        name: String,
     },
     /// `version`: how many edits were accepted.
     Version,
@@ -67,7 +131,7 @@ pub fn session_of(line: &[u8]) -> Option<u16>
 }
 
 /// The line that the bytes spell, given without its newline. `Syntax` where they spell none: they
-/// are more than 65,535, no UTF-8, or no session and command with one space between words. `Memory`
+/// are more than 65,535, no UTF-8, or no session, version and command with one space between words. `Memory`
 /// where memory runs out. Either has the session of `session_of`.
 pub fn read_line(alloc: Global, line: &[u8]) -> Result<Line, LineFault>
     // What is read has this text.
@@ -99,7 +163,12 @@ fn read_spelled(alloc: Global, session: Option<u16>, line: &[u8]) -> Result<Line
     let Ok(text) = std::str::from_utf8(line) else {
         return Err(WordFault::Form);
     };
-    let (_, command) = cut(text)?;
-    let command = read_command(alloc, command)?;
-    Ok(Line { session, command })
+    let (_, rest) = cut(text)?;
+    let (expected, rest) = read_expected(rest)?;
+    let command = read_command(alloc, rest)?;
+    Ok(Line {
+        session,
+        expected,
+        command,
+    })
 }

@@ -1,11 +1,19 @@
 //! Replies, each a line.
-ghost use Rattle.std.specs.Prelude.{◌≡◌, ◌≤◌, ◌<◌, ◌+◌, ◌++◌, ◌∷◌, OnOk, OnErr, IsOk, length, vec_len, vec_capacity};
+ghost use Rattle.std.specs.Prelude.{◌≡◌, ◌≤◌, ◌<◌, ◌+◌, ◌++◌, ◌∷◌, [], OnOk, OnErr, IsOk, length, take, codes, vec_len, vec_capacity};
 ghost use Rattle.std.specs.List.{join_with_byte};
 ghost use Rattle.std.specs.Vec.{VecUnchanged};
-ghost use Rattle.at_model.specs.Replies.{Reply as ModelReply, Form as ModelForm, code_words, session_text, reply_text};
-ghost use Rattle.at_protocol.specs.ReplyView.{code_view, told, IsForm, IsReply, IsShort};
+ghost use Rattle.at_model.specs.Terms.{token_text};
+ghost use Rattle.at_model.specs.Paths.{IsPath};
+ghost use Rattle.at_model.specs.Replies.{Reply as ModelReply, code_words, fault_text, instance_text, session_text, reply_text};
+ghost use Rattle.at_tree.specs.PathView.{path_view};
+ghost use Rattle.at_tree.specs.Token.{token_view};
+ghost use Rattle.at_protocol.specs.ReplyView.{code_view, fault_view, shown_bytes, form_bytes, reply_bytes, IsReply};
+ghost use Rattle.at_protocol.specs.Writable.{IsShownWritable, IsWritable, IsTokenShort, IsShownShort, IsShort};
 ghost use Rattle.at_text.specs.Quoted.{Extends};
 
+use at_text::quoted::write_quoted;
+use at_tree::path::{Path, write_path};
+use at_tree::token::TokVal;
 use itoa::Buffer;
 use std::alloc::AllocError;
 
@@ -16,18 +24,60 @@ pub struct Reply {
     pub form: Form,
 }
 
+/// What a session is told.
 #[derive(Drop)]
 pub enum Form {
     /// `ok VERSION`: the version after an accepted edit, or as it is.
-    Ok { version: u64 },
-    /// `= VALUE`: the value of an attribute.
-    Value(i32),
-    /// `= TERM`: the text of a term.
-    Term(Vec<u8>),
+    Ok {
+        version: u64,
+    },
+    /// `= VALUE`
+    Shows(Shown),
+    /// `fault KIND in PATH.ATTRIBUTE`: the attribute of this node has no value.
+    Fault {
+        kind: FaultWord,
+        path: Path,
+        attribute: String,
+    },
+    /// `circular PATH.ATTRIBUTE`: this attribute of this node depends on itself.
+    Circular {
+        path: Path,
+        attribute: String,
+    },
     /// `refused CODE NAME`
     Refused(Refusal),
     /// `memory`: memory ran out.
     Memory,
+}
+
+/// A value.
+#[derive(Drop)]
+pub enum Shown {
+    /// A number, a truth value, or a text between quotes.
+    Token(TokVal),
+    /// A node, by its path.
+    Node(Path),
+    /// `null`: no node.
+    Null,
+    /// The text of a term.
+    Term(Vec<u8>),
+}
+
+/// Why an attribute has no value.
+#[derive(Clone, Copy, Debug, PartialEq, Eq)]
+pub enum FaultWord {
+    /// A node was asked for something, and there is none.
+    Null,
+    /// A list has no element of that index.
+    Index,
+    /// An optional child isn't there.
+    Absent,
+    /// A divisor is zero.
+    Zero,
+    /// A node is of another class than the cast's.
+    Cast,
+    /// A text is too long.
+    Long,
 }
 
 /// Why a line is refused.
@@ -35,31 +85,68 @@ pub enum Form {
 pub enum Refusal {
     /// It is no line.
     Syntax,
+    /// It expects another version than this one, which is the tree's.
+    Stale { version: u64 },
+    /// The session has no such mark.
+    Mark,
     /// A path leads to no node.
     Path,
-    /// The node has no token of that name.
+    /// The node has no component of that name and of the shape that the command needs.
     Component,
-    /// The value has another kind than the token.
+    /// A class in the term is unknown or abstract.
+    Class,
+    /// The term or the value doesn't fit.
     Fit,
+    /// The index is greater than the list's length.
+    Index,
+    /// The optional component is filled, or the session has that mark.
+    Taken,
+    /// The node is the root or a plain child, and can't go.
+    Fixed,
     /// A limit would be passed.
     Limit,
     /// The node's class has no such attribute.
     Attribute,
+    /// The number or the kinds of the arguments don't fit.
+    Arguments,
+}
+
+impl FaultWord {
+    /// The word for it.
+    fn text(self) -> &'static str
+        ensures { result.now ≡ fault_text (fault_view self) }
+    {
+        match self {
+            FaultWord::Null => "null",
+            FaultWord::Index => "index",
+            FaultWord::Absent => "absent",
+            FaultWord::Zero => "zero",
+            FaultWord::Cast => "cast",
+            FaultWord::Long => "long",
+        }
+    }
 }
 
 impl Refusal {
     /// The number of the code, and its name.
     fn text(self) -> &'static str
-        ensures words { result.now ≡ join_with_byte 32 (code_words (code_view self)) }
+        ensures words { result.now ≡ join_with_byte 32 (take 2 (code_words (code_view self))) }
         ensures short { length result.now ≤ 12 }
     {
         match self {
             Refusal::Syntax => "1 syntax",
+            Refusal::Stale { version: _ } => "2 stale",
+            Refusal::Mark => "3 mark",
             Refusal::Path => "4 path",
             Refusal::Component => "5 component",
+            Refusal::Class => "6 class",
             Refusal::Fit => "7 fit",
+            Refusal::Index => "8 index",
+            Refusal::Taken => "9 taken",
+            Refusal::Fixed => "10 fixed",
             Refusal::Limit => "12 limit",
             Refusal::Attribute => "13 attribute",
+            Refusal::Arguments => "14 arguments",
         }
     }
 }
@@ -89,13 +176,73 @@ fn append_session(session: Option<u16>, out: &mut Vec<u8>) -> Result<(), AllocEr
     }
 }
 
-/// Appends a space and what is told, or a part of that where memory is wanting.
-fn append_form(form: &Form, out: &mut Vec<u8>) -> Result<(), AllocError>
-    ensures ok { OnOk result ((f : ModelForm) → IsForm form.now f → out.new.items ≡ out.old.items ++ told f) }
+/// Appends the value of a token, or a part of it where memory is wanting.
+fn append_token(value: &TokVal, out: &mut Vec<u8>) -> Result<(), AllocError>
+    ensures ok { OnOk result (out.new.items ≡ out.old.items ++ token_text (token_view value.now)) }
     ensures kept { Extends out.old.items out.new.items }
     ensures grows { vec_capacity out.old ≤ vec_capacity out.new }
-    ensures full { IsShort form.now → OnErr result (vec_capacity out.old < vec_len out.old + 32) }
-    ensures short { IsShort form.now → OnOk result (vec_len out.new ≤ vec_len out.old + 32) }
+    ensures full { IsTokenShort value.now → OnErr result (vec_capacity out.old < vec_len out.old + 11) }
+    ensures short { IsTokenShort value.now → OnOk result (vec_len out.new ≤ vec_len out.old + 11) }
+{
+    match value {
+        TokVal::Int(value) => out.extend_from_slice(Buffer::new().format(*value).as_bytes()),
+        TokVal::Bool(true) => out.extend_from_slice(b"true"),
+        TokVal::Bool(false) => out.extend_from_slice(b"false"),
+        TokVal::Str(text) => write_quoted(text, out),
+    }
+}
+
+/// Appends a value, or a part of it where memory is wanting.
+fn append_shown(shown: &Shown, out: &mut Vec<u8>) -> Result<(), AllocError>
+    requires { IsShownWritable shown.now }
+    ensures ok { OnOk result (out.new.items ≡ out.old.items ++ shown_bytes shown.now) }
+    ensures kept { Extends out.old.items out.new.items }
+    ensures grows { vec_capacity out.old ≤ vec_capacity out.new }
+    ensures full { IsShownShort shown.now → OnErr result (vec_capacity out.old < vec_len out.old + 11) }
+    ensures short { IsShownShort shown.now → OnOk result (vec_len out.new ≤ vec_len out.old + 11) }
+{
+    match shown {
+        Shown::Token(value) => append_token(value, out),
+        Shown::Node(path) => write_path(path, out),
+        Shown::Null => out.extend_from_slice(b"null"),
+        Shown::Term(text) => out.extend_from_slice(text),
+    }
+}
+
+/// Appends the attribute of a node, or a part of it where memory is wanting.
+fn append_instance(path: &Path, attribute: &str, out: &mut Vec<u8>) -> Result<(), AllocError>
+    requires { IsPath (path_view path.now) }
+    ensures ok { OnOk result (out.new.items ≡ out.old.items ++ instance_text (path_view path.now) attribute.now) }
+    ensures kept { Extends out.old.items out.new.items }
+    ensures grows { vec_capacity out.old ≤ vec_capacity out.new }
+{
+    write_path(path, out)?;
+    append_both(b".", attribute.as_bytes(), out)
+}
+
+/// Appends the code with its name, or a part of them where memory is wanting.
+fn append_refusal(refusal: Refusal, out: &mut Vec<u8>) -> Result<(), AllocError>
+    ensures ok { OnOk result (out.new.items ≡ out.old.items ++ join_with_byte 32 (code_words (code_view refusal))) }
+    ensures kept { Extends out.old.items out.new.items }
+    ensures grows { vec_capacity out.old ≤ vec_capacity out.new }
+    ensures full { OnErr result (vec_capacity out.old < vec_len out.old + 33) }
+    ensures short { OnOk result (vec_len out.new ≤ vec_len out.old + 33) }
+{
+    out.extend_from_slice(refusal.text().as_bytes())?;
+    if let Refusal::Stale { version } = refusal {
+        return append_both(b" ", Buffer::new().format(version).as_bytes(), out);
+    }
+    Ok(())
+}
+
+/// Appends a space and what is told, or a part of that where memory is wanting.
+fn append_form(form: &Form, out: &mut Vec<u8>) -> Result<(), AllocError>
+    requires { IsWritable form.now }
+    ensures ok { OnOk result (out.new.items ≡ out.old.items ++ form_bytes form.now) }
+    ensures kept { Extends out.old.items out.new.items }
+    ensures grows { vec_capacity out.old ≤ vec_capacity out.new }
+    ensures full { IsShort form.now → OnErr result (vec_capacity out.old < vec_len out.old + 42) }
+    ensures short { IsShort form.now → OnOk result (vec_len out.new ≤ vec_len out.old + 42) }
 {
     match form {
         Form::Ok { version } => append_both(
@@ -103,16 +250,35 @@ fn append_form(form: &Form, out: &mut Vec<u8>) -> Result<(), AllocError>
             Buffer::new().format(*version).as_bytes(),
             out,
         ),
-        Form::Value(value) => append_both(b" = ", Buffer::new().format(*value).as_bytes(), out),
-        Form::Term(text) => append_both(b" = ", text, out),
-        Form::Refused(refusal) => append_both(b" refused ", refusal.text().as_bytes(), out),
-        Form::Memory => append_both(b" memory", b"", out),
+        Form::Shows(shown) => {
+            out.extend_from_slice(b" = ")?;
+            append_shown(shown, out)
+        }
+        Form::Fault {
+            kind,
+            path,
+            attribute,
+        } => {
+            append_both(b" fault ", kind.text().as_bytes(), out)?;
+            out.extend_from_slice(b" in ")?;
+            append_instance(path, attribute, out)
+        }
+        Form::Circular { path, attribute } => {
+            out.extend_from_slice(b" circular ")?;
+            append_instance(path, attribute, out)
+        }
+        Form::Refused(refusal) => {
+            out.extend_from_slice(b" refused ")?;
+            append_refusal(*refusal, out)
+        }
+        Form::Memory => out.extend_from_slice(b" memory"),
     }
 }
 
 /// Appends the reply, or a part of it where memory is wanting.
 fn append_reply(reply: &Reply, out: &mut Vec<u8>) -> Result<(), AllocError>
-    ensures ok { OnOk result ((r : ModelReply) → IsReply reply.now r → out.new.items ≡ out.old.items ++ reply_text r) }
+    requires { IsWritable reply.now.form }
+    ensures ok { OnOk result (out.new.items ≡ out.old.items ++ reply_bytes reply.now) }
     ensures kept { Extends out.old.items out.new.items }
     ensures grows { vec_capacity out.old ≤ vec_capacity out.new }
     ensures full { IsShort reply.now.form → OnErr result (vec_capacity out.old < vec_len out.old + 48) }
@@ -122,9 +288,14 @@ fn append_reply(reply: &Reply, out: &mut Vec<u8>) -> Result<(), AllocError>
     out.extend_from_slice(b"\n")
 }
 
-/// Appends the reply with its newline. Where memory is wanting the output stays as it was; a reply
-/// that is no term needs room for 48 bytes at most.
+/// Appends the reply with its newline, where `write_path` takes the path in it, if there is one.
+/// Where memory is wanting the output stays as it was; a reply that shows no path, no text and no
+/// term needs room for 48 bytes at most.
 pub fn write_reply(reply: &Reply, out: &mut Vec<u8>) -> Result<(), AllocError>
+    requires { IsWritable reply.now.form }
+    // The bytes of a term are appended as they are.
+    ensures bytes { OnOk result (out.new.items ≡ out.old.items ++ reply_bytes reply.now) }
+    // What is appended is the text of the reply that this one stands for.
     ensures ok { OnOk result ((r : ModelReply) → IsReply reply.now r → out.new.items ≡ out.old.items ++ reply_text r) }
     ensures err { OnErr result (VecUnchanged out.old out.new) }
     ensures grows { vec_capacity out.old ≤ vec_capacity out.new }

@@ -1,6 +1,9 @@
-use crate::line::{Command, Line, LineFault, read_line, session_of};
-use crate::reply::{Form, Refusal, Reply, write_reply};
-use at_tree::path::{Path, Step};
+ghost use Rattle.at_protocol.specs.Writable.{IsWritable};
+
+use crate::line::{Argument, Command, Line, LineFault, Place, read_line, session_of};
+use crate::reply::{FaultWord, Form, Refusal, Reply, Shown, write_reply};
+use at_tree::path::{Path, Step, read_path};
+use at_tree::term::TermCell;
 use at_tree::token::TokVal;
 use std::alloc::{AllocError, Global};
 use std::test::Fail;
@@ -18,21 +21,145 @@ fn down(alloc: Global, part: &str) -> Result<Path, AllocError> {
     Ok(Path { steps })
 }
 
+/// The place of one step from the root.
+fn below(alloc: Global, part: &str) -> Result<Place, AllocError> {
+    Ok(Place::FromRoot(down(alloc, part)?))
+}
+
+/// A mark's place, and the place of one step from there.
+fn marked(alloc: Global, name: &str, part: Option<&str>) -> Result<Place, AllocError> {
+    let name = String::from_str(alloc, name)?;
+    let steps = match part {
+        Some(part) => down(alloc, part)?,
+        None => Path {
+            steps: Vec::new(alloc),
+        },
+    };
+    Ok(Place::FromMark { name, steps })
+}
+
 #[test]
-fn commands_are_read(rt: HostRuntime) -> Result<(), Fail> {
+fn questions_are_read(rt: HostRuntime) -> Result<(), Fail> {
     let alloc = rt.alloc();
-    let right = down(alloc, "Right")?;
-    let Line { session, command } = read_line(alloc, b"0 ask / total()")?;
+    let Line {
+        session,
+        expected,
+        command,
+    } = read_line(alloc, b"0 ask / total()")?;
     assert_eq!(rt; session, 0);
+    assert_eq!(rt; expected, None);
     assert!(rt;
-        matches!(&command, Command::Ask { path, attribute }
-        if path.steps.is_empty() && attribute.as_str() == "total")
+        matches!(&command, Command::Ask { place: Place::FromRoot(path), attribute, arguments }
+        if path.steps.is_empty() && attribute.as_str() == "total" && arguments.is_empty())
     );
-    let Line { session, command } = read_line(alloc, b"999 show /Right")?;
+    let line = "999 at 18446744073709551615 ask $u/Left decl(\"a, \\\"b)\",null,$at,/Right,\"\")";
+    let Line {
+        session,
+        expected,
+        command,
+    } = read_line(alloc, line.as_bytes())?;
     assert_eq!(rt; session, 999);
-    assert!(rt; matches!(&command, Command::Show { path } if *path == right));
-    let Line { session, command } = read_line(alloc, b"10 version")?;
+    assert_eq!(rt; expected, Some(u64::MAX));
+    let Command::Ask {
+        place,
+        attribute,
+        arguments,
+    } = command
+    else {
+        return Err(Fail::new("a question"));
+    };
+    assert!(rt; place == marked(alloc, "u", Some("Left"))?);
+    assert_eq!(rt; attribute.as_str(), "decl");
+    let texts = ["a, \"b)", ""];
+    assert_eq!(rt; arguments.len(), 5);
+    assert!(rt; arguments[0] == Argument::Text(String::from_str(alloc, texts[0])?));
+    assert!(rt; arguments[1] == Argument::Null);
+    assert!(rt; arguments[2] == Argument::Node(marked(alloc, "at", None)?));
+    assert!(rt; arguments[3] == Argument::Node(below(alloc, "Right")?));
+    assert!(rt; arguments[4] == Argument::Text(String::from_str(alloc, texts[1])?));
+    Ok(())
+}
+
+#[test]
+fn edits_are_read(rt: HostRuntime) -> Result<(), Fail> {
+    let alloc = rt.alloc();
+    let left = below(alloc, "Left")?;
+    let Line {
+        session: _,
+        expected: _,
+        command,
+    } = read_line(alloc, b"0 set /Left Num(1)")?;
+    assert!(rt;
+        matches!(&command, Command::Set { place, term } if *place == left && term.name.as_str() == "Num")
+    );
+    let Line {
+        session: _,
+        expected: _,
+        command,
+    } = read_line(alloc, b"0 put /Left Init Num(7)")?;
+    assert!(rt;
+        matches!(&command, Command::Put { place, part, term }
+        if *place == left && part.as_str() == "Init" && term.cells.len() == 1)
+    );
+    let Line {
+        session: _,
+        expected: _,
+        command,
+    } = read_line(alloc, b"0 drop /Left")?;
+    assert!(rt; matches!(&command, Command::Drop { place } if *place == left));
+    let line = b"2 insert $u Stmt 999999999 Decl(\"y z\",-)";
+    let Line {
+        session: _,
+        expected: _,
+        command,
+    } = read_line(alloc, line)?;
+    let marked = marked(alloc, "u", None)?;
+    assert!(rt;
+        matches!(&command, Command::Insert { place, part, index: 999999999, term }
+        if *place == marked && part.as_str() == "Stmt" && term.cells.len() == 2
+        && matches!(&term.cells[1], TermCell::Empty))
+    );
+    Ok(())
+}
+
+#[test]
+fn other_commands_are_read(rt: HostRuntime) -> Result<(), Fail> {
+    let alloc = rt.alloc();
+    let right = below(alloc, "Right")?;
+    let Line {
+        session,
+        expected: _,
+        command,
+    } = read_line(alloc, b"999 show /Right")?;
+    assert_eq!(rt; session, 999);
+    assert!(rt; matches!(&command, Command::Show { place } if *place == right));
+    let Line {
+        session: _,
+        expected: _,
+        command,
+    } = read_line(alloc, b"0 mark at /Right")?;
+    assert!(rt;
+        matches!(&command, Command::Mark { name, place } if name.as_str() == "at" && *place == right)
+    );
+    let Line {
+        session: _,
+        expected: _,
+        command,
+    } = read_line(alloc, b"0 unmark u")?;
+    assert!(rt; matches!(&command, Command::Unmark { name } if name.as_str() == "u"));
+    let Line {
+        session: _,
+        expected: _,
+        command,
+    } = read_line(alloc, b"0 where u")?;
+    assert!(rt; matches!(&command, Command::Where { name } if name.as_str() == "u"));
+    let Line {
+        session,
+        expected,
+        command,
+    } = read_line(alloc, b"10 at 0 version")?;
     assert_eq!(rt; session, 10);
+    assert_eq!(rt; expected, Some(0));
     assert!(rt; matches!(&command, Command::Version));
     Ok(())
 }
@@ -40,7 +167,7 @@ fn commands_are_read(rt: HostRuntime) -> Result<(), Fail> {
 #[test]
 fn values_are_read(rt: HostRuntime) -> Result<(), Fail> {
     let alloc = rt.alloc();
-    let right = down(alloc, "Right")?;
+    let right = below(alloc, "Right")?;
     let spaced = String::from_str(alloc, "a b")?;
     let cases = [
         ("0 token /Right Value 5", TokVal::Int(5)),
@@ -52,11 +179,12 @@ fn values_are_read(rt: HostRuntime) -> Result<(), Fail> {
     for (line, value) in cases {
         let Line {
             session: _,
+            expected: _,
             command,
         } = read_line(alloc, line.as_bytes())?;
         assert!(rt;
-            matches!(&command, Command::Token { path, part, value: read }
-            if *path == right && part.as_str() == "Value" && *read == value)
+            matches!(&command, Command::Token { place, part, value: read }
+            if *place == right && part.as_str() == "Value" && *read == value)
         );
     }
     Ok(())
@@ -98,8 +226,34 @@ fn other_lines_are_refused(rt: HostRuntime) -> Result<(), Fail> {
         "0 ask / total",
         "0 ask / total(1)",
         "0 ask / total() ",
-        "0 at 0 version",
-        "0 show $a",
+        "0 ask / total(null,)",
+        "0 ask / total(,null)",
+        "0 ask / total(\"a\"null)",
+        "0 ask / total(\"a\")) ",
+        "0 ask / total(null, null)",
+        "0 ask / total",
+        "0 ask /",
+        "0 at",
+        "0 at 0",
+        "0 at 00 version",
+        "0 at -1 version",
+        "0 at 18446744073709551616 version",
+        "0 at 0 at 0 version",
+        "0 show $",
+        "0 show $u/",
+        "0 show $int",
+        "0 show $u:1",
+        "0 mark sum /",
+        "0 mark u",
+        "0 unmark u ",
+        "0 where /",
+        "0 set / Num",
+        "0 set / Num( 1)",
+        "0 put / Num(1)",
+        "0 drop Init",
+        "0 insert / Stmt 1000000000 Num(1)",
+        "0 insert / Stmt 00 Num(1)",
+        "0 insert / Stmt Num(1)",
         "0 Version",
         "0 version ",
         "0 token /Right Value 2147483648",
@@ -109,7 +263,6 @@ fn other_lines_are_refused(rt: HostRuntime) -> Result<(), Fail> {
         "0 token /Right int 5",
         "0 token /Right Value \"a\"b",
         "0 token /Right Value",
-        "0 set / Num(1)",
     ];
     for line in refused {
         assert_eq!(rt;
@@ -159,47 +312,95 @@ fn lines_are_bounded(rt: HostRuntime) -> Result<(), Fail> {
 }
 
 /// The text of a reply.
-fn text(alloc: Global, session: Option<u16>, form: Form) -> Result<String, Fail> {
+fn text(alloc: Global, session: Option<u16>, form: Form) -> Result<String, Fail>
+    requires { IsWritable form }
+{
     let mut out = Vec::new(alloc);
     write_reply(&Reply { session, form }, &mut out)?;
     Ok(String::from_str(alloc, std::str::from_utf8(&out)?)?)
 }
 
 #[test]
+fn values_have_one_text(rt: HostRuntime) -> Result<(), Fail> {
+    let alloc = rt.alloc();
+    let quoted = String::from_str(alloc, "a\"b")?;
+    let cases = [
+        (TokVal::Int(11), "0 = 11\n"),
+        (TokVal::Int(i32::MIN), "0 = -2147483648\n"),
+        (TokVal::Bool(true), "0 = true\n"),
+        (TokVal::Bool(false), "0 = false\n"),
+        (TokVal::Str(quoted), "0 = \"a\\\"b\"\n"),
+    ];
+    for (value, reply) in cases {
+        let written = text(alloc, Some(0), Form::Shows(Shown::Token(value)))?;
+        assert_eq!(rt; written.as_str(), reply);
+    }
+    let path = read_path(alloc, "/Left")?;
+    let written = text(alloc, Some(0), Form::Shows(Shown::Node(path)))?;
+    assert_eq!(rt; written.as_str(), "0 = /Left\n");
+    let written = text(alloc, Some(0), Form::Shows(Shown::Null))?;
+    assert_eq!(rt; written.as_str(), "0 = null\n");
+    let term = Vec::from_slice(alloc, b"Num(4)")?;
+    let written = text(alloc, Some(0), Form::Shows(Shown::Term(term)))?;
+    assert_eq!(rt; written.as_str(), "0 = Num(4)\n");
+    Ok(())
+}
+
+#[test]
+fn faults_have_one_text(rt: HostRuntime) -> Result<(), Fail> {
+    let alloc = rt.alloc();
+    let cases = [
+        (FaultWord::Null, "6 fault null in /Left.value\n"),
+        (FaultWord::Index, "6 fault index in /Left.value\n"),
+        (FaultWord::Absent, "6 fault absent in /Left.value\n"),
+        (FaultWord::Zero, "6 fault zero in /Left.value\n"),
+        (FaultWord::Cast, "6 fault cast in /Left.value\n"),
+        (FaultWord::Long, "6 fault long in /Left.value\n"),
+    ];
+    for (kind, reply) in cases {
+        let path = read_path(alloc, "/Left")?;
+        let attribute = String::from_str(alloc, "value")?;
+        let form = Form::Fault {
+            kind,
+            path,
+            attribute,
+        };
+        let written = text(alloc, Some(6), form)?;
+        assert_eq!(rt; written.as_str(), reply);
+    }
+    let path = read_path(alloc, "/")?;
+    let attribute = String::from_str(alloc, "circ")?;
+    let written = text(alloc, Some(0), Form::Circular { path, attribute })?;
+    assert_eq!(rt; written.as_str(), "0 circular /.circ\n");
+    Ok(())
+}
+
+#[test]
 fn replies_have_one_text(rt: HostRuntime) -> Result<(), Fail> {
     let alloc = rt.alloc();
-    let term = Vec::from_slice(alloc, b"Num(4)")?;
+    let written = text(alloc, Some(0), Form::Ok { version: u64::MAX })?;
+    assert_eq!(rt; written.as_str(), "0 ok 18446744073709551615\n");
+    let written = text(alloc, Some(999), Form::Memory)?;
+    assert_eq!(rt; written.as_str(), "999 memory\n");
+    let written = text(alloc, None, Form::Refused(Refusal::Syntax))?;
+    assert_eq!(rt; written.as_str(), "? refused 1 syntax\n");
+    let stale = Refusal::Stale { version: u64::MAX };
     let cases = [
-        (Some(0), Form::Value(11), "0 = 11\n"),
-        (Some(12), Form::Value(i32::MIN), "12 = -2147483648\n"),
-        (Some(0), Form::Term(term), "0 = Num(4)\n"),
-        (
-            Some(0),
-            Form::Ok { version: u64::MAX },
-            "0 ok 18446744073709551615\n",
-        ),
-        (Some(999), Form::Memory, "999 memory\n"),
-        (None, Form::Refused(Refusal::Syntax), "? refused 1 syntax\n"),
-        (Some(0), Form::Refused(Refusal::Path), "0 refused 4 path\n"),
-        (
-            Some(0),
-            Form::Refused(Refusal::Component),
-            "0 refused 5 component\n",
-        ),
-        (Some(0), Form::Refused(Refusal::Fit), "0 refused 7 fit\n"),
-        (
-            Some(0),
-            Form::Refused(Refusal::Limit),
-            "0 refused 12 limit\n",
-        ),
-        (
-            Some(0),
-            Form::Refused(Refusal::Attribute),
-            "0 refused 13 attribute\n",
-        ),
+        (stale, "0 refused 2 stale 18446744073709551615\n"),
+        (Refusal::Mark, "0 refused 3 mark\n"),
+        (Refusal::Path, "0 refused 4 path\n"),
+        (Refusal::Component, "0 refused 5 component\n"),
+        (Refusal::Class, "0 refused 6 class\n"),
+        (Refusal::Fit, "0 refused 7 fit\n"),
+        (Refusal::Index, "0 refused 8 index\n"),
+        (Refusal::Taken, "0 refused 9 taken\n"),
+        (Refusal::Fixed, "0 refused 10 fixed\n"),
+        (Refusal::Limit, "0 refused 12 limit\n"),
+        (Refusal::Attribute, "0 refused 13 attribute\n"),
+        (Refusal::Arguments, "0 refused 14 arguments\n"),
     ];
-    for (session, form, reply) in cases {
-        let written = text(alloc, session, form)?;
+    for (refusal, reply) in cases {
+        let written = text(alloc, Some(0), Form::Refused(refusal))?;
         assert_eq!(rt; written.as_str(), reply);
     }
     Ok(())

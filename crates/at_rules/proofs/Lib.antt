@@ -1,4 +1,4 @@
-pub mod Sound
-pub mod Firsts
-pub mod Locating
-pub mod Calls
+mod Locating
+mod Lookups
+mod Numbers
+mod Upward

@@ -1,11 +1,10 @@
-pub mod LeftOut
-pub mod Located
-pub mod Plain
 pub mod Bodies
+pub mod Signatures
+pub mod Accessors
 pub mod Kinds
 pub mod Judging
-pub mod Ruling
-pub mod Ruled
 pub mod Typed
-pub mod Lookups
+pub mod Located
+pub mod Marks
 pub mod RulesView
+pub mod Upward

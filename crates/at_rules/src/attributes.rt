@@ -1,49 +1,67 @@
-//! The attributes that rules keep, and the bodies of their equations.
+//! The attributes that are declared, by class and name.
 
-use at_class::ClassId;
+use crate::located::{is_attribute, is_inherited};
+use crate::numbered::{NamedClass, Numbered};
+use crate::signatures::AttrId;
+use at_class::ClassTable;
+use indexmap::{IndexMap, IndexSet};
+use std::alloc::{AllocError, Global};
 
-/// An expression that is a node.
-#[derive(Debug, Drop)]
-pub enum NodeExpr {
-    This,
-    /// The child of a node in the component of that position.
-    Child(Box<NodeExpr>, usize),
-}
-
-/// The operators on numbers that are evaluated.
-#[derive(Clone, Copy, Debug, PartialEq, Eq)]
-pub enum Operator {
-    Add,
-    Subtract,
-    Multiply,
-}
-
-/// An expression that is a number. Its operations wrap at 32 bits.
-#[derive(Debug, Drop)]
-pub enum IntExpr {
-    Number(i32),
-    /// The token of a node in the component of that position.
-    Token(NodeExpr, usize),
-    Negate(Box<IntExpr>),
-    Operation(Operator, Box<IntExpr>, Box<IntExpr>),
-}
-
-/// An attribute of a class, and the body of its equation.
+/// The attributes that are declared, none twice on one line of ancestors.
 #[derive(Drop)]
-pub struct Attribute {
-    pub class: ClassId,
-    pub name: String,
-    pub body: IntExpr,
+pub struct Attributes {
+    // The class and the name of each, in order.
+    declared: IndexSet<(NamedClass, usize)>,
+    // The first attribute of each inherited name.
+    inherited: IndexMap<usize, AttrId>,
 }
 
-impl Attribute {
-    ghost use Rattle.std.specs.Prelude.{◌≡◌};
-    ghost use Rattle.at_rules.specs.Lookups.{is_of};
+impl Attributes {
+    /// The attributes among the declarations, or want of memory.
+    pub fn of(alloc: Global, declared: &[Numbered]) -> Result<Attributes, AllocError> {
+        let mut attributes = Attributes {
+            declared: IndexSet::new(alloc),
+            inherited: IndexMap::new(alloc),
+        };
+        for numbered in declared {
+            if is_attribute(&numbered.decl.form) {
+                attributes.add(numbered)?;
+            }
+        }
+        Ok(attributes)
+    }
 
-    /// Whether it is the attribute of that class and name.
-    pub fn is_of(&self, class: ClassId, name: &str) -> bool
-        ensures { result ≡ is_of self.now class name.now }
-    {
-        self.class == class && self.name.as_str() == name
+    fn add(&mut self, numbered: &Numbered) -> Result<(), AllocError> {
+        let (position, _) = self.declared.insert_full((numbered.class, numbered.name))?;
+        if is_inherited(&numbered.decl.form) && self.inherited(numbered.name).is_none() {
+            self.inherited.insert(numbered.name, AttrId::new(position))?;
+        }
+        Ok(())
+    }
+
+    /// The synthesized attribute of that name that the class or one above it declares.
+    pub fn synthesized(
+        &self,
+        classes: &ClassTable,
+        class: NamedClass,
+        name: usize,
+    ) -> Option<AttrId> {
+        if self.inherited(name).is_some() {
+            return None;
+        }
+        let mut next = Some(class);
+        for step in 0..classes.len() {
+            let class = next?;
+            if let Some(position) = self.declared.get_index_of(&(class, name)) {
+                return Some(AttrId::new(position));
+            }
+            next = class.parent(classes);
+        }
+        None
+    }
+
+    /// The first inherited attribute of that name.
+    pub fn inherited(&self, name: usize) -> Option<AttrId> {
+        Some(*self.inherited.get(&name)?)
     }
 }

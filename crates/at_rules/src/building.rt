@@ -1,90 +1,107 @@
 //! Rules of declarations.
 
-ghost use Rattle.std.specs.Prelude.{◌≡◌, None, All, map, IfOk, IfErr};
-ghost use Rattle.at_jrag.specs.View.{decl_view};
-ghost use Rattle.at_rules.specs.Lookups.{IsAttributeTyped};
-ghost use Rattle.at_rules.specs.Located.{located_view, declarations_in};
-ghost use Rattle.at_rules.specs.Ruled.{meant_view, Gives, Listed, IsRefusedFor};
-ghost use Rattle.at_rules.specs.Ruling.{meant, first_fault, refused, Means};
-ghost use Rattle.at_rules.specs.Plain.{AreFlat, ArePlain};
-
-use crate::attributes::Attribute;
-use crate::checks::fault_together;
+use crate::attributes::Attributes;
+use crate::checks::{class_without_equation, fault_together, inherited_without_equation};
 use crate::fault::{Fault, RuleFault};
-use crate::located::{Located, locate};
-use crate::meaning::meant;
+use crate::hierarchy::Hierarchy;
+use crate::meaning::{Among, Meant};
+use crate::numbered::{Declarations, Numbered};
 use crate::rules::Rules;
 use crate::typing::TypeFault;
+use crate::written::signatures_of;
 use at_class::ClassTable;
 use at_jrag::Aspect;
 use std::alloc::Global;
 
 impl Rules {
+    ghost use Rattle.std.specs.Prelude.{◌≡◌, IfOk};
+
     /// The rules of the declarations of the aspect files over the classes.
     ///
     /// # Errors
     ///
-    /// `Refused` for the first of these codes that applies, each at its earliest place: a form that is
-    /// left out, too many declarations, an attribute with an accessor's name, one declared twice, and
-    /// then in the order of the declarations unknown names, wrong arguments and wrong kinds. `Memory`
+    /// `Refused` for the first of these codes that applies, each at its earliest place: too many attributes
+    /// or too long a text, an attribute with an accessor's name, one declared twice, an equation without
+    /// attribute, an equation twice; then in the order of the declarations unknown names, wrong arguments and
+    /// wrong kinds; a class without equation for a synthesized attribute, and for an inherited one. `Memory`
     /// for want of memory.
     pub fn build(
         alloc: Global,
         classes: ClassTable,
         files: &[Vec<Aspect>],
     ) -> Result<Rules, RuleFault>
-        requires flat { AreFlat classes }
-        requires plain { ArePlain classes }
-        ensures faultless { IfOk result (λ r. first_fault classes (declarations_in files.now) ≡ None) }
         ensures classes { IfOk result (λ r. r.classes ≡ classes) }
-        ensures attributes { IfOk result (λ r. map (λ a. Means (meant_view a)) r.attributes.items ≡ map (λ d. meant classes d.decl) (declarations_in files.now)) }
-        ensures refused { IfErr result (IsRefusedFor (first_fault classes (declarations_in files.now))) }
     {
-        let declared = locate(alloc, files)?;
-        if let Some(fault) = fault_together(&classes, &declared) {
-            return Err(RuleFault::Refused(fault));
-        }
-        let attributes = attributes_of(alloc, &classes, &declared)?;
-        Ok(Rules {
+        let Declarations { items, names } = Declarations::of(alloc, &classes, files)?;
+        let meant = meant_together(alloc, &classes, &items)?;
+        let rules = Rules {
             classes,
-            attributes,
-        })
+            names,
+            attributes: meant.attributes,
+            own: meant.own,
+            inherited: meant.inherited,
+        };
+        refuse_incomplete(alloc, &rules, &items)?;
+        Ok(rules)
     }
 }
 
-/// The attributes that the declarations mean.
-fn attributes_of(
+/// What the declarations mean. Faults of several declarations together come before those of one by itself.
+fn meant_together(
     alloc: Global,
     classes: &ClassTable,
-    declared: &[Located],
-) -> Result<Vec<Attribute>, RuleFault>
-    ensures faultless { IfOk result (λ v. refused classes.now (map located_view declared.now) ≡ None) }
-    ensures listed { Listed classes.now (map located_view declared.now) result }
-    ensures typed { IfOk result (λ v. All (IsAttributeTyped classes.now) v.items) }
-{
-    let mut attributes = Vec::new(alloc);
-    for located in declared {
-        attributes.push(attribute_of(alloc, classes, located)?)?;
-    }
-    Ok(attributes)
+    declared: &[Numbered],
+) -> Result<Meant, RuleFault> {
+    let attributes = Attributes::of(alloc, declared)?;
+    refuse(fault_together(alloc, classes, &attributes, declared)?)?;
+    meant_by(alloc, classes, &attributes, declared)
 }
 
-/// The attribute that the declaration means.
-fn attribute_of(
+/// Refuses rules with a class that lacks an equation, for a synthesized attribute before an inherited one.
+fn refuse_incomplete(alloc: Global, rules: &Rules, declared: &[Numbered]) -> Result<(), RuleFault> {
+    let hierarchy = Hierarchy::of(alloc, &rules.classes)?;
+    refuse(class_without_equation(alloc, rules, &hierarchy, declared)?)?;
+    refuse(inherited_without_equation(alloc, rules, &hierarchy, declared)?)
+}
+
+fn refuse(fault: Option<Fault>) -> Result<(), RuleFault> {
+    match fault {
+        Some(fault) => Err(RuleFault::Refused(fault)),
+        None => Ok(()),
+    }
+}
+
+/// What the declarations mean, each by itself.
+fn meant_by(
     alloc: Global,
     classes: &ClassTable,
-    located: &Located,
-) -> Result<Attribute, RuleFault>
-    ensures gives { Gives (located_view located.now) (meant classes.now (decl_view located.now.decl.now)) result }
-    ensures typed { IfOk result (IsAttributeTyped classes.now) }
-{
-    match meant(alloc, classes, located.decl) {
-        Ok(attribute) => Ok(attribute),
-        Err(TypeFault::Refused { code, at }) => Err(RuleFault::Refused(Fault {
+    attributes: &Attributes,
+    declared: &[Numbered],
+) -> Result<Meant, RuleFault> {
+    let signatures = signatures_of(alloc, classes, declared)?;
+    let among = Among {
+        alloc,
+        classes,
+        attributes,
+        signatures: &signatures,
+    };
+    let mut meant = Meant::new(alloc);
+    for numbered in declared {
+        among
+            .add(numbered, &mut meant)
+            .map_err(|fault| refusal(numbered, fault))?;
+    }
+    Ok(meant)
+}
+
+/// The declaration's fault, with its file.
+fn refusal(numbered: &Numbered, fault: TypeFault) -> RuleFault {
+    match fault {
+        TypeFault::Refused { code, at } => RuleFault::Refused(Fault {
             code,
-            file: located.file,
+            file: numbered.file,
             at,
-        })),
-        Err(TypeFault::Memory) => Err(RuleFault::Memory),
+        }),
+        TypeFault::Memory => RuleFault::Memory,
     }
 }

@@ -4,7 +4,7 @@ ghost use Rattle.std.specs.Prelude.{◌≡◌, ◌++◌, map, IfOk, OnOk};
 ghost use Rattle.at_jrag.specs.View.{aspect_view, decl_form_view, word_view};
 ghost use Rattle.at_rules.specs.Located.{located, located_view, from_file, from_aspect, class_word, name_word};
 
-use at_jrag::{Aspect, Decl, DeclForm, Word};
+use at_jrag::{Aspect, Body, Decl, DeclForm, Ending, KindWord, Params, Word};
 use std::alloc::{AllocError, Global};
 
 /// A declaration, with the number of its aspect file, from 1.
@@ -72,5 +72,81 @@ pub fn name_word(form: &DeclForm) -> &Word
         | DeclForm::Inherited { name, .. }
         | DeclForm::Equation { name, .. }
         | DeclForm::InheritedEquation { name, .. } => name,
+    }
+}
+
+/// Whether the declaration declares an attribute: whether it is no equation.
+pub fn is_attribute(form: &DeclForm) -> bool {
+    match form {
+        DeclForm::Synthesized { .. } | DeclForm::Inherited { .. } => true,
+        DeclForm::Equation { .. } | DeclForm::InheritedEquation { .. } => false,
+    }
+}
+
+/// Whether the declaration declares an inherited attribute.
+pub fn is_inherited(form: &DeclForm) -> bool {
+    matches!(form, DeclForm::Inherited { .. })
+}
+
+/// The kind of the attribute that is declared, if one is.
+pub fn result_in(form: &DeclForm) -> Option<&KindWord> {
+    match form {
+        DeclForm::Synthesized { kind, .. } | DeclForm::Inherited { kind, .. } => Some(kind),
+        DeclForm::Equation { .. } | DeclForm::InheritedEquation { .. } => None,
+    }
+}
+
+/// The parameters that the declaration writes.
+pub fn params_in(form: &DeclForm) -> &Params {
+    match form {
+        DeclForm::Synthesized { params, .. }
+        | DeclForm::Inherited { params, .. }
+        | DeclForm::Equation { params, .. }
+        | DeclForm::InheritedEquation { params, .. } => params,
+    }
+}
+
+/// The getter of the component for whose nodes an equation stands, if it is an inherited one.
+pub fn getter_in(form: &DeclForm) -> Option<&Word> {
+    match form {
+        DeclForm::InheritedEquation { getter, .. } => Some(getter),
+        _ => None,
+    }
+}
+
+/// The name of an equation's index, if it has one.
+pub fn index_in(form: &DeclForm) -> Option<&Word> {
+    match form {
+        DeclForm::InheritedEquation { index, .. } => index.as_ref(),
+        _ => None,
+    }
+}
+
+/// The text of that name.
+pub fn index_name(form: &DeclForm) -> Option<&str> {
+    Some(index_in(form)?.text.as_str())
+}
+
+/// The body of the declaration's equation, if it has one.
+pub fn body_in(form: &DeclForm) -> Option<&Body> {
+    match form {
+        DeclForm::Synthesized { ending, .. } => body_at(ending),
+        DeclForm::Equation { body, .. } | DeclForm::InheritedEquation { body, .. } => Some(body),
+        DeclForm::Inherited { .. } => None,
+    }
+}
+
+fn body_at(ending: &Ending) -> Option<&Body> {
+    match ending {
+        Ending::Body(body) => Some(body),
+        Ending::Semicolon(_) => None,
+    }
+}
+
+/// Whether the values of the attribute that is declared are kept.
+pub fn is_lazy(form: &DeclForm) -> bool {
+    match form {
+        DeclForm::Synthesized { lazy, .. } | DeclForm::Inherited { lazy, .. } => lazy.is_some(),
+        DeclForm::Equation { .. } | DeclForm::InheritedEquation { .. } => false,
     }
 }

@@ -1,38 +1,281 @@
-//! The rules of a server: classes, and for each attribute of a class its equation's body, whose kinds
-//! are right.
+//! The rules of a server: classes, attributes, and the bodies of their equations, whose kinds are right.
 
-ghost use Rattle.std.specs.Prelude.{All};
-ghost use Rattle.at_rules.specs.Lookups.{IsAttributeTyped};
-ghost use Rattle.at_rules.specs.Plain.{AreFlat, ArePlain};
-
-use crate::attributes::{Attribute, IntExpr};
+use crate::body::{Body, Kind};
+use crate::signatures::AttrId;
 use at_class::{ClassId, ClassTable};
+use indexmap::{IndexMap, IndexSet};
+use std::marker::Model;
 
-/// Classes and their attributes. No class has a superclass, a list or an optional, and each body is
-/// a number.
+/// An attribute that a class declares: the kinds of its parameters and of its value, whether its values are
+/// kept, and whether its equations stand above.
+#[derive(Drop)]
+pub struct Attribute {
+    pub params: Vec<Kind>,
+    pub result: Kind,
+    pub is_lazy: bool,
+    pub is_inherited: bool,
+}
+
+/// Classes, their attributes and their equations. Classes stand here by their positions, and names by their
+/// numbers.
 #[derive(Drop)]
 pub struct Rules {
-    pub classes: ClassTable,
-    pub attributes: Vec<Attribute>,
-    pub ghost flat: { AreFlat classes },
-    pub ghost plain: { ArePlain classes },
-    pub ghost typed: { All (IsAttributeTyped classes) attributes.items },
+    pub(crate) classes: ClassTable,
+    pub(crate) names: IndexSet<String>,
+    // By class and name, in the order of the declarations.
+    pub(crate) attributes: IndexMap<(usize, usize), Attribute>,
+    // By class and attribute.
+    pub(crate) own: IndexMap<(usize, usize), Body>,
+    // By class, component and name; without a component the equation is for each one.
+    pub(crate) inherited: IndexMap<(usize, Option<usize>, usize), Body>,
+}
+
+impl Model for Rules {
+    ghost use Rattle.at_model.specs.Rules.{Rules as Meant};
+    ghost use Rattle.at_rules.specs.Marks.{expr_code};
+    ghost use Rattle.std.specs.Coded.{codes};
+
+    ghost Value = { Meant };
+
+    ghost coded = { Prim.hlevel (codes, expr_code) };
+
+    ghost use Rattle.std.specs.Prelude.{map};
+    ghost use Rattle.at_rules.specs.RulesView.{attribute_view, own_view, inherited_view, named};
+
+    ghost view = { λ r. record { classes = r.classes; attributes = map (attribute_view r.names.keys) r.attributes.entries; own = map own_view r.own.entries; inherited = map (inherited_view r.names.keys) (named r.names.keys r.inherited.entries) } };
 }
 
 impl Rules {
-    ghost use Rattle.std.specs.Prelude.{◌≡◌, option_map};
-    ghost use Rattle.at_rules.specs.Bodies.{int_view};
-    ghost use Rattle.at_rules.specs.Lookups.{body_of};
+    ghost use Rattle.std.specs.Prelude.{◌≡◌, ◌<◌, [], length, map, option_map, IfSome};
+    ghost use Rattle.at_model.specs.Machine.{parameters_of};
+    ghost use Rattle.at_model.specs.Rules.{attribute_name, attribute_named, inherited_equation, is_inherited, is_lazy, own_equation, own_in};
+    ghost use Rattle.at_rules.specs.Bodies.{body_view, kind_view};
+    ghost use Rattle.at_rules.specs.Upward.{result_of};
 
-    /// The body of the class's attribute of that name, if it has one.
-    pub fn body(&self, class: ClassId, name: &str) -> Option<&IntExpr>
-        ensures { option_map (λ b. int_view b.now) result ≡ body_of self.now.attributes.items class name.now }
+    /// The classes.
+    pub fn classes(&self) -> &ClassTable
+        ensures { result.now ≡ self.now.classes }
     {
-        for attribute in &self.attributes {
-            if attribute.is_of(class, name) {
-                return Some(&attribute.body);
+        &self.classes
+    }
+
+    /// How many attributes are declared: their numbers are those below.
+    pub fn len(&self) -> usize
+        ensures { result ≡ length self.now.attributes }
+    {
+        self.attributes.len()
+    }
+
+    /// The attribute of that name that the class or one above it declares: the first one among the
+    /// declarations. Of the name without characters, which no attribute has, nothing is said.
+    pub fn attribute(&self, class: ClassId, name: &str) -> Option<AttrId>
+        ensures within { IfSome result (λ a. a < length self.now.attributes) }
+        ensures named { (name.now ≡ [] → ⊥) → result ≡ attribute_named self.now class name.now }
+    {
+        let name = number_named(&self.names, name)?;
+        let position = declared_above(&self.classes, &self.attributes, class, name)?;
+        Some(AttrId::new(position))
+    }
+
+    /// The kinds of the attribute's parameters.
+    pub fn params(&self, attribute: AttrId) -> &[Kind]
+        ensures { map kind_view result.now ≡ parameters_of self.now attribute }
+    {
+        match self.attributes.get_index(attribute.index()) {
+            Some((_, declared)) => &declared.params,
+            None => &[],
+        }
+    }
+
+    /// The kind of the attribute's values.
+    pub fn result_kind(&self, attribute: AttrId) -> Kind
+        ensures { kind_view result ≡ result_of self.now attribute }
+    {
+        match self.attributes.get_index(attribute.index()) {
+            Some((_, declared)) => declared.result,
+            None => Kind::Int,
+        }
+    }
+
+    /// The attribute's name; nothing for a number that no attribute has.
+    pub fn name_of(&self, attribute: AttrId) -> &str
+        ensures { result.now ≡ attribute_name self.now attribute }
+    {
+        match self.attributes.get_index(attribute.index()) {
+            Some((key, _)) => text_at(&self.names, key.1),
+            None => "",
+        }
+    }
+
+    /// Whether the values of the attribute are kept; `false` for a number that no attribute has.
+    pub fn is_lazy(&self, attribute: AttrId) -> bool
+        ensures { result ≡ is_lazy self.now attribute }
+    {
+        match self.attributes.get_index(attribute.index()) {
+            Some((_, declared)) => declared.is_lazy,
+            None => false,
+        }
+    }
+
+    /// Whether the equations of the attribute stand above its nodes; `false` for a number that no attribute
+    /// has.
+    pub fn is_inherited(&self, attribute: AttrId) -> bool
+        ensures { result ≡ is_inherited self.now attribute }
+    {
+        match self.attributes.get_index(attribute.index()) {
+            Some((_, declared)) => declared.is_inherited,
+            None => false,
+        }
+    }
+
+    /// The body of the equation that nodes of the class have for an attribute of their own: that of the first
+    /// class upward that has one.
+    pub fn own_body(&self, class: ClassId, attribute: AttrId) -> Option<&Body>
+        ensures { option_map (λ b. body_view b.now) result ≡ own_equation self.now class attribute }
+    {
+        let mut next = Some(class);
+        for step in 0..self.classes.len() {
+            let Some(class) = next else { return None };
+            if let Some(body) = self.own_in(class, attribute) {
+                return Some(body);
             }
+            next = self.classes.parent(class);
         }
         None
+    }
+
+    /// The body of the equation that the class itself has for the attribute.
+    pub(crate) fn own_in(&self, class: ClassId, attribute: AttrId) -> Option<&Body>
+        ensures { option_map (λ b. body_view b.now) result ≡ own_in self.now attribute class }
+    {
+        self.own.get(&(class.index(), attribute.index()))
+    }
+
+    /// The body of the equation that nodes of the class have for that inherited attribute of the nodes in a
+    /// component: in the first class upward that has one, the one for the component before the one for each.
+    pub fn inherited_body(&self, class: ClassId, part: usize, attribute: AttrId) -> Option<&Body>
+        ensures { option_map (λ b. body_view b.now) result ≡ inherited_equation self.now class part (attribute_name self.now attribute) }
+    {
+        let name = name_number(&self.names, &self.attributes, attribute)?;
+        inherited_above(&self.classes, &self.inherited, class, part, name)
+    }
+}
+
+ghost use Rattle.std.specs.Prelude.{◌≡◌, ◌<◌, length, option_map, IfNone, IfSome};
+ghost use Rattle.std.specs.List.{IsDistinct};
+ghost use Rattle.std.specs.String.{string_eq};
+ghost use Rattle.at_model.specs.Classes.{chain};
+ghost use Rattle.at_model.specs.Rules.{first_answer};
+ghost use Rattle.at_rules.specs.Bodies.{body_view};
+ghost use Rattle.at_rules.specs.RulesView.{text_of, name_in, numbered_in, LacksText};
+ghost use Rattle.at_rules.specs.Upward.{earlier, declared_in};
+ghost use Rattle.std.specs.Map.{keys_of};
+ghost use Rattle.std.specs.Prelude.{position, is_some, string_bytes, bytes_eq};
+ghost use Rattle.std.specs.List.{list_any};
+
+/// The number of the name, where it is one.
+fn number_named(names: &IndexSet<String>, name: &str) -> Option<usize>
+    ensures index { result ≡ position (λ k. bytes_eq name.now (string_bytes k)) names.now.keys }
+    ensures found { is_some result ≡ list_any (λ k. bytes_eq name.now (string_bytes k)) names.now.keys }
+    ensures distinct { IsDistinct string_eq names.now.keys }
+{
+    if names.len() == 0 {
+        return None;
+    }
+    names.get_index_of(name)
+}
+
+/// The position of the first attribute of the name of that number that the class or one above it declares.
+fn declared_above(
+    classes: &ClassTable,
+    attributes: &IndexMap<(usize, usize), Attribute>,
+    class: ClassId,
+    name: usize,
+) -> Option<usize>
+    ensures { result ≡ declared_in (keys_of attributes.now.entries) name (chain classes.now class) }
+{
+    let mut found = None;
+    let mut next = Some(class);
+    for step in 0..classes.len() {
+        let Some(class) = next else { return found };
+        found = earlier(found, attributes.get_index_of(&(class.index(), name)));
+        next = classes.parent(class);
+    }
+    found
+}
+
+/// The lesser of two positions, where they are.
+fn earlier(found: Option<usize>, other: Option<usize>) -> Option<usize>
+    ensures { result ≡ earlier found other }
+{
+    let Some(i) = found else { return other };
+    let Some(j) = other else { return found };
+    Some(i.min(j))
+}
+
+/// The number of the attribute's name. A number that no attribute has stands for the name without characters.
+fn name_number(
+    names: &IndexSet<String>,
+    attributes: &IndexMap<(usize, usize), Attribute>,
+    attribute: AttrId,
+) -> Option<usize>
+    ensures found { IfSome result (λ n. (n < length names.now.keys) × (text_of names.now.keys n ≡ name_in names.now.keys attributes.now.entries attribute)) }
+    ensures absent { IfNone result (LacksText names.now.keys (name_in names.now.keys attributes.now.entries attribute)) }
+    ensures distinct { IsDistinct string_eq names.now.keys }
+{
+    let count = names.len();
+    if let Some((key, _)) = attributes.get_index(attribute.index()) {
+        if key.1 < count {
+            return Some(key.1);
+        }
+    }
+    names.get_index_of("")
+}
+
+/// The body of the equation for the name of that number and a component: in the first class upward that has
+/// one, the one for the component before the one for each.
+fn inherited_above<'a>(
+    classes: &ClassTable,
+    inherited: &'a IndexMap<(usize, Option<usize>, usize), Body>,
+    class: ClassId,
+    part: usize,
+    name: usize,
+) -> Option<&'a Body>
+    ensures { option_map (λ b. body_view b.now) result ≡ first_answer (numbered_in inherited.now.entries name part) (chain classes.now class) }
+{
+    let mut next = Some(class);
+    for step in 0..classes.len() {
+        let Some(class) = next else { return None };
+        if let Some(body) = inherited_in(inherited, class, part, name) {
+            return Some(body);
+        }
+        next = classes.parent(class);
+    }
+    None
+}
+
+/// The body of the equation that the class itself has for the name and the component, or for the name and
+/// each component.
+fn inherited_in<'a>(
+    inherited: &'a IndexMap<(usize, Option<usize>, usize), Body>,
+    class: ClassId,
+    part: usize,
+    name: usize,
+) -> Option<&'a Body>
+    ensures { option_map (λ b. body_view b.now) result ≡ numbered_in inherited.now.entries name part class }
+{
+    match inherited.get(&(class.index(), Some(part), name)) {
+        Some(body) => Some(body),
+        None => inherited.get(&(class.index(), None, name)),
+    }
+}
+
+/// The name of that number, nothing where there is none.
+fn text_at(names: &IndexSet<String>, number: usize) -> &str
+    ensures { result.now ≡ text_of names.now.keys number }
+{
+    match names.get_index(number) {
+        Some(text) => text.as_str(),
+        None => "",
     }
 }

@@ -1,5 +1,5 @@
 //! Numbers as texts.
-ghost use Rattle.std.specs.Prelude.{◌≡◌, ◌++◌, OnOk, OnErr};
+ghost use Rattle.std.specs.Prelude.{◌≡◌, ◌≤◌, ◌++◌, OnOk, OnErr, vec_capacity};
 ghost use Rattle.std.specs.Fmt.{signed_decimal};
 
 use itoa::Buffer;
@@ -10,6 +10,7 @@ use std::alloc::AllocError;
 pub fn write_int(n: i64, out: &mut Vec<u8>) -> Result<(), AllocError>
     ensures ok { OnOk result (out.new.items ≡ out.old.items ++ signed_decimal n) }
     ensures err { OnErr result (out.new.items ≡ out.old.items) }
+    ensures grows { vec_capacity out.old ≤ vec_capacity out.new }
 {
     out.extend_from_slice(Buffer::new().format(n).as_bytes())
 }

@@ -1,5 +1,5 @@
 //! Quoted texts: one spelling for each text.
-ghost use Rattle.std.specs.Prelude.{◌≡◌, ◌++◌, ◌∷◌, List, ℕ, length, Err, OnOk, OnErr, IfOk, IfErr, string_bytes, encode_utf8, MatchOption};
+ghost use Rattle.std.specs.Prelude.{◌≡◌, ◌≤◌, ◌++◌, ◌∷◌, List, ℕ, length, vec_capacity, Err, OnOk, OnErr, IfOk, IfErr, string_bytes, encode_utf8, MatchOption};
 ghost use Rattle.std.specs.List.{flat_map};
 ghost use Rattle.std.specs.Str.Iter.{chars_rest};
 ghost use Rattle.at_model.specs.Texts.{escaped, quoted};
@@ -33,6 +33,7 @@ impl From<AllocError> for QuoteFault {
 fn push_escaped(byte: u8, out: &mut Vec<u8>) -> Result<(), AllocError>
     ensures ok { OnOk result (out.new.items ≡ out.old.items ++ escaped byte) }
     ensures err { OnErr result (out.new.items ≡ out.old.items) }
+    ensures grows { vec_capacity out.old ≤ vec_capacity out.new }
 {
     match byte {
         b'"' => out.extend_from_slice(b"\\\""),
@@ -47,6 +48,7 @@ fn push_escaped(byte: u8, out: &mut Vec<u8>) -> Result<(), AllocError>
 fn push_quoted(text: &str, out: &mut Vec<u8>) -> Result<(), AllocError>
     ensures ok { OnOk result (out.new.items ≡ out.old.items ++ quoted text.now) }
     ensures err { OnErr result (Extends out.old.items out.new.items) }
+    ensures grows { vec_capacity out.old ≤ vec_capacity out.new }
 {
     out.push(b'"')?;
     for byte in text.as_bytes() {
@@ -60,6 +62,7 @@ fn push_quoted(text: &str, out: &mut Vec<u8>) -> Result<(), AllocError>
 pub fn write_quoted(text: &str, out: &mut Vec<u8>) -> Result<(), AllocError>
     ensures ok { OnOk result (out.new.items ≡ out.old.items ++ quoted text.now) }
     ensures err { OnErr result (out.new.items ≡ out.old.items) }
+    ensures grows { vec_capacity out.old ≤ vec_capacity out.new }
 {
     let len = out.len();
     let written = push_quoted(text, out);

@@ -1,5 +1,5 @@
 //! Paths to nodes: as they are written, by the names of components.
-ghost use Rattle.std.specs.Prelude.{◌≡◌, ◌++◌, OnOk, OnErr, take, length};
+ghost use Rattle.std.specs.Prelude.{◌≡◌, ◌≤◌, ◌++◌, OnOk, OnErr, take, length, vec_capacity};
 ghost use Rattle.at_model.specs.Paths.{IsPath, path_text, step_text};
 ghost use Rattle.at_tree.specs.PathView.{path_view, step_view};
 
@@ -29,6 +29,7 @@ pub use read::read_path;
 fn write_step(step: &Step, out: &mut Vec<u8>) -> Result<(), AllocError>
     ensures ok { OnOk result (out.new.items ≡ out.old.items ++ step_text (step_view step.now)) }
     ensures err { OnErr result (take (length out.old.items) out.new.items ≡ out.old.items) }
+    ensures grows { vec_capacity out.old ≤ vec_capacity out.new }
 {
     out.push(b'/')?;
     out.extend_from_slice(step.part.as_bytes())?;
@@ -43,6 +44,7 @@ fn write_step(step: &Step, out: &mut Vec<u8>) -> Result<(), AllocError>
 fn write_steps(path: &Path, out: &mut Vec<u8>) -> Result<(), AllocError>
     ensures ok { OnOk result (out.new.items ≡ out.old.items ++ path_text (path_view path.now)) }
     ensures err { OnErr result (take (length out.old.items) out.new.items ≡ out.old.items) }
+    ensures grows { vec_capacity out.old ≤ vec_capacity out.new }
 {
     if path.steps.is_empty() {
         return Ok(out.push(b'/')?);
@@ -60,6 +62,7 @@ pub fn write_path(path: &Path, out: &mut Vec<u8>) -> Result<(), AllocError>
     requires { IsPath (path_view path.now) }
     ensures ok { OnOk result (out.new.items ≡ out.old.items ++ path_text (path_view path.now)) }
     ensures err { OnErr result (out.new.items ≡ out.old.items) }
+    ensures grows { vec_capacity out.old ≤ vec_capacity out.new }
 {
     let len = out.len();
     let written = write_steps(path, out);

@@ -1,5 +1,4 @@
 pub mod Naming
-pub mod Starting
 pub mod Declaring
 pub mod TermFiles
 pub mod Ruled

@@ -1,8 +1,7 @@
 -- Which rules aspect files give, and by which fault of which file they are refused.
 use Rattle.std.specs.Prelude.{◌≡◌, ℕ, ◌+◌, suc, false, List, [], ◌∷◌, ◌++◌, length, map, Some, None}
 use Rattle.at_model.specs.Classes.{Classes}
-use Rattle.at_model.specs.Rules.{Rules, OwnEquation}
-use Rattle.at_model.specs.Rules as model
+use Rattle.at_model.specs.Rules.{Rules}
 use Rattle.at_text.specs.Symbols.{PlacedToken, HasTokens}
 use Rattle.at_jrag.specs.Syntax.{Aspect, Place}
 use Rattle.at_jrag.specs.Grammar.{File, IsWithin}
@@ -10,8 +9,6 @@ use Rattle.at_jrag.specs.Faults.{IsFault}
 use Rattle.at_jrag.specs.declared.JragFault.{JragFault}
 use Rattle.at_jrag.specs.declared.JragFault.TheVariants as jrag
 use Rattle.attrd.specs.Files.{IsText, IsNoText}
-use Rattle.at_rules.specs.Located.{located}
-use Rattle.at_rules.specs.Ruling.{Attribute, Means, meant, first_fault}
 use Rattle.at_rules.specs.declared.fault.Fault.{Fault}
 use Rattle.at_rules.specs.declared.fault.RuleCode.{RuleCode}
 use Rattle.at_rules.specs.declared.fault.RuleCode.TheVariants as rule
@@ -71,47 +68,38 @@ IsUnread files (start.Refused file c (Some at)) = IsUnreadAt files file c at
 IsUnread files (start.Refused file c None) = ⊥
 IsUnread files start.Memory = Unit {0}
 
--- a number, synthesized, with no parameters and not kept
-abbrev pub attribute_of : Attribute → model.Attribute
-attribute_of a = record { name = a.name; class = a.class; parameters = []; result = model.Int; is_lazy = false; is_inherited = false }
-
--- each attribute has its one equation, from this position on
-abbrev pub equations_of : ℕ → List Attribute → List OwnEquation
-equations_of i [] = []
-equations_of i (a ∷ as') = record { class = a.class; attribute = i; body = a.body } ∷ equations_of (suc i) as'
-
--- the rules of the attributes
-abbrev pub ruled : Classes → List Attribute → Rules
-ruled classes as' = record { classes = classes; attributes = map attribute_of as'; own = equations_of 0 as'; inherited = [] }
-
--- The files give the rules over the classes: each file holds aspects, their declarations break no rule, and the rules are what
--- the declarations mean. The first of the files has the number 1.
+-- The files give rules over the classes: each file holds aspects, whose declarations make rules over these classes. Which rules they make is not said yet.
 pub record GivesRules (classes : Classes) (files : List (List ℕ)) (rules : Rules) : Type 0 where
   pub aspects : List (List Aspect)
   pub hold : AllHold files aspects
-  pub faultless : first_fault classes (located 1 aspects) ≡ None
-  pub attributes : List Attribute
-  pub mean : map Means attributes ≡ map (λ d. meant classes d.decl) (located 1 aspects)
-  pub built : rules ≡ ruled classes attributes
+  pub built : rules.classes ≡ classes
 
 -- a rule's code among those of all files
 abbrev pub rule_code : RuleCode → Code
-rule_code rule.FormLeftOut = code.AspectFormLeftOut
 rule_code rule.Limit = code.AspectLimit
 rule_code rule.NameOfAccessor = code.NameOfAccessor
 rule_code rule.AttributeTwice = code.AttributeTwice
 rule_code rule.UnknownName = code.UnknownName
 rule_code rule.Argument = code.Argument
 rule_code rule.Kind = code.Kind
+rule_code rule.EquationTwice = code.EquationTwice
+rule_code rule.ClassWithoutEquation = code.ClassWithoutEquation
+rule_code rule.InheritedWithoutEquation = code.InheritedWithoutEquation
+rule_code rule.EquationWithoutAttribute = code.EquationWithoutAttribute
 
 -- The files are refused by the code at the place of the file of that number: it is the first that can't be read; or all can,
--- and it is the first fault of their declarations.
+-- and it is a fault of their declarations. That it is their first one is not said yet.
 pub data RefusesAspects (classes : Classes) (files : List (List ℕ)) : (file : ℕ) → Code → Place → Type 0 where
   no_file : (file : ℕ) (c : Code) (at : Place) → IsUnreadAt files file c at → RefusesAspects classes files file c at
-  breaks : (aspects : List (List Aspect)) (f : Fault) → AllHold files aspects → first_fault classes (located 1 aspects) ≡ Some f → RefusesAspects classes files f.file (rule_code f.code) f.at
+  breaks : (aspects : List (List Aspect)) (f : Fault) → AllHold files aspects → RefusesAspects classes files f.file (rule_code f.code) f.at
 
 -- the fault is one by which the files are refused; of want of memory nothing is said
 abbrev pub IsAspectFault : Classes → List (List ℕ) → StartFault → Type 0
 IsAspectFault classes files (start.Refused file c (Some at)) = RefusesAspects classes files file c at
 IsAspectFault classes files (start.Refused file c None) = ⊥
 IsAspectFault classes files start.Memory = Unit {0}
+
+-- the fault is a rule's, in the file of its number and at its place; of want of memory nothing is said
+abbrev pub IsRuleFault : StartFault → Type 0
+IsRuleFault (start.Refused file c at) = (f : Fault) × (file ≡ f.file) × (c ≡ rule_code f.code) × (at ≡ Some f.at)
+IsRuleFault start.Memory = Unit {0}

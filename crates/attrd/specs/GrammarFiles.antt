@@ -13,7 +13,6 @@ use Rattle.at_class.specs.Faults.{code_view}
 use Rattle.at_class.specs.declared.fault.ClassCode.{ClassCode}
 use Rattle.at_class.specs.declared.fault.ClassCode.TheVariants as class
 use Rattle.attrd.specs.Files.{IsText, IsNoText}
-use Rattle.attrd.specs.Starting.{left_out}
 use Rattle.attrd.specs.declared.code.Code.{Code}
 use Rattle.attrd.specs.declared.code.Code.TheVariants as code
 use Rattle.attrd.specs.declared.start.fault.FileFault.{FileFault}
@@ -37,12 +36,11 @@ pub record Declares (text : List ℕ) (ds : Declarations) : Type 0 where
   pub spells : Spells tokens grammar
   pub means : ds ≡ declared grammar
 
--- The file gives the classes: its text declares them, no class is of a form that is left out, and no rule is broken.
+-- The file gives the classes: its text declares them, and no rule is broken.
 pub record GivesClasses (bytes : List ℕ) (classes : Classes) : Type 0 where
   pub text : IsText bytes
   pub declarations : Declarations
   pub declares : Declares bytes declarations
-  pub plain : left_out declarations ≡ None
   pub faultless : first_fault declarations ≡ None
   pub built : classes ≡ classes_of declarations
 
@@ -61,13 +59,11 @@ IsReadingFault (ast.Syntax p) c at = (c ≡ code.GrammarSyntax) × (at ≡ p)
 IsReadingFault (ast.LeftOut p) c at = (c ≡ code.GrammarFormLeftOut) × (at ≡ p)
 IsReadingFault ast.Memory c at = ⊥
 
--- The file is refused by the code at the place: it is no text; its text is no grammar; a class is of a form that is left
--- out; the first rule that its classes break.
+-- The file is refused by the code at the place: it is no text; its text is no grammar; the first rule that its classes break.
 pub data RefusesGrammar (bytes : List ℕ) : Code → Place → Type 0 where
   no_text : (c : Code) → IsNoText bytes code.GrammarLimit code.GrammarSyntax c → RefusesGrammar bytes c (1, 1)
   no_grammar : (e : AstFault) (c : Code) (at : Place) → IsText bytes → IsFault bytes e → IsReadingFault e c at → RefusesGrammar bytes c at
-  left_out_at : (ds : Declarations) (at : Place) → IsText bytes → Declares bytes ds → left_out ds ≡ Some at → RefusesGrammar bytes code.GrammarFormLeftOut at
-  breaks : (ds : Declarations) (c : ClassCode) (at : Place) → IsText bytes → Declares bytes ds → left_out ds ≡ None
+  breaks : (ds : Declarations) (c : ClassCode) (at : Place) → IsText bytes → Declares bytes ds
       → first_fault ds ≡ Some (record { code = code_view c; at = at }) → RefusesGrammar bytes (class_code c) at
 
 -- the fault is one by which the file is refused; of want of memory nothing is said

@@ -1,7 +1,6 @@
 pub mod Codes
 pub mod StartFaults
 pub mod Files
-pub mod Starting
 pub mod GrammarFiles
 pub mod TreeFiles
 pub mod AspectFiles

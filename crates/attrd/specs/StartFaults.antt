@@ -1,8 +1,6 @@
 -- What is printed of files that make no engine.
-use Rattle.std.specs.Prelude.{ℕ, ◌-◌, ◌==◌, List, [], ◌∷◌, ◌++◌, decimal, codes, ◌≡◌, Option, Some, None, option_map, slice_get, string_bytes, if◌then◌else◌}
-use Rattle.attrd.specs.AspectFiles.{rule_code}
+use Rattle.std.specs.Prelude.{ℕ, ◌-◌, ◌==◌, List, [], ◌∷◌, ◌++◌, decimal, codes, Option, Some, None, slice_get, string_bytes, if◌then◌else◌}
 use Rattle.attrd.specs.Codes.{code_text}
-use Rattle.at_rules.specs.declared.fault.Fault.{Fault}
 use Rattle.attrd.specs.declared.start.files.Source.{Source}
 use Rattle.attrd.specs.declared.start.files.Files.{Files}
 use Rattle.attrd.specs.declared.start.fault.StartFault.{StartFault}
@@ -25,15 +23,6 @@ place_text (Some at) = codes " at " ++ (decimal at.0 ++ (58 ∷ decimal at.1))
 abbrev pub fault_text : Files → StartFault → List ℕ
 fault_text files (Refused file code at) = file_name files file ++ (codes ": " ++ (code_text code ++ (place_text at ++ 10 ∷ [])))
 fault_text files Memory = codes "memory" ++ 10 ∷ []
-
--- the fault of an aspect file, as it is told
-abbrev pub told : Fault → StartFault
-told f = Refused f.file (rule_code f.code) (Some f.at)
-
--- this fault is told; of want of memory nothing is said
-abbrev pub IsToldOf : Option Fault → StartFault → Type 0
-IsToldOf fault (Refused file code at) = option_map told fault ≡ Some (Refused file code at)
-IsToldOf fault Memory = Unit {0}
 
 -- the fault of the file of that number
 abbrev pub of_file : ℕ → FileFault → StartFault

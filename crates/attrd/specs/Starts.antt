@@ -1,9 +1,12 @@
 -- What files make: an engine, or the first fault in the order grammar, aspects, tree.
-use Rattle.std.specs.Prelude.{◌≡◌, ℕ, ◌+◌, List, [], length, map, Option, Some, None}
+use Rattle.std.specs.Prelude.{◌≡◌, ℕ, ◌+◌, List, length, map, Option, Some, None}
 use Rattle.at_model.specs.Classes.{Classes}
 use Rattle.at_model.specs.Trees.{Tree}
 use Rattle.at_model.specs.Rules.{Rules}
-use Rattle.at_model.specs.Machine.{State}
+use Rattle.at_store.specs.Shown.{IsIdle}
+use Rattle.at_engine.specs.Engines.{IsWhole}
+use Rattle.at_engine.specs.Serving.{Seen}
+use Rattle.at_engine.specs.declared.engine.Engine.{Engine}
 use Rattle.attrd.specs.AspectFiles.{GivesRules, RefusesAspects}
 use Rattle.attrd.specs.GrammarFiles.{GivesClasses, RefusesGrammar}
 use Rattle.attrd.specs.TreeFiles.{GivesTree, RefusesTree}
@@ -17,18 +20,22 @@ use Rattle.attrd.specs.declared.start.fault.StartFault.TheVariants.{Refused, Mem
 abbrev pub aspect_bytes : List Source → List (List ℕ)
 aspect_bytes = map (λ s. s.bytes.items)
 
--- the state at the start: that tree, version 0 and no marks
-abbrev pub opening : Tree → State
-opening t = record { tree = t; version = 0; marks = [] }
+-- what is seen at the start: that tree, at version 0
+abbrev pub opening : Tree → Seen
+opening t = record { tree = t; version = 0 }
 
--- the files give these rules, and this state
-pub record Starts (files : Files) (rules : Rules) (state : State) : Type 0 where
+-- the engine can serve lines: no edit waits, and its tree conforms to the start class
+abbrev pub IsReady : {K : Type 0} → Engine K → Type 0
+IsReady e = IsIdle e.store × IsWhole e
+
+-- the files give these rules, and this is seen of the engine that they make
+pub record Starts (files : Files) (rules : Rules) (seen : Seen) : Type 0 where
   pub classes : Classes
   pub grammar : GivesClasses files.grammar.bytes.items classes
   pub aspects : GivesRules classes (aspect_bytes files.aspects.items) rules
   pub opened : Tree
   pub tree : GivesTree classes files.tree.bytes.items opened
-  pub state_is : state ≡ opening opened
+  pub seen_is : seen ≡ opening opened
 
 -- The file of that number is the first that is refused, by the code and at the place; a tree file's fault has none.
 pub data Refuses (files : Files) : (file : ℕ) → Code → Option (ℕ × ℕ) → Type 0 where

@@ -7,9 +7,9 @@ ghost use Rattle.attrd.specs.Statuses.{status_of};
 ghost use Rattle.attrd.specs.declared.Failure.TheVariants.{Memory};
 
 mod code;
-mod start;
 #[cfg(test)]
-mod tests;
+mod sessions;
+mod start;
 
 use at_engine::{RunFault, run};
 use start::{Files, MAX_FILE, Source, StartFault, start, write_fault};

@@ -1,20 +1,20 @@
 //! The files of a server, and the engine that they make.
 
 ghost use Rattle.std.specs.Prelude.{IfOk, IfErr};
-ghost use Rattle.at_engine.specs.Engines.{rules_of, state_of};
-ghost use Rattle.attrd.specs.Starts.{Starts, IsStartFault};
+ghost use Rattle.at_engine.specs.Engines.{rules_of, seen_of};
+ghost use Rattle.attrd.specs.Starts.{Starts, IsReady, IsStartFault};
 
 mod aspects;
 mod fault;
 mod files;
 mod grammar;
-#[cfg(test)]
-mod tests;
 mod tree;
 
 use crate::code::Code;
 use aspects::rules_of;
-use at_engine::{Engine, LoadFault};
+use at_cache::KeepRecorded;
+use at_engine::Engine;
+use at_store::LoadFault;
 use fault::of_file;
 pub use fault::{StartFault, write_fault};
 pub use files::{Files, MAX_FILE, Source};
@@ -27,8 +27,9 @@ use tree::{refused, tree_of};
 /// # Errors
 ///
 /// `Refused` for the first file that is refused, `Memory` for want of memory.
-pub fn start(alloc: Global, files: &Files) -> Result<Engine, StartFault>
-    ensures started { IfOk result (λ e. Starts files.now (rules_of e) (state_of e)) }
+pub fn start(alloc: Global, files: &Files) -> Result<Engine<KeepRecorded>, StartFault>
+    ensures started { IfOk result (λ e. Starts files.now (rules_of e) (seen_of e)) }
+    ensures ready { IfOk result IsReady }
     ensures refused { IfErr result (IsStartFault files.now) }
 {
     let classes = match classes_of(alloc, &files.grammar.bytes) {
@@ -37,13 +38,14 @@ pub fn start(alloc: Global, files: &Files) -> Result<Engine, StartFault>
     };
     let rules = rules_of(alloc, classes, &files.aspects)?;
     let file = files.aspects.len() + 1;
-    let tree = match tree_of(alloc, &rules.classes, &files.tree.bytes) {
+    let tree = match tree_of(alloc, rules.classes(), &files.tree.bytes) {
         Ok(tree) => tree,
         Err(fault) => return Err(of_file(file, fault)),
     };
-    match Engine::new(alloc, rules, tree) {
+    match Engine::new(alloc, rules, tree, KeepRecorded::new(alloc)) {
         Ok(engine) => Ok(engine),
         Err(LoadFault::Fit) => Err(of_file(file, refused(Code::TreeFit))),
         Err(LoadFault::Limit) => Err(of_file(file, refused(Code::TreeLimit))),
+        Err(LoadFault::Memory) => Err(StartFault::Memory),
     }
 }

@@ -97,18 +97,18 @@ impl Desk {
         }
     }
 
-    /// What it says of itself, where so many edits were accepted.
-    pub fn report(&self, accepted: u64) -> Report
+    /// What it says of itself, where so many edits were accepted and the engine's work is so much.
+    pub fn report(&self, accepted: u64, work: u64) -> Report
         ensures lines { result.lines ≡ self.now.lines }
         ensures accepted { result.accepted ≡ accepted }
         ensures memory { result.memory ≡ self.now.memory }
-        ensures work { result.work ≡ 0 }
+        ensures work { result.work ≡ work }
     {
         Report {
             lines: self.lines,
             accepted: u128::from(accepted),
             memory: self.memory,
-            work: 0,
+            work,
         }
     }
 }

@@ -5,7 +5,10 @@ ghost use Rattle.at_protocol.specs.Words.{Answers};
 ghost use Rattle.at_protocol.specs.Commands.{IsCommandText};
 
 use super::Command;
-use super::words::{WordFault, before_parentheses, cut, read_name, read_place, read_value};
+use super::arguments::read_call;
+use super::first::{index_first, name_first, place_first};
+use super::places::read_place;
+use super::words::{WordFault, cut, read_name, read_term_text, read_value};
 use std::alloc::Global;
 
 /// The command that the text spells.
@@ -18,39 +21,114 @@ pub(super) fn read_command(alloc: Global, text: &str) -> Result<Command, WordFau
     let (word, rest) = cut(text)?;
     match word {
         "ask" => read_ask(alloc, rest),
-        "show" => read_show(alloc, rest),
+        "set" => read_set(alloc, rest),
+        "put" => read_put(alloc, rest),
+        "drop" => read_drop(alloc, rest),
+        "insert" => read_insert(alloc, rest),
         "token" => read_token(alloc, rest),
+        "show" => read_show(alloc, rest),
+        "mark" => read_mark(alloc, rest),
+        "unmark" => read_unmark(alloc, rest),
+        "where" => read_where(alloc, rest),
         _ => Err(WordFault::Form),
     }
 }
 
-/// `PATH ATTRIBUTE()` behind `ask`
+/// `PLACE ATTRIBUTE(ARGUMENTS)` behind `ask`
 fn read_ask(alloc: Global, text: &str) -> Result<Command, WordFault>
     ensures { Answers command_view (IsCommandText (codes "ask" ++ 32 ∷ text.now)) result }
 {
-    let (path, call) = cut(text)?;
-    let attribute = before_parentheses(call)?;
-    let path = read_place(alloc, path)?;
-    let attribute = read_name(alloc, attribute)?;
-    Ok(Command::Ask { path, attribute })
+    let (place, call) = place_first(alloc, text)?;
+    let (attribute, arguments) = read_call(alloc, call)?;
+    Ok(Command::Ask {
+        place,
+        attribute,
+        arguments,
+    })
 }
 
-/// `PATH` behind `show`
-fn read_show(alloc: Global, text: &str) -> Result<Command, WordFault>
-    ensures { Answers command_view (IsCommandText (codes "show" ++ 32 ∷ text.now)) result }
+/// `PLACE TERM` behind `set`
+fn read_set(alloc: Global, text: &str) -> Result<Command, WordFault>
+    ensures { Answers command_view (IsCommandText (codes "set" ++ 32 ∷ text.now)) result }
 {
-    let path = read_place(alloc, text)?;
-    Ok(Command::Show { path })
+    let (place, rest) = place_first(alloc, text)?;
+    let term = read_term_text(alloc, rest)?;
+    Ok(Command::Set { place, term })
 }
 
-/// `PATH PART VALUE` behind `token`
+/// `PLACE PART TERM` behind `put`
+fn read_put(alloc: Global, text: &str) -> Result<Command, WordFault>
+    ensures { Answers command_view (IsCommandText (codes "put" ++ 32 ∷ text.now)) result }
+{
+    let (place, rest) = place_first(alloc, text)?;
+    let (part, rest) = name_first(alloc, rest)?;
+    let term = read_term_text(alloc, rest)?;
+    Ok(Command::Put { place, part, term })
+}
+
+/// `PLACE` behind `drop`
+fn read_drop(alloc: Global, text: &str) -> Result<Command, WordFault>
+    ensures { Answers command_view (IsCommandText (codes "drop" ++ 32 ∷ text.now)) result }
+{
+    let place = read_place(alloc, text)?;
+    Ok(Command::Drop { place })
+}
+
+/// `PLACE PART INDEX TERM` behind `insert`
+fn read_insert(alloc: Global, text: &str) -> Result<Command, WordFault>
+    ensures { Answers command_view (IsCommandText (codes "insert" ++ 32 ∷ text.now)) result }
+{
+    let (place, rest) = place_first(alloc, text)?;
+    let (part, rest) = name_first(alloc, rest)?;
+    let (index, rest) = index_first(rest)?;
+    let term = read_term_text(alloc, rest)?;
+    Ok(Command::Insert {
+        place,
+        part,
+        index,
+        term,
+    })
+}
+
+/// `PLACE PART VALUE` behind `token`
 fn read_token(alloc: Global, text: &str) -> Result<Command, WordFault>
     ensures { Answers command_view (IsCommandText (codes "token" ++ 32 ∷ text.now)) result }
 {
-    let (path, rest) = cut(text)?;
-    let (part, value) = cut(rest)?;
-    let path = read_place(alloc, path)?;
-    let part = read_name(alloc, part)?;
-    let value = read_value(alloc, value)?;
-    Ok(Command::Token { path, part, value })
+    let (place, rest) = place_first(alloc, text)?;
+    let (part, rest) = name_first(alloc, rest)?;
+    let value = read_value(alloc, rest)?;
+    Ok(Command::Token { place, part, value })
+}
+
+/// `PLACE` behind `show`
+fn read_show(alloc: Global, text: &str) -> Result<Command, WordFault>
+    ensures { Answers command_view (IsCommandText (codes "show" ++ 32 ∷ text.now)) result }
+{
+    let place = read_place(alloc, text)?;
+    Ok(Command::Show { place })
+}
+
+/// `NAME PLACE` behind `mark`
+fn read_mark(alloc: Global, text: &str) -> Result<Command, WordFault>
+    ensures { Answers command_view (IsCommandText (codes "mark" ++ 32 ∷ text.now)) result }
+{
+    let (name, rest) = name_first(alloc, text)?;
+    let place = read_place(alloc, rest)?;
+    Ok(Command::Mark { name, place })
+}
+
+/// `NAME` behind `unmark`
+fn read_unmark(alloc: Global, text: &str) -> Result<Command, WordFault>
+    ensures { Answers command_view (IsCommandText (codes "unmark" ++ 32 ∷ text.now)) result }
+{
+    let name = read_name(alloc, text)?;
+    Ok(Command::Unmark { name })
+}
+
+/// `NAME` behind `where`
+fn read_where(alloc: Global, text: &str) -> Result<Command, WordFault>
+    ensures { Answers command_view (IsCommandText (codes "where" ++ 32 ∷ text.now)) result }
+{
+    let name = read_name(alloc, text)?;
+    Ok(Command::Where { name })
 }

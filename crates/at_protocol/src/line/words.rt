@@ -1,26 +1,31 @@
 //! The words of lines.
-ghost use Rattle.std.specs.Prelude.{◌≡◌, ◌≢◌, ◌==◌, ◌++◌, ◌∷◌, ◌<◌, ℕ, ℤ, List, codes, MatchOption, MatchResult, string_bytes};
+ghost use Rattle.std.specs.Prelude.{◌≡◌, ◌≢◌, ◌==◌, ◌++◌, ◌∷◌, ◌<◌, ◌≤◌, ℕ, ℤ, Some, MatchOption, MatchResult, string_bytes};
 ghost use Rattle.std.specs.List.{before_first};
 ghost use Rattle.std.specs.Fmt.{decimal, signed_decimal};
-ghost use Rattle.at_model.specs.Lines.{max_sessions};
+ghost use Rattle.at_model.specs.Lines.{max_sessions, last_version};
+ghost use Rattle.at_model.specs.Paths.{IsIndex};
 ghost use Rattle.at_model.specs.Terms.{IsInt32};
-ghost use Rattle.at_tree.specs.PathView.{path_view};
 ghost use Rattle.at_tree.specs.Token.{token_view};
-ghost use Rattle.at_protocol.specs.Words.{HasNoSpace, Answers, IsNameText, IsQuotedText, IsPathOf, IsValueText};
+ghost use Rattle.at_tree.specs.View.{term_view};
+ghost use Rattle.at_protocol.specs.Words.{HasNoSpace, Answers, IsNameText, IsQuotedText, IsTermText, IsValueText};
 
 use at_text::names::is_name;
 use at_text::quoted::{QuoteFault, read_quoted};
 use at_tree::fault::TermFault;
-use at_tree::path::{Path, read_path};
+use at_tree::reader::read_term;
+use at_tree::term::Term;
 use at_tree::token::TokVal;
 use itoa::Buffer;
-use std::alloc::{AllocError, Global};
+use std::alloc::{AllocError, AllocFailed, Global};
 
 /// The sessions are those below.
 const MAX_SESSIONS: u16 = 1000;
 
+/// The indexes are those below: they have at most nine digits.
+const MAX_INDEXES: u32 = 1_000_000_000;
+
 /// Why words were not read.
-#[derive(Clone, Copy)]
+#[derive(Clone, Copy, Debug)]
 pub(super) enum WordFault {
     /// They have another form.
     Form,
@@ -35,6 +40,17 @@ impl From<AllocError> for WordFault {
     ghost from_gives = { λ _ e. e ≡ Memory };
 
     fn from(_: AllocError) -> WordFault {
+        WordFault::Memory
+    }
+}
+
+impl<T: Drop> From<AllocFailed<T>> for WordFault {
+    ghost use Rattle.std.specs.Prelude.{◌≡◌};
+    ghost use Rattle.at_protocol.specs.declared.line.words.WordFault.TheVariants.{Memory};
+
+    ghost from_gives = { λ _ e. e ≡ Memory };
+
+    fn from(_: AllocFailed<T>) -> WordFault {
         WordFault::Memory
     }
 }
@@ -85,26 +101,46 @@ pub(super) fn read_name(alloc: Global, word: &str) -> Result<String, WordFault>
     }
 }
 
-/// The path that the word spells.
-pub(super) fn read_place(alloc: Global, word: &str) -> Result<Path, WordFault>
-    ensures { Answers path_view (IsPathOf word.now) result }
+/// The number of 64 bits whose decimal the word is.
+pub(super) fn read_number(word: &str) -> Option<u64>
+    ensures { MatchOption result
+        ((n : ℕ) → n ≤ last_version → word.now ≢ decimal n)
+        (λ n. word.now ≡ decimal n) }
 {
-    match read_path(alloc, word) {
-        Ok(path) => Ok(path),
-        Err(TermFault::Syntax { at: _ }) => Err(WordFault::Form),
-        Err(TermFault::Memory) => Err(WordFault::Memory),
+    let Ok(number) = word.parse::<u64>() else {
+        return None;
+    };
+    if Buffer::new().format(number) == word {
+        Some(number)
+    } else {
+        None
     }
 }
 
-/// What stands before a pair of parentheses.
-pub(super) fn before_parentheses(call: &str) -> Result<&str, WordFault>
-    ensures { MatchResult result
-        (λ front. call.now ≡ front.now ++ codes "()")
-        (λ fault. (fault ≡ WordFault.Form) × ((front : List ℕ) → call.now ≢ front ++ codes "()")) }
+/// The index whose decimal the word is: it has at most nine digits.
+pub(super) fn read_index(word: &str) -> Option<u32>
+    ensures { MatchOption result
+        ((n : ℕ) → IsIndex (Some n) → word.now ≢ decimal n)
+        (λ n. IsIndex (Some n) × (word.now ≡ decimal n)) }
 {
-    match call.strip_suffix(')') {
-        Some(inside) => inside.strip_suffix('(').ok_or(WordFault::Form),
-        None => Err(WordFault::Form),
+    let Ok(index) = word.parse::<u32>() else {
+        return None;
+    };
+    if index < MAX_INDEXES && Buffer::new().format(index) == word {
+        Some(index)
+    } else {
+        None
+    }
+}
+
+/// The term that the text spells.
+pub(super) fn read_term_text(alloc: Global, text: &str) -> Result<Term, WordFault>
+    ensures { Answers term_view (IsTermText text.now) result }
+{
+    match read_term(alloc, text) {
+        Ok(term) => Ok(term),
+        Err(TermFault::Syntax { at: _ }) => Err(WordFault::Form),
+        Err(TermFault::Memory) => Err(WordFault::Memory),
     }
 }
 

@@ -2,15 +2,9 @@
 
 ghost use Rattle.std.specs.Prelude.{◌≡◌, None, Some, map, IfOk, IfErr};
 ghost use Rattle.at_jrag.specs.View.{aspect_view};
-ghost use Rattle.attrd.specs.AspectFiles.{Holds, AllHold, GivesRules, IsReadingFaultOf, IsAspectFault, IsUnread, rule_code};
-ghost use Rattle.at_rules.specs.RulesView.{rules_view};
+ghost use Rattle.attrd.specs.AspectFiles.{Holds, AllHold, GivesRules, IsReadingFaultOf, IsAspectFault, IsUnread, IsRuleFault, rule_code};
 ghost use Rattle.attrd.specs.Starts.{aspect_bytes};
 ghost use Rattle.attrd.specs.declared.start.fault.FileFault.TheVariants.{Refused};
-ghost use Rattle.at_rules.specs.Located.{declarations_in};
-ghost use Rattle.at_rules.specs.Ruled.{meant_view};
-ghost use Rattle.at_rules.specs.Ruling.{meant, first_fault, Means};
-ghost use Rattle.attrd.specs.StartFaults.{IsToldOf};
-ghost use Rattle.at_rules.specs.Plain.{AreFlat, ArePlain};
 
 use super::fault::{FileFault, StartFault, of_file};
 use super::files::{Source, text_of};
@@ -26,10 +20,8 @@ use std::alloc::Global;
 ///
 /// The first file that can't be read, or else the first fault of the rules. `Memory` for want of memory.
 pub fn rules_of(alloc: Global, classes: ClassTable, aspects: &[Source]) -> Result<Rules, StartFault>
-    requires flat { AreFlat classes }
-    requires plain { ArePlain classes }
     ensures classes { IfOk result (λ r. r.classes ≡ classes) }
-    ensures given { IfOk result (λ r. GivesRules classes (aspect_bytes aspects.now) (rules_view r)) }
+    ensures given { IfOk result (λ r. GivesRules classes (aspect_bytes aspects.now) r) }
     ensures refused { IfErr result (IsAspectFault classes (aspect_bytes aspects.now)) }
 {
     let aspects = read_all(alloc, aspects)?;
@@ -76,12 +68,8 @@ fn refused(code: Code, at: (u32, u32)) -> FileFault
 }
 
 fn build(alloc: Global, classes: ClassTable, aspects: &[Vec<Aspect>]) -> Result<Rules, StartFault>
-    requires flat { AreFlat classes }
-    requires plain { ArePlain classes }
-    ensures faultless { IfOk result (λ r. first_fault classes (declarations_in aspects.now) ≡ None) }
     ensures classes { IfOk result (λ r. r.classes ≡ classes) }
-    ensures attributes { IfOk result (λ r. map (λ a. Means (meant_view a)) r.attributes.items ≡ map (λ d. meant classes d.decl) (declarations_in aspects.now)) }
-    ensures refused { IfErr result (IsToldOf (first_fault classes (declarations_in aspects.now))) }
+    ensures refused { IfErr result IsRuleFault }
 {
     match Rules::build(alloc, classes, aspects) {
         Ok(rules) => Ok(rules),
@@ -100,12 +88,15 @@ fn rule_code(code: RuleCode) -> Code
     ensures { result ≡ rule_code code }
 {
     match code {
-        RuleCode::FormLeftOut => Code::AspectFormLeftOut,
         RuleCode::Limit => Code::AspectLimit,
         RuleCode::NameOfAccessor => Code::NameOfAccessor,
         RuleCode::AttributeTwice => Code::AttributeTwice,
         RuleCode::UnknownName => Code::UnknownName,
         RuleCode::Argument => Code::Argument,
         RuleCode::Kind => Code::Kind,
+        RuleCode::EquationTwice => Code::EquationTwice,
+        RuleCode::ClassWithoutEquation => Code::ClassWithoutEquation,
+        RuleCode::InheritedWithoutEquation => Code::InheritedWithoutEquation,
+        RuleCode::EquationWithoutAttribute => Code::EquationWithoutAttribute,
     }
 }

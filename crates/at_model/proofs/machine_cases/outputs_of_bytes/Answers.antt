@@ -28,7 +28,7 @@ no_letter n r x h e = let f : 33 < 10 = first_digit n r 120 x (omega arith) e in
 
 version_spelled : Spells (codes "0 version") (says Version)
 unfolding digits
-version_spelled = record { is_line = record { session = omega arith; expected = tt; command = tt }; exists = (refl, refl); text = refl; short = omega arith }
+version_spelled = record { is_line = record { session = omega arith; expected = tt; command = tt }; text = refl; short = omega arith }
 
 pub returns-clause-version : goal.returns-clause-version
 unfolding digits

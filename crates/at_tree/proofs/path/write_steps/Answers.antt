@@ -6,14 +6,14 @@ use Rattle.at_tree.proofs.PathWritten.{steps_more, text_of_steps, keeps_front, o
 use Rattle.at_tree.proofs.path.write_steps.Goals as goal
 
 pub returns-in_err-write_step-clause-err : goal.returns-in_err-write_step-clause-err
-returns-in_err-write_step-clause-err c = let kept : take (length c.args.out.now.items) c.write_step.new.out.items ≡ c.args.out.now.items = keeps_front _ _ _ _ c.loop-step.invariant c.in_err-write_step.ensures.err in on_err _ kept
+returns-in_err-write_step-clause-err c = let kept : take (length c.args.out.now.items) c.write_step.new.out.items ≡ c.args.out.now.items = keeps_front _ _ _ _ c.loop-step.invariant.0 c.in_err-write_step.ensures.err in on_err _ kept
 
 pub loop-step-preserved : goal.loop-step-preserved
 loop-step-preserved c =
     let more = steps_more c.deref-step-items.result.now c.loop-step.step-index c.step-item.result (omega arith) c.step-item.is in
-    c.in_ok-write_step.ensures.ok ∙ rw (c.loop-step.invariant, more) (simp append_assoc)
+    (c.in_ok-write_step.ensures.ok ∙ rw (c.loop-step.invariant.0, more) (simp append_assoc), omega (arith, c.loop-step.invariant.1, c.in_ok-write_step.ensures.grows))
 
 pub returns-clause-ok : goal.returns-clause-ok
 returns-clause-ok c =
     let some : 0 < length c.deref-step-items.result.now = grind (arith, nat_tests, c.if-is_empty.ensures, c.deref-step-items.ensures.len) in
-    c.loop-step.invariant ∙ ap (λ y. c.args.out.now.items ++ y) (text_of_steps c.deref-step-items.result.now c.loop-step.step-index some (omega arith) ∙ ap (λ ss. path_text (steps_view ss)) c.deref-step-items.ensures.value)
+    c.loop-step.invariant.0 ∙ ap (λ y. c.args.out.now.items ++ y) (text_of_steps c.deref-step-items.result.now c.loop-step.step-index some (omega arith) ∙ ap (λ ss. path_text (steps_view ss)) c.deref-step-items.ensures.value)

@@ -11,4 +11,5 @@ returns-in_err-word c =
 pub returns-in_default : goal.returns-in_default
 returns-in_default c = λ command h.
     let cut = c.in_ok-word.ensures in
-    no_command _ _ command cut.1 c.in_default.not-ask c.in_default.not-show c.in_default.not-token (behind _ _ _ command cut.0 h)
+    let d = c.in_default in
+    no_command _ _ command cut.1 (record { ask = d.not-ask; set_ = d.not-set; put_ = d.not-put; drop_ = d.not-drop; insert = d.not-insert; token = d.not-token; show = d.not-show; mark = d.not-mark; unmark = d.not-unmark; where_ = d.not-where₀ }) (behind _ _ _ command cut.0 h)

@@ -4,7 +4,6 @@ use Rattle.std.proofs.lemmas.Str.{IsUtf8-string_bytes}
 use Rattle.at_model.specs.Texts.{quoted}
 use Rattle.at_text.specs.Quoted.{Begins}
 use Rattle.at_protocol.specs.Words.{IsQuotedText}
-use Rattle.at_protocol.proofs.Values.{same_quoted}
 use Rattle.at_protocol.proofs.line.words.read_text.Goals as goal
 
 whole : (text value : List ℕ) → IsQuotedText text value → Begins text value
@@ -25,7 +24,7 @@ returns-then-length-text c =
     let text = c.args.text.now in
     let value = string_bytes c.in-Ok.read.0 in
     let is = all_of text value c.in-Ok.ensures.found.0 (sym c.in-Ok.ensures.found.1 ∙ c.if-length-text.true) in
-    ((IsUtf8-string_bytes c.in-Ok.read.0, is), λ other h. same_quoted value other (is ∙ sym h.1))
+    (IsUtf8-string_bytes c.in-Ok.read.0, is)
 
 pub returns-else-length-text : goal.returns-else-length-text
 returns-else-length-text c = λ value h.

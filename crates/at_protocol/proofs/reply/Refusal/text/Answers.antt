@@ -3,6 +3,12 @@ use Rattle.std.specs.Fmt.{decimal}
 use Rattle.std.proofs.lemmas.Fmt.{decimal_digit, decimal_step}
 use Rattle.at_protocol.proofs.reply.Refusal.text.Goals as goal
 
+ten : decimal 10 ≡ 49 ∷ 48 ∷ []
+ten = decimal_step 10 (lit≤ tt) (lit< tt) ∙ ap (λ t. t ++ 48 ∷ []) (decimal_digit 1 (lit< tt))
+
+fourteen : decimal 14 ≡ 49 ∷ 52 ∷ []
+fourteen = decimal_step 14 (lit≤ tt) (lit< tt) ∙ ap (λ t. t ++ 52 ∷ []) (decimal_digit 1 (lit< tt))
+
 twelve : decimal 12 ≡ 49 ∷ 50 ∷ []
 twelve = decimal_step 12 (lit≤ tt) (lit< tt) ∙ ap (λ t. t ++ 50 ∷ []) (decimal_digit 1 (lit< tt))
 
@@ -26,3 +32,24 @@ returns-in-Limit-clause-words c = rw (c.in-Limit.is, twelve) refl
 
 pub returns-in-Attribute-clause-words : goal.returns-in-Attribute-clause-words
 returns-in-Attribute-clause-words c = rw (c.in-Attribute.is, thirteen) refl
+
+pub returns-in-Stale-clause-words : goal.returns-in-Stale-clause-words
+returns-in-Stale-clause-words c = rw (c.in-Stale.is, decimal_digit 2 (lit< tt)) refl
+
+pub returns-in-Mark-clause-words : goal.returns-in-Mark-clause-words
+returns-in-Mark-clause-words c = rw (c.in-Mark.is, decimal_digit 3 (lit< tt)) refl
+
+pub returns-in-Class-clause-words : goal.returns-in-Class-clause-words
+returns-in-Class-clause-words c = rw (c.in-Class.is, decimal_digit 6 (lit< tt)) refl
+
+pub returns-in-Index-clause-words : goal.returns-in-Index-clause-words
+returns-in-Index-clause-words c = rw (c.in-Index.is, decimal_digit 8 (lit< tt)) refl
+
+pub returns-in-Taken-clause-words : goal.returns-in-Taken-clause-words
+returns-in-Taken-clause-words c = rw (c.in-Taken.is, decimal_digit 9 (lit< tt)) refl
+
+pub returns-in-Fixed-clause-words : goal.returns-in-Fixed-clause-words
+returns-in-Fixed-clause-words c = rw (c.in-Fixed.is, ten) refl
+
+pub returns-in-Arguments-clause-words : goal.returns-in-Arguments-clause-words
+returns-in-Arguments-clause-words c = rw (c.in-Arguments.is, fourteen) refl

@@ -10,9 +10,8 @@ returns-in_err-aspects-clause-refused c =
 
 pub returns-clause-given : goal.returns-clause-given
 returns-clause-given c =
-    given_by c.args.classes (aspect_bytes c.args.aspects.now) c.in_ok-aspects.aspects.items c.deref.result.now c.deref.ensures.value c.build.result c.in_ok-aspects.ensures.hold
-    c.build.ensures.classes c.build.ensures.faultless c.build.ensures.attributes
+    given_by c.args.classes (aspect_bytes c.args.aspects.now) c.in_ok-aspects.aspects.items c.build.result c.in_ok-aspects.ensures.hold c.build.ensures.classes
 
 pub returns-clause-refused : goal.returns-clause-refused
 returns-clause-refused c =
-    refused_by c.args.classes (aspect_bytes c.args.aspects.now) c.in_ok-aspects.aspects.items c.deref.result.now c.deref.ensures.value c.build.result c.in_ok-aspects.ensures.hold c.build.ensures.refused
+    refused_by c.args.classes (aspect_bytes c.args.aspects.now) c.in_ok-aspects.aspects.items c.build.result c.in_ok-aspects.ensures.hold c.build.ensures.refused

@@ -1,0 +1,10 @@
+pub mod Runs
+pub mod Entering
+pub mod Naming
+pub mod Uses
+pub mod Climbing
+pub mod Waiting
+pub mod OneTry
+pub mod Few
+pub mod Joining
+pub mod Sameness

@@ -1,0 +1,34 @@
+-- Instances in the code's words and in the model's.
+use Rattle.std.proofs.Common.{◌≡◌, ℕ, Bool, true, false, not, List, [], ◌∷◌, ◌++◌, map, length, suc, nat_eq, ap, ◌∙◌, refl, sym}
+use Rattle.std.specs.List.{fold, flat_map}
+use Rattle.std.specs.Hash.{HashWrites, fed_then}
+use Rattle.std.specs.Hash as fed
+use Rattle.std.specs.Cmp.Lexicographic.{pointwise}
+use Rattle.std.specs.Cmp.Derive.Mapped.{pointwise-map}
+use Rattle.at_model.specs.Run.{Value, Instance}
+use Rattle.at_body.specs.declared.value.Value.{Value as ValueCode}
+use Rattle.at_body.specs.Values.{value_view}
+use Rattle.at_body.specs.Same.{same_value, same_instance, value_writes, instance_writes}
+
+not_off : (b : Bool) → false ≡ not b → b ≡ true
+not_off true e = refl
+not_off false e = e
+
+pub same_rest : (i j : Instance ℕ) (xs ys : List ValueCode) (r : Bool) → false ≡ not (nat_eq i.node j.node) → false ≡ not (nat_eq i.attribute j.attribute) → i.arguments ≡ map value_view xs → j.arguments ≡ map value_view ys →
+    r ≡ pointwise (λ v w. same_value (value_view v) (value_view w)) xs ys → r ≡ same_instance i j
+same_rest i j xs ys r e f g h is = rw (not_off _ e, not_off _ f, g, h) (is ∙ sym (pointwise-map value_view same_value xs ys))
+
+flat : (xs : List ValueCode) → flat_map (λ v. value_writes (value_view v)) xs ≡ flat_map value_writes (map value_view xs)
+flat [] = refl
+flat (x ∷ xs) = ap (λ ws. value_writes (value_view x) ++ ws) (flat xs)
+
+long : (xs : List ValueCode) → length xs ≡ length (map value_view xs)
+long [] = refl
+long (x ∷ xs) = ap (λ n. suc n) (long xs)
+
+slices : (xs : List ValueCode) → fed.slice (λ v. value_writes (value_view v)) xs ≡ fed.slice value_writes (map value_view xs)
+slices xs = ap (λ n. fed.usize n ++ flat_map (λ v. value_writes (value_view v)) xs) (long xs) ∙ ap (λ ws. fed.usize (length (map value_view xs)) ++ ws) (flat xs)
+
+pub instance_fed : {S : Type 0} (write : S → List ℕ → S) (s t u w : S) (i : Instance ℕ) (xs : List ValueCode) → i.arguments ≡ map value_view xs →
+    t ≡ fold write s (fed.usize i.node) → u ≡ fold write t (fed.usize i.attribute) → w ≡ fold write u (fed.slice (λ v. value_writes (value_view v)) xs) → w ≡ fold write s (instance_writes i)
+instance_fed write s t u w i xs e p q r = rw e (fed_then write s t w (fed.usize i.node) (fed.usize i.attribute ++ fed.slice value_writes (map value_view xs)) p (fed_then write t u w (fed.usize i.attribute) (fed.slice value_writes (map value_view xs)) q (r ∙ ap (fold write u) (slices xs))))

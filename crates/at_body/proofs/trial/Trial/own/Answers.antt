@@ -1,0 +1,10 @@
+use Rattle.std.proofs.Common.{refl, ap, nat_eq, ◌∙◌, sym, map, None}
+use Rattle.at_model.specs.Run.{Fails, Null}
+use Rattle.at_model.specs.Rules.{by_equation}
+use Rattle.at_body.specs.Values.{value_view}
+use Rattle.at_rules.specs.Bodies.{body_view}
+use Rattle.at_body.proofs.Climbing.{alone}
+use Rattle.at_body.proofs.trial.Trial.own.Goals as goal
+
+pub returns-in-Some : goal.returns-in-Some
+returns-in-Some c = ap (by_equation c.args.rules.now nat_eq (record { this = c.args.self.now.this; names = map value_view c.args.self.now.arguments.items; child = None }) (Fails Null)) (sym c.in-Some.ensures) ∙ sym (alone _ c.args.self.now (body_view c.in-Some.body.now) _ _ None c.requires.idle c.requires.unbound refl refl c.requires.top)

@@ -1,0 +1,9 @@
+pub mod Values
+pub mod Same
+pub mod Sameness
+pub mod Size
+pub mod Stacked
+pub mod Standing
+pub mod Rest
+pub mod Starting
+pub mod Trying

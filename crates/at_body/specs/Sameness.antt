@@ -1,0 +1,78 @@
+-- The tests of values and of instances are equivalences, and what is the same has the same hash.
+use Rattle.std.specs.Prelude.{◌≡◌, ℕ, Bool, true, false, refl, Option, Some, None, nat_eq}
+use mathlib.Core.Path.{ap, ◌∙◌, sym}
+use mathlib.Core.Bool.{true≢false}
+use Rattle.std.specs.Bool.{Decides, one_answer}
+use Rattle.std.specs.Cmp.{IsEquivalence, on_equiv, and_equiv, nat_eq_equiv, signed_Decides, unsigned_Decides}
+use Rattle.std.specs.Cmp.Lexicographic.{lists_equiv, nat_list_eq_equiv}
+use Rattle.std.specs.Hash.{Alike, same_Alike, on_Alike, and-Alike, items_Alike}
+use Rattle.std.specs.Hash as fed
+use Rattle.std.proofs.lemmas.Slice.Eq.{bytes_eq-Decides}
+use Rattle.at_model.specs.Bodies.{bool_eq, ref_eq}
+use Rattle.at_model.specs.Run.{Value, Int, Truth, Text, Ref}
+use Rattle.at_body.specs.Same.{same_value, same_instance, value_writes, instance_writes}
+
+bools_agree : (a b : Bool) → bool_eq a b ≡ true → a ≡ b
+bools_agree true true h = refl
+bools_agree true false h = absurd (true≢false (sym h))
+bools_agree false true h = absurd (true≢false (sym h))
+bools_agree false false h = refl
+
+bool_itself : (b : Bool) → bool_eq b b ≡ true
+bool_itself true = refl
+bool_itself false = refl
+
+refs_agree : (m n : Option ℕ) → ref_eq nat_eq m n ≡ true → m ≡ n
+refs_agree None None h = refl
+refs_agree None (Some n) h = absurd (true≢false (sym h))
+refs_agree (Some m) None h = absurd (true≢false (sym h))
+refs_agree (Some m) (Some n) h = ap Some ((unsigned_Decides m n).0 h)
+
+ref_itself : (n : Option ℕ) → ref_eq nat_eq n n ≡ true
+ref_itself None = refl
+ref_itself (Some n) = nat_eq_equiv.refl n
+
+values_agree : (v w : Value ℕ) → same_value v w ≡ true → v ≡ w
+values_agree (Int m) (Int n) h = ap Int ((signed_Decides m n).0 h)
+values_agree (Truth a) (Truth b) h = ap Truth (bools_agree a b h)
+values_agree (Text s) (Text t) h = ap Text ((bytes_eq-Decides s t).0 h)
+values_agree (Ref m) (Ref n) h = ap Ref (refs_agree m n h)
+values_agree (Int m) (Truth b) h = absurd (true≢false (sym h))
+values_agree (Int m) (Text t) h = absurd (true≢false (sym h))
+values_agree (Int m) (Ref n) h = absurd (true≢false (sym h))
+values_agree (Truth a) (Int n) h = absurd (true≢false (sym h))
+values_agree (Truth a) (Text t) h = absurd (true≢false (sym h))
+values_agree (Truth a) (Ref n) h = absurd (true≢false (sym h))
+values_agree (Text s) (Int n) h = absurd (true≢false (sym h))
+values_agree (Text s) (Truth b) h = absurd (true≢false (sym h))
+values_agree (Text s) (Ref n) h = absurd (true≢false (sym h))
+values_agree (Ref m) (Int n) h = absurd (true≢false (sym h))
+values_agree (Ref m) (Truth b) h = absurd (true≢false (sym h))
+values_agree (Ref m) (Text t) h = absurd (true≢false (sym h))
+
+value_itself : (v : Value ℕ) → same_value v v ≡ true
+value_itself (Int n) = (signed_Decides n n).1 refl
+value_itself (Truth b) = bool_itself b
+value_itself (Text s) = (bytes_eq-Decides s s).1 refl
+value_itself (Ref n) = ref_itself n
+
+pub values_decided : (v w : Value ℕ) → Decides (same_value v w) (v ≡ w)
+values_decided v w = (values_agree v w, λ e. ap (same_value v) (sym e) ∙ value_itself v)
+
+turned : (v w : Value ℕ) → Decides (same_value w v) (v ≡ w)
+turned v w = (λ h. sym (values_agree w v h), λ e. (values_decided w v).1 (sym e))
+
+pub values_equiv : IsEquivalence same_value
+values_equiv = record { refl = value_itself; symm = λ v w. one_answer (same_value v w) (same_value w v) (values_decided v w) (turned v w); congr = λ v w x h. ap (λ u. same_value u x) (values_agree v w h) }
+
+numbers_fed : Alike nat_eq fed.usize
+numbers_fed = same_Alike fed.usize unsigned_Decides
+
+pub values_fed : Alike same_value value_writes
+values_fed = same_Alike value_writes values_decided
+
+pub instances_equiv : IsEquivalence same_instance
+instances_equiv = and_equiv (on_equiv (λ i. i.node) nat_eq_equiv) (and_equiv (on_equiv (λ i. i.attribute) nat_eq_equiv) (on_equiv (λ i. i.arguments) (lists_equiv values_equiv)))
+
+pub instances_fed : Alike same_instance instance_writes
+instances_fed = and-Alike (on_Alike (λ i. i.node) numbers_fed) (and-Alike (on_Alike (λ i. i.attribute) numbers_fed) (on_Alike (λ i. i.arguments) (items_Alike values_fed)))

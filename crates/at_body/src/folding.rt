@@ -1,0 +1,114 @@
+//! The folds over the elements of a component.
+
+ghost use Rattle.std.specs.Prelude.{◌≡◌, ◌<◌, ◌≤◌, ◌+◌, [], length, IfOk};
+ghost use Rattle.at_model.specs.Classes.{Classes};
+ghost use Rattle.at_model.specs.Follow.{follow};
+ghost use Rattle.at_model.specs.Bodies.{Expr};
+ghost use Rattle.at_model.specs.Run.{Gives, Slot};
+ghost use Rattle.at_store.specs.Shown.{contents, IsIdle};
+ghost use Rattle.at_body.specs.Standing.{Place};
+ghost use Rattle.at_body.specs.Size.{size, tests, most};
+ghost use Rattle.at_body.specs.Values.{value_view};
+ghost use Rattle.at_rules.specs.Bodies.{body_view};
+ghost use Rattle.at_body.specs.Rest.{rest, weight, over, gone_over, folded, decided, load};
+
+use super::todo::{Fold, Now, Todo};
+use super::trial::Trial;
+use super::value::{FaultKind, Value};
+use at_rules::Body;
+use at_store::{Loc, Node, Store};
+use std::alloc::AllocError;
+
+impl<'a> Trial<'a> {
+    /// Goes over the elements in a component of a node, or gives a fault.
+    pub(crate) fn elements(
+        &mut self,
+        store: &'a Store,
+        fold: Fold,
+        part: usize,
+        body: &'a Body,
+        node: Option<Node>,
+    ) -> Result<Now<'a>, AllocError>
+        requires idle_store { IsIdle store.now }
+        ensures same { (classes : Classes) → IfOk result (λ now. follow (contents store.now) self.old.reads (folded classes self.old fold part (body_view body.now) node) ≡ follow (contents store.now) self.new.reads (rest classes now self.new)) }
+        ensures less { IfOk result (λ now. weight now self.new < tests (size (body_view body.now)) most + load self.old.todo + 1) }
+    {
+        match node {
+            Some(node) => {
+                self.reads.push(Loc::Slot(node, part))?;
+                self.next_element(fold, body, children(store, node, part))
+            }
+            None => Ok(Now::Fail(FaultKind::Null)),
+        }
+    }
+
+    /// Goes on at the next element, or gives what the fold comes to where there is none.
+    fn next_element(
+        &mut self,
+        fold: Fold,
+        body: &'a Body,
+        nodes: &'a [Node],
+    ) -> Result<Now<'a>, AllocError>
+        ensures same { (classes : Classes) → IfOk result (λ now. gone_over classes self.old fold (body_view body.now) nodes.now ≡ rest classes now self.new) }
+        ensures less { IfOk result (λ now. weight now self.new < tests (size (body_view body.now)) (length nodes.now) + load self.old.todo) }
+        ensures reads { IfOk result (λ now. self.new.reads ≡ self.old.reads) }
+    {
+        match nodes.split_first() {
+            Some((node, others)) => {
+                self.bound.push(*node)?;
+                self.then(Todo::Element(fold, body, *node, others), body)
+            }
+            None => Ok(Now::Back(come_to(&fold))),
+        }
+    }
+
+    /// Uses what the fold's expression gives at an element.
+    pub(crate) fn decide(
+        &mut self,
+        fold: Fold,
+        body: &'a Body,
+        node: Node,
+        others: &'a [Node],
+        value: &Value,
+    ) -> Result<Now<'a>, AllocError>
+        ensures same { (classes : Classes) → IfOk result (λ now. decided classes self.old fold (body_view body.now) node others.now (value_view value.now) ≡ rest classes now self.new) }
+        ensures less { IfOk result (λ now. weight now self.new < tests (size (body_view body.now)) (length others.now) + load self.old.todo) }
+        ensures reads { IfOk result (λ now. self.new.reads ≡ self.old.reads) }
+    {
+        match fold {
+            Fold::Exists => {
+                if value.truth() {
+                    return Ok(Now::Back(Value::Bool(true)));
+                }
+                self.next_element(Fold::Exists, body, others)
+            }
+            Fold::First => {
+                if value.truth() {
+                    return Ok(Now::Back(Value::Ref(Some(node))));
+                }
+                self.next_element(Fold::First, body, others)
+            }
+            Fold::Sum(total) => self.next_element(Fold::Sum(total.plus(value)), body, others),
+        }
+    }
+}
+
+/// What a fold comes to at the end.
+fn come_to(fold: &Fold) -> Value
+    ensures { (classes : Classes) (e : Expr) (p : Place) → over classes fold.now e p [] ≡ Gives (value_view result) }
+{
+    match fold {
+        Fold::Exists => Value::Bool(false),
+        Fold::First => Value::Ref(None),
+        Fold::Sum(total) => Value::Int(total.int()),
+    }
+}
+
+/// The children in a component.
+fn children<'a>(store: &'a Store, node: Node, part: usize) -> &'a [Node]
+    requires idle_store { IsIdle store.now }
+    ensures children { result.now ≡ contents store.now (Slot node part) }
+    ensures few { length result.now ≤ most }
+{
+    store.children(node, part)
+}

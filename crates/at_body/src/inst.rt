@@ -1,0 +1,129 @@
+//! Instances: attributes of nodes, with arguments.
+
+ghost use Rattle.std.specs.Prelude.{◌≡◌, ◌++◌, IfOk, map};
+ghost use Rattle.at_body.specs.Values.{value_view};
+
+use super::value::Value;
+use at_rules::AttrId;
+use at_store::Node;
+use smallvec::SmallVec;
+use std::alloc::{AllocError, Global};
+use std::hash::{Hash, Hasher};
+use std::marker::Model;
+
+/// What is passed to an attribute; up to two values stand inline.
+pub type Arguments = SmallVec<Value, 2>;
+
+/// The question for an attribute of a node, with arguments: texts, nodes and null.
+#[derive(Debug, Drop)]
+pub struct Inst {
+    node: Node,
+    attribute: AttrId,
+    arguments: Arguments,
+}
+
+impl Model for Inst {
+    ghost use Rattle.std.specs.Prelude.{ℕ, map};
+    ghost use Rattle.at_model.specs.Run.{Instance};
+    ghost use Rattle.at_body.specs.Values.{value_view};
+
+    ghost Value = { Instance ℕ };
+
+    ghost view = { λ i. record { node = i.node; attribute = i.attribute; arguments = map value_view i.arguments.items } };
+}
+
+impl Inst {
+    /// The instance of an attribute at a node, with these arguments.
+    pub fn new(node: Node, attribute: AttrId, arguments: Arguments) -> Self
+        ensures { result ≡ record { node = node; attribute = attribute; arguments = map value_view arguments.items } }
+    {
+        Inst {
+            node,
+            attribute,
+            arguments,
+        }
+    }
+
+    /// The node.
+    pub fn node(&self) -> Node
+        ensures { result ≡ self.now.node }
+    {
+        self.node
+    }
+
+    /// The attribute.
+    pub fn attribute(&self) -> AttrId
+        ensures { result ≡ self.now.attribute }
+    {
+        self.attribute
+    }
+
+    /// The arguments, in order.
+    pub fn arguments(&self) -> &[Value]
+        ensures { map value_view result.now ≡ self.now.arguments }
+    {
+        self.arguments.as_slice()
+    }
+
+    /// The instance once more. An error where memory is wanting.
+    pub fn copy(&self, alloc: Global) -> Result<Inst, AllocError>
+        ensures { IfOk result (λ i. i ≡ self.now) }
+    {
+        Ok(Inst {
+            node: self.node,
+            attribute: self.attribute,
+            arguments: copied(alloc, self.arguments.as_slice())?,
+        })
+    }
+}
+
+impl PartialEq for Inst {
+    ghost use Rattle.std.specs.Cmp.{partial_equiv_from_equiv};
+    ghost use Rattle.at_body.specs.Same.{same_instance};
+    ghost use Rattle.at_body.specs.Sameness.{instances_equiv};
+
+    ghost eq = { same_instance };
+
+    ghost laws = { partial_equiv_from_equiv instances_equiv };
+
+    fn eq(&self, other: &Inst) -> bool {
+        if self.node != other.node || self.attribute != other.attribute {
+            return false;
+        }
+        self.arguments.as_slice() == other.arguments.as_slice()
+    }
+}
+
+impl Eq for Inst {
+    ghost use Rattle.at_body.specs.Sameness.{instances_equiv};
+
+    ghost laws = { instances_equiv };
+}
+
+impl Hash for Inst {
+    ghost use Rattle.at_body.specs.Same.{instance_writes};
+    ghost use Rattle.at_body.specs.Sameness.{instances_fed};
+
+    ghost hash_input = { instance_writes };
+
+    ghost respects_eq = { instances_fed.fed };
+
+    fn hash<H: Hasher>(&self, state: &mut H) {
+        self.node.index().hash(state);
+        self.attribute.index().hash(state);
+        self.arguments.as_slice().hash(state);
+    }
+}
+
+/// The values once more. An error where memory is wanting.
+pub fn copied(alloc: Global, values: &[Value]) -> Result<Arguments, AllocError>
+    ensures { IfOk result (λ vs. map value_view vs.items ≡ map value_view values.now) }
+{
+    let mut copies = Arguments::new(alloc);
+    let mut rest = values;
+    while let Some((value, others)) = rest.split_first() {
+        copies.push(value.copy()?)?;
+        rest = others;
+    }
+    Ok(copies)
+}

@@ -1,0 +1,72 @@
+//! What is left to do.
+
+use super::inst::{Arguments, Inst};
+use super::value::{FaultKind, Value};
+use at_class::ClassId;
+use at_rules::{AttrId, Body, Operator, Order};
+use at_store::Node;
+
+/// What is done with one value.
+#[derive(Clone, Copy, Debug)]
+pub enum Unary {
+    Negate,
+    Not,
+    InstanceOf(ClassId),
+    CastTo(ClassId),
+    Child(usize),
+    Count(usize),
+    Has(usize),
+    Token(usize),
+}
+
+/// What is done with two values, the left one and then the right one.
+#[derive(Clone, Copy, Debug)]
+pub enum Binary {
+    Arithmetic(Operator),
+    Compare(Order),
+    Join,
+    JoinInt,
+    Same,
+    Differ,
+    Equals,
+    Element(usize),
+}
+
+/// A fold under way, and for a sum the sum up to there.
+#[derive(Debug, Drop)]
+pub enum Fold {
+    Exists,
+    First,
+    Sum(Value),
+}
+
+/// What is left to do with the value of an expression.
+#[derive(Debug, Drop)]
+pub enum Todo<'a> {
+    /// Do this with it.
+    Use(Unary),
+    /// It is the left value; the right operand follows.
+    Right(Binary, &'a Body),
+    /// It is the right value.
+    Apply(Binary, Value),
+    And(&'a Body),
+    Or(&'a Body),
+    Choose(&'a Body, &'a Body),
+    /// It is the receiver; the arguments follow.
+    Arguments(AttrId, &'a [Body]),
+    /// It is an argument, behind those that are there; others follow.
+    Argument(AttrId, Option<Node>, Arguments, &'a [Body]),
+    /// It is the node over the elements of which the fold goes.
+    Elements(Fold, usize, &'a Body),
+    /// It is what the fold's expression gives at this element; others follow.
+    Element(Fold, &'a Body, Node, &'a [Node]),
+}
+
+/// What an evaluation does next.
+#[derive(Debug, Drop)]
+pub enum Now<'a> {
+    Enter(&'a Body),
+    Back(Value),
+    Fail(FaultKind),
+    Need(Inst),
+}

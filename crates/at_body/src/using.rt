@@ -1,0 +1,303 @@
+//! What is done with one value, and with two.
+
+ghost use Rattle.std.specs.Prelude.{◌≡◌, ◌++◌, ◌+◌, ℕ, List, length, nat_le, string_bytes, IfOk};
+ghost use Rattle.std.specs.Fmt.{signed_decimal};
+ghost use Rattle.at_model.specs.Classes.{Classes};
+ghost use Rattle.at_model.specs.Follow.{follow};
+ghost use Rattle.at_model.specs.Run.{Ref};
+ghost use Rattle.at_model.specs.Bodies.{max_text, int_of, text_of, computed, joined, is_in_order, element_at, child_of, element_of, count_of, has_of, token_of, is_instance, cast_to};
+ghost use Rattle.at_store.specs.Shown.{contents, IsIdle};
+ghost use Rattle.at_body.specs.Values.{value_view};
+ghost use Rattle.at_rules.specs.Bodies.{operator_view, order_view};
+ghost use Rattle.at_body.specs.declared.trial.Trial.{Trial};
+ghost use Rattle.at_body.specs.Rest.{rest, weight, onto, load, with_one, with_two};
+
+use super::todo::{Binary, Now, Unary};
+use super::trial::Trial;
+use super::value::{FaultKind, Value};
+use at_class::ClassId;
+use at_rules::{Operator, Order, Rules};
+use at_store::{Loc, Node, Store};
+use itoa::Buffer;
+use std::alloc::{AllocError, Global};
+
+/// The most bytes that a text has.
+const MAX_TEXT: usize = 65535;
+
+impl<'a> Trial<'a> {
+    /// What is done with one value.
+    pub(crate) fn unary(
+        &mut self,
+        rules: &'a Rules,
+        store: &'a Store,
+        unary: Unary,
+        value: &Value,
+    ) -> Result<Now<'a>, AllocError>
+        requires idle_store { IsIdle store.now }
+        ensures same { IfOk result (λ now. follow (contents store.now) self.old.reads (onto rules.now.classes self.old (with_one rules.now.classes unary (value_view value.now))) ≡ follow (contents store.now) self.new.reads (rest rules.now.classes now self.new)) }
+        ensures less { IfOk result (λ now. weight now self.new ≡ load self.old.todo) }
+    {
+        match unary {
+            Unary::Negate => Ok(Now::Back(value.negated())),
+            Unary::Not => Ok(Now::Back(Value::Bool(!value.truth()))),
+            Unary::InstanceOf(class) => self.instance_of(rules, store, class, value.node()),
+            Unary::CastTo(class) => self.cast_to(rules, store, class, value.node()),
+            Unary::Child(part) => self.child(store, part, value.node()),
+            Unary::Count(part) => self.count(store, part, value.node()),
+            Unary::Has(part) => self.has(store, part, value.node()),
+            Unary::Token(part) => self.token(store, part, value.node()),
+        }
+    }
+
+    /// What is done with two values.
+    pub(crate) fn binary(
+        &mut self,
+        alloc: Global,
+        store: &'a Store,
+        binary: Binary,
+        left: Value,
+        right: &Value,
+    ) -> Result<Now<'a>, AllocError>
+        requires idle_store { IsIdle store.now }
+        ensures same { (classes : Classes) → IfOk result (λ now. follow (contents store.now) self.old.reads (onto classes self.old (with_two binary (value_view left) (value_view right.now))) ≡ follow (contents store.now) self.new.reads (rest classes now self.new)) }
+        ensures less { IfOk result (λ now. weight now self.new ≡ load self.old.todo) }
+    {
+        match binary {
+            Binary::Arithmetic(operator) => Ok(computed(operator, left.int(), right.int())),
+            Binary::Compare(order) => {
+                Ok(Now::Back(Value::Bool(is_in_order(order, left.int(), right.int()))))
+            }
+            Binary::Join => joined(left.into_text(alloc), right.text()),
+            Binary::JoinInt => joined_int(left.into_text(alloc), right),
+            Binary::Same => Ok(Now::Back(Value::Bool(left.is_same(right)))),
+            Binary::Differ => Ok(Now::Back(Value::Bool(!left.is_same(right)))),
+            Binary::Equals => Ok(Now::Back(Value::Bool(left.text() == right.text()))),
+            Binary::Element(part) => self.element(store, part, &left, right),
+        }
+    }
+
+    /// Whether it is a node of that class or below.
+    fn instance_of(
+        &mut self,
+        rules: &'a Rules,
+        store: &'a Store,
+        class: ClassId,
+        node: Option<Node>,
+    ) -> Result<Now<'a>, AllocError>
+        requires idle_store { IsIdle store.now }
+        ensures same { IfOk result (λ now. follow (contents store.now) self.old.reads (onto rules.now.classes self.old (is_instance rules.now.classes class node)) ≡ follow (contents store.now) self.new.reads (rest rules.now.classes now self.new)) }
+        ensures less { IfOk result (λ now. weight now self.new ≡ load self.old.todo) }
+    {
+        match node {
+            Some(node) => {
+                self.reads.push(Loc::Is(node))?;
+                Ok(Now::Back(Value::Bool(rules.classes().is_sub(store.class(node), class))))
+            }
+            None => Ok(Now::Back(Value::Bool(false))),
+        }
+    }
+
+    /// The node of that class or below, null, or a fault.
+    fn cast_to(
+        &mut self,
+        rules: &'a Rules,
+        store: &'a Store,
+        class: ClassId,
+        node: Option<Node>,
+    ) -> Result<Now<'a>, AllocError>
+        requires idle_store { IsIdle store.now }
+        ensures same { IfOk result (λ now. follow (contents store.now) self.old.reads (onto rules.now.classes self.old (cast_to rules.now.classes class node)) ≡ follow (contents store.now) self.new.reads (rest rules.now.classes now self.new)) }
+        ensures less { IfOk result (λ now. weight now self.new ≡ load self.old.todo) }
+    {
+        match node {
+            Some(node) => {
+                self.reads.push(Loc::Is(node))?;
+                if rules.classes().is_sub(store.class(node), class) {
+                    return Ok(Now::Back(Value::Ref(Some(node))));
+                }
+                Ok(Now::Fail(FaultKind::Cast))
+            }
+            None => Ok(Now::Back(Value::Ref(None))),
+        }
+    }
+
+    /// The child, or a fault.
+    fn child(
+        &mut self,
+        store: &'a Store,
+        part: usize,
+        node: Option<Node>,
+    ) -> Result<Now<'a>, AllocError>
+        requires idle_store { IsIdle store.now }
+        ensures same { (classes : Classes) → IfOk result (λ now. follow (contents store.now) self.old.reads (onto classes self.old (child_of part (Ref node))) ≡ follow (contents store.now) self.new.reads (rest classes now self.new)) }
+        ensures less { IfOk result (λ now. weight now self.new ≡ load self.old.todo) }
+    {
+        match node {
+            Some(node) => {
+                self.reads.push(Loc::Slot(node, part))?;
+                match store.child(node, part) {
+                    Some(child) => Ok(Now::Back(Value::Ref(Some(child)))),
+                    None => Ok(Now::Fail(FaultKind::Absent)),
+                }
+            }
+            None => Ok(Now::Fail(FaultKind::Null)),
+        }
+    }
+
+    /// How many nodes are in a component, or a fault.
+    fn count(
+        &mut self,
+        store: &'a Store,
+        part: usize,
+        node: Option<Node>,
+    ) -> Result<Now<'a>, AllocError>
+        requires idle_store { IsIdle store.now }
+        ensures same { (classes : Classes) → IfOk result (λ now. follow (contents store.now) self.old.reads (onto classes self.old (count_of part (Ref node))) ≡ follow (contents store.now) self.new.reads (rest classes now self.new)) }
+        ensures less { IfOk result (λ now. weight now self.new ≡ load self.old.todo) }
+    {
+        match node {
+            Some(node) => {
+                self.reads.push(Loc::Slot(node, part))?;
+                Ok(Now::Back(Value::of_count(store.children(node, part).len())))
+            }
+            None => Ok(Now::Fail(FaultKind::Null)),
+        }
+    }
+
+    /// Whether there is a node in a component, or a fault.
+    fn has(
+        &mut self,
+        store: &'a Store,
+        part: usize,
+        node: Option<Node>,
+    ) -> Result<Now<'a>, AllocError>
+        requires idle_store { IsIdle store.now }
+        ensures same { (classes : Classes) → IfOk result (λ now. follow (contents store.now) self.old.reads (onto classes self.old (has_of part (Ref node))) ≡ follow (contents store.now) self.new.reads (rest classes now self.new)) }
+        ensures less { IfOk result (λ now. weight now self.new ≡ load self.old.todo) }
+    {
+        match node {
+            Some(node) => {
+                self.reads.push(Loc::Slot(node, part))?;
+                Ok(Now::Back(Value::Bool(store.children(node, part).len() > 0)))
+            }
+            None => Ok(Now::Fail(FaultKind::Null)),
+        }
+    }
+
+    /// The token, or a fault.
+    fn token(
+        &mut self,
+        store: &'a Store,
+        part: usize,
+        node: Option<Node>,
+    ) -> Result<Now<'a>, AllocError>
+        requires idle_store { IsIdle store.now }
+        ensures same { (classes : Classes) → IfOk result (λ now. follow (contents store.now) self.old.reads (onto classes self.old (token_of part (Ref node))) ≡ follow (contents store.now) self.new.reads (rest classes now self.new)) }
+        ensures less { IfOk result (λ now. weight now self.new ≡ load self.old.todo) }
+    {
+        match node {
+            Some(node) => {
+                self.reads.push(Loc::Tok(node, part))?;
+                Ok(Now::Back(Value::of_token(store.token(node, part))?))
+            }
+            None => Ok(Now::Fail(FaultKind::Null)),
+        }
+    }
+
+    /// The element at an index, or a fault.
+    fn element(
+        &mut self,
+        store: &'a Store,
+        part: usize,
+        node: &Value,
+        index: &Value,
+    ) -> Result<Now<'a>, AllocError>
+        requires idle_store { IsIdle store.now }
+        ensures same { (classes : Classes) → IfOk result (λ now. follow (contents store.now) self.old.reads (onto classes self.old (element_of part (value_view node.now) (value_view index.now))) ≡ follow (contents store.now) self.new.reads (rest classes now self.new)) }
+        ensures less { IfOk result (λ now. weight now self.new ≡ load self.old.todo) }
+    {
+        match node.node() {
+            Some(node) => {
+                self.reads.push(Loc::Slot(node, part))?;
+                match element_at(store.children(node, part), index.int()) {
+                    Some(element) => Ok(Now::Back(Value::Ref(Some(element)))),
+                    None => Ok(Now::Fail(FaultKind::Index)),
+                }
+            }
+            None => Ok(Now::Fail(FaultKind::Null)),
+        }
+    }
+}
+
+/// What an operator gives.
+fn computed<'a>(operator: Operator, left: i32, right: i32) -> Now<'a>
+    ensures same { (classes : Classes) (t : Trial) → onto classes t (computed (operator_view operator) left right) ≡ rest classes result t }
+    ensures less { (t : Trial) → weight result t ≡ load t.todo }
+{
+    match operator {
+        Operator::Times => Now::Back(Value::Int(left.wrapping_mul(right))),
+        Operator::Plus => Now::Back(Value::Int(left.wrapping_add(right))),
+        Operator::Minus => Now::Back(Value::Int(left.wrapping_sub(right))),
+        Operator::Over => match right {
+            0 => Now::Fail(FaultKind::Zero),
+            divisor => Now::Back(Value::Int(left.wrapping_div(divisor))),
+        },
+        Operator::Modulo => match right {
+            0 => Now::Fail(FaultKind::Zero),
+            divisor => Now::Back(Value::Int(left.wrapping_rem(divisor))),
+        },
+    }
+}
+
+/// Whether the comparison holds.
+fn is_in_order(order: Order, left: i32, right: i32) -> bool
+    ensures { result ≡ is_in_order (order_view order) left right }
+{
+    match order {
+        Order::Below => left < right,
+        Order::AtMost => left <= right,
+        Order::Above => right < left,
+        Order::AtLeast => right <= left,
+    }
+}
+
+/// The texts behind each other, or a fault where that is too long.
+fn joined<'a>(left: String, right: &str) -> Result<Now<'a>, AllocError>
+    ensures same { (classes : Classes) (t : Trial) → IfOk result (λ now. onto classes t (joined (string_bytes left ++ right.now)) ≡ rest classes now t) }
+    ensures less { (t : Trial) → IfOk result (λ now. weight now t ≡ load t.todo) }
+{
+    if fits(left.as_str(), right) {
+        let mut text = left;
+        text.push_str(right)?;
+        return Ok(Now::Back(Value::Text(text)));
+    }
+    Ok(Now::Fail(FaultKind::Long))
+}
+
+/// Whether the texts behind each other are no longer than a text may be.
+fn fits(left: &str, right: &str) -> bool
+    ensures { result ≡ nat_le (length left.now + length right.now) max_text }
+{
+    if left.len() > MAX_TEXT {
+        return false;
+    }
+    right.len() <= MAX_TEXT - left.len()
+}
+
+/// The text and the int in decimal, or a fault where that is too long.
+fn joined_int<'a>(left: String, right: &Value) -> Result<Now<'a>, AllocError>
+    ensures same { (classes : Classes) (t : Trial) → IfOk result (λ now. onto classes t (joined (string_bytes left ++ signed_decimal (int_of (value_view right.now)))) ≡ rest classes now t) }
+    ensures less { (t : Trial) → IfOk result (λ now. weight now t ≡ load t.todo) }
+{
+    let mut digits = Buffer::new();
+    let number = right.int();
+    joined(left, digits.format(number))
+}
+
+/// The node at an index.
+fn element_at(nodes: &[Node], index: i32) -> Option<Node>
+    ensures { result ≡ element_at nodes.now index }
+{
+    let index = usize::try_from(index).ok()?;
+    nodes.get(index).copied()
+}

@@ -1,0 +1,207 @@
+//! Values and faults.
+
+ghost use Rattle.std.specs.Prelude.{◌≡◌, ◌++◌, ◌≤◌, ℕ, nat_eq, pos, not, length, string_bytes, IfOk, OnOk};
+ghost use Rattle.std.specs.Int.{w32, int_wrapping_add, int_wrapping_neg};
+ghost use Rattle.at_model.specs.Run.{Int};
+ghost use Rattle.at_model.specs.Bodies.{int_of, truth_of, text_of, ref_of, value_of, value_eq};
+ghost use Rattle.at_tree.specs.Token.{token_view};
+ghost use Rattle.at_body.specs.Values.{value_view};
+
+use at_store::Node;
+use at_tree::token::TokVal;
+use std::alloc::{AllocError, Global};
+use std::hash::{Hash, Hasher};
+
+/// Why an evaluation has no value: something is asked of null, a list has no such index, an optional is empty, a divisor is
+/// zero, a node is not of the class, a text is too long.
+#[derive(Clone, Copy, PartialEq, Eq, Debug)]
+pub enum FaultKind {
+    Null,
+    Index,
+    Absent,
+    Zero,
+    Cast,
+    Long,
+}
+
+/// The value of an attribute: also a reference to a node, or null.
+#[derive(Debug, Drop)]
+pub enum Value {
+    Int(i32),
+    Bool(bool),
+    Text(String),
+    Ref(Option<Node>),
+}
+
+impl Default for Value {
+    fn default() -> Value {
+        Value::Ref(None)
+    }
+}
+
+impl PartialEq for Value {
+    ghost use Rattle.std.specs.Cmp.{partial_equiv_from_equiv, on_equiv};
+    ghost use Rattle.at_body.specs.Same.{same_value};
+    ghost use Rattle.at_body.specs.Sameness.{values_equiv};
+
+    ghost eq = { λ v w. same_value (value_view v) (value_view w) };
+
+    ghost laws = { partial_equiv_from_equiv (on_equiv value_view values_equiv) };
+
+    fn eq(&self, other: &Value) -> bool {
+        match (self, other) {
+            (Value::Int(m), Value::Int(n)) => *m == *n,
+            (Value::Bool(a), Value::Bool(b)) => *a == *b,
+            (Value::Text(s), Value::Text(t)) => s.as_str() == t.as_str(),
+            (Value::Ref(m), Value::Ref(n)) => *m == *n,
+            _ => false,
+        }
+    }
+}
+
+impl Eq for Value {
+    ghost use Rattle.std.specs.Cmp.{on_equiv};
+    ghost use Rattle.at_body.specs.Sameness.{values_equiv};
+
+    ghost laws = { on_equiv value_view values_equiv };
+}
+
+impl Hash for Value {
+    ghost use Rattle.std.specs.Hash.{on_Alike};
+    ghost use Rattle.at_body.specs.Same.{value_writes};
+    ghost use Rattle.at_body.specs.Sameness.{values_fed};
+
+    ghost hash_input = { λ v. value_writes (value_view v) };
+
+    ghost respects_eq = { (on_Alike value_view values_fed).fed };
+
+    fn hash<H: Hasher>(&self, state: &mut H) {
+        match self {
+            Value::Int(n) => {
+                state.write_u8(0);
+                n.hash(state);
+            }
+            Value::Bool(b) => {
+                state.write_u8(1);
+                b.hash(state);
+            }
+            Value::Text(text) => {
+                state.write_u8(2);
+                text.as_str().hash(state);
+            }
+            Value::Ref(node) => {
+                state.write_u8(3);
+                node.hash(state);
+            }
+        }
+    }
+}
+
+impl Value {
+    /// The int; 0 for a value of another kind, which no rule lets come here.
+    pub fn int(&self) -> i32
+        ensures { result ≡ int_of (value_view self.now) }
+    {
+        match self {
+            Value::Int(n) => *n,
+            _ => 0,
+        }
+    }
+
+    /// The truth value; false for a value of another kind, which no rule lets come here.
+    pub fn truth(&self) -> bool
+        ensures { result ≡ truth_of (value_view self.now) }
+    {
+        match self {
+            Value::Bool(b) => *b,
+            _ => false,
+        }
+    }
+
+    /// The text; empty for a value of another kind, which no rule lets come here.
+    pub fn text(&self) -> &str
+        ensures { result.now ≡ text_of (value_view self.now) }
+    {
+        match self {
+            Value::Text(text) => text.as_str(),
+            _ => "",
+        }
+    }
+
+    /// The node; none for null, and for a value of another kind.
+    pub fn node(&self) -> Option<Node>
+        ensures { result ≡ ref_of (value_view self.now) }
+    {
+        match self {
+            Value::Ref(node) => *node,
+            _ => None,
+        }
+    }
+
+    /// The text, taken out; empty for a value of another kind.
+    pub fn into_text(self, alloc: Global) -> String
+        ensures { string_bytes result ≡ text_of (value_view self) }
+    {
+        match self {
+            Value::Text(text) => text,
+            _ => String::new(alloc),
+        }
+    }
+
+    /// The value once more. An error where memory is wanting.
+    pub fn copy(&self) -> Result<Value, AllocError>
+        ensures { IfOk result (λ v. value_view v ≡ value_view self.now) }
+    {
+        match self {
+            Value::Int(n) => Ok(Value::Int(*n)),
+            Value::Bool(b) => Ok(Value::Bool(*b)),
+            Value::Text(text) => Ok(Value::Text(text.clone()?)),
+            Value::Ref(node) => Ok(Value::Ref(*node)),
+        }
+    }
+
+    /// The value of a token. An error where memory is wanting.
+    pub fn of_token(token: &TokVal) -> Result<Value, AllocError>
+        ensures { IfOk result (λ v. value_view v ≡ value_of (token_view token.now)) }
+    {
+        match token {
+            TokVal::Str(text) => Ok(Value::Text(text.clone()?)),
+            TokVal::Int(n) => Ok(Value::Int(*n)),
+            TokVal::Bool(b) => Ok(Value::Bool(*b)),
+        }
+    }
+
+    /// A number of nodes as an int.
+    pub fn of_count(count: usize) -> Value
+        requires { count ≤ 65536 }
+        ensures { value_view result ≡ Int (pos count) }
+    {
+        Value::Int(count as i32)
+    }
+
+    /// The int with the sign turned; it wraps.
+    pub fn negated(&self) -> Value
+        ensures { value_view result ≡ Int (int_wrapping_neg w32 (int_of (value_view self.now))) }
+    {
+        Value::Int(self.int().wrapping_neg())
+    }
+
+    /// The sum of two ints; it wraps.
+    pub fn plus(&self, other: &Value) -> Value
+        ensures { value_view result ≡ Int (int_wrapping_add w32 (int_of (value_view self.now)) (int_of (value_view other.now))) }
+    {
+        Value::Int(self.int().wrapping_add(other.int()))
+    }
+
+    /// Whether both are equal ints, truth values or texts, or the same node, or both null.
+    pub fn is_same(&self, other: &Value) -> bool
+        ensures { result ≡ value_eq nat_eq (value_view self.now) (value_view other.now) }
+    {
+        match self {
+            Value::Int(n) => *n == other.int(),
+            Value::Bool(b) => *b == other.truth(),
+            Value::Text(text) => text.as_str() == other.text(),
+            Value::Ref(node) => *node == other.node(),
+        }
+    }
+}

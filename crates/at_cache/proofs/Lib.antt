@@ -1,0 +1,7 @@
+pub mod Adding
+pub mod Lists
+pub mod Locations
+pub mod Carrying
+pub mod Recording
+pub mod Settling
+pub mod Looked

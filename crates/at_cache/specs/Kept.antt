@@ -1,0 +1,84 @@
+-- What a keeper keeps, and the laws of its calls.
+use Rattle.std.specs.Prelude.{◌≡◌, ℕ, List, Bool, true, false, ◌&&◌, ◌||◌, ◌⊎◌, Option, Some, None, IsSome, Contains, nat_eq, if◌then◌else◌}
+use Rattle.std.specs.List.{list_any}
+use Rattle.at_model.specs.Run.{Value, Instance, Location, Is, Tok, Slot, Up, Idx}
+use Rattle.at_store.specs.declared.node.Loc.{Loc}
+use Rattle.at_body.specs.Same.{same_instance}
+use Rattle.at_store.specs.Located.{loc_view}
+
+-- the form of a location, its node, and its component or 0
+abbrev pub form_of : Location ℕ → ℕ
+form_of (Is n) = 0
+form_of (Tok n part) = 1
+form_of (Slot n part) = 2
+form_of (Up n) = 3
+form_of (Idx n) = 4
+
+abbrev pub node_at : Location ℕ → ℕ
+node_at (Is n) = n
+node_at (Tok n part) = n
+node_at (Slot n part) = n
+node_at (Up n) = n
+node_at (Idx n) = n
+
+abbrev pub part_at : Location ℕ → ℕ
+part_at (Is n) = 0
+part_at (Tok n part) = part
+part_at (Slot n part) = part
+part_at (Up n) = 0
+part_at (Idx n) = 0
+
+-- whether two locations are the same
+abbrev pub same_location : Location ℕ → Location ℕ → Bool
+same_location l m = nat_eq (form_of l) (form_of m) && (nat_eq (node_at l) (node_at m) && nat_eq (part_at l) (part_at m))
+
+-- a kept value, and the locations that its entry stands for
+pub record Kept : Type 0 where
+  pub value : Value ℕ
+  pub covers : Location ℕ → Bool
+
+-- the entries of a keeper
+abbrev pub Entries : Type 0
+Entries = Instance ℕ → Option Kept
+
+-- whether the entry stands for the location
+abbrev pub covers_at : Option Kept → Location ℕ → Bool
+covers_at None l = false
+covers_at (Some k) l = k.covers l
+
+-- whether the location is among the reads, or one that an entry of the uses stands for
+abbrev pub covered : Entries → List (Location ℕ) → List (Instance ℕ) → Location ℕ → Bool
+covered entries reads uses l = list_any (same_location l) reads || list_any (λ u. covers_at (entries u) l) uses
+
+-- `new` has what `old` has
+abbrev pub KeepsAll : (old new : Entries) → Type 0
+KeepsAll old new = (i : Instance ℕ) → new i ≡ old i
+
+-- `new` has one entry more: i with the value, standing for the reads and all that the uses stand for, and, where the keeper
+-- is exact, for no other location
+pub record Puts (exact : Bool) (old : Entries) (i : Instance ℕ) (v : Value ℕ) (reads : List (Location ℕ)) (uses : List (Instance ℕ)) (new : Entries) : Type 0 where
+  pub entry : Kept
+  pub value : entry.value ≡ v
+  pub covers : (l : Location ℕ) → covered old reads uses l ≡ true → entry.covers l ≡ true
+  pub only : exact ≡ true → (l : Location ℕ) → entry.covers l ≡ true → covered old reads uses l ≡ true
+  pub adds : (j : Instance ℕ) → new j ≡ (if same_instance i j then Some entry else old j)
+
+-- `new` has that entry more; a keeper that isn't exact may leave it
+abbrev pub MayPut : (exact : Bool) (old : Entries) (i : Instance ℕ) (v : Value ℕ) (reads : List (Location ℕ)) (uses : List (Instance ℕ)) (new : Entries) → Type 0
+MayPut exact old i v reads uses new = ((exact ≡ false) × KeepsAll old new) ⊎ Puts exact old i v reads uses new
+
+-- the instances are all kept
+abbrev pub AreKept : Entries → List (Instance ℕ) → Type 0
+AreKept entries uses = (u : Instance ℕ) → Contains uses u → IsSome (entries u)
+
+-- a closure may give the answer for the location
+abbrev pub Answers : (post : Loc → Bool → Type 0) → Location ℕ → Bool → Type 0
+Answers post l b = (x : Loc) × (loc_view x ≡ l) × post x b
+
+-- an entry of `new` is one of `old`, and each location that it stands for has the answer `false`
+abbrev pub LeavesUntouched : (says : Location ℕ → Bool → Type 0) (old new : Entries) → Type 0
+LeavesUntouched says old new = (i : Instance ℕ) (k : Kept) → new i ≡ Some k → (old i ≡ Some k) × ((l : Location ℕ) → k.covers l ≡ true → says l false)
+
+-- an entry of `old` is one of `new`, or stands for a location with the answer `true`
+abbrev pub LosesTouched : (says : Location ℕ → Bool → Type 0) (old new : Entries) → Type 0
+LosesTouched says old new = (i : Instance ℕ) (k : Kept) → old i ≡ Some k → (new i ≡ Some k) ⊎ ((l : Location ℕ) × (k.covers l ≡ true) × says l true)

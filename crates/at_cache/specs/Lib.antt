@@ -1,0 +1,4 @@
+pub mod Kept
+pub mod UntilEdit
+pub mod Recorded
+pub mod Flushing

@@ -1,0 +1,41 @@
+//! The keeper that keeps nothing.
+
+ghost use Rattle.std.specs.Prelude.{None, false};
+
+use crate::keeper::Keeper;
+use at_body::{Inst, Value};
+use at_store::Loc;
+use std::alloc::{AllocError, Global};
+
+/// Keeps nothing.
+#[derive(Drop, Debug)]
+pub struct KeepNone {}
+
+impl KeepNone {
+    /// A keeper that keeps nothing.
+    pub fn new(_alloc: Global) -> KeepNone {
+        KeepNone {}
+    }
+}
+
+impl Keeper for KeepNone {
+    ghost contents = { λ _ _. None };
+
+    ghost exact = { false };
+
+    fn get(&self, _inst: &Inst) -> Option<&Value> {
+        None
+    }
+
+    fn put(
+        &mut self,
+        _inst: Inst,
+        _value: Value,
+        _reads: &[Loc],
+        _uses: &[Inst],
+    ) -> Result<(), AllocError> {
+        Ok(())
+    }
+
+    fn flush<F: Fn(Loc) -> bool>(&mut self, _touched: &F) {}
+}

@@ -1,0 +1,53 @@
+//! The keeper that forgets all at an edit.
+
+ghost use Rattle.std.specs.Prelude.{None, false};
+ghost use Rattle.at_cache.specs.Kept.{KeepsAll};
+ghost use Rattle.at_cache.specs.UntilEdit.{values_kept};
+
+use crate::keeper::Keeper;
+use at_body::{Inst, Value};
+use at_store::Loc;
+use indexmap::IndexMap;
+use std::alloc::{AllocError, Global};
+
+/// Keeps each value until the next edit: an entry stands for every location.
+#[derive(Drop)]
+pub struct KeepUntilEdit {
+    values: IndexMap<Inst, Value>,
+}
+
+impl KeepUntilEdit {
+    /// A keeper that keeps nothing yet.
+    pub fn new(alloc: Global) -> KeepUntilEdit
+        ensures { KeepsAll (λ _. None) (values_kept result.values.entries) }
+    {
+        KeepUntilEdit {
+            values: IndexMap::new(alloc),
+        }
+    }
+}
+
+impl Keeper for KeepUntilEdit {
+    ghost contents = { λ k. values_kept k.values.entries };
+
+    ghost exact = { false };
+
+    fn get(&self, inst: &Inst) -> Option<&Value> {
+        self.values.get(inst)
+    }
+
+    fn put(
+        &mut self,
+        inst: Inst,
+        value: Value,
+        _reads: &[Loc],
+        _uses: &[Inst],
+    ) -> Result<(), AllocError> {
+        self.values.insert(inst, value)?;
+        Ok(())
+    }
+
+    fn flush<F: Fn(Loc) -> bool>(&mut self, _touched: &F) {
+        self.values.clear();
+    }
+}

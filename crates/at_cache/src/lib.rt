@@ -1,0 +1,14 @@
+//! Keepers: what stands ready of the values of lazy attributes, each with the locations that it rests on.
+#![tactic(auto)]
+
+mod keep_none;
+mod keep_recorded;
+mod keep_until_edit;
+mod keeper;
+#[cfg(test)]
+mod tests;
+
+pub use keep_none::KeepNone;
+pub use keep_recorded::KeepRecorded;
+pub use keep_until_edit::KeepUntilEdit;
+pub use keeper::Keeper;

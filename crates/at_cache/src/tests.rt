@@ -1,0 +1,237 @@
+use crate::keep_none::KeepNone;
+use crate::keep_recorded::KeepRecorded;
+use crate::keep_until_edit::KeepUntilEdit;
+use crate::keeper::Keeper;
+use at_body::{Arguments, Inst, Value};
+use at_rules::AttrId;
+use at_store::{Loc, Node};
+use indexmap::IndexMap;
+use std::alloc::{AllocError, Global};
+use std::test::Fail;
+
+/// Keeps nothing, and finds no memory for it.
+#[derive(Drop)]
+pub struct KeepRefused {}
+
+impl Keeper for KeepRefused {
+    ghost use Rattle.std.specs.Prelude.{None, false};
+
+    ghost contents = { λ _ _. None };
+
+    ghost exact = { false };
+
+    fn get(&self, _inst: &Inst) -> Option<&Value> {
+        None
+    }
+
+    fn put(
+        &mut self,
+        _inst: Inst,
+        _value: Value,
+        _reads: &[Loc],
+        _uses: &[Inst],
+    ) -> Result<(), AllocError> {
+        Err(AllocError)
+    }
+
+    fn flush<F: Fn(Loc) -> bool>(&mut self, _touched: &F) {}
+}
+
+/// Keeps with each entry a flat list of all its locations, each once.
+#[derive(Drop)]
+struct Flat {
+    alloc: Global,
+    entries: IndexMap<Inst, Vec<Loc>>,
+}
+
+impl Flat {
+    fn put(&mut self, inst: Inst, reads: &[Loc], uses: &[Inst]) -> Result<(), AllocError> {
+        let mut locations = Vec::new(self.alloc);
+        add(&mut locations, reads)?;
+        for used in uses {
+            if let Some(more) = self.entries.get(used) {
+                add(&mut locations, more.as_slice())?;
+            }
+        }
+        self.entries.insert(inst, locations)?;
+        Ok(())
+    }
+
+    fn flush(&mut self, touched: Loc) {
+        self.entries
+            .retain(|_inst, locations| !locations.contains(&touched));
+    }
+
+    fn stored(&self) -> usize {
+        let mut count: usize = 0;
+        for locations in self.entries.values() {
+            count = count.saturating_add(locations.len());
+        }
+        count
+    }
+}
+
+/// Adds those that aren't there yet.
+fn add(locations: &mut Vec<Loc>, more: &[Loc]) -> Result<(), AllocError> {
+    for location in more {
+        if !locations.contains(location) {
+            locations.push(*location)?;
+        }
+    }
+    Ok(())
+}
+
+/// The first attribute of that node.
+fn inst(alloc: Global, node: usize) -> Inst {
+    Inst::new(Node::new(node), AttrId::new(0), Arguments::new(alloc))
+}
+
+/// A location of its own for each node.
+fn own(node: usize) -> Loc {
+    Loc::Tok(Node::new(node), 0)
+}
+
+/// The instances of these nodes.
+fn insts(alloc: Global, nodes: &[usize]) -> Result<Vec<Inst>, AllocError> {
+    let mut all = Vec::new(alloc);
+    for node in nodes {
+        all.push(inst(alloc, *node))?;
+    }
+    Ok(all)
+}
+
+/// Puts an entry for an instance that isn't kept, which uses entries that are.
+fn put_new<K: Keeper>(
+    keeper: &mut K,
+    inst: Inst,
+    value: Value,
+    reads: &[Loc],
+    uses: &[Inst],
+) -> Result<(), AllocError> {
+    if keeper.get(&inst).is_some() {
+        return Ok(());
+    }
+    for used in uses {
+        let Some(_) = keeper.get(used) else {
+            return Ok(());
+        };
+    }
+    keeper.put(inst, value, reads, uses)
+}
+
+/// A keeper with an entry for each node in order, which reads its own location and uses those of the listed nodes.
+fn recorded(alloc: Global, graph: &[&[usize]]) -> Result<KeepRecorded, AllocError> {
+    let mut keeper = KeepRecorded::new(alloc);
+    for (node, uses) in graph.iter().enumerate() {
+        let uses = insts(alloc, uses)?;
+        put_new(
+            &mut keeper,
+            inst(alloc, node),
+            Value::Bool(true),
+            &[own(node)],
+            uses.as_slice(),
+        )?;
+    }
+    Ok(keeper)
+}
+
+/// The same, kept flat.
+fn copied(alloc: Global, graph: &[&[usize]]) -> Result<Flat, AllocError> {
+    let mut keeper = Flat {
+        alloc,
+        entries: IndexMap::new(alloc),
+    };
+    for (node, uses) in graph.iter().enumerate() {
+        let uses = insts(alloc, uses)?;
+        keeper.put(inst(alloc, node), &[own(node)], uses.as_slice())?;
+    }
+    Ok(keeper)
+}
+
+/// How many entries a flush of that node's location leaves, where it leaves the same of both.
+fn left_of(alloc: Global, graph: &[&[usize]], touched: usize) -> Result<Option<usize>, AllocError> {
+    let mut linked = recorded(alloc, graph)?;
+    let mut flat = copied(alloc, graph)?;
+    linked.flush(&|location: Loc| location == own(touched));
+    flat.flush(own(touched));
+    let mut left: usize = 0;
+    for node in 0..graph.len() {
+        let key = inst(alloc, node);
+        let is_kept = linked.get(&key).is_some();
+        if is_kept != flat.entries.contains_key(&key) {
+            return Ok(None);
+        }
+        left = left.saturating_add(usize::from(is_kept));
+    }
+    Ok(Some(left))
+}
+
+#[test]
+fn flushes_a_chain(rt: HostRuntime) -> Result<(), Fail> {
+    let chain: [&[usize]; 3] = [&[], &[0], &[1]];
+    assert_eq!(rt; recorded(rt.alloc(), &chain)?.stored(), 3);
+    assert_eq!(rt; copied(rt.alloc(), &chain)?.stored(), 6);
+    for (touched, left) in [(0, 0), (1, 1), (2, 2)] {
+        assert_eq!(rt; left_of(rt.alloc(), &chain, touched)?, Some(left));
+    }
+    Ok(())
+}
+
+#[test]
+fn flushes_a_diamond(rt: HostRuntime) -> Result<(), Fail> {
+    let diamond: [&[usize]; 4] = [&[], &[0], &[0], &[1, 2]];
+    assert_eq!(rt; recorded(rt.alloc(), &diamond)?.stored(), 4);
+    assert_eq!(rt; copied(rt.alloc(), &diamond)?.stored(), 9);
+    for (touched, left) in [(0, 0), (1, 2), (2, 2), (3, 3)] {
+        assert_eq!(rt; left_of(rt.alloc(), &diamond, touched)?, Some(left));
+    }
+    Ok(())
+}
+
+#[test]
+fn links_follow_their_entries(rt: HostRuntime) -> Result<(), Fail> {
+    let alloc = rt.alloc();
+    let pairs: [&[usize]; 4] = [&[], &[0], &[], &[2]];
+    let mut keeper = recorded(alloc, &pairs)?;
+    keeper.flush(&|location: Loc| location == own(0));
+    assert_eq!(rt; keeper.stored(), 2);
+    let used = insts(alloc, &[3])?;
+    put_new(
+        &mut keeper,
+        inst(alloc, 4),
+        Value::Int(7),
+        &[],
+        used.as_slice(),
+    )?;
+    assert_eq!(rt; keeper.stored(), 2);
+    keeper.flush(&|location: Loc| location == own(0));
+    assert!(rt; keeper.get(&inst(alloc, 4)) == Some(&Value::Int(7)));
+    keeper.flush(&|location: Loc| location == own(2));
+    assert!(rt; keeper.get(&inst(alloc, 4)).is_none());
+    assert_eq!(rt; keeper.stored(), 0);
+    Ok(())
+}
+
+#[test]
+fn keeps_until_an_edit(rt: HostRuntime) -> Result<(), Fail> {
+    let alloc = rt.alloc();
+    let mut keeper = KeepUntilEdit::new(alloc);
+    put_new(&mut keeper, inst(alloc, 1), Value::Int(5), &[own(1)], &[])?;
+    assert!(rt; keeper.get(&inst(alloc, 1)) == Some(&Value::Int(5)));
+    assert!(rt; keeper.get(&inst(alloc, 2)).is_none());
+    keeper.flush(&|_location: Loc| false);
+    assert!(rt; keeper.get(&inst(alloc, 1)).is_none());
+    Ok(())
+}
+
+#[test]
+fn keeps_nothing(rt: HostRuntime) -> Result<(), Fail> {
+    let alloc = rt.alloc();
+    let mut keeper = KeepNone::new(alloc);
+    put_new(&mut keeper, inst(alloc, 1), Value::Int(5), &[own(1)], &[])?;
+    assert!(rt; keeper.get(&inst(alloc, 1)).is_none());
+    let mut refused = KeepRefused {};
+    assert!(rt; put_new(&mut refused, inst(alloc, 1), Value::Int(5), &[own(1)], &[]).is_err());
+    assert!(rt; refused.get(&inst(alloc, 1)).is_none());
+    Ok(())
+}

@@ -1,0 +1,113 @@
+-- Look-ups among entries, and chains of distinct instances.
+use Rattle.std.proofs.Common.{◌≡◌, ℕ, suc, length, Bool, true, false, List, [], ◌∷◌, ◌++◌, Option, Some, None, ◌⊎◌, inl, inr, refl, sym, ap, ◌∙◌, subst, if◌then◌else◌, true≢false, is_some}
+use Rattle.std.specs.Bool.{MatchBool}
+use Rattle.std.specs.Map.{keys_of, lookup}
+use Rattle.indexmap.specs.IndexMap.{insert_entry}
+use Rattle.at_model.specs.Run.{Instance}
+use Rattle.at_model.specs.Meaning.{Among, Distinct}
+use Rattle.at_body.specs.Same.{same_instance}
+use Rattle.at_demand.proofs.Sameness.{same_true, same_refl, apart}
+
+cases : (b : Bool) → (b ≡ true) ⊎ (b ≡ false)
+cases true = inl refl
+cases false = inr refl
+
+module _ {X : Type 0} where
+  -- an instance that isn't among the keys has gone entry
+  pub absent : (es : List (Instance ℕ × X)) (i : Instance ℕ) → (Among i (keys_of es) → ⊥) → lookup (same_instance i) es ≡ None
+  absent [] i gone = refl
+  absent (e ∷ es) i gone = rw (apart i e.0 (λ h. gone (inl h))) (absent es i (λ h. gone (inr h)))
+
+  -- and one with gone entry isn't among them
+  pub no_key : (es : List (Instance ℕ × X)) (i : Instance ℕ) → lookup (same_instance i) es ≡ None → Among i (keys_of es) → ⊥
+  no_key [] i none h = h
+  no_key (e ∷ es) i none h = by (same_instance i e.0) refl none h (no_key es i)
+    where
+      by : (b : Bool) → same_instance i e.0 ≡ b → (if b then Some e.1 else lookup (same_instance i) es) ≡ None → Among i (e.0 ∷ keys_of es) → (lookup (same_instance i) es ≡ None → Among i (keys_of es) → ⊥) → ⊥
+      by true s f h more = absurd cc
+      by false s f (inl h) more = true≢false (sym (ap (same_instance i) (sym h) ∙ same_refl i) ∙ s)
+      by false s f (inr h) more = more f h
+
+  -- a new entry goes last
+  pub goes_last : (es : List (Instance ℕ × X)) (i : Instance ℕ) (x : X) → (Among i (keys_of es) → ⊥) → insert_entry same_instance es i x ≡ es ++ (i, x) ∷ []
+  goes_last [] i x gone = refl
+  goes_last (e ∷ es) i x gone = rw (apart i e.0 (λ h. gone (inl h))) (ap (λ fs. e ∷ fs) (goes_last es i x (λ h. gone (inr h))))
+
+  -- what is found once an entry goes last
+  pub lookup_push : (es : List (Instance ℕ × X)) (i j : Instance ℕ) (x y : X) → lookup (same_instance j) (es ++ (i, x) ∷ []) ≡ Some y → (lookup (same_instance j) es ≡ Some y) ⊎ ((j ≡ i) × (x ≡ y))
+  lookup_push [] i j x y f = by (same_instance j i) refl f
+    where
+      by : (b : Bool) → same_instance j i ≡ b → (if b then Some x else None) ≡ Some y → (◌≡◌ {A = Option X} None (Some y)) ⊎ ((j ≡ i) × (x ≡ y))
+      by true s f = inr (same_true j i s, cc)
+      by false s f = absurd cc
+  lookup_push (e ∷ es) i j x y f = by (same_instance j e.0) f (lookup_push es i j x y)
+    where
+      by : (b : Bool) → (if b then Some e.1 else lookup (same_instance j) (es ++ (i, x) ∷ [])) ≡ Some y → (lookup (same_instance j) (es ++ (i, x) ∷ []) ≡ Some y → (lookup (same_instance j) es ≡ Some y) ⊎ ((j ≡ i) × (x ≡ y))) → ((if b then Some e.1 else lookup (same_instance j) es) ≡ Some y) ⊎ ((j ≡ i) × (x ≡ y))
+      by true f more = inl f
+      by false f more = more f
+
+  -- another instance is found as before
+  pub lookup_other : (es : List (Instance ℕ × X)) (i j : Instance ℕ) (x : X) → (j ≡ i → ⊥) → lookup (same_instance j) es ≡ None → lookup (same_instance j) (es ++ (i, x) ∷ []) ≡ None
+  lookup_other [] i j x other f = rw (apart j i other) refl
+  lookup_other (e ∷ es) i j x other f = by (same_instance j e.0) f (lookup_other es i j x other)
+    where
+      by : (b : Bool) → (if b then Some e.1 else lookup (same_instance j) es) ≡ None → (lookup (same_instance j) es ≡ None → lookup (same_instance j) (es ++ (i, x) ∷ []) ≡ None) → (if b then Some e.1 else lookup (same_instance j) (es ++ (i, x) ∷ [])) ≡ None
+      by true f more = absurd cc
+      by false f more = more f
+
+  pub length_push : (es : List (Instance ℕ × X)) (e : Instance ℕ × X) → length (es ++ e ∷ []) ≡ suc (length es)
+  length_push [] e = refl
+  length_push (d ∷ es) e = ap suc (length_push es e)
+
+  pub keys_push : (es : List (Instance ℕ × X)) (i : Instance ℕ) (x : X) → keys_of (es ++ (i, x) ∷ []) ≡ keys_of es ++ i ∷ []
+  keys_push [] i x = refl
+  keys_push (e ∷ es) i x = ap (λ ks. e.0 ∷ ks) (keys_push es i x)
+
+  key_there : (es : List (Instance ℕ × X)) (j : Instance ℕ) → is_some (lookup (same_instance j) es) ≡ true → Among j (keys_of es)
+  key_there [] j h = absurd (true≢false (sym h))
+  key_there (e ∷ es) j h = by (same_instance j e.0) refl h (key_there es j)
+    where
+      by : (b : Bool) → same_instance j e.0 ≡ b → is_some (if b then Some e.1 else lookup (same_instance j) es) ≡ true → (is_some (lookup (same_instance j) es) ≡ true → Among j (keys_of es)) → Among j (e.0 ∷ keys_of es)
+      by true s f more = inl (same_true j e.0 s)
+      by false s f more = inr (more f)
+
+  none_of : (o : Option X) → false ≡ is_some o → o ≡ None
+  none_of None e = refl
+  none_of (Some x) e = absurd (true≢false (sym e))
+
+module _ {A : Type 0} where
+  pub among_last : (as' : List A) (a : A) → Among a (as' ++ a ∷ [])
+  among_last [] a = inl refl
+  among_last (b ∷ bs) a = inr (among_last bs a)
+
+  pub among_front : (as' : List A) (a b : A) → Among a as' → Among a (as' ++ b ∷ [])
+  among_front [] a b h = absurd h
+  among_front (c ∷ cs) a b (inl e) = inl e
+  among_front (c ∷ cs) a b (inr h) = inr (among_front cs a b h)
+
+  pub among_push : (as' : List A) (a b : A) → Among a (as' ++ b ∷ []) → Among a as' ⊎ (a ≡ b)
+  among_push [] a b (inl e) = inr e
+  among_push [] a b (inr h) = absurd h
+  among_push (c ∷ cs) a b (inl e) = inl (inl e)
+  among_push (c ∷ cs) a b (inr h) = elim (among_push cs a b h) [ inl g ↦ inl (inr g) | inr e ↦ inr e ]
+
+  pub distinct_push : (as' : List A) (a : A) → Distinct as' → (Among a as' → ⊥) → Distinct (as' ++ a ∷ [])
+  distinct_push [] a d gone = (λ h. h, tt)
+  distinct_push (b ∷ bs) a d gone = (λ h. elim (among_push bs b a h) [ inl g ↦ d.0 g | inr e ↦ gone (inl (sym e)) ], distinct_push bs a d.1 (λ h. gone (inr h)))
+
+  pub distinct_pop : (as' : List A) (a : A) → Distinct (as' ++ a ∷ []) → Distinct as' × (Among a as' → ⊥)
+  distinct_pop [] a d = (tt, λ h. h)
+  distinct_pop (b ∷ bs) a d =
+      let r = distinct_pop bs a d.1 in
+      ((λ h. d.0 (among_front bs b a h), r.0), λ h. elim h [ inl e ↦ d.0 (subst (λ x. Among x (bs ++ a ∷ [])) e (among_last bs a)) | inr g ↦ r.1 g ])
+
+-- whether an instance is the last one, or one before it
+pub is_last : (ks : List (Instance ℕ)) (i j : Instance ℕ) → same_instance i j ≡ true → Among j (ks ++ i ∷ [])
+is_last ks i j e = subst (λ x. Among x (ks ++ i ∷ [])) (same_true i j e) (among_last ks i)
+
+pub is_before : {X : Type 0} (b : Bool) (es : List (Instance ℕ × X)) (i j : Instance ℕ) → b ≡ is_some (lookup (same_instance j) es) → same_instance i j ≡ false → MatchBool b (Among j (keys_of es ++ i ∷ [])) (Among j (keys_of es ++ i ∷ []) → ⊥)
+is_before true es i j e s = among_front (keys_of es) j i (key_there es j (sym e))
+is_before false es i j e s = λ h. elim (among_push (keys_of es) j i h) [
+  | inl a ↦ no_key es j (none_of (lookup (same_instance j) es) e) a
+  | inr f ↦ true≢false (sym (ap (same_instance i) f ∙ same_refl i) ∙ s)
+]

@@ -1,0 +1,199 @@
+-- A question stays orderly while it goes on.
+use Rattle.std.proofs.Common.{◌≡◌, ◌⊎◌, ℕ, suc, ◌+◌, ◌*◌, ◌^◌, ◌<◌, Bool, true, false, if◌then◌else◌, OnOk, OnErr, Ok, Err, List, [], ◌∷◌, ◌++◌, length, Option, Some, None, Contains, inl, inr, refl, sym, ap, ◌∙◌, subst, arith}
+use Rattle.std.specs.Prelude.{IsSome, Result}
+use Rattle.std.proofs.lemmas.List.Elements.{Contains-append_cases}
+use Rattle.std.specs.Option.{option_map}
+use Rattle.std.specs.Map.{keys_of, lookup}
+use Rattle.indexmap.specs.IndexMap.{insert_entry}
+use Rattle.at_model.specs.Run.{Value, Instance, Location}
+use Rattle.at_model.specs.Meaning.{Among, Distinct}
+use Rattle.at_body.specs.Same.{same_instance}
+use Rattle.at_body.specs.Values.{value_view}
+use Rattle.at_cache.specs.Kept.{Kept, Entries, AreKept, KeepsAll, MayPut}
+use Rattle.at_demand.specs.declared.question.Find.{Find}
+use Rattle.at_demand.specs.declared.question.Frame.{Frame}
+use Rattle.at_demand.specs.declared.question.Question.{Question}
+use Rattle.at_demand.specs.Known.{kept_values, found_values, known_in, MayAdd, WaitingKept, FoundKept}
+use Rattle.at_demand.specs.UnderWay.{chain_of, IsOrderly, IsOrderlyIn, GoesOn}
+use Rattle.at_demand.proofs.Sameness.{same_true}
+use Rattle.at_demand.proofs.Keys.{lookup_push, lookup_other, goes_last, no_key, keys_push, length_push, among_last, among_front, among_push, distinct_push, distinct_pop}
+
+pub some_value : (o : Option Kept) (v : Value ℕ) → option_map (λ (k : Kept). k.value) o ≡ Some v → IsSome o
+some_value None v e = absurd cc
+some_value (Some k) v e = refl
+
+pub no_value : (o : Option Kept) → ◌≡◌ {A = Option (Value ℕ)} (option_map (λ (k : Kept). k.value) o) None → o ≡ None
+no_value None e = refl
+no_value (Some k) e = absurd cc
+
+none_kept : (entries : Entries) → AreKept entries []
+none_kept entries u h = let b : h.0 < 0 = h.1 in absurd (omega arith)
+
+module _ (old new : Entries) (i : Instance ℕ) (v : Value ℕ) (adds : MayAdd old new i v) where
+  kept_still : (ks : List (Instance ℕ)) → AreKept old ks → AreKept new ks
+  kept_still ks all u h = elim (adds u) [ inl e ↦ subst IsSome (sym e) (all u h) | inr p ↦ some_value (new u) v p.1 ]
+
+  waiting_still : (ws : List (Instance ℕ × Frame)) → WaitingKept old ws → WaitingKept new ws
+  waiting_still [] all = tt
+  waiting_still (w ∷ ws) all = (kept_still w.1.demanded.kept.items all.0, waiting_still ws all.1)
+
+  open_still : (j : Instance ℕ) → (i ≡ j → ⊥) → old j ≡ None → new j ≡ None
+  open_still j other none = elim (adds j) [ inl e ↦ e ∙ none | inr p ↦ absurd (other p.0) ]
+
+waiting_push : (entries : Entries) (ws : List (Instance ℕ × Frame)) (w : Instance ℕ × Frame) → WaitingKept entries ws → AreKept entries w.1.demanded.kept.items → WaitingKept entries (ws ++ w ∷ [])
+waiting_push entries [] w all one = (one, tt)
+waiting_push entries (x ∷ ws) w all one = (all.0, waiting_push entries ws w all.1 one)
+
+waiting_pop : (entries : Entries) (ws : List (Instance ℕ × Frame)) (w : Instance ℕ × Frame) → WaitingKept entries (ws ++ w ∷ []) → WaitingKept entries ws × AreKept entries w.1.demanded.kept.items
+waiting_pop entries [] w all = (tt, all.0)
+waiting_pop entries (x ∷ ws) w all = let r = waiting_pop entries ws w all.1 in ((all.0, r.0), r.1)
+
+module _ (entries : Entries) (ws : List (Instance ℕ × Frame)) (fs : List (Instance ℕ × Find)) (i : Instance ℕ) (ks : List (Instance ℕ)) (q : IsOrderly entries ws fs i ks) where
+  last_apart : Distinct (keys_of ws) × (Among i (keys_of ws) → ⊥)
+  last_apart = distinct_pop (keys_of ws) i q.distinct
+
+  pub last_open : lookup (same_instance i) fs ≡ None
+  last_open = q.open_ones i (among_last (keys_of ws) i)
+
+  pub last_unkept : entries i ≡ None
+  last_unkept = q.unkept i (among_last (keys_of ws) i)
+
+  -- the last one goes behind those that wait
+  pub waits_last : (f : Frame) → insert_entry same_instance ws i f ≡ ws ++ (i, f) ∷ []
+  waits_last f = goes_last ws i f last_apart.1
+
+  -- and behind what was found
+  pub found_last : (d : Find) → insert_entry same_instance fs i d ≡ fs ++ (i, d) ∷ []
+  found_last d = goes_last fs i d (no_key fs i last_open)
+
+  pub descended : (j : Instance ℕ) (f : Frame) → lookup (same_instance j) fs ≡ None → entries j ≡ None → (Among j (chain_of ws i) → ⊥) → AreKept entries f.demanded.kept.items → IsOrderly entries (ws ++ (i, f) ∷ []) fs j []
+  descended j f found kept fresh last = record {
+    distinct = subst (λ ks. Distinct (ks ++ j ∷ [])) (sym (keys_push ws i f)) (distinct_push (chain_of ws i) j q.distinct fresh);
+    open_ones = λ k h. elim (before k h) [ inl a ↦ q.open_ones k a | inr e ↦ subst (λ x. lookup (same_instance x) fs ≡ None) (sym e) found ];
+    unkept = λ k h. elim (before k h) [ inl a ↦ q.unkept k a | inr e ↦ subst (λ x. entries x ≡ None) (sym e) kept ];
+    waiting_kept = waiting_push entries ws (i, f) q.waiting_kept last;
+    found_kept = q.found_kept;
+    last_kept = none_kept entries;
+  }
+    where
+      before : (k : Instance ℕ) → Among k (chain_of (ws ++ (i, f) ∷ []) j) → Among k (chain_of ws i) ⊎ (k ≡ j)
+      before k h = among_push (chain_of ws i) k j (subst (λ ks. Among k (ks ++ j ∷ [])) (keys_push ws i f) h)
+
+  module _ (new : Entries) (v : Value ℕ) (adds : MayAdd entries new i v) (b : Instance ℕ) (f : Frame) (rest : List (Instance ℕ × Frame)) (is : ws ≡ rest ++ (b, f) ∷ []) (d : Find) (same : AreKept entries d.demanded.kept.items) where
+    keys : keys_of ws ≡ chain_of rest b
+    keys = ap keys_of is ∙ keys_push rest b f
+
+    inside : (k : Instance ℕ) → Among k (chain_of rest b) → Among k (keys_of ws)
+    inside k h = subst (λ ks. Among k ks) (sym keys) h
+
+    apart_from : (k : Instance ℕ) → Among k (chain_of rest b) → k ≡ i → ⊥
+    apart_from k h e = last_apart.1 (subst (λ x. Among x (keys_of ws)) e (inside k h))
+
+    waiting : WaitingKept entries rest × AreKept entries f.demanded.kept.items
+    waiting = waiting_pop entries rest (b, f) (subst (WaitingKept entries) is q.waiting_kept)
+
+    finds : FoundKept new (fs ++ (i, d) ∷ [])
+    finds k g e = kept_still entries new i v adds g.demanded.kept.items (elim (lookup_push fs i k d g e) [
+      | inl h ↦ q.found_kept k g h
+      | inr h ↦ subst (λ (x : Find). AreKept entries x.demanded.kept.items) h.1 same
+    ])
+
+    pub settled : IsOrderly new rest (fs ++ (i, d) ∷ []) b f.demanded.kept.items
+    settled = record {
+      distinct = subst Distinct keys last_apart.0;
+      open_ones = λ k h. lookup_other fs i k d (apart_from k h) (q.open_ones k (among_front (keys_of ws) k i (inside k h)));
+      unkept = λ k h. open_still entries new i v adds k (λ e. apart_from k h (sym e)) (q.unkept k (among_front (keys_of ws) k i (inside k h)));
+      waiting_kept = waiting_still entries new i v adds rest waiting.0;
+      found_kept = finds;
+      last_kept = kept_still entries new i v adds f.demanded.kept.items waiting.1;
+    }
+
+-- what is kept of one list and of another is kept of both
+pub kept_append : (entries : Entries) (ks ls : List (Instance ℕ)) → AreKept entries ks → AreKept entries ls → AreKept entries (ks ++ ls)
+kept_append entries ks ls all more u h = elim (Contains-append_cases ks ls u h) [ inl a ↦ all u a | inr b ↦ more u b ]
+
+pub added_kept : {E : Type 0} (entries : Entries) (r : Result (Unit {0}) E) (ks ls new : List (Instance ℕ)) → OnOk r (new ≡ ks ++ ls) → AreKept entries ks → AreKept entries ls → OnOk r (AreKept entries new)
+added_kept entries (Ok u) ks ls new e all more = subst (AreKept entries) (sym e) (kept_append entries ks ls all more)
+added_kept entries (Err x) ks ls new e all more = tt
+
+moved : (entries : Entries) (ws ws' : List (Instance ℕ × Frame)) (fs fs' : List (Instance ℕ × Find)) (i i' : Instance ℕ) (ks ks' : List (Instance ℕ)) → IsOrderly entries ws fs i ks → ws ≡ ws' → fs ≡ fs' → i ≡ i' → ks ≡ ks' → IsOrderly entries ws' fs' i' ks'
+moved entries ws ws' fs fs' i i' ks ks' q a b c d =
+    subst (λ x. IsOrderly entries ws' fs' i' x) d (subst (λ x. IsOrderly entries ws' fs' x ks) c (subst (λ x. IsOrderly entries ws' x i ks) b (subst (λ x. IsOrderly entries x fs i ks) a q)))
+
+-- no entry is there
+pub none_there : {X : Type 0} (es : List X) → (0 < length es → ⊥) → es ≡ []
+none_there [] h = refl
+none_there (e ∷ es) h = absurd (h (omega arith))
+
+-- a question as it begins
+pub begun : (entries : Entries) (ws : List (Instance ℕ × Frame)) (fs : List (Instance ℕ × Find)) (i asked : Instance ℕ) (ks : List (Instance ℕ)) → ws ≡ [] → fs ≡ [] → i ≡ asked → ks ≡ [] → entries asked ≡ None → IsOrderly entries ws fs i ks
+begun entries ws fs i asked ks alone nothing same fresh none = moved entries [] ws [] fs asked i [] ks (record {
+  distinct = (λ h. h, tt);
+  open_ones = λ j h. refl;
+  unkept = λ j h. elim h [ inl e ↦ subst (λ x. entries x ≡ None) (sym e) none | inr z ↦ absurd z ];
+  waiting_kept = tt;
+  found_kept = λ j f e. absurd (nothing_found f e);
+  last_kept = none_kept entries;
+}) (sym alone) (sym nothing) (sym same) (sym fresh)
+  where
+    nothing_found : (f : Find) → ◌≡◌ {A = Option Find} None (Some f) → ⊥
+    nothing_found f e = absurd cc
+
+further : (m n m' n' : ℕ) → m' ≡ m → n' ≡ suc n → 2 * m + n < 2 * m' + n'
+further m n m' n' a b = omega (arith, a, b)
+
+further_found : (m n m' n' : ℕ) → m' ≡ suc m → n ≡ suc n' → 2 * m + n < 2 * m' + n'
+further_found m n m' n' a b = omega (arith, a, b)
+
+few : (m n : ℕ) → m < 2 ^ 64 → n < 2 ^ 64 → 2 * m + n < 2 ^ 66
+few m n a b = omega (arith, a, b)
+
+pub deepens : (entries : Entries) (old new : Question) (j : Instance ℕ) → IsOrderlyIn entries old → lookup (same_instance j) old.found.entries ≡ None → entries j ≡ None → (Among j (chain_of old.waiting.entries old.inst) → ⊥) →
+    new.waiting.entries ≡ insert_entry same_instance old.waiting.entries old.inst old.frame → new.found.entries ≡ old.found.entries → new.inst ≡ j → new.frame.demanded.kept.items ≡ [] →
+    length new.waiting.entries < 2 ^ 64 → length new.found.entries < 2 ^ 64 → GoesOn entries old new
+deepens entries old new j q found kept fresh waiting same last none a b =
+    let ws = old.waiting.entries in
+    let fs = old.found.entries in
+    let goes = waiting ∙ waits_last entries ws fs old.inst _ q old.frame in
+    record {
+      orderly = moved entries _ _ _ _ _ _ _ _ (descended entries ws fs old.inst _ q j old.frame found kept fresh q.last_kept) (sym goes) (sym same) (sym last) (sym none);
+      further = further (length fs) (length ws) (length new.found.entries) (length new.waiting.entries) (ap length same) (ap length goes ∙ length_push ws (old.inst, old.frame));
+      few = few (length new.found.entries) (length new.waiting.entries) b a;
+    }
+
+pub settles : (entries more : Entries) (old new : Question) (v : Value ℕ) → IsOrderlyIn entries old → MayAdd entries more old.inst v → (b : Instance ℕ) (f : Frame) (d : Find) →
+    old.waiting.entries ≡ new.waiting.entries ++ (b, f) ∷ [] → AreKept entries d.demanded.kept.items → new.found.entries ≡ insert_entry same_instance old.found.entries old.inst d → new.inst ≡ b → new.frame ≡ f →
+    length new.waiting.entries < 2 ^ 64 → length new.found.entries < 2 ^ 64 → GoesOn more old new
+settles entries more old new v q adds b f d waiting kept found last same few_wait few_found =
+    let ws = old.waiting.entries in
+    let fs = old.found.entries in
+    let goes = found ∙ found_last entries ws fs old.inst _ q d in
+    record {
+      orderly = moved more _ _ _ _ _ _ _ _ (settled entries ws fs old.inst _ q more v adds b f new.waiting.entries waiting d kept) refl (sym goes) (sym last) (sym (ap (λ (x : Frame). x.demanded.kept.items) same));
+      further = further_found (length fs) (length ws) (length new.found.entries) (length new.waiting.entries) (ap length goes ∙ length_push fs (old.inst, d)) (ap length waiting ∙ length_push new.waiting.entries (b, f));
+      few = few (length new.found.entries) (length new.waiting.entries) few_found few_wait;
+    }
+
+-- what isn't known is neither kept nor found
+pub neither : (entries : Entries) (found : List (Instance ℕ × Find)) (j : Instance ℕ) → known_in entries found j ≡ None → (entries j ≡ None) × (lookup (same_instance j) found ≡ None)
+neither entries found j e = by (entries j) refl e
+  where
+    no_find : (o : Option Find) → ◌≡◌ {A = Option (Value ℕ)} (option_map (λ (f : Find). value_view f.value) o) None → o ≡ None
+    no_find None e = refl
+    no_find (Some f) e = absurd cc
+
+    by : (o : Option Kept) → entries j ≡ o → ◌≡◌ {A = Option (Value ℕ)} (elim (option_map (λ (k : Kept). k.value) o) [ Some v ↦ Some v | None ↦ found_values found j ]) None → (entries j ≡ None) × (lookup (same_instance j) found ≡ None)
+    by None is e = (is, no_find (lookup (same_instance j) found) e)
+    by (Some k) is e = absurd cc
+
+pub may_add : (exact : Bool) (old new : Entries) (i : Instance ℕ) (v : Value ℕ) (reads : List (Location ℕ)) (uses : List (Instance ℕ)) → MayPut exact old i v reads uses new → MayAdd old new i v
+may_add exact old new i v reads uses (inl p) j = inl (p.1 j)
+may_add exact old new i v reads uses (inr p) j = by (same_instance i j) refl (p.adds j)
+  where
+    by : (b : Bool) → same_instance i j ≡ b → new j ≡ (if b then Some p.entry else old j) → (new j ≡ old j) ⊎ ((i ≡ j) × (kept_values new j ≡ Some v))
+    by true s e = inr (same_true i j s, ap (option_map (λ (k : Kept). k.value)) e ∙ ap Some p.value)
+    by false s e = inl e
+
+pub put_adds : {E : Type 0} (exact : Bool) (old new : Entries) (i : Instance ℕ) (v : Value ℕ) (reads : List (Location ℕ)) (uses : List (Instance ℕ)) (r : Result (Unit {0}) E) → OnOk r (MayPut exact old i v reads uses new) → OnErr r (KeepsAll old new) → MayAdd old new i v
+put_adds exact old new i v reads uses (Ok u) puts err = may_add exact old new i v reads uses puts
+put_adds exact old new i v reads uses (Err e) puts err = λ j. inl (err j)

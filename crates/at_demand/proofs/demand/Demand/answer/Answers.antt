@@ -1,0 +1,47 @@
+use Rattle.std.proofs.Common.{◌≡◌, ℕ, List, [], ◌∷◌, ◌++◌, Option, Some, None, refl, sym, ap, ◌∙◌, subst, true≢false}
+use Rattle.at_model.specs.Run.{Contents, Instance, Value}
+use Rattle.at_model.specs.Meaning.{HasValue}
+use Rattle.at_store.specs.Shown.{contents}
+use Rattle.at_body.specs.Values.{value_view}
+use Rattle.at_body.specs.declared.trial.Step.{Step}
+use Rattle.at_body.specs.declared.trial.Step.TheVariants as step
+use Rattle.at_body.specs.declared.value.Value.{Value as ValueCode}
+use Rattle.at_demand.specs.Known.{meaning, MayAdd}
+use Rattle.at_demand.specs.declared.demand.Turn.{Turn}
+use Rattle.at_demand.specs.UnderWay.{HasStepped, IsTurn, IsRightTurn}
+use Rattle.at_demand.proofs.Orderly.{no_value, begun, last_unkept, settles, deepens}
+use Rattle.at_demand.proofs.Truth.{begun_true, right_after, ends, settles_true, deepens_true, closes, fails, right_known}
+use Rattle.at_demand.proofs.demand.Demand.answer.Goals as goal
+
+pub loop-next-init : goal.loop-next-init
+loop-next-init g c =
+    let e = c.in_ok-begun.ensures in
+    let q = c.in_ok-begun.begun.0 in
+    let look = contents c.args.store.now in
+    let entries = g.K.Keeper.contents c.args.self.now.keeper in
+    let asked = e.inst ∙ c.in_ok-copy-2.ensures in
+    record {
+      orderly = begun entries q.waiting.entries q.found.entries q.inst c.args.inst.now q.frame.demanded.kept.items e.alone e.nothing asked e.fresh (no_value (entries c.args.inst.now) (sym c.in_default.ensures));
+      holds = λ right. begun_true c.args.rules.now look c.args.inst.now entries q.waiting.entries q.found.entries q.inst q.frame.trial c.in_ok-begun.begun.1 e.alone e.nothing asked
+          (subst (λ x. HasStepped c.args.rules.now look x q.frame.trial c.in_ok-begun.begun.1) (sym e.inst) e.stepped) right;
+    }
+
+pub returns-in_err-next-clause-right : goal.returns-in_err-next-clause-right
+returns-in_err-next-clause-right g c right = c.turn.ensures.right c.args.inst.now (c.loop-next.invariant.holds right)
+
+pub loop-next-preserved : goal.loop-next-preserved
+loop-next-preserved g c =
+    let entries = g.K.Keeper.contents c.turn.new.self.keeper in
+    let goes = subst (λ (t : Turn). IsTurn entries c.loop-next.question t) c.in-GoesOn.is c.in_ok-next.ensures.turn in
+    record {
+      orderly = goes.orderly;
+      holds = λ right. subst (λ (t : Turn). IsRightTurn c.args.rules.now (contents c.args.store.now) c.args.inst.now entries t) c.in-GoesOn.is (c.in_ok-next.ensures.answers c.args.inst.now (c.loop-next.invariant.holds right));
+    }
+
+pub returns-in-Answers-clause-answers : goal.returns-in-Answers-clause-answers
+returns-in-Answers-clause-answers g c right =
+    let entries = g.K.Keeper.contents c.turn.new.self.keeper in
+    subst (λ (t : Turn). IsRightTurn c.args.rules.now (contents c.args.store.now) c.args.inst.now entries t) c.in-Answers.is (c.in_ok-next.ensures.answers c.args.inst.now (c.loop-next.invariant.holds right))
+
+pub returns-in-Answers-clause-right : goal.returns-in-Answers-clause-right
+returns-in-Answers-clause-right g c right = c.turn.ensures.right c.args.inst.now (c.loop-next.invariant.holds right)

@@ -1,0 +1,15 @@
+use Rattle.std.proofs.Common.{◌-◌, ◌^◌}
+use Rattle.at_model.specs.Meaning.{Right}
+use Rattle.at_store.specs.Shown.{contents}
+use Rattle.at_demand.specs.Known.{meaning, kept_values}
+use Rattle.at_demand.specs.UnderWay.{IsOrderlyIn, IsTrueIn, progress}
+use Rattle.at_demand.proofs.demand.Demand.answer.Given as goal
+
+abbrev pub invariant-loop-next : goal.invariant-loop-next
+invariant-loop-next g l = record {
+  orderly : IsOrderlyIn (g.K.Keeper.contents l.self.keeper) l.question;
+  holds : Right (contents l.store) (meaning l.rules) (kept_values (g.K.Keeper.contents l.initial.self.keeper)) → IsTrueIn l.rules (contents l.store) l.inst (g.K.Keeper.contents l.self.keeper) l.question l.step;
+}
+
+abbrev pub decreases-loop-next : goal.decreases-loop-next
+decreases-loop-next g l = 2 ^ 66 - progress l.question

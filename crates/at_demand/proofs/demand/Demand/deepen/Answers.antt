@@ -1,0 +1,28 @@
+use Rattle.std.proofs.Common.{◌≡◌, ℕ, List, [], ◌∷◌, ◌++◌, Option, Some, None, refl, sym, ap, ◌∙◌, subst, true≢false}
+use Rattle.at_model.specs.Run.{Contents, Instance, Value}
+use Rattle.at_model.specs.Meaning.{HasValue}
+use Rattle.at_store.specs.Shown.{contents}
+use Rattle.at_body.specs.Values.{value_view}
+use Rattle.at_body.specs.declared.trial.Step.{Step}
+use Rattle.at_body.specs.declared.trial.Step.TheVariants as step
+use Rattle.at_body.specs.declared.value.Value.{Value as ValueCode}
+use Rattle.at_demand.specs.Known.{meaning, MayAdd}
+use Rattle.at_demand.proofs.Orderly.{last_unkept, settles, deepens}
+use Rattle.at_demand.proofs.Truth.{right_after, ends, settles_true, deepens_true, closes, fails, right_known}
+use Rattle.at_demand.proofs.demand.Demand.deepen.Goals as goal
+
+pub returns-then-has-clause-answers : goal.returns-then-has-clause-answers
+returns-then-has-clause-answers g c asked h =
+    closes c.args.rules.now (contents c.args.store.now) asked (g.K.Keeper.contents c.args.self.now.keeper) c.args.question c.args.needed c.requires.orderly h c.if-has.ensures
+
+pub returns-clause-turn : goal.returns-clause-turn
+returns-clause-turn g c =
+    let e = c.in_ok-next.ensures in
+    deepens (g.K.Keeper.contents c.args.self.now.keeper) c.args.question c.in_ok-next.next c.args.needed c.requires.orderly c.requires.found c.requires.kept c.if-has.ensures
+    e.waiting e.found e.inst e.fresh e.few e.finds
+
+pub returns-clause-answers : goal.returns-clause-answers
+returns-clause-answers g c asked h =
+    let e = c.in_ok-next.ensures in
+    deepens_true c.args.rules.now (contents c.args.store.now) asked (g.K.Keeper.contents c.args.self.now.keeper) c.args.question c.in_ok-next.next c.args.needed c.in_ok-next.step c.requires.orderly h
+    e.waiting e.found e.inst e.stepped

@@ -1,0 +1,77 @@
+use Rattle.std.proofs.Common.{◌≡◌, ◌<◌, ◌^◌, ℕ, List, [], ◌∷◌, ◌++◌, Option, Some, None, refl, sym, ap, ◌∙◌, subst, true≢false}
+use Rattle.at_model.specs.Run.{Contents, Instance, Value}
+use Rattle.at_model.specs.Meaning.{HasValue}
+use Rattle.at_store.specs.Shown.{contents}
+use Rattle.at_body.specs.Values.{value_view}
+use Rattle.at_body.specs.declared.trial.Step.{Step}
+use Rattle.at_body.specs.declared.trial.Step.TheVariants as step
+use Rattle.at_body.specs.declared.value.Value.{Value as ValueCode}
+use Rattle.at_cache.specs.Kept.{AreKept}
+use Rattle.at_demand.specs.declared.question.Demanded.{Demanded}
+use Rattle.at_demand.specs.declared.question.Question.{Question}
+use Rattle.at_demand.specs.Known.{meaning, MayAdd}
+use Rattle.at_demand.proofs.Orderly.{last_unkept, none_there, settles, deepens}
+use Rattle.at_demand.proofs.Truth.{right_after, ends, settles_true, deepens_true, closes, fails, right_known}
+use Rattle.at_demand.proofs.demand.Demand.settle.Goals as goal
+
+pub keep-requires-clause-absent : goal.keep-requires-clause-absent
+keep-requires-clause-absent g c =
+    let q = c.args.question in
+    last_unkept (g.K.Keeper.contents c.args.self.now.keeper) q.waiting.entries q.found.entries q.inst q.frame.demanded.kept.items c.requires.orderly
+
+pub returns-in_err-keep-clause-right : goal.returns-in_err-keep-clause-right
+returns-in_err-keep-clause-right g c look asked h =
+    let old = g.K.Keeper.contents c.args.self.now.keeper in
+    let new = g.K.Keeper.contents c.keep.new.self.keeper in
+    right_after c.args.rules.now look asked old new c.args.question c.args.value h (subst (λ (v : ValueCode). MayAdd old new c.args.question.inst (value_view v)) c.in_ok-find.ensures.value c.in_err-keep.ensures)
+
+pub returns-in_default-clause-answers : goal.returns-in_default-clause-answers
+returns-in_default-clause-answers g c look asked h =
+    let old = g.K.Keeper.contents c.args.self.now.keeper in
+    let none = none_there c.args.question.waiting.entries (λ less. true≢false (sym (c.in_default.ensures.found.1 less))) in
+    subst (λ (v : ValueCode). HasValue look (meaning c.args.rules.now) asked (value_view v)) (sym c.in_ok-find.ensures.value) (ends c.args.rules.now look asked old old c.args.question c.args.value h none)
+
+pub returns-in_default-clause-right : goal.returns-in_default-clause-right
+returns-in_default-clause-right g c look asked h =
+    let old = g.K.Keeper.contents c.args.self.now.keeper in
+    let new = g.K.Keeper.contents c.keep.new.self.keeper in
+    right_after c.args.rules.now look asked old new c.args.question c.args.value h (subst (λ (v : ValueCode). MayAdd old new c.args.question.inst (value_view v)) c.in_ok-find.ensures.value c.in_ok-keep.ensures)
+
+pub returns-in_err-needed-clause-right : goal.returns-in_err-needed-clause-right
+returns-in_err-needed-clause-right g c look asked h =
+    let old = g.K.Keeper.contents c.args.self.now.keeper in
+    let new = g.K.Keeper.contents c.keep.new.self.keeper in
+    right_after c.args.rules.now look asked old new c.args.question c.args.value h (subst (λ (v : ValueCode). MayAdd old new c.args.question.inst (value_view v)) c.in_ok-find.ensures.value c.in_ok-keep.ensures)
+
+pub returns-in_err-insert-clause-right : goal.returns-in_err-insert-clause-right
+returns-in_err-insert-clause-right g c look asked h =
+    let old = g.K.Keeper.contents c.args.self.now.keeper in
+    let new = g.K.Keeper.contents c.keep.new.self.keeper in
+    right_after c.args.rules.now look asked old new c.args.question c.args.value h (subst (λ (v : ValueCode). MayAdd old new c.args.question.inst (value_view v)) c.in_ok-find.ensures.value c.in_ok-keep.ensures)
+
+pub returns-clause-right : goal.returns-clause-right
+returns-clause-right g c look asked h =
+    let old = g.K.Keeper.contents c.args.self.now.keeper in
+    let new = g.K.Keeper.contents c.keep.new.self.keeper in
+    right_after c.args.rules.now look asked old new c.args.question c.args.value h (subst (λ (v : ValueCode). MayAdd old new c.args.question.inst (value_view v)) c.in_ok-find.ensures.value c.in_ok-keep.ensures)
+
+pub returns-clause-turn : goal.returns-clause-turn
+returns-clause-turn g c =
+    let old = g.K.Keeper.contents c.args.self.now.keeper in
+    let more = g.K.Keeper.contents c.keep.new.self.keeper in
+    let new : Question = record { waiting = c.pop.new.self; found = c.insert.new.self; inst = c.in-Some.below; frame = c.in-Some.frame } in
+    settles old more c.args.question new (value_view c.args.value) c.requires.orderly
+    (subst (λ (v : ValueCode). MayAdd old more c.args.question.inst (value_view v)) c.in_ok-find.ensures.value c.in_ok-keep.ensures)
+    c.in-Some.below c.in-Some.frame c.in_ok-find.find c.in-Some.ensures.entries
+    (subst (λ (x : Demanded). AreKept old x.kept.items) (sym c.in_ok-find.ensures.demanded) c.requires.orderly.last_kept)
+    c.in_ok-insert.ensures.entries refl refl
+    (subst (λ n. n < 2 ^ 64) c.len-2.ensures.len c.len-2.type_inv) (subst (λ n. n < 2 ^ 64) c.len.ensures.len c.len.type_inv)
+
+pub returns-clause-answers : goal.returns-clause-answers
+returns-clause-answers g c look asked h =
+    let old = g.K.Keeper.contents c.args.self.now.keeper in
+    let more = g.K.Keeper.contents c.keep.new.self.keeper in
+    let new : Question = record { waiting = c.pop.new.self; found = c.insert.new.self; inst = c.in-Some.below; frame = c.in-Some.frame } in
+    settles_true c.args.rules.now look asked old more c.args.question c.args.value h new c.in_ok-needed.needed c.in-Some.below c.in-Some.frame c.in_ok-find.find c.requires.orderly
+    (subst (λ (v : ValueCode). MayAdd old more c.args.question.inst (value_view v)) c.in_ok-find.ensures.value c.in_ok-keep.ensures)
+    c.in_ok-find.ensures.value c.in-Some.ensures.entries c.in_ok-insert.ensures.entries refl refl c.in_ok-needed.ensures

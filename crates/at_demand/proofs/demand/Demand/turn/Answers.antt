@@ -1,0 +1,57 @@
+use Rattle.std.proofs.Common.{◌≡◌, ℕ, List, [], ◌∷◌, ◌++◌, Option, Some, None, refl, sym, ap, ◌∙◌, subst, true≢false}
+use Rattle.at_model.specs.Run.{Contents, Instance, Value}
+use Rattle.at_model.specs.Meaning.{HasValue}
+use Rattle.at_store.specs.Shown.{contents}
+use Rattle.at_body.specs.Values.{value_view}
+use Rattle.at_body.specs.declared.trial.Step.{Step}
+use Rattle.at_body.specs.declared.trial.Step.TheVariants as step
+use Rattle.at_body.specs.declared.value.Value.{Value as ValueCode}
+use Rattle.at_demand.specs.Known.{meaning, MayAdd}
+use Rattle.at_demand.proofs.Orderly.{last_unkept, settles, deepens}
+use Rattle.at_demand.specs.UnderWay.{HasStepped}
+use Rattle.at_demand.proofs.Truth.{steps_on, right_after, ends, settles_true, deepens_true, closes, fails, right_known}
+use Rattle.at_demand.proofs.demand.Demand.turn.Goals as goal
+
+pub returns-in-Value-clause-answers : goal.returns-in-Value-clause-answers
+returns-in-Value-clause-answers g c asked h =
+    let q = c.args.question in
+    let look = contents c.args.store.now in
+    let entries = g.K.Keeper.contents c.args.self.now.keeper in
+    let trial = c.go_on.new.self.trial in
+    let goes = c.in_ok-step.ensures.stepped q.inst (right_known c.args.rules.now look entries q.found.entries h.kept h.finds) h.last in
+    let last = subst (λ (s : Step). HasStepped c.args.rules.now look q.inst trial s) c.in-Value.is goes in
+    let on = steps_on c.args.rules.now look asked entries q.waiting.entries q.found.entries q.inst q.frame.trial trial c.args.step (step.Value c.in-Value.value) h last in
+    c.settle.ensures.answers look asked on
+
+pub returns-in-Value-clause-right : goal.returns-in-Value-clause-right
+returns-in-Value-clause-right g c asked h =
+    let q = c.args.question in
+    let look = contents c.args.store.now in
+    let entries = g.K.Keeper.contents c.args.self.now.keeper in
+    let trial = c.go_on.new.self.trial in
+    let goes = c.in_ok-step.ensures.stepped q.inst (right_known c.args.rules.now look entries q.found.entries h.kept h.finds) h.last in
+    let last = subst (λ (s : Step). HasStepped c.args.rules.now look q.inst trial s) c.in-Value.is goes in
+    let on = steps_on c.args.rules.now look asked entries q.waiting.entries q.found.entries q.inst q.frame.trial trial c.args.step (step.Value c.in-Value.value) h last in
+    c.settle.ensures.right look asked on
+
+pub returns-in-Fault-clause-answers : goal.returns-in-Fault-clause-answers
+returns-in-Fault-clause-answers g c asked h =
+    let q = c.args.question in
+    let look = contents c.args.store.now in
+    let entries = g.K.Keeper.contents c.args.self.now.keeper in
+    let trial = c.go_on.new.self.trial in
+    let goes = c.in_ok-step.ensures.stepped q.inst (right_known c.args.rules.now look entries q.found.entries h.kept h.finds) h.last in
+    let last = subst (λ (s : Step). HasStepped c.args.rules.now look q.inst trial s) c.in-Fault.is goes in
+    let on = steps_on c.args.rules.now look asked entries q.waiting.entries q.found.entries q.inst q.frame.trial trial c.args.step (step.Fault c.in-Fault.kind) h last in
+    fails c.args.rules.now look asked entries q.waiting.entries q.found.entries q.inst trial c.in-Fault.kind on
+
+pub returns-clause-answers : goal.returns-clause-answers
+returns-clause-answers g c asked h =
+    let q = c.args.question in
+    let look = contents c.args.store.now in
+    let entries = g.K.Keeper.contents c.args.self.now.keeper in
+    let trial = c.go_on.new.self.trial in
+    let goes = c.in_ok-step.ensures.stepped q.inst (right_known c.args.rules.now look entries q.found.entries h.kept h.finds) h.last in
+    let last = subst (λ (s : Step). HasStepped c.args.rules.now look q.inst trial s) c.in-Need.is goes in
+    let on = steps_on c.args.rules.now look asked entries q.waiting.entries q.found.entries q.inst q.frame.trial trial c.args.step (step.Need c.in-Need.needed) h last in
+    c.deepen.ensures.answers asked on

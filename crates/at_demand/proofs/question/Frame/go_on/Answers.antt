@@ -1,0 +1,41 @@
+use Rattle.std.proofs.Common.{sym, subst}
+use Rattle.at_store.specs.Shown.{contents}
+use Rattle.at_body.specs.Values.{value_view}
+use Rattle.at_body.specs.declared.trial.Step.{Step}
+use Rattle.at_demand.specs.declared.question.Recalled.{Recalled}
+use Rattle.at_body.specs.declared.trial.Step.TheVariants as step
+use Rattle.at_demand.specs.Known.{known_in, IsRecalled}
+use Rattle.at_demand.specs.UnderWay.{HasStepped}
+use Rattle.at_demand.proofs.Truth.{resumed_step, open_end}
+use Rattle.at_demand.proofs.question.Frame.go_on.Goals as goal
+
+pub loop-step-preserved : goal.loop-step-preserved
+loop-step-preserved g c =
+    let rules = c.args.rules.now in
+    let look = contents c.args.store.now in
+    let known = known_in (g.K.Keeper.contents c.args.keeper.now) c.args.found.now.entries in
+    let told = subst (λ (r : Recalled). IsRecalled known c.in-Need.needed r) c.in-Value.is c.in_ok-value-in-Need.ensures.recalled in
+    record {
+      kept = c.in_ok-value-in-Need.ensures.kept;
+      stepped = λ i right h.
+          let before = c.loop-step.invariant.stepped i right h in
+          let waits = subst (λ (s : Step). HasStepped rules look i c.loop-step.self.trial s) c.in-Need.is before in
+          resumed_step rules look i c.in-Need.needed c.loop-step.self.trial c.resume.new.self (value_view c.in-Value.value) c.in_ok-step-in-Value.step waits (right c.in-Need.needed (value_view c.in-Value.value) told) c.in_ok-step-in-Value.ensures.found;
+    }
+
+pub returns-in-Unknown-clause-stepped : goal.returns-in-Unknown-clause-stepped
+returns-in-Unknown-clause-stepped g c i right h =
+    let rules = c.args.rules.now in
+    let look = contents c.args.store.now in
+    let known = known_in (g.K.Keeper.contents c.args.keeper.now) c.args.found.now.entries in
+    let told = subst (λ (r : Recalled). IsRecalled known c.in-Need.needed r) c.in-Unknown.is c.in_ok-value-in-Need.ensures.recalled in
+    let waits = subst (λ (s : Step). HasStepped rules look i c.loop-step.self.trial s) c.in-Need.is (c.loop-step.invariant.stepped i right h) in
+    subst (λ j. HasStepped rules look i c.loop-step.self.trial (step.Need j)) (sym told.0) waits
+
+pub returns-in_default : goal.returns-in_default
+returns-in_default g c =
+    record {
+      kept = c.loop-step.invariant.kept;
+      stepped = c.loop-step.invariant.stepped;
+      unknown = open_end (known_in (g.K.Keeper.contents c.args.keeper.now) c.args.found.now.entries) c.loop-step.step c.in_default.not-Need;
+    }

@@ -1,0 +1,6 @@
+use Rattle.at_store.specs.Shown.{contents}
+use Rattle.at_demand.proofs.Truth.{started}
+use Rattle.at_demand.proofs.question.Frame.start.Goals as goal
+
+pub returns-clause-stepped : goal.returns-clause-stepped
+returns-clause-stepped c = started c.args.rules.now (contents c.args.store.now) c.args.inst.now c.in_ok-trial.trial c.in_ok-trial.step c.in_ok-trial.ensures

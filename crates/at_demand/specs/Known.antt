@@ -1,0 +1,56 @@
+-- What is known of values while a question is answered: what is kept, and what was found.
+use Rattle.std.specs.Prelude.{◌≡◌, ◌⊎◌, ℕ, nat_eq, List, [], ◌∷◌, ◌++◌, Option, Some, None}
+use Rattle.std.specs.Option.{option_map}
+use Rattle.std.specs.Map.{lookup}
+use Rattle.at_model.specs.Run.{Value, Instance, Contents, Known}
+use Rattle.at_model.specs.Rules.{Rules, evaluation}
+use Rattle.at_model.specs.Meaning.{Equations, Right, Answer, Outcomes, Circle, Finds, Faults}
+use Rattle.at_body.specs.Same.{same_instance}
+use Rattle.at_body.specs.Values.{value_view, fault_view}
+use Rattle.at_cache.specs.Kept.{Entries, AreKept}
+use Rattle.at_demand.specs.declared.question.Find.{Find}
+use Rattle.at_demand.specs.declared.question.Frame.{Frame}
+use Rattle.at_demand.specs.declared.question.Recalled.{Recalled}
+use Rattle.at_demand.specs.declared.question.Recalled.TheVariants as recalled
+use Rattle.at_demand.specs.declared.answer.Answer.{Answer as AnswerCode}
+use Rattle.at_demand.specs.declared.answer.Answer.TheVariants as code
+
+-- how the instances of a store are evaluated
+abbrev pub meaning : Rules → Equations ℕ
+meaning rules i = evaluation rules nat_eq i
+
+-- the values that are kept
+abbrev pub kept_values : Entries → Known ℕ
+kept_values entries i = option_map (λ k. k.value) (entries i)
+
+-- the values that were found
+abbrev pub found_values : List (Instance ℕ × Find) → Known ℕ
+found_values found i = option_map (λ f. value_view f.value) (lookup (same_instance i) found)
+
+-- the value that is kept, or else the one that was found
+abbrev pub known_in : Entries → List (Instance ℕ × Find) → Known ℕ
+known_in entries found i = elim (kept_values entries i) [ Some v ↦ Some v | None ↦ found_values found i ]
+
+-- the value that is known, or the instance, where none is
+abbrev pub IsRecalled : Known ℕ → Instance ℕ → Recalled → Type 0
+IsRecalled known i (recalled.Value v) = known i ≡ Some (value_view v)
+IsRecalled known i (recalled.Unknown j) = (j ≡ i) × (known i ≡ None)
+
+-- `new` has what `old` has, and may have the value of i beside it
+abbrev pub MayAdd : (old new : Entries) → Instance ℕ → Value ℕ → Type 0
+MayAdd old new i v = (j : Instance ℕ) → (new j ≡ old j) ⊎ ((i ≡ j) × (kept_values new j ≡ Some v))
+
+-- what the evaluations that wait demanded of what is kept is kept
+abbrev pub WaitingKept : Entries → List (Instance ℕ × Frame) → Type 0
+WaitingKept entries [] = Unit {0}
+WaitingKept entries (w ∷ ws) = AreKept entries w.1.demanded.kept.items × WaitingKept entries ws
+
+-- and so what those demanded that found a value
+abbrev pub FoundKept : Entries → List (Instance ℕ × Find) → Type 0
+FoundKept entries found = (i : Instance ℕ) (f : Find) → lookup (same_instance i) found ≡ Some f → AreKept entries f.demanded.kept.items
+
+-- an answer stands for one of the model
+abbrev pub answer_view : AnswerCode → Answer ℕ
+answer_view (code.Value v) = Outcomes (Finds (value_view v))
+answer_view (code.Fault kind at) = Outcomes (Faults (fault_view kind) at)
+answer_view (code.Circular at) = Circle at

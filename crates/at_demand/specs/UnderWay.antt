@@ -1,0 +1,102 @@
+-- A question under way.
+use Rattle.std.specs.Prelude.{◌≡◌, ℕ, ◌+◌, ◌*◌, ◌≤◌, ◌<◌, ◌^◌, nat_eq, List, [], ◌∷◌, ◌++◌, length, Option, Some, None}
+use Rattle.std.specs.Map.{keys_of, lookup}
+use Rattle.at_model.specs.Run.{Value, Instance, Contents, Run, Gives, Fails, Demands, Known}
+use Rattle.at_model.specs.Follow.{Reached, Ends, Stops, Waits, Past}
+use Rattle.at_model.specs.Rules.{Rules}
+use Rattle.at_model.specs.Meaning.{HasValue, Right, Among, Distinct, Answers}
+use Rattle.at_body.specs.Same.{same_instance}
+use Rattle.at_body.specs.Rest.{reached, resumed}
+use Rattle.at_body.specs.declared.trial.Step.{Step}
+use Rattle.at_body.specs.declared.trial.Step.TheVariants as step
+use Rattle.at_body.specs.declared.trial.Trial.{Trial}
+use Rattle.at_cache.specs.Kept.{Entries, AreKept}
+use Rattle.at_demand.specs.declared.question.Find.{Find}
+use Rattle.at_demand.specs.declared.question.Frame.{Frame}
+use Rattle.at_demand.specs.declared.question.Question.{Question}
+use Rattle.at_demand.specs.declared.demand.Turn.{Turn}
+use Rattle.at_demand.specs.declared.demand.Turn.TheVariants as turn
+use Rattle.at_demand.specs.Known.{meaning, kept_values, found_values, WaitingKept, FoundKept, answer_view}
+
+-- what is left of an evaluation that has come so far
+abbrev pub left_of : {N A : Type 0} → Reached N A → Run N A
+left_of (Ends v) = Gives v
+left_of (Stops f) = Fails f
+left_of (Waits j k) = Demands j k
+
+-- the evaluation of i has come to where this is left, past demands of values that hold and past the locations that the trial has looked at
+abbrev pub HasCome : Rules → Contents ℕ → Instance ℕ → Trial → Run ℕ (Value ℕ) → Type 0
+HasCome rules look i t r = (js : List (Instance ℕ)) × Past look (HasValue look (meaning rules)) (meaning rules i) js t.reads r
+
+-- it has come to this step
+abbrev pub HasStepped : Rules → Contents ℕ → Instance ℕ → Trial → Step → Type 0
+HasStepped rules look i t s = HasCome rules look i t (left_of (reached rules.classes s t))
+
+-- it waits for the value of j
+abbrev pub WaitsFor : Rules → Contents ℕ → Instance ℕ → Trial → Instance ℕ → Type 0
+WaitsFor rules look i t j = HasCome rules look i t (Demands j (resumed rules.classes t))
+
+-- the first of those that wait, or the last instance where none waits
+abbrev pub first_of : List (Instance ℕ × Frame) → Instance ℕ → Instance ℕ
+first_of [] i = i
+first_of (e ∷ es) i = e.0
+
+-- each waits for the next, and the last one for i
+abbrev pub AreWaiting : Rules → Contents ℕ → List (Instance ℕ × Frame) → Instance ℕ → Type 0
+AreWaiting rules look [] i = Unit {0}
+AreWaiting rules look (e ∷ es) i = WaitsFor rules look e.0 e.1.trial (first_of es i) × AreWaiting rules look es i
+
+-- the instances under way, each of which demanded the next
+abbrev pub chain_of : List (Instance ℕ × Frame) → Instance ℕ → List (Instance ℕ)
+chain_of waiting i = keys_of waiting ++ i ∷ []
+
+-- No instance is twice under way, none that is was found or is kept, and each kept one that was demanded is kept.
+pub record IsOrderly (entries : Entries) (waiting : List (Instance ℕ × Frame)) (found : List (Instance ℕ × Find)) (i : Instance ℕ) (kept : List (Instance ℕ)) : Type 0 where
+  pub distinct : Distinct (chain_of waiting i)
+  pub open_ones : (j : Instance ℕ) → Among j (chain_of waiting i) → lookup (same_instance j) found ≡ None
+  pub unkept : (j : Instance ℕ) → Among j (chain_of waiting i) → entries j ≡ None
+  pub waiting_kept : WaitingKept entries waiting
+  pub found_kept : FoundKept entries found
+  pub last_kept : AreKept entries kept
+
+-- so it is of a question
+abbrev pub IsOrderlyIn : Entries → Question → Type 0
+IsOrderlyIn entries q = IsOrderly entries q.waiting.entries q.found.entries q.inst q.frame.demanded.kept.items
+
+-- how far a question has come: an instance counts once when it waits, and twice when it is found
+abbrev pub progress : Question → ℕ
+progress q = 2 * length q.found.entries + length q.waiting.entries
+
+-- the question goes on, further than it was
+pub record GoesOn (entries : Entries) (old new : Question) : Type 0 where
+  pub orderly : IsOrderlyIn entries new
+  pub further : progress old < progress new
+  pub few : progress new < 2 ^ 66
+
+abbrev pub IsTurn : Entries → Question → Turn → Type 0
+IsTurn entries old (turn.GoesOn new s) = GoesOn entries old new
+IsTurn entries old (turn.Answers a) = Unit {0}
+
+-- The chain leads from what was asked by demands to the last instance, whose evaluation has come to this step; and what is
+-- kept and what was found holds.
+pub record IsTrue (rules : Rules) (look : Contents ℕ) (asked : Instance ℕ) (entries : Entries) (waiting : List (Instance ℕ × Frame)) (found : List (Instance ℕ × Find)) (i : Instance ℕ) (t : Trial) (s : Step) : Type 0 where
+  pub starts : first_of waiting i ≡ asked
+  pub waits : AreWaiting rules look waiting i
+  pub last : HasStepped rules look i t s
+  pub kept : Right look (meaning rules) (kept_values entries)
+  pub finds : Right look (meaning rules) (found_values found)
+
+-- so it is of a question
+abbrev pub IsTrueIn : Rules → Contents ℕ → Instance ℕ → Entries → Question → Step → Type 0
+IsTrueIn rules look asked entries q s = IsTrue rules look asked entries q.waiting.entries q.found.entries q.inst q.frame.trial s
+
+-- the question goes on as it is, or this is its answer
+abbrev pub IsRightTurn : Rules → Contents ℕ → Instance ℕ → Entries → Turn → Type 0
+IsRightTurn rules look asked entries (turn.GoesOn q s) = IsTrueIn rules look asked entries q s
+IsRightTurn rules look asked entries (turn.Answers a) = Answers look (meaning rules) asked (answer_view a)
+
+-- what an evaluation came to isn't known
+abbrev pub IsOpen : Known ℕ → Step → Type 0
+IsOpen known (step.Value v) = Unit {0}
+IsOpen known (step.Fault f) = Unit {0}
+IsOpen known (step.Need j) = known j ≡ None

@@ -1,0 +1,209 @@
+//! Questions for the values of instances.
+
+ghost use Rattle.std.specs.Prelude.{◌≡◌, ℕ, IfOk, IsTrue, None};
+ghost use Rattle.std.specs.Map.{lookup};
+ghost use Rattle.at_model.specs.Run.{Contents, Instance};
+ghost use Rattle.at_model.specs.Meaning.{Answers as HasAnswer, Right};
+ghost use Rattle.at_body.specs.declared.trial.Step.TheVariants as step_code;
+ghost use Rattle.at_store.specs.Shown.{IsIdle, contents};
+ghost use Rattle.at_body.specs.Same.{same_instance};
+ghost use Rattle.at_body.specs.Values.{value_view};
+ghost use Rattle.at_cache.specs.Kept.{AreKept, Answers as Says, LeavesUntouched, LosesTouched};
+ghost use Rattle.at_demand.specs.Known.{meaning, kept_values, answer_view, MayAdd, FoundKept};
+ghost use Rattle.at_demand.specs.UnderWay.{IsOrderlyIn, IsTrueIn, IsTurn, IsRightTurn};
+
+use crate::answer::Answer;
+use crate::gathering::Sources;
+use crate::question::{Find, Question};
+use at_body::{Inst, Step, Value};
+use at_cache::Keeper;
+use at_rules::Rules;
+use at_store::{Loc, Store};
+use indexmap::IndexMap;
+use std::alloc::{AllocError, Global};
+
+/// Answers questions, and keeps the values of lazy attributes.
+#[derive(Drop)]
+pub struct Demand<K> {
+    alloc: Global,
+    keeper: K,
+    work: u64,
+}
+
+// What a turn comes to: the question, with what its last instance came to by itself, or the answer.
+#[derive(Drop)]
+enum Turn<'a> {
+    GoesOn(Question<'a>, Step),
+    Answers(Answer),
+}
+
+impl<K: Keeper> Demand<K> {
+    /// Questions, with that keeper.
+    pub fn new(alloc: Global, keeper: K) -> Demand<K> {
+        Demand {
+            alloc,
+            keeper,
+            work: 0,
+        }
+    }
+
+    /// The answer for an instance. An error where memory is wanting.
+    pub fn answer(
+        &mut self,
+        rules: &Rules,
+        store: &Store,
+        inst: &Inst,
+    ) -> Result<Answer, AllocError>
+        requires idle { IsIdle store.now }
+        ensures answers { Right (contents store.now) (meaning rules.now) (kept_values (K.contents self.old.keeper)) → IfOk result (λ a. HasAnswer (contents store.now) (meaning rules.now) inst.now (answer_view a)) }
+        ensures right { Right (contents store.now) (meaning rules.now) (kept_values (K.contents self.old.keeper)) → Right (contents store.now) (meaning rules.now) (kept_values (K.contents self.new.keeper)) }
+    {
+        if let Some(value) = self.keeper.get(inst) {
+            return Ok(Answer::Value(value.copy()?));
+        }
+        let begun = Question::new(self.alloc, rules, store, inst.copy(self.alloc)?)?;
+        let (mut question, mut step) = begun;
+        loop {
+            match self.turn(rules, store, question, step)? {
+                Turn::GoesOn(next, reached) => {
+                    question = next;
+                    step = reached;
+                }
+                Turn::Answers(answer) => return Ok(answer),
+            }
+        }
+    }
+
+    /// Forgets what an edit touches: called once the edit is decided, and before it is made.
+    pub fn after_edit<F: Fn(Loc) -> bool>(&mut self, touched: &F)
+        requires { F.IsAlwaysCallable touched.now }
+        ensures leaves { LeavesUntouched (Says (F.post touched.now)) (K.contents self.old.keeper) (K.contents self.new.keeper) }
+        ensures loses { IsTrue K.exact → LosesTouched (Says (F.post touched.now)) (K.contents self.old.keeper) (K.contents self.new.keeper) }
+    {
+        self.keeper.flush(touched);
+    }
+
+    /// How many times a question found a value of a lazy attribute that wasn't kept. It stays at the greatest number.
+    pub fn work(&self) -> u64 {
+        self.work
+    }
+
+    #[tactic(auto, using(crate::proofs::Orderly::neither, crate::proofs::Truth::right_known, crate::proofs::Truth::fails))]
+    // Goes on with the last instance of the chain up to its end, or to an instance that isn't known; then that one's
+    // evaluation is begun.
+    fn turn<'a>(
+        &mut self,
+        rules: &'a Rules,
+        store: &'a Store,
+        question: Question<'a>,
+        step: Step,
+    ) -> Result<Turn<'a>, AllocError>
+        requires idle { IsIdle store.now }
+        requires orderly { IsOrderlyIn (K.contents self.old.keeper) question }
+        ensures turn { IfOk result (IsTurn (K.contents self.new.keeper) question.entry) }
+        ensures answers { (asked : Instance ℕ) → IsTrueIn rules.now (contents store.now) asked (K.contents self.old.keeper) question.entry step → IfOk result (IsRightTurn rules.now (contents store.now) asked (K.contents self.new.keeper)) }
+        ensures right { (asked : Instance ℕ) → IsTrueIn rules.now (contents store.now) asked (K.contents self.old.keeper) question.entry step → Right (contents store.now) (meaning rules.now) (kept_values (K.contents self.new.keeper)) }
+    {
+        let mut question = question;
+        let q = &mut question;
+        let step = q
+            .frame
+            .go_on(self.alloc, &self.keeper, &q.found, rules, store, step)?;
+        match step {
+            Step::Value(value) => self.settle(rules, question, value),
+            Step::Fault(kind) => Ok(Turn::Answers(Answer::Fault {
+                kind,
+                at: question.inst,
+            })),
+            Step::Need(needed) => self.deepen(rules, store, question, needed),
+        }
+    }
+
+    #[tactic(auto, using(crate::proofs::Orderly::deepens, crate::proofs::Truth::deepens_true, crate::proofs::Truth::closes))]
+    // The last instance needs another one.
+    fn deepen<'a>(
+        &self,
+        rules: &'a Rules,
+        store: &'a Store,
+        question: Question<'a>,
+        needed: Inst,
+    ) -> Result<Turn<'a>, AllocError>
+        requires idle { IsIdle store.now }
+        requires orderly { IsOrderlyIn (K.contents self.now.keeper) question }
+        requires found { lookup (same_instance needed) question.found.entries ≡ None }
+        requires kept { K.contents self.now.keeper needed ≡ None }
+        ensures turn { IfOk result (IsTurn (K.contents self.now.keeper) question.entry) }
+        ensures answers { (asked : Instance ℕ) → IsTrueIn rules.now (contents store.now) asked (K.contents self.now.keeper) question.entry (step_code.Need needed) → IfOk result (IsRightTurn rules.now (contents store.now) asked (K.contents self.now.keeper)) }
+    {
+        if question.has(&needed) {
+            return Ok(Turn::Answers(Answer::Circular { at: needed }));
+        }
+        let (next, step) = question.descend(self.alloc, rules, store, needed)?;
+        Ok(Turn::GoesOn(next, step))
+    }
+
+    #[tactic(auto, using(crate::proofs::Orderly::settles, crate::proofs::Orderly::last_unkept, crate::proofs::Truth::settles_true, crate::proofs::Truth::ends, crate::proofs::Truth::right_after))]
+    // The last instance has this value.
+    fn settle<'a>(
+        &mut self,
+        rules: &Rules,
+        question: Question<'a>,
+        value: Value,
+    ) -> Result<Turn<'a>, AllocError>
+        requires orderly { IsOrderlyIn (K.contents self.old.keeper) question }
+        ensures turn { IfOk result (IsTurn (K.contents self.new.keeper) question.entry) }
+        ensures answers { (look : Contents ℕ) (asked : Instance ℕ) → IsTrueIn rules.now look asked (K.contents self.old.keeper) question.entry (step_code.Value value) → IfOk result (IsRightTurn rules.now look asked (K.contents self.new.keeper)) }
+        ensures right { (look : Contents ℕ) (asked : Instance ℕ) → IsTrueIn rules.now look asked (K.contents self.old.keeper) question.entry (step_code.Value value) → Right look (meaning rules.now) (kept_values (K.contents self.new.keeper)) }
+    {
+        let Question {
+            mut waiting,
+            mut found,
+            inst,
+            frame,
+        } = question;
+        let find = frame.find(self.alloc, value)?;
+        self.keep(rules, &found, &inst, &find)?;
+        let Some((below, frame)) = waiting.pop() else {
+            return Ok(Turn::Answers(Answer::Value(find.value)));
+        };
+        let needed = inst.copy(self.alloc)?;
+        found.insert(inst, find)?;
+        // `len` says that they are fewer than 2^64.
+        let _counts = (found.len(), waiting.len());
+        let question = Question {
+            waiting,
+            found,
+            inst: below,
+            frame,
+        };
+        Ok(Turn::GoesOn(question, Step::Need(needed)))
+    }
+
+    #[tactic(auto, using(crate::proofs::Orderly::put_adds))]
+    // Keeps what was found of the instance, if its attribute is lazy.
+    fn keep(
+        &mut self,
+        rules: &Rules,
+        found: &IndexMap<Inst, Find>,
+        inst: &Inst,
+        find: &Find,
+    ) -> Result<(), AllocError>
+        requires absent { K.contents self.old.keeper inst.now ≡ None }
+        requires kept { AreKept (K.contents self.old.keeper) find.now.demanded.kept.items }
+        requires found { FoundKept (K.contents self.old.keeper) found.now.entries }
+        ensures { MayAdd (K.contents self.old.keeper) (K.contents self.new.keeper) inst.now (value_view find.now.value) }
+    {
+        if !rules.is_lazy(inst.attribute()) {
+            return Ok(());
+        }
+        let sources = Sources::of(self.alloc, found, find)?;
+        self.keeper.put(
+            inst.copy(self.alloc)?,
+            find.value.copy()?,
+            sources.reads.as_slice(),
+            sources.kept.as_slice(),
+        )?;
+        self.work = self.work.saturating_add(1);
+        Ok(())
+    }
+}

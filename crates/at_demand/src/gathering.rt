@@ -1,0 +1,80 @@
+//! What a value rests on, gathered for the keeper.
+
+ghost use Rattle.std.specs.Prelude.{◌≡◌, ◌++◌, IfOk, OnOk};
+ghost use Rattle.at_cache.specs.Kept.{AreKept, Entries};
+ghost use Rattle.at_demand.specs.Known.{FoundKept};
+
+use crate::question::{Demanded, Find};
+use at_body::Inst;
+use at_store::Loc;
+use indexmap::{IndexMap, IndexSet};
+use std::alloc::{AllocError, Global};
+
+// The locations that an evaluation and the finds below it read, and the kept instances that they demanded.
+#[derive(Drop)]
+pub struct Sources {
+    pub reads: Vec<Loc>,
+    pub kept: Vec<Inst>,
+}
+
+impl Sources {
+    // All that the find rests on, up to what is kept. Each find is visited once.
+    pub fn of(
+        alloc: Global,
+        found: &IndexMap<Inst, Find>,
+        find: &Find,
+    ) -> Result<Sources, AllocError>
+        ensures kept { (entries : Entries) → FoundKept entries found.now.entries → AreKept entries find.now.demanded.kept.items → IfOk result (λ s. AreKept entries s.kept.items) }
+    {
+        let mut sources = Sources {
+            reads: Vec::new(alloc),
+            kept: Vec::new(alloc),
+        };
+        let mut visited = IndexSet::new(alloc);
+        sources.add(alloc, find, &mut visited)?;
+        let mut next = 0;
+        while next < visited.len() {
+            sources.add_at(alloc, found, next, &mut visited)?;
+            next += 1;
+        }
+        Ok(sources)
+    }
+
+    // Adds what stands in the find at the position that is visited next.
+    fn add_at(
+        &mut self,
+        alloc: Global,
+        found: &IndexMap<Inst, Find>,
+        next: usize,
+        visited: &mut IndexSet<usize>,
+    ) -> Result<(), AllocError>
+        ensures kept { (entries : Entries) → FoundKept entries found.now.entries → AreKept entries self.old.kept.items → OnOk result (AreKept entries self.new.kept.items) }
+    {
+        let Some(position) = visited.get_index(next) else {
+            return Ok(());
+        };
+        match found.get_index(*position) {
+            Some((_inst, find)) => self.add(alloc, find, visited),
+            None => Ok(()),
+        }
+    }
+
+    // Adds the reads of the find and the kept instances that it demanded; the other ones are to be visited.
+    fn add(
+        &mut self,
+        alloc: Global,
+        find: &Find,
+        visited: &mut IndexSet<usize>,
+    ) -> Result<(), AllocError>
+        ensures kept { OnOk result (self.new.kept.items ≡ self.old.kept.items ++ find.now.demanded.kept.items) }
+    {
+        self.reads.extend_from_slice(find.reads.as_slice())?;
+        for inst in &find.demanded.kept {
+            self.kept.push(inst.copy(alloc)?)?;
+        }
+        for position in &find.demanded.finds {
+            visited.insert(*position)?;
+        }
+        Ok(())
+    }
+}

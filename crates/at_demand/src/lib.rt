@@ -1,0 +1,10 @@
+//! Questions: the answer that the equations give for an instance, by demands, each of an instance at most once.
+#![tactic(auto)]
+
+mod answer;
+mod demand;
+mod gathering;
+mod question;
+
+pub use answer::Answer;
+pub use demand::Demand;

@@ -1,0 +1,78 @@
+//! Marks: the names that sessions have given to nodes.
+
+use at_store::Node;
+use std::alloc::{AllocError, Global};
+
+/// How many marks a session may have.
+pub const MAX_MARKS: usize = 100;
+
+/// A session's name for a node.
+#[derive(Debug, Drop)]
+struct Mark {
+    session: u16,
+    name: String,
+    node: Node,
+}
+
+impl Mark {
+    /// Whether it is the session's mark of that name.
+    fn is(&self, session: u16, name: &str) -> bool {
+        self.session == session && self.name.as_str() == name
+    }
+}
+
+/// The marks of all sessions, in the order in which they were made.
+#[derive(Debug, Drop)]
+pub struct Marks {
+    items: Vec<Mark>,
+}
+
+impl Marks {
+    /// No marks.
+    pub fn new(alloc: Global) -> Marks {
+        Marks {
+            items: Vec::new(alloc),
+        }
+    }
+
+    /// The node that the session has marked by the name.
+    pub fn get(&self, session: u16, name: &str) -> Option<Node> {
+        for mark in &self.items {
+            if mark.is(session, name) {
+                return Some(mark.node);
+            }
+        }
+        None
+    }
+
+    /// Whether the session has as many marks as it may.
+    pub fn is_full(&self, session: u16) -> bool {
+        self.items
+            .iter()
+            .filter(|mark| mark.session == session)
+            .count()
+            >= MAX_MARKS
+    }
+
+    /// One more mark, behind the others. Where memory is wanting the marks stay as they were.
+    pub fn push(&mut self, session: u16, name: String, node: Node) -> Result<(), AllocError> {
+        self.items.push(Mark {
+            session,
+            name,
+            node,
+        })?;
+        Ok(())
+    }
+
+    /// Forgets the session's mark of that name.
+    pub fn forget(&mut self, session: u16, name: &str) {
+        self.items.retain(|mark| !mark.is(session, name));
+    }
+
+    /// Forgets the marks of nodes that are gone.
+    pub fn forget_gone<F: Fn(Node) -> bool>(&mut self, is_gone: &F)
+        requires { F.IsAlwaysCallable is_gone.now }
+    {
+        self.items.retain(|mark| !is_gone(mark.node));
+    }
+}

@@ -1,0 +1,26 @@
+use Rattle.std.proofs.Common.{[], ◌∷◌, Some, None, pos, negsuc, true, false, codes, inl, inr, refl, nat_eq}
+use Rattle.std.specs.Fmt.{digits}
+use Rattle.at_model.specs.Classes.{chain}
+use Rattle.at_model.specs.Names.{reserved_words}
+use Rattle.at_model.specs.Trees as tree
+use Rattle.at_model.specs.Terms as term
+use Rattle.at_model.specs.Paths.{node_eq}
+use Rattle.at_model.specs.Lines.{Line, From_root, From_mark, Text, Ref, Null, Ask, Set, Put, Drop, Insert, Token, Show, Mark, Unmark, Where, Version}
+use Rattle.at_model.specs.Run.{Int, Truth}
+use Rattle.at_model.specs.Run as run
+use Rattle.at_model.specs.Meaning.{Outcomes, Finds, Faults, Circle}
+use Rattle.at_model.specs.Samples.{of_node, of_node_with, root, printed, left_of, statement, init_of}
+use Rattle.at_model.specs.SampleLines.{says, plain_step, list_step}
+use Rattle.at_model.proofs.Apart.{apart}
+use Rattle.at_model.proofs.Played.{ends, line, question}
+use Rattle.at_model.proofs.session_cases.an_optional_is_edited.Goals as goal
+
+pub returns : goal.returns
+unfolding chain digits reserved_words
+returns c =
+    question (says (Ask (From_root (plain_step "Block" ∷ list_step "Stmt" 1 ∷ plain_step "Expr" ∷ [])) (codes "value") ([]))) (Outcomes (Finds (Int (pos 3)))) refl refl refl (9, refl) refl
+    (line (says (Drop (From_root (plain_step "Block" ∷ list_step "Stmt" 0 ∷ plain_step "Init" ∷ [])))) refl refl refl refl
+    (question (says (Ask (From_root (plain_step "Block" ∷ list_step "Stmt" 1 ∷ plain_step "Expr" ∷ [])) (codes "value") ([]))) (Outcomes (Finds (Int (pos 2)))) refl refl refl (9, refl) refl
+    (line (says (Put (From_root (plain_step "Block" ∷ list_step "Stmt" 0 ∷ [])) (codes "Init") (term.Node (codes "Num") (term.cell (term.Holds (tree.Int (pos 7))) term.no_cells)))) refl refl refl refl
+    (question (says (Ask (From_root (plain_step "Block" ∷ list_step "Stmt" 1 ∷ plain_step "Expr" ∷ [])) (codes "value") ([]))) (Outcomes (Finds (Int (pos 9)))) refl refl refl (9, refl) refl
+    (line (says (Put (From_root (plain_step "Block" ∷ list_step "Stmt" 0 ∷ [])) (codes "Init") (term.Node (codes "Num") (term.cell (term.Holds (tree.Int (pos 8))) term.no_cells)))) refl refl refl refl ends)))))

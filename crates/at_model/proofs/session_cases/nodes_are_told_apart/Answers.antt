@@ -1,0 +1,23 @@
+use Rattle.std.proofs.Common.{[], ◌∷◌, Some, None, pos, negsuc, true, false, codes, inl, inr, refl, nat_eq}
+use Rattle.std.specs.Fmt.{digits}
+use Rattle.at_model.specs.Classes.{chain}
+use Rattle.at_model.specs.Names.{reserved_words}
+use Rattle.at_model.specs.Trees as tree
+use Rattle.at_model.specs.Terms as term
+use Rattle.at_model.specs.Paths.{node_eq}
+use Rattle.at_model.specs.Lines.{Line, From_root, From_mark, Text, Ref, Null, Ask, Set, Put, Drop, Insert, Token, Show, Mark, Unmark, Where, Version}
+use Rattle.at_model.specs.Run.{Int, Truth}
+use Rattle.at_model.specs.Run as run
+use Rattle.at_model.specs.Meaning.{Outcomes, Finds, Faults, Circle}
+use Rattle.at_model.specs.Samples.{of_node, of_node_with, root, printed, left_of, statement, init_of}
+use Rattle.at_model.specs.SampleLines.{says, plain_step, list_step}
+use Rattle.at_model.proofs.Apart.{apart}
+use Rattle.at_model.proofs.Played.{ends, line, question}
+use Rattle.at_model.proofs.session_cases.nodes_are_told_apart.Goals as goal
+
+pub returns : goal.returns
+unfolding chain digits reserved_words
+returns c =
+    line (says (Set (From_root (plain_step "Block" ∷ list_step "Stmt" 1 ∷ plain_step "Expr" ∷ [])) (term.Node (codes "Add") (term.cell (term.One (term.Node (codes "Num") (term.cell (term.Holds (tree.Int (pos 1))) term.no_cells))) (term.cell (term.One (term.Node (codes "Num") (term.cell (term.Holds (tree.Int (pos 1))) term.no_cells))) term.no_cells))))) refl refl refl refl
+    (question (says (Ask (From_root (plain_step "Block" ∷ list_step "Stmt" 1 ∷ plain_step "Expr" ∷ [])) (codes "same") ([]))) (Outcomes (Finds (Truth false))) refl refl refl (9, refl) refl
+    (question (says (Ask (From_root (plain_step "Block" ∷ list_step "Stmt" 1 ∷ plain_step "Expr" ∷ [])) (codes "alike") ([]))) (Outcomes (Finds (Truth true))) refl refl refl (9, refl) refl ends))

@@ -1,0 +1,48 @@
+-- States, rules and lines for worked sessions on the samples.
+use Rattle.std.specs.Prelude.{ℕ, zero, suc, false, List, [], ◌∷◌, ◌++◌, decimal, replicate}
+use lib.Chars.{codes}
+use Rattle.at_model.specs.Bodies.{Same, Child, This, Name}
+use Rattle.at_model.specs.Rules.{Rules}
+use Rattle.at_model.specs.Rules as kind
+use Rattle.at_model.specs.Lines.{last_version}
+use Rattle.at_model.specs.Machine.{State, Marked}
+use Rattle.at_model.specs.Samples.{calc, synthesized, own}
+use Rattle.at_model.specs.SampleLines.{opened, mark}
+use Rattle.at_model.specs.Playing.{Exchange}
+
+-- the machine with the sample, after as many edits as there can be
+abbrev pub at_last_version : State
+at_last_version = record opened { version = last_version }
+
+-- so many marks of session 0 on the root: m0, m1 and so on
+abbrev pub numbered_marks : ℕ → List Marked
+numbered_marks zero = []
+numbered_marks (suc n) = numbered_marks n ++ record { session = 0; name = codes "m" ++ decimal n; node = [] } ∷ []
+
+-- a hundred of those, and a mark of session 1
+abbrev pub full_of_marks : State
+full_of_marks = record opened { marks = numbered_marks 100 ++ mark 1 "u" [] ∷ [] }
+
+-- the lines that make so many marks, each of which is made
+abbrev pub marking : ℕ → List Exchange
+marking zero = []
+marking (suc n) = marking n ++ record { line = codes "0 mark m" ++ decimal n ++ codes " /"; reply = codes "0 ok 0" } ∷ []
+
+-- marks of two sessions, two of them of one name
+abbrev pub some_marks : List Marked
+some_marks = mark 0 "u" [] ∷ mark 1 "u" [] ∷ mark 0 "v" [] ∷ mark 1 "w" [] ∷ []
+
+-- calc.jrag with syn boolean Add.begins(Expr e) = getLeft() == e;
+abbrev pub calc_with_argument : Rules
+calc_with_argument = record calc {
+  attributes = calc.attributes ++ synthesized (codes "begins") 8 (kind.Class 5 ∷ []) kind.Truth false ∷ [];
+  own = calc.own ++ own 8 17 (Same (Child This 0) (Name 0)) ∷ [];
+}
+
+-- a declaration's name of so many letters
+abbrev pub letters : ℕ → List ℕ
+letters n = replicate n 97
+
+-- the line that writes it
+abbrev pub renaming : ℕ → List ℕ
+renaming n = codes "0 token /Block/Stmt:0 ID \"" ++ (letters n ++ codes "\"")

@@ -1,0 +1,144 @@
+//! Worked cases of comparisons, of ints below zero, of joined texts, and of what each form reads.
+
+ghost use Rattle.std.specs.Prelude.{◌≡◌, ◌<◌, ◌≤◌, ◌++◌, ◌∷◌, ℕ, List, [], codes, false, length, negsuc, None, pos, Some, true};
+ghost use Rattle.at_model.specs.Run.{
+  Faulted,
+  Int,
+  Is,
+  Long,
+  Ref,
+  Slot,
+  Text,
+  Tok,
+  Truth,
+  Valued,
+  Zero,
+  reads,
+};
+ghost use Rattle.at_model.specs.Bodies.{
+  Above,
+  And,
+  Arithmetic,
+  AtLeast,
+  AtMost,
+  Below,
+  CastTo,
+  Child,
+  Choose,
+  Compare,
+  Count,
+  Differ,
+  Element,
+  Exists,
+  First,
+  Has,
+  InstanceOf,
+  IntLiteral,
+  JoinInt,
+  Modulo,
+  Name,
+  NullLiteral,
+  Or,
+  Over,
+  Plus,
+  Same,
+  Sum,
+  TextLiteral,
+  This,
+  TokenOf,
+  TruthLiteral,
+};
+ghost use Rattle.at_model.specs.Meaning.{content, equations};
+ghost use Rattle.at_model.specs.Samples.{
+  bare_tree,
+  block,
+  calc_tree,
+  evaluated,
+  left_of,
+  looked,
+  one_by_zero,
+  printed,
+  root,
+  statement,
+};
+ghost use Rattle.at_model.specs.SampleSessions.{calc_with_argument};
+
+/// Each comparison of two equal ints, and of two that differ.
+pub fn comparisons()
+    ensures below_itself { evaluated calc_tree root (Compare Below (IntLiteral (pos 2)) (IntLiteral (pos 2))) ≡ Valued (Truth false) }
+    ensures below { evaluated calc_tree root (Compare Below (IntLiteral (negsuc 0)) (IntLiteral (pos 0))) ≡ Valued (Truth true) }
+    ensures at_most_itself { evaluated calc_tree root (Compare AtMost (IntLiteral (negsuc 1)) (IntLiteral (negsuc 1))) ≡ Valued (Truth true) }
+    ensures at_most { evaluated calc_tree root (Compare AtMost (IntLiteral (pos 3)) (IntLiteral (pos 2))) ≡ Valued (Truth false) }
+    ensures above_itself { evaluated calc_tree root (Compare Above (IntLiteral (pos 2)) (IntLiteral (pos 2))) ≡ Valued (Truth false) }
+    ensures above { evaluated calc_tree root (Compare Above (IntLiteral (negsuc 0)) (IntLiteral (negsuc 1))) ≡ Valued (Truth true) }
+    ensures at_least_itself { evaluated calc_tree root (Compare AtLeast (IntLiteral (pos 2)) (IntLiteral (pos 2))) ≡ Valued (Truth true) }
+    ensures at_least { evaluated calc_tree root (Compare AtLeast (IntLiteral (pos 1)) (IntLiteral (pos 2))) ≡ Valued (Truth false) }
+{}
+
+/// `==` and `!=` of two ints, two booleans, and null.
+pub fn equality()
+    ensures both_true { evaluated calc_tree root (Same (TruthLiteral true) (TruthLiteral true)) ≡ Valued (Truth true) }
+    ensures both_false { evaluated calc_tree root (Same (TruthLiteral false) (TruthLiteral false)) ≡ Valued (Truth true) }
+    ensures one_false { evaluated calc_tree root (Same (TruthLiteral true) (TruthLiteral false)) ≡ Valued (Truth false) }
+    ensures one_true { evaluated calc_tree root (Differ (TruthLiteral false) (TruthLiteral true)) ≡ Valued (Truth true) }
+    ensures same_truths { evaluated calc_tree root (Differ (TruthLiteral false) (TruthLiteral false)) ≡ Valued (Truth false) }
+    ensures ints { evaluated calc_tree root (Same (IntLiteral (negsuc 0)) (IntLiteral (negsuc 0))) ≡ Valued (Truth true) }
+    ensures other_ints { evaluated calc_tree root (Same (IntLiteral (negsuc 0)) (IntLiteral (pos 1))) ≡ Valued (Truth false) }
+    ensures nulls { evaluated calc_tree root (Same NullLiteral NullLiteral) ≡ Valued (Truth true) }
+    ensures null_and_node { evaluated calc_tree root (Same This NullLiteral) ≡ Valued (Truth false) }
+{}
+
+/// The quotient goes toward zero, and the remainder has the sign of the dividend.
+pub fn ints_below_zero()
+    ensures dividend { evaluated calc_tree root (Arithmetic Over (IntLiteral (negsuc 6)) (IntLiteral (pos 2))) ≡ Valued (Int (negsuc 2)) }
+    ensures divisor { evaluated calc_tree root (Arithmetic Over (IntLiteral (pos 7)) (IntLiteral (negsuc 1))) ≡ Valued (Int (negsuc 2)) }
+    ensures both { evaluated calc_tree root (Arithmetic Over (IntLiteral (negsuc 6)) (IntLiteral (negsuc 1))) ≡ Valued (Int (pos 3)) }
+    ensures nothing { evaluated calc_tree root (Arithmetic Over (IntLiteral (negsuc 0)) (IntLiteral (pos 2))) ≡ Valued (Int (pos 0)) }
+    ensures rest_of_dividend { evaluated calc_tree root (Arithmetic Modulo (IntLiteral (negsuc 6)) (IntLiteral (pos 2))) ≡ Valued (Int (negsuc 0)) }
+    ensures rest_of_divisor { evaluated calc_tree root (Arithmetic Modulo (IntLiteral (pos 7)) (IntLiteral (negsuc 1))) ≡ Valued (Int (pos 1)) }
+    ensures rest_of_both { evaluated calc_tree root (Arithmetic Modulo (IntLiteral (negsuc 6)) (IntLiteral (negsuc 1))) ≡ Valued (Int (negsuc 0)) }
+{}
+
+/// A text that is joined with an int has at most 65,535 bytes too.
+pub fn long_decimals()
+    ensures long { (a : List ℕ) → 65535 < length (a ++ codes "-7") → evaluated calc_tree root (JoinInt (TextLiteral a) (IntLiteral (negsuc 6))) ≡ Faulted Long }
+    ensures text { (a : List ℕ) → length (a ++ codes "-7") ≤ 65535 → evaluated calc_tree root (JoinInt (TextLiteral a) (IntLiteral (negsuc 6))) ≡ Valued (Text (a ++ codes "-7")) }
+{}
+
+/// What the left side doesn't decide, the right side does.
+pub fn right_sides()
+    ensures and_true { evaluated calc_tree root (And (TruthLiteral true) (TruthLiteral true)) ≡ Valued (Truth true) }
+    ensures and_false { evaluated calc_tree root (And (TruthLiteral true) (TruthLiteral false)) ≡ Valued (Truth false) }
+    ensures and_fault { evaluated calc_tree root (And (TruthLiteral true) (Same one_by_zero one_by_zero)) ≡ Faulted Zero }
+    ensures and_decided { evaluated calc_tree root (And (TruthLiteral false) (Same one_by_zero one_by_zero)) ≡ Valued (Truth false) }
+    ensures or_true { evaluated calc_tree root (Or (TruthLiteral false) (TruthLiteral true)) ≡ Valued (Truth true) }
+    ensures or_false { evaluated calc_tree root (Or (TruthLiteral false) (TruthLiteral false)) ≡ Valued (Truth false) }
+    ensures otherwise { evaluated calc_tree root (Choose (TruthLiteral false) one_by_zero (IntLiteral (pos 7))) ≡ Valued (Int (pos 7)) }
+{}
+
+/// What the accessors of a child, a list, an optional and a token read.
+pub fn what_accessors_read()
+    ensures element { looked calc_tree block (Element This 0 (IntLiteral (pos 1))) ≡ Slot block 0 ∷ [] }
+    ensures beyond { looked calc_tree block (Element This 0 (IntLiteral (pos 2))) ≡ Slot block 0 ∷ [] }
+    ensures count { looked calc_tree block (Count This 0) ≡ Slot block 0 ∷ [] }
+    ensures has { looked calc_tree (statement 0) (Has This 1) ≡ Slot (statement 0) 1 ∷ [] }
+    ensures has_none { looked bare_tree (statement 0) (Has This 1) ≡ Slot (statement 0) 1 ∷ [] }
+    ensures child { looked calc_tree (statement 0) (Child This 1) ≡ Slot (statement 0) 1 ∷ [] }
+    ensures absent { looked bare_tree (statement 0) (Child This 1) ≡ Slot (statement 0) 1 ∷ [] }
+    ensures token { looked calc_tree (left_of 1) (TokenOf This 0) ≡ Tok (left_of 1) 0 ∷ [] }
+    ensures null { looked calc_tree root (Count NullLiteral 0) ≡ [] }
+{}
+
+/// What folds and tests of a class read: a fold the list, and of its elements what its body reads up to
+/// where it is decided.
+pub fn what_folds_read()
+    ensures exists { looked calc_tree block (Exists This 0 (InstanceOf (Name 0) 3)) ≡ Slot block 0 ∷ Is (statement 0) ∷ [] }
+    ensures further { looked calc_tree block (Exists This 0 (InstanceOf (Name 0) 4)) ≡ Slot block 0 ∷ Is (statement 0) ∷ Is (statement 1) ∷ [] }
+    ensures first { looked calc_tree block (First This 0 (InstanceOf (Name 0) 3)) ≡ Slot block 0 ∷ Is (statement 0) ∷ [] }
+    ensures sum { looked calc_tree block (Sum This 0 (IntLiteral (pos 21))) ≡ Slot block 0 ∷ [] }
+    ensures instance { looked calc_tree (statement 0) (InstanceOf This 4) ≡ Is (statement 0) ∷ [] }
+    ensures cast { looked calc_tree (statement 0) (CastTo 1 This) ≡ Is (statement 0) ∷ [] }
+    ensures fault { looked calc_tree block (Arithmetic Plus one_by_zero (Count This 0)) ≡ [] }
+    ensures arguments { reads (content calc_tree) (λ i. None) (equations calc_with_argument (record { node = printed 1; attribute = 17; arguments = Ref (Some (left_of 1)) ∷ Ref None ∷ [] }))
+        ≡ Is (printed 1) ∷ Is (left_of 1) ∷ Slot (printed 1) 0 ∷ [] }
+{}

@@ -1,0 +1,25 @@
+use Rattle.std.specs.Prelude.{codes}
+use Rattle.std.proofs.lemmas.Result.{err_from_is_err_and}
+use Rattle.at_protocol.specs.Words.{IsNameText, IsPlaceText, IsTermText}
+use Rattle.at_protocol.proofs.Answering.{Is, fails_is, fails_first, fails_rest, fails_whole}
+use Rattle.at_protocol.proofs.Commands.{Behind, put, BehindPut, NamedTerm}
+use Rattle.at_protocol.proofs.Parts.{put_text}
+use Rattle.at_protocol.proofs.line.commands.read_put.Goals as goal
+
+pub returns-in_err-place : goal.returns-in_err-place
+returns-in_err-place c =
+    let p = err_from_is_err_and c.from_residual.result c.from_residual.ensures.1 in
+    rw (p.1, p.2) (fails_whole (BehindPut c.args.text.now) (Behind (codes "put") c.args.text.now) _ (put c.args.text.now) (fails_first IsPlaceText NamedTerm _ _ c.in_err-place.ensures))
+
+pub returns-in_err-part : goal.returns-in_err-part
+returns-in_err-part c =
+    let p = err_from_is_err_and c.from_residual-in_err-part.result c.from_residual-in_err-part.ensures.1 in
+    rw (p.1, p.2) (fails_whole (BehindPut c.args.text.now) (Behind (codes "put") c.args.text.now) _ (put c.args.text.now) (fails_rest IsPlaceText NamedTerm _ _ _ c.in_ok-place.ensures (fails_first IsNameText (Is IsTermText) _ _ c.in_err-part.ensures)))
+
+pub returns-in_err-term : goal.returns-in_err-term
+returns-in_err-term c =
+    let p = err_from_is_err_and c.from_residual-in_err-term.result c.from_residual-in_err-term.ensures.1 in
+    rw (p.1, p.2) (fails_whole (BehindPut c.args.text.now) (Behind (codes "put") c.args.text.now) _ (put c.args.text.now) (fails_rest IsPlaceText NamedTerm _ _ _ c.in_ok-place.ensures (fails_rest IsNameText (Is IsTermText) _ _ _ c.in_ok-part.ensures (fails_is IsTermText _ _ c.in_err-term.ensures))))
+
+pub returns : goal.returns
+returns c = put_text _ _ _ _ _ _ c.in_ok-place.ensures c.in_ok-part.ensures c.in_ok-term.ensures

@@ -1,0 +1,103 @@
+//! Questions: an attribute and its arguments.
+ghost use Rattle.std.specs.Prelude.{◌≡◌, ◌≢◌, ◌++◌, ◌∷◌, [], ℕ, List, MatchResult, slice_index, string_bytes};
+ghost use Rattle.at_protocol.specs.LineView.{argument_view, arguments_view};
+ghost use Rattle.at_protocol.specs.Words.{Answers, HasNo};
+ghost use Rattle.at_protocol.specs.Calls.{IsCallText, AreArguments, IsNextArgument, IsBareArgument, IsQuotedFirst, next_view};
+
+use super::Argument;
+use super::places::read_place;
+use super::words::{WordFault, read_name};
+use at_text::quoted::{QuoteFault, read_quoted};
+use std::alloc::Global;
+
+/// The attribute and the arguments that `ATTRIBUTE(ARGUMENTS)` names.
+pub(super) fn read_call(alloc: Global, text: &str) -> Result<(String, Vec<Argument>), WordFault>
+    ensures { Answers (λ call. (string_bytes call.0, arguments_view call.1.items)) (IsCallText text.now) result }
+{
+    let (name, inside) = call_parts(text)?;
+    let attribute = read_name(alloc, name)?;
+    if inside.is_empty() {
+        return Ok((attribute, Vec::new(alloc)));
+    }
+    let arguments = read_arguments(alloc, inside)?;
+    Ok((attribute, arguments))
+}
+
+/// The text before the first parenthesis, and the text from there to the last.
+fn call_parts(text: &str) -> Result<(&str, &str), WordFault>
+    ensures { MatchResult result
+        (λ parts. (text.now ≡ parts.0.now ++ 40 ∷ (parts.1.now ++ 41 ∷ [])) × HasNo 40 parts.0.now)
+        (λ fault. (fault ≡ WordFault.Form) × ((name inside : List ℕ) → HasNo 40 name → text.now ≢ name ++ 40 ∷ (inside ++ 41 ∷ []))) }
+{
+    let Some((name, rest)) = text.split_once('(') else {
+        return Err(WordFault::Form);
+    };
+    match rest.strip_suffix(')') {
+        Some(inside) => Ok((name, inside)),
+        None => Err(WordFault::Form),
+    }
+}
+
+/// The arguments that the text spells, one or more, with a comma between each two.
+fn read_arguments(alloc: Global, text: &str) -> Result<Vec<Argument>, WordFault>
+    ensures { Answers (λ arguments. arguments_view arguments.items) (AreArguments text.now) result }
+{
+    let (first, mut rest) = next_argument(alloc, text)?;
+    let mut arguments = Vec::new(alloc);
+    arguments.push(first)?;
+    while let Some(text) = rest {
+        let (argument, behind) = next_argument(alloc, text)?;
+        arguments.push(argument)?;
+        rest = behind;
+    }
+    Ok(arguments)
+}
+
+/// The argument before the next comma or the end, and what stands behind the comma.
+fn next_argument(alloc: Global, text: &str) -> Result<(Argument, Option<&str>), WordFault>
+    ensures { Answers next_view (IsNextArgument text.now) result }
+{
+    if text.starts_with('"') {
+        return next_text(alloc, text);
+    }
+    match text.split_once(',') {
+        Some((word, rest)) => Ok((read_bare(alloc, word)?, Some(rest))),
+        None => Ok((read_bare(alloc, text)?, None)),
+    }
+}
+
+/// The same, where a quote stands at the front.
+fn next_text(alloc: Global, text: &str) -> Result<(Argument, Option<&str>), WordFault>
+    requires { slice_index text.now 0 ≡ 34 }
+    ensures { Answers next_view (IsNextArgument text.now) result }
+{
+    let (value, rest) = text_first(alloc, text)?;
+    if rest.is_empty() {
+        return Ok((Argument::Text(value), None));
+    }
+    match rest.strip_prefix(',') {
+        Some(rest) => Ok((Argument::Text(value), Some(rest))),
+        None => Err(WordFault::Form),
+    }
+}
+
+/// The text whose spelling between quotes stands at the front, and the rest.
+fn text_first(alloc: Global, text: &str) -> Result<(String, &str), WordFault>
+    ensures { Answers (λ first. (string_bytes first.0, first.1.now)) (IsQuotedFirst text.now) result }
+{
+    match read_quoted(alloc, text) {
+        Ok((value, length)) => Ok((value, text.split_at(length).1)),
+        Err(QuoteFault::Form) => Err(WordFault::Form),
+        Err(QuoteFault::Memory) => Err(WordFault::Memory),
+    }
+}
+
+/// The argument that the word spells: `null` or a place.
+fn read_bare(alloc: Global, word: &str) -> Result<Argument, WordFault>
+    ensures { Answers argument_view (IsBareArgument word.now) result }
+{
+    if word == "null" {
+        return Ok(Argument::Null);
+    }
+    Ok(Argument::Node(read_place(alloc, word)?))
+}

@@ -1,0 +1,54 @@
+//! The first word of a text, read, and what stands behind the space after it.
+ghost use Rattle.std.specs.Prelude.{string_bytes};
+ghost use Rattle.at_protocol.specs.LineView.{place_view};
+ghost use Rattle.at_protocol.specs.Words.{Answers, IsFirst, IsExpected, IsNameText, IsIndexText, IsPlaceText};
+
+use super::Place;
+use super::places::read_place;
+use super::words::{WordFault, cut, read_index, read_name, read_number};
+use std::alloc::Global;
+
+/// The place that the first word spells, and the rest.
+pub(super) fn place_first(alloc: Global, text: &str) -> Result<(Place, &str), WordFault>
+    ensures { Answers (λ first. (place_view first.0, first.1.now)) (IsFirst IsPlaceText text.now) result }
+{
+    let (word, rest) = cut(text)?;
+    Ok((read_place(alloc, word)?, rest))
+}
+
+/// The name that the first word is, and the rest.
+pub(super) fn name_first(alloc: Global, text: &str) -> Result<(String, &str), WordFault>
+    ensures { Answers (λ first. (string_bytes first.0, first.1.now)) (IsFirst IsNameText text.now) result }
+{
+    let (word, rest) = cut(text)?;
+    Ok((read_name(alloc, word)?, rest))
+}
+
+/// The index whose decimal the first word is, and the rest.
+pub(super) fn index_first(text: &str) -> Result<(u32, &str), WordFault>
+    ensures { Answers (λ first. (first.0, first.1.now)) (IsFirst IsIndexText text.now) result }
+{
+    let (word, rest) = cut(text)?;
+    match read_index(word) {
+        Some(index) => Ok((index, rest)),
+        None => Err(WordFault::Form),
+    }
+}
+
+/// The version behind a first word `at`, and what stands behind that; where another word is the
+/// first, no version, and all.
+pub(super) fn read_expected(text: &str) -> Result<(Option<u64>, &str), WordFault>
+    ensures { Answers (λ first. (first.0, first.1.now)) (IsExpected text.now) result }
+{
+    let Some((word, rest)) = text.split_once(' ') else {
+        return Ok((None, text));
+    };
+    if word != "at" {
+        return Ok((None, text));
+    }
+    let (word, rest) = cut(rest)?;
+    match read_number(word) {
+        Some(version) => Ok((Some(version), rest)),
+        None => Err(WordFault::Form),
+    }
+}

@@ -1,0 +1,37 @@
+-- An entry of the slab that is written and shows the same.
+use Rattle.std.proofs.Common.{◌≡◌, ℕ, zero, suc, List, [], ◌∷◌, get_or, slice_set, Some, refl, sym, ap, ◌∙◌, inl, inr, is_some}
+use Rattle.std.specs.Prelude.{Vec, map}
+use Rattle.std.specs.Global.{Global}
+use Rattle.std.proofs.lemmas.Bool.{cases_eq}
+use Rattle.slab.specs.Slab.{Slab, get, with_value}
+use Rattle.slab.proofs.SlabLemmas.{Updates-with_value}
+use Rattle.at_store.specs.declared.entry.Entry.{Entry}
+use Rattle.at_store.specs.declared.entry.Slot.{Slot}
+use Rattle.at_model.specs.Edits.{changed_at}
+use Rattle.at_store.specs.Memory.{Info, Kept}
+use Rattle.at_store.specs.Planting.{IsAsBefore}
+use Rattle.at_store.specs.View.{info, info_of, kept_view, memory_of}
+
+pub written_same : (s : Slab Entry) (node : ℕ) (a : Entry) (cells : Vec Slot Global) → Some a ≡ get s node → map kept_view cells.items ≡ map kept_view a.cells.items →
+    IsAsBefore (memory_of s) (memory_of (with_value s node (record { class = a.class; up = a.up; index = a.index; leaves = a.leaves; cells = cells })))
+written_same s node a cells there same k =
+    let new : Entry = record { class = a.class; up = a.up; index = a.index; leaves = a.leaves; cells = cells } in
+    let shown : info new ≡ info a = ap (λ cs. let i : Info = record { class = a.class; up = a.up; index = a.index; cells = cs } in i) same in
+    let u = Updates-with_value s node new (ap is_some (sym there)) in
+    elim (cases_eq k node) [
+      | inl p ↦ ap (memory_of (with_value s node new)) p ∙ ap info_of u.changed ∙ ap Some shown ∙ ap info_of there ∙ ap (memory_of s) (sym p)
+      | inr q ↦ ap info_of (u.others k q)
+    ]
+
+-- a component that is written, found as slice_get or as get_or finds it
+pub slot_changed : (g : Kept → Kept) (xs : List Slot) (i : ℕ) (a b : Slot) → get_or xs i a ≡ a → kept_view b ≡ g (kept_view a) → map kept_view (slice_set xs i b) ≡ changed_at g (map kept_view xs) i
+slot_changed g [] zero a b e h = refl
+slot_changed g [] (suc i) a b e h = refl
+slot_changed g (x ∷ xs) zero a b e h = ap (λ y. y ∷ map kept_view xs) (h ∙ ap (λ z. g (kept_view z)) (sym e))
+slot_changed g (x ∷ xs) (suc i) a b e h = ap (λ ys. kept_view x ∷ ys) (slot_changed g xs i a b e h)
+
+pub slot_same : (xs : List Slot) (i : ℕ) (a b : Slot) → get_or xs i a ≡ a → kept_view b ≡ kept_view a → map kept_view (slice_set xs i b) ≡ map kept_view xs
+slot_same [] zero a b e h = refl
+slot_same [] (suc i) a b e h = refl
+slot_same (x ∷ xs) zero a b e h = ap (λ y. y ∷ map kept_view xs) (h ∙ ap kept_view (sym e))
+slot_same (x ∷ xs) (suc i) a b e h = ap (λ ys. kept_view x ∷ ys) (slot_same xs i a b e h)

@@ -1,0 +1,5 @@
+use Rattle.at_store.proofs.Touched.{touched}
+use Rattle.at_store.proofs.laws.touches_by_marks.Goals as goal
+
+pub returns : goal.returns
+returns c = touched

@@ -1,0 +1,9 @@
+use Rattle.std.proofs.Common.{ap}
+use Rattle.std.specs.Prelude.{map}
+use Rattle.at_store.specs.View.{kept_view}
+use Rattle.at_store.proofs.Gains.{at_err}
+use Rattle.at_store.proofs.Written.{written_same}
+use Rattle.at_store.proofs.plant.push_slot.Goals as goal
+
+pub returns-in_err-push-clause-kept : goal.returns-in_err-push-clause-kept
+returns-in_err-push-clause-kept c = at_err c.from_residual.result (written_same c.args.slab.now c.index.result c.in-Some.entry.now c.push.new.self c.in-Some.ensures.value (ap (map kept_view) c.in_err-push.ensures.items))

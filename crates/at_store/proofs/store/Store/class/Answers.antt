@@ -1,0 +1,8 @@
+use Rattle.std.proofs.Common.{◌∙◌}
+use Rattle.at_store.specs.View.{memory_of}
+use Rattle.at_store.specs.Shown.{numbers}
+use Rattle.at_store.proofs.Looked.{class_is}
+use Rattle.at_store.proofs.store.Store.class.Goals as goal
+
+pub returns : goal.returns
+returns c = c.class_at.ensures ∙ class_is (memory_of c.args.self.now.slab) (numbers c.args.self.now) c.requires.keeps c.args.node

@@ -1,0 +1,33 @@
+use Rattle.std.proofs.Common.{None, false, sym, refl, ◌∙◌}
+use Rattle.at_tree.specs.TreeView.{tree_view}
+use Rattle.at_tree.specs.declared.token.TokVal.TheVariants as token
+use Rattle.at_store.specs.Shown.{Shown}
+use Rattle.at_store.specs.View.{memory_of}
+use Rattle.at_store.proofs.Loaded.{loaded_tree, loaded_idle, empty_memory}
+use Rattle.at_store.proofs.store.Store.load.Goals as goal
+
+pub returns-clause-loaded : goal.returns-clause-loaded
+returns-clause-loaded c =
+    let s : Shown = record { slab = c.plant.new.slab; root = c.in_ok-root.root; waiting = None; leaving = None; absent = token.Bool false } in
+    loaded_tree s (tree_view c.args.tree) (record {
+      waiting = refl;
+      leaving = refl;
+      absent = refl;
+      before = memory_of c.new-slab.result;
+      free = empty_memory c.new-slab.result c.new-slab.ensures.empty;
+      planted = c.in_ok-root.ensures.planted;
+      limits = sym c.is_within_limits.ensures ∙ c.if-not-is_within_limits.false;
+    })
+
+pub returns-clause-idle : goal.returns-clause-idle
+returns-clause-idle c =
+    let s : Shown = record { slab = c.plant.new.slab; root = c.in_ok-root.root; waiting = None; leaving = None; absent = token.Bool false } in
+    loaded_idle s (tree_view c.args.tree) (record {
+      waiting = refl;
+      leaving = refl;
+      absent = refl;
+      before = memory_of c.new-slab.result;
+      free = empty_memory c.new-slab.result c.new-slab.ensures.empty;
+      planted = c.in_ok-root.ensures.planted;
+      limits = sym c.is_within_limits.ensures ∙ c.if-not-is_within_limits.false;
+    })

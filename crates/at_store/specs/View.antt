@@ -1,0 +1,37 @@
+-- The slab as a memory of nodes.
+use Rattle.std.specs.Prelude.{ℕ, Bool, false, map, Option, Some, None}
+use Rattle.slab.specs.Slab.{Slab, get}
+use Rattle.at_tree.specs.Token.{token_view}
+use Rattle.at_store.specs.Memory.{Form, Plain, List_of, Optional, Kept, Kids, Token_of, Info}
+use Rattle.at_store.specs.declared.entry.Entry.{Entry}
+use Rattle.at_store.specs.declared.entry.Slot.{Slot}
+use Rattle.at_store.specs.declared.entry.Slot.TheVariants as slot
+use Rattle.at_store.specs.declared.entry.Form.{Form as Shape}
+use Rattle.at_store.specs.declared.entry.Form.TheVariants as shape
+
+abbrev pub form_view : Shape → Form
+form_view shape.Plain = Plain
+form_view shape.List = List_of
+form_view shape.Optional = Optional
+
+abbrev pub kept_view : Slot → Kept
+kept_view (slot.Kids f ns) = Kids (form_view f) ns.items
+kept_view (slot.Token v) = Token_of (token_view v)
+
+abbrev pub info : Entry → Info
+info e = record { class = e.class; up = e.up; index = e.index; cells = map kept_view e.cells.items }
+
+abbrev pub info_of : Option Entry → Option Info
+info_of None = None
+info_of (Some e) = Some (info e)
+
+abbrev pub memory_of : Slab Entry → ℕ → Option Info
+memory_of slab k = info_of (get slab k)
+
+-- the node is marked: the edit that is prepared takes it away
+abbrev pub marked : Option Entry → Bool
+marked None = false
+marked (Some e) = e.leaves
+
+abbrev pub leaves_in : Slab Entry → ℕ → Bool
+leaves_in slab k = marked (get slab k)

@@ -1,0 +1,68 @@
+//! Nodes, and the locations that one can look at.
+use std::marker::Model;
+
+/// A node of a store, by its number. The number stays as long as the node does.
+#[derive(Clone, Copy, PartialEq, Eq, Hash, Debug)]
+pub struct Node(usize);
+
+impl Model for Node {
+    ghost use Rattle.std.specs.Prelude.{ℕ};
+
+    ghost Value = { ℕ };
+
+    ghost view = { λ n. n.0 };
+
+    ghost inverse = { λ n. record { 0 = n } };
+}
+
+impl Node {
+    ghost use Rattle.std.specs.Prelude.{◌≡◌};
+
+    /// The node of that number.
+    pub fn new(number: usize) -> Self
+        ensures { result ≡ number }
+    {
+        Node(number)
+    }
+
+    /// Its number.
+    pub fn index(self) -> usize
+        ensures { result ≡ self }
+    {
+        self.0
+    }
+}
+
+/// What one can look at of a node. A part is the position of a component of the node's class.
+#[derive(Clone, Copy, PartialEq, Eq, Hash, Debug)]
+pub enum Loc {
+    /// That it is there, and its class.
+    Is(Node),
+    /// The value of a token.
+    Tok(Node, usize),
+    /// The children in a component.
+    Slot(Node, usize),
+    /// The parent, and the component of it in which the node stands.
+    Up(Node),
+    /// The index among the elements of a list.
+    Idx(Node),
+}
+
+impl Loc {
+    ghost use Rattle.std.specs.Prelude.{◌≡◌};
+    ghost use Rattle.at_model.specs.Touches.{node_of};
+    ghost use Rattle.at_store.specs.Located.{loc_view};
+
+    /// The node that is looked at.
+    pub fn node(&self) -> Node
+        ensures { result ≡ node_of (loc_view self.now) }
+    {
+        match self {
+            Loc::Is(node) => *node,
+            Loc::Tok(node, _) => *node,
+            Loc::Slot(node, _) => *node,
+            Loc::Up(node) => *node,
+            Loc::Idx(node) => *node,
+        }
+    }
+}

@@ -1,0 +1,226 @@
+//! How trees come into the slab and out of it.
+ghost use Rattle.std.specs.Prelude.{◌≡◌, ◌≤◌, ℕ, IfOk, OnErr, OnOk, [], ◌∷◌, ◌++◌, map, true};
+ghost use Rattle.slab.specs.Slab.{slab_len};
+ghost use Rattle.at_model.specs.Edits.{changed_at};
+ghost use Rattle.at_model.specs.Trees.{Many, Tree as Numbered, class_of, to_trees};
+ghost use Rattle.at_tree.specs.TreeView.{cell_view, tree_view};
+ghost use Rattle.at_store.specs.Memory.{IsCellFreed, IsFreed, Kids, with_numbers};
+ghost use Rattle.at_store.specs.Planting.{GainsCell, GainsTree, IsAdded, IsAsBefore, IsPlanted, IsPushed, IsPushedKid, StaysPlanted, holding};
+ghost use Rattle.at_store.specs.View.{form_view, kept_view, leaves_in, memory_of};
+
+use crate::entry::{Entry, Form, Slot};
+use crate::node::Node;
+use crate::walks::copy_value;
+use at_class::ClassId;
+use at_tree::tree::{Cell, Tree};
+use slab::Slab;
+use std::alloc::{AllocError, Global};
+
+/// Takes a node and all below it out of the slab.
+#[cycle(free)]
+pub(crate) fn free(slab: &mut Slab<Entry>, node: Node)
+    ensures fewer { slab_len slab.new ≤ slab_len slab.old }
+    ensures freed { IsFreed node (memory_of slab.old) (memory_of slab.new) }
+    ensures marks { (k : ℕ) → leaves_in slab.new k ≡ true → leaves_in slab.old k ≡ true }
+{
+    if let Some(entry) = slab.try_remove(node.index()) {
+        for slot in &entry.cells {
+            free_slot(slab, slot);
+        }
+    }
+}
+
+#[cycle(free)]
+fn free_slot(slab: &mut Slab<Entry>, slot: &Slot)
+    ensures fewer { slab_len slab.new ≤ slab_len slab.old }
+    ensures freed { IsCellFreed (kept_view slot.now) (memory_of slab.old) (memory_of slab.new) }
+    ensures marks { (k : ℕ) → leaves_in slab.new k ≡ true → leaves_in slab.old k ≡ true }
+{
+    if let Slot::Kids(_, kids) = slot {
+        for kid in kids {
+            free(slab, *kid);
+        }
+    }
+}
+
+/// A node with no component yet.
+fn add(
+    alloc: Global,
+    slab: &mut Slab<Entry>,
+    class: ClassId,
+    up: Option<(Node, usize)>,
+    index: usize,
+) -> Result<Node, AllocError>
+    ensures added { IfOk result (λ node. IsAdded node class (up, index) (memory_of slab.old) (memory_of slab.new)) }
+    ensures kept { OnErr result (IsAsBefore (memory_of slab.old) (memory_of slab.new)) }
+{
+    let entry = Entry {
+        class,
+        up,
+        index,
+        leaves: false,
+        cells: Vec::new(alloc),
+    };
+    Ok(Node::new(slab.insert(entry)?))
+}
+
+/// One more component of a node.
+fn push_slot(slab: &mut Slab<Entry>, node: Node, slot: Slot) -> Result<(), AllocError>
+    ensures pushed { OnOk result (IsPushed node (kept_view slot) (memory_of slab.old) (memory_of slab.new)) }
+    ensures kept { OnErr result (IsAsBefore (memory_of slab.old) (memory_of slab.new)) }
+{
+    if let Some(entry) = slab.get_mut(node.index()) {
+        entry.cells.push(slot)?;
+    }
+    Ok(())
+}
+
+fn push_in_slot(slot: &mut Slot, kid: Node) -> Result<(), AllocError>
+    ensures pushed { OnOk result (kept_view slot.new ≡ with_numbers (λ ns. ns ++ kid ∷ []) (kept_view slot.old)) }
+    ensures kept { OnErr result (kept_view slot.new ≡ kept_view slot.old) }
+{
+    if let Slot::Kids(_, kids) = slot {
+        kids.push(kid)?;
+    }
+    Ok(())
+}
+
+fn push_in_cells(cells: &mut Vec<Slot>, part: usize, kid: Node) -> Result<(), AllocError>
+    ensures pushed { OnOk result (map kept_view cells.new.items ≡ changed_at (with_numbers (λ ns. ns ++ kid ∷ [])) (map kept_view cells.old.items) part) }
+    ensures kept { OnErr result (map kept_view cells.new.items ≡ map kept_view cells.old.items) }
+{
+    if let Some(slot) = cells.get_mut(part) {
+        push_in_slot(slot, kid)?;
+    }
+    Ok(())
+}
+
+/// One more child in a component of a node.
+fn push_kid(slab: &mut Slab<Entry>, node: Node, part: usize, kid: Node) -> Result<(), AllocError>
+    ensures pushed { OnOk result (IsPushedKid node part kid (memory_of slab.old) (memory_of slab.new)) }
+    ensures kept { OnErr result (IsAsBefore (memory_of slab.old) (memory_of slab.new)) }
+{
+    if let Some(entry) = slab.get_mut(node.index()) {
+        push_in_cells(&mut entry.cells, part, kid)?;
+    }
+    Ok(())
+}
+
+/// One more component of a node, in which this child stands.
+fn push_filled(
+    alloc: Global,
+    slab: &mut Slab<Entry>,
+    node: Node,
+    form: Form,
+    kid: Node,
+) -> Result<(), AllocError>
+    ensures pushed { OnOk result (IsPushed node (Kids (form_view form) (kid ∷ [])) (memory_of slab.old) (memory_of slab.new)) }
+    ensures kept { OnErr result (IsAsBefore (memory_of slab.old) (memory_of slab.new)) }
+{
+    let mut kids = Vec::new(alloc);
+    kids.push(kid)?;
+    push_slot(slab, node, Slot::Kids(form, kids))
+}
+
+/// Plants a tree's nodes under new numbers: the number of its root. Where memory is wanting, all is taken out again.
+#[cycle(plant)]
+pub(crate) fn plant(
+    alloc: Global,
+    slab: &mut Slab<Entry>,
+    up: Option<(Node, usize)>,
+    index: usize,
+    tree: &Tree,
+) -> Result<Node, AllocError>
+    ensures planted { IfOk result (λ node. (w : Numbered) × (class_of w ≡ node) × IsPlanted (memory_of slab.old) (memory_of slab.new) (up, index) (tree_view tree.now) w) }
+    ensures kept { OnErr result (IsAsBefore (memory_of slab.old) (memory_of slab.new)) }
+{
+    let node = add(alloc, slab, tree.class, up, index)?;
+    for (part, cell) in tree.cells.iter().enumerate() {
+        if let Err(error) = plant_cell(alloc, slab, node, part, cell) {
+            free(slab, node);
+            return Err(error);
+        }
+    }
+    Ok(node)
+}
+
+/// Plants what a component holds as the next one of a node. Where memory is wanting, a part of it may stay.
+#[cycle(plant)]
+fn plant_cell(
+    alloc: Global,
+    slab: &mut Slab<Entry>,
+    node: Node,
+    part: usize,
+    cell: &Cell,
+) -> Result<(), AllocError>
+    ensures planted { OnOk result (GainsCell node part (cell_view cell.now) (memory_of slab.old) (memory_of slab.new)) }
+    ensures stays { OnErr result (StaysPlanted node part (memory_of slab.old) (memory_of slab.new)) }
+{
+    match cell {
+        Cell::One(tree) => plant_child(alloc, slab, node, part, Form::Plain, tree),
+        Cell::Many(trees) => plant_list(alloc, slab, node, part, trees),
+        Cell::Maybe(held) => match held {
+            None => push_slot(slab, node, Slot::Kids(Form::Optional, Vec::new(alloc))),
+            Some(tree) => plant_child(alloc, slab, node, part, Form::Optional, tree),
+        },
+        Cell::Tok(value) => push_slot(slab, node, Slot::Token(copy_value(alloc, value)?)),
+    }
+}
+
+#[cycle(plant)]
+fn plant_child(
+    alloc: Global,
+    slab: &mut Slab<Entry>,
+    node: Node,
+    part: usize,
+    form: Form,
+    tree: &Tree,
+) -> Result<(), AllocError>
+    ensures planted { OnOk result (GainsCell node part (holding (form_view form) (tree_view tree.now)) (memory_of slab.old) (memory_of slab.new)) }
+    ensures kept { OnErr result (IsAsBefore (memory_of slab.old) (memory_of slab.new)) }
+{
+    let kid = plant(alloc, slab, Some((node, part)), 0, tree)?;
+    if let Err(error) = push_filled(alloc, slab, node, form, kid) {
+        free(slab, kid);
+        return Err(error);
+    }
+    Ok(())
+}
+
+#[cycle(plant)]
+fn plant_list(
+    alloc: Global,
+    slab: &mut Slab<Entry>,
+    node: Node,
+    part: usize,
+    trees: &[Tree],
+) -> Result<(), AllocError>
+    ensures planted { OnOk result (GainsCell node part (Many (to_trees (map tree_view trees.now))) (memory_of slab.old) (memory_of slab.new)) }
+    ensures stays { OnErr result (StaysPlanted node part (memory_of slab.old) (memory_of slab.new)) }
+{
+    push_slot(slab, node, Slot::Kids(Form::List, Vec::new(alloc)))?;
+    for (index, tree) in trees.iter().enumerate() {
+        plant_element(alloc, slab, node, part, index, tree)?;
+    }
+    Ok(())
+}
+
+#[cycle(plant)]
+fn plant_element(
+    alloc: Global,
+    slab: &mut Slab<Entry>,
+    node: Node,
+    part: usize,
+    index: usize,
+    tree: &Tree,
+) -> Result<(), AllocError>
+    ensures planted { OnOk result (GainsTree node part index (tree_view tree.now) (memory_of slab.old) (memory_of slab.new)) }
+    ensures kept { OnErr result (IsAsBefore (memory_of slab.old) (memory_of slab.new)) }
+{
+    let kid = plant(alloc, slab, Some((node, part)), index, tree)?;
+    if let Err(error) = push_kid(slab, node, part, kid) {
+        free(slab, kid);
+        return Err(error);
+    }
+    Ok(())
+}
