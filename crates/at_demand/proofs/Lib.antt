@@ -5,3 +5,4 @@ pub mod Keys
 pub mod Orderly
 pub mod Truth
 pub mod Seeing
+pub mod Counting

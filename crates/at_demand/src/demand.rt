@@ -10,6 +10,7 @@ ghost use Rattle.at_body.specs.Same.{same_instance};
 ghost use Rattle.at_body.specs.Values.{value_view};
 ghost use Rattle.at_cache.specs.Kept.{AreKept, Answers as Says, LeavesUntouched, LosesTouched};
 ghost use Rattle.at_demand.specs.Known.{meaning, kept_values, answer_view, MayAdd, FoundKept};
+ghost use Rattle.at_demand.specs.Gained.{AreLazy, Counts};
 ghost use Rattle.at_demand.specs.UnderWay.{IsOrderlyIn, IsTrueIn, IsTurn, IsRightTurn};
 
 use crate::answer::Answer;
@@ -57,6 +58,8 @@ impl<K: Keeper> Demand<K> {
         requires idle { IsIdle store.now }
         ensures answers { Right (contents store.now) (meaning rules.now) (kept_values (K.contents self.old.keeper)) → IfOk result (λ a. HasAnswer (contents store.now) (meaning rules.now) inst.now (answer_view a)) }
         ensures right { Right (contents store.now) (meaning rules.now) (kept_values (K.contents self.old.keeper)) → Right (contents store.now) (meaning rules.now) (kept_values (K.contents self.new.keeper)) }
+        ensures lazy { AreLazy rules.now (K.contents self.old.keeper) → AreLazy rules.now (K.contents self.new.keeper) }
+        ensures counts { IsTrue K.exact → Counts (K.contents self.old.keeper) (K.contents self.new.keeper) self.old.work self.new.work }
     {
         if let Some(value) = self.keeper.get(inst) {
             return Ok(Answer::Value(value.copy()?));
@@ -88,7 +91,7 @@ impl<K: Keeper> Demand<K> {
         self.work
     }
 
-    #[tactic(auto, using(crate::proofs::Orderly::neither, crate::proofs::Truth::right_known, crate::proofs::Truth::fails))]
+    #[tactic(auto, using(crate::proofs::Orderly::neither, crate::proofs::Truth::right_known, crate::proofs::Truth::fails, crate::proofs::Counting::counts_none))]
     // Goes on with the last instance of the chain up to its end, or to an instance that isn't known; then that one's
     // evaluation is begun.
     fn turn<'a>(
@@ -103,6 +106,8 @@ impl<K: Keeper> Demand<K> {
         ensures turn { IfOk result (IsTurn (K.contents self.new.keeper) question.entry) }
         ensures answers { (asked : Instance ℕ) → IsTrueIn rules.now (contents store.now) asked (K.contents self.old.keeper) question.entry step → IfOk result (IsRightTurn rules.now (contents store.now) asked (K.contents self.new.keeper)) }
         ensures right { (asked : Instance ℕ) → IsTrueIn rules.now (contents store.now) asked (K.contents self.old.keeper) question.entry step → Right (contents store.now) (meaning rules.now) (kept_values (K.contents self.new.keeper)) }
+        ensures lazy { AreLazy rules.now (K.contents self.old.keeper) → AreLazy rules.now (K.contents self.new.keeper) }
+        ensures counts { IsTrue K.exact → Counts (K.contents self.old.keeper) (K.contents self.new.keeper) self.old.work self.new.work }
     {
         let mut question = question;
         let q = &mut question;
@@ -142,7 +147,7 @@ impl<K: Keeper> Demand<K> {
         Ok(Turn::GoesOn(next, step))
     }
 
-    #[tactic(auto, using(crate::proofs::Orderly::settles, crate::proofs::Orderly::last_unkept, crate::proofs::Truth::settles_true, crate::proofs::Truth::ends, crate::proofs::Truth::right_after))]
+    #[tactic(auto, using(crate::proofs::Orderly::settles, crate::proofs::Orderly::last_unkept, crate::proofs::Truth::settles_true, crate::proofs::Truth::ends, crate::proofs::Truth::right_after, crate::proofs::Counting::counts_none))]
     // The last instance has this value.
     fn settle<'a>(
         &mut self,
@@ -154,6 +159,8 @@ impl<K: Keeper> Demand<K> {
         ensures turn { IfOk result (IsTurn (K.contents self.new.keeper) question.entry) }
         ensures answers { (look : Contents ℕ) (asked : Instance ℕ) → IsTrueIn rules.now look asked (K.contents self.old.keeper) question.entry (step_code.Value value) → IfOk result (IsRightTurn rules.now look asked (K.contents self.new.keeper)) }
         ensures right { (look : Contents ℕ) (asked : Instance ℕ) → IsTrueIn rules.now look asked (K.contents self.old.keeper) question.entry (step_code.Value value) → Right look (meaning rules.now) (kept_values (K.contents self.new.keeper)) }
+        ensures lazy { AreLazy rules.now (K.contents self.old.keeper) → AreLazy rules.now (K.contents self.new.keeper) }
+        ensures counts { IsTrue K.exact → Counts (K.contents self.old.keeper) (K.contents self.new.keeper) self.old.work self.new.work }
     {
         let Question {
             mut waiting,
@@ -179,7 +186,7 @@ impl<K: Keeper> Demand<K> {
         Ok(Turn::GoesOn(question, Step::Need(needed)))
     }
 
-    #[tactic(auto, using(crate::proofs::Orderly::put_adds))]
+    #[tactic(auto, using(crate::proofs::Orderly::put_adds, crate::proofs::Counting::counts_none, crate::proofs::Counting::counts_failed, crate::proofs::Counting::counts_put, crate::proofs::Counting::lazy_put))]
     // Keeps what was found of the instance, if its attribute is lazy.
     fn keep(
         &mut self,
@@ -191,7 +198,9 @@ impl<K: Keeper> Demand<K> {
         requires absent { K.contents self.old.keeper inst.now ≡ None }
         requires kept { AreKept (K.contents self.old.keeper) find.now.demanded.kept.items }
         requires found { FoundKept (K.contents self.old.keeper) found.now.entries }
-        ensures { MayAdd (K.contents self.old.keeper) (K.contents self.new.keeper) inst.now (value_view find.now.value) }
+        ensures adds { MayAdd (K.contents self.old.keeper) (K.contents self.new.keeper) inst.now (value_view find.now.value) }
+        ensures lazy { AreLazy rules.now (K.contents self.old.keeper) → AreLazy rules.now (K.contents self.new.keeper) }
+        ensures counts { IsTrue K.exact → Counts (K.contents self.old.keeper) (K.contents self.new.keeper) self.old.work self.new.work }
     {
         if !rules.is_lazy(inst.attribute()) {
             return Ok(());

@@ -11,6 +11,7 @@ use Rattle.at_demand.specs.declared.demand.Turn.{Turn}
 use Rattle.at_demand.specs.UnderWay.{HasStepped, IsTurn, IsRightTurn}
 use Rattle.at_demand.proofs.Orderly.{no_value, begun, last_unkept, settles, deepens}
 use Rattle.at_demand.proofs.Truth.{begun_true, right_after, ends, settles_true, deepens_true, closes, fails, right_known}
+use Rattle.at_demand.proofs.Counting.{counts_none, counts_more}
 use Rattle.at_demand.proofs.demand.Demand.answer.Goals as goal
 
 pub loop-next-init : goal.loop-next-init
@@ -24,6 +25,8 @@ loop-next-init g c =
       orderly = begun entries q.waiting.entries q.found.entries q.inst c.args.inst.now q.frame.demanded.kept.items e.alone e.nothing asked e.fresh (no_value (entries c.args.inst.now) (sym c.in_default.ensures));
       holds = λ right. begun_true c.args.rules.now look c.args.inst.now entries q.waiting.entries q.found.entries q.inst q.frame.trial c.in_ok-begun.begun.1 e.alone e.nothing asked
           (subst (λ x. HasStepped c.args.rules.now look x q.frame.trial c.in_ok-begun.begun.1) (sym e.inst) e.stepped) right;
+      lazy = λ all. all;
+      counts = λ exact. ?;
     }
 
 pub returns-in_err-next-clause-right : goal.returns-in_err-next-clause-right
@@ -36,6 +39,8 @@ loop-next-preserved g c =
     record {
       orderly = goes.orderly;
       holds = λ right. subst (λ (t : Turn). IsRightTurn c.args.rules.now (contents c.args.store.now) c.args.inst.now entries t) c.in-GoesOn.is (c.in_ok-next.ensures.answers c.args.inst.now (c.loop-next.invariant.holds right));
+      lazy = λ all. c.in_ok-next.ensures.lazy (c.loop-next.invariant.lazy all);
+      counts = λ exact. counts_more (g.K.Keeper.contents c.args.self.now.keeper) (g.K.Keeper.contents c.loop-next.self.keeper) entries c.args.self.now.work c.loop-next.self.work c.turn.new.self.work (c.loop-next.invariant.counts exact) (c.in_ok-next.ensures.counts exact);
     }
 
 pub returns-in-Answers-clause-answers : goal.returns-in-Answers-clause-answers

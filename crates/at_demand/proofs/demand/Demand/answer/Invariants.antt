@@ -2,6 +2,8 @@ use Rattle.std.proofs.Common.{◌-◌, ◌^◌}
 use Rattle.at_model.specs.Meaning.{Right}
 use Rattle.at_store.specs.Shown.{contents}
 use Rattle.at_demand.specs.Known.{meaning, kept_values}
+use Rattle.std.specs.Prelude.{IsTrue}
+use Rattle.at_demand.specs.Gained.{AreLazy, Counts}
 use Rattle.at_demand.specs.UnderWay.{IsOrderlyIn, IsTrueIn, progress}
 use Rattle.at_demand.proofs.demand.Demand.answer.Given as goal
 
@@ -9,6 +11,8 @@ abbrev pub invariant-loop-next : goal.invariant-loop-next
 invariant-loop-next g l = record {
   orderly : IsOrderlyIn (g.K.Keeper.contents l.self.keeper) l.question;
   holds : Right (contents l.store) (meaning l.rules) (kept_values (g.K.Keeper.contents l.initial.self.keeper)) → IsTrueIn l.rules (contents l.store) l.inst (g.K.Keeper.contents l.self.keeper) l.question l.step;
+  lazy : AreLazy l.rules (g.K.Keeper.contents l.initial.self.keeper) → AreLazy l.rules (g.K.Keeper.contents l.self.keeper);
+  counts : IsTrue g.K.Keeper.exact → Counts (g.K.Keeper.contents l.initial.self.keeper) (g.K.Keeper.contents l.self.keeper) l.initial.self.work l.self.work;
 }
 
 abbrev pub decreases-loop-next : goal.decreases-loop-next
