@@ -1,4 +1,9 @@
+pub mod Marks
+pub mod Holding
+pub mod Saying
 pub mod Serving
+pub mod Following
+pub mod Naming
 pub mod Engines
 pub mod Telling
 pub mod Loop

@@ -3,7 +3,7 @@
 ghost use Rattle.std.specs.Prelude.{◌≡◌, ◌++◌, ◌∷◌, ◌≤◌, ◌<◌, ◌+◌, ◌^◌, Bool, ℕ, List, [], vec_len, vec_capacity, length};
 ghost use Rattle.at_engine.specs.Serving.{Serves};
 ghost use Rattle.at_model.specs.Replies.{Reply, reply_text};
-ghost use Rattle.at_engine.specs.Engines.{seen_of, rules_of, IsWhole};
+ghost use Rattle.at_engine.specs.Engines.{state_of, rules_of, IsWhole};
 ghost use Rattle.at_engine.specs.Loop.{kept, IsOpen};
 ghost use Rattle.at_engine.specs.Taking.{Counts, Written, TakesOrStops, Finishes};
 ghost use Rattle.at_engine.specs.Running.{Ran};
@@ -57,13 +57,17 @@ fn keep(line: &mut Vec<u8>, byte: u8)
 }
 
 /// Serves the line that was read, and writes its reply.
-fn serve<K: Keeper, W: Write>(engine: &mut Engine<K>, desk: &mut Desk, writer: &mut W) -> Result<(), RunFault>
+fn serve<K: Keeper, W: Write>(
+    engine: &mut Engine<K>,
+    desk: &mut Desk,
+    writer: &mut W,
+) -> Result<(), RunFault>
     requires idle { IsIdle engine.old.store }
     requires whole { IsWhole engine.old }
     requires line { 0 < vec_len desk.old.line }
     requires count { desk.old.lines + 1 < 2 ^ 128 }
     ensures served { (wants : Bool) × (reply : Reply)
-        × Serves (rules_of engine.old) wants (seen_of engine.old) desk.old.line.items (seen_of engine.new) reply
+        × Serves (rules_of engine.old) wants (state_of engine.old) desk.old.line.items (state_of engine.new) reply
         × Counts desk.old desk.new (wants ∷ []) × Written result (W.contents writer.old) (W.contents writer.new) (reply_text reply) }
     ensures rules { rules_of engine.new ≡ rules_of engine.old }
     ensures line { desk.new.line.items ≡ desk.old.line.items }
@@ -91,7 +95,7 @@ fn take_byte<K: Keeper, W: Write>(
     requires idle { IsIdle engine.old.store }
     requires whole { IsWhole engine.old }
     requires few { desk.old.lines + 1 < 2 ^ 128 }
-    ensures taken { (front : List ℕ) → IsOpen front → desk.old.line.items ≡ kept front → TakesOrStops result (rules_of engine.old) (seen_of engine.old) front (byte ∷ []) (seen_of engine.new) desk.old desk.new (W.contents writer.old) (W.contents writer.new) }
+    ensures taken { (front : List ℕ) → IsOpen front → desk.old.line.items ≡ kept front → TakesOrStops result (rules_of engine.old) (state_of engine.old) front (byte ∷ []) (state_of engine.new) desk.old desk.new (W.contents writer.old) (W.contents writer.new) }
     ensures rules { rules_of engine.new ≡ rules_of engine.old }
     ensures grows { desk.new.lines ≤ desk.old.lines + 1 }
     ensures idle { IsIdle engine.new.store }
@@ -116,7 +120,7 @@ fn take_piece<K: Keeper, W: Write>(
     requires idle { IsIdle engine.old.store }
     requires whole { IsWhole engine.old }
     requires few { desk.old.lines + length piece.now + 1 < 2 ^ 128 }
-    ensures taken { (front : List ℕ) → IsOpen front → desk.old.line.items ≡ kept front → TakesOrStops result (rules_of engine.old) (seen_of engine.old) front piece.now (seen_of engine.new) desk.old desk.new (W.contents writer.old) (W.contents writer.new) }
+    ensures taken { (front : List ℕ) → IsOpen front → desk.old.line.items ≡ kept front → TakesOrStops result (rules_of engine.old) (state_of engine.old) front piece.now (state_of engine.new) desk.old desk.new (W.contents writer.old) (W.contents writer.new) }
     ensures rules { rules_of engine.new ≡ rules_of engine.old }
     ensures grows { desk.new.lines ≤ desk.old.lines + length piece.now }
     ensures idle { IsIdle engine.new.store }
@@ -129,11 +133,15 @@ fn take_piece<K: Keeper, W: Write>(
 }
 
 /// Serves the last line, which no newline ends, unless it is empty.
-fn finish<K: Keeper, W: Write>(engine: &mut Engine<K>, desk: &mut Desk, writer: &mut W) -> Result<(), RunFault>
+fn finish<K: Keeper, W: Write>(
+    engine: &mut Engine<K>,
+    desk: &mut Desk,
+    writer: &mut W,
+) -> Result<(), RunFault>
     requires idle { IsIdle engine.old.store }
     requires whole { IsWhole engine.old }
     requires few { desk.old.lines + 1 < 2 ^ 128 }
-    ensures finished { (front : List ℕ) → desk.old.line.items ≡ kept front → Finishes result (rules_of engine.old) (seen_of engine.old) front (seen_of engine.new) desk.old desk.new (W.contents writer.old) (W.contents writer.new) }
+    ensures finished { (front : List ℕ) → desk.old.line.items ≡ kept front → Finishes result (rules_of engine.old) (state_of engine.old) front (state_of engine.new) desk.old desk.new (W.contents writer.old) (W.contents writer.new) }
     ensures rules { rules_of engine.new ≡ rules_of engine.old }
     ensures idle { IsIdle engine.new.store }
     ensures whole { IsWhole engine.new }
@@ -158,7 +166,7 @@ pub fn run<K: Keeper, R: Read, W: Write>(
 ) -> Result<Report, RunFault>
     requires idle { IsIdle engine.old.store }
     requires whole { IsWhole engine.old }
-    ensures ran { Ran result (rules_of engine.old) (seen_of engine.old) (seen_of engine.new) (R.remaining reader.old) (R.remaining reader.new) (W.contents writer.old) (W.contents writer.new) }
+    ensures ran { Ran result (rules_of engine.old) (state_of engine.old) (state_of engine.new) (R.remaining reader.old) (R.remaining reader.new) (W.contents writer.old) (W.contents writer.new) }
     ensures rules { rules_of engine.new ≡ rules_of engine.old }
     ensures idle { IsIdle engine.new.store }
     ensures whole { IsWhole engine.new }

@@ -19,9 +19,11 @@ fn is_text(value: &Value) -> bool {
 
 impl<K: Keeper> Engine<K> {
     ghost use Rattle.std.specs.Prelude.{◌≡◌, ◌<◌, length, IfOk};
-    ghost use Rattle.at_engine.specs.Engines.{rules_of, seen_of, IsWhole};
+    ghost use Rattle.at_engine.specs.Engines.{rules_of, state_of, IsWhole};
     ghost use Rattle.at_store.specs.Shown.{IsIdle};
-    ghost use Rattle.at_engine.specs.Telling.{Tells};
+    ghost use Rattle.at_model.specs.Lines.{Ask};
+    ghost use Rattle.at_protocol.specs.LineView.{arguments_view, place_view};
+    ghost use Rattle.at_engine.specs.Telling.{IsAnswered, Obeys};
 
     /// What the attribute of the node is, or why there is no answer.
     pub(super) fn ask(
@@ -33,8 +35,8 @@ impl<K: Keeper> Engine<K> {
     ) -> Result<Form, AllocError>
         requires idle { IsIdle self.old.store }
         requires whole { IsWhole self.old }
-        ensures tells { IfOk result (Tells (seen_of self.old) (seen_of self.new)) }
-        ensures kept { seen_of self.new ≡ seen_of self.old }
+        ensures obeys { IfOk result (λ f. Obeys (rules_of self.old) (state_of self.old) session (Ask (place_view place.now) attribute.now (arguments_view arguments.now)) f (state_of self.new)) }
+        ensures kept { state_of self.new ≡ state_of self.old }
         ensures rules { rules_of self.new ≡ rules_of self.old }
         ensures idle { IsIdle self.new.store }
         ensures whole { IsWhole self.new }
@@ -63,8 +65,8 @@ impl<K: Keeper> Engine<K> {
     ) -> Result<Form, AllocError>
         requires idle { IsIdle self.old.store }
         requires whole { IsWhole self.old }
-        ensures tells { IfOk result (Tells (seen_of self.old) (seen_of self.new)) }
-        ensures kept { seen_of self.new ≡ seen_of self.old }
+        ensures answered { IfOk result IsAnswered }
+        ensures kept { state_of self.new ≡ state_of self.old }
         ensures rules { rules_of self.new ≡ rules_of self.old }
         ensures idle { IsIdle self.new.store }
         ensures whole { IsWhole self.new }
@@ -81,6 +83,7 @@ impl<K: Keeper> Engine<K> {
         arguments: &[Argument],
     ) -> Result<Option<Arguments>, AllocError>
         requires idle { IsIdle self.now.store }
+        requires whole { IsWhole self.now }
     {
         let mut values = Arguments::new(self.alloc);
         for argument in arguments {
@@ -95,6 +98,7 @@ impl<K: Keeper> Engine<K> {
     /// The value that the argument names; none where its place leads to no node.
     fn value_named(&self, session: u16, argument: &Argument) -> Result<Option<Value>, AllocError>
         requires idle { IsIdle self.now.store }
+        requires whole { IsWhole self.now }
     {
         match argument {
             Argument::Text(text) => {

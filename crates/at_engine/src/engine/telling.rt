@@ -22,14 +22,15 @@ fn fault_word(kind: FaultKind) -> FaultWord {
 
 impl<K: Keeper> Engine<K> {
     ghost use Rattle.std.specs.Prelude.{◌≡◌, IfOk};
-    ghost use Rattle.at_engine.specs.Engines.{seen_of};
+    ghost use Rattle.at_engine.specs.Engines.{IsWhole};
     ghost use Rattle.at_store.specs.Shown.{IsIdle};
-    ghost use Rattle.at_engine.specs.Telling.{IsTold, Tells};
+    ghost use Rattle.at_engine.specs.Telling.{IsAnswered, IsShownTold};
 
     /// The value, or the fault or circle with the path of its node.
     pub(super) fn told(&self, answer: Answer) -> Result<Form, AllocError>
         requires idle { IsIdle self.now.store }
-        ensures { IfOk result (Tells (seen_of self.now) (seen_of self.now)) }
+        requires whole { IsWhole self.now }
+        ensures { IfOk result IsAnswered }
     {
         match answer {
             Answer::Value(value) => Ok(Form::Shows(self.shown(value)?)),
@@ -53,7 +54,8 @@ impl<K: Keeper> Engine<K> {
     /// What is shown of a value: of a node its path.
     fn shown(&self, value: Value) -> Result<Shown, AllocError>
         requires idle { IsIdle self.now.store }
-        ensures { IfOk result IsTold }
+        requires whole { IsWhole self.now }
+        ensures { IfOk result IsShownTold }
     {
         match value {
             Value::Int(number) => Ok(Shown::Token(TokVal::Int(number))),
