@@ -3,6 +3,9 @@ pub mod Following
 pub mod Verdicts
 pub mod Naming
 pub mod Storing
+pub mod Components
+pub mod Commands
+pub mod Editing
 pub mod Kept
 pub mod KeptLines
 pub mod Pieces
@@ -10,4 +13,6 @@ pub mod Progressing
 pub mod Takings
 pub mod Runnings
 pub mod Telling
+pub mod Sessions
+pub mod Attempting
 pub mod Within

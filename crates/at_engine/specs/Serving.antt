@@ -1,24 +1,30 @@
 -- What serving lines is: the steps of the machine, where it is left open what becomes of a question.
-use Rattle.std.specs.Prelude.{◌≡◌, ⊤, ℕ, Bool, true, false, List, [], ◌∷◌, ◌++◌, Some}
+use Rattle.std.specs.Prelude.{◌≡◌, ⊤, ℕ, Bool, true, false, List, [], ◌∷◌, ◌++◌, Option, Some, None}
 use Rattle.std.specs.List.{list_all}
+use Rattle.at_model.specs.Paths.{Node}
 use Rattle.at_model.specs.Rules.{Rules}
 use Rattle.at_model.specs.Lines.{Line, Spells, IsSessionOf, lines, Command, Ask}
-use Rattle.at_model.specs.Machine.{State, Verdict, Refuses, Tells, Leaves, Edits, Asks, after, is_stale, is_marked, marks_used, obeyed}
+use Rattle.at_model.specs.Machine.{State, Verdict, Refuses, Tells, Leaves, Edits, Asks, after, is_stale, is_marked, marks_used, node_named, obeyed}
 use Rattle.at_model.specs.Replies.{Reply, Form, Refused, Memory, reply_text}
 use Rattle.at_model.specs.Replies as code
 use Rattle.at_engine.specs.Saying.{Says}
 
--- a question is asked, or refused
-abbrev pub IsOfQuestion : Verdict → Type 0
-IsOfQuestion (Refuses refusal) = ⊤
-IsOfQuestion (Tells shown) = ⊥
-IsOfQuestion (Leaves marks) = ⊥
-IsOfQuestion (Edits e t) = ⊥
-IsOfQuestion (Asks q) = ⊤
+-- a question for an attribute of the node is asked, or refused
+abbrev pub IsOfQuestion : Node → Verdict → Type 0
+IsOfQuestion n (Refuses refusal) = ⊤
+IsOfQuestion n (Tells shown) = ⊥
+IsOfQuestion n (Leaves marks) = ⊥
+IsOfQuestion n (Edits e t) = ⊥
+IsOfQuestion n (Asks q) = q.node ≡ n
+
+-- so it is, where there is the node that is named
+abbrev pub IsAsked : Option Node → Verdict → Type 0
+IsAsked None v = v ≡ Refuses code.Path
+IsAsked (Some n) v = IsOfQuestion n v
 
 -- what may become of the command of a session, when the marks that it uses are there
 abbrev pub MayBecome : Rules → State → ℕ → Command → Verdict → Type 0
-MayBecome rules s session (Ask place attribute arguments) v = IsOfQuestion v
+MayBecome rules s session (Ask place attribute arguments) v = IsAsked (node_named rules.classes s session place) v
 MayBecome rules s session command v = v ≡ obeyed rules s session command
 
 -- and where the session has them, or hasn't
