@@ -45,12 +45,20 @@ module _ (classes : Classes) (s : Shown) (k : ℕ) (n : Node) (name : List ℕ) 
         ap (option_and_then (λ v. option_map (λ q. q.shape) (slice_get (parts classes (class_of v)) i))) at' ∙ ap (λ c. option_map (λ q. q.shape) (slice_get (parts classes c) i)) (sym (class_there s k n u p at')) ∙ ap (option_map (λ q. q.shape)) is,
       )
 
+-- the component at that place asks for the class that is asked where the node stands
+pub record AsksFor (classes : Classes) (s : Shown) (n : Node) (place : ℕ × ℕ) : Type 0 where
+  pub component : Component
+  pub is : slice_get (parts classes (contents s (Is place.0))) place.1 ≡ Some component
+  pub class : ℕ
+  pub in_it : class_in component.shape ≡ Some class
+  pub asked : class_asked classes (tree s) n ≡ Some class
+
+same_place : (a b : ℕ × ℕ) → Some a ≡ Some b → a ≡ b
+same_place a b e = cc
+
 module _ (classes : Classes) (s : Shown) (h : IsIdle s) (conforming : conforms classes (tree s) 0 ≡ true) (k : ℕ) (n : Node) (p : path s k ≡ Some n) where
   up_shown : contents s (Up k) ≡ option_map (λ (q : Node × ℕ). (number_at (numbers s) q.0, q.1)) (content (tree s) (Up n))
   up_shown = ap (λ (o : Option Node). elim o as (λ _. Option (ℕ × ℕ)) [ None ↦ None | Some m ↦ option_map (λ (q : Node × ℕ). (number_at (numbers s) q.0, q.1)) (content (tree s) (Up m)) ]) p
-
-  asked_by : Option (Node × (ℕ × ℕ)) → Option ℕ
-  asked_by o = elim o [ None ↦ Some 0 | Some q ↦ option_and_then class_in (shape_at classes (tree s) q.0 q.1.0) ]
 
   root_by : (o : Option (Node × (ℕ × ℕ))) → parent_of n ≡ o → contents s (Up k) ≡ None → class_asked classes (tree s) n ≡ Some 0
   root_by None e none = ap (λ (o : Option (Node × (ℕ × ℕ))). elim o as (λ _. Option ℕ) [ None ↦ Some 0 | Some q ↦ option_and_then class_in (shape_at classes (tree s) q.0 q.1.0) ]) e
@@ -61,15 +69,7 @@ module _ (classes : Classes) (s : Shown) (h : IsIdle s) (conforming : conforms c
   pub asked_of_root : contents s (Up k) ≡ None → class_asked classes (tree s) n ≡ Some 0
   asked_of_root none = root_by (parent_of n) refl none
 
-  -- the component in which the node stands asks for the class
-  pub record Asks (place : ℕ × ℕ) : Type 0 where
-    pub component : Component
-    pub is : slice_get (parts classes (contents s (Is place.0))) place.1 ≡ Some component
-    pub class : ℕ
-    pub in_it : class_in component.shape ≡ Some class
-    pub asked : class_asked classes (tree s) n ≡ Some class
-
-  below_by : (o : Option (Node × (ℕ × ℕ))) (place : ℕ × ℕ) → parent_of n ≡ o → contents s (Up k) ≡ Some place → Asks place
+  below_by : (o : Option (Node × (ℕ × ℕ))) (place : ℕ × ℕ) → parent_of n ≡ o → contents s (Up k) ≡ Some place → AsksFor classes s n place
   below_by None place e some =
       let f : contents s (Up k) ≡ None = up_shown ∙ ap (λ (o : Option (Node × (ℕ × ℕ))). option_map (λ (r : Node × ℕ). (number_at (numbers s) r.0, r.1)) (option_map (λ (r : Node × (ℕ × ℕ)). (r.0, r.1.0)) o)) e in
       let g : None ≡ Some place = sym f ∙ some in absurd cc
@@ -84,11 +84,11 @@ module _ (classes : Classes) (s : Shown) (h : IsIdle s) (conforming : conforms c
       let (b, ok) = conforms_at classes (tree s) 0 q.0 w conforming there in
       let child = sym (tree_at-snoc (tree s) q.0 q.1 w there) ∙ ap (tree_at (tree s)) (sym snoc) ∙ at' in
       let (d, is, conform) = child_conforms classes w b q.1.0 q.1.1 _ ok child in
-      let (c, here, fits) = led (λ c. class_in c.shape) (slice_get (parts classes (class_of w)) q.1.0) d is in
+      let (c, here, fits) = led (λ (c : Component). class_in c.shape) (slice_get (parts classes (class_of w)) q.1.0) d is in
       let number_is : number_at (numbers s) q.0 ≡ class_of v = ap (λ (o : Option Tree). elim o as (λ _. ℕ) [ None ↦ 0 | Some x ↦ class_of x ]) parent in
-      let class_is : contents s (Is (number_at (numbers s) q.0)) ≡ class_of w = ap (λ j. contents s (Is j)) number_is ∙ class_there s (class_of v) q.0 w parent_path there in
-      let first : slice_get (parts classes (contents s (Is (number_at (numbers s) q.0)))) q.1.0 ≡ Some c = ap (λ j. slice_get (parts classes j) q.1.0) class_is ∙ here in
-      subst (λ (x : ℕ × ℕ). Asks x) same (record {
+      let class_is : contents s (Is (number_at (numbers s) q.0)) ≡ class_of w = ap (λ (j : ℕ). contents s (Is j)) number_is ∙ class_there s (class_of v) q.0 w parent_path there in
+      let first : slice_get (parts classes (contents s (Is (number_at (numbers s) q.0)))) q.1.0 ≡ Some c = ap (λ (j : ℕ). slice_get (parts classes j) q.1.0) class_is ∙ here in
+      subst (λ (x : ℕ × ℕ). AsksFor classes s n x) same (record {
         component = c;
         is = first;
         class = d;
@@ -97,9 +97,6 @@ module _ (classes : Classes) (s : Shown) (h : IsIdle s) (conforming : conforms c
             ∙ ap (λ (o : Option Tree). option_and_then class_in (option_and_then (λ u. option_map (λ x. x.shape) (slice_get (parts classes (class_of u)) q.1.0)) o)) there
             ∙ ap (λ (o : Option Component). option_and_then class_in (option_map (λ x. x.shape) o)) here ∙ fits;
       })
-    where
-      same_place : (a b : ℕ × ℕ) → Some a ≡ Some b → a ≡ b
-      same_place a b e = cc
 
-  pub asked_below : (place : ℕ × ℕ) → contents s (Up k) ≡ Some place → Asks place
+  pub asked_below : (place : ℕ × ℕ) → contents s (Up k) ≡ Some place → AsksFor classes s n place
   asked_below place some = below_by (parent_of n) place refl some

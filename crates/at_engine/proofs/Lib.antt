@@ -15,4 +15,5 @@ pub mod Runnings
 pub mod Telling
 pub mod Sessions
 pub mod Attempting
+pub mod Answering
 pub mod Within

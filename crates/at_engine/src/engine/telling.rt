@@ -26,6 +26,7 @@ impl<K: Keeper> Engine<K> {
     ghost use Rattle.at_store.specs.Shown.{IsIdle};
     ghost use Rattle.at_engine.specs.Telling.{IsAnswered, IsShownTold};
 
+    #[tactic(auto, using(crate::proofs::Answering::answered_value, crate::proofs::Answering::answered_fault, crate::proofs::Answering::answered_circle))]
     /// The value, or the fault or circle with the path of its node.
     pub(super) fn told(&self, answer: Answer) -> Result<Form, AllocError>
         requires idle { IsIdle self.now.store }
@@ -51,6 +52,7 @@ impl<K: Keeper> Engine<K> {
         String::from_str(self.alloc, self.rules.name_of(inst.attribute()))
     }
 
+    #[tactic(auto, using(crate::proofs::Answering::shown_token, crate::proofs::Answering::shown_nothing, crate::proofs::Answering::shown_node))]
     /// What is shown of a value: of a node its path.
     fn shown(&self, value: Value) -> Result<Shown, AllocError>
         requires idle { IsIdle self.now.store }
