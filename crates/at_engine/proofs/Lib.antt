@@ -16,4 +16,5 @@ pub mod Telling
 pub mod Sessions
 pub mod Attempting
 pub mod Answering
+pub mod Marking
 pub mod Within

@@ -43,7 +43,12 @@ impl<K: Keeper> Engine<K> {
                 place,
                 attribute: _,
                 arguments,
-            } => self.has_mark_in(session, place) && self.has_marks_in(session, arguments),
+            } => {
+                if !self.has_mark_in(session, place) {
+                    return false;
+                }
+                self.has_marks_in(session, arguments)
+            }
             Command::Set { place, .. } => self.has_mark_in(session, place),
             Command::Put { place, .. } => self.has_mark_in(session, place),
             Command::Drop { place } => self.has_mark_in(session, place),
