@@ -21,7 +21,7 @@ use Rattle.at_engine.proofs.Marked.{carried_view, live_left, there_left}
 use Rattle.at_engine.proofs.Following.{edits, refuses}
 use Rattle.at_engine.proofs.Verdicts.{at_edit, at_last, left_is}
 
-abbrev held : Tree → ℕ → List Marked → State
+abbrev pub held : Tree → ℕ → List Marked → State
 held t version l = record { tree = t; version = version; marks = l }
 
 -- where the tree and its numbers stay, so does the state

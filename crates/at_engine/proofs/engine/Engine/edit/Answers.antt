@@ -1,4 +1,4 @@
-use Rattle.std.proofs.Common.{◌≡◌, true, false, nat_eq, arith, subst}
+use Rattle.std.proofs.Common.{◌≡◌, ℕ, true, false, nat_eq, arith, refl, subst}
 use Rattle.std.proofs.lemmas.Bool.{eq-eqb, ne_eqb}
 use Rattle.at_model.specs.Classes.{Classes}
 use Rattle.at_model.specs.Edits.{Edit as EditOf}
@@ -9,6 +9,14 @@ use Rattle.at_store.specs.Preparing.{Does, IsPrepared}
 use Rattle.at_store.specs.Refusing.{edit_at}
 use Rattle.at_engine.proofs.Editing.{Came, came_refused, came_given_up, came_done}
 use Rattle.at_engine.proofs.engine.Engine.edit.Goals as goal
+
+-- no edit waits behind the one that is done
+pub keep_live-requires : goal.keep_live-requires
+keep_live-requires g c =
+    let e = c.args.self.now in
+    let ready = subst (λ (x : Classes). (n : Node) → IsAsked x e.store c.args.edit n → IsPrepared x e.store (edit_at n c.args.edit) (Does c.in-Ok.ready.prepared) c.check.new.self) c.classes.ensures c.in-Ok.ensures.ready in
+    let last : nat_eq e.version last_version ≡ false = ne_eqb e.version last_version (λ same. omega (arith, same)) in
+    (came_done {ℕ} e.rules.classes e.store e.version e.marks.items.items c.args.edit c.requires.idle c.requires.whole c.requires.there c.check.new.self c.in-Ok.ready.prepared ready c.commit.new.self c.commit.ensures last _ refl).idle
 
 -- the clauses of each exit come from the one record on what came of the edit
 pub returns-in-Err-clause-follows : goal.returns-in-Err-clause-follows
