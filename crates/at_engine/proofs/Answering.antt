@@ -1,5 +1,6 @@
 -- What is told of an answer can be written, and stands for one.
-use Rattle.std.proofs.Common.{String, refl, string_bytes}
+use Rattle.std.proofs.Common.{refl, string_bytes}
+use Rattle.std.specs.Prelude.{String}
 use Rattle.std.specs.Global.{Global}
 use Rattle.at_model.specs.Paths.{IsPath}
 use Rattle.at_model.specs.Replies.{Shows, Fails, Circular, Plain, At, Nothing}

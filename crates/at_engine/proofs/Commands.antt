@@ -1,5 +1,6 @@
 -- What each command is told, and what it leaves.
-use Rattle.std.proofs.Common.{◌≡◌, ℕ, ◌+◌, Bool, true, false, not, nat_eq, nat_le, List, [], ◌∷◌, ◌++◌, count_by, filter, Option, Some, None, is_some, option_and_then, refl, sym, ap, ◌∙◌, subst, Vec, Result, Ok, Err, inl, inr}
+use Rattle.std.proofs.Common.{◌≡◌, ℕ, ◌+◌, Bool, true, false, not, nat_eq, nat_le, List, [], ◌∷◌, ◌++◌, count_by, filter, Option, Some, None, is_some, option_and_then, refl, sym, ap, ◌∙◌, subst, Result, Ok, Err, inl, inr}
+use Rattle.std.specs.Prelude.{Vec}
 use Rattle.std.specs.Global.{Global}
 use Rattle.at_model.specs.Classes.{Classes, Shape}
 use Rattle.at_model.specs.Trees.{Tree, Token as TokenOf, class_of}
