@@ -1,3 +1,8 @@
+pub mod Marked
+pub mod Following
+pub mod Verdicts
+pub mod Naming
+pub mod Storing
 pub mod Kept
 pub mod KeptLines
 pub mod Pieces

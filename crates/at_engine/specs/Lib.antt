@@ -1,3 +1,8 @@
+pub mod Marks
+pub mod Holding
+pub mod Saying
+pub mod Following
+pub mod Naming
 pub mod Serving
 pub mod Engines
 pub mod Telling
