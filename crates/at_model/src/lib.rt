@@ -12,6 +12,7 @@ mod machine_laws;
 mod refusal_cases;
 mod session_cases;
 mod unread_cases;
+mod work_cases;
 
 pub use cases::{
     circle, dropped_declaration, exposed_block, first_come, ints, names_and_values, nearest_above,
@@ -46,6 +47,7 @@ pub use refusal_cases::{
     a_hundred_marks, a_parameter_takes_a_class, marks_beside_others, marks_of_two_sessions, the_first_refusal_is_told, the_last_version_is_looked_at_last,
 };
 pub use limit_cases::{line_lengths, numbers_of_lines, token_lengths, tree_sizes};
-pub use form_cases::{comparisons, equality, ints_below_zero, long_decimals, right_sides, what_accessors_read, what_folds_read};
-pub use edit_cases::{what_a_list_touches, what_a_set_touches, what_a_token_touches, what_an_optional_touches, where_nodes_stay};
 pub use unread_cases::{bytes_that_are_no_line};
+pub use work_cases::{first_questions};
+pub use form_cases::{comparisons, equality, ints_below_zero, long_decimals, right_sides, what_accessors_read, what_folds_read};
+pub use edit_cases::{edits_that_are_refused, what_a_list_touches, what_a_set_touches, what_a_token_touches, what_an_optional_touches, where_nodes_stay};
