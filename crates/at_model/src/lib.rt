@@ -48,6 +48,6 @@ pub use refusal_cases::{
 };
 pub use limit_cases::{line_lengths, numbers_of_lines, token_lengths, tree_sizes};
 pub use unread_cases::{bytes_that_are_no_line};
-pub use work_cases::{first_questions};
+pub use work_cases::{a_question_after_a_token, a_question_again, first_questions, indexes_after_a_drop};
 pub use form_cases::{comparisons, equality, ints_below_zero, long_decimals, right_sides, what_accessors_read, what_folds_read};
 pub use edit_cases::{edits_that_are_refused, what_a_list_touches, what_a_set_touches, what_a_token_touches, what_an_optional_touches, where_nodes_stay};
