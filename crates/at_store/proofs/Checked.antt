@@ -16,12 +16,13 @@ use Rattle.at_tree.specs.TreeView.{tree_view}
 use Rattle.at_store.specs.Numbers.{path_in, relabel, relabel_edit}
 use Rattle.at_store.specs.Memory.{Info, Keeps, class_in, kids_in, top}
 use Rattle.at_store.specs.Planting.{IsAsBefore, IsPlanted}
-use Rattle.at_store.specs.View.{memory_of}
+use Rattle.at_store.specs.View.{MarksNoMore, leaves_in, memory_of}
+use Rattle.at_store.specs.Touching.{gone}
 use Rattle.at_store.specs.Shown.{IsIdle, Shown, numbers, path, tree}
-use Rattle.at_store.specs.Preparing.{DoesDrop, DoesInsert, DoesPut, DoesSet, DoesToken, IsPrepared, brought}
+use Rattle.at_store.specs.Preparing.{DoesDrop, DoesInsert, DoesPut, DoesSet, DoesToken, IsPrepared, brought, stands_in}
 use Rattle.at_store.specs.Refusing.{IsAllowed, IsRefusalOf, edit_at, node_of}
 use Rattle.at_store.specs.Checking.{IsAccepted, IsRefused, Prepares}
-use Rattle.at_store.specs.Waiting.{IsBrought, IsMarking, IsStoreAsBefore}
+use Rattle.at_store.specs.Waiting.{IsBrought, IsLeaving, IsMarking, IsStoreAsBefore}
 use Rattle.at_store.specs.declared.edit.Edit.{Edit}
 use Rattle.at_store.specs.declared.edit.Edit.TheVariants as edit
 use Rattle.at_store.specs.declared.edit.Prepared.TheVariants as plan
@@ -31,6 +32,7 @@ use Rattle.at_store.specs.Grown.{grown}
 use Rattle.at_store.proofs.Accepted.{allowed, drop_cell, insert_cell, put_cell, token_cell}
 use Rattle.at_store.proofs.Found.{named, number_found}
 use Rattle.at_store.proofs.Growing.{class-grown, grown-stored}
+use Rattle.at_store.proofs.Marked.{marked_below, unmarked_still}
 use Rattle.at_store.proofs.Planted.{planted_waits, relabel_same}
 use Rattle.at_store.proofs.Slots.{class_at, map_length}
 use Rattle.at_store.proofs.Walked.{kids_kept}
@@ -47,19 +49,20 @@ module _ (before later : Shown) (memory_stays : IsAsBefore (memory_of before.sla
     same_tree : tree later ≡ tree before
     same_tree = ap (λ (m : ℕ → Option Info). relabel (class_in m) (numbers later)) (sym equal) ∙ ap (relabel (class_in (memory_of before.slab))) same_numbers
 
-    pub still_idle : IsIdle before → later.waiting ≡ before.waiting → later.leaving ≡ before.leaving → later.absent ≡ before.absent → IsIdle later
-    still_idle h waiting leaving absent = record {
+    pub still_idle : IsIdle before → later.waiting ≡ before.waiting → later.leaving ≡ before.leaving → later.absent ≡ before.absent → MarksNoMore before.slab later.slab → IsIdle later
+    still_idle h waiting leaving absent marks = record {
       waiting = waiting ∙ h.waiting;
       leaving = leaving ∙ h.leaving;
       keeps = subst (λ (t : Tree). Keeps (memory_of later.slab) t None) (sym same_numbers) (subst (λ (m : ℕ → Option Info). Keeps m (numbers before) None) equal h.keeps);
       limits = ap model.is_within_limits same_tree ∙ h.limits;
       absent = ap token_view absent ∙ h.absent;
+      unmarked = unmarked_still before.slab later.slab marks h.unmarked;
     }
 
 -- a refused edit changes nothing
-pub refused : (classes : Classes) (old new : Shown) (e : model.Edit) (r : Refusal) → IsIdle old → IsStoreAsBefore old new → (r ≡ refusal.Memory) ⊎ IsRefusalOf (model.edited classes (tree old) e) (model.left_by (tree old) e) (Some r) → IsRefused classes old e new r
-refused classes old new e r idle (memory, waiting, (root, leaving, absent)) reason = record {
-  idle = still_idle old new memory root idle waiting leaving absent;
+pub refused : (classes : Classes) (old new : Shown) (e : model.Edit) (r : Refusal) → IsIdle old → IsStoreAsBefore old new → MarksNoMore old.slab new.slab → (r ≡ refusal.Memory) ⊎ IsRefusalOf (model.edited classes (tree old) e) (model.left_by (tree old) e) (Some r) → IsRefused classes old e new r
+refused classes old new e r idle (memory, waiting, (root, leaving, absent)) marks reason = record {
+  idle = still_idle old new memory root idle waiting leaving absent marks;
   numbers_stay = same_numbers old new memory root;
   tree_stays = same_tree old new memory root;
   reason = reason;
@@ -103,9 +106,13 @@ module _ (classes : Classes) (old new : Shown) (asked : Edit) (n : Node) (h : Is
   there : (u : Tree) × (tree_at s n ≡ Some u) × (class_of u ≡ node_of asked)
   there = number_found s (node_of asked) n h.asked.found
 
+  -- just what the edit takes away is marked
+  abbrev Leaves : model.Edit → Type 0
+  Leaves numbered = (new.leaving ≡ option_map class_of (gone s numbered)) × ((k : ℕ) → leaves_in new.slab k ≡ stands_in k (gone s numbered))
+
   prepared : (Does : Tree → model.Edit → Type 0) (numbered : model.Edit) → relabel_edit (class_in later) numbered ≡ edit_at n asked → new.root ≡ old.root → Keeps later s (brought numbered) → relabel (class_in later) s ≡ tree old →
-      new.waiting ≡ option_map class_of (brought numbered) → new.absent ≡ old.absent → Does s numbered → IsPrepared classes old (edit_at n asked) Does new
-  prepared Does numbered same root keeps stay waits absent does =
+      new.waiting ≡ option_map class_of (brought numbered) → Leaves numbered → new.absent ≡ old.absent → Does s numbered → IsPrepared classes old (edit_at n asked) Does new
+  prepared Does numbered same root keeps stay waits leaves absent does =
       let again : numbers new ≡ s = ap (grown later 512) (root ∙ sym (class-grown memory 512 old.root)) ∙ grown-stored later top 512 s keeps.stored keeps.shallow in
       record {
         numbered = numbered;
@@ -114,6 +121,8 @@ module _ (classes : Classes) (old new : Shown) (asked : Edit) (n : Node) (h : Is
         tree_stays = ap (relabel (class_in later)) again ∙ stay;
         keeps = keeps;
         waits = waits;
+        leaving = leaves.0;
+        marks = leaves.1;
         was_idle = h.asked.idle;
         does = does;
         conforms = h.asked.conforming;
@@ -136,30 +145,34 @@ module _ (classes : Classes) (old new : Shown) (asked : Edit) (n : Node) (h : Is
         ap (λ o. kids_in o part) (b.planted.rest (node_of asked) (ap is_some (waiting_kept.waits.1.1 (node_of asked) n h.asked.found))) ∙
         ap (λ j. kids_in (memory j) part) (sym there.2) ∙ kids_kept memory s h.asked.idle.keeps n there.0 there.1 part
 
-    with_tree : (Does : Tree → model.Edit → Type 0) (numbered : model.Edit) → brought numbered ≡ Some b.arrived → relabel_edit (class_in later) numbered ≡ edit_at n asked → Does s numbered → IsPrepared classes old (edit_at n asked) Does new
-    with_tree Does numbered gives same does =
-        prepared Does numbered same b.root_stays (subst (Keeps later s) (sym gives) waiting_kept) same_classes (b.waits ∙ ap Some (sym b.number) ∙ ap (option_map class_of) (sym gives)) b.absent_stays does
+    with_tree : (Does : Tree → model.Edit → Type 0) (numbered : model.Edit) → brought numbered ≡ Some b.arrived → relabel_edit (class_in later) numbered ≡ edit_at n asked → Leaves numbered → Does s numbered → IsPrepared classes old (edit_at n asked) Does new
+    with_tree Does numbered gives same leaves does =
+        prepared Does numbered same b.root_stays (subst (Keeps later s) (sym gives) waiting_kept) same_classes (b.waits ∙ ap Some (sym b.number) ∙ ap (option_map class_of) (sym gives)) leaves b.absent_stays does
 
   -- without one
   module _ (m : IsMarking old new) where
-    without_tree : (Does : Tree → model.Edit → Type 0) (numbered : model.Edit) → brought numbered ≡ None → relabel_edit (class_in later) numbered ≡ edit_at n asked → Does s numbered → IsPrepared classes old (edit_at n asked) Does new
-    without_tree Does numbered gives same does =
+    without_tree : (Does : Tree → model.Edit → Type 0) (numbered : model.Edit) → brought numbered ≡ None → relabel_edit (class_in later) numbered ≡ edit_at n asked → Leaves numbered → Does s numbered → IsPrepared classes old (edit_at n asked) Does new
+    without_tree Does numbered gives same leaves does =
         prepared Does numbered same m.1 (subst (Keeps later s) (sym gives) (subst (λ (q : ℕ → Option Info). Keeps q s None) (equal old new m.0) h.asked.idle.keeps))
-        (ap (λ (q : ℕ → Option Info). relabel (class_in q) s) (sym (equal old new m.0))) (m.2 ∙ h.asked.idle.waiting ∙ ap (option_map class_of) (sym gives)) m.3 does
+        (ap (λ (q : ℕ → Option Info). relabel (class_in q) s) (sym (equal old new m.0))) (m.2 ∙ h.asked.idle.waiting ∙ ap (option_map class_of) (sym gives)) leaves m.3 does
 
-pub set_prepared : (old new : Shown) (node root : ℕ) (t : Nested) → Brings old new (tree_view t) root → Prepares old (edit.Set node t) new (plan.Set node root)
-set_prepared old new node root t b classes n h =
+pub set_prepared : (old mid new : Shown) (node root : ℕ) (t : Nested) → Brings old mid (tree_view t) root → MarksNoMore old.slab mid.slab → IsLeaving node mid new → Prepares old (edit.Set node t) new (plan.Set node root)
+set_prepared old mid new node root t arrives fresh m classes n h =
     let asked : Edit = edit.Set node t in
     let stands = there classes old new asked n h in
     let u : Tree = stands.0 in
     let found = stands.1 in
     let number = stands.2 in
+    let b = brings_marked old mid new (tree_view t) root arrives m.0 in
+    let kept = waiting_kept classes old mid asked n h (tree_view t) root arrives in
+    let marks = marked_below mid.slab new.slab (numbers old) n u node kept.stored kept.apart kept.shallow found number (unmarked_still old.slab mid.slab fresh h.asked.idle.unmarked) m.2 in
     with_tree classes old new asked n h (tree_view t) root b (DoesSet node root) (model.Set n b.arrived) refl (ap (model.Set n) b.planted.classes)
+    (m.1 ∙ ap Some (sym number) ∙ ap (option_map class_of) (sym found), λ k. marks k ∙ ap (stands_in k) (sym found))
     (record { place = n; brings = b.arrived; gone = u; is = refl; there = found; number = number; root = b.number })
 
-pub put_prepared : (old new : Shown) (node part root : ℕ) (t : Nested) (kids : Vec ℕ Global) → Brings old new (tree_view t) root → (0 ≤ length (kids_in (memory_of new.slab node) part) → kids.items ≡ insert (kids_in (memory_of new.slab node) part) 0 root) →
+pub put_prepared : (old new : Shown) (node part root : ℕ) (t : Nested) (kids : Vec ℕ Global) → Brings old new (tree_view t) root → new.leaving ≡ old.leaving → MarksNoMore old.slab new.slab → (0 ≤ length (kids_in (memory_of new.slab node) part) → kids.items ≡ insert (kids_in (memory_of new.slab node) part) 0 root) →
     Prepares old (edit.Put node part t) new (plan.Put node part root kids)
-put_prepared old new node part root t kids b listed classes n h =
+put_prepared old new node part root t kids b leaving marks listed classes n h =
     let asked : Edit = edit.Put node part t in
     let idle = h.asked.idle in
     let stands = there classes old new asked n h in
@@ -168,12 +181,12 @@ put_prepared old new node part root t kids b listed classes n h =
     let number = stands.2 in
     let here : cell_at u part ≡ Some Empty = put_cell classes (class_in (memory_of old.slab)) (numbers old) h.asked.conforming idle.limits n u found part (tree_view t) (allows classes old new asked n h) in
     let none : kids_in (memory_of new.slab node) part ≡ [] = kids_are classes old new asked n h (tree_view t) root b part ∙ ap (λ o. map class_of (kids_of o)) here in
-    with_tree classes old new asked n h (tree_view t) root b (DoesPut node part root kids.items) (model.Put n part b.arrived) refl (ap (model.Put n part) b.planted.classes)
+    with_tree classes old new asked n h (tree_view t) root b (DoesPut node part root kids.items) (model.Put n part b.arrived) refl (ap (model.Put n part) b.planted.classes) (leaving ∙ idle.leaving, unmarked_still old.slab new.slab marks idle.unmarked)
     (record { place = n; parent = u; brings = b.arrived; is = refl; found = found; number = number; root = b.number; here = here; kids_are = listed (omega arith) ∙ ap (λ ns. insert ns 0 root) none })
 
-pub insert_prepared : (old new : Shown) (node part index root : ℕ) (t : Nested) (kids : Vec ℕ Global) → Brings old new (tree_view t) root → (index ≤ length (kids_in (memory_of new.slab node) part) → kids.items ≡ insert (kids_in (memory_of new.slab node) part) index root) →
+pub insert_prepared : (old new : Shown) (node part index root : ℕ) (t : Nested) (kids : Vec ℕ Global) → Brings old new (tree_view t) root → new.leaving ≡ old.leaving → MarksNoMore old.slab new.slab → (index ≤ length (kids_in (memory_of new.slab node) part) → kids.items ≡ insert (kids_in (memory_of new.slab node) part) index root) →
     Prepares old (edit.Insert node part index t) new (plan.Insert node part index root kids)
-insert_prepared old new node part index root t kids b listed classes n h =
+insert_prepared old new node part index root t kids b leaving marks listed classes n h =
     let asked : Edit = edit.Insert node part index t in
     let idle = h.asked.idle in
     let stands = there classes old new asked n h in
@@ -183,10 +196,10 @@ insert_prepared old new node part index root t kids b listed classes n h =
     let (ts, here, bound) = insert_cell classes (class_in (memory_of old.slab)) (numbers old) h.asked.conforming idle.limits n u found part index (tree_view t) (allows classes old new asked n h) in
     let listing : kids_in (memory_of new.slab node) part ≡ map class_of (from_trees ts) = kids_are classes old new asked n h (tree_view t) root b part ∙ ap (λ o. map class_of (kids_of o)) here in
     let long : length (kids_in (memory_of new.slab node) part) ≡ length (from_trees ts) = ap length listing ∙ map_length class_of (from_trees ts) in
-    with_tree classes old new asked n h (tree_view t) root b (DoesInsert node part index root kids.items) (model.Insert n part index b.arrived) refl (ap (model.Insert n part index) b.planted.classes)
+    with_tree classes old new asked n h (tree_view t) root b (DoesInsert node part index root kids.items) (model.Insert n part index b.arrived) refl (ap (model.Insert n part index) b.planted.classes) (leaving ∙ idle.leaving, unmarked_still old.slab new.slab marks idle.unmarked)
     (record { place = n; parent = u; brings = b.arrived; elements = ts; is = refl; found = found; number = number; root = b.number; here = here; bound = bound; kids_are = listed (subst (λ k. index ≤ k) (sym long) bound) ∙ ap (λ ns. insert ns index root) listing })
 
-pub drop_prepared : (old new : Shown) (node : ℕ) → IsMarking old new → Prepares old (edit.Drop node) new (plan.Drop node)
+pub drop_prepared : (old new : Shown) (node : ℕ) → IsLeaving node old new → Prepares old (edit.Drop node) new (plan.Drop node)
 drop_prepared old new node m classes n h =
     let asked : Edit = edit.Drop node in
     let stands = there classes old new asked n h in
@@ -194,7 +207,9 @@ drop_prepared old new node m classes n h =
     let found = stands.1 in
     let number = stands.2 in
     let d = drop_cell classes (class_in (memory_of old.slab)) (numbers old) h.asked.conforming n u found (allows classes old new asked n h) in
-    without_tree classes old new asked n h m (DoesDrop node) (model.Drop n) refl refl
+    let kept = h.asked.idle.keeps in
+    let marks = marked_below old.slab new.slab (numbers old) n u node kept.stored kept.apart kept.shallow found number h.asked.idle.unmarked m.2 in
+    without_tree classes old new asked n h m.0 (DoesDrop node) (model.Drop n) refl refl (m.1 ∙ ap Some (sym number) ∙ ap (option_map class_of) (sym found), λ k. marks k ∙ ap (stands_in k) (sym found))
     (record { place = n; above = d.above; way = d.way; parent = d.parent; cell = d.cell; gone = u; is = refl; under = d.under; found = d.found; here = d.here; there = found; number = number; loose = d.loose })
 
 pub token_prepared : (old : Shown) (node part : ℕ) (v : TokVal) → Prepares old (edit.Token node part v) old (plan.Token node part v)
@@ -206,5 +221,5 @@ token_prepared old node part v classes n h =
     let found = stands.1 in
     let number = stands.2 in
     let (was, here) = token_cell classes (class_in (memory_of old.slab)) (numbers old) h.asked.conforming idle.limits n u found part (token_view v) (allows classes old old asked n h) in
-    without_tree classes old old asked n h ((λ k. refl), refl, refl, refl) (DoesToken node part (token_view v)) (model.Token n part (token_view v)) refl refl
+    without_tree classes old old asked n h ((λ k. refl), refl, refl, refl) (DoesToken node part (token_view v)) (model.Token n part (token_view v)) refl refl (idle.leaving, idle.unmarked)
     (record { place = n; parent = u; was = was; is = refl; found = found; number = number; here = here })

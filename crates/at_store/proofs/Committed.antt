@@ -9,13 +9,17 @@ use Rattle.at_model.specs.Trees as trees
 use Rattle.at_model.specs.Paths.{Node, tree_at, cell_at}
 use Rattle.at_model.specs.Edits.{Edit, carried, changed_at, edited, is_within_limits, left_by, with_cell, with_node, with_one_more}
 use Rattle.at_model.specs.Edits as edit
-use Rattle.at_model.proofs.Options.{both}
+use Rattle.at_model.proofs.Options.{both, led}
 use Rattle.at_tree.specs.Token.{token_view}
 use Rattle.at_store.specs.Numbers.{IsFresh, path_in, path_in_new, relabel, relabel_edit}
 use Rattle.at_store.specs.Memory.{Form, Info, IsPlacedIn, IsShallow, Keeps, Kept, Kids, List_of, Optional, Stored, Token_of, Waits, class_in, kept, kept_of, kids_in, numbers_in, placed, placed_in, raised, renumbered, rewritten, top, with_kept, with_up}
-use Rattle.at_store.specs.View.{memory_of}
+use Rattle.at_store.specs.View.{IsUnmarked, MarksNoMore, leaves_in, memory_of}
+use Rattle.at_store.specs.Touching.{change_of, gone, removed}
+use Rattle.at_store.specs.declared.entry.Entry.{Entry}
+use Rattle.slab.specs.Slab.{Slab}
+use Rattle.at_store.specs.Marking.{IsUnmarking}
 use Rattle.at_store.specs.Shown.{IsIdle, Shown, numbers, path, tree}
-use Rattle.at_store.specs.Preparing.{DoesInsert, DoesPut, DoesToken, IsCancelled, IsCommitted, IsGivenUp, IsPrepared, brought}
+use Rattle.at_store.specs.Preparing.{DoesInsert, DoesPut, DoesToken, IsCancelled, IsCommitted, IsGivenUp, IsPrepared, brought, stands_in}
 use Rattle.at_store.proofs.Classes.{class_changed, classes_stay, shallow_numbers}
 use Rattle.at_store.proofs.Commits.{inserted, put_in, token_set}
 use Rattle.at_store.proofs.Freed.{given_up}
@@ -24,6 +28,7 @@ use Rattle.at_store.proofs.Growing.{class-grown, grown_kept}
 use Rattle.at_store.proofs.Relabelled.{relabelled-carried, relabelled-left}
 use Rattle.at_store.proofs.Slots.{class_rewritten, map_length, raised_indexed, renumbered_insert}
 use Rattle.at_store.proofs.Looked.{kept_at}
+use Rattle.at_store.proofs.Marked.{stored_same, unmarked_below, unmarked_still}
 use Rattle.at_store.proofs.Changed.{at_same}
 
 within_depth : (t : Tree) → is_within_limits t ≡ true → depth t ≤ 512
@@ -67,23 +72,27 @@ module _ (classes : Classes) (old mid new : Shown) (e : Edit) (Does : Tree → E
   root_was = ap class_of (sym p.numbers_stay) ∙ class-grown (memory_of mid.slab) 512 mid.root
 
   pub committed : Keeps (memory_of new.slab) after None → class_of after ≡ new.root → relabel (class_in (memory_of new.slab)) after ≡ relabel class after →
-      new.waiting ≡ None → new.leaving ≡ None → token_view new.absent ≡ Truth false → IsCommitted old e new
-  committed keeps root stay waiting leaving absent =
+      new.waiting ≡ None → new.leaving ≡ None → token_view new.absent ≡ Truth false → IsUnmarked new.slab → IsCommitted old e new
+  committed keeps root stay waiting leaving absent unmarked =
       let grows : numbers new ≡ after = grown_kept (memory_of new.slab) after new.root keeps root in
       let is : tree new ≡ left_by (tree old) e = ap (relabel (class_in (memory_of new.slab))) grows ∙ stay ∙ same_tree in
       let fresh : IsFresh (numbers old) p.numbered = fresh_edit (memory_of mid.slab) (numbers old) p.numbered p.keeps.waits in
       let goes = edited_after classes class (numbers old) (ap (λ (t : Tree). conforms classes t 0) same_classes ∙ p.conforms) p.keeps.apart p.numbered p.left ((λ i. edited classes (same_classes i) (p.same i)) ∙ p.accepted) fresh in
       let carries : carried p.numbered ≡ carried e = sym (relabelled-carried class p.numbered) ∙ ap carried p.same in
       record {
-        idle = record { waiting = waiting; leaving = leaving; keeps = subst (λ (t : Tree). Keeps (memory_of new.slab) t None) (sym grows) keeps; limits = ap is_within_limits is ∙ p.limits; absent = absent };
+        idle = record { waiting = waiting; leaving = leaving; keeps = subst (λ (t : Tree). Keeps (memory_of new.slab) t None) (sym grows) keeps; limits = ap is_within_limits is ∙ p.limits; absent = absent; unmarked = unmarked };
         tree_is = is;
         paths = λ k n was. ap (path_in k) grows ∙ goes.1 k (not_new (numbers old) p.numbered fresh k n was) ∙ ap (option_and_then (carried p.numbered)) was ∙ ap (λ (g : Node → Option Node). g n) carries;
       }
 
+-- nothing went, and no mark was written
+unmarked_as : (classes : Classes) (old mid new : Shown) (e : Edit) (Does : Tree → Edit → Type 0) (p : IsPrepared classes old e Does mid) → ((k : ℕ) → leaves_in new.slab k ≡ leaves_in mid.slab k) → gone (numbers old) p.numbered ≡ None → IsUnmarked new.slab
+unmarked_as classes old mid new e Does p same none k = same k ∙ p.marks k ∙ ap (stands_in k) none
+
 -- a token has another value
 pub token_committed : (classes : Classes) (old mid new : Shown) (e : Edit) (node part : ℕ) (v : trees.Token) → IsPrepared classes old e (DoesToken node part v) mid →
-    ((k : ℕ) → memory_of new.slab k ≡ rewritten node part (Token_of v) k (memory_of mid.slab k)) → new.root ≡ mid.root → new.waiting ≡ None → new.leaving ≡ None → token_view new.absent ≡ Truth false → IsCommitted old e new
-token_committed classes old mid new e node part v p changes root waiting leaving absent =
+    ((k : ℕ) → memory_of new.slab k ≡ rewritten node part (Token_of v) k (memory_of mid.slab k)) → ((k : ℕ) → leaves_in new.slab k ≡ leaves_in mid.slab k) → new.root ≡ mid.root → new.waiting ≡ None → new.leaving ≡ None → token_view new.absent ≡ Truth false → IsCommitted old e new
+token_committed classes old mid new e node part v p changes marks root waiting leaving absent =
     let memory = memory_of mid.slab in
     let later = memory_of new.slab in
     let s = numbers old in
@@ -95,7 +104,7 @@ token_committed classes old mid new e node part v p changes root waiting leaving
     committed classes old mid new e (DoesToken node part v) p keeps
     (ap (λ (x : Edit). class_of (left_by s x)) d.is ∙ root_stays (λ c. trees.Holds v) part s d.place ∙ root_was classes old mid new e (DoesToken node part v) p ∙ sym root)
     (classes_stay memory later (λ k. false) (λ k o. rewritten node part (Token_of v) k o) (class_rewritten node part (Token_of v)) changes top (left_by s p.numbered) keeps.stored)
-    waiting leaving absent
+    waiting leaving absent (unmarked_as classes old mid new e (DoesToken node part v) p marks (ap (gone s) d.is))
 
 -- a component shows the list that was written there
 kids_raised : (new : ℕ) (up : Option (ℕ × ℕ)) (k part : ℕ) (o : Option Info) → kids_in (raised new up k o) part ≡ kids_in o part
@@ -122,8 +131,8 @@ kids_there memory s u n part new c form ns h found here =
 
 -- another element of a list
 pub insert_committed : (classes : Classes) (old mid new : Shown) (e : Edit) (node part index root : ℕ) (kids : List ℕ) → IsPrepared classes old e (DoesInsert node part index root kids) mid →
-    IsPlacedIn node part index root (Kids List_of kids) (memory_of mid.slab) (memory_of new.slab) → new.root ≡ mid.root → new.waiting ≡ None → new.leaving ≡ None → token_view new.absent ≡ Truth false → IsCommitted old e new
-insert_committed classes old mid new e node part index root kids p changes same_root waiting leaving absent =
+    IsPlacedIn node part index root (Kids List_of kids) (memory_of mid.slab) (memory_of new.slab) → ((k : ℕ) → leaves_in new.slab k ≡ leaves_in mid.slab k) → new.root ≡ mid.root → new.waiting ≡ None → new.leaving ≡ None → token_view new.absent ≡ Truth false → IsCommitted old e new
+insert_committed classes old mid new e node part index root kids p changes marks same_root waiting leaving absent =
     let memory = memory_of mid.slab in
     let later = memory_of new.slab in
     let s = numbers old in
@@ -146,12 +155,12 @@ insert_committed classes old mid new e node part index root kids p changes same_
     (ap (λ (x : Edit). class_of (left_by s x)) d.is ∙ root_stays (with_one_more w index) part s d.place ∙ root_was classes old mid new e Does p ∙ sym same_root)
     (classes_stay memory later (λ k. false) (λ k o. renumbered (drop (suc index) kids) (suc index) k (placed (class_of w) (Some (class_of u, part), index) k (rewritten (class_of u) part (Kids List_of kids) k o)))
     (class_changed (drop (suc index) kids) (suc index) (class_of w) (Some (class_of u, part), index) (class_of u) part (Kids List_of kids)) written top (left_by s p.numbered) keeps.stored)
-    waiting leaving absent
+    waiting leaving absent (unmarked_as classes old mid new e Does p marks (ap (gone s) d.is))
 
 -- a child for an empty optional
 pub put_committed : (classes : Classes) (old mid new : Shown) (e : Edit) (node part root : ℕ) (kids : List ℕ) → IsPrepared classes old e (DoesPut node part root kids) mid →
-    IsPlacedIn node part 0 root (Kids Optional kids) (memory_of mid.slab) (memory_of new.slab) → new.root ≡ mid.root → new.waiting ≡ None → new.leaving ≡ None → token_view new.absent ≡ Truth false → IsCommitted old e new
-put_committed classes old mid new e node part root kids p changes same_root waiting leaving absent =
+    IsPlacedIn node part 0 root (Kids Optional kids) (memory_of mid.slab) (memory_of new.slab) → ((k : ℕ) → leaves_in new.slab k ≡ leaves_in mid.slab k) → new.root ≡ mid.root → new.waiting ≡ None → new.leaving ≡ None → token_view new.absent ≡ Truth false → IsCommitted old e new
+put_committed classes old mid new e node part root kids p changes marks same_root waiting leaving absent =
     let memory = memory_of mid.slab in
     let later = memory_of new.slab in
     let s = numbers old in
@@ -176,7 +185,7 @@ put_committed classes old mid new e node part root kids p changes same_root wait
     (ap (λ (x : Edit). class_of (left_by s x)) d.is ∙ root_stays (λ c. Filled w) part s d.place ∙ root_was classes old mid new e Does p ∙ sym same_root)
     (classes_stay memory later (λ k. false) (λ k o. placed (class_of w) (place, 0) k (rewritten (class_of u) part (Kids Optional only) k o))
     (class_changed [] 0 (class_of w) (place, 0) (class_of u) part (Kids Optional only)) written top (left_by s p.numbered) keeps.stored)
-    waiting leaving absent
+    waiting leaving absent (unmarked_as classes old mid new e Does p marks (ap (gone s) d.is))
 
 -- what waited is given up
 abbrev waiting_in : Option Tree → ℕ → Bool
@@ -192,9 +201,31 @@ kept_alone memory later s (Some w) root h is given =
     let freed : (k : ℕ) → later k ≡ cond (is_some (path_in k w)) None (memory k) = subst (λ (r : Option ℕ). IsGivenUp r memory later) is given top w refl h.waits.1.0 h.waits.0 in
     (given_up memory later w freed s h, freed)
 
+-- what was freed had no mark but those that were there, and then the marks were taken back
+pub record TakesMarksBack (mid new : Shown) : Type 0 where
+  pub freed : Slab Entry
+  pub fewer : MarksNoMore mid.slab freed
+  pub still : (k : ℕ) → memory_of new.slab k ≡ memory_of freed k
+  pub taken : IsUnmarking mid.leaving freed new.slab
+
+unmarked_back : (classes : Classes) (old mid new : Shown) (e : Edit) (Does : Tree → Edit → Type 0) → IsPrepared classes old e Does mid → Keeps (memory_of new.slab) (numbers old) None → TakesMarksBack mid new → IsUnmarked new.slab
+unmarked_back classes old mid new e Does p keeps back = by_gone (gone s p.numbered) refl
+  where
+    abbrev s : Tree
+    s = numbers old
+
+    taken : (o : Option Tree) → gone s p.numbered ≡ o → IsUnmarking (option_map class_of o) back.freed new.slab
+    taken o is = subst (λ (l : Option ℕ). IsUnmarking l back.freed new.slab) (p.leaving ∙ ap (option_map class_of) is) back.taken
+
+    by_gone : (o : Option Tree) → gone s p.numbered ≡ o → IsUnmarked new.slab
+    by_gone None is k = taken None is k ∙ unmarked_still mid.slab back.freed back.fewer (λ j. p.marks j ∙ ap (stands_in j) is) k
+    by_gone (Some x) is =
+        let (n, at', there) = led (tree_at s) (removed (change_of p.numbered)) x is in
+        unmarked_below back.freed new.slab s n x (stored_same new.slab back.freed (λ k. sym (back.still k)) top s keeps.stored) keeps.apart keeps.shallow there (λ k e. sym (p.marks k ∙ ap (stands_in k) is) ∙ back.fewer k e) (taken (Some x) is)
+
 pub cancelled : (classes : Classes) (old mid new : Shown) (e : Edit) (Does : Tree → Edit → Type 0) → IsPrepared classes old e Does mid → IsGivenUp mid.waiting (memory_of mid.slab) (memory_of new.slab) →
-    new.root ≡ mid.root → new.waiting ≡ None → new.leaving ≡ None → token_view new.absent ≡ Truth false → IsCancelled old new
-cancelled classes old mid new e Does p given root waiting leaving absent =
+    new.root ≡ mid.root → new.waiting ≡ None → new.leaving ≡ None → token_view new.absent ≡ Truth false → TakesMarksBack mid new → IsCancelled old new
+cancelled classes old mid new e Does p given root waiting leaving absent back =
     let memory = memory_of mid.slab in
     let later = memory_of new.slab in
     let s = numbers old in
@@ -203,7 +234,7 @@ cancelled classes old mid new e Does p given root waiting leaving absent =
     let stay : relabel (class_in later) s ≡ relabel (class_in memory) s = classes_stay memory later (waiting_in (brought p.numbered)) (λ k o. o) (λ k o. refl) changes top s keeps.stored in
     let is : tree new ≡ tree old = ap (relabel (class_in later)) grows ∙ stay ∙ same_classes classes old mid new e Does p in
     record {
-      idle = record { waiting = waiting; leaving = leaving; keeps = subst (λ (t : Tree). Keeps later t None) (sym grows) keeps; limits = ap is_within_limits is ∙ p.was_idle.limits; absent = absent };
+      idle = record { waiting = waiting; leaving = leaving; keeps = subst (λ (t : Tree). Keeps later t None) (sym grows) keeps; limits = ap is_within_limits is ∙ p.was_idle.limits; absent = absent; unmarked = unmarked_back classes old mid new e Does p keeps back };
       numbers_stay = grows;
       tree_stays = is;
     }

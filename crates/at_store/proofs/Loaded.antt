@@ -10,7 +10,7 @@ use Rattle.at_store.specs.Planting.{IsPlanted}
 use Rattle.at_store.specs.Shown.{Shown, IsIdle, numbers, tree}
 use Rattle.slab.specs.Slab.{Slab}
 use Rattle.at_store.specs.declared.entry.Entry.{Entry}
-use Rattle.at_store.specs.View.{info_of, memory_of}
+use Rattle.at_store.specs.View.{IsUnmarked, info_of, marked, memory_of}
 use Rattle.at_store.specs.Waiting.{IsBrought}
 use Rattle.at_store.proofs.Classes.{shallow_numbers}
 use Rattle.at_store.proofs.Planted.{planted_waits}
@@ -49,6 +49,7 @@ pub record IsLoaded (s : Shown) (t : Tree) : Type 0 where
   pub free : (k : ℕ) → before k ≡ None
   pub planted : (w : Tree) × (class_of w ≡ s.root) × IsPlanted before (memory_of s.slab) top t w
   pub limits : is_within_limits t ≡ true
+  pub unmarked : IsUnmarked s.slab
 
 module _ (s : Shown) (t : Tree) (h : IsLoaded s t) where
   abbrev w : Tree
@@ -70,6 +71,7 @@ module _ (s : Shown) (t : Tree) (h : IsLoaded s t) where
     keeps = subst (λ x. Keeps (memory_of s.slab) x None) (sym grown) kept;
     limits = ap is_within_limits loaded_tree ∙ h.limits;
     absent = h.absent;
+    unmarked = h.unmarked;
   }
 
 none_there : (k : ℕ) (d : Option Entry) → get_or [] k d ≡ d
@@ -78,6 +80,9 @@ none_there (suc k) d = refl
 
 pub empty_memory : (s : Slab Entry) → s.slots ≡ [] → (k : ℕ) → memory_of s k ≡ None
 empty_memory s e k = ap (λ xs. info_of (get_or xs k None)) e ∙ ap info_of (none_there k None)
+
+pub empty_unmarked : (s : Slab Entry) → s.slots ≡ [] → IsUnmarked s
+empty_unmarked s e k = ap (λ xs. marked (get_or xs k None)) e ∙ ap marked (none_there k None)
 
 -- a tree that is brought into an idle store waits beside its tree, with numbers that are new
 pub brought_waits : (before later : Shown) (t : Tree) (new : ℕ) → IsIdle before → IsBrought before later t new →

@@ -1,5 +1,5 @@
 -- What a prepared edit touches, told by the memory and by marks, is what the edit touches.
-use Rattle.std.proofs.Common.{◌≡◌, ℕ, Bool, ◌||◌, ◌&&◌, nat_eq, Option, Some, None, refl, sym, ap, ◌∙◌, subst}
+use Rattle.std.proofs.Common.{◌≡◌, ℕ, Bool, ◌||◌, ◌&&◌, nat_eq, Option, Some, None, refl, sym, ap, ◌∙◌, subst, is_some}
 use Rattle.at_model.specs.Classes.{Classes}
 use Rattle.at_model.specs.Trees.{Tree, class_of}
 use Rattle.at_model.specs.Paths.{Node, tree_at}
@@ -10,11 +10,11 @@ use Rattle.at_model.specs.Edits.{Edit}
 use Rattle.at_model.specs.Touches.{node_of, touches}
 use Rattle.at_store.specs.Numbers.{contents, path_in, relabel, relabel_edit}
 use Rattle.at_store.specs.Memory.{Info, Place, Stored, class_in, place_at, top, up_in}
-use Rattle.at_store.specs.View.{memory_of}
+use Rattle.at_store.specs.View.{leaves_in, memory_of}
 use Rattle.at_store.specs.Shown.{Shown, numbers, path, tree}
 use Rattle.at_store.specs.Marked.{change_in, told}
-use Rattle.at_store.specs.Preparing.{Does, IsPrepared}
-use Rattle.at_store.specs.Touching.{AreMarked, Change, ChangeLike, at_parent, change_of, is_index_of, is_slot_of, touches_by}
+use Rattle.at_store.specs.Preparing.{Does, IsPrepared, stands_in}
+use Rattle.at_store.specs.Touching.{AreMarked, Change, ChangeLike, at_parent, change_of, gone, is_index_of, is_slot_of, touches_by}
 use Rattle.at_store.specs.Touching as change
 use Rattle.at_store.specs.declared.edit.Prepared.{Prepared}
 use Rattle.at_store.specs.declared.edit.Prepared.TheVariants as plan
@@ -92,6 +92,24 @@ module _ (classes : Classes) (old mid : Shown) (e : Edit) where
     where
       by_place : (n : Node) → change_of (relabel_edit (class_in (memory_of mid.slab)) p.numbered) ≡ change.Token n part → path_in node s ≡ Some n → ChangeLike (Names (path old)) (change.Token node part) (change_of e)
       by_place n is there = subst (ChangeLike (Names (path old)) (change.Token node part)) (sym (sym (ap change_of p.same) ∙ is)) (change.token part there)
+
+  -- just what goes with the node that the change removes is marked
+  of_gone : {Does : Tree → Edit → Type 0} (p : IsPrepared classes old e Does mid) (node : ℕ) (place : Node) (x : Tree) → gone s p.numbered ≡ Some x → tree_at s place ≡ Some x → class_of x ≡ node →
+      (other : ℕ) (n : Node) (y : Tree) → Some node ≡ Some other → path_in other s ≡ Some n → tree_at s n ≡ Some y → (k : ℕ) → leaves_in mid.slab k ≡ is_some (path_in k y)
+  of_gone p node place x goes stands number other n y is at' found k =
+      let same : node ≡ other = cc in
+      let path : Some place ≡ Some n = sym (named s p.keeps.apart place x stands) ∙ ap (λ j. path_in j s) (number ∙ same) ∙ at' in
+      let way : place ≡ n = cc in
+      let tree : Some x ≡ Some y = sym stands ∙ ap (tree_at s) way ∙ found in
+      let alike : x ≡ y = cc in
+      p.marks k ∙ ap (stands_in k) goes ∙ ap (λ t. is_some (path_in k t)) alike
+
+  pub are_marked : (q : Prepared) → IsPrepared classes old e (Does q) mid → AreMarked s (leaves_in mid.slab) (change_in q)
+  are_marked (plan.Set node new) p = λ other n y is at' found k there. of_gone p node p.does.place p.does.gone (ap (gone s) p.does.is ∙ p.does.there) p.does.there p.does.number other n y is at' found k
+  are_marked (plan.Put node part new kids) p = λ other n y is at' found k there. absurd cc
+  are_marked (plan.Drop node) p = λ other n y is at' found k there. of_gone p node p.does.place p.does.gone (ap (gone s) p.does.is ∙ p.does.there) p.does.there p.does.number other n y is at' found k
+  are_marked (plan.Insert node part index new kids) p = λ other n y is at' found k there. absurd cc
+  are_marked (plan.Token node part value) p = λ other n y is at' found k there. absurd cc
 
   pub touches_told : (q : Prepared) → IsPrepared classes old e (Does q) mid → (leaves : ℕ → Bool) → AreMarked s leaves (change_in q) → (l : Location ℕ) (m : Location Node) → LocationLike (Names (path old)) l m →
       touches_by nat_eq (told (memory_of mid.slab)) leaves (change_in q) l ≡ touches e m

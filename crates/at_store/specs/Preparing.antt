@@ -1,5 +1,5 @@
 -- Edits that are prepared: what the answer of a check stands for, and what a commit leaves.
-use Rattle.std.specs.Prelude.{◌≡◌, ℕ, ◌≤◌, length, true, false, List, [], ◌∷◌, map, Option, Some, None, Ok, option_map}
+use Rattle.std.specs.Prelude.{◌≡◌, ℕ, ◌≤◌, length, Bool, true, false, List, [], ◌∷◌, map, Option, Some, None, Ok, is_some, option_map}
 use Rattle.std.specs.List.{insert}
 use Rattle.at_model.specs.Classes.{Classes}
 use Rattle.at_model.specs.Trees.{Tree, Cell, Trees, One, Many, Empty, Holds, Token, Truth, class_of, conforms, from_trees}
@@ -7,9 +7,10 @@ use Rattle.at_model.specs.Paths.{Node, tree_at, cell_at, parent_of}
 use Rattle.at_model.specs.Edits.{Edit, carried, edited, is_within_limits, left_by}
 use Rattle.at_model.specs.Edits as edit
 use Rattle.at_tree.specs.Token.{token_view}
-use Rattle.at_store.specs.Numbers.{relabel_edit}
+use Rattle.at_store.specs.Numbers.{path_in, relabel_edit}
 use Rattle.at_store.specs.Memory.{Info, IsFreed, Keeps, class_in}
-use Rattle.at_store.specs.View.{memory_of}
+use Rattle.at_store.specs.View.{leaves_in, memory_of}
+use Rattle.at_store.specs.Touching.{gone}
 use Rattle.at_store.specs.declared.edit.Prepared.{Prepared}
 use Rattle.at_store.specs.declared.edit.Prepared.TheVariants as prepared
 use Rattle.at_store.specs.Shown.{IsIdle, Shown, numbers, path, tree}
@@ -96,7 +97,13 @@ abbrev pub IsGivenUp : Option ℕ → (before later : ℕ → Option Info) → T
 IsGivenUp None before later = (k : ℕ) → later k ≡ before k
 IsGivenUp (Some root) before later = IsFreed root before later
 
--- The store is the old one, with what the edit brings beside its tree; the edit is accepted, and is what was asked.
+-- the number stands in this tree, where there is one
+abbrev pub stands_in : ℕ → Option Tree → Bool
+stands_in k None = false
+stands_in k (Some x) = is_some (path_in k x)
+
+-- The store is the old one, with what the edit brings beside its tree, and just the nodes that it takes away are marked; the edit
+-- is accepted, and is what was asked.
 pub record IsPrepared (classes : Classes) (old : Shown) (e : Edit) (Does : Tree → Edit → Type 0) (new : Shown) : Type 0 where
   pub numbered : Edit
   pub same : relabel_edit (class_in (memory_of new.slab)) numbered ≡ e
@@ -104,6 +111,8 @@ pub record IsPrepared (classes : Classes) (old : Shown) (e : Edit) (Does : Tree 
   pub tree_stays : tree new ≡ tree old
   pub keeps : Keeps (memory_of new.slab) (numbers old) (brought numbered)
   pub waits : new.waiting ≡ option_map class_of (brought numbered)
+  pub leaving : new.leaving ≡ option_map class_of (gone (numbers old) numbered)
+  pub marks : (k : ℕ) → leaves_in new.slab k ≡ stands_in k (gone (numbers old) numbered)
   pub was_idle : IsIdle old
   pub does : Does (numbers old) numbered
   pub conforms : conforms classes (tree old) 0 ≡ true

@@ -8,7 +8,7 @@ use Rattle.at_tree.specs.Token.{token_view}
 use Rattle.at_store.specs.Numbers.{path_in, relabel, contents as shown_contents}
 use Rattle.at_store.specs.Memory.{Keeps, class_in}
 use Rattle.at_store.specs.Grown.{grown}
-use Rattle.at_store.specs.View.{memory_of}
+use Rattle.at_store.specs.View.{IsUnmarked, memory_of}
 use Rattle.at_store.specs.declared.store.Store.{Store}
 
 abbrev pub Shown : Type 0
@@ -29,10 +29,11 @@ contents s = shown_contents (numbers s) (tree s)
 abbrev pub path : Shown → ℕ → Option Node
 path s k = path_in k (numbers s)
 
--- no edit is prepared and waits: what is kept is the tree, and nothing else
+-- no edit is prepared and waits: what is kept is the tree, and nothing else, and no node is marked
 pub record IsIdle (s : Shown) : Type 0 where
   pub waiting : s.waiting ≡ None
   pub leaving : s.leaving ≡ None
   pub keeps : Keeps (memory_of s.slab) (numbers s) None
   pub limits : is_within_limits (tree s) ≡ true
   pub absent : token_view s.absent ≡ Truth false
+  pub unmarked : IsUnmarked s.slab

@@ -1,5 +1,5 @@
 -- The slab as a memory of nodes.
-use Rattle.std.specs.Prelude.{ℕ, Bool, false, map, Option, Some, None}
+use Rattle.std.specs.Prelude.{◌≡◌, ℕ, Bool, true, false, cond, nat_eq, map, Option, Some, None}
 use Rattle.slab.specs.Slab.{Slab, get}
 use Rattle.at_tree.specs.Token.{token_view}
 use Rattle.at_store.specs.Memory.{Form, Plain, List_of, Optional, Kept, Kids, Token_of, Info}
@@ -35,3 +35,18 @@ marked (Some e) = e.leaves
 
 abbrev pub leaves_in : Slab Entry → ℕ → Bool
 leaves_in slab k = marked (get slab k)
+
+-- no node is marked; and none is that wasn't
+abbrev pub IsUnmarked : Slab Entry → Type 0
+IsUnmarked slab = (k : ℕ) → leaves_in slab k ≡ false
+
+abbrev pub MarksNoMore : (before later : Slab Entry) → Type 0
+MarksNoMore before later = (k : ℕ) → leaves_in later k ≡ true → leaves_in before k ≡ true
+
+-- what the mark of the node k is after that of one node was written
+abbrev pub with_mark : Bool → Option Entry → Bool
+with_mark b None = false
+with_mark b (Some e) = b
+
+abbrev pub remarked : ℕ → Bool → ℕ → Option Entry → Bool
+remarked node b k o = cond (nat_eq k node) (with_mark b o) (marked o)

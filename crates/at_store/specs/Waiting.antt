@@ -1,6 +1,7 @@
 -- A tree that is brought into a store, and waits there.
-use Rattle.std.specs.Prelude.{◌≡◌, ℕ, Some, None}
+use Rattle.std.specs.Prelude.{◌≡◌, ℕ, true, Some, None}
 use Rattle.at_model.specs.Trees.{Tree, class_of}
+use Rattle.at_store.specs.Marking.{AreMarkedBelow}
 use Rattle.at_store.specs.Memory.{IsFreed, top}
 use Rattle.at_store.specs.Planting.{IsAsBefore, IsPlanted}
 use Rattle.at_store.specs.Shown.{Shown}
@@ -25,3 +26,7 @@ IsUnbrought before later = ((new : ℕ) → before.waiting ≡ Some new → IsFr
 -- nodes are marked; all else is as before
 abbrev pub IsMarking : (before later : Shown) → Type 0
 IsMarking before later = IsAsBefore (memory_of before.slab) (memory_of later.slab) × (later.root ≡ before.root) × (later.waiting ≡ before.waiting) × (later.absent ≡ before.absent)
+
+-- the node leaves, with all below it
+abbrev pub IsLeaving : (node : ℕ) → (before later : Shown) → Type 0
+IsLeaving node before later = IsMarking before later × (later.leaving ≡ Some node) × AreMarkedBelow node true 512 before.slab later.slab

@@ -1,10 +1,10 @@
 //! The changes that a commit makes in the slab. None of them takes memory.
-ghost use Rattle.std.specs.Prelude.{◌≡◌, ℕ, Some, drop, map, true};
+ghost use Rattle.std.specs.Prelude.{◌≡◌, ℕ, Some, drop, map};
 ghost use Rattle.std.specs.List.{remove};
 ghost use Rattle.at_model.specs.Edits.{changed_at};
 ghost use Rattle.at_tree.specs.Token.{token_view};
 ghost use Rattle.at_store.specs.Memory.{IsPlacedIn, IsReplaced, IsTakenAway, Kids, Token_of, indexed, kids_in, raised, relinked, renumbered, replaced, rewritten, taken_out, with_numbers};
-ghost use Rattle.at_store.specs.View.{form_view, kept_view, leaves_in, memory_of};
+ghost use Rattle.at_store.specs.View.{MarksNoMore, form_view, kept_view, leaves_in, memory_of};
 
 use crate::entry::{Entry, Form, Slot, index_at, kid_at, kids_at, up_at};
 use crate::node::Node;
@@ -176,7 +176,7 @@ fn close_gap(slab: &mut Slab<Entry>, parent: Node, part: usize, index: usize)
 /// A node that waits takes the place of another one, which goes with all below it.
 pub(crate) fn replace(slab: &mut Slab<Entry>, node: Node, new: Node)
     ensures written { IsReplaced node new (memory_of slab.old) (memory_of slab.new) }
-    ensures marks { (k : ℕ) → leaves_in slab.new k ≡ true → leaves_in slab.old k ≡ true }
+    ensures marks { MarksNoMore slab.old slab.new }
 {
     let up = up_at(slab, node);
     let index = index_at(slab, node);
@@ -189,7 +189,7 @@ pub(crate) fn replace(slab: &mut Slab<Entry>, node: Node, new: Node)
 /// A node goes, with all below it.
 pub(crate) fn take_away(slab: &mut Slab<Entry>, node: Node)
     ensures written { IsTakenAway node (memory_of slab.old) (memory_of slab.new) }
-    ensures marks { (k : ℕ) → leaves_in slab.new k ≡ true → leaves_in slab.old k ≡ true }
+    ensures marks { MarksNoMore slab.old slab.new }
 {
     let up = up_at(slab, node);
     let index = index_at(slab, node);

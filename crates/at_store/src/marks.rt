@@ -1,7 +1,9 @@
 //! What is told of all nodes below one: how many they are, and that they leave.
 ghost use Rattle.std.specs.Prelude.{◌≡◌, ℕ, min};
+ghost use Rattle.slab.specs.Slab.{get};
 ghost use Rattle.at_store.specs.Told.{kids_size, size_told};
-ghost use Rattle.at_store.specs.View.{memory_of};
+ghost use Rattle.at_store.specs.Marking.{AreMarkedBelow, AreMarkedUpTo};
+ghost use Rattle.at_store.specs.View.{leaves_in, memory_of, remarked};
 
 use crate::entry::{Entry, kid_at, kids_at, kids_in, slots_at};
 use crate::node::Node;
@@ -35,6 +37,7 @@ fn list_size(slab: &Slab<Entry>, kids: &[Node], levels: usize) -> usize
 
 fn set_mark(slab: &mut Slab<Entry>, node: Node, leaves: bool)
     ensures stays { (k : ℕ) → memory_of slab.new k ≡ memory_of slab.old k }
+    ensures marks { (k : ℕ) → leaves_in slab.new k ≡ remarked node leaves k (get slab.old k) }
 {
     if let Some(entry) = slab.get_mut(node.index()) {
         entry.leaves = leaves;
@@ -45,6 +48,7 @@ fn set_mark(slab: &mut Slab<Entry>, node: Node, leaves: bool)
 #[cycle(mark)]
 pub(crate) fn mark(slab: &mut Slab<Entry>, node: Node, leaves: bool, levels: usize)
     ensures stays { (k : ℕ) → memory_of slab.new k ≡ memory_of slab.old k }
+    ensures marks { AreMarkedBelow node leaves levels slab.old slab.new }
 {
     set_mark(slab, node, leaves);
     if levels == 0 {
@@ -58,6 +62,7 @@ pub(crate) fn mark(slab: &mut Slab<Entry>, node: Node, leaves: bool, levels: usi
 #[cycle(mark)]
 fn mark_slot(slab: &mut Slab<Entry>, node: Node, part: usize, leaves: bool, levels: usize)
     ensures stays { (k : ℕ) → memory_of slab.new k ≡ memory_of slab.old k }
+    ensures marks { AreMarkedUpTo node part leaves levels slab.old slab.new }
 {
     for index in 0..kids_at(slab, node, part).len() {
         if let Some(kid) = kid_at(slab, node, part, index) {

@@ -1,12 +1,12 @@
 //! How trees come into the slab and out of it.
-ghost use Rattle.std.specs.Prelude.{◌≡◌, ◌≤◌, ℕ, IfOk, OnErr, OnOk, [], ◌∷◌, ◌++◌, map, true};
+ghost use Rattle.std.specs.Prelude.{◌≡◌, ◌≤◌, IfOk, OnErr, OnOk, [], ◌∷◌, ◌++◌, map};
 ghost use Rattle.slab.specs.Slab.{slab_len};
 ghost use Rattle.at_model.specs.Edits.{changed_at};
 ghost use Rattle.at_model.specs.Trees.{Many, Tree as Numbered, class_of, to_trees};
 ghost use Rattle.at_tree.specs.TreeView.{cell_view, tree_view};
 ghost use Rattle.at_store.specs.Memory.{IsCellFreed, IsFreed, Kids, with_numbers};
 ghost use Rattle.at_store.specs.Planting.{GainsCell, GainsTree, IsAdded, IsAsBefore, IsPlanted, IsPushed, IsPushedKid, StaysPlanted, holding};
-ghost use Rattle.at_store.specs.View.{form_view, kept_view, leaves_in, memory_of};
+ghost use Rattle.at_store.specs.View.{MarksNoMore, form_view, kept_view, memory_of};
 
 use crate::entry::{Entry, Form, Slot};
 use crate::node::Node;
@@ -21,7 +21,7 @@ use std::alloc::{AllocError, Global};
 pub(crate) fn free(slab: &mut Slab<Entry>, node: Node)
     ensures fewer { slab_len slab.new ≤ slab_len slab.old }
     ensures freed { IsFreed node (memory_of slab.old) (memory_of slab.new) }
-    ensures marks { (k : ℕ) → leaves_in slab.new k ≡ true → leaves_in slab.old k ≡ true }
+    ensures marks { MarksNoMore slab.old slab.new }
 {
     if let Some(entry) = slab.try_remove(node.index()) {
         for slot in &entry.cells {
@@ -34,7 +34,7 @@ pub(crate) fn free(slab: &mut Slab<Entry>, node: Node)
 fn free_slot(slab: &mut Slab<Entry>, slot: &Slot)
     ensures fewer { slab_len slab.new ≤ slab_len slab.old }
     ensures freed { IsCellFreed (kept_view slot.now) (memory_of slab.old) (memory_of slab.new) }
-    ensures marks { (k : ℕ) → leaves_in slab.new k ≡ true → leaves_in slab.old k ≡ true }
+    ensures marks { MarksNoMore slab.old slab.new }
 {
     if let Slot::Kids(_, kids) = slot {
         for kid in kids {
@@ -53,6 +53,7 @@ fn add(
 ) -> Result<Node, AllocError>
     ensures added { IfOk result (λ node. IsAdded node class (up, index) (memory_of slab.old) (memory_of slab.new)) }
     ensures kept { OnErr result (IsAsBefore (memory_of slab.old) (memory_of slab.new)) }
+    ensures marks { MarksNoMore slab.old slab.new }
 {
     let entry = Entry {
         class,
@@ -68,6 +69,7 @@ fn add(
 fn push_slot(slab: &mut Slab<Entry>, node: Node, slot: Slot) -> Result<(), AllocError>
     ensures pushed { OnOk result (IsPushed node (kept_view slot) (memory_of slab.old) (memory_of slab.new)) }
     ensures kept { OnErr result (IsAsBefore (memory_of slab.old) (memory_of slab.new)) }
+    ensures marks { MarksNoMore slab.old slab.new }
 {
     if let Some(entry) = slab.get_mut(node.index()) {
         entry.cells.push(slot)?;
@@ -99,6 +101,7 @@ fn push_in_cells(cells: &mut Vec<Slot>, part: usize, kid: Node) -> Result<(), Al
 fn push_kid(slab: &mut Slab<Entry>, node: Node, part: usize, kid: Node) -> Result<(), AllocError>
     ensures pushed { OnOk result (IsPushedKid node part kid (memory_of slab.old) (memory_of slab.new)) }
     ensures kept { OnErr result (IsAsBefore (memory_of slab.old) (memory_of slab.new)) }
+    ensures marks { MarksNoMore slab.old slab.new }
 {
     if let Some(entry) = slab.get_mut(node.index()) {
         push_in_cells(&mut entry.cells, part, kid)?;
@@ -116,6 +119,7 @@ fn push_filled(
 ) -> Result<(), AllocError>
     ensures pushed { OnOk result (IsPushed node (Kids (form_view form) (kid ∷ [])) (memory_of slab.old) (memory_of slab.new)) }
     ensures kept { OnErr result (IsAsBefore (memory_of slab.old) (memory_of slab.new)) }
+    ensures marks { MarksNoMore slab.old slab.new }
 {
     let mut kids = Vec::new(alloc);
     kids.push(kid)?;
@@ -133,6 +137,7 @@ pub(crate) fn plant(
 ) -> Result<Node, AllocError>
     ensures planted { IfOk result (λ node. (w : Numbered) × (class_of w ≡ node) × IsPlanted (memory_of slab.old) (memory_of slab.new) (up, index) (tree_view tree.now) w) }
     ensures kept { OnErr result (IsAsBefore (memory_of slab.old) (memory_of slab.new)) }
+    ensures marks { MarksNoMore slab.old slab.new }
 {
     let node = add(alloc, slab, tree.class, up, index)?;
     for (part, cell) in tree.cells.iter().enumerate() {
@@ -155,6 +160,7 @@ fn plant_cell(
 ) -> Result<(), AllocError>
     ensures planted { OnOk result (GainsCell node part (cell_view cell.now) (memory_of slab.old) (memory_of slab.new)) }
     ensures stays { OnErr result (StaysPlanted node part (memory_of slab.old) (memory_of slab.new)) }
+    ensures marks { MarksNoMore slab.old slab.new }
 {
     match cell {
         Cell::One(tree) => plant_child(alloc, slab, node, part, Form::Plain, tree),
@@ -178,6 +184,7 @@ fn plant_child(
 ) -> Result<(), AllocError>
     ensures planted { OnOk result (GainsCell node part (holding (form_view form) (tree_view tree.now)) (memory_of slab.old) (memory_of slab.new)) }
     ensures kept { OnErr result (IsAsBefore (memory_of slab.old) (memory_of slab.new)) }
+    ensures marks { MarksNoMore slab.old slab.new }
 {
     let kid = plant(alloc, slab, Some((node, part)), 0, tree)?;
     if let Err(error) = push_filled(alloc, slab, node, form, kid) {
@@ -197,6 +204,7 @@ fn plant_list(
 ) -> Result<(), AllocError>
     ensures planted { OnOk result (GainsCell node part (Many (to_trees (map tree_view trees.now))) (memory_of slab.old) (memory_of slab.new)) }
     ensures stays { OnErr result (StaysPlanted node part (memory_of slab.old) (memory_of slab.new)) }
+    ensures marks { MarksNoMore slab.old slab.new }
 {
     push_slot(slab, node, Slot::Kids(Form::List, Vec::new(alloc)))?;
     for (index, tree) in trees.iter().enumerate() {
@@ -216,6 +224,7 @@ fn plant_element(
 ) -> Result<(), AllocError>
     ensures planted { OnOk result (GainsTree node part index (tree_view tree.now) (memory_of slab.old) (memory_of slab.new)) }
     ensures kept { OnErr result (IsAsBefore (memory_of slab.old) (memory_of slab.new)) }
+    ensures marks { MarksNoMore slab.old slab.new }
 {
     let kid = plant(alloc, slab, Some((node, part)), index, tree)?;
     if let Err(error) = push_kid(slab, node, part, kid) {

@@ -12,9 +12,8 @@ ghost use Rattle.at_tree.specs.PathView.{path_view, steps_view};
 ghost use Rattle.at_store.specs.Led.{Led};
 ghost use Rattle.at_model.specs.Classes.{Classes};
 ghost use Rattle.at_model.specs.Edits.{Edit as EditOf};
-ghost use Rattle.at_store.specs.View.{leaves_in, memory_of};
-ghost use Rattle.at_store.specs.Marked.{change_in};
-ghost use Rattle.at_store.specs.Touching.{AreMarked};
+ghost use Rattle.at_store.specs.View.{MarksNoMore, memory_of};
+ghost use Rattle.at_store.specs.Marking.{IsUnmarking};
 ghost use Rattle.at_store.specs.Located.{loc_view};
 ghost use Rattle.at_model.specs.Alike.{LocationLike, Names};
 ghost use Rattle.at_model.specs.Touches.{touches};
@@ -22,7 +21,7 @@ ghost use Rattle.at_store.specs.Preparing.{Does, DoesDrop, DoesInsert, DoesPut, 
 ghost use Rattle.at_store.specs.Shown.{IsIdle, Shown, contents, numbers, path, tree};
 ghost use Rattle.at_store.specs.Shown.{tree as shown};
 ghost use Rattle.at_store.specs.Memory.{kids_in};
-ghost use Rattle.at_store.specs.Waiting.{IsBrought, IsMarking, IsStoreAsBefore, IsUnbrought};
+ghost use Rattle.at_store.specs.Waiting.{IsBrought, IsLeaving, IsStoreAsBefore, IsUnbrought};
 ghost use Rattle.at_store.specs.Checking.{IsAsked, IsRefused, Prepares};
 ghost use Rattle.at_store.specs.Refusing.{edit_at};
 
@@ -226,6 +225,7 @@ impl Store {
     fn prepare(&mut self, alloc: Global, edit: Edit) -> Result<Prepared, AllocError>
         ensures prepared { IfOk result (Prepares self.old edit self.new) }
         ensures kept { OnErr result (self.old.waiting ≡ None → IsStoreAsBefore self.old self.new) }
+        ensures marks { OnErr result (MarksNoMore self.old.slab self.new.slab) }
     {
         match edit {
             Edit::Set { node, tree } => {
@@ -269,6 +269,7 @@ impl Store {
     fn bring(&mut self, alloc: Global, tree: Tree) -> Result<Node, AllocError>
         ensures brought { IfOk result (IsBrought self.old self.new (tree_view tree)) }
         ensures kept { OnErr result (IsStoreAsBefore self.old self.new) }
+        ensures marks { MarksNoMore self.old.slab self.new.slab }
     {
         let new = plant(alloc, &mut self.slab, None, 0, &tree)?;
         self.waiting = Some(new);
@@ -287,6 +288,7 @@ impl Store {
         ensures brought { IfOk result (λ r. IsBrought self.old self.new (tree_view tree) r.0) }
         ensures list { IfOk result (λ r. index ≤ length (kids_in (memory_of self.new.slab node) part) → r.1.items ≡ insert (kids_in (memory_of self.new.slab node) part) index r.0) }
         ensures kept { OnErr result (self.old.waiting ≡ None → IsStoreAsBefore self.old self.new) }
+        ensures marks { MarksNoMore self.old.slab self.new.slab }
     {
         let new = self.bring(alloc, tree)?;
         match with_one_more(alloc, kids_at(&self.slab, node, part), index, new) {
@@ -305,6 +307,7 @@ impl Store {
         ensures waiting { self.new.waiting ≡ None }
         ensures absent { self.new.absent ≡ self.old.absent }
         ensures unbrought { IsUnbrought self.old self.new }
+        ensures marks { MarksNoMore self.old.slab self.new.slab }
     {
         if let Some(new) = self.waiting {
             self.waiting = None;
@@ -314,7 +317,7 @@ impl Store {
 
     /// The node leaves, with all below it.
     fn mark_leaving(&mut self, node: Node)
-        ensures { IsMarking self.old self.new }
+        ensures { IsLeaving node self.old self.new }
     {
         self.leaving = Some(node);
         mark(&mut self.slab, node, true, MAX_DEPTH);
@@ -327,6 +330,7 @@ impl Store {
         ensures waiting { self.new.waiting ≡ self.old.waiting }
         ensures leaving { self.new.leaving ≡ None }
         ensures absent { self.new.absent ≡ self.old.absent }
+        ensures marks { IsUnmarking self.old.leaving self.old.slab self.new.slab }
     {
         if let Some(node) = self.leaving {
             self.leaving = None;
@@ -336,7 +340,7 @@ impl Store {
 
     /// Whether the prepared edit touches what stands at a location of a node that is there.
     pub fn touches(&self, ready: &Ready, loc: Loc) -> bool
-        ensures { (classes : Classes) (old : Shown) (e : EditOf) → IsPrepared classes old e (Does ready.now.prepared) self.now → AreMarked (numbers old) (leaves_in self.now.slab) (change_in ready.now.prepared)
+        ensures { (classes : Classes) (old : Shown) (e : EditOf) → IsPrepared classes old e (Does ready.now.prepared) self.now
             → (l : Location Place) → LocationLike (Names (path old)) (loc_view loc) l → result ≡ touches e l }
     {
         touches(&self.slab, &ready.prepared, &loc)

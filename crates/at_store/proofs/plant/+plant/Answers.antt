@@ -34,22 +34,24 @@ pub plant_cell-returns-in_ok-copy_value-in-Tok-clause-stays : goal.plant_cell-re
 plant_cell-returns-in_ok-copy_value-in-Tok-clause-stays t c = on_err c.push_slot-in-Tok.result (stays_same c.args.node c.args.part (memory_of c.args.slab.now) (memory_of c.push_slot-in-Tok.new.slab)) c.push_slot-in-Tok.ensures.kept
 
 pub plant-loop-part-init : goal.plant-loop-part-init
-plant-loop-part-init t c = cells_first c.in_ok-node.node (out-Tree c.args.tree.now).class (c.args.up, c.args.index) (memory_of c.args.slab.now) (memory_of c.add.new.slab) c.in_ok-node.ensures.added
+plant-loop-part-init t c = (cells_first c.in_ok-node.node (out-Tree c.args.tree.now).class (c.args.up, c.args.index) (memory_of c.args.slab.now) (memory_of c.add.new.slab) c.in_ok-node.ensures.added, c.add.ensures.marks)
 
 pub plant-returns-in-Err-clause-kept : goal.plant-returns-in-Err-clause-kept
 plant-returns-in-Err-clause-kept t c =
     cells_freed c.in_ok-node.node (out-Tree c.args.tree.now).class (c.args.up, c.args.index) (map cell_view (take c.loop-part.part c.deref-cell-items.result.now)) c.loop-part.part
-    (memory_of c.args.slab.now) (memory_of c.loop-part.slab) (memory_of c.plant_cell.new.slab) (memory_of c.free.new.slab) c.loop-part.invariant c.in-Err.ensures.stays c.free.ensures.freed
+    (memory_of c.args.slab.now) (memory_of c.loop-part.slab) (memory_of c.plant_cell.new.slab) (memory_of c.free.new.slab) c.loop-part.invariant.0 c.in-Err.ensures.stays c.free.ensures.freed
 
 pub plant-loop-part-preserved : goal.plant-loop-part-preserved
-plant-loop-part-preserved t c =
-    cells_on cell_view c.deref-cell-items.result.now c.loop-part.part c.cell-item.result c.loop-part-test.true c.cell-item.is c.in_ok-node.node (out-Tree c.args.tree.now).class (c.args.up, c.args.index)
-    (memory_of c.args.slab.now) (memory_of c.loop-part.slab) (memory_of c.plant_cell.new.slab) c.loop-part.invariant c.in_default.ensures.planted
+plant-loop-part-preserved t c = (
+  cells_on cell_view c.deref-cell-items.result.now c.loop-part.part c.cell-item.result c.loop-part-test.true c.cell-item.is c.in_ok-node.node (out-Tree c.args.tree.now).class (c.args.up, c.args.index)
+  (memory_of c.args.slab.now) (memory_of c.loop-part.slab) (memory_of c.plant_cell.new.slab) c.loop-part.invariant.0 c.in_default.ensures.planted,
+  λ k e. c.loop-part.invariant.1 k (c.plant_cell.ensures.marks k e),
+)
 
 pub plant-returns-clause-planted : goal.plant-returns-clause-planted
 plant-returns-clause-planted t c =
     cells_whole cell_view c.deref-cell-items.result.now c.loop-part.part (tree_view c.args.tree.now) c.loop-part-test.false c.in_ok-node.node (out-Tree c.args.tree.now).class
-    (tree_view_out c.args.tree.now ∙ ap (λ xs. branch (out-Tree c.args.tree.now).class (to_cells (map cell_view xs))) (sym c.deref-cell-items.ensures.value)) (c.args.up, c.args.index) (memory_of c.args.slab.now) (memory_of c.loop-part.slab) c.loop-part.invariant
+    (tree_view_out c.args.tree.now ∙ ap (λ xs. branch (out-Tree c.args.tree.now).class (to_cells (map cell_view xs))) (sym c.deref-cell-items.ensures.value)) (c.args.up, c.args.index) (memory_of c.args.slab.now) (memory_of c.loop-part.slab) c.loop-part.invariant.0
 
 pub plant_child-returns-in-Err-clause-kept : goal.plant_child-returns-in-Err-clause-kept
 plant_child-returns-in-Err-clause-kept t c =
@@ -75,18 +77,20 @@ pub plant_list-returns-in_err-push_slot-clause-stays : goal.plant_list-returns-i
 plant_list-returns-in_err-push_slot-clause-stays t c = at_err c.from_residual.result (stays_same c.args.node c.args.part (memory_of c.args.slab.now) (memory_of c.push_slot.new.slab) c.in_err-push_slot.ensures.kept)
 
 pub plant_list-loop-index-init : goal.plant_list-loop-index-init
-plant_list-loop-index-init t c = has_none c.args.node c.args.part (Kids List_of c.new.result.items) (memory_of c.args.slab.now) (memory_of c.push_slot.new.slab) (ap (Kids List_of) c.new.ensures.items) c.in_ok-push_slot.ensures.pushed
+plant_list-loop-index-init t c = (has_none c.args.node c.args.part (Kids List_of c.new.result.items) (memory_of c.args.slab.now) (memory_of c.push_slot.new.slab) (ap (Kids List_of) c.new.ensures.items) c.in_ok-push_slot.ensures.pushed, c.push_slot.ensures.marks)
 
 pub plant_list-returns-in_err-plant_element-clause-stays : goal.plant_list-returns-in_err-plant_element-clause-stays
 plant_list-returns-in_err-plant_element-clause-stays t c =
-    at_err c.from_residual-in_err-plant_element.result (has_stayed c.args.node c.args.part (map tree_view (take c.loop-index.index c.args.trees.now)) (memory_of c.args.slab.now) (memory_of c.loop-index.slab) (memory_of c.plant_element.new.slab) c.loop-index.invariant c.in_err-plant_element.ensures.kept)
+    at_err c.from_residual-in_err-plant_element.result (has_stayed c.args.node c.args.part (map tree_view (take c.loop-index.index c.args.trees.now)) (memory_of c.args.slab.now) (memory_of c.loop-index.slab) (memory_of c.plant_element.new.slab) c.loop-index.invariant.0 c.in_err-plant_element.ensures.kept)
 
 pub plant_list-loop-index-preserved : goal.plant_list-loop-index-preserved
-plant_list-loop-index-preserved t c =
-    trees_on tree_view c.args.trees.now c.loop-index.index c.index-trees-index.result c.loop-index-test.true c.index-trees-index.is c.args.node c.args.part (memory_of c.args.slab.now) (memory_of c.loop-index.slab) (memory_of c.plant_element.new.slab) c.loop-index.invariant c.in_ok-plant_element.ensures.planted
+plant_list-loop-index-preserved t c = (
+  trees_on tree_view c.args.trees.now c.loop-index.index c.index-trees-index.result c.loop-index-test.true c.index-trees-index.is c.args.node c.args.part (memory_of c.args.slab.now) (memory_of c.loop-index.slab) (memory_of c.plant_element.new.slab) c.loop-index.invariant.0 c.in_ok-plant_element.ensures.planted,
+  λ k e. c.loop-index.invariant.1 k (c.plant_element.ensures.marks k e),
+)
 
 pub plant_list-returns-clause-planted : goal.plant_list-returns-clause-planted
-plant_list-returns-clause-planted t c = trees_whole tree_view c.args.trees.now c.loop-index.index c.loop-index-test.false c.args.node c.args.part (memory_of c.args.slab.now) (memory_of c.loop-index.slab) c.loop-index.invariant
+plant_list-returns-clause-planted t c = trees_whole tree_view c.args.trees.now c.loop-index.index c.loop-index-test.false c.args.node c.args.part (memory_of c.args.slab.now) (memory_of c.loop-index.slab) c.loop-index.invariant.0
 
 pub plant_cell-returns-in-None-clause-planted : goal.plant_cell-returns-in-None-clause-planted
 plant_cell-returns-in-None-clause-planted t c =

@@ -3,7 +3,8 @@ use Rattle.at_tree.specs.TreeView.{tree_view}
 use Rattle.at_tree.specs.declared.token.TokVal.TheVariants as token
 use Rattle.at_store.specs.Shown.{Shown}
 use Rattle.at_store.specs.View.{memory_of}
-use Rattle.at_store.proofs.Loaded.{loaded_tree, loaded_idle, empty_memory}
+use Rattle.at_store.proofs.Loaded.{loaded_tree, loaded_idle, empty_memory, empty_unmarked}
+use Rattle.at_store.proofs.Marked.{unmarked_still}
 use Rattle.at_store.proofs.store.Store.load.Goals as goal
 
 pub returns-clause-loaded : goal.returns-clause-loaded
@@ -16,6 +17,7 @@ returns-clause-loaded c =
       before = memory_of c.new-slab.result;
       free = empty_memory c.new-slab.result c.new-slab.ensures.empty;
       planted = c.in_ok-root.ensures.planted;
+      unmarked = unmarked_still c.new-slab.result c.plant.new.slab c.plant.ensures.marks (empty_unmarked c.new-slab.result c.new-slab.ensures.empty);
       limits = sym c.is_within_limits.ensures ∙ c.if-not-is_within_limits.false;
     })
 
@@ -29,5 +31,6 @@ returns-clause-idle c =
       before = memory_of c.new-slab.result;
       free = empty_memory c.new-slab.result c.new-slab.ensures.empty;
       planted = c.in_ok-root.ensures.planted;
+      unmarked = unmarked_still c.new-slab.result c.plant.new.slab c.plant.ensures.marks (empty_unmarked c.new-slab.result c.new-slab.ensures.empty);
       limits = sym c.is_within_limits.ensures ∙ c.if-not-is_within_limits.false;
     })

@@ -3,7 +3,7 @@ use Rattle.at_tree.specs.TreeView.{tree_view}
 use Rattle.at_store.specs.Checking.{Prepares}
 use Rattle.at_store.specs.declared.edit.Edit.{Edit}
 use Rattle.at_store.specs.declared.edit.Prepared.TheVariants as plan
-use Rattle.at_store.proofs.Checked.{brings, brings_marked, drop_prepared, insert_prepared, put_prepared, set_prepared, token_prepared}
+use Rattle.at_store.proofs.Checked.{brings, drop_prepared, insert_prepared, put_prepared, set_prepared, token_prepared}
 use Rattle.at_store.proofs.store.Store.prepare.Goals as goal
 
 pub returns-in-Drop-clause-prepared : goal.returns-in-Drop-clause-prepared
@@ -25,7 +25,7 @@ returns-in_ok-new-in-Set-clause-prepared c =
     let root = c.in_ok-new-in-Set.new in
     let t = tree_view c.in-Set.tree in
     subst (λ (e : Edit). Prepares old e new (plan.Set c.in-Set.node root)) (sym c.in-Set.is)
-    (set_prepared old new c.in-Set.node root c.in-Set.tree (brings_marked old mid new t root (brings old mid t root c.in_ok-new-in-Set.ensures.brought) c.mark_leaving.ensures))
+    (set_prepared old mid new c.in-Set.node root c.in-Set.tree (brings old mid t root c.in_ok-new-in-Set.ensures.brought) c.bring.ensures.marks c.mark_leaving.ensures)
 
 pub returns-in_ok-new-in-Put-clause-prepared : goal.returns-in_ok-new-in-Put-clause-prepared
 returns-in_ok-new-in-Put-clause-prepared c =
@@ -33,8 +33,9 @@ returns-in_ok-new-in-Put-clause-prepared c =
     let new = c.bring_child.new.self in
     let root = c.in_ok-new-in-Put.new in
     let kids = c.in_ok-new-in-Put.kids in
+    let (planted, waits, (root_stays, leaving, absent)) = c.in_ok-new-in-Put.ensures.brought in
     subst (λ (e : Edit). Prepares old e new (plan.Put c.in-Put.node c.in-Put.part root kids)) (sym c.in-Put.is)
-    (put_prepared old new c.in-Put.node c.in-Put.part root c.in-Put.tree kids (brings old new (tree_view c.in-Put.tree) root c.in_ok-new-in-Put.ensures.brought) c.in_ok-new-in-Put.ensures.list)
+    (put_prepared old new c.in-Put.node c.in-Put.part root c.in-Put.tree kids (brings old new (tree_view c.in-Put.tree) root c.in_ok-new-in-Put.ensures.brought) leaving c.bring_child.ensures.marks c.in_ok-new-in-Put.ensures.list)
 
 pub returns-in_ok-new-in-Insert-clause-prepared : goal.returns-in_ok-new-in-Insert-clause-prepared
 returns-in_ok-new-in-Insert-clause-prepared c =
@@ -42,5 +43,6 @@ returns-in_ok-new-in-Insert-clause-prepared c =
     let new = c.bring_child-in-Insert.new.self in
     let root = c.in_ok-new-in-Insert.new in
     let kids = c.in_ok-new-in-Insert.kids in
+    let (planted, waits, (root_stays, leaving, absent)) = c.in_ok-new-in-Insert.ensures.brought in
     subst (λ (e : Edit). Prepares old e new (plan.Insert c.in-Insert.node c.in-Insert.part c.in-Insert.index root kids)) (sym c.in-Insert.is)
-    (insert_prepared old new c.in-Insert.node c.in-Insert.part c.in-Insert.index root c.in-Insert.tree kids (brings old new (tree_view c.in-Insert.tree) root c.in_ok-new-in-Insert.ensures.brought) c.in_ok-new-in-Insert.ensures.list)
+    (insert_prepared old new c.in-Insert.node c.in-Insert.part c.in-Insert.index root c.in-Insert.tree kids (brings old new (tree_view c.in-Insert.tree) root c.in_ok-new-in-Insert.ensures.brought) leaving c.bring_child-in-Insert.ensures.marks c.in_ok-new-in-Insert.ensures.list)
