@@ -1,4 +1,4 @@
-use Rattle.std.proofs.Common.{◌≡◌, ℕ, suc, ◌+◌, ◌-◌, ◌≤◌, length, None, Some, refl, sym, ap, ◌∙◌, subst, arith}
+use Rattle.std.proofs.Common.{◌≡◌, ℕ, suc, ◌+◌, ◌-◌, ◌≤◌, length, [], None, Some, refl, sym, ap, ◌∙◌, subst, arith}
 use Rattle.std.specs.List.{slice_get}
 use Rattle.slab.specs.Slab.{Slab}
 use Rattle.at_store.specs.declared.entry.Entry.{Entry}
@@ -17,7 +17,7 @@ mark-returns-then-levels-eq0-clause-marks t c place x same apart stored shallow 
 
 pub mark-loop-part-init : goal.mark-loop-part-init
 mark-loop-part-init t c = record {
-  end = ?;
+  end = sym (map_length kept_view c.slots_at-part-end.result.now) ∙ ap length c.slots_at-part-end.ensures ∙ ap (λ o. length (cells_in o)) (c.set_mark.ensures.stays c.args.node);
   stays = c.set_mark.ensures.stays;
   marks = λ place x same apart stored shallow. root_marked c.args.slab.now c.set_mark.new.slab c.args.node c.args.leaves c.set_mark.ensures.marks place x same stored;
 }
@@ -34,14 +34,14 @@ mark-loop-part-preserved t c =
           (c.mark_slot.ensures.marks (leaves_in c.args.slab.now) place x same apart (stored_same c.args.slab.now c.loop-part.slab inv.stays place x stored) (subst (λ (n : ℕ). IsShallow n x) less shallow) (inv.marks place x same apart stored shallow));
     }
 
-pub mark-returns-after-loop-part-clause-marks : goal.mark-returns-after-loop-part-clause-marks
-mark-returns-after-loop-part-clause-marks t c place x same apart stored shallow =
+pub mark-returns-clause-marks : goal.mark-returns-clause-marks
+mark-returns-clause-marks t c place x same apart stored shallow =
     let inv = c.loop-part.invariant in
     whole_marked c.args.leaves (leaves_in c.args.slab.now) (leaves_in c.loop-part.slab) (memory_of c.args.slab.now) place x c.args.node c.loop-part.part same stored (omega (arith, inv.end, c.loop-part-test.false)) (inv.marks place x same apart stored shallow)
 
 pub mark_slot-loop-index-init : goal.mark_slot-loop-index-init
 mark_slot-loop-index-init t c = record {
-  end = ?;
+  end = ap length c.kids_at-index-end.ensures;
   within = omega arith;
   stays = λ k. refl;
   marks = λ first place x same apart stored shallow h. h;
@@ -70,7 +70,7 @@ mark_slot-loop-index-preserved t c =
           absurd (omega (arith, past, c.loop-index-test.true, inv.end)))
     ]
 
-pub mark_slot-returns-after-loop-index-clause-marks : goal.mark_slot-returns-after-loop-index-clause-marks
-mark_slot-returns-after-loop-index-clause-marks t c first place x same apart stored shallow h =
+pub mark_slot-returns-clause-marks : goal.mark_slot-returns-clause-marks
+mark_slot-returns-clause-marks t c first place x same apart stored shallow h =
     let inv = c.loop-index.invariant in
     part_marked c.args.leaves first (leaves_in c.loop-index.slab) (memory_of c.args.slab.now) place x c.args.node c.args.part c.loop-index.index same stored (sym inv.end ∙ omega (arith, inv.within, c.loop-index-test.false)) (inv.marks first place x same apart stored shallow h)
