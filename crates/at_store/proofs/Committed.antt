@@ -209,19 +209,16 @@ pub record TakesMarksBack (mid new : Shown) : Type 0 where
   pub taken : IsUnmarking mid.leaving freed new.slab
 
 unmarked_back : (classes : Classes) (old mid new : Shown) (e : Edit) (Does : Tree → Edit → Type 0) → IsPrepared classes old e Does mid → Keeps (memory_of new.slab) (numbers old) None → TakesMarksBack mid new → IsUnmarked new.slab
-unmarked_back classes old mid new e Does p keeps back = by_gone (gone s p.numbered) refl
+unmarked_back classes old mid new e Does p keeps back = by_gone (gone (numbers old) p.numbered) refl
   where
-    abbrev s : Tree
-    s = numbers old
-
-    taken : (o : Option Tree) → gone s p.numbered ≡ o → IsUnmarking (option_map class_of o) back.freed new.slab
+    taken : (o : Option Tree) → gone (numbers old) p.numbered ≡ o → IsUnmarking (option_map class_of o) back.freed new.slab
     taken o is = subst (λ (l : Option ℕ). IsUnmarking l back.freed new.slab) (p.leaving ∙ ap (option_map class_of) is) back.taken
 
-    by_gone : (o : Option Tree) → gone s p.numbered ≡ o → IsUnmarked new.slab
-    by_gone None is k = taken None is k ∙ unmarked_still mid.slab back.freed back.fewer (λ j. p.marks j ∙ ap (stands_in j) is) k
+    by_gone : (o : Option Tree) → gone (numbers old) p.numbered ≡ o → IsUnmarked new.slab
+    by_gone None is = λ k. taken None is k ∙ unmarked_still mid.slab back.freed back.fewer (λ j. p.marks j ∙ ap (stands_in j) is) k
     by_gone (Some x) is =
-        let (n, at', there) = led (tree_at s) (removed (change_of p.numbered)) x is in
-        unmarked_below back.freed new.slab s n x (stored_same new.slab back.freed (λ k. sym (back.still k)) top s keeps.stored) keeps.apart keeps.shallow there (λ k e. sym (p.marks k ∙ ap (stands_in k) is) ∙ back.fewer k e) (taken (Some x) is)
+        let (n, at', there) = led (tree_at (numbers old)) (removed (change_of p.numbered)) x is in
+        unmarked_below back.freed new.slab (numbers old) n x (stored_same new.slab back.freed (λ k. sym (back.still k)) top (numbers old) keeps.stored) keeps.apart keeps.shallow there (λ k e. sym (p.marks k ∙ ap (stands_in k) is) ∙ back.fewer k e) (taken (Some x) is)
 
 pub cancelled : (classes : Classes) (old mid new : Shown) (e : Edit) (Does : Tree → Edit → Type 0) → IsPrepared classes old e Does mid → IsGivenUp mid.waiting (memory_of mid.slab) (memory_of new.slab) →
     new.root ≡ mid.root → new.waiting ≡ None → new.leaving ≡ None → token_view new.absent ≡ Truth false → TakesMarksBack mid new → IsCancelled old new
