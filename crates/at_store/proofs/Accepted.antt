@@ -1,6 +1,5 @@
 -- Where an edit is accepted, the cell that it changes is of the shape that it needs.
-use Rattle.std.proofs.Common.{◌≡◌, ℕ, suc, ◌≤◌, Bool, true, false, ◌&&◌, [], ◌∷◌, Option, Some, None, Ok, refl, sym, ap, ◌∙◌, subst, option_and_then, option_map, is_some, length}
-use Rattle.std.specs.Prelude.{map, nat_le}
+use Rattle.std.proofs.Common.{◌≡◌, ℕ, suc, ◌≤◌, Bool, true, false, Option, Some, None, Ok, refl, sym, ap, ◌∙◌, subst, option_and_then, option_map, is_some, length}
 use Rattle.std.proofs.lemmas.Bool.{leb-true, eqb-true}
 use Rattle.at_model.specs.Classes.{Classes}
 use Rattle.at_model.specs.Trees.{Cell, Cells, Empty, Filled, Holds, Many, One, Tree, Trees, cells_of, children, class_of, conforms, from_trees, no_trees, tree}

@@ -1,10 +1,10 @@
 -- What a check prepares is the edit that was asked.
-use Rattle.std.proofs.Common.{◌≡◌, ℕ, zero, ◌≤◌, arith, true, false, List, [], ◌∷◌, length, Option, Some, None, Ok, ◌⊎◌, refl, sym, ap, ◌∙◌, subst, option_map, is_some}
+use Rattle.std.proofs.Common.{◌≡◌, ℕ, ◌≤◌, arith, [], length, Option, Some, None, ◌⊎◌, refl, sym, ap, ◌∙◌, subst, option_map, is_some}
 use Rattle.std.specs.Prelude.{Vec, map}
 use Rattle.std.specs.Global.{Global}
 use Rattle.std.specs.List.{insert}
 use Rattle.at_model.specs.Classes.{Classes}
-use Rattle.at_model.specs.Trees.{Cell, Empty, Many, Tree, Truth, children, class_of, from_trees}
+use Rattle.at_model.specs.Trees.{Empty, Tree, class_of, from_trees}
 use Rattle.at_model.specs.Paths.{Node, cell_at, children_at, tree_at}
 use Rattle.at_model.specs.Edits as model
 use Rattle.at_model.proofs.Conforming.{accepted_conforms}
@@ -13,12 +13,12 @@ use Rattle.at_tree.specs.Token.{token_view}
 use Rattle.at_tree.specs.declared.token.TokVal.{TokVal}
 use Rattle.at_tree.specs.declared.tree.Tree.{Tree as Nested}
 use Rattle.at_tree.specs.TreeView.{tree_view}
-use Rattle.at_store.specs.Numbers.{path_in, relabel, relabel_edit}
+use Rattle.at_store.specs.Numbers.{relabel, relabel_edit}
 use Rattle.at_store.specs.Memory.{Info, Keeps, class_in, kids_in, top}
 use Rattle.at_store.specs.Planting.{IsAsBefore, IsPlanted}
 use Rattle.at_store.specs.View.{MarksNoMore, leaves_in, memory_of}
 use Rattle.at_store.specs.Touching.{gone}
-use Rattle.at_store.specs.Shown.{IsIdle, Shown, numbers, path, tree}
+use Rattle.at_store.specs.Shown.{IsIdle, Shown, numbers, tree}
 use Rattle.at_store.specs.Preparing.{DoesDrop, DoesInsert, DoesPut, DoesSet, DoesToken, IsPrepared, brought, stands_in}
 use Rattle.at_store.specs.Refusing.{IsAllowed, IsRefusalOf, edit_at, node_of}
 use Rattle.at_store.specs.Checking.{IsAccepted, IsRefused, Prepares}

@@ -1,5 +1,5 @@
 -- A commit leaves the tree that the edit leaves, and each node under its number.
-use Rattle.std.proofs.Common.{◌≡◌, ℕ, zero, suc, ◌≤◌, Bool, List, cond, drop, nat_eq, option_map, true, false, ◌&&◌, nat_le, [], ◌∷◌, Option, Some, None, Ok, refl, sym, ap, ◌∙◌, subst, arith, option_and_then, is_some}
+use Rattle.std.proofs.Common.{◌≡◌, ℕ, zero, suc, ◌≤◌, Bool, List, cond, drop, nat_eq, option_map, true, false, [], ◌∷◌, Option, Some, None, refl, sym, ap, ◌∙◌, subst, arith, option_and_then, is_some}
 use Rattle.std.specs.Prelude.{length, map}
 use Rattle.std.specs.List.{insert, slice_get}
 use Rattle.std.proofs.lemmas.Bool.{leb-true}
@@ -11,14 +11,14 @@ use Rattle.at_model.specs.Edits.{Edit, carried, changed_at, edited, is_within_li
 use Rattle.at_model.specs.Edits as edit
 use Rattle.at_model.proofs.Options.{both, led}
 use Rattle.at_tree.specs.Token.{token_view}
-use Rattle.at_store.specs.Numbers.{IsFresh, path_in, path_in_new, relabel, relabel_edit}
+use Rattle.at_store.specs.Numbers.{IsFresh, path_in, path_in_new, relabel}
 use Rattle.at_store.specs.Memory.{Form, Info, IsPlacedIn, IsShallow, Keeps, Kept, Kids, List_of, Optional, Stored, Token_of, Waits, class_in, kept, kept_of, kids_in, numbers_in, placed, placed_in, raised, renumbered, rewritten, top, with_kept, with_up}
 use Rattle.at_store.specs.View.{IsUnmarked, MarksNoMore, leaves_in, memory_of}
 use Rattle.at_store.specs.Touching.{change_of, gone, removed}
 use Rattle.at_store.specs.declared.entry.Entry.{Entry}
 use Rattle.slab.specs.Slab.{Slab}
 use Rattle.at_store.specs.Marking.{IsUnmarking}
-use Rattle.at_store.specs.Shown.{IsIdle, Shown, numbers, path, tree}
+use Rattle.at_store.specs.Shown.{Shown, numbers, tree}
 use Rattle.at_store.specs.Preparing.{DoesInsert, DoesPut, DoesToken, IsCancelled, IsCommitted, IsGivenUp, IsPrepared, brought, stands_in}
 use Rattle.at_store.proofs.Classes.{class_changed, classes_stay, shallow_numbers}
 use Rattle.at_store.proofs.Commits.{inserted, put_in, token_set}

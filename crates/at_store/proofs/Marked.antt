@@ -35,7 +35,7 @@ root_marked before later node b written place x same stored =
     by_node : (k : ℕ) → remarked (class_of x) b k (get before k) ≡ cond (nat_eq k (class_of x)) b (leaves_in before k)
     by_node k = elim (cases_eq k (class_of x)) [
       | inl e ↦ subst (λ (j : ℕ). remarked (class_of x) b j (get before j) ≡ cond (nat_eq j (class_of x)) b (leaves_in before j)) (sym e)
-      (ap (λ c. cond (nat_eq (class_of x) (class_of x)) c (leaves_in before (class_of x))) (there (get before (class_of x)) _ (stored [] x refl).is))
+          (ap (λ c. cond (nat_eq (class_of x) (class_of x)) c (leaves_in before (class_of x))) (there (get before (class_of x)) _ (stored [] x refl).is))
       | inr e ↦ ap (λ c. cond c (with_mark b (get before k)) (leaves_in before k)) (ne_eqb k (class_of x) e) ∙ sym (ap (λ c. cond c b (leaves_in before k)) (ne_eqb k (class_of x) e))
     ]
 

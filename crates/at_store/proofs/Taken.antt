@@ -4,7 +4,7 @@ use Rattle.std.specs.Prelude.{map}
 use Rattle.std.specs.List.{remove, slice_get}
 use Rattle.std.proofs.lemmas.Bool.{cases_eq, eq-eqb, ne_eqb}
 use Rattle.at_model.specs.Classes.{Classes}
-use Rattle.at_model.specs.Trees.{Cell, Empty, Filled, Holds, Many, One, Tree, Truth, cells_of, children, class_of, from_cells}
+use Rattle.at_model.specs.Trees.{Cell, Empty, Filled, Holds, Many, One, Truth, cells_of, children, class_of, from_cells}
 use Rattle.at_model.specs.Edits.{Edit, changed_at, left_by, without_child, with_cell, with_node}
 use Rattle.at_model.specs.Edits as edit
 use Rattle.at_model.specs.Paths.{Node}

@@ -1,5 +1,5 @@
 -- What a prepared edit touches, told by the memory and by marks, is what the edit touches.
-use Rattle.std.proofs.Common.{◌≡◌, ℕ, Bool, ◌||◌, ◌&&◌, nat_eq, Option, Some, None, refl, sym, ap, ◌∙◌, subst, is_some}
+use Rattle.std.proofs.Common.{◌≡◌, ℕ, Bool, ◌||◌, ◌&&◌, nat_eq, Option, Some, refl, sym, ap, ◌∙◌, subst, is_some}
 use Rattle.at_model.specs.Classes.{Classes}
 use Rattle.at_model.specs.Trees.{Tree, class_of}
 use Rattle.at_model.specs.Paths.{Node, tree_at}
@@ -8,8 +8,8 @@ use Rattle.at_model.specs.Alike.{LocationLike, Names}
 use Rattle.at_model.specs.Alike as alike
 use Rattle.at_model.specs.Edits.{Edit}
 use Rattle.at_model.specs.Touches.{node_of, touches}
-use Rattle.at_store.specs.Numbers.{contents, path_in, relabel, relabel_edit}
-use Rattle.at_store.specs.Memory.{Info, Place, Stored, class_in, place_at, top, up_in}
+use Rattle.at_store.specs.Numbers.{contents, path_in, relabel_edit}
+use Rattle.at_store.specs.Memory.{Info, Stored, class_in, place_at, top, up_in}
 use Rattle.at_store.specs.View.{leaves_in, memory_of}
 use Rattle.at_store.specs.Shown.{Shown, numbers, path, tree}
 use Rattle.at_store.specs.Marked.{change_in, told}

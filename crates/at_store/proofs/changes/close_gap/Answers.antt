@@ -1,4 +1,4 @@
-use Rattle.std.proofs.Common.{◌≡◌, ℕ, drop, ◌∙◌}
+use Rattle.std.proofs.Common.{drop, ◌∙◌}
 use Rattle.at_store.specs.Memory.{kids_in, renumbered}
 use Rattle.at_store.proofs.changes.close_gap.Goals as goal
 

@@ -1,5 +1,5 @@
 use Rattle.std.proofs.Common.{◌≡◌, ℕ, Some, drop, ap, ◌∙◌}
-use Rattle.at_store.specs.Memory.{kids_in, placed_in, raised, renumbered}
+use Rattle.at_store.specs.Memory.{kids_in, raised, renumbered}
 use Rattle.at_store.specs.View.{memory_of}
 use Rattle.at_store.proofs.changes.place.Goals as goal
 

@@ -1,4 +1,4 @@
-use Rattle.std.proofs.Common.{◌≡◌, ℕ, Some, ap, ◌∙◌}
+use Rattle.std.proofs.Common.{Some, ap, ◌∙◌}
 use Rattle.at_store.specs.Memory.{indexed, placed}
 use Rattle.at_store.proofs.Slots.{raised_indexed}
 use Rattle.at_store.proofs.changes.put_below.Goals as goal

@@ -1,4 +1,4 @@
-use Rattle.std.proofs.Common.{◌≡◌, ℕ, Some, sym, ap, ◌∙◌}
+use Rattle.std.proofs.Common.{◌≡◌, Some, sym, ap, ◌∙◌}
 use Rattle.at_store.specs.Memory.{index_in, replaced, up_in}
 use Rattle.at_store.specs.View.{memory_of}
 use Rattle.at_store.proofs.changes.replace.Goals as goal

@@ -44,7 +44,7 @@ plant-returns-in-Err-clause-kept t c =
 pub plant-loop-part-preserved : goal.plant-loop-part-preserved
 plant-loop-part-preserved t c = (
   cells_on cell_view c.deref-cell-items.result.now c.loop-part.part c.cell-item.result c.loop-part-test.true c.cell-item.is c.in_ok-node.node (out-Tree c.args.tree.now).class (c.args.up, c.args.index)
-  (memory_of c.args.slab.now) (memory_of c.loop-part.slab) (memory_of c.plant_cell.new.slab) c.loop-part.invariant.0 c.in_default.ensures.planted,
+      (memory_of c.args.slab.now) (memory_of c.loop-part.slab) (memory_of c.plant_cell.new.slab) c.loop-part.invariant.0 c.in_default.ensures.planted,
   λ k e. c.loop-part.invariant.1 k (c.plant_cell.ensures.marks k e),
 )
 

@@ -1,4 +1,4 @@
-use Rattle.std.proofs.Common.{refl, sym, subst}
+use Rattle.std.proofs.Common.{sym, subst}
 use Rattle.at_tree.specs.TreeView.{tree_view}
 use Rattle.at_store.specs.Checking.{Prepares}
 use Rattle.at_store.specs.declared.edit.Edit.{Edit}
