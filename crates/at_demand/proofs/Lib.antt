@@ -5,3 +5,5 @@ pub mod Keys
 pub mod Orderly
 pub mod Truth
 pub mod Seeing
+pub mod Staying
+pub mod StayingRight

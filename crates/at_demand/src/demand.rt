@@ -10,6 +10,7 @@ ghost use Rattle.at_body.specs.Same.{same_instance};
 ghost use Rattle.at_body.specs.Values.{value_view};
 ghost use Rattle.at_cache.specs.Kept.{AreKept, Answers as Says, LeavesUntouched, LosesTouched};
 ghost use Rattle.at_demand.specs.Known.{meaning, kept_values, answer_view, MayAdd, FoundKept};
+ghost use Rattle.at_demand.specs.Right.{AreRight, IsThere};
 ghost use Rattle.at_demand.specs.UnderWay.{IsOrderlyIn, IsTrueIn, IsTurn, IsRightTurn};
 
 use crate::answer::Answer;
@@ -39,7 +40,9 @@ enum Turn<'a> {
 
 impl<K: Keeper> Demand<K> {
     /// Questions, with that keeper.
-    pub fn new(alloc: Global, keeper: K) -> Demand<K> {
+    pub fn new(alloc: Global, keeper: K) -> Demand<K>
+        ensures { result.keeper ≡ keeper }
+    {
         Demand {
             alloc,
             keeper,
@@ -56,7 +59,7 @@ impl<K: Keeper> Demand<K> {
     ) -> Result<Answer, AllocError>
         requires idle { IsIdle store.now }
         ensures answers { Right (contents store.now) (meaning rules.now) (kept_values (K.contents self.old.keeper)) → IfOk result (λ a. HasAnswer (contents store.now) (meaning rules.now) inst.now (answer_view a)) }
-        ensures right { Right (contents store.now) (meaning rules.now) (kept_values (K.contents self.old.keeper)) → Right (contents store.now) (meaning rules.now) (kept_values (K.contents self.new.keeper)) }
+        ensures right { IsThere store.now inst.now → AreRight rules.now store.now (K.contents self.old.keeper) → AreRight rules.now store.now (K.contents self.new.keeper) }
     {
         if let Some(value) = self.keeper.get(inst) {
             return Ok(Answer::Value(value.copy()?));

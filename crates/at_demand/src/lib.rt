@@ -4,7 +4,9 @@
 mod answer;
 mod demand;
 mod gathering;
+mod laws;
 mod question;
 
 pub use answer::Answer;
 pub use demand::Demand;
+pub use laws::what_is_kept_stays_right;
