@@ -59,6 +59,77 @@ def source(mebibytes):
     return (line * (mebibytes * (1 << 20) // len(line.encode())))
 
 
+def chained():
+    """Aspects over the calculator's blocks: each statement counts those before it, and a block sums a one for each."""
+    return ("aspect Counting {\n  inh lazy int Stmt.before();\n"
+            "  eq Block.getStmt(int i).before() = i == 0 ? 0 : getStmt(i - 1).before() + 1;\n"
+            "  eq Program.getBlock().before() = 0;\n"
+            "  syn int Block.many() = sum (s : getStmtList()) { s.one() };\n  syn int Stmt.one() = 1;\n"
+            "  syn int Program.long() = " + " ".join(f"{k} {'+-*'[k % 3]}" for k in range(1, 61)) + " 61;\n}\n")
+
+
+def many_equations(classes, attributes, bodies):
+    """A grammar of that many classes below one, and aspects with an equation of each class for each attribute, and as many more
+    attributes with a body."""
+    grammar = "Top ::= One:Base;\nabstract Base;\n" + "".join(f"C{k} : Base ::= <V:int>;\n" for k in range(classes))
+    lines = [f"  syn int Base.a{j}();" for j in range(attributes)] + [f"  syn int Base.b{j}() = a{j % attributes}() + {j};" for j in range(bodies)]
+    lines += [f"  eq C{k}.a{j}() = getV() + {j};" for k in range(classes) for j in range(attributes)]
+    return grammar, "aspect Many {\n" + "\n".join(lines) + "\n}\n"
+
+
+def long_aspects(size):
+    """Aspects of that size, all of it in bodies."""
+    body = " + ".join(["getLeft().getValue()"] * 90)
+    lines, length, k = [], 0, 0
+    while length < size - 3000:
+        lines.append(f"  syn int Sum.total{k}() = {body};")
+        length, k = length + len(lines[-1]) + 1, k + 1
+    return "aspect S {\n" + "\n".join(lines) + "\n}\n"
+
+
+def edits_of(statements):
+    """Kinds of 2,000 edits of a block of that many statements."""
+    last = statements - 3
+    return [("token edits", "".join(f"0 token /Block/Stmt:{k * last // 2000}/Init Value {k}\n" for k in range(2000))),
+            ("small subtrees taken out of an optional and put back", f"0 drop /Block/Stmt:{last}/Init\n0 put /Block/Stmt:{last} Init Num(1)\n" * 1000),
+            ("subtrees replaced", f"0 set /Block/Stmt:{last}/Init Add(Num(1),Num(2))\n" * 2000),
+            ("token edits, each with a question after it", "".join(f"0 token /Block/Stmt:{k * last // 2000}/Init Value {k}\n0 ask /Block/Stmt:{k * last // 2000} value()\n" for k in range(2000)))]
+
+
+def layers(put, spent):
+    """What the store, questions and rules cost, each against a smaller tree or half as much."""
+    small, large = calculator(put, 2000), calculator(put, 30500)
+    for (what, few), (_, many) in zip(edits_of(2000), edits_of(30500)):
+        times = [spent(small, few), spent(large, many)]
+        print(f"2,000 {what}: {times[0] * 1000:.0f} ms on 4,000 nodes, {times[1] * 1000:.0f} ms on 61,000: ratio {times[1] / times[0]:.2f}")
+
+    def halves(what, files, lines):
+        times = [spent(of, text) for of, text in zip(files, lines)]
+        print(f"{what}: {times[1] * 1000:.0f} ms, against half of it: ratio {times[1] / times[0]:.2f}")
+
+    halves("300,000 questions whose answer is kept", (small, small), ["0 ask /Block/Stmt:1 value()\n" * n for n in (150000, 300000)])
+    cold = calculator(put, 10000)
+    halves("10,000 questions, each for another node", (cold, cold), ["".join(f"0 ask /Block/Stmt:{k} value()\n" for k in range(n - 2)) for n in (5000, 10000)])
+    counting = put("counting.jrag", chained())
+    trees = [calculator(put, n)[:2] + [counting] for n in (5000, 10000, 15000, 30000)]
+    halves("a chain of 10,000 instances", trees[:2], [f"0 ask /Block/Stmt:{n - 1} before()\n" for n in (5000, 10000)])
+    halves("20 folds over 30,000 elements", trees[2:], ["0 ask /Block many()\n" * 20] * 2)
+    halves("20,000 expressions of 60 operators", (trees[0], trees[0]), ["0 ask / long()\n" * n for n in (10000, 20000)])
+
+
+def rules(put, begun):
+    """What rules cost, each against half as much."""
+    times = []
+    for classes in (500, 1000):
+        grammar, aspects = many_equations(classes, 20, 1980 * classes // 1000)
+        times.append(begun([put("m.ast", grammar), put("m.txt", "Top(C0(1))\n"), put("m.jrag", aspects)]))
+    print(f"2,000 declarations and 20,000 equations over 1,000 classes: {times[1] * 1000:.0f} ms, against half of it: ratio {times[1] / times[0]:.2f}")
+    times = []
+    for size in (2 << 20, 4 << 20):
+        times.append(begun([put("sum.ast", "Sum ::= Left:Num Right:Num; Num ::= <Value:int>;\n"), put("sum.txt", "Sum(Num(3),Num(4))\n"), put("l.jrag", long_aspects(size))]))
+    print(f"4 MiB of aspects: {times[1] * 1000:.0f} ms, against half of it: ratio {times[1] / times[0]:.2f}")
+
+
 def main():
     if not PROGRAM.exists():
         sys.exit("make bench builds ./attrd first")
@@ -119,6 +190,9 @@ def main():
             times.append(best(folder, files, nothing, statuses=(1,)) - idle)
             print(f"{size} MiB of source scanned: {times[-1] * 1000:.1f} ms, {size / times[-1]:.1f} MiB a second")
         print(f"  ratio {times[1] / times[0]:.2f}")
+
+        layers(put, lambda files, lines: best(folder, files, Path(folder) / put("lines", lines)) - best(folder, files, nothing))
+        rules(put, lambda files: best(folder, files, nothing) - idle)
 
 
 if __name__ == "__main__":

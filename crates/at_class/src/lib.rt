@@ -11,8 +11,6 @@ mod naming;
 mod part;
 mod steps;
 mod table;
-#[cfg(test)]
-mod tests;
 
 pub use fault::{ClassCode, ClassFault};
 pub use naming::are_named;

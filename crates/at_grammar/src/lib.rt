@@ -96,6 +96,3 @@ pub fn parse_ast(alloc: Global, text: &str) -> Result<Grammar, AstFault>
         }
     }
 }
-
-#[cfg(test)]
-mod tests;

@@ -108,6 +108,3 @@ pub fn parse_jrag(alloc: Global, text: &str) -> Result<Vec<Aspect>, JragFault>
         }
     }
 }
-
-#[cfg(test)]
-mod tests;

@@ -6,7 +6,5 @@ pub mod laws;
 pub mod path;
 pub mod reader;
 pub mod term;
-#[cfg(test)]
-mod tests;
 pub mod token;
 pub mod tree;

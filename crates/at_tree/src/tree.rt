@@ -3,8 +3,6 @@ mod conforming;
 mod counts;
 pub mod laws;
 mod shaping;
-#[cfg(test)]
-mod tests;
 mod writing;
 
 use crate::token::TokVal;

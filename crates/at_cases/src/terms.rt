@@ -1,8 +1,8 @@
-use crate::fault::TermFault;
-use crate::path::{Path, read_path, write_path};
-use crate::reader::read_term;
-use crate::term::{Term, TermCell};
-use crate::token::TokVal;
+use at_tree::fault::TermFault;
+use at_tree::path::{Path, read_path, write_path};
+use at_tree::reader::read_term;
+use at_tree::term::{Term, TermCell};
+use at_tree::token::TokVal;
 use std::alloc::{AllocError, Global};
 use std::test::Fail;
 

@@ -1,4 +1,5 @@
-use super::*;
+use at_grammar::{AstFault, ClassDecl, parse_ast};
+use std::alloc::Global;
 use std::test::Fail;
 
 /// Whether the text is refused as a wrong one, and where; `None` where it is read.

@@ -1,7 +1,7 @@
-use crate::reader::read_term;
-use crate::tree::{ShapeFault, Tree, depth, fits, nodes, shape, write_term};
 use at_class::{ClassTable, are_named};
 use at_grammar::parse_ast;
+use at_tree::reader::read_term;
+use at_tree::tree::{ShapeFault, Tree, depth, fits, nodes, shape, write_term};
 use std::alloc::Global;
 use std::test::Fail;
 

@@ -1,7 +1,7 @@
 ghost use Rattle.at_protocol.specs.Writable.{IsWritable};
 
-use crate::line::{Argument, Command, Line, LineFault, Place, read_line, session_of};
-use crate::reply::{FaultWord, Form, Refusal, Reply, Shown, write_reply};
+use at_protocol::line::{Argument, Command, Line, LineFault, Place, read_line, session_of};
+use at_protocol::reply::{FaultWord, Form, Refusal, Reply, Shown, write_reply};
 use at_tree::path::{Path, Step, read_path};
 use at_tree::term::TermCell;
 use at_tree::token::TokVal;

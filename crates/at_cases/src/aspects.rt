@@ -1,4 +1,5 @@
-use super::*;
+use at_jrag::{Decl, DeclForm, JragFault, parse_jrag};
+use std::alloc::{AllocError, Global};
 use std::test::Fail;
 
 /// The code of the fault and its place; `None` where the text is read.

@@ -1,4 +1,4 @@
-use crate::{ClassCode, ClassFault, ClassTable, PartShape, TokenKind, are_named};
+use at_class::{ClassCode, ClassFault, ClassTable, PartShape, TokenKind, are_named};
 use at_grammar::{ClassDecl, Grammar, PartDecl, Shape};
 use std::alloc::{AllocError, Global};
 use std::test::Fail;
