@@ -1,8 +1,9 @@
-# attrd: make run, make test, make try, make build, make bench, make starve.
+# attrd: make run, make test, make try, make build, make install, make bench, make starve.
 SHELL := /bin/bash
 SAMPLE := crates/attrd/data
+PREFIX ?= /usr/local
 
-.PHONY: run test try build bench starve tools
+.PHONY: run test try build install bench starve tools
 
 # The sample session, answered by the proved program.
 run: build
@@ -12,14 +13,20 @@ run: build
 test: tools
 	rt ci
 
-# The sample session with no proof, in seconds.
+# The sample session with no proof, in a minute or two.
 try: tools
 	@cd crates/attrd && rt try attrd -- data/calc.ast data/tree.txt data/calc.jrag < data/session
 
-# The proved program, as ./attrd.
+# The proved program, as ./attrd. It may run meanwhile.
 build: tools
-	@cd crates/attrd && rt run > ../../.build.log 2>&1 < stdin -- data/sum.ast data/sum.txt data/sum.jrag || { tail -20 ../../.build.log; exit 1; }
-	@cp crates/attrd/out/attrd attrd && rm -f .build.log
+	@tools/build.sh
+
+# The program that was built and its man page, below PREFIX.
+install:
+	@test -x attrd || { echo "there is no ./attrd yet: make build first"; exit 1; }
+	install -d $(DESTDIR)$(PREFIX)/bin $(DESTDIR)$(PREFIX)/share/man/man1
+	install -m 755 attrd $(DESTDIR)$(PREFIX)/bin/attrd
+	install -m 644 docs/attrd.1 $(DESTDIR)$(PREFIX)/share/man/man1/attrd.1
 
 # The tests of the text layer, with each allocation refused in turn.
 starve: tools
