@@ -7,8 +7,10 @@ log=$PWD/.build.log
 
 tell() {
     local minutes=0
-    # Its own output is closed to sleep, so that nobody who reads ours waits for it.
-    while sleep 60 > /dev/null 2>&1; do
+    trap 'kill $!; exit' TERM
+    while true; do
+        sleep 60 > /dev/null 2>&1 &
+        wait $!
         minutes=$((minutes + 1))
         echo "  after $minutes min: $(tail -n 1 "$log" | cut -c 1-100)"
     done
