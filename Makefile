@@ -1,25 +1,39 @@
-# attrd: make run, make test, make try, make build, make bench, make starve.
+# attrd: make run, make test, make try, make build, make install, make examples, make bench, make starve.
 SHELL := /bin/bash
 SAMPLE := crates/attrd/data
+PREFIX ?= /usr/local
+PAGES := docs/MANUAL.md docs/TUTORIAL.md samples/calculator samples/objects samples/machines
 
-.PHONY: run test try build bench starve tools
+.PHONY: run test try build install examples bench starve tools python
 
 # The sample session, answered by the proved program.
 run: build
 	@cd $(SAMPLE) && ../../../attrd calc.ast tree.txt calc.jrag < session
 
-# The gate: every proof from nothing, the must-fail edits, the tests, the programs.
-test: tools
+# The gate: every proof from nothing, the must-fail edits, the tests, the programs; and then the examples of
+# the manual, the tutorial and the samples, on the program that was proved.
+test: tools python
 	rt ci
+	@python3 tools/examples.py --program crates/attrd/out/attrd $(PAGES)
 
-# The sample session with no proof, in seconds.
+# The sample session with no proof, in a minute or two.
 try: tools
 	@cd crates/attrd && rt try attrd -- data/calc.ast data/tree.txt data/calc.jrag < data/session
 
-# The proved program, as ./attrd.
+# The proved program, as ./attrd. It may run meanwhile.
 build: tools
-	@cd crates/attrd && rt run > ../../.build.log 2>&1 < stdin -- data/sum.ast data/sum.txt data/sum.jrag || { tail -20 ../../.build.log; exit 1; }
-	@cp crates/attrd/out/attrd attrd && rm -f .build.log
+	@tools/build.sh
+
+# The program that was built and its man page, below PREFIX.
+install:
+	@test -x attrd || { echo "there is no ./attrd yet: make build first"; exit 1; }
+	install -d $(DESTDIR)$(PREFIX)/bin $(DESTDIR)$(PREFIX)/share/man/man1
+	install -m 755 attrd $(DESTDIR)$(PREFIX)/bin/attrd
+	install -m 644 docs/attrd.1 $(DESTDIR)$(PREFIX)/share/man/man1/attrd.1
+
+# The examples of the manual, the tutorial and the samples, run by the proved program.
+examples: build python
+	@python3 tools/examples.py $(PAGES)
 
 # The tests of the text layer, with each allocation refused in turn.
 starve: tools
@@ -32,3 +46,6 @@ bench: build
 tools:
 	@command -v rt > /dev/null || { echo "attrd is written in Rattle: install the Rattle kit, so that the command 'rt' is on the PATH."; exit 1; }
 	@command -v clang > /dev/null || command -v cc > /dev/null || { echo "install a C compiler, as by: apt-get install clang"; exit 1; }
+
+python:
+	@command -v python3 > /dev/null || { echo "the examples are run by Python: install python3."; exit 1; }

@@ -46,7 +46,7 @@ def flat_grammar(classes):
 
 def calculator(put, statements):
     """The sample grammar and aspects, over a block of that many statements, of which the last two are the sample's."""
-    samples = PROGRAM.parent / "samples"
+    samples = PROGRAM.parent / "samples" / "calculator"
     filler = ",".join(f'Decl("f{i}",Num({i}))' for i in range(statements - 2))
     block = (filler + "," if filler else "") + 'Decl("x",Num(1)),Print(Add(Use("x"),Num(2)))'
     return [put("calc.ast", (samples / "calc.ast").read_text()), put(f"tree{statements}.txt", f"Program(Block([{block}]))"),

@@ -1,0 +1,228 @@
+#!/usr/bin/env python3
+"""Runs the examples of pages and of sample folders, and compares what attrd writes byte by byte.
+
+    tools/examples.py [--program PROGRAM] PAGE|FOLDER ..
+
+PROGRAM is ./attrd where none is given. A PAGE is a Markdown file. A FOLDER is a sample: its page is README.md, and its
+other files are there from the start. Each page has a temporary folder of its own, in which its examples run. The last
+line is 'N passed, M failed'; the status is 1 where one failed, or where a page has no example.
+
+The examples of a page are its fenced blocks; the word behind the fence says what a block is.
+
+    ```file NAME
+    The block is the file NAME from here on.
+
+    ```run
+    $ attrd WORDS
+    > a line that is sent
+    its reply
+    Each line that isn't empty has one reply. Nothing may stand on standard error, and the status is 0.
+    '$ attrd WORDS < LINES | diff - REPLIES' takes lines and replies from these files.
+
+    ```fault
+    $ attrd WORDS
+    what stands on standard error
+    $ echo $?
+    the status
+    Standard input is empty, and nothing may stand on standard output.
+
+    ```refused FILE in WORDS
+    a text of FILE, of no, one or more lines
+    => CODE NAME at LINE:COLUMN
+    Any number of these. 'attrd WORDS' must write 'FILE: ' and what stands behind the arrow on standard error, and end
+    with status 1. '=> accepted' stands for nothing there, and for status 0.
+
+Blocks of text, ebnf and sh, and blocks without a word, are no examples. In the others a text X between the quotes in
+‹X*N› is written N times, where # in X is the count from 1.
+"""
+import argparse
+import difflib
+import re
+import subprocess
+import sys
+import tempfile
+from pathlib import Path
+
+FENCE = re.compile(r"^```(.*)$")
+TIMES = re.compile(r"‹([^‹›]*)\*(\d+)›")
+PASSED_OVER = ("", "text", "ebnf", "sh")
+SECONDS = 120
+
+
+class Malformed(Exception):
+    """A block isn't written as the head of this script says."""
+
+
+def written_out(text):
+    """The text with each ‹X*N› written out."""
+    return TIMES.sub(lambda it: "".join(it[1].replace("#", str(k)) for k in range(1, int(it[2]) + 1)), text)
+
+
+def lines_text(lines):
+    """The bytes of these lines, each ended by a newline."""
+    return "".join(written_out(it) + "\n" for it in lines).encode()
+
+
+def blocks_of(text):
+    """The fenced blocks of a page: line of the fence, word, what stands behind the word, lines."""
+    found, inside = [], None
+    for number, line in enumerate(text.splitlines(), 1):
+        fence = FENCE.match(line)
+        if inside is not None and line == "```":
+            found.append(inside)
+            inside = None
+        elif inside is not None:
+            inside[3].append(line)
+        elif fence:
+            word, _, rest = fence[1].partition(" ")
+            inside = (number, word, rest.strip(), [])
+    if inside is not None:
+        raise Malformed(f"line {inside[0]}: the block has no end")
+    return found
+
+
+def words_of(line):
+    if line != "$ attrd" and not line.startswith("$ attrd "):
+        raise Malformed("the block doesn't begin with '$ attrd'")
+    return line.split()[2:]
+
+
+class Page:
+    """A page, the folder in which its examples run, and how many passed."""
+
+    def __init__(self, program, name, folder):
+        self.program, self.name, self.folder = program, name, Path(folder)
+        self.passed = self.failed = 0
+
+    def put(self, name, text):
+        if Path(name).name != name:
+            raise Malformed(f"{name} is no name of a file")
+        (self.folder / name).write_bytes(text)
+
+    def get(self, name):
+        try:
+            return (self.folder / name).read_bytes()
+        except OSError:
+            raise Malformed(f"there is no file {name}") from None
+
+    def check(self, at, words, given, wanted):
+        """One example: wanted are standard output, standard error and the status."""
+        try:
+            ran = subprocess.run([self.program, *words], cwd=self.folder, input=given, capture_output=True, env={}, timeout=SECONDS)
+        except subprocess.TimeoutExpired:
+            self.fail(at, words, f"attrd had not ended after {SECONDS} seconds")
+            return
+        got, why = (ran.stdout, ran.stderr, ran.returncode), []
+        for what, old, new in zip(("standard output", "standard error"), wanted, got):
+            if old != new:
+                sides = [it.decode(errors="backslashreplace").splitlines() for it in (old, new)]
+                shown = [*difflib.unified_diff(*sides, "wanted", "written", lineterm="", n=0)] or ["only the ends of lines differ"]
+                why += [f"{what} differs", *(it if len(it) <= 200 else it[:200] + " .." for it in shown)]
+        if wanted[2] != got[2]:
+            why.append(f"the status is {got[2]}, and {wanted[2]} is wanted")
+        if why:
+            self.fail(at, words, *why)
+        else:
+            self.passed += 1
+
+    def fail(self, at, words, *why):
+        self.failed += 1
+        print(f"{self.name}:{at}: attrd {' '.join(words)}")
+        for it in why:
+            print(f"    {it}")
+
+    def run(self, at, lines):
+        found = re.fullmatch(r"(\$ attrd.*?) < (\S+) \| diff - (\S+)", lines[0])
+        if found:
+            if len(lines) > 1:
+                raise Malformed("replies stand in the block and in a file")
+            self.check(at, words_of(found[1]), self.get(found[2]), (self.get(found[3]), b"", 0))
+            return
+        sent, replies, open_lines = [], [], 0
+        for line in lines[1:]:
+            if line == ">" or line.startswith("> "):
+                if open_lines:
+                    raise Malformed(f"a line has no reply: {sent[-1]}")
+                sent.append(line[2:])
+                open_lines = int(line != ">")
+            elif open_lines:
+                replies.append(line)
+                open_lines = 0
+            else:
+                raise Malformed(f"a reply stands behind no line: {line}")
+        if open_lines:
+            raise Malformed(f"a line has no reply: {sent[-1]}")
+        self.check(at, words_of(lines[0]), lines_text(sent), (lines_text(replies), b"", 0))
+
+    def fault(self, at, lines):
+        if len(lines) < 3 or lines[-2] != "$ echo $?" or not lines[-1].isdigit():
+            raise Malformed("the block doesn't end with '$ echo $?' and a status")
+        self.check(at, words_of(lines[0]), b"", (b"", lines_text(lines[1:-2]), int(lines[-1])))
+
+    def refused(self, at, rest, lines):
+        file, found, words = rest.partition(" in ")
+        if not found or file not in words.split():
+            raise Malformed("behind the word stand 'FILE in WORDS', with FILE among the words")
+        text = []
+        for number, line in enumerate(lines, at + 1):
+            if not line.startswith("=> "):
+                text.append(line)
+                continue
+            self.put(file, lines_text(text))
+            is_well = line == "=> accepted"
+            told = b"" if is_well else f"{file}: {line[3:]}\n".encode()
+            self.check(number, words.split(), b"", (b"", told, 0 if is_well else 1))
+            text = []
+        if text:
+            raise Malformed("a text has no arrow behind it")
+
+    def play(self, text):
+        for at, word, rest, lines in blocks_of(text):
+            try:
+                if word == "file":
+                    self.put(rest, lines_text(lines))
+                elif word in ("run", "fault") and lines:
+                    {"run": self.run, "fault": self.fault}[word](at, lines)
+                elif word == "refused":
+                    self.refused(at, rest, lines)
+                elif word not in PASSED_OVER:
+                    raise Malformed(f"no such block: {word}")
+            except Malformed as why:
+                self.fail(at, [], str(why))
+
+
+def played(program, path):
+    """The page, or the sample folder, after its examples have run."""
+    with tempfile.TemporaryDirectory(prefix="attrd-examples-") as folder:
+        page = Page(program, path / "README.md" if path.is_dir() else path, folder)
+        try:
+            if path.is_dir():
+                for it in sorted(path.iterdir()):
+                    if it.is_file():
+                        page.put(it.name, it.read_bytes())
+            page.play(page.name.read_text(encoding="utf-8"))
+        except (Malformed, OSError) as why:
+            page.fail(0, [], str(why))
+        if page.passed + page.failed == 0:
+            page.fail(0, [], "there is no example")
+    print(f"{path}: {page.passed} passed, {page.failed} failed")
+    return page
+
+
+def main():
+    words = argparse.ArgumentParser(description="Runs the examples of pages and of sample folders.")
+    words.add_argument("--program", default="./attrd", help="the program (./attrd)")
+    words.add_argument("pages", nargs="+", metavar="PAGE|FOLDER", type=Path)
+    given = words.parse_args()
+    program = Path(given.program).resolve()
+    if not program.is_file():
+        print(f"{given.program}: there is no such program: make build makes ./attrd\n0 passed, 1 failed")
+        return 1
+    pages = [played(str(program), it) for it in given.pages]
+    passed, failed = (sum(getattr(it, of) for it in pages) for of in ("passed", "failed"))
+    print(f"{passed} passed, {failed} failed")
+    return 1 if failed else 0
+
+
+if __name__ == "__main__":
+    sys.exit(main())
