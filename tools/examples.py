@@ -127,7 +127,7 @@ class Page:
 
     def fail(self, at, words, *why):
         self.failed += 1
-        print(f"{self.name}:{at}: attrd {' '.join(words)}")
+        print(f"{self.name}:{at}: {'not an example' if words is None else ' '.join(['attrd', *words])}")
         for it in why:
             print(f"    {it}")
 
@@ -188,7 +188,7 @@ class Page:
                 elif word not in PASSED_OVER:
                     raise Malformed(f"no such block: {word}")
             except Malformed as why:
-                self.fail(at, [], str(why))
+                self.fail(at, None, str(why))
 
 
 def played(program, path):
@@ -202,9 +202,9 @@ def played(program, path):
                         page.put(it.name, it.read_bytes())
             page.play(page.name.read_text(encoding="utf-8"))
         except (Malformed, OSError) as why:
-            page.fail(0, [], str(why))
+            page.fail(0, None, str(why))
         if page.passed + page.failed == 0:
-            page.fail(0, [], "there is no example")
+            page.fail(0, None, "there is no example")
     print(f"{path}: {page.passed} passed, {page.failed} failed")
     return page
 
