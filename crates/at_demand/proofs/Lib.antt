@@ -5,3 +5,7 @@ pub mod Keys
 pub mod Orderly
 pub mod Truth
 pub mod Seeing
+pub mod Supported
+pub mod Gathered
+pub mod Passing
+pub mod There

@@ -1,3 +1,4 @@
 pub mod Known
 pub mod UnderWay
 pub mod Right
+pub mod Covering

@@ -23,7 +23,7 @@ pub returns-in_err-keep-clause-right : goal.returns-in_err-keep-clause-right
 returns-in_err-keep-clause-right g c look asked h =
     let old = g.K.Keeper.contents c.args.self.now.keeper in
     let new = g.K.Keeper.contents c.keep.new.self.keeper in
-    right_after c.args.rules.now look asked old new c.args.question c.args.value h (subst (λ (v : ValueCode). MayAdd old new c.args.question.inst (value_view v)) c.in_ok-find.ensures.value c.in_err-keep.ensures)
+    right_after c.args.rules.now look asked old new c.args.question c.args.value h (subst (λ (v : ValueCode). MayAdd old new c.args.question.inst (value_view v)) c.in_ok-find.ensures.value c.in_err-keep.ensures.adds)
 
 pub returns-in_default-clause-answers : goal.returns-in_default-clause-answers
 returns-in_default-clause-answers g c look asked h =
@@ -35,25 +35,25 @@ pub returns-in_default-clause-right : goal.returns-in_default-clause-right
 returns-in_default-clause-right g c look asked h =
     let old = g.K.Keeper.contents c.args.self.now.keeper in
     let new = g.K.Keeper.contents c.keep.new.self.keeper in
-    right_after c.args.rules.now look asked old new c.args.question c.args.value h (subst (λ (v : ValueCode). MayAdd old new c.args.question.inst (value_view v)) c.in_ok-find.ensures.value c.in_ok-keep.ensures)
+    right_after c.args.rules.now look asked old new c.args.question c.args.value h (subst (λ (v : ValueCode). MayAdd old new c.args.question.inst (value_view v)) c.in_ok-find.ensures.value c.in_ok-keep.ensures.adds)
 
 pub returns-in_err-needed-clause-right : goal.returns-in_err-needed-clause-right
 returns-in_err-needed-clause-right g c look asked h =
     let old = g.K.Keeper.contents c.args.self.now.keeper in
     let new = g.K.Keeper.contents c.keep.new.self.keeper in
-    right_after c.args.rules.now look asked old new c.args.question c.args.value h (subst (λ (v : ValueCode). MayAdd old new c.args.question.inst (value_view v)) c.in_ok-find.ensures.value c.in_ok-keep.ensures)
+    right_after c.args.rules.now look asked old new c.args.question c.args.value h (subst (λ (v : ValueCode). MayAdd old new c.args.question.inst (value_view v)) c.in_ok-find.ensures.value c.in_ok-keep.ensures.adds)
 
 pub returns-in_err-insert-clause-right : goal.returns-in_err-insert-clause-right
 returns-in_err-insert-clause-right g c look asked h =
     let old = g.K.Keeper.contents c.args.self.now.keeper in
     let new = g.K.Keeper.contents c.keep.new.self.keeper in
-    right_after c.args.rules.now look asked old new c.args.question c.args.value h (subst (λ (v : ValueCode). MayAdd old new c.args.question.inst (value_view v)) c.in_ok-find.ensures.value c.in_ok-keep.ensures)
+    right_after c.args.rules.now look asked old new c.args.question c.args.value h (subst (λ (v : ValueCode). MayAdd old new c.args.question.inst (value_view v)) c.in_ok-find.ensures.value c.in_ok-keep.ensures.adds)
 
 pub returns-clause-right : goal.returns-clause-right
 returns-clause-right g c look asked h =
     let old = g.K.Keeper.contents c.args.self.now.keeper in
     let new = g.K.Keeper.contents c.keep.new.self.keeper in
-    right_after c.args.rules.now look asked old new c.args.question c.args.value h (subst (λ (v : ValueCode). MayAdd old new c.args.question.inst (value_view v)) c.in_ok-find.ensures.value c.in_ok-keep.ensures)
+    right_after c.args.rules.now look asked old new c.args.question c.args.value h (subst (λ (v : ValueCode). MayAdd old new c.args.question.inst (value_view v)) c.in_ok-find.ensures.value c.in_ok-keep.ensures.adds)
 
 pub returns-clause-turn : goal.returns-clause-turn
 returns-clause-turn g c =
@@ -61,7 +61,7 @@ returns-clause-turn g c =
     let more = g.K.Keeper.contents c.keep.new.self.keeper in
     let new : Question = record { waiting = c.pop.new.self; found = c.insert.new.self; inst = c.in-Some.below; frame = c.in-Some.frame } in
     settles old more c.args.question new (value_view c.args.value) c.requires.orderly
-    (subst (λ (v : ValueCode). MayAdd old more c.args.question.inst (value_view v)) c.in_ok-find.ensures.value c.in_ok-keep.ensures)
+    (subst (λ (v : ValueCode). MayAdd old more c.args.question.inst (value_view v)) c.in_ok-find.ensures.value c.in_ok-keep.ensures.adds)
     c.in-Some.below c.in-Some.frame c.in_ok-find.find c.in-Some.ensures.entries
     (subst (λ (x : Demanded). AreKept old x.kept.items) (sym c.in_ok-find.ensures.demanded) c.requires.orderly.last_kept)
     c.in_ok-insert.ensures.entries refl refl
@@ -73,5 +73,5 @@ returns-clause-answers g c look asked h =
     let more = g.K.Keeper.contents c.keep.new.self.keeper in
     let new : Question = record { waiting = c.pop.new.self; found = c.insert.new.self; inst = c.in-Some.below; frame = c.in-Some.frame } in
     settles_true c.args.rules.now look asked old more c.args.question c.args.value h new c.in_ok-needed.needed c.in-Some.below c.in-Some.frame c.in_ok-find.find c.requires.orderly
-    (subst (λ (v : ValueCode). MayAdd old more c.args.question.inst (value_view v)) c.in_ok-find.ensures.value c.in_ok-keep.ensures)
+    (subst (λ (v : ValueCode). MayAdd old more c.args.question.inst (value_view v)) c.in_ok-find.ensures.value c.in_ok-keep.ensures.adds)
     c.in_ok-find.ensures.value c.in-Some.ensures.entries c.in_ok-insert.ensures.entries refl refl c.in_ok-needed.ensures
