@@ -229,15 +229,16 @@ module _ (rules : Rules) (look : Contents ℕ) (entries : Entries) (found : List
   all_covered i l w h = supported look (meaning rules) Within (λ u. Among u s.kept.items) (λ m. covered entries reads s.kept.items m ≡ true) next seen below i l (f, w, gathered.first) h
 
   -- and so what is put
-  pub put_covers : {E : Type 0} (exact : Bool) (new : Entries) (i : Instance ℕ) (v : Value ℕ) (r : Result (Unit {0}) E) → IsWhole rules look found i f →
-      OnOk r (MayPut exact entries i v reads s.kept.items new) → OnErr r (KeepsAll entries new) → AreCovered rules look new
-  put_covers exact new i v (Err e) w puts err j k is l h = covers j k (sym (err j) ∙ is) l h
-  put_covers exact new i v (Ok u) w (inl p) err j k is l h = covers j k (sym (p.1 j) ∙ is) l h
-  put_covers exact new i v (Ok u) w (inr p) err j k is l h = by (same_instance i j) refl (sym (p.adds j) ∙ is)
+  pub put_covers : {E : Type 0} (exact : Bool) (new : Entries) (i j : Instance ℕ) (v : Value ℕ) (locs : List Loc) (uses : List (Instance ℕ)) (r : Result (Unit {0}) E) → IsWhole rules look found i f → j ≡ i → locs ≡ s.reads.items → uses ≡ s.kept.items →
+      OnOk r (MayPut exact entries j v (map loc_view locs) uses new) → OnErr r (KeepsAll entries new) → AreCovered rules look new
+  put_covers exact new i j v locs uses (Err e) w a b c puts err m k is l h = covers m k (sym (err m) ∙ is) l h
+  put_covers exact new i j v locs uses (Ok u) w a b c (inl p) err m k is l h = covers m k (sym (p.1 m) ∙ is) l h
+  put_covers exact new i j v locs uses (Ok u) w a b c (inr p) err m k is l h = by (same_instance j m) refl (sym (p.adds m) ∙ is)
     where
-      by : (b : Bool) → same_instance i j ≡ b → (if b then Some p.entry else entries j) ≡ Some k → k.covers l ≡ true
-      by true s e =
+      by : (t : Bool) → same_instance j m ≡ t → (if t then Some p.entry else entries m) ≡ Some k → k.covers l ≡ true
+      by true at e =
           let same : p.entry ≡ k = same_Some p.entry k e in
-          let here : Supports look (meaning rules) l i = subst (λ x. Supports look (meaning rules) l x) (sym (same_true i j s)) h in
-          ap (λ (x : Kept). x.covers l) (sym same) ∙ p.covers l (all_covered i l w here)
-      by false s e = covers j k e l h
+          let here : Supports look (meaning rules) l i = subst (λ x. Supports look (meaning rules) l x) (sym (sym a ∙ same_true j m at)) h in
+          let all : covered entries (map loc_view locs) uses l ≡ true = ap (λ x. covered entries (map loc_view x) uses l) b ∙ ap (λ x. covered entries reads x l) c ∙ all_covered i l w here in
+          ap (λ (x : Kept). x.covers l) (sym same) ∙ p.covers l all
+      by false at e = covers m k e l h

@@ -12,6 +12,8 @@ use Rattle.at_demand.specs.declared.question.Question.{Question}
 use Rattle.at_demand.specs.Known.{meaning, MayAdd}
 use Rattle.at_demand.proofs.Orderly.{last_unkept, none_there, settles, deepens}
 use Rattle.at_demand.proofs.Truth.{right_after, ends, settles_true, deepens_true, closes, fails, right_known}
+use Rattle.at_demand.proofs.Passing.{settles_covering}
+use Rattle.at_demand.proofs.There.{settles_right}
 use Rattle.at_demand.proofs.demand.Demand.settle.Goals as goal
 
 pub keep-requires-clause-absent : goal.keep-requires-clause-absent
@@ -75,3 +77,46 @@ returns-clause-answers g c look asked h =
     settles_true c.args.rules.now look asked old more c.args.question c.args.value h new c.in_ok-needed.needed c.in-Some.below c.in-Some.frame c.in_ok-find.find c.requires.orderly
     (subst (λ (v : ValueCode). MayAdd old more c.args.question.inst (value_view v)) c.in_ok-find.ensures.value c.in_ok-keep.ensures.adds)
     c.in_ok-find.ensures.value c.in-Some.ensures.entries c.in_ok-insert.ensures.entries refl refl c.in_ok-needed.ensures
+
+pub returns-in_err-keep-clause-stays : goal.returns-in_err-keep-clause-stays
+returns-in_err-keep-clause-stays g c s asked idle is h stands right =
+    let old = g.K.Keeper.contents c.args.self.now.keeper in
+    let new = g.K.Keeper.contents c.keep.new.self.keeper in
+    let e = c.in_ok-find.ensures in
+    settles_right c.args.rules.now s idle asked old new c.args.question c.args.value c.in_ok-find.find e.value e.reads e.demanded c.keep.ensures.adds c.keep.ensures.covers is h stands right
+
+pub returns-in_default-clause-stays : goal.returns-in_default-clause-stays
+returns-in_default-clause-stays g c s asked idle is h stands right =
+    let old = g.K.Keeper.contents c.args.self.now.keeper in
+    let new = g.K.Keeper.contents c.keep.new.self.keeper in
+    let e = c.in_ok-find.ensures in
+    settles_right c.args.rules.now s idle asked old new c.args.question c.args.value c.in_ok-find.find e.value e.reads e.demanded c.keep.ensures.adds c.keep.ensures.covers is h stands right
+
+pub returns-in_err-needed-clause-stays : goal.returns-in_err-needed-clause-stays
+returns-in_err-needed-clause-stays g c s asked idle is h stands right =
+    let old = g.K.Keeper.contents c.args.self.now.keeper in
+    let new = g.K.Keeper.contents c.keep.new.self.keeper in
+    let e = c.in_ok-find.ensures in
+    settles_right c.args.rules.now s idle asked old new c.args.question c.args.value c.in_ok-find.find e.value e.reads e.demanded c.keep.ensures.adds c.keep.ensures.covers is h stands right
+
+pub returns-in_err-insert-clause-stays : goal.returns-in_err-insert-clause-stays
+returns-in_err-insert-clause-stays g c s asked idle is h stands right =
+    let old = g.K.Keeper.contents c.args.self.now.keeper in
+    let new = g.K.Keeper.contents c.keep.new.self.keeper in
+    let e = c.in_ok-find.ensures in
+    settles_right c.args.rules.now s idle asked old new c.args.question c.args.value c.in_ok-find.find e.value e.reads e.demanded c.keep.ensures.adds c.keep.ensures.covers is h stands right
+
+pub returns-clause-stays : goal.returns-clause-stays
+returns-clause-stays g c s asked idle is h stands right =
+    let old = g.K.Keeper.contents c.args.self.now.keeper in
+    let new = g.K.Keeper.contents c.keep.new.self.keeper in
+    let e = c.in_ok-find.ensures in
+    settles_right c.args.rules.now s idle asked old new c.args.question c.args.value c.in_ok-find.find e.value e.reads e.demanded c.keep.ensures.adds c.keep.ensures.covers is h stands right
+
+pub returns-clause-covering : goal.returns-clause-covering
+returns-clause-covering g c look h =
+    let old = g.K.Keeper.contents c.args.self.now.keeper in
+    let new : Question = record { waiting = c.pop.new.self; found = c.insert.new.self; inst = c.in-Some.below; frame = c.in-Some.frame } in
+    let e = c.in_ok-find.ensures in
+    settles_covering c.args.rules.now look old c.args.question new c.requires.orderly c.args.value c.in_ok-needed.needed c.in-Some.below c.in-Some.frame c.in_ok-find.find h e.reads e.demanded
+    c.in-Some.ensures.entries c.in_ok-insert.ensures.entries refl refl c.in_ok-needed.ensures
