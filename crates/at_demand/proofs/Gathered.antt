@@ -1,5 +1,5 @@
 -- What is gathered stands among the sources, and so they cover all that supports the instance.
-use Rattle.std.proofs.Common.{◌≡◌, ◌⊎◌, ℕ, zero, suc, ◌+◌, ◌<◌, ◌≤◌, nat_eq, Bool, true, false, ◌||◌, List, [], ◌∷◌, ◌++◌, length, map, take, slice_get, Option, Some, None, Contains, OnOk, OnErr, Ok, Err, inl, inr, refl, sym, ap, ◌∙◌, subst, append_assoc, append-nil, if◌then◌else◌, true≢false, arith}
+use Rattle.std.proofs.Common.{◌≡◌, ◌⊎◌, ℕ, zero, suc, ◌+◌, ◌<◌, ◌≤◌, nat_eq, Bool, true, false, ◌||◌, List, [], ◌∷◌, ◌++◌, length, map, slice_get, Option, Some, None, OnOk, OnErr, Ok, Err, inl, inr, refl, sym, ap, ◌∙◌, subst, append_assoc, append-nil, if◌then◌else◌, true≢false, arith}
 use Rattle.std.specs.Prelude.{IsSome, Result}
 use Rattle.std.specs.List.{list_any}
 use Rattle.std.proofs.lemmas.Bool.{eqb-true}
@@ -18,7 +18,7 @@ use Rattle.at_cache.proofs.Locations.{same_location-itself}
 use Rattle.at_demand.specs.declared.question.Find.{Find}
 use Rattle.at_demand.specs.declared.gathering.Sources.{Sources}
 use Rattle.at_demand.specs.Known.{meaning}
-use Rattle.at_demand.specs.Covering.{IsDemanded, IsWhole, AreWhole, AreCovered, Extends, IsAdded, Visits, Adds, AddsAt, AreGathered}
+use Rattle.at_demand.specs.Covering.{IsWhole, AreWhole, AreCovered, Extends, IsAdded, Visits, Adds, AddsAt, AreGathered}
 use Rattle.at_demand.proofs.Sameness.{same_true}
 use Rattle.at_demand.proofs.Supported.{supported}
 

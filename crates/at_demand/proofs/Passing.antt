@@ -1,6 +1,5 @@
 -- What an evaluation under way was told stands with its frame, and a find that it ends with is whole.
-use Rattle.std.proofs.Common.{◌≡◌, ◌⊎◌, ℕ, nat_eq, List, [], ◌∷◌, ◌++◌, map, slice_get, Some, inl, inr, refl, sym, ap, ◌∙◌, subst}
-use Rattle.std.specs.Map.{keys_of, lookup}
+use Rattle.std.proofs.Common.{◌≡◌, ℕ, nat_eq, List, [], ◌∷◌, ◌++◌, map, slice_get, Some, inl, inr, refl, sym, ◌∙◌, subst}
 use Rattle.indexmap.specs.IndexMap.{insert_entry}
 use Rattle.at_model.specs.Run.{Value, Instance, Location, Contents, Run, Gives, Demands}
 use Rattle.at_model.specs.Follow.{follow, Past, here, looked, told}
@@ -20,7 +19,7 @@ use Rattle.at_demand.specs.declared.question.Find.{Find}
 use Rattle.at_demand.specs.declared.question.Frame.{Frame}
 use Rattle.at_demand.specs.declared.question.Question.{Question}
 use Rattle.at_demand.specs.Known.{meaning}
-use Rattle.at_demand.specs.UnderWay.{left_of, first_of, IsOrderlyIn}
+use Rattle.at_demand.specs.UnderWay.{first_of, IsOrderlyIn}
 use Rattle.at_demand.specs.Covering.{IsDemanded, IsTold, HasPassed, HasPassedTo, HavePassed, IsWhole, AreWhole, IsCovering, IsCoveringIn, Extends}
 use Rattle.at_demand.proofs.Coming.{begins, goes_on}
 use Rattle.at_demand.proofs.Seeing.{sees_read, comes_told}
@@ -47,18 +46,22 @@ demanded_more found more d j grows (inr (p, f, at, is)) = inr (p, f, at, get_mor
 
 -- an instance more is taken, of what is kept or of what was found
 pub takes_kept : (found : List (Instance ℕ × Find)) (old new : Demanded) (i : Instance ℕ) → new.kept.items ≡ old.kept.items ++ i ∷ [] → new.finds.items ≡ old.finds.items → ((j : Instance ℕ) → IsDemanded found old j → IsDemanded found new j) × IsDemanded found new i
-takes_kept found old new i kept finds =
-    (λ j h. elim h [
-      | inl k ↦ inl (subst (Among j) (sym kept) (among_left j old.kept.items (i ∷ []) k))
-      | inr (p, f, at, is) ↦ inr (p, f, subst (Among p) (sym finds) at, is)
-    ], inl (subst (Among i) (sym kept) (among_right i old.kept.items (i ∷ []) (inl refl))))
+takes_kept found old new i kept finds = (
+  λ j h. elim h [
+    | inl k ↦ inl (subst (Among j) (sym kept) (among_left j old.kept.items (i ∷ []) k))
+    | inr (p, f, at, is) ↦ inr (p, f, subst (Among p) (sym finds) at, is)
+  ],
+  inl (subst (Among i) (sym kept) (among_right i old.kept.items (i ∷ []) (inl refl))),
+)
 
 pub takes_found : (found : List (Instance ℕ × Find)) (old new : Demanded) (i : Instance ℕ) (p : ℕ) (f : Find) → slice_get found p ≡ Some (i, f) → new.kept.items ≡ old.kept.items → new.finds.items ≡ old.finds.items ++ p ∷ [] → ((j : Instance ℕ) → IsDemanded found old j → IsDemanded found new j) × IsDemanded found new i
-takes_found found old new i p f is kept finds =
-    (λ j h. elim h [
-      | inl k ↦ inl (subst (Among j) (sym kept) k)
-      | inr (q, g, at, there) ↦ inr (q, g, subst (Among q) (sym finds) (among_left q old.finds.items (p ∷ []) at), there)
-    ], inr (p, f, subst (Among p) (sym finds) (among_right p old.finds.items (p ∷ []) (inl refl)), is))
+takes_found found old new i p f is kept finds = (
+  λ j h. elim h [
+    | inl k ↦ inl (subst (Among j) (sym kept) k)
+    | inr (q, g, at, there) ↦ inr (q, g, subst (Among q) (sym finds) (among_left q old.finds.items (p ∷ []) at), there)
+  ],
+  inr (p, f, subst (Among p) (sym finds) (among_right p old.finds.items (p ∷ []) (inl refl)), is),
+)
 
 module _ (rules : Rules) (look : Contents ℕ) where
   pub passed_start : (found : List (Instance ℕ × Find)) (i : Instance ℕ) (f : Frame) (s : Step) → follow look [] (evaluation rules nat_eq i) ≡ (reached rules.classes s f.trial, f.trial.reads) → HasPassedTo rules look found i f s

@@ -1,7 +1,7 @@
 -- All that supports an instance is covered, where each step of demand leads to what is kept or stays within what was gathered.
-use Rattle.std.proofs.Common.{◌≡◌, ◌⊎◌, List, [], ◌∷◌, inl, inr, refl, sym, subst}
+use Rattle.std.proofs.Common.{◌⊎◌, List, [], ◌∷◌, inl, inr, refl, sym, subst}
 use Rattle.at_model.specs.Run.{Instance, Location, Contents}
-use Rattle.at_model.specs.Meaning.{Equations, HasValue, Comes, Walks, Leads}
+use Rattle.at_model.specs.Meaning.{Equations, HasValue, Comes, Walks}
 use Rattle.at_model.specs.Support.{Sees, Supports}
 
 module _ {N : Type 0} (look : Contents N) (equation : Equations N) (Within Keeps : Instance N → Type 0) (Covers : Location N → Type 0)

@@ -1,10 +1,9 @@
 -- What an instance of the tree leads to is of the tree, and what is kept of it is right.
-use Rattle.std.proofs.Common.{◌≡◌, ℕ, nat_eq, map, Some, inl, inr, sym, subst, ◌∙◌}
+use Rattle.std.proofs.Common.{◌≡◌, ℕ, nat_eq, map, inl, inr, sym, subst, ◌∙◌}
 use Rattle.at_model.specs.Paths.{node_eq}
-use Rattle.at_model.specs.Run.{Instance, Contents, Value}
-use Rattle.at_model.specs.Rules.{Rules, evaluation}
+use Rattle.at_model.specs.Run.{Instance, Contents}
+use Rattle.at_model.specs.Rules.{Rules}
 use Rattle.at_model.specs.Meaning.{Leads, content, equations}
-use Rattle.at_model.specs.Alike.{Names}
 use Rattle.at_model.proofs.Nodes.{same_like, nat_eq-is, node_eq-is}
 use Rattle.at_model.proofs.EquationsAlike.{evaluation-like}
 use Rattle.at_model.proofs.CarryingSupport.{leads_there}
@@ -17,7 +16,7 @@ use Rattle.at_store.proofs.Relabelled.{contents_alike}
 use Rattle.at_body.specs.Values.{value_view}
 use Rattle.at_body.specs.declared.value.Value.{Value as ValueCode}
 use Rattle.at_body.specs.declared.trial.Step.TheVariants as step
-use Rattle.at_cache.specs.Kept.{Kept, Entries}
+use Rattle.at_cache.specs.Kept.{Entries}
 use Rattle.at_demand.specs.declared.question.Find.{Find}
 use Rattle.at_demand.specs.declared.question.Question.{Question}
 use Rattle.at_demand.specs.Known.{meaning, MayAdd}

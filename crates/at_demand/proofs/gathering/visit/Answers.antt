@@ -1,4 +1,4 @@
-use Rattle.std.proofs.Common.{List, ℕ, ◌+◌, take, get_or, subst, sym}
+use Rattle.std.proofs.Common.{List, ℕ, take, get_or, subst, sym}
 use Rattle.std.proofs.lemmas.List.{take_all, take_more}
 use Rattle.at_demand.specs.Covering.{Visits}
 use Rattle.at_demand.proofs.Gathered.{visits_more}

@@ -1,16 +1,9 @@
-use Rattle.std.proofs.Common.{◌≡◌, ℕ, List, [], ◌∷◌, ◌++◌, Option, Some, None, refl, sym, ap, ◌∙◌, subst, true≢false}
-use Rattle.at_model.specs.Run.{Contents, Instance, Value}
-use Rattle.at_model.specs.Meaning.{HasValue}
+use Rattle.std.proofs.Common.{sym, ◌∙◌, subst}
 use Rattle.at_store.specs.Shown.{contents}
-use Rattle.at_body.specs.Values.{value_view}
-use Rattle.at_body.specs.declared.trial.Step.{Step}
-use Rattle.at_body.specs.declared.trial.Step.TheVariants as step
-use Rattle.at_body.specs.declared.value.Value.{Value as ValueCode}
-use Rattle.at_demand.specs.Known.{meaning, MayAdd}
 use Rattle.at_demand.specs.declared.demand.Turn.{Turn}
 use Rattle.at_demand.specs.UnderWay.{HasStepped, IsTurn, IsRightTurn}
-use Rattle.at_demand.proofs.Orderly.{no_value, begun, last_unkept, settles, deepens}
-use Rattle.at_demand.proofs.Truth.{begun_true, right_after, ends, settles_true, deepens_true, closes, fails, right_known}
+use Rattle.at_demand.proofs.Orderly.{no_value, begun}
+use Rattle.at_demand.proofs.Truth.{begun_true}
 use Rattle.at_demand.specs.Covering.{HasPassedTo, IsCoveringTurn}
 use Rattle.at_demand.proofs.Passing.{begun_covering}
 use Rattle.at_demand.proofs.demand.Demand.answer.Goals as goal

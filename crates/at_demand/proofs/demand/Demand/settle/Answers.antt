@@ -1,17 +1,13 @@
-use Rattle.std.proofs.Common.{◌≡◌, ◌<◌, ◌^◌, ℕ, List, [], ◌∷◌, ◌++◌, Option, Some, None, refl, sym, ap, ◌∙◌, subst, true≢false}
-use Rattle.at_model.specs.Run.{Contents, Instance, Value}
+use Rattle.std.proofs.Common.{◌<◌, ◌^◌, refl, sym, subst, true≢false}
 use Rattle.at_model.specs.Meaning.{HasValue}
-use Rattle.at_store.specs.Shown.{contents}
 use Rattle.at_body.specs.Values.{value_view}
-use Rattle.at_body.specs.declared.trial.Step.{Step}
-use Rattle.at_body.specs.declared.trial.Step.TheVariants as step
 use Rattle.at_body.specs.declared.value.Value.{Value as ValueCode}
 use Rattle.at_cache.specs.Kept.{AreKept}
 use Rattle.at_demand.specs.declared.question.Demanded.{Demanded}
 use Rattle.at_demand.specs.declared.question.Question.{Question}
 use Rattle.at_demand.specs.Known.{meaning, MayAdd}
-use Rattle.at_demand.proofs.Orderly.{last_unkept, none_there, settles, deepens}
-use Rattle.at_demand.proofs.Truth.{right_after, ends, settles_true, deepens_true, closes, fails, right_known}
+use Rattle.at_demand.proofs.Orderly.{last_unkept, none_there, settles}
+use Rattle.at_demand.proofs.Truth.{right_after, ends, settles_true}
 use Rattle.at_demand.proofs.Passing.{settles_covering}
 use Rattle.at_demand.proofs.There.{settles_right}
 use Rattle.at_demand.proofs.demand.Demand.settle.Goals as goal

@@ -1,15 +1,9 @@
-use Rattle.std.proofs.Common.{◌≡◌, ℕ, List, [], ◌∷◌, ◌++◌, Option, Some, None, refl, sym, ap, ◌∙◌, subst, true≢false}
-use Rattle.at_model.specs.Run.{Contents, Instance, Value}
-use Rattle.at_model.specs.Meaning.{HasValue}
+use Rattle.std.proofs.Common.{subst}
 use Rattle.at_store.specs.Shown.{contents}
-use Rattle.at_body.specs.Values.{value_view}
 use Rattle.at_body.specs.declared.trial.Step.{Step}
 use Rattle.at_body.specs.declared.trial.Step.TheVariants as step
-use Rattle.at_body.specs.declared.value.Value.{Value as ValueCode}
-use Rattle.at_demand.specs.Known.{meaning, MayAdd}
-use Rattle.at_demand.proofs.Orderly.{last_unkept, settles, deepens}
 use Rattle.at_demand.specs.UnderWay.{HasStepped}
-use Rattle.at_demand.proofs.Truth.{steps_on, right_after, ends, settles_true, deepens_true, closes, fails, right_known}
+use Rattle.at_demand.proofs.Truth.{steps_on, fails, right_known}
 use Rattle.at_demand.specs.Covering.{HasPassedTo}
 use Rattle.at_demand.proofs.Passing.{covers_on}
 use Rattle.at_demand.proofs.demand.Demand.turn.Goals as goal

@@ -1,5 +1,5 @@
 use Rattle.at_demand.proofs.Orderly.{added_kept}
-use Rattle.at_demand.proofs.Gathered.{adds_none, adds_nothing, adds_one}
+use Rattle.at_demand.proofs.Gathered.{adds_one}
 use Rattle.at_demand.proofs.gathering.Sources.add_at.Goals as goal
 
 pub returns-in-Some-get_index : goal.returns-in-Some-get_index

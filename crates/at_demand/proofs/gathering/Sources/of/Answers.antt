@@ -6,7 +6,7 @@ pub loop-next-preserved : goal.loop-next-preserved
 loop-next-preserved c = record {
   kept = λ entries found kept. c.in_ok-add_at.ensures.kept entries found (c.loop-next.invariant.kept entries found kept);
   visited = visited_next c.args.found.now.entries c.args.find.now c.loop-next.sources c.add_at.new.self c.loop-next.visited.keys c.add_at.new.visited.keys c.loop-next.next
-  (subst (λ n. c.loop-next.next < n) c.len.ensures.len c.loop-next-test.true) c.loop-next.invariant.visited c.in_ok-add_at.ensures.added;
+      (subst (λ n. c.loop-next.next < n) c.len.ensures.len c.loop-next-test.true) c.loop-next.invariant.visited c.in_ok-add_at.ensures.added;
 }
 
 pub returns : goal.returns

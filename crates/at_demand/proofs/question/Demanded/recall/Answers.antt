@@ -1,4 +1,4 @@
-use Rattle.std.proofs.Common.{◌≡◌, ℕ, Some, ◌∙◌, refl, sym, ap}
+use Rattle.std.proofs.Common.{ℕ, Some, ◌∙◌, refl, sym, ap}
 use Rattle.at_model.specs.Run.{Instance}
 use Rattle.at_body.specs.Same.{same_instance}
 use Rattle.at_demand.specs.declared.question.Demanded.{Demanded}
