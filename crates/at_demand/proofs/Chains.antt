@@ -1,7 +1,7 @@
 -- Chains of instances, each of which waits for the next.
-use Rattle.std.proofs.Common.{◌≡◌, ℕ, List, [], ◌∷◌, ◌++◌, inl, inr, refl, sym, ap, ◌∙◌, subst}
+use Rattle.std.proofs.Common.{◌≡◌, ℕ, List, [], ◌∷◌, ◌++◌, inl, inr, refl, sym, ◌∙◌, subst}
 use Rattle.std.specs.Map.{keys_of}
-use Rattle.at_model.specs.Run.{Value, Instance, Contents, Demands, FaultKind}
+use Rattle.at_model.specs.Run.{Instance, Contents, FaultKind}
 use Rattle.at_model.specs.Rules.{Rules}
 use Rattle.at_model.specs.Meaning.{Among, Distinct, Comes, Walks, Leads, Circular, Holds, HasValue, Faults}
 use Rattle.at_model.proofs.Spreading.{led_fault}

@@ -1,7 +1,7 @@
 -- What an evaluation under way tells, once it is past values that hold: what it comes to, and its outcome at its end.
-use Rattle.std.proofs.Common.{◌≡◌, ℕ, suc, ◌+◌, List, [], ◌∷◌, ◌++◌, Option, Some, None, inl, inr, refl, sym, ap, ◌∙◌, subst, append_assoc, append-nil, arith}
+use Rattle.std.proofs.Common.{◌≡◌, ℕ, suc, ◌+◌, List, [], ◌∷◌, ◌++◌, Some, None, inl, inr, refl, sym, ◌∙◌, subst, append_assoc, append-nil, arith}
 use Rattle.at_model.specs.Run.{Value, Location, Run, Gives, Fails, Looks, Demands, Needs, Instance, Contents, FaultKind, tried}
-use Rattle.at_model.specs.Follow.{Reached, Ends, Stops, Waits, follow, Past, here, looked, told}
+use Rattle.at_model.specs.Follow.{Reached, follow, Past, here, looked, told}
 use Rattle.at_model.specs.Meaning.{Outcome, Finds, Faults, value_in, Equations, settled, outcome_at, Holds, HasValue, Reaches}
 use Rattle.at_model.proofs.Outcomes.{settled_more, higher}
 use Rattle.at_demand.specs.UnderWay.{left_of}

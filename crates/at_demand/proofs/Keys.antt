@@ -1,7 +1,7 @@
 -- Look-ups among entries, and chains of distinct instances.
-use Rattle.std.proofs.Common.{◌≡◌, ℕ, suc, length, Bool, true, false, List, [], ◌∷◌, ◌++◌, Option, Some, None, ◌⊎◌, inl, inr, refl, sym, ap, ◌∙◌, subst, if◌then◌else◌, true≢false, is_some}
+use Rattle.std.proofs.Common.{◌≡◌, ℕ, suc, length, Bool, true, false, List, [], ◌∷◌, ◌++◌, Option, Some, None, ◌⊎◌, inl, inr, refl, sym, ap, ◌∙◌, subst, if◌then◌else◌, cond, true≢false, is_some}
 use Rattle.std.specs.Bool.{MatchBool}
-use Rattle.std.specs.Map.{keys_of, lookup}
+use Rattle.std.specs.Map.{keys_of, lookup, lookup_key}
 use Rattle.indexmap.specs.IndexMap.{insert_entry}
 use Rattle.at_model.specs.Run.{Instance}
 use Rattle.at_model.specs.Meaning.{Among, Distinct}
@@ -100,6 +100,15 @@ module _ {A : Type 0} where
   distinct_pop (b ∷ bs) a d =
       let r = distinct_pop bs a d.1 in
       ((λ h. d.0 (among_front bs b a h), r.0), λ h. elim h [ inl e ↦ d.0 (subst (λ x. Among x (bs ++ a ∷ [])) e (among_last bs a)) | inr g ↦ r.1 g ])
+
+-- the key that is found passes the test
+pub key_passes : {K X : Type 0} (test : K → Bool) (es : List (K × X)) (k : K) → lookup_key test es ≡ Some k → test k ≡ true
+key_passes test [] k e = absurd cc
+key_passes test (x ∷ es) k e = by (test x.0) refl e (key_passes test es k)
+  where
+    by : (b : Bool) → test x.0 ≡ b → cond b (Some x.0) (lookup_key test es) ≡ Some k → (lookup_key test es ≡ Some k → test k ≡ true) → test k ≡ true
+    by true s f more = let same : x.0 ≡ k = cc in ap test (sym same) ∙ s
+    by false s f more = more f
 
 -- whether an instance is the last one, or one before it
 pub is_last : (ks : List (Instance ℕ)) (i j : Instance ℕ) → same_instance i j ≡ true → Among j (ks ++ i ∷ [])

@@ -7,3 +7,7 @@ pub mod Truth
 pub mod Seeing
 pub mod Staying
 pub mod StayingRight
+pub mod Supported
+pub mod Gathered
+pub mod Passing
+pub mod There

@@ -1,9 +1,9 @@
 -- An evaluation that has come to its end with values that hold has looked at all that it sees, and was told the values of all
 -- that it comes to; and it saw and came to no others.
-use Rattle.std.proofs.Common.{◌≡◌, ℕ, List, [], ◌∷◌, inl, inr, refl, sym, subst}
-use Rattle.at_model.specs.Run.{Value, Location, Run, Gives, Looks, Demands, Instance, Contents}
+use Rattle.std.proofs.Common.{◌≡◌, List, inl, inr, sym, subst}
+use Rattle.at_model.specs.Run.{Value, Location, Run, Gives, Instance, Contents}
 use Rattle.at_model.specs.Follow.{Past, here, looked, told}
-use Rattle.at_model.specs.Meaning.{Outcome, Finds, Equations, HasValue, Reaches, Among}
+use Rattle.at_model.specs.Meaning.{Finds, Equations, HasValue, Reaches, Among}
 use Rattle.at_model.specs.Support.{Sees}
 use Rattle.at_model.proofs.Outcomes.{once}
 

@@ -1,12 +1,12 @@
 -- What a question has come to holds.
-use Rattle.std.proofs.Common.{◌≡◌, ◌⊎◌, ℕ, List, [], ◌∷◌, ◌++◌, nat_eq, Option, Some, None, inl, inr, refl, sym, ap, ◌∙◌, subst}
-use Rattle.std.specs.Map.{keys_of, lookup}
+use Rattle.std.proofs.Common.{◌≡◌, ℕ, List, [], ◌∷◌, ◌++◌, nat_eq, Option, Some, None, inl, inr, refl, sym, ap, ◌∙◌, subst}
+use Rattle.std.specs.Map.{lookup}
 use Rattle.std.specs.Option.{option_map}
 use Rattle.indexmap.specs.IndexMap.{insert_entry}
-use Rattle.at_model.specs.Run.{Value, Instance, Contents, FaultKind, Known}
+use Rattle.at_model.specs.Run.{Value, Instance, Contents, Known}
 use Rattle.at_model.specs.Follow.{follow}
 use Rattle.at_model.specs.Rules.{Rules, evaluation}
-use Rattle.at_model.specs.Meaning.{Among, Distinct, Holds, HasValue, Right, Circular, Faults, Finds, Answers, Circle, Outcomes}
+use Rattle.at_model.specs.Meaning.{Among, Holds, HasValue, Right, Circular, Faults}
 use Rattle.at_body.specs.Same.{same_instance}
 use Rattle.at_body.specs.Values.{value_view, fault_view}
 use Rattle.at_body.specs.Rest.{reached, resumed}
@@ -20,8 +20,7 @@ use Rattle.at_demand.specs.declared.question.Find.{Find}
 use Rattle.at_demand.specs.declared.question.Frame.{Frame}
 use Rattle.at_demand.specs.declared.question.Question.{Question}
 use Rattle.at_demand.specs.Known.{meaning, kept_values, found_values, known_in, MayAdd}
-use Rattle.at_demand.specs.UnderWay.{left_of, HasStepped, AreWaiting, first_of, chain_of, IsOrderlyIn, IsTrue, IsTrueIn, IsOpen}
-use Rattle.at_demand.proofs.Sameness.{same_refl}
+use Rattle.at_demand.specs.UnderWay.{HasStepped, AreWaiting, first_of, chain_of, IsOrderlyIn, IsTrue, IsTrueIn, IsOpen}
 use Rattle.at_demand.proofs.Keys.{lookup_push}
 use Rattle.at_demand.proofs.Coming.{begins, goes_on, has_value, has_fault}
 use Rattle.at_demand.proofs.Chains.{first_push, wait_push, wait_pop, circle, fault_up}

@@ -1,10 +1,10 @@
 -- What is known of values while a question is answered: what is kept, and what was found.
-use Rattle.std.specs.Prelude.{◌≡◌, ◌⊎◌, ℕ, nat_eq, List, [], ◌∷◌, ◌++◌, Option, Some, None}
+use Rattle.std.specs.Prelude.{◌≡◌, ◌⊎◌, ℕ, nat_eq, List, [], ◌∷◌, Some, None}
 use Rattle.std.specs.Option.{option_map}
 use Rattle.std.specs.Map.{lookup}
-use Rattle.at_model.specs.Run.{Value, Instance, Contents, Known}
+use Rattle.at_model.specs.Run.{Value, Instance, Known}
 use Rattle.at_model.specs.Rules.{Rules, evaluation}
-use Rattle.at_model.specs.Meaning.{Equations, Right, Answer, Outcomes, Circle, Finds, Faults}
+use Rattle.at_model.specs.Meaning.{Equations, Answer, Outcomes, Circle, Finds, Faults}
 use Rattle.at_body.specs.Same.{same_instance}
 use Rattle.at_body.specs.Values.{value_view, fault_view}
 use Rattle.at_cache.specs.Kept.{Entries, AreKept}

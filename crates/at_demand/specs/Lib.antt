@@ -2,3 +2,4 @@ pub mod Known
 pub mod UnderWay
 pub mod Right
 pub mod Touched
+pub mod Covering

@@ -1,5 +1,5 @@
 -- A question under way.
-use Rattle.std.specs.Prelude.{◌≡◌, ℕ, ◌+◌, ◌*◌, ◌≤◌, ◌<◌, ◌^◌, nat_eq, List, [], ◌∷◌, ◌++◌, length, Option, Some, None}
+use Rattle.std.specs.Prelude.{◌≡◌, ℕ, ◌+◌, ◌*◌, ◌<◌, ◌^◌, List, [], ◌∷◌, ◌++◌, length, None}
 use Rattle.std.specs.Map.{keys_of, lookup}
 use Rattle.at_model.specs.Run.{Value, Instance, Contents, Run, Gives, Fails, Demands, Known}
 use Rattle.at_model.specs.Follow.{Reached, Ends, Stops, Waits, Past}

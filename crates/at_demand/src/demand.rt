@@ -5,13 +5,14 @@ ghost use Rattle.std.specs.Map.{lookup};
 ghost use Rattle.at_model.specs.Run.{Contents, Instance};
 ghost use Rattle.at_model.specs.Meaning.{Answers as HasAnswer, Right};
 ghost use Rattle.at_body.specs.declared.trial.Step.TheVariants as step_code;
-ghost use Rattle.at_store.specs.Shown.{IsIdle, contents};
+ghost use Rattle.at_store.specs.Shown.{IsIdle, Shown, contents};
 ghost use Rattle.at_body.specs.Same.{same_instance};
 ghost use Rattle.at_body.specs.Values.{value_view};
 ghost use Rattle.at_cache.specs.Kept.{AreKept, Answers as Says, LeavesUntouched, LosesTouched};
 ghost use Rattle.at_demand.specs.Known.{meaning, kept_values, answer_view, MayAdd, FoundKept};
 ghost use Rattle.at_demand.specs.Right.{AreRight, IsThere};
 ghost use Rattle.at_demand.specs.UnderWay.{IsOrderlyIn, IsTrueIn, IsTurn, IsRightTurn};
+ghost use Rattle.at_demand.specs.Covering.{AreCovered, AreWhole, IsCoveringIn, IsCoveringTurn, IsWhole};
 
 use crate::answer::Answer;
 use crate::gathering::Sources;
@@ -106,6 +107,8 @@ impl<K: Keeper> Demand<K> {
         ensures turn { IfOk result (IsTurn (K.contents self.new.keeper) question.entry) }
         ensures answers { (asked : Instance ℕ) → IsTrueIn rules.now (contents store.now) asked (K.contents self.old.keeper) question.entry step → IfOk result (IsRightTurn rules.now (contents store.now) asked (K.contents self.new.keeper)) }
         ensures right { (asked : Instance ℕ) → IsTrueIn rules.now (contents store.now) asked (K.contents self.old.keeper) question.entry step → Right (contents store.now) (meaning rules.now) (kept_values (K.contents self.new.keeper)) }
+        ensures covering { (asked : Instance ℕ) → IsTrueIn rules.now (contents store.now) asked (K.contents self.old.keeper) question.entry step → IsCoveringIn rules.now (contents store.now) question.entry step → IfOk result (IsCoveringTurn rules.now (contents store.now)) }
+        ensures stays { (asked : Instance ℕ) → IsThere store.now asked → IsTrueIn rules.now (contents store.now) asked (K.contents self.old.keeper) question.entry step → IsCoveringIn rules.now (contents store.now) question.entry step → AreRight rules.now store.now (K.contents self.old.keeper) → AreRight rules.now store.now (K.contents self.new.keeper) }
     {
         let mut question = question;
         let q = &mut question;
@@ -137,6 +140,7 @@ impl<K: Keeper> Demand<K> {
         requires kept { K.contents self.now.keeper needed ≡ None }
         ensures turn { IfOk result (IsTurn (K.contents self.now.keeper) question.entry) }
         ensures answers { (asked : Instance ℕ) → IsTrueIn rules.now (contents store.now) asked (K.contents self.now.keeper) question.entry (step_code.Need needed) → IfOk result (IsRightTurn rules.now (contents store.now) asked (K.contents self.now.keeper)) }
+        ensures covering { IsCoveringIn rules.now (contents store.now) question.entry (step_code.Need needed) → IfOk result (IsCoveringTurn rules.now (contents store.now)) }
     {
         if question.has(&needed) {
             return Ok(Turn::Answers(Answer::Circular { at: needed }));
@@ -157,6 +161,8 @@ impl<K: Keeper> Demand<K> {
         ensures turn { IfOk result (IsTurn (K.contents self.new.keeper) question.entry) }
         ensures answers { (look : Contents ℕ) (asked : Instance ℕ) → IsTrueIn rules.now look asked (K.contents self.old.keeper) question.entry (step_code.Value value) → IfOk result (IsRightTurn rules.now look asked (K.contents self.new.keeper)) }
         ensures right { (look : Contents ℕ) (asked : Instance ℕ) → IsTrueIn rules.now look asked (K.contents self.old.keeper) question.entry (step_code.Value value) → Right look (meaning rules.now) (kept_values (K.contents self.new.keeper)) }
+        ensures covering { (look : Contents ℕ) → IsCoveringIn rules.now look question.entry (step_code.Value value) → IfOk result (IsCoveringTurn rules.now look) }
+        ensures stays { (s : Shown) (asked : Instance ℕ) → IsIdle s → IsThere s asked → IsTrueIn rules.now (contents s) asked (K.contents self.old.keeper) question.entry (step_code.Value value) → IsCoveringIn rules.now (contents s) question.entry (step_code.Value value) → AreRight rules.now s (K.contents self.old.keeper) → AreRight rules.now s (K.contents self.new.keeper) }
     {
         let Question {
             mut waiting,
@@ -194,7 +200,8 @@ impl<K: Keeper> Demand<K> {
         requires absent { K.contents self.old.keeper inst.now ≡ None }
         requires kept { AreKept (K.contents self.old.keeper) find.now.demanded.kept.items }
         requires found { FoundKept (K.contents self.old.keeper) found.now.entries }
-        ensures { MayAdd (K.contents self.old.keeper) (K.contents self.new.keeper) inst.now (value_view find.now.value) }
+        ensures adds { MayAdd (K.contents self.old.keeper) (K.contents self.new.keeper) inst.now (value_view find.now.value) }
+        ensures covers { (look : Contents ℕ) → AreWhole rules.now look found.now.entries → IsWhole rules.now look found.now.entries inst.now find.now → AreCovered rules.now look (K.contents self.old.keeper) → AreCovered rules.now look (K.contents self.new.keeper) }
     {
         if !rules.is_lazy(inst.attribute()) {
             return Ok(());

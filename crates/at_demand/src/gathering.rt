@@ -3,6 +3,7 @@
 ghost use Rattle.std.specs.Prelude.{◌≡◌, ◌++◌, IfOk, OnOk};
 ghost use Rattle.at_cache.specs.Kept.{AreKept, Entries};
 ghost use Rattle.at_demand.specs.Known.{FoundKept};
+ghost use Rattle.at_demand.specs.Covering.{Adds, AddsAt, AreGathered, Visits};
 
 use crate::question::{Demanded, Find};
 use at_body::Inst;
@@ -25,6 +26,7 @@ impl Sources {
         find: &Find,
     ) -> Result<Sources, AllocError>
         ensures kept { (entries : Entries) → FoundKept entries found.now.entries → AreKept entries find.now.demanded.kept.items → IfOk result (λ s. AreKept entries s.kept.items) }
+        ensures gathered { IfOk result (AreGathered found.now.entries find.now) }
     {
         let mut sources = Sources {
             reads: Vec::new(alloc),
@@ -49,6 +51,7 @@ impl Sources {
         visited: &mut IndexSet<usize>,
     ) -> Result<(), AllocError>
         ensures kept { (entries : Entries) → FoundKept entries found.now.entries → AreKept entries self.old.kept.items → OnOk result (AreKept entries self.new.kept.items) }
+        ensures added { OnOk result (AddsAt found.now.entries next self.old self.new visited.old.keys visited.new.keys) }
     {
         let Some(position) = visited.get_index(next) else {
             return Ok(());
@@ -67,14 +70,22 @@ impl Sources {
         visited: &mut IndexSet<usize>,
     ) -> Result<(), AllocError>
         ensures kept { OnOk result (self.new.kept.items ≡ self.old.kept.items ++ find.now.demanded.kept.items) }
+        ensures added { OnOk result (Adds find.now self.old self.new visited.old.keys visited.new.keys) }
     {
         self.reads.extend_from_slice(find.reads.as_slice())?;
         for inst in &find.demanded.kept {
             self.kept.push(inst.copy(alloc)?)?;
         }
-        for position in &find.demanded.finds {
-            visited.insert(*position)?;
-        }
-        Ok(())
+        visit(find.demanded.finds.as_slice(), visited)
     }
+}
+
+// Adds the positions to those that are visited, behind them.
+fn visit(positions: &[usize], visited: &mut IndexSet<usize>) -> Result<(), AllocError>
+    ensures { OnOk result (Visits positions.now visited.old.keys visited.new.keys) }
+{
+    for position in positions {
+        visited.insert(*position)?;
+    }
+    Ok(())
 }

@@ -1,14 +1,17 @@
 //! A question under way: a chain of instances, each of which waits for the next, and what was found.
 
-ghost use Rattle.std.specs.Prelude.{◌≡◌, ◌<◌, ◌^◌, [], length, IfOk, OnOk, MatchBool, ℕ};
+ghost use Rattle.std.specs.Prelude.{◌≡◌, ◌<◌, ◌^◌, List, [], length, map, IfOk, OnOk, MatchBool, ℕ};
 ghost use Rattle.at_model.specs.Run.{Instance};
 ghost use Rattle.at_model.specs.Meaning.{Among, Right};
+ghost use Rattle.at_store.specs.Located.{loc_view};
 ghost use Rattle.at_store.specs.Shown.{IsIdle, contents};
 ghost use Rattle.at_cache.specs.Kept.{AreKept};
 ghost use Rattle.at_body.specs.Same.{same_instance};
 ghost use Rattle.indexmap.specs.IndexMap.{insert_entry};
 ghost use Rattle.at_demand.specs.Known.{meaning, known_in, IsRecalled};
 ghost use Rattle.at_demand.specs.UnderWay.{chain_of, HasStepped, IsOpen};
+ghost use Rattle.at_demand.specs.Covering.{HasPassedTo, Takes};
+ghost use Rattle.at_demand.specs.declared.question.Find.{Find as FindCode};
 
 use at_body::{Inst, Step, Trial, Value};
 use at_cache::Keeper;
@@ -70,6 +73,7 @@ impl<'a> Question<'a> {
         ensures inst { IfOk result (λ r. r.0.inst ≡ inst) }
         ensures fresh { IfOk result (λ r. r.0.frame.demanded.kept.items ≡ []) }
         ensures stepped { IfOk result (λ r. HasStepped rules.now (contents store.now) inst r.0.frame.trial r.1) }
+        ensures passed { (finds : List (Instance ℕ × FindCode)) → IfOk result (λ r. HasPassedTo rules.now (contents store.now) finds inst r.0.frame r.1) }
     {
         let (frame, step) = Frame::start(alloc, rules, store, &inst)?;
         let question = Question {
@@ -104,6 +108,7 @@ impl<'a> Question<'a> {
         ensures few { IfOk result (λ r. length r.0.waiting.entries < 2 ^ 64) }
         ensures finds { IfOk result (λ r. length r.0.found.entries < 2 ^ 64) }
         ensures stepped { IfOk result (λ r. HasStepped rules.now (contents store.now) needed r.0.frame.trial r.1) }
+        ensures passed { (finds : List (Instance ℕ × FindCode)) → IfOk result (λ r. HasPassedTo rules.now (contents store.now) finds needed r.0.frame r.1) }
     {
         let (frame, step) = Frame::start(alloc, rules, store, &needed)?;
         let mut waiting = self.waiting;
@@ -131,6 +136,7 @@ impl<'a> Frame<'a> {
         requires { IsIdle store.now }
         ensures fresh { IfOk result (λ r. r.0.demanded.kept.items ≡ []) }
         ensures stepped { IfOk result (λ r. HasStepped rules.now (contents store.now) inst.now r.0.trial r.1) }
+        ensures passed { (finds : List (Instance ℕ × FindCode)) → IfOk result (λ r. HasPassedTo rules.now (contents store.now) finds inst.now r.0 r.1) }
     {
         let (trial, step) = Trial::start(alloc, rules, store, inst)?;
         let demanded = Demanded {
@@ -154,6 +160,7 @@ impl<'a> Frame<'a> {
         requires kept { AreKept (K.contents keeper.now) self.old.demanded.kept.items }
         ensures kept { OnOk result (AreKept (K.contents keeper.now) self.new.demanded.kept.items) }
         ensures stepped { (i : Instance ℕ) → Right (contents store.now) (meaning rules.now) (known_in (K.contents keeper.now) found.now.entries) → HasStepped rules.now (contents store.now) i self.old.trial step → IfOk result (HasStepped rules.now (contents store.now) i self.new.trial) }
+        ensures passed { (i : Instance ℕ) → Right (contents store.now) (meaning rules.now) (known_in (K.contents keeper.now) found.now.entries) → HasPassedTo rules.now (contents store.now) found.now.entries i self.old step → IfOk result (HasPassedTo rules.now (contents store.now) found.now.entries i self.new) }
         ensures unknown { IfOk result (IsOpen (known_in (K.contents keeper.now) found.now.entries)) }
     {
         let mut step = step;
@@ -174,6 +181,7 @@ impl<'a> Frame<'a> {
     pub fn find(self, alloc: Global, value: Value) -> Result<Find, AllocError>
         ensures value { IfOk result (λ f. f.value ≡ value) }
         ensures demanded { IfOk result (λ f. f.demanded ≡ self.entry.demanded) }
+        ensures reads { IfOk result (λ f. map loc_view f.reads.items ≡ self.entry.trial.reads) }
     {
         let mut reads = Vec::new(alloc);
         reads.extend_from_slice(self.trial.reads().as_slice())?;
@@ -195,6 +203,7 @@ impl Demanded {
     ) -> Result<Recalled, AllocError>
         requires kept { AreKept (K.contents keeper.now) self.old.kept.items }
         ensures kept { OnOk result (AreKept (K.contents keeper.now) self.new.kept.items) }
+        ensures takes { IfOk result (Takes found.now.entries self.old self.new needed) }
         ensures recalled { IfOk result (IsRecalled (known_in (K.contents keeper.now) found.now.entries) needed) }
     {
         if let Some(value) = keeper.get(&needed) {

@@ -3,12 +3,16 @@ use Rattle.at_model.specs.Meaning.{Right}
 use Rattle.at_store.specs.Shown.{contents}
 use Rattle.at_demand.specs.Known.{meaning, kept_values}
 use Rattle.at_demand.specs.UnderWay.{IsOrderlyIn, IsTrueIn, progress}
+use Rattle.at_demand.specs.Covering.{IsCoveringIn}
+use Rattle.at_demand.specs.Right.{AreRight, IsThere}
 use Rattle.at_demand.proofs.demand.Demand.answer.Given as goal
 
 abbrev pub invariant-loop-next : goal.invariant-loop-next
 invariant-loop-next g l = record {
   orderly : IsOrderlyIn (g.K.Keeper.contents l.self.keeper) l.question;
   holds : Right (contents l.store) (meaning l.rules) (kept_values (g.K.Keeper.contents l.initial.self.keeper)) → IsTrueIn l.rules (contents l.store) l.inst (g.K.Keeper.contents l.self.keeper) l.question l.step;
+  covering : Right (contents l.store) (meaning l.rules) (kept_values (g.K.Keeper.contents l.initial.self.keeper)) → IsCoveringIn l.rules (contents l.store) l.question l.step;
+  stays : IsThere l.store l.inst → AreRight l.rules l.store (g.K.Keeper.contents l.initial.self.keeper) → AreRight l.rules l.store (g.K.Keeper.contents l.self.keeper);
 }
 
 abbrev pub decreases-loop-next : goal.decreases-loop-next

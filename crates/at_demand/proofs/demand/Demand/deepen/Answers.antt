@@ -1,14 +1,7 @@
-use Rattle.std.proofs.Common.{◌≡◌, ℕ, List, [], ◌∷◌, ◌++◌, Option, Some, None, refl, sym, ap, ◌∙◌, subst, true≢false}
-use Rattle.at_model.specs.Run.{Contents, Instance, Value}
-use Rattle.at_model.specs.Meaning.{HasValue}
 use Rattle.at_store.specs.Shown.{contents}
-use Rattle.at_body.specs.Values.{value_view}
-use Rattle.at_body.specs.declared.trial.Step.{Step}
-use Rattle.at_body.specs.declared.trial.Step.TheVariants as step
-use Rattle.at_body.specs.declared.value.Value.{Value as ValueCode}
-use Rattle.at_demand.specs.Known.{meaning, MayAdd}
-use Rattle.at_demand.proofs.Orderly.{last_unkept, settles, deepens}
-use Rattle.at_demand.proofs.Truth.{right_after, ends, settles_true, deepens_true, closes, fails, right_known}
+use Rattle.at_demand.proofs.Orderly.{deepens}
+use Rattle.at_demand.proofs.Truth.{deepens_true, closes}
+use Rattle.at_demand.proofs.Passing.{deepens_covering}
 use Rattle.at_demand.proofs.demand.Demand.deepen.Goals as goal
 
 pub returns-then-has-clause-answers : goal.returns-then-has-clause-answers
@@ -26,3 +19,9 @@ returns-clause-answers g c asked h =
     let e = c.in_ok-next.ensures in
     deepens_true c.args.rules.now (contents c.args.store.now) asked (g.K.Keeper.contents c.args.self.now.keeper) c.args.question c.in_ok-next.next c.args.needed c.in_ok-next.step c.requires.orderly h
     e.waiting e.found e.inst e.stepped
+
+pub returns-clause-covering : goal.returns-clause-covering
+returns-clause-covering g c h =
+    let e = c.in_ok-next.ensures in
+    let q = c.args.question in
+    deepens_covering c.args.rules.now (contents c.args.store.now) (g.K.Keeper.contents c.args.self.now.keeper) q c.in_ok-next.next c.requires.orderly c.args.needed c.in_ok-next.step h e.waiting e.found e.inst (e.passed q.found.entries)

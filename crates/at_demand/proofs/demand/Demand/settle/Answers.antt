@@ -1,17 +1,15 @@
-use Rattle.std.proofs.Common.{◌≡◌, ◌<◌, ◌^◌, ℕ, List, [], ◌∷◌, ◌++◌, Option, Some, None, refl, sym, ap, ◌∙◌, subst, true≢false}
-use Rattle.at_model.specs.Run.{Contents, Instance, Value}
+use Rattle.std.proofs.Common.{◌<◌, ◌^◌, refl, sym, subst, true≢false}
 use Rattle.at_model.specs.Meaning.{HasValue}
-use Rattle.at_store.specs.Shown.{contents}
 use Rattle.at_body.specs.Values.{value_view}
-use Rattle.at_body.specs.declared.trial.Step.{Step}
-use Rattle.at_body.specs.declared.trial.Step.TheVariants as step
 use Rattle.at_body.specs.declared.value.Value.{Value as ValueCode}
 use Rattle.at_cache.specs.Kept.{AreKept}
 use Rattle.at_demand.specs.declared.question.Demanded.{Demanded}
 use Rattle.at_demand.specs.declared.question.Question.{Question}
 use Rattle.at_demand.specs.Known.{meaning, MayAdd}
-use Rattle.at_demand.proofs.Orderly.{last_unkept, none_there, settles, deepens}
-use Rattle.at_demand.proofs.Truth.{right_after, ends, settles_true, deepens_true, closes, fails, right_known}
+use Rattle.at_demand.proofs.Orderly.{last_unkept, none_there, settles}
+use Rattle.at_demand.proofs.Truth.{right_after, ends, settles_true}
+use Rattle.at_demand.proofs.Passing.{settles_covering}
+use Rattle.at_demand.proofs.There.{settles_right}
 use Rattle.at_demand.proofs.demand.Demand.settle.Goals as goal
 
 pub keep-requires-clause-absent : goal.keep-requires-clause-absent
@@ -23,7 +21,7 @@ pub returns-in_err-keep-clause-right : goal.returns-in_err-keep-clause-right
 returns-in_err-keep-clause-right g c look asked h =
     let old = g.K.Keeper.contents c.args.self.now.keeper in
     let new = g.K.Keeper.contents c.keep.new.self.keeper in
-    right_after c.args.rules.now look asked old new c.args.question c.args.value h (subst (λ (v : ValueCode). MayAdd old new c.args.question.inst (value_view v)) c.in_ok-find.ensures.value c.in_err-keep.ensures)
+    right_after c.args.rules.now look asked old new c.args.question c.args.value h (subst (λ (v : ValueCode). MayAdd old new c.args.question.inst (value_view v)) c.in_ok-find.ensures.value c.in_err-keep.ensures.adds)
 
 pub returns-in_default-clause-answers : goal.returns-in_default-clause-answers
 returns-in_default-clause-answers g c look asked h =
@@ -35,25 +33,25 @@ pub returns-in_default-clause-right : goal.returns-in_default-clause-right
 returns-in_default-clause-right g c look asked h =
     let old = g.K.Keeper.contents c.args.self.now.keeper in
     let new = g.K.Keeper.contents c.keep.new.self.keeper in
-    right_after c.args.rules.now look asked old new c.args.question c.args.value h (subst (λ (v : ValueCode). MayAdd old new c.args.question.inst (value_view v)) c.in_ok-find.ensures.value c.in_ok-keep.ensures)
+    right_after c.args.rules.now look asked old new c.args.question c.args.value h (subst (λ (v : ValueCode). MayAdd old new c.args.question.inst (value_view v)) c.in_ok-find.ensures.value c.in_ok-keep.ensures.adds)
 
 pub returns-in_err-needed-clause-right : goal.returns-in_err-needed-clause-right
 returns-in_err-needed-clause-right g c look asked h =
     let old = g.K.Keeper.contents c.args.self.now.keeper in
     let new = g.K.Keeper.contents c.keep.new.self.keeper in
-    right_after c.args.rules.now look asked old new c.args.question c.args.value h (subst (λ (v : ValueCode). MayAdd old new c.args.question.inst (value_view v)) c.in_ok-find.ensures.value c.in_ok-keep.ensures)
+    right_after c.args.rules.now look asked old new c.args.question c.args.value h (subst (λ (v : ValueCode). MayAdd old new c.args.question.inst (value_view v)) c.in_ok-find.ensures.value c.in_ok-keep.ensures.adds)
 
 pub returns-in_err-insert-clause-right : goal.returns-in_err-insert-clause-right
 returns-in_err-insert-clause-right g c look asked h =
     let old = g.K.Keeper.contents c.args.self.now.keeper in
     let new = g.K.Keeper.contents c.keep.new.self.keeper in
-    right_after c.args.rules.now look asked old new c.args.question c.args.value h (subst (λ (v : ValueCode). MayAdd old new c.args.question.inst (value_view v)) c.in_ok-find.ensures.value c.in_ok-keep.ensures)
+    right_after c.args.rules.now look asked old new c.args.question c.args.value h (subst (λ (v : ValueCode). MayAdd old new c.args.question.inst (value_view v)) c.in_ok-find.ensures.value c.in_ok-keep.ensures.adds)
 
 pub returns-clause-right : goal.returns-clause-right
 returns-clause-right g c look asked h =
     let old = g.K.Keeper.contents c.args.self.now.keeper in
     let new = g.K.Keeper.contents c.keep.new.self.keeper in
-    right_after c.args.rules.now look asked old new c.args.question c.args.value h (subst (λ (v : ValueCode). MayAdd old new c.args.question.inst (value_view v)) c.in_ok-find.ensures.value c.in_ok-keep.ensures)
+    right_after c.args.rules.now look asked old new c.args.question c.args.value h (subst (λ (v : ValueCode). MayAdd old new c.args.question.inst (value_view v)) c.in_ok-find.ensures.value c.in_ok-keep.ensures.adds)
 
 pub returns-clause-turn : goal.returns-clause-turn
 returns-clause-turn g c =
@@ -61,7 +59,7 @@ returns-clause-turn g c =
     let more = g.K.Keeper.contents c.keep.new.self.keeper in
     let new : Question = record { waiting = c.pop.new.self; found = c.insert.new.self; inst = c.in-Some.below; frame = c.in-Some.frame } in
     settles old more c.args.question new (value_view c.args.value) c.requires.orderly
-    (subst (λ (v : ValueCode). MayAdd old more c.args.question.inst (value_view v)) c.in_ok-find.ensures.value c.in_ok-keep.ensures)
+    (subst (λ (v : ValueCode). MayAdd old more c.args.question.inst (value_view v)) c.in_ok-find.ensures.value c.in_ok-keep.ensures.adds)
     c.in-Some.below c.in-Some.frame c.in_ok-find.find c.in-Some.ensures.entries
     (subst (λ (x : Demanded). AreKept old x.kept.items) (sym c.in_ok-find.ensures.demanded) c.requires.orderly.last_kept)
     c.in_ok-insert.ensures.entries refl refl
@@ -73,5 +71,48 @@ returns-clause-answers g c look asked h =
     let more = g.K.Keeper.contents c.keep.new.self.keeper in
     let new : Question = record { waiting = c.pop.new.self; found = c.insert.new.self; inst = c.in-Some.below; frame = c.in-Some.frame } in
     settles_true c.args.rules.now look asked old more c.args.question c.args.value h new c.in_ok-needed.needed c.in-Some.below c.in-Some.frame c.in_ok-find.find c.requires.orderly
-    (subst (λ (v : ValueCode). MayAdd old more c.args.question.inst (value_view v)) c.in_ok-find.ensures.value c.in_ok-keep.ensures)
+    (subst (λ (v : ValueCode). MayAdd old more c.args.question.inst (value_view v)) c.in_ok-find.ensures.value c.in_ok-keep.ensures.adds)
     c.in_ok-find.ensures.value c.in-Some.ensures.entries c.in_ok-insert.ensures.entries refl refl c.in_ok-needed.ensures
+
+pub returns-in_err-keep-clause-stays : goal.returns-in_err-keep-clause-stays
+returns-in_err-keep-clause-stays g c s asked idle is h stands right =
+    let old = g.K.Keeper.contents c.args.self.now.keeper in
+    let new = g.K.Keeper.contents c.keep.new.self.keeper in
+    let e = c.in_ok-find.ensures in
+    settles_right c.args.rules.now s idle asked old new c.args.question c.args.value c.in_ok-find.find e.value e.reads e.demanded c.keep.ensures.adds c.keep.ensures.covers is h stands right
+
+pub returns-in_default-clause-stays : goal.returns-in_default-clause-stays
+returns-in_default-clause-stays g c s asked idle is h stands right =
+    let old = g.K.Keeper.contents c.args.self.now.keeper in
+    let new = g.K.Keeper.contents c.keep.new.self.keeper in
+    let e = c.in_ok-find.ensures in
+    settles_right c.args.rules.now s idle asked old new c.args.question c.args.value c.in_ok-find.find e.value e.reads e.demanded c.keep.ensures.adds c.keep.ensures.covers is h stands right
+
+pub returns-in_err-needed-clause-stays : goal.returns-in_err-needed-clause-stays
+returns-in_err-needed-clause-stays g c s asked idle is h stands right =
+    let old = g.K.Keeper.contents c.args.self.now.keeper in
+    let new = g.K.Keeper.contents c.keep.new.self.keeper in
+    let e = c.in_ok-find.ensures in
+    settles_right c.args.rules.now s idle asked old new c.args.question c.args.value c.in_ok-find.find e.value e.reads e.demanded c.keep.ensures.adds c.keep.ensures.covers is h stands right
+
+pub returns-in_err-insert-clause-stays : goal.returns-in_err-insert-clause-stays
+returns-in_err-insert-clause-stays g c s asked idle is h stands right =
+    let old = g.K.Keeper.contents c.args.self.now.keeper in
+    let new = g.K.Keeper.contents c.keep.new.self.keeper in
+    let e = c.in_ok-find.ensures in
+    settles_right c.args.rules.now s idle asked old new c.args.question c.args.value c.in_ok-find.find e.value e.reads e.demanded c.keep.ensures.adds c.keep.ensures.covers is h stands right
+
+pub returns-clause-stays : goal.returns-clause-stays
+returns-clause-stays g c s asked idle is h stands right =
+    let old = g.K.Keeper.contents c.args.self.now.keeper in
+    let new = g.K.Keeper.contents c.keep.new.self.keeper in
+    let e = c.in_ok-find.ensures in
+    settles_right c.args.rules.now s idle asked old new c.args.question c.args.value c.in_ok-find.find e.value e.reads e.demanded c.keep.ensures.adds c.keep.ensures.covers is h stands right
+
+pub returns-clause-covering : goal.returns-clause-covering
+returns-clause-covering g c look h =
+    let old = g.K.Keeper.contents c.args.self.now.keeper in
+    let new : Question = record { waiting = c.pop.new.self; found = c.insert.new.self; inst = c.in-Some.below; frame = c.in-Some.frame } in
+    let e = c.in_ok-find.ensures in
+    settles_covering c.args.rules.now look old c.args.question new c.requires.orderly c.args.value c.in_ok-needed.needed c.in-Some.below c.in-Some.frame c.in_ok-find.find h e.reads e.demanded
+    c.in-Some.ensures.entries c.in_ok-insert.ensures.entries refl refl c.in_ok-needed.ensures

@@ -1,15 +1,11 @@
-use Rattle.std.proofs.Common.{◌≡◌, ℕ, List, [], ◌∷◌, ◌++◌, Option, Some, None, refl, sym, ap, ◌∙◌, subst, true≢false}
-use Rattle.at_model.specs.Run.{Contents, Instance, Value}
-use Rattle.at_model.specs.Meaning.{HasValue}
+use Rattle.std.proofs.Common.{subst}
 use Rattle.at_store.specs.Shown.{contents}
-use Rattle.at_body.specs.Values.{value_view}
 use Rattle.at_body.specs.declared.trial.Step.{Step}
 use Rattle.at_body.specs.declared.trial.Step.TheVariants as step
-use Rattle.at_body.specs.declared.value.Value.{Value as ValueCode}
-use Rattle.at_demand.specs.Known.{meaning, MayAdd}
-use Rattle.at_demand.proofs.Orderly.{last_unkept, settles, deepens}
 use Rattle.at_demand.specs.UnderWay.{HasStepped}
-use Rattle.at_demand.proofs.Truth.{steps_on, right_after, ends, settles_true, deepens_true, closes, fails, right_known}
+use Rattle.at_demand.proofs.Truth.{steps_on, fails, right_known}
+use Rattle.at_demand.specs.Covering.{HasPassedTo}
+use Rattle.at_demand.proofs.Passing.{covers_on}
 use Rattle.at_demand.proofs.demand.Demand.turn.Goals as goal
 
 pub returns-in-Value-clause-answers : goal.returns-in-Value-clause-answers
@@ -55,3 +51,45 @@ returns-clause-answers g c asked h =
     let last = subst (λ (s : Step). HasStepped c.args.rules.now look q.inst trial s) c.in-Need.is goes in
     let on = steps_on c.args.rules.now look asked entries q.waiting.entries q.found.entries q.inst q.frame.trial trial c.args.step (step.Need c.in-Need.needed) h last in
     c.deepen.ensures.answers asked on
+
+pub returns-in-Value-clause-covering : goal.returns-in-Value-clause-covering
+returns-in-Value-clause-covering g c asked h stands =
+    let q = c.args.question in
+    let rules = c.args.rules.now in
+    let look = contents c.args.store.now in
+    let entries = g.K.Keeper.contents c.args.self.now.keeper in
+    let trial = c.go_on.new.self.trial in
+    let known = right_known rules look entries q.found.entries h.kept h.finds in
+    let last = subst (λ (s : Step). HasStepped rules look q.inst trial s) c.in-Value.is (c.in_ok-step.ensures.stepped q.inst known h.last) in
+    let on = steps_on rules look asked entries q.waiting.entries q.found.entries q.inst q.frame.trial trial c.args.step (step.Value c.in-Value.value) h last in
+    let passed = subst (λ (s : Step). HasPassedTo rules look q.found.entries q.inst c.go_on.new.self s) c.in-Value.is (c.in_ok-step.ensures.passed q.inst known stands.last) in
+    let stands' = covers_on rules look q.waiting.entries q.found.entries q.inst q.frame c.go_on.new.self c.args.step (step.Value c.in-Value.value) stands passed in
+    c.settle.ensures.covering look stands'
+
+pub returns-in-Value-clause-stays : goal.returns-in-Value-clause-stays
+returns-in-Value-clause-stays g c asked is h stands right =
+    let q = c.args.question in
+    let rules = c.args.rules.now in
+    let look = contents c.args.store.now in
+    let entries = g.K.Keeper.contents c.args.self.now.keeper in
+    let trial = c.go_on.new.self.trial in
+    let known = right_known rules look entries q.found.entries h.kept h.finds in
+    let last = subst (λ (s : Step). HasStepped rules look q.inst trial s) c.in-Value.is (c.in_ok-step.ensures.stepped q.inst known h.last) in
+    let on = steps_on rules look asked entries q.waiting.entries q.found.entries q.inst q.frame.trial trial c.args.step (step.Value c.in-Value.value) h last in
+    let passed = subst (λ (s : Step). HasPassedTo rules look q.found.entries q.inst c.go_on.new.self s) c.in-Value.is (c.in_ok-step.ensures.passed q.inst known stands.last) in
+    let stands' = covers_on rules look q.waiting.entries q.found.entries q.inst q.frame c.go_on.new.self c.args.step (step.Value c.in-Value.value) stands passed in
+    c.settle.ensures.stays c.args.store.now asked c.requires.idle is on stands' right
+
+pub returns-clause-covering : goal.returns-clause-covering
+returns-clause-covering g c asked h stands =
+    let q = c.args.question in
+    let rules = c.args.rules.now in
+    let look = contents c.args.store.now in
+    let entries = g.K.Keeper.contents c.args.self.now.keeper in
+    let trial = c.go_on.new.self.trial in
+    let known = right_known rules look entries q.found.entries h.kept h.finds in
+    let last = subst (λ (s : Step). HasStepped rules look q.inst trial s) c.in-Need.is (c.in_ok-step.ensures.stepped q.inst known h.last) in
+    let on = steps_on rules look asked entries q.waiting.entries q.found.entries q.inst q.frame.trial trial c.args.step (step.Need c.in-Need.needed) h last in
+    let passed = subst (λ (s : Step). HasPassedTo rules look q.found.entries q.inst c.go_on.new.self s) c.in-Need.is (c.in_ok-step.ensures.passed q.inst known stands.last) in
+    let stands' = covers_on rules look q.waiting.entries q.found.entries q.inst q.frame c.go_on.new.self c.args.step (step.Need c.in-Need.needed) stands passed in
+    c.deepen.ensures.covering stands'

@@ -1,4 +1,5 @@
-use Rattle.std.proofs.Common.{sym, subst}
+use Rattle.std.proofs.Common.{ℕ, sym, subst}
+use Rattle.at_model.specs.Run.{Instance}
 use Rattle.at_store.specs.Shown.{contents}
 use Rattle.at_body.specs.Values.{value_view}
 use Rattle.at_body.specs.declared.trial.Step.{Step}
@@ -6,6 +7,10 @@ use Rattle.at_demand.specs.declared.question.Recalled.{Recalled}
 use Rattle.at_body.specs.declared.trial.Step.TheVariants as step
 use Rattle.at_demand.specs.Known.{known_in, IsRecalled}
 use Rattle.at_demand.specs.UnderWay.{HasStepped}
+use Rattle.at_demand.specs.Covering.{HasPassedTo, Takes}
+use Rattle.at_demand.specs.declared.question.Demanded.{Demanded}
+use Rattle.at_demand.specs.declared.question.Frame.{Frame}
+use Rattle.at_demand.proofs.Passing.{passed_on}
 use Rattle.at_demand.proofs.Truth.{resumed_step, open_end}
 use Rattle.at_demand.proofs.question.Frame.go_on.Goals as goal
 
@@ -21,6 +26,12 @@ loop-step-preserved g c =
           let before = c.loop-step.invariant.stepped i right h in
           let waits = subst (λ (s : Step). HasStepped rules look i c.loop-step.self.trial s) c.in-Need.is before in
           resumed_step rules look i c.in-Need.needed c.loop-step.self.trial c.resume.new.self (value_view c.in-Value.value) c.in_ok-step-in-Value.step waits (right c.in-Need.needed (value_view c.in-Value.value) told) c.in_ok-step-in-Value.ensures.found;
+      passed = λ i right h.
+          let found = c.args.found.now.entries in
+          let next : Frame = record { trial = c.resume.new.self; demanded = c.recall.new.self } in
+          let takes = subst (λ (r : Recalled). Takes found c.loop-step.self.demanded c.recall.new.self c.in-Need.needed r) c.in-Value.is c.in_ok-value-in-Need.ensures.takes in
+          let waits = subst (λ (s : Step). HasPassedTo rules look found i c.loop-step.self s) c.in-Need.is (c.loop-step.invariant.passed i right h) in
+          passed_on rules look found i c.in-Need.needed c.loop-step.self next (value_view c.in-Value.value) c.in_ok-step-in-Value.step waits takes.0 takes.1 (right c.in-Need.needed (value_view c.in-Value.value) told) c.in_ok-step-in-Value.ensures.found;
     }
 
 pub returns-in-Unknown-clause-stepped : goal.returns-in-Unknown-clause-stepped
@@ -32,10 +43,23 @@ returns-in-Unknown-clause-stepped g c i right h =
     let waits = subst (λ (s : Step). HasStepped rules look i c.loop-step.self.trial s) c.in-Need.is (c.loop-step.invariant.stepped i right h) in
     subst (λ j. HasStepped rules look i c.loop-step.self.trial (step.Need j)) (sym told.0) waits
 
+pub returns-in-Unknown-clause-passed : goal.returns-in-Unknown-clause-passed
+returns-in-Unknown-clause-passed g c i right h =
+    let rules = c.args.rules.now in
+    let look = contents c.args.store.now in
+    let found = c.args.found.now.entries in
+    let known = known_in (g.K.Keeper.contents c.args.keeper.now) found in
+    let told = subst (λ (r : Recalled). IsRecalled known c.in-Need.needed r) c.in-Unknown.is c.in_ok-value-in-Need.ensures.recalled in
+    let same = subst (λ (r : Recalled). Takes found c.loop-step.self.demanded c.recall.new.self c.in-Need.needed r) c.in-Unknown.is c.in_ok-value-in-Need.ensures.takes in
+    let waits = subst (λ (s : Step). HasPassedTo rules look found i c.loop-step.self s) c.in-Need.is (c.loop-step.invariant.passed i right h) in
+    let P : Demanded → Instance ℕ → Type 0 = λ d j. HasPassedTo rules look found i (record { trial = c.loop-step.self.trial; demanded = d }) (step.Need j) in
+    subst (λ d. P d c.in-Unknown.needed) (sym same) (subst (λ j. P c.loop-step.self.demanded j) (sym told.0) waits)
+
 pub returns-in_default : goal.returns-in_default
 returns-in_default g c =
     record {
       kept = c.loop-step.invariant.kept;
       stepped = c.loop-step.invariant.stepped;
+      passed = c.loop-step.invariant.passed;
       unknown = open_end (known_in (g.K.Keeper.contents c.args.keeper.now) c.args.found.now.entries) c.loop-step.step c.in_default.not-Need;
     }

@@ -1,0 +1,244 @@
+-- What is gathered stands among the sources, and so they cover all that supports the instance.
+use Rattle.std.proofs.Common.{◌≡◌, ◌⊎◌, ℕ, zero, suc, ◌+◌, ◌<◌, ◌≤◌, nat_eq, Bool, true, false, ◌||◌, List, [], ◌∷◌, ◌++◌, length, map, slice_get, Option, Some, None, OnOk, OnErr, Ok, Err, inl, inr, refl, sym, ap, ◌∙◌, subst, append_assoc, append-nil, if◌then◌else◌, true≢false, arith}
+use Rattle.std.specs.Prelude.{IsSome, Result}
+use Rattle.std.specs.List.{list_any}
+use Rattle.std.proofs.lemmas.Bool.{eqb-true}
+use Rattle.std.proofs.lemmas.Option.{none-some, same_Some}
+use Rattle.indexmap.specs.IndexSet.{insert_key}
+use Rattle.at_model.specs.Run.{Value, Instance, Location, Contents}
+use Rattle.at_model.specs.Rules.{Rules}
+use Rattle.at_model.specs.Meaning.{HasValue, Among, Comes}
+use Rattle.at_model.specs.Support.{Sees, Supports}
+use Rattle.at_store.specs.declared.node.Loc.{Loc}
+use Rattle.at_store.specs.Located.{loc_view}
+use Rattle.at_body.specs.Same.{same_instance}
+use Rattle.at_cache.specs.Kept.{Kept, Entries, AreKept, KeepsAll, MayPut, covered, covers_at, same_location}
+use Rattle.at_cache.proofs.Lists.{get_left, get_contains}
+use Rattle.at_cache.proofs.Locations.{same_location-itself}
+use Rattle.at_demand.specs.declared.question.Find.{Find}
+use Rattle.at_demand.specs.declared.gathering.Sources.{Sources}
+use Rattle.at_demand.specs.Known.{meaning}
+use Rattle.at_demand.specs.Covering.{IsWhole, AreWhole, AreCovered, Extends, IsAdded, Visits, Adds, AddsAt, AreGathered}
+use Rattle.at_demand.proofs.Sameness.{same_true}
+use Rattle.at_demand.proofs.Supported.{supported}
+
+or_left : (a b : Bool) → a ≡ true → (a || b) ≡ true
+or_left true b e = refl
+or_left false b e = absurd (true≢false (sym e))
+
+or_right : (a b : Bool) → b ≡ true → (a || b) ≡ true
+or_right true b e = refl
+or_right false b e = e
+
+module _ {A : Type 0} where
+  pub among_left : (a : A) (xs ys : List A) → Among a xs → Among a (xs ++ ys)
+  among_left a [] ys h = absurd h
+  among_left a (x ∷ xs) ys (inl e) = inl e
+  among_left a (x ∷ xs) ys (inr h) = inr (among_left a xs ys h)
+
+  pub among_right : (a : A) (xs ys : List A) → Among a ys → Among a (xs ++ ys)
+  among_right a [] ys h = h
+  among_right a (x ∷ xs) ys h = inr (among_right a xs ys h)
+
+  pub among_more : (a : A) (xs ys : List A) → Extends xs ys → Among a xs → Among a ys
+  among_more a xs ys (zs, e) h = subst (Among a) (sym e) (among_left a xs zs h)
+
+  pub extends_self : (xs : List A) → Extends xs xs
+  extends_self xs = ([], sym (append-nil xs))
+
+  pub extends_on : (xs ys zs : List A) → Extends xs ys → Extends ys zs → Extends xs zs
+  extends_on xs ys zs (a, e) (b, f) = (a ++ b, f ∙ ap (λ l. l ++ b) e ∙ append_assoc xs a b)
+
+  pub get_more : (xs ys : List A) (n : ℕ) (a : A) → Extends xs ys → slice_get xs n ≡ Some a → slice_get ys n ≡ Some a
+  get_more xs ys n a (zs, e) g = subst (λ l. slice_get l n ≡ Some a) (sym e) (get_left xs zs n a g)
+
+  back : (xs zs : List A) (n : ℕ) (a : A) → n < length xs → slice_get (xs ++ zs) n ≡ Some a → slice_get xs n ≡ Some a
+  back [] zs n a less g = absurd (omega arith)
+  back (x ∷ xs) zs zero a less g = g
+  back (x ∷ xs) zs (suc n) a less g = back xs zs n a (omega arith) g
+
+  pub get_back : (xs ys : List A) (n : ℕ) (a : A) → Extends xs ys → n < length xs → slice_get ys n ≡ Some a → slice_get xs n ≡ Some a
+  get_back xs ys n a (zs, e) less g = back xs zs n a less (subst (λ l. slice_get l n ≡ Some a) e g)
+
+  pub among_at : (a : A) (xs : List A) → Among a xs → (n : ℕ) × (n < length xs) × (slice_get xs n ≡ Some a)
+  among_at a [] h = absurd h
+  among_at a (x ∷ xs) (inl e) = (0, omega arith, ap Some (sym e))
+  among_at a (x ∷ xs) (inr h) = let (n, less, g) = among_at a xs h in (suc n, omega arith, g)
+
+  pub any_among : (p : A → Bool) (a : A) (xs : List A) → Among a xs → p a ≡ true → list_any p xs ≡ true
+  any_among p a [] h e = absurd h
+  any_among p a (x ∷ xs) (inl same) e = rw (ap p (sym same) ∙ e) refl
+  any_among p a (x ∷ xs) (inr h) e = or_right (p x) (list_any p xs) (any_among p a xs h e)
+
+pub among_map : {A B : Type 0} (f : A → B) (a : A) (xs : List A) → Among a xs → Among (f a) (map f xs)
+among_map f a [] h = absurd h
+among_map f a (x ∷ xs) (inl e) = inl (ap f e)
+among_map f a (x ∷ xs) (inr h) = inr (among_map f a xs h)
+
+pub map_among : {A B : Type 0} (f : A → B) (b : B) (xs : List A) → Among b (map f xs) → (a : A) × Among a xs × (f a ≡ b)
+map_among f b [] h = absurd h
+map_among f b (x ∷ xs) (inl e) = (x, inl refl, sym e)
+map_among f b (x ∷ xs) (inr h) = let (a, m, e) = map_among f b xs h in (a, inr m, e)
+
+-- a position that is inserted stands among those that are visited
+already : (ks : List ℕ) (k : ℕ) → list_any (nat_eq k) ks ≡ true → Among k ks
+already [] k e = absurd (true≢false (sym e))
+already (x ∷ ks) k e = by (nat_eq k x) refl e (already ks k)
+  where
+    by : (b : Bool) → nat_eq k x ≡ b → (b || list_any (nat_eq k) ks) ≡ true → (list_any (nat_eq k) ks ≡ true → Among k ks) → (k ≡ x) ⊎ Among k ks
+    by true s f more = inl (eqb-true k x s)
+    by false s f more = inr (more f)
+
+pub inserted : (ks : List ℕ) (k : ℕ) → Extends ks (insert_key nat_eq ks k) × Among k (insert_key nat_eq ks k)
+inserted ks k = by (list_any (nat_eq k) ks) refl
+  where
+    by : (b : Bool) → list_any (nat_eq k) ks ≡ b → Extends ks (if b then ks else ks ++ k ∷ []) × Among k (if b then ks else ks ++ k ∷ [])
+    by true e = (extends_self ks, already ks k e)
+    by false e = ((k ∷ [], refl), among_right k ks (k ∷ []) (inl refl))
+
+-- one position more
+pub visits_more : (done old new next : List ℕ) (k : ℕ) → Visits done old new → next ≡ insert_key nat_eq new k → Visits (done ++ k ∷ []) old next
+visits_more done old new next k v e =
+    let step = inserted new k in
+    let on : Extends new next = subst (Extends new) (sym e) step.0 in
+    (extends_on old new next v.0 on, λ p h. by p (split done p h))
+  where
+    split : (ds : List ℕ) (p : ℕ) → Among p (ds ++ k ∷ []) → Among p ds ⊎ (p ≡ k)
+    split [] p (inl same) = inr same
+    split [] p (inr h) = absurd h
+    split (d ∷ ds) p (inl same) = inl (inl same)
+    split (d ∷ ds) p (inr h) = elim (split ds p h) [ inl g ↦ inl (inr g) | inr same ↦ inr same ]
+
+    by : (p : ℕ) → Among p done ⊎ (p ≡ k) → Among p next
+    by p (inl h) = among_more p new next (subst (Extends new) (sym e) (inserted new k).0) (v.1 p h)
+    by p (inr same) = subst (λ x. Among x next) (sym same) (subst (Among k) (sym e) (inserted new k).1)
+
+-- what was added stays so while more is
+pub grown : (f : Find) (s t : Sources) (ps qs : List ℕ) → Extends s.reads.items t.reads.items → Extends s.kept.items t.kept.items → Extends ps qs → IsAdded s ps f → IsAdded t qs f
+grown f s t ps qs reads kept finds a = record {
+  reads = λ x h. among_more x s.reads.items t.reads.items reads (a.reads x h);
+  kept = λ u h. among_more u s.kept.items t.kept.items kept (a.kept u h);
+  finds = λ p h. among_more p ps qs finds (a.finds p h);
+}
+
+-- a find is added
+pub adds : (f : Find) (s t : Sources) (ps qs : List ℕ) → t.reads.items ≡ s.reads.items ++ f.reads.items → t.kept.items ≡ s.kept.items ++ f.demanded.kept.items → Visits f.demanded.finds.items ps qs → Adds f s t ps qs
+adds f s t ps qs reads kept finds = record {
+  reads = (f.reads.items, reads);
+  kept = (f.demanded.kept.items, kept);
+  finds = finds.0;
+  added = record {
+    reads = λ x h. subst (Among x) (sym reads) (among_right x s.reads.items f.reads.items h);
+    kept = λ u h. subst (Among u) (sym kept) (among_right u s.kept.items f.demanded.kept.items h);
+    finds = finds.1;
+  };
+}
+
+below_next : (n m : ℕ) → n < suc m → (n < m) ⊎ (n ≡ m)
+below_next zero zero h = inr refl
+below_next zero (suc m) h = inl (omega arith)
+below_next (suc n) zero h = absurd (omega arith)
+below_next (suc n) (suc m) h = elim (below_next n m (omega arith)) [ inl g ↦ inl (omega (arith, g)) | inr e ↦ inr (ap suc e) ]
+
+pub adds_after : {E : Type 0} (r : Result (Unit {0}) E) (f : Find) (s t : Sources) (ps qs : List ℕ) → t.reads.items ≡ s.reads.items ++ f.reads.items → t.kept.items ≡ s.kept.items ++ f.demanded.kept.items → OnOk r (Visits f.demanded.finds.items ps qs) → OnOk r (Adds f s t ps qs)
+adds_after (Ok u) f s t ps qs reads kept finds = adds f s t ps qs reads kept finds
+adds_after (Err e) f s t ps qs reads kept finds = tt
+
+module _ (found : List (Instance ℕ × Find)) where
+  -- where no find is there
+  pub adds_none : (next p : ℕ) (s : Sources) (ps : List ℕ) → Some p ≡ slice_get ps next → ◌≡◌ {A = Option (Instance ℕ × Find)} None (slice_get found p) → AddsAt found next s s ps ps
+  adds_none next p s ps at gone = record {
+    reads = extends_self s.reads.items;
+    kept = extends_self s.kept.items;
+    finds = extends_self ps;
+    added = λ q i g there is. let same : p ≡ q = same_Some p q (at ∙ there) in absurd (none-some (i, g) (gone ∙ ap (slice_get found) same ∙ is));
+  }
+
+  -- or no position
+  pub adds_nothing : (next : ℕ) (s : Sources) (ps : List ℕ) → ◌≡◌ {A = Option ℕ} None (slice_get ps next) → AddsAt found next s s ps ps
+  adds_nothing next s ps gone = record { reads = extends_self s.reads.items; kept = extends_self s.kept.items; finds = extends_self ps; added = λ q i g there is. absurd (none-some q (gone ∙ there)) }
+
+  -- where the find there is
+  pub adds_one : {E : Type 0} (r : Result (Unit {0}) E) (next p : ℕ) (i : Instance ℕ) (g : Find) (s t : Sources) (ps qs : List ℕ) → Some p ≡ slice_get ps next → Some (i, g) ≡ slice_get found p → OnOk r (Adds g s t ps qs) → OnOk r (AddsAt found next s t ps qs)
+  adds_one (Err e) next p i g s t ps qs at is a = tt
+  adds_one (Ok u) next p i g s t ps qs at is a = record {
+    reads = a.reads;
+    kept = a.kept;
+    finds = a.finds;
+    added = λ q j h there found_is.
+        let same : p ≡ q = same_Some p q (at ∙ there) in
+        let one : (i, g) ≡ (j, h) = same_Some (i, g) (j, h) (is ∙ ap (slice_get found) same ∙ found_is) in
+        subst (λ x. IsAdded t qs x) (ap (λ (x : Instance ℕ × Find). x.1) one) a.added;
+  }
+
+  -- how far it has come
+  pub record IsVisited (f : Find) (s : Sources) (ps : List ℕ) (next : ℕ) : Type 0 where
+    pub first : IsAdded s ps f
+    pub others : (n p : ℕ) (i : Instance ℕ) (g : Find) → n < next → slice_get ps n ≡ Some p → slice_get found p ≡ Some (i, g) → IsAdded s ps g
+
+  pub visited_first : (f : Find) (s t : Sources) (ps qs : List ℕ) → Adds f s t ps qs → IsVisited f t qs 0
+  visited_first f s t ps qs a = record { first = a.added; others = λ n p i g less at is. absurd (omega (arith, less)) }
+
+  pub visited_next : (f : Find) (s t : Sources) (ps qs : List ℕ) (next : ℕ) → next < length ps → IsVisited f s ps next → AddsAt found next s t ps qs → IsVisited f t qs (next + 1)
+  visited_next f s t ps qs next less v a = record {
+    first = grown f s t ps qs a.reads a.kept a.finds v.first;
+    others = λ n p i g under at is. by n p i g under (get_back ps qs n p a.finds (omega (arith, under, less)) at) is (below_next n next (omega (arith, under)));
+  }
+    where
+      by : (n p : ℕ) (i : Instance ℕ) (g : Find) → n < next + 1 → slice_get ps n ≡ Some p → slice_get found p ≡ Some (i, g) → (n < next) ⊎ (n ≡ next) → IsAdded t qs g
+      by n p i g under at is (inl h) = grown g s t ps qs a.reads a.kept a.finds (v.others n p i g h at is)
+      by n p i g under at is (inr e) = a.added p i g (subst (λ x. slice_get ps x ≡ Some p) e at) is
+
+  pub visited_all : (f : Find) (s : Sources) (ps : List ℕ) (next : ℕ) → length ps ≤ next → IsVisited f s ps next → AreGathered found f s
+  visited_all f s ps next past v = record {
+    positions = ps;
+    first = v.first;
+    others = λ p i g among is. let (n, less, at) = among_at p ps among in v.others n p i g (omega (arith, less, past)) at is;
+  }
+
+module _ (rules : Rules) (look : Contents ℕ) (entries : Entries) (found : List (Instance ℕ × Find)) (f : Find) (s : Sources) (gathered : AreGathered found f s) (whole : AreWhole rules look found) (kept : AreKept entries s.kept.items) (covers : AreCovered rules look entries) where
+  abbrev pub reads : List (Location ℕ)
+  reads = map loc_view s.reads.items
+
+  abbrev Within : Instance ℕ → Type 0
+  Within i = (g : Find) × IsWhole rules look found i g × IsAdded s gathered.positions g
+
+  next : (i j : Instance ℕ) → Within i → Comes look (meaning rules) i j → Among j s.kept.items ⊎ Within j
+  next i j (g, w, a) c = elim (w.demands j c) [
+    | inl k ↦ inl (a.kept j k)
+    | inr (p, h, at, is) ↦ inr (h, whole p j h is, gathered.others p j h (a.finds p at) is)
+  ]
+
+  seen : (i : Instance ℕ) (l : Location ℕ) → Within i → Sees look (HasValue look (meaning rules)) (meaning rules i) l → covered entries reads s.kept.items l ≡ true
+  seen i l (g, w, a) h =
+      let (x, among, is) = map_among loc_view l g.reads.items (w.reads l h) in
+      let there : Among l reads = subst (λ m. Among m reads) is (among_map loc_view x s.reads.items (a.reads x among)) in
+      or_left _ _ (any_among (same_location l) l reads there (same_location-itself l))
+
+  below : (i : Instance ℕ) (l : Location ℕ) → Among i s.kept.items → Supports look (meaning rules) l i → covered entries reads s.kept.items l ≡ true
+  below i l among h =
+      let (n, less, at) = among_at i s.kept.items among in
+      or_right _ _ (any_among (λ u. covers_at (entries u) l) i s.kept.items among (by (entries i) refl (kept i (get_contains s.kept.items n i at))))
+    where
+      by : (o : Option Kept) → entries i ≡ o → IsSome o → covers_at o l ≡ true
+      by None e some = absurd (true≢false (sym some))
+      by (Some k) e some = covers i k e l h
+
+  -- the sources cover all that supports the instance
+  pub all_covered : (i : Instance ℕ) (l : Location ℕ) → IsWhole rules look found i f → Supports look (meaning rules) l i → covered entries reads s.kept.items l ≡ true
+  all_covered i l w h = supported look (meaning rules) Within (λ u. Among u s.kept.items) (λ m. covered entries reads s.kept.items m ≡ true) next seen below i l (f, w, gathered.first) h
+
+  -- and so what is put
+  pub put_covers : {E : Type 0} (exact : Bool) (new : Entries) (i j : Instance ℕ) (v : Value ℕ) (locs : List Loc) (uses : List (Instance ℕ)) (r : Result (Unit {0}) E) → IsWhole rules look found i f → j ≡ i → locs ≡ s.reads.items → uses ≡ s.kept.items →
+      OnOk r (MayPut exact entries j v (map loc_view locs) uses new) → OnErr r (KeepsAll entries new) → AreCovered rules look new
+  put_covers exact new i j v locs uses (Err e) w a b c puts err m k is l h = covers m k (sym (err m) ∙ is) l h
+  put_covers exact new i j v locs uses (Ok u) w a b c (inl p) err m k is l h = covers m k (sym (p.1 m) ∙ is) l h
+  put_covers exact new i j v locs uses (Ok u) w a b c (inr p) err m k is l h = by (same_instance j m) refl (sym (p.adds m) ∙ is)
+    where
+      by : (t : Bool) → same_instance j m ≡ t → (if t then Some p.entry else entries m) ≡ Some k → k.covers l ≡ true
+      by true at e =
+          let same : p.entry ≡ k = same_Some p.entry k e in
+          let here : Supports look (meaning rules) l i = subst (λ x. Supports look (meaning rules) l x) (sym (sym a ∙ same_true j m at)) h in
+          let all : covered entries (map loc_view locs) uses l ≡ true = ap (λ x. covered entries (map loc_view x) uses l) b ∙ ap (λ x. covered entries reads x l) c ∙ all_covered i l w here in
+          ap (λ (x : Kept). x.covers l) (sym same) ∙ p.covers l all
+      by false at e = covers m k e l h

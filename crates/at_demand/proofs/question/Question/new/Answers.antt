@@ -1,0 +1,4 @@
+use Rattle.at_demand.proofs.question.Question.new.Goals as goal
+
+pub returns-clause-passed : goal.returns-clause-passed
+returns-clause-passed c finds = c.in_ok-frame.ensures.passed finds

@@ -1,0 +1,111 @@
+-- That what a question finds rests on the locations and the instances that stand with it, and nothing else.
+use Rattle.std.specs.Prelude.{◌≡◌, ◌⊎◌, ℕ, true, List, [], ◌∷◌, ◌++◌, map, slice_get, Some}
+use Rattle.at_model.specs.Run.{Value, Instance, Location, Contents, Run, Demands}
+use Rattle.at_model.specs.Follow.{Past}
+use Rattle.at_model.specs.Rules.{Rules}
+use Rattle.at_model.specs.Meaning.{HasValue, Among, Comes}
+use Rattle.at_model.specs.Support.{Sees, Supports}
+use Rattle.at_store.specs.declared.node.Loc.{Loc}
+use Rattle.at_store.specs.Located.{loc_view}
+use Rattle.at_body.specs.Rest.{reached, resumed}
+use Rattle.at_body.specs.declared.trial.Step.{Step}
+use Rattle.at_cache.specs.Kept.{Kept, Entries}
+use Rattle.at_demand.specs.declared.question.Demanded.{Demanded}
+use Rattle.at_demand.specs.declared.question.Find.{Find}
+use Rattle.at_demand.specs.declared.question.Frame.{Frame}
+use Rattle.at_demand.specs.declared.question.Question.{Question}
+use Rattle.at_demand.specs.declared.question.Recalled.{Recalled}
+use Rattle.at_demand.specs.declared.question.Recalled.TheVariants as recalled
+use Rattle.at_demand.specs.declared.gathering.Sources.{Sources}
+use Rattle.at_demand.specs.declared.demand.Turn.{Turn}
+use Rattle.at_demand.specs.declared.demand.Turn.TheVariants as turn
+use Rattle.at_demand.specs.Known.{meaning}
+use Rattle.at_demand.specs.UnderWay.{left_of, first_of}
+
+-- the instance is one of the kept ones, or was found at one of the positions
+abbrev pub IsDemanded : List (Instance ℕ × Find) → Demanded → Instance ℕ → Type 0
+IsDemanded found d j = Among j d.kept.items ⊎ ((p : ℕ) × (f : Find) × Among p d.finds.items × (slice_get found p ≡ Some (j, f)))
+
+-- it has the value, and is among the demanded ones
+abbrev pub IsTold : Rules → Contents ℕ → List (Instance ℕ × Find) → Demanded → Instance ℕ → Value ℕ → Type 0
+IsTold rules look found d j v = HasValue look (meaning rules) j v × IsDemanded found d j
+
+-- the evaluation of i has come to where this is left, past values of what its frame demanded
+abbrev pub HasPassed : Rules → Contents ℕ → List (Instance ℕ × Find) → Instance ℕ → Frame → Run ℕ (Value ℕ) → Type 0
+HasPassed rules look found i f r = (js : List (Instance ℕ)) × Past look (IsTold rules look found f.demanded) (meaning rules i) js f.trial.reads r
+
+-- it has come to this step
+abbrev pub HasPassedTo : Rules → Contents ℕ → List (Instance ℕ × Find) → Instance ℕ → Frame → Step → Type 0
+HasPassedTo rules look found i f s = HasPassed rules look found i f (left_of (reached rules.classes s f.trial))
+
+-- each that waits has come to the demand of the next, and the last one to that of i
+abbrev pub HavePassed : Rules → Contents ℕ → List (Instance ℕ × Find) → List (Instance ℕ × Frame) → Instance ℕ → Type 0
+HavePassed rules look found [] i = Unit {0}
+HavePassed rules look found (e ∷ es) i = HasPassed rules look found e.0 e.1 (Demands (first_of es i) (resumed rules.classes e.1.trial)) × HavePassed rules look found es i
+
+-- what was demanded stays so, and the instance is among it where its value was recalled
+abbrev pub Takes : List (Instance ℕ × Find) → (old new : Demanded) → Instance ℕ → Recalled → Type 0
+Takes found old new i (recalled.Value v) = ((j : Instance ℕ) → IsDemanded found old j → IsDemanded found new j) × IsDemanded found new i
+Takes found old new i (recalled.Unknown j) = new ≡ old
+
+-- The evaluation of i sees no other locations than the find's reads, and comes to no other instances than it demanded.
+pub record IsWhole (rules : Rules) (look : Contents ℕ) (found : List (Instance ℕ × Find)) (i : Instance ℕ) (f : Find) : Type 0 where
+  pub reads : (l : Location ℕ) → Sees look (HasValue look (meaning rules)) (meaning rules i) l → Among l (map loc_view f.reads.items)
+  pub demands : (j : Instance ℕ) → Comes look (meaning rules) i j → IsDemanded found f.demanded j
+
+-- so it is of all that was found
+abbrev pub AreWhole : Rules → Contents ℕ → List (Instance ℕ × Find) → Type 0
+AreWhole rules look found = (p : ℕ) (i : Instance ℕ) (f : Find) → slice_get found p ≡ Some (i, f) → IsWhole rules look found i f
+
+-- Whatever the question was told stands with the frame that was told it, or with the find.
+pub record IsCovering (rules : Rules) (look : Contents ℕ) (waiting : List (Instance ℕ × Frame)) (found : List (Instance ℕ × Find)) (i : Instance ℕ) (f : Frame) (s : Step) : Type 0 where
+  pub waits : HavePassed rules look found waiting i
+  pub last : HasPassedTo rules look found i f s
+  pub finds : AreWhole rules look found
+
+-- so it is of a question
+abbrev pub IsCoveringIn : Rules → Contents ℕ → Question → Step → Type 0
+IsCoveringIn rules look q s = IsCovering rules look q.waiting.entries q.found.entries q.inst q.frame s
+
+-- the question goes on so, or has its answer
+abbrev pub IsCoveringTurn : Rules → Contents ℕ → Turn → Type 0
+IsCoveringTurn rules look (turn.GoesOn q s) = IsCoveringIn rules look q s
+IsCoveringTurn rules look (turn.Answers a) = Unit {0}
+
+-- each entry stands for all that supports its instance
+abbrev pub AreCovered : Rules → Contents ℕ → Entries → Type 0
+AreCovered rules look entries = (i : Instance ℕ) (k : Kept) → entries i ≡ Some k → (l : Location ℕ) → Supports look (meaning rules) l i → k.covers l ≡ true
+
+-- one list begins with the other
+abbrev pub Extends : {A : Type 0} → (old new : List A) → Type 0
+Extends {A} old new = (more : List A) × (new ≡ old ++ more)
+
+-- all that stands with the find is among the sources, or its position is among these
+pub record IsAdded (s : Sources) (positions : List ℕ) (f : Find) : Type 0 where
+  pub reads : (x : Loc) → Among x f.reads.items → Among x s.reads.items
+  pub kept : (u : Instance ℕ) → Among u f.demanded.kept.items → Among u s.kept.items
+  pub finds : (p : ℕ) → Among p f.demanded.finds.items → Among p positions
+
+-- the positions stand behind those that were visited
+abbrev pub Visits : (positions old new : List ℕ) → Type 0
+Visits positions old new = Extends old new × ((p : ℕ) → Among p positions → Among p new)
+
+-- The find was added to the sources and the positions.
+pub record Adds (f : Find) (old new : Sources) (positions more : List ℕ) : Type 0 where
+  pub reads : Extends old.reads.items new.reads.items
+  pub kept : Extends old.kept.items new.kept.items
+  pub finds : Extends positions more
+  pub added : IsAdded new more f
+
+-- So was the find at the position that is visited next, if there is one.
+pub record AddsAt (found : List (Instance ℕ × Find)) (next : ℕ) (old new : Sources) (positions more : List ℕ) : Type 0 where
+  pub reads : Extends old.reads.items new.reads.items
+  pub kept : Extends old.kept.items new.kept.items
+  pub finds : Extends positions more
+  pub added : (p : ℕ) (i : Instance ℕ) (g : Find) → slice_get positions next ≡ Some p → slice_get found p ≡ Some (i, g) → IsAdded new more g
+
+-- All that stands with the find and with those that it leads to by positions is among the sources.
+pub record AreGathered (found : List (Instance ℕ × Find)) (f : Find) (s : Sources) : Type 0 where
+  pub positions : List ℕ
+  pub first : IsAdded s positions f
+  pub others : (p : ℕ) (i : Instance ℕ) (g : Find) → Among p positions → slice_get found p ≡ Some (i, g) → IsAdded s positions g
