@@ -1,7 +1,7 @@
 # attrd: make run, make test, make try, make build, make examples, make bench, make starve.
 SHELL := /bin/bash
 SAMPLE := crates/attrd/data
-PAGES := docs/MANUAL.md samples/calculator samples/objects samples/machines
+PAGES := docs/MANUAL.md docs/EDGES.md samples/calculator samples/objects samples/machines
 
 .PHONY: run test try build examples bench starve tools python
 
