@@ -264,44 +264,59 @@ fn leaves(alloc: Global, path: &str, wish: &Wish, block: &str) -> Option<bool> {
     Some(cancelled.as_slice() == TREE.as_bytes() && done.as_slice() == after.as_bytes())
 }
 
-/// Why a tree isn't loaded.
-fn load_fault(alloc: Global, text: &str) -> Option<Option<LoadFault>> {
+/// Why the tree of a text isn't loaded: the text is so many of one part between the others.
+fn load_fault(
+    alloc: Global,
+    front: &str,
+    part: &str,
+    times: usize,
+    end: &str,
+) -> Option<Option<LoadFault>> {
     let classes = calc(alloc)?;
-    let tree = term(alloc, &classes, text)?;
+    let parts = repeated(alloc, part, times).ok()?;
+    let text = joined(alloc, &[front, parts.as_str(), end]).ok()?;
+    let tree = term(alloc, &classes, text.as_str())?;
     Some(Store::load(alloc, &classes, tree).err())
 }
 
 #[test]
-fn trees_are_loaded_within_the_limits(rt: HostRuntime) -> Result<(), Fail> {
-    let alloc = rt.alloc();
-    let deep = blocks(alloc, 511)?;
-    let long = repeated(alloc, "a", 4096)?;
-    let longer = repeated(alloc, "a", 4097)?;
-    let many = repeated(alloc, ",Block([])", 65533)?;
-    for (front, middle, back, fault) in [
-        ("Program(", deep.as_str(), ")", None),
-        ("", deep.as_str(), "", Some(LoadFault::Fit)),
-        ("Program(Block([Decl(\"", long.as_str(), "\",-)]))", None),
-        ("Program(Block([Decl(\"", longer.as_str(), "\",-)]))", Some(LoadFault::Limit)),
-        ("Program(Block([Block([])", many.as_str(), "]))", None),
-        ("Program(Block([Block([])", many.as_str(), ",Block([])]))", Some(LoadFault::Limit)),
-        ("", "Num(1)", "", Some(LoadFault::Fit)),
+fn trees_are_loaded_within_the_limits(rt: HostRuntime) {
+    let token = "Program(Block([Decl(\"";
+    let list = "Program(Block([Block([])";
+    for (front, part, times, end, fault) in [
+        (token, "a", 4096, "\",-)]))", None),
+        (token, "a", 4097, "\",-)]))", Some(LoadFault::Limit)),
+        (list, ",Block([])", 65533, "]))", None),
+        (list, ",Block([])", 65534, "]))", Some(LoadFault::Limit)),
+        ("Num(", "1", 1, ")", Some(LoadFault::Fit)),
     ] {
-        let text = joined(alloc, &[front, middle, back])?;
-        assert_eq!(rt; load_fault(alloc, &text), Some(fault), "{back}");
+        assert_eq!(rt;
+            load_fault(rt.alloc(), front, part, times, end),
+            Some(fault),
+            "{times} {part}"
+        );
     }
-    Ok(())
 }
 
-/// Whether the path leads to a node of that path and that class, with this text below it and at that index in its list.
-fn reads(alloc: Global, classes: &ClassTable, store: &Store, path: &str, text: &str, index: usize) -> Option<bool>
+/// Whether the path leads to a node of that path, with this text below it and at that index in its list.
+fn reads(
+    alloc: Global,
+    classes: &ClassTable,
+    store: &Store,
+    path: &str,
+    text: &str,
+    index: usize,
+) -> Option<bool>
     requires { IsIdle store.now }
 {
     let node = at(alloc, classes, store, path)?;
     let way = path_of(alloc, classes, store, node)?;
     let below = text_of(alloc, classes, store, node)?;
-    let class = classes.name_of(store.class(node));
-    Some(way.as_slice() == path.as_bytes() && below.as_slice() == text.as_bytes() && text.starts_with(class) && store.index_in(node) == index)
+    Some(
+        way.as_slice() == path.as_bytes()
+            && below.as_slice() == text.as_bytes()
+            && store.index_in(node) == index,
+    )
 }
 
 /// The same in a store of `TREE`.
@@ -322,7 +337,12 @@ fn nodes_are_read(rt: HostRuntime) -> Result<(), Fail> {
     ] {
         assert_eq!(rt; seen(alloc, path, text, index), Some(true), "{path}");
     }
-    for path in ["/Block/Stmt:2", "/Block/Stmt", "/Block:0", "/Block/Stmt:0/Expr"] {
+    for path in [
+        "/Block/Stmt:2",
+        "/Block/Stmt",
+        "/Block:0",
+        "/Block/Stmt:0/Expr",
+    ] {
         assert_eq!(rt; seen(alloc, path, "", 0), None, "{path}");
     }
     Ok(())
@@ -336,17 +356,56 @@ fn edits_leave_what_is_asked(rt: HostRuntime) -> Result<(), Fail> {
         ("/Block/Stmt:0", Wish::Drop, "", print),
         ("/Block/Stmt:1", Wish::Drop, "Decl(\"x\",Num(1))", ""),
         ("/Block/Stmt:0/Init", Wish::Drop, "Decl(\"x\",-),", print),
-        ("/Block", Wish::Insert(0, 0, "Block([])"), "Block([]),Decl(\"x\",Num(1)),", print),
-        ("/Block", Wish::Insert(0, 1, "Block([])"), "Decl(\"x\",Num(1)),Block([]),", print),
-        ("/Block/Stmt:0/Init", Wish::Set("Use(\"y\")"), "Decl(\"x\",Use(\"y\")),", print),
-        ("/Block/Stmt:0", Wish::Set("Print(Num(3))"), "Print(Num(3)),", print),
+        (
+            "/Block",
+            Wish::Insert(0, 0, "Block([])"),
+            "Block([]),Decl(\"x\",Num(1)),",
+            print,
+        ),
+        (
+            "/Block",
+            Wish::Insert(0, 1, "Block([])"),
+            "Decl(\"x\",Num(1)),Block([]),",
+            print,
+        ),
+        (
+            "/Block/Stmt:0/Init",
+            Wish::Set("Use(\"y\")"),
+            "Decl(\"x\",Use(\"y\")),",
+            print,
+        ),
+        (
+            "/Block/Stmt:0",
+            Wish::Set("Print(Num(3))"),
+            "Print(Num(3)),",
+            print,
+        ),
         ("/Block", Wish::Set("Block([])"), "", ""),
-        ("/", Wish::Set("Program(Block([Block([])]))"), "Block([])", ""),
-        ("/Block/Stmt:0", Wish::Text(0, "a\"b"), "Decl(\"a\\\"b\",Num(1)),", print),
-        ("/Block/Stmt:0/Init", Wish::Number(0, -7), "Decl(\"x\",Num(-7)),", print),
+        (
+            "/",
+            Wish::Set("Program(Block([Block([])]))"),
+            "Block([])",
+            "",
+        ),
+        (
+            "/Block/Stmt:0",
+            Wish::Text(0, "a\"b"),
+            "Decl(\"a\\\"b\",Num(1)),",
+            print,
+        ),
+        (
+            "/Block/Stmt:0/Init",
+            Wish::Number(0, -7),
+            "Decl(\"x\",Num(-7)),",
+            print,
+        ),
     ] {
         let block = joined(alloc, &[front, back])?;
-        assert_eq!(rt; leaves(alloc, path, &wish, &block), Some(true), "{path} {front}");
+        assert_eq!(rt;
+            leaves(alloc, path, &wish, &block),
+            Some(true),
+            "{path} {front}"
+        );
     }
     Ok(())
 }
@@ -355,8 +414,16 @@ fn edits_leave_what_is_asked(rt: HostRuntime) -> Result<(), Fail> {
 fn refusals_come_in_their_order(rt: HostRuntime) -> Result<(), Fail> {
     let alloc = rt.alloc();
     for (path, wish, reason) in [
-        ("/Block/Stmt:0", Wish::Insert(1, 9, "Program(Block([]))"), Refusal::Component),
-        ("/Block", Wish::Put(0, "Program(Block([]))"), Refusal::Component),
+        (
+            "/Block/Stmt:0",
+            Wish::Insert(1, 9, "Program(Block([]))"),
+            Refusal::Component,
+        ),
+        (
+            "/Block",
+            Wish::Put(0, "Program(Block([]))"),
+            Refusal::Component,
+        ),
         ("/Block/Stmt:1", Wish::Number(0, 5), Refusal::Component),
         ("/Block", Wish::Insert(0, 3, "Num(1)"), Refusal::Fit),
         ("/Block/Stmt:0", Wish::Put(1, "Block([])"), Refusal::Fit),
@@ -388,11 +455,23 @@ fn edits_keep_to_depth_and_text(rt: HostRuntime) -> Result<(), Fail> {
         ("/Block", Wish::Set(&deeper), None),
         ("/Block", Wish::Set(&deepest), Some(Refusal::Limit)),
         ("/Block/Stmt:0", Wish::Text(0, &long), None),
-        ("/Block/Stmt:0", Wish::Text(0, &longer), Some(Refusal::Limit)),
+        (
+            "/Block/Stmt:0",
+            Wish::Text(0, &longer),
+            Some(Refusal::Limit),
+        ),
         ("/Block/Stmt:0/Init", Wish::Set(&use_long), None),
-        ("/Block/Stmt:0/Init", Wish::Set(&use_longer), Some(Refusal::Limit)),
+        (
+            "/Block/Stmt:0/Init",
+            Wish::Set(&use_longer),
+            Some(Refusal::Limit),
+        ),
     ] {
-        assert_eq!(rt; refusal_of(alloc, TREE, path, &wish), Some(answer), "{path}");
+        assert_eq!(rt;
+            refusal_of(alloc, TREE, path, &wish),
+            Some(answer),
+            "{path}"
+        );
     }
     Ok(())
 }
@@ -405,7 +484,10 @@ fn edits_keep_to_the_number_of_nodes(rt: HostRuntime) -> Result<(), Fail> {
     let one = Wish::Insert(0, 65533, "Block([])");
     let two = Wish::Insert(0, 0, "Block([Block([])])");
     assert_eq!(rt; refusal_of(alloc, &all, "/Block", &one), Some(None));
-    assert_eq!(rt; refusal_of(alloc, &all, "/Block", &two), Some(Some(Refusal::Limit)));
+    assert_eq!(rt;
+        refusal_of(alloc, &all, "/Block", &two),
+        Some(Some(Refusal::Limit))
+    );
     Ok(())
 }
 
@@ -430,7 +512,13 @@ fn loc_of(node: Node, part: &Part) -> Loc {
 }
 
 /// Whether an edit touches a location. It is cancelled.
-fn asked(alloc: Global, classes: &ClassTable, store: &mut Store, edit: Edit, loc: Loc) -> Option<bool> {
+fn asked(
+    alloc: Global,
+    classes: &ClassTable,
+    store: &mut Store,
+    edit: Edit,
+    loc: Loc,
+) -> Option<bool> {
     match store.check(alloc, classes, edit) {
         Ok(ready) => {
             let touched = store.touches(&ready, loc);
@@ -463,10 +551,19 @@ fn touched(
 }
 
 /// The same in a store of `TREE`.
-fn touches(alloc: Global, path: &str, wish: &Wish, other: &str, part: &Part, cancelled: &str) -> Option<bool> {
+fn touches(
+    alloc: Global,
+    path: &str,
+    wish: &Wish,
+    other: &str,
+    part: &Part,
+    cancelled: &str,
+) -> Option<bool> {
     let classes = calc(alloc)?;
     let mut store = loaded(alloc, &classes, TREE)?;
-    touched(alloc, &classes, &mut store, path, wish, other, part, cancelled)
+    touched(
+        alloc, &classes, &mut store, path, wish, other, part, cancelled,
+    )
 }
 
 #[test]
@@ -482,13 +579,29 @@ fn edits_touch_what_they_change(rt: HostRuntime) -> Result<(), Fail> {
         (decl, Wish::Drop, "/Block", Part::Is, false),
         (decl, Wish::Set("Block([])"), decl, Part::Idx, true),
         (decl, Wish::Set("Block([])"), print, Part::Idx, false),
-        ("/Block", Wish::Insert(0, 2, "Block([])"), decl, Part::Idx, true),
-        ("/Block", Wish::Insert(0, 2, "Block([])"), decl, Part::Is, false),
+        (
+            "/Block",
+            Wish::Insert(0, 2, "Block([])"),
+            decl,
+            Part::Idx,
+            true,
+        ),
+        (
+            "/Block",
+            Wish::Insert(0, 2, "Block([])"),
+            decl,
+            Part::Is,
+            false,
+        ),
         (decl, Wish::Text(0, "y"), decl, Part::Tok(0), true),
         (decl, Wish::Text(0, "y"), decl, Part::Slot(1), false),
     ] {
         for cancelled in [decl, print] {
-            assert_eq!(rt; touches(alloc, path, &wish, at, &part, cancelled), Some(touched), "{path} {at}");
+            assert_eq!(rt;
+                touches(alloc, path, &wish, at, &part, cancelled),
+                Some(touched),
+                "{path} {at}"
+            );
         }
     }
     Ok(())

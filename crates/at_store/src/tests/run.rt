@@ -10,8 +10,11 @@ use std::alloc::{AllocError, Global};
 use std::test::Fail;
 
 const BLOCKS: [&str; 3] = ["/Block/Stmt:0", "/Block/Stmt:1", "/Block/Stmt:2"];
+
 const ROWS: [&str; 4] = ["/Stmt:0", "/Stmt:1", "/Stmt:2", "/Stmt:3"];
+
 const NAMES: [&str; 3] = ["a", "b", "c"];
+
 const INITS: [&str; 4] = ["-", "Num(1)", "Use(\"y\")", "Add(Num(1),Num(2))"];
 
 /// A declaration, by the positions of its name and of what it is set to.
@@ -156,7 +159,11 @@ fn change_rows(rows: &mut Vec<Row>, turn: &Turn) -> Result<bool, AllocError> {
 }
 
 /// Changes the blocks, where that can be.
-fn change_blocks(alloc: Global, blocks: &mut Vec<Vec<Row>>, turn: &Turn) -> Result<bool, AllocError> {
+fn change_blocks(
+    alloc: Global,
+    blocks: &mut Vec<Vec<Row>>,
+    turn: &Turn,
+) -> Result<bool, AllocError> {
     match turn.change {
         Change::InsertBlock => {
             if turn.block > blocks.len() {
@@ -204,7 +211,13 @@ fn whole_text(alloc: Global, blocks: &[Vec<Row>]) -> Option<String> {
 }
 
 /// Edits the store by a turn.
-fn edit(alloc: Global, classes: &ClassTable, store: &mut Store, turn: &Turn, commits: bool) -> Option<Result<(), Refusal>>
+fn edit(
+    alloc: Global,
+    classes: &ClassTable,
+    store: &mut Store,
+    turn: &Turn,
+    commits: bool,
+) -> Option<Result<(), Refusal>>
     requires idle { IsIdle store.old }
     requires conforming { conforms classes.now (tree store.old) 0 ≡ true }
     ensures idle { IsIdle store.new }
@@ -216,7 +229,13 @@ fn edit(alloc: Global, classes: &ClassTable, store: &mut Store, turn: &Turn, com
 }
 
 /// Whether a turn is taken by the store where it is by the lists, and both show the same then. Each third one is cancelled.
-fn agrees(alloc: Global, classes: &ClassTable, store: &mut Store, blocks: &mut Vec<Vec<Row>>, number: usize) -> Option<bool>
+fn agrees(
+    alloc: Global,
+    classes: &ClassTable,
+    store: &mut Store,
+    blocks: &mut Vec<Vec<Row>>,
+    number: usize,
+) -> Option<bool>
     requires idle { IsIdle store.old }
     requires conforming { conforms classes.now (tree store.old) 0 ≡ true }
     ensures idle { IsIdle store.new }
