@@ -1,90 +1,102 @@
--- What becomes of a store when an edit is checked, and then done or given up.
-use Rattle.std.proofs.Common.{◌≡◌, ℕ, true, Option, Some, None, Result, Ok, Err, IfOk, OnErr, refl, sym, ap, ◌∙◌, subst, is_some}
+-- What comes of an edit: of the store, the version, the marks and what is kept.
+use Rattle.std.proofs.Common.{◌≡◌, ◌∙◌, ℕ, ◌+◌, Bool, true, false, nat_eq, List, Option, Some, Result, Ok, Err, IfOk, OnErr, filter, is_some, sym, subst}
 use Rattle.at_model.specs.Classes.{Classes}
-use Rattle.at_model.specs.Trees.{Tree, conforms}
 use Rattle.at_model.specs.Paths.{Node}
-use Rattle.at_model.specs.Edits.{Edit as EditOf, edited, left_by, has_component, fits_there, is_in_range, is_free, is_removable, is_within_limits}
-use Rattle.at_model.specs.Edits as model
-use Rattle.at_model.proofs.Conforming.{accepted_conforms, passed}
+use Rattle.at_model.specs.Rules.{Rules}
+use Rattle.at_model.specs.Edits.{Edit as EditOf}
+use Rattle.at_model.specs.Lines.{last_version}
+use Rattle.at_model.specs.Machine.{changed}
+use Rattle.at_protocol.specs.declared.reply.Form.{Form as FormValue}
+use Rattle.at_protocol.specs.declared.reply.Form.TheVariants as form
+use Rattle.at_protocol.specs.declared.reply.Refusal.TheVariants as told
 use Rattle.at_store.specs.declared.edit.Edit.{Edit}
 use Rattle.at_store.specs.declared.edit.Prepared.{Prepared}
 use Rattle.at_store.specs.declared.edit.Refusal.{Refusal}
 use Rattle.at_store.specs.Checking.{IsAsked, IsRefused}
 use Rattle.at_store.specs.Preparing.{Does, IsCancelled, IsCommitted, IsPrepared}
 use Rattle.at_store.specs.Refusing.{edit_at, node_of}
-use Rattle.at_store.specs.Shown.{IsIdle, Shown, path, tree}
-use Rattle.at_protocol.specs.declared.reply.Form.{Form as FormValue}
-use Rattle.at_engine.specs.Serving.{Seen}
-use Rattle.at_engine.specs.Telling.{Tells}
+use Rattle.at_store.specs.Shown.{IsIdle, Shown, path}
+use Rattle.at_cache.specs.Kept.{Entries}
+use Rattle.at_demand.specs.Right.{AreRight}
+use Rattle.at_engine.specs.Following.{Follows}
+use Rattle.at_engine.specs.Holding.{state_in, IsSoundWith}
+use Rattle.at_engine.specs.Telling.{IsToldFor}
+use Rattle.at_engine.specs.declared.marks.Mark.{Mark}
+use Rattle.at_engine.proofs.Commands.{edit_refused}
+use Rattle.at_engine.proofs.Marked.{path_there}
+use Rattle.at_engine.proofs.Storing.{state_stays, sound_stays, given_up, done, sound_after}
 
-found : (o : Option Node) → is_some o ≡ true → (n : Node) × (o ≡ Some n)
-found None h = absurd cc
-found (Some n) h = (n, refl)
+-- the edit is told so, and leaves this store, this version, these marks and these entries
+pub record Came {E : Type 0} (rules : Rules) (old : Shown) (version : ℕ) (ms : List Mark) (edit : Edit) (result : Result FormValue E) (new : Shown) (next : ℕ) (ns : List Mark) (entries : Entries) : Type 0 where
+  pub follows : (n : Node) → path old (node_of edit) ≡ Some n → IfOk result (λ f. Follows rules (state_in old version ms) (changed rules.classes (state_in old version ms) (edit_at n edit)) f (state_in new next ns))
+  pub err : OnErr result (state_in new next ns ≡ state_in old version ms)
+  pub sound : IsSoundWith rules new ns entries
 
-asked : (classes : Classes) (old : Shown) (edit : Edit) → IsIdle old → conforms classes (tree old) 0 ≡ true → is_some (path old (node_of edit)) ≡ true → (n : Node) × IsAsked classes old edit n
-asked classes old edit idle whole there =
-    let at' = found (path old (node_of edit)) there in
-    (at'.0, record { idle = idle; conforming = whole; found = at'.1 })
+-- what is kept over the edit is right of what it leaves
+abbrev pub KeepsRight : Rules → Shown → Edit → Prepared → Shown → Shown → Entries → Type 0
+KeepsRight rules old edit q mid new later = (n : Node) → IsPrepared rules.classes old (edit_at n edit) (Does q) mid → IsCommitted old (edit_at n edit) new → AreRight rules new later
 
--- what an accepted edit leaves is the tree that it is said to leave
-left_is : (classes : Classes) (t : Tree) (e : EditOf) (u : Tree) → edited classes t e ≡ Ok u → left_by t e ≡ u
-left_is classes t e u is =
-    let component = passed classes (has_component classes t e) model.Component _ u is in
-    let fit = passed classes (fits_there classes t e) model.Fit _ u component.1 in
-    let index = passed classes (is_in_range t e) model.Index _ u fit.1 in
-    let free = passed classes (is_free t e) model.Taken _ u index.1 in
-    let removable = passed classes (is_removable classes t e) model.Fixed _ u free.1 in
-    let limits = passed classes (is_within_limits (left_by t e)) model.Limit _ u removable.1 in
-    cc
+module _ (rules : Rules) (old : Shown) (ms : List Mark) (edit : Edit) (entries : Entries) (sound : IsSoundWith rules old ms entries) where
+  -- an edit of a node that is there is asked
+  asked : (n : Node) → path old (node_of edit) ≡ Some n → IsAsked rules.classes old edit n
+  asked n found = record { idle = sound.idle; conforming = sound.conforming; found = found }
 
--- nothing is prepared, and the tree is the old one
-pub record Stays (old new : Shown) : Type 0 where
-  pub idle : IsIdle new
-  pub tree_stays : tree new ≡ tree old
+  -- no edit waits behind one that is done
+  pub idle_again : is_some (path old (node_of edit)) ≡ true → (mid : Shown) (q : Prepared) → ((n : Node) → IsAsked rules.classes old edit n → IsPrepared rules.classes old (edit_at n edit) (Does q) mid)
+      → (new : Shown) → ((cs : Classes) (s : Shown) (e : EditOf) → IsPrepared cs s e (Does q) mid → IsCommitted s e new) → IsIdle new
+  idle_again there mid q ready new commits =
+      let (m, found) = path_there (path old (node_of edit)) there in
+      (commits rules.classes old (edit_at m edit) (ready m (asked m found))).idle
 
--- nothing is prepared, and the tree conforms
-pub record Conforms (classes : Classes) (new : Shown) : Type 0 where
-  pub idle : IsIdle new
-  pub conforming : conforms classes (tree new) 0 ≡ true
+module _ {E : Type 0} (rules : Rules) (old : Shown) (version : ℕ) (ms : List Mark) (edit : Edit) (entries : Entries) (sound : IsSoundWith rules old ms entries) (there : is_some (path old (node_of edit)) ≡ true) where
+  pub came_refused : (new : Shown) (r : Refusal) (result : Result FormValue E) → ((n : Node) → IsAsked rules.classes old edit n → IsRefused rules.classes old (edit_at n edit) new r) → IfOk result (IsToldFor r) → Came rules old version ms edit result new version ms entries
+  came_refused new r (Ok f) refuses told =
+      let (m, found) = path_there (path old (node_of edit)) there in
+      let is = refuses m (asked rules old ms edit entries sound m found) in
+      record {
+        follows = λ n p. edit_refused rules old version ms (edit_at n edit) new r f (refuses n (asked rules old ms edit entries sound n p)) told;
+        err = tt;
+        sound = sound_stays rules old new ms entries is.idle is.numbers_stay is.tree_stays sound;
+      }
+  came_refused new r (Err e) refuses told =
+      let (m, found) = path_there (path old (node_of edit)) there in
+      let is = refuses m (asked rules old ms edit entries sound m found) in
+      record {
+        follows = λ n p. tt;
+        err = state_stays old new version ms is.numbers_stay is.tree_stays;
+        sound = sound_stays rules old new ms entries is.idle is.numbers_stay is.tree_stays sound;
+      }
 
--- a store is as it was where an edit was refused
-pub refused : (classes : Classes) (old new : Shown) (edit : Edit) (r : Refusal) → IsIdle old → conforms classes (tree old) 0 ≡ true → is_some (path old (node_of edit)) ≡ true
-    → ((n : Node) → IsAsked classes old edit n → IsRefused classes old (edit_at n edit) new r) → Stays old new
-refused classes old new edit r idle whole there refuses =
-    let a = asked classes old edit idle whole there in
-    let is = refuses a.0 a.1 in
-    record { idle = is.idle; tree_stays = is.tree_stays }
+  module _ (mid : Shown) (q : Prepared) (ready : (n : Node) → IsAsked rules.classes old edit n → IsPrepared rules.classes old (edit_at n edit) (Does q) mid) where
+    pub came_given_up : (new : Shown) → ((cs : Classes) (s : Shown) (e : EditOf) → IsPrepared cs s e (Does q) mid → IsCancelled s new) → nat_eq version last_version ≡ true
+        → Came {E = E} rules old version ms edit (Ok (form.Refused told.Limit)) new version ms entries
+    came_given_up new cancels last =
+        let (m, found) = path_there (path old (node_of edit)) there in
+        let is = cancels rules.classes old (edit_at m edit) (ready m (asked rules old ms edit entries sound m found)) in
+        record {
+          follows = λ n p.
+              let prepared = ready n (asked rules old ms edit entries sound n p) in
+              given_up rules old version ms (edit_at n edit) (Does q) mid prepared new (cancels rules.classes old (edit_at n edit) prepared) last;
+          err = tt;
+          sound = sound_stays rules old new ms entries is.idle is.numbers_stay is.tree_stays sound;
+        }
 
--- and where a prepared one was given up
-pub given_up : (classes : Classes) (old mid new : Shown) (edit : Edit) (q : Prepared) → IsIdle old → conforms classes (tree old) 0 ≡ true → is_some (path old (node_of edit)) ≡ true
-    → ((n : Node) → IsAsked classes old edit n → IsPrepared classes old (edit_at n edit) (Does q) mid)
-    → ((classes : Classes) (old : Shown) (e : EditOf) → IsPrepared classes old e (Does q) mid → IsCancelled old new) → Stays old new
-given_up classes old mid new edit q idle whole there ready cancels =
-    let a = asked classes old edit idle whole there in
-    let is = cancels classes old (edit_at a.0 edit) (ready a.0 a.1) in
-    record { idle = is.idle; tree_stays = is.tree_stays }
+-- an edit that is prepared is done, and the marks whose nodes are gone are gone
+module _ (rules : Rules) (old : Shown) (version : ℕ) (ms : List Mark) (edit : Edit) (entries : Entries) (sound : IsSoundWith rules old ms entries) (mid : Shown) (q : Prepared) (ready : (n : Node) → IsAsked rules.classes old edit n → IsPrepared rules.classes old (edit_at n edit) (Does q) mid)
+    (new : Shown) (commits : (cs : Classes) (s : Shown) (e : EditOf) → IsPrepared cs s e (Does q) mid → IsCommitted s e new) (ns : List Mark) (same : ns ≡ filter (λ (m : Mark). is_some (path new m.node)) ms) where
+  pub told_done : nat_eq version last_version ≡ false → (n : Node) → path old (node_of edit) ≡ Some n → Follows rules (state_in old version ms) (changed rules.classes (state_in old version ms) (edit_at n edit)) (form.Ok (version + 1)) (state_in new (version + 1) ns)
+  told_done last n p =
+      let prepared = ready n (asked rules old ms edit entries sound n p) in
+      subst (λ (l : List Mark). Follows rules (state_in old version ms) (changed rules.classes (state_in old version ms) (edit_at n edit)) (form.Ok (version + 1)) (state_in new (version + 1) l)) (sym same)
+      (done rules old version ms (edit_at n edit) (Does q) mid prepared new (commits rules.classes old (edit_at n edit) prepared) sound.marked last)
 
--- where a prepared one was done the tree conforms again
-pub done : (classes : Classes) (old mid new : Shown) (edit : Edit) (q : Prepared) → IsIdle old → conforms classes (tree old) 0 ≡ true → is_some (path old (node_of edit)) ≡ true
-    → ((n : Node) → IsAsked classes old edit n → IsPrepared classes old (edit_at n edit) (Does q) mid)
-    → ((classes : Classes) (old : Shown) (e : EditOf) → IsPrepared classes old e (Does q) mid → IsCommitted old e new) → Conforms classes new
-done classes old mid new edit q idle whole there ready commits =
-    let a = asked classes old edit idle whole there in
-    let p = ready a.0 a.1 in
-    let is = commits classes old (edit_at a.0 edit) p in
-    let left = left_is classes (tree old) (edit_at a.0 edit) p.left p.accepted in
-    let fits = accepted_conforms classes (tree old) (edit_at a.0 edit) p.left whole p.accepted in
-    record { idle = is.idle; conforming = subst (λ (t : Tree). conforms classes t 0 ≡ true) (sym (is.tree_is ∙ left)) fits.0 }
+  pub sound_done : is_some (path old (node_of edit)) ≡ true → (later : Entries) → KeepsRight rules old edit q mid new later → IsSoundWith rules new ns later
+  sound_done there later right =
+      let (m, found) = path_there (path old (node_of edit)) there in
+      let prepared = ready m (asked rules old ms edit entries sound m found) in
+      let is = commits rules.classes old (edit_at m edit) prepared in
+      subst (λ (l : List Mark). IsSoundWith rules new l later) (sym same) (sound_after rules old version ms (edit_at m edit) (Does q) mid prepared new is sound.marked entries later sound (right m prepared is))
 
--- what is seen of an engine is the same, where the tree is
-pub same_seen : (s t : Tree) (version : ℕ) → t ≡ s → ◌≡◌ {A = Seen} (record { tree = t; version = version }) (record { tree = s; version = version })
-same_seen s t version h = ap (λ (u : Tree). let seen : Seen = record { tree = u; version = version } in seen) h
-
--- a refusal tells that all is as it was
-pub refused_so : {E : Type 0} (old new : Seen) (r : Result FormValue E) → new ≡ old → IfOk r (λ f. (s : Seen) → Tells s s f) → IfOk r (Tells old new)
-refused_so old new (Ok f) same h = subst (λ (s : Seen). Tells old s f) (sym same) (h old)
-refused_so old new (Err e) same h = tt
-
-pub on_err : {T E : Type 0} (r : Result T E) (P : Type 0) → P → OnErr r P
-on_err (Ok x) P p = tt
-on_err (Err e) P p = p
+-- what is answered `false` is not touched, where the answer is whether it is
+pub untouched_by : (answer touched : Bool) → answer ≡ touched → false ≡ answer → touched ≡ false
+untouched_by answer touched e f = sym (f ∙ e)

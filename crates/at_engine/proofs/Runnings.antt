@@ -5,8 +5,7 @@ use Rattle.std.specs.Io.KnownBytes.{Consumes, IsAtEnd}
 use Rattle.at_model.specs.Rules.{Rules}
 use Rattle.at_model.specs.Lines.{lines, pieces, is_filled}
 use Rattle.at_model.specs.Replies.{Reply, reply_text}
-use Rattle.at_engine.specs.Serving.{Seen}
-use Rattle.at_engine.specs.Serving.{Serves, Runs}
+use Rattle.at_model.specs.Machine.{State, Serves, Runs, ByEquations}
 use Rattle.at_engine.specs.declared.stream.desk.Desk.{Desk}
 use Rattle.at_engine.specs.declared.stream.desk.Report.{Report}
 use Rattle.at_engine.specs.declared.stream.desk.RunFault.{RunFault}
@@ -17,22 +16,22 @@ use Rattle.at_engine.proofs.Takings.{wants-append, no_count}
 use Rattle.at_engine.proofs.Progressing.{runs_line}
 
 -- each line of a run is named or not
-length-named : (rules : Rules) (old new : Seen) (ls : List (List ℕ)) (ks : List Bool) (text : List ℕ) → Runs rules old ls ks text new → length ks ≡ length ls
+length-named : (rules : Rules) (old new : State) (ls : List (List ℕ)) (ks : List Bool) (text : List ℕ) → Runs rules (ByEquations rules) old ls ks text new → length ks ≡ length ls
 length-named rules old new [] [] text r = refl
 length-named rules old new [] (k ∷ ks) text r = absurd r
 length-named rules old new (l ∷ ls) [] text r = absurd r
 length-named rules old new (l ∷ ls) (k ∷ ks) text (a, reply, rest, served, e, runs) = ap suc (length-named rules a new ls ks rest runs)
 
 -- the run over the whole lines and over the last one is the run over all lines
-all_lines : (rules : Rules) (old mid new : Seen) (input rest : List ℕ) (fulls : List (List ℕ)) (ks js : List Bool) (text more : List ℕ) → pieces input ≡ fulls ++ rest ∷ []
-    → Runs rules old (filter is_filled fulls) ks text mid → Runs rules mid (filter is_filled (rest ∷ [])) js more new
-    → Runs rules old (lines input) (ks ++ js) (text ++ more) new
+all_lines : (rules : Rules) (old mid new : State) (input rest : List ℕ) (fulls : List (List ℕ)) (ks js : List Bool) (text more : List ℕ) → pieces input ≡ fulls ++ rest ∷ []
+    → Runs rules (ByEquations rules) old (filter is_filled fulls) ks text mid → Runs rules (ByEquations rules) mid (filter is_filled (rest ∷ [])) js more new
+    → Runs rules (ByEquations rules) old (lines input) (ks ++ js) (text ++ more) new
 all_lines rules old mid new input rest fulls ks js text more split r s =
-    subst (λ (l : List (List ℕ)). Runs rules old l (ks ++ js) (text ++ more) new)
+    subst (λ (l : List (List ℕ)). Runs rules (ByEquations rules) old l (ks ++ js) (text ++ more) new)
     (sym (ap (filter is_filled) split ∙ filter-append is_filled fulls (rest ∷ [])))
     (runs-append rules old mid new (filter is_filled fulls) (filter is_filled (rest ∷ [])) ks js text more r s)
 
-pub ended : (rules : Rules) (old mid new : Seen) (input : List ℕ) (readable left before between after : Option (List ℕ)) (desk next last : Desk) (report : Report)
+pub ended : (rules : Rules) (old mid new : State) (input : List ℕ) (readable left before between after : Option (List ℕ)) (desk next last : Desk) (report : Report)
     → (t : Takes rules old [] input mid desk next before between) → Finishes (Ok tt) rules mid t.rest new next last between after
     → Consumes readable left input → IsAtEnd left → desk.lines ≡ 0 → desk.memory ≡ 0
     → report.lines ≡ last.lines → report.memory ≡ last.memory → report.accepted ≡ new.version - old.version
@@ -53,7 +52,7 @@ ended rules old mid new input readable left before between after desk next last 
     }
 
 -- the reply to the last line, which no newline ends, could not be written whole
-pub cut_off_at_last : (rules : Rules) (old mid new : Seen) (input : List ℕ) (readable left before between after : Option (List ℕ)) (desk next last : Desk) (fault : RunFault)
+pub cut_off_at_last : (rules : Rules) (old mid new : State) (input : List ℕ) (readable left before between after : Option (List ℕ)) (desk next last : Desk) (fault : RunFault)
     → (t : Takes rules old [] input mid desk next before between) → (f : Finishes (Err fault) rules mid t.rest new next last between after)
     → Consumes readable left input → CutOff rules old new readable left before after
 cut_off_at_last rules old mid new input readable left before between after desk next last fault t f read = record {
@@ -72,7 +71,7 @@ cut_off_at_last rules old mid new input readable left before between after desk 
 }
 
 -- a reply could not be written whole, and bytes are left behind its line
-pub cut_off : (rules : Rules) (old new : Seen) (input : List ℕ) (readable left before after : Option (List ℕ)) → Stops rules old [] input new before after
+pub cut_off : (rules : Rules) (old new : State) (input : List ℕ) (readable left before after : Option (List ℕ)) → Stops rules old [] input new before after
     → Consumes readable left input → CutOff rules old new readable left before after
 cut_off rules old new input readable left before after u read = record {
   input = input;
@@ -90,7 +89,7 @@ cut_off rules old new input readable left before after u read = record {
 }
 
 -- the run broke off between two reads
-pub broke_off : (rules : Rules) (old new : Seen) (input : List ℕ) (readable left before after : Option (List ℕ)) (desk next : Desk) (reads : ℕ) → Takes rules old [] input new desk next before after
+pub broke_off : (rules : Rules) (old new : State) (input : List ℕ) (readable left before after : Option (List ℕ)) (desk next : Desk) (reads : ℕ) → Takes rules old [] input new desk next before after
     → Consumes readable left input → reads ≤ length input → BrokeOff rules old new readable left before after reads
 broke_off rules old new input readable left before after desk next reads t read enough = record {
   input = input;
@@ -104,12 +103,12 @@ broke_off rules old new input readable left before after desk next reads t read 
 }
 
 -- the last line was empty
-pub finished_empty : (rules : Rules) (s : Seen) (desk : Desk) (before : Option (List ℕ)) → Finishes (Ok tt) rules s [] s desk desk before before
+pub finished_empty : (rules : Rules) (s : State) (desk : Desk) (before : Option (List ℕ)) → Finishes (Ok tt) rules s [] s desk desk before before
 finished_empty rules s desk before = record { named = []; text = []; runs = (refl, refl); counts = no_count desk desk refl refl; written = Appends-nil before }
 
 -- the last line was served
-pub finished_line : (result : Result (Unit {0}) RunFault) (rules : Rules) (old new : Seen) (front : List ℕ) (k : Bool) (reply : Reply) (desk next : Desk) (before after : Option (List ℕ)) → is_filled front ≡ true
-    → Serves rules k old front new reply → Counts desk next (k ∷ []) → Written result before after (reply_text reply) → Finishes result rules old front new desk next before after
+pub finished_line : (result : Result (Unit {0}) RunFault) (rules : Rules) (old new : State) (front : List ℕ) (k : Bool) (reply : Reply) (desk next : Desk) (before after : Option (List ℕ)) → is_filled front ≡ true
+    → Serves rules (ByEquations rules) k old front new reply → Counts desk next (k ∷ []) → Written result before after (reply_text reply) → Finishes result rules old front new desk next before after
 finished_line result rules old new front k reply desk next before after filled served counts written = record {
   named = k ∷ [];
   text = reply_text reply;

@@ -1,17 +1,16 @@
 -- What an engine serves.
-use Rattle.std.specs.Prelude.{◌≡◌, true}
 use Rattle.at_model.specs.Rules.{Rules}
-use Rattle.at_model.specs.Trees.{conforms}
-use Rattle.at_store.specs.Shown.{tree}
-use Rattle.at_engine.specs.Serving.{Seen}
+use Rattle.at_model.specs.Machine.{State}
+use Rattle.at_cache.specs.Kept.{Entries}
+use Rattle.at_engine.specs.Holding.{state_in, IsSoundWith}
 use Rattle.at_engine.specs.declared.engine.Engine.{Engine}
 
 abbrev pub rules_of : {K : Type 0} → Engine K → Rules
 rules_of e = e.rules
 
-abbrev pub seen_of : {K : Type 0} → Engine K → Seen
-seen_of e = record { tree = tree e.store; version = e.version }
+abbrev pub state_of : {K : Type 0} → Engine K → State
+state_of e = state_in e.store e.version e.marks.items.items
 
--- the tree conforms to the start class
-abbrev pub IsWhole : {K : Type 0} → Engine K → Type 0
-IsWhole e = conforms e.rules.classes (tree e.store) 0 ≡ true
+-- no edit waits, the tree and the marks are sound, and what the keeper keeps is right
+abbrev pub IsSound : {K : Type 0} → (contents : K → Entries) → Engine K → Type 0
+IsSound contents e = IsSoundWith e.rules e.store e.marks.items.items (contents e.demand.keeper)

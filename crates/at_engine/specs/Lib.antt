@@ -1,4 +1,11 @@
+pub mod Fitting
+pub mod Collected
+pub mod Answered
+pub mod Marks
+pub mod Holding
 pub mod Serving
+pub mod Following
+pub mod Naming
 pub mod Engines
 pub mod Telling
 pub mod Loop

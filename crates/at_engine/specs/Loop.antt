@@ -2,8 +2,7 @@
 use Rattle.std.specs.Prelude.{◌≡◌, ℕ, ◌≤◌, Bool, List, [], ◌∷◌, ◌++◌, length, take, filter}
 use Rattle.at_model.specs.Lines.{pieces, is_filled}
 use Rattle.at_model.specs.Rules.{Rules}
-use Rattle.at_engine.specs.Serving.{Seen}
-use Rattle.at_engine.specs.Serving.{Runs}
+use Rattle.at_model.specs.Machine.{State, ByEquations, Runs}
 
 -- of a line that is too long only the front is kept, so much that it is still too long
 unfoldable pub kept : List ℕ → List ℕ
@@ -19,9 +18,9 @@ IsOpen front = Splits front [] front
 
 -- From old, with the front of a line before them, the bytes are answered by this text, their lines named so, and they
 -- lead to new and to the front of the next line.
-pub record Progress (rules : Rules) (old : Seen) (front bytes : List ℕ) (named : List Bool) (text : List ℕ) (new : Seen) (rest : List ℕ) : Type 0 where
+pub record Progress (rules : Rules) (old : State) (front bytes : List ℕ) (named : List Bool) (text : List ℕ) (new : State) (rest : List ℕ) : Type 0 where
   pub fulls : List (List ℕ)
   pub splits : Splits (front ++ bytes) fulls rest
   pub open' : IsOpen rest
-  pub runs : Runs rules old (filter is_filled fulls) named text new
+  pub runs : Runs rules (ByEquations rules) old (filter is_filled fulls) named text new
   pub few : length named ≤ length bytes

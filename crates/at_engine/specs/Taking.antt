@@ -5,8 +5,7 @@ use Rattle.at_engine.specs.declared.stream.desk.RunFault.{RunFault}
 use Rattle.at_engine.specs.declared.stream.desk.RunFault.TheVariants as fault
 use Rattle.at_model.specs.Rules.{Rules}
 use Rattle.at_model.specs.Lines.{is_filled}
-use Rattle.at_engine.specs.Serving.{Seen}
-use Rattle.at_engine.specs.Serving.{Runs}
+use Rattle.at_model.specs.Machine.{State, ByEquations, Runs}
 use Rattle.at_engine.specs.declared.stream.desk.Desk.{Desk}
 use Rattle.at_engine.specs.Loop.{Progress, kept}
 
@@ -26,7 +25,7 @@ pub record Counts (old new : Desk) (named : List Bool) : Type 0 where
   pub memory : new.memory ≡ old.memory + wants named
 
 -- All of the bytes were taken: what was written answers the whole lines, and of the next line its front is kept.
-pub record Takes (rules : Rules) (old : Seen) (front bytes : List ℕ) (new : Seen) (desk next : Desk) (before after : Option (List ℕ)) : Type 0 where
+pub record Takes (rules : Rules) (old : State) (front bytes : List ℕ) (new : State) (desk next : Desk) (before after : Option (List ℕ)) : Type 0 where
   pub named : List Bool
   pub text : List ℕ
   pub rest : List ℕ
@@ -36,7 +35,7 @@ pub record Takes (rules : Rules) (old : Seen) (front bytes : List ℕ) (new : Se
   pub counts : Counts desk next named
 
 -- A reply could not be written whole: the lines up to that one were served, and some front of their replies was written.
-pub record Stops (rules : Rules) (old : Seen) (front bytes : List ℕ) (new : Seen) (before after : Option (List ℕ)) : Type 0 where
+pub record Stops (rules : Rules) (old : State) (front bytes : List ℕ) (new : State) (before after : Option (List ℕ)) : Type 0 where
   pub used : List ℕ
   pub more : List ℕ
   pub split : bytes ≡ used ++ more
@@ -50,14 +49,14 @@ pub record Stops (rules : Rules) (old : Seen) (front bytes : List ℕ) (new : Se
   pub written : Appends before after done
 
 -- the bytes were taken, or a reply could not be written
-abbrev pub TakesOrStops : Result (Unit {0}) RunFault → Rules → Seen → List ℕ → List ℕ → Seen → Desk → Desk → Option (List ℕ) → Option (List ℕ) → Type 0
+abbrev pub TakesOrStops : Result (Unit {0}) RunFault → Rules → State → List ℕ → List ℕ → State → Desk → Desk → Option (List ℕ) → Option (List ℕ) → Type 0
 TakesOrStops (Ok u) rules old front bytes new desk next before after = Takes rules old front bytes new desk next before after
 TakesOrStops (Err e) rules old front bytes new desk next before after = (e ≡ fault.Write) × Stops rules old front bytes new before after
 
 -- the last line, which no newline ends, was served, or its reply could not be written whole
-pub record Finishes (result : Result (Unit {0}) RunFault) (rules : Rules) (old : Seen) (front : List ℕ) (new : Seen) (desk next : Desk) (before after : Option (List ℕ)) : Type 0 where
+pub record Finishes (result : Result (Unit {0}) RunFault) (rules : Rules) (old : State) (front : List ℕ) (new : State) (desk next : Desk) (before after : Option (List ℕ)) : Type 0 where
   pub named : List Bool
   pub text : List ℕ
-  pub runs : Runs rules old (filter is_filled (front ∷ [])) named text new
+  pub runs : Runs rules (ByEquations rules) old (filter is_filled (front ∷ [])) named text new
   pub counts : Counts desk next named
   pub written : Written result before after text

@@ -31,20 +31,19 @@ pub struct Engine<K> {
 }
 
 impl<K: Keeper> Engine<K> {
-    ghost use Rattle.std.specs.Prelude.{◌≡◌, ◌++◌, ◌+◌, ◌<◌, ◌≤◌, true, false, IfOk, IfErr, OnOk, OnErr, vec_len, vec_capacity, length};
-    ghost use Rattle.at_model.specs.Lines.{IsSessionOf};
-    ghost use Rattle.at_model.specs.Machine.{is_stale, is_edit};
+    ghost use Rattle.std.specs.Prelude.{◌≡◌, ◌++◌, ◌+◌, ◌<◌, ◌≤◌, [], None, true, false, IfOk, IfErr, OnOk, OnErr, string_bytes, vec_len, vec_capacity, length};
+    ghost use Rattle.at_model.specs.Lines.{IsCommand, IsLine, IsSessionOf, Show, Mark as MarkOf, Unmark, Where};
+    ghost use Rattle.at_model.specs.Machine.{State, ByEquations, Serves, is_stale};
     ghost use Rattle.at_model.specs.Replies.{Reply as ModelReply, reply_text};
-    ghost use Rattle.at_protocol.specs.LineView.{command_view};
-    ghost use Rattle.at_protocol.specs.declared.reply.Form.TheVariants as form;
-    ghost use Rattle.at_protocol.specs.declared.reply.Refusal.TheVariants as refusal;
     ghost use Rattle.at_tree.specs.TreeView.{tree_view};
+    ghost use Rattle.at_protocol.specs.LineView.{command_view, line_view, place_view};
+    ghost use Rattle.at_protocol.specs.declared.reply.Form.TheVariants as form;
     ghost use Rattle.at_store.specs.Loading.{IsNotLoaded};
     ghost use Rattle.at_store.specs.Shown.{tree as tree_shown};
-    ghost use Rattle.at_store.specs.Shown.{IsIdle};
-    ghost use Rattle.at_engine.specs.Engines.{rules_of, seen_of, IsWhole};
-    ghost use Rattle.at_engine.specs.Serving.{Serves, Steps};
-    ghost use Rattle.at_engine.specs.Telling.{Tells, Gets};
+    ghost use Rattle.at_cache.specs.Kept.{KeepsAll};
+    ghost use Rattle.at_engine.specs.Engines.{rules_of, state_of, IsSound};
+    ghost use Rattle.at_engine.specs.Serving.{Steps};
+    ghost use Rattle.at_engine.specs.Telling.{Obeys, Meets, Gets};
 
     /// An engine of version 0 with these rules and this tree, with no marks, over an empty keeper.
     ///
@@ -53,14 +52,14 @@ impl<K: Keeper> Engine<K> {
     /// `Fit` where the tree doesn't conform to the start class, else `Limit` where it is beyond the limits
     /// of a tree; `Memory` for want of memory.
     pub fn new(alloc: Global, rules: Rules, tree: Tree, keeper: K) -> Result<Engine<K>, LoadFault>
-        ensures first { IfOk result (λ e. e.version ≡ 0) }
+        ensures first { IfOk result (λ e. state_of e ≡ record { tree = tree_view tree; version = 0; marks = [] }) }
         ensures rules { IfOk result (λ e. rules_of e ≡ rules) }
-        ensures loaded { IfOk result (λ e. (seen_of e).tree ≡ tree_view tree) }
-        ensures idle { IfOk result (λ e. IsIdle e.store) }
-        ensures whole { IfOk result IsWhole }
+        ensures sound { KeepsAll (λ _. None) (K.contents keeper) → IfOk result (IsSound K.contents) }
         ensures refused { IfErr result (IsNotLoaded rules.classes (tree_view tree)) }
     {
         let store = Store::load(alloc, rules.classes(), tree)?;
+        // `len` says that the classes are sound.
+        let _classes = rules.classes().len();
         Ok(Engine {
             alloc,
             rules,
@@ -73,14 +72,14 @@ impl<K: Keeper> Engine<K> {
 
     /// The tree as it is.
     pub fn tree(&self) -> &Store
-        ensures tree { tree_shown result.now ≡ (seen_of self.now).tree }
+        ensures tree { tree_shown result.now ≡ (state_of self.now).tree }
     {
         &self.store
     }
 
     /// How many edits were accepted.
     pub fn version(&self) -> u64
-        ensures { result ≡ (seen_of self.now).version }
+        ensures { result ≡ (state_of self.now).version }
     {
         let Engine { version, .. } = self;
         *version
@@ -98,14 +97,12 @@ impl<K: Keeper> Engine<K> {
     /// Where room for 48 bytes is refused, and then nothing has changed. Every other want of memory is a
     /// reply.
     pub fn line(&mut self, line: &[u8], out: &mut Vec<u8>) -> Result<(), AllocError>
-        requires idle { IsIdle self.old.store }
-        requires whole { IsWhole self.old }
-        ensures steps { OnOk result (Steps (rules_of self.old) (seen_of self.old) line.now (seen_of self.new) out.old.items out.new.items) }
+        requires sound { IsSound K.contents self.old }
+        ensures steps { OnOk result (Steps (rules_of self.old) (state_of self.old) line.now (state_of self.new) out.old.items out.new.items) }
         ensures rules { rules_of self.new ≡ rules_of self.old }
         ensures full { OnErr result (vec_capacity out.old < vec_len out.old + 48) }
-        ensures err { OnErr result ((out.new.items ≡ out.old.items) × (seen_of self.new ≡ seen_of self.old)) }
-        ensures idle { IsIdle self.new.store }
-        ensures whole { IsWhole self.new }
+        ensures err { OnErr result ((out.new.items ≡ out.old.items) × (state_of self.new ≡ state_of self.old)) }
+        ensures sound { IsSound K.contents self.new }
     {
         if line.is_empty() {
             return Ok(out.reserve(REPLY_ROOM)?);
@@ -116,16 +113,14 @@ impl<K: Keeper> Engine<K> {
 
     /// Serves a line that isn't empty; whether it was answered by want of memory.
     pub fn serve(&mut self, line: &[u8], out: &mut Vec<u8>) -> Result<bool, AllocError>
-        requires idle { IsIdle self.old.store }
-        requires whole { IsWhole self.old }
+        requires sound { IsSound K.contents self.old }
         requires some { 0 < length line.now }
-        ensures served { IfOk result (λ wants. (reply : ModelReply) × Serves (rules_of self.old) wants (seen_of self.old) line.now (seen_of self.new) reply × (out.new.items ≡ out.old.items ++ reply_text reply)) }
+        ensures served { IfOk result (λ wants. (reply : ModelReply) × Serves (rules_of self.old) (ByEquations (rules_of self.old)) wants (state_of self.old) line.now (state_of self.new) reply × (out.new.items ≡ out.old.items ++ reply_text reply)) }
         ensures rules { rules_of self.new ≡ rules_of self.old }
         ensures room { vec_capacity out.old ≤ vec_capacity out.new }
         ensures full { OnErr result (vec_capacity out.old < vec_len out.old + 48) }
-        ensures err { OnErr result ((out.new.items ≡ out.old.items) × (seen_of self.new ≡ seen_of self.old)) }
-        ensures idle { IsIdle self.new.store }
-        ensures whole { IsWhole self.new }
+        ensures err { OnErr result ((out.new.items ≡ out.old.items) × (state_of self.new ≡ state_of self.old)) }
+        ensures sound { IsSound K.contents self.new }
     {
         out.reserve(REPLY_ROOM)?;
         match self.attempt(line, out) {
@@ -140,15 +135,13 @@ impl<K: Keeper> Engine<K> {
 
     /// Serves a line unless memory runs out, and then the error is its session and nothing has changed.
     fn attempt(&mut self, line: &[u8], out: &mut Vec<u8>) -> Result<(), Option<u16>>
-        requires idle { IsIdle self.old.store }
-        requires whole { IsWhole self.old }
+        requires sound { IsSound K.contents self.old }
         requires room { vec_len out.old + 48 ≤ vec_capacity out.old }
-        ensures served { IfOk result (λ u. (reply : ModelReply) × Serves (rules_of self.old) false (seen_of self.old) line.now (seen_of self.new) reply × (out.new.items ≡ out.old.items ++ reply_text reply)) }
-        ensures memory { IfErr result (λ session. IsSessionOf line.now session × (out.new.items ≡ out.old.items) × (seen_of self.new ≡ seen_of self.old)) }
+        ensures served { IfOk result (λ u. (reply : ModelReply) × Serves (rules_of self.old) (ByEquations (rules_of self.old)) false (state_of self.old) line.now (state_of self.new) reply × (out.new.items ≡ out.old.items ++ reply_text reply)) }
+        ensures memory { IfErr result (λ session. IsSessionOf line.now session × (out.new.items ≡ out.old.items) × (state_of self.new ≡ state_of self.old)) }
         ensures rules { rules_of self.new ≡ rules_of self.old }
         ensures room { vec_capacity out.old ≤ vec_capacity out.new }
-        ensures idle { IsIdle self.new.store }
-        ensures whole { IsWhole self.new }
+        ensures sound { IsSound K.contents self.new }
     {
         let (session, told) = self.outcome(line);
         let Ok(form) = told else {
@@ -162,12 +155,10 @@ impl<K: Keeper> Engine<K> {
 
     /// The session of a line and what it is told, or want of memory.
     fn outcome(&mut self, line: &[u8]) -> (Option<u16>, Result<Form, AllocError>)
-        requires idle { IsIdle self.old.store }
-        requires whole { IsWhole self.old }
-        ensures gets { Gets (rules_of self.old) (seen_of self.old) line.now (seen_of self.new) result.0 result.1 }
+        requires sound { IsSound K.contents self.old }
+        ensures gets { Gets (rules_of self.old) (state_of self.old) line.now (state_of self.new) result.0 result.1 }
         ensures rules { rules_of self.new ≡ rules_of self.old }
-        ensures idle { IsIdle self.new.store }
-        ensures whole { IsWhole self.new }
+        ensures sound { IsSound K.contents self.new }
     {
         match read_line(self.alloc, line) {
             Ok(line) => (Some(line.session), self.obey(line)),
@@ -179,22 +170,17 @@ impl<K: Keeper> Engine<K> {
     /// What the session is told of its line; the line's effect is done, if it has one. Where memory runs
     /// out, and where what is told is not short, nothing has changed.
     fn obey(&mut self, line: Line) -> Result<Form, AllocError>
-        requires idle { IsIdle self.old.store }
-        requires whole { IsWhole self.old }
-        ensures tells { IfOk result (Tells (seen_of self.old) (seen_of self.new)) }
-        ensures stale { IfOk result (λ f. is_stale line.expected self.old.version ≡ true → f ≡ form.Refused (refusal.Stale self.old.version)) }
-        ensures kept { is_edit (command_view line.command) ≡ false → seen_of self.new ≡ seen_of self.old }
-        ensures err { OnErr result (seen_of self.new ≡ seen_of self.old) }
+        requires sound { IsSound K.contents self.old }
+        requires is_line { IsLine (line_view line) }
+        ensures meets { IfOk result (λ f. Meets (rules_of self.old) (state_of self.old) (line_view line) f (state_of self.new)) }
+        ensures err { OnErr result (state_of self.new ≡ state_of self.old) }
         ensures rules { rules_of self.new ≡ rules_of self.old }
-        ensures idle { IsIdle self.new.store }
-        ensures whole { IsWhole self.new }
+        ensures sound { IsSound K.contents self.new }
     {
-        if let Some(expected) = line.expected {
-            if expected != self.version {
-                return Ok(Form::Refused(Refusal::Stale {
-                    version: self.version,
-                }));
-            }
+        if self.is_stale(line.expected) {
+            return Ok(Form::Refused(Refusal::Stale {
+                version: self.version,
+            }));
         }
         if !self.has_marks(line.session, &line.command) {
             return Ok(Form::Refused(Refusal::Mark));
@@ -202,16 +188,24 @@ impl<K: Keeper> Engine<K> {
         self.command(line.session, line.command)
     }
 
+    /// Whether another version is expected.
+    fn is_stale(&self, expected: Option<u64>) -> bool
+        ensures { result ≡ is_stale expected self.now.version }
+    {
+        match expected {
+            Some(expected) => expected != self.version,
+            None => false,
+        }
+    }
+
     /// What the command leads to, where the marks that it uses are there.
     fn command(&mut self, session: u16, command: Command) -> Result<Form, AllocError>
-        requires idle { IsIdle self.old.store }
-        requires whole { IsWhole self.old }
-        ensures tells { IfOk result (Tells (seen_of self.old) (seen_of self.new)) }
-        ensures kept { is_edit (command_view command) ≡ false → seen_of self.new ≡ seen_of self.old }
-        ensures err { OnErr result (seen_of self.new ≡ seen_of self.old) }
+        requires sound { IsSound K.contents self.old }
+        requires is_command { IsCommand (command_view command) }
+        ensures obeys { IfOk result (λ f. Obeys (rules_of self.old) (state_of self.old) session (command_view command) f (state_of self.new)) }
+        ensures err { OnErr result (state_of self.new ≡ state_of self.old) }
         ensures rules { rules_of self.new ≡ rules_of self.old }
-        ensures idle { IsIdle self.new.store }
-        ensures whole { IsWhole self.new }
+        ensures sound { IsSound K.contents self.new }
     {
         match command {
             Command::Ask {
@@ -233,10 +227,7 @@ impl<K: Keeper> Engine<K> {
             }
             Command::Show { place } => self.show(session, &place),
             Command::Mark { name, place } => self.mark(session, name, &place),
-            Command::Unmark { name } => {
-                self.marks.forget(session, name.as_str());
-                Ok(self.done())
-            }
+            Command::Unmark { name } => Ok(self.unmark(session, name.as_str())),
             Command::Where { name } => self.whereabouts(session, name.as_str()),
             Command::Version => Ok(self.done()),
         }
@@ -253,8 +244,8 @@ impl<K: Keeper> Engine<K> {
 
     /// The term of the node, or that the place leads to none.
     fn show(&self, session: u16, place: &Place) -> Result<Form, AllocError>
-        requires idle { IsIdle self.now.store }
-        ensures tells { IfOk result (Tells (seen_of self.now) (seen_of self.now)) }
+        requires sound { IsSound K.contents self.now }
+        ensures { IfOk result (λ f. Obeys (rules_of self.now) (state_of self.now) session (Show (place_view place.now)) f (state_of self.now)) }
     {
         let Some(node) = self.node_named(session, place) else {
             return Ok(Form::Refused(Refusal::Path));
@@ -267,18 +258,16 @@ impl<K: Keeper> Engine<K> {
 
     /// A name for the node, where the session has none of that name and not too many.
     fn mark(&mut self, session: u16, name: String, place: &Place) -> Result<Form, AllocError>
-        requires idle { IsIdle self.old.store }
-        requires whole { IsWhole self.old }
-        ensures tells { IfOk result (Tells (seen_of self.old) (seen_of self.new)) }
-        ensures kept { seen_of self.new ≡ seen_of self.old }
+        requires sound { IsSound K.contents self.old }
+        ensures obeys { IfOk result (λ f. Obeys (rules_of self.old) (state_of self.old) session (MarkOf (string_bytes name) (place_view place.now)) f (state_of self.new)) }
+        ensures err { OnErr result (state_of self.new ≡ state_of self.old) }
         ensures rules { rules_of self.new ≡ rules_of self.old }
-        ensures idle { IsIdle self.new.store }
-        ensures whole { IsWhole self.new }
+        ensures sound { IsSound K.contents self.new }
     {
         let Some(node) = self.node_named(session, place) else {
             return Ok(Form::Refused(Refusal::Path));
         };
-        if self.marks.get(session, name.as_str()).is_some() {
+        if self.has_mark(session, name.as_str()) {
             return Ok(Form::Refused(Refusal::Taken));
         }
         if self.marks.is_full(session) {
@@ -288,10 +277,21 @@ impl<K: Keeper> Engine<K> {
         Ok(self.done())
     }
 
+    /// Takes the session's name from its node.
+    fn unmark(&mut self, session: u16, name: &str) -> Form
+        requires sound { IsSound K.contents self.old }
+        ensures obeys { Obeys (rules_of self.old) (state_of self.old) session (Unmark name.now) result (state_of self.new) }
+        ensures rules { rules_of self.new ≡ rules_of self.old }
+        ensures sound { IsSound K.contents self.new }
+    {
+        self.marks.forget(session, name);
+        self.done()
+    }
+
     /// The path of the marked node.
     fn whereabouts(&self, session: u16, name: &str) -> Result<Form, AllocError>
-        requires idle { IsIdle self.now.store }
-        ensures tells { IfOk result (Tells (seen_of self.now) (seen_of self.now)) }
+        requires sound { IsSound K.contents self.now }
+        ensures { IfOk result (λ f. Obeys (rules_of self.now) (state_of self.now) session (Where name.now) f (state_of self.now)) }
     {
         match self.marks.get(session, name) {
             Some(node) => Ok(Form::Shows(Shown::Node(self.path_to(node)?))),

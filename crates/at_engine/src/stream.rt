@@ -1,13 +1,12 @@
 //! The loop over lines: bytes come in pieces of any size, each line is served whole, and its reply is written before the
 //! next line is looked at.
 ghost use Rattle.std.specs.Prelude.{◌≡◌, ◌++◌, ◌∷◌, ◌≤◌, ◌<◌, ◌+◌, ◌^◌, Bool, ℕ, List, [], vec_len, vec_capacity, length};
-ghost use Rattle.at_engine.specs.Serving.{Serves};
+ghost use Rattle.at_model.specs.Machine.{ByEquations, Serves};
 ghost use Rattle.at_model.specs.Replies.{Reply, reply_text};
-ghost use Rattle.at_engine.specs.Engines.{seen_of, rules_of, IsWhole};
+ghost use Rattle.at_engine.specs.Engines.{state_of, rules_of, IsSound};
 ghost use Rattle.at_engine.specs.Loop.{kept, IsOpen};
 ghost use Rattle.at_engine.specs.Taking.{Counts, Written, TakesOrStops, Finishes};
 ghost use Rattle.at_engine.specs.Running.{Ran};
-ghost use Rattle.at_store.specs.Shown.{IsIdle};
 
 mod desk;
 
@@ -62,18 +61,16 @@ fn serve<K: Keeper, W: Write>(
     desk: &mut Desk,
     writer: &mut W,
 ) -> Result<(), RunFault>
-    requires idle { IsIdle engine.old.store }
-    requires whole { IsWhole engine.old }
+    requires sound { IsSound K.contents engine.old }
     requires line { 0 < vec_len desk.old.line }
     requires count { desk.old.lines + 1 < 2 ^ 128 }
     ensures served { (wants : Bool) × (reply : Reply)
-        × Serves (rules_of engine.old) wants (seen_of engine.old) desk.old.line.items (seen_of engine.new) reply
+        × Serves (rules_of engine.old) (ByEquations (rules_of engine.old)) wants (state_of engine.old) desk.old.line.items (state_of engine.new) reply
         × Counts desk.old desk.new (wants ∷ []) × Written result (W.contents writer.old) (W.contents writer.new) (reply_text reply) }
     ensures rules { rules_of engine.new ≡ rules_of engine.old }
     ensures line { desk.new.line.items ≡ desk.old.line.items }
     ensures grows { desk.new.lines ≤ desk.old.lines + 1 }
-    ensures idle { IsIdle engine.new.store }
-    ensures whole { IsWhole engine.new }
+    ensures sound { IsSound K.contents engine.new }
 {
     desk.reply.clear();
     match engine.serve(desk.line.as_slice(), &mut desk.reply) {
@@ -92,14 +89,12 @@ fn take_byte<K: Keeper, W: Write>(
     byte: u8,
     writer: &mut W,
 ) -> Result<(), RunFault>
-    requires idle { IsIdle engine.old.store }
-    requires whole { IsWhole engine.old }
+    requires sound { IsSound K.contents engine.old }
     requires few { desk.old.lines + 1 < 2 ^ 128 }
-    ensures taken { (front : List ℕ) → IsOpen front → desk.old.line.items ≡ kept front → TakesOrStops result (rules_of engine.old) (seen_of engine.old) front (byte ∷ []) (seen_of engine.new) desk.old desk.new (W.contents writer.old) (W.contents writer.new) }
+    ensures taken { (front : List ℕ) → IsOpen front → desk.old.line.items ≡ kept front → TakesOrStops result (rules_of engine.old) (state_of engine.old) front (byte ∷ []) (state_of engine.new) desk.old desk.new (W.contents writer.old) (W.contents writer.new) }
     ensures rules { rules_of engine.new ≡ rules_of engine.old }
     ensures grows { desk.new.lines ≤ desk.old.lines + 1 }
-    ensures idle { IsIdle engine.new.store }
-    ensures whole { IsWhole engine.new }
+    ensures sound { IsSound K.contents engine.new }
 {
     if byte != b'\n' {
         keep(&mut desk.line, byte);
@@ -117,14 +112,12 @@ fn take_piece<K: Keeper, W: Write>(
     piece: &[u8],
     writer: &mut W,
 ) -> Result<(), RunFault>
-    requires idle { IsIdle engine.old.store }
-    requires whole { IsWhole engine.old }
+    requires sound { IsSound K.contents engine.old }
     requires few { desk.old.lines + length piece.now + 1 < 2 ^ 128 }
-    ensures taken { (front : List ℕ) → IsOpen front → desk.old.line.items ≡ kept front → TakesOrStops result (rules_of engine.old) (seen_of engine.old) front piece.now (seen_of engine.new) desk.old desk.new (W.contents writer.old) (W.contents writer.new) }
+    ensures taken { (front : List ℕ) → IsOpen front → desk.old.line.items ≡ kept front → TakesOrStops result (rules_of engine.old) (state_of engine.old) front piece.now (state_of engine.new) desk.old desk.new (W.contents writer.old) (W.contents writer.new) }
     ensures rules { rules_of engine.new ≡ rules_of engine.old }
     ensures grows { desk.new.lines ≤ desk.old.lines + length piece.now }
-    ensures idle { IsIdle engine.new.store }
-    ensures whole { IsWhole engine.new }
+    ensures sound { IsSound K.contents engine.new }
 {
     for byte in piece {
         take_byte(engine, desk, *byte, writer)?;
@@ -138,13 +131,11 @@ fn finish<K: Keeper, W: Write>(
     desk: &mut Desk,
     writer: &mut W,
 ) -> Result<(), RunFault>
-    requires idle { IsIdle engine.old.store }
-    requires whole { IsWhole engine.old }
+    requires sound { IsSound K.contents engine.old }
     requires few { desk.old.lines + 1 < 2 ^ 128 }
-    ensures finished { (front : List ℕ) → desk.old.line.items ≡ kept front → Finishes result (rules_of engine.old) (seen_of engine.old) front (seen_of engine.new) desk.old desk.new (W.contents writer.old) (W.contents writer.new) }
+    ensures finished { (front : List ℕ) → desk.old.line.items ≡ kept front → Finishes result (rules_of engine.old) (state_of engine.old) front (state_of engine.new) desk.old desk.new (W.contents writer.old) (W.contents writer.new) }
     ensures rules { rules_of engine.new ≡ rules_of engine.old }
-    ensures idle { IsIdle engine.new.store }
-    ensures whole { IsWhole engine.new }
+    ensures sound { IsSound K.contents engine.new }
 {
     if desk.line.is_empty() {
         return Ok(());
@@ -164,12 +155,10 @@ pub fn run<K: Keeper, R: Read, W: Write>(
     reader: &mut R,
     writer: &mut W,
 ) -> Result<Report, RunFault>
-    requires idle { IsIdle engine.old.store }
-    requires whole { IsWhole engine.old }
-    ensures ran { Ran result (rules_of engine.old) (seen_of engine.old) (seen_of engine.new) (R.remaining reader.old) (R.remaining reader.new) (W.contents writer.old) (W.contents writer.new) }
+    requires sound { IsSound K.contents engine.old }
+    ensures ran { Ran result (rules_of engine.old) (state_of engine.old) (state_of engine.new) (R.remaining reader.old) (R.remaining reader.new) (W.contents writer.old) (W.contents writer.new) }
     ensures rules { rules_of engine.new ≡ rules_of engine.old }
-    ensures idle { IsIdle engine.new.store }
-    ensures whole { IsWhole engine.new }
+    ensures sound { IsSound K.contents engine.new }
 {
     let version = engine.version();
     let Ok(mut desk) = Desk::new(engine.alloc) else {

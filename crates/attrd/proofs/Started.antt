@@ -1,14 +1,12 @@
 -- Each stage's refusal is the first fault of the files.
-use Rattle.std.proofs.Common.{◌≡◌, ◌∙◌, ap, ℕ, ◌+◌, length, Some, None}
+use Rattle.std.proofs.Common.{ℕ, ◌+◌, length, Some, None}
 use Rattle.at_model.specs.Classes.{Classes}
 use Rattle.at_model.specs.Rules.{Rules}
-use Rattle.at_model.specs.Trees.{Tree}
-use Rattle.at_engine.specs.Serving.{Seen}
 use Rattle.attrd.specs.AspectFiles.{GivesRules, IsAspectFault}
 use Rattle.attrd.specs.GrammarFiles.{GivesClasses, IsGrammarFault}
 use Rattle.attrd.specs.TreeFiles.{IsTreeFault}
 use Rattle.attrd.specs.StartFaults.{of_file}
-use Rattle.attrd.specs.Starts.{aspect_bytes, opening, IsStartFault, by_grammar, by_aspects, by_tree}
+use Rattle.attrd.specs.Starts.{aspect_bytes, IsStartFault, by_grammar, by_aspects, by_tree}
 use Rattle.attrd.specs.declared.start.files.Files.{Files}
 use Rattle.attrd.specs.declared.start.fault.FileFault.{FileFault}
 use Rattle.attrd.specs.declared.start.fault.FileFault.TheVariants as file
@@ -30,10 +28,3 @@ pub tree_refuses : (files : Files) (classes : Classes) (rules : Rules) (f : File
 tree_refuses files classes rules (file.Refused c None) g r h = by_tree classes rules c g r h
 tree_refuses files classes rules (file.Refused c (Some at)) g r h = absurd h
 tree_refuses files classes rules file.Memory g r h = tt
-
--- a tree at version 0 is what is seen at the start
-pub opened : (s : Seen) (t : Tree) → s.tree ≡ t → s.version ≡ 0 → s ≡ opening t
-opened s t a b =
-    let with_tree : Tree → Seen = λ x. record { tree = x; version = s.version } in
-    let with_version : ℕ → Seen = λ v. record { tree = t; version = v } in
-    ap with_tree a ∙ ap with_version b

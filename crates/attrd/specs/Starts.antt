@@ -1,11 +1,12 @@
 -- What files make: an engine, or the first fault in the order grammar, aspects, tree.
-use Rattle.std.specs.Prelude.{◌≡◌, ℕ, ◌+◌, List, length, map, Option, Some, None}
+use Rattle.std.specs.Prelude.{◌≡◌, ℕ, ◌+◌, List, [], length, map, Option, Some, None}
 use Rattle.at_model.specs.Classes.{Classes}
 use Rattle.at_model.specs.Trees.{Tree}
 use Rattle.at_model.specs.Rules.{Rules}
-use Rattle.at_store.specs.Shown.{IsIdle}
-use Rattle.at_engine.specs.Engines.{IsWhole}
-use Rattle.at_engine.specs.Serving.{Seen}
+use Rattle.at_model.specs.Machine.{State}
+use Rattle.at_cache.specs.Recorded.{kept_in}
+use Rattle.at_cache.specs.declared.keep_recorded.KeepRecorded.{KeepRecorded}
+use Rattle.at_engine.specs.Engines.{IsSound}
 use Rattle.at_engine.specs.declared.engine.Engine.{Engine}
 use Rattle.attrd.specs.AspectFiles.{GivesRules, RefusesAspects}
 use Rattle.attrd.specs.GrammarFiles.{GivesClasses, RefusesGrammar}
@@ -20,22 +21,22 @@ use Rattle.attrd.specs.declared.start.fault.StartFault.TheVariants.{Refused, Mem
 abbrev pub aspect_bytes : List Source → List (List ℕ)
 aspect_bytes = map (λ s. s.bytes.items)
 
--- what is seen at the start: that tree, at version 0
-abbrev pub opening : Tree → Seen
-opening t = record { tree = t; version = 0 }
+-- the state at the start: that tree, at version 0 and with no marks
+abbrev pub opening : Tree → State
+opening t = record { tree = t; version = 0; marks = [] }
 
--- the engine can serve lines: no edit waits, and its tree conforms to the start class
-abbrev pub IsReady : {K : Type 0} → Engine K → Type 0
-IsReady e = IsIdle e.store × IsWhole e
+-- the engine can serve lines: it is sound, and what it keeps is right
+abbrev pub IsReady : Engine KeepRecorded → Type 0
+IsReady e = IsSound (λ k. kept_in k.entries.entries) e
 
--- the files give these rules, and this is seen of the engine that they make
-pub record Starts (files : Files) (rules : Rules) (seen : Seen) : Type 0 where
+-- the files give these rules, and the engine that they make is in this state
+pub record Starts (files : Files) (rules : Rules) (state : State) : Type 0 where
   pub classes : Classes
   pub grammar : GivesClasses files.grammar.bytes.items classes
   pub aspects : GivesRules classes (aspect_bytes files.aspects.items) rules
   pub opened : Tree
   pub tree : GivesTree classes files.tree.bytes.items opened
-  pub seen_is : seen ≡ opening opened
+  pub state_is : state ≡ opening opened
 
 -- The file of that number is the first that is refused, by the code and at the place; a tree file's fault has none.
 pub data Refuses (files : Files) : (file : ℕ) → Code → Option (ℕ × ℕ) → Type 0 where

@@ -1,7 +1,7 @@
 //! The files of a server, and the engine that they make.
 
 ghost use Rattle.std.specs.Prelude.{IfOk, IfErr};
-ghost use Rattle.at_engine.specs.Engines.{rules_of, seen_of};
+ghost use Rattle.at_engine.specs.Engines.{rules_of, state_of};
 ghost use Rattle.attrd.specs.Starts.{Starts, IsReady, IsStartFault};
 
 mod aspects;
@@ -28,7 +28,7 @@ use tree::{refused, tree_of};
 ///
 /// `Refused` for the first file that is refused, `Memory` for want of memory.
 pub fn start(alloc: Global, files: &Files) -> Result<Engine<KeepRecorded>, StartFault>
-    ensures started { IfOk result (λ e. Starts files.now (rules_of e) (seen_of e)) }
+    ensures started { IfOk result (λ e. Starts files.now (rules_of e) (state_of e)) }
     ensures ready { IfOk result IsReady }
     ensures refused { IfErr result (IsStartFault files.now) }
 {

@@ -10,7 +10,14 @@ use at_rules::{AttrId, Kind};
 use at_store::Node;
 use std::alloc::AllocError;
 
-fn is_text(value: &Value) -> bool {
+ghost use Rattle.std.specs.Prelude.{◌≡◌};
+ghost use Rattle.at_engine.specs.Fitting.{is_text};
+ghost use Rattle.at_body.specs.Values.{value_view};
+
+/// Whether the value is a text.
+fn is_text(value: &Value) -> bool
+    ensures { result ≡ is_text (value_view value.now) }
+{
     match value {
         Value::Text(_) => true,
         Value::Int(_) | Value::Bool(_) | Value::Ref(_) => false,
@@ -18,10 +25,22 @@ fn is_text(value: &Value) -> bool {
 }
 
 impl<K: Keeper> Engine<K> {
-    ghost use Rattle.std.specs.Prelude.{◌≡◌, ◌<◌, length, IfOk};
-    ghost use Rattle.at_engine.specs.Engines.{rules_of, seen_of, IsWhole};
-    ghost use Rattle.at_store.specs.Shown.{IsIdle};
-    ghost use Rattle.at_engine.specs.Telling.{Tells};
+    ghost use Rattle.std.specs.Prelude.{◌≡◌, map, option_map, IfOk};
+    ghost use Rattle.at_model.specs.Paths.{Node as NodeOf};
+    ghost use Rattle.at_model.specs.Run.{Instance};
+    ghost use Rattle.at_model.specs.Meaning.{Answer as AnswerOf};
+    ghost use Rattle.at_model.specs.Alike.{InstanceLike, Names};
+    ghost use Rattle.at_model.specs.Lines.{Ask, IsName};
+    ghost use Rattle.at_model.specs.Machine.{ByEquations, each, parameters_of, value_named};
+    ghost use Rattle.at_protocol.specs.LineView.{argument_view, arguments_view, place_view};
+    ghost use Rattle.at_rules.specs.Bodies.{kind_view};
+    ghost use Rattle.at_store.specs.Shown.{contents, path as path_shown};
+    ghost use Rattle.at_body.specs.Values.{value_view};
+    ghost use Rattle.at_demand.specs.Right.{IsThere};
+    ghost use Rattle.at_engine.specs.Engines.{rules_of, state_of, IsSound};
+    ghost use Rattle.at_engine.specs.Answered.{question, AreValuesOf, IsValueOf};
+    ghost use Rattle.at_engine.specs.Fitting.{fits_number, fit_numbers, is_of_class};
+    ghost use Rattle.at_engine.specs.Telling.{IsToldAs, Obeys};
 
     /// What the attribute of the node is, or why there is no answer.
     pub(super) fn ask(
@@ -31,13 +50,12 @@ impl<K: Keeper> Engine<K> {
         attribute: &str,
         arguments: &[Argument],
     ) -> Result<Form, AllocError>
-        requires idle { IsIdle self.old.store }
-        requires whole { IsWhole self.old }
-        ensures tells { IfOk result (Tells (seen_of self.old) (seen_of self.new)) }
-        ensures kept { seen_of self.new ≡ seen_of self.old }
+        requires sound { IsSound K.contents self.old }
+        requires named { IsName attribute.now }
+        ensures obeys { IfOk result (λ f. Obeys (rules_of self.old) (state_of self.old) session (Ask (place_view place.now) attribute.now (arguments_view arguments.now)) f (state_of self.new)) }
+        ensures kept { state_of self.new ≡ state_of self.old }
         ensures rules { rules_of self.new ≡ rules_of self.old }
-        ensures idle { IsIdle self.new.store }
-        ensures whole { IsWhole self.new }
+        ensures sound { IsSound K.contents self.new }
     {
         let Some(node) = self.node_named(session, place) else {
             return Ok(Form::Refused(Refusal::Path));
@@ -61,13 +79,13 @@ impl<K: Keeper> Engine<K> {
         attribute: AttrId,
         values: Arguments,
     ) -> Result<Form, AllocError>
-        requires idle { IsIdle self.old.store }
-        requires whole { IsWhole self.old }
-        ensures tells { IfOk result (Tells (seen_of self.old) (seen_of self.new)) }
-        ensures kept { seen_of self.new ≡ seen_of self.old }
+        requires sound { IsSound K.contents self.old }
+        requires there { IsThere self.old.store (question node attribute values.items) }
+        ensures answered { (q : Instance NodeOf) → InstanceLike (Names (path_shown self.old.store)) (question node attribute values.items) q
+            → IfOk result (λ f. (a : AnswerOf NodeOf) × ByEquations (rules_of self.old) (state_of self.old).tree q a × IsToldAs (rules_of self.old) (state_of self.old).tree a f) }
+        ensures kept { state_of self.new ≡ state_of self.old }
         ensures rules { rules_of self.new ≡ rules_of self.old }
-        ensures idle { IsIdle self.new.store }
-        ensures whole { IsWhole self.new }
+        ensures sound { IsSound K.contents self.new }
     {
         let inst = Inst::new(node, attribute, values);
         let answer = self.demand.answer(&self.rules, &self.store, &inst)?;
@@ -80,21 +98,25 @@ impl<K: Keeper> Engine<K> {
         session: u16,
         arguments: &[Argument],
     ) -> Result<Option<Arguments>, AllocError>
-        requires idle { IsIdle self.now.store }
+        requires sound { IsSound K.contents self.now }
+        ensures { IfOk result (λ o. AreValuesOf (path_shown self.now.store) (each (map (value_named (rules_of self.now).classes (state_of self.now) session) (arguments_view arguments.now))) (option_map (λ vs. vs.items) o)) }
     {
         let mut values = Arguments::new(self.alloc);
-        for argument in arguments {
-            match self.value_named(session, argument)? {
-                Some(value) => values.push(value)?,
-                None => return Ok(None),
-            }
+        let mut rest = arguments;
+        while let Some((argument, others)) = rest.split_first() {
+            let Some(value) = self.value_named(session, argument)? else {
+                return Ok(None);
+            };
+            values.push(value)?;
+            rest = others;
         }
         Ok(Some(values))
     }
 
     /// The value that the argument names; none where its place leads to no node.
     fn value_named(&self, session: u16, argument: &Argument) -> Result<Option<Value>, AllocError>
-        requires idle { IsIdle self.now.store }
+        requires sound { IsSound K.contents self.now }
+        ensures { IfOk result (IsValueOf (path_shown self.now.store) (value_named (rules_of self.now).classes (state_of self.now) session (argument_view argument.now))) }
     {
         match argument {
             Argument::Text(text) => {
@@ -111,24 +133,28 @@ impl<K: Keeper> Engine<K> {
 
     /// Whether there are as many values as parameters, each of its parameter's kind.
     fn fit_parameters(&self, attribute: AttrId, values: &[Value]) -> bool
-        requires idle { IsIdle self.now.store }
-        requires declared { attribute < length self.now.rules.attributes }
+        requires sound { IsSound K.contents self.now }
+        ensures { result ≡ fit_numbers (rules_of self.now).classes (contents self.now.store) (parameters_of (rules_of self.now) attribute) (map value_view values.now) }
     {
-        let params = self.rules.params(attribute);
-        if params.len() != values.len() {
-            return false;
-        }
-        for (kind, value) in params.iter().zip(values) {
+        let mut kinds = self.rules.params(attribute);
+        let mut rest = values;
+        while let Some((kind, other_kinds)) = kinds.split_first() {
+            let Some((value, others)) = rest.split_first() else {
+                return false;
+            };
             if !self.fits_parameter(*kind, value) {
                 return false;
             }
+            kinds = other_kinds;
+            rest = others;
         }
-        true
+        rest.is_empty()
     }
 
     /// Null and the nodes of the class or below it fit a class, texts fit a text.
     fn fits_parameter(&self, kind: Kind, value: &Value) -> bool
-        requires idle { IsIdle self.now.store }
+        requires sound { IsSound K.contents self.now }
+        ensures { result ≡ fits_number (rules_of self.now).classes (contents self.now.store) (kind_view kind) (value_view value.now) }
     {
         match kind {
             Kind::Text => is_text(value),
@@ -139,7 +165,8 @@ impl<K: Keeper> Engine<K> {
 
     /// Whether the value is null or a node of the class or one below it.
     fn is_of_class(&self, class: ClassId, value: &Value) -> bool
-        requires idle { IsIdle self.now.store }
+        requires sound { IsSound K.contents self.now }
+        ensures { result ≡ is_of_class (rules_of self.now).classes (contents self.now.store) class (value_view value.now) }
     {
         match value {
             Value::Ref(None) => true,

@@ -1,25 +1,33 @@
 //! Edits: the trees and tokens that lines bring, and what becomes of marks and of what is kept.
 
-ghost use Rattle.std.specs.Prelude.{◌≡◌, IfOk, IfErr, OnErr, is_some, true};
-ghost use Rattle.at_store.specs.Shown.{IsIdle, path as path_shown};
-ghost use Rattle.at_store.specs.Refusing.{node_of};
-ghost use Rattle.at_engine.specs.Serving.{Seen};
-ghost use Rattle.at_engine.specs.Engines.{rules_of, seen_of, IsWhole};
-ghost use Rattle.at_engine.specs.Telling.{IsObstacle, Tells};
-ghost use Rattle.at_engine.specs.declared.engine.editing.Obstacle.TheVariants as obstacle;
+ghost use Rattle.std.specs.Prelude.{◌≡◌, IfOk, OnErr, Some, is_some, true};
+ghost use Rattle.at_model.specs.Edits.{class_asked, list_class, optional_class, token_kind};
+ghost use Rattle.at_model.specs.Lines.{Drop, Insert, Put, Set, Token};
+ghost use Rattle.at_model.specs.Machine.{changed};
+ghost use Rattle.at_model.specs.Paths.{Node as NodeOf};
+ghost use Rattle.at_model.specs.Classes.{class_in};
+ghost use Rattle.at_class.specs.View.{shape_view};
+ghost use Rattle.at_tree.specs.Token.{token_view};
+ghost use Rattle.at_tree.specs.View.{term_view};
+ghost use Rattle.at_protocol.specs.LineView.{place_view};
+ghost use Rattle.at_store.specs.Refusing.{edit_at, node_of};
+ghost use Rattle.at_store.specs.Shown.{path as path_shown};
+ghost use Rattle.at_engine.specs.Engines.{rules_of, state_of, IsSound};
+ghost use Rattle.at_engine.specs.Following.{Follows};
+ghost use Rattle.at_engine.specs.Telling.{IsComponentOf, IsToldFor, IsToldOf, IsTreeFor, Obeys};
 
 use super::Engine;
 use at_cache::Keeper;
 use at_class::{ClassId, PartShape};
 use at_protocol::line::Place;
 use at_protocol::reply::{Form, Refusal};
-use at_store::{Edit, Loc, Node, Refusal as EditRefusal};
+use at_store::{Edit, Node, Refusal as EditRefusal};
 use at_tree::term::Term;
 use at_tree::token::TokVal;
 use at_tree::tree::{ShapeFault, Tree, shape};
 use std::alloc::AllocError;
 
-/// Why an edit isn't done.
+/// Why there is no tree for a term.
 #[derive(Drop)]
 enum Obstacle {
     Refused(Refusal),
@@ -28,8 +36,7 @@ enum Obstacle {
 
 /// What is told of an obstacle.
 fn told(obstacle: Obstacle) -> Result<Form, AllocError>
-    requires { IsObstacle obstacle }
-    ensures { IfOk result (λ f. (s : Seen) → Tells s s f) }
+    ensures { IfOk result (IsToldOf obstacle) }
 {
     match obstacle {
         Obstacle::Refused(refusal) => Ok(Form::Refused(refusal)),
@@ -37,30 +44,25 @@ fn told(obstacle: Obstacle) -> Result<Form, AllocError>
     }
 }
 
-fn refused(refusal: Refusal) -> Result<Form, AllocError>
-    requires { IsObstacle (obstacle.Refused refusal) }
-    ensures { IfOk result (λ f. (s : Seen) → Tells s s f) }
-{
-    Ok(Form::Refused(refusal))
-}
-
-/// The code for an edit that the store refuses.
-fn obstacle_of(refusal: EditRefusal) -> Obstacle
-    ensures { IsObstacle result }
+/// What is told of an edit that the store refuses.
+fn refused(refusal: EditRefusal) -> Result<Form, AllocError>
+    ensures { IfOk result (IsToldFor refusal) }
 {
     match refusal {
-        EditRefusal::Component => Obstacle::Refused(Refusal::Component),
-        EditRefusal::Fit => Obstacle::Refused(Refusal::Fit),
-        EditRefusal::Index => Obstacle::Refused(Refusal::Index),
-        EditRefusal::Taken => Obstacle::Refused(Refusal::Taken),
-        EditRefusal::Fixed => Obstacle::Refused(Refusal::Fixed),
-        EditRefusal::Limit => Obstacle::Refused(Refusal::Limit),
-        EditRefusal::Memory => Obstacle::Memory,
+        EditRefusal::Component => Ok(Form::Refused(Refusal::Component)),
+        EditRefusal::Fit => Ok(Form::Refused(Refusal::Fit)),
+        EditRefusal::Index => Ok(Form::Refused(Refusal::Index)),
+        EditRefusal::Taken => Ok(Form::Refused(Refusal::Taken)),
+        EditRefusal::Fixed => Ok(Form::Refused(Refusal::Fixed)),
+        EditRefusal::Limit => Ok(Form::Refused(Refusal::Limit)),
+        EditRefusal::Memory => Err(AllocError),
     }
 }
 
 /// The class of an optional.
-fn optional_class(shape: PartShape) -> Option<ClassId> {
+fn optional_class(shape: PartShape) -> Option<ClassId>
+    ensures { result ≡ optional_class (shape_view shape) }
+{
     match shape {
         PartShape::Maybe(class) => Some(class),
         PartShape::One(_) | PartShape::Many(_) | PartShape::Tok(_) => None,
@@ -68,10 +70,34 @@ fn optional_class(shape: PartShape) -> Option<ClassId> {
 }
 
 /// The class of a list's elements.
-fn list_class(shape: PartShape) -> Option<ClassId> {
+fn list_class(shape: PartShape) -> Option<ClassId>
+    ensures { result ≡ list_class (shape_view shape) }
+{
     match shape {
         PartShape::Many(class) => Some(class),
         PartShape::One(_) | PartShape::Maybe(_) | PartShape::Tok(_) => None,
+    }
+}
+
+/// The class of the trees in a component.
+fn class_in(shape: PartShape) -> Option<ClassId>
+    ensures { result ≡ class_in (shape_view shape) }
+{
+    match shape {
+        PartShape::One(class) => Some(class),
+        PartShape::Many(class) => Some(class),
+        PartShape::Maybe(class) => Some(class),
+        PartShape::Tok(_) => None,
+    }
+}
+
+/// Whether it is a token.
+fn is_token(shape: PartShape) -> bool
+    ensures { result ≡ is_some (token_kind (shape_view shape)) }
+{
+    match shape {
+        PartShape::Tok(_) => true,
+        PartShape::One(_) | PartShape::Many(_) | PartShape::Maybe(_) => false,
     }
 }
 
@@ -83,18 +109,19 @@ impl<K: Keeper> Engine<K> {
         place: &Place,
         term: &Term,
     ) -> Result<Form, AllocError>
-        requires idle { IsIdle self.old.store }
-        requires whole { IsWhole self.old }
-        ensures tells { IfOk result (Tells (seen_of self.old) (seen_of self.new)) }
-        ensures err { OnErr result (seen_of self.new ≡ seen_of self.old) }
+        requires sound { IsSound K.contents self.old }
+        ensures obeys { IfOk result (λ f. Obeys (rules_of self.old) (state_of self.old) session (Set (place_view place.now) (term_view term.now)) f (state_of self.new)) }
+        ensures err { OnErr result (state_of self.new ≡ state_of self.old) }
         ensures rules { rules_of self.new ≡ rules_of self.old }
-        ensures idle { IsIdle self.new.store }
-        ensures whole { IsWhole self.new }
+        ensures sound { IsSound K.contents self.new }
     {
         let Some(node) = self.node_named(session, place) else {
-            return refused(Refusal::Path);
+            return Ok(Form::Refused(Refusal::Path));
         };
-        match self.tree_for(term, self.class_asked(node)) {
+        let Some(class) = self.class_asked(node) else {
+            return Ok(Form::Refused(Refusal::Fit));
+        };
+        match self.tree_for(term, class) {
             Ok(tree) => self.edit(Edit::Set { node, tree }),
             Err(obstacle) => told(obstacle),
         }
@@ -108,24 +135,23 @@ impl<K: Keeper> Engine<K> {
         part: &str,
         term: &Term,
     ) -> Result<Form, AllocError>
-        requires idle { IsIdle self.old.store }
-        requires whole { IsWhole self.old }
-        ensures tells { IfOk result (Tells (seen_of self.old) (seen_of self.new)) }
-        ensures err { OnErr result (seen_of self.new ≡ seen_of self.old) }
+        requires sound { IsSound K.contents self.old }
+        ensures obeys { IfOk result (λ f. Obeys (rules_of self.old) (state_of self.old) session (Put (place_view place.now) part.now (term_view term.now)) f (state_of self.new)) }
+        ensures err { OnErr result (state_of self.new ≡ state_of self.old) }
         ensures rules { rules_of self.new ≡ rules_of self.old }
-        ensures idle { IsIdle self.new.store }
-        ensures whole { IsWhole self.new }
+        ensures sound { IsSound K.contents self.new }
     {
         let Some(node) = self.node_named(session, place) else {
-            return refused(Refusal::Path);
+            return Ok(Form::Refused(Refusal::Path));
         };
-        let Some((part, shape)) = self.component(node, part) else {
-            return refused(Refusal::Component);
+        let Some(found) = self.component(node, part) else {
+            return Ok(Form::Refused(Refusal::Component));
         };
-        let Some(class) = optional_class(shape) else {
-            return refused(Refusal::Component);
+        let Some(class) = optional_class(found.1) else {
+            return Ok(Form::Refused(Refusal::Component));
         };
-        match self.tree_for(term, Some(class)) {
+        let part = found.0;
+        match self.tree_for(term, class) {
             Ok(tree) => self.edit(Edit::Put { node, part, tree }),
             Err(obstacle) => told(obstacle),
         }
@@ -133,17 +159,15 @@ impl<K: Keeper> Engine<K> {
 
     /// Takes the element out of its list, or empties the optional.
     pub(super) fn drop_node(&mut self, session: u16, place: &Place) -> Result<Form, AllocError>
-        requires idle { IsIdle self.old.store }
-        requires whole { IsWhole self.old }
-        ensures tells { IfOk result (Tells (seen_of self.old) (seen_of self.new)) }
-        ensures err { OnErr result (seen_of self.new ≡ seen_of self.old) }
+        requires sound { IsSound K.contents self.old }
+        ensures obeys { IfOk result (λ f. Obeys (rules_of self.old) (state_of self.old) session (Drop (place_view place.now)) f (state_of self.new)) }
+        ensures err { OnErr result (state_of self.new ≡ state_of self.old) }
         ensures rules { rules_of self.new ≡ rules_of self.old }
-        ensures idle { IsIdle self.new.store }
-        ensures whole { IsWhole self.new }
+        ensures sound { IsSound K.contents self.new }
     {
         match self.node_named(session, place) {
             Some(node) => self.edit(Edit::Drop { node }),
-            None => refused(Refusal::Path),
+            None => Ok(Form::Refused(Refusal::Path)),
         }
     }
 
@@ -156,25 +180,24 @@ impl<K: Keeper> Engine<K> {
         index: u32,
         term: &Term,
     ) -> Result<Form, AllocError>
-        requires idle { IsIdle self.old.store }
-        requires whole { IsWhole self.old }
-        ensures tells { IfOk result (Tells (seen_of self.old) (seen_of self.new)) }
-        ensures err { OnErr result (seen_of self.new ≡ seen_of self.old) }
+        requires sound { IsSound K.contents self.old }
+        ensures obeys { IfOk result (λ f. Obeys (rules_of self.old) (state_of self.old) session (Insert (place_view place.now) part.now index (term_view term.now)) f (state_of self.new)) }
+        ensures err { OnErr result (state_of self.new ≡ state_of self.old) }
         ensures rules { rules_of self.new ≡ rules_of self.old }
-        ensures idle { IsIdle self.new.store }
-        ensures whole { IsWhole self.new }
+        ensures sound { IsSound K.contents self.new }
     {
         let Some(node) = self.node_named(session, place) else {
-            return refused(Refusal::Path);
+            return Ok(Form::Refused(Refusal::Path));
         };
-        let Some((part, shape)) = self.component(node, part) else {
-            return refused(Refusal::Component);
+        let Some(found) = self.component(node, part) else {
+            return Ok(Form::Refused(Refusal::Component));
         };
-        let Some(class) = list_class(shape) else {
-            return refused(Refusal::Component);
+        let Some(class) = list_class(found.1) else {
+            return Ok(Form::Refused(Refusal::Component));
         };
+        let part = found.0;
         let index = index as usize;
-        match self.tree_for(term, Some(class)) {
+        match self.tree_for(term, class) {
             Ok(tree) => self.edit(Edit::Insert {
                 node,
                 part,
@@ -193,27 +216,29 @@ impl<K: Keeper> Engine<K> {
         part: &str,
         value: TokVal,
     ) -> Result<Form, AllocError>
-        requires idle { IsIdle self.old.store }
-        requires whole { IsWhole self.old }
-        ensures tells { IfOk result (Tells (seen_of self.old) (seen_of self.new)) }
-        ensures err { OnErr result (seen_of self.new ≡ seen_of self.old) }
+        requires sound { IsSound K.contents self.old }
+        ensures obeys { IfOk result (λ f. Obeys (rules_of self.old) (state_of self.old) session (Token (place_view place.now) part.now (token_view value)) f (state_of self.new)) }
+        ensures err { OnErr result (state_of self.new ≡ state_of self.old) }
         ensures rules { rules_of self.new ≡ rules_of self.old }
-        ensures idle { IsIdle self.new.store }
-        ensures whole { IsWhole self.new }
+        ensures sound { IsSound K.contents self.new }
     {
         let Some(node) = self.node_named(session, place) else {
-            return refused(Refusal::Path);
+            return Ok(Form::Refused(Refusal::Path));
         };
-        let Some((part, PartShape::Tok(_))) = self.component(node, part) else {
-            return refused(Refusal::Component);
+        let Some(found) = self.component(node, part) else {
+            return Ok(Form::Refused(Refusal::Component));
         };
+        if !is_token(found.1) {
+            return Ok(Form::Refused(Refusal::Component));
+        }
+        let part = found.0;
         self.edit(Edit::Token { node, part, value })
     }
 
     /// The position and the shape of the node's component of that name.
     fn component(&self, node: Node, name: &str) -> Option<(usize, PartShape)>
-        requires idle { IsIdle self.now.store }
-        requires whole { IsWhole self.now }
+        requires sound { IsSound K.contents self.now }
+        ensures { (n : NodeOf) → path_shown self.now.store node ≡ Some n → IsComponentOf (rules_of self.now).classes (state_of self.now).tree n name.now result }
     {
         let class = self.store.class(node);
         let part = self.rules.classes().part_named(class, name)?;
@@ -223,26 +248,22 @@ impl<K: Keeper> Engine<K> {
 
     /// The class that is asked where the node stands.
     fn class_asked(&self, node: Node) -> Option<ClassId>
-        requires idle { IsIdle self.now.store }
-        requires whole { IsWhole self.now }
+        requires sound { IsSound K.contents self.now }
+        ensures { (n : NodeOf) → path_shown self.now.store node ≡ Some n → (result ≡ class_asked (rules_of self.now).classes (state_of self.now).tree n) × (is_some result ≡ true) }
     {
         let classes = self.rules.classes();
-        let Some((parent, part)) = self.store.up(node) else {
+        let Some(place) = self.store.up(node) else {
             return Some(classes.start());
         };
-        match classes.parts(self.store.class(parent)).get(part)?.shape {
-            PartShape::One(class) | PartShape::Many(class) | PartShape::Maybe(class) => Some(class),
-            PartShape::Tok(_) => None,
-        }
+        let part = classes.parts(self.store.class(place.0)).get(place.1)?;
+        class_in(part.shape)
     }
 
-    /// The tree that the term writes, of the class that is asked or one below it.
-    fn tree_for(&self, term: &Term, asked: Option<ClassId>) -> Result<Tree, Obstacle>
-        ensures { IfErr result IsObstacle }
+    /// The tree that the term writes, of the class or one below it.
+    fn tree_for(&self, term: &Term, class: ClassId) -> Result<Tree, Obstacle>
+        requires sound { IsSound K.contents self.now }
+        ensures { IsTreeFor (rules_of self.now).classes (term_view term.now) class result }
     {
-        let Some(class) = asked else {
-            return Err(Obstacle::Refused(Refusal::Fit));
-        };
         match shape(self.alloc, self.rules.classes(), term, class) {
             Ok(tree) => Ok(tree),
             Err(ShapeFault::Class) => Err(Obstacle::Refused(Refusal::Class)),
@@ -254,14 +275,13 @@ impl<K: Keeper> Engine<K> {
     /// Does the edit, unless it is refused: there is no version after the last. What it touches is no longer
     /// kept then, and the marks of nodes that go are gone.
     fn edit(&mut self, edit: Edit) -> Result<Form, AllocError>
-        requires idle { IsIdle self.old.store }
-        requires whole { IsWhole self.old }
+        requires sound { IsSound K.contents self.old }
         requires there { is_some (path_shown self.old.store (node_of edit)) ≡ true }
-        ensures tells { IfOk result (Tells (seen_of self.old) (seen_of self.new)) }
-        ensures err { OnErr result (seen_of self.new ≡ seen_of self.old) }
+        ensures follows { (n : NodeOf) → path_shown self.old.store (node_of edit) ≡ Some n
+            → IfOk result (λ f. Follows (rules_of self.old) (state_of self.old) (changed (rules_of self.old).classes (state_of self.old) (edit_at n edit)) f (state_of self.new)) }
+        ensures err { OnErr result (state_of self.new ≡ state_of self.old) }
         ensures rules { rules_of self.new ≡ rules_of self.old }
-        ensures idle { IsIdle self.new.store }
-        ensures whole { IsWhole self.new }
+        ensures sound { IsSound K.contents self.new }
     {
         let Engine {
             alloc,
@@ -273,15 +293,15 @@ impl<K: Keeper> Engine<K> {
         } = self;
         let ready = match store.check(*alloc, rules.classes(), edit) {
             Ok(ready) => ready,
-            Err(refusal) => return told(obstacle_of(refusal)),
+            Err(refusal) => return refused(refusal),
         };
         if *version == u64::MAX {
             store.cancel(ready);
-            return refused(Refusal::Limit);
+            return Ok(Form::Refused(Refusal::Limit));
         }
         demand.after_edit(&|loc| store.touches(&ready, loc));
-        marks.forget_gone(&|node| store.touches(&ready, Loc::Is(node)));
         store.commit(ready);
+        marks.keep_live(store);
         *version += 1;
         Ok(Form::Ok { version: *version })
     }

@@ -5,11 +5,21 @@ use at_body::{FaultKind, Inst, Value};
 use at_cache::Keeper;
 use at_demand::Answer;
 use at_protocol::reply::{FaultWord, Form, Shown};
+use at_store::Node;
 use at_tree::token::TokVal;
 use std::alloc::AllocError;
 
+ghost use Rattle.std.specs.Prelude.{◌≡◌};
+ghost use Rattle.at_model.specs.Bodies.{int_of};
+ghost use Rattle.at_model.specs.Trees.{Int as Number};
+ghost use Rattle.at_tree.specs.Token.{token_view};
+ghost use Rattle.at_body.specs.Values.{fault_view, value_view};
+ghost use Rattle.at_protocol.specs.ReplyView.{fault_view as word_view};
+
 /// The word for a fault.
-fn fault_word(kind: FaultKind) -> FaultWord {
+fn fault_word(kind: FaultKind) -> FaultWord
+    ensures { word_view result ≡ fault_view kind }
+{
     match kind {
         FaultKind::Null => FaultWord::Null,
         FaultKind::Index => FaultWord::Index,
@@ -20,16 +30,34 @@ fn fault_word(kind: FaultKind) -> FaultWord {
     }
 }
 
+/// The int as a token; 0 for a value of another kind.
+fn number_of(value: &Value) -> TokVal
+    ensures { token_view result ≡ Number (int_of (value_view value.now)) }
+{
+    match value {
+        Value::Int(number) => TokVal::Int(*number),
+        _ => TokVal::Int(0),
+    }
+}
+
 impl<K: Keeper> Engine<K> {
-    ghost use Rattle.std.specs.Prelude.{◌≡◌, IfOk};
-    ghost use Rattle.at_engine.specs.Engines.{seen_of};
-    ghost use Rattle.at_store.specs.Shown.{IsIdle};
-    ghost use Rattle.at_engine.specs.Telling.{IsTold, Tells};
+    ghost use Rattle.std.specs.Prelude.{◌≡◌, IfOk, Option, string_bytes};
+    ghost use Rattle.at_model.specs.Paths.{Node as NodeOf};
+    ghost use Rattle.at_model.specs.Run.{Ref, Value as ValueOf};
+    ghost use Rattle.at_model.specs.Rules.{attribute_name};
+    ghost use Rattle.at_model.specs.Meaning.{Answer as AnswerOf};
+    ghost use Rattle.at_model.specs.Alike.{AnswerLike, Names, OptionLike, ValueLike};
+    ghost use Rattle.at_model.specs.Machine.{shown_value};
+    ghost use Rattle.at_body.specs.Values.{value_view};
+    ghost use Rattle.at_demand.specs.Known.{answer_view};
+    ghost use Rattle.at_engine.specs.Engines.{rules_of, state_of, IsSound};
+    ghost use Rattle.at_store.specs.Shown.{path as path_shown};
+    ghost use Rattle.at_engine.specs.Telling.{IsToldAs, IsShownAs};
 
     /// The value, or the fault or circle with the path of its node.
     pub(super) fn told(&self, answer: Answer) -> Result<Form, AllocError>
-        requires idle { IsIdle self.now.store }
-        ensures { IfOk result (Tells (seen_of self.now) (seen_of self.now)) }
+        requires sound { IsSound K.contents self.now }
+        ensures { (a : AnswerOf NodeOf) → AnswerLike (Names (path_shown self.now.store)) (answer_view answer) a → IfOk result (IsToldAs (rules_of self.now) (state_of self.now).tree a) }
     {
         match answer {
             Answer::Value(value) => Ok(Form::Shows(self.shown(value)?)),
@@ -46,21 +74,33 @@ impl<K: Keeper> Engine<K> {
     }
 
     /// The name of the instance's attribute.
-    fn attribute_of(&self, inst: &Inst) -> Result<String, AllocError> {
+    fn attribute_of(&self, inst: &Inst) -> Result<String, AllocError>
+        ensures { IfOk result (λ s. string_bytes s ≡ attribute_name (rules_of self.now) inst.now.attribute) }
+    {
         String::from_str(self.alloc, self.rules.name_of(inst.attribute()))
     }
 
     /// What is shown of a value: of a node its path.
     fn shown(&self, value: Value) -> Result<Shown, AllocError>
-        requires idle { IsIdle self.now.store }
-        ensures { IfOk result IsTold }
+        requires sound { IsSound K.contents self.now }
+        ensures { (v : ValueOf NodeOf) → ValueLike (Names (path_shown self.now.store)) (value_view value) v → IfOk result (IsShownAs (shown_value (rules_of self.now).classes (state_of self.now).tree v)) }
     {
         match value {
-            Value::Int(number) => Ok(Shown::Token(TokVal::Int(number))),
+            Value::Int(_) => Ok(Shown::Token(number_of(&value))),
             Value::Bool(truth) => Ok(Shown::Token(TokVal::Bool(truth))),
             Value::Text(text) => Ok(Shown::Token(TokVal::Str(text))),
-            Value::Ref(None) => Ok(Shown::Null),
-            Value::Ref(Some(node)) => Ok(Shown::Node(self.path_to(node)?)),
+            Value::Ref(node) => self.shown_node(node),
+        }
+    }
+
+    /// What is shown of a node, or of null.
+    fn shown_node(&self, node: Option<Node>) -> Result<Shown, AllocError>
+        requires sound { IsSound K.contents self.now }
+        ensures { (n : Option NodeOf) → OptionLike (Names (path_shown self.now.store)) node n → IfOk result (IsShownAs (shown_value (rules_of self.now).classes (state_of self.now).tree (Ref n))) }
+    {
+        match node {
+            None => Ok(Shown::Null),
+            Some(node) => Ok(Shown::Node(self.path_to(node)?)),
         }
     }
 }

@@ -3,7 +3,7 @@ use Rattle.std.proofs.KnownBytes.{Consumes-nil, Consumes-trans}
 use Rattle.std.proofs.lemmas.Result.{err_from_is_err_and}
 use Rattle.at_model.specs.Rules.{Rules}
 use Rattle.at_engine.specs.Taking.{Takes, Stops, Finishes}
-use Rattle.at_engine.specs.Engines.{seen_of, rules_of}
+use Rattle.at_engine.specs.Engines.{state_of, rules_of}
 use Rattle.at_engine.proofs.Kept.{kept-nil}
 use Rattle.at_engine.proofs.Takings.{took_nothing, took_more, stopped_later}
 use Rattle.at_engine.proofs.Runnings.{ended, cut_off, cut_off_at_last, at_end}
@@ -13,8 +13,7 @@ pub loop-turn-init : goal.loop-turn-init
 loop-turn-init g c = record {
   so_far = ([], Consumes-nil _, omega arith, took_nothing _ _ [] c.in-Ok.desk _ refl (c.in-Ok.ensures.line ∙ sym kept-nil));
   rules = refl;
-  idle = c.requires.idle;
-  whole = c.requires.whole;
+  sound = c.requires.sound;
   few = omega (arith, c.in-Ok.ensures.lines);
 }
 
@@ -25,7 +24,7 @@ returns-in_err-finish-clause-ran g c =
     let inv = c.loop-turn.invariant.so_far in
     let rules = rules_of c.args.engine.now in
     let t = inv.3 in
-    let f = subst (λ (r : Rules). Finishes (Err c.in_err-finish.field-0.0) r (seen_of c.loop-turn.engine) t.rest (seen_of c.finish.new.engine) c.loop-turn.desk c.finish.new.desk (contents c.loop-turn.writer) (contents c.finish.new.writer))
+    let f = subst (λ (r : Rules). Finishes (Err c.in_err-finish.field-0.0) r (state_of c.loop-turn.engine) t.rest (state_of c.finish.new.engine) c.loop-turn.desk c.finish.new.desk (contents c.loop-turn.writer) (contents c.finish.new.writer))
     c.loop-turn.invariant.rules (c.in_err-finish.ensures.finished t.rest t.line) in
     let read = at_end _ _ _ inv.0 c.in-Ok-read.count c.read.new.buf c.if-count-eq0.true inv.1 c.in-Ok-read.ensures.bytes.0 in
     rw (p.1, p.2, f.written.0) (cut_off_at_last rules _ _ _ inv.0 _ _ _ _ _ c.in-Ok.desk c.loop-turn.desk c.finish.new.desk c.in_err-finish.field-0.0 t f read)
@@ -36,7 +35,7 @@ returns-then-count-eq0-clause-ran g c =
     let inv = c.loop-turn.invariant.so_far in
     let rules = rules_of c.args.engine.now in
     let t = inv.3 in
-    let f = subst (λ (r : Rules). Finishes (Ok tt) r (seen_of c.loop-turn.engine) t.rest (seen_of c.finish.new.engine) c.loop-turn.desk c.finish.new.desk (contents c.loop-turn.writer) (contents c.finish.new.writer))
+    let f = subst (λ (r : Rules). Finishes (Ok tt) r (state_of c.loop-turn.engine) t.rest (state_of c.finish.new.engine) c.loop-turn.desk c.finish.new.desk (contents c.loop-turn.writer) (contents c.finish.new.writer))
     c.loop-turn.invariant.rules (c.in_ok-finish.ensures.finished t.rest t.line) in
     let read = at_end _ _ _ inv.0 c.in-Ok-read.count c.read.new.buf c.if-count-eq0.true inv.1 c.in-Ok-read.ensures.bytes.0 in
     let room : 0 < length c.read.new.buf = omega (arith, c.read.auto.buf) in
@@ -52,7 +51,7 @@ returns-in_err-take_piece-clause-ran g c =
     let piece = take c.in-Ok-read.count c.read.new.buf in
     let t = inv.3 in
     let u = c.in_err-take_piece.ensures.taken t.rest t.progress.open' t.line in
-    let v = subst (λ (r : Rules). Stops r (seen_of c.loop-turn.engine) t.rest piece (seen_of c.take_piece.new.engine) (contents c.loop-turn.writer) (contents c.take_piece.new.writer)) c.loop-turn.invariant.rules u.1 in
+    let v = subst (λ (r : Rules). Stops r (state_of c.loop-turn.engine) t.rest piece (state_of c.take_piece.new.engine) (contents c.loop-turn.writer) (contents c.take_piece.new.writer)) c.loop-turn.invariant.rules u.1 in
     rw (p.1, p.2, u.0) (cut_off rules _ _ (inv.0 ++ piece) _ _ _ _ (stopped_later rules _ _ _ [] inv.0 piece _ _ _ _ _ t v) (Consumes-trans _ _ _ _ _ inv.1 c.in-Ok-read.ensures.bytes.0))
 
 pub loop-turn-preserved : goal.loop-turn-preserved
@@ -63,12 +62,11 @@ loop-turn-preserved g c =
     let piece = take c.in-Ok-read.count c.read.new.buf in
     let t = inv.3 in
     let u = c.in_ok-take_piece.ensures.taken t.rest t.progress.open' t.line in
-    let v = subst (λ (r : Rules). Takes r (seen_of c.loop-turn.engine) t.rest piece (seen_of c.take_piece.new.engine) c.loop-turn.desk c.take_piece.new.desk (contents c.loop-turn.writer) (contents c.take_piece.new.writer)) c.loop-turn.invariant.rules u in
+    let v = subst (λ (r : Rules). Takes r (state_of c.loop-turn.engine) t.rest piece (state_of c.take_piece.new.engine) c.loop-turn.desk c.take_piece.new.desk (contents c.loop-turn.writer) (contents c.take_piece.new.writer)) c.loop-turn.invariant.rules u in
     let some : c.loop-turn.turn + 1 ≤ length (inv.0 ++ piece) = omega (arith, inv.2, length-append inv.0 piece, c.in-Ok-read.ensures.bound.1, c.if-count-eq0.false) in
     record {
       so_far = (inv.0 ++ piece, Consumes-trans _ _ _ _ _ inv.1 c.in-Ok-read.ensures.bytes.0, some, took_more rules _ _ _ [] inv.0 piece _ _ _ _ _ _ t v);
       rules = c.in_ok-take_piece.ensures.rules ∙ c.loop-turn.invariant.rules;
-      idle = c.in_ok-take_piece.ensures.idle;
-      whole = c.in_ok-take_piece.ensures.whole;
+      sound = c.in_ok-take_piece.ensures.sound;
       few = omega (arith, c.in_ok-take_piece.ensures.grows, c.loop-turn.invariant.few, c.in-Ok-read.ensures.bound.1, c.in-Ok-read.ensures.bound.0, c.read.auto.buf);
     }

@@ -1,8 +1,7 @@
 use Rattle.std.proofs.Common.{◌≡◌, ◌≤◌, ◌*◌, List, ℕ, [], length}
 use Rattle.std.specs.Io.KnownBytes.{Consumes}
 use Rattle.at_engine.specs.Taking.{Takes}
-use Rattle.at_engine.specs.Engines.{seen_of, rules_of, IsWhole}
-use Rattle.at_store.specs.Shown.{IsIdle}
+use Rattle.at_engine.specs.Engines.{state_of, rules_of, IsSound}
 use Rattle.at_engine.proofs.stream.run.Given as goal
 
 -- the bytes that were read were taken; each read brought one at least
@@ -12,9 +11,8 @@ invariant-loop-turn g l =
     let contents = g.W.Write.contents in
     record {
       so_far : (input : List ℕ) × Consumes (readable l.fn.reader) (readable l.reader) input × (l.turn ≤ length input)
-          × Takes (rules_of l.fn.engine) (seen_of l.fn.engine) [] input (seen_of l.engine) l.initial.desk l.desk (contents l.fn.writer) (contents l.writer);
+          × Takes (rules_of l.fn.engine) (state_of l.fn.engine) [] input (state_of l.engine) l.initial.desk l.desk (contents l.fn.writer) (contents l.writer);
       rules : rules_of l.engine ≡ rules_of l.fn.engine;
-      idle : IsIdle l.engine.store;
-      whole : IsWhole l.engine;
+      sound : IsSound g.K.Keeper.contents l.engine;
       few : l.desk.lines ≤ l.turn * 8192;
     }

@@ -3,12 +3,12 @@ use Rattle.std.proofs.lemmas.Result.{err_from_is_err_and}
 use Rattle.std.proofs.lemmas.List.{take-append-drop, take_more}
 use Rattle.at_model.specs.Rules.{Rules}
 use Rattle.at_engine.specs.Taking.{Takes, Stops}
-use Rattle.at_engine.specs.Engines.{seen_of, rules_of}
+use Rattle.at_engine.specs.Engines.{state_of, rules_of}
 use Rattle.at_engine.proofs.Takings.{took_nothing, took_more, stopped_later, stopped_before}
 use Rattle.at_engine.proofs.stream.take_piece.Goals as goal
 
 pub loop-byte-init : goal.loop-byte-init
-loop-byte-init g c = record { taken = λ front o e. took_nothing _ _ front c.args.desk.now _ o e; rules = refl; idle = c.requires.idle; whole = c.requires.whole; grows = omega arith }
+loop-byte-init g c = record { taken = λ front o e. took_nothing _ _ front c.args.desk.now _ o e; rules = refl; sound = c.requires.sound; grows = omega arith }
 
 pub returns-in_err-take_byte-clause-taken : goal.returns-in_err-take_byte-clause-taken
 returns-in_err-take_byte-clause-taken g c front o e =
@@ -20,10 +20,10 @@ returns-in_err-take_byte-clause-taken g c front o e =
     let u = c.in_err-take_byte.ensures.taken t.rest t.progress.open' t.line in
     let contents = g.W.Write.contents in
     let rules = rules_of c.args.engine.now in
-    let v = subst (λ (r : Rules). Stops r (seen_of c.loop-byte.engine) t.rest (get_or piece i 0 ∷ []) (seen_of c.take_byte.new.engine) (contents c.loop-byte.writer) (contents c.take_byte.new.writer)) c.loop-byte.invariant.rules u.1 in
+    let v = subst (λ (r : Rules). Stops r (state_of c.loop-byte.engine) t.rest (get_or piece i 0 ∷ []) (state_of c.take_byte.new.engine) (contents c.loop-byte.writer) (contents c.take_byte.new.writer)) c.loop-byte.invariant.rules u.1 in
     let w = stopped_before rules _ _ front _ (drop (i + 1) piece) _ _ (stopped_later rules _ _ _ front (take i piece) (get_or piece i 0 ∷ []) _ _ _ _ _ t v) in
     let whole = ap (λ l. l ++ drop (i + 1) piece) (sym (take_more piece i 0 within)) ∙ take-append-drop (i + 1) piece in
-    rw (p.1, p.2) (u.0, subst (λ (l : List ℕ). Stops rules (seen_of c.args.engine.now) front l (seen_of c.take_byte.new.engine) (contents c.args.writer.now) (contents c.take_byte.new.writer)) whole w)
+    rw (p.1, p.2) (u.0, subst (λ (l : List ℕ). Stops rules (state_of c.args.engine.now) front l (state_of c.take_byte.new.engine) (contents c.args.writer.now) (contents c.take_byte.new.writer)) whole w)
 
 pub loop-byte-preserved : goal.loop-byte-preserved
 loop-byte-preserved g c = record {
@@ -35,11 +35,10 @@ loop-byte-preserved g c = record {
       let u = c.in_ok-take_byte.ensures.taken t.rest t.progress.open' t.line in
       let contents = g.W.Write.contents in
       let rules = rules_of c.args.engine.now in
-      let v = subst (λ (r : Rules). Takes r (seen_of c.loop-byte.engine) t.rest (get_or piece i 0 ∷ []) (seen_of c.take_byte.new.engine) c.loop-byte.desk c.take_byte.new.desk (contents c.loop-byte.writer) (contents c.take_byte.new.writer)) c.loop-byte.invariant.rules u in
+      let v = subst (λ (r : Rules). Takes r (state_of c.loop-byte.engine) t.rest (get_or piece i 0 ∷ []) (state_of c.take_byte.new.engine) c.loop-byte.desk c.take_byte.new.desk (contents c.loop-byte.writer) (contents c.take_byte.new.writer)) c.loop-byte.invariant.rules u in
       let w = took_more rules _ _ _ front (take i piece) (get_or piece i 0 ∷ []) _ _ _ _ _ _ t v in
-      subst (λ (l : List ℕ). Takes rules (seen_of c.args.engine.now) front l (seen_of c.take_byte.new.engine) c.args.desk.now c.take_byte.new.desk (contents c.args.writer.now) (contents c.take_byte.new.writer)) (sym (take_more piece i 0 within)) w;
+      subst (λ (l : List ℕ). Takes rules (state_of c.args.engine.now) front l (state_of c.take_byte.new.engine) c.args.desk.now c.take_byte.new.desk (contents c.args.writer.now) (contents c.take_byte.new.writer)) (sym (take_more piece i 0 within)) w;
   rules = c.in_ok-take_byte.ensures.rules ∙ c.loop-byte.invariant.rules;
-  idle = c.in_ok-take_byte.ensures.idle;
-  whole = c.in_ok-take_byte.ensures.whole;
+  sound = c.in_ok-take_byte.ensures.sound;
   grows = omega (arith, c.in_ok-take_byte.ensures.grows, c.loop-byte.invariant.grows);
 }

@@ -1,8 +1,7 @@
 use Rattle.std.proofs.Common.{◌≡◌, ◌+◌, ◌≤◌, List, ℕ, take}
 use Rattle.at_engine.specs.Loop.{IsOpen, kept}
 use Rattle.at_engine.specs.Taking.{Takes}
-use Rattle.at_engine.specs.Engines.{seen_of, rules_of, IsWhole}
-use Rattle.at_store.specs.Shown.{IsIdle}
+use Rattle.at_engine.specs.Engines.{state_of, rules_of, IsSound}
 use Rattle.at_engine.proofs.stream.take_piece.Given as goal
 
 -- the bytes so far were taken
@@ -11,9 +10,8 @@ invariant-loop-byte g l =
     let contents = g.W.Write.contents in
     record {
       taken : (front : List ℕ) → IsOpen front → l.fn.desk.line.items ≡ kept front
-          → Takes (rules_of l.fn.engine) (seen_of l.fn.engine) front (take l.byte-index l.piece) (seen_of l.engine) l.fn.desk l.desk (contents l.fn.writer) (contents l.writer);
+          → Takes (rules_of l.fn.engine) (state_of l.fn.engine) front (take l.byte-index l.piece) (state_of l.engine) l.fn.desk l.desk (contents l.fn.writer) (contents l.writer);
       rules : rules_of l.engine ≡ rules_of l.fn.engine;
-      idle : IsIdle l.engine.store;
-      whole : IsWhole l.engine;
+      sound : IsSound g.K.Keeper.contents l.engine;
       grows : l.desk.lines ≤ l.fn.desk.lines + l.byte-index;
     }

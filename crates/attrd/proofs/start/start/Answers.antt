@@ -5,7 +5,7 @@ use Rattle.at_model.specs.Terms.{term_of}
 use Rattle.at_model.specs.Trees.{Tree, conforms}
 use Rattle.at_model.specs.Edits.{is_within_limits}
 use Rattle.at_model.specs.Rules.{Rules}
-use Rattle.at_engine.specs.Engines.{seen_of}
+use Rattle.at_model.specs.Machine.{State}
 use Rattle.at_store.specs.Loading.{IsNotLoaded}
 use Rattle.at_store.specs.declared.edit.LoadFault.{LoadFault}
 use Rattle.at_tree.specs.TreeView.{tree_view}
@@ -17,7 +17,7 @@ use Rattle.attrd.specs.TreeFiles.{IsTreeFault, IsTermFile, no_room}
 use Rattle.attrd.specs.declared.code.Code.TheVariants as code
 use Rattle.attrd.specs.declared.start.files.Source.{Source}
 use Rattle.attrd.specs.declared.start.fault.FileFault.TheVariants as file
-use Rattle.attrd.proofs.Started.{grammar_refuses, aspects_refuse, tree_refuses, opened}
+use Rattle.attrd.proofs.Started.{grammar_refuses, aspects_refuse, tree_refuses}
 use Rattle.attrd.proofs.start.start.Goals as goal
 
 pub returns-in-Err-clause-refused : goal.returns-in-Err-clause-refused
@@ -71,12 +71,13 @@ returns-in-Ok-new-clause-started c =
     let there = subst (λ (b : List ℕ). IsTermFile b (term_of c.classes.result.now t)) c.deref-3.ensures.value c.in-Ok-tree_of.ensures.written in
     let written = subst (λ (k : Classes). IsTermFile bytes (term_of k t)) same there in
     let whole = subst (λ (k : Classes). conforms k t 0 ≡ true) same c.in-Ok-tree_of.ensures.whole in
-    let within = subst (λ (u : Tree). is_within_limits u ≡ true) c.in-Ok-new.ensures.loaded c.in-Ok-new.ensures.idle.limits in
+    let sound = c.in-Ok-new.ensures.sound c.new-2.ensures in
+    let within = subst (λ (s : State). is_within_limits s.tree ≡ true) c.in-Ok-new.ensures.first sound.idle.limits in
     record {
       classes = c.in-Ok.classes;
       grammar = given;
       aspects = rules;
       opened = t;
       tree = record { text = text; written = written; whole = whole; within = within };
-      seen_is = opened (seen_of c.in-Ok-new.engine) t c.in-Ok-new.ensures.loaded c.in-Ok-new.ensures.first;
+      state_is = c.in-Ok-new.ensures.first;
     }

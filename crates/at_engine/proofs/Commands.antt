@@ -1,0 +1,172 @@
+-- What each command is told, and what it leaves.
+use Rattle.std.proofs.Common.{◌≡◌, ℕ, ◌+◌, Bool, true, false, not, nat_eq, nat_le, List, [], ◌∷◌, ◌++◌, count_by, filter, Option, Some, None, is_some, option_and_then, refl, sym, ap, ◌∙◌, subst, Result, Ok, Err, inl, inr}
+use Rattle.std.specs.Prelude.{Vec}
+use Rattle.std.specs.Global.{Global}
+use Rattle.at_model.specs.Classes.{Classes, Shape}
+use Rattle.at_model.specs.Trees.{Tree, Token as TokenOf, class_of}
+use Rattle.at_model.specs.Terms.{Term, term_of, tree_text}
+use Rattle.at_model.specs.Paths.{Node, part_named, tree_at}
+use Rattle.at_model.specs.Rules.{Rules}
+use Rattle.at_model.specs.Shaping.{shaped}
+use Rattle.at_model.specs.Edits.{class_asked, list_class, optional_class, token_kind, shape_at}
+use Rattle.at_model.specs.Edits as edit
+use Rattle.at_model.specs.Run.{Instance}
+use Rattle.at_model.specs.Lines.{Argument, Place, Command, Ask, Set, Put, Drop, Insert, Token, Show, Mark, Unmark, Where, Version}
+use Rattle.at_model.specs.Machine.{State, Marked, Verdict, Refuses, Tells, Leaves, Asks, changed, with_tree, with_component, with_mark, marked, is_mark, is_marked, max_marks, node_named, obeyed, path_to}
+use Rattle.at_model.specs.Replies.{At, Written}
+use Rattle.at_model.specs.Replies as code
+use Rattle.at_tree.specs.PathView.{path_view}
+use Rattle.at_tree.specs.TreeView.{tree_view}
+use Rattle.at_tree.specs.declared.path.Path.{Path as PathValue}
+use Rattle.at_tree.specs.declared.tree.Tree.{Tree as TreeValue}
+use Rattle.at_class.specs.View.{shape_view}
+use Rattle.at_class.specs.declared.part.PartShape.{PartShape}
+use Rattle.at_protocol.specs.ReplyView.{code_view}
+use Rattle.at_protocol.specs.Writable.{IsShownWritable}
+use Rattle.at_protocol.specs.declared.reply.Refusal.{Refusal}
+use Rattle.at_protocol.specs.declared.reply.Refusal.TheVariants as refusal
+use Rattle.at_protocol.specs.declared.reply.Shown.TheVariants as shown
+use Rattle.at_protocol.specs.declared.reply.Form.{Form as FormValue}
+use Rattle.at_protocol.specs.declared.reply.Form.TheVariants as form
+use Rattle.at_store.specs.Checking.{IsRefused}
+use Rattle.at_store.specs.Shown.{Shown, numbers, tree}
+use Rattle.at_store.specs.declared.edit.Refusal.{Refusal as EditRefusal}
+use Rattle.at_store.specs.declared.edit.Refusal.TheVariants as reason
+use Rattle.at_engine.specs.Following.{Follows}
+use Rattle.at_engine.specs.Holding.{state_in}
+use Rattle.at_engine.specs.Telling.{Obeys, IsComponentOf, IsToldFor, IsToldOf, IsTreeFor}
+use Rattle.at_engine.specs.declared.marks.Mark.{Mark as MarkValue}
+use Rattle.at_engine.specs.declared.engine.editing.Obstacle.{Obstacle}
+use Rattle.at_engine.specs.declared.engine.editing.Obstacle.TheVariants as obstacle
+use Rattle.at_engine.proofs.Following.{as_verdict, refuses, tells, leaves}
+use Rattle.at_engine.proofs.Storing.{state_stays}
+use Rattle.at_engine.proofs.Verdicts.{at_the_node, at_no_node, at_no_component, at_other_shape, at_component, at_no_class, at_misfit, at_tree, at_refusal, at_taken, at_full, at_mark}
+
+module _ (rules : Rules) (s : State) (session : ℕ) (place : Place) where
+  pub show_nowhere : node_named rules.classes s session place ≡ None → Obeys rules s session (Show place) (form.Refused refusal.Path) s
+  show_nowhere e = refuses rules s (obeyed rules s session (Show place)) refusal.Path (at_no_node rules.classes s session place (λ n. elim (tree_at s.tree n) as (λ _. Verdict) [ None ↦ Refuses code.Path | Some u ↦ Tells (Written (term_of rules.classes u)) ]) e)
+
+  pub show_term : (n : Node) (u : Tree) (text : Vec ℕ Global) → node_named rules.classes s session place ≡ Some n → tree_at s.tree n ≡ Some u → text.items ≡ tree_text rules.classes u → Obeys rules s session (Show place) (form.Shows (shown.Term text)) s
+  show_term n u text e at' is = tells rules s (obeyed rules s session (Show place)) (shown.Term text) (Written (term_of rules.classes u))
+      (at_the_node rules.classes s session place (λ n. elim (tree_at s.tree n) as (λ _. Verdict) [ None ↦ Refuses code.Path | Some u ↦ Tells (Written (term_of rules.classes u)) ]) n e
+        ∙ ap (λ (o : Option Tree). elim o as (λ _. Verdict) [ None ↦ Refuses code.Path | Some u ↦ Tells (Written (term_of rules.classes u)) ]) at')
+      (term_of rules.classes u, is, refl) tt
+
+  module _ (name : List ℕ) where
+    pub mark_nowhere : node_named rules.classes s session place ≡ None → Obeys rules s session (Mark name place) (form.Refused refusal.Path) s
+    mark_nowhere e = refuses rules s (obeyed rules s session (Mark name place)) refusal.Path (at_no_node rules.classes s session place (with_mark s session name) e)
+
+    module _ (n : Node) (e : node_named rules.classes s session place ≡ Some n) where
+      at_it : (v : Verdict) → with_mark s session name n ≡ v → obeyed rules s session (Mark name place) ≡ v
+      at_it v f = at_the_node rules.classes s session place (with_mark s session name) n e ∙ f
+
+      pub mark_taken : is_marked s.marks session name ≡ true → Obeys rules s session (Mark name place) (form.Refused refusal.Taken) s
+      mark_taken t = refuses rules s (obeyed rules s session (Mark name place)) refusal.Taken (at_it (Refuses code.Taken) (at_taken s session name n t))
+
+      pub mark_full : is_marked s.marks session name ≡ false → nat_le max_marks (count_by (λ m. nat_eq session m.session) s.marks) ≡ true → Obeys rules s session (Mark name place) (form.Refused refusal.Limit) s
+      mark_full t f = refuses rules s (obeyed rules s session (Mark name place)) refusal.Limit (at_it (Refuses code.Limit) (at_full s session name n t f))
+
+      pub mark_made : is_marked s.marks session name ≡ false → nat_le max_marks (count_by (λ m. nat_eq session m.session) s.marks) ≡ false → (marks : List Marked) → marks ≡ s.marks ++ record { session = session; name = name; node = n } ∷ []
+          → Obeys rules s session (Mark name place) (form.Ok s.version) (record s { marks = marks })
+      mark_made t f marks same = leaves rules s (obeyed rules s session (Mark name place)) marks (at_it (Leaves marks) (at_mark s session name n t f ∙ ap Leaves (sym same)))
+
+module _ (rules : Rules) (s : State) (session : ℕ) where
+  pub unmarked : (name : List ℕ) (marks : List Marked) → marks ≡ filter (λ (m : Marked). not (is_mark session name m)) s.marks → Obeys rules s session (Unmark name) (form.Ok s.version) (record s { marks = marks })
+  unmarked name marks same = leaves rules s (obeyed rules s session (Unmark name)) marks (ap Leaves (sym same))
+
+  pub versioned : Obeys rules s session Version (form.Ok s.version) s
+  versioned = leaves rules s (obeyed rules s session Version) s.marks refl
+
+  pub where_nowhere : (name : List ℕ) → marked s.marks session name ≡ None → Obeys rules s session (Where name) (form.Refused refusal.Mark) s
+  where_nowhere name e = refuses rules s (obeyed rules s session (Where name)) refusal.Mark (ap (λ (o : Option Node). elim o as (λ _. Verdict) [ None ↦ Refuses code.Mark | Some n ↦ Tells (At (path_to rules.classes s.tree n)) ]) e)
+
+  pub where_found : (name : List ℕ) (n : Node) (p : PathValue) → marked s.marks session name ≡ Some n → path_view p ≡ path_to rules.classes s.tree n → IsShownWritable (shown.Node p) → Obeys rules s session (Where name) (form.Shows (shown.Node p)) s
+  where_found name n p e same writable = tells rules s (obeyed rules s session (Where name)) (shown.Node p) (At (path_to rules.classes s.tree n))
+      (ap (λ (o : Option Node). elim o as (λ _. Verdict) [ None ↦ Refuses code.Mark | Some n ↦ Tells (At (path_to rules.classes s.tree n)) ]) e) (ap At (sym same)) writable
+
+-- what is told where there is no tree for a term
+pub misshaped : (rules : Rules) (t : Term) (b : ℕ) (asked : Option ℕ) (g : Tree → Verdict) (s : State) (o : Obstacle) (value : FormValue) → asked ≡ Some b → IsTreeFor rules.classes t b (Err o) → IsToldOf o value → Follows rules s (with_tree rules.classes t asked g) value s
+misshaped rules t b asked g s (obstacle.Refused refusal.Class) value a h told = subst (λ (f : FormValue). Follows rules s (with_tree rules.classes t asked g) f s) (sym told) (refuses rules s (with_tree rules.classes t asked g) refusal.Class (at_no_class rules.classes t asked g h))
+misshaped rules t b asked g s (obstacle.Refused refusal.Fit) value a h told = subst (λ (f : FormValue). Follows rules s (with_tree rules.classes t asked g) f s) (sym told) (refuses rules s (with_tree rules.classes t asked g) refusal.Fit (at_misfit rules.classes t asked g h.0 (ap (option_and_then (shaped rules.classes t)) a ∙ h.1)))
+misshaped rules t b asked g s (obstacle.Refused refusal.Syntax) value a h told = absurd h
+misshaped rules t b asked g s (obstacle.Refused (refusal.Stale v)) value a h told = absurd h
+misshaped rules t b asked g s (obstacle.Refused refusal.Mark) value a h told = absurd h
+misshaped rules t b asked g s (obstacle.Refused refusal.Path) value a h told = absurd h
+misshaped rules t b asked g s (obstacle.Refused refusal.Component) value a h told = absurd h
+misshaped rules t b asked g s (obstacle.Refused refusal.Index) value a h told = absurd h
+misshaped rules t b asked g s (obstacle.Refused refusal.Taken) value a h told = absurd h
+misshaped rules t b asked g s (obstacle.Refused refusal.Fixed) value a h told = absurd h
+misshaped rules t b asked g s (obstacle.Refused refusal.Limit) value a h told = absurd h
+misshaped rules t b asked g s (obstacle.Refused refusal.Attribute) value a h told = absurd h
+misshaped rules t b asked g s (obstacle.Refused refusal.Arguments) value a h told = absurd h
+misshaped rules t b asked g s obstacle.Memory value a h told = absurd told
+
+-- what is told of an edit that the store refuses
+by_reason : (rules : Rules) (s new : State) (e : edit.Edit) (m : edit.Refusal) (r : Refusal) (value : FormValue) → edit.edited rules.classes s.tree e ≡ Err m → new ≡ s → value ≡ form.Refused r → changed rules.classes s e ≡ Refuses (code_view r) → Follows rules s (changed rules.classes s e) value new
+by_reason rules s new e m r value h stays told is = subst (λ (f : FormValue). Follows rules s (changed rules.classes s e) f new) (sym told) (subst (λ (x : State). Follows rules s (changed rules.classes s e) (form.Refused r) x) (sym stays) (refuses rules s (changed rules.classes s e) r is))
+
+pub edit_refused : (rules : Rules) (old : Shown) (version : ℕ) (ms : List MarkValue) (e : edit.Edit) (new : Shown) (r : EditRefusal) (value : FormValue) → IsRefused rules.classes old e new r → IsToldFor r value
+    → Follows rules (state_in old version ms) (changed rules.classes (state_in old version ms) e) value (state_in new version ms)
+edit_refused rules old version ms e new reason.Component value h told = elim h.reason [ inl f ↦ absurd cc | inr f ↦ by_reason rules (state_in old version ms) _ e edit.Component refusal.Component value f (state_stays old new version ms h.numbers_stay h.tree_stays) told (at_refusal rules.classes (state_in old version ms) e edit.Component f) ]
+edit_refused rules old version ms e new reason.Fit value h told = elim h.reason [ inl f ↦ absurd cc | inr f ↦ by_reason rules (state_in old version ms) _ e edit.Fit refusal.Fit value f (state_stays old new version ms h.numbers_stay h.tree_stays) told (at_refusal rules.classes (state_in old version ms) e edit.Fit f) ]
+edit_refused rules old version ms e new reason.Index value h told = elim h.reason [ inl f ↦ absurd cc | inr f ↦ by_reason rules (state_in old version ms) _ e edit.Index refusal.Index value f (state_stays old new version ms h.numbers_stay h.tree_stays) told (at_refusal rules.classes (state_in old version ms) e edit.Index f) ]
+edit_refused rules old version ms e new reason.Taken value h told = elim h.reason [ inl f ↦ absurd cc | inr f ↦ by_reason rules (state_in old version ms) _ e edit.Taken refusal.Taken value f (state_stays old new version ms h.numbers_stay h.tree_stays) told (at_refusal rules.classes (state_in old version ms) e edit.Taken f) ]
+edit_refused rules old version ms e new reason.Fixed value h told = elim h.reason [ inl f ↦ absurd cc | inr f ↦ by_reason rules (state_in old version ms) _ e edit.Fixed refusal.Fixed value f (state_stays old new version ms h.numbers_stay h.tree_stays) told (at_refusal rules.classes (state_in old version ms) e edit.Fixed f) ]
+edit_refused rules old version ms e new reason.Limit value h told = elim h.reason [ inl f ↦ absurd cc | inr f ↦ by_reason rules (state_in old version ms) _ e edit.Limit refusal.Limit value f (state_stays old new version ms h.numbers_stay h.tree_stays) told (at_refusal rules.classes (state_in old version ms) e edit.Limit f) ]
+edit_refused rules old version ms e new reason.Memory value h told = absurd told
+
+-- edits at the node that a place names
+module _ (rules : Rules) (s : State) (session : ℕ) (place : Place) where
+  pub set_nowhere : (t : Term) → node_named rules.classes s session place ≡ None → Obeys rules s session (Set place t) (form.Refused refusal.Path) s
+  set_nowhere t e = refuses rules s (obeyed rules s session (Set place t)) refusal.Path (at_no_node rules.classes s session place (λ n. with_tree rules.classes t (class_asked rules.classes s.tree n) (λ u. changed rules.classes s (edit.Set n u))) e)
+
+  pub drop_nowhere : node_named rules.classes s session place ≡ None → Obeys rules s session (Drop place) (form.Refused refusal.Path) s
+  drop_nowhere e = refuses rules s (obeyed rules s session (Drop place)) refusal.Path (at_no_node rules.classes s session place (λ n. changed rules.classes s (edit.Drop n)) e)
+
+  pub put_nowhere : (part : List ℕ) (t : Term) → node_named rules.classes s session place ≡ None → Obeys rules s session (Put place part t) (form.Refused refusal.Path) s
+  put_nowhere part t e = refuses rules s (obeyed rules s session (Put place part t)) refusal.Path (at_no_node rules.classes s session place (λ n. with_component rules.classes s.tree n part optional_class (λ p b. with_tree rules.classes t (Some b) (λ u. changed rules.classes s (edit.Put n p u)))) e)
+
+  pub insert_nowhere : (part : List ℕ) (index : ℕ) (t : Term) → node_named rules.classes s session place ≡ None → Obeys rules s session (Insert place part index t) (form.Refused refusal.Path) s
+  insert_nowhere part index t e = refuses rules s (obeyed rules s session (Insert place part index t)) refusal.Path (at_no_node rules.classes s session place (λ n. with_component rules.classes s.tree n part list_class (λ p b. with_tree rules.classes t (Some b) (λ u. changed rules.classes s (edit.Insert n p index u)))) e)
+
+  pub token_nowhere : (part : List ℕ) (v : TokenOf) → node_named rules.classes s session place ≡ None → Obeys rules s session (Token place part v) (form.Refused refusal.Path) s
+  token_nowhere part v e = refuses rules s (obeyed rules s session (Token place part v)) refusal.Path (at_no_node rules.classes s session place (λ n. with_component rules.classes s.tree n part token_kind (λ p kind. changed rules.classes s (edit.Token n p v))) e)
+
+  module _ (n : Node) (named : node_named rules.classes s session place ≡ Some n) (value : FormValue) (new : State) where
+    pub dropped : Follows rules s (changed rules.classes s (edit.Drop n)) value new → Obeys rules s session (Drop place) value new
+    dropped f = as_verdict rules s _ _ value new (at_the_node rules.classes s session place (λ n. changed rules.classes s (edit.Drop n)) n named) f
+
+    module _ (t : Term) where
+      set_is : obeyed rules s session (Set place t) ≡ with_tree rules.classes t (class_asked rules.classes s.tree n) (λ u. changed rules.classes s (edit.Set n u))
+      set_is = at_the_node rules.classes s session place (λ n. with_tree rules.classes t (class_asked rules.classes s.tree n) (λ u. changed rules.classes s (edit.Set n u))) n named
+
+      pub set_as : Follows rules s (with_tree rules.classes t (class_asked rules.classes s.tree n) (λ u. changed rules.classes s (edit.Set n u))) value new → Obeys rules s session (Set place t) value new
+      set_as f = as_verdict rules s _ _ value new set_is f
+
+      pub set_done : (b : ℕ) (u : TreeValue) → class_asked rules.classes s.tree n ≡ Some b → IsTreeFor rules.classes t b (Ok u) → Follows rules s (changed rules.classes s (edit.Set n (tree_view u))) value new → Obeys rules s session (Set place t) value new
+      set_done b u asked h f = set_as (as_verdict rules s _ _ value new (at_tree rules.classes t (class_asked rules.classes s.tree n) (λ u. changed rules.classes s (edit.Set n u)) (tree_view u) h.0 (ap (option_and_then (shaped rules.classes t)) asked ∙ h.1)) f)
+
+      module _ (part : List ℕ) where
+        pub put_as : Follows rules s (with_component rules.classes s.tree n part optional_class (λ p b. with_tree rules.classes t (Some b) (λ u. changed rules.classes s (edit.Put n p u)))) value new → Obeys rules s session (Put place part t) value new
+        put_as f = as_verdict rules s _ _ value new (at_the_node rules.classes s session place (λ n. with_component rules.classes s.tree n part optional_class (λ p b. with_tree rules.classes t (Some b) (λ u. changed rules.classes s (edit.Put n p u)))) n named) f
+
+        pub insert_as : (index : ℕ) → Follows rules s (with_component rules.classes s.tree n part list_class (λ p b. with_tree rules.classes t (Some b) (λ u. changed rules.classes s (edit.Insert n p index u)))) value new → Obeys rules s session (Insert place part index t) value new
+        insert_as index f = as_verdict rules s _ _ value new (at_the_node rules.classes s session place (λ n. with_component rules.classes s.tree n part list_class (λ p b. with_tree rules.classes t (Some b) (λ u. changed rules.classes s (edit.Insert n p index u)))) n named) f
+
+    pub token_as : (part : List ℕ) (v : TokenOf) → Follows rules s (with_component rules.classes s.tree n part token_kind (λ p kind. changed rules.classes s (edit.Token n p v))) value new → Obeys rules s session (Token place part v) value new
+    token_as part v f = as_verdict rules s _ _ value new (at_the_node rules.classes s session place (λ n. with_component rules.classes s.tree n part token_kind (λ p kind. changed rules.classes s (edit.Token n p v))) n named) f
+
+-- at a component that is there, or isn't
+module _ {A : Type 0} (rules : Rules) (s : State) (n : Node) (name : List ℕ) (wanted : Shape → Option A) (g : ℕ → A → Verdict) where
+  pub no_component : IsComponentOf rules.classes s.tree n name None → Follows rules s (with_component rules.classes s.tree n name wanted g) (form.Refused refusal.Component) s
+  no_component e = refuses rules s (with_component rules.classes s.tree n name wanted g) refusal.Component (at_no_component rules.classes s.tree n name wanted g e)
+
+  pub other_shape : (part : ℕ) (shape : PartShape) → IsComponentOf rules.classes s.tree n name (Some (part, shape)) → wanted (shape_view shape) ≡ None → Follows rules s (with_component rules.classes s.tree n name wanted g) (form.Refused refusal.Component) s
+  other_shape part shape h e = refuses rules s (with_component rules.classes s.tree n name wanted g) refusal.Component (at_other_shape rules.classes s.tree n name wanted g part h.0 (ap (option_and_then wanted) h.1 ∙ e))
+
+  pub right_shape : (part : ℕ) (shape : PartShape) (a : A) (value : FormValue) (new : State) → IsComponentOf rules.classes s.tree n name (Some (part, shape)) → wanted (shape_view shape) ≡ Some a → Follows rules s (g part a) value new → Follows rules s (with_component rules.classes s.tree n name wanted g) value new
+  right_shape part shape a value new h e f = as_verdict rules s _ _ value new (at_component rules.classes s.tree n name wanted g part a h.0 (ap (option_and_then wanted) h.1 ∙ e)) f
+
+-- with the tree of a term
+pub with_shaped : (rules : Rules) (t : Term) (b : ℕ) (u : TreeValue) (g : Tree → Verdict) (s : State) (value : FormValue) (new : State) → IsTreeFor rules.classes t b (Ok u) → Follows rules s (g (tree_view u)) value new → Follows rules s (with_tree rules.classes t (Some b) g) value new
+with_shaped rules t b u g s value new h f = as_verdict rules s _ _ value new (at_tree rules.classes t (Some b) g (tree_view u) h.0 h.1) f

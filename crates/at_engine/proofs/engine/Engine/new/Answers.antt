@@ -1,0 +1,24 @@
+use Rattle.std.proofs.Common.{◌≡◌, ◌∙◌, true, List, [], ap, sym, subst}
+use Rattle.at_model.specs.Classes.{Classes, AreSound}
+use Rattle.at_model.specs.Machine.{State}
+use Rattle.at_model.specs.Trees.{Tree, conforms}
+use Rattle.at_tree.specs.TreeView.{tree_view}
+use Rattle.at_store.specs.Shown.{path}
+use Rattle.at_engine.specs.Marks.{AreThere, marks_view}
+use Rattle.at_engine.specs.declared.marks.Mark.{Mark}
+use Rattle.at_engine.proofs.Storing.{held, right_of_nothing}
+use Rattle.at_engine.proofs.engine.Engine.new.Goals as goal
+
+pub returns-clause-first : goal.returns-clause-first
+returns-clause-first g c =
+    ap (λ (t : Tree). held t 0 (marks_view (path c.in_ok-store.store) c.new-2.result.items.items)) c.in_ok-store.ensures.loaded
+    ∙ ap (λ (l : List Mark). held (tree_view c.args.tree) 0 (marks_view (path c.in_ok-store.store) l)) c.new-2.ensures
+
+pub returns-clause-sound : goal.returns-clause-sound
+returns-clause-sound g c empty = record {
+  idle = c.in_ok-store.ensures.idle;
+  sound = subst (λ (x : Classes). AreSound x) c.classes-2.ensures c.len-classes.ensures.sound;
+  conforming = subst (λ (t : Tree). conforms c.args.rules.classes t 0 ≡ true) (sym c.in_ok-store.ensures.loaded) (subst (λ (x : Classes). conforms x (tree_view c.args.tree) 0 ≡ true) c.classes.ensures c.in_ok-store.ensures.fits);
+  marked = subst (AreThere (path c.in_ok-store.store)) (sym c.new-2.ensures) tt;
+  right = right_of_nothing c.args.rules c.in_ok-store.store _ (λ i. ap (λ k. g.K.Keeper.contents k i) c.new.ensures ∙ empty i);
+}

@@ -1,0 +1,63 @@
+use Rattle.std.proofs.Common.{Some, ap, is_some, refl, sym}
+use Rattle.std.proofs.lemmas.Result.{IfOk-weaker}
+use Rattle.at_model.specs.Edits as edit
+use Rattle.at_model.specs.Edits.{optional_class}
+use Rattle.at_model.specs.Machine.{changed, with_tree}
+use Rattle.at_tree.specs.View.{term_view}
+use Rattle.at_protocol.specs.LineView.{place_view}
+use Rattle.at_engine.specs.Engines.{rules_of, state_of}
+use Rattle.at_engine.proofs.Commands.{misshaped, no_component, other_shape, put_as, put_nowhere, right_shape, with_shaped}
+use Rattle.at_engine.proofs.engine.Engine.put.Goals as goal
+
+pub edit-requires-clause-there : goal.edit-requires-clause-there
+edit-requires-clause-there g c = ap is_some c.in-Some.ensures.2
+
+pub returns-in_default-clause-obeys : goal.returns-in_default-clause-obeys
+returns-in_default-clause-obeys g c =
+    let e = c.args.self.now in
+    put_nowhere (rules_of e) (state_of e) c.args.session (place_view c.args.place.now) c.args.part.now (term_view c.args.term.now) c.in_default.ensures
+
+pub returns-in_default-component-clause-obeys : goal.returns-in_default-component-clause-obeys
+returns-in_default-component-clause-obeys g c =
+    let e = c.args.self.now in
+    let s = state_of e in
+    let k = (rules_of e).classes in
+    let t = term_view c.args.term.now in
+    let (n, named, p) = c.in-Some.ensures in
+    put_as (rules_of e) s c.args.session (place_view c.args.place.now) n named _ s t c.args.part.now 
+        (no_component (rules_of e) s n c.args.part.now optional_class (λ i b. with_tree k t (Some b) (λ u. changed k s (edit.Put n i u))) (c.in_default-component.ensures n p))
+
+pub returns-in_default-optional_class-clause-obeys : goal.returns-in_default-optional_class-clause-obeys
+returns-in_default-optional_class-clause-obeys g c =
+    let e = c.args.self.now in
+    let s = state_of e in
+    let k = (rules_of e).classes in
+    let t = term_view c.args.term.now in
+    let (n, named, p) = c.in-Some.ensures in
+    put_as (rules_of e) s c.args.session (place_view c.args.place.now) n named _ s t c.args.part.now 
+        (other_shape (rules_of e) s n c.args.part.now optional_class (λ i b. with_tree k t (Some b) (λ u. changed k s (edit.Put n i u))) c.in-Some-component.found.0 c.in-Some-component.found.1 (c.in-Some-component.ensures n p) (sym c.in_default-optional_class.ensures))
+
+pub returns-in-Ok-clause-obeys : goal.returns-in-Ok-clause-obeys
+returns-in-Ok-clause-obeys g c =
+    let e = c.args.self.now in
+    let s = state_of e in
+    let k = (rules_of e).classes in
+    let t = term_view c.args.term.now in
+    let (n, named, p) = c.in-Some.ensures in
+    let new = state_of c.edit.new.self in
+    let i = c.in-Some-component.found.0 in
+    IfOk-weaker c.edit.result _ _ (λ f is. put_as (rules_of e) s c.args.session (place_view c.args.place.now) n named f new t c.args.part.now 
+        (right_shape (rules_of e) s n c.args.part.now optional_class (λ i b. with_tree k t (Some b) (λ u. changed k s (edit.Put n i u))) i c.in-Some-component.found.1 c.in-Some-optional_class.class f new (c.in-Some-component.ensures n p) (sym c.in-Some-optional_class.ensures)
+            (with_shaped (rules_of e) t c.in-Some-optional_class.class c.in-Ok.tree (λ u. changed k s (edit.Put n i u)) s f new c.in-Ok.ensures is))) (c.edit.ensures.follows n p)
+
+pub returns-in-Err-clause-obeys : goal.returns-in-Err-clause-obeys
+returns-in-Err-clause-obeys g c =
+    let e = c.args.self.now in
+    let s = state_of e in
+    let k = (rules_of e).classes in
+    let t = term_view c.args.term.now in
+    let (n, named, p) = c.in-Some.ensures in
+    let i = c.in-Some-component.found.0 in
+    IfOk-weaker c.told.result _ _ (λ f is. put_as (rules_of e) s c.args.session (place_view c.args.place.now) n named f s t c.args.part.now 
+        (right_shape (rules_of e) s n c.args.part.now optional_class (λ i b. with_tree k t (Some b) (λ u. changed k s (edit.Put n i u))) i c.in-Some-component.found.1 c.in-Some-optional_class.class f s (c.in-Some-component.ensures n p) (sym c.in-Some-optional_class.ensures)
+            (misshaped (rules_of e) t c.in-Some-optional_class.class (Some c.in-Some-optional_class.class) (λ u. changed k s (edit.Put n i u)) s c.in-Err.obstacle f refl c.in-Err.ensures is))) c.told.ensures

@@ -1,0 +1,41 @@
+use Rattle.std.proofs.Common.{ap, is_some, sym}
+use Rattle.std.proofs.lemmas.Result.{IfOk-weaker}
+use Rattle.at_model.specs.Edits as edit
+use Rattle.at_model.specs.Edits.{class_asked}
+use Rattle.at_model.specs.Machine.{changed}
+use Rattle.at_tree.specs.View.{term_view}
+use Rattle.at_protocol.specs.LineView.{place_view}
+use Rattle.at_engine.specs.Engines.{rules_of, state_of}
+use Rattle.at_engine.proofs.Commands.{misshaped, set_as, set_done, set_nowhere}
+use Rattle.at_engine.proofs.engine.Engine.set.Goals as goal
+
+pub edit-requires-clause-there : goal.edit-requires-clause-there
+edit-requires-clause-there g c = ap is_some c.in-Some.ensures.2
+
+pub returns-in_default-clause-obeys : goal.returns-in_default-clause-obeys
+returns-in_default-clause-obeys g c =
+    let e = c.args.self.now in
+    set_nowhere (rules_of e) (state_of e) c.args.session (place_view c.args.place.now) (term_view c.args.term.now) c.in_default.ensures
+
+pub returns-in_default-class_asked-clause-obeys : goal.returns-in_default-class_asked-clause-obeys
+returns-in_default-class_asked-clause-obeys g c =
+    let (n, named, p) = c.in-Some.ensures in
+    let none = (c.in_default-class_asked.ensures n p).1 in absurd cc
+
+pub returns-in-Ok-clause-obeys : goal.returns-in-Ok-clause-obeys
+returns-in-Ok-clause-obeys g c =
+    let e = c.args.self.now in
+    let (n, named, p) = c.in-Some.ensures in
+    let asked = sym (c.in-Some-class_asked.ensures n p).0 in
+    IfOk-weaker c.edit.result _ _ (λ f is. set_done (rules_of e) (state_of e) c.args.session (place_view c.args.place.now) n named f (state_of c.edit.new.self) (term_view c.args.term.now) c.in-Some-class_asked.class c.in-Ok.tree asked c.in-Ok.ensures is) (c.edit.ensures.follows n p)
+
+pub returns-in-Err-clause-obeys : goal.returns-in-Err-clause-obeys
+returns-in-Err-clause-obeys g c =
+    let e = c.args.self.now in
+    let s = state_of e in
+    let k = (rules_of e).classes in
+    let t = term_view c.args.term.now in
+    let (n, named, p) = c.in-Some.ensures in
+    let asked = sym (c.in-Some-class_asked.ensures n p).0 in
+    IfOk-weaker c.told.result _ _ (λ f is. set_as (rules_of e) s c.args.session (place_view c.args.place.now) n named f s t
+        (misshaped (rules_of e) t c.in-Some-class_asked.class (class_asked k s.tree n) (λ u. changed k s (edit.Set n u)) s c.in-Err.obstacle f asked c.in-Err.ensures is)) c.told.ensures

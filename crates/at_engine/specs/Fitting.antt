@@ -1,0 +1,32 @@
+-- Which values fit parameters, by the numbers of nodes.
+use Rattle.std.specs.Prelude.{ℕ, Bool, true, false, ◌&&◌, List, [], ◌∷◌, Some, None}
+use Rattle.at_model.specs.Classes.{Classes, is_sub}
+use Rattle.at_model.specs.Run.{Value, Contents, Is}
+use Rattle.at_model.specs.Run as run
+use Rattle.at_model.specs.Rules.{Kind}
+use Rattle.at_model.specs.Rules as kind
+
+-- it is a text
+abbrev pub is_text : Value ℕ → Bool
+is_text (run.Text bytes) = true
+is_text v = false
+
+-- it is null, or a node of the class or below it
+abbrev pub is_of_class : Classes → Contents ℕ → ℕ → Value ℕ → Bool
+is_of_class classes look b (run.Ref None) = true
+is_of_class classes look b (run.Ref (Some k)) = is_sub classes (look (Is k)) b
+is_of_class classes look b v = false
+
+-- a text fits a text, and what is of the class fits it
+abbrev pub fits_number : Classes → Contents ℕ → Kind → Value ℕ → Bool
+fits_number classes look kind.Int v = false
+fits_number classes look kind.Truth v = false
+fits_number classes look kind.Text v = is_text v
+fits_number classes look (kind.Class b) v = is_of_class classes look b v
+
+-- as many values as parameters, and each fits
+abbrev pub fit_numbers : Classes → Contents ℕ → List Kind → List (Value ℕ) → Bool
+fit_numbers classes look [] [] = true
+fit_numbers classes look [] (v ∷ vs) = false
+fit_numbers classes look (k ∷ ks) [] = false
+fit_numbers classes look (k ∷ ks) (v ∷ vs) = fits_number classes look k v && fit_numbers classes look ks vs

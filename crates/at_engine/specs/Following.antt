@@ -1,0 +1,17 @@
+-- What a command is told by its verdict, in the words of the program, and in what state it leaves.
+use Rattle.std.specs.Prelude.{◌≡◌}
+use Rattle.at_model.specs.Rules.{Rules}
+use Rattle.at_model.specs.Machine.{State, Verdict, ByEquations, Says, after}
+use Rattle.at_model.specs.Replies.{Form}
+use Rattle.at_protocol.specs.ReplyView.{IsForm}
+use Rattle.at_protocol.specs.Writable.{IsWritable, IsShort}
+use Rattle.at_protocol.specs.declared.reply.Form.{Form as FormValue}
+
+-- It stands for what the verdict says, it can be written, and what isn't short leaves all as it was.
+pub record Follows (rules : Rules) (old : State) (v : Verdict) (value : FormValue) (new : State) : Type 0 where
+  pub form : Form
+  pub is_form : IsForm value form
+  pub says : Says rules (ByEquations rules) old v form
+  pub state : new ≡ after old v
+  pub writable : IsWritable value
+  pub kept : (IsShort value → ⊥) → new ≡ old
