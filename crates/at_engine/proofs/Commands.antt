@@ -49,7 +49,7 @@ module _ (rules : Rules) (s : State) (session : ℕ) (place : Place) where
   pub show_term : (n : Node) (u : Tree) (text : Vec ℕ Global) → node_named rules.classes s session place ≡ Some n → tree_at s.tree n ≡ Some u → text.items ≡ tree_text rules.classes u → Obeys rules s session (Show place) (form.Shows (shown.Term text)) s
   show_term n u text e at' is = tells rules s (obeyed rules s session (Show place)) (shown.Term text) (Written (term_of rules.classes u))
       (at_the_node rules.classes s session place (λ n. elim (tree_at s.tree n) as (λ _. Verdict) [ None ↦ Refuses code.Path | Some u ↦ Tells (Written (term_of rules.classes u)) ]) n e
-        ∙ ap (λ (o : Option Tree). elim o as (λ _. Verdict) [ None ↦ Refuses code.Path | Some u ↦ Tells (Written (term_of rules.classes u)) ]) at')
+      ∙ ap (λ (o : Option Tree). elim o as (λ _. Verdict) [ None ↦ Refuses code.Path | Some u ↦ Tells (Written (term_of rules.classes u)) ]) at')
       (term_of rules.classes u, is, refl) tt
 
   module _ (name : List ℕ) where

@@ -43,7 +43,7 @@ module _ (path : ℕ → Option Node) (named : Argument → Option (Value Node))
       so_more o v there h more same =
           let (w, is, like) : IsValueOf path (named (argument_view a)) (Some v) = subst (λ (x : Option ValueCode). IsValueOf path (named (argument_view a)) x) there h in
           subst (λ (xs : List (Value ℕ)). Collected (ValueLike (Names path)) all xs (map named (arguments_view others))) (sym (ap (map value_view) same ∙ map-append value_view vs (v ∷ [])))
-              (collected_more (ValueLike (Names path)) all (map value_view vs) (value_view v) w (named (argument_view a)) (map named (arguments_view others)) is like so_now)
+          (collected_more (ValueLike (Names path)) all (map value_view vs) (value_view v) w (named (argument_view a)) (map named (arguments_view others)) is like so_now)
 
       pub so_stop : (o : Option ValueCode) → o ≡ None → IsValueOf path (named (argument_view a)) o → each all ≡ None
       so_stop o there h = collected_stop (ValueLike (Names path)) all (map value_view vs) (named (argument_view a)) (map named (arguments_view others)) (subst (λ (x : Option ValueCode). IsValueOf path (named (argument_view a)) x) there h) so_now

@@ -1,5 +1,9 @@
 //! Questions for the attributes of nodes.
 
+ghost use Rattle.std.specs.Prelude.{◌≡◌};
+ghost use Rattle.at_engine.specs.Fitting.{is_text};
+ghost use Rattle.at_body.specs.Values.{value_view};
+
 use super::Engine;
 use at_body::{Arguments, Inst, Value};
 use at_cache::Keeper;
@@ -9,10 +13,6 @@ use at_protocol::reply::{Form, Refusal};
 use at_rules::{AttrId, Kind};
 use at_store::Node;
 use std::alloc::AllocError;
-
-ghost use Rattle.std.specs.Prelude.{◌≡◌};
-ghost use Rattle.at_engine.specs.Fitting.{is_text};
-ghost use Rattle.at_body.specs.Values.{value_view};
 
 /// Whether the value is a text.
 fn is_text(value: &Value) -> bool

@@ -1,5 +1,12 @@
 //! What a session is told of an answer.
 
+ghost use Rattle.std.specs.Prelude.{◌≡◌};
+ghost use Rattle.at_model.specs.Bodies.{int_of};
+ghost use Rattle.at_model.specs.Trees.{Int as Number};
+ghost use Rattle.at_tree.specs.Token.{token_view};
+ghost use Rattle.at_body.specs.Values.{fault_view, value_view};
+ghost use Rattle.at_protocol.specs.ReplyView.{fault_view as word_view};
+
 use super::Engine;
 use at_body::{FaultKind, Inst, Value};
 use at_cache::Keeper;
@@ -8,13 +15,6 @@ use at_protocol::reply::{FaultWord, Form, Shown};
 use at_store::Node;
 use at_tree::token::TokVal;
 use std::alloc::AllocError;
-
-ghost use Rattle.std.specs.Prelude.{◌≡◌};
-ghost use Rattle.at_model.specs.Bodies.{int_of};
-ghost use Rattle.at_model.specs.Trees.{Int as Number};
-ghost use Rattle.at_tree.specs.Token.{token_view};
-ghost use Rattle.at_body.specs.Values.{fault_view, value_view};
-ghost use Rattle.at_protocol.specs.ReplyView.{fault_view as word_view};
 
 /// The word for a fault.
 fn fault_word(kind: FaultKind) -> FaultWord

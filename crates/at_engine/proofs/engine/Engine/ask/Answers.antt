@@ -18,27 +18,28 @@ pub returns-in_default-2-clause-obeys : goal.returns-in_default-2-clause-obeys
 returns-in_default-2-clause-obeys g c =
     let e = c.args.self.now in
     asked_no_values (rules_of e) e.store c.requires.sound.idle e.version e.marks.items.items c.args.session (place_view c.args.place.now) c.args.attribute.now (arguments_view c.args.arguments.now) c.in-Some.node c.in-Some.ensures
-        (values_none _ _ _ _ c.in_default-2.is c.in_ok-values.ensures)
+    (values_none _ _ _ _ c.in_default-2.is c.in_ok-values.ensures)
 
 pub returns-in_default-attribute-clause-obeys : goal.returns-in_default-attribute-clause-obeys
 returns-in_default-attribute-clause-obeys g c =
     let e = c.args.self.now in
     asked_no_attribute (rules_of e) e.store c.requires.sound.idle e.version e.marks.items.items c.args.session (place_view c.args.place.now) c.args.attribute.now (arguments_view c.args.arguments.now) c.in-Some.node c.in-Some.ensures
-        c.in-Some-2.values.items (values_some _ _ _ _ _ c.in-Some-2.is c.in_ok-values.ensures) c.class.result c.class.ensures c.requires.named c.in_default-attribute.ensures.named
+    c.in-Some-2.values.items (values_some _ _ _ _ _ c.in-Some-2.is c.in_ok-values.ensures) c.class.result c.class.ensures c.requires.named c.in_default-attribute.ensures.named
 
 pub returns-then-not-fit_parameters-clause-obeys : goal.returns-then-not-fit_parameters-clause-obeys
 returns-then-not-fit_parameters-clause-obeys g c =
     let e = c.args.self.now in
     asked_unfit (rules_of e) e.store c.requires.sound.idle e.version e.marks.items.items c.args.session (place_view c.args.place.now) c.args.attribute.now (arguments_view c.args.arguments.now) c.in-Some.node c.in-Some.ensures
-        c.in-Some-2.values.items (values_some _ _ _ _ _ c.in-Some-2.is c.in_ok-values.ensures) c.class.result c.class.ensures c.requires.named c.in-Some-attribute.attribute c.in-Some-attribute.ensures.named
-        c.as_slice.result.now c.as_slice.ensures c.if-not-fit_parameters.ensures
+    c.in-Some-2.values.items (values_some _ _ _ _ _ c.in-Some-2.is c.in_ok-values.ensures) c.class.result c.class.ensures c.requires.named c.in-Some-attribute.attribute c.in-Some-attribute.ensures.named
+    c.as_slice.result.now c.as_slice.ensures c.if-not-fit_parameters.ensures
 
 pub answer-requires-clause-there : goal.answer-requires-clause-there
 answer-requires-clause-there g c =
     let e = c.args.self.now in
-    let values = values_some _ _ _ _ _ c.in-Some-2.is c.in_ok-values.ensures in
-    (asked_of (rules_of e) e.store c.requires.sound.idle e.version e.marks.items.items c.args.session (place_view c.args.place.now) c.args.attribute.now (arguments_view c.args.arguments.now) c.in-Some.node c.in-Some.ensures c.in-Some-2.values.items values c.in-Some-attribute.attribute,
-     asked_like (rules_of e) e.store c.requires.sound.idle e.version e.marks.items.items c.args.session (place_view c.args.place.now) c.args.attribute.now (arguments_view c.args.arguments.now) c.in-Some.node c.in-Some.ensures c.in-Some-2.values.items values c.in-Some-attribute.attribute)
+    let values = values_some _ _ _ _ _ c.in-Some-2.is c.in_ok-values.ensures in (
+      asked_of (rules_of e) e.store c.requires.sound.idle e.version e.marks.items.items c.args.session (place_view c.args.place.now) c.args.attribute.now (arguments_view c.args.arguments.now) c.in-Some.node c.in-Some.ensures c.in-Some-2.values.items values c.in-Some-attribute.attribute,
+      asked_like (rules_of e) e.store c.requires.sound.idle e.version e.marks.items.items c.args.session (place_view c.args.place.now) c.args.attribute.now (arguments_view c.args.arguments.now) c.in-Some.node c.in-Some.ensures c.in-Some-2.values.items values c.in-Some-attribute.attribute,
+    )
 
 pub returns-clause-obeys : goal.returns-clause-obeys
 returns-clause-obeys g c =
@@ -49,8 +50,8 @@ returns-clause-obeys g c =
     let q = asked_of (rules_of e) e.store c.requires.sound.idle e.version e.marks.items.items c.args.session place c.args.attribute.now arguments c.in-Some.node c.in-Some.ensures c.in-Some-2.values.items values c.in-Some-attribute.attribute in
     let like = asked_like (rules_of e) e.store c.requires.sound.idle e.version e.marks.items.items c.args.session place c.args.attribute.now arguments c.in-Some.node c.in-Some.ensures c.in-Some-2.values.items values c.in-Some-attribute.attribute in
     IfOk-weaker c.answer.result _ _
-        (λ f told. subst (λ (s : State). Obeys (rules_of e) (state_of e) c.args.session (Ask place c.args.attribute.now arguments) f s) (sym c.answer.ensures.kept)
-            (asked_fit (rules_of e) e.store c.requires.sound.idle e.version e.marks.items.items c.args.session place c.args.attribute.now arguments c.in-Some.node c.in-Some.ensures
-                c.in-Some-2.values.items values c.class.result c.class.ensures c.requires.named c.in-Some-attribute.attribute c.in-Some-attribute.ensures.named
-                c.as_slice.result.now c.as_slice.ensures c.if-not-fit_parameters.ensures f told))
-        (c.answer.ensures.answered q like)
+    (λ f told. subst (λ (s : State). Obeys (rules_of e) (state_of e) c.args.session (Ask place c.args.attribute.now arguments) f s) (sym c.answer.ensures.kept)
+    (asked_fit (rules_of e) e.store c.requires.sound.idle e.version e.marks.items.items c.args.session place c.args.attribute.now arguments c.in-Some.node c.in-Some.ensures
+    c.in-Some-2.values.items values c.class.result c.class.ensures c.requires.named c.in-Some-attribute.attribute c.in-Some-attribute.ensures.named
+    c.as_slice.result.now c.as_slice.ensures c.if-not-fit_parameters.ensures f told))
+    (c.answer.ensures.answered q like)

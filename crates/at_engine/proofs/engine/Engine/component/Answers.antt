@@ -27,5 +27,5 @@ returns g c n p =
     let there : slice_get ps i ≡ Some q = slice_get_read ps (length ps) i q refl (ltb-true i (length ps) (sym c.in_ok-component.ensures.lookup.0)) c.in_ok-component.ensures.lookup.1 in
     let same : map part_view ps ≡ parts k (contents e.store (Is c.args.node)) = c.parts.ensures ∙ ap (λ (x : Classes). parts x c.class-class.result) c.classes-2.ensures ∙ ap (parts k) c.class-class.ensures in
     let named : part_named k (contents e.store (Is c.args.node)) c.args.name.now ≡ Some i =
-        sym (c.in_ok-part.ensures.found ∙ ap (λ (x : Classes). part_named x c.class-class.result c.args.name.now) c.classes.ensures ∙ ap (λ (j : ℕ). part_named k j c.args.name.now) c.class-class.ensures) in
+    sym (c.in_ok-part.ensures.found ∙ ap (λ (x : Classes). part_named x c.class-class.result c.args.name.now) c.classes.ensures ∙ ap (λ (j : ℕ). part_named k j c.args.name.now) c.class-class.ensures) in
     component_found k e.store c.args.node n c.args.name.now p i q named (part_read ps _ i q same there)

@@ -72,13 +72,13 @@ returns-clause-sound g c =
     let mid = c.check.new.self in
     let ready = subst (λ (x : Classes). (n : Node) → IsAsked x e.store c.args.edit n → IsPrepared x e.store (edit_at n c.args.edit) (Does q) mid) c.classes.ensures c.in-Ok.ensures.ready in
     let right : KeepsRight e.rules e.store c.args.edit q mid c.commit.new.self (g.K.Keeper.contents c.after_edit.new.self.keeper) = λ n p is.
-        kept_right e.rules e.store c.commit.new.self (edit_at n c.args.edit) p.left c.requires.sound.idle c.requires.sound.conforming p.accepted is (Touches e.store (edit_at n c.args.edit)) (λ l m h like. h m like) _ _ c.requires.sound.right
-            (λ i k left.
-                let a = c.after_edit.ensures.leaves i k left in (
-                  a.0,
-                  λ l covers m like.
-                      let (x, same, said) = a.1 l covers in
-                      let there : LocationLike (Names (path e.store)) (loc_view x) m = subst (λ (j : Location ℕ). LocationLike (Names (path e.store)) j m) (sym same) like in
-                      search (rules, untouched_by),
-                )) in
+    kept_right e.rules e.store c.commit.new.self (edit_at n c.args.edit) p.left c.requires.sound.idle c.requires.sound.conforming p.accepted is (Touches e.store (edit_at n c.args.edit)) (λ l m h like. h m like) _ _ c.requires.sound.right
+    (λ i k left.
+    let a = c.after_edit.ensures.leaves i k left in (
+      a.0,
+      λ l covers m like.
+          let (x, same, said) = a.1 l covers in
+          let there : LocationLike (Names (path e.store)) (loc_view x) m = subst (λ (j : Location ℕ). LocationLike (Names (path e.store)) j m) (sym same) like in
+          search (rules, untouched_by),
+    )) in
     sound_done e.rules e.store e.version e.marks.items.items c.args.edit _ c.requires.sound mid q ready c.commit.new.self c.commit.ensures c.keep_live.new.self.items.items c.keep_live.ensures c.requires.there _ right

@@ -25,7 +25,7 @@ returns-in_default-component-clause-obeys g c =
     let t = term_view c.args.term.now in
     let (n, named, p) = c.in-Some.ensures in
     insert_as (rules_of e) s c.args.session (place_view c.args.place.now) n named _ s t c.args.part.now c.args.index
-        (no_component (rules_of e) s n c.args.part.now list_class (λ i b. with_tree k t (Some b) (λ u. changed k s (edit.Insert n i c.args.index u))) (c.in_default-component.ensures n p))
+    (no_component (rules_of e) s n c.args.part.now list_class (λ i b. with_tree k t (Some b) (λ u. changed k s (edit.Insert n i c.args.index u))) (c.in_default-component.ensures n p))
 
 pub returns-in_default-list_class-clause-obeys : goal.returns-in_default-list_class-clause-obeys
 returns-in_default-list_class-clause-obeys g c =
@@ -35,7 +35,7 @@ returns-in_default-list_class-clause-obeys g c =
     let t = term_view c.args.term.now in
     let (n, named, p) = c.in-Some.ensures in
     insert_as (rules_of e) s c.args.session (place_view c.args.place.now) n named _ s t c.args.part.now c.args.index
-        (other_shape (rules_of e) s n c.args.part.now list_class (λ i b. with_tree k t (Some b) (λ u. changed k s (edit.Insert n i c.args.index u))) c.in-Some-component.found.0 c.in-Some-component.found.1 (c.in-Some-component.ensures n p) (sym c.in_default-list_class.ensures))
+    (other_shape (rules_of e) s n c.args.part.now list_class (λ i b. with_tree k t (Some b) (λ u. changed k s (edit.Insert n i c.args.index u))) c.in-Some-component.found.0 c.in-Some-component.found.1 (c.in-Some-component.ensures n p) (sym c.in_default-list_class.ensures))
 
 pub returns-in-Ok-clause-obeys : goal.returns-in-Ok-clause-obeys
 returns-in-Ok-clause-obeys g c =
@@ -47,8 +47,8 @@ returns-in-Ok-clause-obeys g c =
     let new = state_of c.edit.new.self in
     let i = c.in-Some-component.found.0 in
     IfOk-weaker c.edit.result _ _ (λ f is. insert_as (rules_of e) s c.args.session (place_view c.args.place.now) n named f new t c.args.part.now c.args.index
-        (right_shape (rules_of e) s n c.args.part.now list_class (λ i b. with_tree k t (Some b) (λ u. changed k s (edit.Insert n i c.args.index u))) i c.in-Some-component.found.1 c.in-Some-list_class.class f new (c.in-Some-component.ensures n p) (sym c.in-Some-list_class.ensures)
-            (with_shaped (rules_of e) t c.in-Some-list_class.class c.in-Ok.tree (λ u. changed k s (edit.Insert n i c.args.index u)) s f new c.in-Ok.ensures is))) (c.edit.ensures.follows n p)
+    (right_shape (rules_of e) s n c.args.part.now list_class (λ i b. with_tree k t (Some b) (λ u. changed k s (edit.Insert n i c.args.index u))) i c.in-Some-component.found.1 c.in-Some-list_class.class f new (c.in-Some-component.ensures n p) (sym c.in-Some-list_class.ensures)
+    (with_shaped (rules_of e) t c.in-Some-list_class.class c.in-Ok.tree (λ u. changed k s (edit.Insert n i c.args.index u)) s f new c.in-Ok.ensures is))) (c.edit.ensures.follows n p)
 
 pub returns-in-Err-clause-obeys : goal.returns-in-Err-clause-obeys
 returns-in-Err-clause-obeys g c =
@@ -59,5 +59,5 @@ returns-in-Err-clause-obeys g c =
     let (n, named, p) = c.in-Some.ensures in
     let i = c.in-Some-component.found.0 in
     IfOk-weaker c.told.result _ _ (λ f is. insert_as (rules_of e) s c.args.session (place_view c.args.place.now) n named f s t c.args.part.now c.args.index
-        (right_shape (rules_of e) s n c.args.part.now list_class (λ i b. with_tree k t (Some b) (λ u. changed k s (edit.Insert n i c.args.index u))) i c.in-Some-component.found.1 c.in-Some-list_class.class f s (c.in-Some-component.ensures n p) (sym c.in-Some-list_class.ensures)
-            (misshaped (rules_of e) t c.in-Some-list_class.class (Some c.in-Some-list_class.class) (λ u. changed k s (edit.Insert n i c.args.index u)) s c.in-Err.obstacle f refl c.in-Err.ensures is))) c.told.ensures
+    (right_shape (rules_of e) s n c.args.part.now list_class (λ i b. with_tree k t (Some b) (λ u. changed k s (edit.Insert n i c.args.index u))) i c.in-Some-component.found.1 c.in-Some-list_class.class f s (c.in-Some-component.ensures n p) (sym c.in-Some-list_class.ensures)
+    (misshaped (rules_of e) t c.in-Some-list_class.class (Some c.in-Some-list_class.class) (λ u. changed k s (edit.Insert n i c.args.index u)) s c.in-Err.obstacle f refl c.in-Err.ensures is))) c.told.ensures

@@ -21,4 +21,4 @@ returns g c =
     let place = place_view c.args.place.now in
     let nodes = numbers e.store in
     named_led (rules_of e).classes e.store e.version (state_of e).marks c.args.session place c.in_ok-from.from c.resolve.result c.in_ok-from.ensures
-        (λ n u p at'. subst (λ (x : Classes). Led nodes x n u (steps_of place) c.resolve.result) c.classes.ensures (subst (λ (ss : Path). Led nodes c.classes.result.now n u ss c.resolve.result) c.steps_of.ensures (c.resolve.ensures n u p at')))
+    (λ n u p at'. subst (λ (x : Classes). Led nodes x n u (steps_of place) c.resolve.result) c.classes.ensures (subst (λ (ss : Path). Led nodes c.classes.result.now n u ss c.resolve.result) c.steps_of.ensures (c.resolve.ensures n u p at')))

@@ -24,8 +24,8 @@ returns-in_default-component-clause-obeys g c =
     let k = (rules_of e).classes in
     let t = term_view c.args.term.now in
     let (n, named, p) = c.in-Some.ensures in
-    put_as (rules_of e) s c.args.session (place_view c.args.place.now) n named _ s t c.args.part.now 
-        (no_component (rules_of e) s n c.args.part.now optional_class (λ i b. with_tree k t (Some b) (λ u. changed k s (edit.Put n i u))) (c.in_default-component.ensures n p))
+    put_as (rules_of e) s c.args.session (place_view c.args.place.now) n named _ s t c.args.part.now
+    (no_component (rules_of e) s n c.args.part.now optional_class (λ i b. with_tree k t (Some b) (λ u. changed k s (edit.Put n i u))) (c.in_default-component.ensures n p))
 
 pub returns-in_default-optional_class-clause-obeys : goal.returns-in_default-optional_class-clause-obeys
 returns-in_default-optional_class-clause-obeys g c =
@@ -34,8 +34,8 @@ returns-in_default-optional_class-clause-obeys g c =
     let k = (rules_of e).classes in
     let t = term_view c.args.term.now in
     let (n, named, p) = c.in-Some.ensures in
-    put_as (rules_of e) s c.args.session (place_view c.args.place.now) n named _ s t c.args.part.now 
-        (other_shape (rules_of e) s n c.args.part.now optional_class (λ i b. with_tree k t (Some b) (λ u. changed k s (edit.Put n i u))) c.in-Some-component.found.0 c.in-Some-component.found.1 (c.in-Some-component.ensures n p) (sym c.in_default-optional_class.ensures))
+    put_as (rules_of e) s c.args.session (place_view c.args.place.now) n named _ s t c.args.part.now
+    (other_shape (rules_of e) s n c.args.part.now optional_class (λ i b. with_tree k t (Some b) (λ u. changed k s (edit.Put n i u))) c.in-Some-component.found.0 c.in-Some-component.found.1 (c.in-Some-component.ensures n p) (sym c.in_default-optional_class.ensures))
 
 pub returns-in-Ok-clause-obeys : goal.returns-in-Ok-clause-obeys
 returns-in-Ok-clause-obeys g c =
@@ -46,9 +46,9 @@ returns-in-Ok-clause-obeys g c =
     let (n, named, p) = c.in-Some.ensures in
     let new = state_of c.edit.new.self in
     let i = c.in-Some-component.found.0 in
-    IfOk-weaker c.edit.result _ _ (λ f is. put_as (rules_of e) s c.args.session (place_view c.args.place.now) n named f new t c.args.part.now 
-        (right_shape (rules_of e) s n c.args.part.now optional_class (λ i b. with_tree k t (Some b) (λ u. changed k s (edit.Put n i u))) i c.in-Some-component.found.1 c.in-Some-optional_class.class f new (c.in-Some-component.ensures n p) (sym c.in-Some-optional_class.ensures)
-            (with_shaped (rules_of e) t c.in-Some-optional_class.class c.in-Ok.tree (λ u. changed k s (edit.Put n i u)) s f new c.in-Ok.ensures is))) (c.edit.ensures.follows n p)
+    IfOk-weaker c.edit.result _ _ (λ f is. put_as (rules_of e) s c.args.session (place_view c.args.place.now) n named f new t c.args.part.now
+    (right_shape (rules_of e) s n c.args.part.now optional_class (λ i b. with_tree k t (Some b) (λ u. changed k s (edit.Put n i u))) i c.in-Some-component.found.1 c.in-Some-optional_class.class f new (c.in-Some-component.ensures n p) (sym c.in-Some-optional_class.ensures)
+    (with_shaped (rules_of e) t c.in-Some-optional_class.class c.in-Ok.tree (λ u. changed k s (edit.Put n i u)) s f new c.in-Ok.ensures is))) (c.edit.ensures.follows n p)
 
 pub returns-in-Err-clause-obeys : goal.returns-in-Err-clause-obeys
 returns-in-Err-clause-obeys g c =
@@ -58,6 +58,6 @@ returns-in-Err-clause-obeys g c =
     let t = term_view c.args.term.now in
     let (n, named, p) = c.in-Some.ensures in
     let i = c.in-Some-component.found.0 in
-    IfOk-weaker c.told.result _ _ (λ f is. put_as (rules_of e) s c.args.session (place_view c.args.place.now) n named f s t c.args.part.now 
-        (right_shape (rules_of e) s n c.args.part.now optional_class (λ i b. with_tree k t (Some b) (λ u. changed k s (edit.Put n i u))) i c.in-Some-component.found.1 c.in-Some-optional_class.class f s (c.in-Some-component.ensures n p) (sym c.in-Some-optional_class.ensures)
-            (misshaped (rules_of e) t c.in-Some-optional_class.class (Some c.in-Some-optional_class.class) (λ u. changed k s (edit.Put n i u)) s c.in-Err.obstacle f refl c.in-Err.ensures is))) c.told.ensures
+    IfOk-weaker c.told.result _ _ (λ f is. put_as (rules_of e) s c.args.session (place_view c.args.place.now) n named f s t c.args.part.now
+    (right_shape (rules_of e) s n c.args.part.now optional_class (λ i b. with_tree k t (Some b) (λ u. changed k s (edit.Put n i u))) i c.in-Some-component.found.1 c.in-Some-optional_class.class f s (c.in-Some-component.ensures n p) (sym c.in-Some-optional_class.ensures)
+    (misshaped (rules_of e) t c.in-Some-optional_class.class (Some c.in-Some-optional_class.class) (λ u. changed k s (edit.Put n i u)) s c.in-Err.obstacle f refl c.in-Err.ensures is))) c.told.ensures

@@ -38,4 +38,4 @@ returns-in-Err-clause-obeys g c =
     let (n, named, p) = c.in-Some.ensures in
     let asked = sym (c.in-Some-class_asked.ensures n p).0 in
     IfOk-weaker c.told.result _ _ (λ f is. set_as (rules_of e) s c.args.session (place_view c.args.place.now) n named f s t
-        (misshaped (rules_of e) t c.in-Some-class_asked.class (class_asked k s.tree n) (λ u. changed k s (edit.Set n u)) s c.in-Err.obstacle f asked c.in-Err.ensures is)) c.told.ensures
+    (misshaped (rules_of e) t c.in-Some-class_asked.class (class_asked k s.tree n) (λ u. changed k s (edit.Set n u)) s c.in-Err.obstacle f asked c.in-Err.ensures is)) c.told.ensures

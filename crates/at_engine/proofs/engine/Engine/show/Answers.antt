@@ -19,7 +19,7 @@ returns g c =
     let (n, named, p) = c.in-Some.ensures in
     let (u, at') = tree_there e.store c.in-Some.node n p in
     let text = c.in_ok-write_term.ensures.ok
-        ∙ ap (λ xs. xs ++ tree_text c.classes.result.now (tree_view c.in_ok-tree.tree)) c.new-text.ensures.items
-        ∙ ap (λ (x : Classes). tree_text x (tree_view c.in_ok-tree.tree)) c.classes.ensures
-        ∙ ap (tree_text e.rules.classes) (c.in_ok-tree.ensures n u p at') in
+    ∙ ap (λ xs. xs ++ tree_text c.classes.result.now (tree_view c.in_ok-tree.tree)) c.new-text.ensures.items
+    ∙ ap (λ (x : Classes). tree_text x (tree_view c.in_ok-tree.tree)) c.classes.ensures
+    ∙ ap (tree_text e.rules.classes) (c.in_ok-tree.ensures n u p at') in
     show_term (rules_of e) (state_of e) c.args.session (place_view c.args.place.now) n u c.write_term.new.out named at' text

@@ -34,7 +34,7 @@ returns-in_default-component-clause-obeys g c =
     let k = (rules_of e).classes in
     let (n, named, p) = c.in-Some.ensures in
     token_as (rules_of e) s c.args.session (place_view c.args.place.now) n named _ s c.args.part.now (token_view c.args.value)
-        (no_component (rules_of e) s n c.args.part.now token_kind (λ i kind. changed k s (edit.Token n i (token_view c.args.value))) (c.in_default-component.ensures n p))
+    (no_component (rules_of e) s n c.args.part.now token_kind (λ i kind. changed k s (edit.Token n i (token_view c.args.value))) (c.in_default-component.ensures n p))
 
 pub returns-then-not-is_token-clause-obeys : goal.returns-then-not-is_token-clause-obeys
 returns-then-not-is_token-clause-obeys g c =
@@ -44,8 +44,8 @@ returns-then-not-is_token-clause-obeys g c =
     let (n, named, p) = c.in-Some.ensures in
     let found = c.in-Some-component.found in
     token_as (rules_of e) s c.args.session (place_view c.args.place.now) n named _ s c.args.part.now (token_view c.args.value)
-        (other_shape (rules_of e) s n c.args.part.now token_kind (λ i kind. changed k s (edit.Token n i (token_view c.args.value))) found.0 found.1 (c.in-Some-component.ensures n p)
-            (none_of (token_kind (shape_view found.1)) (sym c.is_token.ensures ∙ c.if-not-is_token.true)))
+    (other_shape (rules_of e) s n c.args.part.now token_kind (λ i kind. changed k s (edit.Token n i (token_view c.args.value))) found.0 found.1 (c.in-Some-component.ensures n p)
+    (none_of (token_kind (shape_view found.1)) (sym c.is_token.ensures ∙ c.if-not-is_token.true)))
 
 pub returns-clause-obeys : goal.returns-clause-obeys
 returns-clause-obeys g c =
@@ -57,4 +57,4 @@ returns-clause-obeys g c =
     let found = c.in-Some-component.found in
     let (kind, is_kind) = some_of (token_kind (shape_view found.1)) (sym c.is_token.ensures ∙ c.if-not-is_token.false) in
     IfOk-weaker c.edit.result _ _ (λ f is. token_as (rules_of e) s c.args.session (place_view c.args.place.now) n named f new c.args.part.now (token_view c.args.value)
-        (right_shape (rules_of e) s n c.args.part.now token_kind (λ i kind. changed k s (edit.Token n i (token_view c.args.value))) found.0 found.1 kind f new (c.in-Some-component.ensures n p) is_kind is)) (c.edit.ensures.follows n p)
+    (right_shape (rules_of e) s n c.args.part.now token_kind (λ i kind. changed k s (edit.Token n i (token_view c.args.value))) found.0 found.1 kind f new (c.in-Some-component.ensures n p) is_kind is)) (c.edit.ensures.follows n p)

@@ -13,7 +13,7 @@ pub returns-clause-obeys : goal.returns-clause-obeys
 returns-clause-obeys g c =
     let e = c.args.self.now in
     let left = ap (marks_view (path e.store)) c.forget.ensures
-        ∙ sym (filtered (path e.store) (λ (m : Marked). not (is_mark c.args.session c.args.name.now m)) (λ (m : Mark). not (is_named c.args.session c.args.name.now m)) (λ m n. refl) e.marks.items.items) in
+    ∙ sym (filtered (path e.store) (λ (m : Marked). not (is_mark c.args.session c.args.name.now m)) (λ (m : Mark). not (is_named c.args.session c.args.name.now m)) (λ m n. refl) e.marks.items.items) in
     rw c.done.ensures (unmarked (rules_of e) (state_of e) c.args.session c.args.name.now _ left)
 
 pub returns-clause-sound : goal.returns-clause-sound
