@@ -71,7 +71,7 @@ returns-in-Ok-new-clause-started c =
     let there = subst (λ (b : List ℕ). IsTermFile b (term_of c.classes.result.now t)) c.deref-3.ensures.value c.in-Ok-tree_of.ensures.written in
     let written = subst (λ (k : Classes). IsTermFile bytes (term_of k t)) same there in
     let whole = subst (λ (k : Classes). conforms k t 0 ≡ true) same c.in-Ok-tree_of.ensures.whole in
-    let sound = c.in-Ok-new.ensures.sound c.new-2.ensures in
+    let sound = c.in-Ok-new.ensures.sound c.new.ensures in
     let within = subst (λ (s : State). is_within_limits s.tree ≡ true) c.in-Ok-new.ensures.first sound.idle.limits in
     record {
       classes = c.in-Ok.classes;
