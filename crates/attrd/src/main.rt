@@ -2,9 +2,7 @@
 //! answers lines of standard input on standard output, or those of the connections of a socket.
 #![tactic(auto)]
 
-ghost use Rattle.std.specs.Prelude.{◌≡◌, IfOk};
-ghost use Rattle.at_engine.specs.Engines.{IsWhole};
-ghost use Rattle.at_store.specs.Shown.{IsIdle};
+ghost use Rattle.std.specs.Prelude.{IfOk};
 ghost use Rattle.attrd.specs.Starts.{IsReady};
 
 mod code;
@@ -41,7 +39,11 @@ fn main(rt: HostRuntime) -> ExitCode {
         Err(failure) => return ended(&rt, &failure),
     };
     let served = serve_asked(&rt, &options, &mut engine);
-    let work = if options.work { Some(engine.work()) } else { None };
+    let work = if options.work {
+        Some(engine.work())
+    } else {
+        None
+    };
     ended_with_work(&rt, served, work)
 }
 
@@ -52,17 +54,15 @@ fn ended(rt: &HostRuntime, failure: &Failure) -> ExitCode {
 }
 
 /// The end of what was served: its failure is told, and then the work, where that is asked for and memory didn't run out.
-fn ended_with_work(
-    rt: &HostRuntime,
-    served: Result<(), Failure>,
-    work: Option<u64>,
-) -> ExitCode {
+fn ended_with_work(rt: &HostRuntime, served: Result<(), Failure>, work: Option<u64>) -> ExitCode {
     let mut code = 0;
     if let Err(failure) = &served {
         code = status(failure);
         let _ = tell(rt, failure);
     }
-    if let Some(work) = work && code != 4 {
+    if let Some(work) = work
+        && code != 4
+    {
         let _ = eprintln!(rt; "work {work}");
     }
     ExitCode::from(code)
@@ -123,8 +123,7 @@ fn serve_asked(
     options: &Options,
     engine: &mut Engine<KeepRecorded>,
 ) -> Result<(), Failure>
-    requires idle { IsIdle engine.old.store }
-    requires whole { IsWhole engine.old }
+    requires { IsReady engine.old }
 {
     match &options.socket {
         Some(path) => serve_socket(rt, path.as_str(), options.connections, engine),
@@ -143,8 +142,7 @@ fn serve_socket(
     connections: u16,
     engine: &mut Engine<KeepRecorded>,
 ) -> Result<(), Failure>
-    requires idle { IsIdle engine.old.store }
-    requires whole { IsWhole engine.old }
+    requires { IsReady engine.old }
 {
     let listener = match UnixListener::bind(rt, path) {
         Ok(listener) => listener,

@@ -1,8 +1,8 @@
 //! The connections of a socket, served one after the other.
 ghost use Rattle.std.specs.Prelude.{◌≡◌, ◌≤◌, ◌+◌, ◌<◌, ◌^◌, ◌==◌};
-ghost use Rattle.at_engine.specs.Engines.{rules_of, IsWhole};
-ghost use Rattle.at_store.specs.Shown.{IsIdle};
+ghost use Rattle.at_engine.specs.Engines.{rules_of};
 ghost use Rattle.attrd.specs.Connections.{faults, counted};
+ghost use Rattle.attrd.specs.Starts.{IsReady};
 
 use at_cache::Keeper;
 use at_engine::{Engine, RunFault, run};
@@ -40,7 +40,14 @@ impl Served {
         ensures ended { result.ended ≡ 0 }
         ensures faults { faults result ≡ 0 }
     {
-        Served { ended: 0, read: 0, write: 0, reads: 0, memory: 0, socket: 0 }
+        Served {
+            ended: 0,
+            read: 0,
+            write: 0,
+            reads: 0,
+            memory: 0,
+            socket: 0,
+        }
     }
 
     /// Whether no connection ended by a fault.
@@ -71,16 +78,14 @@ impl Served {
 /// Serves so many connections, one after the other, all with this engine. A connection's fault ends that connection
 /// alone; one that isn't accepted counts, too.
 pub fn serve<K: Keeper>(engine: &mut Engine<K>, listener: &UnixListener, n: u16) -> Served
-    requires idle { IsIdle engine.old.store }
-    requires whole { IsWhole engine.old }
+    requires ready { IsReady engine.old }
     ensures ended { result.ended ≡ n }
     ensures faults { faults result ≤ n }
     ensures rules { rules_of engine.new ≡ rules_of engine.old }
-    ensures idle { IsIdle engine.new.store }
-    ensures whole { IsWhole engine.new }
+    ensures ready { IsReady engine.new }
 {
     let mut served = Served::none();
-    for _ in 0..n {
+    for turn in 0..n {
         let ended = serve_next(engine, listener);
         served.count(ended);
     }
@@ -92,11 +97,9 @@ fn serve_next<K: Keeper>(
     engine: &mut Engine<K>,
     listener: &UnixListener,
 ) -> Result<(), ConnectionFault>
-    requires idle { IsIdle engine.old.store }
-    requires whole { IsWhole engine.old }
+    requires ready { IsReady engine.old }
     ensures rules { rules_of engine.new ≡ rules_of engine.old }
-    ensures idle { IsIdle engine.new.store }
-    ensures whole { IsWhole engine.new }
+    ensures ready { IsReady engine.new }
 {
     let Ok((stream, _)) = listener.accept() else {
         return Err(ConnectionFault::Socket);

@@ -8,12 +8,11 @@ use crate::start::{Files, Source, start};
 use at_cache::KeepRecorded;
 use at_engine::Engine;
 use std::alloc::{AllocError, Global};
-use std::io;
-use std::io::{Read, Write};
+use std::io::Write;
 use std::net::Shutdown;
 use std::os::unix::net::{UnixListener, UnixStream};
 use std::test::Fail;
-use std::{env, fs, process};
+use std::{env, fs, io, process};
 
 fn named(alloc: Global, name: &str, text: &str) -> Result<Source, AllocError> {
     Ok(Source {
@@ -59,7 +58,8 @@ fn sent(rt: &HostRuntime, path: &str, bytes: &[u8]) -> io::Result<UnixStream> {
 fn path(rt: &HostRuntime, name: &str) -> Result<String, Fail> {
     let file = format!(in rt.alloc(); "attrd-{name}-{}", process::id(rt.process()))?;
     let path = env::temp_dir(rt)?.join(rt.alloc(), file.as_str())?;
-    Ok(String::from_str(rt.alloc(), path.as_path().to_str())?)
+    let text = path.as_path().to_str().ok_or("a path that is no text")?;
+    Ok(String::from_str(rt.alloc(), text)?)
 }
 
 /// Serves so many connections of the listener on the sum sample.
@@ -68,43 +68,40 @@ fn served(alloc: Global, listener: &UnixListener, n: u16) -> Result<Served, Fail
     Ok(serve(&mut engine, listener, n))
 }
 
+/// All that is received on the connection.
+fn received(alloc: Global, stream: UnixStream) -> Result<String, Fail> {
+    Ok(io::read_to_string(alloc, stream)?)
+}
+
 #[test]
 fn two_connections_share_one_tree(rt: HostRuntime) -> Result<(), Fail> {
+    let alloc = rt.alloc();
     let path = path(&rt, "two")?;
     let listener = UnixListener::bind(&rt, path.as_str())?;
-    let mut first = sent(&rt, path.as_str(), b"0 token /Right Value 5\n")?;
-    let mut second = sent(&rt, path.as_str(), b"1 version")?;
+    let first = sent(&rt, path.as_str(), b"0 token /Right Value 5\n")?;
+    let second = sent(&rt, path.as_str(), b"1 version\n")?;
     fs::remove_file(&rt, path.as_str())?;
-    let served = served(rt.alloc(), &listener, 2)?;
-    let mut replies = Vec::new(rt.alloc());
-    first.read_to_end(&mut replies)?;
-    assert!(rt; replies.as_slice() == b"0 ok 1\n");
-    replies.clear();
-    second.read_to_end(&mut replies)?;
-    assert!(rt; replies.as_slice() == b"1 ok 1\n");
-    let mut expected = Served::none();
-    expected.ended = 2;
-    assert!(rt; served == expected);
+    let served = served(alloc, &listener, 2)?;
+    assert!(rt; received(alloc, first)?.as_str() == "0 ok 1\n");
+    assert!(rt; received(alloc, second)?.as_str() == "1 ok 1\n");
+    assert!(rt; served.ended == 2 && served.is_faultless());
     Ok(())
 }
 
 #[test]
 fn a_client_that_goes_away_ends_its_connection_alone(rt: HostRuntime) -> Result<(), Fail> {
+    let alloc = rt.alloc();
     let path = path(&rt, "away")?;
     let listener = UnixListener::bind(&rt, path.as_str())?;
-    // It asks, and is gone before the reply.
+    // The first client is gone before its reply, and the second one sends half a line.
     drop(sent(&rt, path.as_str(), b"0 token /Right Value 5\n")?);
-    // It sends half a line.
-    let mut half = sent(&rt, path.as_str(), b"0 vers")?;
-    let mut last = sent(&rt, path.as_str(), b"0 version\n")?;
+    let half = sent(&rt, path.as_str(), b"0 vers")?;
+    let last = sent(&rt, path.as_str(), b"0 version\n")?;
     fs::remove_file(&rt, path.as_str())?;
-    let served = served(rt.alloc(), &listener, 3)?;
-    let mut replies = Vec::new(rt.alloc());
-    half.read_to_end(&mut replies)?;
-    assert!(rt; replies.as_slice() == b"0 refused 1 syntax\n");
-    replies.clear();
-    last.read_to_end(&mut replies)?;
-    assert!(rt; replies.as_slice() == b"0 ok 1\n");
-    assert!(rt; served.ended == 3 && served.write == 1 && served.read == 0);
+    let served = served(alloc, &listener, 3)?;
+    assert!(rt; received(alloc, half)?.as_str() == "0 refused 1 syntax\n");
+    assert!(rt; received(alloc, last)?.as_str() == "0 ok 1\n");
+    assert!(rt; served.ended == 3 && served.write == 1);
+    assert!(rt; served.read == 0 && served.reads == 0 && served.memory == 0 && served.socket == 0);
     Ok(())
 }

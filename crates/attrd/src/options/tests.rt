@@ -32,7 +32,16 @@ fn files_alone_are_served_on_standard_input(rt: HostRuntime) -> Result<(), Fail>
 
 #[test]
 fn all_options_and_several_aspects_are_read(rt: HostRuntime) -> Result<(), Fail> {
-    let words = ["--work", "a.ast", "--socket", "/tmp/s", "a.txt", "a.jrag", "b.jrag", "--connections=1000"];
+    let words = [
+        "--work",
+        "a.ast",
+        "--socket",
+        "/tmp/s",
+        "a.txt",
+        "a.jrag",
+        "b.jrag",
+        "--connections=1000",
+    ];
     let options = taken(rt.alloc(), &words)?;
     assert!(rt; options.socket.is_some_and(|path| path.as_str() == "/tmp/s"));
     assert!(rt; options.connections == 1_000 && options.work);
@@ -46,7 +55,10 @@ fn a_number_of_connections_out_of_range_is_refused(rt: HostRuntime) -> Result<()
     let alloc = rt.alloc();
     let none = refusal(alloc, &["--connections", "0", "a.ast", "a.txt", "a.jrag"])?;
     assert!(rt; none.as_str().contains("0 is not in 1..=1000"), "{none}");
-    let many = refusal(alloc, &["--connections", "1001", "a.ast", "a.txt", "a.jrag"])?;
+    let many = refusal(
+        alloc,
+        &["--connections", "1001", "a.ast", "a.txt", "a.jrag"],
+    )?;
     assert!(rt; many.as_str().contains("1001 is not in 1..=1000"), "{many}");
     Ok(())
 }
@@ -57,16 +69,32 @@ fn what_is_missing_twice_or_unknown_is_refused(rt: HostRuntime) -> Result<(), Fa
     let few = refusal(alloc, &["a.ast", "a.txt"])?;
     assert!(rt; few.as_str().contains("<ASPECT>"), "{few}");
     let twice = refusal(alloc, &["--work", "--work", "a.ast", "a.txt", "a.jrag"])?;
-    assert!(rt; twice.as_str().contains("cannot be used multiple times"), "{twice}");
+    assert!(rt;
+        twice.as_str().contains("cannot be used multiple times"),
+        "{twice}"
+    );
     let unknown = refusal(alloc, &["--port", "a.ast", "a.txt", "a.jrag"])?;
-    assert!(rt; unknown.as_str().contains("unexpected argument '--port'"), "{unknown}");
+    assert!(rt;
+        unknown.as_str().contains("unexpected argument '--port'"),
+        "{unknown}"
+    );
     Ok(())
 }
 
 #[test]
 fn help_is_a_fault_that_names_each_word_and_command(rt: HostRuntime) -> Result<(), Fail> {
     let help = refusal(rt.alloc(), &["--help"])?;
-    for word in ["--socket <PATH>", "--connections <N>", "--work", "<GRAMMAR>", "<TREE>", "<ASPECT>", "$ attrd calc.ast", "ask PLACE", "version "] {
+    for word in [
+        "--socket <PATH>",
+        "--connections <N>",
+        "--work",
+        "<GRAMMAR>",
+        "<TREE>",
+        "<ASPECT>",
+        "$ attrd calc.ast",
+        "ask PLACE",
+        "version ",
+    ] {
         assert!(rt; help.as_str().contains(word), "{help}");
     }
     Ok(())
