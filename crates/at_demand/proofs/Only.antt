@@ -85,6 +85,15 @@ adds_only f s t ps qs reads kept finds = record {
   finds = finds;
 }
 
+pub adds_only_after : {E : Type 0} (r : Result (Unit {0}) E) (f : Find) (s t : Sources) (ps qs : List ℕ) → t.reads.items ≡ s.reads.items ++ f.reads.items → t.kept.items ≡ s.kept.items ++ f.demanded.kept.items → OnOk r (VisitsOnly f.demanded.finds.items ps qs) → OnOk r (AddsOnly f s t ps qs)
+adds_only_after (Ok u) f s t ps qs reads kept finds = adds_only f s t ps qs reads kept finds
+adds_only_after (Err e) f s t ps qs reads kept finds = tt
+
+-- the find there is added
+pub adds_only_one : {E : Type 0} (found : List (Instance ℕ × Find)) (r : Result (Unit {0}) E) (next p : ℕ) (i : Instance ℕ) (g : Find) (s t : Sources) (ps qs : List ℕ) → Some p ≡ slice_get ps next → Some (i, g) ≡ slice_get found p → OnOk r (AddsOnly g s t ps qs) → OnOk r (AddsOnlyAt found next s t ps qs)
+adds_only_one found (Ok u) next p i g s t ps qs at is adds = inr (g, (p, i, sym at, sym is), adds)
+adds_only_one found (Err e) next p i g s t ps qs at is adds = tt
+
 module _ (found : List (Instance ℕ × Find)) (f : Find) where
   -- nothing is gathered yet
   pub from_none : (s : Sources) → s.reads.items ≡ [] → s.kept.items ≡ [] → IsFrom found f s []
@@ -101,6 +110,10 @@ module _ (found : List (Instance ℕ × Find)) (f : Find) where
     kept = λ u h. elim (adds.kept u h) [ inl a ↦ from.kept u a | inr b ↦ (g, leads, b) ];
     finds = λ p h. elim (adds.finds p h) [ inl a ↦ from.finds p a | inr b ↦ (g, leads, b) ];
   }
+
+  -- the first find alone
+  pub from_first : (s t : Sources) (ps qs : List ℕ) → s.reads.items ≡ [] → s.kept.items ≡ [] → ps ≡ [] → AddsOnly f s t ps qs → IsFrom found f t qs
+  from_first s t ps qs reads kept none adds = from_more f s t ps qs itself (subst (IsFrom found f s) (sym none) (from_none s reads kept)) adds
 
   -- as the loop goes on
   pub from_next : (s t : Sources) (ps qs : List ℕ) (next : ℕ) → IsFrom found f s ps → AddsOnlyAt found next s t ps qs → IsFrom found f t qs
