@@ -42,6 +42,10 @@ module _ (rules : Rules) (look : Contents ℕ) where
   abbrev pub IsLazy : Instance ℕ → Type 0
   IsLazy i = is_lazy rules i.attribute ≡ true
 
+  -- nothing comes
+  pub worthy_none : (asked : Instance ℕ) (entries : Entries) → AddsWorthy rules look asked entries entries
+  worthy_none asked entries = record { stays = λ i some. refl; worthy = λ i none some. absurd (not_none (entries i) some none) }
+
   -- i may come to what is kept
   module _ (old new : Entries) (i : Instance ℕ) (grows : MayAddLazy rules old new i) where
     pub still : (j : Instance ℕ) → IsSome (old j) → IsSome (new j)
