@@ -2,6 +2,7 @@ use Rattle.std.proofs.Common.{sym, subst}
 use Rattle.at_cache.specs.Kept.{AreKept}
 use Rattle.at_body.specs.Values.{value_view}
 use Rattle.at_demand.proofs.Gathered.{put_covers}
+use Rattle.at_demand.proofs.Only.{put_only}
 use Rattle.at_demand.proofs.demand.Demand.keep.Goals as goal
 
 pub put-requires-clause-present : goal.put-requires-clause-present
@@ -22,3 +23,15 @@ returns-clause-covers g c look whole one covers =
     let s = c.in_ok-sources.sources in
     put_covers c.args.rules.now look old c.args.found.now.entries c.args.find.now s c.in_ok-sources.ensures.gathered whole (c.in_ok-sources.ensures.kept old c.requires.found c.requires.kept) covers
     g.K.Keeper.exact (g.K.Keeper.contents c.put-2.new.self) c.args.inst.now c.in_ok-copy.field-0 (value_view c.in_ok-copy-2.field-0) c.as_slice.result.now c.as_slice-2.result.now c.put-2.result one c.in_ok-copy.ensures c.as_slice.ensures.value c.as_slice-2.ensures.value c.put-2.ensures.puts c.put-2.ensures.err
+
+pub returns-in_err-put-clause-only : goal.returns-in_err-put-clause-only
+returns-in_err-put-clause-only g c look exact all one only =
+    let s = c.in_ok-sources.sources in
+    put_only c.args.rules.now look c.args.found.now.entries c.args.find.now c.args.inst.now all one (g.K.Keeper.contents c.args.self.now.keeper) s c.in_ok-sources.ensures.only only
+    g.K.Keeper.exact (g.K.Keeper.contents c.put-2.new.self) c.in_ok-copy.field-0 (value_view c.in_ok-copy-2.field-0) c.as_slice.result.now c.as_slice-2.result.now c.put-2.result exact c.in_ok-copy.ensures c.as_slice.ensures.value c.as_slice-2.ensures.value c.put-2.ensures.puts c.put-2.ensures.err
+
+pub returns-clause-only : goal.returns-clause-only
+returns-clause-only g c look exact all one only =
+    let s = c.in_ok-sources.sources in
+    put_only c.args.rules.now look c.args.found.now.entries c.args.find.now c.args.inst.now all one (g.K.Keeper.contents c.args.self.now.keeper) s c.in_ok-sources.ensures.only only
+    g.K.Keeper.exact (g.K.Keeper.contents c.put-2.new.self) c.in_ok-copy.field-0 (value_view c.in_ok-copy-2.field-0) c.as_slice.result.now c.as_slice-2.result.now c.put-2.result exact c.in_ok-copy.ensures c.as_slice.ensures.value c.as_slice-2.ensures.value c.put-2.ensures.puts c.put-2.ensures.err
