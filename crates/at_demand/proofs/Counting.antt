@@ -107,10 +107,14 @@ counts_more first next last w x y (xs, g, e) (ys, h, f) = (xs ++ ys, gains_more 
 
 -- what comes is just what is worth keeping and wasn't kept
 pub work_is : (rules : Rules) (look : Contents ℕ) (q : Instance ℕ) (old new : Entries) (w x : ℕ) → Counts old new w x → AddsWorthy rules look q old new → HasWorthy rules look q new → IsWork rules look q old w x
-work_is rules look q old new w x (gained, g, e) adds has = (gained, record {
-  distinct = g.distinct;
-  exactly = λ i. (
-    λ a. (let p = g.exactly i in let y = p.0 a in (adds.worthy i y.1 y.0, y.1)),
-    λ h. (let p = g.exactly i in p.1 (has i h.0, h.1)),
-  );
-}, e)
+work_is rules look q old new w x (gained, g, e) adds has = (
+  gained,
+  record {
+    distinct = g.distinct;
+    exactly = λ i. (
+      λ a. (let p = g.exactly i in let y = p.0 a in (adds.worthy i y.1 y.0, y.1)),
+      λ h. (let p = g.exactly i in p.1 (has i h.0, h.1)),
+    );
+  },
+  e,
+)

@@ -200,7 +200,7 @@ module _ (rules : Rules) (look : Contents ℕ) where
       ended_all : HasWorthy rules look asked entries
       ended_all j w =
           open_led look (meaning rules) IsOpen IsReady IsLazy (λ x. IsSome (entries x)) onward none (known_below entries q.found.entries stands.finds settled deep)
-              asked j w.value (subst IsOpen h.starts (first_among q.waiting.entries q.inst)) w.reached w.lazy w.has
+          asked j w.value (subst IsOpen h.starts (first_among q.waiting.entries q.inst)) w.reached w.lazy w.has
 
     -- with a fault
     pub failed_all : (k : FaultCode) → s ≡ step.Fault k → HasWorthy rules look asked entries

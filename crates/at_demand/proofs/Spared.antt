@@ -19,8 +19,7 @@ module _ (rules : Rules) (old new : Shown) (e : Edit) (t : Tree) (idle : IsIdle 
     (before later : Entries) (right : AreRight rules old before) (spare : AreSpare rules (contents old) before) (leaves : LeavesUntouched (Touches old e) before later) (loses : LosesTouched (Touches old e) before later) where
   pub kept_spare : LeavesJust rules old e before later × AreSpare rules (contents new) later
   kept_spare =
-      let goes = over rules old new e t idle ok accepted done in
-      (
+      let goes = over rules old new e t idle ok accepted done in (
         leaves_just rules goes (path_injective (numbers old)) before later (λ i k at. right.values i k.value (ap (option_map (λ k. k.value)) at)) right.there right.covers spare leaves loses,
         spare_after rules goes (path_injective (numbers old)) before later (λ i k at. right.values i k.value (ap (option_map (λ k. k.value)) at)) right.there right.covers spare leaves loses,
       )

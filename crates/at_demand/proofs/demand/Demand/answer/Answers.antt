@@ -85,5 +85,5 @@ returns-in-Answers-clause-work g c exact right spare =
     let counts = counts_more old (g.K.Keeper.contents c.loop-next.self.keeper) new c.args.self.now.work c.loop-next.self.work c.turn.new.self.work (c.loop-next.invariant.counts exact) (c.turn.ensures.counts exact) in
     let adds = c.turn.ensures.worthy asked old (c.loop-next.invariant.holds right) (c.loop-next.invariant.worthy right) in
     let all = subst (λ (t : Turn). IsSparingTurn rules look asked new t) c.in-Answers.is
-        (c.in_ok-next.ensures.sparing asked exact (c.loop-next.invariant.holds right) (c.loop-next.invariant.covering right) (c.loop-next.invariant.sparing exact right spare)) in
+    (c.in_ok-next.ensures.sparing asked exact (c.loop-next.invariant.holds right) (c.loop-next.invariant.covering right) (c.loop-next.invariant.sparing exact right spare)) in
     work_is rules look asked old new c.args.self.now.work c.turn.new.self.work counts adds all
