@@ -17,7 +17,7 @@ tell() {
 }
 
 {
-    echo "attrd: proves what isn't proved yet, and builds ./attrd. A first build takes an hour at most on two cores,"
+    echo "attrd: proves what isn't proved yet, and builds ./attrd. A first build takes about an hour on two cores,"
     echo "and about 4 GB of disk; a later one takes up what is proved. What it prints is in .build.log."
 } >&2
 : > "$log" || exit 1
