@@ -1,0 +1,6 @@
+pub mod Signatures
+pub mod Accessors
+pub mod Kinds
+pub mod Judging
+pub mod Typed
+pub mod Located
