@@ -34,7 +34,7 @@ fn main(rt: HostRuntime) -> ExitCode {
         Ok(options) => options,
         Err(failure) => return ended(&rt, &failure),
     };
-    let mut engine = match started(&rt, &options) {
+    let mut engine = match engine_of(&rt, &options) {
         Ok(engine) => engine,
         Err(failure) => return ended(&rt, &failure),
     };
@@ -95,7 +95,7 @@ fn words(rt: &HostRuntime) -> Result<Vec<String>, Failure> {
 }
 
 /// The engine of the files that are asked for.
-fn started(rt: &HostRuntime, options: &Options) -> Result<Engine<KeepRecorded>, Failure>
+fn engine_of(rt: &HostRuntime, options: &Options) -> Result<Engine<KeepRecorded>, Failure>
     ensures { IfOk result IsReady }
 {
     let files = read_files(rt, options)?;

@@ -1,8 +1,7 @@
 //! The connections of a socket, served one after the other.
 ghost use Rattle.std.specs.Prelude.{◌≡◌, ◌≤◌, ◌+◌, ◌<◌, ◌^◌, ◌==◌};
-ghost use Rattle.at_engine.specs.Engines.{rules_of};
+ghost use Rattle.at_engine.specs.Engines.{rules_of, IsSound};
 ghost use Rattle.attrd.specs.Connections.{faults, counted};
-ghost use Rattle.attrd.specs.Starts.{IsReady};
 
 use at_cache::Keeper;
 use at_engine::{Engine, RunFault, run};
@@ -78,11 +77,11 @@ impl Served {
 /// Serves so many connections, one after the other, all with this engine. A connection's fault ends that connection
 /// alone; one that isn't accepted counts, too.
 pub fn serve<K: Keeper>(engine: &mut Engine<K>, listener: &UnixListener, n: u16) -> Served
-    requires ready { IsReady engine.old }
+    requires sound { IsSound K.contents engine.old }
     ensures ended { result.ended ≡ n }
     ensures faults { faults result ≤ n }
     ensures rules { rules_of engine.new ≡ rules_of engine.old }
-    ensures ready { IsReady engine.new }
+    ensures sound { IsSound K.contents engine.new }
 {
     let mut served = Served::none();
     for turn in 0..n {
@@ -97,9 +96,9 @@ fn serve_next<K: Keeper>(
     engine: &mut Engine<K>,
     listener: &UnixListener,
 ) -> Result<(), ConnectionFault>
-    requires ready { IsReady engine.old }
+    requires sound { IsSound K.contents engine.old }
     ensures rules { rules_of engine.new ≡ rules_of engine.old }
-    ensures ready { IsReady engine.new }
+    ensures sound { IsSound K.contents engine.new }
 {
     let Ok((stream, _)) = listener.accept() else {
         return Err(ConnectionFault::Socket);
