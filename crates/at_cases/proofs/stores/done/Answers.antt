@@ -1,4 +1,4 @@
-use Rattle.std.proofs.Common.{◌≡◌, true, ap, is_some, sym, ◌∙◌}
+use Rattle.std.proofs.Common.{ap, is_some, sym, ◌∙◌}
 use Rattle.at_store.specs.Preparing.{Does}
 use Rattle.at_store.specs.Shown.{path}
 use Rattle.at_cases.proofs.Spent.{done_conforms, done_idle, given_up_conforms, given_up_idle, refused_conforms, refused_idle}
