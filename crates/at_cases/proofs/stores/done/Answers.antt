@@ -1,8 +1,8 @@
-use Rattle.std.proofs.Common.{◌≡◌, true, ap, is_some, sym, ◌∙◌}
+use Rattle.std.proofs.Common.{ap, is_some, sym, ◌∙◌}
 use Rattle.at_store.specs.Preparing.{Does}
 use Rattle.at_store.specs.Shown.{path}
-use Rattle.at_store.proofs.Spent.{done_conforms, done_idle, given_up_conforms, given_up_idle, refused_conforms, refused_idle}
-use Rattle.at_store.proofs.tests.done.Goals as goal
+use Rattle.at_cases.proofs.Spent.{done_conforms, done_idle, given_up_conforms, given_up_idle, refused_conforms, refused_idle}
+use Rattle.at_cases.proofs.stores.done.Goals as goal
 
 pub returns-then-commits-clause-idle : goal.returns-then-commits-clause-idle
 returns-then-commits-clause-idle c =
