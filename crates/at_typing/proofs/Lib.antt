@@ -1,1 +1,3 @@
 mod Locating
+mod Accessing
+mod Signing

@@ -1,5 +1,8 @@
 //! Folds and their lists.
 
+ghost use Rattle.std.specs.Prelude.{◌≡◌};
+ghost use Rattle.at_typing.specs.Judging.{list_named as list_named_by};
+
 use super::kinds::{ExprKind, Typed};
 use super::{Scope, TypeFault, refused};
 use crate::accessors::listed;
@@ -42,7 +45,9 @@ impl Scope<'_> {
     }
 
     /// The list whose accessor has that name, if nodes of that kind have one, and the class of its elements.
-    fn list_named(&self, kind: ExprKind, name: &str) -> Option<(usize, ClassId)> {
+    fn list_named(&self, kind: ExprKind, name: &str) -> Option<(usize, ClassId)>
+        ensures { result ≡ list_named_by self.now.classes.now kind name.now }
+    {
         match kind {
             ExprKind::Class(class) => listed(self.classes, class, name),
             _ => None,
@@ -66,7 +71,7 @@ impl Scope<'_> {
 
     /// `exists (NAME : LIST) { E }`
     fn exists(&self, list: List, body: Typed, at: (u32, u32)) -> Result<Typed, TypeFault> {
-        if body.kind != ExprKind::Bool {
+        if !body.kind.is_truth() {
             return Err(refused(RuleCode::Kind, at));
         }
         let node = Box::new(self.alloc, list.node)?;
@@ -76,7 +81,7 @@ impl Scope<'_> {
 
     /// `first (NAME : LIST) { E }`
     fn first(&self, list: List, body: Typed, at: (u32, u32)) -> Result<Typed, TypeFault> {
-        if body.kind != ExprKind::Bool {
+        if !body.kind.is_truth() {
             return Err(refused(RuleCode::Kind, at));
         }
         let node = Box::new(self.alloc, list.node)?;
@@ -87,7 +92,7 @@ impl Scope<'_> {
 
     /// `sum (NAME : LIST) { E }`
     fn sum(&self, list: List, body: Typed, at: (u32, u32)) -> Result<Typed, TypeFault> {
-        if body.kind != ExprKind::Int {
+        if !body.kind.is_int() {
             return Err(refused(RuleCode::Kind, at));
         }
         let node = Box::new(self.alloc, list.node)?;

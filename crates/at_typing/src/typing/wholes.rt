@@ -1,5 +1,10 @@
 //! Forms of expressions over what their parts are found to be: the first part with a fault has the form's.
 
+ghost use Rattle.at_jrag.specs.View.{word_view};
+ghost use Rattle.at_typing.specs.declared.fault.RuleCode.TheVariants as code;
+ghost use Rattle.at_typing.specs.Judging.{Judged, Wrong, and_then, placed as placed_at, negation as negation_of, opposite as opposite_of, tested as tested_by};
+ghost use Rattle.at_typing.specs.Typed.{typed_view, list_view, Judges};
+
 use super::folds::List;
 use super::kinds::Typed;
 use super::{Scope, TypeFault, refused};
@@ -25,7 +30,9 @@ impl Scope<'_> {
         &self,
         inner: Result<Typed, TypeFault>,
         at: (u32, u32),
-    ) -> Result<Typed, TypeFault> {
+    ) -> Result<Typed, TypeFault>
+        ensures { (j : Judged) → Judges typed_view j inner → Judges typed_view (and_then (placed_at at) j) result }
+    {
         let inner = inner?;
         Ok(inner.placed(at))
     }
@@ -35,7 +42,9 @@ impl Scope<'_> {
         &self,
         inner: Result<Typed, TypeFault>,
         at: (u32, u32),
-    ) -> Result<Typed, TypeFault> {
+    ) -> Result<Typed, TypeFault>
+        ensures { (j : Judged) → Judges typed_view j inner → Judges typed_view (and_then (negation_of at) j) result }
+    {
         let inner = inner?;
         self.negated(inner, at)
     }
@@ -45,7 +54,9 @@ impl Scope<'_> {
         &self,
         inner: Result<Typed, TypeFault>,
         at: (u32, u32),
-    ) -> Result<Typed, TypeFault> {
+    ) -> Result<Typed, TypeFault>
+        ensures { (j : Judged) → Judges typed_view j inner → Judges typed_view (and_then (opposite_of at) j) result }
+    {
         let inner = inner?;
         self.opposite(inner, at)
     }
@@ -67,7 +78,9 @@ impl Scope<'_> {
         inner: Result<Typed, TypeFault>,
         class: &Word,
         at: (u32, u32),
-    ) -> Result<Typed, TypeFault> {
+    ) -> Result<Typed, TypeFault>
+        ensures { (j : Judged) → Judges typed_view j inner → Judges typed_view (and_then (tested_by self.now.classes.now at (word_view class.now)) j) result }
+    {
         let inner = inner?;
         self.tested(inner, class, at)
     }
@@ -118,7 +131,9 @@ impl Scope<'_> {
 pub(super) fn no_list(
     whole: Result<Typed, TypeFault>,
     fold: (u32, u32),
-) -> Result<List, TypeFault> {
+) -> Result<List, TypeFault>
+    ensures { (j : Judged) → Judges typed_view j whole → Judges list_view (and_then (λ k. Wrong code.Kind fold) j) result }
+{
     whole?;
     Err(refused(RuleCode::Kind, fold))
 }
