@@ -1,1 +1,4 @@
 mod Locating
+mod FirstFaults
+mod LongTexts
+mod AttributesCounted
