@@ -2,3 +2,5 @@ mod Locating
 mod FirstFaults
 mod LongTexts
 mod AttributesCounted
+mod Positions
+mod WordNumbers

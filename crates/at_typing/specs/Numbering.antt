@@ -43,10 +43,13 @@ is_class_below classes c b = same_class c b || is_sub_or_none classes (known_cla
 abbrev pub text_number : {Z : Type 0} → List (String Z) → List ℕ → Option ℕ
 text_number texts text = position (λ s. bytes_eq text (string_bytes s)) texts
 
--- the class is the one of that word, and the name's number is its position among the names
-pub record IsNumbered {Z : Type 0} (classes : Classes) (names : List (String Z)) (d : NumberedValue) : Type 0 where
-  pub class : known_class d.class ≡ class_of_name classes (class_text (numbered_view d))
-  pub name : text_number names (name_text (numbered_view d)) ≡ Some d.name
+-- the class is the one that its word names, if any
+abbrev pub IsOfItsClass : Classes → NumberedValue → Type 0
+IsOfItsClass classes d = known_class d.class ≡ class_of_name classes (class_text (numbered_view d))
+
+-- the name's number is its position among the names
+abbrev pub IsNamed : {Z : Type 0} → List (String Z) → NumberedValue → Type 0
+IsNamed names d = text_number names (name_text (numbered_view d)) ≡ Some d.name
 
 -- the numbers of the two are the same exactly where the words are
 pub record AreAlike (d e : NumberedValue) : Type 0 where
@@ -54,8 +57,8 @@ pub record AreAlike (d e : NumberedValue) : Type 0 where
   pub name : nat_eq d.name e.name ≡ bytes_eq (name_text (numbered_view d)) (name_text (numbered_view e))
 
 -- the numbers of all are right
-pub record AreNumbered {Z : Type 0} (classes : Classes) (names : List (String Z)) (ds : List NumberedValue) : Type 0 where
-  pub each : All (IsNumbered classes names) ds
+pub record AreNumbered (classes : Classes) (ds : List NumberedValue) : Type 0 where
+  pub class : All (IsOfItsClass classes) ds
   pub alike : All (λ d. All (AreAlike d) ds) ds
 
 -- while they are numbered: what has a number keeps it

@@ -1,9 +1,9 @@
 //! The declarations with numbers for their classes and their attributes' names, so that no two texts need be
 //! compared again.
 
-ghost use Rattle.std.specs.Prelude.{◌≡◌, map, Some, IfOk, OnOk};
+ghost use Rattle.std.specs.Prelude.{◌≡◌, map, All, Some, IfOk, OnOk};
 ghost use Rattle.at_typing.specs.Located.{declarations_in, located_view};
-ghost use Rattle.at_typing.specs.Numbering.{numbered_view, parent_class, class_number, text_number, AreNumbered, HasNumbers, Keeps};
+ghost use Rattle.at_typing.specs.Numbering.{numbered_view, parent_class, class_number, text_number, AreNumbered, HasNumbers, IsNamed, Keeps};
 
 use crate::located::{Located, class_word, locate, name_word};
 use at_class::{ClassId, ClassTable};
@@ -61,15 +61,16 @@ impl<'a> Declarations<'a> {
         files: &'a [Vec<Aspect>],
     ) -> Result<Declarations<'a>, AllocError>
         ensures declared { IfOk result (λ d. map numbered_view d.items.items ≡ declarations_in files.now) }
-        ensures numbered { IfOk result (λ d. AreNumbered classes.now d.names.keys d.items.items) }
+        ensures numbered { IfOk result (λ d. AreNumbered classes.now d.items.items) }
+        ensures named { IfOk result (λ d. All (IsNamed d.names.keys) d.items.items) }
     {
-        let located = locate(alloc, files)?;
+        let all = locate(alloc, files)?;
         let mut items = Vec::new(alloc);
         let mut words = Words {
             names: IndexSet::new(alloc),
             unknown: IndexSet::new(alloc),
         };
-        for located in &located {
+        for located in &all {
             items.push(words.numbered(alloc, classes, located)?)?;
         }
         Ok(Declarations {
