@@ -4,3 +4,5 @@ mod LongTexts
 mod AttributesCounted
 mod Positions
 mod WordNumbers
+mod EquationsBefore
+mod ClassesBelow
