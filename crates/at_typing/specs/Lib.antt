@@ -7,3 +7,4 @@ pub mod Located
 pub mod Declaring
 pub mod Numbering
 pub mod EquationKeys
+pub mod Ruling
