@@ -2,7 +2,7 @@
 
 ghost use Rattle.std.specs.Prelude.{◌≡◌};
 ghost use Rattle.at_typing.specs.Declaring.{fault_at};
-ghost use Rattle.at_typing.specs.Numbering.{numbered_view};
+ghost use Rattle.at_typing.specs.Numbering.{numbered_view, AreNumbered};
 
 mod accessor_names;
 mod bound;
@@ -31,7 +31,9 @@ pub fn fault_together(
     classes: &ClassTable,
     attributes: &Attributes,
     declared: &[Numbered],
-) -> Result<Option<Fault>, AllocError> {
+) -> Result<Option<Fault>, AllocError>
+    requires { AreNumbered classes.now declared.now }
+{
     if let Some(fault) = over_limit(declared) {
         return Ok(Some(fault));
     }
