@@ -1,3 +1,10 @@
 mod Locating
 mod Accessing
 mod Signing
+mod FirstFaults
+mod LongTexts
+mod AttributesCounted
+mod Positions
+mod WordNumbers
+mod EquationsBefore
+mod ClassesBelow

@@ -5,4 +5,6 @@ pub mod Judging
 pub mod Typed
 pub mod Located
 pub mod Declaring
+pub mod Numbering
+pub mod EquationKeys
 pub mod Ruling

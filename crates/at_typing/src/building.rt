@@ -14,6 +14,7 @@ use at_rules::{Equations, Rules};
 use std::alloc::Global;
 
 ghost use Rattle.std.specs.Prelude.{◌≡◌, IfOk};
+ghost use Rattle.at_typing.specs.Numbering.{AreNumbered};
 
 /// The rules of the declarations of the aspect files over the classes.
 ///
@@ -42,7 +43,9 @@ fn meant_together(
     alloc: Global,
     classes: &ClassTable,
     declared: &[Numbered],
-) -> Result<Equations, RuleFault> {
+) -> Result<Equations, RuleFault>
+    requires { AreNumbered classes.now declared.now }
+{
     let attributes = Attributes::of(alloc, declared)?;
     refuse(fault_together(alloc, classes, &attributes, declared)?)?;
     meant_by(alloc, classes, &attributes, declared)

@@ -1,5 +1,9 @@
 //! What is wrong with declarations taken together.
 
+ghost use Rattle.std.specs.Prelude.{◌≡◌};
+ghost use Rattle.at_typing.specs.Declaring.{fault_at};
+ghost use Rattle.at_typing.specs.Numbering.{numbered_view, AreNumbered};
+
 mod accessor_names;
 mod bound;
 mod completeness;
@@ -27,7 +31,9 @@ pub fn fault_together(
     classes: &ClassTable,
     attributes: &Attributes,
     declared: &[Numbered],
-) -> Result<Option<Fault>, AllocError> {
+) -> Result<Option<Fault>, AllocError>
+    requires { AreNumbered classes.now declared.now }
+{
     if let Some(fault) = over_limit(declared) {
         return Ok(Some(fault));
     }
@@ -43,7 +49,9 @@ pub fn fault_together(
     equation_twice(alloc, declared)
 }
 
-fn fault_at(code: RuleCode, numbered: &Numbered, at: (u32, u32)) -> Fault {
+fn fault_at(code: RuleCode, numbered: &Numbered, at: (u32, u32)) -> Fault
+    ensures { result ≡ fault_at code (numbered_view numbered.now) at }
+{
     Fault {
         code,
         file: numbered.file,
