@@ -1,1 +1,7 @@
 mod Locating
+mod Climbing
+mod Walking
+mod Exposing
+mod Lacking
+mod Children
+mod Completed

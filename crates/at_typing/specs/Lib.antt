@@ -5,3 +5,6 @@ pub mod Judging
 pub mod Typed
 pub mod Located
 pub mod Declaring
+pub mod Walks
+pub mod Hierarchies
+pub mod Completing
