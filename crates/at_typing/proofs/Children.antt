@@ -70,6 +70,7 @@ listed_more classes i o before after is old new c d =
     flip : (o : Option ℕ) → option_eq nat_eq (Some c) o ≡ option_eq nat_eq o (Some c)
     flip None = refl
     flip (Some b) = same_either c b
+
     moved : (u : Bool) → nat_eq d i ≡ u → (option_eq nat_eq (Some c) (parent_of classes i) && u) ≡ (u && is_child classes c d)
     moved true x = on (option_eq nat_eq (Some c) (parent_of classes i)) ∙ flip (parent_of classes i) ∙ ap (λ z. option_eq nat_eq (parent_of classes z) (Some c)) (sym (eqb-true d i x))
       where
@@ -81,6 +82,7 @@ listed_more classes i o before after is old new c d =
         off : (b : Bool) → (b && false) ≡ false
         off true = refl
         off false = refl
+
     spread : (u v t : Bool) → ((v && t) || (u && t)) ≡ ((v || u) && t)
     spread true true true = refl
     spread true true false = refl
@@ -88,6 +90,7 @@ listed_more classes i o before after is old new c d =
     spread false true true = refl
     spread false true false = refl
     spread false false t = refl
+
     next : (u v w : Bool) → nat_eq d i ≡ u → nat_lt d i ≡ v → nat_lt d (i + 1) ≡ w → w ≡ (v || u)
     next true true true x y z = refl
     next true false true x y z = refl

@@ -15,8 +15,6 @@ use Rattle.at_typing.specs.Walks.{is_in}
 pub no_list : {A : Type 0} → (false ≡ true) → A
 no_list e = absurd (true≢false (sym e))
 
-
-
 pub same : (b c : ℕ) → b ≡ c → nat_eq b c ≡ true
 same b c e = eq-eqb b c e
 

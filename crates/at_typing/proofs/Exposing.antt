@@ -81,10 +81,10 @@ pub leads_on : (rules : Rules) → AreSound rules.classes → (name : List ℕ) 
 leads_on rules sound name c d good e k f = elim (or_cases (is_child rules.classes c d) _ e) [
   | inl g ↦ good k (fits_above rules.classes sound k d c f (sub_parent rules.classes sound d c (is_some_of _ c g)))
   | inr g ↦
-    let h = and_both (is_concrete rules.classes c) _ g.1 in
-    let there = passed_there rules name (length (parts rules.classes c)) c d h.1 in
-    let found = passed_parts rules name c there.0 d there.1 in
-    below c k (good c (fits_itself rules.classes c h.0)) (there.0, d, found.1, f, found.0)
+      let h = and_both (is_concrete rules.classes c) _ g.1 in
+      let there = passed_there rules name (length (parts rules.classes c)) c d h.1 in
+      let found = passed_parts rules name c there.0 d there.1 in
+      below c k (good c (fits_itself rules.classes c h.0)) (there.0, d, found.1, f, found.0)
 ]
 
 pub exposed_concrete : (rules : Rules) (name : List ℕ) (c : ℕ) → Exposed rules name c → is_concrete rules.classes c ≡ true
@@ -107,7 +107,7 @@ pub exposed_met : (rules : Rules) → AreSound rules.classes → (name : List �
 exposed_met rules sound name met start closed c (as_root _ e) = met_below rules name met closed c 0 e start
 exposed_met rules sound name met start closed d (below c _ x (part, b, is, e, none)) =
     met_below rules name met closed d b e (closed c b (exposed_met rules sound name met start closed c x) (above_within rules.classes sound d b e)
-        (or_right (is_child rules.classes c b) _ (and_from (is_concrete rules.classes c) _ (exposed_concrete rules name c x) (passed_among rules name (length (parts rules.classes c)) c b part (there rules c part b is) (passed_from rules name c part b none is)))))
+    (or_right (is_child rules.classes c b) _ (and_from (is_concrete rules.classes c) _ (exposed_concrete rules name c x) (passed_among rules name (length (parts rules.classes c)) c b part (there rules c part b is) (passed_from rules name c part b none is)))))
 
 pub has_below_itself : (classes : Classes) (met : List Bool) (c : ℕ) → (has_met met c && is_concrete classes c) ≡ true → HasBelow classes met c
 has_below_itself classes met c e = let (x, y) = and_both (has_met met c) (is_concrete classes c) e in (c, fits_itself classes c y, x)
@@ -128,7 +128,7 @@ marked rules sound name met marks passes both w v b = by (has_met marks b) refl
         let met_too = exposed_met rules sound name met (w.started 0 sound.some refl) w.closed c x in
         let concrete = exposed_concrete rules name c x in
         let there = ascends rules.classes (λ d. has_met marks d ≡ true) (λ p d up m. v.closed d p m (parent_within rules.classes sound d p up) (some_is_from (parent_of rules.classes d) p up))
-            c b (and_both (is_concrete rules.classes c) (is_sub rules.classes c b) f).1 (v.started c (concrete_within rules.classes c concrete) (and_from (has_met met c) (is_concrete rules.classes c) met_too concrete)) in
+        c b (and_both (is_concrete rules.classes c) (is_sub rules.classes c b) f).1 (v.started c (concrete_within rules.classes c concrete) (and_from (has_met met c) (is_concrete rules.classes c) met_too concrete)) in
         true≢false (sym there ∙ e)
 
 -- each class is looked at, up to the last one
@@ -145,14 +145,17 @@ picks_more classes met i o a b c p q r is m k =
     next e false true false x y z = absurd (omega (arith, ltb-true e i y, ltb-false e (i + 1) z))
     next e false false true x y z = absurd (omega (arith, unlike e i x, ltb-false e i y, ltb-true e (i + 1) z))
     next e false false false x y z = refl
+
     chosen : (e : ℕ) (s t : Bool) → nat_eq e i ≡ t → option_eq nat_eq (Some e) (if s then Some i else None) ≡ (t && s)
     chosen e true true x = x
     chosen e true false x = x
     chosen e false true x = refl
     chosen e false false x = refl
+
     moved : (e : ℕ) (u : Bool) → nat_eq e i ≡ u → (u && is_met_concrete classes met i) ≡ (u && is_met_concrete classes met e)
     moved e true x = ap (is_met_concrete classes met) (sym (eqb-true e i x))
     moved e false x = refl
+
     spread : (u v t : Bool) → ((v && t) || (u && t)) ≡ ((v || u) && t)
     spread true true true = refl
     spread true true false = refl
@@ -160,6 +163,7 @@ picks_more classes met i o a b c p q r is m k =
     spread false true true = refl
     spread false true false = refl
     spread false false t = refl
+
     by : (e : ℕ) → ((nat_lt e i && is_met_concrete classes met e) || option_eq nat_eq (Some e) (if is_met_concrete classes met i then Some i else None)) ≡ (nat_lt e (i + 1) && is_met_concrete classes met e)
     by e =
         ap (λ b. (nat_lt e i && is_met_concrete classes met e) || b) (chosen e (is_met_concrete classes met i) (nat_eq e i) refl ∙ moved e (nat_eq e i) refl)

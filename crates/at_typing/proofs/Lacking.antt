@@ -33,12 +33,13 @@ pub without_on : (rules : Rules) → AreSound rules.classes → (b attribute c d
 without_on rules sound b attribute c d (below, without) e =
     let (none, child) = and_both (is_none (own_in rules attribute c)) (is_child rules.classes c d) e in
     let up = is_some_of (parent_of rules.classes d) c child in
-    let above = without (none_from (own_in rules attribute c) none) in
-    (sub_above rules.classes sound d c b (child_within rules.classes d c up) (sub_parent rules.classes sound d c up) below,
-    λ own. without_each rules attribute d (λ x s. elim (sub_split rules.classes sound d x s) [
-      | inl f ↦ ap (own_in rules attribute) f ∙ own
-      | inr f ↦ each_without rules attribute c above x (subst (λ o. is_sub rules.classes o x ≡ true) (one f.0 c (sym f.1 ∙ up)) f.2)
-    ]))
+    let above = without (none_from (own_in rules attribute c) none) in (
+      sub_above rules.classes sound d c b (child_within rules.classes d c up) (sub_parent rules.classes sound d c up) below,
+      λ own. without_each rules attribute d (λ x s. elim (sub_split rules.classes sound d x s) [
+        | inl f ↦ ap (own_in rules attribute) f ∙ own
+        | inr f ↦ each_without rules attribute c above x (subst (λ o. is_sub rules.classes o x ≡ true) (one f.0 c (sym f.1 ∙ up)) f.2)
+      ]),
+    )
   where
     one : (p c : ℕ) → Some p ≡ Some c → p ≡ c
     one p c e = cc
@@ -61,12 +62,15 @@ lacks_none rules sound b attribute met w (c, f, none) = elim (or_cases (is_some 
   where
     concrete : is_concrete rules.classes c ≡ true
     concrete = (and_both (is_concrete rules.classes c) (is_sub rules.classes c b) f).0
+
     own : own_in rules attribute c ≡ None
     own = each_without rules attribute c none c (sub_itself rules.classes c (fits_within rules.classes c b f))
+
     on : (p d : ℕ) → parent_of rules.classes d ≡ Some p → (is_sub rules.classes c p ≡ true → has_met met p ≡ true) → is_sub rules.classes c d ≡ true → has_met met d ≡ true
     on p d up rest s =
         let above = sub_above rules.classes sound c d p (fits_within rules.classes c b f) s (sub_parent rules.classes sound d p up) in
         w.closed p d (rest above) (child_within rules.classes d p up) (and_from (is_none (own_in rules attribute p)) (is_child rules.classes p d) (ap is_none (each_without rules attribute c none p above)) (is_some_from (parent_of rules.classes d) p up))
+
     there : has_met met c ≡ true
     there = descends rules.classes (λ d. is_sub rules.classes c d ≡ true → has_met met d ≡ true) on c b (and_both (is_concrete rules.classes c) (is_sub rules.classes c b) f).1
         (λ s. w.started b (above_within rules.classes sound c b f) (same b b refl)) (sub_itself rules.classes c (fits_within rules.classes c b f))
@@ -106,13 +110,15 @@ lacking_out rules sound b attribute i met pending w full =
 
 -- a class that has an equation is passed, and leads nowhere
 pub looks_past : (rules : Rules) (attribute c : ℕ) (e : Expr) (met : List Bool) (pending : List ℕ) → Some e ≡ own_in rules attribute c → (passes_own rules attribute c ≡ true) × Meets (leads_own rules attribute c) met met pending pending
-looks_past rules attribute c e met pending has =
-    (ap (λ o. is_some o || not (is_concrete rules.classes c)) (sym has),
-    meets_like _ _ (λ d. ap (λ o. is_none o && is_child rules.classes c d) has) met met pending pending (meets_none met pending))
+looks_past rules attribute c e met pending has = (
+  ap (λ o. is_some o || not (is_concrete rules.classes c)) (sym has),
+  meets_like _ _ (λ d. ap (λ o. is_none o && is_child rules.classes c d) has) met met pending pending (meets_none met pending),
+)
 
 -- one that is abstract is passed, and leads to those below
 pub looks_below : (rules : Rules) (attribute c : ℕ) (t : ℕ → Bool) (met after : List Bool) (pending waiting : List ℕ) → None ≡ own_in rules attribute c → is_concrete rules.classes c ≡ false → ((d : ℕ) → t d ≡ is_child rules.classes c d)
     → Meets t met after pending waiting → (passes_own rules attribute c ≡ true) × Meets (leads_own rules attribute c) met after pending waiting
-looks_below rules attribute c t met after pending waiting has abstract' child m =
-    (ap (λ o. is_some o || not (is_concrete rules.classes c)) (sym has) ∙ ap not abstract',
-    meets_like _ _ (λ d. child d ∙ ap (λ o. is_none o && is_child rules.classes c d) has) met after pending waiting m)
+looks_below rules attribute c t met after pending waiting has abstract' child m = (
+  ap (λ o. is_some o || not (is_concrete rules.classes c)) (sym has) ∙ ap not abstract',
+  meets_like _ _ (λ d. child d ∙ ap (λ o. is_none o && is_child rules.classes c d) has) met after pending waiting m,
+)

@@ -56,6 +56,7 @@ meets_none met pending = record {
     by true b = refl
     by false true = refl
     by false false = refl
+
     other : (a b : Bool) → a ≡ (a || (b && not b))
     other true b = refl
     other false true = refl
@@ -76,8 +77,8 @@ meets_more p q a b c x y z m n = record {
   size = n.size ∙ m.size;
   met_too = λ e. n.met_too e ∙ ap₂ (λ s t. s || (nat_lt e t && q e)) (m.met_too e) m.size ∙ met (has_met a e) (nat_lt e (length a)) (p e) (q e);
   waits = λ e. n.waits e
-    ∙ ap (λ s. s || (has_met c e && not (has_met b e))) (m.waits e)
-    ∙ waits (is_in e x) (has_met a e) (has_met b e) (has_met c e) (wider (has_met a e) (nat_lt e (length a) && p e) (has_met b e) (m.met_too e)) (wider (has_met b e) (nat_lt e (length b) && q e) (has_met c e) (n.met_too e));
+      ∙ ap (λ s. s || (has_met c e && not (has_met b e))) (m.waits e)
+      ∙ waits (is_in e x) (has_met a e) (has_met b e) (has_met c e) (wider (has_met a e) (nat_lt e (length a) && p e) (has_met b e) (m.met_too e)) (wider (has_met b e) (nat_lt e (length b) && q e) (has_met c e) (n.met_too e));
   count = omega (arith, m.count, n.count);
 }
   where
@@ -85,9 +86,11 @@ meets_more p q a b c x y z m n = record {
     met true t u v = refl
     met false true u v = refl
     met false false u v = refl
+
     wider : (s t u : Bool) → u ≡ (s || t) → s ≡ true → u ≡ true
     wider true t u e f = e
     wider false t u e f = no_list f
+
     waits : (s t u v : Bool) → (t ≡ true → u ≡ true) → (u ≡ true → v ≡ true) → ((s || (u && not t)) || (v && not u)) ≡ (s || (v && not t))
     waits true t u v f g = refl
     waits false true true true f g = refl
@@ -135,6 +138,7 @@ set_there met d c less = by (nat_eq c d) refl
     off true t = refl
     off false true = refl
     off false false = refl
+
     by : (u : Bool) → nat_eq c d ≡ u → has_met (set met d true) c ≡ (has_met met c || (nat_lt c (length met) && nat_eq c d))
     by true e =
         let there = eqb-true c d e in
@@ -236,12 +240,16 @@ module _ (n : ℕ) (start : ℕ → Bool) (leads : ℕ → ℕ → Bool) (passes
     where
       keeps : (d : ℕ) → has_met met d ≡ true → has_met after d ≡ true
       keeps d e = m.met_too d ∙ or_left (has_met met d) _ e
+
       one : (d : ℕ) → (nat_eq d c || false) ≡ true → d ≡ c
       one d e = elim (or_cases (nat_eq d c) false e) [ inl f ↦ eqb-true d c f | inr f ↦ no_list f.1 ]
+
       here : Good c
       here = w.good c (w.known c (list_any-append (nat_eq c) rest (c ∷ []) ∙ or_right (is_in c rest) _ (or_left (nat_eq c c) false (same c c refl))))
+
       all : (b : ℕ) → b < n → leads c b ≡ true → has_met after b ≡ true
       all b less l = m.met_too b ∙ or_right (has_met met b) _ (and_from _ (leads c b) (lt-ltb b (length met) (omega (arith, less, w.size))) l)
+
       at_it : (d : ℕ) → d ≡ c → (passes d ≡ true) × ((b : ℕ) → b < n → leads d b ≡ true → has_met after b ≡ true)
       at_it d e = subst (λ z. (passes z ≡ true) × ((b : ℕ) → b < n → leads z b ≡ true → has_met after b ≡ true)) (sym e) (pass, all)
 

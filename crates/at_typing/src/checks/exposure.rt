@@ -150,11 +150,7 @@ fn passed(rules: &Rules, attribute: AttrId, class: ClassId, part: usize) -> Opti
 }
 
 /// Which of the classes were met and aren't abstract, or have such a class below them.
-fn with_those_above(
-    alloc: Global,
-    classes: &ClassTable,
-    exposed: &Walk,
-) -> Result<Walk, AllocError>
+fn with_those_above(alloc: Global, classes: &ClassTable, exposed: &Walk) -> Result<Walk, AllocError>
     ensures { IfOk result (λ w. AreSound classes.now × IsMarking classes.now exposed.now w) }
 {
     let count = classes.len();
@@ -170,11 +166,7 @@ fn with_those_above(
 }
 
 /// Those that were met and aren't abstract.
-fn concrete_among(
-    alloc: Global,
-    classes: &ClassTable,
-    exposed: &Walk,
-) -> Result<Walk, AllocError>
+fn concrete_among(alloc: Global, classes: &ClassTable, exposed: &Walk) -> Result<Walk, AllocError>
     ensures { IfOk result (λ w. Meets (is_met_concrete classes.now exposed.now.met.items) (replicate (length classes.now) false) w.met.items [] w.pending.items) }
 {
     let count = classes.len();

@@ -15,7 +15,7 @@ pub loop-position-preserved : goal.loop-position-preserved
 loop-position-preserved c = record {
   count = c.in_ok-list_below.ensures.count ∙ c.loop-position.invariant.count;
   listed = listed_next c.args.classes.now c.loop-position.position c.new-class.result c.parent.result (λ x d. list_any (nat_eq d) (listed_at c.loop-position.below.items x)) (λ x d. list_any (nat_eq d) (listed_at c.list_below.new.below.items x))
-    c.new-class.ensures c.parent.ensures.found c.loop-position.invariant.listed c.in_ok-list_below.ensures.listed;
+      c.new-class.ensures c.parent.ensures.found c.loop-position.invariant.listed c.in_ok-list_below.ensures.listed;
 }
 
 pub list_below-requires : goal.list_below-requires
