@@ -8,3 +8,9 @@ mod Positions
 mod WordNumbers
 mod EquationsBefore
 mod ClassesBelow
+mod Climbing
+mod Walking
+mod Exposing
+mod Lacking
+mod Children
+mod Completed

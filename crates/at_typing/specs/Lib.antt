@@ -8,3 +8,6 @@ pub mod Declaring
 pub mod Numbering
 pub mod EquationKeys
 pub mod Ruling
+pub mod Walks
+pub mod Hierarchies
+pub mod Completing

@@ -13,6 +13,7 @@ mod meaning;
 mod numbered;
 mod signatures;
 mod typing;
+mod walk;
 mod written;
 
 pub use building::build;
