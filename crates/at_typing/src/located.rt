@@ -1,7 +1,8 @@
 //! The declarations of all aspect files, in order.
 
-ghost use Rattle.std.specs.Prelude.{◌≡◌, ◌++◌, map, IfOk, OnOk};
-ghost use Rattle.at_jrag.specs.View.{aspect_view, decl_form_view, word_view};
+ghost use Rattle.std.specs.Prelude.{◌≡◌, ◌++◌, map, option_map, string_bytes, IfOk, OnOk};
+ghost use Rattle.at_jrag.specs.View.{aspect_view, body_view, decl_form_view, ending_view, kind_word_view, params_view, word_view};
+ghost use Rattle.at_typing.specs.Declaring.{is_attribute, is_inherited, result_in, params_in, is_lazy, getter_in, index_in, body_in, body_at};
 ghost use Rattle.at_typing.specs.Located.{located, located_view, from_file, from_aspect, class_word, name_word};
 
 use at_jrag::{Aspect, Body, Decl, DeclForm, Ending, KindWord, Params, Word};
@@ -76,7 +77,9 @@ pub fn name_word(form: &DeclForm) -> &Word
 }
 
 /// Whether the declaration declares an attribute: whether it is no equation.
-pub fn is_attribute(form: &DeclForm) -> bool {
+pub fn is_attribute(form: &DeclForm) -> bool
+    ensures { result ≡ is_attribute (decl_form_view form.now) }
+{
     match form {
         DeclForm::Synthesized { .. } | DeclForm::Inherited { .. } => true,
         DeclForm::Equation { .. } | DeclForm::InheritedEquation { .. } => false,
@@ -84,12 +87,16 @@ pub fn is_attribute(form: &DeclForm) -> bool {
 }
 
 /// Whether the declaration declares an inherited attribute.
-pub fn is_inherited(form: &DeclForm) -> bool {
+pub fn is_inherited(form: &DeclForm) -> bool
+    ensures { result ≡ is_inherited (decl_form_view form.now) }
+{
     matches!(form, DeclForm::Inherited { .. })
 }
 
 /// The kind of the attribute that is declared, if one is.
-pub fn result_in(form: &DeclForm) -> Option<&KindWord> {
+pub fn result_in(form: &DeclForm) -> Option<&KindWord>
+    ensures { option_map (λ k. kind_word_view k.now) result ≡ result_in (decl_form_view form.now) }
+{
     match form {
         DeclForm::Synthesized { kind, .. } | DeclForm::Inherited { kind, .. } => Some(kind),
         DeclForm::Equation { .. } | DeclForm::InheritedEquation { .. } => None,
@@ -97,7 +104,9 @@ pub fn result_in(form: &DeclForm) -> Option<&KindWord> {
 }
 
 /// The parameters that the declaration writes.
-pub fn params_in(form: &DeclForm) -> &Params {
+pub fn params_in(form: &DeclForm) -> &Params
+    ensures { params_view result.now ≡ params_in (decl_form_view form.now) }
+{
     match form {
         DeclForm::Synthesized { params, .. }
         | DeclForm::Inherited { params, .. }
@@ -107,7 +116,9 @@ pub fn params_in(form: &DeclForm) -> &Params {
 }
 
 /// The getter of the component for whose nodes an equation stands, if it is an inherited one.
-pub fn getter_in(form: &DeclForm) -> Option<&Word> {
+pub fn getter_in(form: &DeclForm) -> Option<&Word>
+    ensures { option_map (λ w. word_view w.now) result ≡ getter_in (decl_form_view form.now) }
+{
     match form {
         DeclForm::InheritedEquation { getter, .. } => Some(getter),
         _ => None,
@@ -115,7 +126,9 @@ pub fn getter_in(form: &DeclForm) -> Option<&Word> {
 }
 
 /// The name of an equation's index, if it has one.
-pub fn index_in(form: &DeclForm) -> Option<&Word> {
+pub fn index_in(form: &DeclForm) -> Option<&Word>
+    ensures { option_map (λ w. word_view w.now) result ≡ index_in (decl_form_view form.now) }
+{
     match form {
         DeclForm::InheritedEquation { index, .. } => index.as_ref(),
         _ => None,
@@ -123,12 +136,16 @@ pub fn index_in(form: &DeclForm) -> Option<&Word> {
 }
 
 /// The text of that name.
-pub fn index_name(form: &DeclForm) -> Option<&str> {
+pub fn index_name(form: &DeclForm) -> Option<&str>
+    ensures { option_map (λ s. s.now) result ≡ option_map (λ w. w.text) (index_in (decl_form_view form.now)) }
+{
     Some(index_in(form)?.text.as_str())
 }
 
 /// The body of the declaration's equation, if it has one.
-pub fn body_in(form: &DeclForm) -> Option<&Body> {
+pub fn body_in(form: &DeclForm) -> Option<&Body>
+    ensures { option_map (λ b. body_view b.now) result ≡ body_in (decl_form_view form.now) }
+{
     match form {
         DeclForm::Synthesized { ending, .. } => body_at(ending),
         DeclForm::Equation { body, .. } | DeclForm::InheritedEquation { body, .. } => Some(body),
@@ -136,7 +153,9 @@ pub fn body_in(form: &DeclForm) -> Option<&Body> {
     }
 }
 
-fn body_at(ending: &Ending) -> Option<&Body> {
+fn body_at(ending: &Ending) -> Option<&Body>
+    ensures { option_map (λ b. body_view b.now) result ≡ body_at (ending_view ending.now) }
+{
     match ending {
         Ending::Body(body) => Some(body),
         Ending::Semicolon(_) => None,
@@ -144,7 +163,9 @@ fn body_at(ending: &Ending) -> Option<&Body> {
 }
 
 /// Whether the values of the attribute that is declared are kept.
-pub fn is_lazy(form: &DeclForm) -> bool {
+pub fn is_lazy(form: &DeclForm) -> bool
+    ensures { result ≡ is_lazy (decl_form_view form.now) }
+{
     match form {
         DeclForm::Synthesized { lazy, .. } | DeclForm::Inherited { lazy, .. } => lazy.is_some(),
         DeclForm::Equation { .. } | DeclForm::InheritedEquation { .. } => false,
