@@ -6,3 +6,4 @@ pub mod Typed
 pub mod Located
 pub mod Declaring
 pub mod Ruling
+pub mod Seen
