@@ -1,1 +1,4 @@
 mod Locating
+mod Accessing
+mod Signing
+mod Parts

@@ -34,8 +34,9 @@ is_counted name p = is_list p.shape && bytes_eq name (codes "getNum" ++ p.name)
 abbrev pub is_listed : List ℕ → Component → Bool
 is_listed name p = is_list p.shape && bytes_eq name (codes "get" ++ p.name ++ codes "List")
 
-abbrev pub shape_at : Classes → ℕ → ℕ → Option Shape
-shape_at classes c part = option_map (λ p. p.shape) (slice_get (parts classes c) part)
+-- the shape of one of the components
+abbrev pub shape_of : List Component → ℕ → Option Shape
+shape_of ps part = option_map (λ p. p.shape) (slice_get ps part)
 
 abbrev pub token_kind : TokenKind → Kind
 token_kind class.Int = kind.Int
@@ -53,25 +54,36 @@ getter part (class.Token k) = accessor.Token part (token_kind k)
 abbrev pub accessed : Classes → ℕ → List ℕ → Option ℕ
 accessed classes c name = position (is_got name) (parts classes c)
 
-abbrev pub got_or : Classes → ℕ → Option Accessor → Option ℕ → Option Accessor
-got_or classes c other None = other
-got_or classes c other (Some part) = option_map (getter part) (shape_at classes c part)
+-- what the accessor gets that is named after that component alone
+abbrev pub got_in : List Component → ℕ → Option Accessor
+got_in ps part = option_map (getter part) (shape_of ps part)
 
--- the accessor of that name of nodes of class c; where it is both the number of one list and the list of another, it is the number
+-- the accessor of that name that is named after an optional or a list, and not alone; where the name is both the number of one list
+-- and the list of another, it is the number
+abbrev pub named_besides : List Component → List ℕ → Option Accessor
+named_besides ps name =
+    option_or (option_map accessor.Has (position (is_had name) ps))
+    (option_or (option_map accessor.Count (position (is_counted name) ps))
+    (option_map accessor.List (position (is_listed name) ps)))
+
+abbrev pub got_or : List Component → Option Accessor → Option ℕ → Option Accessor
+got_or ps other None = other
+got_or ps other (Some part) = got_in ps part
+
+-- the accessor of that name of nodes of class c
 abbrev pub accessor_named : Classes → ℕ → List ℕ → Option Accessor
-accessor_named classes c name =
-    got_or classes c (option_or (option_map accessor.Has (position (is_had name) (parts classes c)))
-    (option_or (option_map accessor.Count (position (is_counted name) (parts classes c)))
-    (option_map accessor.List (position (is_listed name) (parts classes c)))))
-    (accessed classes c name)
+accessor_named classes c name = got_or (parts classes c) (named_besides (parts classes c) name) (accessed classes c name)
 
 abbrev pub element_class : Shape → Option ℕ
 element_class (class.Many b) = Some b
 element_class shape = None
 
+abbrev pub listed_in : List Component → ℕ → Option (ℕ × ℕ)
+listed_in ps part = option_map (λ b. (part, b)) (option_and_then element_class (shape_of ps part))
+
 -- the list of class c whose list accessor has that name, and the class of its elements
 abbrev pub listed : Classes → ℕ → List ℕ → Option (ℕ × ℕ)
-listed classes c name = option_and_then (λ part. option_map (λ b. (part, b)) (option_and_then element_class (shape_at classes c part))) (position (is_listed name) (parts classes c))
+listed classes c name = option_and_then (listed_in (parts classes c)) (position (is_listed name) (parts classes c))
 
 -- the accessors that every node has, and the method that every text has
 abbrev pub is_common : List ℕ → Bool

@@ -73,9 +73,12 @@ index_eq (Some index) name = bytes_eq index name
 abbrev pub bound_to : List Bound → List ℕ → Option (ℕ × WrittenKind)
 bound_to bs name = option_and_then (λ i. option_map (λ b. (i, b.kind)) (slice_get bs i)) (position (λ b. bytes_eq b.name name) bs)
 
+abbrev pub index_named : Place → Bool → Judged
+index_named at is_index = if is_index then of_kind at Int body.IndexName else Wrong code.UnknownName at
+
 abbrev pub named_by : Place → Bool → Option (ℕ × WrittenKind) → Judged
 named_by at is_index (Some b) = of_kind at (of_written b.1) (body.Name b.0)
-named_by at is_index None = if is_index then of_kind at Int body.IndexName else Wrong code.UnknownName at
+named_by at is_index None = index_named at is_index
 
 -- the innermost fold's name comes first, then the parameters, then the index name
 abbrev pub named : Scope → Place → List ℕ → Judged
@@ -134,24 +137,34 @@ chosen classes at c j k = if is_truth c.kind then of_wider at (body.Choose c.bod
 
 -- casts and `instanceof` ----------------------------------------------------------------------------------------------
 
--- the class has to be there, and the part a node or null
-abbrev pub with_class : Place → (ℕ → Judged) → Option ℕ → Kinded → Judged
-with_class at f None k = Wrong code.UnknownName at
-with_class at f (Some c) k = if is_node k.kind then f c else Wrong code.Kind at
+abbrev pub beside : Place → ExprKind → Option ℕ → Judgement ℕ
+beside at k None = Wrong code.UnknownName at
+beside at k (Some c) = if is_node k then Is c else Wrong code.Kind at
+
+-- the class has to be there, and what stands beside it a node or null
+abbrev pub class_beside : Classes → Place → Word → Kinded → Judgement ℕ
+class_beside classes at class k = beside at k.kind (class_of_name classes class.text)
 
 abbrev pub cast : Classes → Place → Word → Kinded → Judged
-cast classes at class k = with_class at (λ c. of_kind at (Class c) (body.CastTo c k.body)) (class_of_name classes class.text) k
+cast classes at class k = and_then (λ c. of_kind at (Class c) (body.CastTo c k.body)) (class_beside classes at class k)
 
 abbrev pub tested : Classes → Place → Word → Kinded → Judged
-tested classes at class k = with_class at (λ c. of_kind at Truth (body.InstanceOf k.body c)) (class_of_name classes class.text) k
+tested classes at class k = and_then (λ c. of_kind at Truth (body.InstanceOf k.body c)) (class_beside classes at class k)
 
 -- calls ---------------------------------------------------------------------------------------------------------------
 
+-- the only argument of a call
+abbrev pub only : Place → List Kinded → Judged
+only at [] = Wrong code.Argument at
+only at (k ∷ []) = Is k
+only at (k ∷ l ∷ ks) = Wrong code.Argument at
+
+abbrev pub where_fit : Bool → Kinded → Judgement Expr
+where_fit b k = if b then Is k.body else Wrong code.Argument k.at
+
 -- the only argument of a call, where it passes the test
 abbrev pub one_argument : (ExprKind → Bool) → Place → List Kinded → Judgement Expr
-one_argument test at [] = Wrong code.Argument at
-one_argument test at (k ∷ []) = if test k.kind then Is k.body else Wrong code.Argument k.at
-one_argument test at (k ∷ l ∷ ks) = Wrong code.Argument at
+one_argument test at ks = and_then (λ k. where_fit (test k.kind) k) (only at ks)
 
 -- a.equals(b)
 abbrev pub equal : Place → Kinded → List Kinded → Judged
@@ -186,15 +199,23 @@ is_text_word k = false
 abbrev pub is_argument : Classes → Kinded → WrittenKind → Bool
 is_argument classes k p = fits classes k.kind p && (if is_text_word p then is_given_text k.body else true)
 
--- the arguments for parameters of these kinds, up to the first that is wrong
-abbrev pub each_fits : Classes → List Kinded → List WrittenKind → Judgement Exprs
-each_fits classes [] ps = Is no_exprs
-each_fits classes (k ∷ ks) [] = Is no_exprs
-each_fits classes (k ∷ ks) (p ∷ ps) = if is_argument classes k p then and_then (λ es. Is (expr k.body es)) (each_fits classes ks ps) else Wrong code.Argument k.at
+-- the place of the first argument that is wrong for its parameter
+abbrev pub misfit : Classes → List Kinded → List WrittenKind → Option Place
+misfit classes [] ps = None
+misfit classes (k ∷ ks) [] = None
+misfit classes (k ∷ ks) (p ∷ ps) = if is_argument classes k p then misfit classes ks ps else Some k.at
+
+abbrev pub bodies : List Kinded → Exprs
+bodies [] = no_exprs
+bodies (k ∷ ks) = expr k.body (bodies ks)
+
+abbrev pub bodies_or : List Kinded → Option Place → Judgement Exprs
+bodies_or ks None = Is (bodies ks)
+bodies_or ks (Some at) = Wrong code.Argument at
 
 -- as many arguments as parameters, each of which fits
 abbrev pub fitted : Classes → Place → List Kinded → List WrittenKind → Judgement Exprs
-fitted classes at ks ps = if nat_eq (length ks) (length ps) then each_fits classes ks ps else Wrong code.Argument at
+fitted classes at ks ps = if nat_eq (length ks) (length ps) then bodies_or ks (misfit classes ks ps) else Wrong code.Argument at
 
 abbrev pub demanded_of : Classes → Place → ℕ → Option Declared → Expr → List Kinded → Judged
 demanded_of classes at a None e ks = Wrong code.UnknownName at
@@ -293,9 +314,10 @@ abbrev mutual
   judged_list s fold (written.CallOf at e name es) = Some (and_then (λ k. and_then (list_called s fold at name k) (judged_all s es)) (judged s e))
   judged_list s fold e = None
 
-abbrev pub fitting : Classes → WrittenKind → Kinded → Judgement Expr
-fitting classes wanted k = if fits classes k.kind wanted then Is k.body else Wrong code.Kind k.at
+-- of the wanted kind; else it is a wrong kind
+abbrev pub fitting : Classes → WrittenKind → Place → Kinded → Judgement Expr
+fitting classes wanted at k = if fits classes k.kind wanted then Is k.body else Wrong code.Kind at
 
 -- the body of the wanted kind that the expression means, or its first fault
 abbrev pub body_of : Scope → written.Expr → WrittenKind → Judgement Expr
-body_of s e wanted = and_then (fitting s.classes wanted) (judged s e)
+body_of s e wanted = and_then (fitting s.classes wanted (place e)) (judged s e)

@@ -12,6 +12,9 @@ use Rattle.at_typing.specs.declared.typing.TypeFault.TheVariants.{Refused, Memor
 abbrev pub typed_view : Typed → Kinded
 typed_view t = record { at = t.at; kind = t.kind; body = body_view t.body }
 
+abbrev pub all_view : {Z : Type 0} → Vec Typed Z → List Kinded
+all_view ts = map typed_view ts.items
+
 abbrev pub list_view : ListValue → Listed
 list_view l = record { node = body_view l.node; part = l.part; class = l.class }
 

@@ -1,7 +1,8 @@
 //! The classes below others, and what holds of classes by whatever number.
 
-ghost use Rattle.std.specs.Prelude.{◌≡◌};
-ghost use Rattle.at_model.specs.Classes.{is_concrete};
+ghost use Rattle.std.specs.Prelude.{◌≡◌, map};
+ghost use Rattle.at_class.specs.View.{part_view};
+ghost use Rattle.at_model.specs.Classes.{is_concrete, parts};
 
 use at_class::{ClassId, ClassTable, Part};
 use std::alloc::{AllocError, Global};
@@ -18,7 +19,9 @@ pub fn is_concrete(classes: &ClassTable, class: ClassId) -> bool
 }
 
 /// The components of the class, none where it isn't there.
-pub fn parts_of(classes: &ClassTable, class: ClassId) -> &[Part] {
+pub fn parts_of(classes: &ClassTable, class: ClassId) -> &[Part]
+    ensures { map part_view result.now ≡ parts classes.now class }
+{
     if class.index() < classes.len() {
         classes.parts(class)
     } else {

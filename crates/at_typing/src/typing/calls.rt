@@ -1,5 +1,11 @@
 //! Calls: of accessors, of attributes, and of `equals`.
 
+ghost use Rattle.std.specs.Prelude.{◌≡◌, map, slice_get, IfOk};
+ghost use Rattle.at_model.specs.Bodies as model;
+ghost use Rattle.at_rules.specs.Bodies.{body_view, bodies_view};
+ghost use Rattle.at_typing.specs.Judging.{called as called_of, asked_of as asked_by_kind, asked as asked_in, equal as equal_of, only, where_fit, misfit, accessed as accessed_by, of_kind, demanded_of, fitted as fitted_to, is_argument as is_argument_for, is_text_word, is_given_text as is_given};
+ghost use Rattle.at_typing.specs.Typed.{typed_view, scope_view, Judges};
+
 use super::kinds::{ExprKind, Typed};
 use super::{Scope, TypeFault, refused};
 use crate::accessors::{Accessor, accessor_named};
@@ -7,6 +13,7 @@ use crate::fault::RuleCode;
 use crate::signatures::WrittenKind;
 use at_class::ClassId;
 use at_rules::{AttrId, Body, Kind};
+use std::alloc::{AllocError, Global};
 
 impl Scope<'_> {
     /// A call of a receiver. Texts have `equals`; nodes have accessors and attributes.
@@ -16,7 +23,9 @@ impl Scope<'_> {
         name: &str,
         arguments: Vec<Typed>,
         at: (u32, u32),
-    ) -> Result<Typed, TypeFault> {
+    ) -> Result<Typed, TypeFault>
+        ensures { Judges typed_view (called_of (scope_view self.now) at name.now (typed_view receiver) (map typed_view arguments.items)) result }
+    {
         if name == "equals" {
             return self.equal(receiver, arguments, at);
         }
@@ -31,7 +40,9 @@ impl Scope<'_> {
         name: &str,
         arguments: Vec<Typed>,
         at: (u32, u32),
-    ) -> Result<Typed, TypeFault> {
+    ) -> Result<Typed, TypeFault>
+        ensures { Judges typed_view (asked_by_kind (scope_view self.now) at name.now kind (body_view node) (map typed_view arguments.items)) result }
+    {
         match kind {
             ExprKind::Class(class) => self.asked(class, node, name, arguments, at),
             ExprKind::Strange => Err(refused(RuleCode::UnknownName, at)),
@@ -45,34 +56,30 @@ impl Scope<'_> {
         receiver: Typed,
         arguments: Vec<Typed>,
         at: (u32, u32),
-    ) -> Result<Typed, TypeFault> {
-        if receiver.kind != ExprKind::Text {
+    ) -> Result<Typed, TypeFault>
+        ensures { Judges typed_view (equal_of at (typed_view receiver) (map typed_view arguments.items)) result }
+    {
+        if !receiver.kind.is_text() {
             return Err(refused(RuleCode::Kind, at));
         }
-        let argument = self.one_argument(arguments, ExprKind::Text, at)?;
+        let argument = self.only(arguments, at)?;
+        let argument = where_fit(argument.kind.is_text(), argument)?;
         let text = Box::new(self.alloc, receiver.body)?;
         let argument = Box::new(self.alloc, argument)?;
         Ok(Typed::truth(Body::Equals(text, argument), at))
     }
 
-    /// The only argument, of that kind.
-    fn one_argument(
-        &self,
-        arguments: Vec<Typed>,
-        kind: ExprKind,
-        at: (u32, u32),
-    ) -> Result<Body, TypeFault> {
+    /// The only argument of the call at that place.
+    fn only(&self, arguments: Vec<Typed>, at: (u32, u32)) -> Result<Typed, TypeFault>
+        ensures { Judges typed_view (only at (map typed_view arguments.items)) result }
+    {
         let mut arguments = arguments;
         if arguments.len() != 1 {
             return Err(refused(RuleCode::Argument, at));
         }
-        let Some(argument) = arguments.pop() else {
-            return Err(refused(RuleCode::Argument, at));
-        };
-        if argument.kind == kind {
-            Ok(argument.body)
-        } else {
-            Err(refused(RuleCode::Argument, argument.at))
+        match arguments.pop() {
+            Some(argument) => Ok(argument),
+            None => Err(refused(RuleCode::Argument, at)),
         }
     }
 
@@ -84,7 +91,9 @@ impl Scope<'_> {
         name: &str,
         arguments: Vec<Typed>,
         at: (u32, u32),
-    ) -> Result<Typed, TypeFault> {
+    ) -> Result<Typed, TypeFault>
+        ensures { Judges typed_view (asked_in (scope_view self.now) at name.now class (body_view node) (map typed_view arguments.items)) result }
+    {
         if let Some(accessor) = accessor_named(self.classes, class, name) {
             return self.accessed(accessor, node, arguments, at);
         }
@@ -102,9 +111,12 @@ impl Scope<'_> {
         node: Body,
         arguments: Vec<Typed>,
         at: (u32, u32),
-    ) -> Result<Typed, TypeFault> {
+    ) -> Result<Typed, TypeFault>
+        ensures { Judges typed_view (accessed_by at accessor (body_view node) (map typed_view arguments.items)) result }
+    {
         if let Accessor::Element(part, class) = accessor {
-            let index = self.one_argument(arguments, ExprKind::Int, at)?;
+            let index = self.only(arguments, at)?;
+            let index = where_fit(index.kind.is_int(), index)?;
             return self.element(class, node, part, index, at);
         }
         if !arguments.is_empty() {
@@ -132,7 +144,9 @@ impl Scope<'_> {
         part: usize,
         index: Body,
         at: (u32, u32),
-    ) -> Result<Typed, TypeFault> {
+    ) -> Result<Typed, TypeFault>
+        ensures { Judges typed_view (of_kind at (ExprKind.Class class) (model.Element (body_view node) part (body_view index))) result }
+    {
         let node = Box::new(self.alloc, node)?;
         let index = Box::new(self.alloc, index)?;
         Ok(Typed::node(class, Body::Element(node, part, index), at))
@@ -145,7 +159,9 @@ impl Scope<'_> {
         node: Body,
         arguments: Vec<Typed>,
         at: (u32, u32),
-    ) -> Result<Typed, TypeFault> {
+    ) -> Result<Typed, TypeFault>
+        ensures { Judges typed_view (demanded_of self.now.classes.now at attribute (slice_get self.now.signatures.now attribute) (body_view node) (map typed_view arguments.items)) result }
+    {
         let Some(signature) = self.signatures.get(attribute) else {
             return Err(refused(RuleCode::UnknownName, at));
         };
@@ -164,32 +180,78 @@ impl Scope<'_> {
         arguments: Vec<Typed>,
         params: &[WrittenKind],
         at: (u32, u32),
-    ) -> Result<Vec<Body>, TypeFault> {
+    ) -> Result<Vec<Body>, TypeFault>
+        ensures { Judges (λ bodies. bodies_view bodies.items) (fitted_to self.now.classes.now at (map typed_view arguments.items) params.now) result }
+    {
         if arguments.len() != params.len() {
             return Err(refused(RuleCode::Argument, at));
         }
-        let mut bodies = Vec::new(self.alloc);
-        for (i, argument) in arguments.into_iter().enumerate() {
-            if !self.is_argument(&argument, params[i]) {
-                return Err(refused(RuleCode::Argument, argument.at));
-            }
-            bodies.push(argument.body)?;
+        if let Some(at) = self.misfit(&arguments, params) {
+            return Err(refused(RuleCode::Argument, at));
         }
+        let bodies = bodies_of(self.alloc, arguments)?;
         Ok(bodies)
+    }
+
+    /// The place of the first argument that is wrong for its parameter.
+    fn misfit(&self, arguments: &[Typed], params: &[WrittenKind]) -> Option<(u32, u32)>
+        ensures { result ≡ misfit self.now.classes.now (map typed_view arguments.now) params.now }
+    {
+        for (i, argument) in arguments.iter().enumerate() {
+            let Some(param) = params.get(i) else {
+                return None;
+            };
+            if !self.is_argument(argument, *param) {
+                return Some(argument.at);
+            }
+        }
+        None
     }
 
     /// Whether the expression may be the argument for a parameter of that kind: it fits, and of texts it
     /// is a literal, a parameter or a token.
-    fn is_argument(&self, argument: &Typed, param: WrittenKind) -> bool {
+    fn is_argument(&self, argument: &Typed, param: WrittenKind) -> bool
+        ensures { result ≡ is_argument_for self.now.classes.now (typed_view argument.now) param }
+    {
         if !argument.kind.fits(self.classes, param) {
             return false;
         }
-        param != WrittenKind::Known(Kind::Text) || is_given_text(&argument.body)
+        if is_text_word(param) {
+            is_given_text(&argument.body)
+        } else {
+            true
+        }
     }
+}
+
+fn is_text_word(param: WrittenKind) -> bool
+    ensures { result ≡ is_text_word param }
+{
+    matches!(param, WrittenKind::Known(Kind::Text))
 }
 
 /// Whether the text that the body is was given: a literal, a parameter's or a token's. (No other name is
 /// of a text.)
-fn is_given_text(body: &Body) -> bool {
+fn is_given_text(body: &Body) -> bool
+    ensures { result ≡ is_given (body_view body.now) }
+{
     matches!(body, Body::Text(_) | Body::Name(_) | Body::TokenOf(_, _))
+}
+
+/// The argument's body where it is of the kind that is asked.
+fn where_fit(fits: bool, argument: Typed) -> Result<Body, TypeFault>
+    ensures { Judges body_view (where_fit fits (typed_view argument)) result }
+{
+    if fits {
+        Ok(argument.body)
+    } else {
+        Err(refused(RuleCode::Argument, argument.at))
+    }
+}
+
+/// The bodies of the expressions.
+fn bodies_of(alloc: Global, exprs: Vec<Typed>) -> Result<Vec<Body>, AllocError>
+    ensures { IfOk result (λ bodies. bodies.items ≡ map (λ t. t.body) exprs.items) }
+{
+    exprs.into_iter().map(|expr| expr.body).collect(alloc)
 }
