@@ -2,3 +2,8 @@ mod Locating
 mod Accessing
 mod Signing
 mod Parts
+mod FirstFaults
+mod LongTexts
+mod AttributesCounted
+mod Positions
+mod WordNumbers

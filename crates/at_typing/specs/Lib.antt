@@ -7,3 +7,5 @@ pub mod Located
 pub mod Declaring
 pub mod Ruling
 pub mod Seen
+pub mod Numbering
+pub mod EquationKeys
