@@ -7,3 +7,4 @@ mod LongTexts
 mod AttributesCounted
 mod Positions
 mod WordNumbers
+mod Rows

@@ -9,7 +9,7 @@ ghost use Rattle.at_typing.specs.Accessors.{shape_of};
 ghost use Rattle.at_typing.specs.Declaring.{index_in};
 ghost use Rattle.at_typing.specs.Numbering.{numbered_view};
 ghost use Rattle.at_typing.specs.Ruling.{class_named, kind_named, param_named, params_named, can_be_passed, passed_if, is_kind, is_same, param_as_declared, as_declared, is_component, component_at, component_got, is_many, index_of_list, bound, body_if, body_meant, attribute_meant};
-ghost use Rattle.at_typing.specs.Seen.{attribute_of};
+ghost use Rattle.at_typing.specs.Seen.{attribute_of, Declares, AddsOwn, AddsInherited};
 ghost use Rattle.at_typing.specs.Signatures.{declared_view};
 ghost use Rattle.at_typing.specs.Typed.{bound_view, Judges};
 ghost use Rattle.at_typing.specs.declared.fault.RuleCode.TheVariants as code;
@@ -20,7 +20,7 @@ use crate::accessors::accessed;
 use crate::attributes::Attributes;
 use crate::fault::RuleCode;
 use crate::hierarchy::parts_of;
-use crate::located::{body_in, class_word, index_in, index_name, is_inherited, is_lazy, params_in};
+use crate::located::{body_in, class_word, index_name, is_inherited, is_lazy, params_in};
 use crate::numbered::Numbered;
 use crate::signatures::{Signature, Signatures, WrittenKind};
 use crate::typing::{Bound, Scope, TypeFault, body_of};
@@ -53,22 +53,39 @@ impl Among<'_> {
         match &numbered.decl.form {
             DeclForm::Synthesized { kind, .. } => {
                 let class = self.declare(numbered, kind, meant)?;
-                self.add_own(class, numbered, meant)
+                match body_in(&numbered.decl.form) {
+                    Some(body) => self.add_own(class, self.synthesized(numbered), numbered, body, meant),
+                    None => Ok(()),
+                }
             }
             DeclForm::Inherited { kind, .. } => {
                 self.declare(numbered, kind, meant)?;
                 Ok(())
             }
-            DeclForm::Equation { class, .. } => {
+            DeclForm::Equation { class, body, .. } => {
                 let class = self.class_named(class)?;
-                self.add_own(class, numbered, meant)
+                self.add_own(class, self.synthesized(numbered), numbered, body, meant)
             }
-            DeclForm::InheritedEquation { class, getter, .. } => {
+            DeclForm::InheritedEquation {
+                class,
+                getter,
+                index,
+                body,
+                ..
+            } => {
                 let class = self.class_named(class)?;
                 let part = self.component_got(class, getter)?;
-                self.add_inherited(class, part, numbered, meant)
+                self.index_of_list(class, part, index.as_ref())?;
+                let attribute = self.attributes.inherited(numbered.name);
+                self.add_inherited(class, part, attribute, numbered, body, meant)
             }
         }
+    }
+
+    /// The synthesized attribute of that name that the declaration's class or one above it declares.
+    fn synthesized(&self, numbered: &Numbered) -> Option<AttrId> {
+        self.attributes
+            .synthesized(self.classes, numbered.class, numbered.name)
     }
 
     /// Adds the attribute that is declared, whose values are of that kind, and returns its class.
@@ -77,12 +94,55 @@ impl Among<'_> {
         numbered: &Numbered,
         kind: &KindWord,
         meant: &mut Equations,
-    ) -> Result<ClassId, TypeFault> {
+    ) -> Result<ClassId, TypeFault>
+        ensures declared { Declares (numbered_view numbered.now) numbered.now.name (attribute_meant self.now.classes.now (numbered_view numbered.now) (kind_word_view kind.now)) meant.old.attributes.entries meant.new.attributes.entries result }
+        ensures own { meant.new.own ≡ meant.old.own }
+        ensures inherited { meant.new.inherited ≡ meant.old.inherited }
+    {
         let (class, attribute) = self.attribute(numbered, kind)?;
         meant
             .attributes
             .insert((class.index(), numbered.name), attribute)?;
         Ok(class)
+    }
+
+    /// Adds the class's equation of that attribute for its own nodes.
+    fn add_own(
+        &self,
+        class: ClassId,
+        attribute: Option<AttrId>,
+        numbered: &Numbered,
+        body: &Written,
+        meant: &mut Equations,
+    ) -> Result<(), TypeFault>
+        ensures added { AddsOwn class (body_meant self.now.classes.now self.now.signatures.now class (numbered_view numbered.now) (written_body body.now) attribute) meant.old.own.entries meant.new.own.entries result }
+        ensures attributes { meant.new.attributes ≡ meant.old.attributes }
+        ensures inherited { meant.new.inherited ≡ meant.old.inherited }
+    {
+        let (attribute, body) = self.equation(class, attribute, numbered, body)?;
+        meant.own.insert((class.index(), attribute.index()), body)?;
+        Ok(())
+    }
+
+    /// Adds the class's equation of the attribute for the nodes in the component, or in each one.
+    fn add_inherited(
+        &self,
+        class: ClassId,
+        part: Option<usize>,
+        attribute: Option<AttrId>,
+        numbered: &Numbered,
+        body: &Written,
+        meant: &mut Equations,
+    ) -> Result<(), TypeFault>
+        ensures added { AddsInherited class part numbered.now.name (body_meant self.now.classes.now self.now.signatures.now class (numbered_view numbered.now) (written_body body.now) attribute) meant.old.inherited.entries meant.new.inherited.entries result }
+        ensures attributes { meant.new.attributes ≡ meant.old.attributes }
+        ensures own { meant.new.own ≡ meant.old.own }
+    {
+        let (_, body) = self.equation(class, attribute, numbered, body)?;
+        meant
+            .inherited
+            .insert((class.index(), part, numbered.name), body)?;
+        Ok(())
     }
 
     /// The attribute that is declared, whose values are of that kind, behind its class.
@@ -104,44 +164,6 @@ impl Among<'_> {
             is_inherited: is_inherited(form),
         };
         Ok((class, attribute))
-    }
-
-    /// Adds the class's equation for its own nodes, if the declaration has one.
-    fn add_own(
-        &self,
-        class: ClassId,
-        numbered: &Numbered,
-        meant: &mut Equations,
-    ) -> Result<(), TypeFault> {
-        let Some(body) = body_in(&numbered.decl.form) else {
-            return Ok(());
-        };
-        let attribute = self
-            .attributes
-            .synthesized(self.classes, numbered.class, numbered.name);
-        let (attribute, body) = self.equation(class, attribute, numbered, body)?;
-        meant.own.insert((class.index(), attribute.index()), body)?;
-        Ok(())
-    }
-
-    /// Adds the class's equation for the nodes in the component, or in each one.
-    fn add_inherited(
-        &self,
-        class: ClassId,
-        part: Option<usize>,
-        numbered: &Numbered,
-        meant: &mut Equations,
-    ) -> Result<(), TypeFault> {
-        self.index_of_list(class, part, index_in(&numbered.decl.form))?;
-        let Some(body) = body_in(&numbered.decl.form) else {
-            return Ok(());
-        };
-        let attribute = self.attributes.inherited(numbered.name);
-        let (_, body) = self.equation(class, attribute, numbered, body)?;
-        meant
-            .inherited
-            .insert((class.index(), part, numbered.name), body)?;
-        Ok(())
     }
 
     /// The body of an equation of the class, behind its attribute: J9 at the declaration where there is none.
