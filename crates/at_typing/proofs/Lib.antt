@@ -14,3 +14,4 @@ mod Exposing
 mod Lacking
 mod Children
 mod Completed
+mod Rows

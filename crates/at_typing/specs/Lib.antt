@@ -11,3 +11,4 @@ pub mod Ruling
 pub mod Walks
 pub mod Hierarchies
 pub mod Completing
+pub mod Seen

@@ -1,5 +1,11 @@
 //! What is written of attributes.
 
+ghost use Rattle.std.specs.Prelude.{◌≡◌, All, map, IfOk};
+ghost use Rattle.at_jrag.specs.View.{kind_view as kind_form_view, kind_word_view, param_view};
+ghost use Rattle.at_typing.specs.Numbering.{IsOfItsClass, known_class as known_class_of, numbered_view};
+ghost use Rattle.at_typing.specs.Ruling.{known_kind, as_written, written_kind, signature, signatures};
+ghost use Rattle.at_typing.specs.Signatures.{declared_view};
+
 use crate::located::{is_inherited, is_lazy, name_word, params_in, result_in};
 use crate::numbered::{NamedClass, Numbered};
 use crate::signatures::{Signature, Signatures, WrittenKind};
@@ -13,7 +19,10 @@ pub fn signatures_of(
     alloc: Global,
     classes: &ClassTable,
     declared: &[Numbered],
-) -> Result<Signatures, AllocError> {
+) -> Result<Signatures, AllocError>
+    requires { All (IsOfItsClass classes.now) declared.now }
+    ensures { IfOk result (λ s. s ≡ signatures classes.now (map numbered_view declared.now)) }
+{
     let mut signatures = Signatures::new(alloc);
     for numbered in declared {
         if let Some(kind) = result_in(&numbered.decl.form) {
@@ -29,7 +38,10 @@ fn signature_of(
     classes: &ClassTable,
     numbered: &Numbered,
     kind: &KindWord,
-) -> Result<Signature, AllocError> {
+) -> Result<Signature, AllocError>
+    requires { IsOfItsClass classes.now numbered.now }
+    ensures { IfOk result (λ s. declared_view s ≡ signature classes.now (numbered_view numbered.now) (kind_word_view kind.now)) }
+{
     let form = &numbered.decl.form;
     Ok(Signature {
         name: String::from_str(alloc, name_word(form).text.as_str())?,
@@ -41,7 +53,9 @@ fn signature_of(
     })
 }
 
-fn known_class(class: NamedClass) -> Option<ClassId> {
+fn known_class(class: NamedClass) -> Option<ClassId>
+    ensures { result ≡ known_class_of class }
+{
     match class {
         NamedClass::Known(class) => Some(ClassId::new(class)),
         NamedClass::Unknown(_) => None,
@@ -52,7 +66,9 @@ fn kinds_of(
     alloc: Global,
     classes: &ClassTable,
     params: &[Param],
-) -> Result<Vec<WrittenKind>, AllocError> {
+) -> Result<Vec<WrittenKind>, AllocError>
+    ensures { IfOk result (λ kinds. kinds.items ≡ map (λ p. written_kind classes.now p.kind) (map param_view params.now)) }
+{
     let mut kinds = Vec::new(alloc);
     for param in params {
         let kind: Option<Kind> = known_kind(classes, &param.kind.kind);
@@ -62,7 +78,9 @@ fn kinds_of(
 }
 
 /// The kind that is written, unless it is a class that isn't there.
-pub fn known_kind(classes: &ClassTable, kind: &KindForm) -> Option<Kind> {
+pub fn known_kind(classes: &ClassTable, kind: &KindForm) -> Option<Kind>
+    ensures { result ≡ known_kind classes.now (kind_form_view kind.now) }
+{
     match kind {
         KindForm::Int => Some(Kind::Int),
         KindForm::Bool => Some(Kind::Bool),
@@ -72,7 +90,9 @@ pub fn known_kind(classes: &ClassTable, kind: &KindForm) -> Option<Kind> {
 }
 
 /// A kind as it is written: nothing known is a strange one.
-pub fn as_written(kind: Option<Kind>) -> WrittenKind {
+pub fn as_written(kind: Option<Kind>) -> WrittenKind
+    ensures { result ≡ as_written kind }
+{
     match kind {
         Some(kind) => WrittenKind::Known(kind),
         None => WrittenKind::Strange,
