@@ -1,1 +1,2 @@
 mod Locating
+mod Binding

@@ -5,3 +5,4 @@ pub mod Judging
 pub mod Typed
 pub mod Located
 pub mod Declaring
+pub mod Bound
