@@ -1,2 +1,7 @@
 mod Locating
 mod Binding
+mod FirstFaults
+mod LongTexts
+mod AttributesCounted
+mod Positions
+mod WordNumbers

@@ -6,3 +6,5 @@ pub mod Typed
 pub mod Located
 pub mod Declaring
 pub mod Bound
+pub mod Numbering
+pub mod EquationKeys

@@ -1,5 +1,9 @@
 //! What is wrong with declarations taken together.
 
+ghost use Rattle.std.specs.Prelude.{◌≡◌};
+ghost use Rattle.at_typing.specs.Declaring.{fault_at};
+ghost use Rattle.at_typing.specs.Numbering.{numbered_view};
+
 mod accessor_names;
 mod bound;
 mod completeness;
@@ -43,7 +47,9 @@ pub fn fault_together(
     equation_twice(alloc, declared)
 }
 
-fn fault_at(code: RuleCode, numbered: &Numbered, at: (u32, u32)) -> Fault {
+fn fault_at(code: RuleCode, numbered: &Numbered, at: (u32, u32)) -> Fault
+    ensures { result ≡ fault_at code (numbered_view numbered.now) at }
+{
     Fault {
         code,
         file: numbered.file,
