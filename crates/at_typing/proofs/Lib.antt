@@ -5,3 +5,4 @@ mod LongTexts
 mod AttributesCounted
 mod Positions
 mod WordNumbers
+mod AccessorNaming

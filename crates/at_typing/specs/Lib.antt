@@ -8,3 +8,4 @@ pub mod Declaring
 pub mod Bound
 pub mod Numbering
 pub mod EquationKeys
+pub mod AccessorNames
