@@ -6,3 +6,4 @@ mod AttributesCounted
 mod Positions
 mod WordNumbers
 mod AccessorNaming
+mod Signatures

@@ -9,3 +9,4 @@ pub mod Bound
 pub mod Numbering
 pub mod EquationKeys
 pub mod AccessorNames
+pub mod Twice
