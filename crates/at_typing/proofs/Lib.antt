@@ -7,3 +7,5 @@ mod Positions
 mod WordNumbers
 mod AccessorNaming
 mod Signatures
+mod EquationsBefore
+mod ClassesBelow

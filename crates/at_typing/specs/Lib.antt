@@ -10,3 +10,4 @@ pub mod Numbering
 pub mod EquationKeys
 pub mod AccessorNames
 pub mod Twice
+pub mod Ruling
