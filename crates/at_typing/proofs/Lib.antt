@@ -6,6 +6,6 @@ mod AttributesCounted
 mod Positions
 mod WordNumbers
 mod AccessorNaming
-mod Signatures
+mod SameKinds
 mod EquationsBefore
 mod ClassesBelow

@@ -2,7 +2,7 @@ use Rattle.std.proofs.Common.{◌∙◌, ap, sym, arith}
 use Rattle.at_jrag.specs.View.{param_view, kind_view}
 use Rattle.at_jrag.specs.declared.syntax.Param.{Param}
 use Rattle.at_typing.specs.Declaring.{is_same_kind}
-use Rattle.at_typing.proofs.Signatures.{other_lengths, same_more, same_end}
+use Rattle.at_typing.proofs.SameKinds.{other_lengths, same_more, same_end}
 use Rattle.at_typing.proofs.checks.twice.have_same_kinds.Goals as goal
 
 pub returns-then-params-others : goal.returns-then-params-others
