@@ -4,20 +4,20 @@ use Rattle.std.specs.Prelude.{◌≡◌, ℕ, ◌+◌, Bool, true, false, ◌&&�
 use Rattle.std.specs.List.{flat_map}
 use Rattle.std.specs.Option.{option_or}
 use Rattle.std.specs.Str.{bytes_eq}
-use Rattle.at_model.specs.Classes.{Classes, Many, class_of_name}
+use Rattle.at_model.specs.Classes.{Classes, class_of_name, parts}
 use Rattle.at_model.specs.Classes as class
 use Rattle.at_model.specs.Declarations.{first_given}
 use Rattle.at_model.specs.Bodies.{Expr}
-use Rattle.at_model.specs.Rules.{Rules, Attribute, OwnEquation, InheritedEquation}
+use Rattle.at_model.specs.Rules.{Rules, Attribute, OwnEquation}
 use Rattle.at_model.specs.Rules as model
 use Rattle.at_jrag.specs.Syntax.{Place, Word, KindWord, Param, Params, Body, DeclForm, Synthesized, Inherited, Equation, InheritedEquation}
 use Rattle.at_jrag.specs.Syntax as written
 use Rattle.at_rules.specs.Bodies.{kind_view}
 use Rattle.at_rules.specs.declared.body.Kind.{Kind}
 use Rattle.at_rules.specs.declared.body.Kind.TheVariants as kind
-use Rattle.at_typing.specs.Accessors.{accessed, shape_at}
+use Rattle.at_typing.specs.Accessors.{accessed, shape_of, is_list}
 use Rattle.at_typing.specs.Declaring.{fault_at, is_attribute, is_inherited, is_lazy, result_in, params_in, index_in, body_in, class_text, name_text, is_below, attributes, fault_together}
-use Rattle.at_typing.specs.Judging.{Judgement, Is, Wrong, and_then, Bound, Scope, body_judged}
+use Rattle.at_typing.specs.Judging.{Judgement, Is, Wrong, and_then, Bound, Scope, body_of as body_judged}
 use Rattle.at_typing.specs.Located.{Located, class_word, name_word}
 use Rattle.at_typing.specs.Signatures.{Declared}
 use Rattle.at_typing.specs.declared.fault.Fault.{Fault}
@@ -101,21 +101,28 @@ abbrev pub params_named : Classes → ℕ → List Param → Judgement (List Kin
 params_named classes i [] = Is []
 params_named classes i (p ∷ ps) = and_then (λ k. and_then (λ ks. Is (k ∷ ks)) (params_named classes (i + 1) ps)) (param_named classes i p)
 
-abbrev pub is_kind : Option WrittenKind → Kind → Bool
-is_kind (Some (Known kind.Int)) kind.Int = true
-is_kind (Some (Known kind.Bool)) kind.Bool = true
-is_kind (Some (Known kind.Text)) kind.Text = true
-is_kind (Some (Known (kind.Class b))) (kind.Class c) = nat_eq b c
-is_kind k j = false
+abbrev pub is_same : Kind → Kind → Bool
+is_same kind.Int kind.Int = true
+is_same kind.Bool kind.Bool = true
+is_same kind.Text kind.Text = true
+is_same (kind.Class b) (kind.Class c) = nat_eq b c
+is_same j k = false
 
-abbrev pub one_as_declared : List WrittenKind → ℕ → Param → Kind → Judgement Kind
-one_as_declared declared i p k = passed_if (is_kind (slice_get declared i) k) p.kind.at k
+-- that is the kind which is declared
+abbrev pub is_kind : Option WrittenKind → Kind → Bool
+is_kind (Some (Known j)) k = is_same j k
+is_kind (Some Strange) k = false
+is_kind None k = false
+
+-- the parameter at that position is the one that is declared
+abbrev pub param_as_declared : Classes → List WrittenKind → ℕ → Param → Judgement Kind
+param_as_declared classes declared i p = and_then (λ k. passed_if (is_kind (slice_get declared i) k) p.kind.at k) (param_named classes i p)
 
 -- the parameters of an equation are those of its attribute: at the first one that is wrong or too many, or at the end where one is
 -- missing
-abbrev pub as_declared : Classes → List WrittenKind → (end : Place) → ℕ → List Param → Judgement Unit
-as_declared classes declared end i [] = if nat_lt i (length declared) then Wrong code.Argument end else Is (record {})
-as_declared classes declared end i (p ∷ ps) = and_then (λ k. and_then (λ j. as_declared classes declared end (i + 1) ps) (one_as_declared declared i p k)) (param_named classes i p)
+abbrev pub as_declared : Classes → List WrittenKind → (end : Place) → ℕ → List Param → Judgement (Unit {0})
+as_declared classes declared end i [] = if nat_lt i (length declared) then Wrong code.Argument end else Is tt
+as_declared classes declared end i (p ∷ ps) = and_then (λ k. as_declared classes declared end (i + 1) ps) (param_as_declared classes declared i p)
 
 abbrev pub is_component : Option class.Shape → Bool
 is_component None = false
@@ -124,48 +131,52 @@ is_component (Some shape) = true
 
 abbrev pub component_at : Classes → ℕ → Place → Option ℕ → Judgement (Option ℕ)
 component_at classes c at None = Wrong code.UnknownName at
-component_at classes c at (Some part) = if is_component (shape_at classes c part) then Is (Some part) else Wrong code.UnknownName at
+component_at classes c at (Some part) = if is_component (shape_of (parts classes c) part) then Is (Some part) else Wrong code.UnknownName at
 
 -- the component that the getter gets, or none for the one that gets each
 abbrev pub component_got : Classes → ℕ → Word → Judgement (Option ℕ)
 component_got classes c getter = if bytes_eq getter.text (codes "getChild") then Is None else component_at classes c getter.at (accessed classes c getter.text)
 
 abbrev pub is_many : Option class.Shape → Bool
-is_many (Some (Many b)) = true
-is_many shape = false
+is_many None = false
+is_many (Some shape) = is_list shape
 
-abbrev pub index_of_list : Classes → ℕ → Option ℕ → Option Word → Judgement Unit
-index_of_list classes c part None = Is (record {})
-index_of_list classes c part (Some index) = if is_many (option_and_then (shape_at classes c) part) then Is (record {}) else Wrong code.UnknownName index.at
+abbrev pub index_of_list : Classes → ℕ → Option ℕ → Option Word → Judgement (Unit {0})
+index_of_list classes c part None = Is tt
+index_of_list classes c part (Some index) = if is_many (option_and_then (shape_of (parts classes c)) part) then Is tt else Wrong code.UnknownName index.at
 
 -- ---------------------------------------------------------------------------------------------------------------------
 
 abbrev pub bound : Classes → Param → Bound
 bound classes p = record { name = p.name.text; kind = written_kind classes p.kind }
 
-abbrev pub scope : Classes → List Located → ℕ → DeclForm → Scope
-scope classes ds c form = record {
+abbrev pub scope : Classes → List Declared → ℕ → DeclForm → Scope
+scope classes declared c form = record {
   classes = classes;
-  declared = signatures classes ds;
+  declared = declared;
   this = c;
   names = map (bound classes) (params_in form).items;
   index = option_map (λ w. w.text) (index_in form);
 }
 
 -- the body of an equation of class c for an attribute of which that is declared
-abbrev pub body_for : Classes → List Located → ℕ → Located → Body → Declared → Judgement Expr
-body_for classes ds c d body s = and_then (λ u. body_judged (scope classes ds c d.decl.form) body.expr s.result) (as_declared classes s.parameters (params_in d.decl.form).end 0 (params_in d.decl.form).items)
+abbrev pub body_for : Classes → List Declared → ℕ → Located → Body → Declared → Judgement Expr
+body_for classes declared c d body s = and_then (λ u. body_judged (scope classes declared c d.decl.form) body.expr s.result) (as_declared classes s.parameters (params_in d.decl.form).end 0 (params_in d.decl.form).items)
 
--- the body for the attribute of that number
-abbrev pub body_meant : Classes → List Located → ℕ → Located → Body → Option ℕ → Judgement (ℕ × Expr)
-body_meant classes ds c d body None = Wrong code.EquationWithoutAttribute d.decl.at
-body_meant classes ds c d body (Some a) = and_then (λ e. Is (a, e)) (elim (slice_get (signatures classes ds) a) [ None ↦ Wrong code.EquationWithoutAttribute d.decl.at | Some s ↦ body_for classes ds c d body s ])
+abbrev pub body_if : Classes → List Declared → ℕ → Located → Body → Option Declared → Judgement Expr
+body_if classes declared c d body None = Wrong code.EquationWithoutAttribute d.decl.at
+body_if classes declared c d body (Some s) = body_for classes declared c d body s
+
+-- the body of an equation for the attribute of that number, where one is declared
+abbrev pub body_meant : Classes → List Declared → ℕ → Located → Body → Option ℕ → Judgement (ℕ × Expr)
+body_meant classes declared c d body None = Wrong code.EquationWithoutAttribute d.decl.at
+body_meant classes declared c d body (Some a) = and_then (λ e. Is (a, e)) (body_if classes declared c d body (slice_get declared a))
 
 -- what a declaration adds to the rules
 pub record Meaning : Type 0 where
   pub attributes : List Attribute
   pub own : List OwnEquation
-  pub inherited : List InheritedEquation
+  pub inherited : List model.InheritedEquation
 
 abbrev pub attribute : Located → ℕ → Kind → List Kind → Attribute
 attribute d c result params = record {
@@ -183,11 +194,11 @@ attribute_meant classes d result = and_then (λ k. and_then (λ c. and_then (λ 
 
 -- the equation of class c for its own nodes
 abbrev pub own_meant : Classes → List Located → Located → Body → ℕ → Judgement OwnEquation
-own_meant classes ds d body c = and_then (λ e. Is (record { class = c; attribute = e.0; body = e.1 })) (body_meant classes ds c d body (synthesized_named classes ds (class_text d) (name_text d)))
+own_meant classes ds d body c = and_then (λ e. Is (record { class = c; attribute = e.0; body = e.1 })) (body_meant classes (signatures classes ds) c d body (synthesized_named classes ds (class_text d) (name_text d)))
 
 -- the equation of class c for the nodes in the component, or in each one
-abbrev pub inherited_meant : Classes → List Located → Located → Option Word → Body → ℕ → Option ℕ → Judgement InheritedEquation
-inherited_meant classes ds d index body c part = and_then (λ u. and_then (λ e. Is (record { class = c; part = part; name = name_text d; body = e.1 })) (body_meant classes ds c d body (inherited_named ds (name_text d)))) (index_of_list classes c part index)
+abbrev pub inherited_meant : Classes → List Located → Located → Option Word → Body → ℕ → Option ℕ → Judgement model.InheritedEquation
+inherited_meant classes ds d index body c part = and_then (λ u. and_then (λ e. Is (record { class = c; part = part; name = name_text d; body = e.1 })) (body_meant classes (signatures classes ds) c d body (inherited_named ds (name_text d)))) (index_of_list classes c part index)
 
 abbrev pub with_own : Classes → List Located → Located → Option Body → Attribute → Judgement Meaning
 with_own classes ds d None a = Is (record { attributes = a ∷ []; own = []; inherited = [] })
@@ -231,7 +242,7 @@ meanings classes ds = flat_map (λ d. meanings_of (meant classes ds d)) ds
 abbrev pub rules_of : Classes → List Located → Rules
 rules_of classes ds = record {
   classes = classes;
-  attributes = flat_map (λ m. m.attributes) (meanings classes ds);
-  own = flat_map (λ m. m.own) (meanings classes ds);
-  inherited = flat_map (λ m. m.inherited) (meanings classes ds);
+  attributes = flat_map (λ (m : Meaning). m.attributes) (meanings classes ds);
+  own = flat_map (λ (m : Meaning). m.own) (meanings classes ds);
+  inherited = flat_map (λ (m : Meaning). m.inherited) (meanings classes ds);
 }
