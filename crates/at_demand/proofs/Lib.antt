@@ -11,3 +11,10 @@ pub mod Supported
 pub mod Gathered
 pub mod Passing
 pub mod There
+pub mod Leading
+pub mod Only
+pub mod Gaining
+pub mod Counting
+pub mod SparingOn
+pub mod StayingSpare
+pub mod Spared

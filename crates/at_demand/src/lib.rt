@@ -9,4 +9,4 @@ mod question;
 
 pub use answer::Answer;
 pub use demand::Demand;
-pub use laws::what_is_kept_stays_right;
+pub use laws::{what_is_kept_stays_right, what_is_kept_stays_spare};
