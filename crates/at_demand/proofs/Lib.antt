@@ -18,3 +18,7 @@ pub mod Counting
 pub mod SparingOn
 pub mod StayingSpare
 pub mod Spared
+pub mod AlikeBack
+pub mod CalledAsked
+pub mod CalledEdited
+pub mod Called

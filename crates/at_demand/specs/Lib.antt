@@ -6,3 +6,4 @@ pub mod Covering
 pub mod Only
 pub mod Sparing
 pub mod Spared
+pub mod Called
