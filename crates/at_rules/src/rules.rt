@@ -80,10 +80,10 @@ impl Rules {
     /// The rules of these attributes and equations over the classes, where these are the names by their
     /// numbers.
     pub fn new(classes: ClassTable, names: IndexSet<String>, equations: Equations) -> Rules
-        ensures classes { result.now.classes ≡ classes.now }
-        ensures attributes { result.now.attributes ≡ map (attribute_view names.now.keys) equations.now.attributes.entries }
-        ensures own { result.now.own ≡ map own_view equations.now.own.entries }
-        ensures inherited { result.now.inherited ≡ map (inherited_view names.now.keys) (named names.now.keys equations.now.inherited.entries) }
+        ensures classes { result.classes ≡ classes }
+        ensures attributes { result.attributes ≡ map (attribute_view names.keys) equations.attributes.entries }
+        ensures own { result.own ≡ map own_view equations.own.entries }
+        ensures inherited { result.inherited ≡ map (inherited_view names.keys) (named names.keys equations.inherited.entries) }
     {
         Rules {
             classes,
