@@ -94,6 +94,7 @@ impl<K: Keeper> Demand<K> {
         requires { F.IsAlwaysCallable touched.now }
         ensures leaves { LeavesUntouched (Says (F.post touched.now)) (K.contents self.old.keeper) (K.contents self.new.keeper) }
         ensures loses { IsTrue K.exact → LosesTouched (Says (F.post touched.now)) (K.contents self.old.keeper) (K.contents self.new.keeper) }
+        ensures work { self.new.work ≡ self.old.work }
     {
         self.keeper.flush(touched);
     }
