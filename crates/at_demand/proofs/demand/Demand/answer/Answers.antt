@@ -114,7 +114,7 @@ returns-in-Some-clause-work g c exact right spare =
     let asked = c.args.inst.now in
     let entries = g.K.Keeper.contents c.args.self.now.keeper in
     let w = c.args.self.now.work in
-    let some = got_kept (entries asked) (value_view c.in-Some.value.now) c.in-Some.ensures in
+    let some = got_kept rules look (entries asked) (value_view c.in-Some.value.now) c.in-Some.ensures in
     work_is rules look asked entries entries w w (counts_none entries w (subst (λ n. n < 2 ^ 64) c.work-work.ensures c.work-work.type_inv)) (worthy_none rules look asked entries) (asked_kept rules look asked entries some spare.deep)
 
 pub returns-in_err-copy-2-clause-worthy : goal.returns-in_err-copy-2-clause-worthy
@@ -139,7 +139,7 @@ pub returns-in-Some-clause-all : goal.returns-in-Some-clause-all
 returns-in-Some-clause-all g c exact right spare =
     let asked = c.args.inst.now in
     let entries = g.K.Keeper.contents c.args.self.now.keeper in
-    asked_kept c.args.rules.now (contents c.args.store.now) asked entries (got_kept (entries asked) (value_view c.in-Some.value.now) c.in-Some.ensures) spare.deep
+    asked_kept c.args.rules.now (contents c.args.store.now) asked entries (got_kept c.args.rules.now (contents c.args.store.now) (entries asked) (value_view c.in-Some.value.now) c.in-Some.ensures) spare.deep
 
 pub returns-in-Answers-clause-all : goal.returns-in-Answers-clause-all
 returns-in-Answers-clause-all g c exact right spare =
