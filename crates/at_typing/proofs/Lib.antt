@@ -1,11 +1,14 @@
 mod Locating
 mod Accessing
 mod Signing
+mod Binding
 mod FirstFaults
 mod LongTexts
 mod AttributesCounted
 mod Positions
 mod WordNumbers
+mod AccessorNaming
+mod SameKinds
 mod EquationsBefore
 mod ClassesBelow
 mod Climbing

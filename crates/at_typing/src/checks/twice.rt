@@ -1,12 +1,19 @@
 //! Attributes that are declared twice.
 
+ghost use Rattle.std.specs.Prelude.{◌≡◌, nat_eq, map, option_map};
+ghost use Rattle.at_jrag.specs.Syntax.{Class};
+ghost use Rattle.at_jrag.specs.View.{decl_form_view, kind_view, kind_word_view, param_view};
+ghost use Rattle.at_typing.specs.Twice.{differs_from};
+ghost use Rattle.indexmap.specs.IndexMap.{get};
+ghost use Rattle.at_typing.specs.Declaring.{differs, has_same_signature, has_same_result, have_same_kinds, is_same_kind};
+
 use super::bound::binds_twice;
 use super::fault_at;
 use crate::fault::{Fault, RuleCode};
 use crate::located::{is_attribute, is_inherited, params_in, result_in};
 use crate::numbered::{NamedClass, Numbered};
 use at_class::ClassTable;
-use at_jrag::{DeclForm, Kind, Param};
+use at_jrag::{DeclForm, Kind, KindWord, Param};
 use indexmap::{IndexMap, IndexSet};
 use std::alloc::{AllocError, Global};
 
@@ -57,15 +64,12 @@ impl<'a> Before<'a> {
     }
 
     /// Whether the name is synthesized and inherited, or inherited with other kinds.
-    fn differs(&self, numbered: &Numbered) -> bool {
-        let Some(first) = self.first.get(&numbered.name) else {
-            return false;
-        };
-        let form = &numbered.decl.form;
-        if is_inherited(form) {
-            !is_inherited(first) || !has_same_kinds(form, first)
-        } else {
-            is_inherited(first)
+    fn differs(&self, numbered: &Numbered) -> bool
+        ensures { result ≡ differs_from (decl_form_view numbered.now.decl.now.form) (option_map (λ f. decl_form_view f.now) (get nat_eq self.now.first numbered.now.name)) }
+    {
+        match self.first.get(&numbered.name) {
+            Some(first) => differ(&numbered.decl.form, first),
+            None => false,
         }
     }
 
@@ -101,16 +105,39 @@ impl<'a> Before<'a> {
     }
 }
 
-/// Whether two attributes have the same result and the same kinds of parameters.
-fn has_same_kinds(form: &DeclForm, other: &DeclForm) -> bool {
-    let is_same_result = match (result_in(form), result_in(other)) {
-        (Some(kind), Some(other)) => is_same_kind(&kind.kind, &other.kind),
-        _ => false,
-    };
-    is_same_result && have_same_kinds(&params_in(form).items, &params_in(other).items)
+/// Whether of two attributes of one name one is synthesized and one inherited, or both are inherited with
+/// other kinds.
+fn differ(form: &DeclForm, other: &DeclForm) -> bool
+    ensures { result ≡ differs (decl_form_view form.now) (decl_form_view other.now) }
+{
+    if !is_inherited(form) {
+        return is_inherited(other);
+    }
+    if !is_inherited(other) {
+        return true;
+    }
+    !has_same_kinds(form, other)
 }
 
-fn have_same_kinds(params: &[Param], others: &[Param]) -> bool {
+/// Whether two attributes have the same result and the same kinds of parameters.
+fn has_same_kinds(form: &DeclForm, other: &DeclForm) -> bool
+    ensures { result ≡ has_same_signature (decl_form_view form.now) (decl_form_view other.now) }
+{
+    has_same_result(result_in(form), result_in(other))
+        && have_same_kinds(&params_in(form).items, &params_in(other).items)
+}
+
+fn has_same_result(kind: Option<&KindWord>, other: Option<&KindWord>) -> bool
+    ensures { result ≡ has_same_result (option_map (λ k. kind_word_view k.now) kind.entry) (option_map (λ k. kind_word_view k.now) other.entry) }
+{
+    let Some(kind) = kind else { return false };
+    let Some(other) = other else { return false };
+    is_same_kind(&kind.kind, &other.kind)
+}
+
+fn have_same_kinds(params: &[Param], others: &[Param]) -> bool
+    ensures { result ≡ have_same_kinds (map param_view params.now) (map param_view others.now) }
+{
     if params.len() != others.len() {
         return false;
     }
@@ -123,7 +150,9 @@ fn have_same_kinds(params: &[Param], others: &[Param]) -> bool {
 }
 
 /// Whether two kinds are written the same.
-fn is_same_kind(kind: &Kind, other: &Kind) -> bool {
+fn is_same_kind(kind: &Kind, other: &Kind) -> bool
+    ensures { result ≡ is_same_kind (kind_view kind.now) (kind_view other.now) }
+{
     match kind {
         Kind::Int => matches!(other, Kind::Int),
         Kind::Bool => matches!(other, Kind::Bool),
@@ -133,9 +162,11 @@ fn is_same_kind(kind: &Kind, other: &Kind) -> bool {
 }
 
 /// Whether the kind is the class of that name.
-fn names(kind: &Kind, class: &str) -> bool {
+fn names(kind: &Kind, class: &str) -> bool
+    ensures { result ≡ is_same_kind (Class class.now) (kind_view kind.now) }
+{
     match kind {
-        Kind::Class(name) => name.as_str() == class,
+        Kind::Class(name) => class == name.as_str(),
         Kind::Int | Kind::Bool | Kind::Text => false,
     }
 }
