@@ -17,4 +17,3 @@ mod Exposing
 mod Lacking
 mod Children
 mod Completed
-mod Rows

