@@ -15,7 +15,7 @@ use Rattle.indexmap.specs.IndexSet.{insert_key}
 use Rattle.at_model.specs.Classes.{Classes, Component, parts}
 use Rattle.at_model.specs.Declarations.{first_given}
 use Rattle.at_typing.specs.AccessorNames.{any_class, any_part, any_component, any_optional, any_list, is_of_shape, HasNames, AddsNames}
-use Rattle.at_typing.specs.Accessors.{is_optional, is_list, is_got, is_had, is_counted, is_listed, shape_at, getter, got_or, accessor_named, is_accessed, is_common, is_accessor}
+use Rattle.at_typing.specs.Accessors.{is_optional, is_list, is_got, is_had, is_counted, is_listed, shape_of, getter, got_or, accessor_named, is_accessed, is_common, is_accessor}
 use Rattle.at_typing.specs.declared.accessors.Accessor.{Accessor}
 use Rattle.at_typing.specs.declared.accessors.Accessor.TheVariants as accessor
 use Rattle.at_typing.specs.declared.checks.accessor_names.Accessors.{Accessors}
@@ -211,20 +211,20 @@ slice_some [] i less = absurd (omega arith)
 slice_some (x ∷ xs) zero less = refl
 slice_some (x ∷ xs) (suc i) less = slice_some xs i (omega arith)
 
-got_some : (classes : Classes) (c : ℕ) (other : Option Accessor) (o : Option ℕ) → ((i : ℕ) → o ≡ Some i → is_some (shape_at classes c i) ≡ true) → is_some (got_or classes c other o) ≡ (is_some o || is_some other)
-got_some classes c other None there = refl
-got_some classes c other (Some i) there = map_some (getter i) (shape_at classes c i) ∙ there i refl
+got_some : (ps : List Component) (other : Option Accessor) (o : Option ℕ) → ((i : ℕ) → o ≡ Some i → is_some (shape_of ps i) ≡ true) → is_some (got_or ps other o) ≡ (is_some o || is_some other)
+got_some ps other None there = refl
+got_some ps other (Some i) there = map_some (getter i) (shape_of ps i) ∙ there i refl
 
 -- a class has an accessor of that name
 accessor_any : (classes : Classes) (c : ℕ) (name : List ℕ) → is_some (accessor_named classes c name)
     ≡ (list_any (is_got name) (parts classes c) || (list_any (is_had name) (parts classes c) || (list_any (is_counted name) (parts classes c) || list_any (is_listed name) (parts classes c))))
 accessor_any classes c name =
-    got_some classes c _ (position (is_got name) (parts classes c)) (λ i is. there i is (parts classes c) refl)
+    got_some (parts classes c) _ (position (is_got name) (parts classes c)) (λ i is. there i is (parts classes c) refl)
     ∙ ap2 (λ x y. x || y) (position_any (is_got name) (parts classes c))
     (or_some (option_map accessor.Has (position (is_had name) (parts classes c))) _ ∙ ap2 (λ x y. x || y) (map_some accessor.Has _ ∙ position_any (is_had name) (parts classes c))
     (or_some (option_map accessor.Count (position (is_counted name) (parts classes c))) _ ∙ ap2 (λ x y. x || y) (map_some accessor.Count _ ∙ position_any (is_counted name) (parts classes c)) (map_some accessor.List _ ∙ position_any (is_listed name) (parts classes c))))
   where
-    there : (i : ℕ) → position (is_got name) (parts classes c) ≡ Some i → (ps : List Component) → ps ≡ parts classes c → is_some (shape_at classes c i) ≡ true
+    there : (i : ℕ) → position (is_got name) (parts classes c) ≡ Some i → (ps : List Component) → ps ≡ parts classes c → is_some (shape_of (parts classes c) i) ≡ true
     there i is [] h = absurd (none (subst (λ ps. position (is_got name) ps ≡ Some i) (sym h) is))
       where
         none : None ≡ Some i → ⊥
