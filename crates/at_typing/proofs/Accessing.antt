@@ -1,5 +1,5 @@
 -- Names behind a front and before an end, and components by them.
-use Rattle.std.proofs.Common.{◌≡◌, ℕ, ◌+◌, ◌-◌, ◌<◌, ◌≤◌, List, [], ◌∷◌, ◌++◌, length, map, take, drop, reverse, refl, ap, sym, ◌∙◌, arith, Option, Some, None, suc, zero, true≢false, append-nil, length-append}
+use Rattle.std.proofs.Common.{◌≡◌, ℕ, ◌+◌, ◌<◌, ◌≤◌, List, [], ◌∷◌, ◌++◌, length, map, take, drop, reverse, refl, ap, sym, ◌∙◌, arith, Option, Some, None, suc, zero, true≢false, length-append}
 use Rattle.std.specs.Prelude.{Bool, true, false, ◌&&◌, cond, position, nat_eq}
 use Rattle.std.specs.List.{slice_get, flat_map}
 use Rattle.std.specs.Str.{bytes_eq}
@@ -11,7 +11,7 @@ use Rattle.std.proofs.lemmas.Iterator.Adapters.{position_from-zero}
 use Rattle.at_class.proofs.Named.{position-map}
 use Rattle.at_class.specs.View.{part_view}
 use Rattle.at_class.specs.declared.part.Part.{Part}
-use Rattle.at_model.specs.Classes.{Classes, Class, Component, chain, chain_within, parent_of, own_of, parts}
+use Rattle.at_model.specs.Classes.{Classes, Class, Component, chain, chain_within, own_of, parts}
 
 alone : (classes : Classes) (c : ℕ) → slice_get classes c ≡ None → flat_map (own_of classes) (c ∷ []) ≡ []
 alone classes c none = flat_map-cons (own_of classes) c [] ∙ ap (λ (o : Option Class). (elim o [ None ↦ [] | Some k ↦ k.own ]) ++ []) none

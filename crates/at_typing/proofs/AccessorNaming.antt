@@ -1,5 +1,5 @@
 -- The names of all components against the accessors of each class.
-use Rattle.std.proofs.Common.{◌≡◌, ◌≢◌, ℕ, zero, suc, ◌+◌, ◌<◌, ◌≤◌, length, drop, get_or, add-one, arith, Bool, true, false, ◌||◌, ◌&&◌, cond, nat_eq, List, [], ◌∷◌, ◌++◌, map, codes, position, refl, ap, subst, sym, ◌∙◌, Option, Some, None, is_some, option_map}
+use Rattle.std.proofs.Common.{◌≡◌, ◌≢◌, ℕ, zero, suc, ◌+◌, ◌<◌, ◌≤◌, length, drop, get_or, add-one, arith, Bool, true, false, ◌||◌, ◌&&◌, cond, List, [], ◌∷◌, ◌++◌, map, codes, position, refl, ap, subst, sym, ◌∙◌, Option, Some, None, is_some, option_map}
 use Rattle.std.proofs.Math.Seq.{drop-cons}
 use Rattle.std.proofs.lemmas.List.{drop_all, append_cancel_left, append_cancel_right}
 use Rattle.std.proofs.lemmas.List.Folds.{list_any-append}
@@ -15,7 +15,7 @@ use Rattle.indexmap.specs.IndexSet.{insert_key}
 use Rattle.at_model.specs.Classes.{Classes, Component, parts}
 use Rattle.at_model.specs.Declarations.{first_given}
 use Rattle.at_typing.specs.AccessorNames.{any_class, any_part, any_component, any_optional, any_list, is_of_shape, HasNames, AddsNames}
-use Rattle.at_typing.specs.Accessors.{is_optional, is_list, is_got, is_had, is_counted, is_listed, shape_of, getter, got_or, accessor_named, is_accessed, is_common, is_accessor}
+use Rattle.at_typing.specs.Accessors.{is_optional, is_list, is_got, is_had, is_counted, is_listed, shape_of, getter, got_or, accessor_named, is_accessed}
 use Rattle.at_typing.specs.declared.accessors.Accessor.{Accessor}
 use Rattle.at_typing.specs.declared.accessors.Accessor.TheVariants as accessor
 use Rattle.at_typing.specs.declared.checks.accessor_names.Accessors.{Accessors}

@@ -1,10 +1,9 @@
 -- The attributes before a declaration, and how many may still be declared.
-use Rattle.std.proofs.Common.{◌≡◌, ℕ, ◌+◌, ◌<◌, ◌≤◌, List, [], ◌∷◌, ◌++◌, length, take, get_or, map, refl, ap, sym, ◌∙◌, arith, Option, Some, None, zero, suc, true≢false}
+use Rattle.std.proofs.Common.{◌≡◌, ℕ, ◌+◌, ◌<◌, List, [], ◌∷◌, ◌++◌, length, take, get_or, map, refl, ap, sym, ◌∙◌, arith, Some, None, zero, suc}
 use Rattle.std.proofs.lemmas.List.{take-map, map_more}
 use Rattle.std.proofs.Math.Dec.{eqb-suc-zero}
-use Rattle.std.proofs.lemmas.Bool.{ltb-true, ltb-false, eqb-true}
+use Rattle.std.proofs.lemmas.Bool.{ltb-true, ltb-false}
 use Rattle.std.specs.Prelude.{Bool, true, false, not, nat_eq, nat_lt, filter, cond}
-use Rattle.at_typing.specs.declared.fault.Fault.{Fault}
 use Rattle.at_typing.specs.declared.fault.RuleCode.TheVariants as code
 use Rattle.at_typing.specs.Declaring.{attributes, is_attribute, fault_at}
 use Rattle.at_typing.specs.Located.{Located}

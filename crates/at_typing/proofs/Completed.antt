@@ -1,9 +1,8 @@
 -- Rules of which none of the two codes tells are complete.
-use Rattle.std.proofs.Common.{◌≡◌, ℕ, Option, Some, None, refl, sym, subst}
-use Rattle.std.specs.Prelude.{Bool, true, false, slice_get, IsSome}
+use Rattle.std.proofs.Common.{◌≡◌, Option, Some, None, refl}
+use Rattle.std.specs.Prelude.{IsSome}
 use Rattle.at_model.specs.Bodies.{Expr}
-use Rattle.at_model.specs.Classes.{fits}
-use Rattle.at_model.specs.Rules.{Rules, Attribute, AreComplete, Exposed, own_equation}
+use Rattle.at_model.specs.Rules.{Rules, AreComplete, own_equation}
 use Rattle.at_typing.specs.Completing.{IsFirst, LacksOwn, LacksInherited}
 
 some_equation : (o : Option Expr) → (o ≡ None → ⊥) → IsSome o

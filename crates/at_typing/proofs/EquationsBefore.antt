@@ -7,7 +7,7 @@ use Rattle.std.specs.Str.{bytes_eq}
 use Rattle.std.proofs.lemmas.List.{map-append, take_more, take-map}
 use Rattle.std.proofs.lemmas.List.Elements.{All-tail, All-take}
 use Rattle.at_jrag.specs.Syntax.{Word}
-use Rattle.at_typing.specs.Declaring.{is_same_equation, is_same_getter, class_text, name_text}
+use Rattle.at_typing.specs.Declaring.{is_same_equation, is_same_getter, name_text}
 use Rattle.at_typing.specs.EquationKeys.{is_own, own_keys, is_own_key, getter_of, inherited_keys, inherited_keys_with, is_inherited_key, is_there, key_view}
 use Rattle.at_typing.specs.Numbering.{numbered_view, same_class, AreAlike}
 use Rattle.at_typing.specs.declared.numbered.NamedClass.{NamedClass}

@@ -1,12 +1,12 @@
 -- The classes that are exposed are those that a walk from the start class meets.
-use Rattle.std.proofs.Common.{◌≡◌, ℕ, zero, suc, ◌+◌, ◌<◌, ◌≤◌, ◌⊎◌, inl, inr, List, [], ◌∷◌, length, ◌++◌, refl, ap, ap₂, sym, ◌∙◌, subst, arith, Option, Some, None, true≢false}
+use Rattle.std.proofs.Common.{◌≡◌, ℕ, zero, suc, ◌+◌, ◌<◌, inl, inr, List, [], length, ◌++◌, refl, ap, ap₂, sym, ◌∙◌, subst, arith, Option, Some, None, true≢false}
 use Rattle.std.specs.Prelude.{Bool, true, false, ◌||◌, ◌&&◌, not, nat_eq, nat_lt, option_and_then, slice_get, is_none, replicate, IfNone, if◌then◌else◌}
 use Rattle.std.specs.Option.{option_eq, option_to_list}
 use Rattle.std.proofs.lemmas.Bool.{lt-ltb, ltb-true, ltb-false, eqb-true, or_left, or_right, and_from}
 use Rattle.std.proofs.lemmas.List.{length-replicate}
 use Rattle.std.proofs.lemmas.Option.{none-some, slice_get_within}
 use Rattle.at_model.specs.Classes.{Classes, Class, Component, AreSound, class_in, is_concrete, is_sub, fits, parent_of, parts}
-use Rattle.at_model.specs.Rules.{Rules, Exposed, as_root, below, PassesDown, inherited_equation, own_equation, own_in}
+use Rattle.at_model.specs.Rules.{Rules, Exposed, as_root, below, inherited_equation}
 use Rattle.at_model.specs.Bodies.{Expr}
 use Rattle.at_typing.specs.Walks.{has_met, Meets, Walked, Walking}
 use Rattle.at_typing.specs.Hierarchies.{is_child}

@@ -1,19 +1,19 @@
 -- The classes without an equation below a class are those that a walk downward meets.
-use Rattle.std.proofs.Common.{◌≡◌, ℕ, ◌+◌, ◌<◌, ◌⊎◌, inl, inr, List, [], ◌++◌, length, refl, ap, sym, ◌∙◌, subst, Option, Some, None, true≢false}
+use Rattle.std.proofs.Common.{◌≡◌, ℕ, ◌+◌, ◌<◌, inl, inr, List, [], ◌++◌, length, refl, ap, sym, ◌∙◌, subst, Option, Some, None, true≢false}
 use Rattle.std.specs.Prelude.{Bool, true, false, ◌||◌, ◌&&◌, not, nat_eq, is_none, is_some, replicate, IfNone}
 use Rattle.std.specs.Option.{option_to_list}
 use Rattle.std.proofs.lemmas.Bool.{and_from, eqb-true}
 use Rattle.std.proofs.lemmas.List.{length-replicate}
 use Rattle.std.proofs.lemmas.Option.{none-some}
-use Rattle.at_model.specs.Classes.{AreSound, chain, is_concrete, is_sub, fits, parent_of}
-use Rattle.at_model.specs.Rules.{Rules, first_answer, own_equation, own_in}
+use Rattle.at_model.specs.Classes.{AreSound, chain, is_concrete, is_sub, parent_of}
+use Rattle.at_model.specs.Rules.{Rules, own_equation, own_in}
 use Rattle.at_model.specs.Bodies.{Expr}
 use Rattle.at_typing.specs.Walks.{has_met, Meets, Walked, Walking}
 use Rattle.at_typing.specs.Hierarchies.{is_child}
 use Rattle.at_typing.specs.Completing.{LacksBelow, leads_own, passes_own, IsWithoutAbove}
-use Rattle.at_typing.proofs.Climbing.{no_list, same, sub_itself, sub_above, sub_parent, sub_split, child_within, parent_within, descends, none_each, each_none}
+use Rattle.at_typing.proofs.Climbing.{no_list, same, sub_itself, sub_above, sub_parent, sub_split, child_within, descends, none_each, each_none}
 use Rattle.at_typing.proofs.Walking.{or_cases, and_both, meets_like, meets_none, begins, steps, taken_good, ends, ends_full}
-use Rattle.at_typing.proofs.Exposing.{is_some_of, is_some_from, concrete_within, fits_within, above_within}
+use Rattle.at_typing.proofs.Exposing.{is_some_of, is_some_from, fits_within, above_within}
 
 -- no class above has one
 pub each_without : (rules : Rules) (attribute c : ℕ) → own_equation rules c attribute ≡ None → (x : ℕ) → is_sub rules.classes c x ≡ true → own_in rules attribute x ≡ None

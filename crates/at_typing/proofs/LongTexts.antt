@@ -1,9 +1,8 @@
 -- The loop that looks for a text that is too long among arguments.
-use Rattle.std.proofs.Common.{◌≡◌, ℕ, ◌+◌, ◌<◌, ◌≤◌, List, length, drop, get_or, map, refl, ap, ◌∙◌, sym, add-one, arith, Option, Some, None}
+use Rattle.std.proofs.Common.{◌≡◌, ℕ, ◌+◌, ◌<◌, ◌≤◌, List, length, drop, get_or, map, refl, ap, ◌∙◌, add-one, Option, Some, None}
 use Rattle.std.proofs.Math.Seq.{drop-cons}
 use Rattle.std.proofs.lemmas.List.{drop_all}
-use Rattle.std.specs.Prelude.{Bool, true, false, not, nat_eq, nat_lt, ◌&&◌, filter}
-use Rattle.at_jrag.specs.Syntax.{Place, Expr, to_exprs}
+use Rattle.at_jrag.specs.Syntax.{Place, to_exprs}
 use Rattle.at_jrag.specs.View.{expr_view}
 use Rattle.at_jrag.specs.declared.syntax.Expr.{Expr as ExprValue}
 use Rattle.at_typing.specs.Declaring.{long_text, long_text_among}

@@ -1,6 +1,6 @@
 -- Positions of texts among those that have numbers.
-use Rattle.std.proofs.Common.{◌≡◌, ℕ, ◌+◌, ◌<◌, ◌≤◌, List, [], ◌∷◌, ◌++◌, length, map, refl, ap, sym, ◌∙◌, arith, Option, Some, None, zero, suc, true≢false, String, string_bytes, subst}
-use Rattle.std.specs.Prelude.{Bool, true, false, ◌||◌, cond, nat_eq, nat_lt, position, is_some, if◌then◌else◌, option_map}
+use Rattle.std.proofs.Common.{◌≡◌, ℕ, ◌+◌, List, [], ◌∷◌, ◌++◌, length, refl, ap, sym, ◌∙◌, arith, Some, true≢false, String, string_bytes}
+use Rattle.std.specs.Prelude.{Bool, true, false, ◌||◌, cond, position}
 use Rattle.std.specs.List.{list_any, position_from, position_or_len}
 use Rattle.std.specs.Str.{bytes_eq}
 use Rattle.std.specs.String.{string_eq}
@@ -8,7 +8,6 @@ use Rattle.std.proofs.lemmas.Cmp.{nat_list_eq_equiv}
 use Rattle.std.proofs.lemmas.Iterator.Adapters.{position_from-zero}
 use Rattle.std.proofs.lemmas.Option.{none-some}
 use Rattle.indexmap.specs.IndexSet.{insert_key}
-use Rattle.at_text.proofs.Openings.{bytes_same}
 use Rattle.at_typing.specs.Numbering.{text_number, Keeps}
 
 from_append : {A : Type 0} (p : A → Bool) (i n : ℕ) (xs ys : List A) → position_from p i xs ≡ Some n → position_from p i (xs ++ ys) ≡ Some n

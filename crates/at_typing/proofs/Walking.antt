@@ -1,9 +1,9 @@
 -- A walk meets each class once at most, and in the end all those to which one leads that was met.
 use Rattle.std.proofs.Common.{◌≡◌, ℕ, zero, suc, ◌+◌, ◌<◌, ◌≤◌, ◌⊎◌, inl, inr, List, [], ◌∷◌, ◌++◌, length, length-append, refl, ap, ap₂, sym, ◌∙◌, subst, arith, true≢false, take, Option, Some, None}
-use Rattle.std.specs.Prelude.{Bool, true, false, ◌||◌, ◌&&◌, not, cond, nat_eq, nat_lt, get_or, set, replicate}
+use Rattle.std.specs.Prelude.{Bool, true, false, ◌||◌, ◌&&◌, not, nat_eq, nat_lt, get_or, set, replicate}
 use Rattle.std.specs.List.{list_any}
 use Rattle.std.specs.Option.{option_to_list, option_eq}
-use Rattle.std.proofs.lemmas.Bool.{eq-eqb, eqb-true, or_left, or_right, lt-ltb, ltb-true, and_from}
+use Rattle.std.proofs.lemmas.Bool.{eqb-true, or_left, or_right, lt-ltb, ltb-true, and_from}
 use Rattle.std.proofs.lemmas.List.{get_or-set_same, get_or-set_other, length-set}
 use Rattle.std.proofs.lemmas.List.Folds.{list_any-append, list_any_more}
 use Rattle.at_typing.specs.Walks.{is_in, has_met, met_count, Meets, Walked, Walking}

@@ -1,5 +1,5 @@
 -- Numbers that are positions of words: they are the same exactly where the words are.
-use Rattle.std.proofs.Common.{◌≡◌, ℕ, ◌<◌, List, [], ◌∷◌, ◌++◌, ◌+◌, subst, length, get_or, refl, ap, sym, ◌∙◌, arith, Option, Some, None, true≢false, String, string_bytes}
+use Rattle.std.proofs.Common.{◌≡◌, ℕ, ◌<◌, List, [], ◌∷◌, ◌++◌, ◌+◌, subst, length, get_or, refl, ap, sym, ◌∙◌, Option, Some, None, true≢false, String, string_bytes}
 use Rattle.std.specs.Prelude.{Bool, true, false, nat_eq, position, option_map, unwrap_or, map, take, All}
 use Rattle.std.specs.Str.{bytes_eq}
 use Rattle.std.proofs.lemmas.Bool.{eqb-true, eqb-false}
@@ -11,7 +11,7 @@ use Rattle.std.proofs.lemmas.Option.{none-some}
 use Rattle.at_text.proofs.Openings.{bytes_same}
 use Rattle.at_model.specs.Classes.{Classes, class_of_name}
 use Rattle.at_typing.specs.Declaring.{class_text, name_text}
-use Rattle.at_typing.specs.Numbering.{numbered_view, same_class, known_class, text_number, class_or_unknown, class_number, Keeps, IsOfItsClass, AreAlike, AreNumbered, HasNumbers}
+use Rattle.at_typing.specs.Numbering.{numbered_view, same_class, known_class, text_number, class_or_unknown, Keeps, IsOfItsClass, AreAlike, AreNumbered, HasNumbers}
 use Rattle.at_typing.specs.declared.numbered.NamedClass.{NamedClass}
 use Rattle.at_typing.specs.declared.numbered.NamedClass.TheVariants.{Known, Unknown}
 use Rattle.at_typing.specs.declared.numbered.Numbered.{Numbered as NumberedValue}

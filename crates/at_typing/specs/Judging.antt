@@ -1,6 +1,6 @@
 -- The kinds of expressions as they are written, and the bodies that they mean; or their first fault: parts before the whole, from
 -- left to right. The place of a fault is that of the form at which it is found, or of an argument.
-use Rattle.std.specs.Prelude.{ℕ, Bool, true, false, ◌&&◌, not, nat_eq, List, [], ◌∷◌, length, codes, position, Option, Some, None, option_map, option_and_then, slice_get, if◌then◌else◌}
+use Rattle.std.specs.Prelude.{ℕ, Bool, true, false, ◌&&◌, nat_eq, List, [], ◌∷◌, length, codes, position, Option, Some, None, option_map, option_and_then, slice_get, if◌then◌else◌}
 use Rattle.std.specs.Str.{bytes_eq}
 use Rattle.at_model.specs.Classes.{Classes, class_of_name}
 use Rattle.at_model.specs.Bodies as body
@@ -14,7 +14,7 @@ use Rattle.at_typing.specs.declared.fault.RuleCode.{RuleCode}
 use Rattle.at_typing.specs.declared.fault.RuleCode.TheVariants as code
 use Rattle.at_rules.specs.declared.body.Kind.TheVariants as kind
 use Rattle.at_typing.specs.declared.signatures.WrittenKind.{WrittenKind}
-use Rattle.at_typing.specs.declared.signatures.WrittenKind.TheVariants.{Known, Strange as StrangeWord}
+use Rattle.at_typing.specs.declared.signatures.WrittenKind.TheVariants.{Known}
 use Rattle.at_typing.specs.declared.accessors.Accessor.{Accessor}
 use Rattle.at_typing.specs.declared.accessors.Accessor.TheVariants as accessor
 use Rattle.at_typing.specs.declared.typing.kinds.ExprKind.{ExprKind}

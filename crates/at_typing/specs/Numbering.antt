@@ -1,5 +1,5 @@
 -- The declarations with numbers for their classes and their attributes' names: what the numbers say of the words.
-use Rattle.std.specs.Prelude.{◌≡◌, ℕ, Bool, true, false, ◌||◌, ◌&&◌, nat_eq, List, All, Option, Some, None, option_map, option_and_then, position, String, string_bytes}
+use Rattle.std.specs.Prelude.{◌≡◌, ℕ, Bool, false, ◌||◌, ◌&&◌, nat_eq, List, All, Option, Some, None, option_map, option_and_then, position, String, string_bytes}
 use Rattle.std.specs.Option.{option_or}
 use Rattle.std.specs.Str.{bytes_eq}
 use Rattle.at_model.specs.Classes.{Classes, class_of_name, parent_of}

@@ -1,5 +1,5 @@
 -- What is known of the attributes that are declared before a declaration.
-use Rattle.std.specs.Prelude.{ℕ, Bool, false, Option, Some, None}
+use Rattle.std.specs.Prelude.{Bool, false, Option, Some, None}
 use Rattle.at_jrag.specs.Syntax.{DeclForm}
 use Rattle.at_typing.specs.Declaring.{differs}
 

@@ -1,5 +1,5 @@
 -- What the values of typing stand for, and what is said of a result.
-use Rattle.std.specs.Prelude.{◌≡◌, ℕ, List, map, option_map, Result, Ok, Err, Vec, string_bytes}
+use Rattle.std.specs.Prelude.{◌≡◌, List, map, option_map, Result, Ok, Err, Vec, string_bytes}
 use Rattle.at_rules.specs.Bodies.{body_view}
 use Rattle.at_typing.specs.Judging.{Kinded, Judgement, Is, Wrong, Bound, Scope, Listed}
 use Rattle.at_typing.specs.declared.typing.kinds.Typed.{Typed}

@@ -1,5 +1,5 @@
 -- Walks over classes, each of which is met once: a mark for each class that was met, and those of them that wait to be looked at.
-use Rattle.std.specs.Prelude.{◌≡◌, ℕ, zero, suc, ◌+◌, ◌<◌, ◌⊎◌, Bool, true, false, ◌||◌, ◌&&◌, not, cond, nat_eq, nat_lt, List, [], ◌∷◌, length, get_or}
+use Rattle.std.specs.Prelude.{◌≡◌, ℕ, suc, ◌+◌, ◌<◌, ◌⊎◌, Bool, true, false, ◌||◌, ◌&&◌, not, cond, nat_eq, nat_lt, List, [], ◌∷◌, length, get_or}
 use Rattle.std.specs.List.{list_any}
 use Rattle.at_typing.specs.declared.walk.Walk.{Walk}
 

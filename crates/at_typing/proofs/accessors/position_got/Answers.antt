@@ -1,10 +1,10 @@
 use Rattle.std.proofs.Common.{map, ap, sym, ◌∙◌, ◌++◌, string_bytes}
-use Rattle.std.specs.Prelude.{codes, ◌&&◌}
+use Rattle.std.specs.Prelude.{codes}
 use Rattle.std.specs.Str.{bytes_eq}
-use Rattle.at_class.specs.View.{part_view, shape_view}
+use Rattle.at_class.specs.View.{part_view}
 use Rattle.at_class.specs.declared.part.Part.{Part}
 use Rattle.at_typing.specs.Accessors.{is_got}
-use Rattle.at_typing.proofs.Accessing.{position-view, position-never, off}
+use Rattle.at_typing.proofs.Accessing.{position-view, position-never}
 use Rattle.at_typing.proofs.accessors.position_got.Goals as goal
 
 pub returns-in_err-component : goal.returns-in_err-component

@@ -1,7 +1,7 @@
-use Rattle.std.proofs.Common.{◌≡◌, ap, sym, ◌∙◌, false, true, cond, ◌++◌, ◌∷◌, [], None, Some}
+use Rattle.std.proofs.Common.{ap, sym, ◌∙◌, cond, ◌++◌, ◌∷◌, []}
 use Rattle.std.specs.Prelude.{ℕ, is_some, nat_eq, ◌&&◌}
 use Rattle.indexmap.proofs.CallerLemmas.{insert_entry-new}
-use Rattle.at_typing.specs.Signatures.{first_at, noted}
+use Rattle.at_typing.specs.Signatures.{first_at}
 use Rattle.at_typing.proofs.Signing.{copied_some, none_where}
 use Rattle.at_typing.proofs.signatures.note.Goals as goal
 

@@ -1,6 +1,5 @@
-use Rattle.std.proofs.Common.{ap, sym, subst, ◌∙◌, List, ℕ, String, string_bytes}
+use Rattle.std.proofs.Common.{sym, ◌∙◌, string_bytes}
 use Rattle.std.proofs.lemmas.Slice.Eq.{bytes_eq-Decides}
-use Rattle.at_typing.specs.Signatures.{Declared, IsIndexed}
 use Rattle.at_typing.proofs.Signing.{named_more, named_same}
 use Rattle.at_typing.proofs.signatures.number_for.Goals as goal
 

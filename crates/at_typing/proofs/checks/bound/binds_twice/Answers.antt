@@ -1,9 +1,9 @@
-use Rattle.std.proofs.Common.{◌≡◌, ◌∙◌, ap, sym, subst, List, ℕ, Bool, false, map, option_map, Bor}
+use Rattle.std.proofs.Common.{◌≡◌, ◌∙◌, ap, sym, false, map, option_map, Bor}
 use Rattle.at_jrag.specs.declared.syntax.Body.{Body as BodyValue}
-use Rattle.at_jrag.specs.Syntax.{Param, Params, DeclForm}
+use Rattle.at_jrag.specs.Syntax.{Params}
 use Rattle.at_jrag.specs.View.{decl_form_view, body_view, param_view}
 use Rattle.at_typing.specs.Bound.{names_view, bound_after, texts_of}
-use Rattle.at_typing.specs.Declaring.{is_repeated, is_bound_again, index_names, param_names, binds_twice}
+use Rattle.at_typing.specs.Declaring.{is_repeated, index_names, param_names, binds_twice}
 use Rattle.at_typing.proofs.Binding.{binds_by_body, not_off, ok_also}
 use Rattle.at_typing.proofs.checks.bound.binds_twice.Goals as goal
 

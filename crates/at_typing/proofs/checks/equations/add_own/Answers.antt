@@ -1,4 +1,4 @@
-use Rattle.std.proofs.Common.{◌≡◌, refl, sym, ap, ◌∙◌}
+use Rattle.std.proofs.Common.{sym, ap, ◌∙◌}
 use Rattle.std.specs.Prelude.{◌&&◌, nat_eq}
 use Rattle.at_typing.proofs.EquationsBefore.{class_eq, own_new, own_more}
 use Rattle.at_typing.proofs.checks.equations.add_own.Goals as goal

@@ -1,5 +1,5 @@
-use Rattle.std.proofs.Common.{◌≡◌, arith, refl, sym, ap, ◌∙◌, map, Some}
-use Rattle.std.specs.Prelude.{◌&&◌, not, false, true}
+use Rattle.std.proofs.Common.{arith, refl, sym, ap, ◌∙◌, map, Some}
+use Rattle.std.specs.Prelude.{◌&&◌, not}
 use Rattle.at_typing.specs.Declaring.{equation_at}
 use Rattle.at_typing.specs.EquationKeys.{key_view, getter_of, is_there}
 use Rattle.at_typing.specs.Numbering.{numbered_view}

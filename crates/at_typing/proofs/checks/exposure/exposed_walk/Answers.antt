@@ -1,4 +1,4 @@
-use Rattle.std.proofs.Common.{arith, ap, sym, ◌∙◌, subst, length}
+use Rattle.std.proofs.Common.{arith, ap, ◌∙◌, subst, length}
 use Rattle.std.specs.Prelude.{nat_eq, true}
 use Rattle.at_model.specs.Classes.{AreSound}
 use Rattle.at_model.specs.Rules.{attribute_name}

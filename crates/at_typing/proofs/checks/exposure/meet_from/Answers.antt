@@ -1,7 +1,7 @@
-use Rattle.std.proofs.Common.{ap, sym, ◌∙◌, ◌≡◌, length, refl}
-use Rattle.std.specs.Prelude.{Bool, true, false, nat_eq}
+use Rattle.std.proofs.Common.{ap, sym, ◌∙◌, length, refl}
+use Rattle.std.specs.Prelude.{nat_eq}
 use Rattle.std.specs.List.{list_any}
-use Rattle.at_model.specs.Classes.{Classes, is_concrete, parts}
+use Rattle.at_model.specs.Classes.{is_concrete, parts}
 use Rattle.at_model.specs.Rules.{attribute_name}
 use Rattle.at_typing.proofs.Exposing.{leads_concrete, leads_abstract, concrete_within}
 use Rattle.at_typing.proofs.checks.exposure.meet_from.Goals as goal

@@ -1,5 +1,5 @@
-use Rattle.std.proofs.Common.{◌≡◌, arith, refl, sym, ap, ◌∙◌, map, length, take, Some, None, ◌+◌}
-use Rattle.std.specs.Prelude.{true, false, nat_eq}
+use Rattle.std.proofs.Common.{arith, refl, sym, ap, ◌∙◌, map, length, take}
+use Rattle.std.specs.Prelude.{true, false}
 use Rattle.at_typing.specs.Declaring.{attributes, limit_at, max_attributes}
 use Rattle.at_typing.specs.Numbering.{numbered_view, limit_of}
 use Rattle.at_typing.proofs.AttributesCounted.{is_full, room, attributes_more}

@@ -1,4 +1,4 @@
-use Rattle.std.proofs.Common.{◌≡◌, length}
+use Rattle.std.proofs.Common.{◌≡◌}
 use Rattle.at_jrag.specs.View.{param_view}
 use Rattle.at_typing.proofs.SameKinds.{same_from}
 use Rattle.at_typing.proofs.checks.twice.have_same_kinds.Given as goal

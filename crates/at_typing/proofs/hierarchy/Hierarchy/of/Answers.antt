@@ -1,7 +1,7 @@
-use Rattle.std.proofs.Common.{arith, ap, ◌∙◌, ◌≡◌, sym, subst, length, ℕ}
-use Rattle.std.specs.Prelude.{◌&&◌, nat_eq, nat_lt}
+use Rattle.std.proofs.Common.{arith, ◌∙◌, length}
+use Rattle.std.specs.Prelude.{nat_eq}
 use Rattle.std.specs.List.{list_any}
-use Rattle.at_typing.specs.Hierarchies.{is_child, listed_at}
+use Rattle.at_typing.specs.Hierarchies.{listed_at}
 use Rattle.at_typing.proofs.Children.{listed_next, none_listed, listed_all, parent_there}
 use Rattle.at_typing.proofs.hierarchy.Hierarchy.of.Goals as goal
 

@@ -1,5 +1,5 @@
 use Rattle.std.proofs.Common.{◌≡◌, map, drop}
-use Rattle.at_jrag.specs.View.{param_view, params_view}
+use Rattle.at_jrag.specs.View.{param_view}
 use Rattle.at_typing.specs.Ruling.{as_declared}
 use Rattle.at_typing.proofs.meaning.Among.params_as_declared.Given as goal
 

@@ -1,4 +1,4 @@
-use Rattle.std.proofs.Common.{◌≡◌, arith, refl, sym, ap, ◌∙◌, map, take_all}
+use Rattle.std.proofs.Common.{arith, ap, ◌∙◌, map, take_all}
 use Rattle.at_typing.specs.Located.{located_view}
 use Rattle.at_typing.specs.Numbering.{numbered_view, HasNumbers}
 use Rattle.at_typing.proofs.WordNumbers.{kept, numbered, both_more, all_more}

@@ -1,5 +1,5 @@
 use Rattle.std.proofs.Common.{◌∙◌, ap, sym, map}
-use Rattle.at_typing.specs.Signatures.{Declared, declared_view, declared_named, is_below}
+use Rattle.at_typing.specs.Signatures.{declared_view, declared_named, is_below}
 use Rattle.at_typing.proofs.Signing.{found_by_name, none_by_name}
 use Rattle.at_typing.proofs.signatures.Signatures.attribute.Goals as goal
 

@@ -1,4 +1,4 @@
-use Rattle.std.proofs.Common.{◌≡◌, List, ℕ, Bor, refl, ap, sym, ◌∙◌, cond, inl, inr}
+use Rattle.std.proofs.Common.{List, ℕ, Bor, ap, sym, ◌∙◌, cond, inl, inr}
 use Rattle.at_class.specs.View.{shape_view, part_view}
 use Rattle.at_class.specs.declared.part.PartShape.{PartShape}
 use Rattle.at_typing.specs.Accessors.{is_optional, is_list}
