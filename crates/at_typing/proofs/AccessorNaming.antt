@@ -69,9 +69,10 @@ none_before name front rest back ks is fails = never (λ (k : Bor (List ℕ)). b
 
 -- it does both
 pub between : (name front rest list back : List ℕ) (ks : List (Bor (List ℕ))) → name ≡ front ++ rest → rest ≡ list ++ back → list_any (λ k. bytes_eq list k.now) ks ≡ list_any (λ k. bytes_eq name (front ++ k.now ++ back)) ks
-between name front rest list back ks is ends = same_any (λ (k : Bor (List ℕ)). bytes_eq list k.now) (λ (k : Bor (List ℕ)). bytes_eq name (front ++ k.now ++ back)) ks (λ k. same_from_decides _ _ (bytes_eq-Decides list k.now)
-    ( (λ h. append_cancel_right list k.now back (sym ends ∙ behind name front rest k.now back is h))
-    , (λ h. (bytes_eq-Decides name (front ++ k.now ++ back)).1 (is ∙ ap (λ r. front ++ r) (ends ∙ ap (λ l. l ++ back) h) ∙ sym (assoc front k.now back)))))
+between name front rest list back ks is ends = same_any (λ (k : Bor (List ℕ)). bytes_eq list k.now) (λ (k : Bor (List ℕ)). bytes_eq name (front ++ k.now ++ back)) ks (λ k. same_from_decides _ _ (bytes_eq-Decides list k.now) (
+  (λ h. append_cancel_right list k.now back (sym ends ∙ behind name front rest k.now back is h)),
+  (λ h. (bytes_eq-Decides name (front ++ k.now ++ back)).1 (is ∙ ap (λ r. front ++ r) (ends ∙ ap (λ l. l ++ back) h) ∙ sym (assoc front k.now back))),
+))
 
 -- names that are added ------------------------------------------------------------------------------------------------
 
@@ -107,11 +108,11 @@ pub adds_one : (p : Component) (k : Bor (List ℕ)) (old new : Accessors) → k.
     → new.optionals.keys ≡ cond (is_optional p.shape) (insert_key same_key old.optionals.keys k) old.optionals.keys
     → new.lists.keys ≡ cond (is_list p.shape) (insert_key same_key old.lists.keys k) old.lists.keys
     → AddsNames (p ∷ []) old new
-adds_one p k old new name cs os ls = record
-    { components = λ test. ap (list_any (λ k. test k.now)) cs ∙ inserted test old.components.keys k ∙ ap (λ b. any_component old test || b) (ap test name ∙ sym (or-false _))
-    ; optionals = λ test. inserted_where (is_optional p.shape) test old.optionals.keys new.optionals.keys k os ∙ ap (λ b. any_optional old test || b) (ap (λ n. is_optional p.shape && test n) name ∙ sym (or-false _))
-    ; lists = λ test. inserted_where (is_list p.shape) test old.lists.keys new.lists.keys k ls ∙ ap (λ b. any_list old test || b) (ap (λ n. is_list p.shape && test n) name ∙ sym (or-false _))
-    }
+adds_one p k old new name cs os ls = record {
+  components = λ test. ap (list_any (λ k. test k.now)) cs ∙ inserted test old.components.keys k ∙ ap (λ b. any_component old test || b) (ap test name ∙ sym (or-false _));
+  optionals = λ test. inserted_where (is_optional p.shape) test old.optionals.keys new.optionals.keys k os ∙ ap (λ b. any_optional old test || b) (ap (λ n. is_optional p.shape && test n) name ∙ sym (or-false _));
+  lists = λ test. inserted_where (is_list p.shape) test old.lists.keys new.lists.keys k ls ∙ ap (λ b. any_list old test || b) (ap (λ n. is_list p.shape && test n) name ∙ sym (or-false _));
+}
 
 -- one by one ----------------------------------------------------------------------------------------------------------
 
@@ -125,11 +126,11 @@ shift : (now next f rest whole : Bool) → next ≡ (now || f) → (now || (f ||
 shift now next f rest whole is so = ap (λ b. b || rest) is ∙ or-assoc now f rest ∙ so
 
 adds_next : (p : Component) (rest all : List Component) (old mid new : Accessors) → AddsLeft (p ∷ rest) all old mid → AddsNames (p ∷ []) mid new → AddsLeft rest all old new
-adds_next p rest all old mid new left adds = record
-    { components = λ test. shift (any_component mid test) _ _ _ _ (adds.components test ∙ ap (λ b. any_component mid test || b) (or-false _)) (left.components test)
-    ; optionals = λ test. shift (any_optional mid test) _ _ _ _ (adds.optionals test ∙ ap (λ b. any_optional mid test || b) (or-false _)) (left.optionals test)
-    ; lists = λ test. shift (any_list mid test) _ _ _ _ (adds.lists test ∙ ap (λ b. any_list mid test || b) (or-false _)) (left.lists test)
-    }
+adds_next p rest all old mid new left adds = record {
+  components = λ test. shift (any_component mid test) _ _ _ _ (adds.components test ∙ ap (λ b. any_component mid test || b) (or-false _)) (left.components test);
+  optionals = λ test. shift (any_optional mid test) _ _ _ _ (adds.optionals test ∙ ap (λ b. any_optional mid test || b) (or-false _)) (left.optionals test);
+  lists = λ test. shift (any_list mid test) _ _ _ _ (adds.lists test ∙ ap (λ b. any_list mid test || b) (or-false _)) (left.lists test);
+}
 
 pub adds_more : {X : Type 0} (v : X → Component) (xs : List X) (i : ℕ) (x : X) (all : List Component) (old mid new : Accessors) → i < length xs → x ≡ get_or xs i x
     → AddsLeft (map v (drop i xs)) all old mid → AddsNames (v x ∷ []) mid new → AddsLeft (map v (drop (i + 1) xs)) all old new
@@ -137,11 +138,11 @@ adds_more v xs i x all old mid new less is left adds =
     adds_next (v x) (map v (drop (i + 1) xs)) all old mid new (subst (λ ys. AddsLeft (map v ys) all old mid) (drop-cons xs i x less ∙ ap2 (λ y ys. y ∷ ys) (sym is) (ap (λ n. drop n xs) (next i))) left) adds
 
 pub adds_end : {X : Type 0} (v : X → Component) (xs : List X) (i : ℕ) (all : List Component) (old new : Accessors) → length xs ≤ i → AddsLeft (map v (drop i xs)) all old new → AddsNames all old new
-adds_end v xs i all old new past left = record
-    { components = λ test. sym (or-false _) ∙ at_end.components test
-    ; optionals = λ test. sym (or-false _) ∙ at_end.optionals test
-    ; lists = λ test. sym (or-false _) ∙ at_end.lists test
-    }
+adds_end v xs i all old new past left = record {
+  components = λ test. sym (or-false _) ∙ at_end.components test;
+  optionals = λ test. sym (or-false _) ∙ at_end.optionals test;
+  lists = λ test. sym (or-false _) ∙ at_end.lists test;
+}
   where
     at_end : AddsLeft [] all old new
     at_end = subst (λ ys. AddsLeft (map v ys) all old new) (drop_all i xs past) left
@@ -165,25 +166,25 @@ pub record HasLeft (classes : Classes) (k : ℕ) (a : Accessors) : Type 0 where
   pub lists : (test : List ℕ → Bool) → (any_list a test || any_from (λ p. is_list p.shape && test p.name) classes k) ≡ any_part (λ p. is_list p.shape && test p.name) classes
 
 pub has_more : (classes : Classes) (k : ℕ) (a b : Accessors) → k < length classes → HasLeft classes k a → AddsNames (parts classes k) a b → HasLeft classes (k + 1) b
-has_more classes k a b less left adds = record
-    { components = λ test. shift (any_component a test) _ _ _ _ (adds.components test) (ap (λ r. any_component a test || r) (sym (from_next _ classes k less)) ∙ left.components test)
-    ; optionals = λ test. shift (any_optional a test) _ _ _ _ (adds.optionals test) (ap (λ r. any_optional a test || r) (sym (from_next _ classes k less)) ∙ left.optionals test)
-    ; lists = λ test. shift (any_list a test) _ _ _ _ (adds.lists test) (ap (λ r. any_list a test || r) (sym (from_next _ classes k less)) ∙ left.lists test)
-    }
+has_more classes k a b less left adds = record {
+  components = λ test. shift (any_component a test) _ _ _ _ (adds.components test) (ap (λ r. any_component a test || r) (sym (from_next _ classes k less)) ∙ left.components test);
+  optionals = λ test. shift (any_optional a test) _ _ _ _ (adds.optionals test) (ap (λ r. any_optional a test || r) (sym (from_next _ classes k less)) ∙ left.optionals test);
+  lists = λ test. shift (any_list a test) _ _ _ _ (adds.lists test) (ap (λ r. any_list a test || r) (sym (from_next _ classes k less)) ∙ left.lists test);
+}
 
 pub has_end : (classes : Classes) (k : ℕ) (a : Accessors) → length classes ≤ k → HasLeft classes k a → HasNames classes a
-has_end classes k a past left = record
-    { components = λ test. sym (or-false _) ∙ ap (λ r. any_component a test || r) (sym (from_end _ classes k past)) ∙ left.components test
-    ; optionals = λ test. sym (or-false _) ∙ ap (λ r. any_optional a test || r) (sym (from_end _ classes k past)) ∙ left.optionals test
-    ; lists = λ test. sym (or-false _) ∙ ap (λ r. any_list a test || r) (sym (from_end _ classes k past)) ∙ left.lists test
-    }
+has_end classes k a past left = record {
+  components = λ test. sym (or-false _) ∙ ap (λ r. any_component a test || r) (sym (from_end _ classes k past)) ∙ left.components test;
+  optionals = λ test. sym (or-false _) ∙ ap (λ r. any_optional a test || r) (sym (from_end _ classes k past)) ∙ left.optionals test;
+  lists = λ test. sym (or-false _) ∙ ap (λ r. any_list a test || r) (sym (from_end _ classes k past)) ∙ left.lists test;
+}
 
 pub has_none : (classes : Classes) (a : Accessors) → a.components.keys ≡ [] → a.optionals.keys ≡ [] → a.lists.keys ≡ [] → HasLeft classes 0 a
-has_none classes a cs os ls = record
-    { components = λ test. ap (λ ks. list_any (λ (k : Bor (List ℕ)). test k.now) ks || any_from (λ p. test p.name) classes 0) cs
-    ; optionals = λ test. ap (λ ks. list_any (λ (k : Bor (List ℕ)). test k.now) ks || any_from (λ p. is_optional p.shape && test p.name) classes 0) os
-    ; lists = λ test. ap (λ ks. list_any (λ (k : Bor (List ℕ)). test k.now) ks || any_from (λ p. is_list p.shape && test p.name) classes 0) ls
-    }
+has_none classes a cs os ls = record {
+  components = λ test. ap (λ ks. list_any (λ (k : Bor (List ℕ)). test k.now) ks || any_from (λ p. test p.name) classes 0) cs;
+  optionals = λ test. ap (λ ks. list_any (λ (k : Bor (List ℕ)). test k.now) ks || any_from (λ p. is_optional p.shape && test p.name) classes 0) os;
+  lists = λ test. ap (λ ks. list_any (λ (k : Bor (List ℕ)). test k.now) ks || any_from (λ p. is_list p.shape && test p.name) classes 0) ls;
+}
 
 -- what accessors there are --------------------------------------------------------------------------------------------
 
@@ -250,6 +251,6 @@ pub accessed_names : (classes : Classes) (a : Accessors) (name : List ℕ) → H
 accessed_names classes a name has =
     ap2 (λ x y. x || y) (has.components (λ k. bytes_eq name (codes "get" ++ k))) (ap2 (λ x y. x || y) (has.optionals (λ k. bytes_eq name (codes "has" ++ k))) (ap2 (λ x y. x || y) (has.lists (λ k. bytes_eq name (codes "getNum" ++ k))) (has.lists (λ k. bytes_eq name (codes "get" ++ k ++ codes "List")))))
     ∙ sym (given_any (λ c. accessor_named classes c name) _ 0 classes (λ c. accessor_any classes c name)
-      ∙ any_either (λ c. list_any (is_got name) (parts classes c)) _ 0 classes ∙ ap (λ b. any_part (is_got name) classes || b)
-      (any_either (λ c. list_any (is_had name) (parts classes c)) _ 0 classes ∙ ap (λ b. any_part (is_had name) classes || b)
-      (any_either (λ c. list_any (is_counted name) (parts classes c)) (λ c. list_any (is_listed name) (parts classes c)) 0 classes)))
+    ∙ any_either (λ c. list_any (is_got name) (parts classes c)) _ 0 classes ∙ ap (λ b. any_part (is_got name) classes || b)
+    (any_either (λ c. list_any (is_had name) (parts classes c)) _ 0 classes ∙ ap (λ b. any_part (is_had name) classes || b)
+    (any_either (λ c. list_any (is_counted name) (parts classes c)) (λ c. list_any (is_listed name) (parts classes c)) 0 classes)))

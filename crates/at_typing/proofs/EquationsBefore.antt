@@ -42,9 +42,9 @@ pub inherited_new : (d : NumberedValue) (g : Word) (text : List ℕ) (p : NamedC
     → ((k : NamedClass × Bor (List ℕ) × ℕ) → p k ≡ ((same_class d.class k.0 && bytes_eq text k.1.now) && nat_eq d.name k.2)) → is_new ≡ not (list_any p keys) → is_new ≡ not (is_there (map key_view keys) d (getter_of d))
 inherited_new d g text p keys is_new getter is same new =
     new ∙ ap not (
-      list_any-same p (λ k. is_inherited_key d g (key_view k)) keys (λ k. same k ∙ ap (λ t. (same_class d.class k.0 && bytes_eq t k.1.now) && nat_eq d.name k.2) is)
-      ∙ sym (list_any-map (is_inherited_key d g) key_view keys)
-      ∙ ap (is_there (map key_view keys) d) (sym getter))
+    list_any-same p (λ k. is_inherited_key d g (key_view k)) keys (λ k. same k ∙ ap (λ t. (same_class d.class k.0 && bytes_eq t k.1.now) && nat_eq d.name k.2) is)
+    ∙ sym (list_any-map (is_inherited_key d g) key_view keys)
+    ∙ ap (is_there (map key_view keys) d) (sym getter))
 
 pub inherited_more : (d : NumberedValue) (g : Word) (text : Bor (List ℕ)) (p : NamedClass × Bor (List ℕ) × ℕ → Bool) (keys new : List (NamedClass × Bor (List ℕ) × ℕ)) → getter_of d ≡ Some g → text.now ≡ g.text → true ≡ not (list_any p keys)
     → new ≡ (if list_any p keys then keys else keys ++ (d.class, text, d.name) ∷ []) → map key_view new ≡ map key_view keys ++ inherited_keys (d ∷ [])

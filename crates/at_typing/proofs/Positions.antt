@@ -45,9 +45,9 @@ or_len_last p (x ∷ xs) none = by (p x) refl (or_len_last p xs) none
 pub inserted : {Z : Type 0} (old : List (String Z)) (text : List ℕ) (s : String Z) (new : List (String Z)) (n : ℕ) → string_bytes s ≡ text → list_any (λ k. bytes_eq text (string_bytes k)) old ≡ false
     → new ≡ insert_key string_eq old s → n ≡ position_or_len (string_eq s) old → (text_number new text ≡ Some n) × Keeps old new
 inserted old text s new n is none keys number = (
-      ap (λ ks. text_number ks text) at_end ∙ found_last (λ k. bytes_eq text (string_bytes k)) old s none (ap (λ t. bytes_eq text t) is ∙ nat_list_eq_equiv.refl text) ∙ ap Some (sym (number ∙ or_len_last (string_eq s) old absent)),
-      λ t m found. ap (λ ks. text_number ks t) at_end ∙ found_still (λ k. bytes_eq t (string_bytes k)) m old (s ∷ []) found,
-    )
+  ap (λ ks. text_number ks text) at_end ∙ found_last (λ k. bytes_eq text (string_bytes k)) old s none (ap (λ t. bytes_eq text t) is ∙ nat_list_eq_equiv.refl text) ∙ ap Some (sym (number ∙ or_len_last (string_eq s) old absent)),
+  λ t m found. ap (λ ks. text_number ks t) at_end ∙ found_still (λ k. bytes_eq t (string_bytes k)) m old (s ∷ []) found,
+)
   where
     absent : list_any (string_eq s) old ≡ false
     absent = ap (λ t. list_any (λ k. bytes_eq t (string_bytes k)) old) is ∙ none

@@ -71,7 +71,7 @@ kept_class None (Some m) n c keeps is = ap (option_map Unknown) (keeps m refl) �
 pub kept : {Y Z : Type 0} (classes : Classes) (u v : List (String Y)) (ms ns : List (String Z)) (d : NumberedValue) → Keeps u v → Keeps ms ns → HasNumbers classes u ms d → HasNumbers classes v ns d
 kept classes u v ms ns d words names has = record {
   class = kept_class (class_of_name classes w) (text_number u w) (text_number v w) d.class (words w) has.class;
-  name = names (name_text (numbered_view d)) d.name has.name
+  name = names (name_text (numbered_view d)) d.name has.name;
 }
   where
     w : List ℕ
@@ -81,7 +81,7 @@ kept classes u v ms ns d words names has = record {
 pub numbered : {Y Z : Type 0} (classes : Classes) (unknown : List (String Y)) (names : List (String Z)) (ds : List NumberedValue) → All (HasNumbers classes unknown names) ds → AreNumbered classes ds
 numbered classes unknown names ds all = record {
   class = λ k d less. at (get_or ds k d) (all k d less);
-  alike = λ k d less j e within. pair (get_or ds k d) (get_or ds j e) (all k d less) (all j e within)
+  alike = λ k d less j e within. pair (get_or ds k d) (get_or ds j e) (all k d less) (all j e within);
 }
   where
     at : (d : NumberedValue) → HasNumbers classes unknown names d → IsOfItsClass classes d
@@ -90,7 +90,7 @@ numbered classes unknown names ds all = record {
     pair : (d e : NumberedValue) → HasNumbers classes unknown names d → HasNumbers classes unknown names e → AreAlike d e
     pair d e has other = record {
       class = alike_class classes unknown (class_text (numbered_view d)) (class_text (numbered_view e)) _ _ _ _ refl refl refl refl d.class e.class has.class other.class;
-      name = agree string_bytes names (name_text (numbered_view d)) (name_text (numbered_view e)) d.name e.name has.name other.name
+      name = agree string_bytes names (name_text (numbered_view d)) (name_text (numbered_view e)) d.name e.name has.name other.name;
     }
 
 -- one more of each

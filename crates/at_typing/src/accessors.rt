@@ -167,7 +167,9 @@ fn position_optional(parts: &[Part], name: &[u8]) -> Option<usize>
 fn position_list(parts: &[Part], name: &[u8]) -> Option<usize>
     ensures { result ≡ position (λ p. is_list (shape_view p.shape) && bytes_eq name.now (string_bytes p.name)) parts.now }
 {
-    parts.iter().position(|part| is_list(part.shape) && name == part.name.as_bytes())
+    parts
+        .iter()
+        .position(|part| is_list(part.shape) && name == part.name.as_bytes())
 }
 
 fn is_optional(shape: PartShape) -> bool

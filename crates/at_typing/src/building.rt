@@ -1,5 +1,8 @@
 //! Rules of declarations.
 
+ghost use Rattle.std.specs.Prelude.{◌≡◌, IfOk};
+ghost use Rattle.at_typing.specs.Numbering.{AreNumbered};
+
 use crate::attributes::Attributes;
 use crate::checks::{class_without_equation, fault_together, inherited_without_equation};
 use crate::fault::{Fault, RuleFault};
@@ -13,9 +16,6 @@ use at_jrag::Aspect;
 use at_rules::{Equations, Rules};
 use std::alloc::Global;
 
-ghost use Rattle.std.specs.Prelude.{◌≡◌, IfOk};
-ghost use Rattle.at_typing.specs.Numbering.{AreNumbered};
-
 /// The rules of the declarations of the aspect files over the classes.
 ///
 /// # Errors
@@ -24,11 +24,7 @@ ghost use Rattle.at_typing.specs.Numbering.{AreNumbered};
 /// too long a text, an attribute with an accessor's name, one declared twice, an equation without attribute,
 /// an equation twice; then in the order of the declarations unknown names, wrong arguments and wrong kinds; a
 /// class without equation for a synthesized attribute, and for an inherited one. `Memory` for want of memory.
-pub fn build(
-    alloc: Global,
-    classes: ClassTable,
-    files: &[Vec<Aspect>],
-) -> Result<Rules, RuleFault>
+pub fn build(alloc: Global, classes: ClassTable, files: &[Vec<Aspect>]) -> Result<Rules, RuleFault>
     ensures classes { IfOk result (λ r. r.classes ≡ classes) }
 {
     let Declarations { items, names } = Declarations::of(alloc, &classes, files)?;

@@ -50,7 +50,13 @@ impl Among<'_> {
             DeclForm::Synthesized { kind, .. } => {
                 let class = self.declare(numbered, kind, meant)?;
                 match body_in(&numbered.decl.form) {
-                    Some(body) => self.add_own(class, self.synthesized(numbered), numbered, body, meant),
+                    Some(body) => self.add_own(
+                        class,
+                        self.synthesized(numbered),
+                        numbered,
+                        body,
+                        meant,
+                    ),
                     None => Ok(()),
                 }
             }
@@ -266,11 +272,7 @@ impl Among<'_> {
 
     /// J5 where the parameters of an equation aren't those of the attribute: at the first one that is wrong
     /// or too many, or at the end where one is missing.
-    fn params_as_declared(
-        &self,
-        params: &Params,
-        declared: &[WrittenKind],
-    ) -> Result<(), TypeFault>
+    fn params_as_declared(&self, params: &Params, declared: &[WrittenKind]) -> Result<(), TypeFault>
         ensures { Judges (λ u. tt) (as_declared self.now.classes.now declared.now (params_view params.now).end 0 (params_view params.now).items) result }
     {
         for (position, param) in params.items.iter().enumerate() {

@@ -108,11 +108,7 @@ impl Signatures {
 }
 
 /// The number of the name, which is one of the names from now on.
-fn number_for(
-    alloc: Global,
-    names: &mut IndexSet<String>,
-    name: &str,
-) -> Result<usize, AllocError>
+fn number_for(alloc: Global, names: &mut IndexSet<String>, name: &str) -> Result<usize, AllocError>
     ensures numbered { IfOk result (λ n. IsNumber names.new.keys name.now n) }
     ensures kept { (es : List ((ℕ × ℕ) × ℕ)) (ds : List Declared) → IsIndexed names.old.keys es ds → IsIndexed names.new.keys es ds }
     ensures distinct { OnOk result (IsDistinct string_eq names.new.keys) }

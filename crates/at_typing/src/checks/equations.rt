@@ -66,10 +66,7 @@ pub fn equation_twice(alloc: Global, declared: &[Numbered]) -> Result<Option<Fau
 }
 
 /// Adds the declaration's equation for the class's own nodes, if it has one; `false` where it is there already.
-fn add_own(
-    own: &mut IndexSet<(NamedClass, usize)>,
-    numbered: &Numbered,
-) -> Result<bool, AllocError>
+fn add_own(own: &mut IndexSet<(NamedClass, usize)>, numbered: &Numbered) -> Result<bool, AllocError>
     ensures new { IfOk result (λ is_new. is_new ≡ not (is_own numbered.now && list_any (is_own_key numbered.now) own.old.keys)) }
     ensures added { IfOk result (λ is_new. is_new ≡ true → own.new.keys ≡ own.old.keys ++ own_keys (numbered.now ∷ [])) }
 {

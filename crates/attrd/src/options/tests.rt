@@ -103,6 +103,10 @@ fn help_is_a_fault_that_names_each_word_and_command(rt: HostRuntime) -> Result<(
 #[test]
 fn a_socket_without_a_path_is_refused(rt: HostRuntime) -> Result<(), Fail> {
     let text = refusal(rt.alloc(), &["--socket=", "a.ast", "a.txt", "a.jrag"])?;
-    assert!(rt; text.as_str().contains("a value is required for '--socket <PATH>'"), "{text}");
+    assert!(rt;
+        text.as_str()
+            .contains("a value is required for '--socket <PATH>'"),
+        "{text}"
+    );
     Ok(())
 }

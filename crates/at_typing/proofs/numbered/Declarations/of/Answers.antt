@@ -12,7 +12,7 @@ loop-located-preserved c =
     let new = c.numbered.new.self in (
       both_more numbered_view located_view old c.push.new.self.items c.deref-located-items.result.now c.loop-located.located-index d c.located-item.result c.in_ok-push.ensures.items (omega arith) c.located-item.is c.in_ok-numbered.ensures.view c.loop-located.invariant.0,
       all_more (HasNumbers c.args.classes.now new.unknown.keys new.names.keys) old c.push.new.self.items d c.in_ok-push.ensures.items
-      (λ k e less. kept c.args.classes.now c.loop-located.words.unknown.keys new.unknown.keys c.loop-located.words.names.keys new.names.keys _ keeps.0 keeps.1 (c.loop-located.invariant.1 k e less)) c.in_ok-numbered.ensures.numbers,
+          (λ k e less. kept c.args.classes.now c.loop-located.words.unknown.keys new.unknown.keys c.loop-located.words.names.keys new.names.keys _ keeps.0 keeps.1 (c.loop-located.invariant.1 k e less)) c.in_ok-numbered.ensures.numbers,
     )
 
 pub returns-clause-declared : goal.returns-clause-declared

@@ -17,21 +17,21 @@ returns-in_ok-insert-in-Maybe c =
     let old = c.args.self.now in
     let k = c.as_bytes-name.result in
     adds_one (part_view c.args.part.now) k old _ c.as_bytes-name.ensures.value c.in_ok-insert.ensures.keys
-      (c.in_ok-insert-in-Maybe.ensures.keys ∙ sym (ap (optionals_at old.optionals.keys k) c.in-Maybe.is))
-      (sym (ap (lists_at old.lists.keys k) c.in-Maybe.is))
+    (c.in_ok-insert-in-Maybe.ensures.keys ∙ sym (ap (optionals_at old.optionals.keys k) c.in-Maybe.is))
+    (sym (ap (lists_at old.lists.keys k) c.in-Maybe.is))
 
 pub returns-in_ok-insert-in-Many : goal.returns-in_ok-insert-in-Many
 returns-in_ok-insert-in-Many c =
     let old = c.args.self.now in
     let k = c.as_bytes-name.result in
     adds_one (part_view c.args.part.now) k old _ c.as_bytes-name.ensures.value c.in_ok-insert.ensures.keys
-      (sym (ap (optionals_at old.optionals.keys k) c.in-Many.is))
-      (c.in_ok-insert-in-Many.ensures.keys ∙ sym (ap (lists_at old.lists.keys k) c.in-Many.is))
+    (sym (ap (optionals_at old.optionals.keys k) c.in-Many.is))
+    (c.in_ok-insert-in-Many.ensures.keys ∙ sym (ap (lists_at old.lists.keys k) c.in-Many.is))
 
 pub returns-in-One : goal.returns-in-One
 returns-in-One c =
     let old = c.args.self.now in
     let k = c.as_bytes-name.result in
     adds_one (part_view c.args.part.now) k old _ c.as_bytes-name.ensures.value c.in_ok-insert.ensures.keys
-      (elim c.in-One.is [ inl h ↦ sym (ap (optionals_at old.optionals.keys k) h.1) | inr h ↦ sym (ap (optionals_at old.optionals.keys k) h.1) ])
-      (elim c.in-One.is [ inl h ↦ sym (ap (lists_at old.lists.keys k) h.1) | inr h ↦ sym (ap (lists_at old.lists.keys k) h.1) ])
+    (elim c.in-One.is [ inl h ↦ sym (ap (optionals_at old.optionals.keys k) h.1) | inr h ↦ sym (ap (optionals_at old.optionals.keys k) h.1) ])
+    (elim c.in-One.is [ inl h ↦ sym (ap (lists_at old.lists.keys k) h.1) | inr h ↦ sym (ap (lists_at old.lists.keys k) h.1) ])

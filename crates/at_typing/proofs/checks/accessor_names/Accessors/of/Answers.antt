@@ -11,7 +11,7 @@ pub loop-class-preserved : goal.loop-class-preserved
 loop-class-preserved c =
     let classes = c.args.classes.now in
     has_more classes c.loop-class.class c.loop-class.accessors c.add_all.new.self (omega arith) c.loop-class.invariant
-      (subst (λ ps. AddsNames ps c.loop-class.accessors c.add_all.new.self) (c.parts.ensures ∙ ap (parts classes) c.new-in-loop-class.ensures) c.in_ok-add_all.ensures)
+    (subst (λ ps. AddsNames ps c.loop-class.accessors c.add_all.new.self) (c.parts.ensures ∙ ap (parts classes) c.new-in-loop-class.ensures) c.in_ok-add_all.ensures)
 
 pub returns : goal.returns
 returns c = has_end c.args.classes.now c.loop-class.class c.loop-class.accessors (omega arith) c.loop-class.invariant
