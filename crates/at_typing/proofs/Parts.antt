@@ -1,10 +1,12 @@
 -- What is made of parts, or the fault of one.
-use Rattle.std.proofs.Common.{◌≡◌, ℕ, ◌+◌, ◌<◌, ◌≤◌, List, [], ◌∷◌, ◌++◌, map, length, drop, get_or, refl, ap, ap₂, sym, ◌∙◌, append_assoc, append-nil, Option, Some, None, Result, Ok, Err, suc, zero, cond}
-use Rattle.std.specs.Prelude.{slice_get, Vec}
+use Rattle.std.proofs.Common.{◌≡◌, ℕ, ◌+◌, ◌<◌, ◌≤◌, List, [], ◌∷◌, ◌++◌, map, length, drop, get_or, refl, ap, ap₂, sym, ◌∙◌, append_assoc, append-nil, Option, Some, None, option_map, string_bytes, Result, Ok, Err, suc, zero, cond}
+use Rattle.std.specs.Prelude.{slice_get, position, option_and_then, Vec}
+use Rattle.std.specs.Str.{bytes_eq}
 use Rattle.std.specs.Global.{Global}
 use Rattle.std.proofs.Math.Seq.{drop-cons}
 use Rattle.std.proofs.lemmas.List.{drop_all}
-use Rattle.std.proofs.lemmas.Option.{none-some}
+use Rattle.std.proofs.lemmas.Option.{none-some, slice_get-map}
+use Rattle.at_class.proofs.Named.{position-map}
 use Rattle.at_model.specs.Classes.{Classes}
 use Rattle.at_model.specs.Bodies.{expr}
 use Rattle.at_jrag.specs.Syntax.{Place, to_exprs}
@@ -12,11 +14,12 @@ use Rattle.at_jrag.specs.View.{expr_view}
 use Rattle.at_jrag.specs.declared.syntax.Expr.{Expr as ExprValue}
 use Rattle.at_rules.specs.Bodies.{body_view, bodies_view}
 use Rattle.at_rules.specs.declared.body.Body.{Body}
-use Rattle.at_typing.specs.Judging.{Judgement, Kinded, Scope, Is, Wrong, and_then, judged, judged_all, bodies, misfit, is_argument}
-use Rattle.at_typing.specs.Typed.{Judges, typed_view, all_view}
+use Rattle.at_typing.specs.Judging.{Judgement, Kinded, Scope, Bound, bound_to, Is, Wrong, and_then, judged, judged_all, bodies, misfit, is_argument}
+use Rattle.at_typing.specs.Typed.{Judges, typed_view, all_view, bound_view}
 use Rattle.at_typing.specs.declared.fault.RuleCode.{RuleCode}
 use Rattle.at_typing.specs.declared.signatures.WrittenKind.{WrittenKind}
 use Rattle.at_typing.specs.declared.typing.kinds.Typed.{Typed}
+use Rattle.at_typing.specs.declared.typing.Bound.{Bound as BoundValue}
 use Rattle.at_typing.specs.declared.typing.TypeFault.{TypeFault}
 use Rattle.at_typing.specs.declared.typing.TypeFault.TheVariants.{Refused, Memory}
 
@@ -30,6 +33,19 @@ pub made_of : {A B T U : Type 0} (view : T → A) (whole : U → B) (f : A → J
 made_of view whole f j t (Ok u) is then' = ap (and_then f) is ∙ then'
 made_of view whole f j t (Err (Refused c at)) is then' = ap (and_then f) is ∙ then'
 made_of view whole f j t (Err Memory) is then' = tt
+
+-- names ------------------------------------------------------------------------------------------------------------------
+
+mapped : (i : ℕ) (o : Option BoundValue) → option_map (λ k. (i, k)) (option_map (λ (b : BoundValue). b.kind) o) ≡ option_map (λ (b : Bound). (i, b.kind)) (option_map bound_view o)
+mapped i None = refl
+mapped i (Some b) = refl
+
+-- what is bound, from its position
+pub bound_seen : (bs : List BoundValue) (name : List ℕ) (o : Option ℕ) → o ≡ position (λ b. bytes_eq (string_bytes b.name) name) bs
+    → option_and_then (λ i. option_map (λ k. (i, k)) (option_map (λ (b : BoundValue). b.kind) (slice_get bs i))) o ≡ bound_to (map bound_view bs) name
+bound_seen bs name o is =
+    ap (option_and_then (λ i. option_map (λ k. (i, k)) (option_map (λ (b : BoundValue). b.kind) (slice_get bs i)))) (is ∙ sym (position-map (λ (b : Bound). bytes_eq b.name name) bound_view bs))
+    ∙ ap (λ (f : ℕ → Option (ℕ × WrittenKind)). option_and_then f (position (λ (b : Bound). bytes_eq b.name name) (map bound_view bs))) (λ k i. (mapped i (slice_get bs i) ∙ ap (option_map (λ (b : Bound). (i, b.kind))) (sym (slice_get-map bound_view bs i))) k)
 
 -- the arguments of a call ------------------------------------------------------------------------------------------------
 

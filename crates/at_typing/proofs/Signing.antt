@@ -1,8 +1,8 @@
 -- Attributes that are found by the numbers of their names.
-use Rattle.std.proofs.Common.{◌≡◌, ℕ, ◌+◌, ◌-◌, ◌<◌, ◌≤◌, min, List, [], ◌∷◌, ◌++◌, length, refl, ap, ap₂, sym, ◌∙◌, arith, Option, Some, None, suc, zero, true≢false, String, string_bytes}
+use Rattle.std.proofs.Common.{◌≡◌, ℕ, ◌+◌, ◌-◌, ◌<◌, ◌≤◌, min, List, [], ◌∷◌, ◌++◌, length, map, refl, ap, ap₂, sym, ◌∙◌, arith, Option, Some, None, suc, zero, true≢false, subst, Bor, String, string_bytes}
 use Rattle.std.specs.Prelude.{Bool, true, false, ◌&&◌, ◌||◌, cond, nat_eq, position, get_or, is_some, slice_get, option_and_then}
 use Rattle.std.specs.List.{list_any, position_from, IsDistinct, AllByRecursion}
-use Rattle.std.specs.Option.{option_or}
+use Rattle.std.specs.Option.{option_or, option_copied}
 use Rattle.std.specs.Str.{bytes_eq}
 use Rattle.std.specs.String.{string_eq}
 use Rattle.std.specs.Map.{lookup}
@@ -18,7 +18,8 @@ use Rattle.indexmap.specs.IndexSet.{insert_key}
 use Rattle.at_model.specs.Classes.{Classes, chain, chain_within}
 use Rattle.at_rules.specs.RulesView.{LacksText}
 use Rattle.at_rules.specs.Upward.{earlier}
-use Rattle.at_typing.specs.Signatures.{Declared, IsIndexed, is_class, is_below, declared_at, declared_named, first_at, first_in, noted}
+use Rattle.at_typing.specs.Signatures.{Declared, declared_view, IsIndexed, is_class, is_below, declared_at, declared_named, first_at, first_in, noted}
+use Rattle.at_typing.specs.declared.signatures.Signature.{Signature}
 use Rattle.at_typing.proofs.Accessing.{position-never}
 
 -- the first that passes one of two tests ---------------------------------------------------------------------------------
@@ -157,6 +158,17 @@ named_more names es ds index s = by (list_any (string_eq s) names) refl
       named = λ text lacks. index.named text (lacks_push (λ k. bytes_eq text (string_bytes k)) names s lacks);
     }
 
+pub named_same : {Z : Type 0} (olds news : List (String Z)) (es : List ((ℕ × ℕ) × ℕ)) (ds : List Declared) → olds ≡ news → IsIndexed olds es ds → IsIndexed news es ds
+named_same olds news es ds same index = subst (λ (names : List (String _)). IsIndexed names es ds) same index
+
+pub copied_some : {A : Type 0} (o : Option (Bor A)) → is_some (option_copied o) ≡ is_some o
+copied_some None = refl
+copied_some (Some b) = refl
+
+pub none_where : {A : Type 0} (o : Option A) → is_some o ≡ false → o ≡ None
+none_where None is = refl
+none_where (Some x) is = absurd (true≢false is)
+
 -- one attribute more -----------------------------------------------------------------------------------------------------
 
 differs : {Z : Type 0} (s : String Z) (names : List (String Z)) → AllByRecursion (λ y. string_eq s y ≡ false) names → (j : ℕ) (t : String Z) → slice_get names j ≡ Some t → bytes_eq (string_bytes s) (string_bytes t) ≡ false
@@ -278,3 +290,17 @@ declared_more names apart es ds index d n s is same c of = record {
         by : (x : Bool) → nat_eq m n ≡ x → cond (nat_eq b c && nat_eq m n) (Some (length ds)) None ≡ None
         by false e = ap (λ y. cond (nat_eq b c && y) (Some (length ds)) None) e ∙ ap (λ y. cond y (Some (length ds)) None) (off (nat_eq b c))
         by true e = absurd (none-some s (sym at ∙ ap (slice_get names) (eqb-true m n e) ∙ is))
+
+pub indexed_as : {Z : Type 0} (names : List (String Z)) (es fs : List ((ℕ × ℕ) × ℕ)) (ds gs : List Declared) → es ≡ fs → ds ≡ gs → IsIndexed names es ds → IsIndexed names fs gs
+indexed_as names es fs ds gs e d index = subst (λ (xs : List Declared). IsIndexed names fs xs) d (subst (λ (xs : List ((ℕ × ℕ) × ℕ)). IsIndexed names xs ds) e index)
+
+pub pushed : (xs ys zs : List Signature) (s : Signature) → zs ≡ ys ++ s ∷ [] → ys ≡ xs → map declared_view xs ++ declared_view s ∷ [] ≡ map declared_view zs
+pushed xs ys zs s is same = each xs ∙ ap (λ l. map declared_view (l ++ s ∷ [])) (sym same) ∙ ap (map declared_view) (sym is)
+  where
+    each : (xs : List Signature) → map declared_view xs ++ declared_view s ∷ [] ≡ map declared_view (xs ++ s ∷ [])
+    each [] = refl
+    each (x ∷ xs) = ap (λ l. declared_view x ∷ l) (each xs)
+
+pub counted : (xs : List Signature) → length xs ≡ length (map declared_view xs)
+counted [] = refl
+counted (x ∷ xs) = ap suc (counted xs)

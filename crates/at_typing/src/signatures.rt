@@ -115,7 +115,7 @@ fn number_for(
 ) -> Result<usize, AllocError>
     ensures numbered { IfOk result (λ n. IsNumber names.new.keys name.now n) }
     ensures kept { (es : List ((ℕ × ℕ) × ℕ)) (ds : List Declared) → IsIndexed names.old.keys es ds → IsIndexed names.new.keys es ds }
-    ensures distinct { IsDistinct string_eq names.new.keys }
+    ensures distinct { OnOk result (IsDistinct string_eq names.new.keys) }
 {
     let text = String::from_str(alloc, name)?;
     let (number, _) = names.insert_full(text)?;

@@ -198,10 +198,10 @@ impl Scope<'_> {
         ensures { result ≡ misfit self.now.classes.now (map typed_view arguments.now) params.now }
     {
         for (i, argument) in arguments.iter().enumerate() {
-            let Some(param) = params.get(i) else {
+            let Some(param) = param_at(params, i) else {
                 return None;
             };
-            if !self.is_argument(argument, *param) {
+            if !self.is_argument(argument, param) {
                 return Some(argument.at);
             }
         }
@@ -216,7 +216,7 @@ impl Scope<'_> {
         if !argument.kind.fits(self.classes, param) {
             return false;
         }
-        if is_text_word(param) {
+        if is_text_word(&param) {
             is_given_text(&argument.body)
         } else {
             true
@@ -224,8 +224,14 @@ impl Scope<'_> {
     }
 }
 
-fn is_text_word(param: WrittenKind) -> bool
-    ensures { result ≡ is_text_word param }
+fn param_at(params: &[WrittenKind], position: usize) -> Option<WrittenKind>
+    ensures { result ≡ slice_get params.now position }
+{
+    params.get(position).copied()
+}
+
+fn is_text_word(param: &WrittenKind) -> bool
+    ensures { result ≡ is_text_word param.now }
 {
     matches!(param, WrittenKind::Known(Kind::Text))
 }

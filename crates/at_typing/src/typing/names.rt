@@ -1,6 +1,6 @@
 //! `this`, names and texts.
 
-ghost use Rattle.std.specs.Prelude.{◌≡◌, ◌∷◌, ◌++◌, map, option_map, IfOk, OnOk};
+ghost use Rattle.std.specs.Prelude.{◌≡◌, ◌∷◌, ◌++◌, map, option_map, slice_get, position, string_bytes, bytes_eq, IfOk, OnOk};
 ghost use Rattle.at_model.specs.Bodies as model;
 ghost use Rattle.at_typing.specs.Judging.{of_kind, named as named_in, bound_to, index_eq, index_named, this_node};
 ghost use Rattle.at_typing.specs.Typed.{typed_view, scope_view, bound_view, Judges};
@@ -46,12 +46,9 @@ impl Scope<'_> {
     fn bound_to(&self, name: &str) -> Option<(usize, WrittenKind)>
         ensures { result ≡ bound_to (map bound_view self.now.names.now) name.now }
     {
-        let position = self
-            .names
-            .iter()
-            .position(|bound| bound.name.as_str() == name)?;
-        let bound = self.names.get(position)?;
-        Some((position, bound.kind))
+        let position = position_bound(self.names, name)?;
+        let kind = kind_at(self.names, position)?;
+        Some((position, kind))
     }
 
     /// The index name, where it is that one.
@@ -69,6 +66,18 @@ impl Scope<'_> {
             None => Err(refused(RuleCode::UnknownName, at)),
         }
     }
+}
+
+fn position_bound(names: &[Bound], name: &str) -> Option<usize>
+    ensures { result ≡ position (λ b. bytes_eq (string_bytes b.name) name.now) names.now }
+{
+    names.iter().position(|bound| bound.name.as_str() == name)
+}
+
+fn kind_at(names: &[Bound], position: usize) -> Option<WrittenKind>
+    ensures { result ≡ option_map (λ b. b.kind) (slice_get names.now position) }
+{
+    names.get(position).map(|bound| bound.kind)
 }
 
 /// The names in the braces of a fold over nodes of the class: the fold's own, and then those outside.

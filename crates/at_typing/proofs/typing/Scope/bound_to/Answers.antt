@@ -1,12 +1,19 @@
-use Rattle.std.proofs.Common.{map, ap, sym, ◌∙◌}
-use Rattle.at_typing.specs.Typed.{bound_view}
+use Rattle.std.proofs.Common.{map, ap, sym, ◌∙◌, None, Some, option_map}
+use Rattle.at_typing.proofs.Parts.{bound_seen}
 use Rattle.at_typing.proofs.typing.Scope.bound_to.Goals as goal
 
 pub returns-in_err-position : goal.returns-in_err-position
-returns-in_err-position c = ?
+returns-in_err-position c = c.from_residual.ensures ∙ bound_seen c.args.self.now.names.now c.args.name.now None (sym c.in_err-position.was ∙ c.position_bound.ensures)
 
-pub returns-in_err-bound : goal.returns-in_err-bound
-returns-in_err-bound c = ?
+pub returns-in_err-kind : goal.returns-in_err-kind
+returns-in_err-kind c =
+    let i = c.in_ok-position.position in
+    c.from_residual-in_err-kind.ensures
+    ∙ ap (option_map (λ k. (i, k))) (sym c.in_err-kind.was ∙ c.kind_at.ensures)
+    ∙ bound_seen c.args.self.now.names.now c.args.name.now (Some i) (sym c.in_ok-position.was ∙ c.position_bound.ensures)
 
 pub returns : goal.returns
-returns c = ?
+returns c =
+    let i = c.in_ok-position.position in
+    ap (option_map (λ k. (i, k))) (sym c.in_ok-kind.was ∙ c.kind_at.ensures)
+    ∙ bound_seen c.args.self.now.names.now c.args.name.now (Some i) (sym c.in_ok-position.was ∙ c.position_bound.ensures)
