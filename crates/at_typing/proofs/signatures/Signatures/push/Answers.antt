@@ -1,4 +1,4 @@
-use Rattle.std.proofs.Common.{◌≡◌, ◌∙◌, ap, sym, map, length}
+use Rattle.std.proofs.Common.{◌≡◌, ◌∙◌, ap, sym, map, length, arith}
 use Rattle.at_typing.specs.Signatures.{declared_view, noted}
 use Rattle.at_typing.proofs.Signing.{declared_nowhere, declared_more, indexed_as, pushed, counted}
 use Rattle.at_typing.proofs.signatures.Signatures.push.Goals as goal
@@ -22,7 +22,8 @@ invariant_of-self-2 c =
     let numbered = c.in_ok-number.ensures.numbered in
     let class = c.in-Some.class in
     let number = c.in_ok-number.number in
+    let which : c.new-attribute.result ≡ length items = omega (arith, c.new-attribute.ensures, c.len.ensures, c.self.inside.items.ok.0) in
     indexed_as names (noted es class number (length ds)) c.note.new.first.entries _ _
-    (ap (noted es class number) (sym (c.new-attribute.ensures ∙ c.len.ensures ∙ counted items)) ∙ sym c.in_ok-note.ensures.noted)
+    (ap (noted es class number) (sym (which ∙ counted items)) ∙ sym c.in_ok-note.ensures.noted)
     (pushed items c.reserve.new.self.items c.push-2.new.self.items c.args.signature c.in_ok-push-2.ensures.items c.in_ok-reserve.ensures.items)
     (declared_more names c.in_ok-number.ensures.distinct es ds (c.number_for.ensures.kept es ds c.self.invariant) (declared_view c.args.signature) number numbered.text numbered.there (sym c.as_str.ensures.value ∙ numbered.same) class c.in-Some.is)

@@ -17,10 +17,10 @@ returns-then-not-is_argument c =
     let ts = c.args.arguments.now in
     let ps = c.args.params.now in
     let i = c.loop-i.i in
-    let t = c.argument-item.result in
+    let t = c.index-arguments-i.result in
     let less : i < length ts = omega arith in
     sym (c.loop-i.invariant
-    ∙ misfit_more classes ts ps i t c.in-Some.param (slice_get_read ts (length ts) i t refl less c.argument-item.is) (sym c.param_at.ensures ∙ c.in-Some.is)
+    ∙ misfit_more classes ts ps i t c.in-Some.param (slice_get_read ts (length ts) i t refl less c.index-arguments-i.is) (sym c.param_at.ensures ∙ c.in-Some.is)
     ∙ ap (λ b. cond b (misfit classes (map typed_view (drop (suc i) ts)) (drop (suc i) ps)) (Some t.at)) (sym c.is_argument.ensures ∙ c.if-not-is_argument.true))
 
 pub loop-i-preserved : goal.loop-i-preserved
@@ -29,11 +29,11 @@ loop-i-preserved c =
     let ts = c.args.arguments.now in
     let ps = c.args.params.now in
     let i = c.loop-i.i in
-    let t = c.argument-item.result in
+    let t = c.index-arguments-i.result in
     let less : i < length ts = omega arith in
     let next : suc i ≡ i + 1 = omega arith in
     c.loop-i.invariant
-    ∙ misfit_more classes ts ps i t c.in-Some.param (slice_get_read ts (length ts) i t refl less c.argument-item.is) (sym c.param_at.ensures ∙ c.in-Some.is)
+    ∙ misfit_more classes ts ps i t c.in-Some.param (slice_get_read ts (length ts) i t refl less c.index-arguments-i.is) (sym c.param_at.ensures ∙ c.in-Some.is)
     ∙ ap (λ b. cond b (misfit classes (map typed_view (drop (suc i) ts)) (drop (suc i) ps)) (Some t.at)) (sym c.is_argument.ensures ∙ c.if-not-is_argument.false)
     ∙ ap (λ m. misfit classes (map typed_view (drop m ts)) (drop m ps)) next
 
