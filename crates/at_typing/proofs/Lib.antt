@@ -9,3 +9,4 @@ mod AccessorNaming
 mod SameKinds
 mod EquationsBefore
 mod ClassesBelow
+mod Lines

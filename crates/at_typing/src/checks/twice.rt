@@ -1,9 +1,11 @@
 //! Attributes that are declared twice.
 
-ghost use Rattle.std.specs.Prelude.{◌≡◌, nat_eq, map, option_map};
+ghost use Rattle.std.specs.Prelude.{◌≡◌, nat_eq, length, map, option_map};
 ghost use Rattle.at_jrag.specs.Syntax.{Class};
 ghost use Rattle.at_jrag.specs.View.{decl_form_view, kind_view, kind_word_view, param_view};
-ghost use Rattle.at_typing.specs.Twice.{differs_from};
+ghost use Rattle.std.specs.List.{list_any};
+ghost use Rattle.at_typing.specs.Numbering.{parent_class};
+ghost use Rattle.at_typing.specs.Twice.{differs_from, has_key, line_within};
 ghost use Rattle.indexmap.specs.IndexMap.{get};
 ghost use Rattle.at_typing.specs.Declaring.{differs, has_same_signature, has_same_result, have_same_kinds, is_same_kind};
 
@@ -74,16 +76,25 @@ impl<'a> Before<'a> {
     }
 
     /// Whether a class above declares the name.
-    fn is_declared_above(&self, classes: &ClassTable, numbered: &Numbered) -> bool {
+    fn is_declared_above(&self, classes: &ClassTable, numbered: &Numbered) -> bool
+        ensures { result ≡ list_any (has_key self.now.declared.keys numbered.now.name) (line_within (length classes.now) classes.now (parent_class classes.now numbered.now.class)) }
+    {
+        let name = numbered.name;
         let mut next = numbered.class.parent(classes);
         for step in 0..classes.len() {
             let Some(class) = next else { return false };
-            if self.declared.contains(&(class, numbered.name)) {
+            if self.is_declared(class, name) {
                 return true;
             }
             next = class.parent(classes);
         }
         false
+    }
+
+    fn is_declared(&self, class: NamedClass, name: usize) -> bool
+        ensures { result ≡ has_key self.now.declared.keys name class }
+    {
+        self.declared.contains(&(class, name))
     }
 
     fn add(&mut self, classes: &ClassTable, numbered: &Numbered<'a>) -> Result<(), AllocError> {
