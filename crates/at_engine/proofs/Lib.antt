@@ -25,3 +25,4 @@ pub mod Sessions
 pub mod Attempting
 pub mod Marking
 pub mod Within
+pub mod Keeping

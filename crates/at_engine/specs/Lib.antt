@@ -12,3 +12,4 @@ pub mod Loop
 pub mod Taking
 pub mod Running
 pub mod RunFaults
+pub mod Keeping

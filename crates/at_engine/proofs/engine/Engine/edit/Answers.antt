@@ -1,4 +1,4 @@
-use Rattle.std.proofs.Common.{◌≡◌, ℕ, true, false, nat_eq, arith, refl, rules, sym, subst}
+use Rattle.std.proofs.Common.{◌≡◌, ℕ, true, false, nat_eq, arith, inl, inr, refl, rules, sym, subst}
 use Rattle.std.proofs.lemmas.Bool.{eq-eqb, ne_eqb}
 use Rattle.at_model.specs.Classes.{Classes}
 use Rattle.at_model.specs.Edits.{Edit as EditOf}
@@ -9,12 +9,22 @@ use Rattle.at_model.specs.Alike.{LocationLike, Names}
 use Rattle.at_model.specs.Touches.{touches}
 use Rattle.at_store.specs.Checking.{IsAsked, IsRefused}
 use Rattle.at_store.specs.Preparing.{Does, IsPrepared}
-use Rattle.at_store.specs.Refusing.{edit_at}
+use Rattle.at_store.specs.Refusing.{edit_at, node_of}
 use Rattle.at_store.specs.Located.{loc_view}
 use Rattle.at_store.specs.Shown.{Shown, path}
 use Rattle.at_demand.specs.Touched.{Touches}
 use Rattle.at_demand.proofs.StayingRight.{kept_right}
 use Rattle.at_engine.proofs.Editing.{KeepsRight, idle_again, came_refused, came_given_up, told_done, sound_done, untouched_by}
+use Rattle.at_model.specs.Machine.{changed}
+use Rattle.at_protocol.specs.declared.reply.Refusal.TheVariants as told
+use Rattle.at_cache.specs.Kept.{LeavesUntouched, LosesTouched}
+use Rattle.at_demand.specs.Called.{KeptBy}
+use Rattle.at_demand.proofs.Called.{keeps_edited}
+use Rattle.at_demand.proofs.Spared.{kept_spare}
+use Rattle.at_engine.specs.Engines.{state_of}
+use Rattle.at_engine.proofs.Marked.{path_there}
+use Rattle.at_engine.proofs.Verdicts.{at_edit}
+use Rattle.at_engine.proofs.Keeping.{edited_keeps, kept_stays, quiet_keeps, refusal_keeps, refused_quiet, spare_stays, touched_by}
 use Rattle.at_engine.proofs.engine.Engine.edit.Goals as goal
 
 -- no edit waits behind the one that is done
@@ -82,3 +92,97 @@ returns-clause-sound g c =
           search (rules, untouched_by),
     )) in
     sound_done e.rules e.store e.version e.marks.items.items c.args.edit _ c.requires.sound mid q ready c.commit.new.self c.commit.ensures c.keep_live.new.self.items.items c.keep_live.ensures c.requires.there _ right
+
+pub returns-in-Err-clause-keeps : goal.returns-in-Err-clause-keeps
+returns-in-Err-clause-keeps g c n p exact spare =
+    let e = c.args.self.now in
+    let refuses = subst (λ (x : Classes). (n : Node) → IsAsked x e.store c.args.edit n → IsRefused x e.store (edit_at n c.args.edit) c.check.new.self c.in-Err.refusal) c.classes.ensures c.in-Err.ensures.refused in
+    let is = refuses n (record { idle = c.requires.sound.idle; conforming = c.requires.sound.conforming; found = p }) in
+    refusal_keeps e.rules e.store c.check.new.self (state_of e) _ (changed e.rules.classes (state_of e) (edit_at n c.args.edit)) (g.K.Keeper.contents e.demand.keeper) e.demand.work c.in-Err.refusal c.refused.result is.numbers_stay c.refused.ensures
+    (returns-in-Err-clause-follows g c n p)
+
+pub returns-in-Err-clause-spare : goal.returns-in-Err-clause-spare
+returns-in-Err-clause-spare g c exact spare =
+    let e = c.args.self.now in
+    let (n, p) = path_there (path e.store (node_of c.args.edit)) c.requires.there in
+    let refuses = subst (λ (x : Classes). (n : Node) → IsAsked x e.store c.args.edit n → IsRefused x e.store (edit_at n c.args.edit) c.check.new.self c.in-Err.refusal) c.classes.ensures c.in-Err.ensures.refused in
+    let is = refuses n (record { idle = c.requires.sound.idle; conforming = c.requires.sound.conforming; found = p }) in
+    spare_stays e.rules e.store c.check.new.self (g.K.Keeper.contents e.demand.keeper) is.numbers_stay is.tree_stays spare
+
+pub returns-then-version-clause-keeps : goal.returns-then-version-clause-keeps
+returns-then-version-clause-keeps g c n p exact spare =
+    let e = c.args.self.now in
+    let ready = subst (λ (x : Classes). (n : Node) → IsAsked x e.store c.args.edit n → IsPrepared x e.store (edit_at n c.args.edit) (Does c.in-Ok.ready.prepared) c.check.new.self) c.classes.ensures c.in-Ok.ensures.ready in
+    let is = c.cancel.ensures e.rules.classes e.store (edit_at n c.args.edit) (ready n (record { idle = c.requires.sound.idle; conforming = c.requires.sound.conforming; found = p })) in
+    let entries = g.K.Keeper.contents e.demand.keeper in
+    let s = state_of e in
+    let v = changed e.rules.classes s (edit_at n c.args.edit) in
+    quiet_keeps e.rules s v (KeptBy e.store entries) (KeptBy c.cancel.new.self entries) e.demand.work (refused_quiet e.rules s _ v told.Limit (returns-then-version-clause-follows g c n p)) (kept_stays e.store c.cancel.new.self entries is.numbers_stay)
+
+pub returns-then-version-clause-spare : goal.returns-then-version-clause-spare
+returns-then-version-clause-spare g c exact spare =
+    let e = c.args.self.now in
+    let (n, p) = path_there (path e.store (node_of c.args.edit)) c.requires.there in
+    let ready = subst (λ (x : Classes). (n : Node) → IsAsked x e.store c.args.edit n → IsPrepared x e.store (edit_at n c.args.edit) (Does c.in-Ok.ready.prepared) c.check.new.self) c.classes.ensures c.in-Ok.ensures.ready in
+    let is = c.cancel.ensures e.rules.classes e.store (edit_at n c.args.edit) (ready n (record { idle = c.requires.sound.idle; conforming = c.requires.sound.conforming; found = p })) in
+    spare_stays e.rules e.store c.cancel.new.self (g.K.Keeper.contents e.demand.keeper) is.numbers_stay is.tree_stays spare
+
+pub returns-clause-keeps : goal.returns-clause-keeps
+returns-clause-keeps g c n p exact spare =
+    let e = c.args.self.now in
+    let s = state_of e in
+    let ready = subst (λ (x : Classes). (n : Node) → IsAsked x e.store c.args.edit n → IsPrepared x e.store (edit_at n c.args.edit) (Does c.in-Ok.ready.prepared) c.check.new.self) c.classes.ensures c.in-Ok.ensures.ready in
+    let prepared = ready n (record { idle = c.requires.sound.idle; conforming = c.requires.sound.conforming; found = p }) in
+    let new = c.commit.new.self in
+    let done = c.commit.ensures e.rules.classes e.store (edit_at n c.args.edit) prepared in
+    let old = g.K.Keeper.contents e.demand.keeper in
+    let later = g.K.Keeper.contents c.after_edit.new.self.keeper in
+    let last : nat_eq e.version last_version ≡ false = ne_eqb e.version last_version (λ same. omega (arith, same)) in
+    let e_n = edit_at n c.args.edit in
+    let leaves : LeavesUntouched (Touches e.store e_n) old later = λ i k left.
+    let a = c.after_edit.ensures.leaves i k left in (
+      a.0,
+      λ l covers m like.
+          let (x, same, said) = a.1 l covers in
+          let there : LocationLike (Names (path e.store)) (loc_view x) m = subst (λ (j : Location ℕ). LocationLike (Names (path e.store)) j m) (sym same) like in
+          search (rules, untouched_by),
+    ) in
+    let loses : LosesTouched (Touches e.store e_n) old later = λ i k at.
+    elim (c.after_edit.ensures.loses exact i k at) [
+      | inl stays ↦ inl stays
+      | inr (l, covers, (x, same, said)) ↦ inr (l, covers, λ m like.
+          let there : LocationLike (Names (path e.store)) (loc_view x) m = subst (λ (j : Location ℕ). LocationLike (Names (path e.store)) j m) (sym same) like in
+          search (rules, touched_by))
+    ] in
+    let (just, after) = kept_spare e.rules e.store new e_n prepared.left c.requires.sound.idle c.requires.sound.conforming prepared.accepted done old later c.requires.sound.right spare leaves loses in
+    edited_keeps e.rules e.store new s (changed e.rules.classes s e_n) e_n prepared.left (KeptBy e.store old) (KeptBy new later) e.demand.work c.after_edit.new.self.work (at_edit e.rules.classes s e_n prepared.left prepared.accepted last)
+    (keeps_edited e.rules e.store new e_n prepared.left c.requires.sound.idle c.requires.sound.conforming prepared.accepted done old later c.requires.sound.right just s refl e.demand.work) c.after_edit.ensures.work
+
+pub returns-clause-spare : goal.returns-clause-spare
+returns-clause-spare g c exact spare =
+    let e = c.args.self.now in
+    let (n, p) = path_there (path e.store (node_of c.args.edit)) c.requires.there in
+    let ready = subst (λ (x : Classes). (n : Node) → IsAsked x e.store c.args.edit n → IsPrepared x e.store (edit_at n c.args.edit) (Does c.in-Ok.ready.prepared) c.check.new.self) c.classes.ensures c.in-Ok.ensures.ready in
+    let prepared = ready n (record { idle = c.requires.sound.idle; conforming = c.requires.sound.conforming; found = p }) in
+    let new = c.commit.new.self in
+    let done = c.commit.ensures e.rules.classes e.store (edit_at n c.args.edit) prepared in
+    let old = g.K.Keeper.contents e.demand.keeper in
+    let later = g.K.Keeper.contents c.after_edit.new.self.keeper in
+    let e_n = edit_at n c.args.edit in
+    let leaves : LeavesUntouched (Touches e.store e_n) old later = λ i k left.
+    let a = c.after_edit.ensures.leaves i k left in (
+      a.0,
+      λ l covers m like.
+          let (x, same, said) = a.1 l covers in
+          let there : LocationLike (Names (path e.store)) (loc_view x) m = subst (λ (j : Location ℕ). LocationLike (Names (path e.store)) j m) (sym same) like in
+          search (rules, untouched_by),
+    ) in
+    let loses : LosesTouched (Touches e.store e_n) old later = λ i k at.
+    elim (c.after_edit.ensures.loses exact i k at) [
+      | inl stays ↦ inl stays
+      | inr (l, covers, (x, same, said)) ↦ inr (l, covers, λ m like.
+          let there : LocationLike (Names (path e.store)) (loc_view x) m = subst (λ (j : Location ℕ). LocationLike (Names (path e.store)) j m) (sym same) like in
+          search (rules, touched_by))
+    ] in
+    let (just, after) = kept_spare e.rules e.store new e_n prepared.left c.requires.sound.idle c.requires.sound.conforming prepared.accepted done old later c.requires.sound.right spare leaves loses in
+    after
