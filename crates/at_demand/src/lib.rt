@@ -9,7 +9,4 @@ mod question;
 
 pub use answer::Answer;
 pub use demand::Demand;
-pub use laws::{
-    a_question_adds_what_is_worth_keeping, an_edit_leaves_what_it_does_not_touch,
-    what_is_kept_spare_is_well_kept, what_is_kept_stays_right, what_is_kept_stays_spare,
-};
+pub use laws::what_is_kept_stays_right;

@@ -1,3 +1,4 @@
+mod Locating
 mod Lookups
 mod Numbers
 mod Upward

@@ -6,5 +6,3 @@ pub mod TreeFiles
 pub mod AspectFiles
 pub mod Starts
 pub mod Statuses
-pub mod Options
-pub mod Connections
