@@ -44,12 +44,15 @@ def flat_grammar(classes):
     return "C0 ::= <V:int>;\n" + "".join(f"C{k} ::= <V:int> {parts};\n" for k in range(1, classes))
 
 
-def calculator(put, statements):
-    """The sample grammar and aspects, over a block of that many statements, of which the last two are the sample's."""
+def calculator(put, statements, inner=0):
+    """The sample grammar and aspects, over a block of that many statements, of which the last two are the sample's; behind them
+    a block of so many inner ones, where there are any."""
     samples = PROGRAM.parent / "samples" / "calculator"
     filler = ",".join(f'Decl("f{i}",Num({i}))' for i in range(statements - 2))
     block = (filler + "," if filler else "") + 'Decl("x",Num(1)),Print(Add(Use("x"),Num(2)))'
-    return [put("calc.ast", (samples / "calc.ast").read_text()), put(f"tree{statements}.txt", f"Program(Block([{block}]))"),
+    if inner:
+        block += ",Block([" + ",".join(f'Decl("g{i}",-)' for i in range(inner)) + "])"
+    return [put("calc.ast", (samples / "calc.ast").read_text()), put(f"tree{statements}_{inner}.txt", f"Program(Block([{block}]))"),
             put("calc.jrag", (samples / "calc.jrag").read_text())]
 
 
@@ -88,20 +91,34 @@ def long_aspects(size):
 
 
 def edits_of(statements):
-    """Kinds of 2,000 edits of a block of that many statements."""
-    last = statements - 3
-    return [("token edits", "".join(f"0 token /Block/Stmt:{k * last // 2000}/Init Value {k}\n" for k in range(2000))),
-            ("small subtrees taken out of an optional and put back", f"0 drop /Block/Stmt:{last}/Init\n0 put /Block/Stmt:{last} Init Num(1)\n" * 1000),
-            ("subtrees replaced", f"0 set /Block/Stmt:{last}/Init Add(Num(1),Num(2))\n" * 2000),
-            ("token edits, each with a question after it", "".join(f"0 token /Block/Stmt:{k * last // 2000}/Init Value {k}\n0 ask /Block/Stmt:{k * last // 2000} value()\n" for k in range(2000)))]
+    """Kinds of edits of a calculator's tree of that many statements and ten inner ones: what they are, how many, and their lines."""
+    def spread(k, count):
+        """The k-th of so many declarations, from the first one to the last."""
+        return f"/Block/Stmt:{k * (statements - 1) // count}"
+
+    right, inner, many = f"/Block/Stmt:{statements - 1}/Expr/Right", f"/Block/Stmt:{statements}", 100000
+    return [("token edits, all over the tree", many, "".join(f"0 token {spread(k, many)}/Init Value {k}\n" for k in range(many))),
+            ("small subtrees put under a plain child", many, f"0 set {right} Num(3)\n0 set {right} Use(\"x\")\n" * (many // 2)),
+            ("small subtrees put in an optional, all over the tree", many, "".join(f"0 set {spread(k, many)}/Init Num({k})\n" for k in range(many))),
+            ("subtrees of three nodes replaced, at a hundred places", many, "".join(f"0 set {spread(k, 100)}/Init Add(Num(1),Num(2))\n" for k in range(100)) * (many // 100)),
+            ("drops from an optional and puts, by turns", many, "".join(f"0 drop {spread(k, many)}/Init\n0 put {spread(k, many)} Init Num(1)\n" for k in range(0, many, 2))),
+            ("inserts and drops at the front of a list of ten, by turns", many, f"0 insert {inner} Stmt 0 Decl(\"y\",-)\n0 drop {inner}/Stmt:0\n" * (many // 2)),
+            ("inserts and drops at the end of all statements, by turns", 10000, f"0 insert /Block Stmt {statements + 1} Block([])\n0 drop /Block/Stmt:{statements + 1}\n" * 5000),
+            ("inserts and drops at the front of all statements, by turns", 2000, "0 insert /Block Stmt 0 Decl(\"y\",-)\n0 drop /Block/Stmt:0\n" * 1000),
+            ("token edits, each with a question after it", many, "".join(f"0 token {spread(k, many)}/Init Value {k}\n0 ask {spread(k, many)} value()\n" for k in range(many)))]
+
+
+def edits(files, spent):
+    """What edits cost on a tree of 61,000 nodes, each kind against the same on one of 4,000."""
+    for (what, count, few), (_, _, many) in zip(edits_of(2000), edits_of(30500)):
+        times = [spent(of, lines) for of, lines in zip(files, (few, many))]
+        print(f"{count:,} {what}: {times[0] * 1e6 / count:.2f} us each on 4,000 nodes, {times[1] * 1e6 / count:.2f} us on 61,000: ratio {times[1] / times[0]:.2f}")
 
 
 def layers(put, spent):
     """What the store, questions and rules cost, each against a smaller tree or half as much."""
-    small, large = calculator(put, 2000), calculator(put, 30500)
-    for (what, few), (_, many) in zip(edits_of(2000), edits_of(30500)):
-        times = [spent(small, few), spent(large, many)]
-        print(f"2,000 {what}: {times[0] * 1000:.0f} ms on 4,000 nodes, {times[1] * 1000:.0f} ms on 61,000: ratio {times[1] / times[0]:.2f}")
+    small, large = calculator(put, 2000, 10), calculator(put, 30500, 10)
+    edits((small, large), spent)
 
     def halves(what, files, lines):
         times = [spent(of, text) for of, text in zip(files, lines)]

@@ -1,4 +1,4 @@
-//! Tests of the readers of files, terms and lines, by their public calls.
+//! Tests of the readers of files, terms and lines, and of the node store, by their public calls.
 #![tactic(auto)]
 
 #[cfg(test)]
@@ -9,6 +9,8 @@ mod classes;
 mod grammars;
 #[cfg(test)]
 mod lines;
+#[cfg(test)]
+mod stores;
 #[cfg(test)]
 mod terms;
 #[cfg(test)]

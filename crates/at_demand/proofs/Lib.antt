@@ -11,3 +11,14 @@ pub mod Supported
 pub mod Gathered
 pub mod Passing
 pub mod There
+pub mod Leading
+pub mod Only
+pub mod Gaining
+pub mod Counting
+pub mod SparingOn
+pub mod StayingSpare
+pub mod Spared
+pub mod AlikeBack
+pub mod CalledAsked
+pub mod CalledEdited
+pub mod Called

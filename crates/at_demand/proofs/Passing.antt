@@ -33,7 +33,7 @@ past_more tree has more wide r s js ls (looked l k p) = looked l k (past_more tr
 past_more tree has more wide r s js ls (told j k v h p) = told j k v (wide j v h) (past_more tree has more wide _ s _ _ p)
 
 -- each that was told has it
-past_has : {N A : Type 0} (tree : Contents N) (has : Instance N → Value N → Type 0) (r s : Run N A) (js : List (Instance N)) (ls : List (Location N)) (j : Instance N) → Past tree has r js ls s → Among j js → (v : Value N) × has j v
+pub past_has : {N A : Type 0} (tree : Contents N) (has : Instance N → Value N → Type 0) (r s : Run N A) (js : List (Instance N)) (ls : List (Location N)) (j : Instance N) → Past tree has r js ls s → Among j js → (v : Value N) × has j v
 past_has tree has r s js ls j (here _) a = absurd a
 past_has tree has r s js ls j (looked l k p) a = past_has tree has _ s _ _ j p a
 past_has tree has r s js ls j (told i k v h p) (inl e) = (v, subst (λ x. has x v) (sym e) h)

@@ -2,16 +2,17 @@
 use Rattle.std.proofs.Common.{◌≡◌, ℕ, true, false, nat_eq, List, [], ◌∷◌, Option, Some, None, Ok, inl, inr, refl, sym, ap, ◌∙◌, subst, is_none}
 use Rattle.at_model.specs.Classes.{Classes}
 use Rattle.at_model.specs.Trees.{Tree, conforms}
-use Rattle.at_model.specs.Paths.{Node, tree_at}
+use Rattle.at_model.specs.Paths.{Node, node_eq, tree_at}
 use Rattle.at_model.specs.Run.{Value, Ref, Instance, Location, Is, Tok, Slot, Up, Idx, Run, Contents}
 use Rattle.at_model.specs.Rules.{Rules, past_arguments, evaluation}
-use Rattle.at_model.specs.Meaning.{Equations, HasValue, Finds, content}
+use Rattle.at_model.specs.Meaning.{Equations, HasValue, Finds, Leads, content, equations}
 use Rattle.at_model.specs.Support.{Sees, Supports}
 use Rattle.at_model.specs.Alike.{OptionLike, neither, both, ListLike, end, more, ValueLike, int, truth, text, ref, InstanceLike, LocationLike, is, tok, slot, up, idx, EquationsLike, Names, IsInjective, AlikeAt, AlikeBelow}
 use Rattle.at_model.specs.Edits.{Edit, carried, edited}
 use Rattle.at_model.specs.Touches.{touches}
 use Rattle.at_model.proofs.EquationsAlike.{evaluation-like}
-use Rattle.at_model.proofs.CarryingSupport.{carried_value, supports_here}
+use Rattle.at_model.proofs.CarryingSupport.{carried_value, leads_here, supports_here, supports_there}
+use Rattle.at_model.proofs.Nodes.{same_like, nat_eq-is, node_eq-is}
 use Rattle.at_model.proofs.Surviving.{gone_where_touched}
 use Rattle.at_model.proofs.Untouching.{edited_alike}
 
@@ -48,6 +49,20 @@ module _ {R : ℕ → ℕ → Type 0} (same : (a b : ℕ) → R a b → a ≡ b)
   same_location (slot part r) = ap (λ n. Slot n part) (same _ _ r)
   same_location (up r) = ap Up (same _ _ r)
   same_location (idx r) = ap Idx (same _ _ r)
+
+  cons_same : (v w : Value ℕ) (vs ws : List (Value ℕ)) → v ≡ w → vs ≡ ws → v ∷ vs ≡ w ∷ ws
+  cons_same v w vs ws e f = ap (λ x. x ∷ vs) e ∙ ap (λ xs. w ∷ xs) f
+
+  same_values : {vs ws : List (Value ℕ)} → ListLike (ValueLike R) vs ws → vs ≡ ws
+  same_values end = refl
+  same_values (more v vs) = cons_same _ _ _ _ (same_value v) (same_values vs)
+
+  abbrev instance : ℕ → ℕ → List (Value ℕ) → Instance ℕ
+  instance n a vs = record { node = n; attribute = a; arguments = vs }
+
+  pub same_instance : (i j : Instance ℕ) → InstanceLike R i j → i ≡ j
+  same_instance i j s =
+      ap (λ n. instance n i.attribute i.arguments) (same _ _ s.node) ∙ ap (λ a. instance j.node a i.arguments) s.attribute ∙ ap (λ vs. instance j.node j.attribute vs) (same_values s.arguments)
 
 -- what looks at the nodes among the arguments
 arguments_stay : (path : ℕ → Option Node) (e : Edit) (look : Contents ℕ) (Has : Instance ℕ → Value ℕ → Type 0) (r : Run ℕ (Value ℕ)) {vs : List (Value ℕ)} {ws : List (Value Node)} → ListLike (ValueLike (Names path)) vs ws →
@@ -158,3 +173,20 @@ module _ (rules : Rules) {e : Edit} {t u : Tree} {path later : ℕ → Option No
     support_before v h l rests =
         let (m, s, before) = supports_here old new means means equations_stay i i (Finds v) l h below_alike instance_stays rests in
         subst (λ z. Supports old means z i) (same_location (λ a b r. r.same) s) before
+
+    pub support_later : (l : Location ℕ) → Supports old means l i → Supports new means l i
+    support_later l rests =
+        let (m, s, after) = supports_there old new means means equations_stay i i l instance_stays below_alike rests in
+        subst (λ z. Supports new means z i) (sym (same_location (λ a b r. r.same) s)) after
+
+    pub led_before : (v : Value ℕ) → HasValue old means i v → (k : Instance ℕ) → Leads new means i k → Leads old means i k
+    led_before v (n, h) k led =
+        let (m, s, before, d, x) = leads_here old new means means equations_stay n i i k (Finds v, h) below_alike instance_stays led in
+        subst (Leads old means i) (same_instance (λ a b r. r.same) m k s) before
+
+  -- what supports an instance of the tree is a location of the tree
+  pub located : IsInjective path → (i : Instance ℕ) (j : Instance Node) → InstanceLike (Names path) i j → (l : Location ℕ) → Supports old means l i → (m : Location Node) × LocationLike (Names path) l m
+  located named_once i j like l rests =
+      let alike = evaluation-like rules nat_eq node_eq (same_like nat_eq node_eq nat_eq-is node_eq-is path named_once) in
+      let (m, s, there) = supports_there old (content t) means (equations rules) alike i j l like (λ x h. over.shown x) rests in
+      (m, s)

@@ -37,7 +37,7 @@ left_is classes t e u is =
     cc
 
 module _ (rules : Rules) (old new : Shown) (e : Edit) (t : Tree) (idle : IsIdle old) (ok : conforms rules.classes (tree old) 0 ≡ true) (accepted : edited rules.classes (tree old) e ≡ Ok t) (done : IsCommitted old e new) where
-  over : IsOver rules.classes e (tree old) (tree new) (path old) (path new) (contents old) (contents new)
+  pub over : IsOver rules.classes e (tree old) (tree new) (path old) (path new) (contents old) (contents new)
   over = record {
     conforming = ok;
     accepted = subst (λ u. edited rules.classes (tree old) e ≡ Ok u) (sym (left_is rules.classes (tree old) e t accepted) ∙ sym done.tree_is) accepted;

@@ -3,3 +3,7 @@ pub mod UnderWay
 pub mod Right
 pub mod Touched
 pub mod Covering
+pub mod Only
+pub mod Sparing
+pub mod Spared
+pub mod Called

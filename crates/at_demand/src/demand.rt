@@ -1,6 +1,6 @@
 //! Questions for the values of instances.
 
-ghost use Rattle.std.specs.Prelude.{◌≡◌, ℕ, IfOk, IsTrue, None};
+ghost use Rattle.std.specs.Prelude.{◌≡◌, ◌<◌, ◌^◌, ℕ, true, IfOk, OnOk, IsSome, IsTrue, None};
 ghost use Rattle.std.specs.Map.{lookup};
 ghost use Rattle.at_model.specs.Run.{Contents, Instance};
 ghost use Rattle.at_model.specs.Meaning.{Answers as HasAnswer, Right};
@@ -8,10 +8,13 @@ ghost use Rattle.at_body.specs.declared.trial.Step.TheVariants as step_code;
 ghost use Rattle.at_store.specs.Shown.{IsIdle, Shown, contents};
 ghost use Rattle.at_body.specs.Same.{same_instance};
 ghost use Rattle.at_body.specs.Values.{value_view};
-ghost use Rattle.at_cache.specs.Kept.{AreKept, Answers as Says, LeavesUntouched, LosesTouched};
+ghost use Rattle.at_cache.specs.Kept.{AreKept, Entries, Answers as Says, LeavesUntouched, LosesTouched};
 ghost use Rattle.at_demand.specs.Known.{meaning, kept_values, answer_view, MayAdd, FoundKept};
 ghost use Rattle.at_demand.specs.Right.{AreRight, IsThere};
 ghost use Rattle.at_demand.specs.UnderWay.{IsOrderlyIn, IsTrueIn, IsTurn, IsRightTurn};
+ghost use Rattle.at_model.specs.Rules.{is_lazy};
+ghost use Rattle.at_demand.specs.Only.{AreLean, IsLean};
+ghost use Rattle.at_demand.specs.Sparing.{AddsWorthy, AreOnly, AreSpare, Counts, HasWorthy, IsSparing, IsSparingTurn, IsWork, MayAddLazy};
 ghost use Rattle.at_demand.specs.Covering.{AreCovered, AreWhole, IsCoveringIn, IsCoveringTurn, IsWhole};
 
 use crate::answer::Answer;
@@ -51,7 +54,8 @@ impl<K: Keeper> Demand<K> {
         }
     }
 
-    /// The answer for an instance. An error where memory is wanting.
+    /// The answer for an instance. With an exact keeper just the lazy instances come to what is kept that the question leads
+    /// to and that have a value, and the work grows by their number. An error where memory is wanting.
     pub fn answer(
         &mut self,
         rules: &Rules,
@@ -60,8 +64,15 @@ impl<K: Keeper> Demand<K> {
     ) -> Result<Answer, AllocError>
         requires idle { IsIdle store.now }
         ensures answers { Right (contents store.now) (meaning rules.now) (kept_values (K.contents self.old.keeper)) → IfOk result (λ a. HasAnswer (contents store.now) (meaning rules.now) inst.now (answer_view a)) }
+        ensures worthy { Right (contents store.now) (meaning rules.now) (kept_values (K.contents self.old.keeper)) → AddsWorthy rules.now (contents store.now) inst.now (K.contents self.old.keeper) (K.contents self.new.keeper) }
+        ensures spare { IsTrue K.exact → Right (contents store.now) (meaning rules.now) (kept_values (K.contents self.old.keeper)) → AreSpare rules.now (contents store.now) (K.contents self.old.keeper) → AreSpare rules.now (contents store.now) (K.contents self.new.keeper) }
+        ensures all { IsTrue K.exact → Right (contents store.now) (meaning rules.now) (kept_values (K.contents self.old.keeper)) → AreSpare rules.now (contents store.now) (K.contents self.old.keeper) → IfOk result (λ a. HasWorthy rules.now (contents store.now) inst.now (K.contents self.new.keeper)) }
+        ensures counts { IsTrue K.exact → Counts (K.contents self.old.keeper) (K.contents self.new.keeper) self.old.work self.new.work }
+        ensures work { IsTrue K.exact → Right (contents store.now) (meaning rules.now) (kept_values (K.contents self.old.keeper)) → AreSpare rules.now (contents store.now) (K.contents self.old.keeper) → IfOk result (λ a. IsWork rules.now (contents store.now) inst.now (K.contents self.old.keeper) self.old.work self.new.work) }
         ensures right { IsThere store.now inst.now → AreRight rules.now store.now (K.contents self.old.keeper) → AreRight rules.now store.now (K.contents self.new.keeper) }
     {
+        // The call says that it is less than 2^64.
+        let _work = self.work();
         if let Some(value) = self.keeper.get(inst) {
             return Ok(Answer::Value(value.copy()?));
         }
@@ -83,12 +94,15 @@ impl<K: Keeper> Demand<K> {
         requires { F.IsAlwaysCallable touched.now }
         ensures leaves { LeavesUntouched (Says (F.post touched.now)) (K.contents self.old.keeper) (K.contents self.new.keeper) }
         ensures loses { IsTrue K.exact → LosesTouched (Says (F.post touched.now)) (K.contents self.old.keeper) (K.contents self.new.keeper) }
+        ensures work { self.new.work ≡ self.old.work }
     {
         self.keeper.flush(touched);
     }
 
     /// How many times a question found a value of a lazy attribute that wasn't kept. It stays at the greatest number.
-    pub fn work(&self) -> u64 {
+    pub fn work(&self) -> u64
+        ensures { result ≡ self.now.work }
+    {
         self.work
     }
 
@@ -109,6 +123,10 @@ impl<K: Keeper> Demand<K> {
         ensures right { (asked : Instance ℕ) → IsTrueIn rules.now (contents store.now) asked (K.contents self.old.keeper) question.entry step → Right (contents store.now) (meaning rules.now) (kept_values (K.contents self.new.keeper)) }
         ensures covering { (asked : Instance ℕ) → IsTrueIn rules.now (contents store.now) asked (K.contents self.old.keeper) question.entry step → IsCoveringIn rules.now (contents store.now) question.entry step → IfOk result (IsCoveringTurn rules.now (contents store.now)) }
         ensures stays { (asked : Instance ℕ) → IsThere store.now asked → IsTrueIn rules.now (contents store.now) asked (K.contents self.old.keeper) question.entry step → IsCoveringIn rules.now (contents store.now) question.entry step → AreRight rules.now store.now (K.contents self.old.keeper) → AreRight rules.now store.now (K.contents self.new.keeper) }
+        ensures worthy { (asked : Instance ℕ) (first : Entries) → IsTrueIn rules.now (contents store.now) asked (K.contents self.old.keeper) question.entry step → AddsWorthy rules.now (contents store.now) asked first (K.contents self.old.keeper) → AddsWorthy rules.now (contents store.now) asked first (K.contents self.new.keeper) }
+        ensures sparing { (asked : Instance ℕ) → IsTrue K.exact → IsTrueIn rules.now (contents store.now) asked (K.contents self.old.keeper) question.entry step → IsCoveringIn rules.now (contents store.now) question.entry step → IsSparing rules.now (contents store.now) (K.contents self.old.keeper) question.entry → IfOk result (IsSparingTurn rules.now (contents store.now) asked (K.contents self.new.keeper)) }
+        ensures spare { (asked : Instance ℕ) → IsTrue K.exact → IsTrueIn rules.now (contents store.now) asked (K.contents self.old.keeper) question.entry step → IsCoveringIn rules.now (contents store.now) question.entry step → IsSparing rules.now (contents store.now) (K.contents self.old.keeper) question.entry → AreSpare rules.now (contents store.now) (K.contents self.new.keeper) }
+        ensures counts { IsTrue K.exact → self.old.work < 2 ^ 64 → Counts (K.contents self.old.keeper) (K.contents self.new.keeper) self.old.work self.new.work }
     {
         let mut question = question;
         let q = &mut question;
@@ -141,6 +159,7 @@ impl<K: Keeper> Demand<K> {
         ensures turn { IfOk result (IsTurn (K.contents self.now.keeper) question.entry) }
         ensures answers { (asked : Instance ℕ) → IsTrueIn rules.now (contents store.now) asked (K.contents self.now.keeper) question.entry (step_code.Need needed) → IfOk result (IsRightTurn rules.now (contents store.now) asked (K.contents self.now.keeper)) }
         ensures covering { IsCoveringIn rules.now (contents store.now) question.entry (step_code.Need needed) → IfOk result (IsCoveringTurn rules.now (contents store.now)) }
+        ensures sparing { (asked : Instance ℕ) → IsTrueIn rules.now (contents store.now) asked (K.contents self.now.keeper) question.entry (step_code.Need needed) → IsCoveringIn rules.now (contents store.now) question.entry (step_code.Need needed) → IsSparing rules.now (contents store.now) (K.contents self.now.keeper) question.entry → IfOk result (IsSparingTurn rules.now (contents store.now) asked (K.contents self.now.keeper)) }
     {
         if question.has(&needed) {
             return Ok(Turn::Answers(Answer::Circular { at: needed }));
@@ -163,6 +182,10 @@ impl<K: Keeper> Demand<K> {
         ensures right { (look : Contents ℕ) (asked : Instance ℕ) → IsTrueIn rules.now look asked (K.contents self.old.keeper) question.entry (step_code.Value value) → Right look (meaning rules.now) (kept_values (K.contents self.new.keeper)) }
         ensures covering { (look : Contents ℕ) → IsCoveringIn rules.now look question.entry (step_code.Value value) → IfOk result (IsCoveringTurn rules.now look) }
         ensures stays { (s : Shown) (asked : Instance ℕ) → IsIdle s → IsThere s asked → IsTrueIn rules.now (contents s) asked (K.contents self.old.keeper) question.entry (step_code.Value value) → IsCoveringIn rules.now (contents s) question.entry (step_code.Value value) → AreRight rules.now s (K.contents self.old.keeper) → AreRight rules.now s (K.contents self.new.keeper) }
+        ensures worthy { (look : Contents ℕ) (asked : Instance ℕ) (first : Entries) → IsTrueIn rules.now look asked (K.contents self.old.keeper) question.entry (step_code.Value value) → AddsWorthy rules.now look asked first (K.contents self.old.keeper) → AddsWorthy rules.now look asked first (K.contents self.new.keeper) }
+        ensures sparing { (look : Contents ℕ) (asked : Instance ℕ) → IsTrue K.exact → IsTrueIn rules.now look asked (K.contents self.old.keeper) question.entry (step_code.Value value) → IsCoveringIn rules.now look question.entry (step_code.Value value) → IsSparing rules.now look (K.contents self.old.keeper) question.entry → IfOk result (IsSparingTurn rules.now look asked (K.contents self.new.keeper)) }
+        ensures spare { (look : Contents ℕ) (asked : Instance ℕ) → IsTrue K.exact → IsTrueIn rules.now look asked (K.contents self.old.keeper) question.entry (step_code.Value value) → IsCoveringIn rules.now look question.entry (step_code.Value value) → IsSparing rules.now look (K.contents self.old.keeper) question.entry → AreSpare rules.now look (K.contents self.new.keeper) }
+        ensures counts { IsTrue K.exact → self.old.work < 2 ^ 64 → Counts (K.contents self.old.keeper) (K.contents self.new.keeper) self.old.work self.new.work }
     {
         let Question {
             mut waiting,
@@ -202,6 +225,10 @@ impl<K: Keeper> Demand<K> {
         requires found { FoundKept (K.contents self.old.keeper) found.now.entries }
         ensures adds { MayAdd (K.contents self.old.keeper) (K.contents self.new.keeper) inst.now (value_view find.now.value) }
         ensures covers { (look : Contents ℕ) → AreWhole rules.now look found.now.entries → IsWhole rules.now look found.now.entries inst.now find.now → AreCovered rules.now look (K.contents self.old.keeper) → AreCovered rules.now look (K.contents self.new.keeper) }
+        ensures lazy { MayAddLazy rules.now (K.contents self.old.keeper) (K.contents self.new.keeper) inst.now }
+        ensures keeps { IsTrue K.exact → is_lazy rules.now inst.now.attribute ≡ true → OnOk result (IsSome (K.contents self.new.keeper inst.now)) }
+        ensures only { (look : Contents ℕ) → IsTrue K.exact → AreLean rules.now look found.now.entries → IsLean rules.now look found.now.entries inst.now find.now → AreOnly rules.now look (K.contents self.old.keeper) → AreOnly rules.now look (K.contents self.new.keeper) }
+        ensures counts { IsTrue K.exact → self.old.work < 2 ^ 64 → Counts (K.contents self.old.keeper) (K.contents self.new.keeper) self.old.work self.new.work }
     {
         if !rules.is_lazy(inst.attribute()) {
             return Ok(());

@@ -4,6 +4,7 @@ ghost use Rattle.std.specs.Prelude.{◌≡◌, ◌++◌, IfOk, OnOk};
 ghost use Rattle.at_cache.specs.Kept.{AreKept, Entries};
 ghost use Rattle.at_demand.specs.Known.{FoundKept};
 ghost use Rattle.at_demand.specs.Covering.{Adds, AddsAt, AreGathered, Visits};
+ghost use Rattle.at_demand.specs.Only.{AddsOnly, AddsOnlyAt, AreFrom, VisitsOnly};
 
 use crate::question::{Demanded, Find};
 use at_body::Inst;
@@ -27,6 +28,7 @@ impl Sources {
     ) -> Result<Sources, AllocError>
         ensures kept { (entries : Entries) → FoundKept entries found.now.entries → AreKept entries find.now.demanded.kept.items → IfOk result (λ s. AreKept entries s.kept.items) }
         ensures gathered { IfOk result (AreGathered found.now.entries find.now) }
+        ensures only { IfOk result (AreFrom found.now.entries find.now) }
     {
         let mut sources = Sources {
             reads: Vec::new(alloc),
@@ -52,6 +54,7 @@ impl Sources {
     ) -> Result<(), AllocError>
         ensures kept { (entries : Entries) → FoundKept entries found.now.entries → AreKept entries self.old.kept.items → OnOk result (AreKept entries self.new.kept.items) }
         ensures added { OnOk result (AddsAt found.now.entries next self.old self.new visited.old.keys visited.new.keys) }
+        ensures only { OnOk result (AddsOnlyAt found.now.entries next self.old self.new visited.old.keys visited.new.keys) }
     {
         let Some(position) = visited.get_index(next) else {
             return Ok(());
@@ -71,6 +74,7 @@ impl Sources {
     ) -> Result<(), AllocError>
         ensures kept { OnOk result (self.new.kept.items ≡ self.old.kept.items ++ find.now.demanded.kept.items) }
         ensures added { OnOk result (Adds find.now self.old self.new visited.old.keys visited.new.keys) }
+        ensures only { OnOk result (AddsOnly find.now self.old self.new visited.old.keys visited.new.keys) }
     {
         self.reads.extend_from_slice(find.reads.as_slice())?;
         for inst in &find.demanded.kept {
@@ -82,7 +86,8 @@ impl Sources {
 
 // Adds the positions to those that are visited, behind them.
 fn visit(positions: &[usize], visited: &mut IndexSet<usize>) -> Result<(), AllocError>
-    ensures { OnOk result (Visits positions.now visited.old.keys visited.new.keys) }
+    ensures all { OnOk result (Visits positions.now visited.old.keys visited.new.keys) }
+    ensures only { OnOk result (VisitsOnly positions.now visited.old.keys visited.new.keys) }
 {
     for position in positions {
         visited.insert(*position)?;

@@ -9,4 +9,7 @@ mod question;
 
 pub use answer::Answer;
 pub use demand::Demand;
-pub use laws::what_is_kept_stays_right;
+pub use laws::{
+    a_question_adds_what_is_worth_keeping, an_edit_leaves_what_it_does_not_touch,
+    what_is_kept_spare_is_well_kept, what_is_kept_stays_right, what_is_kept_stays_spare,
+};

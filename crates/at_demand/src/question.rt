@@ -11,6 +11,7 @@ ghost use Rattle.indexmap.specs.IndexMap.{insert_entry};
 ghost use Rattle.at_demand.specs.Known.{meaning, known_in, IsRecalled};
 ghost use Rattle.at_demand.specs.UnderWay.{chain_of, HasStepped, IsOpen};
 ghost use Rattle.at_demand.specs.Covering.{HasPassedTo, Takes};
+ghost use Rattle.at_demand.specs.Only.{TakesOne, TakesOnly};
 ghost use Rattle.at_demand.specs.declared.question.Find.{Find as FindCode};
 
 use at_body::{Inst, Step, Trial, Value};
@@ -72,6 +73,7 @@ impl<'a> Question<'a> {
         ensures nothing { IfOk result (λ r. r.0.found.entries ≡ []) }
         ensures inst { IfOk result (λ r. r.0.inst ≡ inst) }
         ensures fresh { IfOk result (λ r. r.0.frame.demanded.kept.items ≡ []) }
+        ensures unfound { IfOk result (λ r. r.0.frame.demanded.finds.items ≡ []) }
         ensures stepped { IfOk result (λ r. HasStepped rules.now (contents store.now) inst r.0.frame.trial r.1) }
         ensures passed { (finds : List (Instance ℕ × FindCode)) → IfOk result (λ r. HasPassedTo rules.now (contents store.now) finds inst r.0.frame r.1) }
     {
@@ -105,6 +107,7 @@ impl<'a> Question<'a> {
         ensures found { IfOk result (λ r. r.0.found.entries ≡ self.entry.found.entries) }
         ensures inst { IfOk result (λ r. r.0.inst ≡ needed) }
         ensures fresh { IfOk result (λ r. r.0.frame.demanded.kept.items ≡ []) }
+        ensures unfound { IfOk result (λ r. r.0.frame.demanded.finds.items ≡ []) }
         ensures few { IfOk result (λ r. length r.0.waiting.entries < 2 ^ 64) }
         ensures finds { IfOk result (λ r. length r.0.found.entries < 2 ^ 64) }
         ensures stepped { IfOk result (λ r. HasStepped rules.now (contents store.now) needed r.0.frame.trial r.1) }
@@ -135,6 +138,7 @@ impl<'a> Frame<'a> {
     ) -> Result<(Frame<'a>, Step), AllocError>
         requires { IsIdle store.now }
         ensures fresh { IfOk result (λ r. r.0.demanded.kept.items ≡ []) }
+        ensures unfound { IfOk result (λ r. r.0.demanded.finds.items ≡ []) }
         ensures stepped { IfOk result (λ r. HasStepped rules.now (contents store.now) inst.now r.0.trial r.1) }
         ensures passed { (finds : List (Instance ℕ × FindCode)) → IfOk result (λ r. HasPassedTo rules.now (contents store.now) finds inst.now r.0 r.1) }
     {
@@ -161,6 +165,7 @@ impl<'a> Frame<'a> {
         ensures kept { OnOk result (AreKept (K.contents keeper.now) self.new.demanded.kept.items) }
         ensures stepped { (i : Instance ℕ) → Right (contents store.now) (meaning rules.now) (known_in (K.contents keeper.now) found.now.entries) → HasStepped rules.now (contents store.now) i self.old.trial step → IfOk result (HasStepped rules.now (contents store.now) i self.new.trial) }
         ensures passed { (i : Instance ℕ) → Right (contents store.now) (meaning rules.now) (known_in (K.contents keeper.now) found.now.entries) → HasPassedTo rules.now (contents store.now) found.now.entries i self.old step → IfOk result (HasPassedTo rules.now (contents store.now) found.now.entries i self.new) }
+        ensures only { (i : Instance ℕ) → Right (contents store.now) (meaning rules.now) (known_in (K.contents keeper.now) found.now.entries) → HasStepped rules.now (contents store.now) i self.old.trial step → TakesOnly rules.now (contents store.now) found.now.entries i self.old.demanded → IfOk result (λ r. TakesOnly rules.now (contents store.now) found.now.entries i self.new.demanded) }
         ensures unknown { IfOk result (IsOpen (known_in (K.contents keeper.now) found.now.entries)) }
     {
         let mut step = step;
@@ -204,6 +209,7 @@ impl Demanded {
         requires kept { AreKept (K.contents keeper.now) self.old.kept.items }
         ensures kept { OnOk result (AreKept (K.contents keeper.now) self.new.kept.items) }
         ensures takes { IfOk result (Takes found.now.entries self.old self.new needed) }
+        ensures one { IfOk result (TakesOne found.now.entries self.old self.new needed) }
         ensures recalled { IfOk result (IsRecalled (known_in (K.contents keeper.now) found.now.entries) needed) }
     {
         if let Some(value) = keeper.get(&needed) {

@@ -1,4 +1,3 @@
-mod Locating
 mod Lookups
 mod Numbers
 mod Upward

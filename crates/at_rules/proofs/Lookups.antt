@@ -1,12 +1,11 @@
 -- What a map finds by a key is what the definitions find in the list of its entries.
-use Rattle.std.proofs.Common.{◌≡◌, ℕ, ◌+◌, ◌-◌, ◌<◌, List, [], ◌∷◌, length, map, refl, ap, sym, ◌∙◌, arith, Option, Some, None, suc, zero, true≢false}
+use Rattle.std.proofs.Common.{◌≡◌, ℕ, ◌+◌, ◌-◌, ◌<◌, List, [], ◌∷◌, map, refl, ap, sym, ◌∙◌, arith, Option, Some, None, suc, zero, true≢false}
 use Rattle.std.specs.Prelude.{Bool, true, false, ◌&&◌, cond, nat_eq, find, option_map}
 use Rattle.std.specs.Map.{lookup}
-use Rattle.std.specs.Option.{option_eq, option_or, option_copied}
+use Rattle.std.specs.Option.{option_or, option_copied}
 use Rattle.std.specs.Borrow.{Bor}
 use Rattle.std.proofs.lemmas.Bool.{eq-eqb, eqb-true}
-use Rattle.at_model.specs.Classes.{Classes, chain, chain_within, parent_of}
-use Rattle.at_model.specs.Bodies.{Expr}
+use Rattle.at_model.specs.Classes.{Classes, chain_within, parent_of}
 use Rattle.at_model.specs.Rules.{OwnEquation, first_answer}
 use Rattle.at_rules.specs.declared.body.Body.{Body}
 use Rattle.at_rules.specs.Bodies.{body_view}

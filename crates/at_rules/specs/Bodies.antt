@@ -1,5 +1,5 @@
 -- What the bodies of equations stand for, and the kinds of values.
-use Rattle.std.specs.Prelude.{ℕ, List, [], ◌∷◌, string_bytes}
+use Rattle.std.specs.Prelude.{List, [], ◌∷◌, string_bytes}
 use Rattle.at_model.specs.Bodies.{Expr, Exprs, no_exprs, expr, IntLiteral, TruthLiteral, TextLiteral, NullLiteral, Arithmetic, Compare, Times, Over, Modulo, Plus, Minus, Below, AtMost, Above, AtLeast}
 use Rattle.at_model.specs.Bodies as model
 use Rattle.at_model.specs.Rules as kinds

@@ -1,10 +1,4 @@
 pub mod Bodies
-pub mod Signatures
-pub mod Accessors
-pub mod Kinds
-pub mod Judging
-pub mod Typed
-pub mod Located
 pub mod Marks
 pub mod RulesView
 pub mod Upward

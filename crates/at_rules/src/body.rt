@@ -1,6 +1,6 @@
 //! The bodies of equations, and the kinds of their values.
 
-use crate::signatures::AttrId;
+use crate::attribute::AttrId;
 use at_class::ClassId;
 
 /// The operators on two ints that give an int.

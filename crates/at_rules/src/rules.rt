@@ -1,9 +1,10 @@
 //! The rules of a server: classes, attributes, and the bodies of their equations, whose kinds are right.
 
+use crate::attribute::AttrId;
 use crate::body::{Body, Kind};
-use crate::signatures::AttrId;
 use at_class::{ClassId, ClassTable};
 use indexmap::{IndexMap, IndexSet};
+use std::alloc::Global;
 use std::marker::Model;
 
 /// An attribute that a class declares: the kinds of its parameters and of its value, whether its values are
@@ -16,18 +17,41 @@ pub struct Attribute {
     pub is_inherited: bool,
 }
 
+/// Attributes and equations, in the order of their declarations. Classes stand here by their positions, and
+/// names by their numbers.
+#[derive(Drop)]
+pub struct Equations {
+    /// By class and name.
+    pub attributes: IndexMap<(usize, usize), Attribute>,
+    /// By class and attribute.
+    pub own: IndexMap<(usize, usize), Body>,
+    /// By class, component and name; without a component the equation is for each one.
+    pub inherited: IndexMap<(usize, Option<usize>, usize), Body>,
+}
+
+impl Equations {
+    /// None.
+    pub fn new(alloc: Global) -> Equations {
+        Equations {
+            attributes: IndexMap::new(alloc),
+            own: IndexMap::new(alloc),
+            inherited: IndexMap::new(alloc),
+        }
+    }
+}
+
 /// Classes, their attributes and their equations. Classes stand here by their positions, and names by their
 /// numbers.
 #[derive(Drop)]
 pub struct Rules {
-    pub(crate) classes: ClassTable,
-    pub(crate) names: IndexSet<String>,
+    classes: ClassTable,
+    names: IndexSet<String>,
     // By class and name, in the order of the declarations.
-    pub(crate) attributes: IndexMap<(usize, usize), Attribute>,
+    attributes: IndexMap<(usize, usize), Attribute>,
     // By class and attribute.
-    pub(crate) own: IndexMap<(usize, usize), Body>,
+    own: IndexMap<(usize, usize), Body>,
     // By class, component and name; without a component the equation is for each one.
-    pub(crate) inherited: IndexMap<(usize, Option<usize>, usize), Body>,
+    inherited: IndexMap<(usize, Option<usize>, usize), Body>,
 }
 
 impl Model for Rules {
@@ -50,7 +74,25 @@ impl Rules {
     ghost use Rattle.at_model.specs.Machine.{parameters_of};
     ghost use Rattle.at_model.specs.Rules.{attribute_name, attribute_named, inherited_equation, is_inherited, is_lazy, own_equation, own_in};
     ghost use Rattle.at_rules.specs.Bodies.{body_view, kind_view};
+    ghost use Rattle.at_rules.specs.RulesView.{attribute_view, own_view, inherited_view, named};
     ghost use Rattle.at_rules.specs.Upward.{result_of};
+
+    /// The rules of these attributes and equations over the classes, where these are the names by their
+    /// numbers.
+    pub fn new(classes: ClassTable, names: IndexSet<String>, equations: Equations) -> Rules
+        ensures classes { result.classes ≡ classes }
+        ensures attributes { result.attributes ≡ map (attribute_view names.keys) equations.attributes.entries }
+        ensures own { result.own ≡ map own_view equations.own.entries }
+        ensures inherited { result.inherited ≡ map (inherited_view names.keys) (named names.keys equations.inherited.entries) }
+    {
+        Rules {
+            classes,
+            names,
+            attributes: equations.attributes,
+            own: equations.own,
+            inherited: equations.inherited,
+        }
+    }
 
     /// The classes.
     pub fn classes(&self) -> &ClassTable
@@ -145,7 +187,7 @@ impl Rules {
     }
 
     /// The body of the equation that the class itself has for the attribute.
-    pub(crate) fn own_in(&self, class: ClassId, attribute: AttrId) -> Option<&Body>
+    pub fn own_in(&self, class: ClassId, attribute: AttrId) -> Option<&Body>
         ensures { option_map (λ b. body_view b.now) result ≡ own_in self.now attribute class }
     {
         self.own.get(&(class.index(), attribute.index()))

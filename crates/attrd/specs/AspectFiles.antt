@@ -9,9 +9,9 @@ use Rattle.at_jrag.specs.Faults.{IsFault}
 use Rattle.at_jrag.specs.declared.JragFault.{JragFault}
 use Rattle.at_jrag.specs.declared.JragFault.TheVariants as jrag
 use Rattle.attrd.specs.Files.{IsText, IsNoText}
-use Rattle.at_rules.specs.declared.fault.Fault.{Fault}
-use Rattle.at_rules.specs.declared.fault.RuleCode.{RuleCode}
-use Rattle.at_rules.specs.declared.fault.RuleCode.TheVariants as rule
+use Rattle.at_typing.specs.declared.fault.Fault.{Fault}
+use Rattle.at_typing.specs.declared.fault.RuleCode.{RuleCode}
+use Rattle.at_typing.specs.declared.fault.RuleCode.TheVariants as rule
 use Rattle.attrd.specs.declared.code.Code.{Code}
 use Rattle.attrd.specs.declared.code.Code.TheVariants as code
 use Rattle.attrd.specs.declared.start.fault.FileFault.{FileFault}

@@ -6,3 +6,5 @@ pub mod TreeFiles
 pub mod AspectFiles
 pub mod Starts
 pub mod Statuses
+pub mod Options
+pub mod Connections

@@ -1,113 +1,81 @@
 //! attrd: an attribute tree server in the JastAdd profile. It reads a grammar, a tree and aspects, and
-//! answers lines of standard input on standard output.
+//! answers lines of standard input on standard output, or those of the connections of a socket.
 #![tactic(auto)]
 
-ghost use Rattle.std.specs.Prelude.{◌≡◌};
-ghost use Rattle.attrd.specs.Statuses.{status_of};
-ghost use Rattle.attrd.specs.declared.Failure.TheVariants.{Memory};
+ghost use Rattle.std.specs.Prelude.{IfOk};
+ghost use Rattle.attrd.specs.Starts.{IsReady};
 
 mod code;
+mod failure;
+mod options;
+mod serving;
 #[cfg(test)]
 mod sessions;
+#[cfg(test)]
+mod sockets;
 mod start;
 
-use at_engine::{RunFault, run};
+use at_cache::KeepRecorded;
+use at_engine::{Engine, run};
+use failure::{Failure, status, tell};
+use options::{Options, options};
+use serving::serve;
 use start::{Files, MAX_FILE, Source, StartFault, start, write_fault};
-use std::alloc::{AllocError, AllocFailed, Global};
 use std::fs::File;
-use std::io::{ErrorKind, Read, Write};
+use std::io::{ErrorKind, Read};
+use std::os::unix::net::UnixListener;
 use std::process::ExitCode;
-use std::{env, io};
+use std::{env, fs, io};
 
-/// How the command line is written.
-const USAGE: &str = "usage: attrd GRAMMAR TREE ASPECT...";
-
-/// Why the program ends before all lines are served.
-#[derive(Drop)]
-enum Failure {
-    /// The words of the command line are too few, or no text.
-    Usage,
-    /// The file of that name can't be read.
-    File { name: String },
-    /// A file is refused, with the text that says why.
-    Refused { text: Vec<u8> },
-    /// Standard input or output failed.
-    Run(RunFault),
-    /// Want of memory.
-    Memory,
-}
-
-impl From<AllocError> for Failure {
-    ghost from_gives = { λ _ e. e ≡ Memory };
-
-    fn from(_e: AllocError) -> Failure {
-        Failure::Memory
-    }
-}
-
-impl<T: Drop> From<AllocFailed<T>> for Failure {
-    ghost from_gives = { λ _ e. e ≡ Memory };
-
-    fn from(_e: AllocFailed<T>) -> Failure {
-        Failure::Memory
-    }
-}
-
-/// Serves standard input, and ends with status 0; 1 where a file is refused, 2 where the words are too
-/// few, 3 where a file or a stream fails, 4 for want of memory.
+/// Serves what the words of the command line ask for, and ends with status 0; 1 where a file is refused, 2 where the
+/// words are, 3 where a file, the socket or a stream fails, 4 for want of memory.
 fn main(rt: HostRuntime) -> ExitCode {
-    match serve(&rt) {
-        Ok(()) => ExitCode::SUCCESS,
-        Err(failure) => {
-            let status = status(&failure);
-            // A fault of standard error itself has no other place to be told.
-            let _ = tell(&rt, &failure);
-            ExitCode::from(status)
-        }
-    }
-}
-
-/// The status with which the program ends.
-fn status(failure: &Failure) -> u8
-    ensures { result ≡ status_of failure.now }
-{
-    match failure {
-        Failure::Refused { text: _ } => 1,
-        Failure::Usage => 2,
-        Failure::File { name: _ } => 3,
-        Failure::Run(RunFault::Memory) | Failure::Memory => 4,
-        Failure::Run(_) => 3,
-    }
-}
-
-/// Prints the failure on standard error.
-fn tell(rt: &HostRuntime, failure: &Failure) -> io::Result<()> {
-    match failure {
-        Failure::Usage => eprintln!(rt; "{USAGE}"),
-        Failure::File { name } => eprintln!(rt; "{name}: read fault"),
-        Failure::Refused { text } => rt.stderr().write_all(text),
-        Failure::Run(fault) => rt.eprintln(fault.text()),
-        Failure::Memory => eprintln!(rt; "memory"),
-    }
-}
-
-fn serve(rt: &HostRuntime) -> Result<(), Failure> {
-    let alloc = rt.alloc();
-    let files = read_files(rt, words(rt)?)?;
-    let mut engine = match start(alloc, &files) {
-        Ok(engine) => engine,
-        Err(StartFault::Memory) => return Err(Failure::Memory),
-        Err(fault) => {
-            let mut text = Vec::new(alloc);
-            write_fault(&files, &fault, &mut text)?;
-            return Err(Failure::Refused { text });
-        }
+    let options = match asked(&rt) {
+        Ok(options) => options,
+        Err(failure) => return ended(&rt, &failure),
     };
-    drop(files);
-    match run(&mut engine, &mut rt.reader(), &mut io::writer(rt)) {
-        Ok(_) => Ok(()),
-        Err(fault) => Err(Failure::Run(fault)),
+    let mut engine = match engine_of(&rt, &options) {
+        Ok(engine) => engine,
+        Err(failure) => return ended(&rt, &failure),
+    };
+    let served = serve_asked(&rt, &options, &mut engine);
+    let work = if options.work {
+        Some(engine.work())
+    } else {
+        None
+    };
+    ended_with_work(&rt, served, work)
+}
+
+/// Tells the failure, and gives its status. A fault of standard error itself has no other place to be told.
+fn ended(rt: &HostRuntime, failure: &Failure) -> ExitCode {
+    let _ = tell(rt, failure);
+    ExitCode::from(status(failure))
+}
+
+/// The end of what was served: its failure is told, and then the work, where that is asked for and memory didn't run out.
+fn ended_with_work(rt: &HostRuntime, served: Result<(), Failure>, work: Option<u64>) -> ExitCode {
+    let mut code = 0;
+    if let Err(failure) = &served {
+        code = status(failure);
+        let _ = tell(rt, failure);
     }
+    if let Some(work) = work
+        && code != 4
+    {
+        let _ = eprintln!(rt; "work {work}");
+    }
+    ExitCode::from(code)
+}
+
+/// What the words after the program's name ask for.
+fn asked(rt: &HostRuntime) -> Result<Options, Failure> {
+    let words = words(rt)?;
+    let mut texts = Vec::with_capacity(rt.alloc(), words.len())?;
+    for word in &words {
+        texts.push(word.as_str())?;
+    }
+    Ok(options(rt.alloc(), &texts)?)
 }
 
 /// The words after the program's name.
@@ -115,7 +83,7 @@ fn words(rt: &HostRuntime) -> Result<Vec<String>, Failure> {
     let args = match env::args(rt) {
         Ok(args) => args,
         Err(e) if e.kind() == ErrorKind::OutOfMemory => return Err(Failure::Memory),
-        Err(_) => return Err(Failure::Usage),
+        Err(_) => return Err(Failure::NoText),
     };
     let mut words = Vec::new(rt.alloc());
     for (i, word) in args.enumerate() {
@@ -126,21 +94,79 @@ fn words(rt: &HostRuntime) -> Result<Vec<String>, Failure> {
     Ok(words)
 }
 
-/// The files of the words `GRAMMAR TREE ASPECT...`, read in the order grammar, aspects, tree.
-fn read_files(rt: &HostRuntime, words: Vec<String>) -> Result<Files, Failure> {
-    if words.len() < 3 {
-        return Err(Failure::Usage);
+/// The engine of the files that are asked for.
+fn engine_of(rt: &HostRuntime, options: &Options) -> Result<Engine<KeepRecorded>, Failure>
+    ensures { IfOk result IsReady }
+{
+    let files = read_files(rt, options)?;
+    match start(rt.alloc(), &files) {
+        Ok(engine) => Ok(engine),
+        Err(fault) => Err(refused(rt, &files, &fault)),
     }
-    let mut words = words.into_iter();
-    let (Some(grammar), Some(tree)) = (words.next(), words.next()) else {
-        return Err(Failure::Usage);
+}
+
+/// The failure of files that make no engine.
+fn refused(rt: &HostRuntime, files: &Files, fault: &StartFault) -> Failure {
+    if let StartFault::Memory = fault {
+        return Failure::Memory;
+    }
+    let mut text = Vec::new(rt.alloc());
+    match write_fault(files, fault, &mut text) {
+        Ok(()) => Failure::Refused { text },
+        Err(_) => Failure::Memory,
+    }
+}
+
+/// Serves standard input, or the connections of the socket that is asked for.
+fn serve_asked(
+    rt: &HostRuntime,
+    options: &Options,
+    engine: &mut Engine<KeepRecorded>,
+) -> Result<(), Failure>
+    requires { IsReady engine.old }
+{
+    match &options.socket {
+        Some(path) => serve_socket(rt, path.as_str(), options.connections, engine),
+        None => match run(engine, &mut rt.reader(), &mut io::writer(rt)) {
+            Ok(_) => Ok(()),
+            Err(fault) => Err(Failure::Run(fault)),
+        },
+    }
+}
+
+/// Binds the socket, serves so many of its connections, and removes its file. A file that is there already stays, and
+/// nothing is served.
+fn serve_socket(
+    rt: &HostRuntime,
+    path: &str,
+    connections: u16,
+    engine: &mut Engine<KeepRecorded>,
+) -> Result<(), Failure>
+    requires { IsReady engine.old }
+{
+    let listener = match UnixListener::bind(rt, path) {
+        Ok(listener) => listener,
+        Err(e) if e.kind() == ErrorKind::OutOfMemory => return Err(Failure::Memory),
+        Err(_) => return Err(Failure::Socket),
     };
-    let grammar = read_file(rt, grammar)?;
-    let mut aspects = Vec::new(rt.alloc());
-    for word in words {
-        aspects.push(read_file(rt, word)?)?;
+    let served = serve(engine, &listener, connections);
+    // Whoever took the file away meanwhile did what was to be done.
+    let _ = fs::remove_file(rt, path);
+    if served.is_faultless() {
+        Ok(())
+    } else {
+        Err(Failure::Connections(served))
     }
-    let tree = read_file(rt, tree)?;
+}
+
+/// The files that are asked for, read in the order grammar, aspects, tree.
+fn read_files(rt: &HostRuntime, options: &Options) -> Result<Files, Failure> {
+    let grammar = read_file(rt, &options.grammar)?;
+    let mut aspects = Vec::new(rt.alloc());
+    for name in &options.aspects {
+        aspects.push(read_file(rt, name)?)?;
+    }
+    let tree = read_file(rt, &options.tree)?;
     Ok(Files {
         grammar,
         tree,
@@ -149,7 +175,8 @@ fn read_files(rt: &HostRuntime, words: Vec<String>) -> Result<Files, Failure> {
 }
 
 /// The file of that name, and one byte more at most than a file may have.
-fn read_file(rt: &HostRuntime, name: String) -> Result<Source, Failure> {
+fn read_file(rt: &HostRuntime, name: &str) -> Result<Source, Failure> {
+    let name = String::from_str(rt.alloc(), name)?;
     let mut bytes = Vec::new(rt.alloc());
     match read_bytes(rt, name.as_str(), &mut bytes) {
         Ok(()) => Ok(Source { name, bytes }),

@@ -11,7 +11,8 @@ use super::files::{Source, text_of};
 use crate::code::Code;
 use at_class::ClassTable;
 use at_jrag::{Aspect, JragFault, parse_jrag};
-use at_rules::{RuleCode, RuleFault, Rules};
+use at_rules::Rules;
+use at_typing::{RuleCode, RuleFault};
 use std::alloc::Global;
 
 /// The rules of the aspect files over the classes.
@@ -71,7 +72,7 @@ fn build(alloc: Global, classes: ClassTable, aspects: &[Vec<Aspect>]) -> Result<
     ensures classes { IfOk result (λ r. r.classes ≡ classes) }
     ensures refused { IfErr result IsRuleFault }
 {
-    match Rules::build(alloc, classes, aspects) {
+    match at_typing::build(alloc, classes, aspects) {
         Ok(rules) => Ok(rules),
         Err(RuleFault::Refused(fault)) => Err(of_file(
             fault.file,

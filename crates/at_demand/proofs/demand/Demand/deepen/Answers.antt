@@ -1,4 +1,8 @@
+use Rattle.std.proofs.Common.{refl}
 use Rattle.at_store.specs.Shown.{contents}
+use Rattle.at_body.specs.declared.trial.Step.TheVariants as step
+use Rattle.at_demand.proofs.Gaining.{circle_all}
+use Rattle.at_demand.proofs.SparingOn.{deepens_sparing}
 use Rattle.at_demand.proofs.Orderly.{deepens}
 use Rattle.at_demand.proofs.Truth.{deepens_true, closes}
 use Rattle.at_demand.proofs.Passing.{deepens_covering}
@@ -25,3 +29,12 @@ returns-clause-covering g c h =
     let e = c.in_ok-next.ensures in
     let q = c.args.question in
     deepens_covering c.args.rules.now (contents c.args.store.now) (g.K.Keeper.contents c.args.self.now.keeper) q c.in_ok-next.next c.requires.orderly c.args.needed c.in_ok-next.step h e.waiting e.found e.inst (e.passed q.found.entries)
+
+pub returns-then-has-clause-sparing : goal.returns-then-has-clause-sparing
+returns-then-has-clause-sparing g c asked h stands sparing =
+    circle_all c.args.rules.now (contents c.args.store.now) asked (g.K.Keeper.contents c.args.self.now.keeper) c.args.question (step.Need c.args.needed) c.requires.orderly h stands sparing.settled sparing.spare.deep c.args.needed refl c.if-has.ensures
+
+pub returns-clause-sparing : goal.returns-clause-sparing
+returns-clause-sparing g c asked h stands sparing =
+    let e = c.in_ok-next.ensures in
+    deepens_sparing c.args.rules.now (contents c.args.store.now) (g.K.Keeper.contents c.args.self.now.keeper) c.args.question c.in_ok-next.next sparing c.requires.orderly e.waiting e.found e.fresh e.unfound

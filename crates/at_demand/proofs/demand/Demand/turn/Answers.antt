@@ -1,11 +1,15 @@
-use Rattle.std.proofs.Common.{subst}
+use Rattle.std.proofs.Common.{refl, subst}
 use Rattle.at_store.specs.Shown.{contents}
 use Rattle.at_body.specs.declared.trial.Step.{Step}
 use Rattle.at_body.specs.declared.trial.Step.TheVariants as step
-use Rattle.at_demand.specs.UnderWay.{HasStepped}
+use Rattle.at_demand.specs.UnderWay.{HasStepped, IsOrderlyIn}
 use Rattle.at_demand.proofs.Truth.{steps_on, fails, right_known}
 use Rattle.at_demand.specs.Covering.{HasPassedTo}
+use Rattle.at_demand.specs.declared.question.Question.{Question}
 use Rattle.at_demand.proofs.Passing.{covers_on}
+use Rattle.at_demand.proofs.Gaining.{failed_all}
+use Rattle.at_demand.proofs.Counting.{counts_none}
+use Rattle.at_demand.proofs.SparingOn.{sparing_on}
 use Rattle.at_demand.proofs.demand.Demand.turn.Goals as goal
 
 pub returns-in-Value-clause-answers : goal.returns-in-Value-clause-answers
@@ -93,3 +97,111 @@ returns-clause-covering g c asked h stands =
     let passed = subst (λ (s : Step). HasPassedTo rules look q.found.entries q.inst c.go_on.new.self s) c.in-Need.is (c.in_ok-step.ensures.passed q.inst known stands.last) in
     let stands' = covers_on rules look q.waiting.entries q.found.entries q.inst q.frame c.go_on.new.self c.args.step (step.Need c.in-Need.needed) stands passed in
     c.deepen.ensures.covering stands'
+
+pub returns-in-Value-clause-worthy : goal.returns-in-Value-clause-worthy
+returns-in-Value-clause-worthy g c asked first h adds =
+    let q = c.args.question in
+    let rules = c.args.rules.now in
+    let look = contents c.args.store.now in
+    let entries = g.K.Keeper.contents c.args.self.now.keeper in
+    let trial = c.go_on.new.self.trial in
+    let known = right_known rules look entries q.found.entries h.kept h.finds in
+    let last = subst (λ (s : Step). HasStepped rules look q.inst trial s) c.in-Value.is (c.in_ok-step.ensures.stepped q.inst known h.last) in
+    let on = steps_on rules look asked entries q.waiting.entries q.found.entries q.inst q.frame.trial trial c.args.step (step.Value c.in-Value.value) h last in
+    c.settle.ensures.worthy look asked first on adds
+
+pub returns-in-Value-clause-sparing : goal.returns-in-Value-clause-sparing
+returns-in-Value-clause-sparing g c asked exact h stands sparing =
+    let q = c.args.question in
+    let rules = c.args.rules.now in
+    let look = contents c.args.store.now in
+    let entries = g.K.Keeper.contents c.args.self.now.keeper in
+    let trial = c.go_on.new.self.trial in
+    let known = right_known rules look entries q.found.entries h.kept h.finds in
+    let last = subst (λ (s : Step). HasStepped rules look q.inst trial s) c.in-Value.is (c.in_ok-step.ensures.stepped q.inst known h.last) in
+    let on = steps_on rules look asked entries q.waiting.entries q.found.entries q.inst q.frame.trial trial c.args.step (step.Value c.in-Value.value) h last in
+    let passed = subst (λ (s : Step). HasPassedTo rules look q.found.entries q.inst c.go_on.new.self s) c.in-Value.is (c.in_ok-step.ensures.passed q.inst known stands.last) in
+    let stands' = covers_on rules look q.waiting.entries q.found.entries q.inst q.frame c.go_on.new.self c.args.step (step.Value c.in-Value.value) stands passed in
+    let next : Question = record { waiting = q.waiting; found = q.found; inst = q.inst; frame = c.go_on.new.self } in
+    let goes = sparing_on rules look entries q next sparing refl refl refl (c.in_ok-step.ensures.only q.inst known h.last sparing.last) in
+    c.settle.ensures.sparing look asked exact on stands' goes
+
+pub returns-in-Value-clause-spare : goal.returns-in-Value-clause-spare
+returns-in-Value-clause-spare g c asked exact h stands sparing =
+    let q = c.args.question in
+    let rules = c.args.rules.now in
+    let look = contents c.args.store.now in
+    let entries = g.K.Keeper.contents c.args.self.now.keeper in
+    let trial = c.go_on.new.self.trial in
+    let known = right_known rules look entries q.found.entries h.kept h.finds in
+    let last = subst (λ (s : Step). HasStepped rules look q.inst trial s) c.in-Value.is (c.in_ok-step.ensures.stepped q.inst known h.last) in
+    let on = steps_on rules look asked entries q.waiting.entries q.found.entries q.inst q.frame.trial trial c.args.step (step.Value c.in-Value.value) h last in
+    let passed = subst (λ (s : Step). HasPassedTo rules look q.found.entries q.inst c.go_on.new.self s) c.in-Value.is (c.in_ok-step.ensures.passed q.inst known stands.last) in
+    let stands' = covers_on rules look q.waiting.entries q.found.entries q.inst q.frame c.go_on.new.self c.args.step (step.Value c.in-Value.value) stands passed in
+    let next : Question = record { waiting = q.waiting; found = q.found; inst = q.inst; frame = c.go_on.new.self } in
+    let goes = sparing_on rules look entries q next sparing refl refl refl (c.in_ok-step.ensures.only q.inst known h.last sparing.last) in
+    c.settle.ensures.spare look asked exact on stands' goes
+
+pub returns-in-Fault-clause-sparing : goal.returns-in-Fault-clause-sparing
+returns-in-Fault-clause-sparing g c asked exact h stands sparing =
+    let q = c.args.question in
+    let rules = c.args.rules.now in
+    let look = contents c.args.store.now in
+    let entries = g.K.Keeper.contents c.args.self.now.keeper in
+    let trial = c.go_on.new.self.trial in
+    let known = right_known rules look entries q.found.entries h.kept h.finds in
+    let last = subst (λ (s : Step). HasStepped rules look q.inst trial s) c.in-Fault.is (c.in_ok-step.ensures.stepped q.inst known h.last) in
+    let on = steps_on rules look asked entries q.waiting.entries q.found.entries q.inst q.frame.trial trial c.args.step (step.Fault c.in-Fault.kind) h last in
+    let passed = subst (λ (s : Step). HasPassedTo rules look q.found.entries q.inst c.go_on.new.self s) c.in-Fault.is (c.in_ok-step.ensures.passed q.inst known stands.last) in
+    let stands' = covers_on rules look q.waiting.entries q.found.entries q.inst q.frame c.go_on.new.self c.args.step (step.Fault c.in-Fault.kind) stands passed in
+    let next : Question = record { waiting = q.waiting; found = q.found; inst = q.inst; frame = c.go_on.new.self } in
+    let goes = sparing_on rules look entries q next sparing refl refl refl (c.in_ok-step.ensures.only q.inst known h.last sparing.last) in
+    let o = c.requires.orderly in
+    let orderly : IsOrderlyIn entries next = record { distinct = o.distinct; open_ones = o.open_ones; unkept = o.unkept; waiting_kept = o.waiting_kept; found_kept = o.found_kept; last_kept = c.in_ok-step.ensures.kept } in
+    failed_all rules look asked entries next (step.Fault c.in-Fault.kind) orderly on stands' goes.settled goes.spare.deep c.in-Fault.kind refl
+
+pub returns-clause-sparing : goal.returns-clause-sparing
+returns-clause-sparing g c asked exact h stands sparing =
+    let q = c.args.question in
+    let rules = c.args.rules.now in
+    let look = contents c.args.store.now in
+    let entries = g.K.Keeper.contents c.args.self.now.keeper in
+    let trial = c.go_on.new.self.trial in
+    let known = right_known rules look entries q.found.entries h.kept h.finds in
+    let last = subst (λ (s : Step). HasStepped rules look q.inst trial s) c.in-Need.is (c.in_ok-step.ensures.stepped q.inst known h.last) in
+    let on = steps_on rules look asked entries q.waiting.entries q.found.entries q.inst q.frame.trial trial c.args.step (step.Need c.in-Need.needed) h last in
+    let passed = subst (λ (s : Step). HasPassedTo rules look q.found.entries q.inst c.go_on.new.self s) c.in-Need.is (c.in_ok-step.ensures.passed q.inst known stands.last) in
+    let stands' = covers_on rules look q.waiting.entries q.found.entries q.inst q.frame c.go_on.new.self c.args.step (step.Need c.in-Need.needed) stands passed in
+    let next : Question = record { waiting = q.waiting; found = q.found; inst = q.inst; frame = c.go_on.new.self } in
+    let goes = sparing_on rules look entries q next sparing refl refl refl (c.in_ok-step.ensures.only q.inst known h.last sparing.last) in
+    c.deepen.ensures.sparing asked on stands' goes
+
+pub returns-in_err-step-clause-worthy : goal.returns-in_err-step-clause-worthy
+returns-in_err-step-clause-worthy g c asked first h adds = adds
+
+pub returns-in_err-step-clause-spare : goal.returns-in_err-step-clause-spare
+returns-in_err-step-clause-spare g c asked exact h stands sparing = sparing.spare
+
+pub returns-in_err-step-clause-counts : goal.returns-in_err-step-clause-counts
+returns-in_err-step-clause-counts g c exact small = counts_none (g.K.Keeper.contents c.args.self.now.keeper) c.args.self.now.work small
+
+pub returns-in-Value-clause-counts : goal.returns-in-Value-clause-counts
+returns-in-Value-clause-counts g c exact small = c.settle.ensures.counts exact small
+
+pub returns-in-Fault-clause-worthy : goal.returns-in-Fault-clause-worthy
+returns-in-Fault-clause-worthy g c asked first h adds = adds
+
+pub returns-in-Fault-clause-spare : goal.returns-in-Fault-clause-spare
+returns-in-Fault-clause-spare g c asked exact h stands sparing = sparing.spare
+
+pub returns-in-Fault-clause-counts : goal.returns-in-Fault-clause-counts
+returns-in-Fault-clause-counts g c exact small = counts_none (g.K.Keeper.contents c.args.self.now.keeper) c.args.self.now.work small
+
+pub returns-clause-worthy : goal.returns-clause-worthy
+returns-clause-worthy g c asked first h adds = adds
+
+pub returns-clause-spare : goal.returns-clause-spare
+returns-clause-spare g c asked exact h stands sparing = sparing.spare
+
+pub returns-clause-counts : goal.returns-clause-counts
+returns-clause-counts g c exact small = counts_none (g.K.Keeper.contents c.args.self.now.keeper) c.args.self.now.work small

@@ -1,6 +1,7 @@
 use Rattle.std.proofs.Common.{◌-◌, ◌^◌}
 use Rattle.at_cache.specs.Kept.{AreKept, Entries}
 use Rattle.at_demand.specs.Known.{FoundKept}
+use Rattle.at_demand.specs.Only.{IsFrom}
 use Rattle.at_demand.proofs.Gathered.{IsVisited}
 use Rattle.at_demand.proofs.gathering.Sources.of.Given as goal
 
@@ -8,6 +9,7 @@ abbrev pub invariant-loop-next : goal.invariant-loop-next
 invariant-loop-next l = record {
   kept : (entries : Entries) → FoundKept entries l.found.entries → AreKept entries l.find.demanded.kept.items → AreKept entries l.sources.kept.items;
   visited : IsVisited l.found.entries l.find l.sources l.visited.keys l.next;
+  from : IsFrom l.found.entries l.find l.sources l.visited.keys;
 }
 
 abbrev pub decreases-loop-next : goal.decreases-loop-next

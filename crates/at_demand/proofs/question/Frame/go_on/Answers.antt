@@ -10,7 +10,9 @@ use Rattle.at_demand.specs.UnderWay.{HasStepped}
 use Rattle.at_demand.specs.Covering.{HasPassedTo, Takes}
 use Rattle.at_demand.specs.declared.question.Demanded.{Demanded}
 use Rattle.at_demand.specs.declared.question.Frame.{Frame}
+use Rattle.at_demand.specs.Only.{TakesOne, TakesOnly}
 use Rattle.at_demand.proofs.Passing.{passed_on}
+use Rattle.at_demand.proofs.Only.{needs_comes, takes_one}
 use Rattle.at_demand.proofs.Truth.{resumed_step, open_end}
 use Rattle.at_demand.proofs.question.Frame.go_on.Goals as goal
 
@@ -32,6 +34,11 @@ loop-step-preserved g c =
           let takes = subst (λ (r : Recalled). Takes found c.loop-step.self.demanded c.recall.new.self c.in-Need.needed r) c.in-Value.is c.in_ok-value-in-Need.ensures.takes in
           let waits = subst (λ (s : Step). HasPassedTo rules look found i c.loop-step.self s) c.in-Need.is (c.loop-step.invariant.passed i right h) in
           passed_on rules look found i c.in-Need.needed c.loop-step.self next (value_view c.in-Value.value) c.in_ok-step-in-Value.step waits takes.0 takes.1 (right c.in-Need.needed (value_view c.in-Value.value) told) c.in_ok-step-in-Value.ensures.found;
+      only = λ i right h takes.
+          let found = c.args.found.now.entries in
+          let waits = subst (λ (s : Step). HasStepped rules look i c.loop-step.self.trial s) c.in-Need.is (c.loop-step.invariant.stepped i right h) in
+          let one = subst (λ (r : Recalled). TakesOne found c.loop-step.self.demanded c.recall.new.self c.in-Need.needed r) c.in-Value.is c.in_ok-value-in-Need.ensures.one in
+          takes_one rules look found i c.in-Need.needed c.loop-step.self.demanded c.recall.new.self (needs_comes rules look i c.in-Need.needed c.loop-step.self.trial waits) one (c.loop-step.invariant.only i right h takes);
     }
 
 pub returns-in-Unknown-clause-stepped : goal.returns-in-Unknown-clause-stepped
@@ -55,11 +62,18 @@ returns-in-Unknown-clause-passed g c i right h =
     let P : Demanded → Instance ℕ → Type 0 = λ d j. HasPassedTo rules look found i (record { trial = c.loop-step.self.trial; demanded = d }) (step.Need j) in
     subst (λ d. P d c.in-Unknown.needed) (sym same) (subst (λ j. P c.loop-step.self.demanded j) (sym told.0) waits)
 
+pub returns-in-Unknown-clause-only : goal.returns-in-Unknown-clause-only
+returns-in-Unknown-clause-only g c i right h takes =
+    let found = c.args.found.now.entries in
+    let same = subst (λ (r : Recalled). TakesOne found c.loop-step.self.demanded c.recall.new.self c.in-Need.needed r) c.in-Unknown.is c.in_ok-value-in-Need.ensures.one in
+    subst (TakesOnly c.args.rules.now (contents c.args.store.now) found i) (sym same) (c.loop-step.invariant.only i right h takes)
+
 pub returns-in_default : goal.returns-in_default
 returns-in_default g c =
     record {
       kept = c.loop-step.invariant.kept;
       stepped = c.loop-step.invariant.stepped;
       passed = c.loop-step.invariant.passed;
+      only = c.loop-step.invariant.only;
       unknown = open_end (known_in (g.K.Keeper.contents c.args.keeper.now) c.args.found.now.entries) c.loop-step.step c.in_default.not-Need;
     }

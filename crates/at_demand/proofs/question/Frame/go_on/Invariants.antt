@@ -7,6 +7,7 @@ use Rattle.at_cache.specs.Kept.{AreKept}
 use Rattle.at_demand.specs.Known.{meaning, known_in}
 use Rattle.at_demand.specs.UnderWay.{HasStepped}
 use Rattle.at_demand.specs.Covering.{HasPassedTo}
+use Rattle.at_demand.specs.Only.{TakesOnly}
 use Rattle.at_demand.proofs.question.Frame.go_on.Given as goal
 
 abbrev pub invariant-loop-step : goal.invariant-loop-step
@@ -14,6 +15,7 @@ invariant-loop-step g l = record {
   kept : AreKept (g.K.Keeper.contents l.keeper) l.self.demanded.kept.items;
   stepped : (i : Instance ℕ) → Right (contents l.store) (meaning l.rules) (known_in (g.K.Keeper.contents l.keeper) l.found.entries) → HasStepped l.rules (contents l.store) i l.initial.self.trial l.fn.step → HasStepped l.rules (contents l.store) i l.self.trial l.step;
   passed : (i : Instance ℕ) → Right (contents l.store) (meaning l.rules) (known_in (g.K.Keeper.contents l.keeper) l.found.entries) → HasPassedTo l.rules (contents l.store) l.found.entries i l.initial.self l.fn.step → HasPassedTo l.rules (contents l.store) l.found.entries i l.self l.step;
+  only : (i : Instance ℕ) → Right (contents l.store) (meaning l.rules) (known_in (g.K.Keeper.contents l.keeper) l.found.entries) → HasStepped l.rules (contents l.store) i l.initial.self.trial l.fn.step → TakesOnly l.rules (contents l.store) l.found.entries i l.initial.self.demanded → TakesOnly l.rules (contents l.store) l.found.entries i l.self.demanded;
 }
 
 abbrev pub decreases-loop-step : goal.decreases-loop-step

@@ -1,4 +1,4 @@
-use Rattle.std.proofs.Common.{◌∙◌, ◌-◌, ◌+◌, ap, sym, arith, length, Some, None}
+use Rattle.std.proofs.Common.{◌∙◌, ◌-◌, ◌+◌, ap, sym, arith, length}
 use Rattle.at_model.specs.Classes.{chain, chain_within, parent_of}
 use Rattle.at_model.specs.Rules.{Rules, first_answer, own_in}
 use Rattle.at_rules.proofs.Lookups.{answer_here, answer_above, no_answer, answer_ends}

@@ -1,0 +1,120 @@
+-- The work counts what comes to an exact keeper.
+use Rattle.std.proofs.Common.{◌≡◌, ◌⊎◌, ◌↔◌, ℕ, ◌+◌, ◌-◌, ◌^◌, ◌<◌, min, Bool, true, false, List, [], ◌∷◌, ◌++◌, length, length-append, Option, Some, None, inl, inr, refl, sym, ap, ◌∙◌, subst, arith, if◌then◌else◌, true≢false}
+use Rattle.std.specs.Prelude.{IsSome, IsTrue}
+use Rattle.at_model.specs.Run.{Value, Instance, Location}
+use Rattle.at_model.specs.Meaning.{Among, Distinct}
+use Rattle.at_body.specs.Same.{same_instance}
+use Rattle.at_cache.specs.Kept.{Kept, Entries, KeepsAll, Puts, MayPut}
+use Rattle.at_model.specs.Rules.{Rules}
+use Rattle.at_model.specs.Run.{Contents}
+use Rattle.at_demand.specs.Sparing.{IsWorthKeeping, AddsWorthy, HasWorthy, AreGained, Counts, IsWork}
+use Rattle.at_demand.proofs.Sameness.{same_true, same_refl}
+
+not_both : (o : Option Kept) → IsSome o → o ≡ None → ⊥
+not_both None some e = absurd (true≢false (sym some))
+not_both (Some k) some e = absurd cc
+
+module _ (old new : Entries) where
+  gains_none : KeepsAll old new → AreGained old new []
+  gains_none same = record {
+    distinct = tt;
+    exactly = λ i. (λ h. absurd h, λ h. absurd (not_both (new i) h.0 (same i ∙ h.1)));
+    stays = λ i some. same i;
+  }
+
+  -- nothing comes
+  pub counts_same : (w : ℕ) → w < 2 ^ 64 → KeepsAll old new → Counts old new w w
+  counts_same w small same = ([], gains_none same, omega (arith, small))
+
+  -- one entry comes
+  gains_one : (i : Instance ℕ) (k : Kept) → old i ≡ None → ((j : Instance ℕ) → new j ≡ (if same_instance i j then Some k else old j)) → AreGained old new (i ∷ [])
+  gains_one i k absent adds = record {
+    distinct = (λ h. h, tt);
+    exactly = λ j. (λ h. there j h, λ h. inl (by j (same_instance i j) refl (adds j) h.0 h.1));
+    stays = λ j some. other j some (same_instance i j) refl (adds j);
+  }
+    where
+      there : (j : Instance ℕ) → Among j (i ∷ []) → IsSome (new j) × (old j ≡ None)
+      there j (inl e) = (subst (λ x. IsSome (new x)) (sym e) (subst IsSome (sym (adds i ∙ ap (λ b. if b then Some k else old i) (same_refl i))) refl), subst (λ x. old x ≡ None) (sym e) absent)
+      there j (inr h) = absurd h
+
+      by : (j : Instance ℕ) (b : Bool) → same_instance i j ≡ b → new j ≡ (if b then Some k else old j) → IsSome (new j) → old j ≡ None → j ≡ i
+      by j true s e some none = sym (same_true i j s)
+      by j false s e some none = absurd (not_both (new j) some (e ∙ none))
+
+      other : (j : Instance ℕ) → IsSome (old j) → (b : Bool) → same_instance i j ≡ b → new j ≡ (if b then Some k else old j) → new j ≡ old j
+      other j some true s e = absurd (not_both (old j) some (subst (λ x. old x ≡ None) (same_true i j s) absent))
+      other j some false s e = e
+
+  pub counts_put : (exact : Bool) (i j : Instance ℕ) (v : Value ℕ) (reads : List (Location ℕ)) (uses : List (Instance ℕ)) (w x : ℕ) → j ≡ i → IsTrue exact → old i ≡ None → MayPut exact old j v reads uses new → x ≡ min (w + 1) (2 ^ 64 - 1) → Counts old new w x
+  counts_put exact i j v reads uses w x same is absent (inl p) more = absurd (true≢false (sym is ∙ p.0))
+  counts_put exact i j v reads uses w x same is absent (inr p) more = (j ∷ [], gains_one j p.entry (subst (λ (y : Instance ℕ). old y ≡ None) (sym same) absent) p.adds, more)
+
+-- nothing changes
+pub counts_none : (entries : Entries) (w : ℕ) → w < 2 ^ 64 → Counts entries entries w w
+counts_none entries w small = counts_same entries entries w small (λ i. refl)
+
+-- what comes first, and then
+among_parts : {A : Type 0} (xs ys : List A) (a : A) → Among a (xs ++ ys) → Among a xs ⊎ Among a ys
+among_parts [] ys a h = inr h
+among_parts (x ∷ xs) ys a (inl e) = inl (inl e)
+among_parts (x ∷ xs) ys a (inr h) = elim (among_parts xs ys a h) [ inl g ↦ inl (inr g) | inr g ↦ inr g ]
+
+among_left : {A : Type 0} (xs ys : List A) (a : A) → Among a xs → Among a (xs ++ ys)
+among_left [] ys a h = absurd h
+among_left (x ∷ xs) ys a (inl e) = inl e
+among_left (x ∷ xs) ys a (inr h) = inr (among_left xs ys a h)
+
+among_right : {A : Type 0} (xs ys : List A) (a : A) → Among a ys → Among a (xs ++ ys)
+among_right [] ys a h = h
+among_right (x ∷ xs) ys a h = inr (among_right xs ys a h)
+
+distinct_append : {A : Type 0} (xs ys : List A) → Distinct xs → Distinct ys → ((a : A) → Among a xs → Among a ys → ⊥) → Distinct (xs ++ ys)
+distinct_append [] ys d e apart = e
+distinct_append (x ∷ xs) ys d e apart = (λ h. elim (among_parts xs ys x h) [ inl g ↦ d.0 g | inr g ↦ apart x (inl refl) g ], distinct_append xs ys d.1 e (λ a h. apart a (inr h)))
+
+module _ (first next last : Entries) (xs ys : List (Instance ℕ)) (g : AreGained first next xs) (h : AreGained next last ys) where
+  gains_more : AreGained first last (xs ++ ys)
+  gains_more = record {
+    distinct = distinct_append xs ys g.distinct h.distinct (λ i a b. let p = g.exactly i in let q = h.exactly i in let x = p.0 a in let y = q.0 b in not_both (next i) x.0 y.1);
+    exactly = λ i. (λ a. elim (among_parts xs ys i a) [ inl b ↦ early i b | inr b ↦ late i b ], λ p. back i p.0 p.1 (next i) refl);
+    stays = λ i some. h.stays i (subst IsSome (sym (g.stays i some)) some) ∙ g.stays i some;
+  }
+    where
+      early : (i : Instance ℕ) → Among i xs → IsSome (last i) × (first i ≡ None)
+      early i a = let p = g.exactly i in let x = p.0 a in (subst IsSome (sym (h.stays i x.0)) x.0, x.1)
+
+      was_none : (i : Instance ℕ) → next i ≡ None → (o : Option Kept) → first i ≡ o → first i ≡ None
+      was_none i none None is = is
+      was_none i none (Some k) is = let some : IsSome (first i) = subst IsSome (sym is) refl in sym (g.stays i some) ∙ none
+
+      late : (i : Instance ℕ) → Among i ys → IsSome (last i) × (first i ≡ None)
+      late i b = let q = h.exactly i in let y = q.0 b in (y.0, was_none i y.1 (first i) refl)
+
+      back : (i : Instance ℕ) → IsSome (last i) → first i ≡ None → (o : Option Kept) → next i ≡ o → Among i (xs ++ ys)
+      back i some none None is = let q = h.exactly i in among_right xs ys i (q.1 (some, is))
+      back i some none (Some k) is = let p = g.exactly i in among_left xs ys i (p.1 (subst IsSome (sym is) refl, none))
+
+saturated : (w x y m n k : ℕ) → k ≡ m + n → x ≡ min (w + m) (2 ^ 64 - 1) → y ≡ min (x + n) (2 ^ 64 - 1) → y ≡ min (w + k) (2 ^ 64 - 1)
+saturated w x y m n k sum e f = omega (arith, sum, e, f)
+
+pub counts_more : (first next last : Entries) (w x y : ℕ) → Counts first next w x → Counts next last x y → Counts first last w y
+counts_more first next last w x y (xs, g, e) (ys, h, f) = (xs ++ ys, gains_more first next last xs ys g h, saturated w x y (length xs) (length ys) (length (xs ++ ys)) (length-append xs ys) e f)
+
+-- and stays below its bound
+pub counted_small : (first last : Entries) (w x : ℕ) → Counts first last w x → x < 2 ^ 64
+counted_small first last w x (xs, g, e) = omega (arith, e)
+
+-- what comes is just what is worth keeping and wasn't kept
+pub work_is : (rules : Rules) (look : Contents ℕ) (q : Instance ℕ) (old new : Entries) (w x : ℕ) → Counts old new w x → AddsWorthy rules look q old new → HasWorthy rules look q new → IsWork rules look q old w x
+work_is rules look q old new w x (gained, g, e) adds has = (
+  gained,
+  record {
+    distinct = g.distinct;
+    exactly = λ i. (
+      λ a. (let p = g.exactly i in let y = p.0 a in (adds.worthy i y.1 y.0, y.1)),
+      λ h. (let p = g.exactly i in p.1 (has i h.0, h.1)),
+    );
+  },
+  e,
+)

@@ -1,0 +1,91 @@
+-- What is kept of lazy attributes, how much a question adds to it, and the work that counts that: what `at_model` says of paths,
+-- by numbers.
+use Rattle.std.specs.Prelude.{◌≡◌, ◌⊎◌, ◌↔◌, ℕ, ◌+◌, ◌-◌, ◌^◌, min, true, List, length, slice_get, Some, None, IsSome}
+use Rattle.at_model.specs.Run.{Value, Instance, Location, Contents}
+use Rattle.at_model.specs.Rules.{Rules, is_lazy}
+use Rattle.at_model.specs.Meaning.{HasValue, Leads, Among, Distinct}
+use Rattle.at_model.specs.Support.{Supports}
+use Rattle.at_body.specs.declared.trial.Step.{Step}
+use Rattle.at_cache.specs.Kept.{Kept, Entries}
+use Rattle.at_demand.specs.declared.question.Find.{Find}
+use Rattle.at_demand.specs.declared.question.Question.{Question}
+use Rattle.at_demand.specs.declared.demand.Turn.{Turn}
+use Rattle.at_demand.specs.declared.demand.Turn.TheVariants as turn
+use Rattle.at_demand.specs.Known.{meaning}
+use Rattle.at_demand.specs.Only.{TakesOnly, TakeOnly, AreLean}
+
+-- with each of these instances all lazy ones to which it leads are among those
+abbrev pub IsDeep : Rules → Contents ℕ → (these those : Entries) → Type 0
+IsDeep rules look these those = (i j : Instance ℕ) → IsSome (these i) → Leads look (meaning rules) i j → is_lazy rules j.attribute ≡ true → IsSome (those j)
+
+-- each entry stands for no other locations than those that support its instance
+abbrev pub AreOnly : Rules → Contents ℕ → Entries → Type 0
+AreOnly rules look entries = (i : Instance ℕ) (k : Kept) → entries i ≡ Some k → (l : Location ℕ) → k.covers l ≡ true → Supports look (meaning rules) l i
+
+-- Each kept instance is lazy, its entry stands for no location that doesn't support it, and all lazy instances to which it
+-- leads are kept.
+pub record AreSpare (rules : Rules) (look : Contents ℕ) (entries : Entries) : Type 0 where
+  pub only : AreOnly rules look entries
+  pub lazy : (i : Instance ℕ) → IsSome (entries i) → is_lazy rules i.attribute ≡ true
+  pub deep : IsDeep rules look entries entries
+
+-- the question leads to the instance, which is lazy and has a value
+pub record IsWorthKeeping (rules : Rules) (look : Contents ℕ) (q i : Instance ℕ) : Type 0 where
+  pub reached : Leads look (meaning rules) q i
+  pub lazy : is_lazy rules i.attribute ≡ true
+  pub value : Value ℕ
+  pub has : HasValue look (meaning rules) i value
+
+-- `new` has what `old` has, and what it has beside that is worth keeping
+pub record AddsWorthy (rules : Rules) (look : Contents ℕ) (q : Instance ℕ) (old new : Entries) : Type 0 where
+  pub stays : (i : Instance ℕ) → IsSome (old i) → new i ≡ old i
+  pub worthy : (i : Instance ℕ) → old i ≡ None → IsSome (new i) → IsWorthKeeping rules look q i
+
+-- all that is worth keeping is kept
+abbrev pub HasWorthy : Rules → Contents ℕ → Instance ℕ → Entries → Type 0
+HasWorthy rules look q entries = (i : Instance ℕ) → IsWorthKeeping rules look q i → IsSome (entries i)
+
+-- `new` has what `old` has, and may have i beside it, where it is lazy
+abbrev pub MayAddLazy : Rules → (old new : Entries) → Instance ℕ → Type 0
+MayAddLazy rules old new i = (j : Instance ℕ) → (new j ≡ old j) ⊎ ((i ≡ j) × IsSome (new j) × (is_lazy rules i.attribute ≡ true))
+
+-- The find's instance is kept where it is lazy, and what its evaluation took of what is kept is kept.
+pub record IsSettled (rules : Rules) (entries : Entries) (i : Instance ℕ) (f : Find) : Type 0 where
+  pub lazy : is_lazy rules i.attribute ≡ true → IsSome (entries i)
+  pub took : (u : Instance ℕ) → Among u f.demanded.kept.items → IsSome (entries u)
+
+abbrev pub AreSettled : Rules → Entries → List (Instance ℕ × Find) → Type 0
+AreSettled rules entries found = (p : ℕ) (i : Instance ℕ) (f : Find) → slice_get found p ≡ Some (i, f) → IsSettled rules entries i f
+
+-- Nothing else stands with the evaluations under way and with the finds than what they see and come to; what is kept is spare,
+-- and all that was found is kept where it is lazy.
+pub record IsSparing (rules : Rules) (look : Contents ℕ) (entries : Entries) (q : Question) : Type 0 where
+  pub waits : TakeOnly rules look q.found.entries q.waiting.entries
+  pub last : TakesOnly rules look q.found.entries q.inst q.frame.demanded
+  pub finds : AreLean rules look q.found.entries
+  pub settled : AreSettled rules entries q.found.entries
+  pub spare : AreSpare rules look entries
+
+-- the question goes on so, or has its answer, and all that is worth keeping is kept
+abbrev pub IsSparingTurn : Rules → Contents ℕ → Instance ℕ → Entries → Turn → Type 0
+IsSparingTurn rules look asked entries (turn.GoesOn q s) = IsSparing rules look entries q
+IsSparingTurn rules look asked entries (turn.Answers a) = HasWorthy rules look asked entries
+
+-- the list has each instance once that `new` keeps and `old` doesn't; what `old` keeps stays
+pub record AreGained (old new : Entries) (gained : List (Instance ℕ)) : Type 0 where
+  pub distinct : Distinct gained
+  pub exactly : (i : Instance ℕ) → Among i gained ↔ (IsSome (new i) × (old i ≡ None))
+  pub stays : (i : Instance ℕ) → IsSome (old i) → new i ≡ old i
+
+-- the work grows by the number of these instances, and stays at the greatest number
+abbrev pub Counts : (old new : Entries) (work later : ℕ) → Type 0
+Counts old new work later = (gained : List (Instance ℕ)) × AreGained old new gained × (later ≡ min (work + length gained) (2 ^ 64 - 1))
+
+-- the list has each instance once that is worth keeping and was not kept
+pub record AreAdded (rules : Rules) (look : Contents ℕ) (q : Instance ℕ) (old : Entries) (added : List (Instance ℕ)) : Type 0 where
+  pub distinct : Distinct added
+  pub exactly : (i : Instance ℕ) → Among i added ↔ (IsWorthKeeping rules look q i × (old i ≡ None))
+
+-- the work grows by the number of these
+abbrev pub IsWork : Rules → Contents ℕ → Instance ℕ → (old : Entries) (work later : ℕ) → Type 0
+IsWork rules look q old work later = (added : List (Instance ℕ)) × AreAdded rules look q old added × (later ≡ min (work + length added) (2 ^ 64 - 1))

@@ -1,0 +1,10 @@
+use Rattle.std.proofs.Common.{◌≡◌, take, map}
+use Rattle.std.specs.Prelude.{All}
+use Rattle.at_typing.specs.Located.{located_view}
+use Rattle.at_typing.specs.Numbering.{numbered_view, HasNumbers}
+use Rattle.at_typing.proofs.numbered.Declarations.of.Given as goal
+
+abbrev pub invariant-loop-located : goal.invariant-loop-located
+invariant-loop-located l =
+    (map numbered_view l.items.items ≡ map located_view (take l.located-index l.located-items))
+    × All (HasNumbers l.classes l.words.unknown.keys l.words.names.keys) l.items.items

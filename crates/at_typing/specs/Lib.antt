@@ -1,0 +1,16 @@
+pub mod Signatures
+pub mod Accessors
+pub mod Kinds
+pub mod Judging
+pub mod Typed
+pub mod Located
+pub mod Declaring
+pub mod Bound
+pub mod Numbering
+pub mod EquationKeys
+pub mod AccessorNames
+pub mod Twice
+pub mod Ruling
+pub mod Walks
+pub mod Hierarchies
+pub mod Completing

@@ -1,0 +1,60 @@
+//! What is wrong with declarations taken together.
+
+ghost use Rattle.std.specs.Prelude.{◌≡◌};
+ghost use Rattle.at_typing.specs.Declaring.{fault_at};
+ghost use Rattle.at_typing.specs.Numbering.{numbered_view, AreNumbered};
+
+mod accessor_names;
+mod bound;
+mod completeness;
+mod equations;
+mod exposure;
+mod limits;
+mod twice;
+
+use crate::attributes::Attributes;
+use crate::fault::{Fault, RuleCode};
+use crate::numbered::Numbered;
+use accessor_names::accessor_named;
+use at_class::ClassTable;
+pub use completeness::class_without_equation;
+use equations::{equation_twice, without_attribute};
+pub use exposure::inherited_without_equation;
+use limits::over_limit;
+use std::alloc::{AllocError, Global};
+use twice::declared_twice;
+
+/// The first fault of the declarations before any is looked at by itself: too many or too long, an
+/// accessor's name, an attribute declared twice, an equation without attribute, an equation twice.
+pub fn fault_together(
+    alloc: Global,
+    classes: &ClassTable,
+    attributes: &Attributes,
+    declared: &[Numbered],
+) -> Result<Option<Fault>, AllocError>
+    requires { AreNumbered classes.now declared.now }
+{
+    if let Some(fault) = over_limit(declared) {
+        return Ok(Some(fault));
+    }
+    if let Some(fault) = accessor_named(alloc, classes, declared)? {
+        return Ok(Some(fault));
+    }
+    if let Some(fault) = declared_twice(alloc, classes, declared)? {
+        return Ok(Some(fault));
+    }
+    if let Some(fault) = without_attribute(classes, attributes, declared) {
+        return Ok(Some(fault));
+    }
+    equation_twice(alloc, declared)
+}
+
+fn fault_at(code: RuleCode, numbered: &Numbered, at: (u32, u32)) -> Fault
+    ensures { result ≡ fault_at code (numbered_view numbered.now) at }
+{
+    Fault {
+        code,
+        file: numbered.file,
+        at,
+    }
+}

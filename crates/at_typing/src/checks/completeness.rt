@@ -1,0 +1,109 @@
+//! Classes without an equation for a synthesized attribute.
+
+ghost use Rattle.std.specs.Prelude.{◌≡◌, IfOk};
+ghost use Rattle.at_typing.specs.Completing.{LacksBelow, LooksAt, Tells};
+ghost use Rattle.at_typing.specs.Hierarchies.{IsHierarchy};
+
+use super::fault_at;
+use crate::fault::{Fault, RuleCode};
+use crate::hierarchy::{Hierarchy, is_concrete};
+use crate::located::{is_attribute, is_inherited};
+use crate::numbered::{NamedClass, Numbered};
+use crate::walk::Walk;
+use at_class::ClassId;
+use at_rules::{AttrId, Rules};
+use std::alloc::{AllocError, Global};
+
+/// The first synthesized attribute for which a class that isn't abstract, at its own class or below, has no
+/// equation on its chain.
+pub fn class_without_equation(
+    alloc: Global,
+    rules: &Rules,
+    hierarchy: &Hierarchy,
+    declared: &[Numbered],
+) -> Result<Option<Fault>, AllocError>
+    requires { IsHierarchy rules.now.classes hierarchy.now }
+{
+    let attributes = declared
+        .iter()
+        .filter(|numbered| is_attribute(&numbered.decl.form));
+    for (position, numbered) in attributes.enumerate() {
+        let attribute = AttrId::new(position);
+        if is_inherited(&numbered.decl.form) {
+            continue;
+        }
+        if lacks_equation(alloc, rules, hierarchy, numbered.class, attribute)? {
+            return Ok(Some(fault_at(RuleCode::ClassWithoutEquation, numbered, numbered.decl.at)));
+        }
+    }
+    Ok(None)
+}
+
+/// Whether it is one of the classes, and a class that fits it has no equation for the attribute.
+fn lacks_equation(
+    alloc: Global,
+    rules: &Rules,
+    hierarchy: &Hierarchy,
+    class: NamedClass,
+    attribute: AttrId,
+) -> Result<bool, AllocError>
+    requires { IsHierarchy rules.now.classes hierarchy.now }
+{
+    match class {
+        NamedClass::Known(class) => {
+            lacks_below(alloc, rules, hierarchy, ClassId::new(class), attribute)
+        }
+        NamedClass::Unknown(_) => Ok(false),
+    }
+}
+
+/// Whether a class that fits that one has no equation for the attribute.
+fn lacks_below(
+    alloc: Global,
+    rules: &Rules,
+    hierarchy: &Hierarchy,
+    class: ClassId,
+    attribute: AttrId,
+) -> Result<bool, AllocError>
+    requires { IsHierarchy rules.now.classes hierarchy.now }
+    ensures { IfOk result (λ lacks. Tells lacks (LacksBelow rules.now class attribute)) }
+{
+    let count = rules.classes().len();
+    if let Some(_) = rules.own_body(class, attribute) {
+        return Ok(false);
+    }
+    let mut walk = Walk::from(alloc, count, class)?;
+    // Each class is met once at most.
+    for step in 0..count {
+        let Some(next) = walk.next_pending() else {
+            return Ok(false);
+        };
+        let lacks = looks_at(rules, hierarchy, next, attribute, &mut walk)?;
+        if lacks {
+            return Ok(true);
+        }
+    }
+    Ok(false)
+}
+
+/// Whether the class isn't abstract and has no equation itself; else the walk goes on below it, where it has
+/// none.
+fn looks_at(
+    rules: &Rules,
+    hierarchy: &Hierarchy,
+    class: ClassId,
+    attribute: AttrId,
+    walk: &mut Walk,
+) -> Result<bool, AllocError>
+    requires { IsHierarchy rules.now.classes hierarchy.now }
+    ensures { IfOk result (λ lacks. LooksAt lacks rules.now attribute class walk.old walk.new) }
+{
+    if let Some(_) = rules.own_in(class, attribute) {
+        return Ok(false);
+    }
+    if is_concrete(rules.classes(), class) {
+        return Ok(true);
+    }
+    walk.meet_all(hierarchy.below(class))?;
+    Ok(false)
+}

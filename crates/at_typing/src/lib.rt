@@ -1,0 +1,20 @@
+//! What the declarations of aspects mean (JastAdd2 reference manual, "Aspects"): the rules that they make over
+//! a class table, or the first fault that they have.
+#![tactic(auto)]
+
+mod accessors;
+mod attributes;
+mod building;
+mod checks;
+mod fault;
+mod hierarchy;
+mod located;
+mod meaning;
+mod numbered;
+mod signatures;
+mod typing;
+mod walk;
+mod written;
+
+pub use building::build;
+pub use fault::{Fault, RuleCode, RuleFault};

@@ -1,0 +1,19 @@
+-- How the connections of a socket ended.
+use Rattle.std.specs.Prelude.{◌≡◌, ℕ, ◌+◌, ◌&&◌, ◌==◌, Bool, Result, Ok, Err}
+use Rattle.at_engine.specs.declared.stream.desk.RunFault.TheVariants as run
+use Rattle.attrd.specs.declared.serving.Served.{Served}
+use Rattle.attrd.specs.declared.serving.ConnectionFault.{ConnectionFault}
+use Rattle.attrd.specs.declared.serving.ConnectionFault.TheVariants.{Socket, Run}
+
+-- how many of them ended by a fault
+abbrev pub faults : Served → ℕ
+faults s = s.read + s.write + s.reads + s.memory + s.socket
+
+-- one more ended so
+abbrev pub counted : Result (Unit {0}) ConnectionFault → Served → Served
+counted (Ok u) s = record s { ended = s.ended + 1 }
+counted (Err Socket) s = record s { ended = s.ended + 1; socket = s.socket + 1 }
+counted (Err (Run run.Read)) s = record s { ended = s.ended + 1; read = s.read + 1 }
+counted (Err (Run run.Write)) s = record s { ended = s.ended + 1; write = s.write + 1 }
+counted (Err (Run run.TooManyReads)) s = record s { ended = s.ended + 1; reads = s.reads + 1 }
+counted (Err (Run run.Memory)) s = record s { ended = s.ended + 1; memory = s.memory + 1 }

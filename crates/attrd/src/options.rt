@@ -1,0 +1,49 @@
+//! What the words of the command line ask for.
+ghost use Rattle.std.specs.Prelude.{◌≡◌};
+ghost use Rattle.attrd.specs.declared.options.WordsFault.TheVariants.{Memory};
+
+#[cfg(test)]
+mod tests;
+mod words;
+
+use std::alloc::{AllocError, AllocFailed};
+pub use words::options;
+
+/// What the command line asks for.
+#[derive(Debug, Drop)]
+pub struct Options {
+    /// The path of the socket that is served; standard input and output where there is none.
+    pub socket: Option<String>,
+    /// How many connections of the socket are served.
+    pub connections: u16,
+    /// Whether the engine's work is told at the end.
+    pub work: bool,
+    pub grammar: String,
+    pub tree: String,
+    pub aspects: Vec<String>,
+}
+
+/// Why the words ask for nothing that can be served.
+#[derive(Debug, Drop)]
+pub enum WordsFault {
+    /// What is wrong with the words, or the help that they ask for.
+    Words { text: String },
+    /// Want of memory.
+    Memory,
+}
+
+impl From<AllocError> for WordsFault {
+    ghost from_gives = { λ _ e. e ≡ Memory };
+
+    fn from(_e: AllocError) -> WordsFault {
+        WordsFault::Memory
+    }
+}
+
+impl<T: Drop> From<AllocFailed<T>> for WordsFault {
+    ghost from_gives = { λ _ e. e ≡ Memory };
+
+    fn from(_e: AllocFailed<T>) -> WordsFault {
+        WordsFault::Memory
+    }
+}

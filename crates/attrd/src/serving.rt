@@ -1,0 +1,110 @@
+//! The connections of a socket, served one after the other.
+ghost use Rattle.std.specs.Prelude.{◌≡◌, ◌≤◌, ◌+◌, ◌<◌, ◌^◌, ◌==◌};
+ghost use Rattle.at_engine.specs.Engines.{rules_of, IsSound};
+ghost use Rattle.attrd.specs.Connections.{faults, counted};
+
+use at_cache::Keeper;
+use at_engine::{Engine, RunFault, run};
+use std::os::unix::net::UnixListener;
+
+/// How many connections ended, and how many of them by each fault.
+#[derive(Clone, Copy, Debug, PartialEq, Eq)]
+pub struct Served {
+    /// All of them.
+    pub ended: u16,
+    /// A read failed.
+    pub read: u16,
+    /// A write failed.
+    pub write: u16,
+    /// There was more to be read after as many reads as a run may make.
+    pub reads: u16,
+    /// The buffers were refused, and nothing was read.
+    pub memory: u16,
+    /// The connection wasn't accepted.
+    pub socket: u16,
+}
+
+/// Why a connection ended before its input.
+#[derive(Clone, Copy, Debug, PartialEq, Eq)]
+pub enum ConnectionFault {
+    /// It wasn't accepted.
+    Socket,
+    /// Its run broke off.
+    Run(RunFault),
+}
+
+impl Served {
+    /// No connection ended.
+    pub fn none() -> Served
+        ensures ended { result.ended ≡ 0 }
+        ensures faults { faults result ≡ 0 }
+    {
+        Served {
+            ended: 0,
+            read: 0,
+            write: 0,
+            reads: 0,
+            memory: 0,
+            socket: 0,
+        }
+    }
+
+    /// Whether no connection ended by a fault.
+    pub fn is_faultless(&self) -> bool
+        ensures { result ≡ (faults self.now == 0) }
+    {
+        self.read == 0 && self.write == 0 && self.reads == 0 && self.memory == 0 && self.socket == 0
+    }
+
+    /// One more connection ended.
+    fn count(&mut self, ended: Result<(), ConnectionFault>)
+        requires few { self.old.ended + 1 < 2 ^ 16 }
+        requires within { faults self.old ≤ self.old.ended }
+        ensures { self.new ≡ counted ended self.old }
+    {
+        self.ended += 1;
+        match ended {
+            Ok(()) => {}
+            Err(ConnectionFault::Socket) => self.socket += 1,
+            Err(ConnectionFault::Run(RunFault::Read)) => self.read += 1,
+            Err(ConnectionFault::Run(RunFault::Write)) => self.write += 1,
+            Err(ConnectionFault::Run(RunFault::TooManyReads)) => self.reads += 1,
+            Err(ConnectionFault::Run(RunFault::Memory)) => self.memory += 1,
+        }
+    }
+}
+
+/// Serves so many connections, one after the other, all with this engine. A connection's fault ends that connection
+/// alone; one that isn't accepted counts, too.
+pub fn serve<K: Keeper>(engine: &mut Engine<K>, listener: &UnixListener, n: u16) -> Served
+    requires sound { IsSound K.contents engine.old }
+    ensures ended { result.ended ≡ n }
+    ensures faults { faults result ≤ n }
+    ensures rules { rules_of engine.new ≡ rules_of engine.old }
+    ensures sound { IsSound K.contents engine.new }
+{
+    let mut served = Served::none();
+    for turn in 0..n {
+        let ended = serve_next(engine, listener);
+        served.count(ended);
+    }
+    served
+}
+
+/// Serves the connection that comes next.
+fn serve_next<K: Keeper>(
+    engine: &mut Engine<K>,
+    listener: &UnixListener,
+) -> Result<(), ConnectionFault>
+    requires sound { IsSound K.contents engine.old }
+    ensures rules { rules_of engine.new ≡ rules_of engine.old }
+    ensures sound { IsSound K.contents engine.new }
+{
+    let Ok((stream, _)) = listener.accept() else {
+        return Err(ConnectionFault::Socket);
+    };
+    match run(engine, &mut &stream, &mut &stream) {
+        Ok(_) => Ok(()),
+        Err(fault) => Err(ConnectionFault::Run(fault)),
+    }
+}
