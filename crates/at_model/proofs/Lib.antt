@@ -37,3 +37,5 @@ pub mod PlainLines
 pub mod Played
 pub mod SampleCircles
 pub mod Unread
+pub mod Reached
+pub mod Works
