@@ -39,3 +39,4 @@ pub mod SampleCircles
 pub mod Unread
 pub mod Reached
 pub mod Works
+pub mod Commanded

@@ -19,6 +19,7 @@ pub mod Shaping
 pub mod Lines
 pub mod Replies
 pub mod Machine
+pub mod Effects
 pub mod Sparing
 pub mod SampleLines
 pub mod Playing

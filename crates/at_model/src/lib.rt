@@ -2,6 +2,7 @@
 #![tactic(auto)]
 
 mod cases;
+mod command_laws;
 mod edit_cases;
 mod form_cases;
 mod forms;
@@ -29,6 +30,8 @@ pub use cases::second_demand;
 pub use cases::support;
 pub use cases::total;
 pub use cases::what_is_read;
+pub use command_laws::an_accepted_edit_is_that_of_its_command;
+pub use command_laws::other_commands_change_their_mark_alone;
 pub use edit_cases::edits_that_are_refused;
 pub use edit_cases::what_a_list_touches;
 pub use edit_cases::what_a_set_touches;
