@@ -2,6 +2,7 @@
 use Rattle.std.proofs.Common.{◌≡◌, ℕ, Bool, true, false, ◌&&◌, not, nat_eq, nat_le, cond, if◌then◌else◌, List, [], ◌∷◌, ◌++◌, map, Option, Some, None, Result, Ok, Err, refl, sym, ap, ◌∙◌, subst, filter, option_and_then}
 use Rattle.std.specs.List.{find, count_by}
 use Rattle.std.specs.Option.{option_map, option_or}
+use Rattle.std.specs.Prelude.{is_some}
 use Rattle.std.specs.Str.{bytes_eq}
 use Rattle.std.proofs.lemmas.Slice.Eq.{bytes_eq-Decides}
 use Rattle.std.proofs.lemmas.Bool.{eqb-true, eq-eqb}
@@ -234,3 +235,58 @@ same_step rules Answered old l new reply e f h = h.state ∙ whole (Same rules o
 
 pub tellable_line : (rules : Rules) (old : State) (l : Line) (q : Instance Node) → is_question l.command ≡ false → verdict rules old l ≡ Asks q → ⊥
 tellable_line rules old l q e = whole (Tellable rules old l.session) (untold rules old l.session) rules old l (tellable rules old l.session l.command e) q
+
+asked_or_not : (rules : Rules) (old : State) (l : Line) (q : Instance Node) (b : Bool) → is_question l.command ≡ b → verdict rules old l ≡ Asks q → b ≡ true
+asked_or_not rules old l q true is e = refl
+asked_or_not rules old l q false is e = absurd (tellable_line rules old l q is e)
+
+pub asked_line : (rules : Rules) (old : State) (l : Line) (q : Instance Node) → verdict rules old l ≡ Asks q → is_question l.command ≡ true
+asked_line rules old l q e = asked_or_not rules old l q (is_question l.command) refl e
+
+module _ (rules : Rules) (Answered : Answering) (s : State) (session : ℕ) where
+  -- the mark, where the verdict is told as done
+  abbrev pub MarksAs : List ℕ → Option Node → Verdict → Type 0
+  MarksAs name o v = (form : Form) (version : ℕ) → Says rules Answered s v form → form ≡ Done version → marked (after s v).marks session name ≡ o
+
+  undone : (name : List ℕ) (o : Option Node) (code : Code) → MarksAs name o (Refuses code)
+  undone name o code form version says e = absurd cc
+
+  at_new : (name : List ℕ) (n : Node) → is_marked s.marks session name ≡ false → marked (s.marks ++ record { session = session; name = name; node = n } ∷ []) session name ≡ Some n
+  at_new name n free =
+      let m : Marked = record { session = session; name = name; node = n } in
+      ap (option_map (λ m. m.node)) (find-append (is_mark session name) s.marks (m ∷ []) ∙ at_end (find (is_mark session name) s.marks) (is_mark session name m) (none (find (is_mark session name) s.marks) free) (and_true (nat_eq session session) (bytes_eq name name) (eq-eqb session session refl) ((bytes_eq-Decides name name).1 refl)))
+    where
+      none : (o : Option Marked) → is_some (option_map (λ m. m.node) o) ≡ false → o ≡ None
+      none None e = refl
+      none (Some m) e = absurd cc
+
+      at_end : (o : Option Marked) (b : Bool) → o ≡ None → b ≡ true → option_or o (cond b (Some (record { session = session; name = name; node = n })) None) ≡ Some (record { session = session; name = name; node = n })
+      at_end o b e f = rw (e, f) refl
+
+  mark_made : (name : List ℕ) (n : Node) → MarksAs name (Some n) (with_mark s session name n)
+  mark_made name n = by_name (is_marked s.marks session name) refl
+    where
+      by_name : (b : Bool) → is_marked s.marks session name ≡ b → MarksAs name (Some n) (if b then Refuses code.Taken else (if nat_le max_marks (count_by (λ m. nat_eq session m.session) s.marks) then Refuses code.Limit else Leaves (s.marks ++ record { session = session; name = name; node = n } ∷ [])))
+      by_name true is = undone name (Some n) code.Taken
+      by_name false is = if_both (MarksAs name (Some n)) (nat_le max_marks (count_by (λ m. nat_eq session m.session) s.marks)) _ _ (undone name (Some n) code.Limit) (λ form version says e. at_new name n is)
+
+  made : (name : List ℕ) (place : Place) (o : Option Node) → node_named rules.classes s session place ≡ o → MarksAs name o (elim o [ None ↦ Refuses code.Path | Some n ↦ with_mark s session name n ])
+  made name place None is = undone name None code.Path
+  made name place (Some n) is = mark_made name n
+
+  forgotten : (name : List ℕ) → MarksAs name None (Leaves (filter (λ m. not (is_mark session name m)) s.marks))
+  forgotten name form version says e = ap (option_map (λ m. m.node)) (find_lost (is_mark session name) s.marks)
+
+pub made_step : (rules : Rules) (Answered : Answering) (old : State) (l : Line) (new : State) (reply : Reply) (version : ℕ) (name : List ℕ) (place : Place) → l.command ≡ Mark name place → Step rules Answered old l new reply → reply.form ≡ Done version →
+    marked new.marks l.session name ≡ node_named rules.classes old l.session place
+made_step rules Answered old l new reply version name place is h form =
+    let P : State → Type 0 = λ x. marked x.marks l.session name ≡ node_named rules.classes old l.session place in
+    let Q : Command → Type 0 = λ c. MarksAs rules Answered old l.session name (node_named rules.classes old l.session place) (obeyed rules old l.session c) in
+    subst P (sym h.state) (whole (MarksAs rules Answered old l.session name (node_named rules.classes old l.session place)) (undone rules Answered old l.session name (node_named rules.classes old l.session place)) rules old l
+        (subst Q (sym is) (made rules Answered old l.session name place (node_named rules.classes old l.session place) refl)) reply.form version h.says form)
+
+pub forgotten_step : (rules : Rules) (Answered : Answering) (old : State) (l : Line) (new : State) (reply : Reply) (version : ℕ) (name : List ℕ) → l.command ≡ Unmark name → Step rules Answered old l new reply → reply.form ≡ Done version → marked new.marks l.session name ≡ None
+forgotten_step rules Answered old l new reply version name is h form =
+    let P : State → Type 0 = λ x. marked x.marks l.session name ≡ None in
+    let Q : Command → Type 0 = λ c. MarksAs rules Answered old l.session name None (obeyed rules old l.session c) in
+    subst P (sym h.state) (whole (MarksAs rules Answered old l.session name None) (undone rules Answered old l.session name None) rules old l (subst Q (sym is) (forgotten rules Answered old l.session name)) reply.form version h.says form)

@@ -40,3 +40,7 @@ pub mod Unread
 pub mod Reached
 pub mod Works
 pub mod Commanded
+pub mod CarriedInstances
+pub mod FaultPlaces
+pub mod Replying
+pub mod KeptOverLines

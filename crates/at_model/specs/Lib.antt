@@ -21,6 +21,7 @@ pub mod Replies
 pub mod Machine
 pub mod Effects
 pub mod Sparing
+pub mod Keeping
 pub mod SampleLines
 pub mod Playing
 pub mod SampleSessions

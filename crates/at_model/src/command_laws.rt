@@ -1,12 +1,15 @@
 //! Laws of single commands: each is the contract of a function that does nothing.
 
-ghost use Rattle.std.specs.Prelude.{◌≡◌, ℕ, false, true, List, Ok};
+ghost use Rattle.std.specs.Prelude.{◌≡◌, ℕ, false, true, List, None, Ok};
 ghost use Rattle.at_model.specs.Rules.{Rules};
 ghost use Rattle.at_model.specs.Edits.{Edit, edited};
-ghost use Rattle.at_model.specs.Lines.{Line};
+ghost use Rattle.at_model.specs.Lines.{Line, Mark, Place, Spells, Unmark};
 ghost use Rattle.at_model.specs.Replies.{Done, Reply};
-ghost use Rattle.at_model.specs.Machine.{ByEquations, State, Step, carried_marks, is_edit, marked};
-ghost use Rattle.at_model.specs.Effects.{IsEditOf, is_about_mark, is_marking};
+ghost use Rattle.at_model.specs.Paths.{Node};
+ghost use Rattle.at_model.specs.Run.{Instance};
+ghost use Rattle.at_model.specs.Meaning.{Answer};
+ghost use Rattle.at_model.specs.Machine.{Asks, ByEquations, Handles, Serves, State, Step, after, carried_marks, is_edit, marked, node_named, verdict};
+ghost use Rattle.at_model.specs.Effects.{IsEditOf, is_about_mark, is_marking, is_question};
 
 /// An edit that is accepted is that of its command, and leaves the marks where their nodes are.
 pub fn an_accepted_edit_is_that_of_its_command()
@@ -23,4 +26,24 @@ pub fn other_commands_change_their_mark_alone()
         → (session : ℕ) (name : List ℕ) → is_about_mark l session name ≡ false → marked new.marks session name ≡ marked old.marks session name }
     ensures nothing { (rules : Rules) (old : State) (l : Line) (new : State) (reply : Reply) → is_edit l.command ≡ false → is_marking l.command ≡ false
         → Step rules (ByEquations rules) old l new reply → new ≡ old }
+{}
+
+/// A mark that is made leads to the node that its place names, and one that is forgotten is gone.
+pub fn marks_are_made_and_forgotten()
+    ensures made { (rules : Rules) (old : State) (l : Line) (new : State) (reply : Reply) (version : ℕ) (name : List ℕ) (place : Place) → l.command ≡ Mark name place
+        → Step rules (ByEquations rules) old l new reply → reply.form ≡ Done version → marked new.marks l.session name ≡ node_named rules.classes old l.session place }
+    ensures forgotten { (rules : Rules) (old : State) (l : Line) (new : State) (reply : Reply) (version : ℕ) (name : List ℕ) → l.command ≡ Unmark name
+        → Step rules (ByEquations rules) old l new reply → reply.form ≡ Done version → marked new.marks l.session name ≡ None }
+{}
+
+/// Every line has a reply, but a question that has no answer; what is no line has one, and so has each line
+/// for which memory ran out.
+pub fn every_line_has_a_reply()
+    ensures line { (rules : Rules) (old : State) (bytes : List ℕ) (l : Line) → Spells bytes l
+        → ((q : Instance Node) → verdict rules old l ≡ Asks q → (a : Answer Node) × ByEquations rules old.tree q a)
+        → (reply : Reply) × Handles rules (ByEquations rules) old bytes (after old (verdict rules old l)) reply }
+    ensures asked { (rules : Rules) (old : State) (l : Line) (q : Instance Node) → verdict rules old l ≡ Asks q → is_question l.command ≡ true }
+    ensures no_line { (rules : Rules) (old : State) (bytes : List ℕ) → ((l : Line) → Spells bytes l → ⊥)
+        → (reply : Reply) × Handles rules (ByEquations rules) old bytes old reply }
+    ensures memory { (rules : Rules) (old : State) (bytes : List ℕ) → (reply : Reply) × Serves rules (ByEquations rules) true old bytes old reply }
 {}
