@@ -44,3 +44,5 @@ pub mod CarriedInstances
 pub mod FaultPlaces
 pub mod Replying
 pub mod KeptOverLines
+pub mod ReadsSeen
+pub mod Depths

@@ -43,6 +43,8 @@ pub use edit_cases::what_a_token_touches;
 pub use edit_cases::what_an_optional_touches;
 pub use edit_cases::where_nodes_stay;
 pub use evaluation_laws::a_fault_is_where_its_equation_fails;
+pub use evaluation_laws::a_node_is_within_the_depth;
+pub use evaluation_laws::a_try_reads_what_is_seen;
 pub use form_cases::comparisons;
 pub use form_cases::equality;
 pub use form_cases::ints_below_zero;
