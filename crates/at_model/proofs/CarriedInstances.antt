@@ -6,7 +6,7 @@ use Rattle.at_model.specs.Trees.{Tree, conforms}
 use Rattle.at_model.specs.Paths.{Node, tree_at}
 use Rattle.at_model.specs.Run.{Value, Int, Truth, Text, Ref, Instance, Location, Is, Contents, Run, Gives, Fails, Looks, Demands, LooksTo}
 use Rattle.at_model.specs.Bodies.{ref_of}
-use Rattle.at_model.specs.Rules.{Rules, past_arguments}
+use Rattle.at_model.specs.Rules.{Rules}
 use Rattle.at_model.specs.Meaning.{Among, HasValue, content, equations}
 use Rattle.at_model.specs.Support.{Sees, argument_classes, IsThere, IsValueThere, IsInstanceThere}
 use Rattle.at_model.specs.Alike.{neither, both, ListLike, end, more, ValueLike, int, truth, text, ref, InstanceLike, Names}

@@ -19,7 +19,7 @@ use Rattle.at_model.specs.Shaping.{shaped, names_classes}
 use Rattle.at_model.specs.Lines.{Line, Place, Command, Ask, Set, Put, Drop, Insert, Token, Show, Mark, Unmark, Where, Version, last_version}
 use Rattle.at_model.specs.Replies.{Reply, Form, Done, Code}
 use Rattle.at_model.specs.Replies as code
-use Rattle.at_model.specs.Machine.{State, Marked, Verdict, Refuses, Tells, Leaves, Edits, Asks, Answering, Says, Step, after, verdict, obeyed, changed, with_component, with_tree, with_mark, code_of, is_edit, is_mark, is_marked, marked, max_marks, node_named, each, value_named, questioned, fit_parameters, parameters_of, carried_marks}
+use Rattle.at_model.specs.Machine.{State, Marked, Verdict, Refuses, Leaves, Edits, Asks, Answering, Says, Step, after, verdict, obeyed, changed, with_component, with_tree, with_mark, code_of, is_edit, is_mark, is_marked, marked, max_marks, node_named, each, value_named, questioned, fit_parameters, parameters_of, carried_marks}
 use Rattle.at_model.specs.Effects.{IsEditOf, set, put, drop, insert, token, component_named, changes_mark, is_about_mark, is_marking, is_question}
 use Rattle.at_model.proofs.Changes.{if_both, at_option, node_all, whole}
 use Rattle.at_model.proofs.Options.{led, both, and_true}
@@ -283,7 +283,7 @@ made_step rules Answered old l new reply version name place is h form =
     let P : State → Type 0 = λ x. marked x.marks l.session name ≡ node_named rules.classes old l.session place in
     let Q : Command → Type 0 = λ c. MarksAs rules Answered old l.session name (node_named rules.classes old l.session place) (obeyed rules old l.session c) in
     subst P (sym h.state) (whole (MarksAs rules Answered old l.session name (node_named rules.classes old l.session place)) (undone rules Answered old l.session name (node_named rules.classes old l.session place)) rules old l
-        (subst Q (sym is) (made rules Answered old l.session name place (node_named rules.classes old l.session place) refl)) reply.form version h.says form)
+    (subst Q (sym is) (made rules Answered old l.session name place (node_named rules.classes old l.session place) refl)) reply.form version h.says form)
 
 pub forgotten_step : (rules : Rules) (Answered : Answering) (old : State) (l : Line) (new : State) (reply : Reply) (version : ℕ) (name : List ℕ) → l.command ≡ Unmark name → Step rules Answered old l new reply → reply.form ≡ Done version → marked new.marks l.session name ≡ None
 forgotten_step rules Answered old l new reply version name is h form =

@@ -1,11 +1,11 @@
 -- A node stands less deep than its tree is deep.
-use Rattle.std.proofs.Common.{◌≡◌, ℕ, zero, suc, ◌+◌, ◌<◌, ◌≤◌, max, Bool, true, false, ◌&&◌, nat_le, List, [], ◌∷◌, length, Option, Some, None, refl, sym, ap, ◌∙◌, subst, arith, option_and_then}
+use Rattle.std.proofs.Common.{◌≡◌, ℕ, zero, suc, ◌<◌, ◌≤◌, max, true, ◌&&◌, nat_le, [], ◌∷◌, length, Option, Some, None, refl, subst, arith}
 use Rattle.std.specs.List.{slice_get}
 use Rattle.std.proofs.lemmas.Bool.{leb-true}
 use Rattle.at_model.specs.Trees.{Tree, Cells, no_cells, cell, Cell, One, Many, Empty, Filled, Holds, Trees, no_trees, tree, cells_of, from_cells, from_trees, children, depth, cells_depth, cell_depth, trees_depth, nodes}
 use Rattle.at_model.specs.Trees as trees
 use Rattle.at_model.specs.Terms.{max_depth}
-use Rattle.at_model.specs.Paths.{Node, cell_at, children_at, tree_at}
+use Rattle.at_model.specs.Paths.{Node, children_at, tree_at}
 use Rattle.at_model.specs.Edits.{is_within_limits, max_nodes, tokens_short}
 use Rattle.at_model.proofs.Options.{led, both}
 

@@ -1,7 +1,7 @@
 -- A fault's place is an instance that the question leads to, and the fault is that of its own evaluation.
-use Rattle.std.proofs.Common.{◌≡◌, ℕ, zero, suc, Option, Some, None, inl, refl, sym, ap, subst}
+use Rattle.std.proofs.Common.{◌≡◌, ℕ, zero, suc, Option, Some, None, inl, refl, ap, subst}
 use Rattle.at_model.specs.Run.{Value, FaultKind, Instance, Contents, Known, Tried, Valued, Faulted, Needs, tried}
-use Rattle.at_model.specs.Meaning.{Outcome, Finds, Faults, value_in, Equations, settled, outcome_at, Holds, Comes, Leads, Right}
+use Rattle.at_model.specs.Meaning.{Outcome, Finds, Faults, value_in, Equations, settled, outcome_at, Holds, Leads, Right}
 use Rattle.at_model.proofs.Carrying.{first_led}
 use Rattle.at_model.proofs.Tries.{needed}
 

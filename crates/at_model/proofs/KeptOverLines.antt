@@ -7,8 +7,8 @@ use Rattle.at_model.specs.Run.{Instance}
 use Rattle.at_model.specs.Rules.{Rules}
 use Rattle.at_model.specs.Meaning.{Among, Distinct}
 use Rattle.at_model.specs.Lines.{Line}
-use Rattle.at_model.specs.Machine.{State, Verdict, Refuses, Tells, Leaves, Edits, Asks, after, verdict, IsSound}
-use Rattle.at_model.specs.Sparing.{KeptAfter, AreWellKept, AreAdded, IsWork}
+use Rattle.at_model.specs.Machine.{State, Verdict, Refuses, Tells, Leaves, Edits, Asks, after, IsSound}
+use Rattle.at_model.specs.Sparing.{KeptAfter, AreWellKept, IsWork}
 use Rattle.at_model.specs.Keeping.{heard, state_after, KeptOver, AreWorks, IsTotalWork, Nothing, max_work}
 use Rattle.at_model.proofs.Sound.{sound_line}
 use Rattle.at_model.proofs.WellKept.{kept_well}

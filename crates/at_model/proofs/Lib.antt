@@ -46,3 +46,5 @@ pub mod Replying
 pub mod KeptOverLines
 pub mod ReadsSeen
 pub mod Depths
+pub mod AlikeBack
+pub mod WellAsked

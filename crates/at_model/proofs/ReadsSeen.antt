@@ -1,9 +1,9 @@
 -- What a try reads and demands is what the evaluation sees and comes to.
-use Rattle.std.proofs.Common.{◌≡◌, true, List, [], ◌∷◌, Option, Some, None, ◌⊎◌, ◌↔◌, inl, inr, refl, sym}
+use Rattle.std.proofs.Common.{◌≡◌, true, List, [], ◌∷◌, Option, Some, None, ◌↔◌, inl, inr, refl, sym}
 use Rattle.at_model.specs.Run.{Value, Instance, Location, Run, Gives, Fails, Looks, Demands, Tried, Needs, Contents, Known, tried, reads, demands, has_ended}
 use Rattle.at_model.specs.Meaning.{Equations, HasValue, Reaches, Among, Right}
 use Rattle.at_model.specs.Support.{Sees}
-use Rattle.at_model.proofs.Reached.{onto, demanded, reaches_in, in_reaches, sees_in, in_sees}
+use Rattle.at_model.proofs.Reached.{onto, demanded, reaches_in, sees_in, in_sees}
 
 -- a try that ends is told a value for each demand
 told_at : {N A : Type 0} (look : Contents N) (known : Known N) (i : Instance N) (k : Value N → Run N A) (o : Option (Value N)) → has_ended (elim o as (λ _. Tried N A) [ None ↦ Needs i | Some v ↦ tried look known (k v) ]) ≡ true →

@@ -9,7 +9,7 @@ use Rattle.at_model.specs.Meaning.{Answer}
 use Rattle.at_model.specs.Lines.{Line, Spells, BeginsWith, IsSpaceOrEnd, IsSessionOf, max_sessions}
 use Rattle.at_model.specs.Replies.{Reply, Form, Shows, Done, Refused, Memory}
 use Rattle.at_model.specs.Replies as code
-use Rattle.at_model.specs.Machine.{State, Verdict, Refuses, Tells, Leaves, Edits, Asks, Answering, ByEquations, Says, Handles, obeys, refuses, Serves, after, verdict, answer_form}
+use Rattle.at_model.specs.Machine.{State, Verdict, Refuses, Tells, Leaves, Edits, Asks, ByEquations, Says, Handles, obeys, refuses, Serves, after, verdict, answer_form}
 
 -- what stands behind the front
 strip : List ℕ → List ℕ → Option (List ℕ)
@@ -64,9 +64,9 @@ sessions_below bytes (suc n) h =
     elim at [
       | inl b ↦ inl (n, b)
       | inr none ↦ elim (sessions_below bytes n (omega (arith, h))) [
-          | inl found ↦ inl found
-          | inr fewer ↦ inr (λ session small b. elim (below_or_same session n small) [ inl less ↦ fewer session less b | inr same ↦ none (subst (BeginsWith bytes) same b) ])
-        ]
+        | inl found ↦ inl found
+        | inr fewer ↦ inr (λ session small b. elim (below_or_same session n small) [ inl less ↦ fewer session less b | inr same ↦ none (subst (BeginsWith bytes) same b) ])
+      ]
     ]
   where
     below_or_same : (a b : ℕ) → a < suc b → (a < b) ⊎ (a ≡ b)

@@ -4,7 +4,7 @@ use Rattle.std.specs.Str.{bytes_eq}
 use Rattle.at_model.specs.Classes.{Classes}
 use Rattle.at_model.specs.Trees.{Tree, class_of}
 use Rattle.at_model.specs.Trees as tree
-use Rattle.at_model.specs.Terms.{Term, term_of}
+use Rattle.at_model.specs.Terms.{term_of}
 use Rattle.at_model.specs.Paths.{Node, tree_at, part_named}
 use Rattle.at_model.specs.Edits.{Edit}
 use Rattle.at_model.specs.Edits as edit

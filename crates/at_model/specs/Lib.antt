@@ -20,6 +20,7 @@ pub mod Lines
 pub mod Replies
 pub mod Machine
 pub mod Effects
+pub mod Asking
 pub mod Sparing
 pub mod Keeping
 pub mod SampleLines

@@ -1,6 +1,7 @@
 //! Laws of single commands: each is the contract of a function that does nothing.
 
 ghost use Rattle.std.specs.Prelude.{◌≡◌, ℕ, false, true, List, None, Ok};
+ghost use Rattle.at_model.specs.Trees.{Tree};
 ghost use Rattle.at_model.specs.Rules.{Rules};
 ghost use Rattle.at_model.specs.Edits.{Edit, edited};
 ghost use Rattle.at_model.specs.Lines.{Line, Mark, Place, Spells, Unmark};
@@ -8,7 +9,9 @@ ghost use Rattle.at_model.specs.Replies.{Done, Reply};
 ghost use Rattle.at_model.specs.Paths.{Node};
 ghost use Rattle.at_model.specs.Run.{Instance};
 ghost use Rattle.at_model.specs.Meaning.{Answer};
+ghost use Rattle.at_model.specs.Support.{IsInstanceThere};
 ghost use Rattle.at_model.specs.Machine.{Asks, ByEquations, Handles, Serves, State, Step, after, carried_marks, is_edit, marked, node_named, verdict};
+ghost use Rattle.at_model.specs.Asking.{IsWellFormed};
 ghost use Rattle.at_model.specs.Effects.{IsEditOf, is_about_mark, is_marking, is_question};
 
 /// An edit that is accepted is that of its command, and leaves the marks where their nodes are.
@@ -46,4 +49,11 @@ pub fn every_line_has_a_reply()
     ensures no_line { (rules : Rules) (old : State) (bytes : List ℕ) → ((l : Line) → Spells bytes l → ⊥)
         → (reply : Reply) × Handles rules (ByEquations rules) old bytes old reply }
     ensures memory { (rules : Rules) (old : State) (bytes : List ℕ) → (reply : Reply) × Serves rules (ByEquations rules) true old bytes old reply }
+{}
+
+/// What a line asks is well formed: a node of the tree, an attribute that its class has, and arguments that fit
+/// the parameters; and all nodes in it are nodes of the tree.
+pub fn what_is_asked_is_well_formed()
+    ensures asked { (rules : Rules) (s : State) (l : Line) (q : Instance Node) → verdict rules s l ≡ Asks q → IsWellFormed rules s.tree q }
+    ensures there { (rules : Rules) (t : Tree) (i : Instance Node) → IsWellFormed rules t i → IsInstanceThere t i }
 {}
