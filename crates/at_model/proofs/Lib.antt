@@ -38,7 +38,6 @@ pub mod Played
 pub mod SampleCircles
 pub mod Unread
 pub mod Reached
-pub mod Works
 pub mod Commanded
 pub mod CarriedInstances
 pub mod FaultPlaces
@@ -48,3 +47,4 @@ pub mod ReadsSeen
 pub mod Depths
 pub mod AlikeBack
 pub mod WellAsked
+pub mod Computed

@@ -26,3 +26,4 @@ pub mod Keeping
 pub mod SampleLines
 pub mod Playing
 pub mod SampleSessions
+pub mod Working

@@ -1,17 +1,13 @@
 -- States, rules and lines for worked sessions on the samples.
-use Rattle.std.specs.Prelude.{ℕ, zero, suc, pos, false, List, [], ◌∷◌, ◌++◌, decimal, replicate}
+use Rattle.std.specs.Prelude.{ℕ, zero, suc, false, List, [], ◌∷◌, ◌++◌, decimal, replicate}
 use lib.Chars.{codes}
 use Rattle.at_model.specs.Bodies.{Same, Child, This, Name}
 use Rattle.at_model.specs.Rules.{Rules}
 use Rattle.at_model.specs.Rules as kind
 use Rattle.at_model.specs.Lines.{last_version}
 use Rattle.at_model.specs.Machine.{State, Marked}
-use Rattle.at_model.specs.Trees.{Tree}
-use Rattle.at_model.specs.Trees as node
-use Rattle.at_model.specs.Edits.{Edit}
-use Rattle.at_model.specs.Edits as edit
-use Rattle.at_model.specs.Samples.{calc, synthesized, own, program, print, add, use_of, num, right_of, statement, tree_without_decl}
-use Rattle.at_model.specs.SampleLines.{opened, mark, decl_x}
+use Rattle.at_model.specs.Samples.{calc, synthesized, own}
+use Rattle.at_model.specs.SampleLines.{opened, mark}
 use Rattle.at_model.specs.Playing.{Exchange}
 
 -- the machine with the sample, after as many edits as there can be
@@ -50,20 +46,3 @@ letters n = replicate n 97
 -- the line that writes it
 abbrev pub renaming : ℕ → List ℕ
 renaming n = codes "0 token /Block/Stmt:0 ID \"" ++ (letters n ++ codes "\"")
-
--- token /Block/Stmt:1/Expr/Right Value 5, the tree that it leaves, and the machine after it
-abbrev pub five : Edit
-five = edit.Token (right_of 1) 0 (node.Int (pos 5))
-
-abbrev pub tree_of_five : Tree
-tree_of_five = program (decl_x ∷ print (add (use_of (codes "x")) (num (pos 5))) ∷ [])
-
-abbrev pub after_five : State
-after_five = record { tree = tree_of_five; version = 1; marks = [] }
-
--- drop /Block/Stmt:0, and the machine after it
-abbrev pub no_decl : Edit
-no_decl = edit.Drop (statement 0)
-
-abbrev pub after_drop : State
-after_drop = record { tree = tree_without_decl; version = 1; marks = [] }

@@ -1,31 +1,88 @@
-//! Worked cases of what questions keep, and of how much each adds.
+//! Worked cases of what questions keep: sessions, and the work of each of their lines.
 
-ghost use Rattle.at_model.specs.Machine.{Asks, Edits};
-ghost use Rattle.at_model.specs.Sparing.{IsWork, KeptAfter};
-ghost use Rattle.at_model.specs.Samples.{block, calc, left_of, of_node, printed, statement, tree_without_decl};
-ghost use Rattle.at_model.specs.SampleLines.{opened};
-ghost use Rattle.at_model.specs.SampleSessions.{after_drop, after_five, five, no_decl, tree_of_five};
+ghost use Rattle.std.specs.Prelude.{◌∷◌, []};
+ghost use Rattle.at_model.specs.Working.{◌⇢◌, Works};
+ghost use Rattle.at_model.specs.Samples.{calc, sum_rules};
+ghost use Rattle.at_model.specs.SampleLines.{opened, sum_opened};
 
-/// With nothing kept, the value of a sum adds eight instances, a declaration three, and an index one.
-pub fn first_questions()
-    ensures value { IsWork calc opened (Asks (of_node (printed 1) 5)) (λ i. ⊥) 8 }
-    ensures decl { IsWork calc opened (Asks (of_node (left_of 1) 4)) (λ i. ⊥) 3 }
-    ensures index { IsWork calc opened (Asks (of_node (statement 1) 16)) (λ i. ⊥) 1 }
+/// The work of each line: of questions that come again, also after a token on which they rest is another one,
+/// after a declaration came before the others, and after an initial value went and came again.
+pub fn works_of_values()
+    ensures again { Works calc opened
+        ("0 ask /Block/Stmt:1/Expr value()" ⇢ 8
+        ∷ "0 ask /Block/Stmt:1/Expr value()" ⇢ 0
+        ∷ []) }
+    ensures decl { Works calc opened
+        ("0 ask /Block/Stmt:1/Expr/Left decl()" ⇢ 3
+        ∷ "0 ask /Block/Stmt:1/Expr value()" ⇢ 5
+        ∷ []) }
+    ensures token { Works calc opened
+        ("0 ask /Block/Stmt:1/Expr value()" ⇢ 8
+        ∷ "0 token /Block/Stmt:1/Expr/Right Value 5" ⇢ 0
+        ∷ "0 ask /Block/Stmt:1/Expr value()" ⇢ 2
+        ∷ []) }
+    ensures declared { Works calc opened
+        ("0 ask /Block/Stmt:1/Expr value()" ⇢ 8
+        ∷ "0 token /Block/Stmt:0/Init Value 4" ⇢ 0
+        ∷ "0 ask /Block/Stmt:1/Expr value()" ⇢ 4
+        ∷ []) }
+    ensures name { Works calc opened
+        ("0 ask /Block/Stmt:1/Expr value()" ⇢ 8
+        ∷ "0 token /Block/Stmt:0 ID \"y\"" ⇢ 0
+        ∷ "0 ask /Block/Stmt:1/Expr/Left decl()" ⇢ 3
+        ∷ []) }
+    ensures inserted { Works calc opened
+        ("0 ask /Block/Stmt:1/Expr value()" ⇢ 8
+        ∷ "0 insert /Block Stmt 0 Decl(\"y\",-)" ⇢ 0
+        ∷ "0 ask /Block/Stmt:2/Expr value()" ⇢ 5
+        ∷ []) }
+    ensures optional { Works calc opened
+        ("0 ask /Block/Stmt:1/Expr value()" ⇢ 8
+        ∷ "0 drop /Block/Stmt:0/Init" ⇢ 0
+        ∷ "0 ask /Block/Stmt:1/Expr value()" ⇢ 3
+        ∷ "0 put /Block/Stmt:0 Init Num(7)" ⇢ 0
+        ∷ "0 ask /Block/Stmt:1/Expr value()" ⇢ 4
+        ∷ "0 put /Block/Stmt:0 Init Num(8)" ⇢ 0
+        ∷ []) }
 {}
 
-/// What was asked is kept: asked again it adds nothing.
-pub fn a_question_again()
-    ensures { IsWork calc opened (Asks (of_node (printed 1) 5)) (KeptAfter calc opened (Asks (of_node (printed 1) 5)) (λ i. ⊥)) 0 }
+/// The work of lines where a declaration goes: of a fault only what has a value is kept, and behind another
+/// declaration all is added anew but the value of the number that is not touched. An index is added anew after
+/// a statement before it went.
+pub fn works_after_drops()
+    ensures fault { Works calc opened
+        ("0 drop /Block/Stmt:0" ⇢ 0
+        ∷ "0 ask /Block/Stmt:0/Expr/Left value()" ⇢ 3
+        ∷ []) }
+    ensures replaced { Works calc opened
+        ("0 ask /Block/Stmt:1/Expr value()" ⇢ 8
+        ∷ "0 drop /Block/Stmt:0" ⇢ 0
+        ∷ "0 insert /Block Stmt 0 Decl(\"x\",Num(9))" ⇢ 0
+        ∷ "0 ask /Block/Stmt:1/Expr value()" ⇢ 7
+        ∷ []) }
+    ensures index { Works calc opened
+        ("0 ask /Block/Stmt:1 pos()" ⇢ 1
+        ∷ "0 drop /Block/Stmt:0" ⇢ 0
+        ∷ "0 ask /Block/Stmt:0 pos()" ⇢ 1
+        ∷ "0 ask /Block pos()" ⇢ 1
+        ∷ []) }
 {}
 
-/// After an edit of the right number, the sum and that number are added anew, and the six others are still
-/// kept.
-pub fn a_question_after_a_token()
-    ensures { IsWork calc after_five (Asks (of_node (printed 1) 5)) (KeptAfter calc opened (Edits five tree_of_five) (KeptAfter calc opened (Asks (of_node (printed 1) 5)) (λ i. ⊥))) 2 }
-{}
-
-/// After the first statement went, the index of the other one is added anew, and then that of the block.
-pub fn indexes_after_a_drop()
-    ensures statement { IsWork calc after_drop (Asks (of_node (statement 0) 16)) (KeptAfter calc opened (Edits no_decl tree_without_decl) (KeptAfter calc opened (Asks (of_node (statement 1) 16)) (λ i. ⊥))) 1 }
-    ensures block { IsWork calc after_drop (Asks (of_node block 16)) (KeptAfter calc after_drop (Asks (of_node (statement 0) 16)) (KeptAfter calc opened (Edits no_decl tree_without_decl) (KeptAfter calc opened (Asks (of_node (statement 1) 16)) (λ i. ⊥)))) 1 }
+/// Refused lines and commands that are no question have no work, and neither has a question for attributes
+/// that aren't lazy.
+pub fn lines_without_work()
+    ensures refused { Works calc opened
+        ("0 ask /Block/Stmt:1/Expr value()" ⇢ 8
+        ∷ "0 at 5 ask /Block/Stmt:1/Expr value()" ⇢ 0
+        ∷ "0 ask / value()" ⇢ 0
+        ∷ "0 drop /Block" ⇢ 0
+        ∷ "0 mark u /Block/Stmt:1/Expr" ⇢ 0
+        ∷ "0 show $u" ⇢ 0
+        ∷ "0 ask $u value()" ⇢ 0
+        ∷ []) }
+    ensures not_lazy { Works sum_rules sum_opened
+        ("0 ask / total()" ⇢ 0
+        ∷ "0 token /Right Value 5" ⇢ 0
+        ∷ "0 ask / total()" ⇢ 0
+        ∷ []) }
 {}
