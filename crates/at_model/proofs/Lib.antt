@@ -48,3 +48,4 @@ pub mod Depths
 pub mod AlikeBack
 pub mod WellAsked
 pub mod Computed
+pub mod Orderly

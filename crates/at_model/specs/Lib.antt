@@ -21,6 +21,7 @@ pub mod Replies
 pub mod Machine
 pub mod Effects
 pub mod Asking
+pub mod Enduring
 pub mod Sparing
 pub mod Keeping
 pub mod SampleLines

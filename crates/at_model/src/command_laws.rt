@@ -1,6 +1,6 @@
 //! Laws of single commands: each is the contract of a function that does nothing.
 
-ghost use Rattle.std.specs.Prelude.{◌≡◌, ℕ, false, true, List, None, Ok};
+ghost use Rattle.std.specs.Prelude.{◌≡◌, ℕ, Bool, false, true, List, None, Ok};
 ghost use Rattle.at_model.specs.Trees.{Tree};
 ghost use Rattle.at_model.specs.Rules.{Rules};
 ghost use Rattle.at_model.specs.Edits.{Edit, edited};
@@ -11,6 +11,7 @@ ghost use Rattle.at_model.specs.Run.{Instance};
 ghost use Rattle.at_model.specs.Meaning.{Answer};
 ghost use Rattle.at_model.specs.Support.{IsInstanceThere};
 ghost use Rattle.at_model.specs.Machine.{Asks, ByEquations, Handles, Serves, State, Step, after, carried_marks, is_edit, marked, node_named, verdict};
+ghost use Rattle.at_model.specs.Enduring.{IsOrderly};
 ghost use Rattle.at_model.specs.Asking.{IsWellFormed};
 ghost use Rattle.at_model.specs.Effects.{IsEditOf, is_about_mark, is_marking, is_question};
 
@@ -56,4 +57,11 @@ pub fn every_line_has_a_reply()
 pub fn what_is_asked_is_well_formed()
     ensures asked { (rules : Rules) (s : State) (l : Line) (q : Instance Node) → verdict rules s l ≡ Asks q → IsWellFormed rules s.tree q }
     ensures there { (rules : Rules) (t : Tree) (i : Instance Node) → IsWellFormed rules t i → IsInstanceThere t i }
+{}
+
+/// Where each session's marks are apart and few, and the version is one that there can be, it is so after each
+/// line.
+pub fn an_orderly_state_stays_orderly()
+    ensures { (rules : Rules) (b : Bool) (old : State) (bytes : List ℕ) (new : State) (reply : Reply)
+        → IsOrderly old → Serves rules (ByEquations rules) b old bytes new reply → IsOrderly new }
 {}

@@ -34,6 +34,7 @@ pub use cases::support;
 pub use cases::total;
 pub use cases::what_is_read;
 pub use command_laws::an_accepted_edit_is_that_of_its_command;
+pub use command_laws::an_orderly_state_stays_orderly;
 pub use command_laws::every_line_has_a_reply;
 pub use command_laws::marks_are_made_and_forgotten;
 pub use command_laws::other_commands_change_their_mark_alone;
