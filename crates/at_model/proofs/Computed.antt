@@ -1,7 +1,7 @@
 -- What is kept over lines, and the work of each, computed: where all that questions lead to is reached by demands that are
 -- nested less than a height deep, the definitions say just what is computed.
-use Rattle.std.proofs.Common.{◌≡◌, ◌↔◌, ℕ, zero, suc, Bool, true, false, not, cond, ◌&&◌, ◌||◌, nat_eq, List, [], ◌∷◌, ◌++◌, length, map, Option, Some, None, Ok, ◌⊎◌, inl, inr, refl, sym, ap, ◌∙◌, subst}
-use Rattle.std.specs.Prelude.{is_some, IsSome}
+use Rattle.std.proofs.Common.{◌≡◌, ◌↔◌, ℕ, Bool, true, false, not, cond, ◌&&◌, ◌||◌, nat_eq, List, [], ◌∷◌, ◌++◌, length, map, Option, Some, None, ◌⊎◌, inl, inr, refl, sym, ap, ◌∙◌, subst}
+use Rattle.std.specs.Prelude.{is_some}
 use Rattle.std.specs.List.{flat_map, list_all, list_any}
 use Rattle.std.specs.Ordering.{int_eq}
 use Rattle.std.specs.Option.{option_map, option_and_then}
@@ -13,8 +13,8 @@ use Rattle.at_model.specs.Paths.{Node, node_eq}
 use Rattle.at_model.specs.Run.{Value, Int, Truth, Text, Ref, Instance, Location, Known, reads}
 use Rattle.at_model.specs.Bodies.{bool_eq, ref_eq}
 use Rattle.at_model.specs.Rules.{Rules, is_lazy}
-use Rattle.at_model.specs.Meaning.{Outcome, Finds, value_in, outcome_at, Among, Distinct, Right, Leads, content, equations}
-use Rattle.at_model.specs.Alike.{OptionLike, neither, both, ListLike, end, more, ValueLike, int, truth, text, ref, InstanceLike, Names}
+use Rattle.at_model.specs.Meaning.{Outcome, Finds, Faults, value_in, outcome_at, Among, Distinct, Right, content, equations}
+use Rattle.at_model.specs.Alike.{neither, both, ListLike, end, more, ValueLike, int, truth, text, ref, InstanceLike, Names}
 use Rattle.at_model.specs.Edits.{Edit, carried}
 use Rattle.at_model.specs.Touches.{touches}
 use Rattle.at_model.specs.Lines.{Line, Spells, line_text}
@@ -27,7 +27,7 @@ use Rattle.at_model.proofs.Options.{led, mapped}
 use Rattle.at_model.proofs.Nodes.{both_of, node_eq-is, nat_eq-is}
 use Rattle.at_model.proofs.Outcomes.{once}
 use Rattle.at_model.proofs.FaultPlaces.{below_right}
-use Rattle.at_model.proofs.Reached.{reached, leads_in, in_leads, sees_in, in_sees, each_demands, either_among, front_among, back_among}
+use Rattle.at_model.proofs.Reached.{AreLost, reached, leads_in, in_leads, sees_in, in_sees, each_demands, either_among, front_among, back_among}
 
 -- tests that decide --------------------------------------------------------------------------------------------------
 
@@ -240,8 +240,25 @@ module _ (rules : Rules) (height : ℕ) where
   right : (t : Tree) → Right (content t) (equations rules) (values t)
   right t = below_right (content t) (equations rules) height
 
+  -- an instance with a fault has no value
+  abbrev has_fault : Option (Outcome Node) → Bool
+  has_fault None = false
+  has_fault (Some (Finds v)) = false
+  has_fault (Some (Faults f i)) = true
+
+  abbrev lost : Tree → Instance Node → Bool
+  lost t i = has_fault (outcome_at (content t) (equations rules) height i)
+
+  are_lost : (t : Tree) → AreLost (content t) (equations rules) (lost t)
+  are_lost t i v e h = by_outcome (outcome_at (content t) (equations rules) height i) refl e
+    where
+      by_outcome : (o : Option (Outcome Node)) → outcome_at (content t) (equations rules) height i ≡ o → has_fault o ≡ true → ⊥
+      by_outcome None is e = cc
+      by_outcome (Some (Finds w)) is e = cc
+      by_outcome (Some (Faults f j)) is e = let s : Finds v ≡ Faults f j = once (content t) (equations rules) i (Finds v) (Faults f j) h (height, is) in cc
+
   abbrev reach : Tree → Instance Node → Option (List (Instance Node))
-  reach t i = reached (content t) (equations rules) (values t) height i
+  reach t i = reached (content t) (equations rules) (values t) (lost t) height i
 
   -- questions ---------------------------------------------------------------------------------------------------------
 
@@ -311,11 +328,11 @@ module _ (rules : Rules) (height : ℕ) where
     worth_of a m w =
         let (lazy, known) = both_of (is_lazy rules a.attribute) (is_some (values t a)) w in
         let (v, e) = some_value (values t a) known in
-        record { reached = in_leads (content t) (equations rules) (values t) (right t) height q a rs is m; lazy = lazy; value = v; has = right t a v e }
+        record { reached = in_leads (content t) (equations rules) (values t) (lost t) (right t) (are_lost t) height q a rs is m; lazy = lazy; value = v; has = right t a v e }
 
     of_worth : (a : Instance Node) → IsWorthKeeping rules t q a → Among a rs × (is_worth t a ≡ true)
     of_worth a w =
-        let m : Among a rs = leads_in (content t) (equations rules) (values t) (right t) height q a rs is w.reached in
+        let m : Among a rs = leads_in (content t) (equations rules) (values t) (lost t) (right t) (are_lost t) height q a rs is w.reached in
         (m, by_lazy (is_lazy rules a.attribute) (outcome_at (content t) (equations rules) height a) refl w.lazy (passed (is_told t) rs told a m))
       where
         by_lazy : (b : Bool) (o : Option (Outcome Node)) → outcome_at (content t) (equations rules) height a ≡ o → b ≡ true → (not b || is_some o) ≡ true → (b && is_some (value_in o)) ≡ true
@@ -372,9 +389,9 @@ module _ (rules : Rules) (height : ℕ) where
 
   untouched : (t : Tree) (e : Edit) (i : Instance Node) (rs : List (Instance Node)) → reach t i ≡ Some rs → is_touched t e rs ≡ false → IsUntouched rules t e i
   untouched t e i rs is none l s =
-      let among = leads_in (content t) (equations rules) (values t) (right t) height i s.0 rs is s.1 in
-      let d = each_demands (content t) (equations rules) (values t) height i s.0 rs is among in
-      let seen = sees_in (content t) (equations rules) (values t) (right t) (equations rules s.0) l d.0 d.1 s.2 in
+      let among = leads_in (content t) (equations rules) (values t) (lost t) (right t) (are_lost t) height i s.0 rs is s.1 in
+      let d = each_demands (content t) (equations rules) (values t) (lost t) height i s.0 rs is among in
+      let seen = sees_in (content t) (equations rules) (values t) (lost t) (right t) (are_lost t) (equations rules s.0) l d.0 d.1 s.2 in
       by_test (touches e l) refl (flat_in (reads_of t) rs s.0 l among seen)
     where
       by_test : (b : Bool) → touches e l ≡ b → Among l (flat_map (reads_of t) rs) → touches e l ≡ false
@@ -385,7 +402,7 @@ module _ (rules : Rules) (height : ℕ) where
   touched t e i rs is some none =
       let (l, m, f) = passing_one (touches e) (flat_map (reads_of t) rs) some in
       let (j, n, seen) = in_flat (reads_of t) rs l m in
-      let g : touches e l ≡ false = none l (j, in_leads (content t) (equations rules) (values t) (right t) height i j rs is n, in_sees (content t) (equations rules) (values t) (right t) (equations rules j) l seen) in cc
+      let g : touches e l ≡ false = none l (j, in_leads (content t) (equations rules) (values t) (lost t) (right t) (are_lost t) height i j rs is n, in_sees (content t) (equations rules) (values t) (right t) (equations rules j) l seen) in cc
 
   -- kept among these, not touched, and then called this
   abbrev Stays : Tree → Edit → List (Instance Node) → Instance Node → Type 0

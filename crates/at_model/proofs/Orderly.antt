@@ -1,23 +1,22 @@
 -- Each session's marks stay apart and few, and the version stays one that there can be, over every line.
-use Rattle.std.proofs.Common.{◌≡◌, ℕ, ◌+◌, ◌<◌, ◌≤◌, Bool, true, false, not, ◌&&◌, cond, nat_eq, nat_le, if◌then◌else◌, List, [], ◌∷◌, ◌++◌, map, Option, Some, None, Result, Ok, Err, ◌⊎◌, inl, inr, refl, sym, ap, ◌∙◌, subst, arith, filter, option_map}
+use Rattle.std.proofs.Common.{◌≡◌, ℕ, ◌+◌, ◌<◌, ◌≤◌, Bool, true, false, not, cond, nat_eq, nat_le, if◌then◌else◌, List, [], ◌∷◌, ◌++◌, map, Option, Some, None, Result, Ok, Err, ◌⊎◌, inl, inr, refl, sym, ap, ◌∙◌, subst, arith, filter, option_map}
 use Rattle.std.specs.Prelude.{is_some}
 use Rattle.std.specs.List.{count_by, find, cons_option}
 use Rattle.std.specs.Str.{bytes_eq}
 use Rattle.std.proofs.lemmas.Bool.{eqb-true, eqb-false, eq-eqb, leb-true, leb-false}
 use Rattle.std.proofs.lemmas.Slice.Eq.{bytes_eq-Decides}
 use Rattle.std.proofs.lemmas.List.Recursion.{is_count_by}
-use Rattle.at_model.specs.Classes.{Classes}
 use Rattle.at_model.specs.Trees.{Tree}
 use Rattle.at_model.specs.Paths.{Node, tree_at}
 use Rattle.at_model.specs.Run.{Value}
-use Rattle.at_model.specs.Rules.{Rules, attribute_named}
+use Rattle.at_model.specs.Rules.{Rules}
 use Rattle.at_model.specs.Meaning.{Among, Distinct}
 use Rattle.at_model.specs.Edits.{Edit, carried, edited}
 use Rattle.at_model.specs.Edits as edit
 use Rattle.at_model.specs.Lines.{Line, Command, Ask, Set, Put, Drop, Insert, Token, Show, Mark, Unmark, Where, Version, last_version}
 use Rattle.at_model.specs.Replies.{Reply, Code}
 use Rattle.at_model.specs.Replies as code
-use Rattle.at_model.specs.Machine.{State, Marked, Verdict, Refuses, Tells, Leaves, Edits, Asks, Answering, Handles, obeys, refuses, Serves, after, verdict, obeyed, changed, code_of, carried_marks, is_mark, is_marked, marked, max_marks, each, value_named, questioned, fit_parameters, parameters_of, with_mark, with_component, with_tree}
+use Rattle.at_model.specs.Machine.{State, Marked, Verdict, Refuses, Leaves, Edits, Answering, Handles, obeys, refuses, Serves, after, verdict, obeyed, changed, code_of, carried_marks, is_mark, is_marked, marked, max_marks, each, value_named, questioned, fit_parameters, parameters_of}
 use Rattle.at_model.specs.Enduring.{key, IsOrderly}
 use Rattle.at_model.proofs.Options.{and_true}
 use Rattle.at_model.proofs.Changes.{if_both, at_option, node_all, component_all, tree_all, whole}
@@ -60,7 +59,6 @@ carried_apart e (m ∷ ms) d = at_mark (carried e m.node) (carried_apart e ms d.
     at_mark : (o : Option Node) → Distinct (map key (carried_marks e ms)) → Distinct (map key (cons_option (option_map (λ n. record m { node = n }) o) (carried_marks e ms)))
     at_mark None rest = rest
     at_mark (Some n) rest = ((λ h. d.0 (carried_key e ms (key m) h)), rest)
-
 
 carried_few : (e : Edit) (session : ℕ) (ms : List Marked) → count_by (λ m. nat_eq session m.session) (carried_marks e ms) ≤ count_by (λ m. nat_eq session m.session) ms
 carried_few e session [] = omega arith

@@ -1,18 +1,25 @@
 -- What a try reads and demands is what the evaluation sees and comes to.
-use Rattle.std.proofs.Common.{◌≡◌, true, List, [], ◌∷◌, Option, Some, None, ◌↔◌, inl, inr, refl, sym}
+use Rattle.std.proofs.Common.{◌≡◌, Bool, true, false, cond, List, [], ◌∷◌, Option, Some, None, ◌↔◌, inl, inr, refl, sym}
 use Rattle.at_model.specs.Run.{Value, Instance, Location, Run, Gives, Fails, Looks, Demands, Tried, Needs, Contents, Known, tried, reads, demands, has_ended}
 use Rattle.at_model.specs.Meaning.{Equations, HasValue, Reaches, Among, Right}
 use Rattle.at_model.specs.Support.{Sees}
-use Rattle.at_model.proofs.Reached.{onto, demanded, reaches_in, sees_in, in_sees}
+use Rattle.at_model.proofs.Reached.{AreLost, onto, demanded, reaches_in, sees_in, in_sees}
+
+-- where nothing is lost
+abbrev nowhere : {N : Type 0} → Instance N → Bool
+nowhere i = false
+
+none_lost : {N : Type 0} (look : Contents N) (equation : Equations N) → AreLost look equation nowhere
+none_lost look equation i v e h = absurd cc
 
 -- a try that ends is told a value for each demand
 told_at : {N A : Type 0} (look : Contents N) (known : Known N) (i : Instance N) (k : Value N → Run N A) (o : Option (Value N)) → has_ended (elim o as (λ _. Tried N A) [ None ↦ Needs i | Some v ↦ tried look known (k v) ]) ≡ true →
-    ((v : Value N) → has_ended (tried look known (k v)) ≡ true → demanded look known (k v) ≡ Some (demands look known (k v))) →
-    elim o [ None ↦ None | Some v ↦ onto i (demanded look known (k v)) ] ≡ Some (i ∷ elim o as (λ _. List (Instance N)) [ None ↦ [] | Some v ↦ demands look known (k v) ])
+    ((v : Value N) → has_ended (tried look known (k v)) ≡ true → demanded look known nowhere (k v) ≡ Some (demands look known (k v))) →
+    elim o [ None ↦ cond (nowhere i) (Some (i ∷ [])) None | Some v ↦ onto i (demanded look known nowhere (k v)) ] ≡ Some (i ∷ elim o as (λ _. List (Instance N)) [ None ↦ [] | Some v ↦ demands look known (k v) ])
 told_at look known i k None e more = absurd cc
 told_at look known i k (Some v) e more = rw (more v e) refl
 
-all_told : {N A : Type 0} (look : Contents N) (known : Known N) (r : Run N A) → has_ended (tried look known r) ≡ true → demanded look known r ≡ Some (demands look known r)
+all_told : {N A : Type 0} (look : Contents N) (known : Known N) (r : Run N A) → has_ended (tried look known r) ≡ true → demanded look known nowhere r ≡ Some (demands look known r)
 all_told look known (Gives a) e = refl
 all_told look known (Fails f) e = refl
 all_told look known (Looks l k) e = all_told look known (k (look l)) e
@@ -34,8 +41,8 @@ comes_to look equation known right (Demands i k) j (inr h) = inr (come_at look e
 
 pub reads_exact : {N A : Type 0} (look : Contents N) (equation : Equations N) (known : Known N) → Right look equation known → (r : Run N A) → has_ended (tried look known r) ≡ true → (l : Location N) →
     Among l (reads look known r) ↔ Sees look (HasValue look equation) r l
-reads_exact look equation known right r ended l = (in_sees look equation known right r l, sees_in look equation known right r l (demands look known r) (all_told look known r ended))
+reads_exact look equation known right r ended l = (in_sees look equation known right r l, sees_in look equation known nowhere right (none_lost look equation) r l (demands look known r) (all_told look known r ended))
 
 pub demands_exact : {N A : Type 0} (look : Contents N) (equation : Equations N) (known : Known N) → Right look equation known → (r : Run N A) → has_ended (tried look known r) ≡ true → (j : Instance N) →
     Among j (demands look known r) ↔ Reaches look (HasValue look equation) r j
-demands_exact look equation known right r ended j = (comes_to look equation known right r j, reaches_in look equation known right r j (demands look known r) (all_told look known r ended))
+demands_exact look equation known right r ended j = (comes_to look equation known right r j, reaches_in look equation known nowhere right (none_lost look equation) r j (demands look known r) (all_told look known r ended))

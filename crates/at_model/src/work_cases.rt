@@ -29,7 +29,7 @@ pub fn works_of_values()
     ensures name { Works calc opened
         ("0 ask /Block/Stmt:1/Expr value()" ⇢ 8
         ∷ "0 token /Block/Stmt:0 ID \"y\"" ⇢ 0
-        ∷ "0 ask /Block/Stmt:1/Expr/Left decl()" ⇢ 3
+        ∷ "0 ask /Block/Stmt:1/Expr value()" ⇢ 3
         ∷ []) }
     ensures inserted { Works calc opened
         ("0 ask /Block/Stmt:1/Expr value()" ⇢ 8

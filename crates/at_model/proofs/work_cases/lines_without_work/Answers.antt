@@ -1,4 +1,4 @@
-use Rattle.std.proofs.Common.{ℕ, [], ◌∷◌, pos, codes, refl, Some}
+use Rattle.std.proofs.Common.{[], ◌∷◌, pos, codes, refl, Some}
 use Rattle.std.specs.Fmt.{digits}
 use Rattle.at_model.specs.Classes.{chain}
 use Rattle.at_model.specs.Names.{reserved_words}

@@ -4,9 +4,9 @@ use Rattle.at_model.specs.Classes.{chain}
 use Rattle.at_model.specs.Names.{reserved_words}
 use Rattle.at_model.specs.Trees as tree
 use Rattle.at_model.specs.Terms as term
-use Rattle.at_model.specs.Lines.{Line, From_root, Ask, Drop, Insert, Put, Token}
+use Rattle.at_model.specs.Lines.{Line, From_root, Ask, Drop, Insert}
 use Rattle.at_model.specs.Samples.{calc}
-use Rattle.at_model.specs.SampleLines.{says, plain_step, list_step, block_path, statement_path, left_path, decl_y_term, num_term, opened}
+use Rattle.at_model.specs.SampleLines.{says, plain_step, list_step, block_path, statement_path, num_term, opened}
 use Rattle.at_model.proofs.Computed.{works}
 use Rattle.at_model.proofs.work_cases.works_after_drops.Goals as goal
 

@@ -3,7 +3,6 @@ use Rattle.std.specs.Fmt.{digits}
 use Rattle.at_model.specs.Classes.{chain}
 use Rattle.at_model.specs.Names.{reserved_words}
 use Rattle.at_model.specs.Trees as tree
-use Rattle.at_model.specs.Terms as term
 use Rattle.at_model.specs.Lines.{Line, From_root, Ask, Drop, Insert, Put, Token}
 use Rattle.at_model.specs.Samples.{calc}
 use Rattle.at_model.specs.SampleLines.{says, plain_step, list_step, block_path, statement_path, left_path, decl_y_term, num_term, opened}
@@ -40,4 +39,4 @@ returns-clause-declared c = works calc 9 opened (sum_at 1 ∷ says (Token (From_
 
 pub returns-clause-name : goal.returns-clause-name
 unfolding chain digits reserved_words
-returns-clause-name c = works calc 9 opened (sum_at 1 ∷ says (Token (From_root (statement_path 0)) (codes "ID") (tree.Text (codes "y"))) ∷ says (Ask (From_root left_path) (codes "decl") []) ∷ []) _ refl refl
+returns-clause-name c = works calc 9 opened (sum_at 1 ∷ says (Token (From_root (statement_path 0)) (codes "ID") (tree.Text (codes "y"))) ∷ sum_at 1 ∷ []) _ refl refl
