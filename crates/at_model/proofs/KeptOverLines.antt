@@ -13,7 +13,7 @@ use Rattle.at_model.specs.Keeping.{heard, state_after, KeptOver, AreWorks, IsTot
 use Rattle.at_model.proofs.Sound.{sound_line}
 use Rattle.at_model.proofs.WellKept.{kept_well}
 
-sound_heard : (rules : Rules) (s : State) (l : Option Line) → IsSound rules.classes s → IsSound rules.classes (after s (heard rules s l))
+pub sound_heard : (rules : Rules) (s : State) (l : Option Line) → IsSound rules.classes s → IsSound rules.classes (after s (heard rules s l))
 sound_heard rules s None sound = sound
 sound_heard rules s (Some l) sound = sound_line rules s sound l
 

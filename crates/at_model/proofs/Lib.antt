@@ -49,3 +49,4 @@ pub mod AlikeBack
 pub mod WellAsked
 pub mod Computed
 pub mod Orderly
+pub mod NothingLost

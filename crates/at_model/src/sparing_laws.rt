@@ -9,7 +9,7 @@ ghost use Rattle.at_model.specs.Support.{IsInstanceThere};
 ghost use Rattle.at_model.specs.Alike.{InstanceLike, Names};
 ghost use Rattle.at_model.specs.Edits.{Edit, carried, edited};
 ghost use Rattle.at_model.specs.Lines.{Line};
-ghost use Rattle.at_model.specs.Machine.{IsSound, State, Verdict};
+ghost use Rattle.at_model.specs.Machine.{Edits, IsSound, State, Verdict};
 ghost use Rattle.at_model.specs.Sparing.{AreWellKept, IsUntouched, IsWork, KeptAfter};
 ghost use Rattle.at_model.specs.Keeping.{IsTotalWork, KeptOver, Nothing, heard, max_work, state_after};
 
@@ -22,12 +22,18 @@ pub fn what_is_not_touched_is_carried()
 {}
 
 /// Over all lines, from a sound state in which nothing is kept, what is kept is lazy and has a value, with all
-/// lazy instances to which it leads; line by line it goes on as each line says.
+/// lazy instances to which it leads, and is of nodes of the tree; line by line it goes on as each line says.
+/// Over an edit nothing is lost that the edit doesn't touch.
 pub fn what_is_kept_over_lines()
     ensures well { (rules : Rules) (s : State) (ls : List (Option Line)) → IsSound rules.classes s
         → IsSound rules.classes (state_after rules s ls) × AreWellKept rules (state_after rules s ls).tree (KeptOver rules s ls Nothing) }
+    ensures there { (rules : Rules) (s : State) (ls : List (Option Line)) (i : Instance Node) → IsSound rules.classes s
+        → KeptOver rules s ls Nothing i → IsInstanceThere (state_after rules s ls).tree i }
     ensures next { (rules : Rules) (s : State) (ls : List (Option Line)) (l : Option Line) (i : Instance Node)
         → KeptOver rules s (ls ++ l ∷ []) Nothing i ↔ KeptAfter rules (state_after rules s ls) (heard rules (state_after rules s ls) l) (KeptOver rules s ls Nothing) i }
+    ensures edit { (rules : Rules) (s : State) (ls : List (Option Line)) (l : Option Line) (e : Edit) (t : Tree) (i : Instance Node) → IsSound rules.classes s
+        → heard rules (state_after rules s ls) l ≡ Edits e t → KeptOver rules s ls Nothing i → IsUntouched rules (state_after rules s ls).tree e i
+        → (j : Instance Node) × InstanceLike (Names (carried e)) i j × KeptOver rules s (ls ++ l ∷ []) Nothing j }
 {}
 
 /// The work of a line is one number, and so is that of lines from where nothing is kept. Each line adds its
