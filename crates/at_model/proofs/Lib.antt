@@ -50,3 +50,4 @@ pub mod WellAsked
 pub mod Computed
 pub mod Orderly
 pub mod NothingLost
+pub mod TokensKept

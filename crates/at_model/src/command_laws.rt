@@ -11,7 +11,7 @@ ghost use Rattle.at_model.specs.Run.{Instance};
 ghost use Rattle.at_model.specs.Meaning.{Answer};
 ghost use Rattle.at_model.specs.Support.{IsInstanceThere};
 ghost use Rattle.at_model.specs.Machine.{Asks, ByEquations, Handles, Serves, State, Step, after, carried_marks, is_edit, marked, node_named, verdict};
-ghost use Rattle.at_model.specs.Enduring.{IsOrderly};
+ghost use Rattle.at_model.specs.Enduring.{AreTokens, IsOrderly};
 ghost use Rattle.at_model.specs.Asking.{IsWellFormed};
 ghost use Rattle.at_model.specs.Effects.{IsEditOf, is_about_mark, is_marking, is_question};
 
@@ -64,4 +64,10 @@ pub fn what_is_asked_is_well_formed()
 pub fn an_orderly_state_stays_orderly()
     ensures { (rules : Rules) (b : Bool) (old : State) (bytes : List ℕ) (new : State) (reply : Reply)
         → IsOrderly old → Serves rules (ByEquations rules) b old bytes new reply → IsOrderly new }
+{}
+
+/// Where all tokens of the tree are ones that can be written, they are so after each line.
+pub fn tokens_stay_tokens()
+    ensures { (rules : Rules) (b : Bool) (old : State) (bytes : List ℕ) (new : State) (reply : Reply)
+        → AreTokens old.tree → Serves rules (ByEquations rules) b old bytes new reply → AreTokens new.tree }
 {}

@@ -38,6 +38,7 @@ pub use command_laws::an_orderly_state_stays_orderly;
 pub use command_laws::every_line_has_a_reply;
 pub use command_laws::marks_are_made_and_forgotten;
 pub use command_laws::other_commands_change_their_mark_alone;
+pub use command_laws::tokens_stay_tokens;
 pub use command_laws::what_is_asked_is_well_formed;
 pub use edit_cases::edits_that_are_refused;
 pub use edit_cases::what_a_list_touches;
