@@ -20,7 +20,7 @@ use Rattle.at_model.specs.Touches.{touches}
 use Rattle.at_model.specs.Lines.{Line, Spells, line_text}
 use Rattle.at_model.specs.Machine.{State, Verdict, Refuses, Tells, Leaves, Edits, Asks, after}
 use Rattle.at_model.specs.Sparing.{IsWorthKeeping, IsUntouched, KeptAfter, AreAdded, IsWork}
-use Rattle.at_model.specs.Keeping.{heard, AreWorks, Nothing}
+use Rattle.at_model.specs.Keeping.{heard, AreWorks, NothingKept}
 use Rattle.at_model.specs.Working.{Effort, AreHeard, Works}
 use Rattle.at_model.proofs.PlainLines.{is_plain_line, spelled}
 use Rattle.at_model.proofs.Options.{led, mapped}
@@ -507,8 +507,8 @@ module _ (rules : Rules) (height : ℕ) where
           (subst (IsWork rules s (heard rules s l) Kept) ((nat_eq-is p.1 w).0 same_work) work, rest p.0 also more_works)
 
   -- from a state in which nothing is kept
-  pub computed : (s : State) (ls : List (Option Line)) (ws : List ℕ) → have_works s ls [] ws ≡ true → AreWorks rules s ls Nothing ws
-  computed s ls ws e = worked s ls Nothing [] ws (λ i. (λ none. none, λ none. none)) e
+  pub computed : (s : State) (ls : List (Option Line)) (ws : List ℕ) → have_works s ls [] ws ≡ true → AreWorks rules s ls NothingKept ws
+  computed s ls ws e = worked s ls NothingKept [] ws (λ i. (λ none. none, λ none. none)) e
 
   -- a test, which computes, that the lines are those of the bytes, and have these works
   abbrev pub are_lines : List Line → List Effort → Bool

@@ -9,7 +9,7 @@ use Rattle.at_model.specs.Meaning.{Among, Distinct}
 use Rattle.at_model.specs.Lines.{Line}
 use Rattle.at_model.specs.Machine.{State, Verdict, Refuses, Tells, Leaves, Edits, Asks, after, IsSound}
 use Rattle.at_model.specs.Sparing.{KeptAfter, AreWellKept, IsWork}
-use Rattle.at_model.specs.Keeping.{heard, state_after, KeptOver, AreWorks, IsTotalWork, Nothing, max_work}
+use Rattle.at_model.specs.Keeping.{heard, state_after, KeptOver, AreWorks, IsTotalWork, NothingKept, max_work}
 use Rattle.at_model.proofs.Sound.{sound_line}
 use Rattle.at_model.proofs.WellKept.{kept_well}
 
@@ -29,8 +29,8 @@ well_over : (rules : Rules) (s : State) (ls : List (Option Line)) (Kept : Instan
 well_over rules s [] Kept sound well = well
 well_over rules s (l ∷ ls) Kept sound well = well_over rules (after s (heard rules s l)) ls (KeptAfter rules s (heard rules s l) Kept) (sound_heard rules s l sound) (well_heard rules s l Kept sound well)
 
-pub well_from_nothing : (rules : Rules) (s : State) (ls : List (Option Line)) → IsSound rules.classes s → AreWellKept rules (state_after rules s ls).tree (KeptOver rules s ls Nothing)
-well_from_nothing rules s ls sound = well_over rules s ls Nothing sound (record { lazy = λ i none. absurd none; valued = λ i none. absurd none; deep = λ i j none leads is. none })
+pub well_from_nothing : (rules : Rules) (s : State) (ls : List (Option Line)) → IsSound rules.classes s → AreWellKept rules (state_after rules s ls).tree (KeptOver rules s ls NothingKept)
+well_from_nothing rules s ls sound = well_over rules s ls NothingKept sound (record { lazy = λ i none. absurd none; valued = λ i none. absurd none; deep = λ i j none leads is. none })
 
 -- a list without one of its elements
 without : {A : Type 0} (x : A) (ys : List A) → Among x ys → (zs : List A) × (length ys ≡ suc (length zs)) × ((a : A) → Among a ys → (a ≡ x) ⊎ Among a zs)

@@ -51,3 +51,4 @@ pub mod Computed
 pub mod Orderly
 pub mod NothingLost
 pub mod TokensKept
+pub mod WrittenTrees

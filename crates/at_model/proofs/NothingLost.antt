@@ -1,6 +1,6 @@
 -- What is kept over lines is of nodes of the tree, and what an edit doesn't touch of it is kept after the edit.
-use Rattle.std.proofs.Common.{◌≡◌, true, List, [], ◌∷◌, ◌++◌, Option, Some, None, Ok, inl, inr, refl, sym, subst}
-use Rattle.at_model.specs.Trees.{Tree, conforms}
+use Rattle.std.proofs.Common.{◌≡◌, List, [], ◌∷◌, ◌++◌, Option, Some, None, Ok, inl, inr, refl, sym, subst}
+use Rattle.at_model.specs.Trees.{Tree}
 use Rattle.at_model.specs.Paths.{Node}
 use Rattle.at_model.specs.Run.{Instance}
 use Rattle.at_model.specs.Rules.{Rules}
@@ -8,9 +8,9 @@ use Rattle.at_model.specs.Support.{IsInstanceThere}
 use Rattle.at_model.specs.Alike.{InstanceLike, Names}
 use Rattle.at_model.specs.Edits.{Edit, carried, edited}
 use Rattle.at_model.specs.Lines.{Line}
-use Rattle.at_model.specs.Machine.{State, Verdict, Edits, Asks, after, verdict, IsSound}
+use Rattle.at_model.specs.Machine.{State, Verdict, Edits, after, verdict, IsSound}
 use Rattle.at_model.specs.Sparing.{KeptAfter, IsUntouched}
-use Rattle.at_model.specs.Keeping.{heard, state_after, KeptOver, Nothing}
+use Rattle.at_model.specs.Keeping.{heard, state_after, KeptOver, NothingKept}
 use Rattle.at_model.proofs.Changes.{whole}
 use Rattle.at_model.proofs.Sound.{Safe, refused, told, asked, left, edits, safe}
 use Rattle.at_model.proofs.WithinTree.{demands_stay}
@@ -41,8 +41,8 @@ there_over : (rules : Rules) (s : State) (ls : List (Option Line)) (Kept : Insta
 there_over rules s [] Kept sound there = there
 there_over rules s (l ∷ ls) Kept sound there = there_over rules (after s (heard rules s l)) ls (KeptAfter rules s (heard rules s l) Kept) (sound_heard rules s l sound) (there_heard rules s Kept sound there l)
 
-pub kept_there : (rules : Rules) (s : State) (ls : List (Option Line)) → IsSound rules.classes s → AreThere (state_after rules s ls).tree (KeptOver rules s ls Nothing)
-kept_there rules s ls sound = there_over rules s ls Nothing sound (λ i none. absurd none)
+pub kept_there : (rules : Rules) (s : State) (ls : List (Option Line)) → IsSound rules.classes s → AreThere (state_after rules s ls).tree (KeptOver rules s ls NothingKept)
+kept_there rules s ls sound = there_over rules s ls NothingKept sound (λ i none. absurd none)
 
 -- the edit of a line is one that is accepted
 made_by : (rules : Rules) (s : State) (e : Edit) (t : Tree) (v : Verdict) → Safe rules.classes s v → v ≡ Edits e t → edited rules.classes s.tree e ≡ Ok t
@@ -57,9 +57,9 @@ made_heard rules s None e t sound is = absurd cc
 made_heard rules s (Some l) e t sound is = made_by rules s e t (verdict rules s l) (whole (Safe rules.classes s) refused rules s l (safe rules s sound l.session l.command)) is
 
 pub nothing_lost : (rules : Rules) (s : State) (ls : List (Option Line)) (l : Option Line) (e : Edit) (t : Tree) (i : Instance Node) → IsSound rules.classes s → heard rules (state_after rules s ls) l ≡ Edits e t →
-    KeptOver rules s ls Nothing i → IsUntouched rules (state_after rules s ls).tree e i → (j : Instance Node) × InstanceLike (Names (carried e)) i j × KeptOver rules s (ls ++ l ∷ []) Nothing j
+    KeptOver rules s ls NothingKept i → IsUntouched rules (state_after rules s ls).tree e i → (j : Instance Node) × InstanceLike (Names (carried e)) i j × KeptOver rules s (ls ++ l ∷ []) NothingKept j
 nothing_lost rules s ls l e t i sound is kept free =
     let made = made_heard rules (state_after rules s ls) l e t (sound_over rules s ls sound) is in
     let (j, like) = instance_carried rules (state_after rules s ls).tree t e made i (kept_there rules s ls sound i kept) free in
-    let P : Verdict → Type 0 = λ v. KeptAfter rules (state_after rules s ls) v (KeptOver rules s ls Nothing) j in
-    (j, like, (kept_next rules s ls l Nothing j).1 (subst P (sym is) (i, kept, free, like)))
+    let P : Verdict → Type 0 = λ v. KeptAfter rules (state_after rules s ls) v (KeptOver rules s ls NothingKept) j in
+    (j, like, (kept_next rules s ls l NothingKept j).1 (subst P (sym is) (i, kept, free, like)))

@@ -1,25 +1,19 @@
 -- The tokens of a tree stay ones that can be written over every line, and a tree that conforms is then written as a term.
-use Rattle.std.proofs.Common.{◌≡◌, ℕ, zero, suc, ◌+◌, ◌-◌, ◌<◌, ◌≤◌, max, Bool, true, false, ◌&&◌, List, [], ◌∷◌, length, Option, Some, None, Ok, refl, sym, ap, ◌∙◌, subst, arith}
-use Rattle.std.specs.List.{All, slice_get, insert, remove}
-use Rattle.std.specs.Str.{IsUtf8}
-use Rattle.at_model.specs.Names.{is_name}
-use Rattle.at_model.specs.Classes.{Classes, Class, Component, Shape, AreSound, IsClassSound, IsNamed, fits, is_concrete, is_sub, parts, name_of}
-use Rattle.at_model.specs.Classes as class
+use Rattle.std.proofs.Common.{◌≡◌, ℕ, zero, suc, ◌-◌, Bool, true, false, List, [], ◌∷◌, Option, Some, None, Ok, refl, sym, subst}
+use Rattle.std.specs.List.{insert, remove}
+use Rattle.at_model.specs.Classes.{Classes}
 use Rattle.at_model.specs.Trees.{Tree, Cells, Cell, Trees, One, Many, Empty, Filled, Holds, no_cells, cell, no_trees, tree, to_cells, from_cells, to_trees, from_trees, conforms, cells_conform, cell_conforms, trees_conform, depth, cells_depth, cell_depth, trees_depth}
 use Rattle.at_model.specs.Trees as trees
-use Rattle.at_model.specs.Terms.{IsToken, IsTerm, IsTermWithin, AreCellsWithin, IsCellWithin, AreTermsWithin, term_of, cells_of, cell_of, terms_of, max_depth}
-use Rattle.at_model.specs.Terms as term
+use Rattle.at_model.specs.Terms.{IsToken, IsTermWithin, AreCellsWithin, IsCellWithin, AreTermsWithin, term_of, cells_of, cell_of, terms_of, max_depth}
 use Rattle.at_model.specs.Paths.{Node, parent_of}
 use Rattle.at_model.specs.Rules.{Rules}
 use Rattle.at_model.specs.Edits.{Edit, Set, Put, Drop, Insert, Token, changed_at, with_child, with_cell, with_node, without_child, with_one_more, left_by, edited, has_component, fits_there, is_in_range, is_free, is_removable, is_within_limits}
 use Rattle.at_model.specs.Edits as edit
 use Rattle.at_model.specs.Lines.{Line, Command, IsCommand}
-use Rattle.at_model.specs.Lines as line
 use Rattle.at_model.specs.Replies.{Reply}
 use Rattle.at_model.specs.Machine.{State, Verdict, Answering, Step, Handles, obeys, refuses, Serves, after, verdict, is_edit}
 use Rattle.at_model.specs.Effects.{IsEditOf, set, put, drop, insert as inserted, token}
 use Rattle.at_model.specs.Enduring.{AreTokens, CellsAreTokens, CellIsTokens, TreesAreTokens}
-use Rattle.at_model.proofs.Options.{both}
 use Rattle.at_model.proofs.Conforming.{passed}
 use Rattle.at_model.proofs.Changes.{whole, other_step}
 use Rattle.at_model.proofs.Commanded.{IsChangeOf, refused, accepted, edit_of}

@@ -43,6 +43,6 @@ max_work = 18446744073709551615
 abbrev pub IsTotalWork : Rules → State → List (Option Line) → (Instance Node → Type 0) → ℕ → Type 0
 IsTotalWork rules s ls Kept total = (ws : List ℕ) × AreWorks rules s ls Kept ws × (total ≡ min (sum ws) max_work)
 
--- at the beginning nothing is kept
-abbrev pub Nothing : Instance Node → Type 0
-Nothing i = ⊥
+-- no instance is kept
+abbrev pub NothingKept : Instance Node → Type 0
+NothingKept i = ⊥

@@ -5,7 +5,7 @@ use Prim.Native.String.{String}
 use Rattle.at_model.specs.Rules.{Rules}
 use Rattle.at_model.specs.Lines.{Line}
 use Rattle.at_model.specs.Machine.{State}
-use Rattle.at_model.specs.Keeping.{IsHeard, AreWorks, Nothing}
+use Rattle.at_model.specs.Keeping.{IsHeard, AreWorks, NothingKept}
 
 -- the bytes of a line, and its work
 pub record Effort : Type 0 where
@@ -28,4 +28,4 @@ AreHeard (bytes ∷ rest) (l ∷ ls) = IsHeard bytes l × AreHeard rest ls
 pub record Works (rules : Rules) (s : State) (efforts : List Effort) : Type 0 where
   pub lines : List (Option Line)
   pub heard : AreHeard (map (λ e. e.line) efforts) lines
-  pub works : AreWorks rules s lines Nothing (map (λ e. e.work) efforts)
+  pub works : AreWorks rules s lines NothingKept (map (λ e. e.work) efforts)

@@ -1,9 +1,11 @@
 //! Laws of single commands: each is the contract of a function that does nothing.
 
 ghost use Rattle.std.specs.Prelude.{◌≡◌, ℕ, Bool, false, true, List, None, Ok};
-ghost use Rattle.at_model.specs.Trees.{Tree};
+ghost use Rattle.at_model.specs.Classes.{AreSound, Classes};
+ghost use Rattle.at_model.specs.Trees.{Tree, conforms};
+ghost use Rattle.at_model.specs.Terms.{IsTerm, term_of};
 ghost use Rattle.at_model.specs.Rules.{Rules};
-ghost use Rattle.at_model.specs.Edits.{Edit, edited};
+ghost use Rattle.at_model.specs.Edits.{Edit, edited, is_within_limits};
 ghost use Rattle.at_model.specs.Lines.{Line, Mark, Place, Spells, Unmark};
 ghost use Rattle.at_model.specs.Replies.{Done, Reply};
 ghost use Rattle.at_model.specs.Paths.{Node};
@@ -70,4 +72,11 @@ pub fn an_orderly_state_stays_orderly()
 pub fn tokens_stay_tokens()
     ensures { (rules : Rules) (b : Bool) (old : State) (bytes : List ℕ) (new : State) (reply : Reply)
         → AreTokens old.tree → Serves rules (ByEquations rules) b old bytes new reply → AreTokens new.tree }
+{}
+
+/// A tree that conforms to a class of sound classes, is within the limits and has tokens that can be written
+/// has a term that is one: `show` tells nothing else.
+pub fn a_sound_tree_is_written_as_a_term()
+    ensures { (classes : Classes) → AreSound classes → (t : Tree) (b : ℕ) → conforms classes t b ≡ true → is_within_limits t ≡ true
+        → AreTokens t → IsTerm (term_of classes t) }
 {}

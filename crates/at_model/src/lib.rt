@@ -33,6 +33,7 @@ pub use cases::second_demand;
 pub use cases::support;
 pub use cases::total;
 pub use cases::what_is_read;
+pub use command_laws::a_sound_tree_is_written_as_a_term;
 pub use command_laws::an_accepted_edit_is_that_of_its_command;
 pub use command_laws::an_orderly_state_stays_orderly;
 pub use command_laws::every_line_has_a_reply;
