@@ -20,13 +20,16 @@ component_named classes t n name = option_and_then (λ u. part_named classes (cl
 pub data IsEditOf (classes : Classes) (s : State) (session : ℕ) : Command → Edit → Type 0 where
   set : (place : Place) (n : Node) (new : Tree) → node_named classes s session place ≡ Some n →
       IsEditOf classes s session (Set place (term_of classes new)) (edit.Set n new)
-  put : (place : Place) (name : List ℕ) (n : Node) (part : ℕ) (new : Tree) → node_named classes s session place ≡ Some n → component_named classes s.tree n name ≡ Some part →
+  put : (place : Place) (name : List ℕ) (n : Node) (part : ℕ) (new : Tree) →
+      node_named classes s session place ≡ Some n → component_named classes s.tree n name ≡ Some part →
       IsEditOf classes s session (Put place name (term_of classes new)) (edit.Put n part new)
   drop : (place : Place) (n : Node) → node_named classes s session place ≡ Some n →
       IsEditOf classes s session (Drop place) (edit.Drop n)
-  insert : (place : Place) (name : List ℕ) (n : Node) (part index : ℕ) (new : Tree) → node_named classes s session place ≡ Some n → component_named classes s.tree n name ≡ Some part →
+  insert : (place : Place) (name : List ℕ) (n : Node) (part index : ℕ) (new : Tree) →
+      node_named classes s session place ≡ Some n → component_named classes s.tree n name ≡ Some part →
       IsEditOf classes s session (Insert place name index (term_of classes new)) (edit.Insert n part index new)
-  token : (place : Place) (name : List ℕ) (n : Node) (part : ℕ) (v : tree.Token) → node_named classes s session place ≡ Some n → component_named classes s.tree n name ≡ Some part →
+  token : (place : Place) (name : List ℕ) (n : Node) (part : ℕ) (v : tree.Token) →
+      node_named classes s session place ≡ Some n → component_named classes s.tree n name ≡ Some part →
       IsEditOf classes s session (Token place name v) (edit.Token n part v)
 
 -- the command makes or forgets the mark of that name
