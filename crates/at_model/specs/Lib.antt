@@ -19,7 +19,12 @@ pub mod Shaping
 pub mod Lines
 pub mod Replies
 pub mod Machine
+pub mod Effects
+pub mod Asking
+pub mod Enduring
 pub mod Sparing
+pub mod Keeping
 pub mod SampleLines
 pub mod Playing
 pub mod SampleSessions
+pub mod Working
