@@ -18,7 +18,7 @@ use Rattle.attrd.specs.declared.code.Code.TheVariants as code
 use Rattle.attrd.specs.declared.start.files.Source.{Source}
 use Rattle.attrd.specs.declared.start.fault.FileFault.TheVariants as file
 use Rattle.attrd.proofs.Started.{grammar_refuses, aspects_refuse, tree_refuses}
-use Rattle.attrd.proofs.start.start.Goals as goal
+use Rattle.attrd.proofs.start.start_with.Goals as goal
 
 pub returns-in-Err-clause-refused : goal.returns-in-Err-clause-refused
 returns-in-Err-clause-refused c =
