@@ -46,8 +46,9 @@ pub fn start_with<K: Keeper>(
     files: &Files,
     keeper: K,
 ) -> Result<Engine<K>, StartFault>
+    requires { KeepsAll (λ _. None) (K.contents keeper) }
     ensures started { IfOk result (λ e. Starts files.now (rules_of e) (state_of e)) }
-    ensures ready { KeepsAll (λ _. None) (K.contents keeper) → IfOk result (IsSound K.contents) }
+    ensures ready { IfOk result (IsSound K.contents) }
     ensures refused { IfErr result (IsStartFault files.now) }
 {
     let classes = match classes_of(alloc, &files.grammar.bytes) {
