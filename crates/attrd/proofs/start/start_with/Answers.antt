@@ -18,22 +18,22 @@ use Rattle.attrd.specs.declared.code.Code.TheVariants as code
 use Rattle.attrd.specs.declared.start.files.Source.{Source}
 use Rattle.attrd.specs.declared.start.fault.FileFault.TheVariants as file
 use Rattle.attrd.proofs.Started.{grammar_refuses, aspects_refuse, tree_refuses}
-use Rattle.attrd.proofs.start.start.Goals as goal
+use Rattle.attrd.proofs.start.start_with.Goals as goal
 
 pub returns-in-Err-clause-refused : goal.returns-in-Err-clause-refused
-returns-in-Err-clause-refused c =
+returns-in-Err-clause-refused g c =
     let fault = subst (λ (b : List ℕ). IsGrammarFault b c.in-Err.fault) c.deref.ensures.value c.in-Err.ensures.refused in
     subst (IsStartFault c.args.files.now) (sym c.of_file.ensures) (grammar_refuses c.args.files.now c.in-Err.fault fault)
 
 pub returns-in_err-rules-clause-refused : goal.returns-in_err-rules-clause-refused
-returns-in_err-rules-clause-refused c =
+returns-in_err-rules-clause-refused g c =
     let p = err_from_is_err_and c.from_residual.result c.from_residual.ensures.1 in
     let given = subst (λ (b : List ℕ). GivesClasses b c.in-Ok.classes) c.deref.ensures.value c.in-Ok.ensures.given in
     let fault = subst (λ (s : List Source). IsAspectFault c.in-Ok.classes (aspect_bytes s) c.in_err-rules.field-0.0) c.deref-2.ensures.value c.in_err-rules.ensures.refused in
     rw (p.1, p.2) (aspects_refuse c.args.files.now c.in-Ok.classes c.in_err-rules.field-0.0 given fault)
 
 pub returns-in-Err-tree_of-clause-refused : goal.returns-in-Err-tree_of-clause-refused
-returns-in-Err-tree_of-clause-refused c =
+returns-in-Err-tree_of-clause-refused g c =
     let files = c.args.files.now in
     let given = subst (λ (b : List ℕ). GivesClasses b c.in-Ok.classes) c.deref.ensures.value c.in-Ok.ensures.given in
     let rules = subst (λ (s : List Source). GivesRules c.in-Ok.classes (aspect_bytes s) c.in_ok-rules.rules) c.deref-2.ensures.value c.in_ok-rules.ensures.given in
@@ -43,7 +43,7 @@ returns-in-Err-tree_of-clause-refused c =
     rw (c.of_file-in-Err-tree_of.ensures, count) (tree_refuses files c.in-Ok.classes c.in_ok-rules.rules c.in-Err-tree_of.fault given rules fault)
 
 pub returns-in-Err-Limit-clause-refused : goal.returns-in-Err-Limit-clause-refused
-returns-in-Err-Limit-clause-refused c =
+returns-in-Err-Limit-clause-refused g c =
     let files = c.args.files.now in
     let t = tree_view c.in-Ok-tree_of.tree in
     let bytes = files.tree.bytes.items in
@@ -59,7 +59,7 @@ returns-in-Err-Limit-clause-refused c =
     rw (c.of_file-in-Err-Limit.ensures, c.refused-in-Err-Limit.ensures, count) (tree_refuses files c.in-Ok.classes c.in_ok-rules.rules (file.Refused code.TreeLimit None) given rules (no_room t text written whole load.1))
 
 pub returns-in-Ok-new-clause-started : goal.returns-in-Ok-new-clause-started
-returns-in-Ok-new-clause-started c =
+returns-in-Ok-new-clause-started g c =
     let files = c.args.files.now in
     let t = tree_view c.in-Ok-tree_of.tree in
     let bytes = files.tree.bytes.items in
@@ -71,7 +71,7 @@ returns-in-Ok-new-clause-started c =
     let there = subst (λ (b : List ℕ). IsTermFile b (term_of c.classes.result.now t)) c.deref-3.ensures.value c.in-Ok-tree_of.ensures.written in
     let written = subst (λ (k : Classes). IsTermFile bytes (term_of k t)) same there in
     let whole = subst (λ (k : Classes). conforms k t 0 ≡ true) same c.in-Ok-tree_of.ensures.whole in
-    let sound = c.in-Ok-new.ensures.sound c.new.ensures in
+    let sound = c.in-Ok-new.ensures.sound c.requires in
     let within = subst (λ (s : State). is_within_limits s.tree ≡ true) c.in-Ok-new.ensures.first sound.idle.limits in
     record {
       classes = c.in-Ok.classes;
