@@ -8,6 +8,7 @@ pub mod Declaring
 pub mod Bound
 pub mod Numbering
 pub mod EquationKeys
+pub mod AttributeKeys
 pub mod AccessorNames
 pub mod Twice
 pub mod Ruling
