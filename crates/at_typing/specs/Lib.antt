@@ -11,6 +11,9 @@ pub mod EquationKeys
 pub mod AccessorNames
 pub mod Twice
 pub mod Ruling
+pub mod Meanings
+pub mod Seen
+pub mod Building
 pub mod Walks
 pub mod Hierarchies
 pub mod Completing

@@ -1,0 +1,103 @@
+-- What the values of meanings stand for.
+use Rattle.std.specs.Prelude.{◌≡◌, ℕ, Bool, ◌&&◌, nat_eq, List, Option, Some, None, map, option_map, Result, Ok, Err}
+use Rattle.std.specs.Option.{option_eq}
+use Rattle.indexmap.specs.IndexMap.{insert_entry}
+use Rattle.at_model.specs.Bodies.{Expr}
+use Rattle.at_model.specs.Rules.{Attribute, OwnEquation}
+use Rattle.at_model.specs.Rules as model
+use Rattle.at_rules.specs.Bodies.{kind_view, body_view}
+use Rattle.at_rules.specs.RulesView.{own_view}
+use Rattle.at_rules.specs.declared.body.Body.{Body as BodyValue}
+use Rattle.at_rules.specs.declared.rules.Attribute.{Attribute as AttributeValue}
+use Rattle.at_rules.specs.declared.rules.Equations.{Equations}
+use Rattle.at_typing.specs.Declaring.{name_text}
+use Rattle.at_typing.specs.Judging.{Judgement, Is, Wrong}
+use Rattle.at_typing.specs.Located.{Located}
+use Rattle.at_typing.specs.Meanings.{Meaning, signatures, inherited_equation}
+use Rattle.at_typing.specs.declared.meaning.Among.{Among}
+use Rattle.at_typing.specs.declared.typing.TypeFault.{TypeFault}
+use Rattle.at_typing.specs.declared.typing.TypeFault.TheVariants.{Refused, Memory}
+
+-- an attribute of a class, which the declaration declares
+abbrev pub attribute_of : Located → ℕ × AttributeValue → Attribute
+attribute_of d e = record {
+  name = name_text d;
+  class = e.0;
+  parameters = map kind_view e.1.params.items;
+  result = kind_view e.1.result;
+  is_lazy = e.1.is_lazy;
+  is_inherited = e.1.is_inherited;
+}
+
+-- an attribute's number, and the body of an equation for it
+abbrev pub equation_view : ℕ × BodyValue → ℕ × Expr
+equation_view e = (e.0, body_view e.1)
+
+-- keys of the maps
+abbrev pub same_key : ℕ × ℕ → ℕ × ℕ → Bool
+same_key j k = nat_eq j.0 k.0 && nat_eq j.1 k.1
+
+abbrev pub same_place : ℕ × Option ℕ × ℕ → ℕ × Option ℕ × ℕ → Bool
+same_place j k = (nat_eq j.0 k.0 && option_eq nat_eq j.1 k.1) && nat_eq j.2 k.2
+
+-- the attribute that is judged stands by its class and that name, or its first fault is told
+abbrev pub Declares : Located → (name : ℕ) → Judgement Attribute → (old new : List ((ℕ × ℕ) × AttributeValue)) → Result ℕ TypeFault → Type 0
+Declares d n j old new (Ok c) = (a : AttributeValue) × (j ≡ Is (attribute_of d (c, a))) × (new ≡ insert_entry same_key old (c, n) a)
+Declares d n j old new (Err (Refused code at)) = j ≡ Wrong code at
+Declares d n j old new (Err Memory) = Unit {0}
+
+-- the body that is judged stands by the class and its attribute, or its first fault is told
+abbrev pub AddsOwn : (class : ℕ) → Judgement (ℕ × Expr) → (old new : List ((ℕ × ℕ) × BodyValue)) → Result (Unit {0}) TypeFault → Type 0
+AddsOwn c j old new (Ok u) = (e : ℕ × BodyValue) × (j ≡ Is (equation_view e)) × (new ≡ insert_entry same_key old (c, e.0) e.1)
+AddsOwn c j old new (Err (Refused code at)) = j ≡ Wrong code at
+AddsOwn c j old new (Err Memory) = Unit {0}
+
+-- the body that is judged stands by the class, the component and that name, or its first fault is told
+abbrev pub AddsInherited : (class : ℕ) → Option ℕ → (name : ℕ) → Judgement (ℕ × Expr) → (old new : List ((ℕ × Option ℕ × ℕ) × BodyValue)) → Result (Unit {0}) TypeFault → Type 0
+AddsInherited c part n j old new (Ok u) = (e : ℕ × BodyValue) × (j ≡ Is (equation_view e)) × (new ≡ insert_entry same_place old (c, part, n) e.1)
+AddsInherited c part n j old new (Err (Refused code at)) = j ≡ Wrong code at
+AddsInherited c part n j old new (Err Memory) = Unit {0}
+
+-- what a declaration adds to the maps, without the number of its name
+pub record Added : Type 0 where
+  pub attribute : Option (ℕ × AttributeValue)
+  pub own : Option ((ℕ × ℕ) × BodyValue)
+  pub inherited : Option ((ℕ × Option ℕ) × BodyValue)
+
+-- an equation of a class for the nodes in a component, or in each one, of the attribute that the declaration names
+abbrev pub inherited_of : Located → (ℕ × Option ℕ) × BodyValue → model.InheritedEquation
+inherited_of d e = inherited_equation d e.0.0 e.0.1 (body_view e.1)
+
+abbrev pub meaning_of : Located → Added → Meaning
+meaning_of d m = record {
+  attribute = option_map (attribute_of d) m.attribute;
+  own = option_map own_view m.own;
+  inherited = option_map (inherited_of d) m.inherited;
+}
+
+abbrev pub attribute_by : (name : ℕ) → ℕ × AttributeValue → (ℕ × ℕ) × AttributeValue
+attribute_by n e = ((e.0, n), e.1)
+
+abbrev pub inherited_by : (name : ℕ) → (ℕ × Option ℕ) × BodyValue → (ℕ × Option ℕ × ℕ) × BodyValue
+inherited_by n e = ((e.0.0, e.0.1, n), e.1)
+
+-- the entry is inserted, if there is one
+abbrev pub with_entry : {K V : Type 0} → (K → K → Bool) → List (K × V) → Option (K × V) → List (K × V)
+with_entry eq es None = es
+with_entry eq es (Some e) = insert_entry eq es e.0 e.1
+
+-- that is inserted into the maps, where the name has that number
+pub record Inserts (n : ℕ) (m : Added) (old new : Equations) : Type 0 where
+  pub attributes : new.attributes.entries ≡ with_entry same_key old.attributes.entries (option_map (attribute_by n) m.attribute)
+  pub own : new.own.entries ≡ with_entry same_key old.own.entries m.own
+  pub inherited : new.inherited.entries ≡ with_entry same_place old.inherited.entries (option_map (inherited_by n) m.inherited)
+
+-- what the declaration means is inserted, where its name has that number, or its first fault is told
+abbrev pub Adds : Located → (name : ℕ) → Judgement Meaning → (old new : Equations) → Result (Unit {0}) TypeFault → Type 0
+Adds d n j old new (Ok u) = (m : Added) × (j ≡ Is (meaning_of d m)) × Inserts n m old new
+Adds d n j old new (Err (Refused code at)) = j ≡ Wrong code at
+Adds d n j old new (Err Memory) = Unit {0}
+
+-- the attributes are those of the declarations
+pub record IsAmong (ds : List Located) (a : Among) : Type 0 where
+  pub signatures : a.signatures.now ≡ signatures a.classes.now ds
