@@ -18,3 +18,7 @@ mod Lacking
 mod Children
 mod Completed
 mod Adding
+mod MeaningParts
+mod Gathering
+mod InOrder
+mod Built

@@ -1,20 +1,30 @@
 -- What the values of meanings stand for.
-use Rattle.std.specs.Prelude.{◌≡◌, ℕ, Bool, ◌&&◌, nat_eq, List, Option, Some, None, map, option_map, Result, Ok, Err}
+use Rattle.std.specs.Prelude.{◌≡◌, ℕ, Bool, ◌&&◌, nat_eq, List, Option, Some, None, map, option_map, Result, Ok, Err, All, String}
+use Rattle.std.specs.Global.{Global}
+use Rattle.std.specs.List.{filter_map}
 use Rattle.std.specs.Option.{option_eq}
 use Rattle.indexmap.specs.IndexMap.{insert_entry}
 use Rattle.at_model.specs.Bodies.{Expr}
 use Rattle.at_model.specs.Rules.{Attribute, OwnEquation}
 use Rattle.at_model.specs.Rules as model
 use Rattle.at_rules.specs.Bodies.{kind_view, body_view}
-use Rattle.at_rules.specs.RulesView.{own_view}
+use Rattle.at_rules.specs.RulesView.{attribute_view, own_view, inherited_view, named}
 use Rattle.at_rules.specs.declared.body.Body.{Body as BodyValue}
 use Rattle.at_rules.specs.declared.rules.Attribute.{Attribute as AttributeValue}
 use Rattle.at_rules.specs.declared.rules.Equations.{Equations}
-use Rattle.at_typing.specs.Declaring.{name_text}
+use Rattle.at_model.specs.Classes.{Classes}
+use Rattle.at_typing.specs.AttributeKeys.{AreAttributes, IsAmong}
+use Rattle.at_typing.specs.Building.{meanings, refusal}
+use Rattle.at_typing.specs.Declaring.{fault_at, name_text}
 use Rattle.at_typing.specs.Judging.{Judgement, Is, Wrong}
 use Rattle.at_typing.specs.Located.{Located}
 use Rattle.at_typing.specs.Meanings.{Meaning, signatures, inherited_equation}
+use Rattle.at_typing.specs.Numbering.{numbered_view, IsNamed}
+use Rattle.at_typing.specs.declared.fault.Fault.{Fault}
+use Rattle.at_typing.specs.declared.fault.RuleFault.{RuleFault}
+use Rattle.at_typing.specs.declared.fault.RuleFault.TheVariants as fault
 use Rattle.at_typing.specs.declared.meaning.Among.{Among}
+use Rattle.at_typing.specs.declared.numbered.Numbered.{Numbered as NumberedValue}
 use Rattle.at_typing.specs.declared.typing.TypeFault.{TypeFault}
 use Rattle.at_typing.specs.declared.typing.TypeFault.TheVariants.{Refused, Memory}
 
@@ -98,6 +108,37 @@ Adds d n j old new (Ok u) = (m : Added) × (j ≡ Is (meaning_of d m)) × Insert
 Adds d n j old new (Err (Refused code at)) = j ≡ Wrong code at
 Adds d n j old new (Err Memory) = Unit {0}
 
--- the attributes are those of the declarations
-pub record IsAmong (ds : List Located) (a : Among) : Type 0 where
-  pub signatures : a.signatures.now ≡ signatures a.classes.now ds
+-- what is known of attributes is what these declarations declare, and the numbers of this one are right among theirs
+pub record IsAbout (ds : List NumberedValue) (a : Among) (d : NumberedValue) : Type 0 where
+  pub signatures : a.signatures.now ≡ signatures a.classes.now (map numbered_view ds)
+  pub attributes : AreAttributes ds a.attributes.now
+  pub numbers : IsAmong a.classes.now ds d
+
+-- the equations are what is meant, where their names have these numbers
+pub record Stands {Z : Type 0} (names : List (String Z)) (ms : List Meaning) (e : Equations) : Type 0 where
+  pub attributes : map (attribute_view names) e.attributes.entries ≡ filter_map (λ (m : Meaning). m.attribute) ms
+  pub own : map own_view e.own.entries ≡ filter_map (λ (m : Meaning). m.own) ms
+  pub inherited : map (inherited_view names) (named names e.inherited.entries) ≡ filter_map (λ (m : Meaning). m.inherited) ms
+
+-- what the declarations mean, where there is no fault; else the fault is told; of want of memory nothing is said
+abbrev pub Means : Classes → List NumberedValue → Option Fault → Result Equations RuleFault → Type 0
+Means classes ds first (Ok e) = (first ≡ None) × ((names : List (String Global)) → All (IsNamed names) ds → Stands names (meanings classes (map numbered_view ds) (map numbered_view ds)) e)
+Means classes ds first (Err (fault.Refused f)) = first ≡ Some f
+Means classes ds first (Err fault.Memory) = Unit {0}
+
+-- it is the fault that is told, or there is none; of want of memory nothing is said
+abbrev pub Tells : (Option Fault → Type 0) → Result (Unit {0}) RuleFault → Type 0
+Tells IsFault (Ok u) = IsFault None
+Tells IsFault (Err (fault.Refused f)) = IsFault (Some f)
+Tells IsFault (Err fault.Memory) = Unit {0}
+
+-- the declaration's fault, with its file
+abbrev pub refusal_of : Located → TypeFault → RuleFault
+refusal_of d (Refused c at) = fault.Refused (fault_at c d at)
+refusal_of d Memory = fault.Memory
+
+-- what the declaration means is inserted, or its first fault is told
+abbrev pub AddsOrTells : Located → (name : ℕ) → Judgement Meaning → (old new : Equations) → Result (Unit {0}) RuleFault → Type 0
+AddsOrTells d n j old new (Ok u) = (m : Added) × (j ≡ Is (meaning_of d m)) × Inserts n m old new
+AddsOrTells d n j old new (Err (fault.Refused f)) = refusal d j ≡ Some f
+AddsOrTells d n j old new (Err fault.Memory) = Unit {0}

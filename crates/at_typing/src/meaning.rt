@@ -8,14 +8,14 @@ ghost use Rattle.at_rules.specs.Bodies.{body_view};
 ghost use Rattle.at_typing.specs.Accessors.{shape_of};
 ghost use Rattle.at_typing.specs.Declaring.{class_text, name_text, synthesized_named, inherited_named};
 ghost use Rattle.at_typing.specs.Judging.{and_then};
-ghost use Rattle.at_typing.specs.Located.{Located};
 ghost use Rattle.at_typing.specs.Meanings.{body_if, body_meant, attribute_meant, declared_alone, synthesized_meant, equation_meant, equation_below_meant, form_meant, meant as meant_by_itself};
 ghost use Rattle.at_typing.specs.Numbering.{numbered_view};
 ghost use Rattle.at_typing.specs.Ruling.{class_named, kind_named, param_named, params_named, can_be_passed, passed_if, is_kind, is_same, param_as_declared, as_declared, is_component, component_at, component_got, is_many, index_of_list, bound};
-ghost use Rattle.at_typing.specs.Seen.{attribute_of, equation_view, Declares, AddsOwn, AddsInherited, Adds, IsAmong};
+ghost use Rattle.at_typing.specs.Seen.{attribute_of, equation_view, Declares, AddsOwn, AddsInherited, Adds, IsAbout};
 ghost use Rattle.at_typing.specs.Signatures.{declared_view};
 ghost use Rattle.at_typing.specs.Typed.{bound_view, Judges};
 ghost use Rattle.at_typing.specs.declared.fault.RuleCode.TheVariants as code;
+ghost use Rattle.at_typing.specs.declared.numbered.Numbered.{Numbered as NumberedValue};
 ghost use Rattle.at_typing.specs.declared.typing.TypeFault.TheVariants.{Refused};
 ghost use Rattle.at_rules.specs.declared.body.Kind.TheVariants as kinds;
 
@@ -53,7 +53,7 @@ impl Among<'_> {
     /// `Refused` for its first fault: of its classes, then of its component and index name, of its
     /// parameters, of its body. `Memory` for want of memory.
     pub fn add(&self, numbered: &Numbered, meant: &mut Equations) -> Result<(), TypeFault>
-        ensures { (ds : List Located) → IsAmong ds self.now → Adds (numbered_view numbered.now) numbered.now.name (meant_by_itself self.now.classes.now ds (numbered_view numbered.now)) meant.old meant.new result }
+        ensures { (ds : List NumberedValue) → IsAbout ds self.now numbered.now → Adds (numbered_view numbered.now) numbered.now.name (meant_by_itself self.now.classes.now (map numbered_view ds) (numbered_view numbered.now)) meant.old meant.new result }
     {
         self.add_form(&numbered.decl.form, numbered, meant)
     }
@@ -65,7 +65,7 @@ impl Among<'_> {
         numbered: &Numbered,
         meant: &mut Equations,
     ) -> Result<(), TypeFault>
-        ensures { (ds : List Located) → IsAmong ds self.now → Adds (numbered_view numbered.now) numbered.now.name (form_meant self.now.classes.now ds (numbered_view numbered.now) (decl_form_view form.now)) meant.old meant.new result }
+        ensures { (ds : List NumberedValue) → IsAbout ds self.now numbered.now → Adds (numbered_view numbered.now) numbered.now.name (form_meant self.now.classes.now (map numbered_view ds) (numbered_view numbered.now) (decl_form_view form.now)) meant.old meant.new result }
     {
         match form {
             DeclForm::Synthesized { kind, .. } => self.add_synthesized(numbered, kind, meant),
@@ -90,7 +90,7 @@ impl Among<'_> {
         kind: &KindWord,
         meant: &mut Equations,
     ) -> Result<(), TypeFault>
-        ensures { (ds : List Located) → IsAmong ds self.now → Adds (numbered_view numbered.now) numbered.now.name (synthesized_meant self.now.classes.now ds (numbered_view numbered.now) (kind_word_view kind.now)) meant.old meant.new result }
+        ensures { (ds : List NumberedValue) → IsAbout ds self.now numbered.now → Adds (numbered_view numbered.now) numbered.now.name (synthesized_meant self.now.classes.now (map numbered_view ds) (numbered_view numbered.now) (kind_word_view kind.now)) meant.old meant.new result }
     {
         let class = self.declare(numbered, kind, meant)?;
         match body_in(&numbered.decl.form) {
@@ -120,7 +120,7 @@ impl Among<'_> {
         body: &Written,
         meant: &mut Equations,
     ) -> Result<(), TypeFault>
-        ensures { (ds : List Located) → IsAmong ds self.now → Adds (numbered_view numbered.now) numbered.now.name (equation_meant self.now.classes.now ds (numbered_view numbered.now) (word_view class.now) (written_body body.now)) meant.old meant.new result }
+        ensures { (ds : List NumberedValue) → IsAbout ds self.now numbered.now → Adds (numbered_view numbered.now) numbered.now.name (equation_meant self.now.classes.now (map numbered_view ds) (numbered_view numbered.now) (word_view class.now) (written_body body.now)) meant.old meant.new result }
     {
         let class = self.class_named(class)?;
         self.add_own(class, self.synthesized(numbered), numbered, body, meant)
@@ -136,7 +136,7 @@ impl Among<'_> {
         body: &Written,
         meant: &mut Equations,
     ) -> Result<(), TypeFault>
-        ensures { (ds : List Located) → IsAmong ds self.now → Adds (numbered_view numbered.now) numbered.now.name (equation_below_meant self.now.classes.now ds (numbered_view numbered.now) (word_view class.now) (word_view getter.now) (option_map (λ w. word_view w.now) index.entry) (written_body body.now)) meant.old meant.new result }
+        ensures { (ds : List NumberedValue) → IsAbout ds self.now numbered.now → Adds (numbered_view numbered.now) numbered.now.name (equation_below_meant self.now.classes.now (map numbered_view ds) (numbered_view numbered.now) (word_view class.now) (word_view getter.now) (option_map (λ w. word_view w.now) index.entry) (written_body body.now)) meant.old meant.new result }
     {
         let class = self.class_named(class)?;
         let part = self.component_got(class, getter)?;
@@ -146,7 +146,7 @@ impl Among<'_> {
 
     /// The synthesized attribute of that name that the declaration's class or one above it declares.
     fn synthesized(&self, numbered: &Numbered) -> Option<AttrId>
-        ensures { (ds : List Located) → IsAmong ds self.now → result ≡ synthesized_named self.now.classes.now ds (class_text (numbered_view numbered.now)) (name_text (numbered_view numbered.now)) }
+        ensures { (ds : List NumberedValue) → IsAbout ds self.now numbered.now → result ≡ synthesized_named self.now.classes.now (map numbered_view ds) (class_text (numbered_view numbered.now)) (name_text (numbered_view numbered.now)) }
     {
         self.attributes
             .synthesized(self.classes, numbered.class, numbered.name)
@@ -154,7 +154,7 @@ impl Among<'_> {
 
     /// The first inherited attribute of that name.
     fn inherited(&self, numbered: &Numbered) -> Option<AttrId>
-        ensures { (ds : List Located) → IsAmong ds self.now → result ≡ inherited_named ds (name_text (numbered_view numbered.now)) }
+        ensures { (ds : List NumberedValue) → IsAbout ds self.now numbered.now → result ≡ inherited_named (map numbered_view ds) (name_text (numbered_view numbered.now)) }
     {
         self.attributes.inherited(numbered.name)
     }
