@@ -3,6 +3,7 @@ mod Accessing
 mod Signing
 mod Binding
 mod FirstFaults
+mod FirstValues
 mod LongTexts
 mod AttributesCounted
 mod Positions
@@ -10,11 +11,17 @@ mod WordNumbers
 mod AccessorNaming
 mod SameKinds
 mod EquationsBefore
+mod Earlier
 mod ClassesBelow
+mod Lines
+mod AttributesFound
+mod Clashing
+mod Keys
 mod Climbing
 mod Walking
 mod Exposing
 mod Lacking
+mod Lackings
 mod Children
 mod Completed
 mod Adding
