@@ -3,15 +3,16 @@ use Rattle.std.proofs.Common.{◌≡◌, ℕ, List, refl, ap, ap₂, sym, ◌∙
 use Rattle.at_model.specs.Bodies.{Expr}
 use Rattle.at_model.specs.Classes.{Classes}
 use Rattle.at_model.specs.Rules.{Attribute}
-use Rattle.at_jrag.specs.Syntax.{Word, Body}
+use Rattle.at_jrag.specs.Syntax.{Word, KindWord, Body}
 use Rattle.at_jrag.specs.View.{word_view}
 use Rattle.at_jrag.specs.declared.syntax.Word.{Word as WordValue}
+use Rattle.at_rules.specs.declared.body.Kind.{Kind}
 use Rattle.at_rules.specs.declared.rules.Equations.{Equations}
 use Rattle.at_typing.specs.Judging.{Judgement, Is, Wrong, and_then}
-use Rattle.at_typing.specs.Located.{Located}
-use Rattle.at_typing.specs.Meanings.{Meaning, own_equation, inherited_equation, declared_alone, declared_with, own_alone, inherited_alone, body_meant, inherited_meant, signatures, with_body, own_meant}
+use Rattle.at_typing.specs.Located.{Located, class_word}
+use Rattle.at_typing.specs.Meanings.{Meaning, own_equation, inherited_equation, declared_alone, declared_with, own_alone, inherited_alone, body_meant, inherited_meant, signatures, with_body, own_meant, attribute_with, attribute_for, attribute_meant}
 use Rattle.at_typing.specs.Declaring.{class_text, name_text, synthesized_named, inherited_named}
-use Rattle.at_typing.specs.Ruling.{index_of_list}
+use Rattle.at_typing.specs.Ruling.{class_named, kind_named, index_of_list}
 use Rattle.std.specs.Borrow.{Bor}
 use Rattle.std.specs.Option.{option_map, option_copied}
 use Rattle.indexmap.specs.IndexMap.{insert_entry}
@@ -21,16 +22,10 @@ use Rattle.at_typing.specs.Typed.{Judges}
 use Rattle.at_typing.specs.declared.typing.TypeFault.{TypeFault}
 use Rattle.at_typing.specs.declared.typing.TypeFault.TheVariants.{Refused, Memory}
 
--- a part's fault is that of the whole
-pub fault_of : {A B T U : Type 0} (view : T → A) (whole : U → B) (f : A → Judgement B) (j : Judgement A) (e : TypeFault) → Judges view j (Err e) → Judges whole (and_then f j) (Err e)
-fault_of view whole f j (Refused c at) is = ap (and_then f) is
-fault_of view whole f j Memory is = tt
-
--- what is made of a part
-pub made_of : {A B T U : Type 0} (view : T → A) (whole : U → B) (f : A → Judgement B) (j : Judgement A) (t : T) (r : Result U TypeFault) → Judges view j (Ok t) → Judges whole (f (view t)) r → Judges whole (and_then f j) r
-made_of view whole f j t (Ok u) is then' = ap (and_then f) is ∙ then'
-made_of view whole f j t (Err (Refused c at)) is then' = ap (and_then f) is ∙ then'
-made_of view whole f j t (Err Memory) is then' = tt
+-- an attribute of a class that isn't there
+pub attribute_fault : (classes : Classes) (d : Located) (result : KindWord) (k : Kind) (w : Word) (e : TypeFault) → kind_named classes result ≡ Is k → w ≡ class_word d.decl.form → Judges {T = ℕ} (λ c. c) (class_named classes w) (Err e) → Judges (attribute_of d) (attribute_meant classes d result) (Err e)
+attribute_fault classes d result k w (Refused c at) kind same is = ap (and_then (attribute_for classes d)) kind ∙ ap (and_then (attribute_with classes d k)) (ap (class_named classes) (sym same) ∙ is)
+attribute_fault classes d result k w Memory kind same is = tt
 
 module _ (d : Located) (n : ℕ) (old new : Equations) where
   -- a part's fault is that of the declaration
@@ -104,8 +99,8 @@ module _ (classes : Classes) (ds : List Located) (d : Located) (body : Body) (de
       → new.attributes ≡ old.attributes → new.own ≡ old.own → Adds d n (and_then inherited_alone (inherited_meant classes ds d index body c part)) old new r
   adds_equation_below n old new r part index found listed adds attributes own =
       subst (λ k. Adds d n (and_then inherited_alone (and_then (λ u. and_then (λ e. Is (inherited_equation d c part e.1)) (body_meant classes (signatures classes ds) c d body (inherited_named ds (name_text d)))) k)) old new r) (sym listed)
-          (adds_inherited d n old new c part (body_meant classes (signatures classes ds) c d body (inherited_named ds (name_text d))) r
-              (subst (λ j. AddsInherited c part n j old.inherited.entries new.inherited.entries r) (ap₂ (λ x y. body_meant classes x c d body y) known found) adds) attributes own)
+      (adds_inherited d n old new c part (body_meant classes (signatures classes ds) c d body (inherited_named ds (name_text d))) r
+      (subst (λ j. AddsInherited c part n j old.inherited.entries new.inherited.entries r) (ap₂ (λ x y. body_meant classes x c d body y) known found) adds) attributes own)
 
   -- an attribute with its equation
   pub declares_with : (n : ℕ) (old mid new : Equations) (j : Judgement Attribute) (b : Option Body) (r : Result (Unit {0}) TypeFault) → b ≡ Some body → o ≡ synthesized_named classes ds (class_text d) (name_text d) → Declares d n j old.attributes.entries mid.attributes.entries (Ok c) → mid.own ≡ old.own → mid.inherited ≡ old.inherited
@@ -113,16 +108,16 @@ module _ (classes : Classes) (ds : List Located) (d : Located) (body : Body) (de
   declares_with n old mid new j b (Ok u) is_body found (a, is, at) own inherited (e, judged, there) same behind = (
     record { attribute = Some (c, a); own = Some ((c, e.0), e.1); inherited = None },
     ap (and_then (with_body classes ds d b)) is ∙ ap (λ x. with_body classes ds d x (attribute_of d (c, a))) is_body
-    ∙ ap (λ k. and_then (declared_with (attribute_of d (c, a))) (and_then (λ e. Is (own_equation c e)) k)) (sym (own_meaning found) ∙ judged),
+        ∙ ap (λ k. and_then (declared_with (attribute_of d (c, a))) (and_then (λ e. Is (own_equation c e)) k)) (sym (own_meaning found) ∙ judged),
     (let attributes_same : new.attributes.entries ≡ mid.attributes.entries = λ i. (same i).entries in
-    let own_same : mid.own.entries ≡ old.own.entries = λ i. (own i).entries in
-    let inherited_same : new.inherited.entries ≡ mid.inherited.entries = λ i. (behind i).entries in
-    let inherited_first : mid.inherited.entries ≡ old.inherited.entries = λ i. (inherited i).entries in
-    record {
-      attributes = attributes_same ∙ at;
-      own = there ∙ ap (λ es. insert_entry same_key es (c, e.0) e.1) own_same;
-      inherited = inherited_same ∙ inherited_first;
-    }),
+        let own_same : mid.own.entries ≡ old.own.entries = λ i. (own i).entries in
+        let inherited_same : new.inherited.entries ≡ mid.inherited.entries = λ i. (behind i).entries in
+        let inherited_first : mid.inherited.entries ≡ old.inherited.entries = λ i. (inherited i).entries in
+        record {
+          attributes = attributes_same ∙ at;
+          own = there ∙ ap (λ es. insert_entry same_key es (c, e.0) e.1) own_same;
+          inherited = inherited_same ∙ inherited_first;
+        }),
   )
   declares_with n old mid new j b (Err (Refused code at)) is_body found (a, is, here) own inherited judged same behind =
       ap (and_then (with_body classes ds d b)) is ∙ ap (λ x. with_body classes ds d x (attribute_of d (c, a))) is_body

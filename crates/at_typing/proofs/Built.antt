@@ -16,12 +16,14 @@ use Rattle.at_typing.specs.Declaring.{attributes, fault_at, is_attribute, fault_
 use Rattle.at_typing.specs.Judging.{Judgement, Is, Wrong}
 use Rattle.at_typing.specs.Located.{Located}
 use Rattle.at_typing.specs.Meanings.{Meaning, meant}
-use Rattle.at_typing.specs.Seen.{Stands, Tells}
+use Rattle.at_typing.specs.Numbering.{numbered_view}
+use Rattle.at_typing.specs.Seen.{Stands, Tells, Means}
 use Rattle.at_typing.specs.declared.fault.Fault.{Fault}
 use Rattle.at_typing.specs.declared.fault.RuleCode.{RuleCode}
 use Rattle.at_typing.specs.declared.fault.RuleCode.TheVariants as code
 use Rattle.at_typing.specs.declared.fault.RuleFault.{RuleFault}
 use Rattle.at_typing.specs.declared.fault.RuleFault.TheVariants as fault
+use Rattle.at_typing.specs.declared.numbered.Numbered.{Numbered as NumberedValue}
 use Rattle.at_typing.proofs.Completed.{complete}
 use Rattle.at_typing.proofs.Gathering.{first_none, other_none}
 use Rattle.at_typing.proofs.MeaningParts.{OfAttribute, IsOf, of_words}
@@ -74,19 +76,19 @@ lacks_inherited rules ds own inherited r first none other = by r
     by (Err (fault.Refused f)) is = behind (Some f) is
     by (Err fault.Memory) is = tt
 
-declared_there : {R : Located → Attribute → Type 0} (ds : List Located) (as' : List Attribute) (k : ℕ) (a : Attribute) → AllZip R ds as' → slice_get as' k ≡ Some a → is_some (slice_get ds k) ≡ true
-declared_there [] [] k a zip is = absurd (none-some a is)
-declared_there [] (b ∷ bs) k a zip is = absurd zip
-declared_there (d ∷ ds) [] k a zip is = absurd zip
-declared_there (d ∷ ds) (b ∷ bs) zero a zip is = refl
-declared_there (d ∷ ds) (b ∷ bs) (suc k) a zip is = declared_there ds bs k a zip.1 is
+declared_there : (R : Located → Attribute → Type 0) (ds : List Located) (as' : List Attribute) (k : ℕ) (a : Attribute) → AllZip R ds as' → slice_get as' k ≡ Some a → is_some (slice_get ds k) ≡ true
+declared_there R [] [] k a zip is = absurd (none-some a is)
+declared_there R [] (b ∷ bs) k a zip is = absurd zip
+declared_there R (d ∷ ds) [] k a zip is = absurd zip
+declared_there R (d ∷ ds) (b ∷ bs) zero a zip is = refl
+declared_there R (d ∷ ds) (b ∷ bs) (suc k) a zip is = declared_there R ds bs k a zip.1 is
 
 -- no fault is told only where no attribute has one
 no_first : (c : RuleCode) (Lacks : ℕ → Type 0) (rules : Rules) (ds : List Located) → ((k : ℕ) → Lacks k → (a : Attribute) × (slice_get rules.attributes k ≡ Some a)) → AreDeclared rules ds → IsFirstFault c Lacks ds None → IsFirst Lacks None
 no_first c Lacks rules ds there declared (None, first, is) = first
 no_first c Lacks rules ds there declared (Some k, first, is) =
     let found = there k first.0 in
-    absurd (by (slice_get (attributes ds) k) (declared_there (attributes ds) rules.attributes k found.0 declared found.1) is)
+    absurd (by (slice_get (attributes ds) k) (declared_there (IsDeclaredBy rules.classes) (attributes ds) rules.attributes k found.0 declared found.1) is)
   where
     by : (o : Option Located) → is_some o ≡ true → None ≡ option_map (λ (d : Located). fault_at c d d.decl.at) o → ⊥
     by None at is = true≢false (sym at)
@@ -106,5 +108,7 @@ pub lacking : (classes : Classes) (ds : List Located) (rules : Rules) (e : RuleF
 lacking classes ds rules (fault.Refused f) none is lack = subst (λ g. IsFault classes ds g (Some f)) (sym none) (subst (λ r. IsLack r ds (Some f)) is lack)
 lacking classes ds rules fault.Memory none is lack = tt
 
-pub at_fault : (classes : Classes) (ds : List Located) (f : Fault) → first_fault classes ds ≡ Some f → Builds classes ds (Err (fault.Refused f))
-at_fault classes ds f is = subst (λ g. IsFault classes ds g (Some f)) (sym is) refl
+-- the first fault of the declarations
+pub meant_fault : (classes : Classes) (xs : List NumberedValue) (e : RuleFault) → Means classes xs (first_fault classes (map numbered_view xs)) (Err e) → Builds classes (map numbered_view xs) (Err e)
+meant_fault classes xs (fault.Refused f) is = subst (λ g. IsFault classes (map numbered_view xs) g (Some f)) (sym is) refl
+meant_fault classes xs fault.Memory is = tt

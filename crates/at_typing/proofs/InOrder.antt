@@ -7,17 +7,18 @@ use Rattle.std.proofs.lemmas.List.{length-map, take-map}
 use Rattle.std.proofs.lemmas.Option.{none-some}
 use Rattle.at_model.specs.Classes.{Classes}
 use Rattle.at_rules.specs.declared.rules.Equations.{Equations}
-use Rattle.at_typing.specs.AttributeKeys.{IsAmong}
+use Rattle.at_typing.specs.AttributeKeys.{AreAttributes, IsAmong}
 use Rattle.at_typing.specs.Building.{meanings, refusal, refused, refused_at, first_fault}
 use Rattle.at_typing.specs.Declaring.{over_limit, accessor_named, declared_twice, without_attribute, equation_twice, fault_together}
 use Rattle.at_typing.specs.Judging.{Judgement, Is, Wrong}
 use Rattle.at_typing.specs.Located.{Located}
-use Rattle.at_typing.specs.Meanings.{Meaning, meant}
+use Rattle.at_typing.specs.Meanings.{Meaning, meant, signatures}
 use Rattle.at_typing.specs.Numbering.{numbered_view, AreNumbered, IsNamed}
-use Rattle.at_typing.specs.Seen.{Added, meaning_of, Inserts, Adds, AddsOrTells, Stands, Means, refusal_of}
+use Rattle.at_typing.specs.Seen.{IsAbout, Added, meaning_of, Inserts, Adds, AddsOrTells, Stands, Means, refusal_of}
 use Rattle.at_typing.specs.declared.fault.Fault.{Fault}
 use Rattle.at_typing.specs.declared.fault.RuleFault.{RuleFault}
 use Rattle.at_typing.specs.declared.fault.RuleFault.TheVariants as fault
+use Rattle.at_typing.specs.declared.meaning.Among.{Among}
 use Rattle.at_typing.specs.declared.numbered.Numbered.{Numbered as NumberedValue}
 use Rattle.at_typing.specs.declared.typing.TypeFault.{TypeFault}
 use Rattle.at_typing.specs.declared.typing.TypeFault.TheVariants as type_fault
@@ -44,8 +45,12 @@ several classes ds none =
     (first_none (declared_twice classes ds) _ others, other_none (without_attribute classes ds) _ (other_none (declared_twice classes ds) _ others))
 
 -- the numbers of one of them are right
-pub among_all : (classes : Classes) (xs : List NumberedValue) (i : ℕ) (d : NumberedValue) → i < length xs → d ≡ get_or xs i d → AreNumbered classes xs → IsAmong classes xs d
+among_all : (classes : Classes) (xs : List NumberedValue) (i : ℕ) (d : NumberedValue) → i < length xs → d ≡ get_or xs i d → AreNumbered classes xs → IsAmong classes xs d
 among_all classes xs i d less at numbered = subst (IsAmong classes xs) (sym at) (record { class = numbered.class i d less; others = numbered.class; alike = numbered.alike i d less })
+
+-- what is known of attributes is what all of them declare
+pub is_about : (xs : List NumberedValue) (i : ℕ) (d : NumberedValue) (a : Among) → i < length xs → d ≡ get_or xs i d → a.signatures.now ≡ signatures a.classes.now (map numbered_view xs) → AreAttributes xs a.attributes.now → AreNumbered a.classes.now xs → IsAbout xs a d
+is_about xs i d a less at signatures attributes numbered = record { signatures = signatures; attributes = attributes; numbers = among_all a.classes.now xs i d less at numbered }
 
 -- what those before this one mean, whatever the numbers of names
 abbrev pub StandBefore : Classes → List NumberedValue → ℕ → Equations → Type 0
@@ -58,8 +63,8 @@ module _ (classes : Classes) (xs : List NumberedValue) (i : ℕ) (d : NumberedVa
   stand_more less at none u (m, is, added) so_far names all =
       let faultless = several classes (views xs) none in
       subst (λ ds. Stands names (meanings classes (views xs) ds) new) (take-map numbered_view (i + 1) xs)
-          (stands_more classes (views xs) i (numbered_view d) d.name names (subst (λ n. i < n) (sym (length-map xs numbered_view)) less) (ap numbered_view at ∙ view_at numbered_view xs i d) (subst (IsNamed names) (sym at) (all i d less))
-              old new m faultless.0 faultless.1 is added (subst (λ ds. Stands names (meanings classes (views xs) ds) old) (sym (take-map numbered_view i xs)) (so_far names all)))
+      (stands_more classes (views xs) i (numbered_view d) d.name names (subst (λ n. i < n) (sym (length-map xs numbered_view)) less) (ap numbered_view at ∙ view_at numbered_view xs i d) (subst (IsNamed names) (sym at) (all i d less))
+      old new m faultless.0 faultless.1 is added (subst (λ ds. Stands names (meanings classes (views xs) ds) old) (sym (take-map numbered_view i xs)) (so_far names all)))
 
   pub none_refused : (u : Unit {0}) → i < length xs → d ≡ get_or xs i d → AddsOrTells (numbered_view d) d.name (meant classes (views xs) (numbered_view d)) old new (Ok u)
       → NoneBefore (refused_at classes (views xs)) numbered_view xs i → NoneBefore (refused_at classes (views xs)) numbered_view xs (i + 1)

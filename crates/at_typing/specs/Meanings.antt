@@ -78,9 +78,15 @@ attribute d c result params = record {
   is_inherited = is_inherited d.decl.form;
 }
 
+abbrev pub attribute_with : Classes → Located → Kind → ℕ → Judgement Attribute
+attribute_with classes d result c = and_then (λ params. Is (attribute d c result params)) (params_named classes 0 (params_in d.decl.form).items)
+
+abbrev pub attribute_for : Classes → Located → Kind → Judgement Attribute
+attribute_for classes d result = and_then (attribute_with classes d result) (class_named classes (class_word d.decl.form))
+
 -- the attribute that is declared
 abbrev pub attribute_meant : Classes → Located → KindWord → Judgement Attribute
-attribute_meant classes d result = and_then (λ k. and_then (λ c. and_then (λ ks. Is (attribute d c k ks)) (params_named classes 0 (params_in d.decl.form).items)) (class_named classes (class_word d.decl.form))) (kind_named classes result)
+attribute_meant classes d result = and_then (attribute_for classes d) (kind_named classes result)
 
 abbrev pub own_equation : ℕ → ℕ × Expr → OwnEquation
 own_equation c e = record { class = c; attribute = e.0; body = e.1 }
@@ -119,8 +125,14 @@ synthesized_meant classes ds d result = and_then (with_body classes ds d (body_i
 abbrev pub equation_meant : Classes → List Located → Located → Word → Body → Judgement Meaning
 equation_meant classes ds d class body = and_then (λ c. and_then own_alone (own_meant classes ds d body c)) (class_named classes class)
 
+abbrev pub below_component : Classes → List Located → Located → Option Word → Body → ℕ → Option ℕ → Judgement Meaning
+below_component classes ds d index body c part = and_then inherited_alone (inherited_meant classes ds d index body c part)
+
+abbrev pub below_class : Classes → List Located → Located → (getter : Word) → Option Word → Body → ℕ → Judgement Meaning
+below_class classes ds d getter index body c = and_then (below_component classes ds d index body c) (component_got classes c getter)
+
 abbrev pub equation_below_meant : Classes → List Located → Located → (class getter : Word) → (index : Option Word) → Body → Judgement Meaning
-equation_below_meant classes ds d class getter index body = and_then (λ c. and_then (λ part. and_then inherited_alone (inherited_meant classes ds d index body c part)) (component_got classes c getter)) (class_named classes class)
+equation_below_meant classes ds d class getter index body = and_then (below_class classes ds d getter index body) (class_named classes class)
 
 abbrev pub form_meant : Classes → List Located → Located → DeclForm → Judgement Meaning
 form_meant classes ds d (Synthesized lazy result class name params ending) = synthesized_meant classes ds d result

@@ -11,5 +11,5 @@ meant_by-requires c = (c.requires, c.in_ok-attributes.ensures, sym c.in_ok-fault
 pub returns-in-Some : goal.returns-in-Some
 returns-in-Some c = told_together c.args.classes.now c.args.declared.now _ (sym c.in_ok-fault.ensures ∙ c.in-Some.is)
 
-pub returns-in-None : goal.returns-in-None
-returns-in-None c = together c.args.classes.now c.args.declared.now _ (sym c.in_ok-fault.ensures ∙ c.in-None.is) c.meant_by.ensures
+pub returns : goal.returns
+returns c = together c.args.classes.now c.args.declared.now _ (sym c.in_ok-fault.ensures ∙ c.in-None.is) c.meant_by.ensures

@@ -28,5 +28,5 @@ returns-in-InheritedEquation c = λ ds about.
     let classes = c.args.self.now.classes.now in
     let written = c.in-InheritedEquation in
     let equation = subst (λ index. Adds d c.args.numbered.now.name (equation_below_meant classes (map numbered_view ds) d (word_view written.class) (word_view written.getter) index (body_view written.body)) c.args.meant.now c.add_equation_below.new.meant c.add_equation_below.result)
-        (seen_word c.as_ref.result ∙ ap (option_map word_view) c.as_ref.ensures.value) (c.add_equation_below.ensures ds about) in
+    (seen_word c.as_ref.result ∙ ap (option_map word_view) c.as_ref.ensures.value) (c.add_equation_below.ensures ds about) in
     subst (λ form. Adds d c.args.numbered.now.name (form_meant classes (map numbered_view ds) d (decl_form_view form)) c.args.meant.now c.add_equation_below.new.meant c.add_equation_below.result) (sym c.in-InheritedEquation.is) equation
