@@ -8,7 +8,7 @@ use Rattle.at_jrag.specs.View.{word_view}
 use Rattle.at_jrag.specs.declared.syntax.Word.{Word as WordValue}
 use Rattle.at_rules.specs.declared.body.Kind.{Kind}
 use Rattle.at_rules.specs.declared.rules.Equations.{Equations}
-use Rattle.at_typing.specs.Judging.{Judgement, Is, Wrong, and_then}
+use Rattle.at_typing.specs.Judging.{Judgement, Is, and_then}
 use Rattle.at_typing.specs.Located.{Located, class_word}
 use Rattle.at_typing.specs.Meanings.{Meaning, own_equation, inherited_equation, declared_alone, declared_with, own_alone, inherited_alone, body_meant, inherited_meant, signatures, with_body, own_meant, attribute_with, attribute_for, attribute_meant}
 use Rattle.at_typing.specs.Declaring.{class_text, name_text, synthesized_named, inherited_named}
@@ -16,7 +16,7 @@ use Rattle.at_typing.specs.Ruling.{class_named, kind_named, index_of_list}
 use Rattle.std.specs.Borrow.{Bor}
 use Rattle.std.specs.Option.{option_map, option_copied}
 use Rattle.indexmap.specs.IndexMap.{insert_entry}
-use Rattle.at_typing.specs.Seen.{attribute_of, same_key, Added, Inserts, Declares, AddsOwn, AddsInherited, Adds}
+use Rattle.at_typing.specs.Seen.{attribute_of, same_key, Declares, AddsOwn, AddsInherited, Adds}
 use Rattle.at_typing.specs.Signatures.{Declared}
 use Rattle.at_typing.specs.Typed.{Judges}
 use Rattle.at_typing.specs.declared.typing.TypeFault.{TypeFault}

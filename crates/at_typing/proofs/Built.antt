@@ -1,17 +1,16 @@
 -- The rules that declarations make, and what they lack.
-use Rattle.std.proofs.Common.{◌≡◌, ℕ, ◌+◌, List, [], ◌∷◌, map, refl, ap, sym, ◌∙◌, subst, true≢false, Option, Some, None, zero, suc, String, Result, Ok, Err}
-use Rattle.std.specs.Prelude.{Bool, true, false, cond, is_some, option_map, slice_get, IfSome, All}
+use Rattle.std.proofs.Common.{◌≡◌, ℕ, ◌+◌, List, [], ◌∷◌, map, refl, sym, ◌∙◌, subst, true≢false, Option, Some, None, zero, suc, String, Result, Ok, Err}
+use Rattle.std.specs.Prelude.{Bool, true, false, cond, is_some, option_map, slice_get, IfSome}
 use Rattle.std.specs.Global.{Global}
 use Rattle.std.specs.List.{filter_map, cons_option, AllZip}
-use Rattle.std.specs.Option.{option_or}
 use Rattle.std.proofs.lemmas.Option.{none-some}
 use Rattle.at_model.specs.Classes.{Classes}
 use Rattle.at_model.specs.Declarations.{first_given}
 use Rattle.at_model.specs.Rules.{Rules, Attribute, AreComplete}
 use Rattle.at_rules.specs.RulesView.{attribute_view, own_view, inherited_view, named}
 use Rattle.at_rules.specs.declared.rules.Equations.{Equations}
-use Rattle.at_typing.specs.Building.{meanings, meaning_if, refusal, refused, refused_at, first_fault, rules_of, IsLackBehind, IsLack, IsFault, Builds}
-use Rattle.at_typing.specs.Completing.{IsDeclaredBy, AreDeclared, IsFirst, IsFirstFault, LacksOwn, LacksInherited, fault_of}
+use Rattle.at_typing.specs.Building.{meanings, meaning_if, refusal, refused_at, first_fault, rules_of, IsLackBehind, IsLack, IsFault, Builds}
+use Rattle.at_typing.specs.Completing.{IsDeclaredBy, AreDeclared, IsFirst, IsFirstFault, LacksOwn, LacksInherited}
 use Rattle.at_typing.specs.Declaring.{attributes, fault_at, is_attribute, fault_together}
 use Rattle.at_typing.specs.Judging.{Judgement, Is, Wrong}
 use Rattle.at_typing.specs.Located.{Located}
@@ -26,7 +25,7 @@ use Rattle.at_typing.specs.declared.fault.RuleFault.TheVariants as fault
 use Rattle.at_typing.specs.declared.numbered.Numbered.{Numbered as NumberedValue}
 use Rattle.at_typing.proofs.Completed.{complete}
 use Rattle.at_typing.proofs.Gathering.{first_none, other_none}
-use Rattle.at_typing.proofs.MeaningParts.{OfAttribute, IsOf, of_words}
+use Rattle.at_typing.proofs.MeaningParts.{OfAttribute, of_words}
 
 -- attributes that are declared ---------------------------------------------------------------------------------------------
 

@@ -16,8 +16,6 @@ use Rattle.indexmap.specs.IndexMap.{insert_entry}
 use Rattle.at_model.specs.Classes.{Classes, class_of_name}
 use Rattle.at_model.specs.Declarations.{first_given}
 use Rattle.at_model.specs.Rules.{Attribute, OwnEquation, InheritedEquation}
-use Rattle.at_jrag.specs.Syntax.{Word}
-use Rattle.at_rules.specs.Bodies.{body_view, kind_view}
 use Rattle.at_rules.specs.RulesView.{attribute_view, own_view, inherited_view, named, text_of}
 use Rattle.at_rules.specs.declared.body.Body.{Body as BodyValue}
 use Rattle.at_rules.specs.declared.rules.Attribute.{Attribute as AttributeValue}

@@ -1,20 +1,19 @@
 -- Declarations gone through in order: what those mean that were gone through, up to the first fault.
-use Rattle.std.proofs.Common.{◌≡◌, ℕ, ◌+◌, ◌<◌, ◌≤◌, List, [], ◌∷◌, zero, suc, length, map, take, get_or, refl, ap, sym, ◌∙◌, subst, Option, Some, None, String, Result, Ok, Err, take_all}
+use Rattle.std.proofs.Common.{◌≡◌, ℕ, ◌+◌, ◌<◌, ◌≤◌, List, [], ◌∷◌, zero, suc, length, map, take, get_or, refl, ap, sym, ◌∙◌, subst, Some, None, String, Result, Ok, Err, take_all}
 use Rattle.std.specs.Prelude.{All}
 use Rattle.std.specs.Global.{Global}
 use Rattle.std.specs.Option.{option_or}
 use Rattle.std.proofs.lemmas.List.{length-map, take-map}
-use Rattle.std.proofs.lemmas.Option.{none-some}
 use Rattle.at_model.specs.Classes.{Classes}
 use Rattle.at_rules.specs.declared.rules.Equations.{Equations}
 use Rattle.at_typing.specs.AttributeKeys.{AreAttributes, IsAmong}
 use Rattle.at_typing.specs.Building.{meanings, refusal, refused, refused_at, first_fault}
 use Rattle.at_typing.specs.Declaring.{over_limit, accessor_named, declared_twice, without_attribute, equation_twice, fault_together}
-use Rattle.at_typing.specs.Judging.{Judgement, Is, Wrong}
+use Rattle.at_typing.specs.Judging.{Judgement}
 use Rattle.at_typing.specs.Located.{Located}
 use Rattle.at_typing.specs.Meanings.{Meaning, meant, signatures}
 use Rattle.at_typing.specs.Numbering.{numbered_view, AreNumbered, IsNamed}
-use Rattle.at_typing.specs.Seen.{IsAbout, Added, meaning_of, Inserts, Adds, AddsOrTells, Stands, Means, refusal_of}
+use Rattle.at_typing.specs.Seen.{IsAbout, Adds, AddsOrTells, Stands, Means, refusal_of}
 use Rattle.at_typing.specs.declared.fault.Fault.{Fault}
 use Rattle.at_typing.specs.declared.fault.RuleFault.{RuleFault}
 use Rattle.at_typing.specs.declared.fault.RuleFault.TheVariants as fault

@@ -5,14 +5,14 @@ use Rattle.std.specs.List.{filter_map}
 use Rattle.std.specs.Option.{option_eq}
 use Rattle.indexmap.specs.IndexMap.{insert_entry}
 use Rattle.at_model.specs.Bodies.{Expr}
-use Rattle.at_model.specs.Rules.{Attribute, OwnEquation}
+use Rattle.at_model.specs.Classes.{Classes}
+use Rattle.at_model.specs.Rules.{Attribute}
 use Rattle.at_model.specs.Rules as model
 use Rattle.at_rules.specs.Bodies.{kind_view, body_view}
 use Rattle.at_rules.specs.RulesView.{attribute_view, own_view, inherited_view, named}
 use Rattle.at_rules.specs.declared.body.Body.{Body as BodyValue}
 use Rattle.at_rules.specs.declared.rules.Attribute.{Attribute as AttributeValue}
 use Rattle.at_rules.specs.declared.rules.Equations.{Equations}
-use Rattle.at_model.specs.Classes.{Classes}
 use Rattle.at_typing.specs.AttributeKeys.{AreAttributes, IsAmong}
 use Rattle.at_typing.specs.Building.{meanings, refusal}
 use Rattle.at_typing.specs.Declaring.{fault_at, name_text}

@@ -1,4 +1,4 @@
-use Rattle.std.proofs.Common.{◌≡◌, ◌∙◌, ap, sym, subst, map, Ok, Err, None}
+use Rattle.std.proofs.Common.{◌∙◌, ap, sym, subst, map, Ok, Err, None}
 use Rattle.std.specs.Prelude.{All}
 use Rattle.std.proofs.lemmas.Result.{err_from_is_err_and}
 use Rattle.at_typing.specs.Building.{Builds, IsLack}
