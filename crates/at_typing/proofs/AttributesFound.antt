@@ -1,20 +1,18 @@
 -- The attributes that are found by numbers are those that words name.
-use Rattle.std.proofs.Common.{◌≡◌, ℕ, suc, ◌+◌, ◌<◌, List, [], ◌∷◌, ◌++◌, length, take, get_or, map, refl, ap, ap₂, sym, subst, ◌∙◌, arith, append-nil, Option, Some, None}
+use Rattle.std.proofs.Common.{◌≡◌, ℕ, suc, ◌+◌, ◌<◌, List, [], ◌∷◌, ◌++◌, length, take, get_or, refl, ap, ap₂, sym, subst, ◌∙◌, arith, append-nil, Option, Some, None}
 use Rattle.std.specs.Prelude.{Bool, true, false, ◌&&◌, ◌||◌, not, nat_eq, cond, position, is_some, if◌then◌else◌, All}
 use Rattle.std.specs.List.{list_any}
 use Rattle.std.specs.Map.{lookup}
 use Rattle.std.specs.Option.{option_or}
 use Rattle.std.specs.Str.{bytes_eq}
 use Rattle.std.proofs.lemmas.Iterator.Adapters.{position_from-zero}
-use Rattle.std.proofs.lemmas.List.{take-map}
 use Rattle.std.proofs.lemmas.List.Elements.{filter_more, All-take}
-use Rattle.std.proofs.lemmas.Cmp.{nat_eq_equiv, nat_list_eq_equiv}
 use Rattle.indexmap.specs.IndexMap.{get_by}
 use Rattle.at_model.specs.Classes.{Classes}
 use Rattle.at_jrag.specs.Syntax.{Word, Params, Body, DeclForm, Synthesized, Inherited, Equation, InheritedEquation}
 use Rattle.at_rules.specs.Upward.{earlier}
 use Rattle.at_typing.specs.AttributeKeys.{is_key, attributes_in, is_synthesized_in, is_inherited_as, AreAttributes, Notes, IsAmong, FindsSynthesized, FindsInherited}
-use Rattle.at_typing.specs.Declaring.{is_attribute, is_inherited, is_of_attribute, is_synthesized, is_synthesized_by, is_inherited_name, is_below, attributes, class_text, name_text, synthesized_named, inherited_named}
+use Rattle.at_typing.specs.Declaring.{is_attribute, is_inherited, is_of_attribute, is_synthesized, is_synthesized_by, is_inherited_name, is_below, class_text, name_text, synthesized_named, inherited_named}
 use Rattle.at_typing.specs.Located.{Located, class_word, name_word}
 use Rattle.at_typing.specs.Numbering.{numbered_view, parent_class, same_class, is_class_below, line, IsOfItsClass, AreAlike, AreNumbered}
 use Rattle.at_typing.specs.declared.attributes.Attributes.{Attributes}
@@ -22,6 +20,7 @@ use Rattle.at_typing.specs.declared.numbered.NamedClass.{NamedClass}
 use Rattle.at_typing.specs.declared.numbered.Numbered.{Numbered as NumberedValue}
 use Rattle.at_typing.proofs.ClassesBelow.{below}
 use Rattle.at_typing.proofs.Earlier.{either, earlier_assoc, earlier_none, nowhere, with_last, same_first, is_found}
+use Rattle.at_typing.proofs.EquationsBefore.{list_any-same}
 use Rattle.at_typing.proofs.Lines.{line_from, line_step, on_line}
 
 -- among declarations --------------------------------------------------------------------------------------------------
@@ -153,9 +152,6 @@ finds_inherited a name found is = λ ds d are alike same_name.
     (λ e like. ap (λ m. is_inherited_as m e) same_name ∙ ap (λ b. is_inherited (numbered_view e).decl.form && b) like.name)
 
 -- equations -----------------------------------------------------------------------------------------------------------
-
-list_any-same : {A : Type 0} (p q : A → Bool) (xs : List A) → ((x : A) → p x ≡ q x) → list_any p xs ≡ list_any q xs
-list_any-same p q xs same = ap (λ test. list_any test xs) (λ i x. same x i)
 
 synthesized_there : (classes : Classes) (ds : List Located) (class name : List ℕ) → is_some (synthesized_named classes ds class name) ≡ is_synthesized classes ds class name
 synthesized_there classes ds class name =

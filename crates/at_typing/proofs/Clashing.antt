@@ -1,15 +1,13 @@
 -- An attribute clashes with one of those before it, by their numbers and by their words.
-use Rattle.std.proofs.Common.{◌≡◌, ℕ, ◌+◌, ◌<◌, List, [], ◌∷◌, ◌++◌, length, take, get_or, map, refl, ap, ap₂, sym, subst, ◌∙◌, arith, Option, Some, None, true≢false}
-use Rattle.std.specs.Prelude.{Bool, true, false, ◌&&◌, ◌||◌, not, nat_eq, cond, option_map, if◌then◌else◌, All}
+use Rattle.std.proofs.Common.{◌≡◌, ℕ, ◌+◌, ◌<◌, List, [], ◌∷◌, length, take, get_or, map, refl, ap, ap₂, sym, ◌∙◌, Option, Some, None, true≢false}
+use Rattle.std.specs.Prelude.{Bool, true, false, ◌&&◌, ◌||◌, not, nat_eq, option_map, if◌then◌else◌}
 use Rattle.std.specs.Borrow.{Bor}
 use Rattle.std.specs.List.{list_any}
 use Rattle.std.specs.Map.{lookup}
 use Rattle.std.specs.Option.{option_or}
-use Rattle.std.specs.Str.{bytes_eq}
 use Rattle.std.proofs.lemmas.Bool.{eqb-true}
 use Rattle.std.proofs.lemmas.Cmp.{nat_eq_equiv, nat_list_eq_equiv}
-use Rattle.std.proofs.lemmas.List.{take_more}
-use Rattle.std.proofs.lemmas.List.Elements.{All-tail}
+use Rattle.std.proofs.lemmas.List.Folds.{list_any_more}
 use Rattle.std.proofs.lemmas.Slice.Eq.{bytes_eq-Decides}
 use Rattle.indexmap.specs.IndexMap.{get}
 use Rattle.at_model.specs.Classes.{Classes}
@@ -26,15 +24,13 @@ use Rattle.at_typing.specs.declared.numbered.NamedClass.TheVariants.{Known, Unkn
 use Rattle.at_typing.specs.declared.numbered.Numbered.{Numbered as NumberedValue}
 use Rattle.at_typing.proofs.AttributesFound.{drawn, switched}
 use Rattle.at_typing.proofs.ClassesBelow.{below}
+use Rattle.at_typing.proofs.EquationsBefore.{list_any-or, list_any-same, list_any-where}
 use Rattle.at_typing.proofs.FirstFaults.{list_any-map}
 use Rattle.at_typing.proofs.FirstValues.{not_noted}
 use Rattle.at_typing.proofs.Lines.{line_begins, line_from, line_step, on_line}
+use Rattle.at_typing.proofs.Walking.{and_both}
 
 -- truth values --------------------------------------------------------------------------------------------------------
-
-both : (a b : Bool) → (a && b) ≡ true → (a ≡ true) × (b ≡ true)
-both true b e = (refl, e)
-both false b e = absurd (true≢false (sym e))
 
 or_false : (a : Bool) → (a || false) ≡ a
 or_false true = refl
@@ -44,35 +40,10 @@ or_twice : (a : Bool) → a ≡ (a || a)
 or_twice true = refl
 or_twice false = refl
 
-or_assoc : (a b c : Bool) → ((a || b) || c) ≡ (a || (b || c))
-or_assoc true b c = refl
-or_assoc false b c = refl
-
 -- lists of any --------------------------------------------------------------------------------------------------------
 
-any_same : {A : Type 0} (p q : A → Bool) (xs : List A) → ((x : A) → p x ≡ q x) → list_any p xs ≡ list_any q xs
-any_same p q xs same = ap (λ test. list_any test xs) (λ i x. same x i)
-
-any_where : {A : Type 0} (P : A → Type 0) (p q : A → Bool) (xs : List A) → All P xs → ((x : A) → P x → p x ≡ q x) → list_any p xs ≡ list_any q xs
-any_where P p q [] all same = refl
-any_where P p q (x ∷ xs) all same = ap₂ (λ a b. a || b) (same x (all 0 x (omega arith))) (any_where P p q xs (All-tail P x xs all) same)
-
-any_last : {A : Type 0} (p : A → Bool) (xs : List A) (y : A) → list_any p (xs ++ y ∷ []) ≡ (list_any p xs || p y)
-any_last p [] y = or_false (p y)
-any_last p (x ∷ xs) y = ap (λ b. p x || b) (any_last p xs y) ∙ sym (or_assoc (p x) (list_any p xs) (p y))
-
 pub any_more : {A : Type 0} (p : A → Bool) (xs : List A) (k : ℕ) (x : A) → k < length xs → x ≡ get_or xs k x → list_any p (take (k + 1) xs) ≡ (list_any p (take k xs) || p x)
-any_more p xs k x less is = ap (list_any p) (take_more xs k x less ∙ ap (λ y. take k xs ++ y ∷ []) (sym is)) ∙ any_last p (take k xs) x
-
-any_either : {A : Type 0} (p q : A → Bool) (xs : List A) → list_any (λ x. p x || q x) xs ≡ (list_any p xs || list_any q xs)
-any_either p q [] = refl
-any_either p q (x ∷ xs) = ap (λ b. (p x || q x) || b) (any_either p q xs) ∙ by (p x) (q x) (list_any p xs) (list_any q xs)
-  where
-    by : (a b l m : Bool) → ((a || b) || (l || m)) ≡ ((a || l) || (b || m))
-    by true b l m = refl
-    by false true true m = refl
-    by false true false m = refl
-    by false false l m = refl
+any_more p xs k x less is = list_any_more p xs k x less ∙ ap (λ y. list_any p (take k xs) || p y) (sym is)
 
 any_none : {A : Type 0} (p : A → Bool) (xs : List A) → list_any (λ x. p x && false) xs ≡ false
 any_none p [] = refl
@@ -87,8 +58,8 @@ any_turned : {A C : Type 0} (n : A → Bool) (s : C → A → Bool) (xs : List A
 any_turned n s xs [] = sym (any_none n xs)
 any_turned n s xs (c ∷ cs) =
     ap (λ b. list_any (λ x. n x && s c x) xs || b) (any_turned n s xs cs)
-    ∙ sym (any_either (λ x. n x && s c x) (λ x. n x && list_any (λ d. s d x) cs) xs)
-    ∙ any_same _ _ xs (λ x. by (n x) (s c x) (list_any (λ d. s d x) cs))
+    ∙ sym (list_any-or (λ x. n x && s c x) (λ x. n x && list_any (λ d. s d x) cs) xs)
+    ∙ list_any-same _ _ xs (λ x. by (n x) (s c x) (list_any (λ d. s d x) cs))
   where
     by : (n a b : Bool) → ((n && a) || (n && b)) ≡ (n && (a || b))
     by true a b = refl
@@ -120,7 +91,7 @@ kinds_like ps [] (r ∷ rs) e = absurd (true≢false (sym e))
 kinds_like ps (q ∷ qs) [] e = absurd (true≢false (sym e))
 kinds_like [] (q ∷ qs) (r ∷ rs) e = refl
 kinds_like (p ∷ ps) (q ∷ qs) (r ∷ rs) e =
-    let (first, rest) = both (is_same_kind q.kind.kind r.kind.kind) (have_same_kinds qs rs) e in
+    let (first, rest) = and_both (is_same_kind q.kind.kind r.kind.kind) (have_same_kinds qs rs) e in
     ap₂ (λ a b. a && b) (kind_like p.kind.kind q.kind.kind r.kind.kind first) (kinds_like ps qs rs rest)
 
 result_like : (x y z : Option KindWord) → has_same_result y z ≡ true → has_same_result x y ≡ has_same_result x z
@@ -131,7 +102,7 @@ result_like (Some j) (Some k) (Some l) e = kind_like j.kind k.kind l.kind e
 
 signature_like : (d e f : DeclForm) → has_same_signature e f ≡ true → has_same_signature d e ≡ has_same_signature d f
 signature_like d e f same =
-    let (result, kinds) = both (has_same_result (result_in e) (result_in f)) (have_same_kinds (params_in e).items (params_in f).items) same in
+    let (result, kinds) = and_both (has_same_result (result_in e) (result_in f)) (have_same_kinds (params_in e).items (params_in f).items) same in
     ap₂ (λ a b. a && b) (result_like (result_in d) (result_in e) (result_in f) result) (kinds_like (params_in d).items (params_in e).items (params_in f).items kinds)
 
 differs_like : (d e f : DeclForm) → differs e f ≡ false → differs d e ≡ differs d f
@@ -167,7 +138,7 @@ one_added classes ds k d old new less is are adds fits = record {
   where
     same_name : (name : ℕ) → declares name d ≡ true → differs_from (numbered_view d).decl.form (first_form old name) ≡ false
     same_name name e =
-        let (test, same) = both (is_attribute (numbered_view d).decl.form) (nat_eq name d.name) e in
+        let (test, same) = and_both (is_attribute (numbered_view d).decl.form) (nat_eq name d.name) e in
         ap (λ n. differs_from (numbered_view d).decl.form (first_form old n)) (eqb-true name d.name same) ∙ fits test
 
 pub none_added : (classes : Classes) (ds : List NumberedValue) (b : Before) → b.first.entries ≡ [] → b.declared.keys ≡ [] → b.above.keys ≡ [] → AreBefore classes (take 0 ds) b
@@ -223,17 +194,17 @@ is_clash classes ds b d = differs_from (numbered_view d).decl.form (first_form b
 pub declared_above : (classes : Classes) → 0 < length classes → (ds : List NumberedValue) (b : Before) → AreBefore classes ds b → (class : NamedClass) (name : ℕ)
     → list_any (has_key b.declared.keys name) (line classes class) ≡ list_any (λ e. declares name e && is_class_below classes class e.class) ds
 declared_above classes some ds b are class name =
-    any_same (has_key b.declared.keys name) (λ c. list_any (λ e. declares name e && same_class c e.class) ds) (line classes class) (λ c. are.declared c name)
+    list_any-same (has_key b.declared.keys name) (λ c. list_any (λ e. declares name e && same_class c e.class) ds) (line classes class) (λ c. are.declared c name)
     ∙ any_turned (declares name) (λ c e. same_class c e.class) ds (line classes class)
-    ∙ any_same _ _ ds (λ e. ap (λ x. declares name e && x) (on_line classes some class e.class))
+    ∙ list_any-same _ _ ds (λ e. ap (λ x. declares name e && x) (on_line classes some class e.class))
 
 clash : (classes : Classes) (ds : List NumberedValue) (b : Before) (d : NumberedValue) → AreBefore classes ds b → IsAmong classes ds d → list_any (clashes classes (numbered_view d)) (map numbered_view ds) ≡ is_clash classes ds b d
 clash classes ds b d are among =
     list_any-map (clashes classes (numbered_view d)) numbered_view ds
-    ∙ any_where (λ e. IsOfItsClass classes e × AreAlike d e) (λ e. clashes classes (numbered_view d) (numbered_view e)) (clashes_by_number classes d) ds (λ k x less. (among.others k x less, among.alike k x less)) (λ e h. by_numbers classes d e among.class h.0 h.1)
-    ∙ any_either (λ e. declares d.name e && differs (numbered_view d).decl.form (numbered_view e).decl.form) (λ e. (declares d.name e && is_class_below classes e.class d.class) || (declares d.name e && is_class_below classes d.class e.class)) ds
+    ∙ list_any-where (λ e. IsOfItsClass classes e × AreAlike d e) (λ e. clashes classes (numbered_view d) (numbered_view e)) (clashes_by_number classes d) ds (λ k x less. (among.others k x less, among.alike k x less)) (λ e h. by_numbers classes d e among.class h.0 h.1)
+    ∙ list_any-or (λ e. declares d.name e && differs (numbered_view d).decl.form (numbered_view e).decl.form) (λ e. (declares d.name e && is_class_below classes e.class d.class) || (declares d.name e && is_class_below classes d.class e.class)) ds
     ∙ ap₂ (λ x y. x || y) (sym (are.first (numbered_view d).decl.form d.name))
-    (any_either (λ e. declares d.name e && is_class_below classes e.class d.class) (λ e. declares d.name e && is_class_below classes d.class e.class) ds
+    (list_any-or (λ e. declares d.name e && is_class_below classes e.class d.class) (λ e. declares d.name e && is_class_below classes d.class e.class) ds
     ∙ ap (λ x. x || is_declared_above classes ds d) (sym (are.above d.class d.name)))
 
 pub tells_clash : (classes : Classes) (ds : List NumberedValue) (b : Before) (d : NumberedValue) → AreBefore classes ds b → IsAmong classes ds d → (r : Bool) → is_attribute (numbered_view d).decl.form ≡ true → is_clash classes ds b d ≡ r
@@ -319,7 +290,7 @@ adds_one classes some d old new form test viewed first declared above = record {
       above class name
       ∙ ap (λ x. has_key old.above.keys name class || x) (
       drawn true (nat_eq name d.name) (same_class class) (line classes d.class)
-      ∙ ap (λ b. b && nat_eq name d.name) (any_same (same_class class) (λ x. same_class x class) (line classes d.class) (λ x. class_symm class x) ∙ on_line classes some d.class class)
+      ∙ ap (λ b. b && nat_eq name d.name) (list_any-same (same_class class) (λ x. same_class x class) (line classes d.class) (λ x. class_symm class x) ∙ on_line classes some d.class class)
       ∙ switched (is_class_below classes d.class class) (nat_eq name d.name))
       ∙ ap (λ a. has_key old.above.keys name class || ((a && nat_eq name d.name) && is_class_below classes d.class class)) (sym test);
 }

@@ -1,17 +1,16 @@
 -- The first attribute that lacks an equation, and the place of its fault.
 use Rattle.std.proofs.Common.{◌≡◌, ℕ, zero, suc, ◌+◌, ◌<◌, ◌≤◌, ◌⊎◌, inl, inr, List, [], ◌∷◌, length, take, get_or, map, filter, refl, ap, sym, subst, ◌∙◌, arith, Option, Some, None, true≢false}
-use Rattle.std.specs.Prelude.{Bool, true, false, nat_eq, cond, is_some, option_map, slice_get, All}
+use Rattle.std.specs.Prelude.{Bool, true, false, nat_eq, cond, is_some, option_map, slice_get}
 use Rattle.std.specs.List.{AllZip}
 use Rattle.std.specs.Map.{lookup}
-use Rattle.std.proofs.lemmas.Bool.{eqb-true}
-use Rattle.std.proofs.lemmas.List.{take_all}
+use Rattle.std.proofs.lemmas.List.{length-map, take_all}
 use Rattle.std.proofs.lemmas.Slice.Eq.{bytes_eq-Decides}
 use Rattle.std.specs.Str.{bytes_eq}
 use Rattle.indexmap.specs.IndexMap.{get, IndexMap}
-use Rattle.at_model.specs.Classes.{Classes, class_of_name}
+use Rattle.at_model.specs.Classes.{class_of_name}
 use Rattle.at_model.specs.Rules.{Rules, Attribute, attribute_name}
 use Rattle.at_typing.specs.AttributeKeys.{attributes_in}
-use Rattle.at_typing.specs.Completing.{IsFirst, LacksOwn, LacksInherited, IsDeclaredBy, AreDeclared, fault_of, TellsFirst, LacksBelow, LacksAt, LacksDeclared, IsExposedBelow, ExposesDeclared, MeetsExposed, MeetExposed, IsNamedAmong, Tells, is_among}
+use Rattle.at_typing.specs.Completing.{LacksOwn, LacksInherited, IsDeclaredBy, AreDeclared, TellsFirst, LacksBelow, LacksAt, LacksDeclared, IsExposedBelow, ExposesDeclared, MeetsExposed, MeetExposed, IsNamedAmong, Tells, is_among}
 use Rattle.at_typing.specs.Declaring.{is_attribute, is_inherited, attributes, class_text, name_text, fault_at}
 use Rattle.at_typing.specs.Located.{Located}
 use Rattle.at_typing.specs.Numbering.{numbered_view, known_class, AreNumbered}
@@ -71,10 +70,6 @@ as_many R [] (y ∷ ys) all = absurd all
 as_many R (x ∷ xs) [] all = absurd all
 as_many R (x ∷ xs) (y ∷ ys) all = ap suc (as_many R xs ys all.1)
 
-length_map : {A B : Type 0} (f : A → B) (xs : List A) → length (map f xs) ≡ length xs
-length_map f [] = refl
-length_map f (x ∷ xs) = ap suc (length_map f xs)
-
 within : {A : Type 0} (xs : List A) (n : ℕ) (x : A) → slice_get xs n ≡ Some x → n < length xs
 within [] n x is = absurd (no_some x is)
 within (y ∷ ys) zero x is = omega arith
@@ -127,7 +122,7 @@ tells_none c rules Lacks ds k n past count clear inside = λ numbered are. (
     all : AreDeclared rules (map numbered_view ds) → length rules.attributes ≡ n
     all are =
         as_many (IsDeclaredBy rules.classes) (attributes (map numbered_view ds)) rules.attributes are
-        ∙ ap length (viewed ds) ∙ length_map numbered_view (attributes_in ds)
+        ∙ ap length (viewed ds) ∙ length-map (attributes_in ds) numbered_view
         ∙ ap (λ l. length (attributes_in l)) (sym (take_all k ds past))
         ∙ sym count
 

@@ -1,11 +1,10 @@
 -- The classes above a class, one by one.
-use Rattle.std.proofs.Common.{◌≡◌, ℕ, zero, suc, ◌+◌, ◌-◌, ◌<◌, ◌≤◌, Bool, true, false, ◌||◌, ◌&&◌, nat_eq, List, [], ◌∷◌, length, map, refl, ap, sym, ◌∙◌, arith, Option, Some, None}
+use Rattle.std.proofs.Common.{◌≡◌, ℕ, zero, suc, ◌+◌, ◌-◌, ◌<◌, ◌≤◌, Bool, true, false, ◌||◌, nat_eq, List, [], ◌∷◌, length, map, refl, ap, sym, ◌∙◌, arith, Option, Some, None}
 use Rattle.std.specs.Prelude.{option_map}
 use Rattle.std.specs.List.{list_any}
 use Rattle.std.proofs.lemmas.Cmp.{nat_eq_equiv}
 use Rattle.at_model.specs.Classes.{Classes, chain, chain_within, parent_of, is_sub}
-use Rattle.at_typing.specs.Declaring.{is_sub_or_none}
-use Rattle.at_typing.specs.Numbering.{known_class, parent_class, same_class, is_class_below, line, line_within}
+use Rattle.at_typing.specs.Numbering.{parent_class, same_class, is_class_below, line, line_within}
 use Rattle.at_typing.specs.declared.numbered.NamedClass.{NamedClass}
 use Rattle.at_typing.specs.declared.numbered.NamedClass.TheVariants.{Known, Unknown}
 

@@ -1,4 +1,4 @@
-use Rattle.std.proofs.Common.{◌≡◌, arith, refl, sym, ap, length, map, ◌∙◌}
+use Rattle.std.proofs.Common.{arith, refl, sym, ap, length, map, ◌∙◌}
 use Rattle.at_typing.specs.Completing.{AreDeclared, ExposesDeclared, IsNamedAmong, LacksInherited}
 use Rattle.at_typing.specs.Numbering.{numbered_view, AreNumbered}
 use Rattle.at_typing.specs.declared.fault.RuleCode.TheVariants as code

@@ -1,7 +1,6 @@
 use Rattle.std.proofs.Common.{sym, ap, subst, ◌∙◌, true≢false}
-use Rattle.std.specs.Prelude.{is_some, option_map}
+use Rattle.std.specs.Prelude.{is_some}
 use Rattle.at_typing.specs.Completing.{ExposesDeclared, Tells}
-use Rattle.at_typing.specs.declared.walk.Walk.{Walk}
 use Rattle.at_typing.proofs.Lackings.{tells_met}
 use Rattle.at_typing.proofs.checks.exposure.is_exposed.Goals as goal
 
