@@ -24,3 +24,8 @@ mod Lacking
 mod Lackings
 mod Children
 mod Completed
+mod Adding
+mod MeaningParts
+mod Gathering
+mod InOrder
+mod Built

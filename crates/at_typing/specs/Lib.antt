@@ -12,6 +12,9 @@ pub mod AttributeKeys
 pub mod AccessorNames
 pub mod Twice
 pub mod Ruling
+pub mod Meanings
+pub mod Building
+pub mod Seen
 pub mod Walks
 pub mod Hierarchies
 pub mod Completing

@@ -2,6 +2,10 @@
 //! whole, from left to right.
 
 ghost use Rattle.std.specs.Prelude.{◌≡◌};
+ghost use Rattle.at_jrag.specs.View.{expr_view};
+ghost use Rattle.at_rules.specs.Bodies.{body_view};
+ghost use Rattle.at_typing.specs.Judging.{body_of as body_meant};
+ghost use Rattle.at_typing.specs.Typed.{scope_view, Judges};
 ghost use Rattle.at_typing.specs.declared.typing.TypeFault.TheVariants.{Memory};
 
 mod calls;
@@ -79,7 +83,9 @@ pub struct Scope<'a> {
 ///
 /// `Refused` for its first fault: a name that isn't there, a wrong argument, a wrong kind, or a whole
 /// that doesn't fit the wanted kind. `Memory` for want of memory.
-pub fn body_of(scope: &Scope, expr: &Expr, wanted: WrittenKind) -> Result<Body, TypeFault> {
+pub fn body_of(scope: &Scope, expr: &Expr, wanted: WrittenKind) -> Result<Body, TypeFault>
+    ensures { Judges body_view (body_meant (scope_view scope.now) (expr_view expr.now) wanted) result }
+{
     let typed = scope.typed(expr)?;
     if typed.kind.fits(scope.classes, wanted) {
         Ok(typed.body)
