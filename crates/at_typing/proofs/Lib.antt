@@ -17,3 +17,4 @@ mod Exposing
 mod Lacking
 mod Children
 mod Completed
+mod Parts
