@@ -18,3 +18,4 @@ mod Lacking
 mod Children
 mod Completed
 mod Parts
+mod Seen

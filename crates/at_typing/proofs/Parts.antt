@@ -1,23 +1,31 @@
 -- What is made of parts, or the fault of one.
-use Rattle.std.proofs.Common.{◌≡◌, ℕ, ◌+◌, ◌<◌, ◌≤◌, List, [], ◌∷◌, ◌++◌, map, length, drop, get_or, refl, ap, ap₂, sym, ◌∙◌, append_assoc, append-nil, Option, Some, None, option_map, string_bytes, Result, Ok, Err, suc, zero, cond}
-use Rattle.std.specs.Prelude.{slice_get, position, option_and_then, Vec}
+use Rattle.std.proofs.Common.{◌≡◌, ℕ, ◌+◌, ◌<◌, ◌≤◌, List, [], ◌∷◌, ◌++◌, map, length, drop, get_or, refl, ap, ap₂, sym, ◌∙◌, append_assoc, append-nil, Option, Some, None, option_map, string_bytes, Result, Ok, Err, suc, zero, cond, subst, arith, add-one, true≢false}
+use Rattle.std.specs.Prelude.{Bool, true, false, slice_get, position, option_and_then, nat_eq, vec_len, if◌then◌else◌, Vec}
 use Rattle.std.specs.Str.{bytes_eq}
 use Rattle.std.specs.Global.{Global}
 use Rattle.std.proofs.Math.Seq.{drop-cons}
-use Rattle.std.proofs.lemmas.List.{drop_all}
+use Rattle.std.proofs.lemmas.List.{drop_all, map-append}
+use Rattle.std.proofs.lemmas.Bool.{eqb-true, eq-eqb}
 use Rattle.std.proofs.lemmas.Option.{none-some, slice_get-map}
 use Rattle.at_class.proofs.Named.{position-map}
 use Rattle.at_model.specs.Classes.{Classes}
-use Rattle.at_model.specs.Bodies.{expr}
+use Rattle.at_model.specs.Bodies.{Expr, Exprs, expr, Call}
 use Rattle.at_jrag.specs.Syntax.{Place, to_exprs}
 use Rattle.at_jrag.specs.View.{expr_view}
 use Rattle.at_jrag.specs.declared.syntax.Expr.{Expr as ExprValue}
 use Rattle.at_rules.specs.Bodies.{body_view, bodies_view}
 use Rattle.at_rules.specs.declared.body.Body.{Body}
-use Rattle.at_typing.specs.Judging.{Judgement, Kinded, Scope, Bound, bound_to, Is, Wrong, and_then, judged, judged_all, bodies, misfit, is_argument}
-use Rattle.at_typing.specs.Typed.{Judges, typed_view, all_view, bound_view}
+use Rattle.at_typing.specs.Judging.{Judgement, Judged, Kinded, Scope, Bound, bound_to, Is, Wrong, and_then, judged, judged_all, bodies, bodies_or, misfit, fitted, is_argument, accessed, asked_by, demanded, demanded_of, of_kind, list_by, fitting}
+use Rattle.at_typing.specs.Kinds.{of_written, fits}
+use Rattle.at_typing.specs.Signatures.{Declared}
+use Rattle.at_typing.specs.Typed.{Judges, typed_view, all_view, list_view, bound_view}
+use Rattle.at_typing.specs.declared.accessors.Accessor.{Accessor}
+use Rattle.at_typing.specs.declared.accessors.Accessor.TheVariants as accessor
+use Rattle.at_typing.specs.declared.fault.RuleCode.TheVariants as code
 use Rattle.at_typing.specs.declared.fault.RuleCode.{RuleCode}
 use Rattle.at_typing.specs.declared.signatures.WrittenKind.{WrittenKind}
+use Rattle.at_typing.specs.declared.signatures.WrittenKind.TheVariants.{Known}
+use Rattle.at_rules.specs.declared.body.Kind.TheVariants as kind
 use Rattle.at_typing.specs.declared.typing.kinds.Typed.{Typed}
 use Rattle.at_typing.specs.declared.typing.Bound.{Bound as BoundValue}
 use Rattle.at_typing.specs.declared.typing.TypeFault.{TypeFault}
@@ -30,9 +38,25 @@ fault_of view whole f j Memory is = tt
 
 -- what is made of a part
 pub made_of : {A B T U : Type 0} (view : T → A) (whole : U → B) (f : A → Judgement B) (j : Judgement A) (t : T) (r : Result U TypeFault) → Judges view j (Ok t) → Judges whole (f (view t)) r → Judges whole (and_then f j) r
-made_of view whole f j t (Ok u) is then' = ap (and_then f) is ∙ then'
-made_of view whole f j t (Err (Refused c at)) is then' = ap (and_then f) is ∙ then'
-made_of view whole f j t (Err Memory) is then' = tt
+made_of view whole f j t (Ok u) is so = ap (and_then f) is ∙ so
+made_of view whole f j t (Err (Refused c at)) is so = ap (and_then f) is ∙ so
+made_of view whole f j t (Err Memory) is so = tt
+
+pub fault_in : {A B T U : Type 0} (view : T → A) (whole : U → B) (f : A → Judgement B) (j : Judgement A) (o : Result T TypeFault) (e : TypeFault) → o ≡ Err e → Judges view j o → Judges whole (and_then f j) (Err e)
+fault_in view whole f j o e was is = fault_of view whole f j e (subst (λ p. Judges view j p) was is)
+
+pub made_in : {A B T U : Type 0} (view : T → A) (whole : U → B) (f : A → Judgement B) (j : Judgement A) (o : Result T TypeFault) (t : T) (r : Result U TypeFault) → o ≡ Ok t → Judges view j o → Judges whole (f (view t)) r → Judges whole (and_then f j) r
+made_in view whole f j o t r was is so = made_of view whole f j t r (subst (λ p. Judges view j p) was is) so
+
+-- where the condition holds
+pub where_true : {A T : Type 0} (view : T → A) (b : Bool) (j l : Judgement A) (r : Result T TypeFault) → b ≡ true → Judges view j r → Judges view (if b then j else l) r
+where_true view true j l r is so = so
+where_true view false j l r is so = absurd (true≢false (sym is))
+
+-- where it doesn't
+pub where_false : {A T : Type 0} (view : T → A) (b : Bool) (j l : Judgement A) (r : Result T TypeFault) → b ≡ false → Judges view l r → Judges view (if b then j else l) r
+where_false view true j l r is so = absurd (true≢false is)
+where_false view false j l r is so = so
 
 -- names ------------------------------------------------------------------------------------------------------------------
 
@@ -83,6 +107,80 @@ misfit_none classes (k ∷ ks) [] (suc i) is = refl
 misfit_none classes (k ∷ ks) (p ∷ ps) zero is = absurd (none-some p (sym is))
 misfit_none classes (k ∷ ks) (p ∷ ps) (suc i) is = misfit_none classes (k ∷ ks) ps i is
 
+-- as many arguments as parameters
+pub fitted_same : (classes : Classes) (at : Place) (ks : List Kinded) (ps : List WrittenKind) (o : Option Place) → length ks ≡ length ps → misfit classes ks ps ≡ o → fitted classes at ks ps ≡ bodies_or ks o
+fitted_same classes at ks ps o same is = ap (λ b. if b then bodies_or ks (misfit classes ks ps) else Wrong code.Argument at) (eq-eqb (length ks) (length ps) same) ∙ ap (bodies_or ks) is
+
+-- more or less
+pub fitted_apart : (classes : Classes) (at : Place) (ks : List Kinded) (ps : List WrittenKind) → (length ks ≡ length ps → ⊥) → fitted classes at ks ps ≡ Wrong code.Argument at
+fitted_apart classes at ks ps apart = by (nat_eq (length ks) (length ps)) refl
+  where
+    by : (b : Bool) → nat_eq (length ks) (length ps) ≡ b → (if b then bodies_or ks (misfit classes ks ps) else Wrong code.Argument at) ≡ Wrong code.Argument at
+    by true is = absurd (apart (eqb-true (length ks) (length ps) is))
+    by false is = refl
+
+pub none_given : (ts : Vec Typed Global) → nat_eq (vec_len ts) 0 ≡ true → map typed_view ts.items ≡ []
+none_given ts is = empty ts.items (let e = eqb-true (vec_len ts) 0 is in omega (arith, e, ts.ok.0))
+  where
+    empty : (xs : List Typed) → length xs ≡ 0 → map typed_view xs ≡ []
+    empty [] e = refl
+    empty (x ∷ xs) e = absurd (omega (arith, e))
+
+pub some_given : (ts : Vec Typed Global) → nat_eq (vec_len ts) 0 ≡ false → (k : Kinded) × (ks : List Kinded) × (map typed_view ts.items ≡ k ∷ ks)
+some_given ts is = filled ts.items (λ e. true≢false (sym (eq-eqb (vec_len ts) 0 (omega (arith, e, ts.ok.0))) ∙ is))
+  where
+    filled : (xs : List Typed) → (length xs ≡ 0 → ⊥) → (k : Kinded) × (ks : List Kinded) × (map typed_view xs ≡ k ∷ ks)
+    filled [] some = absurd (some refl)
+    filled (x ∷ xs) some = (typed_view x, map typed_view xs, refl)
+
+-- no accessor but an element's takes an argument
+pub accessed_crowded : (at : Place) (a : Accessor) (e : Expr) (k : Kinded) (ks : List Kinded) → ((part c : ℕ) → a ≡ accessor.Element part c → ⊥) → accessed at a e (k ∷ ks) ≡ Wrong code.Argument at
+accessed_crowded at (accessor.Child part c) e k ks other = refl
+accessed_crowded at (accessor.Element part c) e k ks other = absurd (other part c refl)
+accessed_crowded at (accessor.Token part t) e k ks other = refl
+accessed_crowded at (accessor.Has part) e k ks other = refl
+accessed_crowded at (accessor.Count part) e k ks other = refl
+accessed_crowded at (accessor.List part) e k ks other = refl
+
+-- what is asked is an accessor, or else an attribute
+pub by_accessor : (s : Scope) (at : Place) (a : Option ℕ) (o : Option Accessor) (x : Accessor) (e : Expr) (ks : List Kinded) (r : Result Typed TypeFault) → o ≡ Some x → Judges typed_view (accessed at x e ks) r → Judges typed_view (asked_by s at a o e ks) r
+by_accessor s at a o x e ks r is so = subst (λ p. Judges typed_view (asked_by s at a p e ks) r) (sym is) so
+
+pub by_attribute : (s : Scope) (at : Place) (a : Option ℕ) (b : ℕ) (o : Option Accessor) (e : Expr) (ks : List Kinded) (r : Result Typed TypeFault) → o ≡ None → a ≡ Some b
+    → Judges typed_view (demanded_of s.classes at b (slice_get s.declared b) e ks) r → Judges typed_view (asked_by s at a o e ks) r
+by_attribute s at a b o e ks r none is so = subst (λ p. Judges typed_view (asked_by s at a p e ks) r) (sym none) (subst (λ p. Judges typed_view (demanded s at p e ks) r) (sym is) so)
+
+pub by_neither : (s : Scope) (at : Place) (a : Option ℕ) (o : Option Accessor) (e : Expr) (ks : List Kinded) → o ≡ None → a ≡ None → asked_by s at a o e ks ≡ Wrong code.UnknownName at
+by_neither s at a o e ks none is = ap (λ p. asked_by s at a p e ks) none ∙ ap (λ p. demanded s at p e ks) is
+
+-- an attribute that is declared
+pub demanded_there : (classes : Classes) (at : Place) (a : ℕ) (o : Option Declared) (d : Declared) (e : Expr) (ks : List Kinded) (es : Exprs) → o ≡ Some d → fitted classes at ks d.parameters ≡ Is es → demanded_of classes at a o e ks ≡ of_kind at (of_written d.result) (Call e a es)
+demanded_there classes at a o d e ks es is so = ap (λ p. demanded_of classes at a p e ks) is ∙ ap (and_then (λ xs. of_kind at (of_written d.result) (Call e a xs))) so
+
+-- the whole -----------------------------------------------------------------------------------------------------------------
+
+pub not_fitting : (classes : Classes) (wanted : WrittenKind) (here at : Place) (k : Kinded) → here ≡ at → fits classes k.kind wanted ≡ false → fitting classes wanted here k ≡ Wrong code.Kind at
+not_fitting classes wanted here at k is other = ap (λ b. if b then Is k.body else Wrong code.Kind here) other ∙ ap (Wrong code.Kind) is
+
+-- the list of a fold ------------------------------------------------------------------------------------------------------
+
+pub no_list_fault : (fold at : Place) (o : Option (ℕ × ℕ)) (call : Judged) (k : Kinded) (ks : List Kinded) (e : TypeFault) → o ≡ None → Judges typed_view call (Err e) → Judges list_view (list_by fold at o call k ks) (Err e)
+no_list_fault fold at None call k ks e is so = fault_of typed_view list_view (λ j. Wrong code.Kind fold) call e so
+no_list_fault fold at (Some l) call k ks e is so = absurd (none-some l (sym is))
+
+pub no_list_kind : (fold at : Place) (o : Option (ℕ × ℕ)) (call : Judged) (k : Kinded) (ks : List Kinded) (t : Typed) → o ≡ None → call ≡ Is (typed_view t) → list_by fold at o call k ks ≡ Wrong code.Kind fold
+no_list_kind fold at o call k ks t is so = ap (λ p. list_by fold at p call k ks) is ∙ ap (and_then (λ j. Wrong code.Kind fold)) so
+
+pub list_crowded : (fold at : Place) (o : Option (ℕ × ℕ)) (l : ℕ × ℕ) (call : Judged) (k : Kinded) (ks : List Kinded) (j : Kinded) (js : List Kinded) → o ≡ Some l → ks ≡ j ∷ js → list_by fold at o call k ks ≡ Wrong code.Argument at
+list_crowded fold at o l call k ks j js is given = ap₂ (λ p xs. list_by fold at p call k xs) is given
+
+pub list_there : (fold at : Place) (o : Option (ℕ × ℕ)) (l : ℕ × ℕ) (call : Judged) (k : Kinded) (ks : List Kinded) → o ≡ Some l → ks ≡ [] → list_by fold at o call k ks ≡ Is (record { node = k.body; part = l.0; class = l.1 })
+list_there fold at o l call k ks is given = ap₂ (λ p xs. list_by fold at p call k xs) is given
+
+-- the name of a fold over nodes of class c
+abbrev pub node_bound : List ℕ → ℕ → Bound
+node_bound name c = record { name = name; kind = Known (kind.Class c) }
+
 -- expressions one after the other -----------------------------------------------------------------------------------------
 
 -- behind those that are judged
@@ -101,12 +199,15 @@ regroup : (done : List Kinded) (k : Kinded) (j : Judgement (List Kinded)) → be
 regroup done k (Is ks) = ap Is (sym (append_assoc done (k ∷ []) ks))
 regroup done k (Wrong c at) = refl
 
-pub all_more : (s : Scope) (es : List ExprValue) (i : ℕ) (e : ExprValue) (k : Kinded) (done : List Kinded) (whole : Judgement (List Kinded)) → i < length es → e ≡ get_or es i e → judged s (expr_view e) ≡ Is k
-    → whole ≡ behind done (judged_all s (to_exprs (map expr_view (drop i es)))) → whole ≡ behind (done ++ k ∷ []) (judged_all s (to_exprs (map expr_view (drop (suc i) es))))
-all_more s es i e k done whole less is here so_far =
+pub all_more : (s : Scope) (es : List ExprValue) (i : ℕ) (e : ExprValue) (t : Typed) (done : List Typed) (whole : Judgement (List Kinded)) → i < length es → e ≡ get_or es i e → judged s (expr_view e) ≡ Is (typed_view t)
+    → whole ≡ behind (map typed_view done) (judged_all s (to_exprs (map expr_view (drop i es)))) → whole ≡ behind (map typed_view (done ++ t ∷ [])) (judged_all s (to_exprs (map expr_view (drop (i + 1) es))))
+all_more s es i e t done whole less is here so_far =
+    let others = λ (n : ℕ). judged_all s (to_exprs (map expr_view (drop n es))) in
     so_far
-    ∙ ap (behind done) (next_all s es i e less is ∙ ap (and_then (λ k. and_then (λ ks. Is (k ∷ ks)) (judged_all s (to_exprs (map expr_view (drop (suc i) es)))))) here)
-    ∙ regroup done k (judged_all s (to_exprs (map expr_view (drop (suc i) es))))
+    ∙ ap (behind (map typed_view done)) (next_all s es i e less is ∙ ap (and_then (λ k. and_then (λ ks. Is (k ∷ ks)) (others (suc i)))) here)
+    ∙ regroup (map typed_view done) (typed_view t) (others (suc i))
+    ∙ ap (λ l. behind l (others (suc i))) (sym (map-append typed_view done (t ∷ [])))
+    ∙ ap (λ n. behind (map typed_view (done ++ t ∷ [])) (others n)) (sym (add-one i))
 
 pub all_wrong : (s : Scope) (es : List ExprValue) (i : ℕ) (e : ExprValue) (c : RuleCode) (at : Place) (done : List Kinded) (whole : Judgement (List Kinded)) → i < length es → e ≡ get_or es i e → judged s (expr_view e) ≡ Wrong c at
     → whole ≡ behind done (judged_all s (to_exprs (map expr_view (drop i es)))) → whole ≡ Wrong c at

@@ -148,7 +148,8 @@ impl Scope<'_> {
     {
         let mut all = Vec::new(self.alloc);
         for expr in exprs {
-            all.push(self.typed(expr)?)?;
+            let typed = self.typed(expr)?;
+            all.push(typed)?;
         }
         Ok(all)
     }

@@ -35,7 +35,7 @@ impl Scope<'_> {
     ) -> Result<List, TypeFault>
         ensures { Judges list_view (list_called_by (scope_view self.now) fold at name.now (typed_view receiver) (map typed_view arguments.items)) result }
     {
-        let Some((part, class)) = self.list_named(receiver.kind, name) else {
+        let Some(list) = self.list_named(receiver.kind, name) else {
             self.called(receiver, name, arguments, at)?;
             return Err(refused(RuleCode::Kind, fold));
         };
@@ -44,8 +44,8 @@ impl Scope<'_> {
         }
         Ok(List {
             node: receiver.body,
-            part,
-            class,
+            part: list.0,
+            class: list.1,
         })
     }
 
