@@ -29,3 +29,5 @@ mod MeaningParts
 mod Gathering
 mod InOrder
 mod Built
+mod Parts
+mod Seen
