@@ -204,7 +204,7 @@ pub unwritten : {K : Type 0} (entries : K → Entries) (old new : Engine K) (byt
 unwritten entries old new bytes (spare, k) same = (
   spare,
   weaker_grows (IsWorthFor (rules_of old) (state_of old) k.becomes) (IsWorthIn (rules_of old) (state_of old) bytes) (kept_of entries old) (kept_of entries new) (work_of old) (work_of new) (worth_in (rules_of old) (state_of old) bytes k.becomes k.is_verdict)
-  (kept_grows (rules_of old) (state_of old) k.becomes (kept_of entries old) (kept_of entries new) (work_of old) (work_of new) k.keeps.more (λ e t is. not_edited (state_of old) k.becomes e t (sym same ∙ k.state) is) k.keeps.kept k.keeps.is_work k.keeps.grows),
+      (kept_grows (rules_of old) (state_of old) k.becomes (kept_of entries old) (kept_of entries new) (work_of old) (work_of new) k.keeps.more (λ e t is. not_edited (state_of old) k.becomes e t (sym same ∙ k.state) is) k.keeps.kept k.keeps.is_work k.keeps.grows),
 )
 
 -- commands that neither edit nor ask
@@ -247,3 +247,8 @@ pub kept_step : {K : Type 0} (entries : K → Entries) (line : List ℕ) (old ne
     → (reply : Reply) × Serves (rules_of old) (ByEquations (rules_of old)) wants (state_of old) line (state_of new) reply × (after ≡ before ++ reply_text reply) → KeepsServed entries wants line old new → KeepsStep entries line old new before after
 kept_step entries [] old new wants before after some s keeps = absurd (omega (arith, some))
 kept_step entries (b ∷ bs) old new wants before after some s keeps = (wants, s.0, s.1, s.2, keeps)
+
+-- and an empty one changes nothing
+pub kept_empty : {K : Type 0} (entries : K → Entries) (line : List ℕ) (e : Engine K) (before after : List ℕ) → length line ≡ 0 → after ≡ before → KeepsStep entries line e e before after
+kept_empty entries [] e before after none same = (refl, same)
+kept_empty entries (b ∷ bs) e before after none same = absurd (omega (arith, none))

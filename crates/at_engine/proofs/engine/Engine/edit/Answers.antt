@@ -133,9 +133,13 @@ returns-clause-spares g c n p exact spare =
     let loses : LosesTouched (Touches e.store e_n) old later = λ i k at.
     elim (c.after_edit.ensures.loses exact i k at) [
       | inl stays ↦ inl stays
-      | inr (l, covers, (x, same, said)) ↦ inr (l, covers, λ m like.
-          let there : LocationLike (Names (path e.store)) (loc_view x) m = subst (λ (j : Location ℕ). LocationLike (Names (path e.store)) j m) (sym same) like in
-          search (rules, touched_by))
+      | inr (l, covers, (x, same, said)) ↦ inr (
+        l,
+        covers,
+        λ m like.
+            let there : LocationLike (Names (path e.store)) (loc_view x) m = subst (λ (j : Location ℕ). LocationLike (Names (path e.store)) j m) (sym same) like in
+            search (rules, touched_by),
+      )
     ] in
     let (just, after) = kept_spare e.rules e.store new e_n prepared.left c.requires.sound.idle c.requires.sound.conforming prepared.accepted done old later c.requires.sound.right spare leaves loses in
     let v = changed e.rules.classes s e_n in
