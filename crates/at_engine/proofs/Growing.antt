@@ -1,11 +1,10 @@
 -- What comes to what is kept where memory runs out.
-use Rattle.std.proofs.Common.{◌≡◌, ◌⊎◌, ◌↔◌, ℕ, ◌+◌, ◌-◌, ◌^◌, ◌<◌, min, List, [], ◌∷◌, length, inl, inr, refl, ap, ◌∙◌, subst, arith}
+use Rattle.std.proofs.Common.{◌≡◌, ◌↔◌, ℕ, ◌+◌, ◌-◌, ◌^◌, ◌<◌, min, [], inl, inr, refl, ap, ◌∙◌, arith}
 use Rattle.at_model.specs.Trees.{Tree}
 use Rattle.at_model.specs.Paths.{Node}
 use Rattle.at_model.specs.Run.{Instance}
 use Rattle.at_model.specs.Rules.{Rules}
 use Rattle.at_model.specs.Edits.{Edit as EditOf}
-use Rattle.at_model.specs.Meaning.{Among}
 use Rattle.at_model.specs.Machine.{State, Verdict, Refuses, Tells, Leaves, Edits, Asks}
 use Rattle.at_model.specs.Sparing.{KeptAfter, IsWork}
 use Rattle.at_engine.specs.KeptOver.{Grows, IsWorthFor}

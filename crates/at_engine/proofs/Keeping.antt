@@ -1,5 +1,5 @@
 -- What is kept over the verdict of each command.
-use Rattle.std.proofs.Common.{◌≡◌, ◌↔◌, ℕ, ◌+◌, ◌-◌, ◌^◌, ◌<◌, min, Bool, true, false, nat_eq, nat_le, count_by, if◌then◌else◌, List, [], ◌∷◌, ◌++◌, length, Option, Some, None, option_and_then, Result, Ok, Err, IfOk, inl, inr, refl, sym, ap, ◌∙◌, subst, arith}
+use Rattle.std.proofs.Common.{◌≡◌, ◌↔◌, ℕ, ◌+◌, ◌<◌, Bool, true, false, nat_eq, nat_le, count_by, if◌then◌else◌, List, [], ◌∷◌, ◌++◌, length, Option, Some, None, Result, Ok, Err, IfOk, refl, sym, ap, ◌∙◌, subst, arith}
 use Rattle.std.specs.Prelude.{IsSome}
 use Rattle.at_model.specs.Trees.{Tree}
 use Rattle.at_model.specs.Paths.{Node, tree_at}
@@ -18,12 +18,12 @@ use Rattle.at_protocol.specs.declared.reply.Refusal.{Refusal}
 use Rattle.at_protocol.specs.declared.reply.Refusal.TheVariants as refusal
 use Rattle.at_protocol.specs.declared.reply.Form.{Form as FormValue}
 use Rattle.at_protocol.specs.declared.reply.Form.TheVariants as form
-use Rattle.at_store.specs.Shown.{Shown, contents, numbers, path, tree}
+use Rattle.at_store.specs.Shown.{contents, numbers, path, tree}
 use Rattle.at_store.specs.declared.edit.Refusal.{Refusal as EditRefusal}
 use Rattle.at_store.specs.declared.edit.Refusal.TheVariants as reason
 use Rattle.at_cache.specs.Kept.{Entries, Kept, KeepsAll}
 use Rattle.at_demand.specs.Sparing.{AreSpare}
-use Rattle.at_demand.specs.Called.{KeptBy, Keeps}
+use Rattle.at_demand.specs.Called.{Keeps}
 use Rattle.at_demand.specs.declared.demand.Demand.{Demand}
 use Rattle.at_engine.specs.Engines.{rules_of, state_of}
 use Rattle.at_engine.specs.Following.{Follows}

@@ -1,11 +1,10 @@
 -- What lines one after the other do to what is kept.
-use Rattle.std.proofs.Common.{◌≡◌, ◌⊎◌, ◌↔◌, ℕ, ◌+◌, ◌-◌, ◌^◌, ◌<◌, min, List, [], ◌∷◌, ◌++◌, inl, inr, refl, sym, ◌∙◌, subst, arith}
+use Rattle.std.proofs.Common.{◌≡◌, ◌↔◌, ℕ, ◌+◌, ◌-◌, ◌^◌, ◌<◌, min, List, [], ◌∷◌, ◌++◌, inl, inr, refl, sym, ◌∙◌, subst, arith}
 use Rattle.at_model.specs.Paths.{Node}
 use Rattle.at_model.specs.Run.{Instance}
 use Rattle.at_model.specs.Rules.{Rules}
-use Rattle.at_model.specs.Meaning.{Among}
 use Rattle.at_model.specs.Machine.{State, Verdict, Refuses, Tells, Leaves, Edits, Asks, after}
-use Rattle.at_model.specs.Sparing.{KeptAfter, IsWork, IsWorthKeeping}
+use Rattle.at_model.specs.Sparing.{KeptAfter, IsWork}
 use Rattle.at_engine.specs.KeptOver.{HasVerdict, HaveVerdicts, after_all, KeptAfterAll, IsWorkOfAll, KeepsLines}
 
 through : {A B C : Type 0} → A ↔ B → B ↔ C → A ↔ C

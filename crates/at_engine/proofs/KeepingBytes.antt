@@ -2,14 +2,14 @@
 use Rattle.std.proofs.Common.{◌≡◌, ◌⊎◌, ℕ, ◌+◌, ◌≤◌, ◌<◌, Bool, true, false, if◌then◌else◌, nat_eq, List, [], ◌∷◌, ◌++◌, length, filter, Option, inl, inr, refl, sym, ap, ◌∙◌, append_assoc, append-nil, subst, arith}
 use Rattle.std.proofs.lemmas.Bool.{cases_lt}
 use Rattle.std.specs.Io.KnownBytes.{Consumes}
-use Rattle.at_model.specs.Lines.{Line, Spells, is_filled, lines, pieces}
+use Rattle.at_model.specs.Lines.{is_filled, pieces}
 use Rattle.at_model.specs.Rules.{Rules}
 use Rattle.at_model.specs.Machine.{State, Verdict}
 use Rattle.at_cache.specs.Kept.{Entries}
 use Rattle.at_engine.specs.Engines.{rules_of, state_of}
 use Rattle.at_engine.specs.KeptOver.{HasVerdict, obeys, refuses, KeepsLines}
 use Rattle.at_engine.specs.Keeping.{KeepsAll, KeepsBytes, KeepsLine, KeepsRun, KeepsServed, kept_of, work_of}
-use Rattle.at_engine.specs.Loop.{IsOpen, Splits, kept}
+use Rattle.at_engine.specs.Loop.{IsOpen, kept}
 use Rattle.at_engine.specs.declared.engine.Engine.{Engine}
 use Rattle.at_engine.specs.declared.stream.desk.Desk.{Desk}
 use Rattle.at_engine.proofs.Kept.{kept-more, kept-nil, kept-short, length-kept}

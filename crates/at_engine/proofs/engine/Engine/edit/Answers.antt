@@ -1,17 +1,15 @@
 use Rattle.std.proofs.Common.{◌≡◌, ℕ, true, false, nat_eq, arith, inl, inr, refl, rules, sym, subst}
 use Rattle.std.proofs.lemmas.Bool.{eq-eqb, ne_eqb}
 use Rattle.at_model.specs.Classes.{Classes}
-use Rattle.at_model.specs.Edits.{Edit as EditOf}
 use Rattle.at_model.specs.Lines.{last_version}
 use Rattle.at_model.specs.Paths.{Node}
 use Rattle.at_model.specs.Run.{Location}
 use Rattle.at_model.specs.Alike.{LocationLike, Names}
-use Rattle.at_model.specs.Touches.{touches}
 use Rattle.at_store.specs.Checking.{IsAsked, IsRefused}
 use Rattle.at_store.specs.Preparing.{Does, IsPrepared}
-use Rattle.at_store.specs.Refusing.{edit_at, node_of}
+use Rattle.at_store.specs.Refusing.{edit_at}
 use Rattle.at_store.specs.Located.{loc_view}
-use Rattle.at_store.specs.Shown.{Shown, path}
+use Rattle.at_store.specs.Shown.{path}
 use Rattle.at_demand.specs.Touched.{Touches}
 use Rattle.at_demand.proofs.StayingRight.{kept_right}
 use Rattle.at_engine.proofs.Editing.{KeepsRight, idle_again, came_refused, came_given_up, told_done, sound_done, untouched_by}

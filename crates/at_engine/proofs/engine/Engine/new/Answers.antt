@@ -1,6 +1,5 @@
-use Rattle.std.proofs.Common.{◌≡◌, ◌∙◌, true, List, [], ap, sym, subst}
+use Rattle.std.proofs.Common.{◌≡◌, ◌∙◌, true, List, ap, sym, subst}
 use Rattle.at_model.specs.Classes.{Classes, AreSound}
-use Rattle.at_model.specs.Machine.{State}
 use Rattle.at_model.specs.Trees.{Tree, conforms}
 use Rattle.at_tree.specs.TreeView.{tree_view}
 use Rattle.at_store.specs.Shown.{contents, path}
