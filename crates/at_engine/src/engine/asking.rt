@@ -25,7 +25,7 @@ fn is_text(value: &Value) -> bool
 }
 
 impl<K: Keeper> Engine<K> {
-    ghost use Rattle.std.specs.Prelude.{◌≡◌, map, option_map, true, IfOk, IsTrue};
+    ghost use Rattle.std.specs.Prelude.{◌≡◌, map, option_map, IfOk, IsTrue};
     ghost use Rattle.at_model.specs.Paths.{Node as NodeOf};
     ghost use Rattle.at_model.specs.Run.{Instance};
     ghost use Rattle.at_model.specs.Meaning.{Answer as AnswerOf};
