@@ -1,27 +1,50 @@
 -- Expressions as they are seen, by their forms.
-use Rattle.std.proofs.Common.{◌≡◌, ℕ, List, map, refl, ap, sym, subst, ◌∙◌, rules, Vec, Box, String, string_bytes, Result, Option, None}
+use Rattle.std.proofs.Common.{◌≡◌, ℕ, ℤ, Bool, List, map, refl, ap, sym, subst, ◌∙◌, rules, Vec, Box, String, string_bytes, Result, Option, None}
 use Rattle.std.specs.Global.{Global}
 use Rattle.at_jrag.specs.Syntax.{Place, Expr, to_exprs, place}
 use Rattle.at_jrag.specs.Syntax as written
 use Rattle.at_jrag.specs.View.{expr_view, form_view, see_form, see_expr, word_view, operator_view, fold_view}
-use Rattle.at_jrag.specs.declared.syntax.Expr.{Expr as ExprValue}
+use Rattle.at_jrag.specs.declared.syntax.Expr.{Expr as ExprValue, fold_out-Expr}
 use Rattle.at_jrag.specs.declared.syntax.Word.{Word as WordValue}
 use Rattle.at_jrag.specs.declared.syntax.OperatorWord.{OperatorWord}
 use Rattle.at_jrag.specs.declared.syntax.FoldForm.{FoldForm as FoldFormValue}
+use Rattle.at_jrag.specs.declared.syntax.Form.{Form as FormValue, out-Form, roll-Form, roll-out-Form}
 use Rattle.at_jrag.specs.declared.syntax.Form.TheVariants as form
 use Rattle.at_jrag.specs.declared.syntax.Form.TheOpen.{Form-F}
 use Rattle.at_jrag.specs.declared.syntax.Form.TheFolds.{fold-roll-Form}
+use Rattle.at_model.specs.Bodies.{Exprs, expr, Call}
+use Rattle.at_rules.specs.Bodies.{body_view, row_view, bodies_view}
+use Rattle.at_rules.specs.declared.body.Body.{Body, Row_of-Body, end_of-Body, more_of-Body, items-the_row-Body, the_lemmas}
+use Rattle.at_rules.specs.declared.body.Body as body
 use Rattle.at_typing.specs.Judging.{Scope, judged, judged_list, list_or}
 use Rattle.at_typing.specs.Typed.{Judges, typed_view, list_view}
 use Rattle.at_typing.specs.declared.typing.kinds.Typed.{Typed}
 use Rattle.at_typing.specs.declared.typing.folds.List.{List as ListValue}
 use Rattle.at_typing.specs.declared.typing.TypeFault.{TypeFault}
 
+-- an expression is a form where it stands
 seen_expr : (e : ExprValue) → expr_view e ≡ form_view e.form e.at
-seen_expr e = refl
+seen_expr e = fold_out-Expr (Place → Expr) Expr see_form see_expr e
 
-pub seen_place : (e : ExprValue) → place (expr_view e) ≡ e.at
-seen_place e = search rules
+seen_number : (e : ExprValue) (n : ℤ) → e.form ≡ (form.Number n) → expr_view e ≡ written.Number e.at n
+seen_number e n is =
+    seen_expr e ∙ ap (λ g. form_view g e.at) is ∙ ap (λ g. form_view g e.at) (sym (form.rolls-Number n)) ∙ ap (λ g. g e.at) (fold-roll-Form (Place → Expr) Expr see_form see_expr (Form-F.Number n))
+
+seen_text : (e : ExprValue) (s : String Global) → e.form ≡ (form.Text s) → expr_view e ≡ written.TextLiteral e.at (string_bytes s)
+seen_text e s is =
+    seen_expr e ∙ ap (λ g. form_view g e.at) is ∙ ap (λ g. form_view g e.at) (sym (form.rolls-Text s)) ∙ ap (λ g. g e.at) (fold-roll-Form (Place → Expr) Expr see_form see_expr (Form-F.Text s))
+
+seen_truth : (e : ExprValue) (b : Bool) → e.form ≡ (form.Truth b) → expr_view e ≡ written.Truth e.at b
+seen_truth e b is =
+    seen_expr e ∙ ap (λ g. form_view g e.at) is ∙ ap (λ g. form_view g e.at) (sym (form.rolls-Truth b)) ∙ ap (λ g. g e.at) (fold-roll-Form (Place → Expr) Expr see_form see_expr (Form-F.Truth b))
+
+seen_null : (e : ExprValue) → e.form ≡ form.Null → expr_view e ≡ written.Null e.at
+seen_null e is =
+    seen_expr e ∙ ap (λ g. form_view g e.at) is ∙ ap (λ g. form_view g e.at) (sym form.rolls-Null) ∙ ap (λ g. g e.at) (fold-roll-Form (Place → Expr) Expr see_form see_expr Form-F.Null)
+
+seen_this : (e : ExprValue) → e.form ≡ form.This → expr_view e ≡ written.This e.at
+seen_this e is =
+    seen_expr e ∙ ap (λ g. form_view g e.at) is ∙ ap (λ g. form_view g e.at) (sym form.rolls-This) ∙ ap (λ g. g e.at) (fold-roll-Form (Place → Expr) Expr see_form see_expr Form-F.This)
 
 -- what is said of an expression that is seen
 pub moved : (s : Scope) (x y : Expr) (r : Result Typed TypeFault) → x ≡ y → Judges typed_view (judged s y) r → Judges typed_view (judged s x) r
@@ -29,9 +52,6 @@ moved s x y r is so = subst (λ z. Judges typed_view (judged s z) r) (sym is) so
 
 pub moved_list : (s : Scope) (fold : Place) (x y : Expr) (r : Result ListValue TypeFault) → x ≡ y → Judges list_view (list_or fold (judged s y) (judged_list s fold y)) r → Judges list_view (list_or fold (judged s x) (judged_list s fold x)) r
 moved_list s fold x y r is so = subst (λ z. Judges list_view (list_or fold (judged s z) (judged_list s fold z)) r) (sym is) so
-
-pub no_call : (s : Scope) (fold : Place) (e : ExprValue) → ((name : String Global) (es : Vec ExprValue Global) → e.form ≡ form.Call name es → ⊥) → ((p : Box ExprValue Global) (name : String Global) (es : Vec ExprValue Global) → e.form ≡ form.CallOf p name es → ⊥) → judged_list s fold (expr_view e) ≡ None
-no_call s fold e call call_of = search rules
 
 pub seen_name : (e : ExprValue) (s : String Global) (t : List ℕ) → e.form ≡ form.Name s → t ≡ string_bytes s → expr_view e ≡ written.Name e.at t
 seen_name e s t is is_t =
@@ -94,3 +114,58 @@ seen_fold e f w p q x y is is_x is_y =
     seen_expr e ∙ ap (λ g. form_view g e.at) is ∙ ap (λ g. form_view g e.at) (sym (form.rolls-Fold f w p q)) ∙ ap (λ g. g e.at) (fold-roll-Form (Place → Expr) Expr see_form see_expr (Form-F.Fold f w p q))
     ∙ ap (λ (v : ExprValue). written.Fold e.at (fold_view f) (word_view w) (expr_view v) (expr_view q.value)) (sym is_x)
     ∙ ap (λ (v : ExprValue). written.Fold e.at (fold_view f) (word_view w) (expr_view x) (expr_view v)) (sym is_y)
+
+-- by what it is made of
+formed : (e : ExprValue) (o : Form-F FormValue ExprValue) → out-Form e.form ≡ o → e.form ≡ roll-Form o
+formed e o is = sym (roll-out-Form e.form) ∙ ap roll-Form is
+
+pub seen_place : (e : ExprValue) → place (expr_view e) ≡ e.at
+seen_place e = by (out-Form e.form) refl
+  where
+    by : (o : Form-F FormValue ExprValue) → out-Form e.form ≡ o → place (expr_view e) ≡ e.at
+    by (Form-F.Number n) is = ap place (seen_number e n (formed e (Form-F.Number n) is ∙ form.rolls-Number n))
+    by (Form-F.Text s) is = ap place (seen_text e s (formed e (Form-F.Text s) is ∙ form.rolls-Text s))
+    by (Form-F.Truth b) is = ap place (seen_truth e b (formed e (Form-F.Truth b) is ∙ form.rolls-Truth b))
+    by Form-F.Null is = ap place (seen_null e (formed e Form-F.Null is ∙ form.rolls-Null))
+    by Form-F.This is = ap place (seen_this e (formed e Form-F.This is ∙ form.rolls-This))
+    by (Form-F.Name s) is = ap place (seen_name e s (string_bytes s) (formed e (Form-F.Name s) is ∙ form.rolls-Name s) refl)
+    by (Form-F.Call s es) is = ap place (seen_call e s es (string_bytes s) es.items (formed e (Form-F.Call s es) is ∙ form.rolls-Call s es) refl refl)
+    by (Form-F.CallOf p s es) is = ap place (seen_call_of e p s es p.value (string_bytes s) es.items (formed e (Form-F.CallOf p s es) is ∙ form.rolls-CallOf p s es) refl refl refl)
+    by (Form-F.Paren p) is = ap place (seen_paren e p p.value (formed e (Form-F.Paren p) is ∙ form.rolls-Paren p) refl)
+    by (Form-F.Negate p) is = ap place (seen_negate e p p.value (formed e (Form-F.Negate p) is ∙ form.rolls-Negate p) refl)
+    by (Form-F.Not p) is = ap place (seen_not e p p.value (formed e (Form-F.Not p) is ∙ form.rolls-Not p) refl)
+    by (Form-F.Cast w p) is = ap place (seen_cast e w p p.value (formed e (Form-F.Cast w p) is ∙ form.rolls-Cast w p) refl)
+    by (Form-F.InstanceOf p b w) is = ap place (seen_instance e p b w p.value (formed e (Form-F.InstanceOf p b w) is ∙ form.rolls-InstanceOf p b w) refl)
+    by (Form-F.Binary o p q) is = ap place (seen_binary e o p q p.value q.value (formed e (Form-F.Binary o p q) is ∙ form.rolls-Binary o p q) refl refl)
+    by (Form-F.Choose p b q r) is = ap place (seen_choose e p b q r p.value q.value r.value (formed e (Form-F.Choose p b q r) is ∙ form.rolls-Choose p b q r) refl refl refl)
+    by (Form-F.Fold f w p q) is = ap place (seen_fold e f w p q p.value q.value (formed e (Form-F.Fold f w p q) is ∙ form.rolls-Fold f w p q) refl refl)
+
+-- what is no call is no list
+pub no_call : (s : Scope) (fold : Place) (e : ExprValue) → ((name : String Global) (es : Vec ExprValue Global) → e.form ≡ form.Call name es → ⊥) → ((p : Box ExprValue Global) (name : String Global) (es : Vec ExprValue Global) → e.form ≡ form.CallOf p name es → ⊥) → judged_list s fold (expr_view e) ≡ None
+no_call scope fold e call call_of = by (out-Form e.form) refl
+  where
+    by : (o : Form-F FormValue ExprValue) → out-Form e.form ≡ o → judged_list scope fold (expr_view e) ≡ None
+    by (Form-F.Number n) is = ap (judged_list scope fold) (seen_number e n (formed e (Form-F.Number n) is ∙ form.rolls-Number n))
+    by (Form-F.Text s) is = ap (judged_list scope fold) (seen_text e s (formed e (Form-F.Text s) is ∙ form.rolls-Text s))
+    by (Form-F.Truth b) is = ap (judged_list scope fold) (seen_truth e b (formed e (Form-F.Truth b) is ∙ form.rolls-Truth b))
+    by Form-F.Null is = ap (judged_list scope fold) (seen_null e (formed e Form-F.Null is ∙ form.rolls-Null))
+    by Form-F.This is = ap (judged_list scope fold) (seen_this e (formed e Form-F.This is ∙ form.rolls-This))
+    by (Form-F.Name s) is = ap (judged_list scope fold) (seen_name e s (string_bytes s) (formed e (Form-F.Name s) is ∙ form.rolls-Name s) refl)
+    by (Form-F.Call s es) is = absurd (call s es (formed e (Form-F.Call s es) is ∙ form.rolls-Call s es))
+    by (Form-F.CallOf p s es) is = absurd (call_of p s es (formed e (Form-F.CallOf p s es) is ∙ form.rolls-CallOf p s es))
+    by (Form-F.Paren p) is = ap (judged_list scope fold) (seen_paren e p p.value (formed e (Form-F.Paren p) is ∙ form.rolls-Paren p) refl)
+    by (Form-F.Negate p) is = ap (judged_list scope fold) (seen_negate e p p.value (formed e (Form-F.Negate p) is ∙ form.rolls-Negate p) refl)
+    by (Form-F.Not p) is = ap (judged_list scope fold) (seen_not e p p.value (formed e (Form-F.Not p) is ∙ form.rolls-Not p) refl)
+    by (Form-F.Cast w p) is = ap (judged_list scope fold) (seen_cast e w p p.value (formed e (Form-F.Cast w p) is ∙ form.rolls-Cast w p) refl)
+    by (Form-F.InstanceOf p b w) is = ap (judged_list scope fold) (seen_instance e p b w p.value (formed e (Form-F.InstanceOf p b w) is ∙ form.rolls-InstanceOf p b w) refl)
+    by (Form-F.Binary o p q) is = ap (judged_list scope fold) (seen_binary e o p q p.value q.value (formed e (Form-F.Binary o p q) is ∙ form.rolls-Binary o p q) refl refl)
+    by (Form-F.Choose p b q r) is = ap (judged_list scope fold) (seen_choose e p b q r p.value q.value r.value (formed e (Form-F.Choose p b q r) is ∙ form.rolls-Choose p b q r) refl refl refl)
+    by (Form-F.Fold f w p q) is = ap (judged_list scope fold) (seen_fold e f w p q p.value q.value (formed e (Form-F.Fold f w p q) is ∙ form.rolls-Fold f w p q) refl refl)
+
+-- the arguments of a call as a list
+row_seen : (n : _) (row : Row_of-Body n) → row_view row ≡ bodies_view (items-the_row-Body n row)
+row_seen _ end_of-Body = refl
+row_seen _ (more_of-Body b rest) = ap (expr (body_view b)) (row_seen _ rest)
+
+pub call_seen : (p : Box Body Global) (a : ℕ) (bs : Vec Body Global) → body_view (body.Call p a bs) ≡ Call (body_view p.value) a (bodies_view bs.items)
+call_seen p a bs = search (rules, the_lemmas, row_seen)

@@ -139,10 +139,7 @@ impl Scope<'_> {
 }
 
 /// What is no call is no list: a wrong kind of the fold at that place, where it has no fault itself.
-pub(super) fn no_list(
-    whole: Result<Typed, TypeFault>,
-    fold: (u32, u32),
-) -> Result<List, TypeFault>
+pub(super) fn no_list(whole: Result<Typed, TypeFault>, fold: (u32, u32)) -> Result<List, TypeFault>
     ensures { (j : Judged) → Judges typed_view j whole → Judges list_view (and_then (λ k. Wrong code.Kind fold) j) result }
 {
     whole?;
