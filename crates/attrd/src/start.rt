@@ -2,7 +2,9 @@
 
 ghost use Rattle.std.specs.Prelude.{None, IfOk, IfErr};
 ghost use Rattle.at_cache.specs.Kept.{KeepsAll};
+ghost use Rattle.at_cache.specs.Recorded.{kept_in};
 ghost use Rattle.at_engine.specs.Engines.{rules_of, state_of, IsSound};
+ghost use Rattle.at_engine.specs.Keeping.{IsSpare};
 ghost use Rattle.attrd.specs.Starts.{Starts, IsReady, IsStartFault};
 
 mod aspects;
@@ -31,6 +33,7 @@ use tree::{refused, tree_of};
 pub fn start(alloc: Global, files: &Files) -> Result<Engine<KeepRecorded>, StartFault>
     ensures started { IfOk result (λ e. Starts files.now (rules_of e) (state_of e)) }
     ensures ready { IfOk result IsReady }
+    ensures spare { IfOk result (IsSpare (λ k. kept_in k.entries.entries)) }
     ensures refused { IfErr result (IsStartFault files.now) }
 {
     start_with(alloc, files, KeepRecorded::new(alloc))
@@ -49,6 +52,7 @@ pub fn start_with<K: Keeper>(
     requires { KeepsAll (λ _. None) (K.contents keeper) }
     ensures started { IfOk result (λ e. Starts files.now (rules_of e) (state_of e)) }
     ensures ready { IfOk result (IsSound K.contents) }
+    ensures spare { IfOk result (IsSpare K.contents) }
     ensures refused { IfErr result (IsStartFault files.now) }
 {
     let classes = match classes_of(alloc, &files.grammar.bytes) {
