@@ -1,6 +1,6 @@
 -- What the declarations mean, gathered one by one: no key comes twice where the declarations have no fault together.
 use Rattle.std.proofs.Common.{◌≡◌, ℕ, ◌+◌, ◌<◌, List, [], ◌∷◌, ◌++◌, length, map, take, get_or, refl, ap, ap₂, sym, ◌∙◌, subst, arith, true≢false, Option, Some, None, zero, suc, String, string_bytes, append-nil}
-use Rattle.std.specs.Prelude.{Bool, true, false, ◌&&◌, ◌||◌, not, nat_eq, nat_lt, cond, option_map, IfSome}
+use Rattle.std.specs.Prelude.{Bool, true, false, ◌&&◌, ◌||◌, nat_eq, nat_lt, cond, option_map, IfSome}
 use Rattle.std.specs.Global.{Global}
 use Rattle.std.specs.List.{filter, filter_map, list_any, cons_option}
 use Rattle.std.specs.Option.{option_eq, option_or}

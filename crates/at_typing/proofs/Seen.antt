@@ -1,5 +1,5 @@
 -- Expressions as they are seen, by their forms.
-use Rattle.std.proofs.Common.{◌≡◌, ℕ, ℤ, Bool, List, map, refl, ap, sym, subst, ◌∙◌, rules, Vec, Box, String, string_bytes, Result, Option, None}
+use Rattle.std.proofs.Common.{◌≡◌, ℕ, ℤ, Bool, List, map, refl, ap, sym, subst, ◌∙◌, rules, Vec, Box, String, string_bytes, Result, None}
 use Rattle.std.specs.Global.{Global}
 use Rattle.at_jrag.specs.Syntax.{Place, Expr, to_exprs, place}
 use Rattle.at_jrag.specs.Syntax as written
@@ -12,7 +12,7 @@ use Rattle.at_jrag.specs.declared.syntax.Form.{Form as FormValue, out-Form, roll
 use Rattle.at_jrag.specs.declared.syntax.Form.TheVariants as form
 use Rattle.at_jrag.specs.declared.syntax.Form.TheOpen.{Form-F}
 use Rattle.at_jrag.specs.declared.syntax.Form.TheFolds.{fold-roll-Form}
-use Rattle.at_model.specs.Bodies.{Exprs, expr, Call}
+use Rattle.at_model.specs.Bodies.{expr, Call}
 use Rattle.at_rules.specs.Bodies.{body_view, row_view, bodies_view}
 use Rattle.at_rules.specs.declared.body.Body.{Body, Row_of-Body, end_of-Body, more_of-Body, items-the_row-Body, the_lemmas}
 use Rattle.at_rules.specs.declared.body.Body as body

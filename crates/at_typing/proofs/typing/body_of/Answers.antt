@@ -1,9 +1,8 @@
-use Rattle.std.proofs.Common.{◌≡◌, false, ap, sym, ◌∙◌}
-use Rattle.at_jrag.specs.Syntax.{Place, place}
+use Rattle.std.proofs.Common.{ap, sym, ◌∙◌}
+use Rattle.at_jrag.specs.Syntax.{place}
 use Rattle.at_jrag.specs.View.{expr_view}
-use Rattle.at_typing.specs.Kinds.{fits}
-use Rattle.at_typing.specs.Judging.{Kinded, and_then, fitting, judged}
-use Rattle.at_typing.specs.Typed.{typed_view, scope_view}
+use Rattle.at_typing.specs.Judging.{and_then, fitting}
+use Rattle.at_typing.specs.Typed.{typed_view}
 use Rattle.at_typing.proofs.Parts.{not_fitting}
 use Rattle.at_typing.proofs.Seen.{seen_place}
 use Rattle.at_typing.proofs.typing.body_of.Goals as goal

@@ -1,10 +1,10 @@
-use Rattle.std.proofs.Common.{◌≡◌, ℕ, List, ◌∷◌, ◌+◌, drop, arith, sym, ap, subst, ◌∙◌, map, Err}
+use Rattle.std.proofs.Common.{ℕ, List, ◌∷◌, ◌+◌, drop, arith, sym, ap, subst, ◌∙◌, map, Err}
 use Rattle.std.proofs.lemmas.Result.{err_from_is_err_and}
 use Rattle.at_jrag.specs.Syntax.{to_exprs}
 use Rattle.at_jrag.specs.Syntax as written
 use Rattle.at_jrag.specs.View.{expr_view, fold_view, word_view, operator_view}
 use Rattle.at_typing.specs.Judging.{Scope, Listed, Is, and_then, judged, judged_all, judged_list, list_or, this_node, folded, within}
-use Rattle.at_typing.specs.Typed.{Judges, typed_view, all_view, list_view, bound_view, scope_view}
+use Rattle.at_typing.specs.Typed.{Judges, typed_view, list_view, bound_view, scope_view}
 use Rattle.at_typing.proofs.Parts.{node_bound, behind, behind_none, all_more, all_fault, all_there, fault_of, made_of, fault_in, made_in}
 use Rattle.at_typing.proofs.Seen.{moved, moved_list, no_call, seen_name, seen_call, seen_call_of, seen_paren, seen_negate, seen_not, seen_cast, seen_instance, seen_binary, seen_choose, seen_fold}
 use Rattle.at_typing.proofs.typing.Scope.+typed.Goals as goal

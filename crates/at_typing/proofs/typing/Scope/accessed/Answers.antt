@@ -1,4 +1,4 @@
-use Rattle.std.proofs.Common.{sym, ap, ◌∙◌, subst, map}
+use Rattle.std.proofs.Common.{sym, ap, ◌∙◌, subst}
 use Rattle.at_rules.specs.Bodies.{body_view}
 use Rattle.at_typing.specs.Judging.{accessed}
 use Rattle.at_typing.specs.Typed.{Judges, typed_view}

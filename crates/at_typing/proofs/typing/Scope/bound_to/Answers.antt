@@ -1,4 +1,4 @@
-use Rattle.std.proofs.Common.{map, ap, sym, ◌∙◌, None, Some, option_map}
+use Rattle.std.proofs.Common.{ap, sym, ◌∙◌, None, Some, option_map}
 use Rattle.at_typing.proofs.Parts.{kind_in, bound_seen}
 use Rattle.at_typing.proofs.typing.Scope.bound_to.Goals as goal
 

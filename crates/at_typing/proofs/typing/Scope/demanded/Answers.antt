@@ -1,9 +1,8 @@
 use Rattle.std.proofs.Common.{◌≡◌, ap, ap₂, sym, ◌∙◌, map, option_map}
-use Rattle.at_model.specs.Bodies.{Expr, Call}
+use Rattle.at_model.specs.Bodies.{Call}
 use Rattle.at_rules.specs.Bodies.{body_view, bodies_view}
 use Rattle.at_rules.specs.declared.body.Body as body
 use Rattle.at_typing.specs.Judging.{of_kind, fitted}
-use Rattle.at_typing.specs.Kinds.{of_written}
 use Rattle.at_typing.specs.Signatures.{declared_view}
 use Rattle.at_typing.specs.Typed.{typed_view}
 use Rattle.at_typing.proofs.Parts.{demanded_there}
