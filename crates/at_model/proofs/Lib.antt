@@ -64,3 +64,5 @@ pub mod Listed
 pub mod TypedQuestions
 pub mod TypedNumbers
 pub mod TypedTogether
+pub mod Taken
+pub mod SampleRules

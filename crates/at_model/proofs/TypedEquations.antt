@@ -16,7 +16,7 @@ use Rattle.at_model.specs.Meaning.{content, equations, at_source}
 use Rattle.at_model.specs.Support.{argument_classes, up_to_first, step_up, way_up}
 use Rattle.at_model.proofs.Complete.{has_own, has_source}
 use Rattle.at_model.proofs.WayUp.{own_found, inherited_found}
-use Rattle.at_model.specs.Kinds.{AreTyped, IsOwnTyped, IsInheritedTyped, is_for_list}
+use Rattle.at_model.specs.Kinds.{HasKind, AreTyped, IsOwnTyped, IsInheritedTyped, is_for_list}
 use Rattle.at_model.specs.TypedRuns.{ClassAt, Texts, IsTypedRun, class_at, IsOfKind, AreArguments, IsWellTyped, IsLocationThere, IsOfItsKind, AreContentsTyped, AreEquationsTyped}
 use Rattle.at_model.specs.Instances.{literals, AreLiteralsAllowed}
 use Rattle.at_model.proofs.TypedExpressions.{typed}
@@ -154,6 +154,9 @@ declared_name rules attribute d e = rw (e, attribute_name) refl
 one_declaration : (d e : Attribute) (o : Option Attribute) → o ≡ Some d → o ≡ Some e → d ≡ e
 one_declaration d e o f g = let h : Some d ≡ Some e = sym f ∙ g in cc
 
+own_body : (rules : Rules) (e : OwnEquation) → IsOwnTyped rules e → (a : Attribute) → slice_get rules.attributes e.attribute ≡ Some a → HasKind rules (record { this = e.class; names = a.parameters; has_index = false }) e.body a.result
+own_body rules e h a f = subst (λ (z : Attribute). HasKind rules (record { this = e.class; names = z.parameters; has_index = false }) e.body z.result) (one_declaration h.declaration a (slice_get rules.attributes e.attribute) h.attribute f) h.body
+
 -- what the equations need
 pub record AreMet (rules : Rules) (t : Tree) (Allowed : Texts) : Type 0 where
   pub lined : AreChained rules.classes
@@ -176,7 +179,7 @@ module _ (rules : Rules) (t : Tree) (Allowed : Texts) (ok : AreMet rules t Allow
       let (body, e) = has_own rules ok.complete t ok.conform i.node u i.attribute d q w.attribute sub own in
       let (eq, (kind, said), above, same, is) = own_there rules (λ (e : OwnEquation). IsOwnTyped rules e × AllByRecursion Allowed (literals e.body)) (all_two (IsOwnTyped rules) (λ (e : OwnEquation). AllByRecursion Allowed (literals e.body)) rules.own ok.typed.own ok.said.own) (class_of u) i.attribute body e in
       let scope : Scope Node = record { this = i.node; names = i.arguments; child = None } in
-      let x = kind d (ap (slice_get rules.attributes) same ∙ w.attribute) in
+      let x = own_body rules eq kind d (ap (slice_get rules.attributes) same ∙ w.attribute) in
       let run = typed rules ok.lined (class_at t) Allowed (content t) ok.contents node_eq (record { this = eq.class; names = d.parameters; has_index = false }) eq.body d.result x scope said
       (record { this = (class_of u, ap (option_map class_of) q, above); names = w.arguments; child = tt }) in
       let run' = less_typed rules (class_at t) Allowed (content t) (λ v. IsOfKind rules.classes (class_at t) v d.result) (IsOfItsKind rules (class_at t) i) (eval rules.classes node_eq eq.body scope) (its_kind i d w.attribute) run in
@@ -198,7 +201,7 @@ module _ (rules : Rules) (t : Tree) (Allowed : Texts) (ok : AreMet rules t Allow
       let (body, l, m) = mapped (λ e. (e, p.0, p.1)) (inherited_equation rules (class_of v) p.1.0 d.name) s k in
       let (eq, (kind, said), up, named, is) = inherited_there rules (λ (e : InheritedEquation). IsInheritedTyped rules e × AllByRecursion Allowed (literals e.body)) (all_two (IsInheritedTyped rules) (λ (e : InheritedEquation). AllByRecursion Allowed (literals e.body)) rules.inherited ok.typed.inherited ok.said.inherited) (class_of v) p.1.0 d.name body l in
       let scope : Scope Node = record { this = p.0; names = i.arguments; child = Some (p.0 ++ p.1 ∷ []) } in
-      let x = kind i.attribute d w.attribute inh named in
+      let x = kind.body i.attribute d (w.attribute, inh, named) in
       let run = typed rules ok.lined (class_at t) Allowed (content t) ok.contents node_eq (record { this = eq.class; names = d.parameters; has_index = is_for_list rules eq }) eq.body d.result x scope said
       (record { this = (class_of v, ap (option_map class_of) h, up); names = w.arguments; child = node_there t (p.0 ++ p.1 ∷ []) on }) in
       let run' = less_typed rules (class_at t) Allowed (content t) (λ v. IsOfKind rules.classes (class_at t) v d.result) (IsOfItsKind rules (class_at t) i) (eval rules.classes node_eq eq.body scope) (its_kind i d w.attribute) run in

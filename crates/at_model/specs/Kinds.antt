@@ -1,6 +1,6 @@
 -- The kinds of expressions, and rules whose equations have the kinds of their attributes (JastAdd2 reference manual,
 -- "Attributes").
-use Rattle.std.specs.Prelude.{◌≡◌, ℕ, ◌<◌, ◌≤◌, ℤ, Bool, true, false, List, [], ◌∷◌, length, Option, Some, None, option_and_then, option_map, slice_get, bytes_eq, ⊤}
+use Rattle.std.specs.Prelude.{◌≡◌, ℕ, ◌<◌, ◌≤◌, ℤ, Bool, true, false, List, [], ◌∷◌, length, Option, Some, None, IsSome, IfSome, option_and_then, option_map, slice_get, bytes_eq, ⊤}
 use Rattle.std.specs.List.{AllByRecursion}
 use Rattle.at_model.specs.Classes.{Classes, TokenKind, Shape, Many, Token, parts, class_in, is_sub}
 use Rattle.at_model.specs.Classes as class
@@ -139,21 +139,31 @@ pub record IsDeclarationTyped (classes : Classes) (a : Attribute) : Type 0 where
   pub parameters : AllByRecursion (IsParameter classes) a.parameters
   pub few : length a.parameters ≤ 2
 
--- the body of an own equation has the kind of its attribute
-abbrev pub IsOwnTyped : Rules → OwnEquation → Type 0
-IsOwnTyped rules e =
-    (a : Attribute) → slice_get rules.attributes e.attribute ≡ Some a →
-    HasKind rules (record { this = e.class; names = a.parameters; has_index = false }) e.body a.result
+-- The attribute of an own equation is synthesized and one of the class, and the body has its kind, where the names stand for
+-- its parameters.
+pub record IsOwnTyped (rules : Rules) (e : OwnEquation) : Type 0 where
+  pub declaration : Attribute
+  pub attribute : slice_get rules.attributes e.attribute ≡ Some declaration
+  pub synthesized : declaration.is_inherited ≡ false
+  pub declared : is_sub rules.classes e.class declaration.class ≡ true
+  pub body : HasKind rules (record { this = e.class; names = declaration.parameters; has_index = false }) e.body declaration.result
+
+-- an inherited attribute of that name
+abbrev pub IsInheritedOf : Rules → List ℕ → (attribute : ℕ) → Attribute → Type 0
+IsInheritedOf rules text k a = (slice_get rules.attributes k ≡ Some a) × (a.is_inherited ≡ true) × (bytes_eq text a.name ≡ true)
 
 -- the equation stands for one list, and may have an index name
 abbrev pub is_for_list : Rules → InheritedEquation → Bool
 is_for_list rules e = elim (option_and_then (shape_of_part rules.classes e.class) e.part) [ Some (Many b) ↦ true | shape ↦ false ]
 
--- the body of an inherited equation has the kind of each inherited attribute of its name
-abbrev pub IsInheritedTyped : Rules → InheritedEquation → Type 0
-IsInheritedTyped rules e =
-    (k : ℕ) (a : Attribute) → slice_get rules.attributes k ≡ Some a → a.is_inherited ≡ true → bytes_eq e.name a.name ≡ true →
-    HasKind rules (record { this = e.class; names = a.parameters; has_index = is_for_list rules e }) e.body a.result
+-- An inherited equation stands for a component of the class with trees, or for each one; an inherited attribute has its name,
+-- and the body has the kind of each that does.
+pub record IsInheritedTyped (rules : Rules) (e : InheritedEquation) : Type 0 where
+  pub class : e.class < length rules.classes
+  pub part : IfSome e.part (λ part. IsSome (class_of_part rules.classes e.class part))
+  pub declared : (k : ℕ) × (a : Attribute) × IsInheritedOf rules e.name k a
+  pub body : (k : ℕ) (a : Attribute) → IsInheritedOf rules e.name k a →
+      HasKind rules (record { this = e.class; names = a.parameters; has_index = is_for_list rules e }) e.body a.result
 
 -- inherited attributes of one name have the same parameters and the same result
 abbrev pub AreInheritedAlike : Rules → Type 0

@@ -23,6 +23,7 @@ pub mod Effects
 pub mod Asking
 pub mod Enduring
 pub mod Kinds
+pub mod Taking
 pub mod TypedRuns
 pub mod Instances
 pub mod WellFormed

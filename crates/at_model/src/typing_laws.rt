@@ -21,6 +21,7 @@ ghost use Rattle.at_model.specs.Meaning.{Among, HasValue, Leads, content, equati
 ghost use Rattle.at_model.specs.Alike.{AlikeAt, InstanceLike, IsInjective, Names};
 ghost use Rattle.at_model.specs.Asking.{IsWellFormed};
 ghost use Rattle.at_model.specs.Kinds.{AreTyped, HasKind, ScopeKinds};
+ghost use Rattle.at_model.specs.Taking.{Takes};
 ghost use Rattle.at_model.specs.TypedRuns.{
   AreEquationsTyped,
   IsOfItsKind,
@@ -33,6 +34,13 @@ ghost use Rattle.at_model.specs.TypedRuns.{
 };
 ghost use Rattle.at_model.specs.Instances.{AnyText, IsGiven, instances};
 ghost use Rattle.at_model.specs.WellFormed.{AreWellFormed, IsHierarchy, IsTreeSound};
+
+/// An expression of a kind takes of its parts values of the kinds that its form asks: ints where it computes, booleans
+/// where it decides, texts where it joins, and nodes of a class that has what is asked. As each part has its value
+/// of that kind, no value of one kind is taken for one of another.
+pub fn what_is_taken_has_its_kind()
+    ensures { (rules : Rules) (s : ScopeKinds) (e : Expr) (k : Kind) → HasKind rules s e k → Takes rules s e }
+{}
 
 /// The evaluation of an expression of a kind, over a sound tree and in a scope of its kinds, is typed, and gives a
 /// value of the kind.
