@@ -14,11 +14,14 @@ use Rattle.at_model.specs.Declarations.{above}
 use Rattle.at_model.specs.Rules.{Rules, Kind, Int, Truth, Text, Attribute, OwnEquation, InheritedEquation, own_equation, inherited_equation, PassesDown, Exposed, as_root, below, AreComplete}
 use Rattle.at_model.specs.Rules as kind
 use Rattle.at_model.specs.Samples.{calc, calc_classes, calc_attributes, calc_tree, sum_rules, sum_tree}
-use Rattle.at_model.specs.Kinds.{ScopeKinds, HasKind, HaveKinds, IsDeclarationTyped, IsOwnTyped, IsInheritedTyped, IsInheritedOf, AreInheritedAlike, AreTyped}
+use Rattle.at_model.specs.Kinds.{AreComparable, ScopeKinds, HasKind, HaveKinds, IsDeclarationTyped, IsOwnTyped, IsInheritedTyped, IsInheritedOf, AreInheritedAlike, AreTyped}
 use Rattle.at_model.specs.Kinds as form
 use Rattle.at_model.specs.WellFormed.{IsHierarchy, AreWellFormed, IsTreeSound}
 use Rattle.at_model.proofs.Options.{both}
 use Rattle.at_model.proofs.Everywhere.{found}
+use Rattle.at_model.proofs.Below.{sub_sub}
+use Rattle.at_model.proofs.Chained.{chained}
+use Rattle.at_model.proofs.Taken.{taken}
 use Rattle.at_model.proofs.PlainLines.{low_utf8}
 
 -- tests on all numbers below one
@@ -408,3 +411,39 @@ calc_tree_sound = record {
   within = refl;
   tokens = ((((x_is_text, ((omega arith, tt), tt)), (((((x_is_text, tt), ((omega arith, tt), tt)), tt)), tt)), tt), tt);
 }
+
+-- what has no kind ----------------------------------------------------------------------------------------------------
+
+pub no_argument : (rules : Rules) (s : ScopeKinds) (a b : Expr) → HaveKinds rules s (expr (body.Join a b) no_exprs) (Text ∷ []) → ⊥
+no_argument rules s a b (form.argument given x xs) = given
+
+abbrev IsText : Kind → Type 0
+IsText Text = Unit {0}
+IsText k = ⊥
+
+not_text : (k l : Kind) → AreComparable k l → IsText k → ⊥
+not_text _ _ form.ints h = h
+not_text _ _ form.truths h = h
+not_text _ _ (form.nodes c d) h = h
+
+literal_text : (rules : Rules) (s : ScopeKinds) (bytes : List ℕ) (k : Kind) → HasKind rules s (TextLiteral bytes) k → IsText k
+literal_text rules s bytes _ (form.widened c d sub x) = literal_text rules s bytes (kind.Class c) x
+literal_text rules s bytes _ (form.text_literal _) = tt
+
+pub no_texts : (rules : Rules) (s : ScopeKinds) (k : Kind) (bytes more : List ℕ) → HasKind rules s (body.Same (TextLiteral bytes) (TextLiteral more)) k → ⊥
+no_texts rules s k bytes more h =
+    let (j, l, alike, x, y) = taken rules s (body.Same (TextLiteral bytes) (TextLiteral more)) k h in
+    not_text j l alike (literal_text rules s bytes j x)
+
+-- the class of `this` is the kind's or below it
+abbrev IsAbove : ℕ → Kind → Type 0
+IsAbove c (kind.Class d) = is_sub calc_classes c d ≡ true
+IsAbove c k = ⊥
+
+this_above : (s : ScopeKinds) (k : Kind) → is_sub calc_classes s.this s.this ≡ true → HasKind calc s This k → IsAbove s.this k
+this_above s _ own (form.widened c d sub x) = sub_sub calc_classes (chained calc_classes calc_hierarchy) s.this c d (this_above s (kind.Class c) own x) sub
+this_above s _ own form.this = own
+
+pub no_declaration : HasKind calc (plain 2) This (kind.Class 3) → ⊥
+unfolding chain
+no_declaration h = let above : is_sub calc_classes 2 3 ≡ true = this_above (plain 2) (kind.Class 3) refl h in let e : false ≡ true = above in absurd cc

@@ -1,9 +1,10 @@
 -- With well-formed rules, over a sound tree: all of it together.
 use Rattle.std.proofs.Common.{◌≡◌, ℕ, ◌<◌, ◌≤◌, Bool, true, false, ◌&&◌, nat_eq, nat_le, List, length, Option, Some, None, refl, sym, ap, ◌∙◌, subst, arith}
-use Rattle.std.specs.Prelude.{IsSome}
-use Rattle.std.specs.List.{slice_get}
+use Rattle.std.specs.Prelude.{IsSome, IfSome, option_and_then}
+use Rattle.std.specs.List.{slice_get, list_any}
 use Rattle.std.proofs.lemmas.Bool.Decides.{nat_tests}
-use Rattle.at_model.specs.Classes.{is_sub}
+use Rattle.std.proofs.lemmas.List.Elements.{recursion_from_All}
+use Rattle.at_model.specs.Classes.{is_sub, Classes, Class, AreSound, IsClassSound}
 use Rattle.at_model.specs.Trees.{Tree, class_of}
 use Rattle.at_model.specs.Trees as held
 use Rattle.at_model.specs.Terms.{max_depth}
@@ -12,7 +13,7 @@ use Rattle.at_model.specs.Run.{Value, Instance, Contents, Location}
 use Rattle.at_model.specs.Run as run
 use Rattle.at_model.specs.Bodies.{Expr, Scope, eval, value_of}
 use Rattle.at_model.specs.Rules.{Rules, Kind, Attribute, evaluation, own_equation, Source, source_of, is_inherited, attribute_name}
-use Rattle.at_model.specs.Meaning.{content, equations, Leads, HasValue, Among}
+use Rattle.at_model.specs.Meaning.{content, equations, Leads, HasValue, Among, Finds, Outcomes}
 use Rattle.at_model.specs.Alike.{AlikeAt, Names, IsInjective, InstanceLike, ValueLike}
 use Rattle.at_model.specs.Edits.{is_within_limits, tokens_short, max_nodes}
 use Rattle.at_model.specs.Asking.{IsWellFormed}
@@ -20,10 +21,15 @@ use Rattle.at_model.specs.Kinds.{ScopeKinds, HasKind}
 use Rattle.at_model.specs.TypedRuns.{class_at, class_numbered, IsOfKind, IsAllowed, IsWellTyped, IsOfItsKind, IsTypedRun, AreEquationsTyped, IsOfScopeKinds}
 use Rattle.at_model.specs.Instances.{literals, tokens, instances, IsGiven, AnyText}
 use Rattle.at_model.specs.WellFormed.{IsHierarchy, AreWellFormed, IsTreeSound}
+use Rattle.at_model.specs.Declarations.{above}
+use Rattle.at_model.specs.Enduring.{AreTokens}
+use Rattle.at_model.specs.Lines.{Line}
+use Rattle.at_model.specs.Machine.{State, IsSound, Asks, ByEquations, verdict}
 use Rattle.at_model.proofs.EquationsAlike.{evaluation-like}
 use Rattle.at_model.proofs.Nodes.{same_like, nat_eq-is, node_eq-is}
 use Rattle.at_model.proofs.Options.{both}
-use Rattle.at_model.proofs.Everywhere.{all_any}
+use Rattle.at_model.proofs.Everywhere.{all_any, found}
+use Rattle.at_model.proofs.WellAsked.{well_asked}
 use Rattle.at_model.proofs.Depths.{within_depth}
 use Rattle.at_model.proofs.Complete.{has_own, has_source}
 use Rattle.at_model.proofs.Chained.{chained}
@@ -56,6 +62,18 @@ any_allowed (run.Int n) = tt
 any_allowed (run.Truth b) = tt
 any_allowed (run.Text bytes) = tt
 any_allowed (run.Ref n) = tt
+
+-- what is served ------------------------------------------------------------------------------------------------------
+
+pub classes_hierarchy : (classes : Classes) → AreSound classes → ((c : ℕ) → c < length classes → list_any (nat_eq c) (above classes c) ≡ false) → IsHierarchy classes
+classes_hierarchy classes sound free = record { parents = λ c. by_class c (slice_get classes c) refl; no_circle = free }
+  where
+    by_class : (c : ℕ) (o : Option Class) → slice_get classes c ≡ o → IfSome (option_and_then (λ (k : Class). k.parent) o) (λ b. b < length classes)
+    by_class c None e = tt
+    by_class c (Some k) e = let s = found (IsClassSound (length classes)) classes c k (recursion_from_All (IsClassSound (length classes)) classes sound.each) e in s.parent
+
+pub state_sound : (classes : Classes) (s : State) → IsSound classes s → AreTokens s.tree → IsTreeSound classes s.tree
+state_sound classes s sound tokens = record { conform = sound.tree_conforms; within = sound.tree_within; tokens = tokens }
 
 -- an expression has a value of its kind
 pub expression_typed : (rules : Rules) → IsHierarchy rules.classes → (t : Tree) → IsTreeSound rules.classes t →
@@ -134,3 +152,6 @@ module _ (rules : Rules) (ok : AreWellFormed rules) (t : Tree) (sound : IsTreeSo
     evaluated_by_numbers i j r w =
         typed_back rules path (class_at t) (IsGiven rules t j.arguments) (IsOfItsKind rules (class_numbered path (class_at t)) i) (IsOfItsKind rules (class_at t) j) (ValueLike (Names path)) numbers (content t) alike (λ v u like h. kind_back i j v u r.attribute like h)
         (evaluation rules nat_eq i) (equations rules j) (evaluation-like rules nat_eq node_eq (same_like nat_eq node_eq nat_eq-is node_eq-is path injective) i j r) (evaluated j.arguments j (typed_of_formed rules t j w))
+
+pub told_of_kind : (rules : Rules) → AreWellFormed rules → (s : State) → IsTreeSound rules.classes s.tree → (l : Line) (q : Instance Node) (v : Value Node) → verdict rules s l ≡ Asks q → ByEquations rules s.tree q (Outcomes (Finds v)) → IsOfItsKind rules (class_at s.tree) q v
+told_of_kind rules ok s sound l q v asks has = value_of_kind rules ok s.tree sound q (well_asked rules s l q asks) v has

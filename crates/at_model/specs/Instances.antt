@@ -120,7 +120,10 @@ below (suc n) = below n ++ n ∷ []
 -- than once, and some are not well formed: what counts is that none is missing.
 abbrev pub instances : Rules → Tree → List (Value Node) → List (Instance Node)
 instances rules t vs =
-    flat_map (λ n. flat_map (λ k. map (λ ws. record { node = n; attribute = k; arguments = ws }) (argument_lists (argument_values rules t vs))) (below (length rules.attributes))) (all_nodes t)
+    flat_map (λ n.
+    flat_map (λ k. map (λ ws. record { node = n; attribute = k; arguments = ws }) (argument_lists (argument_values rules t vs)))
+    (below (length rules.attributes)))
+    (all_nodes t)
 
 -- the text may be an argument where those of the question are these
 abbrev pub IsGiven : Rules → Tree → List (Value Node) → List ℕ → Type 0

@@ -58,7 +58,8 @@ IsArgumentForm Text (TokenOf e part) = ⊤
 IsArgumentForm Text e = ⊥
 IsArgumentForm k e = ⊤
 
--- The expression has the kind, in a scope of these kinds. What has a class has each class above it, and null has every class.
+-- The expression has the kind, in a scope of these kinds. What has a class has each class above it, and null has every class;
+-- so something may be asked of `null` itself, which is refused where expressions are read.
 mutual
   pub data HasKind (rules : Rules) : ScopeKinds → Expr → Kind → Type 0 where
     widened : {s : ScopeKinds} {e : Expr} (c d : ℕ) → is_sub rules.classes c d ≡ true →

@@ -1,7 +1,9 @@
 //! Laws of typed rules: each is the contract of a function that does nothing.
 
-ghost use Rattle.std.specs.Prelude.{◌≡◌, ℕ, nat_eq, false, true, List, Option, Some, slice_get};
-ghost use Rattle.at_model.specs.Classes.{Classes, chain};
+ghost use Rattle.std.specs.Prelude.{◌≡◌, ◌<◌, ℕ, false, length, List, nat_eq, Option, Some, true};
+ghost use Rattle.std.specs.List.{list_any};
+ghost use Rattle.at_model.specs.Classes.{AreSound, Classes};
+ghost use Rattle.at_model.specs.Declarations.{above};
 ghost use Rattle.at_model.specs.Trees.{Tree, class_of};
 ghost use Rattle.at_model.specs.Paths.{Node, node_eq, tree_at};
 ghost use Rattle.at_model.specs.Run.{Contents, Instance, Location, Value};
@@ -17,8 +19,11 @@ ghost use Rattle.at_model.specs.Rules.{
   own_equation,
   source_of,
 };
-ghost use Rattle.at_model.specs.Meaning.{Among, HasValue, Leads, content, equations};
+ghost use Rattle.at_model.specs.Meaning.{Among, Finds, HasValue, Leads, Outcomes, content, equations};
 ghost use Rattle.at_model.specs.Alike.{AlikeAt, InstanceLike, IsInjective, Names};
+ghost use Rattle.at_model.specs.Lines.{Line};
+ghost use Rattle.at_model.specs.Machine.{Asks, ByEquations, IsSound, State, verdict};
+ghost use Rattle.at_model.specs.Enduring.{AreTokens};
 ghost use Rattle.at_model.specs.Asking.{IsWellFormed};
 ghost use Rattle.at_model.specs.Kinds.{AreTyped, HasKind, ScopeKinds};
 ghost use Rattle.at_model.specs.Taking.{Takes};
@@ -34,6 +39,19 @@ ghost use Rattle.at_model.specs.TypedRuns.{
 };
 ghost use Rattle.at_model.specs.Instances.{AnyText, IsGiven, instances};
 ghost use Rattle.at_model.specs.WellFormed.{AreWellFormed, IsHierarchy, IsTreeSound};
+
+/// Sound classes without a circle of superclasses are a hierarchy. The tree of a sound state is sound where its
+/// tokens can be written: both are so after each line that is served.
+pub fn what_is_served_is_sound()
+    ensures classes { (classes : Classes) → AreSound classes → ((c : ℕ) → c < length classes → list_any (nat_eq c) (above classes c) ≡ false) → IsHierarchy classes }
+    ensures tree { (classes : Classes) (s : State) → IsSound classes s → AreTokens s.tree → IsTreeSound classes s.tree }
+{}
+
+/// What a line is told is of the kind of the attribute that it asks for, where the rules are well formed.
+pub fn a_line_is_told_a_value_of_its_kind()
+    ensures { (rules : Rules) → AreWellFormed rules → (s : State) → IsTreeSound rules.classes s.tree → (l : Line) (q : Instance Node) (v : Value Node)
+        → verdict rules s l ≡ Asks q → ByEquations rules s.tree q (Outcomes (Finds v)) → IsOfItsKind rules (class_at s.tree) q v }
+{}
 
 /// An expression of a kind takes of its parts values of the kinds that its form asks: ints where it computes, booleans
 /// where it decides, texts where it joins, and nodes of a class that has what is asked. As each part has its value
