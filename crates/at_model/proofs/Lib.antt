@@ -52,3 +52,17 @@ pub mod Orderly
 pub mod NothingLost
 pub mod TokensKept
 pub mod WrittenTrees
+pub mod Everywhere
+pub mod Below
+pub mod Chained
+pub mod TypedSteps
+pub mod TypedExpressions
+pub mod TypedLeads
+pub mod TypedContents
+pub mod TypedEquations
+pub mod Listed
+pub mod TypedQuestions
+pub mod TypedNumbers
+pub mod TypedTogether
+pub mod Taken
+pub mod SampleRules

@@ -22,6 +22,11 @@ pub mod Machine
 pub mod Effects
 pub mod Asking
 pub mod Enduring
+pub mod Kinds
+pub mod Taking
+pub mod TypedRuns
+pub mod Instances
+pub mod WellFormed
 pub mod Sparing
 pub mod Keeping
 pub mod SampleLines
