@@ -3,6 +3,7 @@ pub mod Coming
 pub mod Chains
 pub mod Keys
 pub mod Orderly
+pub mod Recalling
 pub mod Truth
 pub mod Seeing
 pub mod Staying

@@ -2,7 +2,7 @@
 use Rattle.std.proofs.Common.{◌≡◌, ℕ, ◌+◌, Bool, true, false, not, nat_eq, nat_le, List, [], ◌∷◌, ◌++◌, count_by, filter, Option, Some, None, is_some, option_and_then, refl, sym, ap, ◌∙◌, subst, Result, Ok, Err, inl, inr}
 use Rattle.std.specs.Prelude.{Vec}
 use Rattle.std.specs.Global.{Global}
-use Rattle.at_model.specs.Classes.{Classes, Shape}
+use Rattle.at_model.specs.Classes.{Classes, Shape, TokenKind}
 use Rattle.at_model.specs.Trees.{Tree, Token as TokenOf, class_of}
 use Rattle.at_model.specs.Terms.{Term, term_of, tree_text}
 use Rattle.at_model.specs.Paths.{Node, part_named, tree_at}
@@ -170,3 +170,34 @@ module _ {A : Type 0} (rules : Rules) (s : State) (n : Node) (name : List ℕ) (
 -- with the tree of a term
 pub with_shaped : (rules : Rules) (t : Term) (b : ℕ) (u : TreeValue) (g : Tree → Verdict) (s : State) (value : FormValue) (new : State) → IsTreeFor rules.classes t b (Ok u) → Follows rules s (g (tree_view u)) value new → Follows rules s (with_tree rules.classes t (Some b) g) value new
 with_shaped rules t b u g s value new h f = as_verdict rules s _ _ value new (at_tree rules.classes t (Some b) g (tree_view u) h.0 h.1) f
+
+-- what becomes of an edit whose parts are there
+module _ (rules : Rules) (s : State) (session : ℕ) (place : Place) (n : Node) (named : node_named rules.classes s session place ≡ Some n) where
+  pub drop_is : obeyed rules s session (Drop place) ≡ changed rules.classes s (edit.Drop n)
+  drop_is = at_the_node rules.classes s session place (λ n. changed rules.classes s (edit.Drop n)) n named
+
+  pub set_tree : (t : Term) (b : ℕ) (u : TreeValue) → class_asked rules.classes s.tree n ≡ Some b → IsTreeFor rules.classes t b (Ok u) → obeyed rules s session (Set place t) ≡ changed rules.classes s (edit.Set n (tree_view u))
+  set_tree t b u asked h =
+      at_the_node rules.classes s session place (λ n. with_tree rules.classes t (class_asked rules.classes s.tree n) (λ u. changed rules.classes s (edit.Set n u))) n named
+      ∙ at_tree rules.classes t (class_asked rules.classes s.tree n) (λ u. changed rules.classes s (edit.Set n u)) (tree_view u) h.0 (ap (option_and_then (shaped rules.classes t)) asked ∙ h.1)
+
+  module _ (name : List ℕ) (part : ℕ) (shape : PartShape) (there : IsComponentOf rules.classes s.tree n name (Some (part, shape))) where
+    with_it : {A : Type 0} (wanted : Shape → Option A) (g : ℕ → A → Verdict) (a : A) → wanted (shape_view shape) ≡ Some a → with_component rules.classes s.tree n name wanted g ≡ g part a
+    with_it wanted g a e = at_component rules.classes s.tree n name wanted g part a there.0 (ap (option_and_then wanted) there.1 ∙ e)
+
+    pub put_tree : (t : Term) (b : ℕ) (u : TreeValue) → optional_class (shape_view shape) ≡ Some b → IsTreeFor rules.classes t b (Ok u) → obeyed rules s session (Put place name t) ≡ changed rules.classes s (edit.Put n part (tree_view u))
+    put_tree t b u e h =
+        at_the_node rules.classes s session place (λ n. with_component rules.classes s.tree n name optional_class (λ p b. with_tree rules.classes t (Some b) (λ u. changed rules.classes s (edit.Put n p u)))) n named
+        ∙ with_it optional_class (λ p b. with_tree rules.classes t (Some b) (λ u. changed rules.classes s (edit.Put n p u))) b e
+        ∙ at_tree rules.classes t (Some b) (λ u. changed rules.classes s (edit.Put n part u)) (tree_view u) h.0 h.1
+
+    pub insert_tree : (index : ℕ) (t : Term) (b : ℕ) (u : TreeValue) → list_class (shape_view shape) ≡ Some b → IsTreeFor rules.classes t b (Ok u) → obeyed rules s session (Insert place name index t) ≡ changed rules.classes s (edit.Insert n part index (tree_view u))
+    insert_tree index t b u e h =
+        at_the_node rules.classes s session place (λ n. with_component rules.classes s.tree n name list_class (λ p b. with_tree rules.classes t (Some b) (λ u. changed rules.classes s (edit.Insert n p index u)))) n named
+        ∙ with_it list_class (λ p b. with_tree rules.classes t (Some b) (λ u. changed rules.classes s (edit.Insert n p index u))) b e
+        ∙ at_tree rules.classes t (Some b) (λ u. changed rules.classes s (edit.Insert n part index u)) (tree_view u) h.0 h.1
+
+    pub token_is : (v : TokenOf) (kind : TokenKind) → token_kind (shape_view shape) ≡ Some kind → obeyed rules s session (Token place name v) ≡ changed rules.classes s (edit.Token n part v)
+    token_is v kind e =
+        at_the_node rules.classes s session place (λ n. with_component rules.classes s.tree n name token_kind (λ p kind. changed rules.classes s (edit.Token n p v))) n named
+        ∙ with_it token_kind (λ p kind. changed rules.classes s (edit.Token n p v)) kind e

@@ -25,3 +25,8 @@ pub mod Sessions
 pub mod Attempting
 pub mod Marking
 pub mod Within
+pub mod KeepingAll
+pub mod Growing
+pub mod Gained
+pub mod Keeping
+pub mod KeepingBytes

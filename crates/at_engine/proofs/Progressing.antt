@@ -39,7 +39,7 @@ empty_line_came rules old new front bytes ks text p = record {
   few = omega (arith, p.few, length-append bytes (10 ∷ []));
 }
 
-one_line : (rest : List ℕ) → is_filled rest ≡ true → filter is_filled (rest ∷ []) ≡ rest ∷ []
+pub one_line : (rest : List ℕ) → is_filled rest ≡ true → filter is_filled (rest ∷ []) ≡ rest ∷ []
 one_line rest h = ap (λ t. cond t (rest ∷ []) []) h
 
 -- the run of one line more

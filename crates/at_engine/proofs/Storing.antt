@@ -37,10 +37,10 @@ state_stays old new version ms same_numbers same_tree =
     ap (λ (t : Tree). held t version (marks_view (path new) ms)) same_tree
     ∙ ap (λ (t : Tree). held (tree old) version (marks_view (λ k. path_in k t) ms)) same_numbers
 
-shown_stays : (old new : Shown) → numbers new ≡ numbers old → tree new ≡ tree old → ◌≡◌ {A = Contents ℕ} (contents new) (contents old)
+pub shown_stays : (old new : Shown) → numbers new ≡ numbers old → tree new ≡ tree old → ◌≡◌ {A = Contents ℕ} (contents new) (contents old)
 shown_stays old new same_numbers same_tree = ap (λ (t : Tree). shown_contents t (tree new)) same_numbers ∙ ap (λ (t : Tree). shown_contents (numbers old) t) same_tree
 
-paths_stay : (old new : Shown) → numbers new ≡ numbers old → ◌≡◌ {A = ℕ → Option Node} (path new) (path old)
+pub paths_stay : (old new : Shown) → numbers new ≡ numbers old → ◌≡◌ {A = ℕ → Option Node} (path new) (path old)
 paths_stay old new same_numbers = ap {B = ℕ → Option Node} (λ (t : Tree) (k : ℕ). path_in k t) same_numbers
 
 -- and what is kept is as right as it was

@@ -12,3 +12,5 @@ pub mod Loop
 pub mod Taking
 pub mod Running
 pub mod RunFaults
+pub mod KeptOver
+pub mod Keeping

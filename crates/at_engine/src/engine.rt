@@ -31,9 +31,9 @@ pub struct Engine<K> {
 }
 
 impl<K: Keeper> Engine<K> {
-    ghost use Rattle.std.specs.Prelude.{◌≡◌, ◌++◌, ◌+◌, ◌<◌, ◌≤◌, [], None, true, false, IfOk, IfErr, OnOk, OnErr, string_bytes, vec_len, vec_capacity, length};
+    ghost use Rattle.std.specs.Prelude.{◌≡◌, ◌++◌, ◌+◌, ◌<◌, ◌≤◌, [], None, true, false, IfOk, IfErr, IsTrue, OnOk, OnErr, string_bytes, vec_len, vec_capacity, length};
     ghost use Rattle.at_model.specs.Lines.{IsCommand, IsLine, IsSessionOf, Show, Mark as MarkOf, Unmark, Where};
-    ghost use Rattle.at_model.specs.Machine.{State, ByEquations, Serves, is_stale};
+    ghost use Rattle.at_model.specs.Machine.{State, ByEquations, Serves, is_stale, obeyed, verdict};
     ghost use Rattle.at_model.specs.Replies.{Reply as ModelReply, reply_text};
     ghost use Rattle.at_tree.specs.TreeView.{tree_view};
     ghost use Rattle.at_protocol.specs.LineView.{command_view, line_view, place_view};
@@ -43,6 +43,7 @@ impl<K: Keeper> Engine<K> {
     ghost use Rattle.at_cache.specs.Kept.{KeepsAll};
     ghost use Rattle.at_engine.specs.Engines.{rules_of, state_of, IsSound};
     ghost use Rattle.at_engine.specs.Serving.{Steps};
+    ghost use Rattle.at_engine.specs.Keeping.{IsSpare, KeepsServed, KeepsStep, Spares, SparesLine, work_of};
     ghost use Rattle.at_engine.specs.Telling.{Obeys, Meets, Gets};
 
     /// An engine of version 0 with these rules and this tree, with no marks, over an empty keeper.
@@ -55,6 +56,7 @@ impl<K: Keeper> Engine<K> {
         ensures first { IfOk result (λ e. state_of e ≡ record { tree = tree_view tree; version = 0; marks = [] }) }
         ensures rules { IfOk result (λ e. rules_of e ≡ rules) }
         ensures sound { KeepsAll (λ _. None) (K.contents keeper) → IfOk result (IsSound K.contents) }
+        ensures spare { KeepsAll (λ _. None) (K.contents keeper) → IfOk result (IsSpare K.contents) }
         ensures refused { IfErr result (IsNotLoaded rules.classes (tree_view tree)) }
     {
         let store = Store::load(alloc, rules.classes(), tree)?;
@@ -86,7 +88,9 @@ impl<K: Keeper> Engine<K> {
     }
 
     /// How many lazy instances questions evaluated to a value that weren't kept, up to the greatest number.
-    pub fn work(&self) -> u64 {
+    pub fn work(&self) -> u64
+        ensures { result ≡ work_of self.now }
+    {
         self.demand.work()
     }
 
@@ -99,6 +103,9 @@ impl<K: Keeper> Engine<K> {
     pub fn line(&mut self, line: &[u8], out: &mut Vec<u8>) -> Result<(), AllocError>
         requires sound { IsSound K.contents self.old }
         ensures steps { OnOk result (Steps (rules_of self.old) (state_of self.old) line.now (state_of self.new) out.old.items out.new.items) }
+        ensures keeps { IsTrue K.exact → IsSpare K.contents self.old → OnOk result (KeepsStep K.contents line.now self.old self.new out.old.items out.new.items) }
+        ensures same { OnErr result (self.new ≡ self.old) }
+        ensures spare { IsTrue K.exact → IsSpare K.contents self.old → IsSpare K.contents self.new }
         ensures rules { rules_of self.new ≡ rules_of self.old }
         ensures full { OnErr result (vec_capacity out.old < vec_len out.old + 48) }
         ensures err { OnErr result ((out.new.items ≡ out.old.items) × (state_of self.new ≡ state_of self.old)) }
@@ -116,6 +123,9 @@ impl<K: Keeper> Engine<K> {
         requires sound { IsSound K.contents self.old }
         requires some { 0 < length line.now }
         ensures served { IfOk result (λ wants. (reply : ModelReply) × Serves (rules_of self.old) (ByEquations (rules_of self.old)) wants (state_of self.old) line.now (state_of self.new) reply × (out.new.items ≡ out.old.items ++ reply_text reply)) }
+        ensures keeps { IsTrue K.exact → IsSpare K.contents self.old → IfOk result (λ wants. KeepsServed K.contents wants line.now self.old self.new) }
+        ensures same { OnErr result (self.new ≡ self.old) }
+        ensures spare { IsTrue K.exact → IsSpare K.contents self.old → IsSpare K.contents self.new }
         ensures rules { rules_of self.new ≡ rules_of self.old }
         ensures room { vec_capacity out.old ≤ vec_capacity out.new }
         ensures full { OnErr result (vec_capacity out.old < vec_len out.old + 48) }
@@ -139,6 +149,7 @@ impl<K: Keeper> Engine<K> {
         requires room { vec_len out.old + 48 ≤ vec_capacity out.old }
         ensures served { IfOk result (λ u. (reply : ModelReply) × Serves (rules_of self.old) (ByEquations (rules_of self.old)) false (state_of self.old) line.now (state_of self.new) reply × (out.new.items ≡ out.old.items ++ reply_text reply)) }
         ensures memory { IfErr result (λ session. IsSessionOf line.now session × (out.new.items ≡ out.old.items) × (state_of self.new ≡ state_of self.old)) }
+        ensures spares { IsTrue K.exact → IsSpare K.contents self.old → SparesLine K.contents line.now result self.old self.new }
         ensures rules { rules_of self.new ≡ rules_of self.old }
         ensures room { vec_capacity out.old ≤ vec_capacity out.new }
         ensures sound { IsSound K.contents self.new }
@@ -157,6 +168,7 @@ impl<K: Keeper> Engine<K> {
     fn outcome(&mut self, line: &[u8]) -> (Option<u16>, Result<Form, AllocError>)
         requires sound { IsSound K.contents self.old }
         ensures gets { Gets (rules_of self.old) (state_of self.old) line.now (state_of self.new) result.0 result.1 }
+        ensures spares { IsTrue K.exact → IsSpare K.contents self.old → SparesLine K.contents line.now result.1 self.old self.new }
         ensures rules { rules_of self.new ≡ rules_of self.old }
         ensures sound { IsSound K.contents self.new }
     {
@@ -174,6 +186,7 @@ impl<K: Keeper> Engine<K> {
         requires is_line { IsLine (line_view line) }
         ensures meets { IfOk result (λ f. Meets (rules_of self.old) (state_of self.old) (line_view line) f (state_of self.new)) }
         ensures err { OnErr result (state_of self.new ≡ state_of self.old) }
+        ensures spares { IsTrue K.exact → IsSpare K.contents self.old → Spares K.contents (verdict (rules_of self.old) (state_of self.old) (line_view line)) result self.old self.new }
         ensures rules { rules_of self.new ≡ rules_of self.old }
         ensures sound { IsSound K.contents self.new }
     {
@@ -204,6 +217,7 @@ impl<K: Keeper> Engine<K> {
         requires is_command { IsCommand (command_view command) }
         ensures obeys { IfOk result (λ f. Obeys (rules_of self.old) (state_of self.old) session (command_view command) f (state_of self.new)) }
         ensures err { OnErr result (state_of self.new ≡ state_of self.old) }
+        ensures spares { IsTrue K.exact → IsSpare K.contents self.old → Spares K.contents (obeyed (rules_of self.old) (state_of self.old) session (command_view command)) result self.old self.new }
         ensures rules { rules_of self.new ≡ rules_of self.old }
         ensures sound { IsSound K.contents self.new }
     {
@@ -261,6 +275,8 @@ impl<K: Keeper> Engine<K> {
         requires sound { IsSound K.contents self.old }
         ensures obeys { IfOk result (λ f. Obeys (rules_of self.old) (state_of self.old) session (MarkOf (string_bytes name) (place_view place.now)) f (state_of self.new)) }
         ensures err { OnErr result (state_of self.new ≡ state_of self.old) }
+        ensures store { self.new.store ≡ self.old.store }
+        ensures demand { self.new.demand ≡ self.old.demand }
         ensures rules { rules_of self.new ≡ rules_of self.old }
         ensures sound { IsSound K.contents self.new }
     {
@@ -281,6 +297,8 @@ impl<K: Keeper> Engine<K> {
     fn unmark(&mut self, session: u16, name: &str) -> Form
         requires sound { IsSound K.contents self.old }
         ensures obeys { Obeys (rules_of self.old) (state_of self.old) session (Unmark name.now) result (state_of self.new) }
+        ensures store { self.new.store ≡ self.old.store }
+        ensures demand { self.new.demand ≡ self.old.demand }
         ensures rules { rules_of self.new ≡ rules_of self.old }
         ensures sound { IsSound K.contents self.new }
     {

@@ -1,10 +1,12 @@
 //! The loop over lines: bytes come in pieces of any size, each line is served whole, and its reply is written before the
 //! next line is looked at.
-ghost use Rattle.std.specs.Prelude.{◌≡◌, ◌++◌, ◌∷◌, ◌≤◌, ◌<◌, ◌+◌, ◌^◌, Bool, ℕ, List, [], vec_len, vec_capacity, length};
+ghost use Rattle.std.specs.Prelude.{◌≡◌, ◌++◌, ◌∷◌, ◌≤◌, ◌<◌, ◌+◌, ◌^◌, Bool, ℕ, List, [], filter, vec_len, vec_capacity, length, IfOk, IsTrue, OnOk};
+ghost use Rattle.at_model.specs.Lines.{is_filled};
 ghost use Rattle.at_model.specs.Machine.{ByEquations, Serves};
 ghost use Rattle.at_model.specs.Replies.{Reply, reply_text};
 ghost use Rattle.at_engine.specs.Engines.{state_of, rules_of, IsSound};
 ghost use Rattle.at_engine.specs.Loop.{kept, IsOpen};
+ghost use Rattle.at_engine.specs.Keeping.{IsSpare, KeepsAll, KeepsBytes, KeepsLine, KeepsRun, work_of};
 ghost use Rattle.at_engine.specs.Taking.{Counts, Written, TakesOrStops, Finishes};
 ghost use Rattle.at_engine.specs.Running.{Ran};
 
@@ -67,6 +69,8 @@ fn serve<K: Keeper, W: Write>(
     ensures served { (wants : Bool) × (reply : Reply)
         × Serves (rules_of engine.old) (ByEquations (rules_of engine.old)) wants (state_of engine.old) desk.old.line.items (state_of engine.new) reply
         × Counts desk.old desk.new (wants ∷ []) × Written result (W.contents writer.old) (W.contents writer.new) (reply_text reply) }
+    ensures keeps { IsTrue K.exact → IsSpare K.contents engine.old → desk.new.memory ≡ desk.old.memory → KeepsLine K.contents desk.old.line.items engine.old engine.new }
+    ensures spare { IsTrue K.exact → IsSpare K.contents engine.old → IsSpare K.contents engine.new }
     ensures rules { rules_of engine.new ≡ rules_of engine.old }
     ensures line { desk.new.line.items ≡ desk.old.line.items }
     ensures grows { desk.new.lines ≤ desk.old.lines + 1 }
@@ -92,6 +96,8 @@ fn take_byte<K: Keeper, W: Write>(
     requires sound { IsSound K.contents engine.old }
     requires few { desk.old.lines + 1 < 2 ^ 128 }
     ensures taken { (front : List ℕ) → IsOpen front → desk.old.line.items ≡ kept front → TakesOrStops result (rules_of engine.old) (state_of engine.old) front (byte ∷ []) (state_of engine.new) desk.old desk.new (W.contents writer.old) (W.contents writer.new) }
+    ensures keeps { IsTrue K.exact → IsSpare K.contents engine.old → (front : List ℕ) → IsOpen front → desk.old.line.items ≡ kept front → OnOk result (KeepsBytes K.contents front (byte ∷ []) engine.old engine.new desk.old desk.new) }
+    ensures spare { IsTrue K.exact → IsSpare K.contents engine.old → IsSpare K.contents engine.new }
     ensures rules { rules_of engine.new ≡ rules_of engine.old }
     ensures grows { desk.new.lines ≤ desk.old.lines + 1 }
     ensures sound { IsSound K.contents engine.new }
@@ -115,6 +121,8 @@ fn take_piece<K: Keeper, W: Write>(
     requires sound { IsSound K.contents engine.old }
     requires few { desk.old.lines + length piece.now + 1 < 2 ^ 128 }
     ensures taken { (front : List ℕ) → IsOpen front → desk.old.line.items ≡ kept front → TakesOrStops result (rules_of engine.old) (state_of engine.old) front piece.now (state_of engine.new) desk.old desk.new (W.contents writer.old) (W.contents writer.new) }
+    ensures keeps { IsTrue K.exact → IsSpare K.contents engine.old → (front : List ℕ) → IsOpen front → desk.old.line.items ≡ kept front → OnOk result (KeepsBytes K.contents front piece.now engine.old engine.new desk.old desk.new) }
+    ensures spare { IsTrue K.exact → IsSpare K.contents engine.old → IsSpare K.contents engine.new }
     ensures rules { rules_of engine.new ≡ rules_of engine.old }
     ensures grows { desk.new.lines ≤ desk.old.lines + length piece.now }
     ensures sound { IsSound K.contents engine.new }
@@ -134,6 +142,8 @@ fn finish<K: Keeper, W: Write>(
     requires sound { IsSound K.contents engine.old }
     requires few { desk.old.lines + 1 < 2 ^ 128 }
     ensures finished { (front : List ℕ) → desk.old.line.items ≡ kept front → Finishes result (rules_of engine.old) (state_of engine.old) front (state_of engine.new) desk.old desk.new (W.contents writer.old) (W.contents writer.new) }
+    ensures keeps { IsTrue K.exact → IsSpare K.contents engine.old → (front : List ℕ) → desk.old.line.items ≡ kept front → desk.new.memory ≡ desk.old.memory → KeepsAll K.contents (filter is_filled (front ∷ [])) engine.old engine.new }
+    ensures spare { IsTrue K.exact → IsSpare K.contents engine.old → IsSpare K.contents engine.new }
     ensures rules { rules_of engine.new ≡ rules_of engine.old }
     ensures sound { IsSound K.contents engine.new }
 {
@@ -157,6 +167,9 @@ pub fn run<K: Keeper, R: Read, W: Write>(
 ) -> Result<Report, RunFault>
     requires sound { IsSound K.contents engine.old }
     ensures ran { Ran result (rules_of engine.old) (state_of engine.old) (state_of engine.new) (R.remaining reader.old) (R.remaining reader.new) (W.contents writer.old) (W.contents writer.new) }
+    ensures keeps { IsTrue K.exact → IsSpare K.contents engine.old → IfOk result (λ report. report.memory ≡ 0 → KeepsRun K.contents engine.old engine.new (R.remaining reader.old) (R.remaining reader.new)) }
+    ensures work { IfOk result (λ report. report.work ≡ work_of engine.new) }
+    ensures spare { IsTrue K.exact → IsSpare K.contents engine.old → IsSpare K.contents engine.new }
     ensures rules { rules_of engine.new ≡ rules_of engine.old }
     ensures sound { IsSound K.contents engine.new }
 {

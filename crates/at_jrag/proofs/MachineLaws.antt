@@ -1,6 +1,6 @@
 -- Laws of the machine with a limit: a run's steps, that it looks no further than the next symbol, and what a limited run
 -- says of the one without a limit.
-use Rattle.std.proofs.Common.{◌≡◌, ℕ, suc, ◌≤◌, List, [], ◌∷◌, ◌++◌, Bool, true, false, cond, Some, None, length, refl, sym, ap, subst, ◌∙◌, length-append, append_assoc, arith, inl, inr}
+use Rattle.std.proofs.Common.{◌≡◌, ℕ, suc, ◌≤◌, List, [], ◌∷◌, ◌++◌, Bool, true, false, cond, Some, None, length, refl, sym, ap, ◌∙◌, length-append, append_assoc, arith, inl, inr}
 use Rattle.std.specs.Prelude.{◌||◌, not, ◌⊎◌}
 use Rattle.at_text.specs.Reading.{first}
 use Rattle.at_jrag.specs.Machine.{Reason, Refused, LeftOut, TooDeep, Answer, Takes, Skips, Refuses, LeavesOut, and_then, is_skip, Table, Move, Goes, Halts, answered, after, ended, may_end, Outcome, Whole, Stuck, run}

@@ -110,6 +110,10 @@ pub literal_of : (t : PlacedToken) → is_literal t ≡ true → IsLiteral t
 literal_of t e = or_case (is_number_within 2147483647 t) (is_quotation t || is_constant t) (λ h. number_literal t h)
     (λ h. or_case (is_quotation t) (is_constant t) (λ h. quotation_literal t h) (λ h. constant_literal t h) h) e
 
+-- by the three words in turn
+pub fold_by : (t : PlacedToken) {a b c : Bool} → is_word (codes "exists") t ≡ a → is_word (codes "first") t ≡ b → is_word (codes "sum") t ≡ c → begins_fold t ≡ (a || b || c)
+fold_by t {a} {b} ea eb ec = ap (λ x. x || is_word (codes "first") t || is_word (codes "sum") t) ea ∙ ap (λ x. a || x || is_word (codes "sum") t) eb ∙ ap (λ x. a || b || x) ec
+
 pub fold_of : (t : PlacedToken) → begins_fold t ≡ true → (f : FoldForm) × (t ≡ word (fold_text f) t.at)
 fold_of t e = or_case (is_word (codes "exists") t || is_word (codes "first") t) (is_word (codes "sum") t)
     (λ h. or_case (is_word (codes "exists") t) (is_word (codes "first") t) (λ h. (syntax.Exists, word_is (codes "exists") t h)) (λ h. (syntax.First, word_is (codes "first") t h)) h)

@@ -50,14 +50,14 @@ module _ (P : Verdict → Type 0) (if_refused : (c : Code) → P (Refuses c)) wh
   pub node_all : (classes : Classes) (s : State) (session : ℕ) (place : Place) (k : Node → Verdict) → ((n : Node) → P (k n)) → P (at_node classes s session place k)
   node_all classes s session place k h = at_option (node_named classes s session place) code.Path k h
 
-  component_all : {A : Type 0} (classes : Classes) (t : Tree) (n : Node) (name : List ℕ) (wanted : Shape → Option A) (k : ℕ → A → Verdict) → ((p : ℕ) (a : A) → P (k p a)) → P (with_component classes t n name wanted k)
+  pub component_all : {A : Type 0} (classes : Classes) (t : Tree) (n : Node) (name : List ℕ) (wanted : Shape → Option A) (k : ℕ → A → Verdict) → ((p : ℕ) (a : A) → P (k p a)) → P (with_component classes t n name wanted k)
   component_all classes t n name wanted k h = at_option (option_and_then (λ u. part_named classes (class_of u) name) (tree_at t n)) code.Component _ (λ p. at_option (option_and_then wanted (shape_at classes t n p)) code.Component (k p) (h p))
 
   at_names : (b : Bool) (v : Verdict) → P v → P (elim b [ false ↦ Refuses code.Class | true ↦ v ])
   at_names true v h = h
   at_names false v h = if_refused code.Class
 
-  tree_all : (classes : Classes) (t : Term) (wanted : Option ℕ) (k : Tree → Verdict) → ((u : Tree) → P (k u)) → P (with_tree classes t wanted k)
+  pub tree_all : (classes : Classes) (t : Term) (wanted : Option ℕ) (k : Tree → Verdict) → ((u : Tree) → P (k u)) → P (with_tree classes t wanted k)
   tree_all classes t wanted k h = at_names (names_classes classes t) _ (at_option (option_and_then (shaped classes t) wanted) code.Fit k h)
 
 pub edit_changes : (rules : Rules) (s : State) (session : ℕ) (c : Command) → is_edit c ≡ true → IsChange rules.classes s (obeyed rules s session c)

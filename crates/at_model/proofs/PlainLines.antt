@@ -1,16 +1,16 @@
 -- Lines of ASCII characters: a test, which computes, whether one is a line.
-use Rattle.std.proofs.Common.{◌≡◌, ℕ, zero, suc, ◌<◌, ◌≤◌, ℤ, pos, negsuc, Bool, true, false, not, ◌&&◌, ◌||◌, ◌==◌, nat_lt, nat_le, List, [], ◌∷◌, length, Option, Some, None, refl, sym, ap, ◌∙◌, arith}
+use Rattle.std.proofs.Common.{◌≡◌, ℕ, zero, suc, ◌<◌, ◌≤◌, ℤ, pos, negsuc, Bool, true, false, not, ◌&&◌, ◌||◌, ◌==◌, nat_lt, nat_le, List, [], ◌∷◌, length, Option, Some, None, refl, ap, ◌∙◌, arith}
 use Rattle.std.specs.Prelude.{IsUtf8, IsAscii, chars, ◌-◌}
 use Rattle.std.specs.List.{list_all, AllByRecursion}
 use Rattle.std.specs.Char.{is_ascii_alphabetic, is_ascii_alphanumeric}
 use Rattle.std.proofs.lemmas.Bool.Decides.{nat_tests}
 use Rattle.std.proofs.lemmas.Str.{chars-IsAscii, IsUtf8-from_ascii}
 use Rattle.unicode_ident.proofs.IdentLemmas.{is_xid_start-ascii, is_xid_continue-ascii}
-use Rattle.at_model.specs.Names.{starts_name, continues_name, is_word, is_name, is_reserved}
+use Rattle.at_model.specs.Names.{starts_name, continues_name, is_word, is_reserved}
 use Rattle.at_model.specs.Trees as tree
 use Rattle.at_model.specs.Terms.{Term, Cells, Cell, Terms, Node, no_cells, cell, One, Many, Empty, Holds, no_terms, term, IsInt32, IsToken, IsTermWithin, AreCellsWithin, IsCellWithin, AreTermsWithin, max_depth}
 use Rattle.at_model.specs.Paths.{Path, Step, IsIndex, IsStep, IsPath}
-use Rattle.at_model.specs.Lines.{Place, From_root, From_mark, Argument, Text, Ref, Null, Command, Ask, Set, Put, Drop, Insert, Token, Show, Mark, Unmark, Where, Version, Line, line_text, IsName, IsPlace, IsArgument, IsCommand, IsVersion, IsLine, Spells, last_version, max_sessions, max_line}
+use Rattle.at_model.specs.Lines.{Place, From_root, From_mark, Argument, Text, Ref, Null, Command, Ask, Set, Put, Drop, Insert, Token, Show, Mark, Unmark, Where, Version, Line, line_text, IsName, IsPlace, IsArgument, IsCommand, IsVersion, Spells, last_version, max_sessions, max_line}
 
 pub all_and : (a b : Bool) → (a && b) ≡ true → (a ≡ true) × (b ≡ true)
 all_and true true e = (refl, refl)

@@ -10,7 +10,7 @@ use Rattle.at_model.specs.Meaning.{Answer}
 use Rattle.at_model.specs.Lines.{Line, line_text, Spells, IsSessionOf}
 use Rattle.at_model.specs.Replies.{Reply, Form, Done, Shows, Refused, Memory, reply_text}
 use Rattle.at_model.specs.Replies as code
-use Rattle.at_model.specs.Machine.{State, Verdict, Refuses, Tells, Leaves, Edits, Asks, ByEquations, Says, Step, Handles, obeys, refuses, after, verdict, answer_form}
+use Rattle.at_model.specs.Machine.{State, Verdict, Refuses, Tells, Leaves, Edits, Asks, ByEquations, Says, Handles, obeys, refuses, after, verdict, answer_form}
 use Rattle.at_model.specs.Playing.{Exchange, Plays}
 use Rattle.at_model.proofs.PlainLines.{all_and, is_plain_line, spelled}
 

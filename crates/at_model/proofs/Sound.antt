@@ -139,7 +139,7 @@ module _ (rules : Rules) (s : State) (sound : IsSound rules.classes s) where
       let both = accepted_conforms rules.classes s.tree e t sound.tree_conforms is in
       record { tree_conforms = both.0; tree_within = both.1; marks_lead = leads-carried rules.classes s.tree t e sound.tree_conforms is s.marks sound.marks_lead }
 
-  sound_line : (l : Line) → IsSound rules.classes (after s (verdict rules s l))
+  pub sound_line : (l : Line) → IsSound rules.classes (after s (verdict rules s l))
   sound_line l = sound_after (verdict rules s l) (whole (Safe rules.classes s) refused rules s l (safe l.session l.command))
 
 sound_handled : (rules : Rules) (Answered : Answering) (old : State) (bytes : List ℕ) (new : State) (reply : Reply) → IsSound rules.classes old → Handles rules Answered old bytes new reply → IsSound rules.classes new

@@ -1,8 +1,8 @@
 -- Bytes that are no line, and from which no session can be read.
-use Rattle.std.proofs.Common.{◌≡◌, ℕ, zero, suc, ◌+◌, ◌^◌, ◌<◌, ◌≤◌, true, false, get_or, List, [], ◌∷◌, ◌++◌, length, drop, Option, Some, None, codes, refl, sym, ap, ◌∙◌, subst, arith}
+use Rattle.std.proofs.Common.{◌≡◌, ℕ, zero, suc, ◌<◌, true, get_or, List, [], ◌∷◌, ◌++◌, drop, Option, Some, None, codes, refl, sym, ap, ◌∙◌, subst, arith}
 use Rattle.std.specs.Fmt.{decimal, digits}
 use Rattle.std.proofs.lemmas.Fmt.{decimal_injective, first_decimal}
-use Rattle.at_model.specs.Lines.{Place, From_root, From_mark, Command, Ask, Set, Put, Drop, Insert, Token, Show, Mark, Unmark, Where, Version, Line, place_text, IsPlace, IsCommand, Spells, BeginsWith, IsSpaceOrEnd}
+use Rattle.at_model.specs.Lines.{Place, From_root, Command, Ask, Set, Put, Drop, Insert, Token, Show, Mark, Unmark, Where, Version, Line, place_text, IsPlace, IsCommand, Spells, BeginsWith, IsSpaceOrEnd}
 use Rattle.at_model.proofs.Words.{apart, IsInner, Stops, delimits, same_word, decimal_inner}
 use Rattle.at_model.proofs.OneTerm.{tail, same_decimal}
 use Rattle.at_model.proofs.OneLine.{line_flat, body_text, place_head, same_place}

@@ -100,7 +100,7 @@ one_argument : {N A : Type 0} (look : Contents N) (r s : Run N A) (ls : List (Lo
 one_argument look r s ls None e = e
 one_argument look r s ls (Some n) e = (refl, e)
 
-past_them : {N A : Type 0} (look : Contents N) (vs : List (Value N)) (r : Run N A) → LooksTo look (past_arguments vs r) (argument_classes vs) r
+pub past_them : {N A : Type 0} (look : Contents N) (vs : List (Value N)) (r : Run N A) → LooksTo look (past_arguments vs r) (argument_classes vs) r
 past_them look [] r = refl
 past_them look (v ∷ vs) r = one_argument look (past_arguments vs r) r (argument_classes vs) (ref_of v) (past_them look vs r)
 

@@ -1,5 +1,5 @@
 -- How far an evaluation comes by itself, and how it goes on when it is told a value.
-use Rattle.std.specs.Prelude.{◌≡◌, List, [], ◌∷◌, ◌++◌, Option, Some, None}
+use Rattle.std.specs.Prelude.{◌≡◌, List, [], ◌∷◌, ◌++◌, Some}
 use Rattle.at_model.specs.Run.{Value, Instance, Location, Content, Contents, FaultKind, Run, Gives, Fails, Looks, Demands, Known}
 
 -- how far an evaluation comes without the value of another instance

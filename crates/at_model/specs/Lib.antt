@@ -19,7 +19,17 @@ pub mod Shaping
 pub mod Lines
 pub mod Replies
 pub mod Machine
+pub mod Effects
+pub mod Asking
+pub mod Enduring
+pub mod Kinds
+pub mod Taking
+pub mod TypedRuns
+pub mod Instances
+pub mod WellFormed
 pub mod Sparing
+pub mod Keeping
 pub mod SampleLines
 pub mod Playing
 pub mod SampleSessions
+pub mod Working

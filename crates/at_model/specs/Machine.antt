@@ -183,15 +183,30 @@ with_mark s session name n =
     else (if nat_le max_marks (count_by (λ m. nat_eq session m.session) s.marks) then Refuses code.Limit
     else Leaves (s.marks ++ record { session = session; name = name; node = n } ∷ []))
 
--- what becomes of the command of a session, when the marks that it uses are there
+-- What becomes of the command of a session, when the marks that it uses are there. What it names is looked at in the order of
+-- its words: the node, the component, the classes in the term, whether the term fits; then the edit, for its first reason.
 abbrev pub obeyed : Rules → State → ℕ → Command → Verdict
-obeyed rules s session (Ask place attribute arguments) = at_node rules.classes s session place (λ n. elim (each (map (value_named rules.classes s session) arguments)) [ None ↦ Refuses code.Path | Some vs ↦ questioned rules s.tree n attribute vs ])
-obeyed rules s session (Set place t) = at_node rules.classes s session place (λ n. with_tree rules.classes t (class_asked rules.classes s.tree n) (λ u. changed rules.classes s (edit.Set n u)))
-obeyed rules s session (Put place part t) = at_node rules.classes s session place (λ n. with_component rules.classes s.tree n part optional_class (λ p b. with_tree rules.classes t (Some b) (λ u. changed rules.classes s (edit.Put n p u))))
+obeyed rules s session (Ask place attribute arguments) =
+    at_node rules.classes s session place (λ n.
+    elim (each (map (value_named rules.classes s session) arguments)) [ None ↦ Refuses code.Path | Some vs ↦ questioned rules s.tree n attribute vs ])
+obeyed rules s session (Set place t) =
+    at_node rules.classes s session place (λ n.
+    with_tree rules.classes t (class_asked rules.classes s.tree n) (λ u. changed rules.classes s (edit.Set n u)))
+obeyed rules s session (Put place part t) =
+    at_node rules.classes s session place (λ n.
+    with_component rules.classes s.tree n part optional_class (λ p b.
+    with_tree rules.classes t (Some b) (λ u. changed rules.classes s (edit.Put n p u))))
 obeyed rules s session (Drop place) = at_node rules.classes s session place (λ n. changed rules.classes s (edit.Drop n))
-obeyed rules s session (Insert place part index t) = at_node rules.classes s session place (λ n. with_component rules.classes s.tree n part list_class (λ p b. with_tree rules.classes t (Some b) (λ u. changed rules.classes s (edit.Insert n p index u))))
-obeyed rules s session (Token place part v) = at_node rules.classes s session place (λ n. with_component rules.classes s.tree n part token_kind (λ p kind. changed rules.classes s (edit.Token n p v)))
-obeyed rules s session (Show place) = at_node rules.classes s session place (λ n. elim (tree_at s.tree n) [ None ↦ Refuses code.Path | Some u ↦ Tells (Written (term_of rules.classes u)) ])
+obeyed rules s session (Insert place part index t) =
+    at_node rules.classes s session place (λ n.
+    with_component rules.classes s.tree n part list_class (λ p b.
+    with_tree rules.classes t (Some b) (λ u. changed rules.classes s (edit.Insert n p index u))))
+obeyed rules s session (Token place part v) =
+    at_node rules.classes s session place (λ n.
+    with_component rules.classes s.tree n part token_kind (λ p kind. changed rules.classes s (edit.Token n p v)))
+obeyed rules s session (Show place) =
+    at_node rules.classes s session place (λ n.
+    elim (tree_at s.tree n) [ None ↦ Refuses code.Path | Some u ↦ Tells (Written (term_of rules.classes u)) ])
 obeyed rules s session (Mark name place) = at_node rules.classes s session place (with_mark s session name)
 obeyed rules s session (Unmark name) = Leaves (filter (λ m. not (is_mark session name m)) s.marks)
 obeyed rules s session (Where name) = elim (marked s.marks session name) [ None ↦ Refuses code.Mark | Some n ↦ Tells (At (path_to rules.classes s.tree n)) ]
@@ -260,7 +275,9 @@ abbrev pub Runs : Rules → Answering → State → List (List ℕ) → (out_of_
 Runs rules Answered old [] [] text new = (text ≡ []) × (new ≡ old)
 Runs rules Answered old [] (b ∷ bs) text new = ⊥
 Runs rules Answered old (line ∷ rest) [] text new = ⊥
-Runs rules Answered old (line ∷ rest) (b ∷ bs) text new = (mid : State) × (reply : Reply) × (more : List ℕ) × Serves rules Answered b old line mid reply × (text ≡ reply_text reply ++ more) × Runs rules Answered mid rest bs more new
+Runs rules Answered old (line ∷ rest) (b ∷ bs) text new =
+    (mid : State) × (reply : Reply) × (more : List ℕ)
+    × Serves rules Answered b old line mid reply × (text ≡ reply_text reply ++ more) × Runs rules Answered mid rest bs more new
 
 -- what the machine writes for these bytes, and the state in which they leave it
 abbrev pub Outputs : Rules → Answering → State → List ℕ → (out_of_memory : List Bool) → List ℕ → State → Type 0

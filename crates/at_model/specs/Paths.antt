@@ -81,12 +81,18 @@ place_in (Many c) (Some i) = Some i
 place_in shape index = None
 
 abbrev pub step_in : Classes → Tree → Step → Option (ℕ × ℕ)
-step_in classes t s = option_and_then (λ part. option_and_then (λ p. option_map (λ i. (part, i)) (place_in p.shape s.index)) (slice_get (parts classes (class_of t)) part)) (part_named classes (class_of t) s.part)
+step_in classes t s =
+    option_and_then (λ part.
+    option_and_then (λ p. option_map (λ i. (part, i)) (place_in p.shape s.index)) (slice_get (parts classes (class_of t)) part))
+    (part_named classes (class_of t) s.part)
 
 -- the node that a path leads to, where it leads to one
 abbrev pub node_at : Classes → Tree → Path → Option Node
 node_at classes t [] = Some []
-node_at classes t (s ∷ ss) = option_and_then (λ way. option_and_then (λ u. option_map (λ ways. way ∷ ways) (node_at classes u ss)) (slice_get (children_at t way.0) way.1)) (step_in classes t s)
+node_at classes t (s ∷ ss) =
+    option_and_then (λ way.
+    option_and_then (λ u. option_map (λ ways. way ∷ ways) (node_at classes u ss)) (slice_get (children_at t way.0) way.1))
+    (step_in classes t s)
 
 abbrev pub index_in : Shape → ℕ → Option ℕ
 index_in (Many c) i = Some i
@@ -98,7 +104,10 @@ step_of classes c way = option_map (λ p. record { part = p.name; index = index_
 -- the path of a node of a tree
 abbrev pub path_of : Classes → Tree → Node → Option Path
 path_of classes t [] = Some []
-path_of classes t (way ∷ ways) = option_and_then (λ s. option_and_then (λ u. option_map (λ ss. s ∷ ss) (path_of classes u ways)) (slice_get (children_at t way.0) way.1)) (step_of classes (class_of t) way)
+path_of classes t (way ∷ ways) =
+    option_and_then (λ s.
+    option_and_then (λ u. option_map (λ ss. s ∷ ss) (path_of classes u ways)) (slice_get (children_at t way.0) way.1))
+    (step_of classes (class_of t) way)
 
 -- each component of a class is the first one of its name in the class
 abbrev pub ArePartsApart : Classes → Type 0

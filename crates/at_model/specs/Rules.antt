@@ -71,8 +71,9 @@ part_eq (Some i) (Some j) = nat_eq i j
 abbrev pub inherited_in : Rules → List ℕ → Option ℕ → ℕ → Option Expr
 inherited_in rules name part c = option_map (λ e. e.body) (find (λ e. nat_eq e.class c && part_eq e.part part && bytes_eq e.name name) rules.inherited)
 
--- The equation of a class for an attribute of the nodes below a component: in the first class upward that has one, the
--- one for the component before the one for every component (JastAdd2 reference manual, "Attributes").
+-- The equation of a class for an attribute of the nodes below a component: that of the first class upward that has one
+-- (JastAdd2 reference manual, "Attributes"). In one class the one for the component comes before the one for every component:
+-- this order is the project's own.
 abbrev pub inherited_equation : Rules → (class part : ℕ) → List ℕ → Option Expr
 inherited_equation rules c part name = first_answer (λ b. option_or (inherited_in rules name (Some part) b) (inherited_in rules name None b)) (chain rules.classes c)
 
@@ -87,7 +88,8 @@ Source = Expr × Node × (ℕ × ℕ)
 
 -- the equation that stands at a prefix for the step behind it
 abbrev pub source_at : Rules → Tree → List ℕ → Node × (ℕ × ℕ) → Option Source
-source_at rules t name p = option_and_then (λ u. option_map (λ e. (e, p.0, p.1)) (inherited_equation rules (class_of u) p.1.0 name)) (tree_at t p.0)
+source_at rules t name p =
+    option_and_then (λ u. option_map (λ e. (e, p.0, p.1)) (inherited_equation rules (class_of u) p.1.0 name)) (tree_at t p.0)
 
 -- The inherited equation of a node: at the longest proper prefix of its path whose class has an equation for the
 -- attribute and the component of the step behind it.
@@ -137,7 +139,8 @@ evaluation_within height rules same i = Looks (Is i.node) (λ c. past_arguments 
   | false ↦ by_own rules same i c
 ]))
 
--- the evaluation of an instance: no tree is deeper than `max_depth`
+-- The evaluation of an instance, in trees within the limits: no node of one has as many nodes above it as `max_depth`. In a deeper
+-- tree an inherited equation is looked for among that many nodes above, and where none of them has one it is the fault `null`.
 abbrev pub evaluation : {N : Type 0} → Rules → (N → N → Bool) → Instance N → Run N (Value N)
 evaluation rules same i = evaluation_within max_depth rules same i
 
@@ -147,7 +150,11 @@ attribute_named rules c name = position (λ a. bytes_eq a.name name && is_sub ru
 
 -- trees of class d may stand in a component of c for which c has no equation for the attribute
 abbrev pub PassesDown : Rules → List ℕ → (c d : ℕ) → Type 0
-PassesDown rules name c d = (part : ℕ) × (b : ℕ) × (option_and_then (λ p. class_in p.shape) (slice_get (parts rules.classes c) part) ≡ Some b) × (fits rules.classes d b ≡ true) × (inherited_equation rules c part name ≡ None)
+PassesDown rules name c d =
+    (part : ℕ) × (b : ℕ)
+    × (option_and_then (λ p. class_in p.shape) (slice_get (parts rules.classes c) part) ≡ Some b)
+    × (fits rules.classes d b ≡ true)
+    × (inherited_equation rules c part name ≡ None)
 
 -- A class is exposed for an inherited attribute where a tree of it may stand with no equation above: it may be the root,
 -- or it may stand in a component without equation of a class that is exposed. Class 0 is the start class.
@@ -158,5 +165,7 @@ pub data Exposed (rules : Rules) (name : List ℕ) : ℕ → Type 0 where
 -- Each class of which there may be trees has an equation for each of its synthesized attributes, and is exposed for none of
 -- its inherited ones. (Which rules are accepted, typed ones with the places of their faults, is defined with the reading of rules.)
 pub record AreComplete (rules : Rules) : Type 0 where
-  pub synthesized : (c attribute : ℕ) (a : Attribute) → slice_get rules.attributes attribute ≡ Some a → a.is_inherited ≡ false → fits rules.classes c a.class ≡ true → IsSome (own_equation rules c attribute)
-  pub inherited : (c attribute : ℕ) (a : Attribute) → slice_get rules.attributes attribute ≡ Some a → a.is_inherited ≡ true → fits rules.classes c a.class ≡ true → Exposed rules a.name c → ⊥
+  pub synthesized : (c attribute : ℕ) (a : Attribute) → slice_get rules.attributes attribute ≡ Some a → a.is_inherited ≡ false →
+      fits rules.classes c a.class ≡ true → IsSome (own_equation rules c attribute)
+  pub inherited : (c attribute : ℕ) (a : Attribute) → slice_get rules.attributes attribute ≡ Some a → a.is_inherited ≡ true →
+      fits rules.classes c a.class ≡ true → Exposed rules a.name c → ⊥

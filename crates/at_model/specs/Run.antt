@@ -1,5 +1,5 @@
 -- Evaluations: what one asks of a tree and of other instances, in order. The nodes may be named in any way, by paths or by numbers.
-use Rattle.std.specs.Prelude.{◌≡◌, ℕ, ℤ, Bool, List, [], ◌∷◌, Option, Some, None}
+use Rattle.std.specs.Prelude.{◌≡◌, ℕ, ℤ, Bool, true, false, List, [], ◌∷◌, Option, Some, None}
 use Rattle.at_model.specs.Trees.{Token}
 
 -- the value of an attribute: also a reference to a node, or null (Hedin 2000, "Reference attributed grammars")
@@ -84,6 +84,19 @@ reads look known (Gives a) = []
 reads look known (Fails f) = []
 reads look known (Looks l k) = l ∷ reads look known (k (look l))
 reads look known (Demands i k) = elim (known i) [ None ↦ [] | Some v ↦ reads look known (k v) ]
+
+-- and the instances that it demands up to there, in order; the last one may be the one whose value is not known
+abbrev pub demands : {N A : Type 0} → Contents N → Known N → Run N A → List (Instance N)
+demands look known (Gives a) = []
+demands look known (Fails f) = []
+demands look known (Looks l k) = demands look known (k (look l))
+demands look known (Demands i k) = i ∷ elim (known i) [ None ↦ [] | Some v ↦ demands look known (k v) ]
+
+-- a try ends by a value or a fault
+abbrev pub has_ended : {N A : Type 0} → Tried N A → Bool
+has_ended (Valued a) = true
+has_ended (Faulted f) = true
+has_ended (Needs i) = false
 
 -- a fact for each way that a try ends
 abbrev pub MatchTried : {N A : Type 0} → Tried N A → (A → Type 0) → (FaultKind → Type 0) → (Instance N → Type 0) → Type 0

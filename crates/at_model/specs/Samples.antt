@@ -83,30 +83,51 @@ one_by_zero = Arithmetic Over (IntLiteral (pos 1)) (IntLiteral (pos 0))
 
 abbrev pub calc_own : List OwnEquation
 calc_own =
+    -- syn lazy Decl Block.local(String n) = (Decl) first (s : getStmtList()) { s.declares(n) };
     own 2 2 (CastTo 3 (First This 0 (call_with (Name 0) 3 (Name 1))))
+    -- syn boolean Stmt.declares(String n) = false;
     ∷ own 1 3 (TruthLiteral false)
+    -- eq Decl.declares(String n) = getID().equals(n);
     ∷ own 3 3 (Equals (TokenOf This 0) (Name 0))
+    -- syn lazy Decl Use.decl() = lookup(getID());
     ∷ own 6 4 (call_with This 0 (TokenOf This 0))
+    -- eq Num.value() = getValue();
     ∷ own 7 5 (TokenOf This 0)
+    -- eq Add.value() = getLeft().value() + getRight().value();
     ∷ own 8 5 (Arithmetic Plus (call (Child This 0) 5) (call (Child This 1) 5))
+    -- eq Use.value() = decl().value();
     ∷ own 6 5 (call (call This 4) 6)
+    -- syn lazy int Decl.value() = hasInit() ? getInit().value() : 0;
     ∷ own 3 6 (Choose (Has This 1) (call (Child This 1) 5) (IntLiteral (pos 0)))
+    -- syn boolean Add.same() = getLeft() == getRight();
     ∷ own 8 7 (Same (Child This 0) (Child This 1))
+    -- syn boolean Add.alike() { return getLeft() == getLeft(); }
     ∷ own 8 8 (Same (Child This 0) (Child This 0))
+    -- syn int Program.circ() = circ();
     ∷ own 0 9 (call This 9)
+    -- syn boolean Program.spin() = spin();
     ∷ own 0 10 (call This 10)
+    -- syn boolean Program.c1() = false && spin();
     ∷ own 0 11 (And (TruthLiteral false) (call This 10))
+    -- syn int Program.c2() = 1 / 0 + circ();
     ∷ own 0 12 (Arithmetic Plus one_by_zero (call This 9))
+    -- syn int Program.c3() = circ() + 1 / 0;
     ∷ own 0 13 (Arithmetic Plus (call This 9) one_by_zero)
+    -- syn int Program.big() = 2147483647 + 1;
     ∷ own 0 14 (Arithmetic Plus (IntLiteral (pos 2147483647)) (IntLiteral (pos 1)))
+    -- syn String Program.join() = "n" + 1 / 2 + -7;
     ∷ own 0 15 (JoinInt (JoinInt (TextLiteral (codes "n")) (Arithmetic Over (IntLiteral (pos 1)) (IntLiteral (pos 2)))) (IntLiteral (negsuc 6)))
     ∷ []
 
 abbrev pub calc_inherited : List InheritedEquation
 calc_inherited =
+    -- eq Block.getStmt(int i).lookup(String n) = local(n) != null ? local(n) : lookup(n);
     below 2 (codes "lookup") (Choose (Differ (call_with This 2 (Name 0)) NullLiteral) (call_with This 2 (Name 0)) (call_with This 1 (Name 0)))
+    -- eq Program.getBlock().lookup(String n) = null;
     ∷ below 0 (codes "lookup") NullLiteral
+    -- eq Block.getStmt(int i).pos() = i;
     ∷ below 2 (codes "pos") IndexName
+    -- eq Program.getBlock().pos() = -1;
     ∷ below 0 (codes "pos") (IntLiteral (negsuc 0))
     ∷ []
 

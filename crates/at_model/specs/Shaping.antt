@@ -32,7 +32,10 @@ abbrev mutual
 -- the tree of the class asked, or of one below it, that the term writes, where there is one
 abbrev mutual
   pub shaped : Classes → Term → ℕ → Option Tree
-  shaped classes (Node name cells) b = option_and_then (λ c. if fits classes c b then option_map (λ ds. tree.Node c ds) (cells_shaped classes cells (parts classes c)) else None) (class_of_name classes name)
+  shaped classes (Node name cells) b =
+      option_and_then (λ c.
+      if fits classes c b then option_map (λ ds. tree.Node c ds) (cells_shaped classes cells (parts classes c)) else None)
+      (class_of_name classes name)
 
   pub cells_shaped : Classes → Cells → List Component → Option tree.Cells
   cells_shaped classes no_cells [] = Some tree.no_cells

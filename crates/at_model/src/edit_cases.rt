@@ -1,12 +1,12 @@
 //! What each edit touches, and where the nodes go.
 
-ghost use Rattle.std.specs.Prelude.{◌≡◌, ◌∷◌, [], codes, false, None, pos, Some, true};
+ghost use Rattle.std.specs.Prelude.{◌≡◌, ◌∷◌, [], codes, Err, false, None, pos, Some, true};
 ghost use Rattle.std.specs.List.{list_all, list_any};
-ghost use Rattle.at_model.specs.Trees.{Text};
+ghost use Rattle.at_model.specs.Trees.{Int, Text};
 ghost use Rattle.at_model.specs.Run.{Idx, Is, Slot, Tok, Up};
-ghost use Rattle.at_model.specs.Edits.{Drop, Insert, Put, Set, Token, carried};
+ghost use Rattle.at_model.specs.Edits.{Component, Drop, Fit, Fixed, Index, Insert, Put, Set, Taken, Token, carried, edited};
 ghost use Rattle.at_model.specs.Touches.{touches};
-ghost use Rattle.at_model.specs.Samples.{block, calc_tree, init_of, num, print_sum, printed, right_of, root, statement};
+ghost use Rattle.at_model.specs.Samples.{bare_tree, block, calc_classes, calc_tree, init_of, num, print_sum, printed, right_of, root, statement};
 
 /// A subtree that is replaced is touched whole, with the slot around it; of the root all is.
 pub fn what_a_set_touches()
@@ -52,4 +52,16 @@ pub fn where_nodes_stay()
     ensures before { carried (Insert block 0 1 print_sum) (init_of 0) ≡ Some (init_of 0) }
     ensures behind { carried (Insert block 0 1 print_sum) (right_of 1) ≡ Some (right_of 2) }
     ensures token { carried (Token (statement 0) 0 (Text (codes "y"))) (statement 0) ≡ Some (statement 0) }
+{}
+
+/// What doesn't fit is refused by the edit itself, and so is each other reason.
+pub fn edits_that_are_refused()
+    ensures set { edited calc_classes calc_tree (Set block (num (pos 1))) ≡ Err Fit }
+    ensures put { edited calc_classes bare_tree (Put (statement 0) 1 print_sum) ≡ Err Fit }
+    ensures insert { edited calc_classes calc_tree (Insert block 0 0 (num (pos 1))) ≡ Err Fit }
+    ensures token { edited calc_classes calc_tree (Token (statement 0) 0 (Int (pos 5))) ≡ Err Fit }
+    ensures component { edited calc_classes calc_tree (Put (statement 1) 0 print_sum) ≡ Err Component }
+    ensures index { edited calc_classes calc_tree (Insert block 0 3 print_sum) ≡ Err Index }
+    ensures taken { edited calc_classes calc_tree (Put (statement 0) 1 (num (pos 7))) ≡ Err Taken }
+    ensures fixed { edited calc_classes calc_tree (Drop block) ≡ Err Fixed }
 {}

@@ -71,7 +71,7 @@ pub fn one_reply()
         → Handles rules (ByEquations rules) old bytes new reply → Handles rules (ByEquations rules) old bytes other told → (new ≡ other) × (reply ≡ told) }
 {}
 
-/// Where it is said which lines found no memory, all bytes have one output and leave one state.
+/// Where it is said which lines found no memory, bytes have at most one output and leave at most one state.
 pub fn one_output()
     ensures { (rules : Rules) (old : State) (bytes : List ℕ) (named : List Bool) (text told : List ℕ) (new other : State)
         → Outputs rules (ByEquations rules) old bytes named text new → Outputs rules (ByEquations rules) old bytes named told other → (text ≡ told) × (new ≡ other) }

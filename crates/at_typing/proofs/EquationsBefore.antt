@@ -87,7 +87,7 @@ shuffle false true true m = refl
 shuffle false true false m = refl
 shuffle false false l m = refl
 
-list_any-or : {A : Type 0} (p q : A → Bool) (xs : List A) → list_any (λ x. p x || q x) xs ≡ (list_any p xs || list_any q xs)
+pub list_any-or : {A : Type 0} (p q : A → Bool) (xs : List A) → list_any (λ x. p x || q x) xs ≡ (list_any p xs || list_any q xs)
 list_any-or p q [] = refl
 list_any-or p q (x ∷ xs) = ap (λ b. (p x || q x) || b) (list_any-or p q xs) ∙ shuffle (p x) (q x) (list_any p xs) (list_any q xs)
 
@@ -147,7 +147,7 @@ by_numbers d e alike =
     ∙ ap (λ b. (same_class d.class e.class && b) && ((is_own d && is_own e) || is_same_getter (getter_of d) (getter_of e))) (sym alike.name)
     ∙ spread (is_alike d e) (is_own d && is_own e) (is_same_getter (getter_of d) (getter_of e))
 
-list_any-where : {A : Type 0} (P : A → Type 0) (p q : A → Bool) (xs : List A) → All P xs → ((x : A) → P x → p x ≡ q x) → list_any p xs ≡ list_any q xs
+pub list_any-where : {A : Type 0} (P : A → Type 0) (p q : A → Bool) (xs : List A) → All P xs → ((x : A) → P x → p x ≡ q x) → list_any p xs ≡ list_any q xs
 list_any-where P p q [] all same = refl
 list_any-where P p q (x ∷ xs) all same = ap (λ b. b || list_any p xs) (same x (all 0 x (omega arith))) ∙ ap (λ b. q x || b) (list_any-where P p q xs (All-tail P x xs all) same)
 

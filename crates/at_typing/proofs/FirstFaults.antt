@@ -4,6 +4,7 @@ use Rattle.std.proofs.Math.Seq.{drop-cons}
 use Rattle.std.proofs.lemmas.List.{drop_all, take-map}
 use Rattle.std.specs.Prelude.{Bool, true, false, ◌||◌}
 use Rattle.std.specs.List.{list_any}
+use Rattle.std.specs.Option.{option_or}
 use Rattle.at_model.specs.Declarations.{first_given}
 use Rattle.at_typing.specs.declared.fault.RuleCode.{RuleCode}
 use Rattle.at_typing.specs.Located.{Located}
@@ -47,3 +48,10 @@ fault_nowhere b c d h = rw h refl
 -- a test of those before it
 pub any_before : {X A : Type 0} (p : A → Bool) (v : X → A) (xs : List X) (k : ℕ) (b : Bool) → list_any (λ x. p (v x)) (take k xs) ≡ b → list_any p (take k (map v xs)) ≡ b
 any_before p v xs k b h = ap (list_any p) (take-map v k xs) ∙ list_any-map p v (take k xs) ∙ h
+
+-- the first of two, where there is one
+pub or_here : {A : Type 0} (o p : Option A) (x : A) → o ≡ Some x → option_or o p ≡ Some x
+or_here o p x is = ap (λ q. option_or q p) is
+
+pub or_next : {A : Type 0} (o p : Option A) → o ≡ None → option_or o p ≡ p
+or_next o p is = ap (λ q. option_or q p) is

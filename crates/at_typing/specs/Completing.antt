@@ -1,10 +1,19 @@
 -- Rules in which a class lacks an equation: which codes tell of them, and where.
-use Rattle.std.specs.Prelude.{◌≡◌, ℕ, zero, suc, ◌<◌, Bool, true, false, ◌||◌, ◌&&◌, not, nat_eq, List, length, Option, None, Some, is_none, is_some, option_and_then, slice_get, if◌then◌else◌}
+use Rattle.std.specs.Prelude.{◌≡◌, ℕ, zero, suc, ◌<◌, Bool, true, false, ◌||◌, ◌&&◌, not, nat_eq, List, length, map, get_or, Option, None, Some, is_none, is_some, option_map, option_and_then, slice_get, if◌then◌else◌, All}
+use Rattle.std.specs.List.{AllZip}
 use Rattle.std.specs.Option.{option_eq}
-use Rattle.at_model.specs.Classes.{Classes, class_in, fits, is_concrete, is_sub, parent_of, parts}
-use Rattle.at_model.specs.Rules.{Rules, Attribute, Exposed, inherited_equation, own_equation, own_in}
+use Rattle.indexmap.specs.IndexMap.{get, IndexMap}
+use Rattle.at_model.specs.Classes.{Classes, class_in, class_of_name, fits, is_concrete, is_sub, parent_of, parts}
+use Rattle.at_model.specs.Rules.{Rules, Attribute, Exposed, attribute_name, inherited_equation, own_equation, own_in}
+use Rattle.at_typing.specs.Declaring.{attributes, class_text, fault_at, is_inherited, name_text}
 use Rattle.at_typing.specs.Hierarchies.{is_child}
+use Rattle.at_typing.specs.Located.{Located}
+use Rattle.at_typing.specs.Numbering.{numbered_view, known_class, AreNumbered}
 use Rattle.at_typing.specs.Walks.{has_met, MeetsFrom, Walked}
+use Rattle.at_typing.specs.declared.fault.Fault.{Fault}
+use Rattle.at_typing.specs.declared.fault.RuleCode.{RuleCode}
+use Rattle.at_typing.specs.declared.numbered.NamedClass.{NamedClass}
+use Rattle.at_typing.specs.declared.numbered.Numbered.{Numbered as NumberedValue}
 use Rattle.at_typing.specs.declared.walk.Walk.{Walk}
 
 -- a class that fits the one of that number has no equation for the attribute
@@ -32,6 +41,73 @@ IsFirst Lacks (Some k) = Lacks k × ((j : ℕ) → j < k → Lacks j → ⊥)
 abbrev pub Tells : Bool → Type 0 → Type 0
 Tells true P = P
 Tells false P = P → ⊥
+
+-- where the faults stand ----------------------------------------------------------------------------------------------
+
+-- the attribute of the rules is the one that is declared
+pub record IsDeclaredBy (classes : Classes) (d : Located) (a : Attribute) : Type 0 where
+  pub class : class_of_name classes (class_text d) ≡ Some a.class
+  pub name : name_text d ≡ a.name
+  pub is_inherited : is_inherited d.decl.form ≡ a.is_inherited
+
+-- the attributes of the rules are those that are declared, in order
+abbrev pub AreDeclared : Rules → List Located → Type 0
+AreDeclared rules ds = AllZip (IsDeclaredBy rules.classes) (attributes ds) rules.attributes
+
+-- at the declaration of the attribute of that number
+abbrev pub fault_of : RuleCode → List Located → Option ℕ → Option Fault
+fault_of c ds None = None
+fault_of c ds (Some a) = option_map (λ d. fault_at c d d.decl.at) (slice_get (attributes ds) a)
+
+-- the fault of the first attribute of which it is so
+abbrev pub IsFirstFault : RuleCode → (ℕ → Type 0) → List Located → Option Fault → Type 0
+IsFirstFault c Lacks ds f = (a : Option ℕ) × IsFirst Lacks a × (f ≡ fault_of c ds a)
+
+-- the answer is that fault, where the declarations have right numbers and the attributes are theirs
+abbrev pub TellsFirst : RuleCode → Rules → (ℕ → Type 0) → List NumberedValue → Option Fault → Type 0
+TellsFirst c rules Lacks ds f = AreNumbered rules.classes ds → AreDeclared rules (map numbered_view ds) → IsFirstFault c Lacks (map numbered_view ds) f
+
+-- the class is known, and one that fits it has no equation for the attribute
+abbrev pub LacksAt : Rules → (attribute : ℕ) → NamedClass → Type 0
+LacksAt rules attribute class = (c : ℕ) × (known_class class ≡ Some c) × LacksBelow rules c attribute
+
+-- a synthesized attribute is declared, and such a class lacks an equation
+abbrev pub LacksDeclared : Rules → (attribute : ℕ) → NumberedValue → Type 0
+LacksDeclared rules attribute d = (is_inherited (numbered_view d).decl.form ≡ false) × LacksAt rules attribute d.class
+
+-- an inherited attribute is declared, and a class that fits the one of the declaration is exposed
+abbrev pub ExposesDeclared : Rules → NumberedValue → Type 0
+ExposesDeclared rules d = (is_inherited (numbered_view d).decl.form ≡ true) × (c : ℕ) × (known_class d.class ≡ Some c) × IsExposedBelow rules (name_text (numbered_view d)) c
+
+-- the walk met the classes below which one is exposed for an inherited attribute of that name
+abbrev pub MeetsExposed : Rules → List ℕ → Walk → Type 0
+MeetsExposed rules name w = (b : ℕ) → Tells (has_met w.met.items b) (IsExposedBelow rules name b)
+
+-- so did each of these for the name of its number
+abbrev pub MeetExposed : {S : Type 0} → Rules → List NumberedValue → IndexMap ℕ Walk S → Type 0
+MeetExposed rules ds exposed = All (λ d. (w : Walk) → get nat_eq exposed d.name ≡ Some w → MeetsExposed rules (name_text (numbered_view d)) w) ds
+
+-- the declaration is one of these, whose numbers are right, and the attribute of that number has its name
+pub record IsNamedAmong (rules : Rules) (ds : List NumberedValue) (d : NumberedValue) (attribute : ℕ) : Type 0 where
+  pub place : ℕ
+  pub within : place < length ds
+  pub there : d ≡ get_or ds place d
+  pub numbered : AreNumbered rules.classes ds
+  pub name : attribute_name rules attribute ≡ name_text (numbered_view d)
+
+-- a walk for the declaration's name is noted
+abbrev pub NotesExposed : {S : Type 0} → Rules → (attribute : ℕ) → NumberedValue → (old new : IndexMap ℕ Walk S) → Type 0
+NotesExposed rules attribute d old new = (is_some (get nat_eq new d.name) ≡ true) × ((ds : List NumberedValue) → IsNamedAmong rules ds d attribute → MeetExposed rules ds old → MeetExposed rules ds new)
+
+-- the answer says whether a class is exposed, and what is noted is right as before
+abbrev pub TellsExposed : {S : Type 0} → Bool → Rules → (attribute : ℕ) → NumberedValue → (old new : IndexMap ℕ Walk S) → Type 0
+TellsExposed answer rules attribute d old new = (ds : List NumberedValue) → IsNamedAmong rules ds d attribute → MeetExposed rules ds old → MeetExposed rules ds new × Tells answer (ExposesDeclared rules d)
+
+-- the class is known and was met in the walk
+abbrev pub is_among : Option Walk → Option ℕ → Bool
+is_among None c = false
+is_among (Some w) None = false
+is_among (Some w) (Some c) = has_met w.met.items c
 
 -- how the classes are walked through ---------------------------------------------------------------------------------
 

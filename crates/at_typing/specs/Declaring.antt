@@ -1,6 +1,6 @@
 -- What declarations together must obey, and the fault of those that don't: the first one in file order that breaks a rule has its place.
 -- A class that isn't there counts as one of its own, without a superclass.
-use Rattle.std.specs.Prelude.{ℕ, Bool, true, false, ◌||◌, ◌&&◌, not, nat_lt, List, [], ◌∷◌, ◌++◌, length, map, take, filter, Option, Some, None, option_map, option_and_then, is_some, if◌then◌else◌}
+use Rattle.std.specs.Prelude.{ℕ, Bool, true, false, ◌||◌, ◌&&◌, not, nat_lt, List, [], ◌∷◌, ◌++◌, length, map, take, filter, Option, Some, None, option_map, option_and_then, position, is_some, if◌then◌else◌}
 use Rattle.std.specs.List.{list_any}
 use Rattle.std.specs.Option.{option_or}
 use Rattle.std.specs.Str.{bytes_eq}
@@ -239,6 +239,18 @@ declared_twice classes ds = first_given (twice_at classes ds) 0 ds
 -- the class of that word, or one above it, has a synthesized attribute of that name
 abbrev pub is_synthesized : Classes → List Located → List ℕ → List ℕ → Bool
 is_synthesized classes ds class name = list_any (λ d. (is_attribute d.decl.form && not (is_inherited d.decl.form)) && (bytes_eq name (name_text d) && is_below classes class (class_text d))) ds
+
+-- what declares an attribute: a synthesized one of that name, of the class of that word or of one above it
+abbrev pub is_synthesized_by : Classes → (class name : List ℕ) → Located → Bool
+is_synthesized_by classes class name d = not (is_inherited d.decl.form) && (bytes_eq name (name_text d) && is_below classes class (class_text d))
+
+-- the synthesized attribute of that name that the class of the word or one above it has
+abbrev pub synthesized_named : Classes → List Located → (class name : List ℕ) → Option ℕ
+synthesized_named classes ds class name = position (is_synthesized_by classes class name) (attributes ds)
+
+-- the first inherited attribute of that name
+abbrev pub inherited_named : List Located → List ℕ → Option ℕ
+inherited_named ds name = position (λ d. is_inherited d.decl.form && bytes_eq name (name_text d)) (attributes ds)
 
 -- an attribute of that name is inherited somewhere
 abbrev pub is_inherited_name : List Located → List ℕ → Bool

@@ -8,9 +8,13 @@ pub mod Declaring
 pub mod Bound
 pub mod Numbering
 pub mod EquationKeys
+pub mod AttributeKeys
 pub mod AccessorNames
 pub mod Twice
 pub mod Ruling
+pub mod Meanings
+pub mod Building
+pub mod Seen
 pub mod Walks
 pub mod Hierarchies
 pub mod Completing

@@ -1,5 +1,5 @@
 -- The declarations with numbers for their classes and their attributes' names: what the numbers say of the words.
-use Rattle.std.specs.Prelude.{◌≡◌, ℕ, Bool, false, ◌||◌, ◌&&◌, nat_eq, List, All, Option, Some, None, option_map, option_and_then, position, String, string_bytes}
+use Rattle.std.specs.Prelude.{◌≡◌, ℕ, zero, suc, Bool, false, ◌||◌, ◌&&◌, nat_eq, List, [], ◌∷◌, length, All, Option, Some, None, option_map, option_and_then, position, String, string_bytes}
 use Rattle.std.specs.Option.{option_or}
 use Rattle.std.specs.Str.{bytes_eq}
 use Rattle.at_model.specs.Classes.{Classes, class_of_name, parent_of}
@@ -32,6 +32,16 @@ known_class (named.Unknown u) = None
 abbrev pub parent_class : Classes → NamedClass → Option NamedClass
 parent_class classes (named.Known c) = option_map named.Known (parent_of classes c)
 parent_class classes (named.Unknown u) = None
+
+-- the class, its superclass and so on, at most this many
+abbrev pub line_within : ℕ → Classes → Option NamedClass → List NamedClass
+line_within zero classes c = []
+line_within (suc n) classes None = []
+line_within (suc n) classes (Some c) = c ∷ line_within n classes (parent_class classes c)
+
+-- the class and all those above it
+abbrev pub line : Classes → NamedClass → List NamedClass
+line classes c = line_within (length classes) classes (Some c)
 
 -- the first class is the second one, or below it
 abbrev pub is_class_below : Classes → NamedClass → NamedClass → Bool

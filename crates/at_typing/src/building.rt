@@ -1,7 +1,16 @@
 //! Rules of declarations.
 
-ghost use Rattle.std.specs.Prelude.{◌≡◌, IfOk};
-ghost use Rattle.at_typing.specs.Numbering.{AreNumbered};
+ghost use Rattle.std.specs.Prelude.{◌≡◌, List, [], None, map, IfOk};
+ghost use Rattle.at_model.specs.Rules.{AreComplete};
+ghost use Rattle.at_typing.specs.AttributeKeys.{AreAttributes};
+ghost use Rattle.at_typing.specs.Building.{first_fault, refused, Builds, IsLack};
+ghost use Rattle.at_typing.specs.Completing.{AreDeclared};
+ghost use Rattle.at_typing.specs.Declaring.{fault_together};
+ghost use Rattle.at_typing.specs.Located.{declarations_in};
+ghost use Rattle.at_typing.specs.Meanings.{meant as meant_by_itself};
+ghost use Rattle.at_typing.specs.Numbering.{numbered_view, AreNumbered};
+ghost use Rattle.at_typing.specs.Seen.{refusal_of, AddsOrTells, IsAbout, Means, Tells};
+ghost use Rattle.at_typing.specs.declared.numbered.Numbered.{Numbered as NumberedValue};
 
 use crate::attributes::Attributes;
 use crate::checks::{class_without_equation, fault_together, inherited_without_equation};
@@ -14,6 +23,7 @@ use crate::written::signatures_of;
 use at_class::ClassTable;
 use at_jrag::Aspect;
 use at_rules::{Equations, Rules};
+use indexmap::IndexMap;
 use std::alloc::Global;
 
 /// The rules of the declarations of the aspect files over the classes.
@@ -25,6 +35,8 @@ use std::alloc::Global;
 /// an equation twice; then in the order of the declarations unknown names, wrong arguments and wrong kinds; a
 /// class without equation for a synthesized attribute, and for an inherited one. `Memory` for want of memory.
 pub fn build(alloc: Global, classes: ClassTable, files: &[Vec<Aspect>]) -> Result<Rules, RuleFault>
+    ensures built { Builds classes (declarations_in files.now) result }
+    ensures complete { IfOk result AreComplete }
     ensures classes { IfOk result (λ r. r.classes ≡ classes) }
 {
     let Declarations { items, names } = Declarations::of(alloc, &classes, files)?;
@@ -41,20 +53,31 @@ fn meant_together(
     declared: &[Numbered],
 ) -> Result<Equations, RuleFault>
     requires { AreNumbered classes.now declared.now }
+    ensures { Means classes.now declared.now (first_fault classes.now (map numbered_view declared.now)) result }
 {
     let attributes = Attributes::of(alloc, declared)?;
-    refuse(fault_together(alloc, classes, &attributes, declared)?)?;
-    meant_by(alloc, classes, &attributes, declared)
+    let fault = fault_together(alloc, classes, &attributes, declared)?;
+    match fault {
+        Some(fault) => Err(RuleFault::Refused(fault)),
+        None => meant_by(alloc, classes, &attributes, declared),
+    }
 }
 
 /// Refuses rules with a class that lacks an equation, for a synthesized attribute before an inherited one.
-fn refuse_incomplete(alloc: Global, rules: &Rules, declared: &[Numbered]) -> Result<(), RuleFault> {
+fn refuse_incomplete(alloc: Global, rules: &Rules, declared: &[Numbered]) -> Result<(), RuleFault>
+    requires { AreNumbered rules.now.classes declared.now × AreDeclared rules.now (map numbered_view declared.now) }
+    ensures { Tells (IsLack rules.now (map numbered_view declared.now)) result }
+{
     let hierarchy = Hierarchy::of(alloc, rules.classes())?;
-    refuse(class_without_equation(alloc, rules, &hierarchy, declared)?)?;
-    refuse(inherited_without_equation(alloc, rules, &hierarchy, declared)?)
+    let own = class_without_equation(alloc, rules, &hierarchy, declared)?;
+    refuse(own)?;
+    let inherited = inherited_without_equation(alloc, rules, &hierarchy, declared)?;
+    refuse(inherited)
 }
 
-fn refuse(fault: Option<Fault>) -> Result<(), RuleFault> {
+fn refuse(fault: Option<Fault>) -> Result<(), RuleFault>
+    ensures { Tells (λ f. f ≡ fault) result }
+{
     match fault {
         Some(fault) => Err(RuleFault::Refused(fault)),
         None => Ok(()),
@@ -67,7 +90,10 @@ fn meant_by(
     classes: &ClassTable,
     attributes: &Attributes,
     declared: &[Numbered],
-) -> Result<Equations, RuleFault> {
+) -> Result<Equations, RuleFault>
+    requires { AreNumbered classes.now declared.now × AreAttributes declared.now attributes.now × (fault_together classes.now (map numbered_view declared.now) ≡ None) }
+    ensures { Means classes.now declared.now (refused classes.now (map numbered_view declared.now)) result }
+{
     let signatures = signatures_of(alloc, classes, declared)?;
     let among = Among {
         alloc,
@@ -75,17 +101,37 @@ fn meant_by(
         attributes,
         signatures: &signatures,
     };
-    let mut meant = Equations::new(alloc);
+    let mut meant = no_equations(alloc);
     for numbered in declared {
-        among
-            .add(numbered, &mut meant)
-            .map_err(|fault| refusal(numbered, fault))?;
+        add(&among, numbered, &mut meant)?;
     }
     Ok(meant)
 }
 
+fn no_equations(alloc: Global) -> Equations
+    ensures { (result.attributes.entries ≡ []) × (result.own.entries ≡ []) × (result.inherited.entries ≡ []) }
+{
+    Equations {
+        attributes: IndexMap::new(alloc),
+        own: IndexMap::new(alloc),
+        inherited: IndexMap::new(alloc),
+    }
+}
+
+/// Adds what the declaration means.
+fn add(among: &Among, numbered: &Numbered, meant: &mut Equations) -> Result<(), RuleFault>
+    ensures { (ds : List NumberedValue) → IsAbout ds among.now numbered.now → AddsOrTells (numbered_view numbered.now) numbered.now.name (meant_by_itself among.now.classes.now (map numbered_view ds) (numbered_view numbered.now)) meant.old meant.new result }
+{
+    match among.add(numbered, meant) {
+        Ok(()) => Ok(()),
+        Err(fault) => Err(refusal(numbered, fault)),
+    }
+}
+
 /// The declaration's fault, with its file.
-fn refusal(numbered: &Numbered, fault: TypeFault) -> RuleFault {
+fn refusal(numbered: &Numbered, fault: TypeFault) -> RuleFault
+    ensures { result ≡ refusal_of (numbered_view numbered.now) fault }
+{
     match fault {
         TypeFault::Refused { code, at } => RuleFault::Refused(Fault {
             code,

@@ -1,7 +1,8 @@
 //! What is wrong with declarations taken together.
 
-ghost use Rattle.std.specs.Prelude.{◌≡◌};
-ghost use Rattle.at_typing.specs.Declaring.{fault_at};
+ghost use Rattle.std.specs.Prelude.{◌≡◌, map, IfOk};
+ghost use Rattle.at_typing.specs.AttributeKeys.{AreAttributes};
+ghost use Rattle.at_typing.specs.Declaring.{fault_at, fault_together};
 ghost use Rattle.at_typing.specs.Numbering.{numbered_view, AreNumbered};
 
 mod accessor_names;
@@ -32,7 +33,8 @@ pub fn fault_together(
     attributes: &Attributes,
     declared: &[Numbered],
 ) -> Result<Option<Fault>, AllocError>
-    requires { AreNumbered classes.now declared.now }
+    requires { AreNumbered classes.now declared.now × AreAttributes declared.now attributes.now }
+    ensures { IfOk result (λ fault. fault ≡ fault_together classes.now (map numbered_view declared.now)) }
 {
     if let Some(fault) = over_limit(declared) {
         return Ok(Some(fault));

@@ -7,6 +7,7 @@ mod attributes;
 mod building;
 mod checks;
 mod fault;
+mod firsts;
 mod hierarchy;
 mod located;
 mod meaning;

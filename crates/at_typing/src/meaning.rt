@@ -1,14 +1,21 @@
 //! What each declaration means by itself: the attribute and the equation that it adds, or its first fault.
 
-ghost use Rattle.std.specs.Prelude.{◌≡◌, Some, map, option_map, option_and_then, IfOk};
+ghost use Rattle.std.specs.Prelude.{◌≡◌, List, Some, map, option_map, option_and_then, IfOk};
 ghost use Rattle.at_class.specs.View.{shape_view};
-ghost use Rattle.at_jrag.specs.View.{kind_word_view, param_view, params_view, word_view};
+ghost use Rattle.at_jrag.specs.View.{body_view as written_body, decl_form_view, kind_word_view, param_view, params_view, word_view};
 ghost use Rattle.at_model.specs.Classes.{parts};
+ghost use Rattle.at_rules.specs.Bodies.{body_view};
 ghost use Rattle.at_typing.specs.Accessors.{shape_of};
+ghost use Rattle.at_typing.specs.Declaring.{class_text, name_text, synthesized_named, inherited_named};
+ghost use Rattle.at_typing.specs.Judging.{and_then};
+ghost use Rattle.at_typing.specs.Meanings.{body_if, body_meant, attribute_meant, declared_alone, synthesized_meant, equation_meant, equation_below_meant, form_meant, meant as meant_by_itself};
 ghost use Rattle.at_typing.specs.Numbering.{numbered_view};
 ghost use Rattle.at_typing.specs.Ruling.{class_named, kind_named, param_named, params_named, can_be_passed, passed_if, is_kind, is_same, param_as_declared, as_declared, is_component, component_at, component_got, is_many, index_of_list, bound};
+ghost use Rattle.at_typing.specs.Seen.{attribute_of, equation_view, Declares, AddsOwn, AddsInherited, Adds, IsAbout};
+ghost use Rattle.at_typing.specs.Signatures.{declared_view};
 ghost use Rattle.at_typing.specs.Typed.{bound_view, Judges};
 ghost use Rattle.at_typing.specs.declared.fault.RuleCode.TheVariants as code;
+ghost use Rattle.at_typing.specs.declared.numbered.Numbered.{Numbered as NumberedValue};
 ghost use Rattle.at_typing.specs.declared.typing.TypeFault.TheVariants.{Refused};
 ghost use Rattle.at_rules.specs.declared.body.Kind.TheVariants as kinds;
 
@@ -45,28 +52,26 @@ impl Among<'_> {
     ///
     /// `Refused` for its first fault: of its classes, then of its component and index name, of its
     /// parameters, of its body. `Memory` for want of memory.
-    pub fn add(&self, numbered: &Numbered, meant: &mut Equations) -> Result<(), TypeFault> {
-        match &numbered.decl.form {
-            DeclForm::Synthesized { kind, .. } => {
-                let class = self.declare(numbered, kind, meant)?;
-                match body_in(&numbered.decl.form) {
-                    Some(body) => self.add_own(
-                        class,
-                        self.synthesized(numbered),
-                        numbered,
-                        body,
-                        meant,
-                    ),
-                    None => Ok(()),
-                }
-            }
-            DeclForm::Inherited { kind, .. } => {
-                self.declare(numbered, kind, meant)?;
-                Ok(())
-            }
+    pub fn add(&self, numbered: &Numbered, meant: &mut Equations) -> Result<(), TypeFault>
+        ensures { (ds : List NumberedValue) → IsAbout ds self.now numbered.now → Adds (numbered_view numbered.now) numbered.now.name (meant_by_itself self.now.classes.now (map numbered_view ds) (numbered_view numbered.now)) meant.old meant.new result }
+    {
+        self.add_form(&numbered.decl.form, numbered, meant)
+    }
+
+    /// Adds what the declaration of that form means.
+    fn add_form(
+        &self,
+        form: &DeclForm,
+        numbered: &Numbered,
+        meant: &mut Equations,
+    ) -> Result<(), TypeFault>
+        ensures { (ds : List NumberedValue) → IsAbout ds self.now numbered.now → Adds (numbered_view numbered.now) numbered.now.name (form_meant self.now.classes.now (map numbered_view ds) (numbered_view numbered.now) (decl_form_view form.now)) meant.old meant.new result }
+    {
+        match form {
+            DeclForm::Synthesized { kind, .. } => self.add_synthesized(numbered, kind, meant),
+            DeclForm::Inherited { kind, .. } => self.add_alone(numbered, kind, meant),
             DeclForm::Equation { class, body, .. } => {
-                let class = self.class_named(class)?;
-                self.add_own(class, self.synthesized(numbered), numbered, body, meant)
+                self.add_equation(numbered, class, body, meant)
             }
             DeclForm::InheritedEquation {
                 class,
@@ -74,20 +79,84 @@ impl Among<'_> {
                 index,
                 body,
                 ..
-            } => {
-                let class = self.class_named(class)?;
-                let part = self.component_got(class, getter)?;
-                self.index_of_list(class, part, index.as_ref())?;
-                let attribute = self.attributes.inherited(numbered.name);
-                self.add_inherited(class, part, attribute, numbered, body, meant)
-            }
+            } => self.add_equation_below(numbered, class, getter, index.as_ref(), body, meant),
         }
     }
 
+    /// Adds the synthesized attribute that is declared, and its equation, if it has a body.
+    fn add_synthesized(
+        &self,
+        numbered: &Numbered,
+        kind: &KindWord,
+        meant: &mut Equations,
+    ) -> Result<(), TypeFault>
+        ensures { (ds : List NumberedValue) → IsAbout ds self.now numbered.now → Adds (numbered_view numbered.now) numbered.now.name (synthesized_meant self.now.classes.now (map numbered_view ds) (numbered_view numbered.now) (kind_word_view kind.now)) meant.old meant.new result }
+    {
+        let class = self.declare(numbered, kind, meant)?;
+        match body_in(&numbered.decl.form) {
+            Some(body) => self.add_own(class, self.synthesized(numbered), numbered, body, meant),
+            None => Ok(()),
+        }
+    }
+
+    /// Adds the attribute that is declared, without an equation.
+    fn add_alone(
+        &self,
+        numbered: &Numbered,
+        kind: &KindWord,
+        meant: &mut Equations,
+    ) -> Result<(), TypeFault>
+        ensures { Adds (numbered_view numbered.now) numbered.now.name (and_then declared_alone (attribute_meant self.now.classes.now (numbered_view numbered.now) (kind_word_view kind.now))) meant.old meant.new result }
+    {
+        self.declare(numbered, kind, meant)?;
+        Ok(())
+    }
+
+    /// Adds the equation of the class for its own nodes.
+    fn add_equation(
+        &self,
+        numbered: &Numbered,
+        class: &Word,
+        body: &Written,
+        meant: &mut Equations,
+    ) -> Result<(), TypeFault>
+        ensures { (ds : List NumberedValue) → IsAbout ds self.now numbered.now → Adds (numbered_view numbered.now) numbered.now.name (equation_meant self.now.classes.now (map numbered_view ds) (numbered_view numbered.now) (word_view class.now) (written_body body.now)) meant.old meant.new result }
+    {
+        let class = self.class_named(class)?;
+        self.add_own(class, self.synthesized(numbered), numbered, body, meant)
+    }
+
+    /// Adds the equation of the class for the nodes in the component that the getter gets, or in each one.
+    fn add_equation_below(
+        &self,
+        numbered: &Numbered,
+        class: &Word,
+        getter: &Word,
+        index: Option<&Word>,
+        body: &Written,
+        meant: &mut Equations,
+    ) -> Result<(), TypeFault>
+        ensures { (ds : List NumberedValue) → IsAbout ds self.now numbered.now → Adds (numbered_view numbered.now) numbered.now.name (equation_below_meant self.now.classes.now (map numbered_view ds) (numbered_view numbered.now) (word_view class.now) (word_view getter.now) (option_map (λ w. word_view w.now) index.entry) (written_body body.now)) meant.old meant.new result }
+    {
+        let class = self.class_named(class)?;
+        let part = self.component_got(class, getter)?;
+        self.index_of_list(class, part, index)?;
+        self.add_inherited(class, part, self.inherited(numbered), numbered, body, meant)
+    }
+
     /// The synthesized attribute of that name that the declaration's class or one above it declares.
-    fn synthesized(&self, numbered: &Numbered) -> Option<AttrId> {
+    fn synthesized(&self, numbered: &Numbered) -> Option<AttrId>
+        ensures { (ds : List NumberedValue) → IsAbout ds self.now numbered.now → result ≡ synthesized_named self.now.classes.now (map numbered_view ds) (class_text (numbered_view numbered.now)) (name_text (numbered_view numbered.now)) }
+    {
         self.attributes
             .synthesized(self.classes, numbered.class, numbered.name)
+    }
+
+    /// The first inherited attribute of that name.
+    fn inherited(&self, numbered: &Numbered) -> Option<AttrId>
+        ensures { (ds : List NumberedValue) → IsAbout ds self.now numbered.now → result ≡ inherited_named (map numbered_view ds) (name_text (numbered_view numbered.now)) }
+    {
+        self.attributes.inherited(numbered.name)
     }
 
     /// Adds the attribute that is declared, whose values are of that kind, and returns its class.
@@ -97,6 +166,7 @@ impl Among<'_> {
         kind: &KindWord,
         meant: &mut Equations,
     ) -> Result<ClassId, TypeFault>
+        ensures declared { Declares (numbered_view numbered.now) numbered.now.name (attribute_meant self.now.classes.now (numbered_view numbered.now) (kind_word_view kind.now)) meant.old.attributes.entries meant.new.attributes.entries result }
         ensures own { meant.new.own ≡ meant.old.own }
         ensures inherited { meant.new.inherited ≡ meant.old.inherited }
     {
@@ -116,6 +186,7 @@ impl Among<'_> {
         body: &Written,
         meant: &mut Equations,
     ) -> Result<(), TypeFault>
+        ensures added { AddsOwn class (body_meant self.now.classes.now self.now.signatures.now class (numbered_view numbered.now) (written_body body.now) attribute) meant.old.own.entries meant.new.own.entries result }
         ensures attributes { meant.new.attributes ≡ meant.old.attributes }
         ensures inherited { meant.new.inherited ≡ meant.old.inherited }
     {
@@ -134,6 +205,7 @@ impl Among<'_> {
         body: &Written,
         meant: &mut Equations,
     ) -> Result<(), TypeFault>
+        ensures added { AddsInherited class part numbered.now.name (body_meant self.now.classes.now self.now.signatures.now class (numbered_view numbered.now) (written_body body.now) attribute) meant.old.inherited.entries meant.new.inherited.entries result }
         ensures attributes { meant.new.attributes ≡ meant.old.attributes }
         ensures own { meant.new.own ≡ meant.old.own }
     {
@@ -149,7 +221,9 @@ impl Among<'_> {
         &self,
         numbered: &Numbered,
         kind: &KindWord,
-    ) -> Result<(ClassId, Attribute), TypeFault> {
+    ) -> Result<(ClassId, Attribute), TypeFault>
+        ensures { Judges (attribute_of (numbered_view numbered.now)) (attribute_meant self.now.classes.now (numbered_view numbered.now) (kind_word_view kind.now)) result }
+    {
         let form = &numbered.decl.form;
         let result = self.kind_named(kind)?;
         let class = self.class_named(class_word(form))?;
@@ -170,7 +244,9 @@ impl Among<'_> {
         attribute: Option<AttrId>,
         numbered: &Numbered,
         body: &Written,
-    ) -> Result<(AttrId, Body), TypeFault> {
+    ) -> Result<(AttrId, Body), TypeFault>
+        ensures { Judges equation_view (body_meant self.now.classes.now self.now.signatures.now class (numbered_view numbered.now) (written_body body.now) attribute) result }
+    {
         let Some(attribute) = attribute else {
             return Err(undeclared(numbered));
         };
@@ -186,7 +262,9 @@ impl Among<'_> {
         signature: Option<&Signature>,
         numbered: &Numbered,
         body: &Written,
-    ) -> Result<Body, TypeFault> {
+    ) -> Result<Body, TypeFault>
+        ensures { Judges body_view (body_if self.now.classes.now self.now.signatures.now class (numbered_view numbered.now) (written_body body.now) (option_map (λ s. declared_view s.now) signature.entry)) result }
+    {
         let Some(signature) = signature else {
             return Err(undeclared(numbered));
         };
@@ -206,7 +284,9 @@ impl Among<'_> {
     }
 
     /// The names of the parameters, with their kinds.
-    fn names(&self, params: &[Param]) -> Result<Vec<Bound>, AllocError> {
+    fn names(&self, params: &[Param]) -> Result<Vec<Bound>, AllocError>
+        ensures { IfOk result (λ names. map bound_view names.items ≡ map (bound self.now.classes.now) (map param_view params.now)) }
+    {
         let mut names = Vec::new(self.alloc);
         for param in params {
             names.push(self.bound(param)?)?;

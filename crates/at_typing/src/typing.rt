@@ -1,7 +1,12 @@
 //! The kinds of expressions: the body that an expression means, or its first fault. Parts come before the
 //! whole, from left to right.
 
-ghost use Rattle.std.specs.Prelude.{◌≡◌};
+ghost use Rattle.std.specs.Prelude.{◌≡◌, map};
+ghost use Rattle.at_jrag.specs.Syntax.{to_exprs};
+ghost use Rattle.at_jrag.specs.View.{expr_view, fold_view, word_view};
+ghost use Rattle.at_rules.specs.Bodies.{body_view};
+ghost use Rattle.at_typing.specs.Judging.{Judgement, Listed, and_then, judged, judged_all, judged_list, list_or, folded as folded_by, within as within_of, body_of as body_meant};
+ghost use Rattle.at_typing.specs.Typed.{typed_view, all_view, list_view, scope_view, Judges};
 ghost use Rattle.at_typing.specs.declared.typing.TypeFault.TheVariants.{Memory};
 
 mod calls;
@@ -79,7 +84,9 @@ pub struct Scope<'a> {
 ///
 /// `Refused` for its first fault: a name that isn't there, a wrong argument, a wrong kind, or a whole
 /// that doesn't fit the wanted kind. `Memory` for want of memory.
-pub fn body_of(scope: &Scope, expr: &Expr, wanted: WrittenKind) -> Result<Body, TypeFault> {
+pub fn body_of(scope: &Scope, expr: &Expr, wanted: WrittenKind) -> Result<Body, TypeFault>
+    ensures { Judges body_view (body_meant (scope_view scope.now) (expr_view expr.now) wanted) result }
+{
     let typed = scope.typed(expr)?;
     if typed.kind.fits(scope.classes, wanted) {
         Ok(typed.body)
@@ -91,7 +98,9 @@ pub fn body_of(scope: &Scope, expr: &Expr, wanted: WrittenKind) -> Result<Body, 
 impl Scope<'_> {
     /// The expression with its kind.
     #[cycle(typed)]
-    fn typed(&self, expr: &Expr) -> Result<Typed, TypeFault> {
+    fn typed(&self, expr: &Expr) -> Result<Typed, TypeFault>
+        ensures { Judges typed_view (judged (scope_view self.now) (expr_view expr.now)) result }
+    {
         let at = expr.at;
         match &expr.form {
             Form::Number(value) => Ok(Typed::int(Body::Int(*value), at)),
@@ -134,10 +143,13 @@ impl Scope<'_> {
 
     /// The expressions with their kinds, from left to right.
     #[cycle(typed)]
-    fn typed_all(&self, exprs: &[Expr]) -> Result<Vec<Typed>, TypeFault> {
+    fn typed_all(&self, exprs: &[Expr]) -> Result<Vec<Typed>, TypeFault>
+        ensures { Judges all_view (judged_all (scope_view self.now) (to_exprs (map expr_view exprs.now))) result }
+    {
         let mut all = Vec::new(self.alloc);
         for expr in exprs {
-            all.push(self.typed(expr)?)?;
+            let typed = self.typed(expr)?;
+            all.push(typed)?;
         }
         Ok(all)
     }
@@ -151,7 +163,9 @@ impl Scope<'_> {
         form: FoldForm,
         name: &Word,
         at: (u32, u32),
-    ) -> Result<Typed, TypeFault> {
+    ) -> Result<Typed, TypeFault>
+        ensures { (l : Judgement Listed) → Judges list_view l list → Judges typed_view (and_then (λ l. and_then (folded_by at (fold_view form) l) (judged (within_of (scope_view self.now) (word_view name.now).text l.class) (expr_view body.now))) l) result }
+    {
         let list = list?;
         let names = within(self.alloc, name.text.as_str(), list.class, self.names)?;
         let scope = Scope {
@@ -168,7 +182,9 @@ impl Scope<'_> {
 
     /// The list of the fold that stands at that place.
     #[cycle(typed)]
-    fn list(&self, list: &Expr, fold: (u32, u32)) -> Result<List, TypeFault> {
+    fn list(&self, list: &Expr, fold: (u32, u32)) -> Result<List, TypeFault>
+        ensures { Judges list_view (list_or fold (judged (scope_view self.now) (expr_view list.now)) (judged_list (scope_view self.now) fold (expr_view list.now))) result }
+    {
         match &list.form {
             Form::Call(name, arguments) => {
                 let arguments = self.typed_all(arguments);

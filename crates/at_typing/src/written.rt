@@ -1,9 +1,12 @@
 //! What is written of attributes.
 
-ghost use Rattle.std.specs.Prelude.{◌≡◌};
-ghost use Rattle.at_jrag.specs.View.{kind_view as kind_form_view};
-ghost use Rattle.at_typing.specs.Numbering.{known_class as known_class_of};
-ghost use Rattle.at_typing.specs.Ruling.{known_kind, as_written};
+ghost use Rattle.std.specs.Prelude.{◌≡◌, ◌++◌, All, map, IfOk, OnOk};
+ghost use Rattle.at_jrag.specs.View.{kind_view as kind_form_view, kind_word_view, param_view};
+ghost use Rattle.at_typing.specs.Numbering.{IsOfItsClass, known_class as known_class_of, numbered_view};
+ghost use Rattle.at_typing.specs.Declaring.{result_in};
+ghost use Rattle.at_typing.specs.Meanings.{signature, signature_if, signatures};
+ghost use Rattle.at_typing.specs.Ruling.{known_kind, as_written, written_kind};
+ghost use Rattle.at_typing.specs.Signatures.{declared_view};
 
 use crate::located::{is_inherited, is_lazy, name_word, params_in, result_in};
 use crate::numbered::{NamedClass, Numbered};
@@ -18,14 +21,31 @@ pub fn signatures_of(
     alloc: Global,
     classes: &ClassTable,
     declared: &[Numbered],
-) -> Result<Signatures, AllocError> {
+) -> Result<Signatures, AllocError>
+    requires { All (IsOfItsClass classes.now) declared.now }
+    ensures { IfOk result (λ s. s ≡ signatures classes.now (map numbered_view declared.now)) }
+{
     let mut signatures = Signatures::new(alloc);
     for numbered in declared {
-        if let Some(kind) = result_in(&numbered.decl.form) {
-            signatures.push(signature_of(alloc, classes, numbered, kind)?)?;
-        }
+        append_signature(alloc, classes, numbered, &mut signatures)?;
     }
     Ok(signatures)
+}
+
+/// Appends what is declared of the attribute, if the declaration declares one.
+fn append_signature(
+    alloc: Global,
+    classes: &ClassTable,
+    numbered: &Numbered,
+    signatures: &mut Signatures,
+) -> Result<(), AllocError>
+    requires { IsOfItsClass classes.now numbered.now }
+    ensures { OnOk result (signatures.new ≡ signatures.old ++ signature_if classes.now (numbered_view numbered.now) (result_in (numbered_view numbered.now).decl.form)) }
+{
+    let Some(kind) = result_in(&numbered.decl.form) else {
+        return Ok(());
+    };
+    signatures.push(signature_of(alloc, classes, numbered, kind)?)
 }
 
 /// What is declared of the attribute, whose kind is written so.
@@ -34,7 +54,10 @@ fn signature_of(
     classes: &ClassTable,
     numbered: &Numbered,
     kind: &KindWord,
-) -> Result<Signature, AllocError> {
+) -> Result<Signature, AllocError>
+    requires { IsOfItsClass classes.now numbered.now }
+    ensures { IfOk result (λ s. declared_view s ≡ signature classes.now (numbered_view numbered.now) (kind_word_view kind.now)) }
+{
     let form = &numbered.decl.form;
     Ok(Signature {
         name: String::from_str(alloc, name_word(form).text.as_str())?,
@@ -59,7 +82,9 @@ fn kinds_of(
     alloc: Global,
     classes: &ClassTable,
     params: &[Param],
-) -> Result<Vec<WrittenKind>, AllocError> {
+) -> Result<Vec<WrittenKind>, AllocError>
+    ensures { IfOk result (λ kinds. kinds.items ≡ map (λ p. written_kind classes.now p.kind) (map param_view params.now)) }
+{
     let mut kinds = Vec::new(alloc);
     for param in params {
         let kind: Option<Kind> = known_kind(classes, &param.kind.kind);

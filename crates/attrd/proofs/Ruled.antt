@@ -6,6 +6,8 @@ use Rattle.std.specs.Result.{IfOk, IfErr}
 use Rattle.at_model.specs.Classes.{Classes}
 use Rattle.at_model.specs.Rules.{Rules}
 use Rattle.at_jrag.specs.Syntax.{Aspect}
+use Rattle.at_typing.specs.Building.{Builds}
+use Rattle.at_typing.specs.Located.{declarations_in, located}
 use Rattle.at_jrag.specs.View.{aspect_view}
 use Rattle.at_jrag.specs.declared.syntax.Aspect.{Aspect as AspectValue}
 use Rattle.attrd.specs.AspectFiles.{GivesRules, Holds, AllHold, IsReadingFaultOf, IsUnread, IsAspectFault, IsRuleFault, rule_code, no_file, breaks}
@@ -63,21 +65,21 @@ unread_refuses classes files (Refused file c (Some at)) h = no_file file c at h
 unread_refuses classes files (Refused file c None) h = h
 unread_refuses classes files Memory h = h
 
--- the rules over the classes are those of files that were read
+-- the rules are those of files that were read
 pub given_by : (classes : Classes) (files : List (List ℕ)) (read : List (Vec AspectValue Global)) (result : Result Rules StartFault) → AllHold files (map aspects_of read)
-    → IfOk result (λ r. r.classes ≡ classes) → IfOk result (λ r. GivesRules classes files r)
-given_by classes files read (Ok r) h same = record { aspects = map aspects_of read; hold = h; built = same }
-given_by classes files read (Err e) h same = same
+    → IfOk result (λ r. Builds classes (declarations_in read) (Ok r)) → IfOk result (λ r. GivesRules classes files r)
+given_by classes files read (Ok r) h built = record { aspects = map aspects_of read; hold = h; built = built }
+given_by classes files read (Err e) h built = built
 
-rule_refuses : (classes : Classes) (files : List (List ℕ)) (aspects : List (List Aspect)) (e : StartFault) → AllHold files aspects → IsRuleFault e → IsAspectFault classes files e
-rule_refuses classes files aspects (Refused n c at) h (f, of_number, of_code, of_place) =
-    let placed = subst (λ (o : Option (ℕ × ℕ)). IsAspectFault classes files (Refused f.file (rule_code f.code) o)) (sym of_place) (breaks aspects f h) in
+rule_refuses : (classes : Classes) (files : List (List ℕ)) (aspects : List (List Aspect)) (e : StartFault) → AllHold files aspects → IsRuleFault classes (located 1 aspects) e → IsAspectFault classes files e
+rule_refuses classes files aspects (Refused n c at) h (f, first, of_number, of_code, of_place) =
+    let placed = subst (λ (o : Option (ℕ × ℕ)). IsAspectFault classes files (Refused f.file (rule_code f.code) o)) (sym of_place) (breaks aspects f h first) in
     let coded = subst (λ (k : Code). IsAspectFault classes files (Refused f.file k at)) (sym of_code) placed in
     subst (λ (m : ℕ). IsAspectFault classes files (Refused m c at)) (sym of_number) coded
 rule_refuses classes files aspects Memory h says = tt
 
 -- a rule's fault is one of files that were read
 pub refused_by : (classes : Classes) (files : List (List ℕ)) (read : List (Vec AspectValue Global)) (result : Result Rules StartFault) → AllHold files (map aspects_of read)
-    → IfErr result IsRuleFault → IfErr result (IsAspectFault classes files)
+    → IfErr result (IsRuleFault classes (declarations_in read)) → IfErr result (IsAspectFault classes files)
 refused_by classes files read (Ok r) h says = says
 refused_by classes files read (Err e) h says = rule_refuses classes files (map aspects_of read) e h says

@@ -1,5 +1,5 @@
 -- Which rules aspect files give, and by which fault of which file they are refused.
-use Rattle.std.specs.Prelude.{◌≡◌, ℕ, ◌+◌, suc, false, List, [], ◌∷◌, ◌++◌, length, map, Some, None}
+use Rattle.std.specs.Prelude.{◌≡◌, ℕ, ◌+◌, suc, false, List, [], ◌∷◌, ◌++◌, length, map, Some, None, Ok, Err}
 use Rattle.at_model.specs.Classes.{Classes}
 use Rattle.at_model.specs.Rules.{Rules}
 use Rattle.at_text.specs.Symbols.{PlacedToken, HasTokens}
@@ -9,9 +9,12 @@ use Rattle.at_jrag.specs.Faults.{IsFault}
 use Rattle.at_jrag.specs.declared.JragFault.{JragFault}
 use Rattle.at_jrag.specs.declared.JragFault.TheVariants as jrag
 use Rattle.attrd.specs.Files.{IsText, IsNoText}
+use Rattle.at_typing.specs.Building.{Builds}
+use Rattle.at_typing.specs.Located.{Located, located}
 use Rattle.at_typing.specs.declared.fault.Fault.{Fault}
 use Rattle.at_typing.specs.declared.fault.RuleCode.{RuleCode}
 use Rattle.at_typing.specs.declared.fault.RuleCode.TheVariants as rule
+use Rattle.at_typing.specs.declared.fault.RuleFault.TheVariants.{Refused as Broken}
 use Rattle.attrd.specs.declared.code.Code.{Code}
 use Rattle.attrd.specs.declared.code.Code.TheVariants as code
 use Rattle.attrd.specs.declared.start.fault.FileFault.{FileFault}
@@ -68,11 +71,11 @@ IsUnread files (start.Refused file c (Some at)) = IsUnreadAt files file c at
 IsUnread files (start.Refused file c None) = ⊥
 IsUnread files start.Memory = Unit {0}
 
--- The files give rules over the classes: each file holds aspects, whose declarations make rules over these classes. Which rules they make is not said yet.
+-- The files give the rules over the classes: each file holds aspects, and all their declarations together make the rules.
 pub record GivesRules (classes : Classes) (files : List (List ℕ)) (rules : Rules) : Type 0 where
   pub aspects : List (List Aspect)
   pub hold : AllHold files aspects
-  pub built : rules.classes ≡ classes
+  pub built : Builds classes (located 1 aspects) (Ok rules)
 
 -- a rule's code among those of all files
 abbrev pub rule_code : RuleCode → Code
@@ -88,10 +91,11 @@ rule_code rule.InheritedWithoutEquation = code.InheritedWithoutEquation
 rule_code rule.EquationWithoutAttribute = code.EquationWithoutAttribute
 
 -- The files are refused by the code at the place of the file of that number: it is the first that can't be read; or all can,
--- and it is a fault of their declarations. That it is their first one is not said yet.
+-- and it is the first fault of their declarations.
 pub data RefusesAspects (classes : Classes) (files : List (List ℕ)) : (file : ℕ) → Code → Place → Type 0 where
   no_file : (file : ℕ) (c : Code) (at : Place) → IsUnreadAt files file c at → RefusesAspects classes files file c at
-  breaks : (aspects : List (List Aspect)) (f : Fault) → AllHold files aspects → RefusesAspects classes files f.file (rule_code f.code) f.at
+  breaks : (aspects : List (List Aspect)) (f : Fault) → AllHold files aspects → Builds classes (located 1 aspects) (Err (Broken f))
+      → RefusesAspects classes files f.file (rule_code f.code) f.at
 
 -- the fault is one by which the files are refused; of want of memory nothing is said
 abbrev pub IsAspectFault : Classes → List (List ℕ) → StartFault → Type 0
@@ -99,7 +103,7 @@ IsAspectFault classes files (start.Refused file c (Some at)) = RefusesAspects cl
 IsAspectFault classes files (start.Refused file c None) = ⊥
 IsAspectFault classes files start.Memory = Unit {0}
 
--- the fault is a rule's, in the file of its number and at its place; of want of memory nothing is said
-abbrev pub IsRuleFault : StartFault → Type 0
-IsRuleFault (start.Refused file c at) = (f : Fault) × (file ≡ f.file) × (c ≡ rule_code f.code) × (at ≡ Some f.at)
-IsRuleFault start.Memory = Unit {0}
+-- the fault is the first of the declarations, in the file of its number and at its place; of want of memory nothing is said
+abbrev pub IsRuleFault : Classes → List Located → StartFault → Type 0
+IsRuleFault classes ds (start.Refused file c at) = (f : Fault) × Builds classes ds (Err (Broken f)) × (file ≡ f.file) × (c ≡ rule_code f.code) × (at ≡ Some f.at)
+IsRuleFault classes ds start.Memory = Unit {0}

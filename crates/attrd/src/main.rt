@@ -7,6 +7,8 @@ ghost use Rattle.attrd.specs.Starts.{IsReady};
 
 mod code;
 mod failure;
+#[cfg(test)]
+mod keepers;
 mod options;
 mod serving;
 #[cfg(test)]

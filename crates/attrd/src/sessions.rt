@@ -9,7 +9,7 @@ use at_engine::{Engine, Report, run};
 use std::alloc::{AllocError, Global};
 use std::test::Fail;
 
-const GRAMMAR: &str = "Program ::= Block;
+pub const GRAMMAR: &str = "Program ::= Block;
 abstract Stmt;
 Block : Stmt ::= Stmt*;
 Decl : Stmt ::= <ID> [Init:Expr];
@@ -20,7 +20,7 @@ Num : Expr ::= <Value:int>;
 Add : Expr ::= Left:Expr Right:Expr;
 ";
 
-const CALCULATOR: &str = "aspect Names {
+pub const CALCULATOR: &str = "aspect Names {
   inh lazy Decl Use.lookup(String n);
   inh Decl Block.lookup(String n);
   syn lazy Decl Block.local(String n) = (Decl) first (s : getStmtList()) { s.declares(n) };
@@ -39,7 +39,7 @@ aspect Values {
 }
 ";
 
-const PROBE: &str = "aspect Probe {
+pub const PROBE: &str = "aspect Probe {
   syn boolean Add.same() = getLeft() == getRight();
   syn boolean Add.alike() { return getLeft() == getLeft(); }
   syn int Program.circ() = circ();
@@ -55,9 +55,9 @@ const PROBE: &str = "aspect Probe {
 }
 ";
 
-const TREE: &str = "Program(Block([Decl(\"x\",Num(1)),Print(Add(Use(\"x\"),Num(2)))]))";
+pub const TREE: &str = "Program(Block([Decl(\"x\",Num(1)),Print(Add(Use(\"x\"),Num(2)))]))";
 
-fn named(alloc: Global, name: &str, text: &str) -> Result<Source, AllocError> {
+pub fn named(alloc: Global, name: &str, text: &str) -> Result<Source, AllocError> {
     Ok(Source {
         name: String::from_str(alloc, name)?,
         bytes: Vec::from_slice(alloc, text.as_bytes())?,

@@ -1,7 +1,10 @@
 //! The files of a server, and the engine that they make.
 
-ghost use Rattle.std.specs.Prelude.{IfOk, IfErr};
-ghost use Rattle.at_engine.specs.Engines.{rules_of, state_of};
+ghost use Rattle.std.specs.Prelude.{None, IfOk, IfErr};
+ghost use Rattle.at_cache.specs.Kept.{KeepsAll};
+ghost use Rattle.at_cache.specs.Recorded.{kept_in};
+ghost use Rattle.at_engine.specs.Engines.{rules_of, state_of, IsSound};
+ghost use Rattle.at_engine.specs.Keeping.{IsSpare};
 ghost use Rattle.attrd.specs.Starts.{Starts, IsReady, IsStartFault};
 
 mod aspects;
@@ -12,7 +15,7 @@ mod tree;
 
 use crate::code::Code;
 use aspects::rules_of;
-use at_cache::KeepRecorded;
+use at_cache::{KeepRecorded, Keeper};
 use at_engine::Engine;
 use at_store::LoadFault;
 use fault::of_file;
@@ -30,6 +33,26 @@ use tree::{refused, tree_of};
 pub fn start(alloc: Global, files: &Files) -> Result<Engine<KeepRecorded>, StartFault>
     ensures started { IfOk result (λ e. Starts files.now (rules_of e) (state_of e)) }
     ensures ready { IfOk result IsReady }
+    ensures spare { IfOk result (IsSpare (λ k. kept_in k.entries.entries)) }
+    ensures refused { IfErr result (IsStartFault files.now) }
+{
+    start_with(alloc, files, KeepRecorded::new(alloc))
+}
+
+/// The engine that the files make over an empty keeper.
+///
+/// # Errors
+///
+/// Those of `start`.
+pub fn start_with<K: Keeper>(
+    alloc: Global,
+    files: &Files,
+    keeper: K,
+) -> Result<Engine<K>, StartFault>
+    requires { KeepsAll (λ _. None) (K.contents keeper) }
+    ensures started { IfOk result (λ e. Starts files.now (rules_of e) (state_of e)) }
+    ensures ready { IfOk result (IsSound K.contents) }
+    ensures spare { IfOk result (IsSpare K.contents) }
     ensures refused { IfErr result (IsStartFault files.now) }
 {
     let classes = match classes_of(alloc, &files.grammar.bytes) {
@@ -42,7 +65,7 @@ pub fn start(alloc: Global, files: &Files) -> Result<Engine<KeepRecorded>, Start
         Ok(tree) => tree,
         Err(fault) => return Err(of_file(file, fault)),
     };
-    match Engine::new(alloc, rules, tree, KeepRecorded::new(alloc)) {
+    match Engine::new(alloc, rules, tree, keeper) {
         Ok(engine) => Ok(engine),
         Err(LoadFault::Fit) => Err(of_file(file, refused(Code::TreeFit))),
         Err(LoadFault::Limit) => Err(of_file(file, refused(Code::TreeLimit))),

@@ -25,13 +25,13 @@ fn is_text(value: &Value) -> bool
 }
 
 impl<K: Keeper> Engine<K> {
-    ghost use Rattle.std.specs.Prelude.{◌≡◌, map, option_map, IfOk};
+    ghost use Rattle.std.specs.Prelude.{◌≡◌, map, option_map, IfOk, IsTrue};
     ghost use Rattle.at_model.specs.Paths.{Node as NodeOf};
     ghost use Rattle.at_model.specs.Run.{Instance};
     ghost use Rattle.at_model.specs.Meaning.{Answer as AnswerOf};
     ghost use Rattle.at_model.specs.Alike.{InstanceLike, Names};
     ghost use Rattle.at_model.specs.Lines.{Ask, IsName};
-    ghost use Rattle.at_model.specs.Machine.{ByEquations, each, parameters_of, value_named};
+    ghost use Rattle.at_model.specs.Machine.{Asks, ByEquations, each, obeyed, parameters_of, value_named};
     ghost use Rattle.at_protocol.specs.LineView.{argument_view, arguments_view, place_view};
     ghost use Rattle.at_rules.specs.Bodies.{kind_view};
     ghost use Rattle.at_store.specs.Shown.{contents, path as path_shown};
@@ -40,6 +40,7 @@ impl<K: Keeper> Engine<K> {
     ghost use Rattle.at_engine.specs.Engines.{rules_of, state_of, IsSound};
     ghost use Rattle.at_engine.specs.Answered.{question, AreValuesOf, IsValueOf};
     ghost use Rattle.at_engine.specs.Fitting.{fits_number, fit_numbers, is_of_class};
+    ghost use Rattle.at_engine.specs.Keeping.{IsSpare, Spares};
     ghost use Rattle.at_engine.specs.Telling.{IsToldAs, Obeys};
 
     /// What the attribute of the node is, or why there is no answer.
@@ -54,6 +55,7 @@ impl<K: Keeper> Engine<K> {
         requires named { IsName attribute.now }
         ensures obeys { IfOk result (λ f. Obeys (rules_of self.old) (state_of self.old) session (Ask (place_view place.now) attribute.now (arguments_view arguments.now)) f (state_of self.new)) }
         ensures kept { state_of self.new ≡ state_of self.old }
+        ensures spares { IsTrue K.exact → IsSpare K.contents self.old → Spares K.contents (obeyed (rules_of self.old) (state_of self.old) session (Ask (place_view place.now) attribute.now (arguments_view arguments.now))) result self.old self.new }
         ensures rules { rules_of self.new ≡ rules_of self.old }
         ensures sound { IsSound K.contents self.new }
     {
@@ -84,6 +86,7 @@ impl<K: Keeper> Engine<K> {
         ensures answered { (q : Instance NodeOf) → InstanceLike (Names (path_shown self.old.store)) (question node attribute values.items) q
             → IfOk result (λ f. (a : AnswerOf NodeOf) × ByEquations (rules_of self.old) (state_of self.old).tree q a × IsToldAs (rules_of self.old) (state_of self.old).tree a f) }
         ensures kept { state_of self.new ≡ state_of self.old }
+        ensures spares { (q : Instance NodeOf) → InstanceLike (Names (path_shown self.old.store)) (question node attribute values.items) q → IsTrue K.exact → IsSpare K.contents self.old → Spares K.contents (Asks q) result self.old self.new }
         ensures rules { rules_of self.new ≡ rules_of self.old }
         ensures sound { IsSound K.contents self.new }
     {

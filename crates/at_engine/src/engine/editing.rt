@@ -1,9 +1,9 @@
 //! Edits: the trees and tokens that lines bring, and what becomes of marks and of what is kept.
 
-ghost use Rattle.std.specs.Prelude.{◌≡◌, IfOk, OnErr, Some, is_some, true};
+ghost use Rattle.std.specs.Prelude.{◌≡◌, IfOk, IsTrue, OnErr, Some, is_some, true};
 ghost use Rattle.at_model.specs.Edits.{class_asked, list_class, optional_class, token_kind};
 ghost use Rattle.at_model.specs.Lines.{Drop, Insert, Put, Set, Token};
-ghost use Rattle.at_model.specs.Machine.{changed};
+ghost use Rattle.at_model.specs.Machine.{changed, obeyed};
 ghost use Rattle.at_model.specs.Paths.{Node as NodeOf};
 ghost use Rattle.at_model.specs.Classes.{class_in};
 ghost use Rattle.at_class.specs.View.{shape_view};
@@ -14,6 +14,7 @@ ghost use Rattle.at_store.specs.Refusing.{edit_at, node_of};
 ghost use Rattle.at_store.specs.Shown.{path as path_shown};
 ghost use Rattle.at_engine.specs.Engines.{rules_of, state_of, IsSound};
 ghost use Rattle.at_engine.specs.Following.{Follows};
+ghost use Rattle.at_engine.specs.Keeping.{IsSpare, Spares};
 ghost use Rattle.at_engine.specs.Telling.{IsComponentOf, IsToldFor, IsToldOf, IsTreeFor, Obeys};
 
 use super::Engine;
@@ -112,6 +113,7 @@ impl<K: Keeper> Engine<K> {
         requires sound { IsSound K.contents self.old }
         ensures obeys { IfOk result (λ f. Obeys (rules_of self.old) (state_of self.old) session (Set (place_view place.now) (term_view term.now)) f (state_of self.new)) }
         ensures err { OnErr result (state_of self.new ≡ state_of self.old) }
+        ensures spares { IsTrue K.exact → IsSpare K.contents self.old → Spares K.contents (obeyed (rules_of self.old) (state_of self.old) session (Set (place_view place.now) (term_view term.now))) result self.old self.new }
         ensures rules { rules_of self.new ≡ rules_of self.old }
         ensures sound { IsSound K.contents self.new }
     {
@@ -138,6 +140,7 @@ impl<K: Keeper> Engine<K> {
         requires sound { IsSound K.contents self.old }
         ensures obeys { IfOk result (λ f. Obeys (rules_of self.old) (state_of self.old) session (Put (place_view place.now) part.now (term_view term.now)) f (state_of self.new)) }
         ensures err { OnErr result (state_of self.new ≡ state_of self.old) }
+        ensures spares { IsTrue K.exact → IsSpare K.contents self.old → Spares K.contents (obeyed (rules_of self.old) (state_of self.old) session (Put (place_view place.now) part.now (term_view term.now))) result self.old self.new }
         ensures rules { rules_of self.new ≡ rules_of self.old }
         ensures sound { IsSound K.contents self.new }
     {
@@ -162,6 +165,7 @@ impl<K: Keeper> Engine<K> {
         requires sound { IsSound K.contents self.old }
         ensures obeys { IfOk result (λ f. Obeys (rules_of self.old) (state_of self.old) session (Drop (place_view place.now)) f (state_of self.new)) }
         ensures err { OnErr result (state_of self.new ≡ state_of self.old) }
+        ensures spares { IsTrue K.exact → IsSpare K.contents self.old → Spares K.contents (obeyed (rules_of self.old) (state_of self.old) session (Drop (place_view place.now))) result self.old self.new }
         ensures rules { rules_of self.new ≡ rules_of self.old }
         ensures sound { IsSound K.contents self.new }
     {
@@ -183,6 +187,7 @@ impl<K: Keeper> Engine<K> {
         requires sound { IsSound K.contents self.old }
         ensures obeys { IfOk result (λ f. Obeys (rules_of self.old) (state_of self.old) session (Insert (place_view place.now) part.now index (term_view term.now)) f (state_of self.new)) }
         ensures err { OnErr result (state_of self.new ≡ state_of self.old) }
+        ensures spares { IsTrue K.exact → IsSpare K.contents self.old → Spares K.contents (obeyed (rules_of self.old) (state_of self.old) session (Insert (place_view place.now) part.now index (term_view term.now))) result self.old self.new }
         ensures rules { rules_of self.new ≡ rules_of self.old }
         ensures sound { IsSound K.contents self.new }
     {
@@ -219,6 +224,7 @@ impl<K: Keeper> Engine<K> {
         requires sound { IsSound K.contents self.old }
         ensures obeys { IfOk result (λ f. Obeys (rules_of self.old) (state_of self.old) session (Token (place_view place.now) part.now (token_view value)) f (state_of self.new)) }
         ensures err { OnErr result (state_of self.new ≡ state_of self.old) }
+        ensures spares { IsTrue K.exact → IsSpare K.contents self.old → Spares K.contents (obeyed (rules_of self.old) (state_of self.old) session (Token (place_view place.now) part.now (token_view value))) result self.old self.new }
         ensures rules { rules_of self.new ≡ rules_of self.old }
         ensures sound { IsSound K.contents self.new }
     {
@@ -280,6 +286,8 @@ impl<K: Keeper> Engine<K> {
         ensures follows { (n : NodeOf) → path_shown self.old.store (node_of edit) ≡ Some n
             → IfOk result (λ f. Follows (rules_of self.old) (state_of self.old) (changed (rules_of self.old).classes (state_of self.old) (edit_at n edit)) f (state_of self.new)) }
         ensures err { OnErr result (state_of self.new ≡ state_of self.old) }
+        ensures spares { (n : NodeOf) → path_shown self.old.store (node_of edit) ≡ Some n → IsTrue K.exact → IsSpare K.contents self.old
+            → Spares K.contents (changed (rules_of self.old).classes (state_of self.old) (edit_at n edit)) result self.old self.new }
         ensures rules { rules_of self.new ≡ rules_of self.old }
         ensures sound { IsSound K.contents self.new }
     {

@@ -1,8 +1,9 @@
 //! Classes without an equation for a synthesized attribute.
 
 ghost use Rattle.std.specs.Prelude.{◌≡◌, IfOk};
-ghost use Rattle.at_typing.specs.Completing.{LacksBelow, LooksAt, Tells};
+ghost use Rattle.at_typing.specs.Completing.{LacksAt, LacksBelow, LacksDeclared, LacksOwn, LooksAt, Tells, TellsFirst};
 ghost use Rattle.at_typing.specs.Hierarchies.{IsHierarchy};
+ghost use Rattle.at_typing.specs.declared.fault.RuleCode.TheVariants as code;
 
 use super::fault_at;
 use crate::fault::{Fault, RuleCode};
@@ -23,24 +24,42 @@ pub fn class_without_equation(
     declared: &[Numbered],
 ) -> Result<Option<Fault>, AllocError>
     requires { IsHierarchy rules.now.classes hierarchy.now }
+    ensures { IfOk result (TellsFirst code.ClassWithoutEquation rules.now (LacksOwn rules.now) declared.now) }
 {
-    let attributes = declared
-        .iter()
-        .filter(|numbered| is_attribute(&numbered.decl.form));
-    for (position, numbered) in attributes.enumerate() {
-        let attribute = AttrId::new(position);
-        if is_inherited(&numbered.decl.form) {
+    let mut position = 0;
+    for numbered in declared {
+        if !is_attribute(&numbered.decl.form) {
             continue;
         }
-        if lacks_equation(alloc, rules, hierarchy, numbered.class, attribute)? {
+        let lacks = lacks_own(alloc, rules, hierarchy, numbered, AttrId::new(position))?;
+        if lacks {
             return Ok(Some(fault_at(RuleCode::ClassWithoutEquation, numbered, numbered.decl.at)));
         }
+        position += 1;
     }
     Ok(None)
 }
 
+/// Whether the attribute that is declared is synthesized, and a class that fits its class has no equation for it.
+fn lacks_own(
+    alloc: Global,
+    rules: &Rules,
+    hierarchy: &Hierarchy,
+    numbered: &Numbered,
+    attribute: AttrId,
+) -> Result<bool, AllocError>
+    requires { IsHierarchy rules.now.classes hierarchy.now }
+    ensures { IfOk result (λ lacks. Tells lacks (LacksDeclared rules.now attribute numbered.now)) }
+{
+    if is_inherited(&numbered.decl.form) {
+        return Ok(false);
+    }
+    let lacks = lacks_at(alloc, rules, hierarchy, numbered.class, attribute)?;
+    Ok(lacks)
+}
+
 /// Whether it is one of the classes, and a class that fits it has no equation for the attribute.
-fn lacks_equation(
+fn lacks_at(
     alloc: Global,
     rules: &Rules,
     hierarchy: &Hierarchy,
@@ -48,10 +67,12 @@ fn lacks_equation(
     attribute: AttrId,
 ) -> Result<bool, AllocError>
     requires { IsHierarchy rules.now.classes hierarchy.now }
+    ensures { IfOk result (λ lacks. Tells lacks (LacksAt rules.now attribute class)) }
 {
     match class {
         NamedClass::Known(class) => {
-            lacks_below(alloc, rules, hierarchy, ClassId::new(class), attribute)
+            let lacks = lacks_below(alloc, rules, hierarchy, ClassId::new(class), attribute)?;
+            Ok(lacks)
         }
         NamedClass::Unknown(_) => Ok(false),
     }

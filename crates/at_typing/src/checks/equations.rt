@@ -3,9 +3,10 @@
 ghost use Rattle.std.specs.Prelude.{◌≡◌, ◌&&◌, ◌++◌, ◌∷◌, [], true, not, map, All, IfOk};
 ghost use Rattle.std.specs.List.{list_any};
 ghost use Rattle.at_jrag.specs.View.{decl_form_view};
-ghost use Rattle.at_typing.specs.Declaring.{equation_twice, is_own_equation};
+ghost use Rattle.at_typing.specs.AttributeKeys.{AreAttributes, TellsAttribute};
+ghost use Rattle.at_typing.specs.Declaring.{equation_twice, is_own_equation, without_attribute};
 ghost use Rattle.at_typing.specs.EquationKeys.{getter_of, inherited_keys, is_own, is_own_key, is_there, key_view, own_keys};
-ghost use Rattle.at_typing.specs.Numbering.{numbered_view, AreAlike};
+ghost use Rattle.at_typing.specs.Numbering.{numbered_view, AreAlike, AreNumbered};
 
 use super::fault_at;
 use crate::attributes::Attributes;
@@ -23,7 +24,10 @@ pub fn without_attribute(
     classes: &ClassTable,
     attributes: &Attributes,
     declared: &[Numbered],
-) -> Option<Fault> {
+) -> Option<Fault>
+    requires { AreNumbered classes.now declared.now × AreAttributes declared.now attributes.now }
+    ensures { result ≡ without_attribute classes.now (map numbered_view declared.now) }
+{
     for numbered in declared {
         if !is_of_attribute(classes, attributes, numbered) {
             return Some(fault_at(
@@ -37,7 +41,9 @@ pub fn without_attribute(
 }
 
 /// Whether the declaration is no equation, or one of an attribute that is declared.
-fn is_of_attribute(classes: &ClassTable, attributes: &Attributes, numbered: &Numbered) -> bool {
+fn is_of_attribute(classes: &ClassTable, attributes: &Attributes, numbered: &Numbered) -> bool
+    ensures { TellsAttribute attributes.now classes.now numbered.now result }
+{
     match numbered.decl.form {
         DeclForm::Equation { .. } => attributes
             .synthesized(classes, numbered.class, numbered.name)

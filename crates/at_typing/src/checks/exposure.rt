@@ -1,12 +1,14 @@
 //! Classes that may stand where no class above has an equation for an inherited attribute.
 
-ghost use Rattle.std.specs.Prelude.{◌≡◌, ℕ, ◌<◌, false, [], length, map, option_and_then, slice_get, replicate, None, Some, IfOk, OnOk, if◌then◌else◌};
+ghost use Rattle.std.specs.Prelude.{◌≡◌, ℕ, ◌<◌, false, [], length, map, option_map, option_and_then, slice_get, replicate, None, Some, IfOk, OnOk, if◌then◌else◌};
 ghost use Rattle.at_class.specs.View.{part_view, shape_view};
 ghost use Rattle.at_model.specs.Classes.{AreSound, class_in, parts};
 ghost use Rattle.at_model.specs.Rules.{attribute_name};
-ghost use Rattle.at_typing.specs.Completing.{leads, is_passed, passed, is_met_concrete, IsExposedBelow, IsExposedWalk, IsMarking, Tells};
+ghost use Rattle.at_typing.specs.Completing.{leads, is_passed, passed, is_met_concrete, is_among, IsExposedBelow, IsExposedWalk, IsMarking, LacksInherited, NotesExposed, Tells, TellsExposed, TellsFirst};
 ghost use Rattle.at_typing.specs.Hierarchies.{IsHierarchy};
+ghost use Rattle.at_typing.specs.Numbering.{known_class};
 ghost use Rattle.at_typing.specs.Walks.{has_met, Meets, MeetsFrom};
+ghost use Rattle.at_typing.specs.declared.fault.RuleCode.TheVariants as code;
 
 use super::fault_at;
 use crate::fault::{Fault, RuleCode};
@@ -27,39 +29,77 @@ pub fn inherited_without_equation(
     declared: &[Numbered],
 ) -> Result<Option<Fault>, AllocError>
     requires { IsHierarchy rules.now.classes hierarchy.now }
+    ensures { IfOk result (TellsFirst code.InheritedWithoutEquation rules.now (LacksInherited rules.now) declared.now) }
 {
-    let attributes = declared
-        .iter()
-        .filter(|numbered| is_attribute(&numbered.decl.form));
     // For each name, which classes are exposed, or above one that is.
     let mut exposed: IndexMap<usize, Walk> = IndexMap::new(alloc);
-    for (position, numbered) in attributes.enumerate() {
-        if !is_inherited(&numbered.decl.form) {
+    let mut position = 0;
+    for numbered in declared {
+        if !is_attribute(&numbered.decl.form) {
             continue;
         }
-        if !exposed.contains_key(&numbered.name) {
-            let attribute = AttrId::new(position);
-            let classes = exposed_for(alloc, rules, hierarchy, attribute)?;
-            exposed.insert(numbered.name, classes)?;
-        }
-        if is_among(exposed.get(&numbered.name), numbered.class) {
+        let attribute = AttrId::new(position);
+        let lacks = is_exposed(alloc, rules, hierarchy, &mut exposed, numbered, attribute)?;
+        if lacks {
             return Ok(Some(fault_at(
                 RuleCode::InheritedWithoutEquation,
                 numbered,
                 numbered.decl.at,
             )));
         }
+        position += 1;
     }
     Ok(None)
 }
 
-fn is_among(exposed: Option<&Walk>, class: NamedClass) -> bool {
-    let NamedClass::Known(class) = class else {
-        return false;
-    };
-    match exposed {
-        Some(exposed) => exposed.has_met(ClassId::new(class)),
-        None => false,
+/// Whether the attribute that is declared is inherited, and a class that fits its class is exposed for it.
+fn is_exposed(
+    alloc: Global,
+    rules: &Rules,
+    hierarchy: &Hierarchy,
+    exposed: &mut IndexMap<usize, Walk>,
+    numbered: &Numbered,
+    attribute: AttrId,
+) -> Result<bool, AllocError>
+    requires { IsHierarchy rules.now.classes hierarchy.now }
+    ensures { IfOk result (λ lacks. TellsExposed lacks rules.now attribute numbered.now exposed.old exposed.new) }
+{
+    if !is_inherited(&numbered.decl.form) {
+        return Ok(false);
+    }
+    note_exposed(alloc, rules, hierarchy, exposed, numbered, attribute)?;
+    Ok(is_among(exposed.get(&numbered.name), numbered.class))
+}
+
+/// Notes which classes are exposed for the attribute, or above one that is, unless an attribute of its name was
+/// met before.
+fn note_exposed(
+    alloc: Global,
+    rules: &Rules,
+    hierarchy: &Hierarchy,
+    exposed: &mut IndexMap<usize, Walk>,
+    numbered: &Numbered,
+    attribute: AttrId,
+) -> Result<(), AllocError>
+    requires { IsHierarchy rules.now.classes hierarchy.now }
+    ensures { OnOk result (NotesExposed rules.now attribute numbered.now exposed.old exposed.new) }
+{
+    if exposed.contains_key(&numbered.name) {
+        return Ok(());
+    }
+    let classes = exposed_for(alloc, rules, hierarchy, attribute)?;
+    exposed.insert(numbered.name, classes)?;
+    Ok(())
+}
+
+/// Whether the class is a known one among those that were met.
+fn is_among(exposed: Option<&Walk>, class: NamedClass) -> bool
+    ensures { result ≡ is_among (option_map (λ w. w.now) exposed.entry) (known_class class) }
+{
+    let Some(exposed) = exposed else { return false };
+    match class {
+        NamedClass::Known(class) => exposed.has_met(ClassId::new(class)),
+        NamedClass::Unknown(_) => false,
     }
 }
 

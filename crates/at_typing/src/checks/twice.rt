@@ -1,15 +1,16 @@
 //! Attributes that are declared twice.
 
-ghost use Rattle.std.specs.Prelude.{◌≡◌, nat_eq, map, option_map};
+ghost use Rattle.std.specs.Prelude.{◌≡◌, map, option_map, IfOk};
 ghost use Rattle.at_jrag.specs.Syntax.{Class};
 ghost use Rattle.at_jrag.specs.View.{decl_form_view, kind_view, kind_word_view, param_view};
-ghost use Rattle.at_typing.specs.Twice.{differs_from};
-ghost use Rattle.indexmap.specs.IndexMap.{get};
-ghost use Rattle.at_typing.specs.Declaring.{differs, has_same_signature, has_same_result, have_same_kinds, is_same_kind};
+ghost use Rattle.at_typing.specs.Declaring.{declared_twice, differs, has_same_signature, has_same_result, have_same_kinds, is_same_kind};
+ghost use Rattle.at_typing.specs.Numbering.{numbered_view, AreNumbered};
+ghost use Rattle.at_typing.specs.Twice.{TellsTwice};
 
 use super::bound::binds_twice;
 use super::fault_at;
 use crate::fault::{Fault, RuleCode};
+use crate::firsts::note_first;
 use crate::located::{is_attribute, is_inherited, params_in, result_in};
 use crate::numbered::{NamedClass, Numbered};
 use at_class::ClassTable;
@@ -22,15 +23,35 @@ pub fn declared_twice(
     alloc: Global,
     classes: &ClassTable,
     declared: &[Numbered],
-) -> Result<Option<Fault>, AllocError> {
+) -> Result<Option<Fault>, AllocError>
+    requires { AreNumbered classes.now declared.now }
+    ensures { IfOk result (λ fault. fault ≡ declared_twice classes.now (map numbered_view declared.now)) }
+{
     let mut before = Before::new(alloc);
     for numbered in declared {
-        if before.clashes(classes, numbered) || binds_twice(alloc, &numbered.decl.form)? {
+        let is_twice = is_twice(alloc, classes, &before, numbered)?;
+        if is_twice {
             return Ok(Some(fault_at(RuleCode::AttributeTwice, numbered, numbered.decl.at)));
         }
         before.add(classes, numbered)?;
     }
     Ok(None)
+}
+
+/// Whether the declaration declares what one of these declares, or binds a name that is bound.
+fn is_twice(
+    alloc: Global,
+    classes: &ClassTable,
+    before: &Before,
+    numbered: &Numbered,
+) -> Result<bool, AllocError>
+    ensures { IfOk result (TellsTwice classes.now before.now numbered.now) }
+{
+    if before.clashes(classes, numbered) {
+        return Ok(true);
+    }
+    let binds = binds_twice(alloc, &numbered.decl.form)?;
+    Ok(binds)
 }
 
 /// The attributes that are declared before a declaration.
@@ -45,7 +66,18 @@ struct Before<'a> {
 }
 
 impl<'a> Before<'a> {
-    fn new(alloc: Global) -> Before<'a> {
+    ghost use Rattle.std.specs.Prelude.{◌≡◌, [], OnOk};
+    ghost use Rattle.std.specs.List.{list_any};
+    ghost use Rattle.at_jrag.specs.View.{decl_form_view};
+    ghost use Rattle.at_model.specs.Classes.{AreSound};
+    ghost use Rattle.at_typing.specs.Numbering.{line};
+    ghost use Rattle.at_typing.specs.Twice.{differs_from, first_form, has_key, Adds, AreBefore, TellsClash};
+
+    fn new(alloc: Global) -> Before<'a>
+        ensures first { result.first.entries ≡ [] }
+        ensures declared { result.declared.keys ≡ [] }
+        ensures above { result.above.keys ≡ [] }
+    {
         Before {
             first: IndexMap::new(alloc),
             declared: IndexSet::new(alloc),
@@ -54,18 +86,24 @@ impl<'a> Before<'a> {
     }
 
     /// Whether the declaration declares an attribute that can't be declared behind these.
-    fn clashes(&self, classes: &ClassTable, numbered: &Numbered) -> bool {
+    fn clashes(&self, classes: &ClassTable, numbered: &Numbered) -> bool
+        ensures { TellsClash classes.now self.now numbered.now result }
+    {
         if !is_attribute(&numbered.decl.form) {
             return false;
         }
-        self.differs(numbered)
-            || self.above.contains(&(numbered.class, numbered.name))
-            || self.is_declared_above(classes, numbered)
+        if self.differs(numbered) {
+            return true;
+        }
+        if self.above.contains(&(numbered.class, numbered.name)) {
+            return true;
+        }
+        self.is_declared_above(classes, numbered.class, numbered.name)
     }
 
     /// Whether the name is synthesized and inherited, or inherited with other kinds.
     fn differs(&self, numbered: &Numbered) -> bool
-        ensures { result ≡ differs_from (decl_form_view numbered.now.decl.now.form) (option_map (λ f. decl_form_view f.now) (get nat_eq self.now.first numbered.now.name)) }
+        ensures { result ≡ differs_from (decl_form_view numbered.now.decl.now.form) (first_form self.now numbered.now.name) }
     {
         match self.first.get(&numbered.name) {
             Some(first) => differ(&numbered.decl.form, first),
@@ -73,12 +111,15 @@ impl<'a> Before<'a> {
         }
     }
 
-    /// Whether a class above declares the name.
-    fn is_declared_above(&self, classes: &ClassTable, numbered: &Numbered) -> bool {
-        let mut next = numbered.class.parent(classes);
+    /// Whether the class or one above it declares the name.
+    fn is_declared_above(&self, classes: &ClassTable, class: NamedClass, name: usize) -> bool
+        ensures declared { result ≡ list_any (has_key self.now.declared.keys name) (line classes.now class) }
+        ensures sound { AreSound classes.now }
+    {
+        let mut next = Some(class);
         for step in 0..classes.len() {
             let Some(class) = next else { return false };
-            if self.declared.contains(&(class, numbered.name)) {
+            if self.is_declared(class, name) {
                 return true;
             }
             next = class.parent(classes);
@@ -86,23 +127,61 @@ impl<'a> Before<'a> {
         false
     }
 
-    fn add(&mut self, classes: &ClassTable, numbered: &Numbered<'a>) -> Result<(), AllocError> {
+    fn is_declared(&self, class: NamedClass, name: usize) -> bool
+        ensures { result ≡ has_key self.now.declared.keys name class }
+    {
+        self.declared.contains(&(class, name))
+    }
+
+    /// Adds the attribute that the declaration declares, if it declares one.
+    fn add(&mut self, classes: &ClassTable, numbered: &Numbered<'a>) -> Result<(), AllocError>
+        ensures { OnOk result (Adds classes.now numbered.now self.old self.new) }
+    {
         let form = &numbered.decl.form;
         if !is_attribute(form) {
             return Ok(());
         }
-        if !self.first.contains_key(&numbered.name) {
-            self.first.insert(numbered.name, form)?;
-        }
-        self.declared.insert((numbered.class, numbered.name))?;
-        let mut next = Some(numbered.class);
-        for step in 0..classes.len() {
-            let Some(class) = next else { return Ok(()) };
-            self.above.insert((class, numbered.name))?;
-            next = class.parent(classes);
-        }
+        note_first(&mut self.first, numbered.name, form)?;
+        insert(&mut self.declared, numbered.class, numbered.name)?;
+        insert_line(&mut self.above, classes, numbered.class, numbered.name)?;
         Ok(())
     }
+}
+
+ghost use Rattle.std.specs.Prelude.{◌∷◌, [], OnOk};
+ghost use Rattle.at_model.specs.Classes.{AreSound};
+ghost use Rattle.at_typing.specs.Numbering.{line};
+ghost use Rattle.at_typing.specs.Twice.{InsertsKeys};
+
+/// The class with the name is one more.
+fn insert(
+    keys: &mut IndexSet<(NamedClass, usize)>,
+    class: NamedClass,
+    name: usize,
+) -> Result<(), AllocError>
+    ensures { OnOk result (InsertsKeys keys.old.keys keys.new.keys name (class ∷ [])) }
+{
+    keys.insert((class, name))?;
+    Ok(())
+}
+
+/// The class and all those above it, with the name, are more.
+fn insert_line(
+    keys: &mut IndexSet<(NamedClass, usize)>,
+    classes: &ClassTable,
+    class: NamedClass,
+    name: usize,
+) -> Result<(), AllocError>
+    ensures inserted { OnOk result (InsertsKeys keys.old.keys keys.new.keys name (line classes.now class)) }
+    ensures sound { AreSound classes.now }
+{
+    let mut next = Some(class);
+    for step in 0..classes.len() {
+        let Some(class) = next else { return Ok(()) };
+        insert(keys, class, name)?;
+        next = class.parent(classes);
+    }
+    Ok(())
 }
 
 /// Whether of two attributes of one name one is synthesized and one inherited, or both are inherited with

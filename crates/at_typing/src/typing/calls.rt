@@ -1,10 +1,11 @@
 //! Calls: of accessors, of attributes, and of `equals`.
 
-ghost use Rattle.std.specs.Prelude.{◌≡◌, map, slice_get, IfOk};
+ghost use Rattle.std.specs.Prelude.{◌≡◌, [], map, slice_get, IfOk};
 ghost use Rattle.at_model.specs.Bodies as model;
-ghost use Rattle.at_rules.specs.Bodies.{body_view};
-ghost use Rattle.at_typing.specs.Judging.{only, where_fit, of_kind, is_argument as is_argument_for, is_text_word, is_given_text as is_given};
-ghost use Rattle.at_typing.specs.Typed.{typed_view, Judges};
+ghost use Rattle.at_rules.specs.Bodies.{body_view, bodies_view};
+ghost use Rattle.at_typing.specs.Judging.{called as called_of, asked_of as asked_by_kind, asked as asked_in, equal as equal_of, only, one_argument, where_fit, misfit, accessed as accessed_by, of_kind, demanded_of, fitted as fitted_to, is_argument as is_argument_for, is_text_word, is_given_text as is_given};
+ghost use Rattle.at_typing.specs.Kinds.{is_int, is_text};
+ghost use Rattle.at_typing.specs.Typed.{typed_view, scope_view, Judges};
 
 use super::kinds::{ExprKind, Typed};
 use super::{Scope, TypeFault, refused};
@@ -23,7 +24,9 @@ impl Scope<'_> {
         name: &str,
         arguments: Vec<Typed>,
         at: (u32, u32),
-    ) -> Result<Typed, TypeFault> {
+    ) -> Result<Typed, TypeFault>
+        ensures { Judges typed_view (called_of (scope_view self.now) at name.now (typed_view receiver) (map typed_view arguments.items)) result }
+    {
         if name == "equals" {
             return self.equal(receiver, arguments, at);
         }
@@ -38,7 +41,9 @@ impl Scope<'_> {
         name: &str,
         arguments: Vec<Typed>,
         at: (u32, u32),
-    ) -> Result<Typed, TypeFault> {
+    ) -> Result<Typed, TypeFault>
+        ensures { Judges typed_view (asked_by_kind (scope_view self.now) at name.now kind (body_view node) (map typed_view arguments.items)) result }
+    {
         match kind {
             ExprKind::Class(class) => self.asked(class, node, name, arguments, at),
             ExprKind::Strange => Err(refused(RuleCode::UnknownName, at)),
@@ -52,15 +57,32 @@ impl Scope<'_> {
         receiver: Typed,
         arguments: Vec<Typed>,
         at: (u32, u32),
-    ) -> Result<Typed, TypeFault> {
+    ) -> Result<Typed, TypeFault>
+        ensures { Judges typed_view (equal_of at (typed_view receiver) (map typed_view arguments.items)) result }
+    {
         if !receiver.kind.is_text() {
             return Err(refused(RuleCode::Kind, at));
         }
-        let argument = self.only(arguments, at)?;
-        let argument = where_fit(argument.kind.is_text(), argument)?;
+        let argument = self.text_argument(arguments, at)?;
         let text = Box::new(self.alloc, receiver.body)?;
         let argument = Box::new(self.alloc, argument)?;
         Ok(Typed::truth(Body::Equals(text, argument), at))
+    }
+
+    /// The only argument of the call at that place, a text.
+    fn text_argument(&self, arguments: Vec<Typed>, at: (u32, u32)) -> Result<Body, TypeFault>
+        ensures { Judges body_view (one_argument is_text at (map typed_view arguments.items)) result }
+    {
+        let argument = self.only(arguments, at)?;
+        where_fit(argument.kind.is_text(), argument)
+    }
+
+    /// The only argument of the call at that place, an int.
+    fn int_argument(&self, arguments: Vec<Typed>, at: (u32, u32)) -> Result<Body, TypeFault>
+        ensures { Judges body_view (one_argument is_int at (map typed_view arguments.items)) result }
+    {
+        let argument = self.only(arguments, at)?;
+        where_fit(argument.kind.is_int(), argument)
     }
 
     /// The only argument of the call at that place.
@@ -85,7 +107,9 @@ impl Scope<'_> {
         name: &str,
         arguments: Vec<Typed>,
         at: (u32, u32),
-    ) -> Result<Typed, TypeFault> {
+    ) -> Result<Typed, TypeFault>
+        ensures { Judges typed_view (asked_in (scope_view self.now) at name.now class (body_view node) (map typed_view arguments.items)) result }
+    {
         if let Some(accessor) = accessor_named(self.classes, class, name) {
             return self.accessed(accessor, node, arguments, at);
         }
@@ -103,15 +127,28 @@ impl Scope<'_> {
         node: Body,
         arguments: Vec<Typed>,
         at: (u32, u32),
-    ) -> Result<Typed, TypeFault> {
+    ) -> Result<Typed, TypeFault>
+        ensures { Judges typed_view (accessed_by at accessor (body_view node) (map typed_view arguments.items)) result }
+    {
         if let Accessor::Element(part, class) = accessor {
-            let index = self.only(arguments, at)?;
-            let index = where_fit(index.kind.is_int(), index)?;
+            let index = self.int_argument(arguments, at)?;
             return self.element(class, node, part, index, at);
         }
         if !arguments.is_empty() {
             return Err(refused(RuleCode::Argument, at));
         }
+        self.accessed_alone(accessor, node, at)
+    }
+
+    /// An accessor of a node, in a call without arguments.
+    fn accessed_alone(
+        &self,
+        accessor: Accessor,
+        node: Body,
+        at: (u32, u32),
+    ) -> Result<Typed, TypeFault>
+        ensures { Judges typed_view (accessed_by at accessor (body_view node) []) result }
+    {
         let node = Box::new(self.alloc, node)?;
         match accessor {
             Accessor::Child(part, class) => Ok(Typed::node(class, Body::Child(node, part), at)),
@@ -122,7 +159,8 @@ impl Scope<'_> {
             }),
             Accessor::Has(part) => Ok(Typed::truth(Body::Has(node, part), at)),
             Accessor::Count(part) => Ok(Typed::int(Body::Count(node, part), at)),
-            Accessor::List(_) | Accessor::Element(_, _) => Err(refused(RuleCode::Kind, at)),
+            Accessor::List(_) => Err(refused(RuleCode::Kind, at)),
+            Accessor::Element(_, _) => Err(refused(RuleCode::Argument, at)),
         }
     }
 
@@ -149,7 +187,9 @@ impl Scope<'_> {
         node: Body,
         arguments: Vec<Typed>,
         at: (u32, u32),
-    ) -> Result<Typed, TypeFault> {
+    ) -> Result<Typed, TypeFault>
+        ensures { Judges typed_view (demanded_of self.now.classes.now at attribute (slice_get self.now.signatures.now attribute) (body_view node) (map typed_view arguments.items)) result }
+    {
         let Some(signature) = self.signatures.get(attribute) else {
             return Err(refused(RuleCode::UnknownName, at));
         };
@@ -168,7 +208,9 @@ impl Scope<'_> {
         arguments: Vec<Typed>,
         params: &[WrittenKind],
         at: (u32, u32),
-    ) -> Result<Vec<Body>, TypeFault> {
+    ) -> Result<Vec<Body>, TypeFault>
+        ensures { Judges (λ bodies. bodies_view bodies.items) (fitted_to self.now.classes.now at (map typed_view arguments.items) params.now) result }
+    {
         if arguments.len() != params.len() {
             return Err(refused(RuleCode::Argument, at));
         }
@@ -180,7 +222,9 @@ impl Scope<'_> {
     }
 
     /// The place of the first argument that is wrong for its parameter.
-    fn misfit(&self, arguments: &[Typed], params: &[WrittenKind]) -> Option<(u32, u32)> {
+    fn misfit(&self, arguments: &[Typed], params: &[WrittenKind]) -> Option<(u32, u32)>
+        ensures { result ≡ misfit self.now.classes.now (map typed_view arguments.now) params.now }
+    {
         for (i, argument) in arguments.iter().enumerate() {
             let Some(param) = param_at(params, i) else {
                 return None;

@@ -1,7 +1,10 @@
 //! Folds and their lists.
 
-ghost use Rattle.std.specs.Prelude.{◌≡◌};
-ghost use Rattle.at_typing.specs.Judging.{list_named as list_named_by};
+ghost use Rattle.std.specs.Prelude.{◌≡◌, map};
+ghost use Rattle.at_jrag.specs.View.{fold_view};
+ghost use Rattle.at_jrag.specs.Syntax as written;
+ghost use Rattle.at_typing.specs.Judging.{list_called as list_called_by, list_named as list_named_by, folded as folded_by};
+ghost use Rattle.at_typing.specs.Typed.{typed_view, list_view, scope_view, Judges};
 
 use super::kinds::{ExprKind, Typed};
 use super::{Scope, TypeFault, refused};
@@ -29,8 +32,10 @@ impl Scope<'_> {
         arguments: Vec<Typed>,
         at: (u32, u32),
         fold: (u32, u32),
-    ) -> Result<List, TypeFault> {
-        let Some((part, class)) = self.list_named(receiver.kind, name) else {
+    ) -> Result<List, TypeFault>
+        ensures { Judges list_view (list_called_by (scope_view self.now) fold at name.now (typed_view receiver) (map typed_view arguments.items)) result }
+    {
+        let Some(list) = self.list_named(receiver.kind, name) else {
             self.called(receiver, name, arguments, at)?;
             return Err(refused(RuleCode::Kind, fold));
         };
@@ -39,8 +44,8 @@ impl Scope<'_> {
         }
         Ok(List {
             node: receiver.body,
-            part,
-            class,
+            part: list.0,
+            class: list.1,
         })
     }
 
@@ -61,7 +66,9 @@ impl Scope<'_> {
         list: List,
         body: Typed,
         at: (u32, u32),
-    ) -> Result<Typed, TypeFault> {
+    ) -> Result<Typed, TypeFault>
+        ensures { Judges typed_view (folded_by at (fold_view form) (list_view list) (typed_view body)) result }
+    {
         match form {
             FoldForm::Exists => self.exists(list, body, at),
             FoldForm::First => self.first(list, body, at),
@@ -70,7 +77,9 @@ impl Scope<'_> {
     }
 
     /// `exists (NAME : LIST) { E }`
-    fn exists(&self, list: List, body: Typed, at: (u32, u32)) -> Result<Typed, TypeFault> {
+    fn exists(&self, list: List, body: Typed, at: (u32, u32)) -> Result<Typed, TypeFault>
+        ensures { Judges typed_view (folded_by at written.Exists (list_view list) (typed_view body)) result }
+    {
         if !body.kind.is_truth() {
             return Err(refused(RuleCode::Kind, at));
         }
@@ -80,7 +89,9 @@ impl Scope<'_> {
     }
 
     /// `first (NAME : LIST) { E }`
-    fn first(&self, list: List, body: Typed, at: (u32, u32)) -> Result<Typed, TypeFault> {
+    fn first(&self, list: List, body: Typed, at: (u32, u32)) -> Result<Typed, TypeFault>
+        ensures { Judges typed_view (folded_by at written.First (list_view list) (typed_view body)) result }
+    {
         if !body.kind.is_truth() {
             return Err(refused(RuleCode::Kind, at));
         }
@@ -91,7 +102,9 @@ impl Scope<'_> {
     }
 
     /// `sum (NAME : LIST) { E }`
-    fn sum(&self, list: List, body: Typed, at: (u32, u32)) -> Result<Typed, TypeFault> {
+    fn sum(&self, list: List, body: Typed, at: (u32, u32)) -> Result<Typed, TypeFault>
+        ensures { Judges typed_view (folded_by at written.Sum (list_view list) (typed_view body)) result }
+    {
         if !body.kind.is_int() {
             return Err(refused(RuleCode::Kind, at));
         }

@@ -2,7 +2,7 @@
 
 ghost use Rattle.std.specs.Prelude.{◌≡◌, ◌∷◌, ◌++◌, map, option_map, slice_get, position, string_bytes, bytes_eq, IfOk, OnOk};
 ghost use Rattle.at_model.specs.Bodies as model;
-ghost use Rattle.at_typing.specs.Judging.{of_kind, index_eq, index_named, this_node};
+ghost use Rattle.at_typing.specs.Judging.{of_kind, named as named_in, bound_to, index_eq, index_named, this_node};
 ghost use Rattle.at_typing.specs.Typed.{typed_view, scope_view, bound_view, Judges};
 
 use super::kinds::{ExprKind, Typed};
@@ -29,7 +29,9 @@ impl Scope<'_> {
     }
 
     /// A name: of the innermost fold that has it, else of a parameter, else the index name.
-    pub(super) fn named(&self, name: &str, at: (u32, u32)) -> Result<Typed, TypeFault> {
+    pub(super) fn named(&self, name: &str, at: (u32, u32)) -> Result<Typed, TypeFault>
+        ensures { Judges typed_view (named_in (scope_view self.now) at name.now) result }
+    {
         match self.bound_to(name) {
             Some(bound) => Ok(Typed {
                 at,
@@ -41,7 +43,9 @@ impl Scope<'_> {
     }
 
     /// What is bound to the name, and at which position.
-    fn bound_to(&self, name: &str) -> Option<(usize, WrittenKind)> {
+    fn bound_to(&self, name: &str) -> Option<(usize, WrittenKind)>
+        ensures { result ≡ bound_to (map bound_view self.now.names.now) name.now }
+    {
         let position = position_bound(self.names, name)?;
         let kind = kind_at(self.names, position)?;
         Some((position, kind))

@@ -1,9 +1,10 @@
 //! Forms of expressions over what their parts are found to be: the first part with a fault has the form's.
 
-ghost use Rattle.at_jrag.specs.View.{word_view};
+ghost use Rattle.std.specs.Prelude.{◌≡◌, List as Items};
+ghost use Rattle.at_jrag.specs.View.{operator_view as sign_view, word_view};
 ghost use Rattle.at_typing.specs.declared.fault.RuleCode.TheVariants as code;
-ghost use Rattle.at_typing.specs.Judging.{Judged, Wrong, and_then, placed as placed_at, negation as negation_of, opposite as opposite_of, tested as tested_by};
-ghost use Rattle.at_typing.specs.Typed.{typed_view, list_view, Judges};
+ghost use Rattle.at_typing.specs.Judging.{Judged, Judgement, Kinded, Wrong, and_then, called as called_of, placed as placed_at, negation as negation_of, opposite as opposite_of, cast as cast_to, tested as tested_by, joined as joined_of, chosen as chosen_of, list_called as list_called_by};
+ghost use Rattle.at_typing.specs.Typed.{typed_view, all_view, list_view, scope_view, Judges};
 
 use super::folds::List;
 use super::kinds::Typed;
@@ -19,7 +20,9 @@ impl Scope<'_> {
         name: &str,
         arguments: Result<Vec<Typed>, TypeFault>,
         at: (u32, u32),
-    ) -> Result<Typed, TypeFault> {
+    ) -> Result<Typed, TypeFault>
+        ensures { (j : Judged) (ks : Judgement (Items Kinded)) → Judges typed_view j receiver → Judges all_view ks arguments → Judges typed_view (and_then (λ k. and_then (called_of (scope_view self.now) at name.now k) ks) j) result }
+    {
         let receiver = receiver?;
         let arguments = arguments?;
         self.called(receiver, name, arguments, at)
@@ -67,7 +70,9 @@ impl Scope<'_> {
         class: &Word,
         inner: Result<Typed, TypeFault>,
         at: (u32, u32),
-    ) -> Result<Typed, TypeFault> {
+    ) -> Result<Typed, TypeFault>
+        ensures { (j : Judged) → Judges typed_view j inner → Judges typed_view (and_then (cast_to self.now.classes.now at (word_view class.now)) j) result }
+    {
         let inner = inner?;
         self.cast(class, inner, at)
     }
@@ -92,7 +97,9 @@ impl Scope<'_> {
         left: Result<Typed, TypeFault>,
         right: Result<Typed, TypeFault>,
         at: (u32, u32),
-    ) -> Result<Typed, TypeFault> {
+    ) -> Result<Typed, TypeFault>
+        ensures { (j k : Judged) → Judges typed_view j left → Judges typed_view k right → Judges typed_view (and_then (λ a. and_then (joined_of at (sign_view sign) a) k) j) result }
+    {
         let left = left?;
         let right = right?;
         self.joined(sign, left, right, at)
@@ -105,7 +112,9 @@ impl Scope<'_> {
         left: Result<Typed, TypeFault>,
         right: Result<Typed, TypeFault>,
         at: (u32, u32),
-    ) -> Result<Typed, TypeFault> {
+    ) -> Result<Typed, TypeFault>
+        ensures { (i j k : Judged) → Judges typed_view i test → Judges typed_view j left → Judges typed_view k right → Judges typed_view (and_then (λ c. and_then (λ a. and_then (chosen_of self.now.classes.now at c a) k) j) i) result }
+    {
         let test = test?;
         let left = left?;
         let right = right?;
@@ -120,7 +129,9 @@ impl Scope<'_> {
         arguments: Result<Vec<Typed>, TypeFault>,
         at: (u32, u32),
         fold: (u32, u32),
-    ) -> Result<List, TypeFault> {
+    ) -> Result<List, TypeFault>
+        ensures { (j : Judged) (ks : Judgement (Items Kinded)) → Judges typed_view j receiver → Judges all_view ks arguments → Judges list_view (and_then (λ k. and_then (list_called_by (scope_view self.now) fold at name.now k) ks) j) result }
+    {
         let receiver = receiver?;
         let arguments = arguments?;
         self.list_called(receiver, name, arguments, at, fold)

@@ -1,7 +1,9 @@
 //! The rules of aspect files.
 
-ghost use Rattle.std.specs.Prelude.{◌≡◌, None, Some, map, IfOk, IfErr};
+ghost use Rattle.std.specs.Prelude.{◌≡◌, None, Some, map, Ok, IfOk, IfErr};
 ghost use Rattle.at_jrag.specs.View.{aspect_view};
+ghost use Rattle.at_typing.specs.Building.{Builds};
+ghost use Rattle.at_typing.specs.Located.{declarations_in};
 ghost use Rattle.attrd.specs.AspectFiles.{Holds, AllHold, GivesRules, IsReadingFaultOf, IsAspectFault, IsUnread, IsRuleFault, rule_code};
 ghost use Rattle.attrd.specs.Starts.{aspect_bytes};
 ghost use Rattle.attrd.specs.declared.start.fault.FileFault.TheVariants.{Refused};
@@ -70,7 +72,8 @@ fn refused(code: Code, at: (u32, u32)) -> FileFault
 
 fn build(alloc: Global, classes: ClassTable, aspects: &[Vec<Aspect>]) -> Result<Rules, StartFault>
     ensures classes { IfOk result (λ r. r.classes ≡ classes) }
-    ensures refused { IfErr result IsRuleFault }
+    ensures built { IfOk result (λ r. Builds classes (declarations_in aspects.now) (Ok r)) }
+    ensures refused { IfErr result (IsRuleFault classes (declarations_in aspects.now)) }
 {
     match at_typing::build(alloc, classes, aspects) {
         Ok(rules) => Ok(rules),

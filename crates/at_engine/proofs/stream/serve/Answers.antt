@@ -3,6 +3,8 @@ use Rattle.at_model.specs.Machine.{Serves, ByEquations}
 use Rattle.at_model.specs.Replies.{reply_text}
 use Rattle.at_engine.specs.Taking.{Written}
 use Rattle.at_engine.specs.Engines.{state_of, rules_of}
+use Rattle.at_engine.specs.Keeping.{KeepsServed}
+use Rattle.at_engine.proofs.KeepingBytes.{served_whole}
 use Rattle.at_engine.proofs.stream.serve.Goals as goal
 
 pub returns-clause-served : goal.returns-clause-served
@@ -16,3 +18,10 @@ returns-clause-served g c =
       record { lines = c.count.ensures.lines; memory = c.count.ensures.memory ∙ ap (λ n. c.args.desk.now.memory + n) (sym (add-zero _)) },
       subst (Written c.write_whole.result (g.W.Write.contents c.args.writer.now) (g.W.Write.contents c.write_whole.new.writer)) written c.write_whole.ensures,
     )
+
+pub returns-clause-keeps : goal.returns-clause-keeps
+returns-clause-keeps g c exact spare same =
+    let old = c.args.engine.now in
+    let new = c.serve.new.self in
+    let served = subst (λ (l : List ℕ). KeepsServed g.K.Keeper.contents c.in-Ok.wants l old new) c.as_slice.ensures.value (c.in-Ok.ensures.keeps exact spare) in
+    served_whole g.K.Keeper.contents old new c.in-Ok.wants c.args.desk.now.line.items _ _ served c.count.ensures.memory same

@@ -1,6 +1,8 @@
+use Rattle.std.specs.Prelude.{IsTrue}
 use Rattle.std.proofs.Common.{◌≡◌, ◌+◌, ◌≤◌, List, ℕ, take}
 use Rattle.at_engine.specs.Loop.{IsOpen, kept}
 use Rattle.at_engine.specs.Taking.{Takes}
+use Rattle.at_engine.specs.Keeping.{IsSpare, KeepsBytes}
 use Rattle.at_engine.specs.Engines.{state_of, rules_of, IsSound}
 use Rattle.at_engine.proofs.stream.take_piece.Given as goal
 
@@ -11,6 +13,9 @@ invariant-loop-byte g l =
     record {
       taken : (front : List ℕ) → IsOpen front → l.fn.desk.line.items ≡ kept front
           → Takes (rules_of l.fn.engine) (state_of l.fn.engine) front (take l.byte-index l.piece) (state_of l.engine) l.fn.desk l.desk (contents l.fn.writer) (contents l.writer);
+      keeps : IsTrue g.K.Keeper.exact → IsSpare g.K.Keeper.contents l.fn.engine → (front : List ℕ) → IsOpen front → l.fn.desk.line.items ≡ kept front
+          → KeepsBytes g.K.Keeper.contents front (take l.byte-index l.piece) l.fn.engine l.engine l.fn.desk l.desk;
+      spare : IsTrue g.K.Keeper.exact → IsSpare g.K.Keeper.contents l.fn.engine → IsSpare g.K.Keeper.contents l.engine;
       rules : rules_of l.engine ≡ rules_of l.fn.engine;
       sound : IsSound g.K.Keeper.contents l.engine;
       grows : l.desk.lines ≤ l.fn.desk.lines + l.byte-index;

@@ -1,10 +1,9 @@
-use Rattle.std.proofs.Common.{◌≡◌, ℕ, zero, suc, ◌+◌, ◌≤◌, ◌<◌, true, List, [], ◌∷◌, ◌++◌, length, replicate, codes, refl, sym, ap, ◌∙◌, subst, arith}
+use Rattle.std.proofs.Common.{◌≡◌, ℕ, zero, suc, ◌+◌, ◌≤◌, true, ◌∷◌, ◌++◌, length, codes, refl, sym, ap, ◌∙◌, arith}
 use Rattle.std.specs.List.{flat_map, list_all}
 use Rattle.std.proofs.lemmas.List.{length-append}
 use Rattle.std.specs.Fmt.{digits}
 use Rattle.at_model.specs.Names.{reserved_words}
 use Rattle.at_model.specs.Texts.{escaped}
-use Rattle.at_model.specs.Lines.{Line, Spells}
 use Rattle.at_model.specs.SampleSessions.{letters, renaming}
 use Rattle.at_model.specs.SampleLines.{statement_path}
 use Rattle.at_model.proofs.PlainLines.{is_low, low_utf8, named, path}

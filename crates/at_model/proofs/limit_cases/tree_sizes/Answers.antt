@@ -1,5 +1,5 @@
 use Rattle.std.proofs.Common.{◌≡◌, Bool, true, false, ◌&&◌, nat_le, refl}
-use Rattle.at_model.specs.Trees.{nodes, depth}
+use Rattle.at_model.specs.Trees.{nodes}
 use Rattle.at_model.specs.Edits.{tokens_short}
 use Rattle.at_model.proofs.limit_cases.tree_sizes.Goals as goal
 

@@ -1,17 +1,11 @@
-use Rattle.std.proofs.Common.{[], ◌∷◌, Some, None, pos, negsuc, true, false, codes, inl, inr, refl, nat_eq}
+use Rattle.std.proofs.Common.{[], ◌∷◌, pos, negsuc, codes, refl}
 use Rattle.std.specs.Fmt.{digits}
 use Rattle.at_model.specs.Classes.{chain}
 use Rattle.at_model.specs.Names.{reserved_words}
-use Rattle.at_model.specs.Trees as tree
-use Rattle.at_model.specs.Terms as term
-use Rattle.at_model.specs.Paths.{node_eq}
-use Rattle.at_model.specs.Lines.{Line, From_root, From_mark, Text, Ref, Null, Ask, Set, Put, Drop, Insert, Token, Show, Mark, Unmark, Where, Version}
-use Rattle.at_model.specs.Run.{Int, Truth}
-use Rattle.at_model.specs.Run as run
-use Rattle.at_model.specs.Meaning.{Outcomes, Finds, Faults, Circle}
-use Rattle.at_model.specs.Samples.{of_node, of_node_with, root, printed, left_of, statement, init_of}
+use Rattle.at_model.specs.Lines.{From_root, Ask, Drop}
+use Rattle.at_model.specs.Run.{Int}
+use Rattle.at_model.specs.Meaning.{Outcomes, Finds}
 use Rattle.at_model.specs.SampleLines.{says, plain_step, list_step}
-use Rattle.at_model.proofs.Apart.{apart}
 use Rattle.at_model.proofs.Played.{ends, line, question}
 use Rattle.at_model.proofs.session_cases.an_index_follows_the_list.Goals as goal
 

@@ -1,7 +1,10 @@
-use Rattle.std.proofs.Common.{true, false, map, inl, refl, sym, ◌∙◌, subst, true≢false}
+use Rattle.std.proofs.Common.{ℕ, true, false, map, inl, refl, sym, ◌∙◌, subst, true≢false}
 use Rattle.at_store.specs.Located.{loc_view}
+use Rattle.at_model.specs.Run.{Instance}
 use Rattle.at_cache.specs.Kept.{AreKept}
 use Rattle.at_body.specs.Values.{value_view}
+use Rattle.at_demand.specs.Known.{MayAdd}
+use Rattle.at_demand.proofs.Orderly.{put_adds}
 use Rattle.at_demand.proofs.Gathered.{put_covers}
 use Rattle.at_demand.proofs.Only.{put_only}
 use Rattle.at_demand.proofs.Counting.{counts_none, counts_same, counts_put}
@@ -92,3 +95,31 @@ pub returns-clause-counts : goal.returns-clause-counts
 returns-clause-counts g c exact small =
     counts_put (g.K.Keeper.contents c.args.self.now.keeper) (g.K.Keeper.contents c.put-2.new.self) g.K.Keeper.exact c.args.inst.now c.in_ok-copy.field-0 (value_view c.in_ok-copy-2.field-0) (map loc_view c.as_slice.result.now) c.as_slice-2.result.now
     c.args.self.now.work c.saturating_add-self.result c.in_ok-copy.ensures exact c.requires.absent c.in_ok-put.ensures.puts c.saturating_add-self.ensures
+
+pub returns-then-not-is_lazy-clause-adds : goal.returns-then-not-is_lazy-clause-adds
+returns-then-not-is_lazy-clause-adds g c = λ j. inl refl
+
+pub returns-in_err-sources-clause-adds : goal.returns-in_err-sources-clause-adds
+returns-in_err-sources-clause-adds g c = λ j. inl refl
+
+pub returns-in_err-copy-clause-adds : goal.returns-in_err-copy-clause-adds
+returns-in_err-copy-clause-adds g c = λ j. inl refl
+
+pub returns-in_err-copy-2-clause-adds : goal.returns-in_err-copy-2-clause-adds
+returns-in_err-copy-2-clause-adds g c = λ j. inl refl
+
+pub returns-in_err-put-clause-adds : goal.returns-in_err-put-clause-adds
+returns-in_err-put-clause-adds g c =
+    let old = g.K.Keeper.contents c.args.self.now.keeper in
+    let new = g.K.Keeper.contents c.put-2.new.self in
+    let v = value_view c.in_ok-copy-2.field-0 in
+    let adds = put_adds g.K.Keeper.exact old new c.in_ok-copy.field-0 v (map loc_view c.as_slice.result.now) c.as_slice-2.result.now c.put-2.result c.put-2.ensures.puts c.put-2.ensures.err in
+    subst (MayAdd old new c.args.inst.now) c.in_ok-copy-2.ensures (subst (λ (i : Instance ℕ). MayAdd old new i v) c.in_ok-copy.ensures adds)
+
+pub returns-clause-adds : goal.returns-clause-adds
+returns-clause-adds g c =
+    let old = g.K.Keeper.contents c.args.self.now.keeper in
+    let new = g.K.Keeper.contents c.put-2.new.self in
+    let v = value_view c.in_ok-copy-2.field-0 in
+    let adds = put_adds g.K.Keeper.exact old new c.in_ok-copy.field-0 v (map loc_view c.as_slice.result.now) c.as_slice-2.result.now c.put-2.result c.put-2.ensures.puts c.put-2.ensures.err in
+    subst (MayAdd old new c.args.inst.now) c.in_ok-copy-2.ensures (subst (λ (i : Instance ℕ). MayAdd old new i v) c.in_ok-copy.ensures adds)

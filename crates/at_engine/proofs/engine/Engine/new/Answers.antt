@@ -1,11 +1,11 @@
-use Rattle.std.proofs.Common.{◌≡◌, ◌∙◌, true, List, [], ap, sym, subst}
+use Rattle.std.proofs.Common.{◌≡◌, ◌∙◌, true, List, ap, sym, subst}
 use Rattle.at_model.specs.Classes.{Classes, AreSound}
-use Rattle.at_model.specs.Machine.{State}
 use Rattle.at_model.specs.Trees.{Tree, conforms}
 use Rattle.at_tree.specs.TreeView.{tree_view}
-use Rattle.at_store.specs.Shown.{path}
+use Rattle.at_store.specs.Shown.{contents, path}
 use Rattle.at_engine.specs.Marks.{AreThere, marks_view}
 use Rattle.at_engine.specs.declared.marks.Mark.{Mark}
+use Rattle.at_engine.proofs.Keeping.{spare_of_nothing}
 use Rattle.at_engine.proofs.Storing.{held, right_of_nothing}
 use Rattle.at_engine.proofs.engine.Engine.new.Goals as goal
 
@@ -22,3 +22,6 @@ returns-clause-sound g c empty = record {
   marked = subst (AreThere (path c.in_ok-store.store)) (sym c.new-2.ensures) tt;
   right = right_of_nothing c.args.rules c.in_ok-store.store _ (λ i. ap (λ k. g.K.Keeper.contents k i) c.new.ensures ∙ empty i);
 }
+
+pub returns-clause-spare : goal.returns-clause-spare
+returns-clause-spare g c empty = spare_of_nothing c.args.rules (contents c.in_ok-store.store) _ (λ i. ap (λ k. g.K.Keeper.contents k i) c.new.ensures ∙ empty i)

@@ -1,4 +1,12 @@
+use Rattle.std.proofs.Common.{List, Vec, Ok, subst}
 use Rattle.std.proofs.lemmas.Result.{err_from_is_err_and}
+use Rattle.std.specs.Global.{Global}
+use Rattle.std.specs.Result.{IfOk, IfErr}
+use Rattle.at_jrag.specs.declared.syntax.Aspect.{Aspect}
+use Rattle.at_model.specs.Rules.{Rules}
+use Rattle.at_typing.specs.Building.{Builds}
+use Rattle.at_typing.specs.Located.{declarations_in}
+use Rattle.attrd.specs.AspectFiles.{IsRuleFault}
 use Rattle.attrd.specs.Starts.{aspect_bytes}
 use Rattle.attrd.proofs.Ruled.{unread_refuses, given_by, refused_by}
 use Rattle.attrd.proofs.start.aspects.rules_of.Goals as goal
@@ -10,8 +18,10 @@ returns-in_err-aspects-clause-refused c =
 
 pub returns-clause-given : goal.returns-clause-given
 returns-clause-given c =
-    given_by c.args.classes (aspect_bytes c.args.aspects.now) c.in_ok-aspects.aspects.items c.build.result c.in_ok-aspects.ensures.hold c.build.ensures.classes
+    let built = subst (λ (v : List (Vec Aspect Global)). IfOk c.build.result (λ (r : Rules). Builds c.args.classes (declarations_in v) (Ok r))) c.deref.ensures.value c.build.ensures.built in
+    given_by c.args.classes (aspect_bytes c.args.aspects.now) c.in_ok-aspects.aspects.items c.build.result c.in_ok-aspects.ensures.hold built
 
 pub returns-clause-refused : goal.returns-clause-refused
 returns-clause-refused c =
-    refused_by c.args.classes (aspect_bytes c.args.aspects.now) c.in_ok-aspects.aspects.items c.build.result c.in_ok-aspects.ensures.hold c.build.ensures.refused
+    let refused = subst (λ (v : List (Vec Aspect Global)). IfErr c.build.result (IsRuleFault c.args.classes (declarations_in v))) c.deref.ensures.value c.build.ensures.refused in
+    refused_by c.args.classes (aspect_bytes c.args.aspects.now) c.in_ok-aspects.aspects.items c.build.result c.in_ok-aspects.ensures.hold refused

@@ -1,0 +1,130 @@
+-- Every instance that is well formed stands in the list.
+use Rattle.std.proofs.Common.{◌≡◌, ℕ, zero, suc, ◌+◌, ◌<◌, ◌≤◌, Bool, true, false, nat_eq, List, [], ◌∷◌, ◌++◌, map, length, Option, Some, None, inl, inr, refl, ap, subst, arith}
+use Rattle.std.specs.Prelude.{option_map}
+use Rattle.std.specs.List.{slice_get, AllByRecursion, flat_map}
+use Rattle.std.proofs.lemmas.Option.{slice_get_within}
+use Rattle.std.proofs.lemmas.Bool.Decides.{nat_tests}
+use Rattle.at_model.specs.Trees.{Tree, Node as Branch, Cells, no_cells, cell, Cell, One, Many, Empty, Filled, Holds, Trees, no_trees, tree, children, from_cells, from_trees, class_of}
+use Rattle.at_model.specs.Paths.{Node, tree_at, children_at}
+use Rattle.at_model.specs.Run.{Value, Int, Truth, Text, Ref, Instance}
+use Rattle.at_model.specs.Rules.{Rules, Kind, Attribute}
+use Rattle.at_model.specs.Rules as kind
+use Rattle.at_model.specs.Meaning.{Among}
+use Rattle.at_model.specs.Kinds.{AreTyped, IsParameter, IsDeclarationTyped}
+use Rattle.at_model.specs.TypedRuns.{class_at, IsOfKind, IsAllowed, AreArguments, IsWellTyped}
+use Rattle.at_model.specs.Instances.{all_nodes, cells_nodes, cell_nodes, trees_nodes, texts, argument_values, argument_lists, below, instances, IsGiven}
+use Rattle.at_model.proofs.Options.{led}
+use Rattle.at_model.proofs.Everywhere.{found}
+
+pub among_left : {A : Type 0} (a : A) (xs ys : List A) → Among a xs → Among a (xs ++ ys)
+among_left a [] ys h = absurd h
+among_left a (x ∷ xs) ys (inl e) = inl e
+among_left a (x ∷ xs) ys (inr h) = inr (among_left a xs ys h)
+
+pub among_right : {A : Type 0} (a : A) (xs ys : List A) → Among a ys → Among a (xs ++ ys)
+among_right a [] ys h = h
+among_right a (x ∷ xs) ys h = inr (among_right a xs ys h)
+
+pub among_map : {A B : Type 0} (f : A → B) (a : A) (xs : List A) → Among a xs → Among (f a) (map f xs)
+among_map f a [] h = absurd h
+among_map f a (x ∷ xs) (inl e) = inl (ap f e)
+among_map f a (x ∷ xs) (inr h) = inr (among_map f a xs h)
+
+pub among_flat : {A B : Type 0} (f : A → List B) (a : A) (b : B) (xs : List A) → Among a xs → Among b (f a) → Among b (flat_map f xs)
+among_flat f a b [] h g = absurd h
+among_flat f a b (x ∷ xs) (inl e) g = among_left b (f x) (flat_map f xs) (subst (λ z. Among b (f z)) e g)
+among_flat f a b (x ∷ xs) (inr h) g = among_right b (f x) (flat_map f xs) (among_flat f a b xs h g)
+
+at_end : (n k : ℕ) → k < suc n → (b : Bool) → nat_eq k n ≡ b → (k < n → Among k (below n)) → Among k (below n ++ n ∷ [])
+at_end n k h true e rest = among_right k (below n) (n ∷ []) (inl (grind (arith, nat_tests)))
+at_end n k h false e rest = let g : k < n = grind (arith, nat_tests) in among_left k (below n) (n ∷ []) (rest g)
+
+none_below : (k : ℕ) → k < 0 → ⊥
+none_below k h = omega arith
+
+among_below : (n k : ℕ) → k < n → Among k (below n)
+among_below zero k h = absurd (none_below k h)
+among_below (suc n) k h = at_end n k h (nat_eq k n) refl (among_below n k)
+
+among_trees : (part k : ℕ) (ts : Trees) (i : ℕ) (v : Tree) (m : Node) → slice_get (from_trees ts) i ≡ Some v → Among m (all_nodes v) → Among ((part, k + i) ∷ m) (trees_nodes part k ts)
+among_trees part k no_trees i v m e h = absurd (cc)
+among_trees part k (tree t ts) zero v m e h =
+    let f : v ≡ t = cc in
+    let g : k ≡ k + 0 = omega arith in
+    among_left _ (map (λ n. (part, k) ∷ n) (all_nodes t)) (trees_nodes part (suc k) ts) (subst (λ z. Among ((part, z) ∷ m) (map (λ n. (part, k) ∷ n) (all_nodes t))) g (among_map (λ n. (part, k) ∷ n) m (all_nodes t) (subst (λ z. Among m (all_nodes z)) f h)))
+among_trees part k (tree t ts) (suc i) v m e h =
+    let g : suc k + i ≡ k + suc i = omega arith in
+    among_right _ (map (λ n. (part, k) ∷ n) (all_nodes t)) (trees_nodes part (suc k) ts) (subst (λ z. Among ((part, z) ∷ m) (trees_nodes part (suc k) ts)) g (among_trees part (suc k) ts i v m e h))
+
+among_cell : (part : ℕ) (c : Cell) (i : ℕ) (v : Tree) (m : Node) → slice_get (children c) i ≡ Some v → Among m (all_nodes v) → Among ((part, i) ∷ m) (cell_nodes part c)
+among_cell part (One t) zero v m e h = let f : v ≡ t = cc in among_map (λ n. (part, 0) ∷ n) m (all_nodes t) (subst (λ z. Among m (all_nodes z)) f h)
+among_cell part (One t) (suc i) v m e h = absurd (cc)
+among_cell part (Many ts) i v m e h = let g : 0 + i ≡ i = omega arith in subst (λ z. Among ((part, z) ∷ m) (trees_nodes part 0 ts)) g (among_trees part 0 ts i v m e h)
+among_cell part Empty i v m e h = absurd (cc)
+among_cell part (Filled t) zero v m e h = let f : v ≡ t = cc in among_map (λ n. (part, 0) ∷ n) m (all_nodes t) (subst (λ z. Among m (all_nodes z)) f h)
+among_cell part (Filled t) (suc i) v m e h = absurd (cc)
+among_cell part (Holds w) i v m e h = absurd (cc)
+
+among_cells : (k : ℕ) (cells : Cells) (part : ℕ) (o : Option Cell) (i : ℕ) (v : Tree) (m : Node) → slice_get (from_cells cells) part ≡ o → slice_get (elim o [ None ↦ [] | Some c ↦ children c ]) i ≡ Some v → Among m (all_nodes v) → Among ((k + part, i) ∷ m) (cells_nodes k cells)
+among_cells k cells part None i v m f e h = absurd (cc)
+among_cells k no_cells part (Some c) i v m f e h = absurd (cc)
+among_cells k (cell d cs) zero (Some c) i v m f e h =
+    let x : c ≡ d = cc in
+    let g : k ≡ k + 0 = omega arith in
+    among_left _ (cell_nodes k d) (cells_nodes (suc k) cs) (subst (λ z. Among ((z, i) ∷ m) (cell_nodes k d)) g (among_cell k d i v m (subst (λ z. slice_get (children z) i ≡ Some v) x e) h))
+among_cells k (cell d cs) (suc part) (Some c) i v m f e h =
+    let g : suc k + part ≡ k + suc part = omega arith in
+    among_right _ (cell_nodes k d) (cells_nodes (suc k) cs) (subst (λ z. Among ((z, i) ∷ m) (cells_nodes (suc k) cs)) g (among_cells (suc k) cs part (Some c) i v m f e h))
+
+-- each node of the tree stands in the list
+pub among_nodes : (t : Tree) (n : Node) (u : Tree) → tree_at t n ≡ Some u → Among n (all_nodes t)
+among_nodes (Branch c cells) [] u e = inl refl
+among_nodes (Branch c cells) (s ∷ ss) u e =
+    let (v, f, g) = led (λ v. tree_at v ss) (slice_get (children_at (Branch c cells) s.0) s.1) u e in
+    let x : 0 + s.0 ≡ s.0 = omega arith in
+    inr (subst (λ z. Among ((z, s.1) ∷ ss) (cells_nodes 0 cells)) x (among_cells 0 cells s.0 (slice_get (from_cells cells) s.0) s.1 v ss refl f (among_nodes v ss u g)))
+
+node_listed : (t : Tree) (n : Node) (c : ℕ) → class_at t n ≡ Some c → Among n (all_nodes t)
+node_listed t n c e = by_tree (tree_at t n) refl e
+  where
+    by_tree : (o : Option Tree) → tree_at t n ≡ o → option_map class_of o ≡ Some c → Among n (all_nodes t)
+    by_tree None f g = absurd (cc)
+    by_tree (Some u) f g = among_nodes t n u f
+
+module _ (rules : Rules) (t : Tree) (vs : List (Value Node)) where
+  value_listed : (v : Value Node) (k : Kind) → IsParameter rules.classes k → IsOfKind rules.classes (class_at t) v k → IsAllowed (IsGiven rules t vs) v → Among v (argument_values rules t vs)
+  value_listed (Text bytes) k p h s = among_left (Text bytes) (map (λ bytes. Text bytes) (texts rules t vs)) (Ref None ∷ map (λ n. Ref (Some n)) (all_nodes t)) (among_map (λ bytes. Text bytes) bytes (texts rules t vs) s)
+  value_listed (Ref None) k p h s = among_right (Ref None) (map (λ bytes. Text bytes) (texts rules t vs)) (Ref None ∷ map (λ n. Ref (Some n)) (all_nodes t)) (inl refl)
+  value_listed (Ref (Some n)) (kind.Class b) p (c, e, f) s = among_right (Ref (Some n)) (map (λ bytes. Text bytes) (texts rules t vs)) (Ref None ∷ map (λ n. Ref (Some n)) (all_nodes t)) (inr (among_map (λ n. Ref (Some n)) n (all_nodes t) (node_listed t n c e)))
+  value_listed (Ref (Some n)) kind.Int p h s = absurd p
+  value_listed (Ref (Some n)) kind.Truth p h s = absurd p
+  value_listed (Ref (Some n)) kind.Text p h s = absurd h
+  value_listed (Int n) kind.Int p h s = absurd p
+  value_listed (Int n) k p h s = absurd h
+  value_listed (Truth b) kind.Truth p h s = absurd p
+  value_listed (Truth b) k p h s = absurd h
+
+  too_many : (a b c : Kind) (ks : List Kind) → length (a ∷ b ∷ c ∷ ks) ≤ 2 → ⊥
+  too_many a b c ks h = omega arith
+
+  arguments_listed : (ws : List (Value Node)) (ks : List Kind) → length ks ≤ 2 → AllByRecursion (IsParameter rules.classes) ks → AreArguments rules.classes (class_at t) (IsGiven rules t vs) ws ks → Among ws (argument_lists (argument_values rules t vs))
+  arguments_listed [] ks few p h = inl refl
+  arguments_listed (v ∷ ws) [] few p h = absurd h
+  arguments_listed (v ∷ []) (k ∷ ks) few (p, ps) (h, s, hs) = inr (among_left (v ∷ []) (map (λ v. v ∷ []) (argument_values rules t vs)) _ (among_map (λ v. v ∷ []) v (argument_values rules t vs) (value_listed v k p h s)))
+  arguments_listed (v ∷ w ∷ ws) (k ∷ []) few p (h, s, hs) = absurd hs
+  arguments_listed (v ∷ w ∷ []) (k ∷ l ∷ ks) few (p, (q, ps)) (h, s, (g, r, hs)) =
+      inr (among_right (v ∷ w ∷ []) (map (λ v. v ∷ []) (argument_values rules t vs)) _ (among_flat (λ v. map (λ w. v ∷ w ∷ []) (argument_values rules t vs)) v (v ∷ w ∷ []) (argument_values rules t vs) (value_listed v k p h s)
+      (among_map (λ w. v ∷ w ∷ []) w (argument_values rules t vs) (value_listed w l q g r))))
+  arguments_listed (v ∷ w ∷ x ∷ ws) (k ∷ l ∷ []) few p (h, s, (g, r, hs)) = absurd hs
+  arguments_listed (v ∷ w ∷ x ∷ ws) (k ∷ l ∷ m ∷ ks) few p h = absurd (too_many k l m ks few)
+
+  pub instance_listed : AreTyped rules → (i : Instance Node) → IsWellTyped rules (class_at t) (IsGiven rules t vs) i → Among i (instances rules t vs)
+  instance_listed typed i w =
+      let declared = found (IsDeclarationTyped rules.classes) rules.attributes i.attribute w.declaration typed.attributes w.attribute in
+      let lists = argument_lists (argument_values rules t vs) in
+      let a = arguments_listed i.arguments w.declaration.parameters declared.few declared.parameters w.arguments in
+      let b = among_below (length rules.attributes) i.attribute (slice_get_within rules.attributes i.attribute w.declaration w.attribute) in
+      let c = node_listed t i.node w.class w.node in
+      among_flat (λ n. flat_map (λ k. map (λ ws. record { node = n; attribute = k; arguments = ws }) lists) (below (length rules.attributes))) i.node i (all_nodes t) c
+      (among_flat (λ k. map (λ ws. record { node = i.node; attribute = k; arguments = ws }) lists) i.attribute i (below (length rules.attributes)) b
+      (among_map (λ ws. record { node = i.node; attribute = i.attribute; arguments = ws }) i.arguments lists a))

@@ -1,0 +1,107 @@
+-- Every line has a reply, but a question that has no answer.
+use Rattle.std.proofs.Common.{◌≡◌, ℕ, zero, suc, ◌+◌, ◌<◌, ◌≤◌, Bool, true, false, nat_eq, cond, List, [], ◌∷◌, ◌++◌, Option, Some, None, ◌⊎◌, inl, inr, refl, sym, ap, ◌∙◌, subst, arith}
+use Rattle.std.specs.Prelude.{decimal}
+use Rattle.std.proofs.lemmas.Bool.{eqb-true, eqb-false, eq-eqb}
+use Rattle.at_model.specs.Paths.{Node}
+use Rattle.at_model.specs.Run.{Instance}
+use Rattle.at_model.specs.Rules.{Rules}
+use Rattle.at_model.specs.Meaning.{Answer}
+use Rattle.at_model.specs.Lines.{Line, Spells, BeginsWith, IsSpaceOrEnd, IsSessionOf, max_sessions}
+use Rattle.at_model.specs.Replies.{Reply, Form, Shows, Done, Refused, Memory}
+use Rattle.at_model.specs.Replies as code
+use Rattle.at_model.specs.Machine.{State, Verdict, Refuses, Tells, Leaves, Edits, Asks, ByEquations, Says, Handles, obeys, refuses, Serves, after, verdict, answer_form}
+
+-- what stands behind the front
+strip : List ℕ → List ℕ → Option (List ℕ)
+strip [] bytes = Some bytes
+strip (a ∷ as') [] = None
+strip (a ∷ as') (b ∷ bs) = cond (nat_eq a b) (strip as' bs) None
+
+stripped : (front bytes rest : List ℕ) → strip front bytes ≡ Some rest → bytes ≡ front ++ rest
+unfolding strip
+stripped [] bytes rest e = cc
+stripped (a ∷ as') [] rest e = absurd cc
+stripped (a ∷ as') (b ∷ bs) rest e = by_byte (nat_eq a b) refl e (stripped as' bs rest)
+  where
+    by_byte : (t : Bool) → nat_eq a b ≡ t → cond t (strip as' bs) None ≡ Some rest → (strip as' bs ≡ Some rest → bs ≡ as' ++ rest) → b ∷ bs ≡ a ∷ (as' ++ rest)
+    by_byte true is h more = ap (λ x. x ∷ bs) (sym (eqb-true a b is)) ∙ ap (λ x. a ∷ x) (more h)
+    by_byte false is h more = absurd cc
+
+strips : (front rest : List ℕ) → strip front (front ++ rest) ≡ Some rest
+unfolding strip
+strips [] rest = refl
+strips (a ∷ as') rest = rw (eq-eqb a a refl) (strips as' rest)
+
+-- a fact that holds, or doesn't
+abbrev Decided : Type 0 → Type 0
+Decided P = P ⊎ (P → ⊥)
+
+space_or_end : (rest : List ℕ) → Decided (IsSpaceOrEnd rest)
+space_or_end [] = inl tt
+space_or_end (b ∷ bs) = by_byte (nat_eq b 32) refl
+  where
+    by_byte : (t : Bool) → nat_eq b 32 ≡ t → Decided (b ≡ 32)
+    by_byte true is = inl (eqb-true b 32 is)
+    by_byte false is = inr (λ e. let f : nat_eq b 32 ≡ true = eq-eqb b 32 e in cc)
+
+begins : (bytes : List ℕ) (session : ℕ) → session < max_sessions → Decided (BeginsWith bytes session)
+begins bytes session small = by_rest (strip (decimal session) bytes) refl
+  where
+    by_rest : (o : Option (List ℕ)) → strip (decimal session) bytes ≡ o → Decided (BeginsWith bytes session)
+    by_rest None is = inr (λ h. let f : strip (decimal session) (decimal session ++ h.rest) ≡ Some h.rest = strips (decimal session) h.rest in let g : strip (decimal session) bytes ≡ Some h.rest = ap (strip (decimal session)) h.front ∙ f in cc)
+    by_rest (Some rest) is = elim (space_or_end rest) [
+      | inl ends ↦ inl (record { exists = small; rest = rest; front = stripped (decimal session) bytes rest is; behind = ends })
+      | inr none ↦ inr (λ h.
+          let g : strip (decimal session) bytes ≡ Some h.rest = ap (strip (decimal session)) h.front ∙ strips (decimal session) h.rest in
+          let same : h.rest ≡ rest = cc in none (subst IsSpaceOrEnd same h.behind))
+    ]
+
+-- one of the sessions below the number can be read, or none
+sessions_below : (bytes : List ℕ) (n : ℕ) → n ≤ max_sessions → ((session : ℕ) × BeginsWith bytes session) ⊎ ((session : ℕ) → session < n → BeginsWith bytes session → ⊥)
+sessions_below bytes zero h = inr (λ session small b. omega (arith, small))
+sessions_below bytes (suc n) h =
+    let at : Decided (BeginsWith bytes n) = begins bytes n (omega (arith, h)) in
+    elim at [
+      | inl b ↦ inl (n, b)
+      | inr none ↦ elim (sessions_below bytes n (omega (arith, h))) [
+        | inl found ↦ inl found
+        | inr fewer ↦ inr (λ session small b. elim (below_or_same session n small) [ inl less ↦ fewer session less b | inr same ↦ none (subst (BeginsWith bytes) same b) ])
+      ]
+    ]
+  where
+    below_or_same : (a b : ℕ) → a < suc b → (a < b) ⊎ (a ≡ b)
+    below_or_same a b small = by_test (nat_eq a b) refl
+      where
+        by_test : (t : Bool) → nat_eq a b ≡ t → (a < b) ⊎ (a ≡ b)
+        by_test true is = inr (eqb-true a b is)
+        by_test false is = inl (omega (arith, small, eqb-false a b is))
+
+pub session_read : (bytes : List ℕ) → (session : Option ℕ) × IsSessionOf bytes session
+session_read bytes = elim (sessions_below bytes max_sessions (omega arith)) [
+  | inl found ↦ (Some found.0, found.1)
+  | inr none ↦ (None, λ session b. none session b.exists b)
+]
+
+-- each verdict is told, a question where it has an answer
+says_something : (rules : Rules) (s : State) (v : Verdict) → ((q : Instance Node) → v ≡ Asks q → (a : Answer Node) × ByEquations rules s.tree q a) → (form : Form) × Says rules (ByEquations rules) s v form
+says_something rules s (Refuses refusal) h = (Refused refusal, refl)
+says_something rules s (Tells shown) h = (Shows shown, refl)
+says_something rules s (Leaves marks) h = (Done s.version, refl)
+says_something rules s (Edits e t) h = (Done (s.version + 1), refl)
+says_something rules s (Asks q) h = let (a, answered) = h q refl in (answer_form rules s.tree a, (a, answered, refl))
+
+pub reply_to_line : (rules : Rules) (old : State) (bytes : List ℕ) (l : Line) → Spells bytes l → ((q : Instance Node) → verdict rules old l ≡ Asks q → (a : Answer Node) × ByEquations rules old.tree q a) →
+    (reply : Reply) × Handles rules (ByEquations rules) old bytes (after old (verdict rules old l)) reply
+reply_to_line rules old bytes l spells answered =
+    let (form, says) = says_something rules old (verdict rules old l) answered in
+    (record { session = Some l.session; form = form }, obeys l spells (record { session = refl; state = refl; says = says }))
+
+pub reply_to_no_line : (rules : Rules) (old : State) (bytes : List ℕ) → ((l : Line) → Spells bytes l → ⊥) → (reply : Reply) × Handles rules (ByEquations rules) old bytes old reply
+reply_to_no_line rules old bytes none =
+    let (session, read) = session_read bytes in
+    (record { session = session; form = Refused code.Syntax }, refuses none read refl refl)
+
+pub reply_without_memory : (rules : Rules) (old : State) (bytes : List ℕ) → (reply : Reply) × Serves rules (ByEquations rules) true old bytes old reply
+reply_without_memory rules old bytes =
+    let (session, read) = session_read bytes in
+    (record { session = session; form = Memory }, (read, refl, refl))

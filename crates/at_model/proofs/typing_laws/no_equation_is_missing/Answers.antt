@@ -1,0 +1,8 @@
+use Rattle.at_model.proofs.TypedTogether.{demanded, own_there, source_there}
+use Rattle.at_model.proofs.typing_laws.no_equation_is_missing.Goals as goal
+
+pub returns-clause-own : goal.returns-clause-own
+returns-clause-own c = λ rules ok t sound i j formed leads own u there. own_there rules ok t sound j (demanded rules ok t sound i formed j leads) own u there
+
+pub returns-clause-inherited : goal.returns-clause-inherited
+returns-clause-inherited c = λ rules ok t sound i j formed leads inherited. source_there rules ok t sound j (demanded rules ok t sound i formed j leads) inherited

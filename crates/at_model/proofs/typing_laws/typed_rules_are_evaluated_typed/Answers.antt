@@ -1,0 +1,8 @@
+use Rattle.at_model.proofs.TypedTogether.{evaluated_any, evaluated}
+use Rattle.at_model.proofs.typing_laws.typed_rules_are_evaluated_typed.Goals as goal
+
+pub returns-clause-any : goal.returns-clause-any
+returns-clause-any c = evaluated_any
+
+pub returns-clause-given : goal.returns-clause-given
+returns-clause-given c = evaluated

@@ -1,0 +1,114 @@
+-- The first element that passes one of several tests.
+use Rattle.std.proofs.Common.{◌≡◌, ℕ, ◌+◌, ◌≤◌, min, List, [], ◌∷◌, ◌++◌, length, filter, map, refl, ap, ap₂, sym, ◌∙◌, arith, Option, Some, None}
+use Rattle.std.specs.Prelude.{Bool, true, false, ◌&&◌, ◌||◌, cond, position, is_some, if◌then◌else◌, All}
+use Rattle.std.specs.List.{list_any, position_from}
+use Rattle.std.specs.Option.{option_or}
+use Rattle.std.proofs.lemmas.Iterator.Adapters.{position_from-zero}
+use Rattle.std.proofs.lemmas.List.Elements.{All-tail}
+use Rattle.at_rules.specs.Upward.{earlier}
+
+before_others : {A : Type 0} (p : A → Bool) (i m : ℕ) (xs : List A) → i ≤ m → earlier (Some i) (position_from p m xs) ≡ Some i
+before_others p i m [] le = refl
+before_others p i m (x ∷ xs) le = by (p x) (before_others p i (m + 1) xs (omega (arith, le)))
+  where
+    by : (b : Bool) → earlier (Some i) (position_from p (m + 1) xs) ≡ Some i → earlier (Some i) (cond b (Some m) (position_from p (m + 1) xs)) ≡ Some i
+    by true rest = let same : min i m ≡ i = omega (arith, le) in ap Some same
+    by false rest = rest
+
+others_behind : {A : Type 0} (p : A → Bool) (i m : ℕ) (xs : List A) → i ≤ m → earlier (position_from p m xs) (Some i) ≡ Some i
+others_behind p i m [] le = refl
+others_behind p i m (x ∷ xs) le = by (p x) (others_behind p i (m + 1) xs (omega (arith, le)))
+  where
+    by : (b : Bool) → earlier (position_from p (m + 1) xs) (Some i) ≡ Some i → earlier (cond b (Some m) (position_from p (m + 1) xs)) (Some i) ≡ Some i
+    by true rest = let same : min m i ≡ i = omega (arith, le) in ap Some same
+    by false rest = rest
+
+either_from : {A : Type 0} (p q : A → Bool) (i : ℕ) (xs : List A) → earlier (position_from p i xs) (position_from q i xs) ≡ position_from (λ x. p x || q x) i xs
+either_from p q i [] = refl
+either_from p q i (x ∷ xs) = by (p x) (q x) (either_from p q (i + 1) xs)
+  where
+    by : (a b : Bool) → earlier (position_from p (i + 1) xs) (position_from q (i + 1) xs) ≡ position_from (λ x. p x || q x) (i + 1) xs
+        → earlier (cond a (Some i) (position_from p (i + 1) xs)) (cond b (Some i) (position_from q (i + 1) xs)) ≡ cond (a || b) (Some i) (position_from (λ x. p x || q x) (i + 1) xs)
+    by true true rest = let same : min i i ≡ i = omega arith in ap Some same
+    by true false rest = before_others q i (i + 1) xs (omega arith)
+    by false true rest = others_behind p i (i + 1) xs (omega arith)
+    by false false rest = rest
+
+pub either : {A : Type 0} (p q : A → Bool) (xs : List A) → earlier (position p xs) (position q xs) ≡ position (λ x. p x || q x) xs
+either p q xs = ap₂ earlier (position_from-zero p xs) (position_from-zero q xs) ∙ either_from p q 0 xs ∙ sym (position_from-zero (λ x. p x || q x) xs)
+
+pub earlier_assoc : (o p q : Option ℕ) → earlier (earlier o p) q ≡ earlier o (earlier p q)
+earlier_assoc None p q = refl
+earlier_assoc (Some i) None q = refl
+earlier_assoc (Some i) (Some j) None = refl
+earlier_assoc (Some i) (Some j) (Some k) = let same : min (min i j) k ≡ min i (min j k) = omega arith in ap Some same
+
+pub earlier_none : (o : Option ℕ) → earlier o None ≡ o
+earlier_none None = refl
+earlier_none (Some i) = refl
+
+none_from : {A : Type 0} (i : ℕ) (xs : List A) → position_from (λ x. false) i xs ≡ None
+none_from i [] = refl
+none_from i (x ∷ xs) = none_from (i + 1) xs
+
+pub nowhere : {A : Type 0} (xs : List A) → position (λ x. false) xs ≡ None
+nowhere xs = position_from-zero (λ x. false) xs ∙ none_from 0 xs
+
+-- one more element ----------------------------------------------------------------------------------------------------
+
+last_from : {A : Type 0} (p : A → Bool) (i : ℕ) (xs : List A) (y : A) → position_from p i (xs ++ y ∷ []) ≡ option_or (position_from p i xs) (if p y then Some (i + length xs) else None)
+last_from p i [] y = let same : i ≡ i + 0 = omega arith in ap (λ n. if p y then Some n else None) same
+last_from p i (x ∷ xs) y = by (p x) (last_from p (i + 1) xs y)
+  where
+    same : i + 1 + length xs ≡ i + length (x ∷ xs)
+    same = omega arith
+
+    by : (b : Bool) → position_from p (i + 1) (xs ++ y ∷ []) ≡ option_or (position_from p (i + 1) xs) (if p y then Some (i + 1 + length xs) else None)
+        → cond b (Some i) (position_from p (i + 1) (xs ++ y ∷ [])) ≡ option_or (cond b (Some i) (position_from p (i + 1) xs)) (if p y then Some (i + length (x ∷ xs)) else None)
+    by true rest = refl
+    by false rest = rest ∙ ap (λ n. option_or (position_from p (i + 1) xs) (if p y then Some n else None)) same
+
+pub with_last : {A : Type 0} (p : A → Bool) (xs : List A) (y : A) → position p (xs ++ y ∷ []) ≡ option_or (position p xs) (if p y then Some (length xs) else None)
+with_last p xs y =
+    position_from-zero p (xs ++ y ∷ []) ∙ last_from p 0 xs y
+    ∙ ap (λ o. option_or o (if p y then Some (0 + length xs) else None)) (sym (position_from-zero p xs))
+    ∙ ap (λ n. option_or (position p xs) (if p y then Some n else None)) same
+  where
+    same : 0 + length xs ≡ length xs
+    same = omega arith
+
+-- among those that pass another test ----------------------------------------------------------------------------------
+
+-- the first one for which a test holds, through a view in which another test holds of the same
+same_from : {A B : Type 0} (P : A → Type 0) (v : A → B) (a : B → Bool) (p : A → Bool) (q : B → Bool) (i : ℕ) (xs : List A) → All P xs → ((x : A) → P x → p x ≡ q (v x))
+    → position_from p i (filter (λ x. a (v x)) xs) ≡ position_from q i (filter a (map v xs))
+same_from P v a p q i [] all same = refl
+same_from P v a p q i (x ∷ xs) all same = by (a (v x)) (λ j. same_from P v a p q j xs (All-tail P x xs all) same)
+  where
+    here : p x ≡ q (v x)
+    here = same x (all 0 x (omega arith))
+
+    by : (b : Bool) → ((j : ℕ) → position_from p j (filter (λ x. a (v x)) xs) ≡ position_from q j (filter a (map v xs)))
+        → position_from p i (cond b (x ∷ filter (λ x. a (v x)) xs) (filter (λ x. a (v x)) xs)) ≡ position_from q i (cond b (v x ∷ filter a (map v xs)) (filter a (map v xs)))
+    by true rest = ap (λ c. cond c (Some i) (position_from p (i + 1) (filter (λ x. a (v x)) xs))) here ∙ ap (cond (q (v x)) (Some i)) (rest (i + 1))
+    by false rest = rest i
+
+pub same_first : {A B : Type 0} (P : A → Type 0) (v : A → B) (a : B → Bool) (p : A → Bool) (q : B → Bool) (xs : List A) → All P xs → ((x : A) → P x → p x ≡ q (v x))
+    → position p (filter (λ x. a (v x)) xs) ≡ position q (filter a (map v xs))
+same_first P v a p q xs all same = position_from-zero p (filter (λ x. a (v x)) xs) ∙ same_from P v a p q 0 xs all same ∙ sym (position_from-zero q (filter a (map v xs)))
+
+found_from : {A : Type 0} (p a : A → Bool) (i : ℕ) (xs : List A) → is_some (position_from p i (filter a xs)) ≡ list_any (λ x. a x && p x) xs
+found_from p a i [] = refl
+found_from p a i (x ∷ xs) = by (a x) (λ j. found_from p a j xs)
+  where
+    here : (b : Bool) → is_some (position_from p (i + 1) (filter a xs)) ≡ list_any (λ x. a x && p x) xs → is_some (cond b (Some i) (position_from p (i + 1) (filter a xs))) ≡ (b || list_any (λ x. a x && p x) xs)
+    here true rest = refl
+    here false rest = rest
+
+    by : (b : Bool) → ((j : ℕ) → is_some (position_from p j (filter a xs)) ≡ list_any (λ x. a x && p x) xs) → is_some (position_from p i (cond b (x ∷ filter a xs) (filter a xs))) ≡ ((b && p x) || list_any (λ x. a x && p x) xs)
+    by true rest = here (p x) (rest (i + 1))
+    by false rest = rest i
+
+-- there is one
+pub is_found : {A : Type 0} (p a : A → Bool) (xs : List A) → is_some (position p (filter a xs)) ≡ list_any (λ x. a x && p x) xs
+is_found p a xs = ap is_some (position_from-zero p (filter a xs)) ∙ found_from p a 0 xs

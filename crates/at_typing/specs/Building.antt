@@ -1,0 +1,73 @@
+-- Which rules declarations make, or their first fault: of several together before that of one by itself, and that before what a class
+-- lacks.
+use Rattle.std.specs.Prelude.{◌≡◌, ℕ, List, Option, Some, None, Result, Ok, Err}
+use Rattle.std.specs.List.{filter_map}
+use Rattle.std.specs.Option.{option_or}
+use Rattle.at_model.specs.Classes.{Classes}
+use Rattle.at_model.specs.Declarations.{first_given}
+use Rattle.at_model.specs.Rules.{Rules}
+use Rattle.at_typing.specs.Completing.{IsFirstFault, LacksOwn, LacksInherited}
+use Rattle.at_typing.specs.Declaring.{fault_at, fault_together}
+use Rattle.at_typing.specs.Judging.{Judgement, Is, Wrong}
+use Rattle.at_typing.specs.Located.{Located}
+use Rattle.at_typing.specs.Meanings.{Meaning, meant}
+use Rattle.at_typing.specs.declared.fault.Fault.{Fault}
+use Rattle.at_typing.specs.declared.fault.RuleCode.TheVariants as code
+use Rattle.at_typing.specs.declared.fault.RuleFault.{RuleFault}
+use Rattle.at_typing.specs.declared.fault.RuleFault.TheVariants.{Refused, Memory}
+
+-- faults ---------------------------------------------------------------------------------------------------------------
+
+abbrev pub refusal : Located → Judgement Meaning → Option Fault
+refusal d (Is m) = None
+refusal d (Wrong c at) = Some (fault_at c d at)
+
+abbrev pub refused_at : Classes → List Located → ℕ → Located → Option Fault
+refused_at classes ds i d = refusal d (meant classes ds d)
+
+-- the first fault of a declaration by itself
+abbrev pub refused : Classes → List Located → Option Fault
+refused classes ds = first_given (refused_at classes ds) 0 ds
+
+-- the first fault before any class is looked at for what it lacks
+abbrev pub first_fault : Classes → List Located → Option Fault
+first_fault classes ds = option_or (fault_together classes ds) (refused classes ds)
+
+-- J8, where J7 has no fault
+abbrev pub IsLackBehind : Rules → List Located → Option Fault → Option Fault → Type 0
+IsLackBehind rules ds (Some own) f = f ≡ Some own
+IsLackBehind rules ds None f = IsFirstFault code.InheritedWithoutEquation (LacksInherited rules) ds f
+
+-- the fault of rules in which a class lacks an equation, if there is one
+abbrev pub IsLack : Rules → List Located → Option Fault → Type 0
+IsLack rules ds f = (own : Option Fault) × IsFirstFault code.ClassWithoutEquation (LacksOwn rules) ds own × IsLackBehind rules ds own f
+
+-- rules ----------------------------------------------------------------------------------------------------------------
+
+abbrev pub meaning_if : Judgement Meaning → Option Meaning
+meaning_if (Is m) = Some m
+meaning_if (Wrong c at) = None
+
+-- what some of the declarations mean among all of them
+abbrev pub meanings : Classes → (all some : List Located) → List Meaning
+meanings classes all some = filter_map (λ d. meaning_if (meant classes all d)) some
+
+-- the rules that the declarations make
+abbrev pub rules_of : Classes → List Located → Rules
+rules_of classes ds = record {
+  classes = classes;
+  attributes = filter_map (λ (m : Meaning). m.attribute) (meanings classes ds ds);
+  own = filter_map (λ (m : Meaning). m.own) (meanings classes ds ds);
+  inherited = filter_map (λ (m : Meaning). m.inherited) (meanings classes ds ds);
+}
+
+-- faults of the declarations come before what their rules lack
+abbrev pub IsFault : Classes → List Located → Option Fault → Option Fault → Type 0
+IsFault classes ds (Some first) f = f ≡ Some first
+IsFault classes ds None f = IsLack (rules_of classes ds) ds f
+
+-- the rules that the declarations make, where they have no fault; else their first fault; of want of memory nothing is said
+abbrev pub Builds : Classes → List Located → Result Rules RuleFault → Type 0
+Builds classes ds (Ok rules) = IsFault classes ds (first_fault classes ds) None × (rules ≡ rules_of classes ds)
+Builds classes ds (Err (Refused f)) = IsFault classes ds (first_fault classes ds) (Some f)
+Builds classes ds (Err Memory) = Unit {0}
