@@ -31,3 +31,8 @@ mod InOrder
 mod Built
 mod Parts
 mod Seen
+mod Holding
+mod KindsKnown
+mod KindsOfForms
+mod KindsOfCalls
+mod KindsJudged

@@ -18,3 +18,4 @@ pub mod Seen
 pub mod Walks
 pub mod Hierarchies
 pub mod Completing
+pub mod Literals
