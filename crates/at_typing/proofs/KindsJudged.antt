@@ -1,6 +1,6 @@
 -- What is found of an expression as it is written has the kind that is found.
-use Rattle.std.proofs.Common.{◌≡◌, ℕ, zero, suc, Bool, true, false, List, [], ◌∷◌, Option, Some, None, option_map, refl, sym, ap, ◌∙◌, subst, true≢false}
-use Rattle.std.specs.Prelude.{is_some, position, option_and_then}
+use Rattle.std.proofs.Common.{◌≡◌, ℕ, Bool, true, false, List, ◌∷◌, Option, Some, None, option_map, refl, sym, subst}
+use Rattle.std.specs.Prelude.{is_some, position}
 use Rattle.std.specs.List.{slice_get, AllZip}
 use Rattle.std.specs.Str.{bytes_eq}
 use Rattle.at_model.specs.Bodies as body
@@ -13,14 +13,13 @@ use Rattle.at_model.proofs.Options.{led, mapped}
 use Rattle.at_jrag.specs.Syntax.{Place}
 use Rattle.at_jrag.specs.Syntax as written
 use Rattle.at_rules.specs.declared.body.Kind.TheVariants as known_kind
-use Rattle.at_typing.specs.Judging.{Kinded, Judgement, Is, Wrong, Judged, Scope, Bound, Listed, and_then, of_kind, within, index_eq, bound_to, index_named, named_by, named, this_node, negation, opposite, joined, chosen, cast, tested, called, list_called, list_or, folded, placed, judged, judged_all, judged_list}
+use Rattle.at_typing.specs.Judging.{Kinded, Is, Wrong, Scope, Bound, and_then, within, index_eq, bound_to, index_named, named_by, named, this_node, negation, opposite, joined, chosen, cast, tested, called, list_called, list_or, folded, placed, judged, judged_all, judged_list}
 use Rattle.at_typing.specs.Kinds.{of_written}
 use Rattle.at_typing.specs.Literals.{AreInts, AreIntsAmong}
 use Rattle.at_typing.specs.Signatures.{Declared}
 use Rattle.at_typing.specs.declared.fault.RuleCode.TheVariants as code
 use Rattle.at_typing.specs.declared.signatures.WrittenKind.{WrittenKind}
 use Rattle.at_typing.specs.declared.signatures.WrittenKind.TheVariants.{Known}
-use Rattle.at_typing.specs.declared.typing.kinds.ExprKind.TheVariants as found
 use Rattle.at_typing.proofs.Holding.{Holds, then_holds, none_holds}
 use Rattle.at_typing.proofs.KindsKnown.{IsKind, IsDeclaredAs, beside_it}
 use Rattle.at_typing.proofs.KindsOfForms.{Has, Right, negation_right, opposite_right, joined_right, chosen_right, cast_right, tested_right}

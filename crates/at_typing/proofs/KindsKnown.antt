@@ -1,11 +1,10 @@
 -- Kinds as they are written, and attributes as they are declared, among rules that have no fault.
-use Rattle.std.proofs.Common.{◌≡◌, ◌≢◌, ℕ, zero, suc, ◌<◌, Bool, true, false, List, [], ◌∷◌, length, get_or, Option, Some, None, refl, sym, ap, ◌∙◌, subst}
+use Rattle.std.proofs.Common.{◌≡◌, ℕ, zero, suc, ◌<◌, Bool, true, List, [], ◌∷◌, length, get_or, Some, refl, subst}
 use Rattle.std.specs.Prelude.{position}
 use Rattle.std.specs.List.{slice_get, AllZip}
 use Rattle.std.proofs.lemmas.List.Quantifiers.{position-Some}
 use Rattle.std.proofs.lemmas.Option.{none-some, slice_get-get_or}
 use Rattle.at_model.specs.Rules.{Kind, Attribute}
-use Rattle.at_model.specs.Rules as model
 use Rattle.at_rules.specs.Bodies.{kind_view}
 use Rattle.at_typing.specs.Signatures.{Declared}
 use Rattle.at_typing.specs.declared.signatures.WrittenKind.{WrittenKind}

@@ -1,5 +1,5 @@
 -- The kinds of what is asked of nodes and texts, and of folds.
-use Rattle.std.proofs.Common.{◌≡◌, ℕ, zero, suc, Bool, true, false, ◌&&◌, List, [], ◌∷◌, length, Option, Some, None, option_map, refl, sym, ap, ◌∙◌, subst, true≢false, arith}
+use Rattle.std.proofs.Common.{◌≡◌, ℕ, Bool, true, false, ◌&&◌, List, [], ◌∷◌, length, Option, Some, None, option_map, refl, sym, ap, ◌∙◌, subst, true≢false, arith}
 use Rattle.std.specs.Prelude.{⊤, codes, position, nat_eq, if◌then◌else◌, option_and_then}
 use Rattle.std.specs.List.{slice_get, AllZip}
 use Rattle.std.specs.Option.{option_or}
@@ -17,15 +17,13 @@ use Rattle.at_model.specs.Kinds as has
 use Rattle.at_model.proofs.Options.{both, led, mapped}
 use Rattle.at_jrag.specs.Syntax.{Place}
 use Rattle.at_jrag.specs.Syntax as written
-use Rattle.at_rules.specs.Bodies.{kind_view}
 use Rattle.at_rules.specs.declared.body.Kind.TheVariants as known_kind
-use Rattle.at_typing.specs.Accessors.{accessor_named, accessed as accessed_part, got_or, got_in, getter, named_besides, is_had, is_counted, is_listed, is_list, is_optional, shape_of, token_kind, element_class, listed, listed_in}
-use Rattle.at_typing.specs.Judging.{Kinded, Judgement, Is, Wrong, Judged, Scope, Bound, Listed, and_then, of_kind, only, where_fit, one_argument, equal, alone, accessed, is_given_text, is_text_word, is_argument, misfit, bodies, bodies_or, fitted, demanded_of, demanded, asked_by, asked, asked_of, called, list_named, without, list_by, list_called, list_or, folded}
-use Rattle.at_typing.specs.Kinds.{known, of_written, is_int, is_truth, is_text, is_within, fits}
+use Rattle.at_typing.specs.Accessors.{accessor_named, accessed as accessed_part, got_or, getter, named_besides, is_had, is_counted, is_listed, is_list, is_optional, shape_of, token_kind, element_class, listed, listed_in}
+use Rattle.at_typing.specs.Judging.{Kinded, Wrong, Judged, Scope, Bound, Listed, and_then, of_kind, where_fit, one_argument, equal, alone, accessed, is_given_text, is_argument, misfit, bodies, bodies_or, fitted, demanded_of, asked_by, asked, asked_of, called, list_named, without, list_by, list_called, folded}
+use Rattle.at_typing.specs.Kinds.{known, of_written, is_int, is_truth, is_text, is_within}
 use Rattle.at_typing.specs.Signatures.{Declared, declared_named, is_below}
 use Rattle.at_typing.specs.declared.accessors.Accessor.{Accessor}
 use Rattle.at_typing.specs.declared.accessors.Accessor.TheVariants as accessor
-use Rattle.at_typing.specs.declared.fault.RuleCode.{RuleCode}
 use Rattle.at_typing.specs.declared.fault.RuleCode.TheVariants as code
 use Rattle.at_typing.specs.declared.signatures.WrittenKind.{WrittenKind}
 use Rattle.at_typing.specs.declared.signatures.WrittenKind.TheVariants.{Known, Strange}
@@ -170,7 +168,7 @@ module _ (rules : Rules) where
 
   -- arguments -----------------------------------------------------------------------------------------------------------
 
-  within_has : (t : ScopeKinds) (b : ℕ) (k : ExprKind) (e : Expr) → is_within rules.classes b k ≡ true → Has rules t k e → HasKind rules t e (model.Class b)
+  pub within_has : (t : ScopeKinds) (b : ℕ) (k : ExprKind) (e : Expr) → is_within rules.classes b k ≡ true → Has rules t k e → HasKind rules t e (model.Class b)
   within_has t b (found.Class c) e is h = has.widened c b is h
   within_has t b found.Null e is h = h b
   within_has t b k e is h = absurd (true≢false (sym is))

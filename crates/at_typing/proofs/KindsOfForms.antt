@@ -1,7 +1,6 @@
 -- The kinds of what operators, casts and choices make of parts.
-use Rattle.std.proofs.Common.{◌≡◌, ℕ, ◌<◌, Bool, true, false, ◌&&◌, List, length, Option, Some, None, refl, sym, ap, ◌∙◌, subst, true≢false}
+use Rattle.std.proofs.Common.{◌≡◌, ℕ, ◌<◌, Bool, true, false, length, Option, Some, None, refl, sym, ap, subst, true≢false}
 use Rattle.std.specs.Prelude.{if◌then◌else◌}
-use Rattle.std.specs.List.{slice_get, AllZip}
 use Rattle.std.specs.Str.{bytes_eq}
 use Rattle.std.proofs.lemmas.Option.{none-some}
 use Rattle.at_model.specs.Classes.{Class, is_sub, class_of_name}
@@ -14,7 +13,7 @@ use Rattle.at_model.specs.Kinds as has
 use Rattle.at_model.proofs.Options.{both}
 use Rattle.at_jrag.specs.Syntax.{Place, Word}
 use Rattle.at_jrag.specs.Syntax as written
-use Rattle.at_typing.specs.Judging.{Kinded, Judgement, Is, Wrong, Judged, and_then, kind_if, of_kind, negation, opposite, computed, ordered, added, text_joined, joined, of_wider, chosen, beside, class_beside, cast, tested}
+use Rattle.at_typing.specs.Judging.{Kinded, Is, Wrong, kind_if, of_kind, negation, opposite, computed, ordered, added, text_joined, joined, of_wider, chosen, beside, class_beside, cast, tested}
 use Rattle.at_typing.specs.Kinds.{is_int, is_truth, is_text, is_node, are_ints, are_truths, are_alike, only_if, upper, wider_class, wider}
 use Rattle.at_typing.specs.declared.fault.RuleCode.TheVariants as code
 use Rattle.at_typing.specs.declared.typing.kinds.ExprKind.{ExprKind}

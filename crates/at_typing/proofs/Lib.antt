@@ -36,3 +36,7 @@ mod KindsKnown
 mod KindsOfForms
 mod KindsOfCalls
 mod KindsJudged
+mod KindsDeclared
+mod KindsOfBodies
+mod InheritedAlike
+mod EquationsOfKinds

@@ -1,7 +1,9 @@
 -- The numbers that are written in expressions.
-use Rattle.std.specs.Prelude.{⊤}
+use Rattle.std.specs.Prelude.{⊤, IfSome}
 use Rattle.at_model.specs.Terms.{IsInt32}
 use Rattle.at_jrag.specs.Syntax.{Expr, Exprs, no_exprs, expr, Number, TextLiteral, Truth, Null, This, Name, Call, CallOf, Paren, Negate, Not, Cast, InstanceOf, Binary, Choose, Fold}
+use Rattle.at_typing.specs.Declaring.{body_in}
+use Rattle.at_typing.specs.Located.{Located}
 
 abbrev mutual
   -- each number in the expression has 32 bits
@@ -27,3 +29,7 @@ abbrev mutual
   pub AreIntsAmong : Exprs → Type 0
   AreIntsAmong no_exprs = ⊤
   AreIntsAmong (expr e es) = AreInts e × AreIntsAmong es
+
+-- in the declaration's body, if it has one
+abbrev pub AreIntsIn : Located → Type 0
+AreIntsIn d = IfSome (body_in d.decl.form) (λ b. AreInts b.expr)
