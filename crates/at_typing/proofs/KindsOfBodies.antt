@@ -18,7 +18,6 @@ use Rattle.at_rules.specs.declared.body.Kind.TheVariants as kind
 use Rattle.at_typing.specs.Declaring.{params_in, index_in}
 use Rattle.at_typing.specs.Judging.{Kinded, Judgement, Is, Wrong, and_then, fitting, body_of, judged}
 use Rattle.at_typing.specs.Kinds.{fits}
-use Rattle.at_typing.specs.Literals.{AreInts}
 use Rattle.at_typing.specs.Located.{Located}
 use Rattle.at_typing.specs.Meanings.{scope, body_for, body_if, body_meant}
 use Rattle.at_typing.specs.Ruling.{written_kind, is_same, is_kind, passed_if, param_named, param_as_declared, as_declared, bound}
@@ -32,6 +31,7 @@ use Rattle.at_typing.proofs.KindsDeclared.{IsPassed, param_named_right}
 use Rattle.at_typing.proofs.KindsOfForms.{Right, int_has, truth_has, text_has}
 use Rattle.at_typing.proofs.KindsOfCalls.{within_has}
 use Rattle.at_typing.proofs.KindsJudged.{IsBound, judged_right}
+use Rattle.at_typing.proofs.Literals.{AreInts}
 
 -- the parameters of an equation -----------------------------------------------------------------------------------------
 
@@ -140,8 +140,8 @@ module _ (rules : Rules) where
         with_attribute s a there of =
             then_holds (λ e. HasKind rules (where_stands c a indexed) e a.result) (λ e. IsBodyOf c indexed e × (Some n ≡ Some e.0)) (λ e. Is (n, e)) (body_for rules.classes declared c d body s)
             (then_holds (λ u. AllZip IsBound (map (bound rules.classes) (params_in d.decl.form).items) (drop 0 a.parameters)) (λ e. HasKind rules (where_stands c a indexed) e a.result) (λ u. body_of (scope rules.classes declared c d.decl.form) body.expr s.result) (as_declared rules.classes s.parameters (params_in d.decl.form).end 0 (params_in d.decl.form).items)
-             (params_right rules.classes s.parameters a.parameters (params_in d.decl.form).end 0 (params_in d.decl.form).items of.parameters)
-             (λ u names. body_of_right c d.decl.form body s a indexed ints of index names))
+            (params_right rules.classes s.parameters a.parameters (params_in d.decl.form).end 0 (params_in d.decl.form).items of.parameters)
+            (λ u names. body_of_right c d.decl.form body s a indexed ints of index names))
             (λ e h. (record { declaration = a; attribute = there; body = h }, refl))
 
         by : (s : Option Declared) → slice_get declared n ≡ s → Holds (λ e. IsBodyOf c indexed e × (Some n ≡ Some e.0)) (and_then (λ e. Is (n, e)) (body_if rules.classes declared c d body s))

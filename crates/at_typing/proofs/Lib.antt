@@ -35,8 +35,10 @@ mod Holding
 mod KindsKnown
 mod KindsOfForms
 mod KindsOfCalls
+mod Literals
 mod KindsJudged
 mod KindsDeclared
 mod KindsOfBodies
 mod InheritedAlike
 mod EquationsOfKinds
+pub mod BuiltWellFormed

@@ -18,4 +18,3 @@ pub mod Seen
 pub mod Walks
 pub mod Hierarchies
 pub mod Completing
-pub mod Literals
