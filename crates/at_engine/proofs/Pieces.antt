@@ -31,7 +31,7 @@ pieces_cons (b ∷ bs) = elim (nat_eq b 10) as (λ t. IsCons (cond t ([] ∷ pie
   | false ↦ onto_first_cons b (pieces bs)
 ]
 
-onto_front_nothing : (qs : List (List ℕ)) → IsCons qs → onto_front [] qs ≡ qs
+pub onto_front_nothing : (qs : List (List ℕ)) → IsCons qs → onto_front [] qs ≡ qs
 onto_front_nothing (q ∷ qs) h = refl
 onto_front_nothing [] h = elim h [ ]
 

@@ -16,7 +16,7 @@ returns-clause-served g c =
       reply,
       subst (λ (l : List ℕ). Serves (rules_of c.args.engine.now) (ByEquations (rules_of c.args.engine.now)) c.in-Ok.wants (state_of c.args.engine.now) l (state_of c.serve.new.self) reply) line c.in-Ok.ensures.served.1,
       record { lines = c.count.ensures.lines; memory = c.count.ensures.memory ∙ ap (λ n. c.args.desk.now.memory + n) (sym (add-zero _)) },
-      subst (Written c.write_whole.result (g.W.Write.contents c.args.writer.now) (g.W.Write.contents c.write_whole.new.writer)) written c.write_whole.ensures,
+      subst (Written c.write_whole.result (g.W.Output.contents c.args.writer.now) (g.W.Output.contents c.write_whole.new.writer)) written c.write_whole.ensures.written,
     )
 
 pub returns-clause-keeps : goal.returns-clause-keeps
@@ -25,3 +25,6 @@ returns-clause-keeps g c exact spare same =
     let new = c.serve.new.self in
     let served = subst (λ (l : List ℕ). KeepsServed g.K.Keeper.contents c.in-Ok.wants l old new) c.as_slice.ensures.value (c.in-Ok.ensures.keeps exact spare) in
     served_whole g.K.Keeper.contents old new c.in-Ok.wants c.args.desk.now.line.items _ _ served c.count.ensures.memory same
+
+pub returns-clause-failed : goal.returns-clause-failed
+returns-clause-failed g c = c.write_whole.ensures.failed
