@@ -4,4 +4,5 @@ pub mod Joins
 pub mod Named
 pub mod Order
 pub mod Sound
+pub mod Acyclic
 pub mod Whole

@@ -7,6 +7,7 @@ use Rattle.at_class.specs.Grammar.{declarations_view}
 use Rattle.at_class.proofs.Named.{unknown-declared, classes-declared, circle-declared, twice-declared, over-declared}
 use Rattle.at_class.proofs.Order.{refused_for, fault_no_class, fault_class_twice, fault_unknown_class, fault_circle, fault_token_kind, fault_component_twice, fault_limit, no_fault}
 use Rattle.at_class.proofs.Sound.{classes_sound, view_texts}
+use Rattle.at_class.proofs.Acyclic.{hierarchy}
 use Rattle.at_class.proofs.Whole.{none_declared, some_declared, longer, is_table}
 use Rattle.at_class.proofs.table.table_of.Goals as goal
 
@@ -88,11 +89,13 @@ returns-in_err-refuse-5-clause-refused c =
 pub invariant_of-result : goal.invariant_of-result
 invariant_of-result c =
     let xs = c.args.declarations.now in
+    let ds = declarations_view xs in
     let ks = c.in_ok-classes.classes.items in
     let names = c.in_ok-names.ensures.ok in
     let e = classes-declared c.in_ok-names.names.keys xs (classes_view ks) names.1 c.in_ok-classes.ensures in
-    is_table c.in_ok-names.names.keys ks c.in_ok-parts.parts.items xs names.1 e c.deref-4.result.now c.deref-4.ensures.value c.in_ok-parts.ensures
-    (classes_sound (declarations_view xs) (longer xs (sym c.is_empty.ensures ∙ c.if-is_empty.false)) c.requires (view_texts xs) names.0)
+    let s = sym (circle-declared ds (classes_view c.deref.result.now) (ap classes_view c.deref.ensures.value ∙ e)) ∙ sym c.superclass_circle.ensures ∙ c.in_ok-refuse-2.ensures.ok in
+    let sound = classes_sound ds (longer xs (sym c.is_empty.ensures ∙ c.if-is_empty.false)) c.requires (view_texts xs) names.0 in
+    is_table c.in_ok-names.names.keys ks c.in_ok-parts.parts.items xs names.1 e c.deref-4.result.now c.deref-4.ensures.value c.in_ok-parts.ensures sound (hierarchy ds sound s)
 
 pub returns-clause-faultless : goal.returns-clause-faultless
 returns-clause-faultless c =
