@@ -1,5 +1,6 @@
 pub mod Firsts
 pub mod Chains
+pub mod Circling
 pub mod Joins
 pub mod Named
 pub mod Order

@@ -165,7 +165,7 @@ fn table_of(alloc: Global, declarations: &[ClassDecl]) -> Result<ClassTable, Cla
     let classes = classes_declared(alloc, &names, declarations)?;
     refuse(
         ClassCode::SuperclassCircle,
-        superclass_circle(&classes, declarations),
+        superclass_circle(alloc, &classes, declarations)?,
     )?;
     refuse(ClassCode::TokenKind, wrong_token_kind(declarations))?;
     refuse(
