@@ -1,7 +1,9 @@
 pub mod Firsts
 pub mod Chains
+pub mod Circling
 pub mod Joins
 pub mod Named
 pub mod Order
 pub mod Sound
+pub mod Acyclic
 pub mod Whole

@@ -1,5 +1,6 @@
 pub mod View
 pub mod Grammar
 pub mod Faults
+pub mod Climbs
 pub mod Checks
 pub mod Table

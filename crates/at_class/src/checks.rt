@@ -7,7 +7,8 @@ ghost use Rattle.at_class.specs.Grammar.{declaration_view, declarations_view, pa
 ghost use Rattle.at_model.specs.Declarations.{above as above_of};
 ghost use Rattle.at_class.specs.Checks.{unknown_by, circle_in, kind_in, is_of_no_kind, twice_in, parts_twice, over_in};
 
-use crate::chain::{climbs, lineage, own_parts, parent_of};
+use crate::chain::{lineage, own_parts, parent_of};
+use crate::circles::Circles;
 use crate::clash::{has_too_many, is_taken};
 use crate::class::{Class, token_kind_named};
 use crate::names::{is_known, is_token};
@@ -32,16 +33,22 @@ pub fn unknown_class(names: &IndexSet<String>, declarations: &[ClassDecl]) -> Op
 }
 
 /// The name of the first class that is above itself.
-pub fn superclass_circle(classes: &[Class], declarations: &[ClassDecl]) -> Option<(u32, u32)>
-    ensures { result ≡ circle_in (classes_view classes.now) (declarations_view declarations.now) }
+pub fn superclass_circle(
+    alloc: Global,
+    classes: &[Class],
+    declarations: &[ClassDecl],
+) -> Result<Option<(u32, u32)>, AllocError>
+    ensures { IfOk result (λ place. place ≡ circle_in (classes_view classes.now) (declarations_view declarations.now)) }
 {
+    let mut circles = Circles::new(alloc, classes)?;
     for (position, declaration) in declarations.iter().enumerate() {
         let class = ClassId::new(position);
-        if climbs(classes, parent_of(classes, class), class) {
-            return Some(declaration.at);
+        let is_above = circles.is_above_itself(classes, class)?;
+        if is_above {
+            return Ok(Some(declaration.at));
         }
     }
-    None
+    Ok(None)
 }
 
 /// The name of the first token whose kind is none of the three.

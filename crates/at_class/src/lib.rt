@@ -3,6 +3,7 @@
 
 mod chain;
 mod checks;
+mod circles;
 mod clash;
 mod class;
 mod fault;
