@@ -1,8 +1,10 @@
 pub mod PathWritten
 pub mod Machine
 pub mod Pieces
+pub mod Passing
 pub mod Finished
 pub mod PathMachine
+pub mod PathRuns
 pub mod Escapes
 pub mod TermSpelled
 pub mod TermSteps
