@@ -10,6 +10,7 @@ pub mod TermSpelled
 pub mod TermSteps
 pub mod TermAlive
 pub mod TermRuns
+pub mod TermPassing
 pub mod TermMachine
 pub mod TextLaws
 pub mod TreeLoops

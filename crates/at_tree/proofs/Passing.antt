@@ -22,9 +22,11 @@ cut_back text front rest e = ap (λ n. drop n text) (seam text front rest e) ∙
 
 pub leads_over : {P : Type 0} (step : P → ℕ → Option P) (passes : ℕ → Bool) (place : List ℕ → P) → ((word : List ℕ) (c : ℕ) → passes c ≡ true → step (place word) c ≡ Some (place (word ++ encode_utf8 c))) → (cs word : List ℕ) → AllByRecursion (λ c. passes c ≡ true) cs → Leads step (place word) cs (place (word ++ encode_utf8_all cs))
 leads_over step passes place goes [] word e = rw append-nil refl
-leads_over step passes place goes (c ∷ cs) word e =
-    (place (word ++ encode_utf8 c), goes word c e.0,
-    subst (λ w. Leads step (place (word ++ encode_utf8 c)) cs (place w)) (append_assoc word (encode_utf8 c) (encode_utf8_all cs)) (leads_over step passes place goes cs (word ++ encode_utf8 c) e.1))
+leads_over step passes place goes (c ∷ cs) word e = (
+  place (word ++ encode_utf8 c),
+  goes word c e.0,
+  subst (λ w. Leads step (place (word ++ encode_utf8 c)) cs (place w)) (append_assoc word (encode_utf8 c) (encode_utf8_all cs)) (leads_over step passes place goes cs (word ++ encode_utf8 c) e.1),
+)
 
 -- one character, and more behind it
 pub takes_more : {P : Type 0} (step : P → ℕ → Option P) (p next q : P) (c : ℕ) (cs text rest rest' : List ℕ) → step p c ≡ Some next → text ≡ encode_utf8 c ++ rest → rest ≡ encode_utf8_all cs ++ rest' → Leads step next cs q → Takes step p text q rest'
