@@ -3,7 +3,7 @@ use Rattle.std.specs.Prelude.{◌≡◌, ℕ, ◌-◌, ◌≤◌, Bool, List, []
 use Rattle.std.specs.Io.KnownBytes.{Appends, Consumes, IsAtEnd}
 use Rattle.at_model.specs.Lines.{lines}
 use Rattle.at_model.specs.Rules.{Rules}
-use Rattle.at_model.specs.Machine.{State, ByEquations, Runs, Outputs}
+use Rattle.at_model.specs.Machine.{State, Runs, Outputs}
 use Rattle.at_engine.specs.declared.stream.desk.Report.{Report}
 use Rattle.at_engine.specs.declared.stream.desk.RunFault.{RunFault}
 use Rattle.at_engine.specs.declared.stream.desk.RunFault.TheVariants.{Read, Write, TooManyReads, Memory}
@@ -18,7 +18,7 @@ pub record Ended (rules : Rules) (old new : State) (readable left before after :
   pub text : List ℕ
   pub read : Consumes readable left input
   pub ended : IsAtEnd left
-  pub outputs : Outputs rules (ByEquations rules) old input named text new
+  pub outputs : Outputs rules old input named text new
   pub written : Appends before after text
   pub counted : report.lines ≡ length (lines input)
   pub accepted : report.accepted ≡ new.version - old.version
@@ -46,7 +46,7 @@ pub record CutOff (rules : Rules) (old new : State) (readable left before after 
   pub first : lines input ≡ served ++ others
   pub named : List Bool
   pub text : List ℕ
-  pub runs : Runs rules (ByEquations rules) old served named text new
+  pub runs : Runs rules old served named text new
   pub done : List ℕ
   pub undone : List ℕ
   pub replies : text ≡ done ++ undone

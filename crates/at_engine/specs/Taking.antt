@@ -5,7 +5,7 @@ use Rattle.at_engine.specs.declared.stream.desk.RunFault.{RunFault}
 use Rattle.at_engine.specs.declared.stream.desk.RunFault.TheVariants as fault
 use Rattle.at_model.specs.Rules.{Rules}
 use Rattle.at_model.specs.Lines.{is_filled}
-use Rattle.at_model.specs.Machine.{State, ByEquations, Runs}
+use Rattle.at_model.specs.Machine.{State, Runs}
 use Rattle.at_engine.specs.declared.stream.desk.Desk.{Desk}
 use Rattle.at_engine.specs.Loop.{Progress, kept}
 
@@ -57,6 +57,6 @@ TakesOrStops (Err e) rules old front bytes new desk next before after = (e ≡ f
 pub record Finishes (result : Result (Unit {0}) RunFault) (rules : Rules) (old : State) (front : List ℕ) (new : State) (desk next : Desk) (before after : Option (List ℕ)) : Type 0 where
   pub named : List Bool
   pub text : List ℕ
-  pub runs : Runs rules (ByEquations rules) old (filter is_filled (front ∷ [])) named text new
+  pub runs : Runs rules old (filter is_filled (front ∷ [])) named text new
   pub counts : Counts desk next named
   pub written : Written result before after text

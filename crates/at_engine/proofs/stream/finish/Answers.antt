@@ -1,6 +1,6 @@
 use Rattle.std.proofs.Common.{◌≡◌, ap, subst, List, ℕ, length, ◌<◌, ◌≤◌, arith, vec_len}
 use Rattle.std.proofs.lemmas.Bool.Decides.{nat_tests}
-use Rattle.at_model.specs.Machine.{Serves, ByEquations}
+use Rattle.at_model.specs.Machine.{Serves}
 use Rattle.at_engine.specs.Loop.{kept}
 use Rattle.at_engine.specs.Engines.{state_of, rules_of}
 use Rattle.at_engine.proofs.Kept.{filled_as_kept, empty_as_kept}
@@ -21,7 +21,7 @@ returns-clause-finished g c front e =
     let some : 0 < vec_len c.args.desk.now.line = grind (arith, nat_tests) in
     let long : 0 < length (kept front) = omega (arith, some, c.args.desk.now.line.ok.0, ap length e) in
     let rules = rules_of c.args.engine.now in
-    let served = subst (λ (i : List ℕ). Serves rules (ByEquations rules) s.0 (state_of c.args.engine.now) i (state_of c.serve.new.engine) s.1) e s.2 in
+    let served = subst (λ (i : List ℕ). Serves rules s.0 (state_of c.args.engine.now) i (state_of c.serve.new.engine) s.1) e s.2 in
     finished_line c.serve.result rules _ _ front s.0 s.1 _ _ _ _ (filled_as_kept front long) (serves_kept rules s.0 _ _ front s.1 served) s.3 s.4
 
 pub returns-then-is_empty-clause-keeps : goal.returns-then-is_empty-clause-keeps
