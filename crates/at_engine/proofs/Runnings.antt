@@ -5,7 +5,7 @@ use Rattle.std.specs.Io.KnownBytes.{Consumes, IsAtEnd}
 use Rattle.at_model.specs.Rules.{Rules}
 use Rattle.at_model.specs.Lines.{lines, pieces, is_filled}
 use Rattle.at_model.specs.Replies.{Reply, reply_text}
-use Rattle.at_model.specs.Machine.{State, Serves, Runs, ByEquations}
+use Rattle.at_model.specs.Machine.{State, Serves, Runs}
 use Rattle.at_engine.specs.declared.stream.desk.Desk.{Desk}
 use Rattle.at_engine.specs.declared.stream.desk.Report.{Report}
 use Rattle.at_engine.specs.declared.stream.desk.RunFault.{RunFault}
@@ -18,7 +18,7 @@ use Rattle.at_engine.proofs.Takings.{wants-append, no_count, halted}
 use Rattle.at_engine.proofs.Progressing.{one_line, runs_line}
 
 -- each line of a run is named or not
-length-named : (rules : Rules) (old new : State) (ls : List (List ℕ)) (ks : List Bool) (text : List ℕ) → Runs rules (ByEquations rules) old ls ks text new → length ks ≡ length ls
+length-named : (rules : Rules) (old new : State) (ls : List (List ℕ)) (ks : List Bool) (text : List ℕ) → Runs rules old ls ks text new → length ks ≡ length ls
 length-named rules old new [] [] text r = refl
 length-named rules old new [] (k ∷ ks) text r = absurd r
 length-named rules old new (l ∷ ls) [] text r = absurd r
@@ -26,10 +26,10 @@ length-named rules old new (l ∷ ls) (k ∷ ks) text (a, reply, rest, served, e
 
 -- the run over the whole lines and over the last one is the run over all lines
 all_lines : (rules : Rules) (old mid new : State) (input rest : List ℕ) (fulls : List (List ℕ)) (ks js : List Bool) (text more : List ℕ) → pieces input ≡ fulls ++ rest ∷ []
-    → Runs rules (ByEquations rules) old (filter is_filled fulls) ks text mid → Runs rules (ByEquations rules) mid (filter is_filled (rest ∷ [])) js more new
-    → Runs rules (ByEquations rules) old (lines input) (ks ++ js) (text ++ more) new
+    → Runs rules old (filter is_filled fulls) ks text mid → Runs rules mid (filter is_filled (rest ∷ [])) js more new
+    → Runs rules old (lines input) (ks ++ js) (text ++ more) new
 all_lines rules old mid new input rest fulls ks js text more split r s =
-    subst (λ (l : List (List ℕ)). Runs rules (ByEquations rules) old l (ks ++ js) (text ++ more) new)
+    subst (λ (l : List (List ℕ)). Runs rules old l (ks ++ js) (text ++ more) new)
     (sym (ap (filter is_filled) split ∙ filter-append is_filled fulls (rest ∷ [])))
     (runs-append rules old mid new (filter is_filled fulls) (filter is_filled (rest ∷ [])) ks js text more r s)
 
@@ -129,11 +129,11 @@ finished_empty rules s desk before = record { named = []; text = []; runs = (ref
 
 -- the last line was served
 pub finished_line : (result : Result (Unit {0}) RunFault) (rules : Rules) (old new : State) (front : List ℕ) (k : Bool) (reply : Reply) (desk next : Desk) (before after : Option (List ℕ)) → is_filled front ≡ true
-    → desk.line.items ≡ kept front → Serves rules (ByEquations rules) k old desk.line.items new reply → Counts desk next (k ∷ []) → Written result before after (reply_text reply) → Finishes result rules old front new desk next before after
+    → desk.line.items ≡ kept front → Serves rules k old desk.line.items new reply → Counts desk next (k ∷ []) → Written result before after (reply_text reply) → Finishes result rules old front new desk next before after
 finished_line (Ok u) rules old new front k reply desk next before after filled e served counts written = record {
   named = k ∷ [];
   text = reply_text reply;
-  runs = runs_line rules old old new [] [] [] front k reply filled (serves_kept rules k old new front reply (subst (λ (i : List ℕ). Serves rules (ByEquations rules) k old i new reply) e served)) (refl, refl);
+  runs = runs_line rules old old new [] [] [] front k reply filled (serves_kept rules k old new front reply (subst (λ (i : List ℕ). Serves rules k old i new reply) e served)) (refl, refl);
   counts = counts;
   written = written;
 }

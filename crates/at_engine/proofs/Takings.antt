@@ -6,7 +6,7 @@ use Rattle.std.specs.Io.KnownBytes.{Appends}
 use Rattle.at_model.specs.Rules.{Rules}
 use Rattle.at_model.specs.Lines.{is_filled}
 use Rattle.at_model.specs.Replies.{Reply, reply_text}
-use Rattle.at_model.specs.Machine.{State, Serves, ByEquations}
+use Rattle.at_model.specs.Machine.{State, Serves}
 use Rattle.at_engine.specs.declared.stream.desk.Desk.{Desk}
 use Rattle.at_engine.specs.Loop.{IsOpen, kept}
 use Rattle.at_engine.specs.Taking.{Takes, Halts, Stops, Counts, wants}
@@ -50,13 +50,13 @@ took_empty rules s desk next before f l m = record {
 
 -- the newline behind a line that was served
 pub took_line : (rules : Rules) (old new : State) (front : List ℕ) (wants : Bool) (reply : Reply) (desk next : Desk) (before after : Option (List ℕ)) → IsOpen front → is_filled front ≡ true
-    → desk.line.items ≡ kept front → Serves rules (ByEquations rules) wants old desk.line.items new reply
+    → desk.line.items ≡ kept front → Serves rules wants old desk.line.items new reply
     → next.line.items ≡ [] → Counts desk next (wants ∷ []) → Appends before after (reply_text reply) → Takes rules old front (10 ∷ []) new desk next before after
 took_line rules old new front wants reply desk next before after o h e served f counts written = record {
   named = wants ∷ [];
   text = reply_text reply;
   rest = [];
-  progress = line_came rules old old new front [] [] [] front wants reply h (serves_kept rules wants old new front reply (subst (λ (i : List ℕ). Serves rules (ByEquations rules) wants old i new reply) e served)) (nothing_came rules old front o);
+  progress = line_came rules old old new front [] [] [] front wants reply h (serves_kept rules wants old new front reply (subst (λ (i : List ℕ). Serves rules wants old i new reply) e served)) (nothing_came rules old front o);
   line = f ∙ sym kept-nil;
   written = written;
   counts = counts;
@@ -64,12 +64,12 @@ took_line rules old new front wants reply desk next before after o h e served f 
 
 -- a line was served as what is kept of it, and its reply could not be written
 pub halted : (rules : Rules) (old new : State) (front : List ℕ) (wants : Bool) (reply : Reply) (desk : Desk) (before after : Option (List ℕ)) (done undone : List ℕ)
-    → desk.line.items ≡ kept front → Serves rules (ByEquations rules) wants old desk.line.items new reply
+    → desk.line.items ≡ kept front → Serves rules wants old desk.line.items new reply
     → reply_text reply ≡ done ++ undone → Appends before after done → Halts rules old front new before after
 halted rules old new front wants reply desk before after done undone e served split written = record {
   is_memory = wants;
   reply = reply;
-  serves = serves_kept rules wants old new front reply (subst (λ (i : List ℕ). Serves rules (ByEquations rules) wants old i new reply) e served);
+  serves = serves_kept rules wants old new front reply (subst (λ (i : List ℕ). Serves rules wants old i new reply) e served);
   done = done;
   undone = undone;
   split = split;
@@ -78,7 +78,7 @@ halted rules old new front wants reply desk before after done undone e served sp
 
 -- the newline behind a line whose reply could not be written
 pub stopped_at_line : (rules : Rules) (old new : State) (front : List ℕ) (wants : Bool) (reply : Reply) (desk : Desk) (before after : Option (List ℕ)) (done undone : List ℕ) → IsOpen front → is_filled front ≡ true
-    → desk.line.items ≡ kept front → Serves rules (ByEquations rules) wants old desk.line.items new reply
+    → desk.line.items ≡ kept front → Serves rules wants old desk.line.items new reply
     → reply_text reply ≡ done ++ undone → Appends before after done → Stops rules old front (10 ∷ []) new before after
 stopped_at_line rules old new front wants reply desk before after done undone o h e served split written = record {
   used = [];

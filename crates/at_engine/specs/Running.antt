@@ -4,7 +4,7 @@ use Rattle.std.specs.Io.KnownBytes.{Appends, Consumes, IsAtEnd}
 use Rattle.at_model.specs.Lines.{lines, pieces, is_filled}
 use Rattle.at_model.specs.Rules.{Rules}
 use Rattle.at_model.specs.Replies.{Reply, reply_text}
-use Rattle.at_model.specs.Machine.{State, ByEquations, Runs, Serves, Outputs}
+use Rattle.at_model.specs.Machine.{State, Runs, Serves, Outputs}
 use Rattle.at_engine.specs.declared.stream.desk.Report.{Report}
 use Rattle.at_engine.specs.declared.stream.desk.RunFault.{RunFault}
 use Rattle.at_engine.specs.declared.stream.desk.RunFault.TheVariants.{Read, Write, TooManyReads, Memory}
@@ -20,7 +20,7 @@ pub record Ended (rules : Rules) (old new : State) (readable left before after :
   pub text : List ℕ
   pub read : Consumes readable left input
   pub ended : IsAtEnd left
-  pub outputs : Outputs rules (ByEquations rules) old input named text new
+  pub outputs : Outputs rules old input named text new
   pub written : Appends before after text
   pub counted : report.lines ≡ length (lines input)
   pub accepted : report.accepted ≡ new.version - old.version
@@ -54,10 +54,10 @@ pub record CutOff (rules : Rules) (old new : State) (readable left before after 
   pub named : List Bool
   pub text : List ℕ
   pub mid : State
-  pub runs : Runs rules (ByEquations rules) old earlier named text mid
+  pub runs : Runs rules old earlier named text mid
   pub is_memory : Bool
   pub reply : Reply
-  pub serves : Serves rules (ByEquations rules) is_memory mid last new reply
+  pub serves : Serves rules is_memory mid last new reply
   pub done : List ℕ
   pub undone : List ℕ
   pub split : reply_text reply ≡ done ++ undone

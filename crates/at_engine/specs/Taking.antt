@@ -6,7 +6,7 @@ use Rattle.at_engine.specs.declared.stream.desk.RunFault.TheVariants as fault
 use Rattle.at_model.specs.Rules.{Rules}
 use Rattle.at_model.specs.Lines.{is_filled}
 use Rattle.at_model.specs.Replies.{Reply, reply_text}
-use Rattle.at_model.specs.Machine.{State, ByEquations, Runs, Serves}
+use Rattle.at_model.specs.Machine.{State, Runs, Serves}
 use Rattle.at_engine.specs.declared.stream.desk.Desk.{Desk}
 use Rattle.at_engine.specs.Loop.{Progress, kept}
 
@@ -39,7 +39,7 @@ pub record Takes (rules : Rules) (old : State) (front bytes : List ℕ) (new : S
 pub record Halts (rules : Rules) (old : State) (line : List ℕ) (new : State) (before after : Option (List ℕ)) : Type 0 where
   pub is_memory : Bool
   pub reply : Reply
-  pub serves : Serves rules (ByEquations rules) is_memory old line new reply
+  pub serves : Serves rules is_memory old line new reply
   pub done : List ℕ
   pub undone : List ℕ
   pub split : reply_text reply ≡ done ++ undone
@@ -69,7 +69,7 @@ TakesOrStops (Err e) rules old front bytes new desk next before after = (e ≡ f
 pub record Finished (rules : Rules) (old : State) (front : List ℕ) (new : State) (desk next : Desk) (before after : Option (List ℕ)) : Type 0 where
   pub named : List Bool
   pub text : List ℕ
-  pub runs : Runs rules (ByEquations rules) old (filter is_filled (front ∷ [])) named text new
+  pub runs : Runs rules old (filter is_filled (front ∷ [])) named text new
   pub counts : Counts desk next named
   pub written : Appends before after text
 

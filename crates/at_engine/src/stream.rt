@@ -2,7 +2,7 @@
 //! next line is looked at.
 ghost use Rattle.std.specs.Prelude.{◌≡◌, ◌++◌, ◌∷◌, ◌≤◌, ◌<◌, ◌+◌, ◌^◌, Bool, ℕ, List, [], filter, vec_len, vec_capacity, length, is_err, IfOk, IsTrue, OnOk};
 ghost use Rattle.at_model.specs.Lines.{is_filled};
-ghost use Rattle.at_model.specs.Machine.{ByEquations, Serves};
+ghost use Rattle.at_model.specs.Machine.{Serves};
 ghost use Rattle.at_model.specs.Replies.{Reply, reply_text};
 ghost use Rattle.at_engine.specs.Engines.{state_of, rules_of, IsSound};
 ghost use Rattle.at_engine.specs.Ends.{Remembers};
@@ -70,7 +70,7 @@ fn serve<K: Keeper, W: Output>(
     requires line { 0 < vec_len desk.old.line }
     requires count { desk.old.lines + 1 < 2 ^ 128 }
     ensures served { (wants : Bool) × (reply : Reply)
-        × Serves (rules_of engine.old) (ByEquations (rules_of engine.old)) wants (state_of engine.old) desk.old.line.items (state_of engine.new) reply
+        × Serves (rules_of engine.old) wants (state_of engine.old) desk.old.line.items (state_of engine.new) reply
         × Counts desk.old desk.new (wants ∷ []) × Written result (W.contents writer.old) (W.contents writer.new) (reply_text reply) }
     ensures failed { Remembers (W.failed writer.old) (W.failed writer.new) (is_err result) }
     ensures keeps { IsTrue K.exact → IsSpare K.contents engine.old → desk.new.memory ≡ desk.old.memory → KeepsLine K.contents desk.old.line.items engine.old engine.new }

@@ -1,6 +1,6 @@
 use Rattle.std.proofs.Common.{◌≡◌, ap, subst, List, ℕ, length, ◌<◌, ◌≤◌, arith, vec_len}
 use Rattle.std.proofs.lemmas.Bool.Decides.{nat_tests}
-use Rattle.at_model.specs.Machine.{Serves, ByEquations}
+use Rattle.at_model.specs.Machine.{Serves}
 use Rattle.at_engine.specs.Loop.{kept}
 use Rattle.at_engine.specs.Engines.{state_of, rules_of}
 use Rattle.at_engine.proofs.Kept.{filled_as_kept, empty_as_kept}
