@@ -1,6 +1,6 @@
 pub mod Fitting
 pub mod Collected
-pub mod
+pub mod Answered
 pub mod Marks
 pub mod Holding
 pub mod Serving
