@@ -89,7 +89,7 @@ pub cut_off : (rules : Rules) (old new : State) (input : List ℕ) (readable lef
     → Consumes readable left input → CutOff rules old new readable left before after
 cut_off rules old new input readable left before after u read =
     let split = ap pieces (u.split ∙ sym (append_assoc u.used (10 ∷ []) u.more)) ∙ splits_then (u.used ++ 10 ∷ []) u.more (u.progress.fulls ++ u.line ∷ []) [] (splits_newline u.used u.progress.fulls u.line u.progress.splits)
-        ∙ ap (λ l. (u.progress.fulls ++ u.line ∷ []) ++ l) (onto_front_nothing (pieces u.more) (pieces_cons u.more)) in
+    ∙ ap (λ l. (u.progress.fulls ++ u.line ∷ []) ++ l) (onto_front_nothing (pieces u.more) (pieces_cons u.more)) in
     record {
       input = input;
       read = read;

@@ -16,5 +16,6 @@ loop-rest-preserved g c =
       written = (front ++ take n rest, is ∙ ap (λ r. front ++ r) split ∙ sym (append_assoc front (take n rest) c.split_at.result.1.now), Appends-trans _ _ _ _ _ written c.in-Ok.ensures.bytes);
       failed = then_calls _ _ _ false c.loop-rest.invariant.failed (subst (Remembers _ _) (not_zero n some) c.in-Ok.ensures.failed);
     }
+
 pub loop-rest-init : goal.loop-rest-init
 loop-rest-init g c = record { written = ([], refl, Appends-nil _); failed = no_call _ }
