@@ -77,7 +77,7 @@ fn files(alloc: Global, tree: &str, name: &str, last: &str) -> Result<Files, All
 }
 
 /// The engine of the calculator's files.
-fn calculator(alloc: Global, tree: &str) -> Result<Engine<KeepRecorded>, Fail>
+pub fn calculator(alloc: Global, tree: &str) -> Result<Engine<KeepRecorded>, Fail>
     ensures { IfOk result IsReady }
 {
     Ok(start(alloc, &files(alloc, tree, "probe.jrag", PROBE)?)?)

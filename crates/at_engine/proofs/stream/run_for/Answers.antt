@@ -1,6 +1,6 @@
 use Rattle.std.specs.Prelude.{IsTrue}
 use Rattle.std.proofs.Common.{◌≡◌, ◌∙◌, sym, subst, [], ◌++◌, length, take, ◌<◌, ◌≤◌, ◌+◌, length-append, arith, refl, true, false, Ok, Err}
-use Rattle.std.proofs.KnownBytes.{Consumes-nil, Consumes-trans}
+use Rattle.std.proofs.KnownBytes.{Consumes-kept, Consumes-nil, Consumes-trans}
 use Rattle.std.proofs.lemmas.Result.{err_from_is_err_and}
 use Rattle.at_model.specs.Rules.{Rules}
 use Rattle.at_engine.specs.Taking.{Takes, Halts, Stops, Finished}
@@ -10,7 +10,7 @@ use Rattle.at_engine.proofs.Kept.{kept-nil}
 use Rattle.at_engine.proofs.KeepingBytes.{keeps_more, keeps_none, keeps_run}
 use Rattle.at_engine.proofs.Remembering.{no_call, then_calls}
 use Rattle.at_engine.proofs.Takings.{took_nothing, took_more, stopped_later}
-use Rattle.at_engine.proofs.Runnings.{ended, cut_off, cut_off_at_last, at_end}
+use Rattle.at_engine.proofs.Runnings.{ended, broke_off, cut_off, cut_off_at_last, at_end}
 use Rattle.at_engine.proofs.stream.run_for.Goals as goal
 
 pub loop-turn-init : goal.loop-turn-init
@@ -61,6 +61,11 @@ returns-in_err-take_piece-clause-ran g c =
     let u = c.in_err-take_piece.ensures.taken t.rest t.progress.open' t.line in
     let v = subst (λ (r : Rules). Stops r (state_of c.loop-turn.engine) t.rest piece (state_of c.take_piece.new.engine) (contents c.loop-turn.writer) (contents c.take_piece.new.writer)) c.loop-turn.invariant.rules u.1 in
     rw (p.1, p.2, u.0) (cut_off rules _ _ (inv.0 ++ piece) _ _ _ _ (stopped_later rules _ _ _ [] inv.0 piece _ _ _ _ _ t v) (Consumes-trans _ _ _ _ _ inv.1 c.in-Ok-read.ensures.bytes.0))
+
+pub returns-in-Err-clause-ran : goal.returns-in-Err-clause-ran
+returns-in-Err-clause-ran g c =
+    let inv = c.loop-turn.invariant.so_far in
+    broke_off (rules_of c.args.engine.now) (state_of c.args.engine.now) (state_of c.loop-turn.engine) inv.0 _ _ _ _ c.in-Ok.desk c.loop-turn.desk 0 inv.3 (Consumes-kept _ _ _ inv.0 inv.1 c.in-Err.ensures.bytes) (omega arith)
 
 pub loop-turn-preserved : goal.loop-turn-preserved
 loop-turn-preserved g c =
