@@ -12,6 +12,7 @@ mod naming;
 mod part;
 mod steps;
 mod table;
+mod taken;
 
 pub use fault::{ClassCode, ClassFault};
 pub use naming::are_named;
