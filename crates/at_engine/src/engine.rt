@@ -57,6 +57,7 @@ impl<K: Keeper> Engine<K> {
         ensures rules { IfOk result (λ e. rules_of e ≡ rules) }
         ensures sound { KeepsAll (λ _. None) (K.contents keeper) → IfOk result (IsSound K.contents) }
         ensures spare { KeepsAll (λ _. None) (K.contents keeper) → IfOk result (IsSpare K.contents) }
+        ensures work { IfOk result (λ e. work_of e ≡ 0) }
         ensures refused { IfErr result (IsNotLoaded rules.classes (tree_view tree)) }
     {
         let store = Store::load(alloc, rules.classes(), tree)?;
