@@ -12,6 +12,8 @@ mod failure;
 #[cfg(test)]
 mod keepers;
 mod options;
+#[cfg(test)]
+mod refusals;
 mod serving;
 #[cfg(test)]
 mod sessions;

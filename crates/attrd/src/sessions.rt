@@ -484,7 +484,7 @@ fn a_name_that_changes_is_looked_up_again(rt: HostRuntime) -> Result<(), Fail> {
 }
 
 /// The text that many times.
-fn repeated(alloc: Global, text: &str, times: usize) -> Result<String, AllocError> {
+pub fn repeated(alloc: Global, text: &str, times: usize) -> Result<String, AllocError> {
     let mut all = String::new(alloc);
     for _ in 0..times {
         all.push_str(text)?;
