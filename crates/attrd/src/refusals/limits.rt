@@ -14,14 +14,29 @@ fn too_long(alloc: Global, text: &str) -> Result<Vec<u8>, AllocError> {
 }
 
 #[test]
-fn a_file_that_is_too_long_is_not_read(rt: HostRuntime) -> Result<(), Fail> {
+fn a_grammar_that_is_too_long_is_not_read(rt: HostRuntime) -> Result<(), Fail> {
     let alloc = rt.alloc();
-    let (grammar, tree, aspect) = (GRAMMAR.as_bytes(), TREE.as_bytes(), CALCULATOR.as_bytes());
-    let told = refusal(alloc, &too_long(alloc, "A")?, tree, &[aspect])?;
+    let grammar = too_long(alloc, "A")?;
+    let told = refusal(alloc, &grammar, TREE.as_bytes(), &[CALCULATOR.as_bytes()])?;
     assert_eq!(rt; told.as_str(), "grammar: G8 limit at 1:1");
-    let told = refusal(alloc, grammar, tree, &[aspect, &too_long(alloc, "aspect")?])?;
+    Ok(())
+}
+
+#[test]
+fn an_aspect_file_that_is_too_long_is_not_read(rt: HostRuntime) -> Result<(), Fail> {
+    let alloc = rt.alloc();
+    let second = too_long(alloc, "aspect")?;
+    let aspects = [CALCULATOR.as_bytes(), second.as_slice()];
+    let told = refusal(alloc, GRAMMAR.as_bytes(), TREE.as_bytes(), &aspects)?;
     assert_eq!(rt; told.as_str(), "aspects: J11 limit at 1:1");
-    let told = refusal(alloc, grammar, &too_long(alloc, "\\")?, &[aspect])?;
+    Ok(())
+}
+
+#[test]
+fn a_tree_that_is_too_long_is_not_read(rt: HostRuntime) -> Result<(), Fail> {
+    let alloc = rt.alloc();
+    let tree = too_long(alloc, "\\")?;
+    let told = refusal(alloc, GRAMMAR.as_bytes(), &tree, &[CALCULATOR.as_bytes()])?;
     assert_eq!(rt; told.as_str(), "tree: F12 limit");
     Ok(())
 }
