@@ -12,7 +12,7 @@ use at_cache::{KeepNone, KeepRecorded, KeepUntilEdit, Keeper};
 use sample::{LINES, REPLIES, engine};
 use std::alloc::Global;
 use std::process::ExitCode;
-use telling::{Told, Want, answered, joined, told};
+use telling::{Told, Want, answered, heard, joined};
 
 /// Prints of each keeper whether the session is answered right. Ends with status 4 where memory is refused outside of a
 /// session's lines, and nothing is told of the keeper then.
@@ -49,9 +49,9 @@ fn is_right<K: Keeper>(alloc: Global, first: K, second: K) -> Result<bool, Want>
     let mut starved = engine(alloc, first)?;
     let mut fed = engine(alloc, second)?;
     let all = joined(alloc, LINES)?;
-    let whole = told(alloc, &mut starved, &all)?;
+    let whole = heard(alloc, &mut starved, &all)?;
     let (lines, replies) = answered(alloc, LINES, &whole.replies)?;
-    let again = told(alloc, &mut fed, &lines)?;
+    let again = heard(alloc, &mut fed, &lines)?;
     if again.memory > 0 {
         return Err(Want);
     }

@@ -32,7 +32,7 @@ pub struct Told {
 /// # Errors
 ///
 /// Where room for the replies, or a buffer, is refused.
-pub fn told<K: Keeper>(alloc: Global, engine: &mut Engine<K>, lines: &[u8]) -> Result<Told, Want>
+pub fn heard<K: Keeper>(alloc: Global, engine: &mut Engine<K>, lines: &[u8]) -> Result<Told, Want>
     requires { IsSound K.contents engine.old }
 {
     let mut reader = lines;
