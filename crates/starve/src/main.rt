@@ -2,7 +2,7 @@
 //! memory is refused in its midst. `rt try --fail-alloc` refuses one request in each round.
 #![tactic(auto)]
 
-ghost use Rattle.std.specs.Prelude.{◌≡◌, ◌++◌, None};
+ghost use Rattle.std.specs.Prelude.{None};
 ghost use Rattle.at_cache.specs.Kept.{KeepsAll};
 
 mod sample;
@@ -46,17 +46,31 @@ fn is_right<K: Keeper>(alloc: Global, first: K, second: K) -> Result<bool, Want>
     requires first { KeepsAll (λ _. None) (K.contents first) }
     requires second { KeepsAll (λ _. None) (K.contents second) }
 {
-    let mut starved = engine(alloc, first)?;
-    let mut fed = engine(alloc, second)?;
-    let all = joined(alloc, LINES)?;
-    let whole = heard(alloc, &mut starved, &all)?;
+    let whole = session(alloc, first, &joined(alloc, LINES)?)?;
+    if whole.memory > 1 || !is_as_fed(alloc, second, &whole)? {
+        return Ok(false);
+    }
+    Ok(whole.memory > 0 || is_sample(alloc, &whole)?)
+}
+
+/// What a fresh engine over the keeper tells to the lines.
+fn session<K: Keeper>(alloc: Global, keeper: K, lines: &[u8]) -> Result<Told, Want>
+    requires { KeepsAll (λ _. None) (K.contents keeper) }
+{
+    let mut engine = engine(alloc, keeper)?;
+    heard(alloc, &mut engine, lines)
+}
+
+/// Whether an engine over the keeper tells the same to the lines that weren't answered `memory`.
+fn is_as_fed<K: Keeper>(alloc: Global, keeper: K, whole: &Told) -> Result<bool, Want>
+    requires { KeepsAll (λ _. None) (K.contents keeper) }
+{
     let (lines, replies) = answered(alloc, LINES, &whole.replies)?;
-    let again = heard(alloc, &mut fed, &lines)?;
+    let again = session(alloc, keeper, &lines)?;
     if again.memory > 0 {
         return Err(Want);
     }
-    let as_fed = whole.memory <= 1 && replies == again.replies;
-    Ok(as_fed && (whole.memory > 0 || is_sample(alloc, &whole)?))
+    Ok(replies == again.replies)
 }
 
 /// Whether these are the replies of the sample.

@@ -1,6 +1,6 @@
 //! What an engine tells: the replies to lines, and the lines that weren't answered `memory`.
 
-ghost use Rattle.std.specs.Prelude.{◌≡◌, ◌++◌, IfOk};
+ghost use Rattle.std.specs.Prelude.{◌≡◌, ◌++◌};
 ghost use Rattle.at_engine.specs.Engines.{IsSound};
 
 use at_cache::Keeper;
