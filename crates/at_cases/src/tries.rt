@@ -121,15 +121,42 @@ fn rules_of(
     Ok(Rules::new(classes, IndexSet::new(alloc), equations))
 }
 
+/// What one try of the first attribute comes to at a node, with these arguments.
+fn tried_at(
+    alloc: Global,
+    rules: &Rules,
+    store: &Store,
+    node: Node,
+    passed: Arguments,
+) -> Result<Tried, Fail>
+    requires { IsIdle store.now }
+{
+    let inst = Inst::new(node, AttrId::new(0), passed);
+    let mut reads = Reads::new(alloc);
+    Ok(try_body(alloc, rules, store, &inst, &Nothing {}, &mut reads)?)
+}
+
+/// What one try of the pieces' body comes to at a node of the store, with these arguments.
+fn tried_in(
+    alloc: Global,
+    classes: ClassTable,
+    store: &Store,
+    path: &str,
+    pieces: &[Piece],
+    passed: Arguments,
+) -> Result<Tried, Fail>
+    requires { IsIdle store.now }
+{
+    let node = at(alloc, &classes, store, path).ok_or("node")?;
+    let rules = rules_of(alloc, classes, store, node, pieces)?;
+    tried_at(alloc, &rules, store, node, passed)
+}
+
 /// What one try of the pieces' body comes to at a node of the sample, with these arguments.
 fn tried(alloc: Global, path: &str, pieces: &[Piece], passed: Arguments) -> Result<Tried, Fail> {
     let classes = calc(alloc).ok_or("classes")?;
     let store = loaded(alloc, &classes, TREE).ok_or("store")?;
-    let node = at(alloc, &classes, &store, path).ok_or("node")?;
-    let rules = rules_of(alloc, classes, &store, node, pieces)?;
-    let inst = Inst::new(node, AttrId::new(0), passed);
-    let mut reads = Reads::new(alloc);
-    Ok(try_body(alloc, &rules, &store, &inst, &Nothing {}, &mut reads)?)
+    tried_in(alloc, classes, &store, path, pieces, passed)
 }
 
 /// Whether one try of the pieces' body at a node of the sample comes to that.

@@ -73,7 +73,7 @@ fn comes_to(
     all: &[Equation],
     path: &str,
     want: i32,
-    looks: &[Look],
+    looks: &[(&'static str, Look)],
 ) -> Result<bool, Fail> {
     let classes = calc(alloc).ok_or("classes")?;
     let store = loaded(alloc, &classes, TREE).ok_or("store")?;
@@ -105,47 +105,47 @@ const POSITIONS: [Equation; 2] = [
 struct Position {
     path: &'static str,
     value: i32,
-    looks: &'static [Look],
+    looks: &'static [(&'static str, Look)],
 }
 
 const FOUND: [Position; 4] = [
     Position {
         path: OUTER,
         value: -1,
-        looks: &[Look::Is(OUTER), Look::Up(OUTER), Look::Is("/")],
+        looks: &[(OUTER, Look::Is), (OUTER, Look::Up), ("/", Look::Is)],
     },
     Position {
         path: INNER,
         value: 1,
         looks: &[
-            Look::Is(INNER),
-            Look::Up(INNER),
-            Look::Is(OUTER),
-            Look::Idx(INNER),
+            (INNER, Look::Is),
+            (INNER, Look::Up),
+            (OUTER, Look::Is),
+            (INNER, Look::Idx),
         ],
     },
     Position {
         path: PRINT,
         value: 0,
         looks: &[
-            Look::Is(PRINT),
-            Look::Up(PRINT),
-            Look::Is(INNER),
-            Look::Idx(PRINT),
+            (PRINT, Look::Is),
+            (PRINT, Look::Up),
+            (INNER, Look::Is),
+            (PRINT, Look::Idx),
         ],
     },
     Position {
         path: LEFT,
         value: 0,
         looks: &[
-            Look::Is(LEFT),
-            Look::Up(LEFT),
-            Look::Is(ADD),
-            Look::Up(ADD),
-            Look::Is(PRINT),
-            Look::Up(PRINT),
-            Look::Is(INNER),
-            Look::Idx(PRINT),
+            (LEFT, Look::Is),
+            (LEFT, Look::Up),
+            (ADD, Look::Is),
+            (ADD, Look::Up),
+            (PRINT, Look::Is),
+            (PRINT, Look::Up),
+            (INNER, Look::Is),
+            (PRINT, Look::Idx),
         ],
     },
 ];
@@ -178,7 +178,7 @@ const EACH_AND_ONE: [Equation; 2] = [
     },
 ];
 
-const ABOVE_THE_OUTER: [Look; 3] = [Look::Is(OUTER), Look::Up(OUTER), Look::Is("/")];
+const ABOVE_THE_OUTER: [(&str, Look); 3] = [(OUTER, Look::Is), (OUTER, Look::Up), ("/", Look::Is)];
 
 #[test]
 fn an_equation_for_each_component_stands(rt: HostRuntime) -> Result<(), Fail> {
@@ -210,7 +210,7 @@ const OWN: [Equation; 2] = [
 #[test]
 fn an_equation_of_the_class_comes_before_its_superclass(rt: HostRuntime) -> Result<(), Fail> {
     for (path, value) in [("/Block/Stmt:0", 2), (INNER, 1), (PRINT, 1)] {
-        let is_right = comes_to(rt.alloc(), false, &OWN, path, value, &[Look::Is(path)])?;
+        let is_right = comes_to(rt.alloc(), false, &OWN, path, value, &[(path, Look::Is)])?;
         assert!(rt; is_right, "{path}");
     }
     Ok(())

@@ -38,51 +38,40 @@ const ADD: &str = "/Block/Stmt:2/Expr";
 
 const LEFT: &str = "/Block/Stmt:2/Expr/Left";
 
-/// A location, with the path of its node.
+/// A location of a node.
 #[derive(Clone, Copy, Debug)]
 pub enum Look {
-    Is(&'static str),
-    Up(&'static str),
-    Idx(&'static str),
-    Slot(&'static str, usize),
-    Tok(&'static str, usize),
-}
-
-/// The path of its node.
-fn path_of(look: Look) -> &'static str {
-    match look {
-        Look::Is(path) => path,
-        Look::Up(path) => path,
-        Look::Idx(path) => path,
-        Look::Slot(path, _) => path,
-        Look::Tok(path, _) => path,
-    }
+    Is,
+    Up,
+    Idx,
+    Slot(usize),
+    Tok(usize),
 }
 
 /// That location of the node.
 fn of_node(look: Look, node: Node) -> Loc {
     match look {
-        Look::Is(_) => Loc::Is(node),
-        Look::Up(_) => Loc::Up(node),
-        Look::Idx(_) => Loc::Idx(node),
-        Look::Slot(_, part) => Loc::Slot(node, part),
-        Look::Tok(_, part) => Loc::Tok(node, part),
+        Look::Is => Loc::Is(node),
+        Look::Up => Loc::Up(node),
+        Look::Idx => Loc::Idx(node),
+        Look::Slot(part) => Loc::Slot(node, part),
+        Look::Tok(part) => Loc::Tok(node, part),
     }
 }
 
-/// The locations in the store.
+/// The locations of the nodes at these paths.
 pub fn located(
     alloc: Global,
     classes: &ClassTable,
     store: &Store,
-    looks: &[Look],
+    looks: &[(&'static str, Look)],
 ) -> Result<Vec<Loc>, Fail>
     requires { IsIdle store.now }
 {
     let mut all = Vec::new(alloc);
     for look in looks {
-        let node = at(alloc, classes, store, path_of(*look)).ok_or("node")?;
-        all.push(of_node(*look, node))?;
+        let node = at(alloc, classes, store, look.0).ok_or("node")?;
+        all.push(of_node(look.1, node))?;
     }
     Ok(all)
 }
@@ -113,7 +102,7 @@ struct Case {
     path: &'static str,
     row: &'static [Piece<'static>],
     passed: &'static [Option<&'static str>],
-    looks: &'static [Look],
+    looks: &'static [(&'static str, Look)],
 }
 
 /// Whether the try looks at just these locations.
@@ -135,7 +124,7 @@ fn first_wrong(
     alloc: Global,
     path: &'static str,
     rows: &[&'static [Piece<'static>]],
-    looks: &'static [Look],
+    looks: &'static [(&'static str, Look)],
 ) -> Result<Option<usize>, Fail> {
     for (position, row) in rows.iter().enumerate() {
         let case = Case {
@@ -161,7 +150,7 @@ const NULLS: &[&[Piece<'static>]] = &[
 
 #[test]
 fn null_is_not_looked_at(rt: HostRuntime) -> Result<(), Fail> {
-    let wrong = first_wrong(rt.alloc(), ADD, NULLS, &[Look::Is(ADD)])?;
+    let wrong = first_wrong(rt.alloc(), ADD, NULLS, &[(ADD, Look::Is)])?;
     assert_eq!(rt; wrong, None);
     Ok(())
 }
@@ -170,7 +159,7 @@ const CLASSES: &[&[Piece<'static>]] = &[&[THIS, CHILD, TO_DECL], &[THIS, CHILD, 
 
 #[test]
 fn classes_are_looked_at(rt: HostRuntime) -> Result<(), Fail> {
-    let looks = &[Look::Is(ADD), Look::Slot(ADD, 0), Look::Is(LEFT)];
+    let looks = &[(ADD, Look::Is), (ADD, Look::Slot(0)), (LEFT, Look::Is)];
     let wrong = first_wrong(rt.alloc(), ADD, CLASSES, looks)?;
     assert_eq!(rt; wrong, None);
     Ok(())
@@ -180,7 +169,7 @@ const CHILDREN: &[&[Piece<'static>]] = &[&[THIS, CHILD, THIS, OTHER_CHILD, SAME]
 
 #[test]
 fn children_are_looked_at(rt: HostRuntime) -> Result<(), Fail> {
-    let looks = &[Look::Is(ADD), Look::Slot(ADD, 0), Look::Slot(ADD, 1)];
+    let looks = &[(ADD, Look::Is), (ADD, Look::Slot(0)), (ADD, Look::Slot(1))];
     let wrong = first_wrong(rt.alloc(), ADD, CHILDREN, looks)?;
     assert_eq!(rt; wrong, None);
     Ok(())
@@ -197,7 +186,7 @@ const LISTS: &[&[Piece<'static>]] = &[
 
 #[test]
 fn lists_are_looked_at_and_not_their_elements(rt: HostRuntime) -> Result<(), Fail> {
-    let looks = &[Look::Is(BLOCK), Look::Slot(BLOCK, 0)];
+    let looks = &[(BLOCK, Look::Is), (BLOCK, Look::Slot(0))];
     let wrong = first_wrong(rt.alloc(), BLOCK, LISTS, looks)?;
     assert_eq!(rt; wrong, None);
     Ok(())
@@ -207,7 +196,7 @@ const FIRST_DECL: &[&[Piece<'static>]] = &[&[THIS, Piece::Name(0), IS_DECL, EXIS
 
 #[test]
 fn a_fold_stops_at_the_element_that_decides(rt: HostRuntime) -> Result<(), Fail> {
-    let looks = &[Look::Is(BLOCK), Look::Slot(BLOCK, 0), Look::Is(FIRST)];
+    let looks = &[(BLOCK, Look::Is), (BLOCK, Look::Slot(0)), (FIRST, Look::Is)];
     let wrong = first_wrong(rt.alloc(), BLOCK, FIRST_DECL, looks)?;
     assert_eq!(rt; wrong, None);
     Ok(())
@@ -217,7 +206,7 @@ const STOPPED: &[&[Piece<'static>]] = &[&[THIS, ONE, ZERO, DIVIDE, ELEMENT], &[N
 
 #[test]
 fn what_is_not_come_to_is_not_looked_at(rt: HostRuntime) -> Result<(), Fail> {
-    let wrong = first_wrong(rt.alloc(), BLOCK, STOPPED, &[Look::Is(BLOCK)])?;
+    let wrong = first_wrong(rt.alloc(), BLOCK, STOPPED, &[(BLOCK, Look::Is)])?;
     assert_eq!(rt; wrong, None);
     Ok(())
 }
@@ -230,7 +219,7 @@ const OPTIONALS: &[&[Piece<'static>]] = &[
 
 #[test]
 fn optionals_are_looked_at(rt: HostRuntime) -> Result<(), Fail> {
-    let looks = &[Look::Is(FIRST), Look::Slot(FIRST, 1)];
+    let looks = &[(FIRST, Look::Is), (FIRST, Look::Slot(1))];
     let wrong = first_wrong(rt.alloc(), FIRST, OPTIONALS, looks)?;
     assert_eq!(rt; wrong, None);
     Ok(())
@@ -240,7 +229,7 @@ const TOKENS: &[&[Piece<'static>]] = &[&[THIS, TOKEN]];
 
 #[test]
 fn tokens_are_looked_at(rt: HostRuntime) -> Result<(), Fail> {
-    let looks = &[Look::Is(FIRST), Look::Tok(FIRST, 0)];
+    let looks = &[(FIRST, Look::Is), (FIRST, Look::Tok(0))];
     let wrong = first_wrong(rt.alloc(), FIRST, TOKENS, looks)?;
     assert_eq!(rt; wrong, None);
     Ok(())
@@ -251,23 +240,23 @@ const PASSED: &[Case] = &[
         path: FIRST,
         row: &[Piece::Null],
         passed: &[None, None],
-        looks: &[Look::Is(FIRST)],
+        looks: &[(FIRST, Look::Is)],
     },
     Case {
         path: FIRST,
         row: &[Piece::Null],
         passed: &[Some(BLOCK), None],
-        looks: &[Look::Is(FIRST), Look::Is(BLOCK)],
+        looks: &[(FIRST, Look::Is), (BLOCK, Look::Is)],
     },
     Case {
         path: FIRST,
         row: &[Piece::Name(1), CHILD],
         passed: &[Some(BLOCK), Some(ADD)],
         looks: &[
-            Look::Is(FIRST),
-            Look::Is(BLOCK),
-            Look::Is(ADD),
-            Look::Slot(ADD, 0),
+            (FIRST, Look::Is),
+            (BLOCK, Look::Is),
+            (ADD, Look::Is),
+            (ADD, Look::Slot(0)),
         ],
     },
 ];
