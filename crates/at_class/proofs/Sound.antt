@@ -15,7 +15,7 @@ use Rattle.at_class.specs.Grammar.{declaration_view, part_declaration_view, decl
 use Rattle.at_class.proofs.Named.{position-at, position-map}
 
 -- nothing is given anywhere
-given_nowhere : {A B : Type 0} (f : ℕ → A → Option B) (k : ℕ) (xs : List A) (i : ℕ) (d : A) → first_given f k xs ≡ None → i < length xs → f (k + i) (get_or xs i d) ≡ None
+pub given_nowhere : {A B : Type 0} (f : ℕ → A → Option B) (k : ℕ) (xs : List A) (i : ℕ) (d : A) → first_given f k xs ≡ None → i < length xs → f (k + i) (get_or xs i d) ≡ None
 given_nowhere f k [] i d none less = absurd (omega arith)
 given_nowhere f k (x ∷ xs) zero d none less =
     let n : k + 0 ≡ k = omega arith in ap (λ m. f m x) n ∙ (head (f k x) (first_given f (k + 1) xs) none).0

@@ -47,7 +47,7 @@ close = record { low = lit< tt; digit = refl; word = rw (is_xid_continue-ascii 4
 can : (fs : List Level) → length fs < 512 → can_open fs ≡ true
 can fs h = grind (arith, nat_tests)
 
-not_paren : (c : ℕ) → continues_name c ≡ true → (c == 40) ≡ false
+pub not_paren : (c : ℕ) → continues_name c ≡ true → (c == 40) ≡ false
 not_paren c e = other c 40 (λ s. let f : continues_name 40 ≡ true = rw s at e in let g : continues_name 40 ≡ false = rw (is_xid_continue-ascii 40 (lit< tt)) refl in cc)
 
 run_to_name : (fs : List Level) (name z : List ℕ) → length fs < 512 → is_word (chars name) ≡ true → IsUtf8 name → runs (at fs Start) (name ++ z) ≡ runs (at fs (InWord name)) z

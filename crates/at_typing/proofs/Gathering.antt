@@ -98,7 +98,7 @@ no_fault true c d is = absurd (none-some _ (sym is))
 no_fault false c d is = refl
 
 -- an attribute clashes with none before it
-no_clash : (classes : Classes) (ds : List Located) (i : ℕ) (d : Located) → i < length ds → d ≡ get_or ds i d → declared_twice classes ds ≡ None → is_attribute d.decl.form ≡ true → list_any (clashes classes d) (take i ds) ≡ false
+pub no_clash : (classes : Classes) (ds : List Located) (i : ℕ) (d : Located) → i < length ds → d ≡ get_or ds i d → declared_twice classes ds ≡ None → is_attribute d.decl.form ≡ true → list_any (clashes classes d) (take i ds) ≡ false
 no_clash classes ds i d less at none declares = by (is_attribute d.decl.form) declares (list_any (clashes classes d) (take i ds)) (binds_twice d.decl.form) (no_fault ((is_attribute d.decl.form && list_any (clashes classes d) (take i ds)) || binds_twice d.decl.form) code.AttributeTwice d (ap (twice_at classes ds i) at ∙ given_at (twice_at classes ds) ds i d less none))
   where
     by : (a : Bool) → a ≡ true → (b c : Bool) → ((a && b) || c) ≡ false → b ≡ false

@@ -31,3 +31,14 @@ mod InOrder
 mod Built
 mod Parts
 mod Seen
+mod Holding
+mod KindsKnown
+mod KindsOfForms
+mod KindsOfCalls
+mod Literals
+mod KindsJudged
+mod KindsDeclared
+mod KindsOfBodies
+mod InheritedAlike
+mod EquationsOfKinds
+pub mod BuiltWellFormed

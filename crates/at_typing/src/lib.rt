@@ -9,6 +9,7 @@ mod checks;
 mod fault;
 mod firsts;
 mod hierarchy;
+pub mod laws;
 mod located;
 mod meaning;
 mod numbered;

@@ -2,6 +2,7 @@
 
 ghost use Rattle.std.specs.Prelude.{◌≡◌, None, Some, map, Ok, IfOk, IfErr};
 ghost use Rattle.at_jrag.specs.View.{aspect_view};
+ghost use Rattle.at_model.specs.WellFormed.{AreWellFormed, IsHierarchy};
 ghost use Rattle.at_typing.specs.Building.{Builds};
 ghost use Rattle.at_typing.specs.Located.{declarations_in};
 ghost use Rattle.attrd.specs.AspectFiles.{Holds, AllHold, GivesRules, IsReadingFaultOf, IsAspectFault, IsUnread, IsRuleFault, rule_code};
@@ -25,6 +26,7 @@ use std::alloc::Global;
 pub fn rules_of(alloc: Global, classes: ClassTable, aspects: &[Source]) -> Result<Rules, StartFault>
     ensures classes { IfOk result (λ r. r.classes ≡ classes) }
     ensures given { IfOk result (λ r. GivesRules classes (aspect_bytes aspects.now) r) }
+    ensures well_formed { IsHierarchy classes → IfOk result AreWellFormed }
     ensures refused { IfErr result (IsAspectFault classes (aspect_bytes aspects.now)) }
 {
     let aspects = read_all(alloc, aspects)?;
