@@ -35,8 +35,9 @@ install:
 examples: build python
 	@python3 tools/examples.py $(PAGES)
 
-# The tests of the text layer, with each allocation refused in turn.
+# A session with each keeper, and the tests of the text layer, with each request for memory refused in turn.
 starve: tools
+	cd crates/starve && rt try --steps 1 --fail-alloc 1..
 	python3 tools/starve.py at_text
 
 # Speed, by the proved program, as ratios in one run.
