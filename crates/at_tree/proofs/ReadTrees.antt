@@ -1,0 +1,55 @@
+-- A tree that was written as a term is read again as that tree.
+use Rattle.std.proofs.Common.{◌≡◌, ℕ, List, [], ◌++◌, true, false, refl, sym, ap, ◌∙◌, append-nil, Result, Ok, Err}
+use Rattle.std.specs.Result.{IfOk, IfErr}
+use Rattle.at_model.specs.Classes.{Classes, AreSound}
+use Rattle.at_model.specs.Shaping.{names_classes}
+use Rattle.at_model.specs.Terms.{Term, IsTerm, term_text, term_of, tree_text}
+use Rattle.at_model.specs.Trees.{Tree, conforms}
+use Rattle.at_model.proofs.Shaped.{conforms_shaped}
+use Rattle.at_tree.specs.ReadTrees.{IsTextOf, IsReadAs, IsUnread, ReadsTree, of_term, of_shape}
+use Rattle.at_tree.specs.Reads.{Reads, StopsWith}
+use Rattle.at_tree.specs.Shape.{IsShaped, IsMisshaped}
+use Rattle.at_tree.specs.Stops.{IsTermText}
+use Rattle.at_tree.specs.TreeView.{tree_view}
+use Rattle.at_tree.specs.View.{term_view}
+use Rattle.at_tree.specs.declared.fault.TermFault.{TermFault}
+use Rattle.at_tree.specs.declared.fault.TermFault.TheVariants as term
+use Rattle.at_tree.specs.declared.term.Term.{Term as TermValue}
+use Rattle.at_tree.specs.declared.tree.Tree.{Tree as TreeValue}
+use Rattle.at_tree.specs.declared.tree.reading.ReadFault.{ReadFault}
+use Rattle.at_tree.specs.declared.tree.reading.ReadFault.TheVariants.{Syntax, Class, Fit, Memory}
+use Rattle.at_tree.specs.declared.tree.shaping.ShapeFault.{ShapeFault}
+use Rattle.at_tree.specs.declared.tree.shaping.ShapeFault.TheVariants as shape
+use Rattle.at_tree.proofs.ShapeLaws.{one_tree}
+use Rattle.at_tree.proofs.TextLaws.{none_begins_another}
+
+-- a text that is refused as no term's is none
+pub no_term : (classes : Classes) (text : List ℕ) (b : ℕ) (r : Result TermValue TermFault) → ((t : Term) → IsTerm t → term_text t ≡ text → Reads term_view r t) → IfErr r (StopsWith IsTermText text) → IfErr r (λ f. IsUnread classes text b (of_term f))
+no_term classes text b (Ok t) only stops = tt
+no_term classes text b (Err (term.Syntax place)) only stops = (λ h. let e : term.Syntax place ≡ term.Memory = only h.0 h.1 h.2 in absurd cc, stops)
+no_term classes text b (Err term.Memory) only stops = tt
+
+pub no_tree : (classes : Classes) (text : List ℕ) (b : ℕ) (t : Term) (f : ShapeFault) → IsTextOf t text → IsMisshaped classes t b f → IsUnread classes text b (of_shape f)
+no_tree classes text b t shape.Class is miss = (t, is, miss)
+no_tree classes text b t shape.Fit is miss = (t, is, miss)
+no_tree classes text b t shape.Memory is miss = tt
+
+-- a text has one term
+one_term : (t u : Term) (text : List ℕ) → IsTextOf t text → IsTextOf u text → t ≡ u
+one_term t u text (is, same) (is', same') = (none_begins_another t u [] is is' (same' ∙ sym same ∙ sym (append-nil (term_text t)))).0
+
+module _ (classes : Classes) (sound : AreSound classes) (text : List ℕ) (b : ℕ) (u : Tree) (whole : conforms classes u b ≡ true) (written : IsTextOf (term_of classes u) text) where
+  -- the tree is written as the text's term
+  shaped_of : (t : Term) → IsTextOf t text → IsShaped classes t b u
+  shaped_of t is = record { conforms = whole; written = one_term (term_of classes u) t text written is }
+
+  pub again_found : (t : Tree) → IsReadAs classes text b t → t ≡ u
+  again_found t (w, is, s) = one_tree classes sound t u b s.conforms whole (s.written ∙ one_term w (term_of classes u) text is written)
+
+  pub again_refused : (e : ReadFault) → IsUnread classes text b e → e ≡ Memory
+  again_refused (Syntax place) none = absurd (none.0 (term_of classes u, written))
+  again_refused Class (t, is, unknown) =
+      let known : names_classes classes t ≡ true = ap (names_classes classes) (sym (shaped_of t is).written) ∙ (conforms_shaped classes sound.distinct u b whole).1 in
+      absurd cc
+  again_refused Fit (t, is, misfit) = absurd (misfit.1 u (shaped_of t is))
+  again_refused Memory none = refl
