@@ -1,21 +1,16 @@
 -- A tree that was written as a term is read again as that tree.
-use Rattle.std.proofs.Common.{◌≡◌, ℕ, List, [], ◌++◌, true, false, refl, sym, ap, ◌∙◌, append-nil, Result, Ok, Err}
-use Rattle.std.specs.Result.{IfOk, IfErr}
+use Rattle.std.proofs.Common.{◌≡◌, ℕ, List, [], ◌++◌, true, false, refl, sym, ap, ◌∙◌, append-nil}
 use Rattle.at_model.specs.Classes.{Classes, AreSound}
 use Rattle.at_model.specs.Shaping.{names_classes}
 use Rattle.at_model.specs.Terms.{Term, IsTerm, term_text, term_of, tree_text}
 use Rattle.at_model.specs.Trees.{Tree, conforms}
 use Rattle.at_model.proofs.Shaped.{conforms_shaped}
-use Rattle.at_tree.specs.ReadTrees.{IsTextOf, IsReadAs, IsUnread, ReadsTree, of_term, of_shape}
-use Rattle.at_tree.specs.Reads.{Reads, StopsWith}
+use Rattle.at_tree.specs.ReadTrees.{IsTextOf, IsReadAs, IsUnread, of_term, of_shape}
+use Rattle.at_tree.specs.Reads.{StopsWith}
 use Rattle.at_tree.specs.Shape.{IsShaped, IsMisshaped}
 use Rattle.at_tree.specs.Stops.{IsTermText}
-use Rattle.at_tree.specs.TreeView.{tree_view}
-use Rattle.at_tree.specs.View.{term_view}
 use Rattle.at_tree.specs.declared.fault.TermFault.{TermFault}
 use Rattle.at_tree.specs.declared.fault.TermFault.TheVariants as term
-use Rattle.at_tree.specs.declared.term.Term.{Term as TermValue}
-use Rattle.at_tree.specs.declared.tree.Tree.{Tree as TreeValue}
 use Rattle.at_tree.specs.declared.tree.reading.ReadFault.{ReadFault}
 use Rattle.at_tree.specs.declared.tree.reading.ReadFault.TheVariants.{Syntax, Class, Fit, Memory}
 use Rattle.at_tree.specs.declared.tree.shaping.ShapeFault.{ShapeFault}
@@ -24,10 +19,9 @@ use Rattle.at_tree.proofs.ShapeLaws.{one_tree}
 use Rattle.at_tree.proofs.TextLaws.{none_begins_another}
 
 -- a text that is refused as no term's is none
-pub no_term : (classes : Classes) (text : List ℕ) (b : ℕ) (r : Result TermValue TermFault) → ((t : Term) → IsTerm t → term_text t ≡ text → Reads term_view r t) → IfErr r (StopsWith IsTermText text) → IfErr r (λ f. IsUnread classes text b (of_term f))
-no_term classes text b (Ok t) only stops = tt
-no_term classes text b (Err (term.Syntax place)) only stops = (λ h. let e : term.Syntax place ≡ term.Memory = only h.0 h.1 h.2 in absurd cc, stops)
-no_term classes text b (Err term.Memory) only stops = tt
+pub no_term : (classes : Classes) (text : List ℕ) (b : ℕ) (f : TermFault) → ((t : Term) → IsTerm t → term_text t ≡ text → f ≡ term.Memory) → StopsWith IsTermText text f → IsUnread classes text b (of_term f)
+no_term classes text b (term.Syntax place) only stops = (λ h. let e : term.Syntax place ≡ term.Memory = only h.0 h.1 h.2 in absurd cc, stops)
+no_term classes text b term.Memory only stops = tt
 
 pub no_tree : (classes : Classes) (text : List ℕ) (b : ℕ) (t : Term) (f : ShapeFault) → IsTextOf t text → IsMisshaped classes t b f → IsUnread classes text b (of_shape f)
 no_tree classes text b t shape.Class is miss = (t, is, miss)
