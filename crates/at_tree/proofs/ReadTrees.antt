@@ -5,7 +5,7 @@ use Rattle.at_model.specs.Shaping.{names_classes}
 use Rattle.at_model.specs.Terms.{Term, IsTerm, term_text, term_of, tree_text}
 use Rattle.at_model.specs.Trees.{Tree, conforms}
 use Rattle.at_model.proofs.Shaped.{conforms_shaped}
-use Rattle.at_tree.specs.ReadTrees.{IsTextOf, IsReadAs, IsUnread, of_term, of_shape}
+use Rattle.at_tree.specs.ReadTrees.{IsTermOf, IsReadAs, IsUnread, of_term, of_shape}
 use Rattle.at_tree.specs.Reads.{StopsWith}
 use Rattle.at_tree.specs.Shape.{IsShaped, IsMisshaped}
 use Rattle.at_tree.specs.Stops.{IsTermText}
@@ -23,18 +23,18 @@ pub no_term : (classes : Classes) (text : List ℕ) (b : ℕ) (f : TermFault) �
 no_term classes text b (term.Syntax place) only stops = (λ h. let e : term.Syntax place ≡ term.Memory = only h.0 h.1 h.2 in absurd cc, stops)
 no_term classes text b term.Memory only stops = tt
 
-pub no_tree : (classes : Classes) (text : List ℕ) (b : ℕ) (t : Term) (f : ShapeFault) → IsTextOf t text → IsMisshaped classes t b f → IsUnread classes text b (of_shape f)
+pub no_tree : (classes : Classes) (text : List ℕ) (b : ℕ) (t : Term) (f : ShapeFault) → IsTermOf text t → IsMisshaped classes t b f → IsUnread classes text b (of_shape f)
 no_tree classes text b t shape.Class is miss = (t, is, miss)
 no_tree classes text b t shape.Fit is miss = (t, is, miss)
 no_tree classes text b t shape.Memory is miss = tt
 
 -- a text has one term
-one_term : (t u : Term) (text : List ℕ) → IsTextOf t text → IsTextOf u text → t ≡ u
+one_term : (t u : Term) (text : List ℕ) → IsTermOf text t → IsTermOf text u → t ≡ u
 one_term t u text (is, same) (is', same') = (none_begins_another t u [] is is' (same' ∙ sym same ∙ sym (append-nil (term_text t)))).0
 
-module _ (classes : Classes) (sound : AreSound classes) (text : List ℕ) (b : ℕ) (u : Tree) (whole : conforms classes u b ≡ true) (written : IsTextOf (term_of classes u) text) where
+module _ (classes : Classes) (sound : AreSound classes) (text : List ℕ) (b : ℕ) (u : Tree) (whole : conforms classes u b ≡ true) (written : IsTermOf text (term_of classes u)) where
   -- the tree is written as the text's term
-  shaped_of : (t : Term) → IsTextOf t text → IsShaped classes t b u
+  shaped_of : (t : Term) → IsTermOf text t → IsShaped classes t b u
   shaped_of t is = record { conforms = whole; written = one_term (term_of classes u) t text written is }
 
   pub again_found : (t : Tree) → IsReadAs classes text b t → t ≡ u

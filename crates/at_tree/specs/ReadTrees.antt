@@ -15,18 +15,18 @@ use Rattle.at_tree.specs.declared.tree.reading.ReadFault.{ReadFault}
 use Rattle.at_tree.specs.declared.tree.reading.ReadFault.TheVariants.{Syntax, Class, Fit, Memory}
 
 -- the text is that of the term
-abbrev pub IsTextOf : Term → List ℕ → Type 0
-IsTextOf t text = IsTerm t × (term_text t ≡ text)
+abbrev pub IsTermOf : List ℕ → Term → Type 0
+IsTermOf text t = IsTerm t × (term_text t ≡ text)
 
 -- the text is that of a term, and the tree conforms under the class and is written as that term
 abbrev pub IsReadAs : Classes → List ℕ → ℕ → Tree → Type 0
-IsReadAs classes text b u = (t : Term) × IsTextOf t text × IsShaped classes t b u
+IsReadAs classes text b u = (t : Term) × IsTermOf text t × IsShaped classes t b u
 
 -- why there is no tree: the text is no term's, and stops being one at that place; or its term is written of none
 abbrev pub IsUnread : Classes → List ℕ → ℕ → ReadFault → Type 0
 IsUnread classes text b (Syntax place) = (IsTermText text → ⊥) × StopsAt IsTermText text place
-IsUnread classes text b Class = (t : Term) × IsTextOf t text × IsMisshaped classes t b shape.Class
-IsUnread classes text b Fit = (t : Term) × IsTextOf t text × IsMisshaped classes t b shape.Fit
+IsUnread classes text b Class = (t : Term) × IsTermOf text t × IsMisshaped classes t b shape.Class
+IsUnread classes text b Fit = (t : Term) × IsTermOf text t × IsMisshaped classes t b shape.Fit
 IsUnread classes text b Memory = ⊤
 
 -- this tree, or want of memory
