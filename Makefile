@@ -2,7 +2,7 @@
 SHELL := /bin/bash
 SAMPLE := crates/attrd/data
 PREFIX ?= /usr/local
-PAGES := docs/MANUAL.md docs/EDGES.md docs/TUTORIAL.md samples/calculator samples/objects samples/machines
+PAGES := docs/MANUAL.md docs/EDGES.md docs/REFUSALS.md docs/TUTORIAL.md samples/calculator samples/objects samples/machines
 
 .PHONY: run test try build install examples bench starve tools python
 
