@@ -60,22 +60,30 @@ pub fn joined(alloc: Global, texts: &[&str]) -> Result<Vec<u8>, AllocError> {
     Ok(all)
 }
 
-/// The lines whose reply isn't `memory`, each with a newline, and their replies.
+/// The lines that weren't answered `memory`, each with a newline, and their replies.
+#[derive(Drop)]
+pub struct Answered {
+    pub lines: Vec<u8>,
+    pub replies: Vec<u8>,
+    /// How many lines were.
+    pub left_out: u128,
+}
+
+/// The lines whose reply isn't `memory`.
 ///
 /// # Errors
 ///
 /// For want of memory.
-pub fn answered(
-    alloc: Global,
-    lines: &[&str],
-    replies: &[u8],
-) -> Result<(Vec<u8>, Vec<u8>), AllocError> {
+pub fn answered(alloc: Global, lines: &[&str], replies: &[u8]) -> Result<Answered, AllocError> {
     let mut left = Vec::new(alloc);
     let mut kept = Vec::new(alloc);
+    let mut left_out = 0;
     let mut rest = replies;
     for line in lines {
         let (reply, others) = first_line(rest);
-        if reply != MEMORY {
+        if reply == MEMORY {
+            left_out += 1;
+        } else {
             left.extend_from_slice(line.as_bytes())?;
             left.push(b'\n')?;
             kept.extend_from_slice(reply)?;
@@ -84,7 +92,32 @@ pub fn answered(
     }
     // What comes after a reply to each line is told too, so that it is seen.
     kept.extend_from_slice(rest)?;
-    Ok((left, kept))
+    Ok(Answered {
+        lines: left,
+        replies: kept,
+        left_out,
+    })
+}
+
+/// Whether the text is that of these lines, each with a newline.
+pub fn is_told(lines: &[&str], text: &[u8]) -> bool {
+    let mut rest = text;
+    for line in lines {
+        let (told, others) = first_line(rest);
+        if !is_line(told, line) {
+            return false;
+        }
+        rest = others;
+    }
+    rest.is_empty()
+}
+
+/// Whether these are the line and its newline.
+fn is_line(told: &[u8], line: &str) -> bool {
+    match told.split_last() {
+        Some((end, text)) => *end == b'\n' && text == line.as_bytes(),
+        None => false,
+    }
 }
 
 /// The text's first line, its newline included, and what comes after it.
