@@ -16,6 +16,7 @@ use std::process::ExitCode;
 use telling::{Told, Want, answered, heard, is_told, joined};
 
 /// How a session went.
+#[derive(Clone, Copy)]
 enum Verdict {
     /// No line was answered `memory`, and the replies are the sample's.
     Right,
@@ -58,15 +59,15 @@ fn told_of(rt: &HostRuntime, word: &str) -> Result<bool, Want> {
     match word {
         "nothing" => {
             let verdict = with_nothing_kept(rt.alloc())?;
-            let _ = println!(rt; "nothing kept: {}", text(&verdict));
+            let _ = println!(rt; "nothing kept: {}", text(verdict));
         }
         "until-edit" => {
             let verdict = with_kept_until_edit(rt.alloc())?;
-            let _ = println!(rt; "kept until an edit: {}", text(&verdict));
+            let _ = println!(rt; "kept until an edit: {}", text(verdict));
         }
         "over-edits" => {
             let verdict = with_kept_over_edits(rt.alloc())?;
-            let _ = println!(rt; "kept over edits: {}", text(&verdict));
+            let _ = println!(rt; "kept over edits: {}", text(verdict));
         }
         _ => return Ok(false),
     }
@@ -85,7 +86,7 @@ fn with_kept_over_edits(alloc: Global) -> Result<Verdict, Want> {
     verdict(alloc, KeepRecorded::new(alloc), KeepRecorded::new(alloc))
 }
 
-fn text(verdict: &Verdict) -> &'static str {
+fn text(verdict: Verdict) -> &'static str {
     match verdict {
         Verdict::Right => "right",
         Verdict::RightButMemory => "right, and a line answered memory",
