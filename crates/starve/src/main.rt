@@ -118,11 +118,15 @@ fn session<K: Keeper>(alloc: Global, keeper: K, lines: &[u8]) -> Result<Told, Wa
     heard(alloc, &mut engine, lines)
 }
 
-/// Whether as many lines were answered `memory` as were counted, and an engine over the keeper tells the same to the others.
+/// Whether one line was answered `memory`, and an engine over the keeper tells the same to the others.
 fn is_as_fed<K: Keeper>(alloc: Global, keeper: K, whole: &Told) -> Result<bool, Want>
     requires { KeepsAll (λ _. None) (K.contents keeper) }
 {
-    let others = answered(alloc, LINES, &whole.replies)?;
-    let again = session(alloc, keeper, &others.lines)?;
-    Ok(others.left_out == whole.memory && again.memory == 0 && others.replies == again.replies)
+    let (lines, replies) = answered(alloc, LINES, &whole.replies)?;
+    let others = session(alloc, keeper, &lines)?;
+    Ok(
+        whole.lines.saturating_sub(others.lines) == 1
+            && others.memory == 0
+            && replies == others.replies,
+    )
 }

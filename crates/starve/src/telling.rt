@@ -20,10 +20,11 @@ impl From<AllocError> for Want {
     }
 }
 
-/// The replies to a session's lines, and how many of them say `memory`.
+/// The replies to a session's lines, and what the report counts: the lines, and those that were answered `memory`.
 #[derive(Drop)]
 pub struct Told {
     pub replies: Vec<u8>,
+    pub lines: u128,
     pub memory: u128,
 }
 
@@ -40,6 +41,7 @@ pub fn heard<K: Keeper>(alloc: Global, engine: &mut Engine<K>, lines: &[u8]) -> 
     match run(engine, &mut reader, &mut replies) {
         Ok(report) => Ok(Told {
             replies,
+            lines: report.lines,
             memory: report.memory,
         }),
         Err(_) => Err(Want),
@@ -60,30 +62,22 @@ pub fn joined(alloc: Global, texts: &[&str]) -> Result<Vec<u8>, AllocError> {
     Ok(all)
 }
 
-/// The lines that weren't answered `memory`, each with a newline, and their replies.
-#[derive(Drop)]
-pub struct Answered {
-    pub lines: Vec<u8>,
-    pub replies: Vec<u8>,
-    /// How many lines were.
-    pub left_out: u128,
-}
-
-/// The lines whose reply isn't `memory`.
+/// The lines whose reply isn't `memory`, each with a newline, and their replies.
 ///
 /// # Errors
 ///
 /// For want of memory.
-pub fn answered(alloc: Global, lines: &[&str], replies: &[u8]) -> Result<Answered, AllocError> {
+pub fn answered(
+    alloc: Global,
+    lines: &[&str],
+    replies: &[u8],
+) -> Result<(Vec<u8>, Vec<u8>), AllocError> {
     let mut left = Vec::new(alloc);
     let mut kept = Vec::new(alloc);
-    let mut left_out = 0;
     let mut rest = replies;
     for line in lines {
         let (reply, others) = first_line(rest);
-        if reply == MEMORY {
-            left_out += 1;
-        } else {
+        if reply != MEMORY {
             left.extend_from_slice(line.as_bytes())?;
             left.push(b'\n')?;
             kept.extend_from_slice(reply)?;
@@ -92,11 +86,7 @@ pub fn answered(alloc: Global, lines: &[&str], replies: &[u8]) -> Result<Answere
     }
     // What comes after a reply to each line is told too, so that it is seen.
     kept.extend_from_slice(rest)?;
-    Ok(Answered {
-        lines: left,
-        replies: kept,
-        left_out,
-    })
+    Ok((left, kept))
 }
 
 /// Whether the text is that of these lines, each with a newline.
