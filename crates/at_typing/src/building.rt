@@ -19,7 +19,7 @@ use crate::fault::{Fault, RuleFault};
 use crate::hierarchy::Hierarchy;
 use crate::meaning::Among;
 use crate::numbered::{Declarations, Numbered};
-use crate::typing::TypeFault;
+use at_kinds::typing::TypeFault;
 use crate::written::signatures_of;
 use at_class::ClassTable;
 use at_jrag::Aspect;

@@ -14,7 +14,8 @@ mod limits;
 mod twice;
 
 use crate::attributes::Attributes;
-use crate::fault::{Fault, RuleCode};
+use crate::fault::Fault;
+use at_kinds::RuleCode;
 use crate::numbered::Numbered;
 use accessor_names::accessor_named;
 use at_class::ClassTable;

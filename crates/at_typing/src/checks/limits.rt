@@ -7,7 +7,8 @@ ghost use Rattle.at_typing.specs.Declaring.{body_in, over_limit, long_text, long
 ghost use Rattle.at_typing.specs.Numbering.{numbered_view, limit_of};
 
 use super::fault_at;
-use crate::fault::{Fault, RuleCode};
+use crate::fault::Fault;
+use at_kinds::RuleCode;
 use crate::located::{body_in, is_attribute};
 use crate::numbered::Numbered;
 use at_jrag::{Expr, Form};
