@@ -17,7 +17,7 @@ returns-in-5 c = c.contains-in-5.ensures.value ∙ reserved_of_five c.args.word.
 
 pub returns-in_default : goal.returns-in_default
 returns-in_default c =
-    let three : (length c.args.word.now == 3) ≡ false = grind (arith, nat_tests, c.in_default) in
-    let four : (length c.args.word.now == 4) ≡ false = grind (arith, nat_tests, c.in_default) in
-    let five : (length c.args.word.now == 5) ≡ false = grind (arith, nat_tests, c.in_default) in
+    let three : (length c.args.word.now == 3) ≡ false = grind (arith, nat_tests, c.in_default.not-3) in
+    let four : (length c.args.word.now == 4) ≡ false = grind (arith, nat_tests, c.in_default.not-4) in
+    let five : (length c.args.word.now == 5) ≡ false = grind (arith, nat_tests, c.in_default.not-5) in
     c.contains-in_default.ensures.value ∙ reserved_of_others c.args.word.now (sym c.begins_before_a.ensures ∙ c.if-begins_before_a.false) three four five
