@@ -10,11 +10,13 @@ PAGES := docs/MANUAL.md docs/EDGES.md docs/TUTORIAL.md samples/calculator sample
 run: build
 	@cd $(SAMPLE) && ../../../attrd calc.ast tree.txt calc.jrag < session
 
-# The gate: every proof from nothing, the must-fail edits, the tests, the programs; and then the examples of
-# the manual, the tutorial and the samples, on the program that was proved.
+# The gate: every proof from nothing, the must-fail edits, the tests, the programs; and then, on the programs that
+# were proved, the examples of the manual, the tutorial and the samples, and a session with each request for memory
+# refused in turn.
 test: tools python
 	rt ci
 	@python3 tools/examples.py --program crates/attrd/out/attrd $(PAGES)
+	@python3 tools/starve.py --program crates/starve/out/starve
 
 # The sample session with no proof, in a minute or two.
 try: tools
@@ -35,10 +37,12 @@ install:
 examples: build python
 	@python3 tools/examples.py $(PAGES)
 
-# A session with each keeper, and the tests of the text layer, with each request for memory refused in turn.
-starve: tools
-	cd crates/starve && rt try --steps 1 --fail-alloc 1..
-	python3 tools/starve.py at_text
+# A session with each keeper, by the proved program, and the tests of the text layer, with each request for memory
+# refused in turn.
+starve: tools python
+	cd crates/starve && rt run
+	@python3 tools/starve.py --program crates/starve/out/starve
+	@python3 tools/starve.py at_text
 
 # Speed, by the proved program, as ratios in one run.
 bench: build

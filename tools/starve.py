@@ -2,7 +2,7 @@
 """Refuses the first request for memory, then the second alone, and so on, until no run asks for that many.
 
 With --program, in the session of the program `starve`, with each keeper. A round may end for want of memory before the
-session, or have one line answered `memory`, and each other line must be answered right.
+session's first line, or have one line answered `memory`; each other line must be answered right.
 
 With names of crates, in their tests. A test in which a request is refused may say so and end; it may not get another answer."""
 import os
@@ -16,7 +16,7 @@ from pathlib import Path
 
 # The words that choose a keeper, and the name that its verdict has.
 KEEPERS = {"nothing": "nothing kept", "until-edit": "kept until an edit", "over-edits": "kept over edits"}
-BEFORE, ANSWERED, UNSEEN, NONE = "before its session", "with a line answered `memory`", "with each line answered", "none refused"
+BEFORE, ANSWERED, UNSEEN, NONE = "ended before the first line", "had a line answered `memory`", "made no difference", "none refused"
 MOST_ROUNDS = 100_000
 
 WANT_OF_MEMORY = re.compile("memory|AllocError|AllocFailed", re.I)
@@ -55,14 +55,16 @@ def session(program, word, environment):
         outcome = round_of(program, word, environment, nth)
         if outcome == NONE:
             break
+        if outcome == BEFORE and counts[ANSWERED] > 0:
+            sys.exit(f"{word}: with request {nth} refused, the program ended in its session")
         counts[outcome] += 1
     else:
         sys.exit(f"{word}: a request was refused in each of {MOST_ROUNDS} rounds")
     if counts[ANSWERED] == 0:
         sys.exit(f"{word}: in no round a line was answered `memory`")
     seconds = time.perf_counter() - began
-    told = ", ".join(f"{counts[outcome]:,} {outcome}" for outcome in (BEFORE, ANSWERED, UNSEEN))
-    print(f"{KEEPERS[word]}: each of {sum(counts.values()):,} requests refused in turn, and all answers right: {told}; {seconds:.0f} s")
+    told = ", ".join(f"{counts[outcome]:,} {outcome}" for outcome in (BEFORE, UNSEEN, ANSWERED))
+    print(f"{KEEPERS[word]}: {sum(counts.values()):,} rounds in {seconds:.0f} s, all right: {told}")
 
 
 def sessions(program):
