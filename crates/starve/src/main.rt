@@ -75,15 +75,15 @@ fn told_of(rt: &HostRuntime, word: &str) -> Result<bool, Want> {
 }
 
 fn with_nothing_kept(alloc: Global) -> Result<Verdict, Want> {
-    verdict(alloc, KeepNone::new(alloc), KeepNone::new(alloc))
+    judged(alloc, KeepNone::new(alloc), KeepNone::new(alloc))
 }
 
 fn with_kept_until_edit(alloc: Global) -> Result<Verdict, Want> {
-    verdict(alloc, KeepUntilEdit::new(alloc), KeepUntilEdit::new(alloc))
+    judged(alloc, KeepUntilEdit::new(alloc), KeepUntilEdit::new(alloc))
 }
 
 fn with_kept_over_edits(alloc: Global) -> Result<Verdict, Want> {
-    verdict(alloc, KeepRecorded::new(alloc), KeepRecorded::new(alloc))
+    judged(alloc, KeepRecorded::new(alloc), KeepRecorded::new(alloc))
 }
 
 fn text(verdict: Verdict) -> &'static str {
@@ -96,7 +96,7 @@ fn text(verdict: Verdict) -> &'static str {
 
 /// How a session goes with the first keeper. Where a line is answered `memory`, an engine over the second is asked what the
 /// others' replies are; no request is refused any more then.
-fn verdict<K: Keeper>(alloc: Global, first: K, second: K) -> Result<Verdict, Want>
+fn judged<K: Keeper>(alloc: Global, first: K, second: K) -> Result<Verdict, Want>
     requires first { KeepsAll (λ _. None) (K.contents first) }
     requires second { KeepsAll (λ _. None) (K.contents second) }
 {
