@@ -64,7 +64,7 @@ def session(program, word, environment):
         sys.exit(f"{word}: in no round a line was answered `memory`")
     seconds = time.perf_counter() - began
     told = ", ".join(f"{counts[outcome]:,} {outcome}" for outcome in (BEFORE, UNSEEN, ANSWERED))
-    print(f"{KEEPERS[word]}: {sum(counts.values()):,} rounds in {seconds:.0f} s, all right: {told}")
+    print(f"{KEEPERS[word]}: {sum(counts.values()):,} rounds in {seconds:.0f} s, all right: {told}", flush=True)
 
 
 def sessions(program):
