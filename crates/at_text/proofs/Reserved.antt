@@ -1,5 +1,5 @@
 -- A word is compared with those of the reserved words alone that share a property with it.
-use Rattle.std.proofs.Common.{◌≡◌, ℕ, Bool, true, false, ◌||◌, ◌&&◌, ◌==◌, not, nat_lt, List, [], ◌∷◌, get_or, length, filter, refl, sym, ap, ◌∙◌, arith}
+use Rattle.std.proofs.Common.{◌≡◌, ℕ, Bool, true, false, ◌||◌, ◌==◌, nat_lt, List, [], ◌∷◌, get_or, length, filter, refl, sym, ap, ◌∙◌, arith}
 use Rattle.std.proofs.lemmas.Bool.Decides.{nat_tests}
 use Rattle.std.specs.Prelude.{codes}
 use Rattle.std.specs.List.{list_any}
@@ -57,9 +57,6 @@ reserved_early text early =
 abbrev pub is_long : ℕ → List ℕ → Bool
 is_long n text = length text == n
 
-abbrev is_of_others : List ℕ → Bool
-is_of_others text = not (begins_early text) && (not (is_long 3 text) && (not (is_long 4 text) && not (is_long 5 text)))
-
 reserved_long : (n : ℕ) (text : List ℕ) → length text ≡ n → is_among (filter (is_long n) reserved_words) text ≡ is_reserved text
 reserved_long n text e = let long : is_long n text ≡ true = grind (arith, nat_tests, e) in left (is_long n) text long reserved_words
 
@@ -75,10 +72,6 @@ five_words : filter (is_long 5) reserved_words ≡ codes "false" ∷ codes "firs
 unfolding reserved_words
 five_words = refl
 
-other_words : filter is_of_others reserved_words ≡ codes "abstract" ∷ codes "aspect" ∷ codes "eq" ∷ codes "circular" ∷ codes "return" ∷ codes "instanceof" ∷ codes "exists" ∷ codes "boolean" ∷ []
-unfolding reserved_words
-other_words = refl
-
 pub reserved_of_three : (text : List ℕ) → length text ≡ 3 → is_among (codes "syn" ∷ codes "inh" ∷ codes "nta" ∷ codes "sum" ∷ codes "int" ∷ []) text ≡ is_reserved text
 reserved_of_three text e = ap (λ words. is_among words text) (sym three_words) ∙ reserved_long 3 text e
 
@@ -87,8 +80,3 @@ reserved_of_four text e = ap (λ words. is_among words text) (sym four_words) �
 
 pub reserved_of_five : (text : List ℕ) → length text ≡ 5 → is_among (codes "false" ∷ codes "first" ∷ []) text ≡ is_reserved text
 reserved_of_five text e = ap (λ words. is_among words text) (sym five_words) ∙ reserved_long 5 text e
-
-pub reserved_of_others : (text : List ℕ) → begins_early text ≡ false → is_long 3 text ≡ false → is_long 4 text ≡ false → is_long 5 text ≡ false
-    → is_among (codes "abstract" ∷ codes "aspect" ∷ codes "eq" ∷ codes "circular" ∷ codes "return" ∷ codes "instanceof" ∷ codes "exists" ∷ codes "boolean" ∷ []) text ≡ is_reserved text
-reserved_of_others text early three four five =
-    ap (λ words. is_among words text) (sym other_words) ∙ left is_of_others text (rw (early, three, four, five) refl) reserved_words

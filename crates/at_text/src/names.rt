@@ -2,26 +2,34 @@
 ghost use Rattle.std.specs.Prelude.{◌≡◌, chars, nat_lt, get_or};
 ghost use Rattle.at_model.specs.Names.{starts_name, continues_name, is_reserved, is_word, is_name};
 
-/// The words of three bytes that have a meaning of their own in grammars and aspects.
-const OF_THREE: [&str; 5] = ["syn", "inh", "nta", "sum", "int"];
-
-/// Those of four bytes.
-const OF_FOUR: [&str; 4] = ["lazy", "true", "null", "this"];
-
-/// Those of five bytes.
-const OF_FIVE: [&str; 2] = ["false", "first"];
-
-/// All others that begin with a small letter.
-const OTHERS: [&str; 8] = [
+/// The words that have a meaning of their own in grammars and aspects.
+const RESERVED: [&str; 20] = [
     "abstract",
     "aspect",
+    "syn",
+    "inh",
     "eq",
+    "lazy",
     "circular",
+    "nta",
     "return",
+    "true",
+    "false",
+    "null",
+    "this",
     "instanceof",
     "exists",
+    "first",
+    "sum",
+    "int",
     "boolean",
+    "String",
 ];
+
+/// Those of three bytes, of four and of five, as most names are.
+const OF_THREE: [&str; 5] = ["syn", "inh", "nta", "sum", "int"];
+const OF_FOUR: [&str; 4] = ["lazy", "true", "null", "this"];
+const OF_FIVE: [&str; 2] = ["false", "first"];
 
 /// Whether a name may begin with the character (Unicode Standard Annex 31, and the underscore).
 pub fn starts_name(c: char) -> bool
@@ -60,7 +68,7 @@ pub fn is_reserved(word: &str) -> bool
         3 => OF_THREE.contains(&word),
         4 => OF_FOUR.contains(&word),
         5 => OF_FIVE.contains(&word),
-        _ => OTHERS.contains(&word),
+        _ => RESERVED.contains(&word),
     }
 }
 

@@ -1,6 +1,6 @@
-use Rattle.std.proofs.Common.{◌≡◌, ◌==◌, ◌∙◌, false, length, sym, arith}
-use Rattle.std.proofs.lemmas.Bool.Decides.{nat_tests}
-use Rattle.at_text.proofs.Reserved.{reserved_early, reserved_of_three, reserved_of_four, reserved_of_five, reserved_of_others}
+use Rattle.std.proofs.Common.{◌∙◌, sym}
+use Rattle.at_model.specs.Names.{reserved_words}
+use Rattle.at_text.proofs.Reserved.{reserved_early, reserved_of_three, reserved_of_four, reserved_of_five}
 use Rattle.at_text.proofs.names.is_reserved.Goals as goal
 
 pub returns-then-begins_before_a : goal.returns-then-begins_before_a
@@ -16,8 +16,5 @@ pub returns-in-5 : goal.returns-in-5
 returns-in-5 c = c.contains-in-5.ensures.value ∙ reserved_of_five c.args.word.now c.in-5.is
 
 pub returns-in_default : goal.returns-in_default
-returns-in_default c =
-    let three : (length c.args.word.now == 3) ≡ false = grind (arith, nat_tests, c.in_default.not-3) in
-    let four : (length c.args.word.now == 4) ≡ false = grind (arith, nat_tests, c.in_default.not-4) in
-    let five : (length c.args.word.now == 5) ≡ false = grind (arith, nat_tests, c.in_default.not-5) in
-    c.contains-in_default.ensures.value ∙ reserved_of_others c.args.word.now (sym c.begins_before_a.ensures ∙ c.if-begins_before_a.false) three four five
+unfolding reserved_words
+returns-in_default c = c.contains-in_default.ensures.value
