@@ -26,9 +26,13 @@ const RESERVED: [&str; 20] = [
     "String",
 ];
 
-/// Those of three bytes, of four and of five, as most names are.
+/// Those of three bytes.
 const OF_THREE: [&str; 5] = ["syn", "inh", "nta", "sum", "int"];
+
+/// Those of four bytes.
 const OF_FOUR: [&str; 4] = ["lazy", "true", "null", "this"];
+
+/// Those of five bytes.
 const OF_FIVE: [&str; 2] = ["false", "first"];
 
 /// Whether a name may begin with the character (Unicode Standard Annex 31, and the underscore).
