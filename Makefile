@@ -44,9 +44,10 @@ starve: tools python
 	@python3 tools/starve.py --program crates/starve/out/starve
 	@python3 tools/starve.py at_text
 
-# Speed, by the proved program, as ratios in one run.
+# Speed, by the proved program, as ratios in one run; and what it takes at its limits.
 bench: build
 	python3 bench/bench.py
+	python3 bench/limits.py
 
 tools:
 	@command -v rt > /dev/null || { echo "attrd is written in Rattle: install the Rattle kit, so that the command 'rt' is on the PATH."; exit 1; }
