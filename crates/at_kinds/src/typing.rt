@@ -60,9 +60,9 @@ fn refused(code: RuleCode, at: (u32, u32)) -> TypeFault
 }
 
 /// A parameter's or a fold's name, with the kind of what it stands for.
-#[derive(Clone, Copy)]
-pub struct Bound<'a> {
-    pub name: &'a str,
+#[derive(Drop)]
+pub struct Bound {
+    pub name: String,
     pub kind: WrittenKind,
 }
 
@@ -74,7 +74,7 @@ pub struct Scope<'a> {
     pub classes: &'a ClassTable,
     pub signatures: &'a Signatures,
     pub this: ClassId,
-    pub names: &'a [Bound<'a>],
+    pub names: &'a [Bound],
     pub index: Option<&'a str>,
 }
 

@@ -19,17 +19,17 @@ ghost use Rattle.at_typing.specs.declared.numbered.Numbered.{Numbered as Numbere
 ghost use Rattle.at_kinds.specs.declared.typing.TypeFault.TheVariants.{Refused};
 ghost use Rattle.at_rules.specs.declared.body.Kind.TheVariants as kinds;
 
+use at_kinds::accessors::accessed;
 use crate::attributes::Attributes;
+use at_kinds::RuleCode;
+use at_kinds::components::parts_of;
 use crate::located::{body_in, class_word, index_name, is_inherited, is_lazy, params_in};
 use crate::numbered::Numbered;
+use at_kinds::signatures::{Signature, Signatures, WrittenKind};
+use at_kinds::typing::{Bound, Scope, TypeFault, body_of};
 use crate::written::{as_written, known_kind};
 use at_class::{ClassId, ClassTable, PartShape};
 use at_jrag::{Body as Written, DeclForm, KindWord, Param, Params, Word};
-use at_kinds::RuleCode;
-use at_kinds::accessors::accessed;
-use at_kinds::components::parts_of;
-use at_kinds::signatures::{Signature, Signatures, WrittenKind};
-use at_kinds::typing::{Bound, Scope, TypeFault, body_of};
 use at_rules::{AttrId, Attribute, Body, Equations, Kind};
 use std::alloc::{AllocError, Global};
 
@@ -284,24 +284,24 @@ impl Among<'_> {
     }
 
     /// The names of the parameters, with their kinds.
-    fn names<'p>(&self, params: &'p [Param]) -> Result<Vec<Bound<'p>>, AllocError>
+    fn names(&self, params: &[Param]) -> Result<Vec<Bound>, AllocError>
         ensures { IfOk result (λ names. map bound_view names.items ≡ map (bound self.now.classes.now) (map param_view params.now)) }
     {
         let mut names = Vec::new(self.alloc);
         for param in params {
-            names.push(self.bound(param))?;
+            names.push(self.bound(param)?)?;
         }
         Ok(names)
     }
 
     /// The name of the parameter, with its kind.
-    fn bound<'p>(&self, param: &'p Param) -> Bound<'p>
-        ensures { bound_view result ≡ bound self.now.classes.now (param_view param.now) }
+    fn bound(&self, param: &Param) -> Result<Bound, AllocError>
+        ensures { IfOk result (λ b. bound_view b ≡ bound self.now.classes.now (param_view param.now)) }
     {
-        Bound {
-            name: param.name.text.as_str(),
+        Ok(Bound {
+            name: String::from_str(self.alloc, param.name.text.as_str())?,
             kind: as_written(known_kind(self.classes, &param.kind.kind)),
-        }
+        })
     }
 
     /// The class of that name: J3 at the word where it isn't there.
