@@ -19,17 +19,17 @@ ghost use Rattle.at_typing.specs.declared.numbered.Numbered.{Numbered as Numbere
 ghost use Rattle.at_kinds.specs.declared.typing.TypeFault.TheVariants.{Refused};
 ghost use Rattle.at_rules.specs.declared.body.Kind.TheVariants as kinds;
 
-use at_kinds::accessors::accessed;
 use crate::attributes::Attributes;
-use at_kinds::RuleCode;
-use at_kinds::components::parts_of;
 use crate::located::{body_in, class_word, index_name, is_inherited, is_lazy, params_in};
 use crate::numbered::Numbered;
-use at_kinds::signatures::{Signature, Signatures, WrittenKind};
-use at_kinds::typing::{Bound, Scope, TypeFault, body_of};
 use crate::written::{as_written, known_kind};
 use at_class::{ClassId, ClassTable, PartShape};
 use at_jrag::{Body as Written, DeclForm, KindWord, Param, Params, Word};
+use at_kinds::RuleCode;
+use at_kinds::accessors::accessed;
+use at_kinds::components::parts_of;
+use at_kinds::signatures::{Signature, Signatures, WrittenKind};
+use at_kinds::typing::{Bound, Scope, TypeFault, body_of};
 use at_rules::{AttrId, Attribute, Body, Equations, Kind};
 use std::alloc::{AllocError, Global};
 

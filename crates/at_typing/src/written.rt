@@ -10,9 +10,9 @@ ghost use Rattle.at_kinds.specs.Signatures.{declared_view};
 
 use crate::located::{is_inherited, is_lazy, name_word, params_in, result_in};
 use crate::numbered::{NamedClass, Numbered};
-use at_kinds::signatures::{Signature, Signatures, WrittenKind};
 use at_class::{ClassId, ClassTable};
 use at_jrag::{Kind as KindForm, KindWord, Param};
+use at_kinds::signatures::{Signature, Signatures, WrittenKind};
 use at_rules::Kind;
 use std::alloc::{AllocError, Global};
 

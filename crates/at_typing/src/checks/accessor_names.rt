@@ -13,11 +13,11 @@ ghost use Rattle.at_typing.specs.Numbering.{numbered_view};
 
 use super::fault_at;
 use crate::fault::Fault;
-use at_kinds::RuleCode;
 use crate::located::{is_attribute, name_word};
 use crate::numbered::Numbered;
 use at_class::{ClassId, ClassTable, Part, PartShape};
 use at_jrag::DeclForm;
+use at_kinds::RuleCode;
 use indexmap::IndexSet;
 use std::alloc::{AllocError, Global};
 

@@ -12,12 +12,12 @@ ghost use Rattle.at_kinds.specs.declared.code.RuleCode.TheVariants as code;
 
 use super::fault_at;
 use crate::fault::Fault;
-use at_kinds::RuleCode;
 use crate::hierarchy::{Hierarchy, is_concrete};
 use crate::located::{is_attribute, is_inherited};
 use crate::numbered::{NamedClass, Numbered};
 use crate::walk::Walk;
 use at_class::{ClassId, ClassTable, Part, PartShape};
+use at_kinds::RuleCode;
 use at_rules::{AttrId, Rules};
 use indexmap::IndexMap;
 use std::alloc::{AllocError, Global};

@@ -8,10 +8,10 @@ ghost use Rattle.at_typing.specs.Numbering.{numbered_view, limit_of};
 
 use super::fault_at;
 use crate::fault::Fault;
-use at_kinds::RuleCode;
 use crate::located::{body_in, is_attribute};
 use crate::numbered::Numbered;
 use at_jrag::{Expr, Form};
+use at_kinds::RuleCode;
 
 /// How many attributes may be declared.
 const MAX_ATTRIBUTES: usize = 2000;
