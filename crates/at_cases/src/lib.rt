@@ -1,12 +1,6 @@
-//! Tests of the readers of files, terms and lines, and of the node store, by their public calls.
+//! Tests of the readers of terms and lines, of the node store, and of single tries of equations, by their public calls.
 #![tactic(auto)]
 
-#[cfg(test)]
-mod aspects;
-#[cfg(test)]
-mod classes;
-#[cfg(test)]
-mod grammars;
 #[cfg(test)]
 mod lines;
 #[cfg(test)]
@@ -15,3 +9,5 @@ mod stores;
 mod terms;
 #[cfg(test)]
 mod trees;
+#[cfg(test)]
+mod tries;

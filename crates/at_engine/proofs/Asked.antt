@@ -5,7 +5,8 @@ use Rattle.at_model.specs.Paths.{Node, tree_at}
 use Rattle.at_model.specs.Run.{Value, Instance, Contents, Location, Is}
 use Rattle.at_model.specs.Rules.{Rules, attribute_named}
 use Rattle.at_model.specs.Meaning.{Answer, content}
-use Rattle.at_model.specs.Lines.{Place, Argument, Ask, IsName}
+use Rattle.at_model.specs.Lines.{Place, Argument, Ask}
+use Rattle.at_model.specs.Names.{IsName}
 use Rattle.at_model.specs.Machine.{State, Asks, AnswersIn, each, fit_parameters, node_named, obeyed, parameters_of, value_named}
 use Rattle.at_model.specs.Alike.{ListLike, ValueLike, InstanceLike, AlikeAt, Names}
 use Rattle.at_protocol.specs.declared.reply.Refusal.TheVariants as refusal

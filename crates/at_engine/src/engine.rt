@@ -120,7 +120,7 @@ impl<K: Keeper> Engine<K> {
     }
 
     /// Serves a line that isn't empty; whether it was answered by want of memory.
-    pub fn serve(&mut self, line: &[u8], out: &mut Vec<u8>) -> Result<bool, AllocError>
+    pub(crate) fn serve(&mut self, line: &[u8], out: &mut Vec<u8>) -> Result<bool, AllocError>
         requires sound { IsSound K.contents self.old }
         requires some { 0 < length line.now }
         ensures served { IfOk result (λ wants. (reply : ModelReply) × Serves (rules_of self.old) wants (state_of self.old) line.now (state_of self.new) reply × (out.new.items ≡ out.old.items ++ reply_text reply)) }

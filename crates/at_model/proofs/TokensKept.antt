@@ -113,7 +113,7 @@ is_left classes t u e is =
 
 mutual
   of_term : (classes : Classes) (d : ℕ) (t : Tree) → IsTermWithin d (term_of classes t) → AreTokens t
-  of_term classes d (trees.Node c cells) h = of_cells classes (d - 1) cells h.3
+  of_term classes d (trees.Node c cells) h = of_cells classes (d - 1) cells h.2
 
   of_cells : (classes : Classes) (d : ℕ) (cs : Cells) → AreCellsWithin d (cells_of classes cs) → CellsAreTokens cs
   of_cells classes d no_cells h = tt

@@ -18,3 +18,4 @@ pub mod TreeTexts
 pub mod Shaping
 pub mod Made
 pub mod ShapeLaws
+pub mod ReadTrees

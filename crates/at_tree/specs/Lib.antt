@@ -17,3 +17,4 @@ pub mod Separated
 pub mod Shape
 pub mod TreeTokens
 pub mod TreeLaws
+pub mod ReadTrees

@@ -15,19 +15,19 @@ use Rattle.at_model.proofs.Everywhere.{all_more}
 use Rattle.at_model.proofs.Options.{both}
 use Rattle.at_jrag.specs.Syntax.{Place, Word, KindWord, Body, DeclForm}
 use Rattle.at_jrag.specs.Syntax as written
-use Rattle.at_typing.specs.Accessors.{accessed, shape_of}
+use Rattle.at_kinds.specs.Accessors.{accessed, shape_of}
 use Rattle.at_typing.specs.Building.{meaning_if, meanings, first_fault, rules_of}
 use Rattle.at_typing.specs.Declaring.{attributes, is_inherited, body_in, index_in, class_text, name_text, is_below, is_sub_or_none, is_synthesized_by, synthesized_named, inherited_named, declared_twice, over_limit, accessor_named, fault_together}
-use Rattle.at_typing.specs.Judging.{Judgement, Is, Wrong, and_then}
+use Rattle.at_kinds.specs.Judging.{Judgement, Is, Wrong, and_then}
 use Rattle.at_typing.specs.Located.{Located, class_word}
 use Rattle.at_typing.specs.Meanings.{Meaning, attribute_meant, signatures, own_equation, own_meant, inherited_equation, inherited_meant, body_meant, declared_alone, declared_with, own_alone, inherited_alone, with_body, below_class, below_component, form_meant, meant}
 use Rattle.at_typing.specs.Ruling.{class_named, component_got, component_at, is_component, is_many, index_of_list}
-use Rattle.at_typing.specs.declared.fault.RuleCode.TheVariants as code
+use Rattle.at_kinds.specs.declared.code.RuleCode.TheVariants as code
 use Rattle.at_typing.proofs.Climbing.{sub_itself}
 use Rattle.at_typing.proofs.Gathering.{first_none, other_none}
-use Rattle.at_typing.proofs.Holding.{Holds, then_holds, none_holds}
+use Rattle.at_kinds.proofs.Holding.{Holds, then_holds, none_holds}
 use Rattle.at_typing.proofs.InheritedAlike.{inherited_alike}
-use Rattle.at_typing.proofs.KindsKnown.{beside_it, element_found}
+use Rattle.at_kinds.proofs.KindsKnown.{beside_it, element_found}
 use Rattle.at_typing.proofs.KindsDeclared.{IsOfWord, Declares, class_there, class_named_right, attribute_right, all_declared, signatures_same, all_typed}
 use Rattle.at_typing.proofs.KindsOfBodies.{IsBodyOf, body_right}
 use Rattle.at_typing.proofs.Literals.{AreInts, AreIntsIn}

@@ -17,10 +17,10 @@ use Rattle.at_jrag.specs.Syntax as written
 use Rattle.at_typing.specs.Declaring.{attributes, is_attribute, is_inherited, result_in, params_in, name_text, class_text, is_same_kind, have_same_kinds, has_same_result, has_same_signature, differs, is_on_one_line, clashes, declared_twice}
 use Rattle.at_typing.specs.Located.{Located}
 use Rattle.at_typing.specs.Ruling.{known_kind, as_written, written_kind}
-use Rattle.at_typing.specs.declared.signatures.WrittenKind.{WrittenKind}
-use Rattle.at_typing.specs.declared.signatures.WrittenKind.TheVariants.{Known, Strange}
+use Rattle.at_kinds.specs.declared.signatures.WrittenKind.{WrittenKind}
+use Rattle.at_kinds.specs.declared.signatures.WrittenKind.TheVariants.{Known, Strange}
 use Rattle.at_typing.proofs.Gathering.{no_clash}
-use Rattle.at_typing.proofs.KindsKnown.{IsKind, beside_that}
+use Rattle.at_kinds.proofs.KindsKnown.{IsKind, beside_that}
 use Rattle.at_typing.proofs.KindsDeclared.{Declares, written_kinds}
 
 -- kinds that are written the same ---------------------------------------------------------------------------------------

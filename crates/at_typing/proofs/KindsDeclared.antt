@@ -18,14 +18,14 @@ use Rattle.at_rules.specs.declared.body.Kind.{Kind}
 use Rattle.at_rules.specs.declared.body.Kind.TheVariants as kind
 use Rattle.at_typing.specs.Building.{meaning_if, meanings, refusal, refused_at}
 use Rattle.at_typing.specs.Declaring.{attributes, is_attribute, is_inherited, result_in, params_in, class_text, name_text}
-use Rattle.at_typing.specs.Judging.{Judgement, Is, Wrong, and_then}
+use Rattle.at_kinds.specs.Judging.{Judgement, Is, Wrong, and_then}
 use Rattle.at_typing.specs.Located.{Located, class_word}
 use Rattle.at_typing.specs.Meanings.{Meaning, attribute, attribute_with, attribute_for, attribute_meant, signature, signature_if, signatures, meant, with_body, below_class, below_component, form_meant, own_meant, inherited_meant, declared_alone, declared_with, own_alone, inherited_alone}
 use Rattle.at_typing.specs.Ruling.{known_kind, as_written, written_kind, or_unknown, class_named, kind_named, max_parameters, can_be_passed, passed_if, param_named, params_named, component_got}
-use Rattle.at_typing.specs.declared.signatures.WrittenKind.{WrittenKind}
+use Rattle.at_kinds.specs.declared.signatures.WrittenKind.{WrittenKind}
 use Rattle.at_typing.proofs.Gathering.{first_none, other_none}
-use Rattle.at_typing.proofs.Holding.{Holds, then_holds, none_holds}
-use Rattle.at_typing.proofs.KindsKnown.{IsKind, IsDeclaredAs, element_found}
+use Rattle.at_kinds.proofs.Holding.{Holds, then_holds, none_holds}
+use Rattle.at_kinds.proofs.KindsKnown.{IsKind, IsDeclaredAs, element_found}
 
 -- what is named ---------------------------------------------------------------------------------------------------------
 

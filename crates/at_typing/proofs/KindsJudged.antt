@@ -13,16 +13,16 @@ use Rattle.at_model.proofs.Options.{led, mapped}
 use Rattle.at_jrag.specs.Syntax.{Place}
 use Rattle.at_jrag.specs.Syntax as written
 use Rattle.at_rules.specs.declared.body.Kind.TheVariants as known_kind
-use Rattle.at_typing.specs.Judging.{Kinded, Is, Wrong, Scope, Bound, and_then, within, index_eq, bound_to, index_named, named_by, named, this_node, negation, opposite, joined, chosen, cast, tested, called, list_called, list_or, folded, placed, judged, judged_all, judged_list}
-use Rattle.at_typing.specs.Kinds.{of_written}
-use Rattle.at_typing.specs.Signatures.{Declared}
-use Rattle.at_typing.specs.declared.fault.RuleCode.TheVariants as code
-use Rattle.at_typing.specs.declared.signatures.WrittenKind.{WrittenKind}
-use Rattle.at_typing.specs.declared.signatures.WrittenKind.TheVariants.{Known}
-use Rattle.at_typing.proofs.Holding.{Holds, then_holds, none_holds}
-use Rattle.at_typing.proofs.KindsKnown.{IsKind, IsDeclaredAs, beside_it}
-use Rattle.at_typing.proofs.KindsOfForms.{Has, Right, negation_right, opposite_right, joined_right, chosen_right, cast_right, tested_right}
-use Rattle.at_typing.proofs.KindsOfCalls.{AllRight, IsListOf, scope_at, result_right, called_right, list_called_right, folded_right}
+use Rattle.at_kinds.specs.Judging.{Kinded, Is, Wrong, Scope, Bound, and_then, within, index_eq, bound_to, index_named, named_by, named, this_node, negation, opposite, joined, chosen, cast, tested, called, list_called, list_or, folded, placed, judged, judged_all, judged_list}
+use Rattle.at_kinds.specs.Kinds.{of_written}
+use Rattle.at_kinds.specs.Signatures.{Declared}
+use Rattle.at_kinds.specs.declared.code.RuleCode.TheVariants as code
+use Rattle.at_kinds.specs.declared.signatures.WrittenKind.{WrittenKind}
+use Rattle.at_kinds.specs.declared.signatures.WrittenKind.TheVariants.{Known}
+use Rattle.at_kinds.proofs.Holding.{Holds, then_holds, none_holds}
+use Rattle.at_kinds.proofs.KindsKnown.{IsKind, IsDeclaredAs, beside_it}
+use Rattle.at_kinds.proofs.KindsOfForms.{Has, Right, negation_right, opposite_right, joined_right, chosen_right, cast_right, tested_right}
+use Rattle.at_kinds.proofs.KindsOfCalls.{AllRight, IsListOf, scope_at, result_right, called_right, list_called_right, folded_right}
 use Rattle.at_typing.proofs.Literals.{AreInts, AreIntsAmong}
 
 abbrev pub IsBound : Bound → Kind → Type 0

@@ -16,20 +16,20 @@ use Rattle.at_rules.specs.Bodies.{kind_view}
 use Rattle.at_rules.specs.declared.body.Kind.{Kind}
 use Rattle.at_rules.specs.declared.body.Kind.TheVariants as kind
 use Rattle.at_typing.specs.Declaring.{params_in, index_in}
-use Rattle.at_typing.specs.Judging.{Kinded, Judgement, Is, Wrong, and_then, fitting, body_of, judged}
-use Rattle.at_typing.specs.Kinds.{fits}
+use Rattle.at_kinds.specs.Judging.{Kinded, Judgement, Is, Wrong, and_then, fitting, body_of, judged}
+use Rattle.at_kinds.specs.Kinds.{fits}
 use Rattle.at_typing.specs.Located.{Located}
 use Rattle.at_typing.specs.Meanings.{scope, body_for, body_if, body_meant}
 use Rattle.at_typing.specs.Ruling.{written_kind, is_same, is_kind, passed_if, param_named, param_as_declared, as_declared, bound}
-use Rattle.at_typing.specs.Signatures.{Declared}
-use Rattle.at_typing.specs.declared.fault.RuleCode.TheVariants as code
-use Rattle.at_typing.specs.declared.signatures.WrittenKind.{WrittenKind}
-use Rattle.at_typing.specs.declared.signatures.WrittenKind.TheVariants.{Known, Strange}
-use Rattle.at_typing.proofs.Holding.{Holds, then_holds}
-use Rattle.at_typing.proofs.KindsKnown.{IsKind, IsDeclaredAs, beside_it}
+use Rattle.at_kinds.specs.Signatures.{Declared}
+use Rattle.at_kinds.specs.declared.code.RuleCode.TheVariants as code
+use Rattle.at_kinds.specs.declared.signatures.WrittenKind.{WrittenKind}
+use Rattle.at_kinds.specs.declared.signatures.WrittenKind.TheVariants.{Known, Strange}
+use Rattle.at_kinds.proofs.Holding.{Holds, then_holds}
+use Rattle.at_kinds.proofs.KindsKnown.{IsKind, IsDeclaredAs, beside_it}
 use Rattle.at_typing.proofs.KindsDeclared.{IsPassed, param_named_right}
-use Rattle.at_typing.proofs.KindsOfForms.{Right, int_has, truth_has, text_has}
-use Rattle.at_typing.proofs.KindsOfCalls.{within_has}
+use Rattle.at_kinds.proofs.KindsOfForms.{Right, int_has, truth_has, text_has}
+use Rattle.at_kinds.proofs.KindsOfCalls.{within_has}
 use Rattle.at_typing.proofs.KindsJudged.{IsBound, judged_right}
 use Rattle.at_typing.proofs.Literals.{AreInts}
 

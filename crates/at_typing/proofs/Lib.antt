@@ -1,6 +1,4 @@
 mod Locating
-mod Accessing
-mod Signing
 mod Binding
 mod FirstFaults
 mod FirstValues
@@ -29,12 +27,6 @@ mod MeaningParts
 mod Gathering
 mod InOrder
 mod Built
-mod Parts
-mod Seen
-mod Holding
-mod KindsKnown
-mod KindsOfForms
-mod KindsOfCalls
 mod Literals
 mod KindsJudged
 mod KindsDeclared

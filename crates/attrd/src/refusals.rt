@@ -1,6 +1,6 @@
-//! Files that are refused: each code with its text and its place, and what is just accepted.
+//! Files that are refused: in which order they are looked at, and what is no text. What their texts are refused for is
+//! shown by the examples of docs/REFUSALS.md.
 
-mod aspects;
 mod limits;
 
 use crate::sessions::{CALCULATOR, GRAMMAR, TREE};
@@ -32,38 +32,6 @@ fn refusal(alloc: Global, grammar: &[u8], tree: &[u8], aspects: &[&[u8]]) -> Res
     }
     let told = std::str::from_utf8(&text)?;
     Ok(String::from_str(alloc, told.trim_end())?)
-}
-
-/// The same of an aspect with these declarations on its first line, over the calculator's classes.
-fn refusal_of(alloc: Global, declarations: &str) -> Result<String, Fail> {
-    let aspect = format!(in alloc; "aspect A {{ {declarations} }}")?;
-    refusal(
-        alloc,
-        GRAMMAR.as_bytes(),
-        TREE.as_bytes(),
-        &[aspect.as_bytes()],
-    )
-}
-
-#[test]
-fn grammars_are_refused_by_their_codes(rt: HostRuntime) -> Result<(), Fail> {
-    let cases = [
-        ("A ::= B", "grammar: G1 syntax at 1:8"),
-        ("A ::= /B/;", "grammar: G7 form left out at 1:7"),
-        ("", "grammar: G9 no class at 1:1"),
-        ("A; B; A;", "grammar: G2 class twice at 1:7"),
-        ("A; Opt;", "grammar: G2 class twice at 1:4"),
-        ("A ::= B;", "grammar: G3 unknown class at 1:1"),
-        ("A : B; B : A;", "grammar: G4 superclass circle at 1:1"),
-        ("A ::= <X:text>;", "grammar: G6 token kind at 1:8"),
-        ("A ::= X:A X:A;", "grammar: G5 component twice at 1:11"),
-        ("A ::= Child:A;", "grammar: G5 component twice at 1:7"),
-    ];
-    for (text, wanted) in cases {
-        let told = refusal(rt.alloc(), text.as_bytes(), b"A()", &[b""])?;
-        assert_eq!(rt; told.as_str(), wanted, "{text}");
-    }
-    Ok(())
 }
 
 #[test]
@@ -115,28 +83,5 @@ fn a_front_of_a_tree_is_no_tree(rt: HostRuntime) -> Result<(), Fail> {
         let told = refusal(alloc, GRAMMAR.as_bytes(), front, &[CALCULATOR.as_bytes()])?;
         assert_eq!(rt; told.as_str(), "tree: F1 syntax", "{length}");
     }
-    Ok(())
-}
-
-#[test]
-fn the_calculator_without_its_last_name_equation_is_refused(rt: HostRuntime) -> Result<(), Fail> {
-    let alloc = rt.alloc();
-    let mut aspects = String::new(alloc);
-    for (number, line) in CALCULATOR.lines().enumerate() {
-        if number != 7 {
-            aspects.push_str(line)?;
-        }
-        aspects.push_str("\n")?;
-    }
-    let told = refusal(
-        alloc,
-        GRAMMAR.as_bytes(),
-        TREE.as_bytes(),
-        &[aspects.as_bytes()],
-    )?;
-    assert_eq!(rt;
-        told.as_str(),
-        "aspects: J8 inherited without equation at 3:3"
-    );
     Ok(())
 }

@@ -30,7 +30,8 @@ impl<K: Keeper> Engine<K> {
     ghost use Rattle.at_model.specs.Run.{Instance};
     ghost use Rattle.at_model.specs.Meaning.{Answer as AnswerOf};
     ghost use Rattle.at_model.specs.Alike.{InstanceLike, Names};
-    ghost use Rattle.at_model.specs.Lines.{Ask, IsName};
+    ghost use Rattle.at_model.specs.Lines.{Ask};
+    ghost use Rattle.at_model.specs.Names.{IsName};
     ghost use Rattle.at_model.specs.Machine.{Asks, AnswersIn, each, obeyed, parameters_of, value_named};
     ghost use Rattle.at_protocol.specs.LineView.{argument_view, arguments_view, place_view};
     ghost use Rattle.at_rules.specs.Bodies.{kind_view};

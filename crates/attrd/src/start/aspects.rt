@@ -14,8 +14,9 @@ use super::files::{Source, text_of};
 use crate::code::Code;
 use at_class::ClassTable;
 use at_jrag::{Aspect, JragFault, parse_jrag};
+use at_kinds::RuleCode;
 use at_rules::Rules;
-use at_typing::{RuleCode, RuleFault};
+use at_typing::RuleFault;
 use std::alloc::Global;
 
 /// The rules of the aspect files over the classes.
