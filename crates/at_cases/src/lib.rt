@@ -1,4 +1,4 @@
-//! Tests of the readers of terms and lines, of the node store, and of single tries of equations, by their public calls.
+//! Tests of the readers of terms and lines, and of the node store, by their public calls.
 #![tactic(auto)]
 
 #[cfg(test)]
@@ -9,5 +9,3 @@ mod stores;
 mod terms;
 #[cfg(test)]
 mod trees;
-#[cfg(test)]
-mod tries;

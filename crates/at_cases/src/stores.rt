@@ -30,9 +30,9 @@ Num : Expr ::= <Value:int>;
 Add : Expr ::= Left:Expr Right:Expr;
 ";
 
-pub(super) const TREE: &str = "Program(Block([Decl(\"x\",Num(1)),Print(Add(Use(\"x\"),Num(2)))]))";
+const TREE: &str = "Program(Block([Decl(\"x\",Num(1)),Print(Add(Use(\"x\"),Num(2)))]))";
 
-pub(super) fn calc(alloc: Global) -> Option<ClassTable> {
+fn calc(alloc: Global) -> Option<ClassTable> {
     let grammar = parse_ast(alloc, CALC).ok()?;
     if !are_named(&grammar) {
         return None;
@@ -47,7 +47,7 @@ fn term(alloc: Global, classes: &ClassTable, text: &str) -> Option<Tree> {
     shape(alloc, classes, &term, class).ok()
 }
 
-pub(super) fn loaded(alloc: Global, classes: &ClassTable, text: &str) -> Option<Store>
+fn loaded(alloc: Global, classes: &ClassTable, text: &str) -> Option<Store>
     ensures idle { IfSome result (λ s. IsIdle s) }
     ensures conforming { IfSome result (λ s. conforms classes.now (tree s) 0 ≡ true) }
 {
@@ -68,7 +68,7 @@ fn text_of(alloc: Global, classes: &ClassTable, store: &Store, node: Node) -> Op
 }
 
 /// The node at a path.
-pub(super) fn at(alloc: Global, classes: &ClassTable, store: &Store, path: &str) -> Option<Node>
+fn at(alloc: Global, classes: &ClassTable, store: &Store, path: &str) -> Option<Node>
     requires { IsIdle store.now }
 {
     let path = read_path(alloc, path).ok()?;
