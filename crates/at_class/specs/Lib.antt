@@ -1,7 +1,5 @@
 pub mod View
 pub mod Grammar
 pub mod Faults
-pub mod Climbs
-pub mod Taken
 pub mod Checks
 pub mod Table

@@ -3,7 +3,6 @@
 
 mod chain;
 mod checks;
-mod circles;
 mod clash;
 mod class;
 mod fault;
@@ -12,7 +11,6 @@ mod naming;
 mod part;
 mod steps;
 mod table;
-mod taken;
 
 pub use fault::{ClassCode, ClassFault};
 pub use naming::are_named;

@@ -43,10 +43,9 @@ enum Turn<'a> {
 }
 
 impl<K: Keeper> Demand<K> {
-    /// Questions, with that keeper, and no work yet.
+    /// Questions, with that keeper.
     pub fn new(alloc: Global, keeper: K) -> Demand<K>
-        ensures keeper { result.keeper ≡ keeper }
-        ensures work { result.work ≡ 0 }
+        ensures { result.keeper ≡ keeper }
     {
         Demand {
             alloc,

@@ -5,8 +5,6 @@ pub mod Stops
 pub mod Reads
 pub mod Finishes
 pub mod Gives
-pub mod Runs
-pub mod Leads
 pub mod Partial
 pub mod Seen
 pub mod PartialPath
@@ -17,4 +15,3 @@ pub mod Separated
 pub mod Shape
 pub mod TreeTokens
 pub mod TreeLaws
-pub mod ReadTrees

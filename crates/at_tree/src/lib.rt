@@ -5,7 +5,6 @@ pub mod fault;
 pub mod laws;
 pub mod path;
 pub mod reader;
-mod runs;
 pub mod term;
 pub mod token;
 pub mod tree;

@@ -51,7 +51,6 @@ struct Partial {
     place: Place,
 }
 
-mod advance;
 mod read;
 mod steps;
 mod words;

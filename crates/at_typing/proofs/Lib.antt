@@ -1,4 +1,6 @@
 mod Locating
+mod Accessing
+mod Signing
 mod Binding
 mod FirstFaults
 mod FirstValues
@@ -27,10 +29,5 @@ mod MeaningParts
 mod Gathering
 mod InOrder
 mod Built
-mod Literals
-mod KindsJudged
-mod KindsDeclared
-mod KindsOfBodies
-mod InheritedAlike
-mod EquationsOfKinds
-pub mod BuiltWellFormed
+mod Parts
+mod Seen

@@ -1,8 +1,0 @@
-pub mod Accessing
-pub mod Signing
-pub mod Parts
-pub mod Seen
-pub mod Holding
-pub mod KindsKnown
-pub mod KindsOfForms
-pub mod KindsOfCalls

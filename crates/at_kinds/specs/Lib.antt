@@ -1,5 +1,0 @@
-pub mod Signatures
-pub mod Accessors
-pub mod Kinds
-pub mod Judging
-pub mod Typed
