@@ -284,24 +284,24 @@ impl Among<'_> {
     }
 
     /// The names of the parameters, with their kinds.
-    fn names(&self, params: &[Param]) -> Result<Vec<Bound>, AllocError>
+    fn names<'p>(&self, params: &'p [Param]) -> Result<Vec<Bound<'p>>, AllocError>
         ensures { IfOk result (λ names. map bound_view names.items ≡ map (bound self.now.classes.now) (map param_view params.now)) }
     {
         let mut names = Vec::new(self.alloc);
         for param in params {
-            names.push(self.bound(param)?)?;
+            names.push(self.bound(param))?;
         }
         Ok(names)
     }
 
     /// The name of the parameter, with its kind.
-    fn bound(&self, param: &Param) -> Result<Bound, AllocError>
-        ensures { IfOk result (λ b. bound_view b ≡ bound self.now.classes.now (param_view param.now)) }
+    fn bound<'p>(&self, param: &'p Param) -> Bound<'p>
+        ensures { bound_view result ≡ bound self.now.classes.now (param_view param.now) }
     {
-        Ok(Bound {
-            name: String::from_str(self.alloc, param.name.text.as_str())?,
+        Bound {
+            name: &param.name,
             kind: as_written(known_kind(self.classes, &param.kind.kind)),
-        })
+        }
     }
 
     /// The class of that name: J3 at the word where it isn't there.

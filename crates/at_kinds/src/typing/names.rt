@@ -1,7 +1,8 @@
 //! `this`, names and texts.
 
-ghost use Rattle.std.specs.Prelude.{◌≡◌, ◌∷◌, ◌++◌, map, option_map, slice_get, position, string_bytes, bytes_eq, IfOk, OnOk};
+ghost use Rattle.std.specs.Prelude.{◌≡◌, ◌∷◌, ◌++◌, map, option_map, slice_get, position, bytes_eq, IfOk, OnOk};
 ghost use Rattle.at_model.specs.Bodies as model;
+ghost use Rattle.at_jrag.specs.View.{word_view};
 ghost use Rattle.at_kinds.specs.Judging.{of_kind, named as named_in, bound_to, index_eq, index_named, this_node};
 ghost use Rattle.at_kinds.specs.Typed.{typed_view, scope_view, bound_view, Judges};
 
@@ -10,10 +11,11 @@ use super::{Bound, Scope, TypeFault, refused};
 use crate::code::RuleCode;
 use crate::signatures::WrittenKind;
 use at_class::ClassId;
+use at_jrag::Word;
 use at_rules::{Body, Kind};
 use std::alloc::{AllocError, Global};
 
-impl Scope<'_> {
+impl Scope<'_, '_> {
     /// `this`
     pub(super) fn this(&self, at: (u32, u32)) -> Typed
         ensures { typed_view result ≡ this_node (scope_view self.now) at }
@@ -69,9 +71,9 @@ impl Scope<'_> {
 }
 
 fn position_bound(names: &[Bound], name: &str) -> Option<usize>
-    ensures { result ≡ position (λ b. bytes_eq (string_bytes b.name) name.now) names.now }
+    ensures { result ≡ position (λ b. bytes_eq (bound_view b).name name.now) names.now }
 {
-    names.iter().position(|bound| bound.name.as_str() == name)
+    names.iter().position(|bound| bound.name.text.as_str() == name)
 }
 
 fn kind_at(names: &[Bound], position: usize) -> Option<WrittenKind>
@@ -81,39 +83,29 @@ fn kind_at(names: &[Bound], position: usize) -> Option<WrittenKind>
 }
 
 /// The names in the braces of a fold over nodes of the class: the fold's own, and then those outside.
-pub fn within(
+pub fn within<'a>(
     alloc: Global,
-    name: &str,
+    name: &'a Word,
     class: ClassId,
-    outside: &[Bound],
-) -> Result<Vec<Bound>, AllocError>
-    ensures { IfOk result (λ names. map bound_view names.items ≡ record { name = name.now; kind = WrittenKind.Known (Kind.Class class) } ∷ map bound_view outside.now) }
+    outside: &[Bound<'a>],
+) -> Result<Vec<Bound<'a>>, AllocError>
+    ensures { IfOk result (λ names. map bound_view names.items ≡ record { name = (word_view name.now).text; kind = WrittenKind.Known (Kind.Class class) } ∷ map bound_view outside.now) }
 {
     let mut names = Vec::new(alloc);
     names.push(Bound {
-        name: String::from_str(alloc, name)?,
+        name,
         kind: WrittenKind::Known(Kind::Class(class)),
     })?;
-    append(alloc, outside, &mut names)?;
+    append(outside, &mut names)?;
     Ok(names)
 }
 
 /// The names behind those that are there.
-fn append(alloc: Global, outside: &[Bound], names: &mut Vec<Bound>) -> Result<(), AllocError>
+fn append<'a>(outside: &[Bound<'a>], names: &mut Vec<Bound<'a>>) -> Result<(), AllocError>
     ensures { OnOk result (map bound_view names.new.items ≡ map bound_view names.old.items ++ map bound_view outside.now) }
 {
     for bound in outside {
-        names.push(copied(alloc, bound)?)?;
+        names.push(*bound)?;
     }
     Ok(())
-}
-
-fn copied(alloc: Global, bound: &Bound) -> Result<Bound, AllocError>
-    ensures { IfOk result (λ b. bound_view b ≡ bound_view bound.now) }
-{
-    let name = String::from_str(alloc, bound.name.as_str())?;
-    Ok(Bound {
-        name,
-        kind: bound.kind,
-    })
 }
