@@ -26,6 +26,15 @@ const RESERVED: [&str; 20] = [
     "String",
 ];
 
+/// Those of three bytes.
+const OF_THREE: [&str; 5] = ["syn", "inh", "nta", "sum", "int"];
+
+/// Those of four bytes.
+const OF_FOUR: [&str; 4] = ["lazy", "true", "null", "this"];
+
+/// Those of five bytes.
+const OF_FIVE: [&str; 2] = ["false", "first"];
+
 /// Whether a name may begin with the character (Unicode Standard Annex 31, and the underscore).
 pub fn starts_name(c: char) -> bool
     ensures { result ≡ starts_name c }
@@ -59,7 +68,12 @@ pub fn is_reserved(word: &str) -> bool
         // the only such word of them
         return word == "String";
     }
-    RESERVED.contains(&word)
+    match word.len() {
+        3 => OF_THREE.contains(&word),
+        4 => OF_FOUR.contains(&word),
+        5 => OF_FIVE.contains(&word),
+        _ => RESERVED.contains(&word),
+    }
 }
 
 /// Whether the text has the form of a name.
