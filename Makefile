@@ -2,7 +2,7 @@
 SHELL := /bin/bash
 SAMPLE := crates/attrd/data
 PREFIX ?= /usr/local
-PAGES := docs/MANUAL.md docs/EDGES.md docs/TUTORIAL.md samples/calculator samples/objects samples/machines
+PAGES := docs/MANUAL.md docs/EDGES.md docs/REFUSALS.md docs/TUTORIAL.md samples/calculator samples/objects samples/machines
 
 .PHONY: run test try build install examples bench starve tools python
 
@@ -10,10 +10,12 @@ PAGES := docs/MANUAL.md docs/EDGES.md docs/TUTORIAL.md samples/calculator sample
 run: build
 	@cd $(SAMPLE) && ../../../attrd calc.ast tree.txt calc.jrag < session
 
-# The gate: every proof from nothing, the must-fail edits, the tests, the programs; and then the examples of
-# the manual, the tutorial and the samples, on the program that was proved.
+# The gate: every proof from nothing, the must-fail edits, the tests, the programs; and then, on the programs that
+# were proved, a session with each request for memory refused in turn, and the examples of the manual, the tutorial and
+# the samples.
 test: tools python
 	rt ci
+	@python3 tools/starve.py --program crates/starve/out/starve
 	@python3 tools/examples.py --program crates/attrd/out/attrd $(PAGES)
 
 # The sample session with no proof, in a minute or two.
@@ -35,13 +37,17 @@ install:
 examples: build python
 	@python3 tools/examples.py $(PAGES)
 
-# The tests of the text layer, with each allocation refused in turn.
-starve: tools
-	python3 tools/starve.py at_text
+# A session with each keeper, by the proved program, and the tests of the text layer, with each request for memory
+# refused in turn.
+starve: tools python
+	cd crates/starve && rt run
+	@python3 tools/starve.py --program crates/starve/out/starve
+	@python3 tools/starve.py at_text
 
-# Speed, by the proved program, as ratios in one run.
+# Speed, by the proved program, as ratios in one run; and what it takes at its limits.
 bench: build
 	python3 bench/bench.py
+	python3 bench/limits.py
 
 tools:
 	@command -v rt > /dev/null || { echo "attrd is written in Rattle: install the Rattle kit, so that the command 'rt' is on the PATH."; exit 1; }

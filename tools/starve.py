@@ -1,12 +1,78 @@
 #!/usr/bin/env python3
-"""Runs a crate's tests with the first allocation refused, then with the second alone, and so on, until no test asks for
-that many. A test in which an allocation is refused may say so and end; it may not get another answer."""
+"""Refuses the first request for memory, then the second alone, and so on, until no run asks for that many.
+
+With --program, in the session of the program `starve`, with each keeper. A round may end for want of memory before the
+session's first line, or have one line answered `memory`; each other line must be answered right.
+
+With names of crates, in their tests. A test in which a request is refused may say so and end; it may not get another answer."""
+import os
 import re
+import shutil
 import subprocess
 import sys
+import tempfile
+import time
+from collections import Counter
+from pathlib import Path
+
+# The words that choose a keeper, and the name that its verdict has.
+KEEPERS = {"nothing": "nothing kept", "until-edit": "kept until an edit", "over-edits": "kept over edits"}
+BEFORE, ANSWERED, UNSEEN, NONE = "ended before the first line", "had a line answered `memory`", "made no difference", "none refused"
+MOST_ROUNDS = 100_000
 
 WANT_OF_MEMORY = re.compile("memory|AllocError|AllocFailed", re.I)
 NEW_TEST = re.compile(r"^test \S+ \.\.\. ", re.M)
+
+
+def refusing(folder):
+    """A library that, preloaded, refuses the request for memory whose number stands in REFUSE."""
+    library = Path(folder) / "refuse.so"
+    compiler = os.environ.get("CC") or shutil.which("cc") or "clang"
+    subprocess.run([compiler, "-O2", "-shared", "-fPIC", "-o", library, Path(__file__).with_name("refuse.c"), "-ldl"], check=True)
+    return {"LD_PRELOAD": str(library)}
+
+
+def round_of(program, word, environment, nth):
+    """How the session went with the nth request refused."""
+    run = subprocess.run([program, word], env={**environment, "REFUSE": str(nth)}, capture_output=True, text=True, timeout=60)
+    right = KEEPERS[word] + ": right\n"
+    outcomes = {
+        (0, right, ""): NONE,
+        (0, right, "refused\n"): UNSEEN,
+        (0, KEEPERS[word] + ": right, and a line answered memory\n", "refused\n"): ANSWERED,
+        (4, "", "refused\n"): BEFORE,
+    }
+    outcome = outcomes.get((run.returncode, run.stdout, run.stderr))
+    if outcome is None:
+        sys.exit(f"{word}: with request {nth} refused, status {run.returncode}\n{run.stdout}{run.stderr}")
+    return outcome
+
+
+def session(program, word, environment):
+    """Runs the rounds of one keeper, until in one no request is refused."""
+    began = time.perf_counter()
+    counts = Counter()
+    for nth in range(1, MOST_ROUNDS):
+        outcome = round_of(program, word, environment, nth)
+        if outcome == NONE:
+            break
+        if outcome == BEFORE and counts[ANSWERED] > 0:
+            sys.exit(f"{word}: with request {nth} refused, the program ended in its session")
+        counts[outcome] += 1
+    else:
+        sys.exit(f"{word}: a request was refused in each of {MOST_ROUNDS} rounds")
+    if counts[ANSWERED] == 0:
+        sys.exit(f"{word}: in no round a line was answered `memory`")
+    seconds = time.perf_counter() - began
+    told = ", ".join(f"{counts[outcome]:,} {outcome}" for outcome in (BEFORE, UNSEEN, ANSWERED))
+    print(f"{KEEPERS[word]}: {sum(counts.values()):,} rounds in {seconds:.0f} s, all right: {told}", flush=True)
+
+
+def sessions(program):
+    with tempfile.TemporaryDirectory() as folder:
+        environment = refusing(folder)
+        for word in KEEPERS:
+            session(program, word, environment)
 
 
 def blocks(text):
@@ -29,12 +95,20 @@ def starved(crate, nth):
     return len(failed)
 
 
+def tests(crate):
+    nth = 1
+    while starved(crate, nth) > 0:
+        nth += 1
+    print(f"{crate}: each of {nth - 1} allocations refused in turn, and no test got another answer")
+
+
 def main():
-    for crate in sys.argv[1:]:
-        nth = 1
-        while starved(crate, nth) > 0:
-            nth += 1
-        print(f"{crate}: each of {nth - 1} allocations refused in turn, and no test got another answer")
+    words = sys.argv[1:]
+    if words[:1] == ["--program"] and len(words) == 2:
+        sessions(os.path.abspath(words[1]))
+        return
+    for crate in words:
+        tests(crate)
 
 
 if __name__ == "__main__":

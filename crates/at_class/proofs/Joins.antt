@@ -5,7 +5,6 @@ use Rattle.std.specs.Prelude.{Bool, true, false, ◌||◌, ◌&&◌, nat_eq}
 use Rattle.std.specs.List.{list_any, flat_map, sum_by}
 use Rattle.std.specs.Str.{bytes_eq}
 use Rattle.std.proofs.lemmas.List.{reverse-append, length-append}
-use Rattle.at_class.proofs.Firsts.{list_any-map}
 use Rattle.std.proofs.lemmas.List.Concat.{flat_map-append}
 
 and-assoc : (a b c : Bool) → ((a && b) && c) ≡ (a && (b && c))
@@ -68,10 +67,3 @@ length-flat_map-reverse f (x ∷ xs) =
     let h : length (flat_map f (reverse xs)) ≡ sum_by (λ y. length (f y)) xs = length-flat_map-reverse f xs in
     let s : sum_by (λ y. length (f y)) (x ∷ xs) ≡ length (f x) + sum_by (λ y. length (f y)) xs = sum_by-cons (λ y. length (f y)) x xs in
     omega (arith, e, h, s))
-
--- a test of what all above have, and of these
-pub taken_by : {A B X : Type 0} (p : B → Bool) (f : A → List B) (above : List A) (v : X → B) (before : List X) → list_any p (flat_map f (reverse above) ++ map v before) ≡ (list_any (λ a. list_any p (f a)) above || list_any (λ x. p (v x)) before)
-taken_by p f above v before =
-    list_any-append p (flat_map f (reverse above)) (map v before)
-    ∙ ap (λ b. b || list_any p (map v before)) (list_any-flat_map-reverse p f above)
-    ∙ ap (λ b. list_any (λ a. list_any p (f a)) above || b) (list_any-map p v before)

@@ -1,7 +1,10 @@
 pub mod Firsts
 pub mod Chains
+pub mod Circling
 pub mod Joins
+pub mod Taking
 pub mod Named
 pub mod Order
 pub mod Sound
+pub mod Acyclic
 pub mod Whole

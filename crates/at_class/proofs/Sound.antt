@@ -7,7 +7,8 @@ use Rattle.std.specs.Option.{option_or}
 use Rattle.std.proofs.lemmas.List.{length-map, get_or-map}
 use Rattle.std.proofs.lemmas.List.Quantifiers.{position-Some}
 use Rattle.std.proofs.lemmas.Option.{slice_get-get_or, slice_get-map}
-use Rattle.at_model.specs.Classes.{Class, AreSound, IsClassSound, IsComponentSound, IsShapeWithin, IsNamed, TokenKind, class_of_name, name_of}
+use Rattle.at_model.specs.Classes.{Class, AreSound, IsClassSound, IsComponentSound, IsShapeWithin, TokenKind, class_of_name, name_of}
+use Rattle.at_model.specs.Names.{IsName}
 use Rattle.at_model.specs.Declarations.{Declarations, Declaration, PartDeclaration, Form, One, Many, Maybe, Tok, Place, AreNamed, IsDeclarationNamed, class_named, class_by, component_by, shape_in, classes_of, class_twice, first_given, is_predefined}
 use Rattle.at_class.proofs.Firsts.{twice_test}
 use Rattle.at_grammar.specs.declared.syntax.ClassDecl.{ClassDecl}
@@ -15,7 +16,7 @@ use Rattle.at_class.specs.Grammar.{declaration_view, part_declaration_view, decl
 use Rattle.at_class.proofs.Named.{position-at, position-map}
 
 -- nothing is given anywhere
-given_nowhere : {A B : Type 0} (f : ℕ → A → Option B) (k : ℕ) (xs : List A) (i : ℕ) (d : A) → first_given f k xs ≡ None → i < length xs → f (k + i) (get_or xs i d) ≡ None
+pub given_nowhere : {A B : Type 0} (f : ℕ → A → Option B) (k : ℕ) (xs : List A) (i : ℕ) (d : A) → first_given f k xs ≡ None → i < length xs → f (k + i) (get_or xs i d) ≡ None
 given_nowhere f k [] i d none less = absurd (omega arith)
 given_nowhere f k (x ∷ xs) zero d none less =
     let n : k + 0 ≡ k = omega arith in ap (λ m. f m x) n ∙ (head (f k x) (first_given f (k + 1) xs) none).0
@@ -78,7 +79,7 @@ view_texts xs k d less =
     spare [] k less = absurd (omega arith)
     spare (x ∷ xs) k less = x
 
-component_sound : (ds : Declarations) (p : PartDeclaration) → 0 < length ds → IsNamed p.name → IsComponentSound (length ds) (component_by (class_named ds) p)
+component_sound : (ds : Declarations) (p : PartDeclaration) → 0 < length ds → IsName p.name → IsComponentSound (length ds) (component_by (class_named ds) p)
 component_sound ds p some named = record {
   name = named;
   within = shape_within p.form (length ds) _ _ (or_first (length ds) (class_named ds p.kind) some (class_named-within ds p.kind));
@@ -86,11 +87,11 @@ component_sound ds p some named = record {
 
 class_sound : (ds : Declarations) (d : Declaration) → 0 < length ds → IsDeclarationNamed d → AreTexts d → IsClassSound (length ds) (class_by (class_named ds) d)
 class_sound ds d some named texts = record {
-  name = record { name = named.name; utf8 = texts.name };
+  name = (named.name, texts.name);
   parent = parent_within ds d.parent;
   own = λ k e less.
       let l : k < length d.parts = subst (λ n. k < n) (length-map d.parts (component_by (class_named ds))) less in
-      subst (IsComponentSound (length ds)) (sym (get_or-map (component_by (class_named ds)) d.parts k (spare d) e l)) (component_sound ds (get_or d.parts k (spare d)) some (record { name = named.parts k (spare d) l; utf8 = texts.parts k (spare d) l }));
+      subst (IsComponentSound (length ds)) (sym (get_or-map (component_by (class_named ds)) d.parts k (spare d) e l)) (component_sound ds (get_or d.parts k (spare d)) some (named.parts k (spare d) l, texts.parts k (spare d) l));
 }
   where
     spare : Declaration → PartDeclaration

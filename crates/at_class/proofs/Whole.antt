@@ -5,6 +5,7 @@ use Rattle.std.proofs.Common.{eq-eqb, true≢false}
 use Rattle.std.specs.Prelude.{String, Vec, string_bytes, ◌==◌}
 use Rattle.at_grammar.specs.declared.syntax.ClassDecl.{ClassDecl}
 use Rattle.at_model.specs.Classes.{AreSound, Class as ModelClass}
+use Rattle.at_model.specs.WellFormed.{IsHierarchy}
 use Rattle.at_model.specs.Declarations.{no_class, classes_of, class_by, class_named}
 use Rattle.at_class.specs.declared.class.Class.{Class}
 use Rattle.at_class.specs.declared.part.Part.{Part}
@@ -39,9 +40,10 @@ unfolding classes_of
 names_declared xs = names_of (class_named (declarations_view xs)) xs
 
 pub is_table : {A B : Type 0} (keys : List (String A)) (ks : List Class) (lists : List (Vec Part B)) (xs : List ClassDecl) → map string_bytes keys ≡ map (λ d. string_bytes d.name) xs → classes_view ks ≡ classes_of (declarations_view xs)
-    → (lent : List Class) → lent ≡ ks → HoldsParts (classes_view lent) lists (length lent) → AreSound (classes_of (declarations_view xs)) → IsTable keys ks lists
-is_table keys ks lists xs same e lent is holds sound = record {
+    → (lent : List Class) → lent ≡ ks → HoldsParts (classes_view lent) lists (length lent) → AreSound (classes_of (declarations_view xs)) → IsHierarchy (classes_of (declarations_view xs)) → IsTable keys ks lists
+is_table keys ks lists xs same e lent is holds sound hierarchy = record {
   names_same = same ∙ sym (names_view ks ∙ ap (map (λ (k : ModelClass). k.name)) e ∙ names_declared xs);
   parts = subst (λ l. HoldsParts (classes_view l) lists (length l)) is holds;
   sound = subst AreSound (sym e) sound;
+  hierarchy = subst IsHierarchy (sym e) hierarchy;
 }

@@ -1,5 +1,7 @@
 pub mod View
 pub mod Grammar
 pub mod Faults
+pub mod Climbs
+pub mod Taken
 pub mod Checks
 pub mod Table

@@ -2,6 +2,7 @@
 use Rattle.std.specs.Prelude.{◌≡◌, ℕ, ◌<◌, List, length, map, String, string_bytes, Vec}
 use Rattle.std.specs.List.{slice_index_or}
 use Rattle.at_model.specs.Classes.{Classes, AreSound, parts}
+use Rattle.at_model.specs.WellFormed.{IsHierarchy}
 use Rattle.at_class.specs.declared.part.Part.{Part}
 use Rattle.at_class.specs.declared.class.Class.{Class}
 use Rattle.at_class.specs.View.{part_view, classes_view}
@@ -17,3 +18,4 @@ pub record IsTable {A B : Type 0} (names : List (String A)) (ks : List Class) (l
   pub names_same : map string_bytes names ≡ map (λ k. string_bytes k.name) ks
   pub parts : HoldsParts (classes_view ks) lists (length ks)
   pub sound : AreSound (classes_view ks)
+  pub hierarchy : IsHierarchy (classes_view ks)

@@ -1,4 +1,4 @@
-ghost use Rattle.std.specs.Prelude.{◌≡◌, ◌||◌, IfOk, length, map, nat_le, nat_lt, reverse};
+ghost use Rattle.std.specs.Prelude.{◌≡◌, ◌+◌, ◌||◌, IfOk, false, length, map, nat_le, nat_lt, reverse, take};
 ghost use Rattle.std.specs.List.{flat_map};
 ghost use Rattle.at_model.specs.Declarations.{token_kind, is_twice, max_classes, max_parts};
 ghost use Rattle.at_model.specs.Classes.{own_of};
@@ -6,12 +6,15 @@ ghost use Rattle.at_class.specs.View.{named_in, classes_view};
 ghost use Rattle.at_class.specs.Grammar.{declaration_view, declarations_view, part_declaration_view};
 ghost use Rattle.at_model.specs.Declarations.{above as above_of};
 ghost use Rattle.at_class.specs.Checks.{unknown_by, circle_in, kind_in, is_of_no_kind, twice_in, parts_twice, over_in};
+ghost use Rattle.at_class.specs.Taken.{AreTaken};
 
-use crate::chain::{climbs, lineage, own_parts, parent_of};
-use crate::clash::{has_too_many, is_taken};
+use crate::chain::{lineage, own_parts, parent_of};
+use crate::circles::Circles;
+use crate::clash::{clashes_above, has_too_many, is_common};
 use crate::class::{Class, token_kind_named};
 use crate::names::{is_known, is_token};
 use crate::part::ClassId;
+use crate::taken::TakenNames;
 use at_grammar::{ClassDecl, PartDecl};
 use indexmap::IndexSet;
 use std::alloc::{AllocError, Global};
@@ -32,16 +35,22 @@ pub fn unknown_class(names: &IndexSet<String>, declarations: &[ClassDecl]) -> Op
 }
 
 /// The name of the first class that is above itself.
-pub fn superclass_circle(classes: &[Class], declarations: &[ClassDecl]) -> Option<(u32, u32)>
-    ensures { result ≡ circle_in (classes_view classes.now) (declarations_view declarations.now) }
+pub fn superclass_circle(
+    alloc: Global,
+    classes: &[Class],
+    declarations: &[ClassDecl],
+) -> Result<Option<(u32, u32)>, AllocError>
+    ensures { IfOk result (λ place. place ≡ circle_in (classes_view classes.now) (declarations_view declarations.now)) }
 {
+    let mut circles = Circles::new(alloc, classes)?;
     for (position, declaration) in declarations.iter().enumerate() {
         let class = ClassId::new(position);
-        if climbs(classes, parent_of(classes, class), class) {
-            return Some(declaration.at);
+        let is_above = circles.is_above_itself(classes, class)?;
+        if is_above {
+            return Ok(Some(declaration.at));
         }
     }
-    None
+    Ok(None)
 }
 
 /// The name of the first token whose kind is none of the three.
@@ -83,8 +92,8 @@ pub fn component_twice(
 {
     for (position, declaration) in declarations.iter().enumerate() {
         let class = ClassId::new(position);
-        let above = lineage(alloc, classes, parent_of(classes, class))?;
-        if let Some(at) = first_twice(classes, class, &above, &declaration.parts) {
+        let twice = first_twice(alloc, classes, class, &declaration.parts)?;
+        if let Some(at) = twice {
             return Ok(Some(at));
         }
     }
@@ -92,31 +101,56 @@ pub fn component_twice(
 }
 
 fn first_twice(
+    alloc: Global,
     classes: &[Class],
     class: ClassId,
-    above: &[ClassId],
     parts: &[PartDecl],
-) -> Option<(u32, u32)>
-    requires { above.now ≡ above_of (classes_view classes.now) class }
-    ensures { result ≡ parts_twice (classes_view classes.now) class (map part_declaration_view parts.now) }
+) -> Result<Option<(u32, u32)>, AllocError>
+    ensures { IfOk result (λ place. place ≡ parts_twice (classes_view classes.now) class (map part_declaration_view parts.now)) }
 {
+    if parts.is_empty() {
+        return Ok(None);
+    }
+    let above = lineage(alloc, classes, parent_of(classes, class))?;
+    let mut taken = TakenNames::new(alloc);
     for (i, part) in parts.iter().enumerate() {
-        if is_twice(classes, class, above, i) {
-            return Some(part.at);
+        let twice = is_twice(alloc, classes, &above, class, i, &mut taken)?;
+        if twice {
+            return Ok(Some(part.at));
         }
     }
-    None
+    Ok(None)
 }
 
-fn is_twice(classes: &[Class], class: ClassId, above: &[ClassId], i: usize) -> bool
-    requires { above.now ≡ above_of (classes_view classes.now) class }
-    ensures { result ≡ is_twice (classes_view classes.now) class i }
+// Whether the class's own component at that position clashes with an inherited one, or with one of its own before it, whose names
+// are taken; then its names are taken too.
+fn is_twice(
+    alloc: Global,
+    classes: &[Class],
+    above: &[ClassId],
+    class: ClassId,
+    i: usize,
+    taken: &mut TakenNames,
+) -> Result<bool, AllocError>
+    requires { (above.now ≡ above_of (classes_view classes.now) class) × AreTaken (take i (own_of (classes_view classes.now) class)) taken.now }
+    ensures told { IfOk result (λ is. is ≡ is_twice (classes_view classes.now) class i) }
+    ensures kept { IfOk result (λ is. is ≡ false → AreTaken (take (i + 1) (own_of (classes_view classes.now) class)) taken.new) }
 {
-    let own = own_parts(classes, class);
-    match own.get(i) {
-        None => false,
-        Some(part) => is_taken(classes, above, &own[..i], part),
+    let Some(part) = own_parts(classes, class).get(i) else {
+        return Ok(false)
+    };
+    if is_common(part.name.as_str()) {
+        return Ok(true);
     }
+    if clashes_above(classes, above, part) {
+        return Ok(true);
+    }
+    let clashes = taken.has_clash(alloc, part)?;
+    if clashes {
+        return Ok(true);
+    }
+    taken.add(alloc, part)?;
+    Ok(false)
 }
 
 /// The name of the first class that is one too many, or has too many components.

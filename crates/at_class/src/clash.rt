@@ -1,8 +1,8 @@
-ghost use Rattle.std.specs.Prelude.{◌≡◌, ◌++◌, length, map, nat_lt, reverse};
+ghost use Rattle.std.specs.Prelude.{◌≡◌, ◌++◌, length, nat_lt, reverse};
 ghost use Rattle.std.specs.List.{list_any, flat_map};
 ghost use Rattle.std.specs.Str.{bytes_eq};
 ghost use Rattle.at_model.specs.Classes.{own_of};
-ghost use Rattle.at_model.specs.Declarations.{clash, is_common, is_taken, is_list, takes, max_parts};
+ghost use Rattle.at_model.specs.Declarations.{clash, is_common, is_list, takes, max_parts};
 ghost use Rattle.at_class.specs.View.{classes_view, part_view, shape_view};
 
 use crate::chain::own_parts;
@@ -12,14 +12,15 @@ use crate::part::{ClassId, Part, PartShape};
 // How many components a class may have, inherited ones counted.
 const MAX_PARTS: usize = 32;
 
-// Whether every tree has an accessor of the name.
-fn is_common(name: &str) -> bool
+/// Whether every tree has an accessor of the name.
+pub fn is_common(name: &str) -> bool
     ensures { result ≡ is_common name.now }
 {
     name == "Child" || name == "Parent" || name == "NumChild"
 }
 
-fn is_list(shape: PartShape) -> bool
+/// Whether the component is a list.
+pub fn is_list(shape: PartShape) -> bool
     ensures { result ≡ is_list (shape_view shape) }
 {
     matches!(shape, PartShape::Many(_))
@@ -65,21 +66,11 @@ fn clashes_own(classes: &[Class], class: ClassId, part: &Part) -> bool
     clashes(own_parts(classes, class), part)
 }
 
-// Whether the component clashes with one that the classes above have.
-fn clashes_above(classes: &[Class], above: &[ClassId], part: &Part) -> bool
+/// Whether the component clashes with one that the classes above have.
+pub fn clashes_above(classes: &[Class], above: &[ClassId], part: &Part) -> bool
     ensures { result ≡ list_any (λ a. list_any (clash (part_view part.now)) (own_of (classes_view classes.now) a)) above.now }
 {
     above.iter().any(|class| clashes_own(classes, *class, part))
-}
-
-/// Whether the component clashes with one of those before it, the inherited ones and then these, or with what every tree has.
-pub fn is_taken(classes: &[Class], above: &[ClassId], before: &[Part], part: &Part) -> bool
-    ensures { result ≡ is_taken (flat_map (own_of (classes_view classes.now)) (reverse above.now) ++ map part_view before.now) (part_view part.now) }
-{
-    if is_common(part.name.as_str()) {
-        return true;
-    }
-    clashes_above(classes, above, part) || clashes(before, part)
 }
 
 /// Whether these classes have more components together than a class may have.

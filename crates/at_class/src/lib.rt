@@ -3,6 +3,7 @@
 
 mod chain;
 mod checks;
+mod circles;
 mod clash;
 mod class;
 mod fault;
@@ -11,6 +12,7 @@ mod naming;
 mod part;
 mod steps;
 mod table;
+mod taken;
 
 pub use fault::{ClassCode, ClassFault};
 pub use naming::are_named;

@@ -1,4 +1,4 @@
-ghost use Rattle.std.specs.Prelude.{◌≡◌, ◌↔◌, All, IfSome, IsTrue, map, option_map, string_bytes, true};
+ghost use Rattle.std.specs.Prelude.{◌≡◌, ◌↔◌, All, IsTrue, map, true};
 ghost use Rattle.at_model.specs.Declarations.{AreNamed, IsDeclarationNamed, PartDeclaration};
 ghost use Rattle.at_model.specs.Names.{is_name};
 ghost use Rattle.at_class.specs.Grammar.{declaration_view, declarations_view, grammar_view, part_declaration_view};
@@ -17,22 +17,10 @@ fn are_parts_named(parts: &[PartDecl]) -> bool
     true
 }
 
-fn is_parent_named(parent: &Option<String>) -> bool
-    ensures { IsTrue result ↔ IfSome (option_map string_bytes parent.now) (λ n. is_name n ≡ true) }
-{
-    match parent {
-        None => true,
-        Some(name) => is_name(name.as_str()),
-    }
-}
-
 fn is_named(declaration: &ClassDecl) -> bool
     ensures { IsTrue result ↔ IsDeclarationNamed (declaration_view declaration.now) }
 {
     if !is_name(declaration.name.as_str()) {
-        return false;
-    }
-    if !is_parent_named(&declaration.parent) {
         return false;
     }
     are_parts_named(&declaration.parts)
@@ -49,7 +37,7 @@ fn are_all_named(declarations: &[ClassDecl]) -> bool
     true
 }
 
-/// Whether each class, superclass and component is named by a name, as in every grammar that was read: what a class table asks.
+/// Whether each class and each component is named by a name, as in every grammar that was read: what a class table asks.
 pub fn are_named(grammar: &Grammar) -> bool
     ensures { IsTrue result ↔ AreNamed (grammar_view grammar.now) }
 {

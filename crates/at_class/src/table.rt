@@ -37,6 +37,7 @@ impl Model for ClassTable {
 impl ClassTable {
     ghost use Rattle.std.specs.Prelude.{◌≡◌, ◌<◌, ◌≤◌, IfOk, IfErr, IfSome, IsTrue, None, length, map, not};
     ghost use Rattle.at_model.specs.Classes.{AreSound, class_of_name, fits, name_of, is_concrete, is_sub, parent_of, parts};
+    ghost use Rattle.at_model.specs.WellFormed.{IsHierarchy};
     ghost use Rattle.at_model.specs.Declarations.{AreNamed, classes_of, first_fault};
     ghost use Rattle.at_model.specs.Paths.{part_named};
     ghost use Rattle.at_class.specs.View.{part_view};
@@ -54,10 +55,11 @@ impl ClassTable {
         table_of(alloc, &grammar.classes)
     }
 
-    /// How many classes there are: their numbers are those below.
+    /// How many classes there are: their numbers are those below. Each superclass is one of them, and no class is above itself.
     pub fn len(&self) -> usize
         ensures len { result ≡ length self.now }
         ensures sound { AreSound self.now }
+        ensures hierarchy { IsHierarchy self.now }
     {
         self.classes.len()
     }
@@ -163,7 +165,7 @@ fn table_of(alloc: Global, declarations: &[ClassDecl]) -> Result<ClassTable, Cla
     let classes = classes_declared(alloc, &names, declarations)?;
     refuse(
         ClassCode::SuperclassCircle,
-        superclass_circle(&classes, declarations),
+        superclass_circle(alloc, &classes, declarations)?,
     )?;
     refuse(ClassCode::TokenKind, wrong_token_kind(declarations))?;
     refuse(

@@ -43,9 +43,10 @@ enum Turn<'a> {
 }
 
 impl<K: Keeper> Demand<K> {
-    /// Questions, with that keeper.
+    /// Questions, with that keeper, and no work yet.
     pub fn new(alloc: Global, keeper: K) -> Demand<K>
-        ensures { result.keeper ≡ keeper }
+        ensures keeper { result.keeper ≡ keeper }
+        ensures work { result.work ≡ 0 }
     {
         Demand {
             alloc,

@@ -5,8 +5,9 @@ use Rattle.at_model.specs.Paths.{Node, tree_at}
 use Rattle.at_model.specs.Run.{Value, Instance, Contents, Location, Is}
 use Rattle.at_model.specs.Rules.{Rules, attribute_named}
 use Rattle.at_model.specs.Meaning.{Answer, content}
-use Rattle.at_model.specs.Lines.{Place, Argument, Ask, IsName}
-use Rattle.at_model.specs.Machine.{State, Asks, ByEquations, each, fit_parameters, node_named, obeyed, parameters_of, value_named}
+use Rattle.at_model.specs.Lines.{Place, Argument, Ask}
+use Rattle.at_model.specs.Names.{IsName}
+use Rattle.at_model.specs.Machine.{State, Asks, AnswersIn, each, fit_parameters, node_named, obeyed, parameters_of, value_named}
 use Rattle.at_model.specs.Alike.{ListLike, ValueLike, InstanceLike, AlikeAt, Names}
 use Rattle.at_protocol.specs.declared.reply.Refusal.TheVariants as refusal
 use Rattle.at_protocol.specs.declared.reply.Form.{Form as FormValue}
@@ -65,7 +66,7 @@ module _ (rules : Rules) (s : State) (session : ℕ) (place : Place) (name : Lis
         pub fitly_is : fit_numbers rules.classes look (parameters_of rules a) vs ≡ true → obeyed rules s session (Ask place name arguments) ≡ Asks asked_for
         fitly_is e = let (u, there) = found k n p in asked_fitly rules s session place name arguments n named u there ws values a (by_class (Some a) is u there) (by_numbers a true e)
 
-        pub told_fitly : fit_numbers rules.classes look (parameters_of rules a) vs ≡ true → (f : FormValue) → (b : Answer Node) × ByEquations rules s.tree asked_for b × IsToldAs rules s.tree b f → asked f
+        pub told_fitly : fit_numbers rules.classes look (parameters_of rules a) vs ≡ true → (f : FormValue) → (b : Answer Node) × AnswersIn rules s.tree asked_for b × IsToldAs rules s.tree b f → asked f
         told_fitly e f (b, answers, told) = let (u, there) = found k n p in
             asks rules s (obeyed rules s session (Ask place name arguments)) asked_for b f (asked_fitly rules s session place name arguments n named u there ws values a (by_class (Some a) is u there) (by_numbers a true e)) answers told
 
@@ -102,7 +103,7 @@ module _ (rules : Rules) (s : Shown) (idle : IsIdle s) (version : ℕ) (marks : 
           pub asked_unfit : false ≡ fit_numbers rules.classes (contents s) (parameters_of rules a) (map value_view seen) → asked_in (form.Refused refusal.Arguments)
           asked_unfit h = told_unfitly rules (state_in s version marks) session place name arguments number.0 number.1 (path s) (contents s) (shown_alike s idle) (tree_there s) k number.2 (map value_view vs) values.0 values.1 values.2 a (attribute_is (Some a) is) (fit_is false h)
 
-          pub asked_fit : true ≡ fit_numbers rules.classes (contents s) (parameters_of rules a) (map value_view seen) → (f : FormValue) → (b : Answer Node) × ByEquations rules (tree s) (asked_of a) b × IsToldAs rules (tree s) b f → asked_in f
+          pub asked_fit : true ≡ fit_numbers rules.classes (contents s) (parameters_of rules a) (map value_view seen) → (f : FormValue) → (b : Answer Node) × AnswersIn rules (tree s) (asked_of a) b × IsToldAs rules (tree s) b f → asked_in f
           asked_fit h f told = told_fitly rules (state_in s version marks) session place name arguments number.0 number.1 (path s) (contents s) (shown_alike s idle) (tree_there s) k number.2 (map value_view vs) values.0 values.1 values.2 a (attribute_is (Some a) is) (fit_is true h) f told
 
           pub asked_is : true ≡ fit_numbers rules.classes (contents s) (parameters_of rules a) (map value_view seen) → obeyed rules (state_in s version marks) session (Ask place name arguments) ≡ Asks (asked_of a)

@@ -6,7 +6,7 @@ use Rattle.at_model.specs.Replies.{Reply, reply_text}
 use Rattle.at_protocol.specs.ReplyView.{IsReply}
 use Rattle.at_protocol.specs.Writable.{IsShort}
 use Rattle.at_protocol.specs.declared.reply.Form.{Form as FormValue}
-use Rattle.at_model.specs.Machine.{State, Serves, ByEquations}
+use Rattle.at_model.specs.Machine.{State, Serves}
 use Rattle.at_engine.specs.Serving.{Steps}
 use Rattle.at_engine.specs.Telling.{Told, Meets, Gets}
 use Rattle.at_engine.proofs.Sessions.{session_of_line, session_of_reply}
@@ -26,7 +26,7 @@ told_of {E} rules old bytes new session r f is gets = subst (λ (x : Result Form
 -- what was written whole is the reply
 pub answered : (rules : Rules) (old new : State) (bytes : List ℕ) (session : Option ℕ) (f : FormValue) (before after : List ℕ) → Told rules old bytes new session f
     → ((r : Reply) → IsReply (record { session = session; form = f }) r → after ≡ before ++ reply_text r)
-    → (reply : Reply) × Serves rules (ByEquations rules) false old bytes new reply × (after ≡ before ++ reply_text reply)
+    → (reply : Reply) × Serves rules false old bytes new reply × (after ≡ before ++ reply_text reply)
 answered rules old new bytes session f before after t writes =
     let r : Reply = record { session = session; form = t.form } in
     (r, t.handles, writes r (record { session = refl; form = t.is_form }))
@@ -42,6 +42,6 @@ unanswered rules old new bytes session f t long = (session_of_reply rules old ne
 
 -- a line that isn't empty is served so
 pub stepped : (rules : Rules) (old new : State) (line : List ℕ) (wants : Bool) (before after : List ℕ) → 0 < length line
-    → (reply : Reply) × Serves rules (ByEquations rules) wants old line new reply × (after ≡ before ++ reply_text reply) → Steps rules old line new before after
+    → (reply : Reply) × Serves rules wants old line new reply × (after ≡ before ++ reply_text reply) → Steps rules old line new before after
 stepped rules old new [] wants before after some s = absurd (omega (arith, some))
 stepped rules old new (b ∷ bs) wants before after some s = (wants, s.0, s.1, s.2)

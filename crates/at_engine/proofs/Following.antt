@@ -6,7 +6,7 @@ use Rattle.at_model.specs.Run.{Instance}
 use Rattle.at_model.specs.Rules.{Rules}
 use Rattle.at_model.specs.Meaning.{Answer}
 use Rattle.at_model.specs.Edits.{Edit}
-use Rattle.at_model.specs.Machine.{State, Marked, Verdict, Refuses, Tells, Leaves, Edits, Asks, ByEquations, after, answer_form}
+use Rattle.at_model.specs.Machine.{State, Marked, Verdict, Refuses, Tells, Leaves, Edits, Asks, AnswersIn, after, answer_form}
 use Rattle.at_model.specs.Replies.{Done, Shows, Refused, Shown}
 use Rattle.at_protocol.specs.ReplyView.{IsShown, code_view}
 use Rattle.at_protocol.specs.Writable.{IsShownWritable}
@@ -33,5 +33,5 @@ module _ (rules : Rules) where
   pub edits : (s : State) (v : Verdict) (e : Edit) (t : Tree) (new : State) → v ≡ Edits e t → new ≡ after s (Edits e t) → Follows rules s v (form.Ok (s.version + 1)) new
   edits s v e t new is state = as_verdict s v (Edits e t) (form.Ok (s.version + 1)) new is (record { form = Done (s.version + 1); is_form = refl; says = refl; state = state; writable = tt; kept = λ long. absurd (long tt) })
 
-  pub asks : (s : State) (v : Verdict) (q : Instance Node) (a : Answer Node) (f : FormValue) → v ≡ Asks q → ByEquations rules s.tree q a → IsToldAs rules s.tree a f → Follows rules s v f s
+  pub asks : (s : State) (v : Verdict) (q : Instance Node) (a : Answer Node) (f : FormValue) → v ≡ Asks q → AnswersIn rules s.tree q a → IsToldAs rules s.tree a f → Follows rules s v f s
   asks s v q a f e answers told = as_verdict s v (Asks q) f s e (record { form = answer_form rules s.tree a; is_form = told.is_form; says = (a, answers, refl); state = refl; writable = told.writable; kept = λ long. refl })

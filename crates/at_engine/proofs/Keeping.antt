@@ -10,7 +10,7 @@ use Rattle.at_model.specs.Alike.{InstanceLike, Names}
 use Rattle.at_model.specs.Edits.{Edit as EditOf}
 use Rattle.at_model.specs.Terms.{term_of}
 use Rattle.at_model.specs.Lines.{Line, Place, Show, Mark, Where, Spells}
-use Rattle.at_model.specs.Machine.{State, Verdict, Refuses, Tells, Leaves, Edits, Asks, ByEquations, Serves, after, answer_form, at_node, obeyed, verdict, node_named, marked, path_to, with_mark, is_marked, max_marks}
+use Rattle.at_model.specs.Machine.{State, Verdict, Refuses, Tells, Leaves, Edits, Asks, Serves, after, answer_form, at_node, obeyed, verdict, node_named, marked, path_to, with_mark, is_marked, max_marks}
 use Rattle.at_model.specs.Replies.{Done, Refused, Reply, At, Written, reply_text}
 use Rattle.at_model.specs.Replies as code
 use Rattle.at_protocol.specs.ReplyView.{code_view}
@@ -244,7 +244,7 @@ touched_by answer touched e f = sym (f ∙ e)
 
 -- a line that isn't empty is served so
 pub kept_step : {K : Type 0} (entries : K → Entries) (line : List ℕ) (old new : Engine K) (wants : Bool) (before after : List ℕ) → 0 < length line
-    → (reply : Reply) × Serves (rules_of old) (ByEquations (rules_of old)) wants (state_of old) line (state_of new) reply × (after ≡ before ++ reply_text reply) → KeepsServed entries wants line old new → KeepsStep entries line old new before after
+    → (reply : Reply) × Serves (rules_of old) wants (state_of old) line (state_of new) reply × (after ≡ before ++ reply_text reply) → KeepsServed entries wants line old new → KeepsStep entries line old new before after
 kept_step entries [] old new wants before after some s keeps = absurd (omega (arith, some))
 kept_step entries (b ∷ bs) old new wants before after some s keeps = (wants, s.0, s.1, s.2, keeps)
 

@@ -7,7 +7,7 @@ use Rattle.std.proofs.lemmas.Bool.{cases_lt}
 use Rattle.at_model.specs.Rules.{Rules}
 use Rattle.at_model.specs.Lines.{Line, Spells, BeginsWith, IsSpaceOrEnd, IsSessionOf}
 use Rattle.at_model.specs.Replies.{Reply}
-use Rattle.at_model.specs.Machine.{State, Handles, obeys, refuses, Serves, ByEquations}
+use Rattle.at_model.specs.Machine.{State, Handles, obeys, refuses, Serves}
 use Rattle.at_engine.specs.Loop.{kept}
 use Rattle.at_engine.proofs.Kept.{kept-short, length-kept}
 
@@ -55,21 +55,21 @@ too_long : (line : List ℕ) → 65536 ≤ length line → (l : Line) → Spells
 too_long line long l s = omega (arith, long, s.short)
 
 handles_kept : (rules : Rules) (old new : State) (line : List ℕ) (reply : Reply) → 65536 ≤ length line
-    → Handles rules (ByEquations rules) old (kept line) new reply → Handles rules (ByEquations rules) old line new reply
+    → Handles rules old (kept line) new reply → Handles rules old line new reply
 handles_kept rules old new line reply long (obeys l s step) = absurd (omega (arith, length-kept line long, s.short))
 handles_kept rules old new line reply long (refuses none session state form) = refuses (too_long line long) (session_kept line reply.session long session) state form
 
 long_serves : (rules : Rules) (wants : Bool) (old new : State) (line : List ℕ) (reply : Reply) → 65536 ≤ length line
-    → Serves rules (ByEquations rules) wants old (kept line) new reply → Serves rules (ByEquations rules) wants old line new reply
+    → Serves rules wants old (kept line) new reply → Serves rules wants old line new reply
 long_serves rules false old new line reply long s = handles_kept rules old new line reply long s
 long_serves rules true old new line reply long s = (session_kept line reply.session long s.0, s.1, s.2)
 
 serves_by_length : (rules : Rules) (wants : Bool) (old new : State) (line : List ℕ) (reply : Reply) → (length line < 65536) ⊎ (65536 ≤ length line)
-    → Serves rules (ByEquations rules) wants old (kept line) new reply → Serves rules (ByEquations rules) wants old line new reply
+    → Serves rules wants old (kept line) new reply → Serves rules wants old line new reply
 serves_by_length rules wants old new line reply (inl h) s =
-    let short : length line ≤ 65536 = omega arith in subst (λ (l : List ℕ). Serves rules (ByEquations rules) wants old l new reply) (kept-short line short) s
+    let short : length line ≤ 65536 = omega arith in subst (λ (l : List ℕ). Serves rules wants old l new reply) (kept-short line short) s
 serves_by_length rules wants old new line reply (inr h) s = long_serves rules wants old new line reply h s
 
 pub serves_kept : (rules : Rules) (wants : Bool) (old new : State) (line : List ℕ) (reply : Reply)
-    → Serves rules (ByEquations rules) wants old (kept line) new reply → Serves rules (ByEquations rules) wants old line new reply
+    → Serves rules wants old (kept line) new reply → Serves rules wants old line new reply
 serves_kept rules wants old new line reply s = serves_by_length rules wants old new line reply (cases_lt (length line) 65536) s

@@ -18,6 +18,7 @@ pub mod Kept
 pub mod KeptLines
 pub mod Pieces
 pub mod Progressing
+pub mod Remembering
 pub mod Takings
 pub mod Runnings
 pub mod Telling

@@ -5,7 +5,7 @@ use Rattle.at_model.specs.Trees.{Tree}
 use Rattle.at_model.specs.Run.{Instance, Location}
 use Rattle.at_model.specs.Rules.{Rules, evaluation}
 use Rattle.at_model.specs.Meaning.{Answer, Answers, content, equations}
-use Rattle.at_model.specs.Machine.{ByEquations}
+use Rattle.at_model.specs.Machine.{AnswersIn}
 use Rattle.at_model.specs.Alike.{AlikeAt, AnswerLike, InstanceLike, Names}
 use Rattle.at_model.proofs.Nodes.{same_like, nat_eq-is, node_eq-is}
 use Rattle.at_model.proofs.EquationsAlike.{evaluation-like}
@@ -23,7 +23,7 @@ shown_alike s idle l = contents_alike (class_in (memory_of s.slab)) (numbers s) 
 
 -- an answer over the numbers is one over the nodes
 pub answer_named : (rules : Rules) (s : Shown) → IsIdle s → (i : Instance ℕ) (q : Instance Node) (a : Answer ℕ) → InstanceLike (Names (path s)) i q
-    → Answers (contents s) (meaning rules) i a → (b : Answer Node) × AnswerLike (Names (path s)) a b × ByEquations rules (tree s) q b
+    → Answers (contents s) (meaning rules) i a → (b : Answer Node) × AnswerLike (Names (path s)) a b × AnswersIn rules (tree s) q b
 answer_named rules s idle i q a like h =
     let injective = path_injective (numbers s) in
     named_answer (path s) injective (contents s) (content (tree s)) (evaluation rules nat_eq) (equations rules) (evaluation-like rules nat_eq node_eq (same_like nat_eq node_eq nat_eq-is node_eq-is (path s) injective)) i q a like (λ l u. shown_alike s idle l) h

@@ -3,7 +3,7 @@ use Rattle.std.proofs.Common.{◌≡◌, ℕ, Bool, true, false, cond, nat_eq, L
 use Rattle.at_model.specs.Lines.{pieces, onto_first}
 use Rattle.at_model.specs.Rules.{Rules}
 use Rattle.at_model.specs.Replies.{reply_text}
-use Rattle.at_model.specs.Machine.{State, Runs, ByEquations}
+use Rattle.at_model.specs.Machine.{State, Runs}
 use Rattle.at_engine.specs.Loop.{Splits, IsOpen}
 
 -- the first piece goes on these bytes
@@ -31,7 +31,7 @@ pieces_cons (b ∷ bs) = elim (nat_eq b 10) as (λ t. IsCons (cond t ([] ∷ pie
   | false ↦ onto_first_cons b (pieces bs)
 ]
 
-onto_front_nothing : (qs : List (List ℕ)) → IsCons qs → onto_front [] qs ≡ qs
+pub onto_front_nothing : (qs : List (List ℕ)) → IsCons qs → onto_front [] qs ≡ qs
 onto_front_nothing (q ∷ qs) h = refl
 onto_front_nothing [] h = elim h [ ]
 
@@ -86,9 +86,9 @@ filter-append test (x ∷ xs) ys = elim (test x) as (λ t. cond t (x ∷ filter 
 
 -- one run and then another
 pub runs-append : (rules : Rules) (old mid new : State) (ls ms : List (List ℕ)) (ks js : List Bool) (text more : List ℕ)
-    → Runs rules (ByEquations rules) old ls ks text mid → Runs rules (ByEquations rules) mid ms js more new → Runs rules (ByEquations rules) old (ls ++ ms) (ks ++ js) (text ++ more) new
+    → Runs rules old ls ks text mid → Runs rules mid ms js more new → Runs rules old (ls ++ ms) (ks ++ js) (text ++ more) new
 runs-append rules old mid new [] ms [] js text more r s =
-    subst (λ (o : List ℕ). Runs rules (ByEquations rules) old ms js (o ++ more) new) (sym r.0) (subst (λ (a : State). Runs rules (ByEquations rules) a ms js more new) r.1 s)
+    subst (λ (o : List ℕ). Runs rules old ms js (o ++ more) new) (sym r.0) (subst (λ (a : State). Runs rules a ms js more new) r.1 s)
 runs-append rules old mid new [] ms (k ∷ ks) js text more r s = absurd r
 runs-append rules old mid new (l ∷ ls) ms [] js text more r s = absurd r
 runs-append rules old mid new (l ∷ ls) ms (k ∷ ks) js text more (a, reply, rest, served, e, runs) s =

@@ -3,7 +3,7 @@ use Rattle.std.proofs.Common.{◌≡◌, ℕ, Bool, true, false, cond, nat_eq, L
 use Rattle.at_model.specs.Lines.{pieces, is_filled}
 use Rattle.at_model.specs.Rules.{Rules}
 use Rattle.at_model.specs.Replies.{Reply, reply_text}
-use Rattle.at_model.specs.Machine.{State, Serves, Runs, ByEquations}
+use Rattle.at_model.specs.Machine.{State, Serves, Runs}
 use Rattle.at_engine.specs.Loop.{IsOpen, Progress}
 use Rattle.at_engine.proofs.Pieces.{splits_byte, splits_newline, splits_on, filter-append, runs-append}
 
@@ -35,7 +35,7 @@ empty_line_came rules old new front bytes ks text p = record {
   fulls = p.fulls ++ [] ∷ [];
   splits = ap pieces (sym (append_assoc front bytes (10 ∷ []))) ∙ splits_newline (front ++ bytes) p.fulls [] p.splits;
   open' = refl;
-  runs = subst (λ (l : List (List ℕ)). Runs rules (ByEquations rules) old l ks text new) (sym (filter-append is_filled p.fulls ([] ∷ []) ∙ append-nil (filter is_filled p.fulls))) p.runs;
+  runs = subst (λ (l : List (List ℕ)). Runs rules old l ks text new) (sym (filter-append is_filled p.fulls ([] ∷ []) ∙ append-nil (filter is_filled p.fulls))) p.runs;
   few = omega (arith, p.few, length-append bytes (10 ∷ []));
 }
 
@@ -44,17 +44,17 @@ one_line rest h = ap (λ t. cond t (rest ∷ []) []) h
 
 -- the run of one line more
 pub runs_line : (rules : Rules) (old mid new : State) (fulls : List (List ℕ)) (ks : List Bool) (text rest : List ℕ) (k : Bool) (reply : Reply) → is_filled rest ≡ true
-    → Serves rules (ByEquations rules) k mid rest new reply → Runs rules (ByEquations rules) old (filter is_filled fulls) ks text mid
-    → Runs rules (ByEquations rules) old (filter is_filled (fulls ++ rest ∷ [])) (ks ++ k ∷ []) (text ++ reply_text reply) new
+    → Serves rules k mid rest new reply → Runs rules old (filter is_filled fulls) ks text mid
+    → Runs rules old (filter is_filled (fulls ++ rest ∷ [])) (ks ++ k ∷ []) (text ++ reply_text reply) new
 runs_line rules old mid new fulls ks text rest k reply h served r =
-    let one : Runs rules (ByEquations rules) mid (rest ∷ []) (k ∷ []) (reply_text reply) new = (new, reply, [], served, sym (append-nil (reply_text reply)), (refl, refl)) in
-    subst (λ (l : List (List ℕ)). Runs rules (ByEquations rules) old l (ks ++ k ∷ []) (text ++ reply_text reply) new)
+    let one : Runs rules mid (rest ∷ []) (k ∷ []) (reply_text reply) new = (new, reply, [], served, sym (append-nil (reply_text reply)), (refl, refl)) in
+    subst (λ (l : List (List ℕ)). Runs rules old l (ks ++ k ∷ []) (text ++ reply_text reply) new)
     (sym (filter-append is_filled fulls (rest ∷ []) ∙ ap (λ l. filter is_filled fulls ++ l) (one_line rest h)))
     (runs-append rules old mid new (filter is_filled fulls) (rest ∷ []) ks (k ∷ []) text (reply_text reply) r one)
 
 -- a newline came behind a line, and the line was served
 pub line_came : (rules : Rules) (old mid new : State) (front bytes : List ℕ) (ks : List Bool) (text rest : List ℕ) (k : Bool) (reply : Reply) → is_filled rest ≡ true
-    → Serves rules (ByEquations rules) k mid rest new reply
+    → Serves rules k mid rest new reply
     → Progress rules old front bytes ks text mid rest → Progress rules old front (bytes ++ 10 ∷ []) (ks ++ k ∷ []) (text ++ reply_text reply) new []
 line_came rules old mid new front bytes ks text rest k reply h served p = record {
   fulls = p.fulls ++ rest ∷ [];
@@ -71,7 +71,7 @@ more_came rules old mid new front bytes more ks js text on rest last p q = recor
   fulls = p.fulls ++ q.fulls;
   splits = ap pieces (sym (append_assoc front bytes more)) ∙ splits_on (front ++ bytes) more p.fulls q.fulls rest last p.splits p.open' q.splits;
   open' = q.open';
-  runs = subst (λ (l : List (List ℕ)). Runs rules (ByEquations rules) old l (ks ++ js) (text ++ on) new) (sym (filter-append is_filled p.fulls q.fulls))
+  runs = subst (λ (l : List (List ℕ)). Runs rules old l (ks ++ js) (text ++ on) new) (sym (filter-append is_filled p.fulls q.fulls))
       (runs-append rules old mid new (filter is_filled p.fulls) (filter is_filled q.fulls) ks js text on p.runs q.runs);
   few = omega (arith, p.few, q.few, length-append bytes more, length-append ks js);
 }

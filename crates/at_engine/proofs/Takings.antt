@@ -6,10 +6,10 @@ use Rattle.std.specs.Io.KnownBytes.{Appends}
 use Rattle.at_model.specs.Rules.{Rules}
 use Rattle.at_model.specs.Lines.{is_filled}
 use Rattle.at_model.specs.Replies.{Reply, reply_text}
-use Rattle.at_model.specs.Machine.{State, Serves, ByEquations}
+use Rattle.at_model.specs.Machine.{State, Serves}
 use Rattle.at_engine.specs.declared.stream.desk.Desk.{Desk}
 use Rattle.at_engine.specs.Loop.{IsOpen, kept}
-use Rattle.at_engine.specs.Taking.{Takes, Stops, Counts, wants}
+use Rattle.at_engine.specs.Taking.{Takes, Halts, Stops, Counts, wants}
 use Rattle.at_engine.proofs.Kept.{kept-more, kept-nil}
 use Rattle.at_engine.proofs.KeptLines.{serves_kept}
 use Rattle.at_engine.proofs.Progressing.{nothing_came, byte_came, empty_line_came, line_came, more_came}
@@ -50,34 +50,49 @@ took_empty rules s desk next before f l m = record {
 
 -- the newline behind a line that was served
 pub took_line : (rules : Rules) (old new : State) (front : List ℕ) (wants : Bool) (reply : Reply) (desk next : Desk) (before after : Option (List ℕ)) → IsOpen front → is_filled front ≡ true
-    → desk.line.items ≡ kept front → Serves rules (ByEquations rules) wants old desk.line.items new reply
+    → desk.line.items ≡ kept front → Serves rules wants old desk.line.items new reply
     → next.line.items ≡ [] → Counts desk next (wants ∷ []) → Appends before after (reply_text reply) → Takes rules old front (10 ∷ []) new desk next before after
 took_line rules old new front wants reply desk next before after o h e served f counts written = record {
   named = wants ∷ [];
   text = reply_text reply;
   rest = [];
-  progress = line_came rules old old new front [] [] [] front wants reply h (serves_kept rules wants old new front reply (subst (λ (i : List ℕ). Serves rules (ByEquations rules) wants old i new reply) e served)) (nothing_came rules old front o);
+  progress = line_came rules old old new front [] [] [] front wants reply h (serves_kept rules wants old new front reply (subst (λ (i : List ℕ). Serves rules wants old i new reply) e served)) (nothing_came rules old front o);
   line = f ∙ sym kept-nil;
   written = written;
   counts = counts;
 }
 
--- the newline behind a line whose reply could not be written
-pub stopped_at_line : (rules : Rules) (old new : State) (front : List ℕ) (wants : Bool) (reply : Reply) (desk : Desk) (before after : Option (List ℕ)) (done undone : List ℕ) → IsOpen front → is_filled front ≡ true
-    → desk.line.items ≡ kept front → Serves rules (ByEquations rules) wants old desk.line.items new reply
-    → reply_text reply ≡ done ++ undone → Appends before after done → Stops rules old front (10 ∷ []) new before after
-stopped_at_line rules old new front wants reply desk before after done undone o h e served split written = record {
-  used = 10 ∷ [];
-  more = [];
-  split = refl;
-  named = wants ∷ [];
-  text = reply_text reply;
-  rest = [];
-  progress = line_came rules old old new front [] [] [] front wants reply h (serves_kept rules wants old new front reply (subst (λ (i : List ℕ). Serves rules (ByEquations rules) wants old i new reply) e served)) (nothing_came rules old front o);
+-- a line was served as what is kept of it, and its reply could not be written
+pub halted : (rules : Rules) (old new : State) (front : List ℕ) (wants : Bool) (reply : Reply) (desk : Desk) (before after : Option (List ℕ)) (done undone : List ℕ)
+    → desk.line.items ≡ kept front → Serves rules wants old desk.line.items new reply
+    → reply_text reply ≡ done ++ undone → Appends before after done → Halts rules old front new before after
+halted rules old new front wants reply desk before after done undone e served split written = record {
+  is_memory = wants;
+  reply = reply;
+  serves = serves_kept rules wants old new front reply (subst (λ (i : List ℕ). Serves rules wants old i new reply) e served);
   done = done;
   undone = undone;
-  replies = split;
+  split = split;
   written = written;
+}
+
+-- the newline behind a line whose reply could not be written
+pub stopped_at_line : (rules : Rules) (old new : State) (front : List ℕ) (wants : Bool) (reply : Reply) (desk : Desk) (before after : Option (List ℕ)) (done undone : List ℕ) → IsOpen front → is_filled front ≡ true
+    → desk.line.items ≡ kept front → Serves rules wants old desk.line.items new reply
+    → reply_text reply ≡ done ++ undone → Appends before after done → Stops rules old front (10 ∷ []) new before after
+stopped_at_line rules old new front wants reply desk before after done undone o h e served split written = record {
+  used = [];
+  more = [];
+  split = refl;
+  named = [];
+  text = [];
+  mid = old;
+  line = front;
+  progress = nothing_came rules old front o;
+  between = before;
+  written = Appends-nil before;
+  filled = h;
+  halts = halted rules old new front wants reply desk before after done undone e served split written;
 }
 
 pub differs : (a b : ℕ) → (a ≡ b → ⊥) → nat_eq a b ≡ false
@@ -105,15 +120,16 @@ pub stopped_later : (rules : Rules) (old mid new : State) (front bytes more : Li
 stopped_later rules old mid new front bytes more desk next before between after t u = record {
   used = bytes ++ u.used;
   more = u.more;
-  split = ap (λ l. bytes ++ l) u.split ∙ sym (append_assoc bytes u.used u.more);
+  split = ap (λ l. bytes ++ l) u.split ∙ sym (append_assoc bytes u.used (10 ∷ u.more));
   named = t.named ++ u.named;
   text = t.text ++ u.text;
-  rest = u.rest;
-  progress = more_came rules old mid new front bytes u.used t.named u.named t.text u.text t.rest u.rest t.progress u.progress;
-  done = t.text ++ u.done;
-  undone = u.undone;
-  replies = ap (λ l. t.text ++ l) u.replies ∙ sym (append_assoc t.text u.done u.undone);
-  written = Appends-trans before between after t.text u.done t.written u.written;
+  mid = u.mid;
+  line = u.line;
+  progress = more_came rules old mid u.mid front bytes u.used t.named u.named t.text u.text t.rest u.line t.progress u.progress;
+  between = u.between;
+  written = Appends-trans before between u.between t.text u.text t.written u.written;
+  filled = u.filled;
+  halts = u.halts;
 }
 
 -- what was not used makes no difference
@@ -122,15 +138,16 @@ pub stopped_before : (rules : Rules) (old new : State) (front bytes more : List 
 stopped_before rules old new front bytes more before after u = record {
   used = u.used;
   more = u.more ++ more;
-  split = ap (λ l. l ++ more) u.split ∙ append_assoc u.used u.more more;
+  split = ap (λ l. l ++ more) u.split ∙ append_assoc u.used (10 ∷ u.more) more;
   named = u.named;
   text = u.text;
-  rest = u.rest;
+  mid = u.mid;
+  line = u.line;
   progress = u.progress;
-  done = u.done;
-  undone = u.undone;
-  replies = u.replies;
+  between = u.between;
   written = u.written;
+  filled = u.filled;
+  halts = u.halts;
 }
 
 -- no byte was taken

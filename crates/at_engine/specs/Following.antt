@@ -1,7 +1,7 @@
 -- What a command is told by its verdict, in the words of the program, and in what state it leaves.
 use Rattle.std.specs.Prelude.{◌≡◌}
 use Rattle.at_model.specs.Rules.{Rules}
-use Rattle.at_model.specs.Machine.{State, Verdict, ByEquations, Says, after}
+use Rattle.at_model.specs.Machine.{State, Verdict, Says, after}
 use Rattle.at_model.specs.Replies.{Form}
 use Rattle.at_protocol.specs.ReplyView.{IsForm}
 use Rattle.at_protocol.specs.Writable.{IsWritable, IsShort}
@@ -11,7 +11,7 @@ use Rattle.at_protocol.specs.declared.reply.Form.{Form as FormValue}
 pub record Follows (rules : Rules) (old : State) (v : Verdict) (value : FormValue) (new : State) : Type 0 where
   pub form : Form
   pub is_form : IsForm value form
-  pub says : Says rules (ByEquations rules) old v form
+  pub says : Says rules old v form
   pub state : new ≡ after old v
   pub writable : IsWritable value
   pub kept : (IsShort value → ⊥) → new ≡ old

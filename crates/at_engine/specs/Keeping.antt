@@ -4,7 +4,7 @@ use Rattle.std.specs.Io.KnownBytes.{Consumes}
 use Rattle.at_model.specs.Paths.{Node}
 use Rattle.at_model.specs.Run.{Instance}
 use Rattle.at_model.specs.Lines.{is_filled, lines}
-use Rattle.at_model.specs.Machine.{Verdict, ByEquations, Serves, after}
+use Rattle.at_model.specs.Machine.{Verdict, Serves, after}
 use Rattle.at_model.specs.Replies.{Reply, reply_text}
 use Rattle.at_store.specs.Shown.{contents}
 use Rattle.at_cache.specs.Kept.{Entries}
@@ -66,7 +66,7 @@ KeepsServed entries true bytes old new = GrowsLine entries bytes old new
 -- adds is kept, or some of that where its reply is `memory`.
 abbrev pub KeepsStep : {K : Type 0} → (entries : K → Entries) → List ℕ → (old new : Engine K) → (before after : List ℕ) → Type 0
 KeepsStep entries [] old new before after = (new ≡ old) × (after ≡ before)
-KeepsStep entries (b ∷ bs) old new before after = (wants : Bool) × (reply : Reply) × Serves (rules_of old) (ByEquations (rules_of old)) wants (state_of old) (b ∷ bs) (state_of new) reply × (after ≡ before ++ reply_text reply) × KeepsServed entries wants (b ∷ bs) old new
+KeepsStep entries (b ∷ bs) old new before after = (wants : Bool) × (reply : Reply) × Serves (rules_of old) wants (state_of old) (b ∷ bs) (state_of new) reply × (after ≡ before ++ reply_text reply) × KeepsServed entries wants (b ∷ bs) old new
 
 -- just what lines leave and add, one after the other, is kept
 abbrev pub KeepsAll : {K : Type 0} → (entries : K → Entries) → List (List ℕ) → (old new : Engine K) → Type 0

@@ -8,6 +8,7 @@ pub mod Following
 pub mod Naming
 pub mod Engines
 pub mod Telling
+pub mod Ends
 pub mod Loop
 pub mod Taking
 pub mod Running

@@ -2,7 +2,7 @@
 use Rattle.std.specs.Prelude.{◌≡◌, ℕ, ◌≤◌, Bool, List, [], ◌∷◌, ◌++◌, length, take, filter}
 use Rattle.at_model.specs.Lines.{pieces, is_filled}
 use Rattle.at_model.specs.Rules.{Rules}
-use Rattle.at_model.specs.Machine.{State, ByEquations, Runs}
+use Rattle.at_model.specs.Machine.{State, Runs}
 
 -- of a line that is too long only the front is kept, so much that it is still too long
 unfoldable pub kept : List ℕ → List ℕ
@@ -22,5 +22,5 @@ pub record Progress (rules : Rules) (old : State) (front bytes : List ℕ) (name
   pub fulls : List (List ℕ)
   pub splits : Splits (front ++ bytes) fulls rest
   pub open' : IsOpen rest
-  pub runs : Runs rules (ByEquations rules) old (filter is_filled fulls) named text new
+  pub runs : Runs rules old (filter is_filled fulls) named text new
   pub few : length named ≤ length bytes

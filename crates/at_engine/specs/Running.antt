@@ -1,12 +1,14 @@
 -- What a run has done at its end.
-use Rattle.std.specs.Prelude.{◌≡◌, ℕ, ◌-◌, ◌≤◌, Bool, List, [], ◌++◌, length, Option, Result, Ok, Err}
+use Rattle.std.specs.Prelude.{◌≡◌, ℕ, ◌-◌, ◌≤◌, Bool, true, false, List, [], ◌∷◌, ◌++◌, length, filter, Option, Result, Ok, Err}
 use Rattle.std.specs.Io.KnownBytes.{Appends, Consumes, IsAtEnd}
-use Rattle.at_model.specs.Lines.{lines}
+use Rattle.at_model.specs.Lines.{lines, pieces, is_filled}
 use Rattle.at_model.specs.Rules.{Rules}
-use Rattle.at_model.specs.Machine.{State, ByEquations, Runs, Outputs}
+use Rattle.at_model.specs.Replies.{Reply, reply_text}
+use Rattle.at_model.specs.Machine.{State, Runs, Serves, Outputs}
 use Rattle.at_engine.specs.declared.stream.desk.Report.{Report}
 use Rattle.at_engine.specs.declared.stream.desk.RunFault.{RunFault}
 use Rattle.at_engine.specs.declared.stream.desk.RunFault.TheVariants.{Read, Write, TooManyReads, Memory}
+use Rattle.at_engine.specs.Ends.{Remembers}
 use Rattle.at_engine.specs.Loop.{Progress}
 use Rattle.at_engine.specs.Taking.{wants}
 
@@ -18,7 +20,7 @@ pub record Ended (rules : Rules) (old new : State) (readable left before after :
   pub text : List ℕ
   pub read : Consumes readable left input
   pub ended : IsAtEnd left
-  pub outputs : Outputs rules (ByEquations rules) old input named text new
+  pub outputs : Outputs rules old input named text new
   pub written : Appends before after text
   pub counted : report.lines ≡ length (lines input)
   pub accepted : report.accepted ≡ new.version - old.version
@@ -36,21 +38,30 @@ pub record BrokeOff (rules : Rules) (old new : State) (readable left before afte
   pub written : Appends before after text
   pub enough : reads ≤ length input
 
--- A reply could not be written whole. What was written is a front of the output of the first lines, and the engine is in
--- the state after these lines.
+-- The lines are whole ones of the input: each stands before a newline, or they are all and the reader came to its end.
+pub data AreWhole (input : List ℕ) (left : Option (List ℕ)) (served : List (List ℕ)) : Type 0 where
+  before_newlines : (fulls : List (List ℕ)) (next : List ℕ) (others : List (List ℕ)) → pieces input ≡ fulls ++ next ∷ others → served ≡ filter is_filled fulls → AreWhole input left served
+  up_to_end : IsAtEnd left → served ≡ lines input → AreWhole input left served
+
+-- The reply to a line could not be written whole. What was written is the whole output of the lines before it, and some
+-- front of its reply, or all of that where the flush failed. The engine is in the state after its line.
 pub record CutOff (rules : Rules) (old new : State) (readable left before after : Option (List ℕ)) : Type 0 where
   pub input : List ℕ
   pub read : Consumes readable left input
-  pub served : List (List ℕ)
-  pub others : List (List ℕ)
-  pub first : lines input ≡ served ++ others
+  pub earlier : List (List ℕ)
+  pub last : List ℕ
+  pub whole : AreWhole input left (earlier ++ last ∷ [])
   pub named : List Bool
   pub text : List ℕ
-  pub runs : Runs rules (ByEquations rules) old served named text new
+  pub mid : State
+  pub runs : Runs rules old earlier named text mid
+  pub is_memory : Bool
+  pub reply : Reply
+  pub serves : Serves rules is_memory mid last new reply
   pub done : List ℕ
   pub undone : List ℕ
-  pub replies : text ≡ done ++ undone
-  pub written : Appends before after done
+  pub split : reply_text reply ≡ done ++ undone
+  pub written : Appends before after (text ++ done)
 
 -- nothing was read or written
 pub record NeverBegan (old new : State) (readable left before after : Option (List ℕ)) : Type 0 where
@@ -58,17 +69,38 @@ pub record NeverBegan (old new : State) (readable left before after : Option (Li
   pub read : left ≡ readable
   pub written : after ≡ before
 
--- how many reads a run may take
+abbrev pub Failed : (most_reads : ℕ) → RunFault → Rules → State → State → Option (List ℕ) → Option (List ℕ) → Option (List ℕ) → Option (List ℕ) → Type 0
+Failed most_reads Read rules old new readable left before after = BrokeOff rules old new readable left before after 0
+Failed most_reads TooManyReads rules old new readable left before after = BrokeOff rules old new readable left before after most_reads
+Failed most_reads Write rules old new readable left before after = CutOff rules old new readable left before after
+Failed most_reads Memory rules old new readable left before after = NeverBegan old new readable left before after
+
+-- what a run of at most so many reads has done, by what it answers
+abbrev pub Ran : (most_reads : ℕ) → Result Report RunFault → Rules → State → State → Option (List ℕ) → Option (List ℕ) → Option (List ℕ) → Option (List ℕ) → Type 0
+Ran most_reads (Ok report) rules old new readable left before after = Ended rules old new readable left before after report
+Ran most_reads (Err fault) rules old new readable left before after = Failed most_reads fault rules old new readable left before after
+
+-- how many reads `run` may take
 abbrev pub max_reads : ℕ
 max_reads = 1000000000
 
-abbrev pub Failed : RunFault → Rules → State → State → Option (List ℕ) → Option (List ℕ) → Option (List ℕ) → Option (List ℕ) → Type 0
-Failed Read rules old new readable left before after = BrokeOff rules old new readable left before after 0
-Failed TooManyReads rules old new readable left before after = BrokeOff rules old new readable left before after max_reads
-Failed Write rules old new readable left before after = CutOff rules old new readable left before after
-Failed Memory rules old new readable left before after = NeverBegan old new readable left before after
+-- whether a read failed in the run, by what it answers
+abbrev pub read_fails : Result Report RunFault → Bool
+read_fails (Ok report) = false
+read_fails (Err Read) = true
+read_fails (Err Write) = false
+read_fails (Err TooManyReads) = false
+read_fails (Err Memory) = false
 
--- what a run has done, by what it answers
-abbrev pub Ran : Result Report RunFault → Rules → State → State → Option (List ℕ) → Option (List ℕ) → Option (List ℕ) → Option (List ℕ) → Type 0
-Ran (Ok report) rules old new readable left before after = Ended rules old new readable left before after report
-Ran (Err fault) rules old new readable left before after = Failed fault rules old new readable left before after
+-- whether a write or a flush failed in it, or a write took no byte
+abbrev pub write_fails : Result Report RunFault → Bool
+write_fails (Ok report) = false
+write_fails (Err Read) = false
+write_fails (Err Write) = true
+write_fails (Err TooManyReads) = false
+write_fails (Err Memory) = false
+
+-- where it is known whether calls of the reader and the writer failed, the run answers `Read` just where one of the reader
+-- did in it, and `Write` just where one of the writer did
+abbrev pub TellsFailures : Result Report RunFault → (reader_old reader_new writer_old writer_new : Option Bool) → Type 0
+TellsFailures result reader_old reader_new writer_old writer_new = Remembers reader_old reader_new (read_fails result) × Remembers writer_old writer_new (write_fails result)

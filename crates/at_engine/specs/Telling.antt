@@ -9,7 +9,7 @@ use Rattle.at_model.specs.Edits.{shape_at}
 use Rattle.at_model.specs.Rules.{Rules}
 use Rattle.at_model.specs.Lines.{Line, Command, IsSessionOf}
 use Rattle.at_model.specs.Meaning.{Answer}
-use Rattle.at_model.specs.Machine.{State, ByEquations, Handles, answer_form, obeyed, verdict}
+use Rattle.at_model.specs.Machine.{State, Handles, answer_form, obeyed, verdict}
 use Rattle.at_model.specs.Replies.{Form, Shown}
 use Rattle.at_class.specs.View.{shape_view}
 use Rattle.at_class.specs.declared.part.PartShape.{PartShape}
@@ -40,7 +40,7 @@ pub record Told (rules : Rules) (old : State) (bytes : List ℕ) (new : State) (
   pub writable : IsWritable value
   pub form : Form
   pub is_form : IsForm value form
-  pub handles : Handles rules (ByEquations rules) old bytes new (record { session = session; form = form })
+  pub handles : Handles rules old bytes new (record { session = session; form = form })
   pub kept : (IsShort value → ⊥) → new ≡ old
 
 -- the bytes are answered so, or memory ran out

@@ -33,7 +33,7 @@ pub struct Engine<K> {
 impl<K: Keeper> Engine<K> {
     ghost use Rattle.std.specs.Prelude.{◌≡◌, ◌++◌, ◌+◌, ◌<◌, ◌≤◌, [], None, true, false, IfOk, IfErr, IsTrue, OnOk, OnErr, string_bytes, vec_len, vec_capacity, length};
     ghost use Rattle.at_model.specs.Lines.{IsCommand, IsLine, IsSessionOf, Show, Mark as MarkOf, Unmark, Where};
-    ghost use Rattle.at_model.specs.Machine.{State, ByEquations, Serves, is_stale, obeyed, verdict};
+    ghost use Rattle.at_model.specs.Machine.{State, Serves, is_stale, obeyed, verdict};
     ghost use Rattle.at_model.specs.Replies.{Reply as ModelReply, reply_text};
     ghost use Rattle.at_tree.specs.TreeView.{tree_view};
     ghost use Rattle.at_protocol.specs.LineView.{command_view, line_view, place_view};
@@ -57,6 +57,7 @@ impl<K: Keeper> Engine<K> {
         ensures rules { IfOk result (λ e. rules_of e ≡ rules) }
         ensures sound { KeepsAll (λ _. None) (K.contents keeper) → IfOk result (IsSound K.contents) }
         ensures spare { KeepsAll (λ _. None) (K.contents keeper) → IfOk result (IsSpare K.contents) }
+        ensures work { IfOk result (λ e. work_of e ≡ 0) }
         ensures refused { IfErr result (IsNotLoaded rules.classes (tree_view tree)) }
     {
         let store = Store::load(alloc, rules.classes(), tree)?;
@@ -119,10 +120,10 @@ impl<K: Keeper> Engine<K> {
     }
 
     /// Serves a line that isn't empty; whether it was answered by want of memory.
-    pub fn serve(&mut self, line: &[u8], out: &mut Vec<u8>) -> Result<bool, AllocError>
+    pub(crate) fn serve(&mut self, line: &[u8], out: &mut Vec<u8>) -> Result<bool, AllocError>
         requires sound { IsSound K.contents self.old }
         requires some { 0 < length line.now }
-        ensures served { IfOk result (λ wants. (reply : ModelReply) × Serves (rules_of self.old) (ByEquations (rules_of self.old)) wants (state_of self.old) line.now (state_of self.new) reply × (out.new.items ≡ out.old.items ++ reply_text reply)) }
+        ensures served { IfOk result (λ wants. (reply : ModelReply) × Serves (rules_of self.old) wants (state_of self.old) line.now (state_of self.new) reply × (out.new.items ≡ out.old.items ++ reply_text reply)) }
         ensures keeps { IsTrue K.exact → IsSpare K.contents self.old → IfOk result (λ wants. KeepsServed K.contents wants line.now self.old self.new) }
         ensures same { OnErr result (self.new ≡ self.old) }
         ensures spare { IsTrue K.exact → IsSpare K.contents self.old → IsSpare K.contents self.new }
@@ -147,7 +148,7 @@ impl<K: Keeper> Engine<K> {
     fn attempt(&mut self, line: &[u8], out: &mut Vec<u8>) -> Result<(), Option<u16>>
         requires sound { IsSound K.contents self.old }
         requires room { vec_len out.old + 48 ≤ vec_capacity out.old }
-        ensures served { IfOk result (λ u. (reply : ModelReply) × Serves (rules_of self.old) (ByEquations (rules_of self.old)) false (state_of self.old) line.now (state_of self.new) reply × (out.new.items ≡ out.old.items ++ reply_text reply)) }
+        ensures served { IfOk result (λ u. (reply : ModelReply) × Serves (rules_of self.old) false (state_of self.old) line.now (state_of self.new) reply × (out.new.items ≡ out.old.items ++ reply_text reply)) }
         ensures memory { IfErr result (λ session. IsSessionOf line.now session × (out.new.items ≡ out.old.items) × (state_of self.new ≡ state_of self.old)) }
         ensures spares { IsTrue K.exact → IsSpare K.contents self.old → SparesLine K.contents line.now result self.old self.new }
         ensures rules { rules_of self.new ≡ rules_of self.old }

@@ -6,4 +6,4 @@ mod marks;
 mod stream;
 
 pub use engine::Engine;
-pub use stream::{Report, RunFault, run};
+pub use stream::{Input, Output, Report, RunFault, Watched, run, run_for};

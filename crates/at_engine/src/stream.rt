@@ -1,32 +1,35 @@
 //! The loop over lines: bytes come in pieces of any size, each line is served whole, and its reply is written before the
 //! next line is looked at.
-ghost use Rattle.std.specs.Prelude.{◌≡◌, ◌++◌, ◌∷◌, ◌≤◌, ◌<◌, ◌+◌, ◌^◌, Bool, ℕ, List, [], filter, vec_len, vec_capacity, length, IfOk, IsTrue, OnOk};
+ghost use Rattle.std.specs.Prelude.{◌≡◌, ◌++◌, ◌∷◌, ◌≤◌, ◌<◌, ◌+◌, ◌^◌, Bool, ℕ, List, [], filter, vec_len, vec_capacity, length, is_err, IfOk, IsTrue, OnOk};
 ghost use Rattle.at_model.specs.Lines.{is_filled};
-ghost use Rattle.at_model.specs.Machine.{ByEquations, Serves};
+ghost use Rattle.at_model.specs.Machine.{Serves};
 ghost use Rattle.at_model.specs.Replies.{Reply, reply_text};
 ghost use Rattle.at_engine.specs.Engines.{state_of, rules_of, IsSound};
+ghost use Rattle.at_engine.specs.Ends.{Remembers};
 ghost use Rattle.at_engine.specs.Loop.{kept, IsOpen};
 ghost use Rattle.at_engine.specs.Keeping.{IsSpare, KeepsAll, KeepsBytes, KeepsLine, KeepsRun, work_of};
 ghost use Rattle.at_engine.specs.Taking.{Counts, Written, TakesOrStops, Finishes};
-ghost use Rattle.at_engine.specs.Running.{Ran};
+ghost use Rattle.at_engine.specs.Running.{Ran, TellsFailures, max_reads};
 
 mod desk;
+mod ends;
 
 use crate::engine::Engine;
 use at_cache::Keeper;
 pub use desk::{Report, RunFault};
 use desk::{Desk, MAX_LINE};
-use std::io::{Read, Write};
+pub use ends::{Input, Output, Watched};
 
-/// How many reads a run may take.
+/// How many reads `run` may take.
 const READS: u64 = 1_000_000_000;
 
 /// How many bytes a read may bring.
 const PIECE: usize = 8_192;
 
-/// Writes all of the bytes and flushes them. Of a failed write some front was written.
-fn write_whole<W: Write>(writer: &mut W, bytes: &[u8]) -> Result<(), RunFault>
-    ensures { Written result (W.contents writer.old) (W.contents writer.new) bytes.now }
+/// Writes all of the bytes and flushes them. Where a call fails, some front of them was written.
+fn write_whole<W: Output>(writer: &mut W, bytes: &[u8]) -> Result<(), RunFault>
+    ensures written { Written result (W.contents writer.old) (W.contents writer.new) bytes.now }
+    ensures failed { Remembers (W.failed writer.old) (W.failed writer.new) (is_err result) }
 {
     let mut rest = bytes;
     while !rest.is_empty() {
@@ -58,7 +61,7 @@ fn keep(line: &mut Vec<u8>, byte: u8)
 }
 
 /// Serves the line that was read, and writes its reply.
-fn serve<K: Keeper, W: Write>(
+fn serve<K: Keeper, W: Output>(
     engine: &mut Engine<K>,
     desk: &mut Desk,
     writer: &mut W,
@@ -67,8 +70,9 @@ fn serve<K: Keeper, W: Write>(
     requires line { 0 < vec_len desk.old.line }
     requires count { desk.old.lines + 1 < 2 ^ 128 }
     ensures served { (wants : Bool) × (reply : Reply)
-        × Serves (rules_of engine.old) (ByEquations (rules_of engine.old)) wants (state_of engine.old) desk.old.line.items (state_of engine.new) reply
+        × Serves (rules_of engine.old) wants (state_of engine.old) desk.old.line.items (state_of engine.new) reply
         × Counts desk.old desk.new (wants ∷ []) × Written result (W.contents writer.old) (W.contents writer.new) (reply_text reply) }
+    ensures failed { Remembers (W.failed writer.old) (W.failed writer.new) (is_err result) }
     ensures keeps { IsTrue K.exact → IsSpare K.contents engine.old → desk.new.memory ≡ desk.old.memory → KeepsLine K.contents desk.old.line.items engine.old engine.new }
     ensures spare { IsTrue K.exact → IsSpare K.contents engine.old → IsSpare K.contents engine.new }
     ensures rules { rules_of engine.new ≡ rules_of engine.old }
@@ -87,7 +91,7 @@ fn serve<K: Keeper, W: Write>(
 }
 
 /// Takes a byte: a newline ends the line, which is served unless it is empty.
-fn take_byte<K: Keeper, W: Write>(
+fn take_byte<K: Keeper, W: Output>(
     engine: &mut Engine<K>,
     desk: &mut Desk,
     byte: u8,
@@ -96,6 +100,7 @@ fn take_byte<K: Keeper, W: Write>(
     requires sound { IsSound K.contents engine.old }
     requires few { desk.old.lines + 1 < 2 ^ 128 }
     ensures taken { (front : List ℕ) → IsOpen front → desk.old.line.items ≡ kept front → TakesOrStops result (rules_of engine.old) (state_of engine.old) front (byte ∷ []) (state_of engine.new) desk.old desk.new (W.contents writer.old) (W.contents writer.new) }
+    ensures failed { Remembers (W.failed writer.old) (W.failed writer.new) (is_err result) }
     ensures keeps { IsTrue K.exact → IsSpare K.contents engine.old → (front : List ℕ) → IsOpen front → desk.old.line.items ≡ kept front → OnOk result (KeepsBytes K.contents front (byte ∷ []) engine.old engine.new desk.old desk.new) }
     ensures spare { IsTrue K.exact → IsSpare K.contents engine.old → IsSpare K.contents engine.new }
     ensures rules { rules_of engine.new ≡ rules_of engine.old }
@@ -112,7 +117,7 @@ fn take_byte<K: Keeper, W: Write>(
 }
 
 /// Takes the bytes of a piece, one after the other.
-fn take_piece<K: Keeper, W: Write>(
+fn take_piece<K: Keeper, W: Output>(
     engine: &mut Engine<K>,
     desk: &mut Desk,
     piece: &[u8],
@@ -121,6 +126,7 @@ fn take_piece<K: Keeper, W: Write>(
     requires sound { IsSound K.contents engine.old }
     requires few { desk.old.lines + length piece.now + 1 < 2 ^ 128 }
     ensures taken { (front : List ℕ) → IsOpen front → desk.old.line.items ≡ kept front → TakesOrStops result (rules_of engine.old) (state_of engine.old) front piece.now (state_of engine.new) desk.old desk.new (W.contents writer.old) (W.contents writer.new) }
+    ensures failed { Remembers (W.failed writer.old) (W.failed writer.new) (is_err result) }
     ensures keeps { IsTrue K.exact → IsSpare K.contents engine.old → (front : List ℕ) → IsOpen front → desk.old.line.items ≡ kept front → OnOk result (KeepsBytes K.contents front piece.now engine.old engine.new desk.old desk.new) }
     ensures spare { IsTrue K.exact → IsSpare K.contents engine.old → IsSpare K.contents engine.new }
     ensures rules { rules_of engine.new ≡ rules_of engine.old }
@@ -134,7 +140,7 @@ fn take_piece<K: Keeper, W: Write>(
 }
 
 /// Serves the last line, which no newline ends, unless it is empty.
-fn finish<K: Keeper, W: Write>(
+fn finish<K: Keeper, W: Output>(
     engine: &mut Engine<K>,
     desk: &mut Desk,
     writer: &mut W,
@@ -142,6 +148,7 @@ fn finish<K: Keeper, W: Write>(
     requires sound { IsSound K.contents engine.old }
     requires few { desk.old.lines + 1 < 2 ^ 128 }
     ensures finished { (front : List ℕ) → desk.old.line.items ≡ kept front → Finishes result (rules_of engine.old) (state_of engine.old) front (state_of engine.new) desk.old desk.new (W.contents writer.old) (W.contents writer.new) }
+    ensures failed { Remembers (W.failed writer.old) (W.failed writer.new) (is_err result) }
     ensures keeps { IsTrue K.exact → IsSpare K.contents engine.old → (front : List ℕ) → desk.old.line.items ≡ kept front → desk.new.memory ≡ desk.old.memory → KeepsAll K.contents (filter is_filled (front ∷ [])) engine.old engine.new }
     ensures spare { IsTrue K.exact → IsSpare K.contents engine.old → IsSpare K.contents engine.new }
     ensures rules { rules_of engine.new ≡ rules_of engine.old }
@@ -160,13 +167,37 @@ fn finish<K: Keeper, W: Write>(
 ///
 /// `Read` and `Write` where a call of the reader or the writer failed, or a write took no byte; `TooManyReads` where the
 /// input goes on after 1,000,000,000 reads; `Memory` where its two buffers are refused, before the first read.
-pub fn run<K: Keeper, R: Read, W: Write>(
+pub fn run<K: Keeper, R: Input, W: Output>(
     engine: &mut Engine<K>,
     reader: &mut R,
     writer: &mut W,
 ) -> Result<Report, RunFault>
     requires sound { IsSound K.contents engine.old }
-    ensures ran { Ran result (rules_of engine.old) (state_of engine.old) (state_of engine.new) (R.remaining reader.old) (R.remaining reader.new) (W.contents writer.old) (W.contents writer.new) }
+    ensures ran { Ran max_reads result (rules_of engine.old) (state_of engine.old) (state_of engine.new) (R.remaining reader.old) (R.remaining reader.new) (W.contents writer.old) (W.contents writer.new) }
+    ensures failed { TellsFailures result (R.failed reader.old) (R.failed reader.new) (W.failed writer.old) (W.failed writer.new) }
+    ensures keeps { IsTrue K.exact → IsSpare K.contents engine.old → IfOk result (λ report. report.memory ≡ 0 → KeepsRun K.contents engine.old engine.new (R.remaining reader.old) (R.remaining reader.new)) }
+    ensures work { IfOk result (λ report. report.work ≡ work_of engine.new) }
+    ensures spare { IsTrue K.exact → IsSpare K.contents engine.old → IsSpare K.contents engine.new }
+    ensures rules { rules_of engine.new ≡ rules_of engine.old }
+    ensures sound { IsSound K.contents engine.new }
+{
+    run_for(engine, reader, writer, READS)
+}
+
+/// Serves as `run` does, with another limit on the reads.
+///
+/// # Errors
+///
+/// `TooManyReads` where the input goes on after so many reads; else as `run`.
+pub fn run_for<K: Keeper, R: Input, W: Output>(
+    engine: &mut Engine<K>,
+    reader: &mut R,
+    writer: &mut W,
+    limit: u64,
+) -> Result<Report, RunFault>
+    requires sound { IsSound K.contents engine.old }
+    ensures ran { Ran limit result (rules_of engine.old) (state_of engine.old) (state_of engine.new) (R.remaining reader.old) (R.remaining reader.new) (W.contents writer.old) (W.contents writer.new) }
+    ensures failed { TellsFailures result (R.failed reader.old) (R.failed reader.new) (W.failed writer.old) (W.failed writer.new) }
     ensures keeps { IsTrue K.exact → IsSpare K.contents engine.old → IfOk result (λ report. report.memory ≡ 0 → KeepsRun K.contents engine.old engine.new (R.remaining reader.old) (R.remaining reader.new)) }
     ensures work { IfOk result (λ report. report.work ≡ work_of engine.new) }
     ensures spare { IsTrue K.exact → IsSpare K.contents engine.old → IsSpare K.contents engine.new }
@@ -178,7 +209,7 @@ pub fn run<K: Keeper, R: Read, W: Write>(
         return Err(RunFault::Memory);
     };
     let mut piece = [0u8; PIECE];
-    for turn in 0..READS {
+    for turn in 0..limit {
         let count = match reader.read(&mut piece) {
             Ok(count) => count,
             Err(_) => return Err(RunFault::Read),

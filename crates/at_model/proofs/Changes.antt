@@ -13,7 +13,7 @@ use Rattle.at_model.specs.Shaping.{shaped, names_classes}
 use Rattle.at_model.specs.Lines.{Line, Place, Command, Ask, Set, Put, Drop, Insert, Token, Show, Mark, Unmark, Where, Version, last_version}
 use Rattle.at_model.specs.Replies.{Reply, Form, Done, Refused, Code, Written, At}
 use Rattle.at_model.specs.Replies as code
-use Rattle.at_model.specs.Machine.{State, Marked, Verdict, Refuses, Tells, Leaves, Edits, Asks, Answering, Says, after, Step, verdict, obeyed, changed, at_node, with_component, with_tree, code_of, IsEdited, is_edit, is_stale, is_marked, marks_used, node_named, questioned, with_mark, max_marks, each, value_named, fit_parameters, parameters_of, marked}
+use Rattle.at_model.specs.Machine.{State, Marked, Verdict, Refuses, Tells, Leaves, Edits, Asks, Says, after, Step, verdict, obeyed, changed, at_node, with_component, with_tree, code_of, IsEdited, is_edit, is_stale, is_marked, marks_used, node_named, questioned, with_mark, max_marks, each, value_named, fit_parameters, parameters_of, marked}
 
 -- the verdict is a refusal, or an edit that is accepted
 pub data IsChange (classes : Classes) (old : State) : Verdict → Type 0 where
@@ -96,16 +96,16 @@ other_keeps rules s session Version e = left _
 pub whole : (P : Verdict → Type 0) → ((c : Code) → P (Refuses c)) → (rules : Rules) (s : State) (l : Line) → P (obeyed rules s l.session l.command) → P (verdict rules s l)
 whole P if_refused rules s l h = if_both P (is_stale l.expected s.version) _ _ (if_refused (code.Stale s.version)) (if_both P (not (list_all (is_marked s.marks l.session) (marks_used l.command))) _ _ (if_refused code.Mark) h)
 
-edited_after : (rules : Rules) (Answered : Answering) (old : State) (v : Verdict) → IsChange rules.classes old v → (form : Form) (version : ℕ) →
-    Says rules Answered old v form → form ≡ Done version → IsEdited rules.classes old (after old v) × (version ≡ (after old v).version)
-edited_after rules Answered old v (refused c) form version says e = absurd cc
-edited_after rules Answered old v (accepted by t is) form version says e = let both : Done version ≡ Done (old.version + 1) = cc in (record { by = by; tree = is; version = refl; marks = refl }, cc)
+edited_after : (rules : Rules) (old : State) (v : Verdict) → IsChange rules.classes old v → (form : Form) (version : ℕ) →
+    Says rules old v form → form ≡ Done version → IsEdited rules.classes old (after old v) × (version ≡ (after old v).version)
+edited_after rules old v (refused c) form version says e = absurd cc
+edited_after rules old v (accepted by t is) form version says e = let both : Done version ≡ Done (old.version + 1) = cc in (record { by = by; tree = is; version = refl; marks = refl }, cc)
 
-pub accepted_edit : (rules : Rules) (Answered : Answering) (old : State) (l : Line) (new : State) (reply : Reply) (version : ℕ) → is_edit l.command ≡ true →
-    Step rules Answered old l new reply → reply.form ≡ Done version → IsEdited rules.classes old new × (version ≡ new.version)
-accepted_edit rules Answered old l new reply version is h e =
+pub accepted_edit : (rules : Rules) (old : State) (l : Line) (new : State) (reply : Reply) (version : ℕ) → is_edit l.command ≡ true →
+    Step rules old l new reply → reply.form ≡ Done version → IsEdited rules.classes old new × (version ≡ new.version)
+accepted_edit rules old l new reply version is h e =
     let P : State → Type 0 = λ x. IsEdited rules.classes old x × (version ≡ x.version) in
-    subst P (sym h.state) (edited_after rules Answered old (verdict rules old l) (whole (IsChange rules.classes old) refused rules old l (edit_changes rules old l.session l.command is)) reply.form version h.says e)
+    subst P (sym h.state) (edited_after rules old (verdict rules old l) (whole (IsChange rules.classes old) refused rules old l (edit_changes rules old l.session l.command is)) reply.form version h.says e)
 
 kept_after : (old : State) (v : Verdict) → Keeps v → ((after old v).tree ≡ old.tree) × ((after old v).version ≡ old.version)
 kept_after old v (refused c) = (refl, refl)
@@ -113,8 +113,8 @@ kept_after old v (told shown) = (refl, refl)
 kept_after old v (asked q) = (refl, refl)
 kept_after old v (left marks) = (refl, refl)
 
-pub other_step : (rules : Rules) (Answered : Answering) (old : State) (l : Line) (new : State) (reply : Reply) → is_edit l.command ≡ false →
-    Step rules Answered old l new reply → (new.tree ≡ old.tree) × (new.version ≡ old.version)
-other_step rules Answered old l new reply is h =
+pub other_step : (rules : Rules) (old : State) (l : Line) (new : State) (reply : Reply) → is_edit l.command ≡ false →
+    Step rules old l new reply → (new.tree ≡ old.tree) × (new.version ≡ old.version)
+other_step rules old l new reply is h =
     let P : State → Type 0 = λ x. (x.tree ≡ old.tree) × (x.version ≡ old.version) in
     subst P (sym h.state) (kept_after old (verdict rules old l) (whole Keeps refused rules old l (other_keeps rules old l.session l.command is)))

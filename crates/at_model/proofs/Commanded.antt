@@ -19,7 +19,7 @@ use Rattle.at_model.specs.Shaping.{shaped, names_classes}
 use Rattle.at_model.specs.Lines.{Line, Place, Command, Ask, Set, Put, Drop, Insert, Token, Show, Mark, Unmark, Where, Version, last_version}
 use Rattle.at_model.specs.Replies.{Reply, Form, Done, Code}
 use Rattle.at_model.specs.Replies as code
-use Rattle.at_model.specs.Machine.{State, Marked, Verdict, Refuses, Leaves, Edits, Asks, Answering, Says, Step, after, verdict, obeyed, changed, with_component, with_tree, with_mark, code_of, is_edit, is_mark, is_marked, marked, max_marks, node_named, each, value_named, questioned, fit_parameters, parameters_of, carried_marks}
+use Rattle.at_model.specs.Machine.{State, Marked, Verdict, Refuses, Leaves, Edits, Asks, Says, Step, after, verdict, obeyed, changed, with_component, with_tree, with_mark, code_of, is_edit, is_mark, is_marked, marked, max_marks, node_named, each, value_named, questioned, fit_parameters, parameters_of, carried_marks}
 use Rattle.at_model.specs.Effects.{IsEditOf, set, put, drop, insert, token, component_named, changes_mark, is_about_mark, is_marking, is_question}
 use Rattle.at_model.proofs.Changes.{if_both, at_option, node_all, whole}
 use Rattle.at_model.proofs.Options.{led, both, and_true}
@@ -92,14 +92,14 @@ module _ (rules : Rules) (s : State) (session : ℕ) where
 abbrev pub EditOf : Rules → State → Line → State → Type 0
 EditOf rules old l new = (e : Edit) × IsEditOf rules.classes old l.session l.command e × (edited rules.classes old.tree e ≡ Ok new.tree) × (new.marks ≡ carried_marks e old.marks)
 
-edit_after : (rules : Rules) (Answered : Answering) (old : State) (l : Line) (v : Verdict) → IsChangeOf rules.classes old l.session l.command v → (form : Form) (version : ℕ) → Says rules Answered old v form → form ≡ Done version → EditOf rules old l (after old v)
-edit_after rules Answered old l v (refused c) form version says is = absurd cc
-edit_after rules Answered old l v (accepted e t asked done) form version says is = (e, asked, done, refl)
+edit_after : (rules : Rules) (old : State) (l : Line) (v : Verdict) → IsChangeOf rules.classes old l.session l.command v → (form : Form) (version : ℕ) → Says rules old v form → form ≡ Done version → EditOf rules old l (after old v)
+edit_after rules old l v (refused c) form version says is = absurd cc
+edit_after rules old l v (accepted e t asked done) form version says is = (e, asked, done, refl)
 
-pub accepted_of : (rules : Rules) (Answered : Answering) (old : State) (l : Line) (new : State) (reply : Reply) (version : ℕ) → is_edit l.command ≡ true → Step rules Answered old l new reply → reply.form ≡ Done version → EditOf rules old l new
-accepted_of rules Answered old l new reply version is h form =
+pub accepted_of : (rules : Rules) (old : State) (l : Line) (new : State) (reply : Reply) (version : ℕ) → is_edit l.command ≡ true → Step rules old l new reply → reply.form ≡ Done version → EditOf rules old l new
+accepted_of rules old l new reply version is h form =
     let P : State → Type 0 = λ x. EditOf rules old l x in
-    subst P (sym h.state) (edit_after rules Answered old l (verdict rules old l) (whole (IsChangeOf rules.classes old l.session l.command) refused rules old l (edit_of rules old l.session l.command is)) reply.form version h.says form)
+    subst P (sym h.state) (edit_after rules old l (verdict rules old l) (whole (IsChangeOf rules.classes old l.session l.command) refused rules old l (edit_of rules old l.session l.command is)) reply.form version h.says form)
 
 -- whether a test finds something behind another one
 find_kept : {A : Type 0} (p q : A → Bool) → ((a : A) → p a ≡ true → q a ≡ true) → (xs : List A) → find p (filter q xs) ≡ find p xs
@@ -224,14 +224,14 @@ module _ (rules : Rules) (s : State) (session : ℕ) where
   tellable (Where name) e = at_option Tellable untold (marked s.marks session name) code.Mark _ (λ n q f. cc)
   tellable Version e = λ q f. cc
 
-pub spared_step : (rules : Rules) (Answered : Answering) (old : State) (l : Line) (new : State) (reply : Reply) → is_edit l.command ≡ false → Step rules Answered old l new reply →
+pub spared_step : (rules : Rules) (old : State) (l : Line) (new : State) (reply : Reply) → is_edit l.command ≡ false → Step rules old l new reply →
     (other : ℕ) (name : List ℕ) → is_about_mark l other name ≡ false → marked new.marks other name ≡ marked old.marks other name
-spared_step rules Answered old l new reply is h other name e =
+spared_step rules old l new reply is h other name e =
     let P : State → Type 0 = λ x. marked x.marks other name ≡ marked old.marks other name in
     subst P (sym h.state) (whole (Spares rules old l.session (about rules old l.session l.command)) (unchanged rules old l.session l.command) rules old l (spares rules old l.session l.command is) other name e)
 
-pub same_step : (rules : Rules) (Answered : Answering) (old : State) (l : Line) (new : State) (reply : Reply) → is_edit l.command ≡ false → is_marking l.command ≡ false → Step rules Answered old l new reply → new ≡ old
-same_step rules Answered old l new reply e f h = h.state ∙ whole (Same rules old l.session) (stays rules old l.session) rules old l (same rules old l.session l.command e f)
+pub same_step : (rules : Rules) (old : State) (l : Line) (new : State) (reply : Reply) → is_edit l.command ≡ false → is_marking l.command ≡ false → Step rules old l new reply → new ≡ old
+same_step rules old l new reply e f h = h.state ∙ whole (Same rules old l.session) (stays rules old l.session) rules old l (same rules old l.session l.command e f)
 
 pub tellable_line : (rules : Rules) (old : State) (l : Line) (q : Instance Node) → is_question l.command ≡ false → verdict rules old l ≡ Asks q → ⊥
 tellable_line rules old l q e = whole (Tellable rules old l.session) (untold rules old l.session) rules old l (tellable rules old l.session l.command e) q
@@ -243,10 +243,10 @@ asked_or_not rules old l q false is e = absurd (tellable_line rules old l q is e
 pub asked_line : (rules : Rules) (old : State) (l : Line) (q : Instance Node) → verdict rules old l ≡ Asks q → is_question l.command ≡ true
 asked_line rules old l q e = asked_or_not rules old l q (is_question l.command) refl e
 
-module _ (rules : Rules) (Answered : Answering) (s : State) (session : ℕ) where
+module _ (rules : Rules) (s : State) (session : ℕ) where
   -- the mark, where the verdict is told as done
   abbrev pub MarksAs : List ℕ → Option Node → Verdict → Type 0
-  MarksAs name o v = (form : Form) (version : ℕ) → Says rules Answered s v form → form ≡ Done version → marked (after s v).marks session name ≡ o
+  MarksAs name o v = (form : Form) (version : ℕ) → Says rules s v form → form ≡ Done version → marked (after s v).marks session name ≡ o
 
   undone : (name : List ℕ) (o : Option Node) (code : Code) → MarksAs name o (Refuses code)
   undone name o code form version says e = absurd cc
@@ -277,16 +277,16 @@ module _ (rules : Rules) (Answered : Answering) (s : State) (session : ℕ) wher
   forgotten : (name : List ℕ) → MarksAs name None (Leaves (filter (λ m. not (is_mark session name m)) s.marks))
   forgotten name form version says e = ap (option_map (λ m. m.node)) (find_lost (is_mark session name) s.marks)
 
-pub made_step : (rules : Rules) (Answered : Answering) (old : State) (l : Line) (new : State) (reply : Reply) (version : ℕ) (name : List ℕ) (place : Place) → l.command ≡ Mark name place → Step rules Answered old l new reply → reply.form ≡ Done version →
+pub made_step : (rules : Rules) (old : State) (l : Line) (new : State) (reply : Reply) (version : ℕ) (name : List ℕ) (place : Place) → l.command ≡ Mark name place → Step rules old l new reply → reply.form ≡ Done version →
     marked new.marks l.session name ≡ node_named rules.classes old l.session place
-made_step rules Answered old l new reply version name place is h form =
+made_step rules old l new reply version name place is h form =
     let P : State → Type 0 = λ x. marked x.marks l.session name ≡ node_named rules.classes old l.session place in
-    let Q : Command → Type 0 = λ c. MarksAs rules Answered old l.session name (node_named rules.classes old l.session place) (obeyed rules old l.session c) in
-    subst P (sym h.state) (whole (MarksAs rules Answered old l.session name (node_named rules.classes old l.session place)) (undone rules Answered old l.session name (node_named rules.classes old l.session place)) rules old l
-    (subst Q (sym is) (made rules Answered old l.session name place (node_named rules.classes old l.session place) refl)) reply.form version h.says form)
+    let Q : Command → Type 0 = λ c. MarksAs rules old l.session name (node_named rules.classes old l.session place) (obeyed rules old l.session c) in
+    subst P (sym h.state) (whole (MarksAs rules old l.session name (node_named rules.classes old l.session place)) (undone rules old l.session name (node_named rules.classes old l.session place)) rules old l
+    (subst Q (sym is) (made rules old l.session name place (node_named rules.classes old l.session place) refl)) reply.form version h.says form)
 
-pub forgotten_step : (rules : Rules) (Answered : Answering) (old : State) (l : Line) (new : State) (reply : Reply) (version : ℕ) (name : List ℕ) → l.command ≡ Unmark name → Step rules Answered old l new reply → reply.form ≡ Done version → marked new.marks l.session name ≡ None
-forgotten_step rules Answered old l new reply version name is h form =
+pub forgotten_step : (rules : Rules) (old : State) (l : Line) (new : State) (reply : Reply) (version : ℕ) (name : List ℕ) → l.command ≡ Unmark name → Step rules old l new reply → reply.form ≡ Done version → marked new.marks l.session name ≡ None
+forgotten_step rules old l new reply version name is h form =
     let P : State → Type 0 = λ x. marked x.marks l.session name ≡ None in
-    let Q : Command → Type 0 = λ c. MarksAs rules Answered old l.session name None (obeyed rules old l.session c) in
-    subst P (sym h.state) (whole (MarksAs rules Answered old l.session name None) (undone rules Answered old l.session name None) rules old l (subst Q (sym is) (forgotten rules Answered old l.session name)) reply.form version h.says form)
+    let Q : Command → Type 0 = λ c. MarksAs rules old l.session name None (obeyed rules old l.session c) in
+    subst P (sym h.state) (whole (MarksAs rules old l.session name None) (undone rules old l.session name None) rules old l (subst Q (sym is) (forgotten rules old l.session name)) reply.form version h.says form)

@@ -104,7 +104,7 @@ exposed_snoc rules t name conform h m s rest u q b x =
     let k : length (m ++ s ∷ []) ≡ length m + 1 = length-append m (s ∷ []) in
     let (a, c) = conforms_at rules.classes t 0 m w conform f in
     let (d, i, j) = child_conforms rules.classes w a s.0 s.1 u c (last_step t m s u w q f) in
-    below (class_of w) (class_of u) (rest w f (omega arith) z) (s.0, d, i, fits_there rules.classes u d j, none)
+    below (class_of w) (class_of u) (rest w f (omega arith) z) (record { part = s.0; class = d; trees = i; fit = fits_there rules.classes u d j; without = none })
 
 root_exposed : (rules : Rules) (t : Tree) (name : List ℕ) → conforms rules.classes t 0 ≡ true → (u : Tree) → tree_at t [] ≡ Some u → Exposed rules name (class_of u)
 root_exposed rules t name conform u q = let g : t ≡ u = cc in as_root (class_of u) (fits_there rules.classes u 0 (subst (λ z. conforms rules.classes z 0 ≡ true) g conform))

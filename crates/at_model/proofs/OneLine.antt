@@ -38,8 +38,8 @@ same_steps (p ∷ ps) [] r s hp hq hr hs e = absurd (ends_not s _ 47 hs refl (sy
 same_steps (p ∷ ps) (q ∷ qs) r s hp hq hr hs e =
     let flat = ap tail (sym (step_flat p ps r) ∙ e ∙ step_flat q qs s) in
     let pb = behind_step ps r hr in let qb = behind_step qs s hs in
-    let parts = same_word p.part q.part _ _ (name_inner p.part hp.0.0 hp.0.1) (name_inner q.part hq.0.0 hq.0.1) (index_stops p.index _ pb.0) (index_stops q.index _ qb.0) flat in
-    let indexes = same_index p.index q.index _ _ hp.0.2 hq.0.2 pb.0 qb.0 pb.1 qb.1 parts.1 in
+    let parts = same_word p.part q.part _ _ (name_inner p.part hp.0.0.0 hp.0.0.1) (name_inner q.part hq.0.0.0 hq.0.0.1) (index_stops p.index _ pb.0) (index_stops q.index _ qb.0) flat in
+    let indexes = same_index p.index q.index _ _ hp.0.1 hq.0.1 pb.0 qb.0 pb.1 qb.1 parts.1 in
     let rest = same_steps ps qs r s hp.1 hq.1 hr hs indexes.1 in
     (λ i. record { part = parts.0 i; index = indexes.0 i } ∷ rest.0 i, rest.1)
 
@@ -58,8 +58,8 @@ ends_nameless r (b ∷ name) s hr hn hu e = ends_wordless r name s b hr (name_in
 -- places
 same_path : (p q : Path) (r s : List ℕ) → IsPath p → IsPath q → Ends r → Ends s → path_text p ++ r ≡ path_text q ++ s → (p ≡ q) × (r ≡ s)
 same_path [] [] r s hp hq hr hs e = (refl, ap tail e)
-same_path [] (q ∷ qs) r s hp hq hr hs e = absurd (ends_nameless r q.part _ hr hq.0.0 hq.0.1 (ap tail (e ∙ step_flat q qs s)))
-same_path (p ∷ ps) [] r s hp hq hr hs e = absurd (ends_nameless s p.part _ hs hp.0.0 hp.0.1 (ap tail (sym e ∙ step_flat p ps r)))
+same_path [] (q ∷ qs) r s hp hq hr hs e = absurd (ends_nameless r q.part _ hr hq.0.0.0 hq.0.0.1 (ap tail (e ∙ step_flat q qs s)))
+same_path (p ∷ ps) [] r s hp hq hr hs e = absurd (ends_nameless s p.part _ hs hp.0.0.0 hp.0.0.1 (ap tail (sym e ∙ step_flat p ps r)))
 same_path (p ∷ ps) (q ∷ qs) r s hp hq hr hs e = same_steps (p ∷ ps) (q ∷ qs) r s hp hq hr hs e
 
 pub path_head : (p : Path) (r y : List ℕ) (d : ℕ) → nat_eq 47 d ≡ false → path_text p ++ r ≡ d ∷ y → ⊥

@@ -3,7 +3,7 @@ use Rattle.std.proofs.Common.{◌≡◌, ℕ, true, false, List, [], ◌∷◌, 
 use Rattle.at_model.specs.Rules.{Rules}
 use Rattle.at_model.specs.Lines.{Line, BeginsWith, IsSpaceOrEnd, IsSessionOf}
 use Rattle.at_model.specs.Replies.{Reply, Code, Refused}
-use Rattle.at_model.specs.Machine.{State, Answering, Step, Handles, obeys, refuses}
+use Rattle.at_model.specs.Machine.{State, Step, Handles, obeys, refuses}
 use Rattle.at_model.proofs.Words.{Stops, delimits}
 use Rattle.at_model.proofs.OneTerm.{same_decimal}
 use Rattle.at_model.proofs.OneLine.{same_line}
@@ -23,26 +23,26 @@ same_session bytes (Some m) None h k = absurd (k m h)
 same_session bytes None (Some n) h k = absurd (h n k)
 same_session bytes None None h k = refl
 
-pub handles_once : (rules : Rules) (Answered : Answering) → AnswersOnce Answered → (old : State) (bytes : List ℕ) (new other : State) (reply told : Reply) →
-    Handles rules Answered old bytes new reply → Handles rules Answered old bytes other told → (new ≡ other) × (reply ≡ told)
-handles_once rules Answered single old bytes new other reply told (obeys l s h) (obeys m t k) =
-    let P : Line → Type 0 = λ x. Step rules Answered old x other told in
-    steps_once rules Answered single old l new other reply told h (subst P (sym (same_line l m s.is_line t.is_line (sym s.text ∙ t.text))) k)
-handles_once rules Answered single old bytes new other reply told (obeys l s h) (refuses none session same form) = absurd (none l s)
-handles_once rules Answered single old bytes new other reply told (refuses none session same form) (obeys l s h) = absurd (none l s)
-handles_once rules Answered single old bytes new other reply told (refuses none session same form) (refuses none' session' same' form') =
+pub handles_once : (rules : Rules) → AnswersOnce rules → (old : State) (bytes : List ℕ) (new other : State) (reply told : Reply) →
+    Handles rules old bytes new reply → Handles rules old bytes other told → (new ≡ other) × (reply ≡ told)
+handles_once rules single old bytes new other reply told (obeys l s h) (obeys m t k) =
+    let P : Line → Type 0 = λ x. Step rules old x other told in
+    steps_once rules single old l new other reply told h (subst P (sym (same_line l m s.is_line t.is_line (sym s.text ∙ t.text))) k)
+handles_once rules single old bytes new other reply told (obeys l s h) (refuses none session same form) = absurd (none l s)
+handles_once rules single old bytes new other reply told (refuses none session same form) (obeys l s h) = absurd (none l s)
+handles_once rules single old bytes new other reply told (refuses none session same form) (refuses none' session' same' form') =
     let sessions = same_session bytes reply.session told.session session session' in
     let forms = form ∙ sym form' in
     (same ∙ sym same', λ i. record { session = sessions i; form = forms i })
 
-pub serves_once : (rules : Rules) (Answered : Answering) → AnswersOnce Answered → ServesOnce rules Answered
-serves_once rules Answered single false old line new other reply told h k = handles_once rules Answered single old line new other reply told h k
-serves_once rules Answered single true old line new other reply told (session, same, form) (session', same', form') =
+pub serves_once : (rules : Rules) → AnswersOnce rules → ServesOnce rules
+serves_once rules single false old line new other reply told h k = handles_once rules single old line new other reply told h k
+serves_once rules single true old line new other reply told (session, same, form) (session', same', form') =
     let sessions = same_session line reply.session told.session session session' in
     let forms = form ∙ sym form' in
     (same ∙ sym same', λ i. record { session = sessions i; form = forms i })
 
-pub refused_bytes : (rules : Rules) (Answered : Answering) (old : State) (bytes : List ℕ) (new : State) (reply : Reply) (refusal : Code) →
-    Handles rules Answered old bytes new reply → reply.form ≡ Refused refusal → new ≡ old
-refused_bytes rules Answered old bytes new reply refusal (obeys l s h) e = refused_step rules Answered old l new reply refusal h e
-refused_bytes rules Answered old bytes new reply refusal (refuses none session same form) e = same
+pub refused_bytes : (rules : Rules) (old : State) (bytes : List ℕ) (new : State) (reply : Reply) (refusal : Code) →
+    Handles rules old bytes new reply → reply.form ≡ Refused refusal → new ≡ old
+refused_bytes rules old bytes new reply refusal (obeys l s h) e = refused_step rules old l new reply refusal h e
+refused_bytes rules old bytes new reply refusal (refuses none session same form) e = same

@@ -153,13 +153,13 @@ list_flat ts r = ap (λ z. 91 ∷ z) (append_assoc (with_commas (term_texts ts))
 
 -- a term is no list, no empty optional and no token
 term_no_delimiter : (d : ℕ) (t : Term) (r y : List ℕ) (b : ℕ) → IsTermWithin d t → delimits b ≡ true → nat_eq 40 b ≡ false → term_text t ++ r ≡ b ∷ y → ⊥
-term_no_delimiter d (Node name cs) r y b (p, h, u, hc) hb ne e = headless name _ y b (name_inner name h u) hb (λ z. apart 40 b _ z ne) (sym (term_flat name cs r) ∙ e)
+term_no_delimiter d (Node name cs) r y b (p, (h, u), hc) hb ne e = headless name _ y b (name_inner name h u) hb (λ z. apart 40 b _ z ne) (sym (term_flat name cs r) ∙ e)
 
 term_no_token : (d : ℕ) (t : Term) (v : Token) (r s : List ℕ) → IsTermWithin d t → IsToken v → Ends s → term_text t ++ r ≡ token_text v ++ s → ⊥
-term_no_token d (Node name cs) v r s (p, h, u, hc) hv hs e = name_no_token name _ v s (name_inner name h u) hv hs (sym (term_flat name cs r) ∙ e)
+term_no_token d (Node name cs) v r s (p, (h, u), hc) hv hs e = name_no_token name _ v s (name_inner name h u) hv hs (sym (term_flat name cs r) ∙ e)
 
 term_no_end : (d : ℕ) (t : Term) (z y : List ℕ) (b : ℕ) → IsTermWithin d t → list_any (nat_eq b) ends ≡ true → term_text t ++ z ≡ b ∷ y → ⊥
-term_no_end d (Node name cs) z y b (p, h, u, hc) hb e = name_no_end name _ y b (name_inner name h u) hb (sym (term_flat name cs z) ∙ e)
+term_no_end d (Node name cs) z y b (p, (h, u), hc) hb e = name_no_end name _ y b (name_inner name h u) hb (sym (term_flat name cs z) ∙ e)
 
 cell_no_end : (d : ℕ) (c : Cell) (z y : List ℕ) (b : ℕ) → IsCellWithin d c → list_any (nat_eq b) ends ≡ true → cell_text c ++ z ≡ b ∷ y → ⊥
 cell_no_end d (One t) z y b h hb e = term_no_end d t z y b h hb e
@@ -187,7 +187,7 @@ same_terms_behind (term t ts) (term u us) r s same e = same (ap tail e)
 -- the same terms and cells, and the same behind them
 mutual
   pub same_term : (d e : ℕ) (t u : Term) (r s : List ℕ) → IsTermWithin d t → IsTermWithin e u → term_text t ++ r ≡ term_text u ++ s → (t ≡ u) × (r ≡ s)
-  same_term d e (Node a cs) (Node b ds) r s (p, ha, ua, hc) (q, hb, ub, hd) is =
+  same_term d e (Node a cs) (Node b ds) r s (p, (ha, ua), hc) (q, (hb, ub), hd) is =
       let flat = sym (term_flat a cs r) ∙ is ∙ term_flat b ds s in
       let words = same_word a b _ _ (name_inner a ha ua) (name_inner b hb ub) refl refl flat in
       let both = same_cells (d - 1) (e - 1) cs ds r s hc hd (ap tail words.1) in

@@ -16,7 +16,7 @@ use Rattle.at_model.specs.Edits as edit
 use Rattle.at_model.specs.Lines.{Line, Command, Ask, Set, Put, Drop, Insert, Token, Show, Mark, Unmark, Where, Version, last_version}
 use Rattle.at_model.specs.Replies.{Reply, Code}
 use Rattle.at_model.specs.Replies as code
-use Rattle.at_model.specs.Machine.{State, Marked, Verdict, Refuses, Leaves, Edits, Answering, Handles, obeys, refuses, Serves, after, verdict, obeyed, changed, code_of, carried_marks, is_mark, is_marked, marked, max_marks, each, value_named, questioned, fit_parameters, parameters_of}
+use Rattle.at_model.specs.Machine.{State, Marked, Verdict, Refuses, Leaves, Edits, Handles, obeys, refuses, Serves, after, verdict, obeyed, changed, code_of, carried_marks, is_mark, is_marked, marked, max_marks, each, value_named, questioned, fit_parameters, parameters_of}
 use Rattle.at_model.specs.Enduring.{key, IsOrderly}
 use Rattle.at_model.proofs.Options.{and_true}
 use Rattle.at_model.proofs.Changes.{if_both, at_option, node_all, component_all, tree_all, whole}
@@ -213,10 +213,10 @@ module _ (rules : Rules) (s : State) (orderly : IsOrderly s) where
   orderly_line : (l : Line) → IsOrderly (after s (verdict rules s l))
   orderly_line l = ended s (verdict rules s l) (whole Leads stays rules s l (by_command l.session l.command))
 
-orderly_handled : (rules : Rules) (Answered : Answering) (old : State) (bytes : List ℕ) (new : State) (reply : Reply) → IsOrderly old → Handles rules Answered old bytes new reply → IsOrderly new
-orderly_handled rules Answered old bytes new reply orderly (obeys l spells step) = subst IsOrderly (sym step.state) (orderly_line rules old orderly l)
-orderly_handled rules Answered old bytes new reply orderly (refuses none session same form) = subst IsOrderly (sym same) orderly
+orderly_handled : (rules : Rules) (old : State) (bytes : List ℕ) (new : State) (reply : Reply) → IsOrderly old → Handles rules old bytes new reply → IsOrderly new
+orderly_handled rules old bytes new reply orderly (obeys l spells step) = subst IsOrderly (sym step.state) (orderly_line rules old orderly l)
+orderly_handled rules old bytes new reply orderly (refuses none session same form) = subst IsOrderly (sym same) orderly
 
-pub orderly_served : (rules : Rules) (Answered : Answering) (b : Bool) (old : State) (bytes : List ℕ) (new : State) (reply : Reply) → IsOrderly old → Serves rules Answered b old bytes new reply → IsOrderly new
-orderly_served rules Answered false old bytes new reply orderly h = orderly_handled rules Answered old bytes new reply orderly h
-orderly_served rules Answered true old bytes new reply orderly h = subst IsOrderly (sym h.1) orderly
+pub orderly_served : (rules : Rules) (b : Bool) (old : State) (bytes : List ℕ) (new : State) (reply : Reply) → IsOrderly old → Serves rules b old bytes new reply → IsOrderly new
+orderly_served rules false old bytes new reply orderly h = orderly_handled rules old bytes new reply orderly h
+orderly_served rules true old bytes new reply orderly h = subst IsOrderly (sym h.1) orderly

@@ -6,11 +6,11 @@ use Rattle.std.specs.Char.{is_ascii_alphabetic, is_ascii_alphanumeric}
 use Rattle.std.proofs.lemmas.Bool.Decides.{nat_tests}
 use Rattle.std.proofs.lemmas.Str.{chars-IsAscii, IsUtf8-from_ascii}
 use Rattle.unicode_ident.proofs.IdentLemmas.{is_xid_start-ascii, is_xid_continue-ascii}
-use Rattle.at_model.specs.Names.{starts_name, continues_name, is_word, is_reserved}
+use Rattle.at_model.specs.Names.{starts_name, continues_name, is_word, is_reserved, IsName}
 use Rattle.at_model.specs.Trees as tree
 use Rattle.at_model.specs.Terms.{Term, Cells, Cell, Terms, Node, no_cells, cell, One, Many, Empty, Holds, no_terms, term, IsInt32, IsToken, IsTermWithin, AreCellsWithin, IsCellWithin, AreTermsWithin, max_depth}
 use Rattle.at_model.specs.Paths.{Path, Step, IsIndex, IsStep, IsPath}
-use Rattle.at_model.specs.Lines.{Place, From_root, From_mark, Argument, Text, Ref, Null, Command, Ask, Set, Put, Drop, Insert, Token, Show, Mark, Unmark, Where, Version, Line, line_text, IsName, IsPlace, IsArgument, IsCommand, IsVersion, Spells, last_version, max_sessions, max_line}
+use Rattle.at_model.specs.Lines.{Place, From_root, From_mark, Argument, Text, Ref, Null, Command, Ask, Set, Put, Drop, Insert, Token, Show, Mark, Unmark, Where, Version, Line, line_text, IsPlace, IsArgument, IsCommand, IsVersion, Spells, last_version, max_sessions, max_line}
 
 pub all_and : (a b : Bool) → (a && b) ≡ true → (a ≡ true) × (b ≡ true)
 all_and true true e = (refl, refl)
@@ -94,7 +94,7 @@ abbrev pub is_plain_step : Step → Bool
 is_plain_step s = is_plain_name s.part && is_plain_index s.index
 
 step : (s : Step) → is_plain_step s ≡ true → IsStep s
-step s h = let g = all_and (is_plain_name s.part) (is_plain_index s.index) h in let n = named s.part g.0 in (n.0, n.1, index s.index g.1)
+step s h = let g = all_and (is_plain_name s.part) (is_plain_index s.index) h in (named s.part g.0, index s.index g.1)
 
 pub path : (p : Path) → list_all is_plain_step p ≡ true → IsPath p
 path p h = each is_plain_step IsStep step p h
@@ -159,8 +159,7 @@ mutual
   plain_term d (Node name cells) h =
       let g = all_and (nat_lt 0 d) (is_plain_name name && are_plain_cells (d - 1) cells) h in
       let f = all_and (is_plain_name name) (are_plain_cells (d - 1) cells) g.1 in
-      let n = named name f.0 in
-      (below 0 d g.0, n.0, n.1, plain_cells (d - 1) cells f.1)
+      (below 0 d g.0, named name f.0, plain_cells (d - 1) cells f.1)
 
   plain_cells : (d : ℕ) (cs : Cells) → are_plain_cells d cs ≡ true → AreCellsWithin d cs
   plain_cells d no_cells h = tt

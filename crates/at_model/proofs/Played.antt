@@ -10,7 +10,7 @@ use Rattle.at_model.specs.Meaning.{Answer}
 use Rattle.at_model.specs.Lines.{Line, line_text, Spells, IsSessionOf}
 use Rattle.at_model.specs.Replies.{Reply, Form, Done, Shows, Refused, Memory, reply_text}
 use Rattle.at_model.specs.Replies as code
-use Rattle.at_model.specs.Machine.{State, Verdict, Refuses, Tells, Leaves, Edits, Asks, ByEquations, Says, Handles, obeys, refuses, after, verdict, answer_form}
+use Rattle.at_model.specs.Machine.{State, Verdict, Refuses, Tells, Leaves, Edits, Asks, AnswersIn, Says, Handles, obeys, refuses, after, verdict, answer_form}
 use Rattle.at_model.specs.Playing.{Exchange, Plays}
 use Rattle.at_model.proofs.PlainLines.{all_and, is_plain_line, spelled}
 
@@ -20,10 +20,10 @@ reply_to l form = record { session = Some l.session; form = form }
 
 -- one more line at the front
 more : (rules : Rules) (old : State) (l : Line) (e : Exchange) (form : Form) (rest : List Exchange) → is_plain_line l ≡ true → line_text l ≡ e.line → reply_text (reply_to l form) ≡ e.reply ++ 10 ∷ []
-    → Says rules (ByEquations rules) old (verdict rules old l) form → Plays rules (after old (verdict rules old l)) rest → Plays rules old (e ∷ rest)
+    → Says rules old (verdict rules old l) form → Plays rules (after old (verdict rules old l)) rest → Plays rules old (e ∷ rest)
 more rules old l e form rest plain line reply says goes = record {
   left = goes.left;
-  runs = (after old (verdict rules old l), reply_to l form, flat_map (λ e. e.reply ++ 10 ∷ []) rest, subst (λ bytes. Handles rules (ByEquations rules) old bytes (after old (verdict rules old l)) (reply_to l form)) line (obeys l (spelled l plain) (record { session = refl; state = refl; says = says })), ap (λ z. z ++ flat_map (λ e. e.reply ++ 10 ∷ []) rest) (sym reply), goes.runs);
+  runs = (after old (verdict rules old l), reply_to l form, flat_map (λ e. e.reply ++ 10 ∷ []) rest, subst (λ bytes. Handles rules old bytes (after old (verdict rules old l)) (reply_to l form)) line (obeys l (spelled l plain) (record { session = refl; state = refl; says = says })), ap (λ z. z ++ flat_map (λ e. e.reply ++ 10 ∷ []) rest) (sym reply), goes.runs);
 }
 
 pub ends : {rules : Rules} {s : State} → Plays rules s []
@@ -41,7 +41,7 @@ abbrev pub asks : Verdict → Bool
 asks (Asks q) = true
 asks v = false
 
-says_told : (rules : Rules) (s : State) (v : Verdict) → asks v ≡ false → Says rules (ByEquations rules) s v (told s v)
+says_told : (rules : Rules) (s : State) (v : Verdict) → asks v ≡ false → Says rules s v (told s v)
 says_told rules s (Refuses refusal) h = refl
 says_told rules s (Tells shown) h = refl
 says_told rules s (Leaves marks) h = refl
@@ -54,9 +54,9 @@ pub line : {rules : Rules} {old : State} {e : Exchange} {rest : List Exchange} (
 line {rules} {old} {e} {rest} l plain is told_so reply goes = more rules old l e (told old (verdict rules old l)) rest plain is reply (says_told rules old (verdict rules old l) told_so) goes
 
 pub question : {rules : Rules} {old : State} {e : Exchange} {rest : List Exchange} {q : Instance Node} (l : Line) (a : Answer Node) → is_plain_line l ≡ true → line_text l ≡ e.line → verdict rules old l ≡ Asks q
-    → ByEquations rules old.tree q a → reply_text (reply_to l (answer_form rules old.tree a)) ≡ e.reply ++ 10 ∷ [] → Plays rules old rest → Plays rules old (e ∷ rest)
+    → AnswersIn rules old.tree q a → reply_text (reply_to l (answer_form rules old.tree a)) ≡ e.reply ++ 10 ∷ [] → Plays rules old rest → Plays rules old (e ∷ rest)
 question {rules} {old} {e} {rest} {q} l a plain is asked answered reply goes = more rules old l e (answer_form rules old.tree a) rest plain is reply
-    (subst (λ v. Says rules (ByEquations rules) old v (answer_form rules old.tree a)) (sym asked) (a, answered, refl))
+    (subst (λ v. Says rules old v (answer_form rules old.tree a)) (sym asked) (a, answered, refl))
     (subst (λ v. Plays rules (after old v) rest) (sym asked) goes)
 
 -- a test, which computes, that each of the lines is no question and gets its reply

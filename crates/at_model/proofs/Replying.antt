@@ -9,7 +9,7 @@ use Rattle.at_model.specs.Meaning.{Answer}
 use Rattle.at_model.specs.Lines.{Line, Spells, BeginsWith, IsSpaceOrEnd, IsSessionOf, max_sessions}
 use Rattle.at_model.specs.Replies.{Reply, Form, Shows, Done, Refused, Memory}
 use Rattle.at_model.specs.Replies as code
-use Rattle.at_model.specs.Machine.{State, Verdict, Refuses, Tells, Leaves, Edits, Asks, ByEquations, Says, Handles, obeys, refuses, Serves, after, verdict, answer_form}
+use Rattle.at_model.specs.Machine.{State, Verdict, Refuses, Tells, Leaves, Edits, Asks, AnswersIn, Says, Handles, obeys, refuses, Serves, after, verdict, answer_form}
 
 -- what stands behind the front
 strip : List ℕ → List ℕ → Option (List ℕ)
@@ -83,25 +83,25 @@ session_read bytes = elim (sessions_below bytes max_sessions (omega arith)) [
 ]
 
 -- each verdict is told, a question where it has an answer
-says_something : (rules : Rules) (s : State) (v : Verdict) → ((q : Instance Node) → v ≡ Asks q → (a : Answer Node) × ByEquations rules s.tree q a) → (form : Form) × Says rules (ByEquations rules) s v form
+says_something : (rules : Rules) (s : State) (v : Verdict) → ((q : Instance Node) → v ≡ Asks q → (a : Answer Node) × AnswersIn rules s.tree q a) → (form : Form) × Says rules s v form
 says_something rules s (Refuses refusal) h = (Refused refusal, refl)
 says_something rules s (Tells shown) h = (Shows shown, refl)
 says_something rules s (Leaves marks) h = (Done s.version, refl)
 says_something rules s (Edits e t) h = (Done (s.version + 1), refl)
 says_something rules s (Asks q) h = let (a, answered) = h q refl in (answer_form rules s.tree a, (a, answered, refl))
 
-pub reply_to_line : (rules : Rules) (old : State) (bytes : List ℕ) (l : Line) → Spells bytes l → ((q : Instance Node) → verdict rules old l ≡ Asks q → (a : Answer Node) × ByEquations rules old.tree q a) →
-    (reply : Reply) × Handles rules (ByEquations rules) old bytes (after old (verdict rules old l)) reply
+pub reply_to_line : (rules : Rules) (old : State) (bytes : List ℕ) (l : Line) → Spells bytes l → ((q : Instance Node) → verdict rules old l ≡ Asks q → (a : Answer Node) × AnswersIn rules old.tree q a) →
+    (reply : Reply) × Handles rules old bytes (after old (verdict rules old l)) reply
 reply_to_line rules old bytes l spells answered =
     let (form, says) = says_something rules old (verdict rules old l) answered in
     (record { session = Some l.session; form = form }, obeys l spells (record { session = refl; state = refl; says = says }))
 
-pub reply_to_no_line : (rules : Rules) (old : State) (bytes : List ℕ) → ((l : Line) → Spells bytes l → ⊥) → (reply : Reply) × Handles rules (ByEquations rules) old bytes old reply
+pub reply_to_no_line : (rules : Rules) (old : State) (bytes : List ℕ) → ((l : Line) → Spells bytes l → ⊥) → (reply : Reply) × Handles rules old bytes old reply
 reply_to_no_line rules old bytes none =
     let (session, read) = session_read bytes in
     (record { session = session; form = Refused code.Syntax }, refuses none read refl refl)
 
-pub reply_without_memory : (rules : Rules) (old : State) (bytes : List ℕ) → (reply : Reply) × Serves rules (ByEquations rules) true old bytes old reply
+pub reply_without_memory : (rules : Rules) (old : State) (bytes : List ℕ) → (reply : Reply) × Serves rules true old bytes old reply
 reply_without_memory rules old bytes =
     let (session, read) = session_read bytes in
     (record { session = session; form = Memory }, (read, refl, refl))

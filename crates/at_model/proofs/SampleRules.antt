@@ -373,8 +373,11 @@ one_part zero b e = absurd cc
 one_part (suc p) b e = absurd cc
 
 nothing_passes : (bytes : List ℕ) → IsSome (inherited_equation calc 0 0 bytes) → (d : ℕ) → PassesDown calc bytes 0 d → ⊥
-nothing_passes bytes some d (zero, b, is, fit, none) = let none_some : is_some (inherited_equation calc 0 0 bytes) ≡ false = ap is_some none in let f : false ≡ true = sym none_some ∙ some in absurd cc
-nothing_passes bytes some d (suc p, b, is, fit, none) = one_part p b is
+nothing_passes bytes some d passes = by passes.part passes.trees passes.without
+  where
+    by : (part : ℕ) → option_and_then (λ p. class_in p.shape) (slice_get (parts calc_classes 0) part) ≡ Some passes.class → inherited_equation calc 0 part bytes ≡ None → ⊥
+    by zero is none = let none_some : is_some (inherited_equation calc 0 0 bytes) ≡ false = ap is_some none in let f : false ≡ true = sym none_some ∙ some in absurd cc
+    by (suc p) is none = one_part p passes.class is
 
 only_root : (bytes : List ℕ) → IsSome (inherited_equation calc 0 0 bytes) → (c : ℕ) → Exposed calc bytes c → c ≡ 0
 only_root bytes some _ (as_root c e) = root_alone c e

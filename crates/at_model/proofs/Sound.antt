@@ -11,7 +11,7 @@ use Rattle.at_model.specs.Edits.{Edit, carried, edited}
 use Rattle.at_model.specs.Lines.{Line, Place, From_root, From_mark, Command, Ask, Set, Put, Drop, Insert, Token, Show, Mark, Unmark, Where, Version}
 use Rattle.at_model.specs.Replies.{Reply, Code, Shown}
 use Rattle.at_model.specs.Replies as code
-use Rattle.at_model.specs.Machine.{State, Marked, Verdict, Refuses, Tells, Leaves, Edits, Asks, Answering, Handles, obeys, refuses, Serves, after, verdict, obeyed, carried_marks, is_mark, is_marked, marked, max_marks, node_named, node_below, each, value_named, questioned, fit_parameters, parameters_of, with_mark, IsSound}
+use Rattle.at_model.specs.Machine.{State, Marked, Verdict, Refuses, Tells, Leaves, Edits, Asks, Handles, obeys, refuses, Serves, after, verdict, obeyed, carried_marks, is_mark, is_marked, marked, max_marks, node_named, node_below, each, value_named, questioned, fit_parameters, parameters_of, with_mark, IsSound}
 use Rattle.at_model.proofs.Options.{led, mapped}
 use Rattle.at_model.proofs.Conforming.{accepted_conforms}
 use Rattle.at_model.proofs.Carried.{carried_there}
@@ -142,10 +142,10 @@ module _ (rules : Rules) (s : State) (sound : IsSound rules.classes s) where
   pub sound_line : (l : Line) → IsSound rules.classes (after s (verdict rules s l))
   sound_line l = sound_after (verdict rules s l) (whole (Safe rules.classes s) refused rules s l (safe l.session l.command))
 
-sound_handled : (rules : Rules) (Answered : Answering) (old : State) (bytes : List ℕ) (new : State) (reply : Reply) → IsSound rules.classes old → Handles rules Answered old bytes new reply → IsSound rules.classes new
-sound_handled rules Answered old bytes new reply sound (obeys l spells step) = let P : State → Type 0 = λ x. IsSound rules.classes x in subst P (sym step.state) (sound_line rules old sound l)
-sound_handled rules Answered old bytes new reply sound (refuses none session same form) = let P : State → Type 0 = λ x. IsSound rules.classes x in subst P (sym same) sound
+sound_handled : (rules : Rules) (old : State) (bytes : List ℕ) (new : State) (reply : Reply) → IsSound rules.classes old → Handles rules old bytes new reply → IsSound rules.classes new
+sound_handled rules old bytes new reply sound (obeys l spells step) = let P : State → Type 0 = λ x. IsSound rules.classes x in subst P (sym step.state) (sound_line rules old sound l)
+sound_handled rules old bytes new reply sound (refuses none session same form) = let P : State → Type 0 = λ x. IsSound rules.classes x in subst P (sym same) sound
 
-pub sound_served : (rules : Rules) (Answered : Answering) (b : Bool) (old : State) (bytes : List ℕ) (new : State) (reply : Reply) → IsSound rules.classes old → Serves rules Answered b old bytes new reply → IsSound rules.classes new
-sound_served rules Answered false old bytes new reply sound h = sound_handled rules Answered old bytes new reply sound h
-sound_served rules Answered true old bytes new reply sound h = let P : State → Type 0 = λ x. IsSound rules.classes x in subst P (sym h.1) sound
+pub sound_served : (rules : Rules) (b : Bool) (old : State) (bytes : List ℕ) (new : State) (reply : Reply) → IsSound rules.classes old → Serves rules b old bytes new reply → IsSound rules.classes new
+sound_served rules false old bytes new reply sound h = sound_handled rules old bytes new reply sound h
+sound_served rules true old bytes new reply sound h = let P : State → Type 0 = λ x. IsSound rules.classes x in subst P (sym h.1) sound

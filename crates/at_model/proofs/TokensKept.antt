@@ -11,7 +11,7 @@ use Rattle.at_model.specs.Edits.{Edit, Set, Put, Drop, Insert, Token, changed_at
 use Rattle.at_model.specs.Edits as edit
 use Rattle.at_model.specs.Lines.{Line, Command, IsCommand}
 use Rattle.at_model.specs.Replies.{Reply}
-use Rattle.at_model.specs.Machine.{State, Verdict, Answering, Step, Handles, obeys, refuses, Serves, after, verdict, is_edit}
+use Rattle.at_model.specs.Machine.{State, Verdict, Step, Handles, obeys, refuses, Serves, after, verdict, is_edit}
 use Rattle.at_model.specs.Effects.{IsEditOf, set, put, drop, insert as inserted, token}
 use Rattle.at_model.specs.Enduring.{AreTokens, CellsAreTokens, CellIsTokens, TreesAreTokens}
 use Rattle.at_model.proofs.Conforming.{passed}
@@ -113,7 +113,7 @@ is_left classes t u e is =
 
 mutual
   of_term : (classes : Classes) (d : ℕ) (t : Tree) → IsTermWithin d (term_of classes t) → AreTokens t
-  of_term classes d (trees.Node c cells) h = of_cells classes (d - 1) cells h.3
+  of_term classes d (trees.Node c cells) h = of_cells classes (d - 1) cells h.2
 
   of_cells : (classes : Classes) (d : ℕ) (cs : Cells) → AreCellsWithin d (cells_of classes cs) → CellsAreTokens cs
   of_cells classes d no_cells h = tt
@@ -141,16 +141,16 @@ tokens_after : (rules : Rules) (s : State) (l : Line) (v : Verdict) → IsComman
 tokens_after rules s l v h (refused c) k = k
 tokens_after rules s l v h (accepted e t asked is) k = subst AreTokens (is_left rules.classes s.tree t e is) (left s.tree e (brings rules.classes s l.session l.command e asked h) k)
 
-tokens_step : (rules : Rules) (Answered : Answering) (old : State) (l : Line) (new : State) (reply : Reply) (b : Bool) → is_edit l.command ≡ b → IsCommand l.command → Step rules Answered old l new reply → AreTokens old.tree → AreTokens new.tree
-tokens_step rules Answered old l new reply true is h step k =
+tokens_step : (rules : Rules) (old : State) (l : Line) (new : State) (reply : Reply) (b : Bool) → is_edit l.command ≡ b → IsCommand l.command → Step rules old l new reply → AreTokens old.tree → AreTokens new.tree
+tokens_step rules old l new reply true is h step k =
     let P : State → Type 0 = λ x. AreTokens x.tree in
     subst P (sym step.state) (tokens_after rules old l (verdict rules old l) h (whole (IsChangeOf rules.classes old l.session l.command) refused rules old l (edit_of rules old l.session l.command is)) k)
-tokens_step rules Answered old l new reply false is h step k = let same = other_step rules Answered old l new reply is step in subst AreTokens (sym same.0) k
+tokens_step rules old l new reply false is h step k = let same = other_step rules old l new reply is step in subst AreTokens (sym same.0) k
 
-tokens_handled : (rules : Rules) (Answered : Answering) (old : State) (bytes : List ℕ) (new : State) (reply : Reply) → AreTokens old.tree → Handles rules Answered old bytes new reply → AreTokens new.tree
-tokens_handled rules Answered old bytes new reply k (obeys l spells step) = tokens_step rules Answered old l new reply (is_edit l.command) refl spells.is_line.command step k
-tokens_handled rules Answered old bytes new reply k (refuses none session same form) = let P : State → Type 0 = λ x. AreTokens x.tree in subst P (sym same) k
+tokens_handled : (rules : Rules) (old : State) (bytes : List ℕ) (new : State) (reply : Reply) → AreTokens old.tree → Handles rules old bytes new reply → AreTokens new.tree
+tokens_handled rules old bytes new reply k (obeys l spells step) = tokens_step rules old l new reply (is_edit l.command) refl spells.is_line.command step k
+tokens_handled rules old bytes new reply k (refuses none session same form) = let P : State → Type 0 = λ x. AreTokens x.tree in subst P (sym same) k
 
-pub tokens_served : (rules : Rules) (Answered : Answering) (b : Bool) (old : State) (bytes : List ℕ) (new : State) (reply : Reply) → AreTokens old.tree → Serves rules Answered b old bytes new reply → AreTokens new.tree
-tokens_served rules Answered false old bytes new reply k h = tokens_handled rules Answered old bytes new reply k h
-tokens_served rules Answered true old bytes new reply k h = let P : State → Type 0 = λ x. AreTokens x.tree in subst P (sym h.1) k
+pub tokens_served : (rules : Rules) (b : Bool) (old : State) (bytes : List ℕ) (new : State) (reply : Reply) → AreTokens old.tree → Serves rules b old bytes new reply → AreTokens new.tree
+tokens_served rules false old bytes new reply k h = tokens_handled rules old bytes new reply k h
+tokens_served rules true old bytes new reply k h = let P : State → Type 0 = λ x. AreTokens x.tree in subst P (sym h.1) k

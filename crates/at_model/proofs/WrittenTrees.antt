@@ -1,10 +1,9 @@
 -- A tree that conforms, is not too deep and has tokens that can be written is written as a term.
 use Rattle.std.proofs.Common.{◌≡◌, ℕ, zero, suc, ◌-◌, ◌≤◌, Bool, true, false, not, ◌&&◌, nat_le, List, [], ◌∷◌, length, Option, Some, None, refl, subst, arith}
 use Rattle.std.specs.List.{AllByRecursion, slice_get}
-use Rattle.std.specs.Str.{IsUtf8}
 use Rattle.std.proofs.lemmas.Bool.{leb-true}
 use Rattle.std.proofs.lemmas.List.Elements.{recursion_from_All}
-use Rattle.at_model.specs.Names.{is_name}
+use Rattle.at_model.specs.Names.{IsName}
 use Rattle.at_model.specs.Classes.{Classes, Class, Component, Shape, AreSound, IsClassSound, fits, is_concrete, is_sub, parts, name_of}
 use Rattle.at_model.specs.Classes as class
 use Rattle.at_model.specs.Trees.{Tree, Cells, Cell, Trees, One, Many, Empty, Filled, Holds, no_cells, cell, no_trees, tree, conforms, cells_conform, cell_conforms, trees_conform, nodes, depth, cells_depth, cell_depth, trees_depth}
@@ -14,29 +13,24 @@ use Rattle.at_model.specs.Edits.{is_within_limits, max_nodes, tokens_short}
 use Rattle.at_model.specs.Enduring.{AreTokens, CellsAreTokens, CellIsTokens, TreesAreTokens}
 use Rattle.at_model.proofs.Options.{both}
 
--- the class has a name
-abbrev IsNamedSo : List ℕ → Type 0
-IsNamedSo name = (is_name name ≡ true) × IsUtf8 name
-
 element : {A : Type 0} (P : A → Type 0) (xs : List A) (i : ℕ) (a : A) → AllByRecursion P xs → slice_get xs i ≡ Some a → P a
 element P [] i a h e = absurd cc
 element P (x ∷ xs) zero a h e = let same : x ≡ a = cc in subst P same h.0
 element P (x ∷ xs) (suc i) a h e = element P xs i a h.1 e
 
 module _ (classes : Classes) (sound : AreSound classes) where
-  class_named : (c : ℕ) (o : Option Class) → slice_get classes c ≡ o → elim o as (λ _. Bool) [ None ↦ false | Some k ↦ not k.is_abstract ] ≡ true → IsNamedSo (elim o as (λ _. List ℕ) [ None ↦ [] | Some k ↦ k.name ])
+  class_named : (c : ℕ) (o : Option Class) → slice_get classes c ≡ o → elim o as (λ _. Bool) [ None ↦ false | Some k ↦ not k.is_abstract ] ≡ true → IsName (elim o as (λ _. List ℕ) [ None ↦ [] | Some k ↦ k.name ])
   class_named c None is e = absurd cc
-  class_named c (Some k) is e = let s = element (IsClassSound (length classes)) classes c k (recursion_from_All (IsClassSound (length classes)) classes sound.each) is in (s.name.name, s.name.utf8)
+  class_named c (Some k) is e = let s = element (IsClassSound (length classes)) classes c k (recursion_from_All (IsClassSound (length classes)) classes sound.each) is in s.name
 
-  named : (c b : ℕ) → fits classes c b ≡ true → IsNamedSo (name_of classes c)
+  named : (c b : ℕ) → fits classes c b ≡ true → IsName (name_of classes c)
   named c b e = class_named c (slice_get classes c) refl (both (is_concrete classes c) (is_sub classes c b) e).0
 
   mutual
     tree_term : (d : ℕ) (t : Tree) (b : ℕ) → conforms classes t b ≡ true → depth t ≤ d → AreTokens t → IsTermWithin d (term_of classes t)
     tree_term d (trees.Node c cells) b e deep k =
         let (fit, below) = both (fits classes c b) (cells_conform classes cells (parts classes c)) e in
-        let (name, utf8) = named c b fit in
-        (omega (arith, deep), name, utf8, cells_term (d - 1) cells (parts classes c) below (omega (arith, deep)) k)
+        (omega (arith, deep), named c b fit, cells_term (d - 1) cells (parts classes c) below (omega (arith, deep)) k)
 
     cells_term : (d : ℕ) (cs : Cells) (ps : List Component) → cells_conform classes cs ps ≡ true → cells_depth cs ≤ d → CellsAreTokens cs → AreCellsWithin d (cells_of classes cs)
     cells_term d no_cells ps e deep k = tt

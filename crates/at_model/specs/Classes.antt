@@ -2,7 +2,7 @@
 use Rattle.std.specs.Prelude.{◌≡◌, ℕ, ◌<◌, zero, suc, ⊤, Bool, true, false, ◌&&◌, not, nat_eq, List, [], ◌∷◌, length, reverse, Option, Some, None, option_and_then, position, IfSome, All}
 use Rattle.std.specs.List.{slice_get, flat_map, list_any}
 use Rattle.std.specs.Str.{IsUtf8, bytes_eq}
-use Rattle.at_model.specs.Names.{is_name}
+use Rattle.at_model.specs.Names.{IsName}
 
 -- the kinds of tokens: String, int and boolean
 pub data TokenKind : Type 0 where
@@ -73,11 +73,6 @@ fits classes c b = is_concrete classes c && is_sub classes c b
 abbrev pub name_of : Classes → ℕ → List ℕ
 name_of classes c = elim (slice_get classes c) [ None ↦ [] | Some k ↦ k.name ]
 
--- the text is a name
-pub record IsNamed (text : List ℕ) : Type 0 where
-  pub name : is_name text ≡ true
-  pub utf8 : IsUtf8 text
-
 -- the class of that name
 abbrev pub class_of_name : Classes → List ℕ → Option ℕ
 class_of_name classes name = position (λ k. bytes_eq name k.name) classes
@@ -91,11 +86,11 @@ IsShapeWithin n (Token kind) = ⊤
 
 -- it is named by a name, and names classes that are among so many
 pub record IsComponentSound (n : ℕ) (p : Component) : Type 0 where
-  pub name : IsNamed p.name
+  pub name : IsName p.name
   pub within : IsShapeWithin n p.shape
 
 pub record IsClassSound (n : ℕ) (k : Class) : Type 0 where
-  pub name : IsNamed k.name
+  pub name : IsName k.name
   pub parent : IfSome k.parent (λ b. b < n)
   pub own : All (IsComponentSound n) k.own
 

@@ -2,7 +2,7 @@
 -- they have. Of several faults the first code counts, and of it the earliest place.
 use Rattle.std.specs.Prelude.{◌≡◌, ℕ, ◌+◌, Bool, true, false, ◌&&◌, ◌||◌, not, nat_le, nat_lt, nat_eq, List, [], ◌∷◌, ◌++◌, length, map, reverse, take, position, Option, Some, None, is_none, is_some, unwrap_or, option_and_then, option_map, if◌then◌else◌, All}
 use Rattle.std.specs.List.{slice_get, flat_map, list_any, list_all}
-use Rattle.std.specs.Option.{option_or, IfSome}
+use Rattle.std.specs.Option.{option_or}
 use Rattle.std.specs.Str.{bytes_eq}
 use lib.Chars.{codes}
 use Rattle.at_model.specs.Names.{is_name}
@@ -207,10 +207,9 @@ first_fault ds = first_of
 
 -- the names -----------------------------------------------------------------------------------------------------------
 
--- the class, its superclass and its components are named by names
+-- the class and its components are named by names
 pub record IsDeclarationNamed (d : Declaration) : Type 0 where
   pub name : is_name d.name ≡ true
-  pub parent : IfSome d.parent (λ b. is_name b ≡ true)
   pub parts : All (λ p. is_name p.name ≡ true) d.parts
 
 abbrev pub AreNamed : Declarations → Type 0

@@ -3,7 +3,7 @@ use Rattle.std.specs.Prelude.{◌≡◌, ℕ, ◌<◌, ◌≤◌, Bool, true, fa
 use Rattle.std.specs.List.{flat_map, join_with_byte, AllByRecursion}
 use Rattle.std.specs.Str.{IsUtf8}
 use lib.Chars.{codes}
-use Rattle.at_model.specs.Names.{is_name}
+use Rattle.at_model.specs.Names.{IsName}
 use Rattle.at_model.specs.Texts.{quoted}
 use Rattle.at_model.specs.Trees as tree
 use Rattle.at_model.specs.Terms.{Term, term_text, token_text, with_commas, IsTerm, IsToken}
@@ -89,10 +89,6 @@ max_sessions = 1000
 -- the most bytes of a line, its newline not counted
 abbrev pub max_line : ℕ
 max_line = 65535
-
--- the text is a name
-abbrev pub IsName : List ℕ → Type 0
-IsName text = (is_name text ≡ true) × IsUtf8 text
 
 -- the names in a place are names, and its indexes have at most nine digits
 abbrev pub IsPlace : Place → Type 0

@@ -238,50 +238,46 @@ answer_form rules t (Outcomes (Finds v)) = Shows (shown_value rules.classes t v)
 answer_form rules t (Outcomes (Faults kind i)) = Fails kind (path_to rules.classes t i.node) (attribute_name rules i.attribute)
 answer_form rules t (Circle i) = Circular (path_to rules.classes t i.node) (attribute_name rules i.attribute)
 
--- how questions are answered: which answers the instance has in the tree
-abbrev pub Answering : Type 1
-Answering = Tree → Instance Node → Answer Node → Type 0
-
--- by the equations of the rules
-abbrev pub ByEquations : Rules → Answering
-ByEquations rules t q a = Answers (content t) (equations rules) q a
+-- the answer that the equations give the instance in the tree
+abbrev pub AnswersIn : Rules → Tree → Instance Node → Answer Node → Type 0
+AnswersIn rules t q a = Answers (content t) (equations rules) q a
 
 -- what the session is told by the verdict
-abbrev pub Says : Rules → Answering → State → Verdict → Form → Type 0
-Says rules Answered s (Refuses refusal) form = form ≡ Refused refusal
-Says rules Answered s (Tells shown) form = form ≡ Shows shown
-Says rules Answered s (Leaves marks) form = form ≡ Done s.version
-Says rules Answered s (Edits e t) form = form ≡ Done (s.version + 1)
-Says rules Answered s (Asks q) form = (a : Answer Node) × Answered s.tree q a × (form ≡ answer_form rules s.tree a)
+abbrev pub Says : Rules → State → Verdict → Form → Type 0
+Says rules s (Refuses refusal) form = form ≡ Refused refusal
+Says rules s (Tells shown) form = form ≡ Shows shown
+Says rules s (Leaves marks) form = form ≡ Done s.version
+Says rules s (Edits e t) form = form ≡ Done (s.version + 1)
+Says rules s (Asks q) form = (a : Answer Node) × AnswersIn rules s.tree q a × (form ≡ answer_form rules s.tree a)
 
 -- one step: the line takes the old state to the new one, and gets the reply
-pub record Step (rules : Rules) (Answered : Answering) (old : State) (l : Line) (new : State) (reply : Reply) : Type 0 where
+pub record Step (rules : Rules) (old : State) (l : Line) (new : State) (reply : Reply) : Type 0 where
   pub session : reply.session ≡ Some l.session
   pub state : new ≡ after old (verdict rules old l)
-  pub says : Says rules Answered old (verdict rules old l) reply.form
+  pub says : Says rules old (verdict rules old l) reply.form
 
 -- The step of the bytes of a line. What is no line is refused, and the state stays.
-pub data Handles (rules : Rules) (Answered : Answering) (old : State) (bytes : List ℕ) (new : State) (reply : Reply) : Type 0 where
-  obeys : (l : Line) → Spells bytes l → Step rules Answered old l new reply → Handles rules Answered old bytes new reply
-  refuses : ((l : Line) → Spells bytes l → ⊥) → IsSessionOf bytes reply.session → new ≡ old → reply.form ≡ Refused code.Syntax → Handles rules Answered old bytes new reply
+pub data Handles (rules : Rules) (old : State) (bytes : List ℕ) (new : State) (reply : Reply) : Type 0 where
+  obeys : (l : Line) → Spells bytes l → Step rules old l new reply → Handles rules old bytes new reply
+  refuses : ((l : Line) → Spells bytes l → ⊥) → IsSessionOf bytes reply.session → new ≡ old → reply.form ≡ Refused code.Syntax → Handles rules old bytes new reply
 
 -- The same, where the line may be named as one for which memory ran out: then the state stays.
-abbrev pub Serves : Rules → Answering → (out_of_memory : Bool) → State → List ℕ → State → Reply → Type 0
-Serves rules Answered false old bytes new reply = Handles rules Answered old bytes new reply
-Serves rules Answered true old bytes new reply = IsSessionOf bytes reply.session × (new ≡ old) × (reply.form ≡ Memory)
+abbrev pub Serves : Rules → (out_of_memory : Bool) → State → List ℕ → State → Reply → Type 0
+Serves rules false old bytes new reply = Handles rules old bytes new reply
+Serves rules true old bytes new reply = IsSessionOf bytes reply.session × (new ≡ old) × (reply.form ≡ Memory)
 
 -- the lines take the old state to the new one, one after the other, and their replies are this text; each is named or not
-abbrev pub Runs : Rules → Answering → State → List (List ℕ) → (out_of_memory : List Bool) → List ℕ → State → Type 0
-Runs rules Answered old [] [] text new = (text ≡ []) × (new ≡ old)
-Runs rules Answered old [] (b ∷ bs) text new = ⊥
-Runs rules Answered old (line ∷ rest) [] text new = ⊥
-Runs rules Answered old (line ∷ rest) (b ∷ bs) text new =
+abbrev pub Runs : Rules → State → List (List ℕ) → (out_of_memory : List Bool) → List ℕ → State → Type 0
+Runs rules old [] [] text new = (text ≡ []) × (new ≡ old)
+Runs rules old [] (b ∷ bs) text new = ⊥
+Runs rules old (line ∷ rest) [] text new = ⊥
+Runs rules old (line ∷ rest) (b ∷ bs) text new =
     (mid : State) × (reply : Reply) × (more : List ℕ)
-    × Serves rules Answered b old line mid reply × (text ≡ reply_text reply ++ more) × Runs rules Answered mid rest bs more new
+    × Serves rules b old line mid reply × (text ≡ reply_text reply ++ more) × Runs rules mid rest bs more new
 
 -- what the machine writes for these bytes, and the state in which they leave it
-abbrev pub Outputs : Rules → Answering → State → List ℕ → (out_of_memory : List Bool) → List ℕ → State → Type 0
-Outputs rules Answered old bytes named text new = Runs rules Answered old (lines bytes) named text new
+abbrev pub Outputs : Rules → State → List ℕ → (out_of_memory : List Bool) → List ℕ → State → Type 0
+Outputs rules old bytes named text new = Runs rules old (lines bytes) named text new
 
 -- the command is an edit of the tree
 abbrev pub is_edit : Command → Bool

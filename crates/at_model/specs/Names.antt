@@ -1,7 +1,7 @@
 -- Names: what may name a class, a component, an attribute or a mark. A text is its UTF-8 bytes.
-use Rattle.std.specs.Prelude.{ℕ, Bool, false, ◌&&◌, ◌||◌, ◌==◌, not, List, [], ◌∷◌, chars, codes}
+use Rattle.std.specs.Prelude.{ℕ, Bool, true, false, ◌&&◌, ◌||◌, ◌==◌, not, List, [], ◌∷◌, chars, codes, ◌≡◌}
 use Rattle.std.specs.List.{list_all, list_any}
-use Rattle.std.specs.Str.{bytes_eq}
+use Rattle.std.specs.Str.{IsUtf8, bytes_eq}
 use Rattle.unicode_ident.specs.Ident.{is_xid_start, is_xid_continue}
 
 -- a name begins with such a character (Unicode Standard Annex 31, and the underscore)
@@ -30,3 +30,7 @@ is_reserved text = list_any (λ word. bytes_eq word text) reserved_words
 -- the text is a name: its characters have the form of one, and it is not reserved
 abbrev pub is_name : List ℕ → Bool
 is_name text = is_word (chars text) && not (is_reserved text)
+
+-- it is, and it is well-formed UTF-8
+abbrev pub IsName : List ℕ → Type 0
+IsName text = (is_name text ≡ true) × IsUtf8 text

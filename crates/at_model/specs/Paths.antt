@@ -3,7 +3,7 @@ use Rattle.std.specs.Prelude.{◌≡◌, ℕ, ◌<◌, Bool, true, false, ◌&&�
 use Rattle.std.specs.Fmt.{decimal}
 use Rattle.std.specs.Str.{IsUtf8, bytes_eq}
 use Rattle.std.specs.List.{slice_get, flat_map, AllByRecursion}
-use Rattle.at_model.specs.Names.{is_name}
+use Rattle.at_model.specs.Names.{IsName}
 use Rattle.at_model.specs.Classes.{Classes, Component, Shape, One, Many, Maybe, parts}
 use Rattle.at_model.specs.Trees.{Tree, Cell, children, class_of, cells_of, from_cells}
 
@@ -33,7 +33,7 @@ IsIndex (Some i) = i < 1000000000
 
 -- its name is a name, and its index has at most nine digits
 abbrev pub IsStep : Step → Type 0
-IsStep s = (is_name s.part ≡ true) × IsUtf8 s.part × IsIndex s.index
+IsStep s = IsName s.part × IsIndex s.index
 
 abbrev pub IsPath : Path → Type 0
 IsPath = AllByRecursion IsStep

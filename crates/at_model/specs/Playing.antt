@@ -4,7 +4,7 @@ use Rattle.std.specs.List.{flat_map}
 use lib.Chars.{codes}
 use Prim.Native.String.{String}
 use Rattle.at_model.specs.Rules.{Rules}
-use Rattle.at_model.specs.Machine.{State, ByEquations, Runs}
+use Rattle.at_model.specs.Machine.{State, Runs}
 
 -- the bytes of a line, and those of its reply without the newline
 pub record Exchange : Type 0 where
@@ -19,4 +19,4 @@ line ⟼ reply = record { line = codes line; reply = codes reply }
 -- from the state on each of the lines gets its reply, where memory never runs out
 pub record Plays (rules : Rules) (s : State) (played : List Exchange) : Type 0 where
   pub left : State
-  pub runs : Runs rules (ByEquations rules) s (map (λ e. e.line) played) (map (λ e. false) played) (flat_map (λ e. e.reply ++ 10 ∷ []) played) left
+  pub runs : Runs rules s (map (λ e. e.line) played) (map (λ e. false) played) (flat_map (λ e. e.reply ++ 10 ∷ []) played) left

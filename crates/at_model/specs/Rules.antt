@@ -149,12 +149,12 @@ abbrev pub attribute_named : Rules → ℕ → List ℕ → Option ℕ
 attribute_named rules c name = position (λ a. bytes_eq a.name name && is_sub rules.classes c a.class) rules.attributes
 
 -- trees of class d may stand in a component of c for which c has no equation for the attribute
-abbrev pub PassesDown : Rules → List ℕ → (c d : ℕ) → Type 0
-PassesDown rules name c d =
-    (part : ℕ) × (b : ℕ)
-    × (option_and_then (λ p. class_in p.shape) (slice_get (parts rules.classes c) part) ≡ Some b)
-    × (fits rules.classes d b ≡ true)
-    × (inherited_equation rules c part name ≡ None)
+pub record PassesDown (rules : Rules) (name : List ℕ) (c d : ℕ) : Type 0 where
+  pub part : ℕ
+  pub class : ℕ
+  pub trees : option_and_then (λ p. class_in p.shape) (slice_get (parts rules.classes c) part) ≡ Some class
+  pub fit : fits rules.classes d class ≡ true
+  pub without : inherited_equation rules c part name ≡ None
 
 -- A class is exposed for an inherited attribute where a tree of it may stand with no equation above: it may be the root,
 -- or it may stand in a component without equation of a class that is exposed. Class 0 is the start class.

@@ -3,7 +3,7 @@ use Rattle.std.specs.Prelude.{◌≡◌, ℕ, ◌-◌, ◌<◌, ℤ, pos, negsuc
 use Rattle.std.specs.Fmt.{signed_decimal}
 use Rattle.std.specs.Str.{IsUtf8}
 use lib.Chars.{codes}
-use Rattle.at_model.specs.Names.{is_name}
+use Rattle.at_model.specs.Names.{IsName}
 use Rattle.at_model.specs.Texts.{quoted}
 use Rattle.at_model.specs.Classes.{Classes, name_of}
 use Rattle.at_model.specs.Trees.{Tree, Cells as TreeCells, Cell as TreeCell, Trees, Token, Text, Int, Truth}
@@ -74,7 +74,7 @@ IsToken (Truth b) = ⊤
 -- its names are names, its tokens are tokens, and at most this many terms stand in one another
 abbrev mutual
   pub IsTermWithin : ℕ → Term → Type 0
-  IsTermWithin d (Node name cells) = (0 < d) × (is_name name ≡ true) × IsUtf8 name × AreCellsWithin (d - 1) cells
+  IsTermWithin d (Node name cells) = (0 < d) × IsName name × AreCellsWithin (d - 1) cells
 
   pub AreCellsWithin : ℕ → Cells → Type 0
   AreCellsWithin d no_cells = ⊤

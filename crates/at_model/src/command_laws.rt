@@ -12,7 +12,7 @@ ghost use Rattle.at_model.specs.Paths.{Node};
 ghost use Rattle.at_model.specs.Run.{Instance};
 ghost use Rattle.at_model.specs.Meaning.{Answer};
 ghost use Rattle.at_model.specs.Support.{IsInstanceThere};
-ghost use Rattle.at_model.specs.Machine.{Asks, ByEquations, Handles, Serves, State, Step, after, carried_marks, is_edit, marked, node_named, verdict};
+ghost use Rattle.at_model.specs.Machine.{Asks, AnswersIn, Handles, Serves, State, Step, after, carried_marks, is_edit, marked, node_named, verdict};
 ghost use Rattle.at_model.specs.Enduring.{AreTokens, IsOrderly};
 ghost use Rattle.at_model.specs.Asking.{IsWellFormed};
 ghost use Rattle.at_model.specs.Effects.{IsEditOf, is_about_mark, is_marking, is_question};
@@ -20,7 +20,7 @@ ghost use Rattle.at_model.specs.Effects.{IsEditOf, is_about_mark, is_marking, is
 /// An edit that is accepted is that of its command, and leaves the marks where their nodes are.
 pub fn an_accepted_edit_is_that_of_its_command()
     ensures { (rules : Rules) (old : State) (l : Line) (new : State) (reply : Reply) (version : ℕ) → is_edit l.command ≡ true
-        → Step rules (ByEquations rules) old l new reply → reply.form ≡ Done version
+        → Step rules old l new reply → reply.form ≡ Done version
         → (e : Edit) × IsEditOf rules.classes old l.session l.command e × (edited rules.classes old.tree e ≡ Ok new.tree) × (new.marks ≡ carried_marks e old.marks) }
 {}
 
@@ -28,30 +28,30 @@ pub fn an_accepted_edit_is_that_of_its_command()
 /// and `version` change nothing.
 pub fn other_commands_change_their_mark_alone()
     ensures marks { (rules : Rules) (old : State) (l : Line) (new : State) (reply : Reply) → is_edit l.command ≡ false
-        → Step rules (ByEquations rules) old l new reply
+        → Step rules old l new reply
         → (session : ℕ) (name : List ℕ) → is_about_mark l session name ≡ false → marked new.marks session name ≡ marked old.marks session name }
     ensures nothing { (rules : Rules) (old : State) (l : Line) (new : State) (reply : Reply) → is_edit l.command ≡ false → is_marking l.command ≡ false
-        → Step rules (ByEquations rules) old l new reply → new ≡ old }
+        → Step rules old l new reply → new ≡ old }
 {}
 
 /// A mark that is made leads to the node that its place names, and one that is forgotten is gone.
 pub fn marks_are_made_and_forgotten()
     ensures made { (rules : Rules) (old : State) (l : Line) (new : State) (reply : Reply) (version : ℕ) (name : List ℕ) (place : Place) → l.command ≡ Mark name place
-        → Step rules (ByEquations rules) old l new reply → reply.form ≡ Done version → marked new.marks l.session name ≡ node_named rules.classes old l.session place }
+        → Step rules old l new reply → reply.form ≡ Done version → marked new.marks l.session name ≡ node_named rules.classes old l.session place }
     ensures forgotten { (rules : Rules) (old : State) (l : Line) (new : State) (reply : Reply) (version : ℕ) (name : List ℕ) → l.command ≡ Unmark name
-        → Step rules (ByEquations rules) old l new reply → reply.form ≡ Done version → marked new.marks l.session name ≡ None }
+        → Step rules old l new reply → reply.form ≡ Done version → marked new.marks l.session name ≡ None }
 {}
 
 /// Every line has a reply, but a question that has no answer; what is no line has one, and so has each line
 /// for which memory ran out.
 pub fn every_line_has_a_reply()
     ensures line { (rules : Rules) (old : State) (bytes : List ℕ) (l : Line) → Spells bytes l
-        → ((q : Instance Node) → verdict rules old l ≡ Asks q → (a : Answer Node) × ByEquations rules old.tree q a)
-        → (reply : Reply) × Handles rules (ByEquations rules) old bytes (after old (verdict rules old l)) reply }
+        → ((q : Instance Node) → verdict rules old l ≡ Asks q → (a : Answer Node) × AnswersIn rules old.tree q a)
+        → (reply : Reply) × Handles rules old bytes (after old (verdict rules old l)) reply }
     ensures asked { (rules : Rules) (old : State) (l : Line) (q : Instance Node) → verdict rules old l ≡ Asks q → is_question l.command ≡ true }
     ensures no_line { (rules : Rules) (old : State) (bytes : List ℕ) → ((l : Line) → Spells bytes l → ⊥)
-        → (reply : Reply) × Handles rules (ByEquations rules) old bytes old reply }
-    ensures memory { (rules : Rules) (old : State) (bytes : List ℕ) → (reply : Reply) × Serves rules (ByEquations rules) true old bytes old reply }
+        → (reply : Reply) × Handles rules old bytes old reply }
+    ensures memory { (rules : Rules) (old : State) (bytes : List ℕ) → (reply : Reply) × Serves rules true old bytes old reply }
 {}
 
 /// What a line asks is well formed: a node of the tree, an attribute that its class has, and arguments that fit
@@ -65,13 +65,13 @@ pub fn what_is_asked_is_well_formed()
 /// line.
 pub fn an_orderly_state_stays_orderly()
     ensures { (rules : Rules) (b : Bool) (old : State) (bytes : List ℕ) (new : State) (reply : Reply)
-        → IsOrderly old → Serves rules (ByEquations rules) b old bytes new reply → IsOrderly new }
+        → IsOrderly old → Serves rules b old bytes new reply → IsOrderly new }
 {}
 
 /// Where all tokens of the tree are ones that can be written, they are so after each line.
 pub fn tokens_stay_tokens()
     ensures { (rules : Rules) (b : Bool) (old : State) (bytes : List ℕ) (new : State) (reply : Reply)
-        → AreTokens old.tree → Serves rules (ByEquations rules) b old bytes new reply → AreTokens new.tree }
+        → AreTokens old.tree → Serves rules b old bytes new reply → AreTokens new.tree }
 {}
 
 /// A tree that conforms to a class of sound classes, is within the limits and has tokens that can be written

@@ -46,7 +46,7 @@ ghost use Rattle.at_model.specs.Replies.{
   reply_text,
 };
 ghost use Rattle.at_model.specs.Replies as code;
-ghost use Rattle.at_model.specs.Machine.{State, Verdict, Refuses, Leaves, Tells, Edits, Asks, ByEquations, Outputs, after, verdict};
+ghost use Rattle.at_model.specs.Machine.{State, Verdict, Refuses, Leaves, Tells, Edits, Asks, Outputs, after, verdict};
 ghost use Rattle.at_model.specs.Samples.{
   calc,
   calc_classes,
@@ -192,9 +192,9 @@ pub fn replies_as_text()
 
 /// The bytes of lines, what is written for them, and the state that they leave.
 pub fn outputs_of_bytes()
-    ensures version { Outputs calc (ByEquations calc) opened (codes "\n0 version") (false ∷ []) (codes "0 ok 0\n") opened }
-    ensures refused { Outputs calc (ByEquations calc) opened (codes "x version") (false ∷ []) (codes "? refused 1 syntax\n") opened }
-    ensures memory { Outputs calc (ByEquations calc) opened (codes "7 version") (true ∷ []) (codes "7 memory\n") opened }
+    ensures version { Outputs calc opened (codes "\n0 version") (false ∷ []) (codes "0 ok 0\n") opened }
+    ensures refused { Outputs calc opened (codes "x version") (false ∷ []) (codes "? refused 1 syntax\n") opened }
+    ensures memory { Outputs calc opened (codes "7 version") (true ∷ []) (codes "7 memory\n") opened }
 {}
 
 /// Empty lines are none, and a last line needs no newline.

@@ -16,20 +16,7 @@ ghost use Rattle.at_model.specs.Terms.{Term, IsTerm, term_of, term_text};
 ghost use Rattle.at_model.specs.Shaping.{AreNamedApart, names_classes, shaped};
 ghost use Rattle.at_model.specs.Lines.{Line, IsLine, IsSessionOf, line_text, lines, is_filled};
 ghost use Rattle.at_model.specs.Replies.{Reply, Code, Done, Refused, reply_text};
-ghost use Rattle.at_model.specs.Machine.{
-  State,
-  ByEquations,
-  Step,
-  Handles,
-  Serves,
-  Runs,
-  Outputs,
-  IsEdited,
-  IsSound,
-  after,
-  verdict,
-  is_edit,
-};
+ghost use Rattle.at_model.specs.Machine.{State, Step, Handles, Serves, Runs, Outputs, IsEdited, IsSound, after, verdict, is_edit};
 
 /// Where each component is the first one of its name in its class, each node of a tree that conforms has
 /// a path, which leads back to it.
@@ -68,32 +55,32 @@ pub fn one_session()
 /// The bytes of a line have at most one reply, and leave one state.
 pub fn one_reply()
     ensures { (rules : Rules) (old : State) (bytes : List ℕ) (new other : State) (reply told : Reply)
-        → Handles rules (ByEquations rules) old bytes new reply → Handles rules (ByEquations rules) old bytes other told → (new ≡ other) × (reply ≡ told) }
+        → Handles rules old bytes new reply → Handles rules old bytes other told → (new ≡ other) × (reply ≡ told) }
 {}
 
 /// Where it is said which lines found no memory, bytes have at most one output and leave at most one state.
 pub fn one_output()
     ensures { (rules : Rules) (old : State) (bytes : List ℕ) (named : List Bool) (text told : List ℕ) (new other : State)
-        → Outputs rules (ByEquations rules) old bytes named text new → Outputs rules (ByEquations rules) old bytes named told other → (text ≡ told) × (new ≡ other) }
+        → Outputs rules old bytes named text new → Outputs rules old bytes named told other → (text ≡ told) × (new ≡ other) }
 {}
 
 /// A refused line leaves tree, version and marks.
 pub fn a_refused_line_changes_nothing()
     ensures { (rules : Rules) (old : State) (bytes : List ℕ) (new : State) (reply : Reply) (refusal : Code)
-        → Handles rules (ByEquations rules) old bytes new reply → reply.form ≡ Refused refusal → new ≡ old }
+        → Handles rules old bytes new reply → reply.form ≡ Refused refusal → new ≡ old }
 {}
 
 /// Where the tree conforms, is within the limits and holds the nodes of all marks, it is so after each line.
 pub fn a_sound_state_stays_sound()
     ensures { (rules : Rules) (b : Bool) (old : State) (line : List ℕ) (new : State) (reply : Reply)
-        → IsSound rules.classes old → Serves rules (ByEquations rules) b old line new reply → IsSound rules.classes new }
+        → IsSound rules.classes old → Serves rules b old line new reply → IsSound rules.classes new }
 {}
 
 /// An edit that is accepted leaves the tree that it makes, the next version, and the marks where their
 /// nodes are; that version is told.
 pub fn an_accepted_edit_is_the_next_version()
     ensures { (rules : Rules) (old : State) (l : Line) (new : State) (reply : Reply) (version : ℕ) → is_edit l.command ≡ true
-        → Step rules (ByEquations rules) old l new reply → reply.form ≡ Done version → IsEdited rules.classes old new × (version ≡ new.version) }
+        → Step rules old l new reply → reply.form ≡ Done version → IsEdited rules.classes old new × (version ≡ new.version) }
 {}
 
 /// It conforms to the start class, as the tree before did, and is within the limits.
@@ -152,7 +139,7 @@ pub fn what_is_kept_stays_well_kept()
 /// No other command changes the tree or the version.
 pub fn only_edits_change_the_tree()
     ensures { (rules : Rules) (old : State) (l : Line) (new : State) (reply : Reply) → is_edit l.command ≡ false
-        → Step rules (ByEquations rules) old l new reply → (new.tree ≡ old.tree) × (new.version ≡ old.version) }
+        → Step rules old l new reply → (new.tree ≡ old.tree) × (new.version ≡ old.version) }
 {}
 
 /// Bytes that are cut at a newline have the lines of both parts.
@@ -168,6 +155,6 @@ pub fn lines_of_one_part()
 /// A run goes on by one more line.
 pub fn one_more_line()
     ensures { (rules : Rules) (old mid new : State) (ls : List (List ℕ)) (named : List Bool) (text line : List ℕ) (b : Bool) (reply : Reply)
-        → Runs rules (ByEquations rules) old ls named text mid → Serves rules (ByEquations rules) b mid line new reply
-        → Runs rules (ByEquations rules) old (ls ++ line ∷ []) (named ++ b ∷ []) (text ++ reply_text reply) new }
+        → Runs rules old ls named text mid → Serves rules b mid line new reply
+        → Runs rules old (ls ++ line ∷ []) (named ++ b ∷ []) (text ++ reply_text reply) new }
 {}

@@ -22,7 +22,7 @@ ghost use Rattle.at_model.specs.Rules.{
 ghost use Rattle.at_model.specs.Meaning.{Among, Finds, HasValue, Leads, Outcomes, content, equations};
 ghost use Rattle.at_model.specs.Alike.{AlikeAt, InstanceLike, IsInjective, Names};
 ghost use Rattle.at_model.specs.Lines.{Line};
-ghost use Rattle.at_model.specs.Machine.{Asks, ByEquations, IsSound, State, verdict};
+ghost use Rattle.at_model.specs.Machine.{Asks, AnswersIn, IsSound, State, verdict};
 ghost use Rattle.at_model.specs.Enduring.{AreTokens};
 ghost use Rattle.at_model.specs.Asking.{IsWellFormed};
 ghost use Rattle.at_model.specs.Kinds.{AreTyped, HasKind, ScopeKinds};
@@ -50,7 +50,7 @@ pub fn what_is_served_is_sound()
 /// What a line is told is of the kind of the attribute that it asks for, where the rules are well formed.
 pub fn a_line_is_told_a_value_of_its_kind()
     ensures { (rules : Rules) → AreWellFormed rules → (s : State) → IsTreeSound rules.classes s.tree → (l : Line) (q : Instance Node) (v : Value Node)
-        → verdict rules s l ≡ Asks q → ByEquations rules s.tree q (Outcomes (Finds v)) → IsOfItsKind rules (class_at s.tree) q v }
+        → verdict rules s l ≡ Asks q → AnswersIn rules s.tree q (Outcomes (Finds v)) → IsOfItsKind rules (class_at s.tree) q v }
 {}
 
 /// An expression of a kind takes of its parts values of the kinds that its form asks: ints where it computes, booleans

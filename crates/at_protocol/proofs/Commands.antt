@@ -4,7 +4,8 @@ use Rattle.std.specs.Prelude.{codes}
 use Rattle.std.specs.List.{join_with_byte}
 use Rattle.std.specs.Fmt.{decimal}
 use Rattle.at_model.specs.Paths.{IsIndex}
-use Rattle.at_model.specs.Lines.{Place, place_text, IsPlace, Command, Ask, Set, Put, Drop, Insert, Token, Show, Mark, Unmark, Where, Version, IsName, command_words}
+use Rattle.at_model.specs.Lines.{Place, place_text, IsPlace, Command, Ask, Set, Put, Drop, Insert, Token, Show, Mark, Unmark, Where, Version, command_words}
+use Rattle.at_model.specs.Names.{IsName}
 use Rattle.at_model.proofs.Words.{apart_bytes}
 use Rattle.at_protocol.specs.Words.{HasNoSpace, IsPlaceText, IsNameText, IsIndexText, IsTermText, IsValueText}
 use Rattle.at_protocol.specs.Calls.{IsCallText}

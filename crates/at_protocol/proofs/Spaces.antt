@@ -8,7 +8,8 @@ use Rattle.std.proofs.lemmas.Bool.Decides.{nat_tests}
 use Rattle.std.proofs.lemmas.Str.Parse.{digit_at, numerals_by_value, tells_digits}
 use Rattle.std.proofs.lemmas.Fmt.{digits_decimal}
 use Rattle.at_model.specs.Paths.{Path, Step, IsPath, IsStep, IsIndex, step_text, index_text, path_text}
-use Rattle.at_model.specs.Lines.{Place, From_root, From_mark, place_text, IsPlace, IsName, IsSpaceOrEnd}
+use Rattle.at_model.specs.Lines.{Place, From_root, From_mark, place_text, IsPlace, IsSpaceOrEnd}
+use Rattle.at_model.specs.Names.{IsName}
 use Rattle.at_model.proofs.Words.{IsInner, delimits, name_inner}
 use Rattle.at_tree.proofs.Pieces.{both}
 use Rattle.at_protocol.specs.Words.{HasNo, HasNoSpace, IsSlashOrEnd}
@@ -128,7 +129,7 @@ has_no_index d o None h = has_no_nil d
 has_no_index d o (Some i) h = has_no_cons d 58 (decimal i) (λ e. omega (arith, o.low)) (has_no_decimal d i o.low (omega arith))
 
 has_no_step : (d : ℕ) → IsOutside d → (s : Step) → IsStep s → HasNo d (step_text s)
-has_no_step d o s h = has_no_cons d 47 _ (λ e. omega (arith, o.low)) (has_no_append d s.part (index_text s.index) (has_no_name d o.is_delimiter s.part (h.0, h.1)) (has_no_index d o s.index h.2))
+has_no_step d o s h = has_no_cons d 47 _ (λ e. omega (arith, o.low)) (has_no_append d s.part (index_text s.index) (has_no_name d o.is_delimiter s.part h.0) (has_no_index d o s.index h.1))
 
 has_no_steps : (d : ℕ) → IsOutside d → (ss : Path) → IsPath ss → HasNo d (flat_map step_text ss)
 has_no_steps d o [] h = has_no_nil d

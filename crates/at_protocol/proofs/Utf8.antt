@@ -14,7 +14,8 @@ use Rattle.at_model.specs.Trees.{Text, Int, Truth}
 use Rattle.at_model.specs.Terms.{Term, Node, Cells, no_cells, cell, Cell, One, Many, Empty, Holds, Terms, no_terms, term, with_commas, term_text, cell_texts, cell_text, term_texts, token_text, max_depth, IsToken, IsTermWithin, AreCellsWithin, IsCellWithin, AreTermsWithin}
 use Rattle.at_model.specs.Paths.{Path, Step, IsPath, IsStep, IsIndex, step_text, index_text, path_text}
 use Rattle.at_model.specs.Lines as line
-use Rattle.at_model.specs.Lines.{Place, From_root, From_mark, Argument, Command, Ask, Set, Put, Drop, Insert, Token, Show, Mark, Unmark, Where, Version, Line, place_text, argument_text, call_text, command_words, line_text, IsName, IsPlace, IsArgument, IsCommand, IsVersion, IsLine}
+use Rattle.at_model.specs.Lines.{Place, From_root, From_mark, Argument, Command, Ask, Set, Put, Drop, Insert, Token, Show, Mark, Unmark, Where, Version, Line, place_text, argument_text, call_text, command_words, line_text, IsPlace, IsArgument, IsCommand, IsVersion, IsLine}
+use Rattle.at_model.specs.Names.{IsName}
 use Rattle.at_model.proofs.OneLine.{body_text, line_flat}
 use Rattle.at_text.proofs.Characters.{plain}
 use Rattle.at_tree.proofs.Machine.{utf8_char}
@@ -67,7 +68,7 @@ utf8_index None h = IsUtf8-nil
 utf8_index (Some i) h = utf8_cons 58 _ (lit< tt) (utf8_decimal i (omega arith))
 
 utf8_step : (s : Step) → IsStep s → IsUtf8 (step_text s)
-utf8_step s h = utf8_cons 47 _ (lit< tt) (IsUtf8-append s.part (index_text s.index) h.1 (utf8_index s.index h.2))
+utf8_step s h = utf8_cons 47 _ (lit< tt) (IsUtf8-append s.part (index_text s.index) h.0.1 (utf8_index s.index h.1))
 
 utf8_steps : (ss : Path) → IsPath ss → IsUtf8 (flat_map step_text ss)
 utf8_steps [] h = IsUtf8-nil
@@ -91,7 +92,7 @@ utf8_comma x y u v = IsUtf8-append x (44 ∷ y) u (utf8_cons 44 y (lit< tt) v)
 -- terms
 mutual
   utf8_term : (d : ℕ) (t : Term) → IsTermWithin d t → IsUtf8 (term_text t)
-  utf8_term d (Node name cells) (p, n, u, h) = IsUtf8-append name _ u (utf8_bracketed 40 41 (with_commas (cell_texts cells)) (lit< tt) (lit< tt) (utf8_cells (d - 1) cells h))
+  utf8_term d (Node name cells) (p, (n, u), h) = IsUtf8-append name _ u (utf8_bracketed 40 41 (with_commas (cell_texts cells)) (lit< tt) (lit< tt) (utf8_cells (d - 1) cells h))
 
   utf8_cells : (d : ℕ) (cs : Cells) → AreCellsWithin d cs → IsUtf8 (with_commas (cell_texts cs))
   utf8_cells d no_cells h = IsUtf8-nil

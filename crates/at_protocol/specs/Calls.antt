@@ -5,7 +5,8 @@ use Rattle.std.specs.List.{AllByRecursion}
 use Rattle.std.specs.Str.{IsUtf8}
 use Rattle.at_model.specs.Texts.{quoted}
 use Rattle.at_model.specs.Terms.{with_commas}
-use Rattle.at_model.specs.Lines.{Argument, Text, Ref, Null, IsName, IsArgument, argument_text, call_text}
+use Rattle.at_model.specs.Lines.{Argument, Text, Ref, Null, IsArgument, argument_text, call_text}
+use Rattle.at_model.specs.Names.{IsName}
 use Rattle.at_protocol.specs.Words.{IsPlaceText}
 use Rattle.at_protocol.specs.LineView.{argument_view}
 use Rattle.at_protocol.specs.declared.line.Argument.{Argument as ArgumentValue}

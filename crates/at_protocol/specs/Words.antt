@@ -7,7 +7,8 @@ use Rattle.at_model.specs.Texts.{quoted}
 use Rattle.at_model.specs.Trees as tree
 use Rattle.at_model.specs.Terms.{Term, term_text, token_text, IsTerm, IsToken}
 use Rattle.at_model.specs.Paths.{Path, path_text, step_text, IsPath, IsIndex}
-use Rattle.at_model.specs.Lines.{Place, place_text, IsName, IsPlace, last_version}
+use Rattle.at_model.specs.Lines.{Place, place_text, IsPlace, last_version}
+use Rattle.at_model.specs.Names.{IsName}
 use Rattle.at_protocol.specs.declared.line.words.WordFault.{WordFault}
 use Rattle.at_protocol.specs.declared.line.words.WordFault.TheVariants.{Form, Memory}
 

@@ -1,7 +1,8 @@
 //! Paths to nodes and from them, and the trees below nodes.
 ghost use Rattle.std.specs.Prelude.{◌≡◌, ◌<◌, ◌≤◌, ℕ, IfOk, None, Some, length, map, option_and_then, option_map, string_bytes};
 ghost use Rattle.std.specs.Option.{option_copied};
-ghost use Rattle.at_model.specs.Classes.{Component, IsNamed, parts};
+ghost use Rattle.at_model.specs.Classes.{Component, parts};
+ghost use Rattle.at_model.specs.Names.{IsName};
 ghost use Rattle.std.specs.List.{slice_get};
 ghost use Rattle.at_model.specs.Paths.{IsPath, Node as Place, Path, index_in as index_of, path_of, place_in, step_in, tree_at};
 ghost use Rattle.at_model.specs.Trees.{Tree as Numbered, Node as bare, no_cells};
@@ -95,7 +96,7 @@ fn part_in(parts: &[Part], part: usize) -> Option<&Part>
 /// A component of a class.
 pub(crate) fn part_of(classes: &ClassTable, class: ClassId, part: usize) -> Option<&Part>
     ensures found { option_map part_view (option_copied result) ≡ slice_get (parts classes.now class) part }
-    ensures named { (p : Component) → slice_get (parts classes.now class) part ≡ Some p → IsNamed p.name }
+    ensures named { (p : Component) → slice_get (parts classes.now class) part ≡ Some p → IsName p.name }
 {
     if class.index() >= classes.len() {
         return None;

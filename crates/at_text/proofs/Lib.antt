@@ -5,6 +5,7 @@ pub mod Reading
 pub mod ReadingLaws
 pub mod Placing
 pub mod Fronts
+pub mod Reserved
 pub mod Quotes
 pub mod Openings
 pub mod Same

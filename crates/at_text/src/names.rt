@@ -1,5 +1,5 @@
 //! Names: what may name a class, a component, an attribute or a mark.
-ghost use Rattle.std.specs.Prelude.{◌≡◌, chars};
+ghost use Rattle.std.specs.Prelude.{◌≡◌, chars, nat_lt, get_or};
 ghost use Rattle.at_model.specs.Names.{starts_name, continues_name, is_reserved, is_word, is_name};
 
 /// The words that have a meaning of their own in grammars and aspects.
@@ -40,10 +40,25 @@ pub fn continues_name(c: char) -> bool
     unicode_ident::is_xid_continue(c)
 }
 
+/// Whether the word begins with a character before the small letters, as names of classes and components mostly do.
+fn begins_before_a(word: &str) -> bool
+    // 97 is the first small letter
+    ensures { result ≡ nat_lt (get_or word.now 0 97) 97 }
+{
+    match word.as_bytes() {
+        [first, ..] => *first < b'a',
+        [] => false,
+    }
+}
+
 /// Whether the word has a meaning of its own in grammars and aspects, so that it names nothing.
 pub fn is_reserved(word: &str) -> bool
     ensures { result ≡ is_reserved word.now }
 {
+    if begins_before_a(word) {
+        // the only such word of them
+        return word == "String";
+    }
     RESERVED.contains(&word)
 }
 

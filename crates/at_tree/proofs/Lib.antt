@@ -1,13 +1,16 @@
 pub mod PathWritten
 pub mod Machine
 pub mod Pieces
+pub mod Passing
 pub mod Finished
 pub mod PathMachine
+pub mod PathRuns
 pub mod Escapes
 pub mod TermSpelled
 pub mod TermSteps
 pub mod TermAlive
 pub mod TermRuns
+pub mod TermPassing
 pub mod TermMachine
 pub mod TextLaws
 pub mod TreeLoops
@@ -15,3 +18,4 @@ pub mod TreeTexts
 pub mod Shaping
 pub mod Made
 pub mod ShapeLaws
+pub mod ReadTrees

@@ -1,11 +1,12 @@
 -- A reader by characters: the laws of its steps, and what follows of what it answers.
-use Rattle.std.proofs.Common.{◌≡◌, ℕ, ◌+◌, true, ◌&&◌, List, [], ◌∷◌, ◌++◌, length, take, drop, Option, Some, None, refl, ap, sym, ◌∙◌, subst, append_assoc, append-nil, length-append, encode_utf8_all}
+use Rattle.std.proofs.Common.{◌≡◌, ℕ, ◌+◌, ◌-◌, true, ◌&&◌, List, [], ◌∷◌, ◌++◌, length, take, drop, Option, Some, None, refl, ap, sym, ◌∙◌, subst, append_assoc, append-nil, length-append, encode_utf8_all, arith}
 use Rattle.std.specs.Prelude.{chars, encode_utf8, IsUtf8, option_and_then, Bool, false}
 use Rattle.std.specs.Str.{IsCharBoundary}
 use Rattle.std.proofs.Math.Utf8.{scalar}
 use Rattle.std.proofs.Math.Seq.{take-append_seam, drop-append_seam}
 use Rattle.std.proofs.lemmas.Str.{chars_past_char, IsUtf8-past_char, IsUtf8-append, scalars-chars, chars-append, chars-nil, IsCharBoundary-at_seam, encodes-chars, IsUtf8-drop}
 use Rattle.std.proofs.lemmas.List.{take-append-drop}
+use Rattle.at_tree.specs.Leads.{Leads, TakesNone}
 use Rattle.at_tree.specs.Stops.{IsFront, NoFurther, StopsAt}
 
 abbrev pub run : {P : Type 0} → (P → ℕ → Option P) → Option P → List ℕ → Option P
@@ -99,6 +100,25 @@ reading_next m text offset offset' rest rest' p q c r is moved taken =
       utf8 = IsUtf8-past_char rest rest' c r.utf8 is;
     }
 
+-- the text was read as far as to this rest of it
+abbrev pub ReadTo : {P V : Type 0} → Machine P V → List ℕ → List ℕ → P → Type 0
+ReadTo m text rest p = (offset : ℕ) × Reading m text offset rest p
+
+pub read_nothing : {P V : Type 0} (m : Machine P V) (text : List ℕ) → IsUtf8 text → ReadTo m text text m.start
+read_nothing m text u = (0, reading_start m text u)
+
+pub read_over : {P V : Type 0} (m : Machine P V) (text cs rest rest' : List ℕ) (p q : P) → ReadTo m text rest p → rest ≡ encode_utf8_all cs ++ rest' → Leads m.step p cs q → ReadTo m text rest' q
+read_over m text [] rest rest' p q r is e = subst (λ x. ReadTo m text x q) is (subst (ReadTo m text rest) e r)
+read_over m text (c ∷ cs) rest rest' p q r is l =
+    let after = encode_utf8_all cs ++ rest' in
+    let next = reading_next m text r.0 (r.0 + length (encode_utf8 c)) rest after p l.0 c r.1 (is ∙ append_assoc (encode_utf8 c) (encode_utf8_all cs) rest') refl l.1 in
+    read_over m text cs after rest' l.0 q (r.0 + length (encode_utf8 c), next) refl l.2
+
+read_so_far : {P V : Type 0} (m : Machine P V) (text rest : List ℕ) (p : P) (r : ReadTo m text rest p) → length text - length rest ≡ r.0
+read_so_far m text rest p r =
+    let e : length text ≡ length (m.spelled p) + length rest = ap length r.1.split ∙ length-append (m.spelled p) rest in
+    omega (arith, e, r.1.here)
+
 -- a value's text is read as that value
 whole_of : {P V : Type 0} (m : Machine P V) (v : V) (p : P) → m.IsValue v → read m (m.text_of v) ≡ Some p → m.whole p ≡ Some v
 whole_of m v p h ran = let d = m.completes v h in let same : Some d.0 ≡ Some p = sym d.1 ∙ ran in let e : d.0 ≡ p = cc in subst (λ q. m.whole q ≡ Some v) e d.2
@@ -134,6 +154,9 @@ stops_here m text offset place rest rest' p c r is there none =
       goes_on = subst (IsFront (IsWhole m)) (sym front) (m.alive p r.fits);
       no_further = rw (next, front) (stuck m p c s r.front r.ran none);
     }
+
+pub stops_before : {P V : Type 0} (m : Machine P V) (text : List ℕ) (place : ℕ) (rest : List ℕ) (p : P) → ReadTo m text rest p → place ≡ length text - length rest → TakesNone m.step p rest → StopsAt (IsWhole m) text place
+stops_before m text place rest p r here none = stops_here m text r.0 place rest none.1 p none.0 r.1 none.2 (here ∙ read_so_far m text rest p r) none.3
 
 -- at the end
 none_left : (rest : List ℕ) → length rest ≡ 0 → rest ≡ []

@@ -9,7 +9,7 @@ use Rattle.std.proofs.lemmas.Fmt.{decimal_digit}
 use Rattle.std.proofs.lemmas.Grind.{flat_map-append}
 use Rattle.std.proofs.lemmas.Str.{chars-nil, IsUtf8-append}
 use Rattle.unicode_ident.proofs.IdentLemmas.{is_xid_continue-ascii}
-use Rattle.at_model.specs.Names.{starts_name, continues_name, is_word, is_name, is_reserved}
+use Rattle.at_model.specs.Names.{starts_name, continues_name, is_word, is_name, IsName, is_reserved}
 use Rattle.at_model.specs.Paths.{Step, Path, IsStep, IsPath, step_text, index_text, path_text}
 use Rattle.at_tree.specs.Stops.{IsFront}
 use Rattle.at_tree.specs.Partial.{is_digit}
@@ -31,8 +31,8 @@ abbrev pub PlaceFits : Path → Place → Type 0
 PlaceFits ss Start = ss ≡ []
 PlaceFits ss Slash = ⊤
 PlaceFits ss (InPart part) = (is_word (chars part) ≡ true) × IsUtf8 part
-PlaceFits ss (Colon part) = (is_name part ≡ true) × IsUtf8 part
-PlaceFits ss (InIndex part n) = (is_name part ≡ true) × IsUtf8 part × (n < 1000000000)
+PlaceFits ss (Colon part) = IsName part
+PlaceFits ss (InIndex part n) = IsName part × (n < 1000000000)
 
 pub record Fits (p : Partial) : Type 0 where
   pub steps : IsPath p.steps
@@ -68,13 +68,13 @@ part_steps ss part c s l h =
     (λ e. (record { steps = l; place = (name, h.1) }, rw (ascii c 58 (lit< tt) e) (simp append_assoc)))
     (λ _. choose (Steps before c) (c == 47) _ _
     (λ e. let t : step_text (plain part) ≡ 47 ∷ part = ap (λ y. 47 ∷ y) (append-nil part) in
-    subst (λ y. Steps (flat_map step_text ss ++ y) c (Some (next_step ss (plain part)))) t (next_steps ss (plain part) c l (name, h.1, tt) (ascii c 47 (lit< tt) e)))
+    subst (λ y. Steps (flat_map step_text ss ++ y) c (Some (next_step ss (plain part)))) t (next_steps ss (plain part) c l ((name, h.1), tt) (ascii c 47 (lit< tt) e)))
     (λ _. tt))))
 
 colon_steps : (ss : Path) (part : List ℕ) (c : ℕ) → IsPath ss → PlaceFits ss (Colon part) → Steps (flat_map step_text ss ++ 47 ∷ (part ++ 58 ∷ [])) c (in_colon ss part c)
 colon_steps ss part c l h =
     choose (Steps (flat_map step_text ss ++ 47 ∷ (part ++ 58 ∷ [])) c) (is_digit c) _ _
-    (λ e. let b = digit_bounds c e in (record { steps = l; place = (h.0, h.1, omega (arith, b.0, b.1)) }, rw (one_digit c e, digit_bytes c e) (simp append_assoc)))
+    (λ e. let b = digit_bounds c e in (record { steps = l; place = (h, omega (arith, b.0, b.1)) }, rw (one_digit c e, digit_bytes c e) (simp append_assoc)))
     (λ _. tt)
 
 index_steps : (ss : Path) (part : List ℕ) (n c : ℕ) → IsPath ss → PlaceFits ss (InIndex part n) → Steps (flat_map step_text ss ++ step_text (indexed part n)) c (in_index ss part n c)
@@ -85,7 +85,7 @@ index_steps ss part n c l h =
     let b = digit_bounds c p.0 in
     let positive : 0 < n = grind (arith, nat_tests, q.0) in
     let within : n < 100000000 = grind (arith, nat_tests, q.1) in
-    (record { steps = l; place = (h.0, h.1, omega (arith, b.0, b.1)) }, rw (more_digits n c p.0 positive (omega arith), digit_bytes c p.0) (simp append_assoc)))
+    (record { steps = l; place = (h.0, omega (arith, b.0, b.1)) }, rw (more_digits n c p.0 positive (omega arith), digit_bytes c p.0) (simp append_assoc)))
     (λ _. choose (Steps before c) (c == 47) _ _
     (λ e. next_steps ss (indexed part n) c l h (ascii c 47 (lit< tt) e))
     (λ _. tt))
@@ -106,9 +106,9 @@ goes_by ss s front more l h e = (more, (ss ++ s ∷ [], push_fits ss s l h, push
 
 pub alive_at : (ss : Path) (place : Place) → IsPath ss → PlaceFits ss place → IsFront (IsTextOf IsPath path_text) (flat_map step_text ss ++ place_text place)
 alive_at ss Start l h = (47 ∷ [], ([], tt, rw h refl))
-alive_at ss Slash l h = goes_by ss (plain (95 ∷ [])) (47 ∷ []) (95 ∷ []) l (shortest_name, utf8_ascii 95 (lit< tt), tt) refl
-alive_at ss (InPart part) l h = goes_by ss (plain (part ++ 95 ∷ [])) (47 ∷ part) (95 ∷ []) l (longer_name part h.1 h.0, IsUtf8-append part (95 ∷ []) h.1 (utf8_ascii 95 (lit< tt)), tt) (simp append-nil)
-alive_at ss (Colon part) l h = goes_by ss (indexed part 0) (47 ∷ (part ++ 58 ∷ [])) (48 ∷ []) l (h.0, h.1, lit< tt) (rw (decimal_digit 0 (lit< tt)) (simp append_assoc))
+alive_at ss Slash l h = goes_by ss (plain (95 ∷ [])) (47 ∷ []) (95 ∷ []) l ((shortest_name, utf8_ascii 95 (lit< tt)), tt) refl
+alive_at ss (InPart part) l h = goes_by ss (plain (part ++ 95 ∷ [])) (47 ∷ part) (95 ∷ []) l ((longer_name part h.1 h.0, IsUtf8-append part (95 ∷ []) h.1 (utf8_ascii 95 (lit< tt))), tt) (simp append-nil)
+alive_at ss (Colon part) l h = goes_by ss (indexed part 0) (47 ∷ (part ++ 58 ∷ [])) (48 ∷ []) l (h, lit< tt) (rw (decimal_digit 0 (lit< tt)) (simp append_assoc))
 alive_at ss (InIndex part n) l h = goes_by ss (indexed part n) (step_text (indexed part n)) [] l h (simp append-nil)
 
 -- where a text is whole, it is that of the path
@@ -124,7 +124,7 @@ ends_at ss (InPart part) v l h e = decide (is_reserved part) refl
         let f : Some (ss ++ plain part ∷ []) ≡ Some v = rw r at e in
         let is : ss ++ plain part ∷ [] ≡ v = cc in
         let name : is_name part ≡ true = rw (h.0, r) refl in
-        rw (← is) (push_fits ss (plain part) l (name, h.1, tt), push_path ss (plain part) ∙ simp append-nil)
+        rw (← is) (push_fits ss (plain part) l ((name, h.1), tt), push_path ss (plain part) ∙ simp append-nil)
 ends_at ss (Colon part) v l h e = cc
 ends_at ss (InIndex part n) v l h e =
     let is : ss ++ indexed part n ∷ [] ≡ v = cc in
@@ -174,18 +174,18 @@ record Behind (ss : Path) (s : Step) : Type 0 where
   run_to : (z : List ℕ) → run step (Some (at ss Slash)) (chars ((s.part ++ index_text s.index) ++ z)) ≡ run step (Some there) (chars z)
 
 run_one : (ss : Path) (part : List ℕ) (index : Option ℕ) → IsStep (record { part = part; index = index }) → Behind ss (record { part = part; index = index })
-run_one ss part None h = let n = named part h.0 in record {
+run_one ss part None h = let n = named part h.0.0 in record {
   there = at ss (InPart part);
   goes_on = next_slash ss part n.1;
   ends = rw n.1 refl;
-  run_to = λ z. ap (λ y. run step (Some (at ss Slash)) (chars (y ++ z))) (append-nil part) ∙ run_part ss part z h.1 n.0;
+  run_to = λ z. ap (λ y. run step (Some (at ss Slash)) (chars (y ++ z))) (append-nil part) ∙ run_part ss part z h.0.1 n.0;
 }
-run_one ss part (Some i) h = let n = named part h.0 in record {
+run_one ss part (Some i) h = let n = named part h.0.0 in record {
   there = at ss (InIndex part i);
   goes_on = refl;
   ends = refl;
-  run_to = λ z. ap (λ y. run step (Some (at ss Slash)) (chars y)) (append_assoc part (58 ∷ decimal i) z) ∙ run_part ss part (58 ∷ (decimal i ++ z)) h.1 n.0
-      ∙ run_byte step (at ss (InPart part)) 58 (decimal i ++ z) _ (lit< tt) (next_colon ss part n.1) ∙ run_index ss part i z h.2;
+  run_to = λ z. ap (λ y. run step (Some (at ss Slash)) (chars y)) (append_assoc part (58 ∷ decimal i) z) ∙ run_part ss part (58 ∷ (decimal i ++ z)) h.0.1 n.0
+      ∙ run_byte step (at ss (InPart part)) 58 (decimal i ++ z) _ (lit< tt) (next_colon ss part n.1) ∙ run_index ss part i z h.1;
 }
 
 run_rest : (more : Path) (ss : Path) (s : Step) (b : Behind ss s) → IsPath more → Ends (run step (Some b.there) (chars (flat_map step_text more))) (ss ++ s ∷ more)

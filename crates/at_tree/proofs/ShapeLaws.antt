@@ -3,7 +3,8 @@ use Rattle.std.proofs.Common.{◌≡◌, ◌<◌, ◌≤◌, ◌-◌, arith, ℕ
 use Rattle.std.specs.Prelude.{Bool, true, false, ◌&&◌, length, not}
 use Rattle.std.specs.List.{slice_get}
 use Rattle.std.proofs.lemmas.Option.{slice_get-get_or, slice_get_within, same_Some, none-some}
-use Rattle.at_model.specs.Classes.{IsNamed, Classes, Class as ClassRecord, Component, Shape, AreSound, class_of_name, name_of, is_concrete, fits, parts, is_sub}
+use Rattle.at_model.specs.Classes.{Classes, Class as ClassRecord, Component, Shape, AreSound, class_of_name, name_of, is_concrete, fits, parts, is_sub}
+use Rattle.at_model.specs.Names.{IsName}
 use Rattle.at_model.specs.Classes as class
 use Rattle.at_model.specs.Terms.{Term, term_of, cells_of, cell_of, terms_of, IsTermWithin, AreCellsWithin, IsCellWithin, AreTermsWithin}
 use Rattle.at_model.specs.Trees.{Tree, Node, Cells, no_cells, cell, Cell, One, Many, Empty, Filled, Holds, Trees, no_trees, tree, conforms, cells_conform, cell_conforms, trees_conform, depth, cells_depth, cell_depth, trees_depth}
@@ -42,9 +43,9 @@ misshaped classes sound t b Memory known h = tt
 
 -- the text of a conforming tree is a term's --------------------------------------------------------------------------
 
-name_of-named : (classes : Classes) (c : ℕ) → AreSound classes → c < length classes → IsNamed (name_of classes c)
+name_of-named : (classes : Classes) (c : ℕ) → AreSound classes → c < length classes → IsName (name_of classes c)
 name_of-named classes c sound less =
-    subst IsNamed (sym (ap (λ o. elim o [ None ↦ [] | Some k ↦ k.name ]) (slice_get-get_or classes c spare less))) (sound.each c spare less).name
+    subst IsName (sym (ap (λ o. elim o [ None ↦ [] | Some k ↦ k.name ]) (slice_get-get_or classes c spare less))) (sound.each c spare less).name
   where
     spare : ClassRecord
     spare = record { name = []; is_abstract = false; parent = None; own = [] }
@@ -54,7 +55,7 @@ mutual
   within-tree classes sound (Node c cells) b d h tokens deep =
       let both = and_both (fits classes c b) (cells_conform classes cells (parts classes c)) h in
       let named = name_of-named classes c sound (fits-within classes c b both.0) in
-      (omega (arith, deep), named.name, named.utf8, within-cells classes sound cells (parts classes c) (d - 1) both.1 tokens (omega (arith, deep)))
+      (omega (arith, deep), named, within-cells classes sound cells (parts classes c) (d - 1) both.1 tokens (omega (arith, deep)))
 
   within-cells : (classes : Classes) → AreSound classes → (cs : Cells) (ps : List Component) (d : ℕ) → cells_conform classes cs ps ≡ true → AreCellTokens cs → cells_depth cs ≤ d → AreCellsWithin d (cells_of classes cs)
   within-cells classes sound no_cells ps d h tokens deep = tt

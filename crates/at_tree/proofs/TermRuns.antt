@@ -47,7 +47,7 @@ close = record { low = lit< tt; digit = refl; word = rw (is_xid_continue-ascii 4
 can : (fs : List Level) → length fs < 512 → can_open fs ≡ true
 can fs h = grind (arith, nat_tests)
 
-not_paren : (c : ℕ) → continues_name c ≡ true → (c == 40) ≡ false
+pub not_paren : (c : ℕ) → continues_name c ≡ true → (c == 40) ≡ false
 not_paren c e = other c 40 (λ s. let f : continues_name 40 ≡ true = rw s at e in let g : continues_name 40 ≡ false = rw (is_xid_continue-ascii 40 (lit< tt)) refl in cc)
 
 run_to_name : (fs : List Level) (name z : List ℕ) → length fs < 512 → is_word (chars name) ≡ true → IsUtf8 name → runs (at fs Start) (name ++ z) ≡ runs (at fs (InWord name)) z
@@ -246,12 +246,12 @@ RunsTerms ts = (name : List ℕ) (xs : List Cell) (items : List Term) (fs : List
 
 node_runs : (name : List ℕ) (cells : Cells) → RunsCells cells → RunsTerm (Node name cells)
 node_runs name cells more fs z fits =
-    let p = both (is_word (chars name)) _ fits.1 in
+    let p = both (is_word (chars name)) _ fits.1.0 in
     let less : length fs < 512 = omega (arith, fits.0) in
     let e : room fs - 1 ≡ 512 - suc (length fs) = omega arith in
-    let inner : AreCellsWithin (512 - suc (length fs)) cells = rw e at fits.3 in
+    let inner : AreCellsWithin (512 - suc (length fs)) cells = rw e at fits.2 in
     let text : term_text (Node name cells) ++ z ≡ name ++ 40 ∷ (with_commas (cell_texts cells) ++ 41 ∷ z) = simp append_assoc in
-    ap (λ y. runs (at fs Start) y) text ∙ run_to_name fs name (40 ∷ (with_commas (cell_texts cells) ++ 41 ∷ z)) less p.0 fits.2
+    ap (λ y. runs (at fs Start) y) text ∙ run_to_name fs name (40 ∷ (with_commas (cell_texts cells) ++ 41 ∷ z)) less p.0 fits.1.1
     ∙ run_byte step (at fs (InWord name)) 40 (with_commas (cell_texts cells) ++ 41 ∷ z) _ (lit< tt) (opened fs name less (not_true (is_reserved name) p.1))
     ∙ more name [] fs z inner (first_or cells)
   where

@@ -78,7 +78,7 @@ terms_fit_push d (c ∷ cs) x e h = (e.0, terms_fit_push d cs x e.1 h)
 
 -- a term with these cells fits where it was opened
 pub node_fits : (fs : List Level) (name : List ℕ) (cells : Cells) → length fs < 512 → is_name name ≡ true → IsUtf8 name → AreCellsWithin (512 - suc (length fs)) cells → IsTermWithin (room fs) (Node name cells)
-node_fits fs name cells less n u h = (omega arith, n, u, (let e : 512 - suc (length fs) ≡ room fs - 1 = omega arith in rw e at h))
+node_fits fs name cells less n u h = (omega arith, (n, u), (let e : 512 - suc (length fs) ≡ room fs - 1 = omega arith in rw e at h))
 
 complete_fits : (fs : List Level) (t : Term) → LevelsFit fs → IsTermWithin (room fs) t → PartialFits (complete fs t)
 complete_fits [] t e h = record { levels = tt; place = (tt, h) }

@@ -5,6 +5,8 @@ pub mod Stops
 pub mod Reads
 pub mod Finishes
 pub mod Gives
+pub mod Runs
+pub mod Leads
 pub mod Partial
 pub mod Seen
 pub mod PartialPath
@@ -15,3 +17,4 @@ pub mod Separated
 pub mod Shape
 pub mod TreeTokens
 pub mod TreeLaws
+pub mod ReadTrees

@@ -5,6 +5,7 @@ pub mod fault;
 pub mod laws;
 pub mod path;
 pub mod reader;
+mod runs;
 pub mod term;
 pub mod token;
 pub mod tree;

@@ -51,6 +51,7 @@ struct Partial {
     place: Place,
 }
 
+mod advance;
 mod read;
 mod steps;
 mod words;

@@ -2,6 +2,7 @@
 mod conforming;
 mod counts;
 pub mod laws;
+mod reading;
 mod shaping;
 mod writing;
 
@@ -9,6 +10,7 @@ use crate::token::TokVal;
 use at_class::ClassId;
 pub use conforming::fits;
 pub use counts::{depth, nodes};
+pub use reading::{ReadFault, read_tree};
 pub use shaping::{ShapeFault, shape};
 pub use writing::write_term;
 

@@ -15,9 +15,9 @@ use Rattle.indexmap.specs.IndexSet.{insert_key}
 use Rattle.at_model.specs.Classes.{Classes, Component, parts}
 use Rattle.at_model.specs.Declarations.{first_given}
 use Rattle.at_typing.specs.AccessorNames.{any_class, any_part, any_component, any_optional, any_list, is_of_shape, HasNames, AddsNames}
-use Rattle.at_typing.specs.Accessors.{is_optional, is_list, is_got, is_had, is_counted, is_listed, shape_of, getter, got_or, accessor_named, is_accessed}
-use Rattle.at_typing.specs.declared.accessors.Accessor.{Accessor}
-use Rattle.at_typing.specs.declared.accessors.Accessor.TheVariants as accessor
+use Rattle.at_kinds.specs.Accessors.{is_optional, is_list, is_got, is_had, is_counted, is_listed, shape_of, getter, got_or, accessor_named, is_accessed}
+use Rattle.at_kinds.specs.declared.accessors.Accessor.{Accessor}
+use Rattle.at_kinds.specs.declared.accessors.Accessor.TheVariants as accessor
 use Rattle.at_typing.specs.declared.checks.accessor_names.Accessors.{Accessors}
 
 ap2 : {A B C : Type 0} (f : A → B → C) {a b : A} {x y : B} → a ≡ b → x ≡ y → f a x ≡ f b y

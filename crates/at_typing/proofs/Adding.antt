@@ -8,7 +8,7 @@ use Rattle.at_jrag.specs.View.{word_view}
 use Rattle.at_jrag.specs.declared.syntax.Word.{Word as WordValue}
 use Rattle.at_rules.specs.declared.body.Kind.{Kind}
 use Rattle.at_rules.specs.declared.rules.Equations.{Equations}
-use Rattle.at_typing.specs.Judging.{Judgement, Is, and_then}
+use Rattle.at_kinds.specs.Judging.{Judgement, Is, and_then}
 use Rattle.at_typing.specs.Located.{Located, class_word}
 use Rattle.at_typing.specs.Meanings.{Meaning, own_equation, inherited_equation, declared_alone, declared_with, own_alone, inherited_alone, body_meant, inherited_meant, signatures, with_body, own_meant, attribute_with, attribute_for, attribute_meant}
 use Rattle.at_typing.specs.Declaring.{class_text, name_text, synthesized_named, inherited_named}
@@ -17,10 +17,10 @@ use Rattle.std.specs.Borrow.{Bor}
 use Rattle.std.specs.Option.{option_map, option_copied}
 use Rattle.indexmap.specs.IndexMap.{insert_entry}
 use Rattle.at_typing.specs.Seen.{attribute_of, same_key, Declares, AddsOwn, AddsInherited, Adds}
-use Rattle.at_typing.specs.Signatures.{Declared}
-use Rattle.at_typing.specs.Typed.{Judges}
-use Rattle.at_typing.specs.declared.typing.TypeFault.{TypeFault}
-use Rattle.at_typing.specs.declared.typing.TypeFault.TheVariants.{Refused, Memory}
+use Rattle.at_kinds.specs.Signatures.{Declared}
+use Rattle.at_kinds.specs.Typed.{Judges}
+use Rattle.at_kinds.specs.declared.typing.TypeFault.{TypeFault}
+use Rattle.at_kinds.specs.declared.typing.TypeFault.TheVariants.{Refused, Memory}
 
 -- an attribute of a class that isn't there
 pub attribute_fault : (classes : Classes) (d : Located) (result : KindWord) (k : Kind) (w : Word) (e : TypeFault) → kind_named classes result ≡ Is k → w ≡ class_word d.decl.form → Judges {T = ℕ} (λ c. c) (class_named classes w) (Err e) → Judges (attribute_of d) (attribute_meant classes d result) (Err e)

@@ -4,7 +4,7 @@ use Rattle.std.proofs.lemmas.List.{take-map, map_more}
 use Rattle.std.proofs.Math.Dec.{eqb-suc-zero}
 use Rattle.std.proofs.lemmas.Bool.{ltb-true, ltb-false}
 use Rattle.std.specs.Prelude.{Bool, true, false, not, nat_eq, nat_lt, filter, cond}
-use Rattle.at_typing.specs.declared.fault.RuleCode.TheVariants as code
+use Rattle.at_kinds.specs.declared.code.RuleCode.TheVariants as code
 use Rattle.at_typing.specs.Declaring.{attributes, is_attribute, fault_at}
 use Rattle.at_typing.specs.Located.{Located}
 use Rattle.at_typing.specs.Numbering.{limit_of}

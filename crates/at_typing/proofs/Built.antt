@@ -12,14 +12,14 @@ use Rattle.at_rules.specs.declared.rules.Equations.{Equations}
 use Rattle.at_typing.specs.Building.{meanings, meaning_if, refusal, refused_at, first_fault, rules_of, IsLackBehind, IsLack, IsFault, Builds}
 use Rattle.at_typing.specs.Completing.{IsDeclaredBy, AreDeclared, IsFirst, IsFirstFault, LacksOwn, LacksInherited}
 use Rattle.at_typing.specs.Declaring.{attributes, fault_at, is_attribute, fault_together}
-use Rattle.at_typing.specs.Judging.{Judgement, Is, Wrong}
+use Rattle.at_kinds.specs.Judging.{Judgement, Is, Wrong}
 use Rattle.at_typing.specs.Located.{Located}
 use Rattle.at_typing.specs.Meanings.{Meaning, meant}
 use Rattle.at_typing.specs.Numbering.{numbered_view}
 use Rattle.at_typing.specs.Seen.{Stands, Tells, Means}
 use Rattle.at_typing.specs.declared.fault.Fault.{Fault}
-use Rattle.at_typing.specs.declared.fault.RuleCode.{RuleCode}
-use Rattle.at_typing.specs.declared.fault.RuleCode.TheVariants as code
+use Rattle.at_kinds.specs.declared.code.RuleCode.{RuleCode}
+use Rattle.at_kinds.specs.declared.code.RuleCode.TheVariants as code
 use Rattle.at_typing.specs.declared.fault.RuleFault.{RuleFault}
 use Rattle.at_typing.specs.declared.fault.RuleFault.TheVariants as fault
 use Rattle.at_typing.specs.declared.numbered.Numbered.{Numbered as NumberedValue}

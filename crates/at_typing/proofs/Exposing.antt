@@ -84,12 +84,12 @@ leads_on rules sound name c d good e k f = elim (or_cases (is_child rules.classe
       let h = and_both (is_concrete rules.classes c) _ g.1 in
       let there = passed_there rules name (length (parts rules.classes c)) c d h.1 in
       let found = passed_parts rules name c there.0 d there.1 in
-      below c k (good c (fits_itself rules.classes c h.0)) (there.0, d, found.1, f, found.0)
+      below c k (good c (fits_itself rules.classes c h.0)) (record { part = there.0; class = d; trees = found.1; fit = f; without = found.0 })
 ]
 
 pub exposed_concrete : (rules : Rules) (name : List ℕ) (c : ℕ) → Exposed rules name c → is_concrete rules.classes c ≡ true
 exposed_concrete rules name c (as_root _ e) = (and_both (is_concrete rules.classes c) _ e).0
-exposed_concrete rules name d (below c _ x (part, b, is, e, none)) = (and_both (is_concrete rules.classes d) _ e).0
+exposed_concrete rules name d (below c _ x passes) = (and_both (is_concrete rules.classes d) _ passes.fit).0
 
 met_below : (rules : Rules) (name : List ℕ) (met : List Bool) → ((c d : ℕ) → has_met met c ≡ true → d < length rules.classes → leads rules name c d ≡ true → has_met met d ≡ true) → (c b : ℕ) → fits rules.classes c b ≡ true → has_met met b ≡ true → has_met met c ≡ true
 met_below rules name met closed c b e there =
@@ -105,9 +105,10 @@ there rules c part b e = by (slice_get (parts rules.classes c) part) refl
 -- what is closed under leading has all that is exposed
 pub exposed_met : (rules : Rules) → AreSound rules.classes → (name : List ℕ) (met : List Bool) → has_met met 0 ≡ true → ((c d : ℕ) → has_met met c ≡ true → d < length rules.classes → leads rules name c d ≡ true → has_met met d ≡ true) → (c : ℕ) → Exposed rules name c → has_met met c ≡ true
 exposed_met rules sound name met start closed c (as_root _ e) = met_below rules name met closed c 0 e start
-exposed_met rules sound name met start closed d (below c _ x (part, b, is, e, none)) =
-    met_below rules name met closed d b e (closed c b (exposed_met rules sound name met start closed c x) (above_within rules.classes sound d b e)
-    (or_right (is_child rules.classes c b) _ (and_from (is_concrete rules.classes c) _ (exposed_concrete rules name c x) (passed_among rules name (length (parts rules.classes c)) c b part (there rules c part b is) (passed_from rules name c part b none is)))))
+exposed_met rules sound name met start closed d (below c _ x passes) =
+    let b = passes.class in
+    met_below rules name met closed d b passes.fit (closed c b (exposed_met rules sound name met start closed c x) (above_within rules.classes sound d b passes.fit)
+    (or_right (is_child rules.classes c b) _ (and_from (is_concrete rules.classes c) _ (exposed_concrete rules name c x) (passed_among rules name (length (parts rules.classes c)) c b passes.part (there rules c passes.part b passes.trees) (passed_from rules name c passes.part b passes.without passes.trees)))))
 
 pub has_below_itself : (classes : Classes) (met : List Bool) (c : ℕ) → (has_met met c && is_concrete classes c) ≡ true → HasBelow classes met c
 has_below_itself classes met c e = let (x, y) = and_both (has_met met c) (is_concrete classes c) e in (c, fits_itself classes c y, x)

@@ -6,7 +6,7 @@ use Rattle.std.specs.Prelude.{Bool, true, false, ◌||◌}
 use Rattle.std.specs.List.{list_any}
 use Rattle.std.specs.Option.{option_or}
 use Rattle.at_model.specs.Declarations.{first_given}
-use Rattle.at_typing.specs.declared.fault.RuleCode.{RuleCode}
+use Rattle.at_kinds.specs.declared.code.RuleCode.{RuleCode}
 use Rattle.at_typing.specs.Located.{Located}
 use Rattle.at_typing.specs.Declaring.{fault_at, fault_if}
 

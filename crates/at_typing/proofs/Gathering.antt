@@ -22,14 +22,14 @@ use Rattle.at_rules.specs.declared.rules.Attribute.{Attribute as AttributeValue}
 use Rattle.at_rules.specs.declared.rules.Equations.{Equations}
 use Rattle.at_typing.specs.Building.{meaning_if, meanings}
 use Rattle.at_typing.specs.Declaring.{fault_if, is_attribute, is_own_equation, getter_in, differs, is_on_one_line, is_below, is_sub_or_none, is_same_getter, clashes, is_same_equation, declared_twice, twice_at, equation_twice, equation_at, binds_twice, class_text, name_text}
-use Rattle.at_typing.specs.Judging.{Judgement, Is, Wrong}
+use Rattle.at_kinds.specs.Judging.{Judgement, Is, Wrong}
 use Rattle.at_typing.specs.Located.{Located}
 use Rattle.at_typing.specs.Meanings.{Meaning, meant}
 use Rattle.at_typing.specs.Numbering.{text_number}
 use Rattle.at_typing.specs.Ruling.{component_got}
 use Rattle.at_typing.specs.Seen.{attribute_of, same_key, same_place, Added, inherited_of, meaning_of, attribute_by, inherited_by, with_entry, Inserts, Stands}
-use Rattle.at_typing.specs.declared.fault.RuleCode.{RuleCode}
-use Rattle.at_typing.specs.declared.fault.RuleCode.TheVariants as code
+use Rattle.at_kinds.specs.declared.code.RuleCode.{RuleCode}
+use Rattle.at_kinds.specs.declared.code.RuleCode.TheVariants as code
 use Rattle.at_typing.proofs.MeaningParts.{OfAttribute, OfOwn, OfInherited, of_words, same_class_text, same_name_text, same_getter, first_of, second_of}
 
 -- tests ----------------------------------------------------------------------------------------------------------------
@@ -98,7 +98,7 @@ no_fault true c d is = absurd (none-some _ (sym is))
 no_fault false c d is = refl
 
 -- an attribute clashes with none before it
-no_clash : (classes : Classes) (ds : List Located) (i : ℕ) (d : Located) → i < length ds → d ≡ get_or ds i d → declared_twice classes ds ≡ None → is_attribute d.decl.form ≡ true → list_any (clashes classes d) (take i ds) ≡ false
+pub no_clash : (classes : Classes) (ds : List Located) (i : ℕ) (d : Located) → i < length ds → d ≡ get_or ds i d → declared_twice classes ds ≡ None → is_attribute d.decl.form ≡ true → list_any (clashes classes d) (take i ds) ≡ false
 no_clash classes ds i d less at none declares = by (is_attribute d.decl.form) declares (list_any (clashes classes d) (take i ds)) (binds_twice d.decl.form) (no_fault ((is_attribute d.decl.form && list_any (clashes classes d) (take i ds)) || binds_twice d.decl.form) code.AttributeTwice d (ap (twice_at classes ds i) at ∙ given_at (twice_at classes ds) ds i d less none))
   where
     by : (a : Bool) → a ≡ true → (b c : Bool) → ((a && b) || c) ≡ false → b ≡ false

@@ -9,7 +9,7 @@ use Rattle.at_rules.specs.declared.rules.Equations.{Equations}
 use Rattle.at_typing.specs.AttributeKeys.{AreAttributes, IsAmong}
 use Rattle.at_typing.specs.Building.{meanings, refusal, refused, refused_at, first_fault}
 use Rattle.at_typing.specs.Declaring.{over_limit, accessor_named, declared_twice, without_attribute, equation_twice, fault_together}
-use Rattle.at_typing.specs.Judging.{Judgement}
+use Rattle.at_kinds.specs.Judging.{Judgement}
 use Rattle.at_typing.specs.Located.{Located}
 use Rattle.at_typing.specs.Meanings.{Meaning, meant, signatures}
 use Rattle.at_typing.specs.Numbering.{numbered_view, AreNumbered, IsNamed}
@@ -19,8 +19,8 @@ use Rattle.at_typing.specs.declared.fault.RuleFault.{RuleFault}
 use Rattle.at_typing.specs.declared.fault.RuleFault.TheVariants as fault
 use Rattle.at_typing.specs.declared.meaning.Among.{Among}
 use Rattle.at_typing.specs.declared.numbered.Numbered.{Numbered as NumberedValue}
-use Rattle.at_typing.specs.declared.typing.TypeFault.{TypeFault}
-use Rattle.at_typing.specs.declared.typing.TypeFault.TheVariants as type_fault
+use Rattle.at_kinds.specs.declared.typing.TypeFault.{TypeFault}
+use Rattle.at_kinds.specs.declared.typing.TypeFault.TheVariants as type_fault
 use Rattle.at_typing.proofs.FirstFaults.{NoneBefore, none_more, first_here, none_at_all}
 use Rattle.at_typing.proofs.Gathering.{stands_more, other_none, first_none}
 

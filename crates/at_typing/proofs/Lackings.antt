@@ -16,7 +16,7 @@ use Rattle.at_typing.specs.Located.{Located}
 use Rattle.at_typing.specs.Numbering.{numbered_view, known_class, AreNumbered}
 use Rattle.at_typing.specs.Walks.{has_met}
 use Rattle.at_typing.specs.declared.fault.Fault.{Fault}
-use Rattle.at_typing.specs.declared.fault.RuleCode.{RuleCode}
+use Rattle.at_kinds.specs.declared.code.RuleCode.{RuleCode}
 use Rattle.at_typing.specs.declared.numbered.NamedClass.{NamedClass}
 use Rattle.at_typing.specs.declared.numbered.NamedClass.TheVariants.{Known, Unknown}
 use Rattle.at_typing.specs.declared.numbered.Numbered.{Numbered as NumberedValue}

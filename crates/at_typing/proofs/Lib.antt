@@ -1,6 +1,4 @@
 mod Locating
-mod Accessing
-mod Signing
 mod Binding
 mod FirstFaults
 mod FirstValues
@@ -29,5 +27,10 @@ mod MeaningParts
 mod Gathering
 mod InOrder
 mod Built
-mod Parts
-mod Seen
+mod Literals
+mod KindsJudged
+mod KindsDeclared
+mod KindsOfBodies
+mod InheritedAlike
+mod EquationsOfKinds
+pub mod BuiltWellFormed

@@ -10,15 +10,15 @@ use Rattle.at_model.specs.Classes.{Class, Classes, class_of_name, parts}
 use Rattle.at_model.specs.Rules.{Attribute, OwnEquation, InheritedEquation}
 use Rattle.at_jrag.specs.Syntax.{Place, Word, KindWord, Body, DeclForm}
 use Rattle.at_jrag.specs.Syntax as written
-use Rattle.at_typing.specs.Accessors.{accessed, is_got, shape_of}
+use Rattle.at_kinds.specs.Accessors.{accessed, is_got, shape_of}
 use Rattle.at_typing.specs.Declaring.{is_attribute, is_inherited, is_own_equation, getter_in, params_in, body_in, class_text, name_text, synthesized_named, inherited_named, is_synthesized_by, is_below, attributes}
-use Rattle.at_typing.specs.Judging.{Judgement, Is, Wrong, and_then}
+use Rattle.at_kinds.specs.Judging.{Judgement, Is, Wrong, and_then}
 use Rattle.at_typing.specs.Located.{Located, class_word}
 use Rattle.at_typing.specs.Meanings.{Meaning, attribute, attribute_meant, own_equation, own_meant, inherited_equation, inherited_meant, body_meant, body_if, signatures, with_body, form_meant, synthesized_meant, meant}
 use Rattle.at_typing.specs.Ruling.{or_unknown, class_named, kind_named, params_named, component_got, component_at, is_component, index_of_list}
-use Rattle.at_typing.specs.Signatures.{Declared}
-use Rattle.at_typing.specs.declared.fault.RuleCode.{RuleCode}
-use Rattle.at_typing.specs.declared.fault.RuleCode.TheVariants as code
+use Rattle.at_kinds.specs.Signatures.{Declared}
+use Rattle.at_kinds.specs.declared.code.RuleCode.{RuleCode}
+use Rattle.at_kinds.specs.declared.code.RuleCode.TheVariants as code
 
 abbrev pub OfAttribute : Classes → Located → Attribute → Type 0
 OfAttribute classes d a = (is_attribute d.decl.form ≡ true) × (class_of_name classes (class_text d) ≡ Some a.class) × (a.name ≡ name_text d) × (is_inherited d.decl.form ≡ a.is_inherited)

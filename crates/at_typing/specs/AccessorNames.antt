@@ -3,7 +3,7 @@ use Rattle.std.specs.Prelude.{◌≡◌, ℕ, ◌+◌, Bool, false, ◌||◌, �
 use Rattle.std.specs.Str.{bytes_eq}
 use Rattle.std.specs.List.{list_any}
 use Rattle.at_model.specs.Classes.{Classes, Component, parts}
-use Rattle.at_typing.specs.Accessors.{is_optional, is_list}
+use Rattle.at_kinds.specs.Accessors.{is_optional, is_list}
 use Rattle.at_typing.specs.declared.checks.accessor_names.Accessors.{Accessors}
 
 -- the test holds of a class, counted from k

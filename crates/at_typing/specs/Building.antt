@@ -8,11 +8,11 @@ use Rattle.at_model.specs.Declarations.{first_given}
 use Rattle.at_model.specs.Rules.{Rules}
 use Rattle.at_typing.specs.Completing.{IsFirstFault, LacksOwn, LacksInherited}
 use Rattle.at_typing.specs.Declaring.{fault_at, fault_together}
-use Rattle.at_typing.specs.Judging.{Judgement, Is, Wrong}
+use Rattle.at_kinds.specs.Judging.{Judgement, Is, Wrong}
 use Rattle.at_typing.specs.Located.{Located}
 use Rattle.at_typing.specs.Meanings.{Meaning, meant}
 use Rattle.at_typing.specs.declared.fault.Fault.{Fault}
-use Rattle.at_typing.specs.declared.fault.RuleCode.TheVariants as code
+use Rattle.at_kinds.specs.declared.code.RuleCode.TheVariants as code
 use Rattle.at_typing.specs.declared.fault.RuleFault.{RuleFault}
 use Rattle.at_typing.specs.declared.fault.RuleFault.TheVariants.{Refused, Memory}
 

@@ -8,11 +8,11 @@ use Rattle.at_model.specs.Classes.{Classes, is_sub, class_of_name}
 use Rattle.at_model.specs.Declarations.{first_given}
 use Rattle.at_jrag.specs.Syntax.{Place, Word, Kind, Int, Bool', Text, Class, KindWord, Param, Params, Ending, With, Semicolon, Body, DeclForm, Synthesized, Inherited, Equation, InheritedEquation, Decl}
 use Rattle.at_jrag.specs.Syntax as written
-use Rattle.at_typing.specs.Accessors.{is_accessor}
+use Rattle.at_kinds.specs.Accessors.{is_accessor}
 use Rattle.at_typing.specs.Located.{Located, class_word, name_word}
 use Rattle.at_typing.specs.declared.fault.Fault.{Fault}
-use Rattle.at_typing.specs.declared.fault.RuleCode.{RuleCode}
-use Rattle.at_typing.specs.declared.fault.RuleCode.TheVariants as code
+use Rattle.at_kinds.specs.declared.code.RuleCode.{RuleCode}
+use Rattle.at_kinds.specs.declared.code.RuleCode.TheVariants as code
 
 abbrev pub fault_at : RuleCode → Located → Place → Fault
 fault_at c d at = record { code = c; file = d.file; at = at }

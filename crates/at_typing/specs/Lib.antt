@@ -1,8 +1,3 @@
-pub mod Signatures
-pub mod Accessors
-pub mod Kinds
-pub mod Judging
-pub mod Typed
 pub mod Located
 pub mod Declaring
 pub mod Bound

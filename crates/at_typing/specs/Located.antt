@@ -1,6 +1,7 @@
 -- The declarations of all aspect files, in order, each with the number of its file. They are counted from 1: the grammar is 0.
 use Rattle.std.specs.Prelude.{ℕ, ◌+◌, List, [], ◌∷◌, ◌++◌, map, Vec}
-use Rattle.std.specs.List.{flat_map}
+use Rattle.std.specs.List.{flat_map, AllByRecursion}
+use Rattle.at_jrag.specs.Grammar.{Row, File}
 use Rattle.at_jrag.specs.Syntax.{Word, DeclForm, Synthesized, Inherited, Equation, InheritedEquation, Decl, Aspect}
 use Rattle.at_jrag.specs.View.{aspect_view, decl_view}
 use Rattle.at_jrag.specs.declared.syntax.Aspect.{Aspect as AspectValue}
@@ -41,3 +42,11 @@ name_word (InheritedEquation class getter index name params body) = name
 -- those of files that were read
 abbrev pub declarations_in : {Z : Type 0} → List (Vec AspectValue Z) → List Located
 declarations_in files = located 1 (map (λ f. map aspect_view f.items) files)
+
+-- there are tokens that spell the aspects
+abbrev pub IsSpelled : List Aspect → Type 0
+IsSpelled as' = (tokens : Row) × File as' tokens []
+
+-- so it is with the aspects of each file
+abbrev pub AreSpelled : {Z : Type 0} → List (Vec AspectValue Z) → Type 0
+AreSpelled files = AllByRecursion IsSpelled (map (λ f. map aspect_view f.items) files)

@@ -10,11 +10,11 @@ use Rattle.at_jrag.specs.Syntax.{Word, KindWord, Body, DeclForm, Synthesized, In
 use Rattle.at_rules.specs.Bodies.{kind_view}
 use Rattle.at_rules.specs.declared.body.Kind.{Kind}
 use Rattle.at_typing.specs.Declaring.{is_inherited, is_lazy, result_in, params_in, index_in, body_in, class_text, name_text, synthesized_named, inherited_named}
-use Rattle.at_typing.specs.Judging.{Judgement, Is, Wrong, and_then, Scope, body_of as body_judged}
+use Rattle.at_kinds.specs.Judging.{Judgement, Is, Wrong, and_then, Scope, body_of as body_judged}
 use Rattle.at_typing.specs.Located.{Located, class_word}
 use Rattle.at_typing.specs.Ruling.{written_kind, class_named, kind_named, params_named, as_declared, component_got, index_of_list, bound}
-use Rattle.at_typing.specs.Signatures.{Declared}
-use Rattle.at_typing.specs.declared.fault.RuleCode.TheVariants as code
+use Rattle.at_kinds.specs.Signatures.{Declared}
+use Rattle.at_kinds.specs.declared.code.RuleCode.TheVariants as code
 
 -- the attributes that are declared -----------------------------------------------------------------------------------
 

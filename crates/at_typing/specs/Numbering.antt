@@ -7,7 +7,7 @@ use Rattle.at_jrag.specs.View.{decl_view}
 use Rattle.at_typing.specs.Declaring.{class_text, name_text, is_sub_or_none, fault_if, fault_at, is_attribute, long_text, body_in}
 use Rattle.at_typing.specs.Located.{Located}
 use Rattle.at_typing.specs.declared.fault.Fault.{Fault}
-use Rattle.at_typing.specs.declared.fault.RuleCode.TheVariants as code
+use Rattle.at_kinds.specs.declared.code.RuleCode.TheVariants as code
 use Rattle.at_typing.specs.declared.numbered.NamedClass.{NamedClass}
 use Rattle.at_typing.specs.declared.numbered.NamedClass.TheVariants as named
 use Rattle.at_typing.specs.declared.numbered.Numbered.{Numbered as NumberedValue}

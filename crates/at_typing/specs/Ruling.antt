@@ -7,11 +7,11 @@ use Rattle.at_jrag.specs.Syntax.{Place, Word, KindWord, Param}
 use Rattle.at_jrag.specs.Syntax as written
 use Rattle.at_rules.specs.declared.body.Kind.{Kind}
 use Rattle.at_rules.specs.declared.body.Kind.TheVariants as kind
-use Rattle.at_typing.specs.Accessors.{accessed, shape_of, is_list}
-use Rattle.at_typing.specs.Judging.{Judgement, Is, Wrong, and_then, Bound}
-use Rattle.at_typing.specs.declared.fault.RuleCode.TheVariants as code
-use Rattle.at_typing.specs.declared.signatures.WrittenKind.{WrittenKind}
-use Rattle.at_typing.specs.declared.signatures.WrittenKind.TheVariants.{Known, Strange}
+use Rattle.at_kinds.specs.Accessors.{accessed, shape_of, is_list}
+use Rattle.at_kinds.specs.Judging.{Judgement, Is, Wrong, and_then, Bound}
+use Rattle.at_kinds.specs.declared.code.RuleCode.TheVariants as code
+use Rattle.at_kinds.specs.declared.signatures.WrittenKind.{WrittenKind}
+use Rattle.at_kinds.specs.declared.signatures.WrittenKind.TheVariants.{Known, Strange}
 
 -- kinds as they are written -------------------------------------------------------------------------------------------
 

@@ -16,7 +16,7 @@ use Rattle.at_rules.specs.declared.rules.Equations.{Equations}
 use Rattle.at_typing.specs.AttributeKeys.{AreAttributes, IsAmong}
 use Rattle.at_typing.specs.Building.{meanings, refusal}
 use Rattle.at_typing.specs.Declaring.{fault_at, name_text}
-use Rattle.at_typing.specs.Judging.{Judgement, Is, Wrong}
+use Rattle.at_kinds.specs.Judging.{Judgement, Is, Wrong}
 use Rattle.at_typing.specs.Located.{Located}
 use Rattle.at_typing.specs.Meanings.{Meaning, signatures, inherited_equation}
 use Rattle.at_typing.specs.Numbering.{numbered_view, IsNamed}
@@ -25,8 +25,8 @@ use Rattle.at_typing.specs.declared.fault.RuleFault.{RuleFault}
 use Rattle.at_typing.specs.declared.fault.RuleFault.TheVariants as fault
 use Rattle.at_typing.specs.declared.meaning.Among.{Among}
 use Rattle.at_typing.specs.declared.numbered.Numbered.{Numbered as NumberedValue}
-use Rattle.at_typing.specs.declared.typing.TypeFault.{TypeFault}
-use Rattle.at_typing.specs.declared.typing.TypeFault.TheVariants.{Refused, Memory}
+use Rattle.at_kinds.specs.declared.typing.TypeFault.{TypeFault}
+use Rattle.at_kinds.specs.declared.typing.TypeFault.TheVariants.{Refused, Memory}
 
 -- an attribute of a class, which the declaration declares
 abbrev pub attribute_of : Located → ℕ × AttributeValue → Attribute

@@ -2,11 +2,12 @@
 
 ghost use Rattle.std.specs.Prelude.{◌≡◌, List, [], None, map, IfOk};
 ghost use Rattle.at_model.specs.Rules.{AreComplete};
+ghost use Rattle.at_model.specs.WellFormed.{AreWellFormed, IsHierarchy};
 ghost use Rattle.at_typing.specs.AttributeKeys.{AreAttributes};
 ghost use Rattle.at_typing.specs.Building.{first_fault, refused, Builds, IsLack};
 ghost use Rattle.at_typing.specs.Completing.{AreDeclared};
 ghost use Rattle.at_typing.specs.Declaring.{fault_together};
-ghost use Rattle.at_typing.specs.Located.{declarations_in};
+ghost use Rattle.at_typing.specs.Located.{declarations_in, AreSpelled};
 ghost use Rattle.at_typing.specs.Meanings.{meant as meant_by_itself};
 ghost use Rattle.at_typing.specs.Numbering.{numbered_view, AreNumbered};
 ghost use Rattle.at_typing.specs.Seen.{refusal_of, AddsOrTells, IsAbout, Means, Tells};
@@ -18,10 +19,10 @@ use crate::fault::{Fault, RuleFault};
 use crate::hierarchy::Hierarchy;
 use crate::meaning::Among;
 use crate::numbered::{Declarations, Numbered};
-use crate::typing::TypeFault;
 use crate::written::signatures_of;
 use at_class::ClassTable;
 use at_jrag::Aspect;
+use at_kinds::typing::TypeFault;
 use at_rules::{Equations, Rules};
 use indexmap::IndexMap;
 use std::alloc::Global;
@@ -37,6 +38,7 @@ use std::alloc::Global;
 pub fn build(alloc: Global, classes: ClassTable, files: &[Vec<Aspect>]) -> Result<Rules, RuleFault>
     ensures built { Builds classes (declarations_in files.now) result }
     ensures complete { IfOk result AreComplete }
+    ensures well_formed { IsHierarchy classes → AreSpelled files.now → IfOk result AreWellFormed }
     ensures classes { IfOk result (λ r. r.classes ≡ classes) }
 {
     let Declarations { items, names } = Declarations::of(alloc, &classes, files)?;

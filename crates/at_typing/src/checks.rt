@@ -14,10 +14,11 @@ mod limits;
 mod twice;
 
 use crate::attributes::Attributes;
-use crate::fault::{Fault, RuleCode};
+use crate::fault::Fault;
 use crate::numbered::Numbered;
 use accessor_names::accessor_named;
 use at_class::ClassTable;
+use at_kinds::RuleCode;
 pub use completeness::class_without_equation;
 use equations::{equation_twice, without_attribute};
 pub use exposure::inherited_without_equation;

@@ -1,10 +1,9 @@
 //! The classes below others, and what holds of classes by whatever number.
 
-ghost use Rattle.std.specs.Prelude.{◌≡◌, map};
-ghost use Rattle.at_class.specs.View.{part_view};
-ghost use Rattle.at_model.specs.Classes.{is_concrete, parts};
+ghost use Rattle.std.specs.Prelude.{◌≡◌};
+ghost use Rattle.at_model.specs.Classes.{is_concrete};
 
-use at_class::{ClassId, ClassTable, Part};
+use at_class::{ClassId, ClassTable};
 use std::alloc::{AllocError, Global};
 
 /// Whether the class is there and not abstract.
@@ -15,17 +14,6 @@ pub fn is_concrete(classes: &ClassTable, class: ClassId) -> bool
         !classes.is_abstract(class)
     } else {
         false
-    }
-}
-
-/// The components of the class, none where it isn't there.
-pub fn parts_of(classes: &ClassTable, class: ClassId) -> &[Part]
-    ensures { map part_view result.now ≡ parts classes.now class }
-{
-    if class.index() < classes.len() {
-        classes.parts(class)
-    } else {
-        &[]
     }
 }
 

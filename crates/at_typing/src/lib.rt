@@ -2,20 +2,18 @@
 //! a class table, or the first fault that they have.
 #![tactic(auto)]
 
-mod accessors;
 mod attributes;
 mod building;
 mod checks;
 mod fault;
 mod firsts;
 mod hierarchy;
+pub mod laws;
 mod located;
 mod meaning;
 mod numbered;
-mod signatures;
-mod typing;
 mod walk;
 mod written;
 
 pub use building::build;
-pub use fault::{Fault, RuleCode, RuleFault};
+pub use fault::{Fault, RuleFault};

@@ -6,13 +6,13 @@ ghost use Rattle.at_typing.specs.Numbering.{IsOfItsClass, known_class as known_c
 ghost use Rattle.at_typing.specs.Declaring.{result_in};
 ghost use Rattle.at_typing.specs.Meanings.{signature, signature_if, signatures};
 ghost use Rattle.at_typing.specs.Ruling.{known_kind, as_written, written_kind};
-ghost use Rattle.at_typing.specs.Signatures.{declared_view};
+ghost use Rattle.at_kinds.specs.Signatures.{declared_view};
 
 use crate::located::{is_inherited, is_lazy, name_word, params_in, result_in};
 use crate::numbered::{NamedClass, Numbered};
-use crate::signatures::{Signature, Signatures, WrittenKind};
 use at_class::{ClassId, ClassTable};
 use at_jrag::{Kind as KindForm, KindWord, Param};
+use at_kinds::signatures::{Signature, Signatures, WrittenKind};
 use at_rules::Kind;
 use std::alloc::{AllocError, Global};
 

@@ -3,3 +3,4 @@ pub mod Declaring
 pub mod TermFiles
 pub mod Ruled
 pub mod Started
+pub mod RulesTyped

@@ -1,7 +1,6 @@
 -- What was read as a grammar is named by names.
 use Rattle.std.proofs.Common.{◌≡◌, ℕ, true, List, [], ◌∷◌, map, Option, Some, None, sym, ap, subst, String, string_bytes}
 use Rattle.std.specs.List.{All, AllByRecursion}
-use Rattle.std.specs.Option.{IfSome, option_map}
 use Rattle.std.specs.Global.{Global}
 use Rattle.std.proofs.lemmas.List.Elements.{All-nil, All-cons}
 use Rattle.at_model.specs.Names.{is_name}
@@ -9,8 +8,8 @@ use Rattle.at_model.specs.Declarations.{IsDeclarationNamed, PartDeclaration}
 use Rattle.at_class.specs.Grammar.{declaration_view, part_declaration_view}
 use Rattle.at_grammar.specs.declared.syntax.ClassDecl.{ClassDecl}
 use Rattle.at_grammar.specs.declared.syntax.PartDecl.{PartDecl}
-use Rattle.at_grammar.specs.Grammar.{Word, Part, Child, Children, Optional, Token, Declaration, IsFile, IsDeclaration, IfWritten, IsName, IsBody, IsPart}
-use Rattle.at_grammar.specs.Meaning.{seen_class, seen_part, class_means, part_means, body_means, text_of, bytes_of}
+use Rattle.at_grammar.specs.Grammar.{Part, Child, Children, Optional, Token, Declaration, IsFile, IsDeclaration, IsBody, IsPart}
+use Rattle.at_grammar.specs.Meaning.{seen_class, seen_part, class_means, part_means, body_means}
 
 part_named : (p : PartDecl) (q : Part) → IsPart q → (part_means q).name ≡ string_bytes p.name → is_name (string_bytes p.name) ≡ true
 part_named p (Child t) h e = subst (λ (n : List ℕ). is_name n ≡ true) e h.0
@@ -34,15 +33,9 @@ body_named : (ps : List PartDecl) (b : Option (List Part)) → IsBody b → map 
 body_named ps None h e = no_parts ps e
 body_named ps (Some qs) h e = parts_named ps qs h e
 
-parent_named : (o : Option (String Global)) (w : Option Word) → IfWritten IsName w → bytes_of o ≡ text_of w → IfSome (option_map string_bytes o) (λ b. is_name b ≡ true)
-parent_named None w h e = tt
-parent_named (Some s) None h e = absurd cc
-parent_named (Some s) (Some w) h e = let same : w.text ≡ string_bytes s = cc in subst (λ (n : List ℕ). is_name n ≡ true) same h
-
 class_named : (c : ClassDecl) (d : Declaration) → IsDeclaration d → seen_class c ≡ class_means d → IsDeclarationNamed (declaration_view c)
 class_named c d h e = record {
   name = subst (λ (n : List ℕ). is_name n ≡ true) (sym (ap (λ k. k.name) e)) h.0;
-  parent = parent_named c.parent d.parent h.1 (ap (λ k. k.parent) e);
   parts = body_named c.parts.items d.parts h.2 (ap (λ k. k.parts) e);
 }
 

@@ -1,15 +1,15 @@
 -- A tree file without the newline at its end is the text of its term.
-use Rattle.std.proofs.Common.{◌≡◌, ◌≢◌, ◌⊎◌, ℕ, ◌++◌, List, [], ◌∷◌, refl, sym, ap, ◌∙◌, append_assoc, arith, Option, Some, None, Bor, inl, inr, Result, Ok, Err}
+use Rattle.std.proofs.Common.{◌≡◌, ◌≢◌, ℕ, ◌++◌, List, [], ◌∷◌, refl, sym, ap, ◌∙◌, subst, append_assoc, arith, Option, Some, None, Bor, inl, inr}
 use Rattle.std.specs.Option.{MatchOption, unwrap_or}
-use Rattle.std.specs.Result.{IfOk, IfErr}
 use Rattle.std.proofs.lemmas.List.{append_cancel_right}
-use Rattle.at_model.specs.Terms.{Term, Node, IsTerm, term_text, with_commas, cell_texts}
-use Rattle.at_tree.specs.Reads.{Reads}
-use Rattle.at_tree.specs.View.{term_view}
-use Rattle.at_tree.specs.declared.fault.TermFault.{TermFault}
-use Rattle.at_tree.specs.declared.fault.TermFault.TheVariants.{Syntax, Memory}
-use Rattle.at_tree.specs.declared.term.Term.{Term as TermValue}
-use Rattle.attrd.specs.TreeFiles.{IsTermFile, IsNoTermFile}
+use Rattle.at_model.specs.Classes.{Classes}
+use Rattle.at_model.specs.Terms.{Term, Node, IsTerm, term_text, with_commas, cell_texts, term_of}
+use Rattle.at_model.specs.Trees.{Tree}
+use Rattle.at_tree.specs.ReadTrees.{IsReadAs, IsUnread}
+use Rattle.at_tree.specs.declared.tree.reading.ReadFault.TheVariants as read
+use Rattle.attrd.specs.Files.{IsText}
+use Rattle.attrd.specs.TreeFiles.{IsTermFile, IsWithoutNewline, RefusesTree, no_term, no_class, no_fit}
+use Rattle.attrd.specs.declared.code.Code.TheVariants as code
 
 abbrev last_or : ℕ → List ℕ → ℕ
 last_or d [] = d
@@ -29,31 +29,32 @@ no_newline t front e =
     let same : 41 ≡ 10 = sym (last-snoc 0 c.0 41) ∙ ap (last_or 0) (sym c.1 ∙ e) ∙ last-snoc 0 front 10 in
     absurd (omega (arith, same))
 
--- the text ends with a newline behind the inner text, or else it is the inner text
-abbrev pub Ends : List ℕ → List ℕ → Type 0
-Ends text inner = (text ≡ inner ++ 10 ∷ []) ⊎ ((text ≡ inner) × ((front : List ℕ) → text ≢ front ++ 10 ∷ []))
-
 pub ends : (text : List ℕ) (o : Option (Bor (List ℕ))) (other : Bor (List ℕ)) → other.now ≡ text
-    → MatchOption o ((front : List ℕ) → text ≢ front ++ 10 ∷ []) (λ x. text ≡ x.now ++ 10 ∷ []) → Ends text (unwrap_or o other).now
+    → MatchOption o ((front : List ℕ) → text ≢ front ++ 10 ∷ []) (λ x. text ≡ x.now ++ 10 ∷ []) → IsWithoutNewline text (unwrap_or o other).now
 ends text None other same h = inr (sym same, h)
 ends text (Some x) other same h = inl h
 
-pub is_term_file : (text inner : List ℕ) (t : Term) → Ends text inner → IsTerm t → term_text t ≡ inner → IsTermFile text t
+pub is_term_file : (text inner : List ℕ) (t : Term) → IsWithoutNewline text inner → IsTerm t → term_text t ≡ inner → IsTermFile text t
 is_term_file text inner t (inl e) is same = (is, inr (e ∙ ap (λ x. x ++ 10 ∷ []) (sym same)))
 is_term_file text inner t (inr h) is same = (is, inl (h.0 ∙ sym same))
 
 -- the term of the file is the term of the inner text
-inner_term : (text inner : List ℕ) (t : Term) → Ends text inner → IsTermFile text t → term_text t ≡ inner
+inner_term : (text inner : List ℕ) (t : Term) → IsWithoutNewline text inner → IsTermFile text t → term_text t ≡ inner
 inner_term text inner t (inl e) (is, inl same) = absurd (no_newline t inner (sym same ∙ e))
 inner_term text inner t (inl e) (is, inr same) = append_cancel_right (term_text t) inner (10 ∷ []) (sym same ∙ e)
 inner_term text inner t (inr h) (is, inl same) = sym same ∙ h.0
 inner_term text inner t (inr h) (is, inr same) = absurd (h.1 (term_text t) same)
 
-pub found : (text inner : List ℕ) (r : Result TermValue TermFault) → Ends text inner → IfOk r (λ t. IsTerm (term_view t) × (term_text (term_view t) ≡ inner)) → IfOk r (λ t. IsTermFile text (term_view t))
-found text inner (Ok t) e h = is_term_file text inner (term_view t) e h.0 h.1
-found text inner (Err f) e h = h
+-- the tree that is read of the inner text is that of the file
+pub is_tree_file : (classes : Classes) (text inner : List ℕ) (b : ℕ) (u : Tree) → IsWithoutNewline text inner → IsReadAs classes inner b u → IsTermFile text (term_of classes u)
+is_tree_file classes text inner b u e (t, is, s) = is_term_file text inner (term_of classes u) e (subst IsTerm (sym s.written) is.0) (ap term_text s.written ∙ is.1)
 
-pub not_found : (text inner : List ℕ) (r : Result TermValue TermFault) → Ends text inner → ((t : Term) → IsTerm t → term_text t ≡ inner → Reads term_view r t) → IfErr r (IsNoTermFile text)
-not_found text inner (Ok t) e only = tt
-not_found text inner (Err (Syntax at)) e only = λ t h. let same : Syntax at ≡ Memory = only t h.0 (inner_term text inner t e h) in absurd cc
-not_found text inner (Err Memory) e only = tt
+-- where none is read of it, the file is refused
+pub no_term_read : (classes : Classes) (bytes inner : List ℕ) (place : ℕ) → IsText bytes → IsWithoutNewline bytes inner → IsUnread classes inner 0 (read.Syntax place) → RefusesTree classes bytes code.TreeSyntax
+no_term_read classes bytes inner place text e none = no_term text (λ t h. none.0 (t, h.0, inner_term bytes inner t e h))
+
+pub no_class_read : (classes : Classes) (bytes inner : List ℕ) → IsText bytes → IsWithoutNewline bytes inner → IsUnread classes inner 0 read.Class → RefusesTree classes bytes code.TreeClass
+no_class_read classes bytes inner text e (t, is, unknown) = no_class t text (is_term_file bytes inner t e is.0 is.1) unknown
+
+pub no_fit_read : (classes : Classes) (bytes inner : List ℕ) → IsText bytes → IsWithoutNewline bytes inner → IsUnread classes inner 0 read.Fit → RefusesTree classes bytes code.TreeFit
+no_fit_read classes bytes inner text e (t, is, misfit) = no_fit t text (is_term_file bytes inner t e is.0 is.1) misfit.0 misfit.1

@@ -12,8 +12,8 @@ use Rattle.attrd.specs.Files.{IsText, IsNoText}
 use Rattle.at_typing.specs.Building.{Builds}
 use Rattle.at_typing.specs.Located.{Located, located}
 use Rattle.at_typing.specs.declared.fault.Fault.{Fault}
-use Rattle.at_typing.specs.declared.fault.RuleCode.{RuleCode}
-use Rattle.at_typing.specs.declared.fault.RuleCode.TheVariants as rule
+use Rattle.at_kinds.specs.declared.code.RuleCode.{RuleCode}
+use Rattle.at_kinds.specs.declared.code.RuleCode.TheVariants as rule
 use Rattle.at_typing.specs.declared.fault.RuleFault.TheVariants.{Refused as Broken}
 use Rattle.attrd.specs.declared.code.Code.{Code}
 use Rattle.attrd.specs.declared.code.Code.TheVariants as code

@@ -1,13 +1,11 @@
 -- Which tree a tree file gives, and by which fault it is refused.
-use Rattle.std.specs.Prelude.{◌≡◌, ◌⊎◌, ℕ, true, false, List, [], ◌∷◌, ◌++◌, Some, None}
+use Rattle.std.specs.Prelude.{◌≡◌, ◌≢◌, ◌⊎◌, ℕ, true, false, List, [], ◌∷◌, ◌++◌, Some, None}
 use Rattle.at_model.specs.Classes.{Classes}
 use Rattle.at_model.specs.Trees.{Tree, conforms}
 use Rattle.at_model.specs.Terms.{Term, IsTerm, term_text, term_of}
 use Rattle.at_model.specs.Edits.{is_within_limits}
 use Rattle.at_model.specs.Shaping.{names_classes}
 use Rattle.at_tree.specs.Shape.{IsShaped}
-use Rattle.at_tree.specs.declared.fault.TermFault.{TermFault}
-use Rattle.at_tree.specs.declared.fault.TermFault.TheVariants as term
 use Rattle.attrd.specs.Files.{IsText, IsNoText}
 use Rattle.attrd.specs.declared.code.Code.{Code}
 use Rattle.attrd.specs.declared.code.Code.TheVariants as code
@@ -18,10 +16,9 @@ use Rattle.attrd.specs.declared.start.fault.FileFault.TheVariants as fault
 abbrev pub IsTermFile : List ℕ → Term → Type 0
 IsTermFile bytes t = IsTerm t × ((bytes ≡ term_text t) ⊎ (bytes ≡ term_text t ++ 10 ∷ []))
 
--- it is the file of no term, unless memory was wanting
-abbrev pub IsNoTermFile : List ℕ → TermFault → Type 0
-IsNoTermFile bytes (term.Syntax at) = (t : Term) → IsTermFile bytes t → ⊥
-IsNoTermFile bytes term.Memory = Unit {0}
+-- the text without the newline at its end, where one stands there
+abbrev pub IsWithoutNewline : List ℕ → List ℕ → Type 0
+IsWithoutNewline text inner = (text ≡ inner ++ 10 ∷ []) ⊎ ((text ≡ inner) × ((front : List ℕ) → text ≢ front ++ 10 ∷ []))
 
 -- The file gives the tree: its term is written for it, it conforms to the start class, and it is within the limits.
 pub record GivesTree (classes : Classes) (bytes : List ℕ) (t : Tree) : Type 0 where

@@ -6,10 +6,14 @@ ghost use Rattle.std.specs.Prelude.{IfOk};
 ghost use Rattle.attrd.specs.Starts.{IsReady};
 
 mod code;
+#[cfg(test)]
+mod failing;
 mod failure;
 #[cfg(test)]
 mod keepers;
 mod options;
+#[cfg(test)]
+mod refusals;
 mod serving;
 #[cfg(test)]
 mod sessions;
@@ -18,7 +22,7 @@ mod sockets;
 mod start;
 
 use at_cache::KeepRecorded;
-use at_engine::{Engine, run};
+use at_engine::{Engine, Watched, run};
 use failure::{Failure, status, tell};
 use options::{Options, options};
 use serving::serve;
@@ -129,10 +133,19 @@ fn serve_asked(
 {
     match &options.socket {
         Some(path) => serve_socket(rt, path.as_str(), options.connections, engine),
-        None => match run(engine, &mut rt.reader(), &mut io::writer(rt)) {
-            Ok(_) => Ok(()),
-            Err(fault) => Err(Failure::Run(fault)),
-        },
+        None => serve_standard(rt, engine),
+    }
+}
+
+/// Serves standard input, and replies on standard output.
+fn serve_standard(rt: &HostRuntime, engine: &mut Engine<KeepRecorded>) -> Result<(), Failure>
+    requires { IsReady engine.old }
+{
+    let mut reader = Watched::new(rt.reader());
+    let mut writer = Watched::new(io::writer(rt));
+    match run(engine, &mut reader, &mut writer) {
+        Ok(_) => Ok(()),
+        Err(fault) => Err(Failure::Run(fault)),
     }
 }
 

@@ -4,7 +4,7 @@ ghost use Rattle.at_engine.specs.Engines.{rules_of, IsSound};
 ghost use Rattle.attrd.specs.Connections.{faults, counted};
 
 use at_cache::Keeper;
-use at_engine::{Engine, RunFault, run};
+use at_engine::{Engine, RunFault, Watched, run};
 use std::os::unix::net::UnixListener;
 
 /// How many connections ended, and how many of them by each fault.
@@ -103,7 +103,9 @@ fn serve_next<K: Keeper>(
     let Ok((stream, _)) = listener.accept() else {
         return Err(ConnectionFault::Socket);
     };
-    match run(engine, &mut &stream, &mut &stream) {
+    let mut reader = Watched::new(&stream);
+    let mut writer = Watched::new(&stream);
+    match run(engine, &mut reader, &mut writer) {
         Ok(_) => Ok(()),
         Err(fault) => Err(ConnectionFault::Run(fault)),
     }

@@ -1,10 +1,13 @@
 //! Whole sessions over the calculator sample, with the work that they cost.
 
-ghost use Rattle.std.specs.Prelude.{IfOk};
+ghost use Rattle.std.specs.Prelude.{None, IfOk};
+ghost use Rattle.at_cache.specs.Kept.{KeepsAll};
 ghost use Rattle.attrd.specs.Starts.{IsReady};
 
-use crate::start::{Files, Source, start, write_fault};
-use at_cache::KeepRecorded;
+mod texts;
+
+use crate::start::{Files, Source, start, start_with, write_fault};
+use at_cache::{KeepNone, KeepRecorded, KeepUntilEdit, Keeper};
 use at_engine::{Engine, Report, run};
 use std::alloc::{AllocError, Global};
 use std::test::Fail;
@@ -77,7 +80,7 @@ fn files(alloc: Global, tree: &str, name: &str, last: &str) -> Result<Files, All
 }
 
 /// The engine of the calculator's files.
-fn calculator(alloc: Global, tree: &str) -> Result<Engine<KeepRecorded>, Fail>
+pub fn calculator(alloc: Global, tree: &str) -> Result<Engine<KeepRecorded>, Fail>
     ensures { IfOk result IsReady }
 {
     Ok(start(alloc, &files(alloc, tree, "probe.jrag", PROBE)?)?)
@@ -92,8 +95,31 @@ fn served(alloc: Global, tree: &str, lines: &str) -> Result<(Vec<u8>, Report), F
     Ok((out, report))
 }
 
+/// What a fresh engine over these files and an empty keeper writes for the lines.
+fn heard<K: Keeper>(alloc: Global, files: &Files, keeper: K, lines: &str) -> Result<Vec<u8>, Fail>
+    requires { KeepsAll (λ _. None) (K.contents keeper) }
+{
+    let mut engine = start_with(alloc, files, keeper)?;
+    let mut reader = lines.as_bytes();
+    let mut out = Vec::new(alloc);
+    let _ = run(&mut engine, &mut reader, &mut out)?;
+    Ok(out)
+}
+
+/// Nothing, where the keepers that record nothing lead to the same replies.
+fn same_of_others(alloc: Global, tree: &str, lines: &str, told: &[u8]) -> Result<(), Fail> {
+    let files = files(alloc, tree, "probe.jrag", PROBE)?;
+    if heard(alloc, &files, KeepNone::new(alloc), lines)?.as_slice() != told {
+        return Err(Fail::new("that nothing is kept is heard"));
+    }
+    if heard(alloc, &files, KeepUntilEdit::new(alloc), lines)?.as_slice() != told {
+        return Err(Fail::new("what is kept until an edit is heard"));
+    }
+    Ok(())
+}
+
 /// What a fresh engine over the tree writes for the lines, and its work.
-fn played(alloc: Global, tree: &str, lines: &str) -> Result<(String, u64), Fail> {
+fn recorded(alloc: Global, tree: &str, lines: &str) -> Result<(String, u64), Fail> {
     let (out, report) = served(alloc, tree, lines)?;
     if report.memory > 0 {
         return Err(Fail::new("memory ran out"));
@@ -102,6 +128,13 @@ fn played(alloc: Global, tree: &str, lines: &str) -> Result<(String, u64), Fail>
         String::from_str(alloc, std::str::from_utf8(&out)?)?,
         report.work,
     ))
+}
+
+/// The same, where the other keepers lead to the same replies.
+fn played(alloc: Global, tree: &str, lines: &str) -> Result<(String, u64), Fail> {
+    let (told, work) = recorded(alloc, tree, lines)?;
+    same_of_others(alloc, tree, lines, told.as_bytes())?;
+    Ok((told, work))
 }
 
 #[test]
@@ -451,7 +484,7 @@ fn a_name_that_changes_is_looked_up_again(rt: HostRuntime) -> Result<(), Fail> {
 }
 
 /// The text that many times.
-fn repeated(alloc: Global, text: &str, times: usize) -> Result<String, AllocError> {
+pub fn repeated(alloc: Global, text: &str, times: usize) -> Result<String, AllocError> {
     let mut all = String::new(alloc);
     for _ in 0..times {
         all.push_str(text)?;
@@ -471,15 +504,15 @@ fn deep_insert(alloc: Global, blocks: usize) -> Result<String, AllocError> {
 #[test]
 fn a_tree_is_512_deep_and_no_deeper(rt: HostRuntime) -> Result<(), Fail> {
     let alloc = rt.alloc();
-    let (told, _) = played(alloc, TREE, &deep_insert(alloc, 510)?)?;
+    let (told, _) = recorded(alloc, TREE, &deep_insert(alloc, 510)?)?;
     assert_eq!(rt; told.as_str(), "0 ok 1\n0 = Decl(\"x\",Num(1))\n");
     let unchanged = "0 = Print(Add(Use(\"x\"),Num(2)))\n";
-    let (told, _) = played(alloc, TREE, &deep_insert(alloc, 511)?)?;
+    let (told, _) = recorded(alloc, TREE, &deep_insert(alloc, 511)?)?;
     assert_eq!(rt;
         told.as_str().strip_suffix(unchanged),
         Some("0 refused 12 limit\n")
     );
-    let (told, _) = played(alloc, TREE, &deep_insert(alloc, 513)?)?;
+    let (told, _) = recorded(alloc, TREE, &deep_insert(alloc, 513)?)?;
     assert_eq!(rt;
         told.as_str().strip_suffix(unchanged),
         Some("0 refused 1 syntax\n")
@@ -498,9 +531,9 @@ fn long_name(alloc: Global, bytes: usize) -> Result<String, AllocError> {
 #[test]
 fn a_token_has_4096_bytes_and_no_more(rt: HostRuntime) -> Result<(), Fail> {
     let alloc = rt.alloc();
-    let (told, _) = played(alloc, TREE, &long_name(alloc, 4096)?)?;
+    let (told, _) = recorded(alloc, TREE, &long_name(alloc, 4096)?)?;
     assert_eq!(rt; told.as_str(), "0 ok 1\n");
-    let (told, _) = played(alloc, TREE, &long_name(alloc, 4097)?)?;
+    let (told, _) = recorded(alloc, TREE, &long_name(alloc, 4097)?)?;
     assert_eq!(rt; told.as_str(), "0 refused 12 limit\n");
     Ok(())
 }
@@ -515,7 +548,7 @@ fn a_session_has_100_marks_and_no_more(rt: HostRuntime) -> Result<(), Fail> {
     lines.push_str("1 mark m0 /\n0 unmark m0\n0 mark m100 /\n")?;
     let mut replies = repeated(alloc, "0 ok 0\n", 100)?;
     replies.push_str("0 refused 12 limit\n1 ok 0\n0 ok 0\n0 ok 0\n")?;
-    let (told, _) = played(alloc, TREE, &lines)?;
+    let (told, _) = recorded(alloc, TREE, &lines)?;
     assert_eq!(rt; told.as_str(), replies.as_str());
     Ok(())
 }
@@ -533,11 +566,11 @@ fn a_tree_has_65536_nodes_and_no_more(rt: HostRuntime) -> Result<(), Fail> {
     let alloc = rt.alloc();
     let tree = wide(alloc, 65_533)?;
     let insert = "0 insert /Block Stmt 0 Decl(\"y\",-)\n";
-    let (told, _) = played(alloc, &tree, insert)?;
+    let (told, _) = recorded(alloc, &tree, insert)?;
     assert_eq!(rt; told.as_str(), "0 refused 12 limit\n");
     let mut lines = String::from_str(alloc, "0 drop /Block/Stmt:0\n")?;
     lines.push_str(insert)?;
-    let (told, _) = played(alloc, &tree, &lines)?;
+    let (told, _) = recorded(alloc, &tree, &lines)?;
     assert_eq!(rt; told.as_str(), "0 ok 1\n0 ok 2\n");
     Ok(())
 }
@@ -608,7 +641,7 @@ fn chained(alloc: Global, declarations: u32) -> Result<String, AllocError> {
 fn demands_follow_references(rt: HostRuntime) -> Result<(), Fail> {
     let alloc = rt.alloc();
     let tree = chained(alloc, 200)?;
-    let (told, work) = played(alloc, &tree, "0 ask /Block/Stmt:199 value()\n")?;
+    let (told, work) = recorded(alloc, &tree, "0 ask /Block/Stmt:199 value()\n")?;
     assert_eq!(rt; told.as_str(), "0 = 1\n");
     assert_eq!(rt; work, 997);
     Ok(())

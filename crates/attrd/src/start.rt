@@ -1,10 +1,10 @@
 //! The files of a server, and the engine that they make.
 
-ghost use Rattle.std.specs.Prelude.{None, IfOk, IfErr};
+ghost use Rattle.std.specs.Prelude.{◌≡◌, None, IfOk, IfErr};
 ghost use Rattle.at_cache.specs.Kept.{KeepsAll};
 ghost use Rattle.at_cache.specs.Recorded.{kept_in};
 ghost use Rattle.at_engine.specs.Engines.{rules_of, state_of, IsSound};
-ghost use Rattle.at_engine.specs.Keeping.{IsSpare};
+ghost use Rattle.at_engine.specs.Keeping.{IsSpare, work_of};
 ghost use Rattle.attrd.specs.Starts.{Starts, IsReady, IsStartFault};
 
 mod aspects;
@@ -34,6 +34,7 @@ pub fn start(alloc: Global, files: &Files) -> Result<Engine<KeepRecorded>, Start
     ensures started { IfOk result (λ e. Starts files.now (rules_of e) (state_of e)) }
     ensures ready { IfOk result IsReady }
     ensures spare { IfOk result (IsSpare (λ k. kept_in k.entries.entries)) }
+    ensures work { IfOk result (λ e. work_of e ≡ 0) }
     ensures refused { IfErr result (IsStartFault files.now) }
 {
     start_with(alloc, files, KeepRecorded::new(alloc))
@@ -53,6 +54,7 @@ pub fn start_with<K: Keeper>(
     ensures started { IfOk result (λ e. Starts files.now (rules_of e) (state_of e)) }
     ensures ready { IfOk result (IsSound K.contents) }
     ensures spare { IfOk result (IsSpare K.contents) }
+    ensures work { IfOk result (λ e. work_of e ≡ 0) }
     ensures refused { IfErr result (IsStartFault files.now) }
 {
     let classes = match classes_of(alloc, &files.grammar.bytes) {

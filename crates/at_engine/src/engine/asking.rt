@@ -30,8 +30,9 @@ impl<K: Keeper> Engine<K> {
     ghost use Rattle.at_model.specs.Run.{Instance};
     ghost use Rattle.at_model.specs.Meaning.{Answer as AnswerOf};
     ghost use Rattle.at_model.specs.Alike.{InstanceLike, Names};
-    ghost use Rattle.at_model.specs.Lines.{Ask, IsName};
-    ghost use Rattle.at_model.specs.Machine.{Asks, ByEquations, each, obeyed, parameters_of, value_named};
+    ghost use Rattle.at_model.specs.Lines.{Ask};
+    ghost use Rattle.at_model.specs.Names.{IsName};
+    ghost use Rattle.at_model.specs.Machine.{Asks, AnswersIn, each, obeyed, parameters_of, value_named};
     ghost use Rattle.at_protocol.specs.LineView.{argument_view, arguments_view, place_view};
     ghost use Rattle.at_rules.specs.Bodies.{kind_view};
     ghost use Rattle.at_store.specs.Shown.{contents, path as path_shown};
@@ -84,7 +85,7 @@ impl<K: Keeper> Engine<K> {
         requires sound { IsSound K.contents self.old }
         requires there { IsThere self.old.store (question node attribute values.items) }
         ensures answered { (q : Instance NodeOf) → InstanceLike (Names (path_shown self.old.store)) (question node attribute values.items) q
-            → IfOk result (λ f. (a : AnswerOf NodeOf) × ByEquations (rules_of self.old) (state_of self.old).tree q a × IsToldAs (rules_of self.old) (state_of self.old).tree a f) }
+            → IfOk result (λ f. (a : AnswerOf NodeOf) × AnswersIn (rules_of self.old) (state_of self.old).tree q a × IsToldAs (rules_of self.old) (state_of self.old).tree a f) }
         ensures kept { state_of self.new ≡ state_of self.old }
         ensures spares { (q : Instance NodeOf) → InstanceLike (Names (path_shown self.old.store)) (question node attribute values.items) q → IsTrue K.exact → IsSpare K.contents self.old → Spares K.contents (Asks q) result self.old self.new }
         ensures rules { rules_of self.new ≡ rules_of self.old }

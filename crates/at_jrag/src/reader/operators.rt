@@ -44,20 +44,20 @@ pub enum Prefix {
 fn operator_of(sign: &str) -> Option<(Operator, usize)>
     ensures { MatchOption result (sign_rank sign.now ≡ 0) (λ o. (sign.now ≡ operator_text (operator_view o.0)) × (o.1 ≡ operator_level (operator_view o.0)) × (sign_rank sign.now + o.1 ≡ 7)) }
 {
-    match sign {
-        "||" => Some((Operator::Or, 1)),
-        "&&" => Some((Operator::And, 2)),
-        "==" => Some((Operator::Same, 3)),
-        "!=" => Some((Operator::Differs, 3)),
-        "<" => Some((Operator::Below, RELATIONAL)),
-        "<=" => Some((Operator::AtMost, RELATIONAL)),
-        ">" => Some((Operator::Above, RELATIONAL)),
-        ">=" => Some((Operator::AtLeast, RELATIONAL)),
-        "+" => Some((Operator::Add, 5)),
-        "-" => Some((Operator::Subtract, 5)),
-        "*" => Some((Operator::Multiply, 6)),
-        "/" => Some((Operator::Divide, 6)),
-        "%" => Some((Operator::Remainder, 6)),
+    match sign.as_bytes() {
+        [b'|', b'|'] => Some((Operator::Or, 1)),
+        [b'&', b'&'] => Some((Operator::And, 2)),
+        [b'=', b'='] => Some((Operator::Same, 3)),
+        [b'!', b'='] => Some((Operator::Differs, 3)),
+        [b'<'] => Some((Operator::Below, RELATIONAL)),
+        [b'<', b'='] => Some((Operator::AtMost, RELATIONAL)),
+        [b'>'] => Some((Operator::Above, RELATIONAL)),
+        [b'>', b'='] => Some((Operator::AtLeast, RELATIONAL)),
+        [b'+'] => Some((Operator::Add, 5)),
+        [b'-'] => Some((Operator::Subtract, 5)),
+        [b'*'] => Some((Operator::Multiply, 6)),
+        [b'/'] => Some((Operator::Divide, 6)),
+        [b'%'] => Some((Operator::Remainder, 6)),
         _ => None,
     }
 }

@@ -1,8 +1,6 @@
 //! A path as it is read, character by character.
 ghost use Rattle.std.specs.Prelude.{◌<◌};
 
-use super::Step;
-
 /// The digits of an index.
 #[derive(Clone, Copy)]
 pub(super) struct Index {
@@ -22,11 +20,4 @@ pub(super) enum Place {
     Colon(String),
     /// The same, and digits.
     InIndex(String, Index),
-}
-
-/// What has been read of a path's text: the steps that a slash follows, and what stands behind.
-#[derive(Drop)]
-pub(super) struct Partial {
-    pub steps: Vec<Step>,
-    pub place: Place,
 }

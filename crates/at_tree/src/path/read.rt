@@ -8,8 +8,8 @@ ghost use Rattle.at_tree.specs.Stops.{IsPathText};
 ghost use Rattle.at_tree.specs.Reads.{Reads, StopsWith};
 ghost use Rattle.at_tree.specs.Finishes.{Finishes};
 
-use super::partial::{Partial, Place};
-use super::steps::step;
+use super::partial::Place;
+use super::steps::advance;
 use super::{Path, Step};
 use crate::fault::{Refused, TermFault};
 use at_text::names::is_reserved;
@@ -36,10 +36,9 @@ fn ends_with_part(steps: Vec<Step>, part: String, at: usize) -> Result<Path, Ter
 }
 
 /// The path that is whole at the end of its text.
-fn finish(partial: Partial, at: usize) -> Result<Path, TermFault>
-    ensures { Finishes path_view result (whole_path (partial_view partial)) at }
+fn finish(steps: Vec<Step>, place: Place, at: usize) -> Result<Path, TermFault>
+    ensures { Finishes path_view result (whole_path (partial_view steps.items place)) at }
 {
-    let Partial { steps, place } = partial;
     match place {
         Place::InPart(part) => ends_with_part(steps, part, at),
         Place::InIndex(part, index) => {
@@ -68,16 +67,22 @@ pub fn read_path(alloc: Global, text: &str) -> Result<Path, TermFault>
     // Else the fault stands at the first character that leads to no path's text.
     ensures fault { IfErr result (StopsWith IsPathText text.now) }
 {
-    let mut partial = Partial {
-        steps: Vec::new(alloc),
-        place: Place::Start,
-    };
-    for (at, c) in text.char_indices() {
-        partial = match step(alloc, partial, c) {
-            Ok(next) => next,
-            Err(Refused::Character) => return Err(TermFault::Syntax { at }),
+    let mut steps = Vec::new(alloc);
+    let mut place = Place::Start;
+    let mut rest = text;
+    while !rest.is_empty() {
+        match advance(alloc, &mut steps, place, rest) {
+            Ok((next, behind)) => {
+                place = next;
+                rest = behind;
+            }
+            Err(Refused::Character) => {
+                return Err(TermFault::Syntax {
+                    at: text.len() - rest.len(),
+                });
+            }
             Err(Refused::Memory) => return Err(TermFault::Memory),
-        };
+        }
     }
-    finish(partial, text.len())
+    finish(steps, place, text.len())
 }

@@ -1,81 +1,70 @@
-//! The steps of the reader of paths, each by one character.
-ghost use Rattle.std.specs.Prelude.{◌≡◌, ◌++◌, Some, string_bytes, encode_utf8};
+//! The steps of the reader of paths.
+ghost use Rattle.std.specs.Prelude.{◌≡◌, ◌<◌, ◌++◌, ℕ, List, Some, IfOk, IfErr, length, string_bytes, encode_utf8, encode_utf8_all};
+ghost use Rattle.at_model.specs.Paths.{Path};
+ghost use Rattle.at_tree.specs.declared.fault.Refused.TheVariants.{Character, Memory};
+ghost use Rattle.at_tree.specs.Leads.{Leads, Takes, TakesNone};
 ghost use Rattle.at_tree.specs.PartialPath.{at, InPart, in_part, in_index, in_colon, step, next_step};
-ghost use Rattle.at_tree.specs.PathSeen.{Gives, partial_view};
+ghost use Rattle.at_tree.specs.PathSeen.{Gives, GivesBehind, partial_view, place_view};
 ghost use Rattle.at_tree.specs.PathView.{steps_view, step_view};
 
 use super::Step;
-use super::partial::{Index, Partial, Place};
+use super::partial::{Index, Place};
 use crate::fault::Refused;
+use crate::runs::{Run, cut};
 use at_text::names::{continues_name, is_reserved, starts_name};
 use std::alloc::Global;
 
 /// The slash behind a step.
-fn next_step(mut steps: Vec<Step>, step: Step) -> Result<Partial, Refused>
-    ensures { Gives result (Some (next_step (steps_view steps.items) (step_view step))) }
+fn next_step(steps: &mut Vec<Step>, step: Step) -> Result<Place, Refused>
+    ensures { Gives steps.new.items result (Some (next_step (steps_view steps.old.items) (step_view step))) }
 {
     steps.push(step)?;
-    Ok(Partial {
-        steps,
-        place: Place::Slash,
-    })
+    Ok(Place::Slash)
 }
 
 /// The front of a name, one character longer.
-fn longer(steps: Vec<Step>, mut part: String, c: char) -> Result<Partial, Refused>
-    ensures { Gives result (Some (at (steps_view steps.items) (InPart (string_bytes part ++ encode_utf8 c)))) }
+fn longer(mut part: String, c: char) -> Result<Place, Refused>
+    ensures { (ss : Path) → GivesBehind ss result (Some (at ss (InPart (string_bytes part ++ encode_utf8 c)))) }
 {
     part.push(c)?;
-    Ok(Partial {
-        steps,
-        place: Place::InPart(part),
-    })
+    Ok(Place::InPart(part))
 }
 
 /// The character behind the front of a name.
-fn in_part(steps: Vec<Step>, part: String, c: char) -> Result<Partial, Refused>
-    ensures { Gives result (in_part (steps_view steps.items) (string_bytes part) c) }
+fn in_part(steps: &mut Vec<Step>, part: String, c: char) -> Result<Place, Refused>
+    ensures { Gives steps.new.items result (in_part (steps_view steps.old.items) (string_bytes part) c) }
 {
     if continues_name(c) {
-        return longer(steps, part, c);
+        return longer(part, c);
     }
     if is_reserved(&part) {
         return Err(Refused::Character);
     }
     match c {
-        ':' => Ok(Partial {
-            steps,
-            place: Place::Colon(part),
-        }),
+        ':' => Ok(Place::Colon(part)),
         '/' => next_step(steps, Step { part, index: None }),
         _ => Err(Refused::Character),
     }
 }
 
 /// The first digit of an index.
-fn in_colon(steps: Vec<Step>, part: String, c: char) -> Result<Partial, Refused>
-    ensures { Gives result (in_colon (steps_view steps.items) (string_bytes part) c) }
+fn in_colon(steps: &mut Vec<Step>, part: String, c: char) -> Result<Place, Refused>
+    ensures { Gives steps.new.items result (in_colon (steps_view steps.old.items) (string_bytes part) c) }
 {
     if !c.is_ascii_digit() {
         return Err(Refused::Character);
     }
     let value = c as u32 - '0' as u32;
-    Ok(Partial {
-        steps,
-        place: Place::InIndex(part, Index { value }),
-    })
+    Ok(Place::InIndex(part, Index { value }))
 }
 
 /// The character behind the digits of an index.
-fn in_index(steps: Vec<Step>, part: String, index: Index, c: char) -> Result<Partial, Refused>
-    ensures { Gives result (in_index (steps_view steps.items) (string_bytes part) index.value c) }
+fn in_index(steps: &mut Vec<Step>, part: String, index: Index, c: char) -> Result<Place, Refused>
+    ensures { Gives steps.new.items result (in_index (steps_view steps.old.items) (string_bytes part) index.value c) }
 {
     if c.is_ascii_digit() && index.value > 0 && index.value < 100_000_000 {
         let value = index.value * 10 + (c as u32 - '0' as u32);
-        return Ok(Partial {
-            steps,
-            place: Place::InIndex(part, Index { value }),
-        });
+        return Ok(Place::InIndex(part, Index { value }));
     }
     if c != '/' {
         return Err(Refused::Character);
@@ -85,19 +74,48 @@ fn in_index(steps: Vec<Step>, part: String, index: Index, c: char) -> Result<Par
 }
 
 /// One more character.
-pub(super) fn step(alloc: Global, partial: Partial, c: char) -> Result<Partial, Refused>
-    ensures { Gives result (step (partial_view partial) c) }
+fn step(alloc: Global, steps: &mut Vec<Step>, place: Place, c: char) -> Result<Place, Refused>
+    ensures { Gives steps.new.items result (step (partial_view steps.old.items place) c) }
 {
-    let steps = partial.steps;
-    match partial.place {
-        Place::Start if c == '/' => Ok(Partial {
-            steps,
-            place: Place::Slash,
-        }),
-        Place::Slash if starts_name(c) => longer(steps, String::new(alloc), c),
+    match place {
+        Place::Start if c == '/' => Ok(Place::Slash),
+        Place::Slash if starts_name(c) => longer(String::new(alloc), c),
         Place::InPart(part) => in_part(steps, part, c),
         Place::Colon(part) => in_colon(steps, part, c),
         Place::InIndex(part, index) => in_index(steps, part, index, c),
         _ => Err(Refused::Character),
+    }
+}
+
+/// The front of a name with all that the name goes on with, and what follows it.
+fn whole_name<'a>(mut part: String, text: &'a str) -> Result<(Place, &'a str), Refused>
+    ensures leads { IfOk result (λ r. (cs : List ℕ) × (text.now ≡ encode_utf8_all cs ++ r.1.now) × ((ss : Path) → Leads step (at ss (InPart (string_bytes part))) cs (at ss (place_view r.0)))) }
+    ensures memory { IfErr result (λ e. e ≡ Memory) }
+{
+    let (more, rest) = cut(text, Run::Name);
+    part.push_str(more)?;
+    Ok((Place::InPart(part), rest))
+}
+
+/// The place behind the next character, or behind all that a name goes on with, and what follows it.
+pub(super) fn advance<'a>(
+    alloc: Global,
+    steps: &mut Vec<Step>,
+    place: Place,
+    text: &'a str,
+) -> Result<(Place, &'a str), Refused>
+    requires { 0 < length text.now }
+    ensures taken { IfOk result (λ r. Takes step (partial_view steps.old.items place) text.now (partial_view steps.new.items r.0) r.1.now) }
+    ensures refused { IfErr result (λ e. e ≡ Character → TakesNone step (partial_view steps.old.items place) text.now) }
+{
+    let mut chars = text.chars();
+    let Some(c) = chars.next() else {
+        return Err(Refused::Character);
+    };
+    let next = step(alloc, steps, place, c)?;
+    let rest = chars.as_str();
+    match next {
+        Place::InPart(part) => whole_name(part, rest),
+        next => Ok((next, rest)),
     }
 }

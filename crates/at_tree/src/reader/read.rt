@@ -8,7 +8,7 @@ ghost use Rattle.at_tree.specs.Stops.{IsTermText};
 ghost use Rattle.at_tree.specs.Reads.{Reads, StopsWith};
 ghost use Rattle.at_tree.specs.Finishes.{Finishes};
 
-use super::steps::step;
+use super::advance::advance;
 use super::{Partial, Place};
 use crate::fault::{Refused, TermFault};
 use crate::term::Term;
@@ -48,12 +48,20 @@ pub fn read_term(alloc: Global, text: &str) -> Result<Term, TermFault>
         levels: Vec::new(alloc),
         place: Place::Start,
     };
-    for (at, c) in text.char_indices() {
-        partial = match step(alloc, partial, c) {
-            Ok(next) => next,
-            Err(Refused::Character) => return Err(TermFault::Syntax { at }),
+    let mut rest = text;
+    while !rest.is_empty() {
+        match advance(alloc, partial, rest) {
+            Ok((next, behind)) => {
+                partial = next;
+                rest = behind;
+            }
+            Err(Refused::Character) => {
+                return Err(TermFault::Syntax {
+                    at: text.len() - rest.len(),
+                });
+            }
             Err(Refused::Memory) => return Err(TermFault::Memory),
-        };
+        }
     }
     finish(partial, text.len())
 }

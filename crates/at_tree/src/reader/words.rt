@@ -71,9 +71,11 @@ fn open_term(alloc: Global, levels: Vec<Level>, name: String) -> Result<Partial,
     if levels.len() >= MAX_DEPTH || is_reserved(&name) {
         return Err(Refused::Character);
     }
+    // most terms have two cells at most
+    let cells = Vec::with_capacity(alloc, 2)?;
     let level = Level {
         name,
-        cells: Vec::new(alloc),
+        cells,
         items: None,
     };
     inside(levels, level, Place::Start)

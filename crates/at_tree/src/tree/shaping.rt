@@ -151,7 +151,7 @@ fn shape_tree(
     if parts.len() != written.len() {
         return Err(ShapeFault::Fit);
     }
-    let mut cells = Vec::new(alloc);
+    let mut cells = Vec::with_capacity(alloc, written.len())?;
     for (i, cell) in written.iter().enumerate() {
         cells.push(shape_cell(alloc, classes, cell, parts[i].shape)?)?;
     }
@@ -199,7 +199,7 @@ fn shape_list(
     ensures found { IfOk result (λ v. terms_shaped classes.now (to_terms (map term_view terms.now)) under ≡ Some (to_trees (map tree_view v.items))) }
     ensures refused { IfErr result (IsNoneAtFit (terms_shaped classes.now (to_terms (map term_view terms.now)) under)) }
 {
-    let mut trees = Vec::new(alloc);
+    let mut trees = Vec::with_capacity(alloc, terms.len())?;
     for term in terms {
         trees.push(shape_tree(alloc, classes, term, under)?)?;
     }

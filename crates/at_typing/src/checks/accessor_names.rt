@@ -6,17 +6,18 @@ ghost use Rattle.at_class.specs.View.{part_view};
 ghost use Rattle.at_jrag.specs.View.{decl_form_view};
 ghost use Rattle.at_model.specs.Classes.{Classes};
 ghost use Rattle.at_typing.specs.AccessorNames.{any_component, any_optional, any_list, is_of_list, is_of_shape, HasNames, AddsNames};
-ghost use Rattle.at_typing.specs.Accessors.{is_common, is_accessor};
+ghost use Rattle.at_kinds.specs.Accessors.{is_common, is_accessor};
 ghost use Rattle.at_typing.specs.Declaring.{accessor_named, is_attribute};
 ghost use Rattle.at_typing.specs.Located.{name_word};
 ghost use Rattle.at_typing.specs.Numbering.{numbered_view};
 
 use super::fault_at;
-use crate::fault::{Fault, RuleCode};
+use crate::fault::Fault;
 use crate::located::{is_attribute, name_word};
 use crate::numbered::Numbered;
 use at_class::{ClassId, ClassTable, Part, PartShape};
 use at_jrag::DeclForm;
+use at_kinds::RuleCode;
 use indexmap::IndexSet;
 use std::alloc::{AllocError, Global};
 

@@ -3,15 +3,16 @@
 ghost use Rattle.std.specs.Prelude.{◌≡◌, IfOk};
 ghost use Rattle.at_typing.specs.Completing.{LacksAt, LacksBelow, LacksDeclared, LacksOwn, LooksAt, Tells, TellsFirst};
 ghost use Rattle.at_typing.specs.Hierarchies.{IsHierarchy};
-ghost use Rattle.at_typing.specs.declared.fault.RuleCode.TheVariants as code;
+ghost use Rattle.at_kinds.specs.declared.code.RuleCode.TheVariants as code;
 
 use super::fault_at;
-use crate::fault::{Fault, RuleCode};
+use crate::fault::Fault;
 use crate::hierarchy::{Hierarchy, is_concrete};
 use crate::located::{is_attribute, is_inherited};
 use crate::numbered::{NamedClass, Numbered};
 use crate::walk::Walk;
 use at_class::ClassId;
+use at_kinds::RuleCode;
 use at_rules::{AttrId, Rules};
 use std::alloc::{AllocError, Global};
 

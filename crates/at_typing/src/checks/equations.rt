@@ -10,11 +10,12 @@ ghost use Rattle.at_typing.specs.Numbering.{numbered_view, AreAlike, AreNumbered
 
 use super::fault_at;
 use crate::attributes::Attributes;
-use crate::fault::{Fault, RuleCode};
+use crate::fault::Fault;
 use crate::located::getter_in;
 use crate::numbered::{NamedClass, Numbered};
 use at_class::ClassTable;
 use at_jrag::{DeclForm, Ending};
+use at_kinds::RuleCode;
 use indexmap::IndexSet;
 use std::alloc::{AllocError, Global};
 

@@ -8,15 +8,16 @@ ghost use Rattle.at_typing.specs.Completing.{leads, is_passed, passed, is_met_co
 ghost use Rattle.at_typing.specs.Hierarchies.{IsHierarchy};
 ghost use Rattle.at_typing.specs.Numbering.{known_class};
 ghost use Rattle.at_typing.specs.Walks.{has_met, Meets, MeetsFrom};
-ghost use Rattle.at_typing.specs.declared.fault.RuleCode.TheVariants as code;
+ghost use Rattle.at_kinds.specs.declared.code.RuleCode.TheVariants as code;
 
 use super::fault_at;
-use crate::fault::{Fault, RuleCode};
+use crate::fault::Fault;
 use crate::hierarchy::{Hierarchy, is_concrete};
 use crate::located::{is_attribute, is_inherited};
 use crate::numbered::{NamedClass, Numbered};
 use crate::walk::Walk;
 use at_class::{ClassId, ClassTable, Part, PartShape};
+use at_kinds::RuleCode;
 use at_rules::{AttrId, Rules};
 use indexmap::IndexMap;
 use std::alloc::{AllocError, Global};

@@ -7,10 +7,11 @@ ghost use Rattle.at_typing.specs.Declaring.{body_in, over_limit, long_text, long
 ghost use Rattle.at_typing.specs.Numbering.{numbered_view, limit_of};
 
 use super::fault_at;
-use crate::fault::{Fault, RuleCode};
+use crate::fault::Fault;
 use crate::located::{body_in, is_attribute};
 use crate::numbered::Numbered;
 use at_jrag::{Expr, Form};
+use at_kinds::RuleCode;
 
 /// How many attributes may be declared.
 const MAX_ATTRIBUTES: usize = 2000;

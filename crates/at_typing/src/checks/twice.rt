@@ -9,12 +9,13 @@ ghost use Rattle.at_typing.specs.Twice.{TellsTwice};
 
 use super::bound::binds_twice;
 use super::fault_at;
-use crate::fault::{Fault, RuleCode};
+use crate::fault::Fault;
 use crate::firsts::note_first;
 use crate::located::{is_attribute, is_inherited, params_in, result_in};
 use crate::numbered::{NamedClass, Numbered};
 use at_class::ClassTable;
 use at_jrag::{DeclForm, Kind, KindWord, Param};
+use at_kinds::RuleCode;
 use indexmap::{IndexMap, IndexSet};
 use std::alloc::{AllocError, Global};
 

@@ -2,6 +2,7 @@
 
 ghost use Rattle.std.specs.Prelude.{◌≡◌, None, Some, map, Ok, IfOk, IfErr};
 ghost use Rattle.at_jrag.specs.View.{aspect_view};
+ghost use Rattle.at_model.specs.WellFormed.{AreWellFormed, IsHierarchy};
 ghost use Rattle.at_typing.specs.Building.{Builds};
 ghost use Rattle.at_typing.specs.Located.{declarations_in};
 ghost use Rattle.attrd.specs.AspectFiles.{Holds, AllHold, GivesRules, IsReadingFaultOf, IsAspectFault, IsUnread, IsRuleFault, rule_code};
@@ -13,8 +14,9 @@ use super::files::{Source, text_of};
 use crate::code::Code;
 use at_class::ClassTable;
 use at_jrag::{Aspect, JragFault, parse_jrag};
+use at_kinds::RuleCode;
 use at_rules::Rules;
-use at_typing::{RuleCode, RuleFault};
+use at_typing::RuleFault;
 use std::alloc::Global;
 
 /// The rules of the aspect files over the classes.
@@ -25,6 +27,7 @@ use std::alloc::Global;
 pub fn rules_of(alloc: Global, classes: ClassTable, aspects: &[Source]) -> Result<Rules, StartFault>
     ensures classes { IfOk result (λ r. r.classes ≡ classes) }
     ensures given { IfOk result (λ r. GivesRules classes (aspect_bytes aspects.now) r) }
+    ensures well_formed { IsHierarchy classes → IfOk result AreWellFormed }
     ensures refused { IfErr result (IsAspectFault classes (aspect_bytes aspects.now)) }
 {
     let aspects = read_all(alloc, aspects)?;

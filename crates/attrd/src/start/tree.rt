@@ -1,22 +1,18 @@
 //! The tree of a tree file.
 
 ghost use Rattle.std.specs.Prelude.{◌≡◌, true, None, IfOk, IfErr};
+ghost use Rattle.at_model.specs.Terms.{term_of};
 ghost use Rattle.at_model.specs.Trees.{conforms};
 ghost use Rattle.at_tree.specs.TreeView.{tree_view};
-ghost use Rattle.at_tree.specs.View.{term_view};
 ghost use Rattle.attrd.specs.Files.{IsText};
 ghost use Rattle.attrd.specs.declared.start.fault.FileFault.TheVariants.{Refused};
-ghost use Rattle.attrd.specs.TreeFiles.{IsTermFile, IsNoTermFile, IsTreeFault};
-ghost use Rattle.at_model.specs.Terms.{term_of};
+ghost use Rattle.attrd.specs.TreeFiles.{IsTermFile, IsTreeFault, IsWithoutNewline};
 
 use super::fault::FileFault;
 use super::files::text_of;
 use crate::code::Code;
 use at_class::ClassTable;
-use at_tree::fault::TermFault;
-use at_tree::reader::read_term;
-use at_tree::term::Term;
-use at_tree::tree::{ShapeFault, Tree, shape};
+use at_tree::tree::{ReadFault, Tree, read_tree};
 use std::alloc::Global;
 
 /// The tree of a file that is one term and at most one newline after it. Its size is not looked at.
@@ -35,16 +31,12 @@ pub fn tree_of(alloc: Global, classes: &ClassTable, bytes: &[u8]) -> Result<Tree
         Ok(text) => text,
         Err(code) => return Err(refused(code)),
     };
-    let term = match term_of(alloc, text) {
-        Ok(term) => term,
-        Err(TermFault::Syntax { at: _ }) => return Err(refused(Code::TreeSyntax)),
-        Err(TermFault::Memory) => return Err(FileFault::Memory),
-    };
-    match shape(alloc, classes, &term, classes.start()) {
+    match read_tree(alloc, classes, without_newline(text), classes.start()) {
         Ok(tree) => Ok(tree),
-        Err(ShapeFault::Class) => Err(refused(Code::TreeClass)),
-        Err(ShapeFault::Fit) => Err(refused(Code::TreeFit)),
-        Err(ShapeFault::Memory) => Err(FileFault::Memory),
+        Err(ReadFault::Syntax { at: _ }) => Err(refused(Code::TreeSyntax)),
+        Err(ReadFault::Class) => Err(refused(Code::TreeClass)),
+        Err(ReadFault::Fit) => Err(refused(Code::TreeFit)),
+        Err(ReadFault::Memory) => Err(FileFault::Memory),
     }
 }
 
@@ -55,10 +47,9 @@ pub fn refused(code: Code) -> FileFault
     FileFault::Refused { code, at: None }
 }
 
-/// The term of a text that has at most one newline after it.
-fn term_of(alloc: Global, text: &str) -> Result<Term, TermFault>
-    ensures found { IfOk result (λ t. IsTermFile text.now (term_view t)) }
-    ensures fault { IfErr result (IsNoTermFile text.now) }
+/// The text without the newline at its end, where one stands there.
+fn without_newline(text: &str) -> &str
+    ensures { IsWithoutNewline text.now result.now }
 {
-    read_term(alloc, text.strip_suffix('\n').unwrap_or(text))
+    text.strip_suffix('\n').unwrap_or(text)
 }

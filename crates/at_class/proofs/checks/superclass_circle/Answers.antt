@@ -1,29 +1,30 @@
-use Rattle.std.proofs.Common.{◌≡◌, ◌∙◌, ap, sym, arith, length}
-use Rattle.std.specs.Prelude.{nat_eq, true}
-use Rattle.std.specs.List.{list_any}
-use Rattle.std.proofs.lemmas.List.{length-map}
-use Rattle.at_model.specs.Classes.{chain_within, parent_of}
-use Rattle.at_model.specs.Declarations.{above}
+use Rattle.std.proofs.Common.{◌∙◌, ap, sym, refl, arith}
 use Rattle.at_class.specs.Checks.{circle_in, circle_at}
-use Rattle.at_class.specs.View.{class_view, classes_view}
+use Rattle.at_class.specs.Climbs.{is_above_itself}
+use Rattle.at_class.specs.View.{classes_view}
 use Rattle.at_class.specs.Grammar.{declaration_view}
-use Rattle.at_class.proofs.Firsts.{first_here, none_at_all, some_if}
+use Rattle.at_class.proofs.Firsts.{first_here, none_more, none_at_all, some_if, none_if}
 use Rattle.at_class.proofs.checks.superclass_circle.Goals as goal
 
-pub returns-then-climbs : goal.returns-then-climbs
+pub loop-position-init : goal.loop-position-init
+loop-position-init c = (refl, c.in_ok-circles.ensures)
+
+pub loop-position-preserved : goal.loop-position-preserved
+loop-position-preserved c =
+    let classes = classes_view c.args.classes.now in
+    let told = ap (is_above_itself classes) (sym c.new-class.ensures) ∙ sym c.in_ok-is_above.ensures.told ∙ c.if-is_above.false in (
+      none_more (circle_at classes) declaration_view c.args.declarations.now c.loop-position.position c.index-declarations-position.result (omega arith) c.index-declarations-position.is (none_if _ _ told) c.loop-position.invariant.0,
+      c.in_ok-is_above.ensures.kept,
+    )
+
+pub returns-then-is_above : goal.returns-then-is_above
 unfolding circle_in
-returns-then-climbs c =
-    let xs = c.args.classes.now in
-    let classes = classes_view xs in
-    let k = c.loop-position.position in
+returns-then-is_above c =
+    let classes = classes_view c.args.classes.now in
     let d = c.index-declarations-position.result in
-    let circle : list_any (nat_eq k) (above classes k) ≡ true =
-    ap (λ m. list_any (nat_eq k) (chain_within m classes (parent_of classes k))) (length-map xs class_view)
-    ∙ ap (λ x. list_any (nat_eq x) (chain_within (length xs) classes (parent_of classes x))) (sym c.new-class.ensures)
-    ∙ ap (λ o. list_any (nat_eq c.new-class.result) (chain_within (length xs) classes o)) (sym c.parent_of.ensures)
-    ∙ sym c.climbs.ensures ∙ c.if-climbs.true in
-    sym (first_here (circle_at classes) declaration_view c.args.declarations.now k d d.at (omega arith) c.index-declarations-position.is c.loop-position.invariant (some_if _ _ circle))
+    let told = ap (is_above_itself classes) (sym c.new-class.ensures) ∙ sym c.in_ok-is_above.ensures.told ∙ c.if-is_above.true in
+    sym (first_here (circle_at classes) declaration_view c.args.declarations.now c.loop-position.position d d.at (omega arith) c.index-declarations-position.is c.loop-position.invariant.0 (some_if _ _ told))
 
 pub returns : goal.returns
 unfolding circle_in
-returns c = sym (none_at_all (circle_at (classes_view c.args.classes.now)) declaration_view c.args.declarations.now c.loop-position.position (omega arith) c.loop-position.invariant)
+returns c = sym (none_at_all (circle_at (classes_view c.args.classes.now)) declaration_view c.args.declarations.now c.loop-position.position (omega arith) c.loop-position.invariant.0)

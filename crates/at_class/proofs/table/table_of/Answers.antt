@@ -7,6 +7,7 @@ use Rattle.at_class.specs.Grammar.{declarations_view}
 use Rattle.at_class.proofs.Named.{unknown-declared, classes-declared, circle-declared, twice-declared, over-declared}
 use Rattle.at_class.proofs.Order.{refused_for, fault_no_class, fault_class_twice, fault_unknown_class, fault_circle, fault_token_kind, fault_component_twice, fault_limit, no_fault}
 use Rattle.at_class.proofs.Sound.{classes_sound, view_texts}
+use Rattle.at_class.proofs.Acyclic.{hierarchy}
 use Rattle.at_class.proofs.Whole.{none_declared, some_declared, longer, is_table}
 use Rattle.at_class.proofs.table.table_of.Goals as goal
 
@@ -40,9 +41,9 @@ returns-in_err-refuse-2-clause-refused c =
     let names = c.in_ok-names.ensures.ok in
     let u = sym (unknown-declared c.in_ok-names.names.keys xs names.1) ∙ sym c.unknown_class.ensures ∙ c.in_ok-refuse.ensures.ok in
     let e = classes-declared c.in_ok-names.names.keys xs (classes_view c.in_ok-classes.classes.items) names.1 c.in_ok-classes.ensures in
-    let to-s = sym (circle-declared ds (classes_view c.deref.result.now) (ap classes_view c.deref.ensures.value ∙ e)) ∙ sym c.superclass_circle.ensures in
+    let to-s = sym (circle-declared ds (classes_view c.deref.result.now) (ap classes_view c.deref.ensures.value ∙ e)) ∙ sym c.in_ok-superclass_circle.ensures in
     let p = err_from_is_err_and c.from_residual-in_err-refuse-2.result c.from_residual-in_err-refuse-2.ensures.1 in
-    rw (p.1, p.2) (refused_for ds SuperclassCircle c.superclass_circle.result _ (λ at there. fault_circle ds at a names.0 u (to-s ∙ there)) c.in_err-refuse-2.ensures.err)
+    rw (p.1, p.2) (refused_for ds SuperclassCircle c.in_ok-superclass_circle.field-0 _ (λ at there. fault_circle ds at a names.0 u (to-s ∙ there)) c.in_err-refuse-2.ensures.err)
 
 pub returns-in_err-refuse-3-clause-refused : goal.returns-in_err-refuse-3-clause-refused
 returns-in_err-refuse-3-clause-refused c =
@@ -52,7 +53,7 @@ returns-in_err-refuse-3-clause-refused c =
     let names = c.in_ok-names.ensures.ok in
     let u = sym (unknown-declared c.in_ok-names.names.keys xs names.1) ∙ sym c.unknown_class.ensures ∙ c.in_ok-refuse.ensures.ok in
     let e = classes-declared c.in_ok-names.names.keys xs (classes_view c.in_ok-classes.classes.items) names.1 c.in_ok-classes.ensures in
-    let s = sym (circle-declared ds (classes_view c.deref.result.now) (ap classes_view c.deref.ensures.value ∙ e)) ∙ sym c.superclass_circle.ensures ∙ c.in_ok-refuse-2.ensures.ok in
+    let s = sym (circle-declared ds (classes_view c.deref.result.now) (ap classes_view c.deref.ensures.value ∙ e)) ∙ sym c.in_ok-superclass_circle.ensures ∙ c.in_ok-refuse-2.ensures.ok in
     let p = err_from_is_err_and c.from_residual-in_err-refuse-3.result c.from_residual-in_err-refuse-3.ensures.1 in
     rw (p.1, p.2) (refused_for ds TokenKind c.wrong_token_kind.result _ (λ at there. fault_token_kind ds at a names.0 u s (sym c.wrong_token_kind.ensures ∙ there)) c.in_err-refuse-3.ensures.err)
 
@@ -64,7 +65,7 @@ returns-in_err-refuse-4-clause-refused c =
     let names = c.in_ok-names.ensures.ok in
     let u = sym (unknown-declared c.in_ok-names.names.keys xs names.1) ∙ sym c.unknown_class.ensures ∙ c.in_ok-refuse.ensures.ok in
     let e = classes-declared c.in_ok-names.names.keys xs (classes_view c.in_ok-classes.classes.items) names.1 c.in_ok-classes.ensures in
-    let s = sym (circle-declared ds (classes_view c.deref.result.now) (ap classes_view c.deref.ensures.value ∙ e)) ∙ sym c.superclass_circle.ensures ∙ c.in_ok-refuse-2.ensures.ok in
+    let s = sym (circle-declared ds (classes_view c.deref.result.now) (ap classes_view c.deref.ensures.value ∙ e)) ∙ sym c.in_ok-superclass_circle.ensures ∙ c.in_ok-refuse-2.ensures.ok in
     let t = sym c.wrong_token_kind.ensures ∙ c.in_ok-refuse-3.ensures.ok in
     let to-c = sym (twice-declared ds (classes_view c.deref-2.result.now) (ap classes_view c.deref-2.ensures.value ∙ e)) ∙ sym c.in_ok-component_twice.ensures in
     let p = err_from_is_err_and c.from_residual-in_err-refuse-4.result c.from_residual-in_err-refuse-4.ensures.1 in
@@ -78,7 +79,7 @@ returns-in_err-refuse-5-clause-refused c =
     let names = c.in_ok-names.ensures.ok in
     let u = sym (unknown-declared c.in_ok-names.names.keys xs names.1) ∙ sym c.unknown_class.ensures ∙ c.in_ok-refuse.ensures.ok in
     let e = classes-declared c.in_ok-names.names.keys xs (classes_view c.in_ok-classes.classes.items) names.1 c.in_ok-classes.ensures in
-    let s = sym (circle-declared ds (classes_view c.deref.result.now) (ap classes_view c.deref.ensures.value ∙ e)) ∙ sym c.superclass_circle.ensures ∙ c.in_ok-refuse-2.ensures.ok in
+    let s = sym (circle-declared ds (classes_view c.deref.result.now) (ap classes_view c.deref.ensures.value ∙ e)) ∙ sym c.in_ok-superclass_circle.ensures ∙ c.in_ok-refuse-2.ensures.ok in
     let t = sym c.wrong_token_kind.ensures ∙ c.in_ok-refuse-3.ensures.ok in
     let w = sym (twice-declared ds (classes_view c.deref-2.result.now) (ap classes_view c.deref-2.ensures.value ∙ e)) ∙ sym c.in_ok-component_twice.ensures ∙ c.in_ok-refuse-4.ensures.ok in
     let to-l = sym (over-declared ds (classes_view c.deref-3.result.now) (ap classes_view c.deref-3.ensures.value ∙ e)) ∙ sym c.in_ok-over_limit.ensures in
@@ -88,11 +89,13 @@ returns-in_err-refuse-5-clause-refused c =
 pub invariant_of-result : goal.invariant_of-result
 invariant_of-result c =
     let xs = c.args.declarations.now in
+    let ds = declarations_view xs in
     let ks = c.in_ok-classes.classes.items in
     let names = c.in_ok-names.ensures.ok in
     let e = classes-declared c.in_ok-names.names.keys xs (classes_view ks) names.1 c.in_ok-classes.ensures in
-    is_table c.in_ok-names.names.keys ks c.in_ok-parts.parts.items xs names.1 e c.deref-4.result.now c.deref-4.ensures.value c.in_ok-parts.ensures
-    (classes_sound (declarations_view xs) (longer xs (sym c.is_empty.ensures ∙ c.if-is_empty.false)) c.requires (view_texts xs) names.0)
+    let s = sym (circle-declared ds (classes_view c.deref.result.now) (ap classes_view c.deref.ensures.value ∙ e)) ∙ sym c.in_ok-superclass_circle.ensures ∙ c.in_ok-refuse-2.ensures.ok in
+    let sound = classes_sound ds (longer xs (sym c.is_empty.ensures ∙ c.if-is_empty.false)) c.requires (view_texts xs) names.0 in
+    is_table c.in_ok-names.names.keys ks c.in_ok-parts.parts.items xs names.1 e c.deref-4.result.now c.deref-4.ensures.value c.in_ok-parts.ensures sound (hierarchy ds sound s)
 
 pub returns-clause-faultless : goal.returns-clause-faultless
 returns-clause-faultless c =
@@ -102,7 +105,7 @@ returns-clause-faultless c =
     let names = c.in_ok-names.ensures.ok in
     let u = sym (unknown-declared c.in_ok-names.names.keys xs names.1) ∙ sym c.unknown_class.ensures ∙ c.in_ok-refuse.ensures.ok in
     let e = classes-declared c.in_ok-names.names.keys xs (classes_view c.in_ok-classes.classes.items) names.1 c.in_ok-classes.ensures in
-    let s = sym (circle-declared ds (classes_view c.deref.result.now) (ap classes_view c.deref.ensures.value ∙ e)) ∙ sym c.superclass_circle.ensures ∙ c.in_ok-refuse-2.ensures.ok in
+    let s = sym (circle-declared ds (classes_view c.deref.result.now) (ap classes_view c.deref.ensures.value ∙ e)) ∙ sym c.in_ok-superclass_circle.ensures ∙ c.in_ok-refuse-2.ensures.ok in
     let t = sym c.wrong_token_kind.ensures ∙ c.in_ok-refuse-3.ensures.ok in
     let w = sym (twice-declared ds (classes_view c.deref-2.result.now) (ap classes_view c.deref-2.ensures.value ∙ e)) ∙ sym c.in_ok-component_twice.ensures ∙ c.in_ok-refuse-4.ensures.ok in
     let l = sym (over-declared ds (classes_view c.deref-3.result.now) (ap classes_view c.deref-3.ensures.value ∙ e)) ∙ sym c.in_ok-over_limit.ensures ∙ c.in_ok-refuse-5.ensures.ok in

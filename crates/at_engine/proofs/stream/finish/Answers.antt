@@ -1,11 +1,12 @@
 use Rattle.std.proofs.Common.{◌≡◌, ap, subst, List, ℕ, length, ◌<◌, ◌≤◌, arith, vec_len}
 use Rattle.std.proofs.lemmas.Bool.Decides.{nat_tests}
-use Rattle.at_model.specs.Machine.{Serves, ByEquations}
+use Rattle.at_model.specs.Machine.{Serves}
 use Rattle.at_engine.specs.Loop.{kept}
 use Rattle.at_engine.specs.Engines.{state_of, rules_of}
 use Rattle.at_engine.proofs.Kept.{filled_as_kept, empty_as_kept}
 use Rattle.at_engine.proofs.KeepingBytes.{all_nothing, filled_one}
 use Rattle.at_engine.proofs.KeptLines.{serves_kept}
+use Rattle.at_engine.proofs.Remembering.{no_call}
 use Rattle.at_engine.proofs.Runnings.{finished_empty, finished_line}
 use Rattle.at_engine.proofs.stream.finish.Goals as goal
 
@@ -20,9 +21,7 @@ returns-clause-finished g c front e =
     let s = c.serve.ensures.served in
     let some : 0 < vec_len c.args.desk.now.line = grind (arith, nat_tests) in
     let long : 0 < length (kept front) = omega (arith, some, c.args.desk.now.line.ok.0, ap length e) in
-    let rules = rules_of c.args.engine.now in
-    let served = subst (λ (i : List ℕ). Serves rules (ByEquations rules) s.0 (state_of c.args.engine.now) i (state_of c.serve.new.engine) s.1) e s.2 in
-    finished_line c.serve.result rules _ _ front s.0 s.1 _ _ _ _ (filled_as_kept front long) (serves_kept rules s.0 _ _ front s.1 served) s.3 s.4
+    finished_line c.serve.result (rules_of c.args.engine.now) _ _ front s.0 s.1 _ _ _ _ (filled_as_kept front long) e s.2 s.3 s.4
 
 pub returns-then-is_empty-clause-keeps : goal.returns-then-is_empty-clause-keeps
 returns-then-is_empty-clause-keeps g c exact spare front e same =
@@ -35,3 +34,9 @@ returns-clause-keeps g c exact spare front e same =
     let some : 0 < vec_len c.args.desk.now.line = grind (arith, nat_tests) in
     let long : 0 < length (kept front) = omega (arith, some, c.args.desk.now.line.ok.0, ap length e) in
     filled_one g.K.Keeper.contents c.args.engine.now c.serve.new.engine front c.args.desk.now.line.items (filled_as_kept front long) e (c.serve.ensures.keeps exact spare same)
+
+pub returns-then-is_empty-clause-failed : goal.returns-then-is_empty-clause-failed
+returns-then-is_empty-clause-failed g c = no_call _
+
+pub returns-clause-failed : goal.returns-clause-failed
+returns-clause-failed g c = c.serve.ensures.failed

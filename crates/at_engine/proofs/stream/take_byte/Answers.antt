@@ -4,6 +4,7 @@ use Rattle.std.proofs.lemmas.Bool.Decides.{nat_tests}
 use Rattle.at_engine.specs.Loop.{kept}
 use Rattle.at_engine.proofs.Kept.{filled_as_kept, empty_as_kept, kept-nil}
 use Rattle.at_engine.proofs.KeepingBytes.{keeps_byte, keeps_empty, keeps_line}
+use Rattle.at_engine.proofs.Remembering.{no_call}
 use Rattle.at_engine.proofs.Takings.{took_byte, took_empty, took_line, stopped_at_line, differs}
 use Rattle.at_engine.proofs.stream.take_byte.Goals as goal
 
@@ -50,3 +51,15 @@ returns-else-not-is_empty-clause-keeps g c exact spare front o e =
 
 pub returns-in_err-serve-clause-keeps : goal.returns-in_err-serve-clause-keeps
 returns-in_err-serve-clause-keeps g c exact spare front o e = let p = err_from_is_err_and c.from_residual.result c.from_residual.ensures.1 in rw p.1 tt
+
+pub returns-in_err-serve-clause-failed : goal.returns-in_err-serve-clause-failed
+returns-in_err-serve-clause-failed g c = let p = err_from_is_err_and c.from_residual.result c.from_residual.ensures.1 in rw p.1 c.in_err-serve.ensures.failed
+
+pub returns-then-byte-ne10-clause-failed : goal.returns-then-byte-ne10-clause-failed
+returns-then-byte-ne10-clause-failed g c = no_call _
+
+pub returns-in_ok-serve-clause-failed : goal.returns-in_ok-serve-clause-failed
+returns-in_ok-serve-clause-failed g c = c.in_ok-serve.ensures.failed
+
+pub returns-else-not-is_empty-clause-failed : goal.returns-else-not-is_empty-clause-failed
+returns-else-not-is_empty-clause-failed g c = no_call _

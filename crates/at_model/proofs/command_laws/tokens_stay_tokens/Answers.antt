@@ -1,6 +1,5 @@
-use Rattle.at_model.specs.Machine.{ByEquations}
 use Rattle.at_model.proofs.TokensKept.{tokens_served}
 use Rattle.at_model.proofs.command_laws.tokens_stay_tokens.Goals as goal
 
 pub returns : goal.returns
-returns c = λ rules. tokens_served rules (ByEquations rules)
+returns c = λ rules. tokens_served rules

@@ -1,6 +1,5 @@
-use Rattle.at_model.specs.Machine.{ByEquations}
 use Rattle.at_model.proofs.OneOutput.{refused_bytes}
 use Rattle.at_model.proofs.machine_laws.a_refused_line_changes_nothing.Goals as goal
 
 pub returns : goal.returns
-returns c = λ rules. refused_bytes rules (ByEquations rules)
+returns c = λ rules. refused_bytes rules

@@ -1,6 +1,5 @@
-use Rattle.at_model.specs.Machine.{ByEquations}
 use Rattle.at_model.proofs.Runs.{one_more}
 use Rattle.at_model.proofs.machine_laws.one_more_line.Goals as goal
 
 pub returns : goal.returns
-returns c = λ rules. one_more rules (ByEquations rules)
+returns c = λ rules. one_more rules

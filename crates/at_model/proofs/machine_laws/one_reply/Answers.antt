@@ -1,7 +1,6 @@
-use Rattle.at_model.specs.Machine.{ByEquations}
 use Rattle.at_model.proofs.Steps.{answers_once}
 use Rattle.at_model.proofs.OneOutput.{handles_once}
 use Rattle.at_model.proofs.machine_laws.one_reply.Goals as goal
 
 pub returns : goal.returns
-returns c = λ rules. handles_once rules (ByEquations rules) (answers_once rules)
+returns c = λ rules. handles_once rules (answers_once rules)

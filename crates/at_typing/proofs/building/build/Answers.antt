@@ -1,11 +1,15 @@
 use Rattle.std.proofs.Common.{◌∙◌, ap, sym, subst, map, Ok, Err, None}
-use Rattle.std.specs.Prelude.{All}
+use Rattle.std.specs.Prelude.{All, Vec}
+use Rattle.std.specs.Global.{Global}
 use Rattle.std.proofs.lemmas.Result.{err_from_is_err_and}
+use Rattle.at_jrag.specs.View.{aspect_view}
+use Rattle.at_jrag.specs.declared.syntax.Aspect.{Aspect}
 use Rattle.at_typing.specs.Building.{Builds, IsLack}
 use Rattle.at_typing.specs.Completing.{AreDeclared}
 use Rattle.at_typing.specs.Numbering.{numbered_view, AreNumbered, IsNamed}
 use Rattle.at_typing.specs.Seen.{Tells}
 use Rattle.at_typing.proofs.Built.{are_declared, same_rules, lack_nothing, built, lacking, meant_fault}
+use Rattle.at_typing.proofs.BuiltWellFormed.{built_well_formed}
 use Rattle.at_typing.proofs.building.build.Goals as goal
 
 pub meant_together-requires : goal.meant_together-requires
@@ -73,3 +77,7 @@ returns-clause-complete c =
     let again = c.deref-2.ensures.value ∙ sym c.deref.ensures.value in
     let lack = subst (λ l. IsLack rules (map numbered_view l) None) again c.in_ok-refuse_incomplete.ensures in
     lack_nothing rules (map numbered_view xs) (are_declared classes (map numbered_view xs) rules none same) lack
+
+pub returns-clause-well_formed : goal.returns-clause-well_formed
+returns-clause-well_formed c hierarchy spelled =
+    built_well_formed c.args.classes (map (λ (f : Vec Aspect Global). map aspect_view f.items) c.args.files.now) c.new-rules.result hierarchy spelled (returns-clause-built c)

@@ -1,5 +1,6 @@
 use Rattle.std.proofs.Common.{ℕ, List, IfOk, ap, string_bytes, sym, subst}
-use Rattle.at_model.specs.Lines.{Ask, IsCommand, IsName, Mark, Show, Unmark, Version, Where}
+use Rattle.at_model.specs.Lines.{Ask, IsCommand, Mark, Show, Unmark, Version, Where}
+use Rattle.at_model.specs.Names.{IsName}
 use Rattle.at_protocol.specs.LineView.{arguments_view, command_view, place_view}
 use Rattle.at_protocol.specs.declared.line.Argument.{Argument}
 use Rattle.at_protocol.specs.declared.line.Command.{Command}

@@ -20,8 +20,8 @@ returns-clause-sound g c empty = record {
   sound = subst (λ (x : Classes). AreSound x) c.classes-2.ensures c.len-classes.ensures.sound;
   conforming = subst (λ (t : Tree). conforms c.args.rules.classes t 0 ≡ true) (sym c.in_ok-store.ensures.loaded) (subst (λ (x : Classes). conforms x (tree_view c.args.tree) 0 ≡ true) c.classes.ensures c.in_ok-store.ensures.fits);
   marked = subst (AreThere (path c.in_ok-store.store)) (sym c.new-2.ensures) tt;
-  right = right_of_nothing c.args.rules c.in_ok-store.store _ (λ i. ap (λ k. g.K.Keeper.contents k i) c.new.ensures ∙ empty i);
+  right = right_of_nothing c.args.rules c.in_ok-store.store _ (λ i. ap (λ k. g.K.Keeper.contents k i) c.new.ensures.keeper ∙ empty i);
 }
 
 pub returns-clause-spare : goal.returns-clause-spare
-returns-clause-spare g c empty = spare_of_nothing c.args.rules (contents c.in_ok-store.store) _ (λ i. ap (λ k. g.K.Keeper.contents k i) c.new.ensures ∙ empty i)
+returns-clause-spare g c empty = spare_of_nothing c.args.rules (contents c.in_ok-store.store) _ (λ i. ap (λ k. g.K.Keeper.contents k i) c.new.ensures.keeper ∙ empty i)

@@ -1,8 +1,11 @@
-use Rattle.std.specs.Str.Iter.{char_indices_rest, char_indices_offset}
+use Rattle.std.specs.Prelude.{length}
 use Rattle.at_tree.specs.PathSeen.{partial_view}
-use Rattle.at_tree.proofs.Machine.{Reading}
+use Rattle.at_tree.proofs.Machine.{ReadTo}
 use Rattle.at_tree.proofs.PathMachine.{path_machine}
 use Rattle.at_tree.proofs.path.read.read_path.Given as goal
 
-abbrev pub invariant-loop-at : goal.invariant-loop-at
-invariant-loop-at l = Reading path_machine l.text (char_indices_offset l.at-iterator) (char_indices_rest l.at-iterator) (partial_view l.partial)
+abbrev pub invariant-loop-rest : goal.invariant-loop-rest
+invariant-loop-rest l = ReadTo path_machine l.text l.rest (partial_view l.steps.items l.place)
+
+abbrev pub decreases-loop-rest : goal.decreases-loop-rest
+decreases-loop-rest l = length l.rest

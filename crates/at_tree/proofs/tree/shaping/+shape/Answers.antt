@@ -40,7 +40,7 @@ pub shape_tree-returns-in_err-shape_cell-clause-refused : goal.shape_tree-return
 shape_tree-returns-in_err-shape_cell-clause-refused t c =
     let classes = c.args.classes.now in
     let whole = shaped-whole c.args.classes.now c.args.term.now c.args.under c.in-Some.class c.as_slice-written.result.now c.parts-parts.result.now c.as_slice-written.ensures.value (ap (class_of_name c.args.classes.now) (sym c.as_str.ensures.value) ∙ sym c.id_of.ensures.found ∙ c.in-Some.is) c.parts-parts.ensures (sym c.fits.ensures.fits ∙ c.if-not-fits.false) in
-    let p = err_from_is_err_and c.from_residual.result c.from_residual.ensures.1 in
+    let p = err_from_is_err_and c.from_residual-in_err-shape_cell.result c.from_residual-in_err-shape_cell.ensures.1 in
     rw (p.1, p.2) (unfit_when _ (shaped classes (term_view c.args.term.now) c.args.under) _
     (λ none. whole ∙ ap (option_map (Node c.in-Some.class))
     (cells_from-none classes c.as_slice-written.result.now c.parts-parts.result.now c.loop-i.i c.index-written-i.result c.index-parts-i.result (map cell_view c.loop-i.cells.items) _

@@ -1,5 +1,5 @@
 use Rattle.std.proofs.Common.{◌∙◌, ap, sym, arith, Some}
-use Rattle.at_typing.specs.declared.fault.RuleCode.TheVariants as code
+use Rattle.at_kinds.specs.declared.code.RuleCode.TheVariants as code
 use Rattle.at_typing.specs.Declaring.{accessor_at}
 use Rattle.at_typing.specs.Numbering.{numbered_view}
 use Rattle.at_typing.proofs.FirstFaults.{first_here, none_more, none_at_all, fault_where, fault_nowhere}

@@ -1,6 +1,6 @@
 use Rattle.std.proofs.Common.{arith, refl, sym, ap, length, subst, ◌∙◌}
 use Rattle.at_typing.specs.Completing.{LacksOwn, LacksDeclared}
-use Rattle.at_typing.specs.declared.fault.RuleCode.TheVariants as code
+use Rattle.at_kinds.specs.declared.code.RuleCode.TheVariants as code
 use Rattle.at_typing.proofs.AttributesFound.{counted, with_none}
 use Rattle.at_typing.proofs.Lackings.{clear_first, clear_more, tells_here, tells_none, own_has, own_inside, own_lacks, it_is, it_is_not}
 use Rattle.at_typing.proofs.checks.completeness.class_without_equation.Goals as goal

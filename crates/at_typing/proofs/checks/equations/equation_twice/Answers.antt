@@ -3,7 +3,7 @@ use Rattle.std.specs.Prelude.{◌&&◌, not}
 use Rattle.at_typing.specs.Declaring.{equation_at}
 use Rattle.at_typing.specs.EquationKeys.{key_view, getter_of, is_there}
 use Rattle.at_typing.specs.Numbering.{numbered_view}
-use Rattle.at_typing.specs.declared.fault.RuleCode.TheVariants as code
+use Rattle.at_kinds.specs.declared.code.RuleCode.TheVariants as code
 use Rattle.at_typing.proofs.EquationsBefore.{before, own_keys_more, inherited_keys_more}
 use Rattle.at_typing.proofs.FirstFaults.{first_here, none_more, none_at_all, fault_where, fault_nowhere}
 use Rattle.at_typing.proofs.checks.equations.equation_twice.Goals as goal

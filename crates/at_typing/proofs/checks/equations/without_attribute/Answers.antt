@@ -2,7 +2,7 @@ use Rattle.std.proofs.Common.{arith, sym, ap, ◌∙◌, map, Some}
 use Rattle.std.specs.Prelude.{not}
 use Rattle.at_typing.specs.Declaring.{undeclared_at}
 use Rattle.at_typing.specs.Numbering.{numbered_view}
-use Rattle.at_typing.specs.declared.fault.RuleCode.TheVariants as code
+use Rattle.at_kinds.specs.declared.code.RuleCode.TheVariants as code
 use Rattle.at_typing.proofs.AttributesFound.{among_all}
 use Rattle.at_typing.proofs.FirstFaults.{first_here, none_more, none_at_all, fault_where, fault_nowhere}
 use Rattle.at_typing.proofs.checks.equations.without_attribute.Goals as goal

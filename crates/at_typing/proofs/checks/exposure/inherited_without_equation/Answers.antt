@@ -1,7 +1,7 @@
 use Rattle.std.proofs.Common.{arith, refl, sym, ap, length, map, ◌∙◌}
 use Rattle.at_typing.specs.Completing.{AreDeclared, ExposesDeclared, IsNamedAmong, LacksInherited}
 use Rattle.at_typing.specs.Numbering.{numbered_view, AreNumbered}
-use Rattle.at_typing.specs.declared.fault.RuleCode.TheVariants as code
+use Rattle.at_kinds.specs.declared.code.RuleCode.TheVariants as code
 use Rattle.at_typing.proofs.AttributesFound.{counted, with_none}
 use Rattle.at_typing.proofs.Lackings.{clear_first, clear_more, tells_here, tells_none, inherited_has, inherited_inside, inherited_lacks, it_is, it_is_not, named_among, none_met}
 use Rattle.at_typing.proofs.checks.exposure.inherited_without_equation.Goals as goal

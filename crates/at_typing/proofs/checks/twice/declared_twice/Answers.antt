@@ -4,7 +4,7 @@ use Rattle.std.specs.List.{list_any}
 use Rattle.std.proofs.lemmas.List.{take-map}
 use Rattle.at_typing.specs.Declaring.{is_attribute, binds_twice, clashes, twice_at}
 use Rattle.at_typing.specs.Numbering.{numbered_view}
-use Rattle.at_typing.specs.declared.fault.RuleCode.TheVariants as code
+use Rattle.at_kinds.specs.declared.code.RuleCode.TheVariants as code
 use Rattle.at_typing.proofs.AttributesFound.{among_before}
 use Rattle.at_typing.proofs.Clashing.{fits, none_added, one_added}
 use Rattle.at_typing.proofs.FirstFaults.{first_here, none_more, none_at_all, fault_where, fault_nowhere}

@@ -1,7 +1,7 @@
 use Rattle.std.proofs.Common.{◌≡◌, ◌++◌, map, drop}
 use Rattle.at_jrag.specs.View.{param_view}
 use Rattle.at_typing.specs.Ruling.{bound}
-use Rattle.at_typing.specs.Typed.{bound_view}
+use Rattle.at_kinds.specs.Typed.{bound_view}
 use Rattle.at_typing.proofs.meaning.Among.names.Given as goal
 
 abbrev pub invariant-loop-param : goal.invariant-loop-param

@@ -1,6 +1,6 @@
 use Rattle.std.proofs.Common.{◌≡◌, ◌++◌, map, drop}
 use Rattle.at_jrag.specs.View.{param_view}
-use Rattle.at_typing.specs.Judging.{Is, and_then}
+use Rattle.at_kinds.specs.Judging.{Is, and_then}
 use Rattle.at_typing.specs.Ruling.{params_named}
 use Rattle.at_typing.proofs.meaning.Among.params_named.Given as goal
 

@@ -9,6 +9,7 @@ use Rattle.at_typing.specs.Located.{declarations_in}
 use Rattle.attrd.specs.AspectFiles.{IsRuleFault}
 use Rattle.attrd.specs.Starts.{aspect_bytes}
 use Rattle.attrd.proofs.Ruled.{unread_refuses, given_by, refused_by}
+use Rattle.attrd.proofs.RulesTyped.{well_formed_by}
 use Rattle.attrd.proofs.start.aspects.rules_of.Goals as goal
 
 pub returns-in_err-aspects-clause-refused : goal.returns-in_err-aspects-clause-refused
@@ -20,6 +21,9 @@ pub returns-clause-given : goal.returns-clause-given
 returns-clause-given c =
     let built = subst (λ (v : List (Vec Aspect Global)). IfOk c.build.result (λ (r : Rules). Builds c.args.classes (declarations_in v) (Ok r))) c.deref.ensures.value c.build.ensures.built in
     given_by c.args.classes (aspect_bytes c.args.aspects.now) c.in_ok-aspects.aspects.items c.build.result c.in_ok-aspects.ensures.hold built
+
+pub returns-clause-well_formed : goal.returns-clause-well_formed
+returns-clause-well_formed c hierarchy = well_formed_by c.args.classes (aspect_bytes c.args.aspects.now) c.build.result hierarchy (returns-clause-given c)
 
 pub returns-clause-refused : goal.returns-clause-refused
 returns-clause-refused c =

@@ -1,7 +1,7 @@
 use Rattle.std.proofs.Common.{List, ℕ, Bor, ap, sym, ◌∙◌, cond, inl, inr}
 use Rattle.at_class.specs.View.{shape_view, part_view}
 use Rattle.at_class.specs.declared.part.PartShape.{PartShape}
-use Rattle.at_typing.specs.Accessors.{is_optional, is_list}
+use Rattle.at_kinds.specs.Accessors.{is_optional, is_list}
 use Rattle.indexmap.specs.IndexSet.{insert_key}
 use Rattle.at_typing.proofs.AccessorNaming.{adds_one, same_key}
 use Rattle.at_typing.proofs.checks.accessor_names.Accessors.add.Goals as goal

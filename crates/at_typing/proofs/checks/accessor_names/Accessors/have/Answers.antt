@@ -1,5 +1,5 @@
 use Rattle.std.proofs.Common.{◌∙◌, ap, sym, ◌||◌}
-use Rattle.at_typing.specs.Accessors.{is_accessed}
+use Rattle.at_kinds.specs.Accessors.{is_accessed}
 use Rattle.at_typing.proofs.AccessorNaming.{accessed_names}
 use Rattle.at_typing.proofs.checks.accessor_names.Accessors.have.Goals as goal
 

@@ -1,0 +1,203 @@
+-- Which names components take.
+use Rattle.std.proofs.Common.{◌≡◌, ℕ, zero, suc, ◌+◌, ◌<◌, ◌≤◌, List, [], ◌∷◌, ◌++◌, length, map, take, get_or, refl, ap, ap₂, sym, ◌∙◌, arith, true≢false, eq-eqb, Bool, true, false, Option, Some, None}
+use Rattle.std.specs.Prelude.{◌||◌, ◌&&◌, nat_eq, String, string_bytes, if◌then◌else◌, codes, ◌==◌, unwrap_or}
+use Rattle.std.specs.List.{list_any, slice_get}
+use Rattle.std.specs.Option.{option_map}
+use Rattle.std.proofs.lemmas.Option.{slice_get-map, slice_get_read, slice_get_past}
+use Rattle.std.specs.Str.{bytes_eq}
+use Rattle.std.specs.String.{string_eq}
+use Rattle.std.proofs.lemmas.Bool.{eqb-true, or_left, or_right}
+use Rattle.std.proofs.lemmas.List.Folds.{list_any-append}
+use Rattle.indexmap.specs.IndexSet.{insert_key}
+use Rattle.at_model.specs.Classes.{Classes, Component, own_of}
+use Rattle.at_model.specs.Declarations.{above, clash, inherited, is_common, is_list, is_taken, is_twice, takes}
+use Rattle.at_class.proofs.Joins.{list_any-flat_map-reverse}
+use Rattle.at_class.specs.View.{part_view}
+use Rattle.at_class.specs.declared.part.Part.{Part}
+use Rattle.at_class.specs.Taken.{has_key, AreTaken}
+use Rattle.at_class.specs.declared.taken.TakenNames.{TakenNames}
+
+no_name : {A : Type 0} → false ≡ true → A
+no_name e = absurd (true≢false (sym e))
+
+or_false : (a : Bool) → (a || false) ≡ a
+or_false true = refl
+or_false false = refl
+
+-- texts ---------------------------------------------------------------------------------------------------------------
+
+nat_eq-swap : (a b : ℕ) → nat_eq a b ≡ nat_eq b a
+nat_eq-swap a b = by (nat_eq a b) (nat_eq b a) refl refl
+  where
+    by : (s t : Bool) → nat_eq a b ≡ s → nat_eq b a ≡ t → s ≡ t
+    by true true e f = refl
+    by true false e f = no_name (sym f ∙ eq-eqb b a (sym (eqb-true a b e)))
+    by false true e f = no_name (sym e ∙ eq-eqb a b (sym (eqb-true b a f)))
+    by false false e f = refl
+
+bytes_eq-swap : (xs ys : List ℕ) → bytes_eq xs ys ≡ bytes_eq ys xs
+bytes_eq-swap [] [] = refl
+bytes_eq-swap [] (y ∷ ys) = refl
+bytes_eq-swap (x ∷ xs) [] = refl
+bytes_eq-swap (x ∷ xs) (y ∷ ys) = ap₂ (λ a b. a && b) (nat_eq-swap x y) (bytes_eq-swap xs ys)
+
+both : (a b : Bool) → (a && b) ≡ true → (a ≡ true) × (b ≡ true)
+both true b e = (refl, e)
+both false b e = no_name e
+
+bytes_eq-is : (xs ys : List ℕ) → bytes_eq xs ys ≡ true → xs ≡ ys
+bytes_eq-is [] [] e = refl
+bytes_eq-is [] (y ∷ ys) e = no_name e
+bytes_eq-is (x ∷ xs) [] e = no_name e
+bytes_eq-is (x ∷ xs) (y ∷ ys) e = let p = both (nat_eq x y) (bytes_eq xs ys) e in ap₂ (λ z zs. z ∷ zs) (eqb-true x y p.0) (bytes_eq-is xs ys p.1)
+
+-- sets ----------------------------------------------------------------------------------------------------------------
+
+kept_there : {Z : Type 0} (keys : List (String Z)) (text : String Z) (n : List ℕ) → list_any (string_eq text) keys ≡ true → bytes_eq n (string_bytes text) ≡ true → has_key keys n ≡ true
+kept_there [] text n e f = no_name e
+kept_there (k ∷ ks) text n e f = by (string_eq text k) refl (kept_there ks text n) e
+  where
+    by : (s : Bool) → string_eq text k ≡ s → (list_any (string_eq text) ks ≡ true → bytes_eq n (string_bytes text) ≡ true → has_key ks n ≡ true) → (s || list_any (string_eq text) ks) ≡ true → has_key (k ∷ ks) n ≡ true
+    by true same more g = or_left (bytes_eq n (string_bytes k)) _ (ap (bytes_eq n) (sym (bytes_eq-is (string_bytes text) (string_bytes k) same)) ∙ f)
+    by false same more g = or_right (bytes_eq n (string_bytes k)) _ (more g f)
+
+-- a text more
+pub inserted : {Z : Type 0} (keys new : List (String Z)) (text : String Z) → new ≡ insert_key string_eq keys text → (n : List ℕ) → has_key new n ≡ (has_key keys n || bytes_eq n (string_bytes text))
+inserted keys new text e n = ap (λ ks. has_key ks n) e ∙ by (list_any (string_eq text) keys) refl
+  where
+    told : (a b : Bool) → (b ≡ true → a ≡ true) → a ≡ (a || b)
+    told true b f = refl
+    told false true f = f refl
+    told false false f = refl
+
+    by : (s : Bool) → list_any (string_eq text) keys ≡ s → has_key (if s then keys else keys ++ text ∷ []) n ≡ (has_key keys n || bytes_eq n (string_bytes text))
+    by true there = told (has_key keys n) (bytes_eq n (string_bytes text)) (kept_there keys text n there)
+    by false there = list_any-append (λ k. bytes_eq n (string_bytes k)) keys (text ∷ []) ∙ ap (λ b. has_key keys n || b) (or_false (bytes_eq n (string_bytes text)))
+
+-- clashes -------------------------------------------------------------------------------------------------------------
+
+any_or : {A : Type 0} (f g : A → Bool) (xs : List A) → list_any (λ x. f x || g x) xs ≡ (list_any f xs || list_any g xs)
+any_or f g [] = refl
+any_or f g (x ∷ xs) = ap (λ b. (f x || g x) || b) (any_or f g xs) ∙ by (f x) (g x) (list_any f xs) (list_any g xs)
+  where
+    by : (a b c d : Bool) → ((a || b) || (c || d)) ≡ ((a || c) || (b || d))
+    by true b c d = refl
+    by false true true d = refl
+    by false true false d = refl
+    by false false c d = refl
+
+-- three reasons for a clash
+three : (p : Component) (before : List Component) → list_any (clash p) before ≡ ((list_any (λ q. bytes_eq p.name q.name) before || list_any (λ q. takes p q.name) before) || list_any (λ q. takes q p.name) before)
+three p before =
+    any_or (λ q. bytes_eq p.name q.name || takes p q.name) (λ q. takes q p.name) before
+    ∙ ap (λ b. b || list_any (λ q. takes q p.name) before) (any_or (λ q. bytes_eq p.name q.name) (λ q. takes p q.name) before)
+
+no_list : (p : Component) (before : List Component) → is_list p.shape ≡ false → list_any (λ q. takes p q.name) before ≡ false
+no_list p [] e = refl
+no_list p (q ∷ qs) e = ap (λ b. (b && (bytes_eq q.name (codes "Num" ++ p.name) || bytes_eq q.name (p.name ++ codes "List"))) || list_any (λ q. takes p q.name) qs) e ∙ no_list p qs e
+
+of_list : (p : Component) (before : List Component) → is_list p.shape ≡ true
+    → list_any (λ q. takes p q.name) before ≡ (list_any (λ q. bytes_eq (codes "Num" ++ p.name) q.name) before || list_any (λ q. bytes_eq (p.name ++ codes "List") q.name) before)
+of_list p before e = each before ∙ any_or (λ q. bytes_eq (codes "Num" ++ p.name) q.name) (λ q. bytes_eq (p.name ++ codes "List") q.name) before
+  where
+    each : (qs : List Component) → list_any (λ q. takes p q.name) qs ≡ list_any (λ q. bytes_eq (codes "Num" ++ p.name) q.name || bytes_eq (p.name ++ codes "List") q.name) qs
+    each [] = refl
+    each (q ∷ qs) =
+        ap (λ b. (b && (bytes_eq q.name (codes "Num" ++ p.name) || bytes_eq q.name (p.name ++ codes "List"))) || list_any (λ q. takes p q.name) qs) e
+        ∙ ap₂ (λ a b. (a || b) || list_any (λ q. takes p q.name) qs) (bytes_eq-swap q.name (codes "Num" ++ p.name)) (bytes_eq-swap q.name (p.name ++ codes "List"))
+        ∙ ap (λ b. (bytes_eq (codes "Num" ++ p.name) q.name || bytes_eq (p.name ++ codes "List") q.name) || b) (each qs)
+
+pub by_name : (p : Component) (before : List Component) (t : TakenNames) → AreTaken before t → has_key t.names.keys p.name ≡ true → list_any (clash p) before ≡ true
+by_name p before t k e = three p before ∙ or_left (list_any (λ q. bytes_eq p.name q.name) before || list_any (λ q. takes p q.name) before) _ (or_left (list_any (λ q. bytes_eq p.name q.name) before) _ (sym (k.names p.name) ∙ e))
+
+pub by_accessor : (p : Component) (before : List Component) (t : TakenNames) → AreTaken before t → has_key t.accessors.keys p.name ≡ true → list_any (clash p) before ≡ true
+by_accessor p before t k e = three p before ∙ or_right (list_any (λ q. bytes_eq p.name q.name) before || list_any (λ q. takes p q.name) before) _ (sym (k.accessors p.name) ∙ e)
+
+only_own : (p : Component) (before : List Component) (t : TakenNames) → AreTaken before t → has_key t.names.keys p.name ≡ false → has_key t.accessors.keys p.name ≡ false → list_any (clash p) before ≡ list_any (λ q. takes p q.name) before
+only_own p before t k e f =
+    three p before
+    ∙ ap₂ (λ a b. (a || list_any (λ q. takes p q.name) before) || b) (sym (k.names p.name) ∙ e) (sym (k.accessors p.name) ∙ f)
+    ∙ or_false (list_any (λ q. takes p q.name) before)
+
+pub by_nothing : (p : Component) (before : List Component) (t : TakenNames) → AreTaken before t → has_key t.names.keys p.name ≡ false → has_key t.accessors.keys p.name ≡ false → is_list p.shape ≡ false → list_any (clash p) before ≡ false
+by_nothing p before t k e f g = only_own p before t k e f ∙ no_list p before g
+
+pub by_own : (p : Component) (before : List Component) (t : TakenNames) (count list : List ℕ) → AreTaken before t → has_key t.names.keys p.name ≡ false → has_key t.accessors.keys p.name ≡ false → is_list p.shape ≡ true
+    → count ≡ codes "Num" ++ p.name → list ≡ p.name ++ codes "List" → (has_key t.names.keys count || has_key t.names.keys list) ≡ list_any (clash p) before
+by_own p before t count list k e f g first second =
+    ap₂ (λ a b. has_key t.names.keys a || has_key t.names.keys b) first second
+    ∙ ap₂ (λ a b. a || b) (k.names (codes "Num" ++ p.name)) (k.names (p.name ++ codes "List"))
+    ∙ sym (only_own p before t k e f ∙ of_list p before g)
+
+-- one component more --------------------------------------------------------------------------------------------------
+
+pub none_taken : (t : TakenNames) → t.names.keys ≡ [] → t.accessors.keys ≡ [] → AreTaken [] t
+none_taken t e f = record {
+  names = λ n. ap (λ ks. has_key ks n) e;
+  accessors = λ n. ap (λ ks. has_key ks n) f;
+}
+
+pub one_taken : (p : Component) (old new : TakenNames) (before : List Component) → AreTaken before old
+    → ((n : List ℕ) → has_key new.names.keys n ≡ (has_key old.names.keys n || bytes_eq n p.name)) → ((n : List ℕ) → has_key new.accessors.keys n ≡ (has_key old.accessors.keys n || takes p n))
+    → AreTaken (before ++ p ∷ []) new
+one_taken p old new before k e f = record {
+  names = λ n. e n ∙ ap₂ (λ a b. a || b) (k.names n) (sym (or_false (bytes_eq n p.name))) ∙ sym (list_any-append (λ q. bytes_eq n q.name) before (p ∷ []));
+  accessors = λ n. f n ∙ ap₂ (λ a b. a || b) (k.accessors n) (sym (or_false (takes p n))) ∙ sym (list_any-append (λ q. takes q n) before (p ∷ []));
+}
+
+-- one that is no list
+pub takes_none : (p : Component) (old : Bool) (n : List ℕ) → is_list p.shape ≡ false → old ≡ (old || takes p n)
+takes_none p old n e = sym (ap (λ b. old || (b && (bytes_eq n (codes "Num" ++ p.name) || bytes_eq n (p.name ++ codes "List")))) e ∙ or_false old)
+
+-- a list
+pub takes_two : (p : Component) (old mid new : Bool) (n count list : List ℕ) → is_list p.shape ≡ true → count ≡ codes "Num" ++ p.name → list ≡ p.name ++ codes "List"
+    → mid ≡ (old || bytes_eq n count) → new ≡ (mid || bytes_eq n list) → new ≡ (old || takes p n)
+takes_two p old mid new n count list e first second f g =
+    g ∙ ap (λ b. b || bytes_eq n list) f ∙ by old (bytes_eq n count) (bytes_eq n list)
+    ∙ ap₂ (λ a b. old || (a || b)) (ap (bytes_eq n) first) (ap (bytes_eq n) second)
+    ∙ ap (λ b. old || (b && (bytes_eq n (codes "Num" ++ p.name) || bytes_eq n (p.name ++ codes "List")))) (sym e)
+  where
+    by : (a b c : Bool) → ((a || b) || c) ≡ (a || (b || c))
+    by true b c = refl
+    by false b c = refl
+
+-- one place after the other -------------------------------------------------------------------------------------------
+
+take_suc : {X : Type 0} (xs : List X) (i : ℕ) (x : X) → slice_get xs i ≡ Some x → take (suc i) xs ≡ take i xs ++ x ∷ []
+take_suc [] i x e = absurd (cc)
+take_suc (y ∷ ys) zero x e = ap (λ o. unwrap_or o y ∷ []) e
+take_suc (y ∷ ys) (suc i) x e = ap (λ zs. y ∷ zs) (take_suc ys i x e)
+
+take_past : {X : Type 0} (xs : List X) (i : ℕ) → slice_get xs i ≡ None → take (suc i) xs ≡ take i xs
+take_past [] zero e = refl
+take_past [] (suc i) e = refl
+take_past (y ∷ ys) zero e = absurd (cc)
+take_past (y ∷ ys) (suc i) e = ap (λ zs. y ∷ zs) (take_past ys i e)
+
+pub take_more : {X : Type 0} (xs : List X) (i : ℕ) (x : X) → slice_get xs i ≡ Some x → take i xs ++ x ∷ [] ≡ take (i + 1) xs
+take_more xs i x e = let n : suc i ≡ i + 1 = omega arith in sym (take_suc xs i x e) ∙ ap (λ m. take m xs) n
+
+pub take_end : {X : Type 0} (xs : List X) (i : ℕ) → slice_get xs i ≡ None → take i xs ≡ take (i + 1) xs
+take_end xs i e = let n : suc i ≡ i + 1 = omega arith in sym (take_past xs i e) ∙ ap (λ m. take m xs) n
+
+-- the class's own component at a place
+pub own_at : (own : List Part) (comps : List Component) (i : ℕ) (p : Part) → map part_view own ≡ comps → i < length own → p ≡ get_or own i p → slice_get comps i ≡ Some (part_view p)
+own_at own comps i p e less is = ap (λ ps. slice_get ps i) (sym e) ∙ slice_get-map part_view own i ∙ ap (option_map part_view) (slice_get_read own (length own) i p refl less is)
+
+pub own_none : (own : List Part) (comps : List Component) (i : ℕ) → map part_view own ≡ comps → length own ≤ i → slice_get comps i ≡ None
+own_none own comps i e past = ap (λ ps. slice_get ps i) (sym e) ∙ slice_get-map part_view own i ∙ ap (option_map part_view) (slice_get_past own i past)
+
+-- it is taken by what every tree has, by those above, or by its own before it
+pub twice_of : (classes : Classes) (c i : ℕ) (p : Component) (way : List ℕ) → way ≡ above classes c → slice_get (own_of classes c) i ≡ Some p
+    → (is_common p.name || (list_any (λ a. list_any (clash p) (own_of classes a)) way || list_any (clash p) (take i (own_of classes c)))) ≡ is_twice classes c i
+twice_of classes c i p way up e =
+    ap (λ w. is_common p.name || (list_any (λ a. list_any (clash p) (own_of classes a)) w || list_any (clash p) (take i (own_of classes c)))) up
+    ∙ ap (λ b. is_common p.name || b) (sym (list_any-append (clash p) (inherited classes c) (take i (own_of classes c)) ∙ ap (λ b. b || list_any (clash p) (take i (own_of classes c))) (list_any-flat_map-reverse (clash p) (own_of classes) (above classes c))))
+    ∙ ap (λ o. elim o [ None ↦ false | Some q ↦ is_taken (inherited classes c ++ take i (own_of classes c)) q ]) (sym e)
+
+pub twice_none : (classes : Classes) (c i : ℕ) → slice_get (own_of classes c) i ≡ None → false ≡ is_twice classes c i
+twice_none classes c i e = ap (λ o. elim o [ None ↦ false | Some q ↦ is_taken (inherited classes c ++ take i (own_of classes c)) q ]) (sym e)
+
+pub none_of : {X : Type 0} (xs : List X) → (length xs == 0) ≡ true → xs ≡ []
+none_of [] e = refl
+none_of (x ∷ xs) e = let n : length (x ∷ xs) ≡ 0 = eqb-true (length (x ∷ xs)) 0 e in absurd (omega (arith, n))

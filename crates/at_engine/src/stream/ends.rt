@@ -1,0 +1,142 @@
+//! Both ends of a run: where bytes are read from, where replies are written to, and whether a call of theirs failed.
+ghost use Rattle.std.specs.Prelude.{◌≡◌, ℕ, List, Option, Some, None, Bool, false, is_err};
+ghost use Rattle.std.specs.Io.{ReadsAtMost, WritesAtMost};
+ghost use Rattle.std.specs.Io.KnownBytes.{Keeps, ReadConsumes, WriteAppends};
+ghost use Rattle.at_engine.specs.Ends.{Remembers, takes_none};
+
+use std::io::{Read, Result, Write};
+
+/// Where the bytes of lines are read from: any `Read`, or one that is watched.
+pub trait Input {
+    /// The bytes that reads will give from here on, where they are known.
+    ghost remaining: { Self → Option (List ℕ) };
+
+    /// Whether a read failed so far, where that is known.
+    ghost failed: { Self → Option Bool };
+
+    /// Reads some bytes into the piece; how many.
+    ///
+    /// # Errors
+    ///
+    /// Where the read failed; no byte is lost then.
+    fn read(&mut self, piece: &mut [u8]) -> Result<usize>
+        ensures bound { ReadsAtMost result piece.new }
+        ensures bytes { ReadConsumes (remaining self.old) (remaining self.new) result piece.new }
+        ensures failed { Remembers (failed self.old) (failed self.new) (is_err result) };
+}
+
+/// Where replies are written to: any `Write`, or one that is watched.
+pub trait Output {
+    /// The bytes that were written so far, where they are known.
+    ghost contents: { Self → Option (List ℕ) };
+
+    /// Whether a write or a flush failed so far, or a write took no byte, where that is known.
+    ghost failed: { Self → Option Bool };
+
+    /// Writes a front of the bytes; how many of them.
+    ///
+    /// # Errors
+    ///
+    /// Where the write failed; nothing was written then.
+    fn write(&mut self, bytes: &[u8]) -> Result<usize>
+        ensures bound { WritesAtMost result bytes.now }
+        ensures bytes { WriteAppends (contents self.old) (contents self.new) result bytes.now }
+        ensures failed { Remembers (failed self.old) (failed self.new) (takes_none result) };
+
+    /// Sends on what was written.
+    ///
+    /// # Errors
+    ///
+    /// Where that failed.
+    fn flush(&mut self) -> Result<()>
+        ensures bytes { Keeps (contents self.old) (contents self.new) }
+        ensures failed { Remembers (failed self.old) (failed self.new) (is_err result) };
+}
+
+impl<R: Read> Input for R {
+    ghost remaining = { λ reader. R.Read.remaining reader };
+
+    ghost failed = { λ _. None };
+
+    fn read(&mut self, piece: &mut [u8]) -> Result<usize> {
+        Read::read(self, piece)
+    }
+}
+
+impl<W: Write> Output for W {
+    ghost contents = { λ writer. W.Write.contents writer };
+
+    ghost failed = { λ _. None };
+
+    fn write(&mut self, bytes: &[u8]) -> Result<usize> {
+        Write::write(self, bytes)
+    }
+
+    fn flush(&mut self) -> Result<()> {
+        Write::flush(self)
+    }
+}
+
+/// A stream that remembers whether a call of it failed.
+#[derive(Drop)]
+pub struct Watched<S> {
+    /// The stream.
+    pub stream: S,
+    failed: bool,
+}
+
+impl<S> Watched<S> {
+    /// The stream, of which no call failed yet.
+    pub fn new(stream: S) -> Watched<S>
+        ensures stream { result.stream ≡ stream }
+        ensures failed { result.failed ≡ false }
+    {
+        Watched {
+            stream,
+            failed: false,
+        }
+    }
+
+    /// Whether a call failed so far, or a write took no byte.
+    pub fn failed(&self) -> bool
+        ensures { result ≡ self.now.failed }
+    {
+        self.failed
+    }
+}
+
+impl<R: Read> Input for Watched<R> {
+    ghost remaining = { λ watched. R.Read.remaining watched.stream };
+
+    ghost failed = { λ watched. Some watched.failed };
+
+    fn read(&mut self, piece: &mut [u8]) -> Result<usize> {
+        let read = Read::read(&mut self.stream, piece);
+        if read.is_err() {
+            self.failed = true;
+        }
+        read
+    }
+}
+
+impl<W: Write> Output for Watched<W> {
+    ghost contents = { λ watched. W.Write.contents watched.stream };
+
+    ghost failed = { λ watched. Some watched.failed };
+
+    fn write(&mut self, bytes: &[u8]) -> Result<usize> {
+        let written = Write::write(&mut self.stream, bytes);
+        if !matches!(written, Ok(1..)) {
+            self.failed = true;
+        }
+        written
+    }
+
+    fn flush(&mut self) -> Result<()> {
+        let flushed = Write::flush(&mut self.stream);
+        if flushed.is_err() {
+            self.failed = true;
+        }
+        flushed
+    }
+}

@@ -1,0 +1,5 @@
+pub mod Signatures
+pub mod Accessors
+pub mod Kinds
+pub mod Judging
+pub mod Typed

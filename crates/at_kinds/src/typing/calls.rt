@@ -1,0 +1,291 @@
+//! Calls: of accessors, of attributes, and of `equals`.
+
+ghost use Rattle.std.specs.Prelude.{◌≡◌, [], map, slice_get, IfOk};
+ghost use Rattle.at_model.specs.Bodies as model;
+ghost use Rattle.at_rules.specs.Bodies.{body_view, bodies_view};
+ghost use Rattle.at_kinds.specs.Judging.{called as called_of, asked_of as asked_by_kind, asked as asked_in, equal as equal_of, only, one_argument, where_fit, misfit, accessed as accessed_by, of_kind, demanded_of, fitted as fitted_to, is_argument as is_argument_for, is_text_word, is_given_text as is_given};
+ghost use Rattle.at_kinds.specs.Kinds.{is_int, is_text};
+ghost use Rattle.at_kinds.specs.Typed.{typed_view, scope_view, Judges};
+
+use super::kinds::{ExprKind, Typed};
+use super::{Scope, TypeFault, refused};
+use crate::accessors::{Accessor, accessor_named};
+use crate::code::RuleCode;
+use crate::signatures::WrittenKind;
+use at_class::ClassId;
+use at_rules::{AttrId, Body, Kind};
+use std::alloc::{AllocError, Global};
+
+impl Scope<'_> {
+    /// A call of a receiver. Texts have `equals`; nodes have accessors and attributes.
+    pub(super) fn called(
+        &self,
+        receiver: Typed,
+        name: &str,
+        arguments: Vec<Typed>,
+        at: (u32, u32),
+    ) -> Result<Typed, TypeFault>
+        ensures { Judges typed_view (called_of (scope_view self.now) at name.now (typed_view receiver) (map typed_view arguments.items)) result }
+    {
+        if name == "equals" {
+            return self.equal(receiver, arguments, at);
+        }
+        self.asked_of(receiver.kind, receiver.body, name, arguments, at)
+    }
+
+    /// A call of what is no text.
+    fn asked_of(
+        &self,
+        kind: ExprKind,
+        node: Body,
+        name: &str,
+        arguments: Vec<Typed>,
+        at: (u32, u32),
+    ) -> Result<Typed, TypeFault>
+        ensures { Judges typed_view (asked_by_kind (scope_view self.now) at name.now kind (body_view node) (map typed_view arguments.items)) result }
+    {
+        match kind {
+            ExprKind::Class(class) => self.asked(class, node, name, arguments, at),
+            ExprKind::Strange => Err(refused(RuleCode::UnknownName, at)),
+            _ => Err(refused(RuleCode::Kind, at)),
+        }
+    }
+
+    /// `equals` of two texts.
+    fn equal(
+        &self,
+        receiver: Typed,
+        arguments: Vec<Typed>,
+        at: (u32, u32),
+    ) -> Result<Typed, TypeFault>
+        ensures { Judges typed_view (equal_of at (typed_view receiver) (map typed_view arguments.items)) result }
+    {
+        if !receiver.kind.is_text() {
+            return Err(refused(RuleCode::Kind, at));
+        }
+        let argument = self.text_argument(arguments, at)?;
+        let text = Box::new(self.alloc, receiver.body)?;
+        let argument = Box::new(self.alloc, argument)?;
+        Ok(Typed::truth(Body::Equals(text, argument), at))
+    }
+
+    /// The only argument of the call at that place, a text.
+    fn text_argument(&self, arguments: Vec<Typed>, at: (u32, u32)) -> Result<Body, TypeFault>
+        ensures { Judges body_view (one_argument is_text at (map typed_view arguments.items)) result }
+    {
+        let argument = self.only(arguments, at)?;
+        where_fit(argument.kind.is_text(), argument)
+    }
+
+    /// The only argument of the call at that place, an int.
+    fn int_argument(&self, arguments: Vec<Typed>, at: (u32, u32)) -> Result<Body, TypeFault>
+        ensures { Judges body_view (one_argument is_int at (map typed_view arguments.items)) result }
+    {
+        let argument = self.only(arguments, at)?;
+        where_fit(argument.kind.is_int(), argument)
+    }
+
+    /// The only argument of the call at that place.
+    fn only(&self, arguments: Vec<Typed>, at: (u32, u32)) -> Result<Typed, TypeFault>
+        ensures { Judges typed_view (only at (map typed_view arguments.items)) result }
+    {
+        let mut arguments = arguments;
+        if arguments.len() != 1 {
+            return Err(refused(RuleCode::Argument, at));
+        }
+        match arguments.pop() {
+            Some(argument) => Ok(argument),
+            None => Err(refused(RuleCode::Argument, at)),
+        }
+    }
+
+    /// An accessor or an attribute of nodes of the class.
+    fn asked(
+        &self,
+        class: ClassId,
+        node: Body,
+        name: &str,
+        arguments: Vec<Typed>,
+        at: (u32, u32),
+    ) -> Result<Typed, TypeFault>
+        ensures { Judges typed_view (asked_in (scope_view self.now) at name.now class (body_view node) (map typed_view arguments.items)) result }
+    {
+        if let Some(accessor) = accessor_named(self.classes, class, name) {
+            return self.accessed(accessor, node, arguments, at);
+        }
+        match self.signatures.attribute(self.classes, class, name) {
+            Some(attribute) => self.demanded(attribute, node, arguments, at),
+            None => Err(refused(RuleCode::UnknownName, at)),
+        }
+    }
+
+    /// An accessor of a node: only that of a list's element takes an argument, and that of the list itself
+    /// stands only in folds.
+    fn accessed(
+        &self,
+        accessor: Accessor,
+        node: Body,
+        arguments: Vec<Typed>,
+        at: (u32, u32),
+    ) -> Result<Typed, TypeFault>
+        ensures { Judges typed_view (accessed_by at accessor (body_view node) (map typed_view arguments.items)) result }
+    {
+        if let Accessor::Element(part, class) = accessor {
+            let index = self.int_argument(arguments, at)?;
+            return self.element(class, node, part, index, at);
+        }
+        if !arguments.is_empty() {
+            return Err(refused(RuleCode::Argument, at));
+        }
+        self.accessed_alone(accessor, node, at)
+    }
+
+    /// An accessor of a node, in a call without arguments.
+    fn accessed_alone(
+        &self,
+        accessor: Accessor,
+        node: Body,
+        at: (u32, u32),
+    ) -> Result<Typed, TypeFault>
+        ensures { Judges typed_view (accessed_by at accessor (body_view node) []) result }
+    {
+        let node = Box::new(self.alloc, node)?;
+        match accessor {
+            Accessor::Child(part, class) => Ok(Typed::node(class, Body::Child(node, part), at)),
+            Accessor::Token(part, kind) => Ok(Typed {
+                at,
+                kind: ExprKind::known(kind),
+                body: Body::TokenOf(node, part),
+            }),
+            Accessor::Has(part) => Ok(Typed::truth(Body::Has(node, part), at)),
+            Accessor::Count(part) => Ok(Typed::int(Body::Count(node, part), at)),
+            Accessor::List(_) => Err(refused(RuleCode::Kind, at)),
+            Accessor::Element(_, _) => Err(refused(RuleCode::Argument, at)),
+        }
+    }
+
+    /// The element at an index of a node's list.
+    fn element(
+        &self,
+        class: ClassId,
+        node: Body,
+        part: usize,
+        index: Body,
+        at: (u32, u32),
+    ) -> Result<Typed, TypeFault>
+        ensures { Judges typed_view (of_kind at (ExprKind.Class class) (model.Element (body_view node) part (body_view index))) result }
+    {
+        let node = Box::new(self.alloc, node)?;
+        let index = Box::new(self.alloc, index)?;
+        Ok(Typed::node(class, Body::Element(node, part, index), at))
+    }
+
+    /// An attribute of a node, with its arguments.
+    fn demanded(
+        &self,
+        attribute: AttrId,
+        node: Body,
+        arguments: Vec<Typed>,
+        at: (u32, u32),
+    ) -> Result<Typed, TypeFault>
+        ensures { Judges typed_view (demanded_of self.now.classes.now at attribute (slice_get self.now.signatures.now attribute) (body_view node) (map typed_view arguments.items)) result }
+    {
+        let Some(signature) = self.signatures.get(attribute) else {
+            return Err(refused(RuleCode::UnknownName, at));
+        };
+        let arguments = self.fitted(arguments, &signature.params, at)?;
+        let node = Box::new(self.alloc, node)?;
+        Ok(Typed {
+            at,
+            kind: ExprKind::written(signature.result),
+            body: Body::Call(node, attribute, arguments),
+        })
+    }
+
+    /// The arguments for parameters of these kinds, in the call at that place.
+    fn fitted(
+        &self,
+        arguments: Vec<Typed>,
+        params: &[WrittenKind],
+        at: (u32, u32),
+    ) -> Result<Vec<Body>, TypeFault>
+        ensures { Judges (λ bodies. bodies_view bodies.items) (fitted_to self.now.classes.now at (map typed_view arguments.items) params.now) result }
+    {
+        if arguments.len() != params.len() {
+            return Err(refused(RuleCode::Argument, at));
+        }
+        if let Some(at) = self.misfit(&arguments, params) {
+            return Err(refused(RuleCode::Argument, at));
+        }
+        let bodies = bodies_of(self.alloc, arguments)?;
+        Ok(bodies)
+    }
+
+    /// The place of the first argument that is wrong for its parameter.
+    fn misfit(&self, arguments: &[Typed], params: &[WrittenKind]) -> Option<(u32, u32)>
+        ensures { result ≡ misfit self.now.classes.now (map typed_view arguments.now) params.now }
+    {
+        for (i, argument) in arguments.iter().enumerate() {
+            let Some(param) = param_at(params, i) else {
+                return None;
+            };
+            if !self.is_argument(argument, param) {
+                return Some(argument.at);
+            }
+        }
+        None
+    }
+
+    /// Whether the expression may be the argument for a parameter of that kind: it fits, and of texts it
+    /// is a literal, a parameter or a token.
+    fn is_argument(&self, argument: &Typed, param: WrittenKind) -> bool
+        ensures { result ≡ is_argument_for self.now.classes.now (typed_view argument.now) param }
+    {
+        if !argument.kind.fits(self.classes, param) {
+            return false;
+        }
+        if is_text_word(&param) {
+            is_given_text(&argument.body)
+        } else {
+            true
+        }
+    }
+}
+
+fn param_at(params: &[WrittenKind], position: usize) -> Option<WrittenKind>
+    ensures { result ≡ slice_get params.now position }
+{
+    params.get(position).copied()
+}
+
+fn is_text_word(param: &WrittenKind) -> bool
+    ensures { result ≡ is_text_word param.now }
+{
+    matches!(param, WrittenKind::Known(Kind::Text))
+}
+
+/// Whether the text that the body is was given: a literal, a parameter's or a token's. (No other name is
+/// of a text.)
+fn is_given_text(body: &Body) -> bool
+    ensures { result ≡ is_given (body_view body.now) }
+{
+    matches!(body, Body::Text(_) | Body::Name(_) | Body::TokenOf(_, _))
+}
+
+/// The argument's body where it is of the kind that is asked.
+fn where_fit(fits: bool, argument: Typed) -> Result<Body, TypeFault>
+    ensures { Judges body_view (where_fit fits (typed_view argument)) result }
+{
+    if fits {
+        Ok(argument.body)
+    } else {
+        Err(refused(RuleCode::Argument, argument.at))
+    }
+}
+
+/// The bodies of the expressions.
+fn bodies_of(alloc: Global, exprs: Vec<Typed>) -> Result<Vec<Body>, AllocError>
+    ensures { IfOk result (λ bodies. bodies.items ≡ map (λ t. t.body) exprs.items) }
+{
+    exprs.into_iter().map(|expr| expr.body).collect(alloc)
+}

@@ -1,0 +1,231 @@
+//! The kinds of expressions.
+
+ghost use Rattle.std.specs.Prelude.{◌≡◌, Option, option_and_then};
+ghost use Rattle.at_rules.specs.Bodies.{body_view};
+ghost use Rattle.at_kinds.specs.Kinds.{known, of_written, is_int as is_int_kind, is_truth as is_truth_kind, is_text as is_text_kind, is_null as is_null_kind, is_node as is_node_kind, is_within, fits as fits_kind, fits_known, only_if, upper as upper_of, wider_class as wider_class_of, wider as wider_of};
+ghost use Rattle.at_kinds.specs.Typed.{typed_view};
+
+use crate::signatures::WrittenKind;
+use at_class::{ClassId, ClassTable};
+use at_rules::{Body, Kind};
+
+/// The kind of an expression.
+#[derive(Clone, Copy, Debug, PartialEq, Eq)]
+pub enum ExprKind {
+    Int,
+    Bool,
+    Text,
+    /// Null, or a node of the class or below.
+    Class(ClassId),
+    /// Nodes, of a class that isn't there.
+    Strange,
+    /// Null alone.
+    Null,
+}
+
+impl ExprKind {
+    /// The kind of a value that is declared so.
+    pub fn written(kind: WrittenKind) -> ExprKind
+        ensures { result ≡ of_written kind }
+    {
+        match kind {
+            WrittenKind::Known(kind) => ExprKind::known(kind),
+            WrittenKind::Strange => ExprKind::Strange,
+        }
+    }
+
+    /// The kind of a value of that kind.
+    pub fn known(kind: Kind) -> ExprKind
+        ensures { result ≡ known kind }
+    {
+        match kind {
+            Kind::Int => ExprKind::Int,
+            Kind::Bool => ExprKind::Bool,
+            Kind::Text => ExprKind::Text,
+            Kind::Class(class) => ExprKind::Class(class),
+        }
+    }
+
+    pub fn is_int(&self) -> bool
+        ensures { result ≡ is_int_kind self.now }
+    {
+        matches!(self, ExprKind::Int)
+    }
+
+    pub fn is_truth(&self) -> bool
+        ensures { result ≡ is_truth_kind self.now }
+    {
+        matches!(self, ExprKind::Bool)
+    }
+
+    pub fn is_text(&self) -> bool
+        ensures { result ≡ is_text_kind self.now }
+    {
+        matches!(self, ExprKind::Text)
+    }
+
+    fn is_null(&self) -> bool
+        ensures { result ≡ is_null_kind self.now }
+    {
+        matches!(self, ExprKind::Null)
+    }
+
+    /// Whether its values are nodes and null.
+    pub fn is_node(&self) -> bool
+        ensures { result ≡ is_node_kind self.now }
+    {
+        match self {
+            ExprKind::Class(_) | ExprKind::Strange | ExprKind::Null => true,
+            ExprKind::Int | ExprKind::Bool | ExprKind::Text => false,
+        }
+    }
+
+    /// Whether each of its values is one of the wanted kind: a class has null, and the nodes of each class below.
+    pub fn fits(self, classes: &ClassTable, wanted: WrittenKind) -> bool
+        ensures { result ≡ fits_kind classes.now self wanted }
+    {
+        match wanted {
+            WrittenKind::Known(kind) => self.fits_known(classes, kind),
+            WrittenKind::Strange => self.is_null(),
+        }
+    }
+
+    fn fits_known(self, classes: &ClassTable, wanted: Kind) -> bool
+        ensures { result ≡ fits_known classes.now self wanted }
+    {
+        match wanted {
+            Kind::Int => self.is_int(),
+            Kind::Bool => self.is_truth(),
+            Kind::Text => self.is_text(),
+            Kind::Class(above) => self.is_within(classes, above),
+        }
+    }
+
+    /// Whether it is null's kind, or the class's or that of one below.
+    fn is_within(self, classes: &ClassTable, above: ClassId) -> bool
+        ensures { result ≡ is_within classes.now above self }
+    {
+        match self {
+            ExprKind::Class(class) => classes.is_sub(class, above),
+            ExprKind::Null => true,
+            _ => false,
+        }
+    }
+
+    /// The wider of two kinds that are equal, or of which one has all values of the other.
+    pub fn wider(self, classes: &ClassTable, other: ExprKind) -> Option<ExprKind>
+        ensures { result ≡ wider_of classes.now self other }
+    {
+        match self {
+            ExprKind::Int => only_if(other.is_int(), other),
+            ExprKind::Bool => only_if(other.is_truth(), other),
+            ExprKind::Text => only_if(other.is_text(), other),
+            ExprKind::Class(class) => wider_class(classes, class, other),
+            ExprKind::Strange => only_if(other.is_null(), ExprKind::Strange),
+            ExprKind::Null => only_if(other.is_node(), other),
+        }
+    }
+}
+
+/// The kind, where the condition holds.
+fn only_if(condition: bool, kind: ExprKind) -> Option<ExprKind>
+    ensures { result ≡ only_if condition kind }
+{
+    if condition { Some(kind) } else { None }
+}
+
+/// The class's kind or the other one, whichever has all values of the other.
+fn wider_class(classes: &ClassTable, class: ClassId, other: ExprKind) -> Option<ExprKind>
+    ensures { result ≡ wider_class_of classes.now class other }
+{
+    match other {
+        ExprKind::Null => Some(ExprKind::Class(class)),
+        ExprKind::Class(second) => upper(classes, class, second),
+        _ => None,
+    }
+}
+
+/// Of two classes the one that is the other or above it.
+fn upper(classes: &ClassTable, class: ClassId, second: ClassId) -> Option<ExprKind>
+    ensures { result ≡ upper_of classes.now class second }
+{
+    if classes.is_sub(second, class) {
+        Some(ExprKind::Class(class))
+    } else if classes.is_sub(class, second) {
+        Some(ExprKind::Class(second))
+    } else {
+        None
+    }
+}
+
+/// An expression with its place: its kind, and the body that it means.
+#[derive(Debug, Drop)]
+pub struct Typed {
+    pub at: (u32, u32),
+    pub kind: ExprKind,
+    pub body: Body,
+}
+
+impl Typed {
+    pub fn int(body: Body, at: (u32, u32)) -> Typed
+        ensures { typed_view result ≡ record { at = at; kind = ExprKind.Int; body = body_view body } }
+    {
+        Typed {
+            at,
+            kind: ExprKind::Int,
+            body,
+        }
+    }
+
+    pub fn truth(body: Body, at: (u32, u32)) -> Typed
+        ensures { typed_view result ≡ record { at = at; kind = ExprKind.Bool; body = body_view body } }
+    {
+        Typed {
+            at,
+            kind: ExprKind::Bool,
+            body,
+        }
+    }
+
+    pub fn text(body: Body, at: (u32, u32)) -> Typed
+        ensures { typed_view result ≡ record { at = at; kind = ExprKind.Text; body = body_view body } }
+    {
+        Typed {
+            at,
+            kind: ExprKind::Text,
+            body,
+        }
+    }
+
+    /// Null, or a node of the class.
+    pub fn node(class: ClassId, body: Body, at: (u32, u32)) -> Typed
+        ensures { typed_view result ≡ record { at = at; kind = ExprKind.Class class; body = body_view body } }
+    {
+        Typed {
+            at,
+            kind: ExprKind::Class(class),
+            body,
+        }
+    }
+
+    pub fn null(at: (u32, u32)) -> Typed
+        ensures { typed_view result ≡ record { at = at; kind = ExprKind.Null; body = body_view Body.Null } }
+    {
+        Typed {
+            at,
+            kind: ExprKind::Null,
+            body: Body::Null,
+        }
+    }
+
+    /// The same, at another place.
+    pub fn placed(self, at: (u32, u32)) -> Typed
+        ensures { typed_view result ≡ record { at = at; kind = self.kind; body = body_view self.body } }
+    {
+        Typed {
+            at,
+            kind: self.kind,
+            body: self.body,
+        }
+    }
+}

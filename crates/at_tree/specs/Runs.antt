@@ -1,0 +1,23 @@
+-- Characters of one sort at the front of a text.
+use Rattle.std.specs.Prelude.{◌≡◌, ℕ, List, ◌++◌, Bool, true, ◌&&◌, ◌==◌, not, encode_utf8_all}
+use Rattle.std.specs.List.{AllByRecursion}
+use Rattle.at_model.specs.Names.{continues_name}
+use Rattle.at_tree.specs.declared.runs.Run.{Run}
+use Rattle.at_tree.specs.declared.runs.Run.TheVariants as run
+
+-- the character stands for itself between quotes
+abbrev pub is_plain : ℕ → Bool
+is_plain c = not (c == 34) && not (c == 92) && not (c == 10) && not (c == 9)
+
+-- the test that a character passes where the run goes on with it
+abbrev pub takes : Run → ℕ → Bool
+takes run.Name = continues_name
+takes run.Plain = is_plain
+
+-- the text is characters that pass the test, and then the rest
+abbrev pub Passes : (ℕ → Bool) → List ℕ → List ℕ → Type 0
+Passes passes text rest = (cs : List ℕ) × (text ≡ encode_utf8_all cs ++ rest) × AllByRecursion (λ c. passes c ≡ true) cs
+
+-- a text is cut behind characters that pass the test
+abbrev pub Cuts : (ℕ → Bool) → List ℕ → List ℕ → List ℕ → Type 0
+Cuts passes text front rest = (cs : List ℕ) × (front ≡ encode_utf8_all cs) × (text ≡ encode_utf8_all cs ++ rest) × AllByRecursion (λ c. passes c ≡ true) cs
