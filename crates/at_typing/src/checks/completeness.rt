@@ -17,12 +17,15 @@ pub fn fault_of(code: RuleCode, declared: &[Numbered], attribute: Option<AttrId>
     ensures { result ≡ fault_of code (map numbered_view declared.now) attribute }
 {
     let numbered = declaration_of(declared, attribute?)?;
-    Some(fault_at(code, &numbered, numbered.decl.at))
+    Some(fault_at(code, numbered, numbered.decl.at))
 }
 
 /// The declaration of the attribute.
-fn declaration_of<'a>(declared: &[Numbered<'a>], attribute: AttrId) -> Option<Numbered<'a>>
-    ensures { option_map numbered_view result ≡ slice_get (attributes (map numbered_view declared.now)) attribute }
+fn declaration_of<'d, 'a>(
+    declared: &'d [Numbered<'a>],
+    attribute: AttrId,
+) -> Option<&'d Numbered<'a>>
+    ensures { option_map (λ d. numbered_view d.now) result ≡ slice_get (attributes (map numbered_view declared.now)) attribute }
 {
     let mut position = 0;
     for numbered in declared {
@@ -30,7 +33,7 @@ fn declaration_of<'a>(declared: &[Numbered<'a>], attribute: AttrId) -> Option<Nu
             continue;
         }
         if position == attribute.index() {
-            return Some(*numbered);
+            return Some(numbered);
         }
         position += 1;
     }
