@@ -16,8 +16,8 @@ mod ends;
 
 use crate::engine::Engine;
 use at_cache::Keeper;
-pub use desk::{Report, RunFault};
 use desk::Desk;
+pub use desk::{Report, RunFault};
 pub use ends::{Input, Output, Watched};
 
 /// How many reads `run` may take.

@@ -71,34 +71,36 @@ loop-line-preserved g c =
     let line = c.in-Some.line.now in
     let behind = c.in-Some.behind.now in
     let contents = g.W.Output.contents in
-    let rules = rules_of c.args.engine.now in
-    ((done ++ line) ++ 10 ∷ [], record {
-      split = sym (cut c.args.piece.now done line behind c.loop-line.rest.now inv.split at);
-      taken = λ front o e.
-          let t = took_on rules _ _ front done line _ _ c.keep.new.self _ _ (inv.taken front o e) open' c.keep.ensures.line c.keep.ensures.lines c.keep.ensures.memory in
-          let u = c.in_ok-take_newline.ensures.taken t.rest t.progress.open' t.line in
-          let v = subst (λ (r : Rules). Takes r (state_of c.loop-line.engine) t.rest (10 ∷ []) (state_of c.take_newline.new.engine) c.keep.new.self c.take_newline.new.desk (contents c.loop-line.writer) (contents c.take_newline.new.writer)) inv.rules u in
-          took_more rules _ _ _ front (done ++ line) (10 ∷ []) _ _ _ _ _ _ t v;
-      keeps = λ exact spare front o e.
-          let s = inv.taken front o e in
-          let t = took_on rules _ _ front done line _ _ c.keep.new.self _ _ s open' c.keep.ensures.line c.keep.ensures.lines c.keep.ensures.memory in
-          let u = c.in_ok-take_newline.ensures.taken t.rest t.progress.open' t.line in
-          let p = keeps_on g.K.Keeper.contents c.args.engine.now c.loop-line.engine front done line c.args.desk.now c.loop-line.desk c.keep.new.self inv.rules (omega (arith, s.counts.memory)) open' c.keep.ensures.line c.keep.ensures.memory (inv.keeps exact spare front o e) in
-          let q = c.in_ok-take_newline.ensures.keeps exact (inv.spare exact spare) p.rest p.open' p.line in
-          keeps_more g.K.Keeper.contents c.args.engine.now c.loop-line.engine c.take_newline.new.engine front (done ++ line) (10 ∷ []) c.args.desk.now c.keep.new.self c.take_newline.new.desk inv.rules (omega (arith, t.counts.memory)) (omega (arith, u.counts.memory)) p q;
-      failed = then_calls _ _ _ false inv.failed c.in_ok-take_newline.ensures.failed;
-      spare = λ exact spare. c.in_ok-take_newline.ensures.spare exact (inv.spare exact spare);
-      rules = c.in_ok-take_newline.ensures.rules ∙ inv.rules;
-      sound = c.in_ok-take_newline.ensures.sound;
-      grows = omega (arith, c.in_ok-take_newline.ensures.grows, inv.grows, c.keep.ensures.lines, length-append (done ++ line) (10 ∷ []), length-append done line);
-    })
+    let rules = rules_of c.args.engine.now in (
+      (done ++ line) ++ 10 ∷ [],
+      record {
+        split = sym (cut c.args.piece.now done line behind c.loop-line.rest.now inv.split at);
+        taken = λ front o e.
+            let t = took_on rules _ _ front done line _ _ c.keep.new.self _ _ (inv.taken front o e) open' c.keep.ensures.line c.keep.ensures.lines c.keep.ensures.memory in
+            let u = c.in_ok-take_newline.ensures.taken t.rest t.progress.open' t.line in
+            let v = subst (λ (r : Rules). Takes r (state_of c.loop-line.engine) t.rest (10 ∷ []) (state_of c.take_newline.new.engine) c.keep.new.self c.take_newline.new.desk (contents c.loop-line.writer) (contents c.take_newline.new.writer)) inv.rules u in
+            took_more rules _ _ _ front (done ++ line) (10 ∷ []) _ _ _ _ _ _ t v;
+        keeps = λ exact spare front o e.
+            let s = inv.taken front o e in
+            let t = took_on rules _ _ front done line _ _ c.keep.new.self _ _ s open' c.keep.ensures.line c.keep.ensures.lines c.keep.ensures.memory in
+            let u = c.in_ok-take_newline.ensures.taken t.rest t.progress.open' t.line in
+            let p = keeps_on g.K.Keeper.contents c.args.engine.now c.loop-line.engine front done line c.args.desk.now c.loop-line.desk c.keep.new.self inv.rules (omega (arith, s.counts.memory)) open' c.keep.ensures.line c.keep.ensures.memory (inv.keeps exact spare front o e) in
+            let q = c.in_ok-take_newline.ensures.keeps exact (inv.spare exact spare) p.rest p.open' p.line in
+            keeps_more g.K.Keeper.contents c.args.engine.now c.loop-line.engine c.take_newline.new.engine front (done ++ line) (10 ∷ []) c.args.desk.now c.keep.new.self c.take_newline.new.desk inv.rules (omega (arith, t.counts.memory)) (omega (arith, u.counts.memory)) p q;
+        failed = then_calls _ _ _ false inv.failed c.in_ok-take_newline.ensures.failed;
+        spare = λ exact spare. c.in_ok-take_newline.ensures.spare exact (inv.spare exact spare);
+        rules = c.in_ok-take_newline.ensures.rules ∙ inv.rules;
+        sound = c.in_ok-take_newline.ensures.sound;
+        grows = omega (arith, c.in_ok-take_newline.ensures.grows, inv.grows, c.keep.ensures.lines, length-append (done ++ line) (10 ∷ []), length-append done line);
+      },
+    )
 
 pub returns-clause-taken : goal.returns-clause-taken
 returns-clause-taken g c front o e =
     let (done, inv) = c.loop-line.invariant in
     let rules = rules_of c.args.engine.now in
     let contents = g.W.Output.contents in
-    let t = took_on rules _ _ front done c.loop-line.rest.now _ _ c.keep-2.new.self _ _ (inv.taken front o e) ? c.keep-2.ensures.line c.keep-2.ensures.lines c.keep-2.ensures.memory in
+    let t = took_on rules _ _ front done c.loop-line.rest.now _ _ c.keep-2.new.self _ _ (inv.taken front o e) c.in_default.ensures c.keep-2.ensures.line c.keep-2.ensures.lines c.keep-2.ensures.memory in
     subst (λ (l : List ℕ). Takes rules (state_of c.args.engine.now) front l (state_of c.loop-line.engine) c.args.desk.now c.keep-2.new.self (contents c.args.writer.now) (contents c.loop-line.writer)) (sym inv.split) t
 
 pub returns-clause-failed : goal.returns-clause-failed
@@ -108,7 +110,7 @@ pub returns-clause-keeps : goal.returns-clause-keeps
 returns-clause-keeps g c exact spare front o e =
     let (done, inv) = c.loop-line.invariant in
     let s = inv.taken front o e in
-    let p = keeps_on g.K.Keeper.contents c.args.engine.now c.loop-line.engine front done c.loop-line.rest.now c.args.desk.now c.loop-line.desk c.keep-2.new.self inv.rules (omega (arith, s.counts.memory)) ? c.keep-2.ensures.line c.keep-2.ensures.memory (inv.keeps exact spare front o e) in
+    let p = keeps_on g.K.Keeper.contents c.args.engine.now c.loop-line.engine front done c.loop-line.rest.now c.args.desk.now c.loop-line.desk c.keep-2.new.self inv.rules (omega (arith, s.counts.memory)) c.in_default.ensures c.keep-2.ensures.line c.keep-2.ensures.memory (inv.keeps exact spare front o e) in
     subst (λ (l : List ℕ). KeepsBytes g.K.Keeper.contents front l c.args.engine.now c.loop-line.engine c.args.desk.now c.keep-2.new.self) (sym inv.split) p
 
 pub returns-clause-spare : goal.returns-clause-spare
