@@ -1,6 +1,5 @@
 -- What the values of typing stand for, and what is said of a result.
-use Rattle.std.specs.Prelude.{◌≡◌, List, map, option_map, Result, Ok, Err, Vec}
-use Rattle.at_jrag.specs.View.{word_view}
+use Rattle.std.specs.Prelude.{◌≡◌, List, map, option_map, Result, Ok, Err, Vec, string_bytes}
 use Rattle.at_rules.specs.Bodies.{body_view}
 use Rattle.at_kinds.specs.Judging.{Kinded, Judgement, Is, Wrong, Bound, Scope, Listed}
 use Rattle.at_kinds.specs.declared.typing.kinds.Typed.{Typed}
@@ -20,7 +19,7 @@ abbrev pub list_view : ListValue → Listed
 list_view l = record { node = body_view l.node; part = l.part; class = l.class }
 
 abbrev pub bound_view : BoundValue → Bound
-bound_view b = record { name = (word_view b.name.now).text; kind = b.kind }
+bound_view b = record { name = string_bytes b.name.value; kind = b.kind }
 
 abbrev pub scope_view : ScopeValue → Scope
 scope_view s = record { classes = s.classes.now; declared = s.signatures.now; this = s.this; names = map bound_view s.names.now; index = option_map (λ n. n.now) s.index }

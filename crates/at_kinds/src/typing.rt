@@ -26,6 +26,7 @@ use folds::List;
 use kinds::Typed;
 use names::within;
 use std::alloc::{AllocError, AllocFailed, Global};
+use std::rc::Rc;
 use wholes::no_list;
 
 /// Why an expression means no body.
@@ -59,23 +60,23 @@ fn refused(code: RuleCode, at: (u32, u32)) -> TypeFault
     TypeFault::Refused { code, at }
 }
 
-/// A parameter's or a fold's name, with the kind of what it stands for.
-#[derive(Clone, Copy)]
-pub struct Bound<'a> {
-    pub name: &'a Word,
+/// A parameter's or a fold's name, with the kind of what it stands for. The scopes within share the name.
+#[derive(Drop)]
+pub struct Bound {
+    pub name: Rc<String>,
     pub kind: WrittenKind,
 }
 
 /// Where a body stands: `this` is a node of the class; the names are those of the parameters in their
 /// order. An inherited equation for a list may have a name for the index.
 #[derive(Clone, Copy)]
-pub struct Scope<'a, 's> {
+pub struct Scope<'a> {
     pub alloc: Global,
-    pub classes: &'s ClassTable,
-    pub signatures: &'s Signatures,
+    pub classes: &'a ClassTable,
+    pub signatures: &'a Signatures,
     pub this: ClassId,
-    pub names: &'s [Bound<'a>],
-    pub index: Option<&'s str>,
+    pub names: &'a [Bound],
+    pub index: Option<&'a str>,
 }
 
 /// The body of the wanted kind that the expression means.
@@ -84,7 +85,7 @@ pub struct Scope<'a, 's> {
 ///
 /// `Refused` for its first fault: a name that isn't there, a wrong argument, a wrong kind, or a whole
 /// that doesn't fit the wanted kind. `Memory` for want of memory.
-pub fn body_of<'a>(scope: &Scope<'a, '_>, expr: &'a Expr, wanted: WrittenKind) -> Result<Body, TypeFault>
+pub fn body_of(scope: &Scope, expr: &Expr, wanted: WrittenKind) -> Result<Body, TypeFault>
     ensures { Judges body_view (body_meant (scope_view scope.now) (expr_view expr.now) wanted) result }
 {
     let typed = scope.typed(expr)?;
@@ -95,10 +96,10 @@ pub fn body_of<'a>(scope: &Scope<'a, '_>, expr: &'a Expr, wanted: WrittenKind) -
     }
 }
 
-impl<'a> Scope<'a, '_> {
+impl Scope<'_> {
     /// The expression with its kind.
     #[cycle(typed)]
-    fn typed(&self, expr: &'a Expr) -> Result<Typed, TypeFault>
+    fn typed(&self, expr: &Expr) -> Result<Typed, TypeFault>
         ensures { Judges typed_view (judged (scope_view self.now) (expr_view expr.now)) result }
     {
         let at = expr.at;
@@ -143,7 +144,7 @@ impl<'a> Scope<'a, '_> {
 
     /// The expressions with their kinds, from left to right.
     #[cycle(typed)]
-    fn typed_all(&self, exprs: &'a [Expr]) -> Result<Vec<Typed>, TypeFault>
+    fn typed_all(&self, exprs: &[Expr]) -> Result<Vec<Typed>, TypeFault>
         ensures { Judges all_view (judged_all (scope_view self.now) (to_exprs (map expr_view exprs.now))) result }
     {
         let mut all = Vec::new(self.alloc);
@@ -158,16 +159,16 @@ impl<'a> Scope<'a, '_> {
     #[cycle(typed)]
     fn fold(
         &self,
-        body: &'a Expr,
+        body: &Expr,
         list: Result<List, TypeFault>,
         form: FoldForm,
-        name: &'a Word,
+        name: &Word,
         at: (u32, u32),
     ) -> Result<Typed, TypeFault>
         ensures { (l : Judgement Listed) → Judges list_view l list → Judges typed_view (and_then (λ l. and_then (folded_by at (fold_view form) l) (judged (within_of (scope_view self.now) (word_view name.now).text l.class) (expr_view body.now))) l) result }
     {
         let list = list?;
-        let names = within(self.alloc, name, list.class, self.names)?;
+        let names = within(self.alloc, name.text.as_str(), list.class, self.names)?;
         let scope = Scope {
             alloc: self.alloc,
             classes: self.classes,
@@ -182,7 +183,7 @@ impl<'a> Scope<'a, '_> {
 
     /// The list of the fold that stands at that place.
     #[cycle(typed)]
-    fn list(&self, list: &'a Expr, fold: (u32, u32)) -> Result<List, TypeFault>
+    fn list(&self, list: &Expr, fold: (u32, u32)) -> Result<List, TypeFault>
         ensures { Judges list_view (list_or fold (judged (scope_view self.now) (expr_view list.now)) (judged_list (scope_view self.now) fold (expr_view list.now))) result }
     {
         match &list.form {

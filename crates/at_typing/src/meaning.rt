@@ -32,6 +32,7 @@ use at_kinds::signatures::{Signature, Signatures, WrittenKind};
 use at_kinds::typing::{Bound, Scope, TypeFault, body_of};
 use at_rules::{AttrId, Attribute, Body, Equations, Kind};
 use std::alloc::{AllocError, Global};
+use std::rc::Rc;
 
 /// How many parameters an attribute may have.
 const MAX_PARAMETERS: usize = 2;
@@ -284,24 +285,27 @@ impl Among<'_> {
     }
 
     /// The names of the parameters, with their kinds.
-    fn names<'p>(&self, params: &'p [Param]) -> Result<Vec<Bound<'p>>, AllocError>
+    fn names(&self, params: &[Param]) -> Result<Vec<Bound>, AllocError>
         ensures { IfOk result (λ names. map bound_view names.items ≡ map (bound self.now.classes.now) (map param_view params.now)) }
     {
         let mut names = Vec::new(self.alloc);
         for param in params {
-            names.push(self.bound(param))?;
+            names.push(self.bound(param)?)?;
         }
         Ok(names)
     }
 
     /// The name of the parameter, with its kind.
-    fn bound<'p>(&self, param: &'p Param) -> Bound<'p>
-        ensures { bound_view result ≡ bound self.now.classes.now (param_view param.now) }
+    fn bound(&self, param: &Param) -> Result<Bound, AllocError>
+        ensures { IfOk result (λ b. bound_view b ≡ bound self.now.classes.now (param_view param.now)) }
     {
-        Bound {
-            name: &param.name,
+        Ok(Bound {
+            name: Rc::new(
+                self.alloc,
+                String::from_str(self.alloc, param.name.text.as_str())?,
+            )?,
             kind: as_written(known_kind(self.classes, &param.kind.kind)),
-        }
+        })
     }
 
     /// The class of that name: J3 at the word where it isn't there.

@@ -16,7 +16,7 @@ use at_class::ClassId;
 use at_rules::{AttrId, Body, Kind};
 use std::alloc::{AllocError, Global};
 
-impl Scope<'_, '_> {
+impl Scope<'_> {
     /// A call of a receiver. Texts have `equals`; nodes have accessors and attributes.
     pub(super) fn called(
         &self,

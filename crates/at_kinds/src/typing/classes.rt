@@ -11,7 +11,7 @@ use at_class::ClassId;
 use at_jrag::Word;
 use at_rules::Body;
 
-impl Scope<'_, '_> {
+impl Scope<'_> {
     /// `(CLASS) E`
     pub(super) fn cast(
         &self,

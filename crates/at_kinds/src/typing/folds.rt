@@ -22,7 +22,7 @@ pub struct List {
     pub class: ClassId,
 }
 
-impl Scope<'_, '_> {
+impl Scope<'_> {
     /// The list that a call is, in a fold at that place: an accessor of a list, without arguments. Any
     /// other call is no list, if it has no fault of its own.
     pub(super) fn list_called(

@@ -2,7 +2,6 @@
 
 ghost use Rattle.std.specs.Prelude.{◌≡◌, ◌∷◌, ◌++◌, map, option_map, slice_get, position, bytes_eq, IfOk, OnOk};
 ghost use Rattle.at_model.specs.Bodies as model;
-ghost use Rattle.at_jrag.specs.View.{word_view};
 ghost use Rattle.at_kinds.specs.Judging.{of_kind, named as named_in, bound_to, index_eq, index_named, this_node};
 ghost use Rattle.at_kinds.specs.Typed.{typed_view, scope_view, bound_view, Judges};
 
@@ -11,11 +10,11 @@ use super::{Bound, Scope, TypeFault, refused};
 use crate::code::RuleCode;
 use crate::signatures::WrittenKind;
 use at_class::ClassId;
-use at_jrag::Word;
 use at_rules::{Body, Kind};
 use std::alloc::{AllocError, Global};
+use std::rc::Rc;
 
-impl Scope<'_, '_> {
+impl Scope<'_> {
     /// `this`
     pub(super) fn this(&self, at: (u32, u32)) -> Typed
         ensures { typed_view result ≡ this_node (scope_view self.now) at }
@@ -73,7 +72,7 @@ impl Scope<'_, '_> {
 fn position_bound(names: &[Bound], name: &str) -> Option<usize>
     ensures { result ≡ position (λ b. bytes_eq (bound_view b).name name.now) names.now }
 {
-    names.iter().position(|bound| bound.name.text.as_str() == name)
+    names.iter().position(|bound| bound.name.as_str() == name)
 }
 
 fn kind_at(names: &[Bound], position: usize) -> Option<WrittenKind>
@@ -83,17 +82,17 @@ fn kind_at(names: &[Bound], position: usize) -> Option<WrittenKind>
 }
 
 /// The names in the braces of a fold over nodes of the class: the fold's own, and then those outside.
-pub fn within<'a>(
+pub fn within(
     alloc: Global,
-    name: &'a Word,
+    name: &str,
     class: ClassId,
-    outside: &[Bound<'a>],
-) -> Result<Vec<Bound<'a>>, AllocError>
-    ensures { IfOk result (λ names. map bound_view names.items ≡ record { name = (word_view name.now).text; kind = WrittenKind.Known (Kind.Class class) } ∷ map bound_view outside.now) }
+    outside: &[Bound],
+) -> Result<Vec<Bound>, AllocError>
+    ensures { IfOk result (λ names. map bound_view names.items ≡ record { name = name.now; kind = WrittenKind.Known (Kind.Class class) } ∷ map bound_view outside.now) }
 {
     let mut names = Vec::new(alloc);
     names.push(Bound {
-        name,
+        name: Rc::new(alloc, String::from_str(alloc, name)?)?,
         kind: WrittenKind::Known(Kind::Class(class)),
     })?;
     append(outside, &mut names)?;
@@ -101,11 +100,22 @@ pub fn within<'a>(
 }
 
 /// The names behind those that are there.
-fn append<'a>(outside: &[Bound<'a>], names: &mut Vec<Bound<'a>>) -> Result<(), AllocError>
+fn append(outside: &[Bound], names: &mut Vec<Bound>) -> Result<(), AllocError>
     ensures { OnOk result (map bound_view names.new.items ≡ map bound_view names.old.items ++ map bound_view outside.now) }
 {
     for bound in outside {
-        names.push(*bound)?;
+        names.push(shared(bound)?)?;
     }
     Ok(())
+}
+
+/// The same name once more, which is shared.
+fn shared(bound: &Bound) -> Result<Bound, AllocError>
+    ensures { IfOk result (λ b. bound_view b ≡ bound_view bound.now) }
+{
+    let name = bound.name.clone()?;
+    Ok(Bound {
+        name,
+        kind: bound.kind,
+    })
 }

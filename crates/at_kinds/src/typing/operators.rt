@@ -14,7 +14,7 @@ use crate::code::RuleCode;
 use at_jrag::Operator as Sign;
 use at_rules::{Body, Operator, Order};
 
-impl Scope<'_, '_> {
+impl Scope<'_> {
     /// `-E`
     pub(super) fn negated(&self, inner: Typed, at: (u32, u32)) -> Result<Typed, TypeFault>
         ensures { Judges typed_view (negation at (typed_view inner)) result }

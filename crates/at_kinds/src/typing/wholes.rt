@@ -12,7 +12,7 @@ use super::{Scope, TypeFault, refused};
 use crate::code::RuleCode;
 use at_jrag::{Operator, Word};
 
-impl Scope<'_, '_> {
+impl Scope<'_> {
     /// `RECEIVER.NAME(..)`, or a call of `this`.
     pub(super) fn call(
         &self,

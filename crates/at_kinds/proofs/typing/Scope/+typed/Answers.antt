@@ -38,12 +38,12 @@ fold-returns-in_err-list t c =
 pub fold-returns-in_err-body : goal.fold-returns-in_err-body
 fold-returns-in_err-body t c =
     λ l is. let p = err_from_is_err_and c.from_residual-in_err-body.result c.from_residual-in_err-body.ensures.1 in
-    rw (p.1, p.2) (made_in list_view typed_view (λ (l : Listed). and_then (folded c.args.at (fold_view c.args.form) l) (judged (within (scope_view c.args.self.now) (word_view c.args.name.now).text l.class) (expr_view c.args.body.now))) l c.args.list c.in_ok-list.list (Err c.in_err-body.field-0.0) c.in_ok-list.was is (fault_of typed_view typed_view (folded c.args.at (fold_view c.args.form) (list_view c.in_ok-list.list)) (judged (within (scope_view c.args.self.now) (word_view c.args.name.now).text c.in_ok-list.list.class) (expr_view c.args.body.now)) c.in_err-body.field-0.0 (subst (λ (s : Scope). Judges typed_view (judged s (expr_view c.args.body.now)) (Err c.in_err-body.field-0.0)) (ap (λ ns. record (scope_view c.args.self.now) { names = ns }) (ap (map bound_view) c.as_slice.ensures.value ∙ c.in_ok-names.ensures)) c.in_err-body.ensures)))
+    rw (p.1, p.2) (made_in list_view typed_view (λ (l : Listed). and_then (folded c.args.at (fold_view c.args.form) l) (judged (within (scope_view c.args.self.now) (word_view c.args.name.now).text l.class) (expr_view c.args.body.now))) l c.args.list c.in_ok-list.list (Err c.in_err-body.field-0.0) c.in_ok-list.was is (fault_of typed_view typed_view (folded c.args.at (fold_view c.args.form) (list_view c.in_ok-list.list)) (judged (within (scope_view c.args.self.now) (word_view c.args.name.now).text c.in_ok-list.list.class) (expr_view c.args.body.now)) c.in_err-body.field-0.0 (subst (λ (s : Scope). Judges typed_view (judged s (expr_view c.args.body.now)) (Err c.in_err-body.field-0.0)) (ap (λ ns. record (scope_view c.args.self.now) { names = ns }) (ap (map bound_view) c.as_slice.ensures.value ∙ c.in_ok-names.ensures ∙ ap (λ (text : List ℕ). node_bound text c.in_ok-list.list.class ∷ map bound_view c.args.self.now.names.now) c.as_str.ensures.value)) c.in_err-body.ensures)))
 
 pub fold-returns : goal.fold-returns
 fold-returns t c =
     λ l is. made_in list_view typed_view (λ (l : Listed). and_then (folded c.args.at (fold_view c.args.form) l) (judged (within (scope_view c.args.self.now) (word_view c.args.name.now).text l.class) (expr_view c.args.body.now))) l c.args.list c.in_ok-list.list c.folded.result c.in_ok-list.was is
-    (made_of typed_view typed_view (folded c.args.at (fold_view c.args.form) (list_view c.in_ok-list.list)) (judged (within (scope_view c.args.self.now) (word_view c.args.name.now).text c.in_ok-list.list.class) (expr_view c.args.body.now)) c.in_ok-body.body c.folded.result (ap (λ (s : Scope). judged s (expr_view c.args.body.now)) (sym (ap (λ ns. record (scope_view c.args.self.now) { names = ns }) (ap (map bound_view) c.as_slice.ensures.value ∙ c.in_ok-names.ensures))) ∙ c.in_ok-body.ensures) c.folded.ensures)
+    (made_of typed_view typed_view (folded c.args.at (fold_view c.args.form) (list_view c.in_ok-list.list)) (judged (within (scope_view c.args.self.now) (word_view c.args.name.now).text c.in_ok-list.list.class) (expr_view c.args.body.now)) c.in_ok-body.body c.folded.result (ap (λ (s : Scope). judged s (expr_view c.args.body.now)) (sym (ap (λ ns. record (scope_view c.args.self.now) { names = ns }) (ap (map bound_view) c.as_slice.ensures.value ∙ c.in_ok-names.ensures ∙ ap (λ (text : List ℕ). node_bound text c.in_ok-list.list.class ∷ map bound_view c.args.self.now.names.now) c.as_str.ensures.value))) ∙ c.in_ok-body.ensures) c.folded.ensures)
 
 pub typed-returns-in-Name : goal.typed-returns-in-Name
 typed-returns-in-Name t c =
