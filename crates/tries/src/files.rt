@@ -26,7 +26,7 @@ pub struct World {
 /// # Errors
 ///
 /// The first file that is refused, or want of memory.
-pub fn world(alloc: Global, grammar: &str, aspects: &str, tree: &str) -> Result<World, Failure>
+pub fn load(alloc: Global, grammar: &str, aspects: &str, tree: &str) -> Result<World, Failure>
     ensures { IfOk result (λ w. IsIdle w.store) }
 {
     let rules = rules(alloc, grammar, aspects)?;

@@ -21,7 +21,7 @@ mod texts;
 
 use at_body::{Reads, try_body};
 use failure::Failure;
-use files::{World, world};
+use files::{World, load};
 use instances::{instance, value_for};
 use known::Values;
 use refusal::Refusal;
@@ -71,7 +71,7 @@ fn world_of_words(rt: &HostRuntime) -> Result<World, Failure>
     if words.next().is_some() {
         return Err(Failure::Words);
     }
-    world(
+    load(
         rt.alloc(),
         grammar.as_str(),
         aspects.as_str(),
