@@ -1,22 +1,22 @@
-# attrd: make run, make test, make try, make build, make install, make examples, make bench, make starve.
+# attrd: make run, make test, make try, make build, make install, make examples, make bench, make starve, make tries.
 SHELL := /bin/bash
 SAMPLE := crates/attrd/data
 PREFIX ?= /usr/local
 PAGES := docs/MANUAL.md docs/EDGES.md docs/REFUSALS.md docs/TUTORIAL.md samples/calculator samples/objects samples/machines
 
-.PHONY: run test try build install examples bench starve tools python
+.PHONY: run test try build install examples bench starve tries tools python
 
 # The sample session, answered by the proved program.
 run: build
 	@cd $(SAMPLE) && ../../../attrd calc.ast tree.txt calc.jrag < session
 
 # The gate: every proof from nothing, the must-fail edits, the tests, the programs; and then, on the programs that
-# were proved, a session with each request for memory refused in turn, and the examples of the manual, the tutorial and
-# the samples.
+# were proved, a session with each request for memory refused in turn, and the examples of the manual, the tutorial, the
+# samples and single tries.
 test: tools python
 	rt ci
 	@python3 tools/starve.py --program crates/starve/out/starve
-	@python3 tools/examples.py --program crates/attrd/out/attrd $(PAGES)
+	@python3 tools/examples.py --program crates/attrd/out/attrd --tries crates/tries/out/tries $(PAGES) docs/TRIES.md
 
 # The sample session with no proof, in a minute or two.
 try: tools
@@ -43,6 +43,11 @@ starve: tools python
 	cd crates/starve && rt run
 	@python3 tools/starve.py --program crates/starve/out/starve
 	@python3 tools/starve.py at_text
+
+# Single tries of equations, by the proved program.
+tries: tools python
+	cd crates/tries && rt run < stdin -- data/calc.ast data/calc.jrag data/tree.txt
+	@python3 tools/examples.py docs/TRIES.md
 
 # Speed, by the proved program, as ratios in one run; and what it takes at its limits.
 bench: build

@@ -1,11 +1,12 @@
 #!/usr/bin/env python3
-"""Runs the examples of pages and of sample folders, and compares what attrd writes byte by byte.
+"""Runs the examples of pages and of sample folders, and compares what the programs write byte by byte.
 
-    tools/examples.py [--program PROGRAM] PAGE|FOLDER ..
+    tools/examples.py [--program PROGRAM] [--tries PROGRAM] PAGE|FOLDER ..
 
-PROGRAM is ./attrd where none is given. A PAGE is a Markdown file. A FOLDER is a sample: its page is README.md, and its
-other files are there from the start. Each page has a temporary folder of its own, in which its examples run. The last
-line is 'N passed, M failed'; the status is 1 where one failed, or where a page has no example.
+The first PROGRAM runs as `attrd`, ./attrd where none is given; the second one as `tries`, crates/tries/out/tries where
+none is given. A PAGE is a Markdown file. A FOLDER is a sample: its page is README.md, and its other files are there from
+the start. Each page has a temporary folder of its own, in which its examples run. The last line is 'N passed, M failed';
+the status is 1 where one failed, or where a page has no example.
 
 The examples of a page are its fenced blocks; the word behind the fence says what a block is.
 
@@ -32,8 +33,8 @@ The examples of a page are its fenced blocks; the word behind the fence says wha
     Any number of these. 'attrd WORDS' must write 'FILE: ' and what stands behind the arrow on standard error, and end
     with status 1. '=> accepted' stands for nothing there, and for status 0.
 
-Blocks of text, ebnf and sh, and blocks without a word, are no examples. In the others a text X between the quotes in
-‹X*N› is written N times, where # in X is the count from 1.
+In the blocks with `$ attrd` it may also be `$ tries`. Blocks of text, ebnf and sh, and blocks without a word, are no
+examples. In the others a text X between the quotes in ‹X*N› is written N times, where # in X is the count from 1.
 """
 import argparse
 import difflib
@@ -51,6 +52,10 @@ SECONDS = 120
 
 class Malformed(Exception):
     """A block isn't written as the head of this script says."""
+
+
+class Missing(Exception):
+    """A program that an example runs isn't there."""
 
 
 def written_out(text):
@@ -82,16 +87,18 @@ def blocks_of(text):
 
 
 def words_of(line):
-    if line != "$ attrd" and not line.startswith("$ attrd "):
-        raise Malformed("the block doesn't begin with '$ attrd'")
-    return line.split()[2:]
+    """The words of a command: the program's name is the first."""
+    words = line.split()
+    if words[:1] != ["$"] or words[1:2] not in (["attrd"], ["tries"]):
+        raise Malformed("the block doesn't begin with '$ attrd' or '$ tries'")
+    return words[1:]
 
 
 class Page:
     """A page, the folder in which its examples run, and how many passed."""
 
-    def __init__(self, program, name, folder):
-        self.program, self.name, self.folder = program, name, Path(folder)
+    def __init__(self, programs, name, folder):
+        self.programs, self.name, self.folder = programs, name, Path(folder)
         self.passed = self.failed = 0
 
     def put(self, name, text):
@@ -108,10 +115,12 @@ class Page:
     def check(self, at, words, given, wanted):
         """One example: wanted are standard output, standard error and the status."""
         try:
-            ran = subprocess.run([self.program, *words], cwd=self.folder, input=given, capture_output=True, env={}, timeout=SECONDS)
+            ran = subprocess.run([self.programs[words[0]], *words[1:]], cwd=self.folder, input=given, capture_output=True, env={}, timeout=SECONDS)
         except subprocess.TimeoutExpired:
-            self.fail(at, words, f"attrd had not ended after {SECONDS} seconds")
+            self.fail(at, words, f"{words[0]} had not ended after {SECONDS} seconds")
             return
+        except OSError:
+            raise Missing(f"{self.programs[words[0]]}: there is no such program: make build makes ./attrd, make tries the other") from None
         got, why = (ran.stdout, ran.stderr, ran.returncode), []
         for what, old, new in zip(("standard output", "standard error"), wanted, got):
             if old != new:
@@ -127,12 +136,12 @@ class Page:
 
     def fail(self, at, words, *why):
         self.failed += 1
-        print(f"{self.name}:{at}: {'not an example' if words is None else ' '.join(['attrd', *words])}")
+        print(f"{self.name}:{at}: {'not an example' if words is None else ' '.join(words)}")
         for it in why:
             print(f"    {it}")
 
     def run(self, at, lines):
-        found = re.fullmatch(r"(\$ attrd.*?) < (\S+) \| diff - (\S+)", lines[0])
+        found = re.fullmatch(r"(\$ .*?) < (\S+) \| diff - (\S+)", lines[0])
         if found:
             if len(lines) > 1:
                 raise Malformed("replies stand in the block and in a file")
@@ -171,7 +180,7 @@ class Page:
             self.put(file, lines_text(text))
             is_well = line == "=> accepted"
             told = b"" if is_well else f"{file}: {line[3:]}\n".encode()
-            self.check(number, words.split(), b"", (b"", told, 0 if is_well else 1))
+            self.check(number, ["attrd", *words.split()], b"", (b"", told, 0 if is_well else 1))
             text = []
         if text:
             raise Malformed("a text has no arrow behind it")
@@ -191,10 +200,10 @@ class Page:
                 self.fail(at, None, str(why))
 
 
-def played(program, path):
+def played(programs, path):
     """The page, or the sample folder, after its examples have run."""
     with tempfile.TemporaryDirectory(prefix="attrd-examples-") as folder:
-        page = Page(program, path / "README.md" if path.is_dir() else path, folder)
+        page = Page(programs, path / "README.md" if path.is_dir() else path, folder)
         try:
             if path.is_dir():
                 for it in sorted(path.iterdir()):
@@ -211,14 +220,16 @@ def played(program, path):
 
 def main():
     words = argparse.ArgumentParser(description="Runs the examples of pages and of sample folders.")
-    words.add_argument("--program", default="./attrd", help="the program (./attrd)")
+    words.add_argument("--program", default="./attrd", help="the program attrd (./attrd)")
+    words.add_argument("--tries", metavar="PROGRAM", default="crates/tries/out/tries", help="the program tries (crates/tries/out/tries)")
     words.add_argument("pages", nargs="+", metavar="PAGE|FOLDER", type=Path)
     given = words.parse_args()
-    program = Path(given.program).resolve()
-    if not program.is_file():
-        print(f"{given.program}: there is no such program: make build makes ./attrd\n0 passed, 1 failed")
+    programs = {"attrd": str(Path(given.program).resolve()), "tries": str(Path(given.tries).resolve())}
+    try:
+        pages = [played(programs, it) for it in given.pages]
+    except Missing as why:
+        print(f"{why}\n0 passed, 1 failed")
         return 1
-    pages = [played(str(program), it) for it in given.pages]
     passed, failed = (sum(getattr(it, of) for it in pages) for of in ("passed", "failed"))
     print(f"{passed} passed, {failed} failed")
     return 1 if failed else 0

@@ -1,5 +1,5 @@
 -- What bytes do to what is kept.
-use Rattle.std.proofs.Common.{◌≡◌, ◌⊎◌, ℕ, ◌+◌, ◌≤◌, ◌<◌, Bool, true, false, if◌then◌else◌, nat_eq, List, [], ◌∷◌, ◌++◌, length, filter, Option, inl, inr, refl, sym, ap, ◌∙◌, append_assoc, append-nil, subst, arith}
+use Rattle.std.proofs.Common.{◌≡◌, ◌⊎◌, ℕ, ◌+◌, ◌≤◌, ◌<◌, Bool, true, false, if◌then◌else◌, List, [], ◌∷◌, ◌++◌, length, filter, Option, inl, inr, refl, sym, ap, ◌∙◌, append_assoc, append-nil, subst, arith}
 use Rattle.std.proofs.lemmas.Bool.{cases_lt}
 use Rattle.std.specs.Io.KnownBytes.{Consumes}
 use Rattle.at_model.specs.Lines.{is_filled, pieces}
@@ -14,7 +14,7 @@ use Rattle.at_engine.specs.declared.engine.Engine.{Engine}
 use Rattle.at_engine.specs.declared.stream.desk.Desk.{Desk}
 use Rattle.at_engine.proofs.Kept.{kept-more, kept-nil, kept-short, length-kept}
 use Rattle.at_engine.proofs.KeepingAll.{keeps_append, keeps_nothing, keeps_one}
-use Rattle.at_engine.proofs.Pieces.{filter-append, splits_byte, splits_newline, splits_on}
+use Rattle.at_engine.proofs.Pieces.{filter-append, splits_open, splits_newline, splits_on}
 use Rattle.at_engine.proofs.Progressing.{one_line}
 
 -- a line becomes what is kept of it becomes: one that is too long is no line
@@ -56,17 +56,17 @@ module _ {K : Type 0} (entries : K → Entries) where
   filled_more old mid new ls ms same p q =
       subst (λ (ks : List (List ℕ)). KeepsAll entries ks old new) (sym (filter-append is_filled ls ms)) (all_more old mid new (filter is_filled ls) (filter is_filled ms) same p q)
 
-  -- no byte, a byte of a line, the newline behind an empty line and behind one that was served
+  -- no byte, bytes of a line, the newline behind an empty line and behind one that was served
   pub keeps_none : (e : Engine K) (front : List ℕ) (desk : Desk) → IsOpen front → desk.line.items ≡ kept front → KeepsBytes entries front [] e e desk desk
   keeps_none e front desk o is = record { fulls = []; rest = front; splits = ap pieces (append-nil front) ∙ o; open' = o; line = is; keeps = λ same. all_nothing e }
 
-  pub keeps_byte : (e : Engine K) (front : List ℕ) (b : ℕ) (desk next : Desk) → IsOpen front → nat_eq b 10 ≡ false → desk.line.items ≡ kept front → next.line.items ≡ kept (desk.line.items ++ b ∷ []) → KeepsBytes entries front (b ∷ []) e e desk next
-  keeps_byte e front b desk next o h is goes = record {
+  pub keeps_open : (e : Engine K) (front bytes : List ℕ) (desk next : Desk) → IsOpen front → IsOpen bytes → desk.line.items ≡ kept front → next.line.items ≡ kept (desk.line.items ++ bytes) → KeepsBytes entries front bytes e e desk next
+  keeps_open e front bytes desk next o p is goes = record {
     fulls = [];
-    rest = front ++ b ∷ [];
-    splits = splits_byte front [] front b h o;
-    open' = splits_byte front [] front b h o;
-    line = goes ∙ ap (λ i. kept (i ++ b ∷ [])) is ∙ kept-more front b;
+    rest = front ++ bytes;
+    splits = splits_open front [] front bytes p o;
+    open' = splits_open front [] front bytes p o;
+    line = goes ∙ ap (λ i. kept (i ++ bytes)) is ∙ kept-more front bytes;
     keeps = λ same. all_nothing e;
   }
 
@@ -93,6 +93,11 @@ module _ {K : Type 0} (entries : K → Entries) where
     line = q.line;
     keeps = λ whole. filled_more old mid new p.fulls q.fulls same (p.keeps (omega (arith, first, later, whole))) (q.keeps (omega (arith, first, later, whole)));
   }
+
+  -- bytes of a line behind others
+  pub keeps_on : (old mid : Engine K) (front bytes more : List ℕ) (desk next last : Desk) → rules_of mid ≡ rules_of old → desk.memory ≤ next.memory → IsOpen more → last.line.items ≡ kept (next.line.items ++ more) → last.memory ≡ next.memory → KeepsBytes entries front bytes old mid desk next → KeepsBytes entries front (bytes ++ more) old mid desk last
+  keeps_on old mid front bytes more desk next last same first o f m p =
+      keeps_more old mid mid front bytes more desk next last same first (omega (arith, m)) p (keeps_open mid p.rest more next last p.open' o p.line f)
 
   -- all lines, and the last one, which no newline ends
   pub keeps_run : (old mid new : Engine K) (input : List ℕ) (readable left : Option (List ℕ)) (desk next : Desk) → Consumes readable left input → rules_of mid ≡ rules_of old → next.memory ≡ desk.memory → (p : KeepsBytes entries [] input old mid desk next) → KeepsAll entries (filter is_filled (p.rest ∷ [])) mid new → KeepsRun entries old new readable left

@@ -1,6 +1,7 @@
 -- The front of a line.
-use Rattle.std.proofs.Common.{◌≡◌, ℕ, ◌≤◌, ◌<◌, ◌⊎◌, List, [], ◌∷◌, ◌++◌, length, take, refl, sym, ap, ◌∙◌, arith, inl, inr, true, lit<}
+use Rattle.std.proofs.Common.{◌≡◌, ℕ, ◌+◌, ◌≤◌, ◌<◌, ◌⊎◌, List, [], ◌∷◌, ◌++◌, length, take, refl, sym, ap, ◌∙◌, arith, inl, inr, true, lit<}
 use Rattle.std.proofs.lemmas.List.{take_all, take-append-le, length-take}
+use Rattle.std.proofs.Math.Seq.{take-append-add}
 use Rattle.std.proofs.lemmas.Bool.{cases_lt}
 use Rattle.at_model.specs.Lines.{is_filled}
 use Rattle.at_engine.specs.Loop.{kept}
@@ -10,10 +11,15 @@ pub kept-short : (xs : List ℕ) → length xs ≤ 65536 → kept xs ≡ xs
 unfolding kept
 kept-short xs h = take_all 65536 xs h
 
--- one more byte changes nothing where the front is full
-pub kept-full : (xs : List ℕ) (b : ℕ) → 65536 ≤ length xs → kept (xs ++ b ∷ []) ≡ kept xs
+-- more bytes change nothing where the front is full
+kept-full : (xs ys : List ℕ) → 65536 ≤ length xs → kept (xs ++ ys) ≡ kept xs
 unfolding kept
-kept-full xs b h = take-append-le 65536 xs (b ∷ []) h
+kept-full xs ys h = take-append-le 65536 xs ys h
+
+-- as many of them are kept as there is room for
+pub kept-room : (xs ys : List ℕ) (room : ℕ) → length xs + room ≡ 65536 → kept (xs ++ ys) ≡ xs ++ take room ys
+unfolding kept
+kept-room xs ys room is = ap (λ n. take n (xs ++ ys)) (sym is) ∙ take-append-add xs ys room
 
 pub length-kept : (xs : List ℕ) → 65536 ≤ length xs → length (kept xs) ≡ 65536
 unfolding kept
@@ -23,16 +29,16 @@ pub length-kept-le : (xs : List ℕ) → length (kept xs) ≤ 65536
 unfolding kept
 length-kept-le xs = omega (arith, length-take 65536 xs)
 
-kept_more_by : (xs : List ℕ) (b : ℕ) → (length xs < 65536) ⊎ (65536 ≤ length xs) → kept (kept xs ++ b ∷ []) ≡ kept (xs ++ b ∷ [])
-kept_more_by xs b (inl h) = let short : length xs ≤ 65536 = omega arith in ap (λ l. kept (l ++ b ∷ [])) (kept-short xs short)
-kept_more_by xs b (inr h) =
+kept_more_by : (xs ys : List ℕ) → (length xs < 65536) ⊎ (65536 ≤ length xs) → kept (kept xs ++ ys) ≡ kept (xs ++ ys)
+kept_more_by xs ys (inl h) = let short : length xs ≤ 65536 = omega arith in ap (λ l. kept (l ++ ys)) (kept-short xs short)
+kept_more_by xs ys (inr h) =
     let full : 65536 ≤ length (kept xs) = omega (arith, length-kept xs h) in
     let short : length (kept xs) ≤ 65536 = length-kept-le xs in
-    kept-full (kept xs) b full ∙ kept-short (kept xs) short ∙ sym (kept-full xs b h)
+    kept-full (kept xs) ys full ∙ kept-short (kept xs) short ∙ sym (kept-full xs ys h)
 
 -- what is kept of a line goes on as the line does
-pub kept-more : (xs : List ℕ) (b : ℕ) → kept (kept xs ++ b ∷ []) ≡ kept (xs ++ b ∷ [])
-kept-more xs b = kept_more_by xs b (cases_lt (length xs) 65536)
+pub kept-more : (xs ys : List ℕ) → kept (kept xs ++ ys) ≡ kept (xs ++ ys)
+kept-more xs ys = kept_more_by xs ys (cases_lt (length xs) 65536)
 
 pub kept-nil : kept [] ≡ []
 unfolding kept

@@ -1,10 +1,16 @@
 -- Bytes cut at newlines, piece by piece.
-use Rattle.std.proofs.Common.{◌≡◌, ℕ, Bool, true, false, cond, nat_eq, List, [], ◌∷◌, ◌++◌, filter, refl, sym, ap, ◌∙◌, append_assoc, append-nil, subst}
+use Rattle.std.proofs.Common.{◌≡◌, ℕ, suc, ◌+◌, ◌<◌, ◌≤◌, Bool, true, false, cond, nat_eq, List, [], ◌∷◌, ◌++◌, length, get_or, take, drop, filter, Option, None, Some, refl, sym, ap, ◌∙◌, append_assoc, append-nil, subst, arith}
+use Rattle.std.specs.List.{position_or_len}
+use Rattle.std.proofs.lemmas.Bool.Decides.{nat_tests}
+use Rattle.std.proofs.lemmas.Grind.{common_steps}
+use Rattle.std.proofs.lemmas.List.{get_or-take, length-take, take-append-drop, take_more}
+use Rattle.std.proofs.lemmas.List.Quantifiers.{position-Some}
+use Rattle.std.proofs.lemmas.List.Sums.{fails_before_first}
 use Rattle.at_model.specs.Lines.{pieces, onto_first}
 use Rattle.at_model.specs.Rules.{Rules}
 use Rattle.at_model.specs.Replies.{reply_text}
 use Rattle.at_model.specs.Machine.{State, Runs}
-use Rattle.at_engine.specs.Loop.{Splits, IsOpen}
+use Rattle.at_engine.specs.Loop.{Splits, IsOpen, newline_at}
 
 -- the first piece goes on these bytes
 abbrev pub onto_front : List ℕ → List (List ℕ) → List (List ℕ)
@@ -61,12 +67,34 @@ join-last (f ∷ g ∷ gs) p qs = ap (λ l. f ∷ l) (join-last (g ∷ gs) p qs)
 pub splits_then : (as' bs : List ℕ) (fulls : List (List ℕ)) (p : List ℕ) → Splits as' fulls p → pieces (as' ++ bs) ≡ fulls ++ onto_front p (pieces bs)
 splits_then as' bs fulls p h = pieces-append as' bs ∙ ap (λ l. join l (pieces bs)) h ∙ join-last fulls p (pieces bs)
 
-pub pieces-byte : (b : ℕ) → nat_eq b 10 ≡ false → pieces (b ∷ []) ≡ (b ∷ []) ∷ []
-pieces-byte b h = ap (λ t. cond t ([] ∷ [] ∷ []) ((b ∷ []) ∷ [])) h
+-- bytes in which no newline stands are open
+open_where : (bs : List ℕ) → ((k : ℕ) → k < length bs → nat_eq (get_or bs k 0) 10 ≡ false) → IsOpen bs
+open_where [] h = refl
+open_where (b ∷ bs) h =
+    ap (λ t. cond t ([] ∷ pieces bs) (onto_first b (pieces bs))) (h 0 (omega arith)) ∙ ap (onto_first b) (open_where bs (λ k l. h (suc k) (omega (arith, l))))
 
--- a byte that is no newline goes on the line
-pub splits_byte : (as' : List ℕ) (fulls : List (List ℕ)) (p : List ℕ) (b : ℕ) → nat_eq b 10 ≡ false → Splits as' fulls p → Splits (as' ++ b ∷ []) fulls (p ++ b ∷ [])
-splits_byte as' fulls p b h s = splits_then as' (b ∷ []) fulls p s ∙ ap (λ l. fulls ++ onto_front p l) (pieces-byte b h)
+-- without one all bytes are open
+pub open_all : (bs : List ℕ) → newline_at bs ≡ None → IsOpen bs
+open_all bs none =
+    let past : length bs ≤ position_or_len (λ b. nat_eq b 10) bs = grind (arith, common_steps) in
+    open_where bs (λ k l. fails_before_first (λ b. nat_eq b 10) bs k 0 (omega (arith, past, l)))
+
+-- those before it are
+pub open_before : (bs : List ℕ) (i : ℕ) → newline_at bs ≡ Some i → IsOpen (take i bs)
+open_before bs i is =
+    let p = position-Some (λ b. nat_eq b 10) bs i 0 is in
+    open_where (take i bs) (λ k l. let below : k < i = omega (arith, length-take i bs, l) in ap (λ b. nat_eq b 10) (get_or-take i bs k 0 below) ∙ p.2 k below)
+
+-- there it stands
+pub split_at_newline : (bs : List ℕ) (i : ℕ) → newline_at bs ≡ Some i → bs ≡ take i bs ++ 10 ∷ drop (i + 1) bs
+split_at_newline bs i is =
+    let p = position-Some (λ b. nat_eq b 10) bs i 0 is in
+    let newline : get_or bs i 0 ≡ 10 = grind (arith, nat_tests, p.1) in
+    sym (take-append-drop (i + 1) bs) ∙ ap (λ l. l ++ drop (i + 1) bs) (take_more bs i 0 p.0 ∙ ap (λ b. take i bs ++ b ∷ []) newline) ∙ append_assoc (take i bs) (10 ∷ []) (drop (i + 1) bs)
+
+-- open bytes go on the line
+pub splits_open : (as' : List ℕ) (fulls : List (List ℕ)) (p bs : List ℕ) → IsOpen bs → Splits as' fulls p → Splits (as' ++ bs) fulls (p ++ bs)
+splits_open as' fulls p bs o s = splits_then as' bs fulls p s ∙ ap (λ l. fulls ++ onto_front p l) o
 
 -- a newline ends it
 pub splits_newline : (as' : List ℕ) (fulls : List (List ℕ)) (p : List ℕ) → Splits as' fulls p → Splits (as' ++ 10 ∷ []) (fulls ++ p ∷ []) []

@@ -1,11 +1,11 @@
--- How a run goes on: by a byte, by a whole line, by more bytes.
-use Rattle.std.proofs.Common.{◌≡◌, ℕ, Bool, true, false, cond, nat_eq, List, [], ◌∷◌, ◌++◌, filter, refl, sym, ap, ◌∙◌, append_assoc, append-nil, subst, arith, length-append}
+-- How a run goes on: by bytes of a line, by a whole line, by more bytes.
+use Rattle.std.proofs.Common.{◌≡◌, ℕ, Bool, true, cond, List, [], ◌∷◌, ◌++◌, filter, refl, sym, ap, ◌∙◌, append_assoc, append-nil, subst, arith, length-append}
 use Rattle.at_model.specs.Lines.{pieces, is_filled}
 use Rattle.at_model.specs.Rules.{Rules}
 use Rattle.at_model.specs.Replies.{Reply, reply_text}
 use Rattle.at_model.specs.Machine.{State, Serves, Runs}
 use Rattle.at_engine.specs.Loop.{IsOpen, Progress}
-use Rattle.at_engine.proofs.Pieces.{splits_byte, splits_newline, splits_on, filter-append, runs-append}
+use Rattle.at_engine.proofs.Pieces.{splits_open, splits_newline, splits_on, filter-append, runs-append}
 
 -- nothing came yet
 pub nothing_came : (rules : Rules) (old : State) (front : List ℕ) → IsOpen front → Progress rules old front [] [] [] old front
@@ -17,15 +17,15 @@ nothing_came rules old front o = record {
   few = omega arith;
 }
 
--- a byte of a line came
-pub byte_came : (rules : Rules) (old new : State) (front bytes : List ℕ) (ks : List Bool) (text rest : List ℕ) (b : ℕ) → nat_eq b 10 ≡ false
-    → Progress rules old front bytes ks text new rest → Progress rules old front (bytes ++ b ∷ []) ks text new (rest ++ b ∷ [])
-byte_came rules old new front bytes ks text rest b h p = record {
+-- bytes of a line came
+pub open_came : (rules : Rules) (old new : State) (front bytes : List ℕ) (ks : List Bool) (text rest more : List ℕ) → IsOpen more
+    → Progress rules old front bytes ks text new rest → Progress rules old front (bytes ++ more) ks text new (rest ++ more)
+open_came rules old new front bytes ks text rest more o p = record {
   fulls = p.fulls;
-  splits = ap pieces (sym (append_assoc front bytes (b ∷ []))) ∙ splits_byte (front ++ bytes) p.fulls rest b h p.splits;
-  open' = splits_byte rest [] rest b h p.open';
+  splits = ap pieces (sym (append_assoc front bytes more)) ∙ splits_open (front ++ bytes) p.fulls rest more o p.splits;
+  open' = splits_open rest [] rest more o p.open';
   runs = p.runs;
-  few = omega (arith, p.few, length-append bytes (b ∷ []));
+  few = omega (arith, p.few, length-append bytes more);
 }
 
 -- a newline came behind an empty line

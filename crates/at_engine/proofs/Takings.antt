@@ -1,6 +1,5 @@
--- What a byte does.
+-- What bytes do.
 use Rattle.std.proofs.Common.{◌≡◌, ℕ, ◌+◌, Bool, true, false, cond, nat_eq, List, [], ◌∷◌, ◌++◌, refl, sym, ap, ◌∙◌, append_assoc, subst, arith, length-append, Option, zero-add, add-zero, add_assoc, inl, inr}
-use Rattle.std.proofs.lemmas.Bool.Decides.{eqb_tells}
 use Rattle.std.proofs.KnownBytes.{Appends-nil, Appends-trans}
 use Rattle.std.specs.Io.KnownBytes.{Appends}
 use Rattle.at_model.specs.Rules.{Rules}
@@ -12,7 +11,7 @@ use Rattle.at_engine.specs.Loop.{IsOpen, kept}
 use Rattle.at_engine.specs.Taking.{Takes, Halts, Stops, Counts, wants}
 use Rattle.at_engine.proofs.Kept.{kept-more, kept-nil}
 use Rattle.at_engine.proofs.KeptLines.{serves_kept}
-use Rattle.at_engine.proofs.Progressing.{nothing_came, byte_came, empty_line_came, line_came, more_came}
+use Rattle.at_engine.proofs.Progressing.{nothing_came, open_came, empty_line_came, line_came, more_came}
 
 pub wants-append : (xs ys : List Bool) → wants (xs ++ ys) ≡ wants xs + wants ys
 wants-append [] ys = sym (zero-add (wants ys))
@@ -21,16 +20,16 @@ wants-append (x ∷ xs) ys = ap (λ n. cond x 1 0 + n) (wants-append xs ys) ∙ 
 pub no_count : (desk next : Desk) → next.lines ≡ desk.lines → next.memory ≡ desk.memory → Counts desk next []
 no_count desk next l m = record { lines = l ∙ sym (add-zero desk.lines); memory = m ∙ sym (add-zero desk.memory) }
 
--- a byte of a line
-pub took_byte : (rules : Rules) (s : State) (front : List ℕ) (b : ℕ) (desk next : Desk) (before : Option (List ℕ)) → IsOpen front → nat_eq b 10 ≡ false
-    → desk.line.items ≡ kept front → next.line.items ≡ kept (desk.line.items ++ b ∷ []) → next.lines ≡ desk.lines → next.memory ≡ desk.memory
-    → Takes rules s front (b ∷ []) s desk next before before
-took_byte rules s front b desk next before o h e f l m = record {
+-- bytes of a line
+pub took_open : (rules : Rules) (s : State) (front bytes : List ℕ) (desk next : Desk) (before : Option (List ℕ)) → IsOpen front → IsOpen bytes
+    → desk.line.items ≡ kept front → next.line.items ≡ kept (desk.line.items ++ bytes) → next.lines ≡ desk.lines → next.memory ≡ desk.memory
+    → Takes rules s front bytes s desk next before before
+took_open rules s front bytes desk next before o p e f l m = record {
   named = [];
   text = [];
-  rest = front ++ b ∷ [];
-  progress = byte_came rules s s front [] [] [] front b h (nothing_came rules s front o);
-  line = f ∙ ap (λ i. kept (i ++ b ∷ [])) e ∙ kept-more front b;
+  rest = front ++ bytes;
+  progress = open_came rules s s front [] [] [] front bytes p (nothing_came rules s front o);
+  line = f ∙ ap (λ i. kept (i ++ bytes)) e ∙ kept-more front bytes;
   written = Appends-nil before;
   counts = no_count desk next l m;
 }
@@ -95,9 +94,6 @@ stopped_at_line rules old new front wants reply desk before after done undone o 
   halts = halted rules old new front wants reply desk before after done undone e served split written;
 }
 
-pub differs : (a b : ℕ) → (a ≡ b → ⊥) → nat_eq a b ≡ false
-differs a b h = elim (eqb_tells a b) [ inl p ↦ absurd (h p.1) | inr p ↦ p.0 ]
-
 -- more bytes were taken
 pub took_more : (rules : Rules) (old mid new : State) (front bytes more : List ℕ) (desk next last : Desk) (before between after : Option (List ℕ))
     → (t : Takes rules old front bytes mid desk next before between) → Takes rules mid t.rest more new next last between after → Takes rules old front (bytes ++ more) new desk last before after
@@ -149,6 +145,14 @@ stopped_before rules old new front bytes more before after u = record {
   filled = u.filled;
   halts = u.halts;
 }
+
+-- bytes of a line were taken behind others
+pub took_on : (rules : Rules) (old mid : State) (front bytes more : List ℕ) (desk next last : Desk) (before between : Option (List ℕ))
+    → Takes rules old front bytes mid desk next before between → IsOpen more
+    → last.line.items ≡ kept (next.line.items ++ more) → last.lines ≡ next.lines → last.memory ≡ next.memory
+    → Takes rules old front (bytes ++ more) mid desk last before between
+took_on rules old mid front bytes more desk next last before between t o f l m =
+    took_more rules old mid mid front bytes more desk next last before between between t (took_open rules mid t.rest more next last between t.progress.open' o t.line f l m)
 
 -- no byte was taken
 pub took_nothing : (rules : Rules) (old : State) (front : List ℕ) (desk : Desk) (before : Option (List ℕ)) → IsOpen front → desk.line.items ≡ kept front → Takes rules old front [] old desk desk before before

@@ -1,5 +1,5 @@
 -- Bytes that come in pieces of any size, and the lines that are served by them.
-use Rattle.std.specs.Prelude.{◌≡◌, ℕ, ◌≤◌, Bool, List, [], ◌∷◌, ◌++◌, length, take, filter}
+use Rattle.std.specs.Prelude.{◌≡◌, ℕ, ◌≤◌, ◌==◌, Bool, List, [], ◌∷◌, ◌++◌, length, take, filter, Option, position}
 use Rattle.at_model.specs.Lines.{pieces, is_filled}
 use Rattle.at_model.specs.Rules.{Rules}
 use Rattle.at_model.specs.Machine.{State, Runs}
@@ -15,6 +15,10 @@ Splits bytes fulls front = pieces bytes ≡ fulls ++ front ∷ []
 -- no newline stands in the bytes
 abbrev pub IsOpen : List ℕ → Type 0
 IsOpen front = Splits front [] front
+
+-- the place of the first newline
+abbrev pub newline_at : List ℕ → Option ℕ
+newline_at bytes = position (λ b. b == 10) bytes
 
 -- From old, with the front of a line before them, the bytes are answered by this text, their lines named so, and they
 -- lead to new and to the front of the next line.

@@ -1,12 +1,12 @@
 //! The loop over lines: bytes come in pieces of any size, each line is served whole, and its reply is written before the
 //! next line is looked at.
-ghost use Rattle.std.specs.Prelude.{◌≡◌, ◌++◌, ◌∷◌, ◌≤◌, ◌<◌, ◌+◌, ◌^◌, Bool, ℕ, List, [], filter, vec_len, vec_capacity, length, is_err, IfOk, IsTrue, OnOk};
+ghost use Rattle.std.specs.Prelude.{◌≡◌, ◌++◌, ◌∷◌, ◌≤◌, ◌<◌, ◌+◌, ◌^◌, Bool, ℕ, List, [], filter, vec_len, vec_capacity, length, is_err, IfOk, IsTrue, MatchOption, OnOk};
 ghost use Rattle.at_model.specs.Lines.{is_filled};
 ghost use Rattle.at_model.specs.Machine.{Serves};
 ghost use Rattle.at_model.specs.Replies.{Reply, reply_text};
 ghost use Rattle.at_engine.specs.Engines.{state_of, rules_of, IsSound};
 ghost use Rattle.at_engine.specs.Ends.{Remembers};
-ghost use Rattle.at_engine.specs.Loop.{kept, IsOpen};
+ghost use Rattle.at_engine.specs.Loop.{kept, newline_at, IsOpen};
 ghost use Rattle.at_engine.specs.Keeping.{IsSpare, KeepsAll, KeepsBytes, KeepsLine, KeepsRun, work_of};
 ghost use Rattle.at_engine.specs.Taking.{Counts, Written, TakesOrStops, Finishes};
 ghost use Rattle.at_engine.specs.Running.{Ran, TellsFailures, max_reads};
@@ -16,8 +16,8 @@ mod ends;
 
 use crate::engine::Engine;
 use at_cache::Keeper;
+use desk::Desk;
 pub use desk::{Report, RunFault};
-use desk::{Desk, MAX_LINE};
 pub use ends::{Input, Output, Watched};
 
 /// How many reads `run` may take.
@@ -41,22 +41,6 @@ fn write_whole<W: Output>(writer: &mut W, bytes: &[u8]) -> Result<(), RunFault>
     match writer.flush() {
         Ok(()) => Ok(()),
         Err(_) => Err(RunFault::Write),
-    }
-}
-
-/// One more byte of the line that is being read; of a line that is too long only the front is kept.
-fn keep(line: &mut Vec<u8>, byte: u8)
-    requires room { MAX_LINE < vec_capacity line.old }
-    requires short { vec_len line.old ≤ MAX_LINE + 1 }
-    ensures room { MAX_LINE < vec_capacity line.new }
-    ensures front { line.new.items ≡ kept (line.old.items ++ byte ∷ []) }
-    ensures short { vec_len line.new ≤ MAX_LINE + 1 }
-{
-    if line.len() <= MAX_LINE {
-        match line.push(byte) {
-            Ok(()) => {}
-            Err(_) => unreachable!(),
-        }
     }
 }
 
@@ -90,33 +74,30 @@ fn serve<K: Keeper, W: Output>(
     }
 }
 
-/// Takes a byte: a newline ends the line, which is served unless it is empty.
-fn take_byte<K: Keeper, W: Output>(
+/// Takes a newline: it ends the line, which is served unless it is empty.
+fn take_newline<K: Keeper, W: Output>(
     engine: &mut Engine<K>,
     desk: &mut Desk,
-    byte: u8,
     writer: &mut W,
 ) -> Result<(), RunFault>
     requires sound { IsSound K.contents engine.old }
     requires few { desk.old.lines + 1 < 2 ^ 128 }
-    ensures taken { (front : List ℕ) → IsOpen front → desk.old.line.items ≡ kept front → TakesOrStops result (rules_of engine.old) (state_of engine.old) front (byte ∷ []) (state_of engine.new) desk.old desk.new (W.contents writer.old) (W.contents writer.new) }
+    ensures taken { (front : List ℕ) → IsOpen front → desk.old.line.items ≡ kept front → TakesOrStops result (rules_of engine.old) (state_of engine.old) front (10 ∷ []) (state_of engine.new) desk.old desk.new (W.contents writer.old) (W.contents writer.new) }
     ensures failed { Remembers (W.failed writer.old) (W.failed writer.new) (is_err result) }
-    ensures keeps { IsTrue K.exact → IsSpare K.contents engine.old → (front : List ℕ) → IsOpen front → desk.old.line.items ≡ kept front → OnOk result (KeepsBytes K.contents front (byte ∷ []) engine.old engine.new desk.old desk.new) }
+    ensures keeps { IsTrue K.exact → IsSpare K.contents engine.old → (front : List ℕ) → IsOpen front → desk.old.line.items ≡ kept front → OnOk result (KeepsBytes K.contents front (10 ∷ []) engine.old engine.new desk.old desk.new) }
     ensures spare { IsTrue K.exact → IsSpare K.contents engine.old → IsSpare K.contents engine.new }
     ensures rules { rules_of engine.new ≡ rules_of engine.old }
     ensures grows { desk.new.lines ≤ desk.old.lines + 1 }
     ensures sound { IsSound K.contents engine.new }
 {
-    if byte != b'\n' {
-        keep(&mut desk.line, byte);
-    } else if !desk.line.is_empty() {
+    if !desk.line.is_empty() {
         serve(engine, desk, writer)?;
         desk.line.clear();
     }
     Ok(())
 }
 
-/// Takes the bytes of a piece, one after the other.
+/// Takes the bytes of a piece: whole lines, and the front of the next one.
 fn take_piece<K: Keeper, W: Output>(
     engine: &mut Engine<K>,
     desk: &mut Desk,
@@ -133,10 +114,30 @@ fn take_piece<K: Keeper, W: Output>(
     ensures grows { desk.new.lines ≤ desk.old.lines + length piece.now }
     ensures sound { IsSound K.contents engine.new }
 {
-    for byte in piece {
-        take_byte(engine, desk, *byte, writer)?;
+    let mut rest = piece;
+    while let Some((line, behind)) = at_newline(rest) {
+        desk.keep(line);
+        take_newline(engine, desk, writer)?;
+        rest = behind;
     }
+    desk.keep(rest);
     Ok(())
+}
+
+/// The bytes before the first newline, and those behind it, where there is one.
+fn at_newline(bytes: &[u8]) -> Option<(&[u8], &[u8])>
+    ensures { MatchOption result (IsOpen bytes.now) (λ parts. IsOpen parts.0.now × (bytes.now ≡ parts.0.now ++ 10 ∷ parts.1.now)) }
+{
+    let end = newline_in(bytes)?;
+    let (line, behind) = bytes.split_at(end);
+    Some((line, behind.split_at(1).1))
+}
+
+/// The place of the first newline.
+fn newline_in(bytes: &[u8]) -> Option<usize>
+    ensures { result ≡ newline_at bytes.now }
+{
+    bytes.iter().position(|byte| *byte == b'\n')
 }
 
 /// Serves the last line, which no newline ends, unless it is empty.

@@ -73,7 +73,7 @@ bound_at bs None = refl
 bound_at bs (Some i) = mapped i (slice_get bs i) ∙ ap (option_map (λ (b : Bound). kind_in i b.kind)) (sym (slice_get-map bound_view bs i))
 
 -- what is bound, from its position
-pub bound_seen : (bs : List BoundValue) (name : List ℕ) (o : Option ℕ) → o ≡ position (λ b. bytes_eq (string_bytes b.name) name) bs
+pub bound_seen : (bs : List BoundValue) (name : List ℕ) (o : Option ℕ) → o ≡ position (λ b. bytes_eq (bound_view b).name name) bs
     → option_and_then (λ i. option_map (kind_in i) (option_map (λ (b : BoundValue). b.kind) (slice_get bs i))) o ≡ bound_to (map bound_view bs) name
 bound_seen bs name o is =
     bound_at bs o

@@ -19,7 +19,7 @@ abbrev pub list_view : ListValue → Listed
 list_view l = record { node = body_view l.node; part = l.part; class = l.class }
 
 abbrev pub bound_view : BoundValue → Bound
-bound_view b = record { name = string_bytes b.name; kind = b.kind }
+bound_view b = record { name = string_bytes b.name.value; kind = b.kind }
 
 abbrev pub scope_view : ScopeValue → Scope
 scope_view s = record { classes = s.classes.now; declared = s.signatures.now; this = s.this; names = map bound_view s.names.now; index = option_map (λ n. n.now) s.index }

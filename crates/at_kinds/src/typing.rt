@@ -26,6 +26,7 @@ use folds::List;
 use kinds::Typed;
 use names::within;
 use std::alloc::{AllocError, AllocFailed, Global};
+use std::rc::Rc;
 use wholes::no_list;
 
 /// Why an expression means no body.
@@ -59,10 +60,10 @@ fn refused(code: RuleCode, at: (u32, u32)) -> TypeFault
     TypeFault::Refused { code, at }
 }
 
-/// A parameter's or a fold's name, with the kind of what it stands for.
+/// A parameter's or a fold's name, with the kind of what it stands for. The scopes within share the name.
 #[derive(Drop)]
 pub struct Bound {
-    pub name: String,
+    pub name: Rc<String>,
     pub kind: WrittenKind,
 }
 

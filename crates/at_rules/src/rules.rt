@@ -70,7 +70,7 @@ impl Model for Rules {
 }
 
 impl Rules {
-    ghost use Rattle.std.specs.Prelude.{◌≡◌, ◌<◌, [], length, map, option_map, IfSome};
+    ghost use Rattle.std.specs.Prelude.{◌≡◌, ◌<◌, [], length, map, option_map, slice_get, IfSome};
     ghost use Rattle.at_model.specs.Machine.{parameters_of};
     ghost use Rattle.at_model.specs.Rules.{attribute_name, attribute_named, inherited_equation, is_inherited, is_lazy, own_equation, own_in};
     ghost use Rattle.at_rules.specs.Bodies.{body_view, kind_view};
@@ -146,6 +146,16 @@ impl Rules {
         match self.attributes.get_index(attribute.index()) {
             Some((key, _)) => text_at(&self.names, key.1),
             None => "",
+        }
+    }
+
+    /// The class that declares the attribute; none for a number that no attribute has.
+    pub fn class_of(&self, attribute: AttrId) -> Option<ClassId>
+        ensures { result ≡ option_map (λ a. a.class) (slice_get self.now.attributes attribute) }
+    {
+        match self.attributes.get_index(attribute.index()) {
+            Some((key, _)) => Some(ClassId::new(key.0)),
+            None => None,
         }
     }
 

@@ -2,29 +2,22 @@
 ghost use Rattle.std.specs.Prelude.{◌≡◌, chars, nat_lt, get_or};
 ghost use Rattle.at_model.specs.Names.{starts_name, continues_name, is_reserved, is_word, is_name};
 
-/// The words that have a meaning of their own in grammars and aspects.
-const RESERVED: [&str; 20] = [
-    "abstract",
-    "aspect",
-    "syn",
-    "inh",
-    "eq",
-    "lazy",
-    "circular",
-    "nta",
-    "return",
-    "true",
-    "false",
-    "null",
-    "this",
-    "instanceof",
-    "exists",
-    "first",
-    "sum",
-    "int",
-    "boolean",
-    "String",
-];
+// The words that have a meaning of their own in grammars and aspects, by how many bytes they have.
+const OF_TWO: [&str; 1] = ["eq"];
+
+const OF_THREE: [&str; 5] = ["syn", "inh", "nta", "sum", "int"];
+
+const OF_FOUR: [&str; 4] = ["lazy", "true", "null", "this"];
+
+const OF_FIVE: [&str; 2] = ["false", "first"];
+
+const OF_SIX: [&str; 4] = ["aspect", "return", "exists", "String"];
+
+const OF_SEVEN: [&str; 1] = ["boolean"];
+
+const OF_EIGHT: [&str; 2] = ["abstract", "circular"];
+
+const OF_TEN: [&str; 1] = ["instanceof"];
 
 /// Whether a name may begin with the character (Unicode Standard Annex 31, and the underscore).
 pub fn starts_name(c: char) -> bool
@@ -59,7 +52,17 @@ pub fn is_reserved(word: &str) -> bool
         // the only such word of them
         return word == "String";
     }
-    RESERVED.contains(&word)
+    match word.len() {
+        2 => OF_TWO.contains(&word),
+        3 => OF_THREE.contains(&word),
+        4 => OF_FOUR.contains(&word),
+        5 => OF_FIVE.contains(&word),
+        6 => OF_SIX.contains(&word),
+        7 => OF_SEVEN.contains(&word),
+        8 => OF_EIGHT.contains(&word),
+        10 => OF_TEN.contains(&word),
+        _ => false,
+    }
 }
 
 /// Whether the text has the form of a name.

@@ -28,10 +28,13 @@ leads_over step passes place goes (c ∷ cs) word e = (
   subst (λ w. Leads step (place (word ++ encode_utf8 c)) cs (place w)) (append_assoc word (encode_utf8 c) (encode_utf8_all cs)) (leads_over step passes place goes cs (word ++ encode_utf8 c) e.1),
 )
 
+-- a character, and those behind it
+pub one_before : (c : ℕ) (cs text rest rest' : List ℕ) → text ≡ encode_utf8 c ++ rest → rest ≡ encode_utf8_all cs ++ rest' → text ≡ encode_utf8_all (c ∷ cs) ++ rest'
+one_before c cs text rest rest' split more = split ∙ ap (λ l. encode_utf8 c ++ l) more ∙ sym (append_assoc (encode_utf8 c) (encode_utf8_all cs) rest')
+
 -- one character, and more behind it
 pub takes_more : {P : Type 0} (step : P → ℕ → Option P) (p next q : P) (c : ℕ) (cs text rest rest' : List ℕ) → step p c ≡ Some next → text ≡ encode_utf8 c ++ rest → rest ≡ encode_utf8_all cs ++ rest' → Leads step next cs q → Takes step p text q rest'
-takes_more step p next q c cs text rest rest' first split more leads =
-    (c, cs, split ∙ ap (λ l. encode_utf8 c ++ l) more ∙ sym (append_assoc (encode_utf8 c) (encode_utf8_all cs) rest'), (next, first, leads))
+takes_more step p next q c cs text rest rest' first split more leads = (c, cs, one_before c cs text rest rest' split more, (next, first, leads))
 
 -- what is left gets less
 pub less_left : (c : ℕ) (cs text rest : List ℕ) → text ≡ encode_utf8_all (c ∷ cs) ++ rest → length rest < length text

@@ -24,7 +24,7 @@ fn takes(run: Run, c: char) -> bool
 }
 
 /// What follows the run at the front.
-fn past(text: &str, run: Run) -> &str
+pub(crate) fn past(text: &str, run: Run) -> &str
     ensures { Passes (takes run) text.now result.now }
 {
     let mut chars = text.chars();

@@ -10,7 +10,8 @@ use Rattle.at_model.specs.Rules.{Rules, Attribute, AreComplete}
 use Rattle.at_rules.specs.RulesView.{attribute_view, own_view, inherited_view, named}
 use Rattle.at_rules.specs.declared.rules.Equations.{Equations}
 use Rattle.at_typing.specs.Building.{meanings, meaning_if, refusal, refused_at, first_fault, rules_of, IsLackBehind, IsLack, IsFault, Builds}
-use Rattle.at_typing.specs.Completing.{IsDeclaredBy, AreDeclared, IsFirst, IsFirstFault, LacksOwn, LacksInherited}
+use Rattle.at_complete.specs.Completing.{IsFirst, LacksOwn, LacksInherited}
+use Rattle.at_typing.specs.Completing.{IsDeclaredBy, AreDeclared, IsFirstFault}
 use Rattle.at_typing.specs.Declaring.{attributes, fault_at, is_attribute, fault_together}
 use Rattle.at_kinds.specs.Judging.{Judgement, Is, Wrong}
 use Rattle.at_typing.specs.Located.{Located}
@@ -23,7 +24,7 @@ use Rattle.at_kinds.specs.declared.code.RuleCode.TheVariants as code
 use Rattle.at_typing.specs.declared.fault.RuleFault.{RuleFault}
 use Rattle.at_typing.specs.declared.fault.RuleFault.TheVariants as fault
 use Rattle.at_typing.specs.declared.numbered.Numbered.{Numbered as NumberedValue}
-use Rattle.at_typing.proofs.Completed.{complete}
+use Rattle.at_complete.proofs.Completed.{complete}
 use Rattle.at_typing.proofs.Gathering.{first_none, other_none}
 use Rattle.at_typing.proofs.MeaningParts.{OfAttribute, of_words}
 

@@ -5,7 +5,7 @@ use Rattle.std.specs.Borrow.{Bor}
 use Rattle.std.specs.List.{list_any}
 use Rattle.std.specs.Map.{lookup}
 use Rattle.std.specs.Option.{option_or}
-use Rattle.std.proofs.lemmas.Bool.{eqb-true}
+use Rattle.std.proofs.lemmas.Bool.{and_parts, eqb-true}
 use Rattle.std.proofs.lemmas.Cmp.{nat_eq_equiv, nat_list_eq_equiv}
 use Rattle.std.proofs.lemmas.List.Folds.{list_any_more}
 use Rattle.std.proofs.lemmas.Slice.Eq.{bytes_eq-Decides}
@@ -28,7 +28,6 @@ use Rattle.at_typing.proofs.EquationsBefore.{list_any-or, list_any-same, list_an
 use Rattle.at_typing.proofs.FirstFaults.{list_any-map}
 use Rattle.at_typing.proofs.FirstValues.{not_noted}
 use Rattle.at_typing.proofs.Lines.{line_begins, line_from, line_step, on_line}
-use Rattle.at_typing.proofs.Walking.{and_both}
 
 -- truth values --------------------------------------------------------------------------------------------------------
 
@@ -91,7 +90,7 @@ kinds_like ps [] (r ∷ rs) e = absurd (true≢false (sym e))
 kinds_like ps (q ∷ qs) [] e = absurd (true≢false (sym e))
 kinds_like [] (q ∷ qs) (r ∷ rs) e = refl
 kinds_like (p ∷ ps) (q ∷ qs) (r ∷ rs) e =
-    let (first, rest) = and_both (is_same_kind q.kind.kind r.kind.kind) (have_same_kinds qs rs) e in
+    let (first, rest) = and_parts (is_same_kind q.kind.kind r.kind.kind) (have_same_kinds qs rs) e in
     ap₂ (λ a b. a && b) (kind_like p.kind.kind q.kind.kind r.kind.kind first) (kinds_like ps qs rs rest)
 
 result_like : (x y z : Option KindWord) → has_same_result y z ≡ true → has_same_result x y ≡ has_same_result x z
@@ -102,7 +101,7 @@ result_like (Some j) (Some k) (Some l) e = kind_like j.kind k.kind l.kind e
 
 signature_like : (d e f : DeclForm) → has_same_signature e f ≡ true → has_same_signature d e ≡ has_same_signature d f
 signature_like d e f same =
-    let (result, kinds) = and_both (has_same_result (result_in e) (result_in f)) (have_same_kinds (params_in e).items (params_in f).items) same in
+    let (result, kinds) = and_parts (has_same_result (result_in e) (result_in f)) (have_same_kinds (params_in e).items (params_in f).items) same in
     ap₂ (λ a b. a && b) (result_like (result_in d) (result_in e) (result_in f) result) (kinds_like (params_in d).items (params_in e).items (params_in f).items kinds)
 
 differs_like : (d e f : DeclForm) → differs e f ≡ false → differs d e ≡ differs d f
@@ -138,7 +137,7 @@ one_added classes ds k d old new less is are adds fits = record {
   where
     same_name : (name : ℕ) → declares name d ≡ true → differs_from (numbered_view d).decl.form (first_form old name) ≡ false
     same_name name e =
-        let (test, same) = and_both (is_attribute (numbered_view d).decl.form) (nat_eq name d.name) e in
+        let (test, same) = and_parts (is_attribute (numbered_view d).decl.form) (nat_eq name d.name) e in
         ap (λ n. differs_from (numbered_view d).decl.form (first_form old n)) (eqb-true name d.name same) ∙ fits test
 
 pub none_added : (classes : Classes) (ds : List NumberedValue) (b : Before) → b.first.entries ≡ [] → b.declared.keys ≡ [] → b.above.keys ≡ [] → AreBefore classes (take 0 ds) b

@@ -23,7 +23,7 @@ use Rattle.at_typing.specs.Located.{Located, class_word}
 use Rattle.at_typing.specs.Meanings.{Meaning, attribute_meant, signatures, own_equation, own_meant, inherited_equation, inherited_meant, body_meant, declared_alone, declared_with, own_alone, inherited_alone, with_body, below_class, below_component, form_meant, meant}
 use Rattle.at_typing.specs.Ruling.{class_named, component_got, component_at, is_component, is_many, index_of_list}
 use Rattle.at_kinds.specs.declared.code.RuleCode.TheVariants as code
-use Rattle.at_typing.proofs.Climbing.{sub_itself}
+use Rattle.at_complete.proofs.Climbing.{sub_itself}
 use Rattle.at_typing.proofs.Gathering.{first_none, other_none}
 use Rattle.at_kinds.proofs.Holding.{Holds, then_holds, none_holds}
 use Rattle.at_typing.proofs.InheritedAlike.{inherited_alike}

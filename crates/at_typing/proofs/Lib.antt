@@ -15,13 +15,7 @@ mod Lines
 mod AttributesFound
 mod Clashing
 mod Keys
-mod Climbing
-mod Walking
-mod Exposing
-mod Lacking
-mod Lackings
-mod Children
-mod Completed
+mod AttributesDeclared
 mod Adding
 mod MeaningParts
 mod Gathering

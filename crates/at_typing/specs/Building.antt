@@ -6,7 +6,8 @@ use Rattle.std.specs.Option.{option_or}
 use Rattle.at_model.specs.Classes.{Classes}
 use Rattle.at_model.specs.Declarations.{first_given}
 use Rattle.at_model.specs.Rules.{Rules}
-use Rattle.at_typing.specs.Completing.{IsFirstFault, LacksOwn, LacksInherited}
+use Rattle.at_complete.specs.Completing.{LacksOwn, LacksInherited}
+use Rattle.at_typing.specs.Completing.{IsFirstFault}
 use Rattle.at_typing.specs.Declaring.{fault_at, fault_together}
 use Rattle.at_kinds.specs.Judging.{Judgement, Is, Wrong}
 use Rattle.at_typing.specs.Located.{Located}

@@ -10,6 +10,4 @@ pub mod Ruling
 pub mod Meanings
 pub mod Building
 pub mod Seen
-pub mod Walks
-pub mod Hierarchies
 pub mod Completing

@@ -5,7 +5,7 @@ ghost use Rattle.at_model.specs.Rules.{AreComplete};
 ghost use Rattle.at_model.specs.WellFormed.{AreWellFormed, IsHierarchy};
 ghost use Rattle.at_typing.specs.AttributeKeys.{AreAttributes};
 ghost use Rattle.at_typing.specs.Building.{first_fault, refused, Builds, IsLack};
-ghost use Rattle.at_typing.specs.Completing.{AreDeclared};
+ghost use Rattle.at_typing.specs.Completing.{fault_of};
 ghost use Rattle.at_typing.specs.Declaring.{fault_together};
 ghost use Rattle.at_typing.specs.Located.{declarations_in, AreSpelled};
 ghost use Rattle.at_typing.specs.Meanings.{meant as meant_by_itself};
@@ -14,16 +14,17 @@ ghost use Rattle.at_typing.specs.Seen.{refusal_of, AddsOrTells, IsAbout, Means, 
 ghost use Rattle.at_typing.specs.declared.numbered.Numbered.{Numbered as NumberedValue};
 
 use crate::attributes::Attributes;
-use crate::checks::{class_without_equation, fault_together, inherited_without_equation};
+use crate::checks::{fault_of, fault_together};
 use crate::fault::{Fault, RuleFault};
-use crate::hierarchy::Hierarchy;
 use crate::meaning::Among;
 use crate::numbered::{Declarations, Numbered};
 use crate::written::signatures_of;
 use at_class::ClassTable;
+use at_complete::{class_without_equation, inherited_without_equation};
 use at_jrag::Aspect;
+use at_kinds::RuleCode;
 use at_kinds::typing::TypeFault;
-use at_rules::{Equations, Rules};
+use at_rules::{AttrId, Equations, Rules};
 use indexmap::IndexMap;
 use std::alloc::Global;
 
@@ -67,20 +68,19 @@ fn meant_together(
 
 /// Refuses rules with a class that lacks an equation, for a synthesized attribute before an inherited one.
 fn refuse_incomplete(alloc: Global, rules: &Rules, declared: &[Numbered]) -> Result<(), RuleFault>
-    requires { AreNumbered rules.now.classes declared.now × AreDeclared rules.now (map numbered_view declared.now) }
     ensures { Tells (IsLack rules.now (map numbered_view declared.now)) result }
 {
-    let hierarchy = Hierarchy::of(alloc, rules.classes())?;
-    let own = class_without_equation(alloc, rules, &hierarchy, declared)?;
-    refuse(own)?;
-    let inherited = inherited_without_equation(alloc, rules, &hierarchy, declared)?;
-    refuse(inherited)
+    let own = class_without_equation(alloc, rules)?;
+    refuse(RuleCode::ClassWithoutEquation, declared, own)?;
+    let inherited = inherited_without_equation(alloc, rules)?;
+    refuse(RuleCode::InheritedWithoutEquation, declared, inherited)
 }
 
-fn refuse(fault: Option<Fault>) -> Result<(), RuleFault>
-    ensures { Tells (λ f. f ≡ fault) result }
+/// Refuses the declaration of the attribute, if there is one.
+fn refuse(code: RuleCode, declared: &[Numbered], attribute: Option<AttrId>) -> Result<(), RuleFault>
+    ensures { Tells (λ f. f ≡ fault_of code (map numbered_view declared.now) attribute) result }
 {
-    match fault {
+    match fault_of(code, declared, attribute) {
         Some(fault) => Err(RuleFault::Refused(fault)),
         None => Ok(()),
     }

@@ -9,7 +9,6 @@ mod accessor_names;
 mod bound;
 mod completeness;
 mod equations;
-mod exposure;
 mod limits;
 mod twice;
 
@@ -19,9 +18,8 @@ use crate::numbered::Numbered;
 use accessor_names::accessor_named;
 use at_class::ClassTable;
 use at_kinds::RuleCode;
-pub use completeness::class_without_equation;
+pub use completeness::fault_of;
 use equations::{equation_twice, without_attribute};
-pub use exposure::inherited_without_equation;
 use limits::over_limit;
 use std::alloc::{AllocError, Global};
 use twice::declared_twice;

@@ -7,12 +7,10 @@ mod building;
 mod checks;
 mod fault;
 mod firsts;
-mod hierarchy;
 pub mod laws;
 mod located;
 mod meaning;
 mod numbered;
-mod walk;
 mod written;
 
 pub use building::build;

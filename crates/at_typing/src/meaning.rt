@@ -32,6 +32,7 @@ use at_kinds::signatures::{Signature, Signatures, WrittenKind};
 use at_kinds::typing::{Bound, Scope, TypeFault, body_of};
 use at_rules::{AttrId, Attribute, Body, Equations, Kind};
 use std::alloc::{AllocError, Global};
+use std::rc::Rc;
 
 /// How many parameters an attribute may have.
 const MAX_PARAMETERS: usize = 2;
@@ -299,7 +300,10 @@ impl Among<'_> {
         ensures { IfOk result (λ b. bound_view b ≡ bound self.now.classes.now (param_view param.now)) }
     {
         Ok(Bound {
-            name: String::from_str(self.alloc, param.name.text.as_str())?,
+            name: Rc::new(
+                self.alloc,
+                String::from_str(self.alloc, param.name.text.as_str())?,
+            )?,
             kind: as_written(known_kind(self.classes, &param.kind.kind)),
         })
     }

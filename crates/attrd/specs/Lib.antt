@@ -1,10 +1,3 @@
-pub mod Codes
-pub mod StartFaults
-pub mod Files
-pub mod GrammarFiles
-pub mod TreeFiles
-pub mod AspectFiles
-pub mod Starts
 pub mod Statuses
 pub mod Options
 pub mod Connections

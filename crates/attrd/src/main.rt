@@ -3,30 +3,20 @@
 #![tactic(auto)]
 
 ghost use Rattle.std.specs.Prelude.{IfOk};
-ghost use Rattle.attrd.specs.Starts.{IsReady};
+ghost use Rattle.at_start.specs.Starts.{IsReady};
 
-mod code;
-#[cfg(test)]
-mod failing;
 mod failure;
-#[cfg(test)]
-mod keepers;
 mod options;
-#[cfg(test)]
-mod refusals;
 mod serving;
 #[cfg(test)]
-mod sessions;
-#[cfg(test)]
 mod sockets;
-mod start;
 
 use at_cache::KeepRecorded;
 use at_engine::{Engine, Watched, run};
+use at_start::{Files, MAX_FILE, Source, StartFault, start, write_fault};
 use failure::{Failure, status, tell};
 use options::{Options, options};
 use serving::serve;
-use start::{Files, MAX_FILE, Source, StartFault, start, write_fault};
 use std::fs::File;
 use std::io::{ErrorKind, Read};
 use std::os::unix::net::UnixListener;

@@ -1,12 +1,12 @@
 //! Connections of a real socket, over the sum sample.
 
 ghost use Rattle.std.specs.Prelude.{IfOk};
-ghost use Rattle.attrd.specs.Starts.{IsReady};
+ghost use Rattle.at_start.specs.Starts.{IsReady};
 
 use crate::serving::{Served, serve};
-use crate::start::{Files, Source, start};
 use at_cache::KeepRecorded;
 use at_engine::Engine;
+use at_start::{Files, Source, start};
 use std::alloc::{AllocError, Global};
 use std::io::Write;
 use std::net::Shutdown;

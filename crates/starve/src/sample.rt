@@ -6,14 +6,9 @@ ghost use Rattle.at_engine.specs.Engines.{IsSound};
 
 use crate::telling::Want;
 use at_cache::Keeper;
-use at_class::{ClassTable, are_named};
 use at_engine::Engine;
-use at_grammar::parse_ast;
-use at_jrag::parse_jrag;
-use at_rules::Rules;
-use at_tree::reader::read_term;
-use at_tree::tree::{Tree, shape};
-use std::alloc::Global;
+use at_start::{Files, Source, start_with};
+use std::alloc::{AllocError, Global};
 
 const GRAMMAR: &str = "Program ::= Block;
 abstract Stmt;
@@ -82,48 +77,28 @@ pub fn engine<K: Keeper>(alloc: Global, keeper: K) -> Result<Engine<K>, Want>
     requires { KeepsAll (λ _. None) (K.contents keeper) }
     ensures sound { IfOk result (IsSound K.contents) }
 {
-    let rules = rules(alloc)?;
-    let tree = tree(alloc, rules.classes())?;
-    match Engine::new(alloc, rules, tree, keeper) {
+    let files = files(alloc)?;
+    match start_with(alloc, &files, keeper) {
         Ok(engine) => Ok(engine),
         Err(_) => Err(Want),
     }
 }
 
-fn classes(alloc: Global) -> Result<ClassTable, Want> {
-    let Ok(grammar) = parse_ast(alloc, GRAMMAR) else {
-        return Err(Want);
-    };
-    if !are_named(&grammar) {
-        return Err(Want);
-    }
-    match ClassTable::build(alloc, &grammar) {
-        Ok(classes) => Ok(classes),
-        Err(_) => Err(Want),
-    }
+/// The sample's files.
+fn files(alloc: Global) -> Result<Files, AllocError> {
+    let mut aspects = Vec::new(alloc);
+    aspects.push(source(alloc, "calc.jrag", ASPECTS)?)?;
+    Ok(Files {
+        grammar: source(alloc, "calc.ast", GRAMMAR)?,
+        tree: source(alloc, "tree.txt", TREE)?,
+        aspects,
+    })
 }
 
-fn rules(alloc: Global) -> Result<Rules, Want> {
-    let classes = classes(alloc)?;
-    let Ok(aspects) = parse_jrag(alloc, ASPECTS) else {
-        return Err(Want);
-    };
-    let mut files = Vec::new(alloc);
-    if files.push(aspects).is_err() {
-        return Err(Want);
-    }
-    match at_typing::build(alloc, classes, &files) {
-        Ok(rules) => Ok(rules),
-        Err(_) => Err(Want),
-    }
-}
-
-fn tree(alloc: Global, classes: &ClassTable) -> Result<Tree, Want> {
-    let Ok(term) = read_term(alloc, TREE) else {
-        return Err(Want);
-    };
-    match shape(alloc, classes, &term, classes.start()) {
-        Ok(tree) => Ok(tree),
-        Err(_) => Err(Want),
-    }
+/// The file of that name and text.
+fn source(alloc: Global, name: &str, text: &str) -> Result<Source, AllocError> {
+    Ok(Source {
+        name: String::from_str(alloc, name)?,
+        bytes: Vec::from_slice(alloc, text.as_bytes())?,
+    })
 }

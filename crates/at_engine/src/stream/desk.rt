@@ -1,5 +1,6 @@
 //! What a run holds from line to line, and what it says of itself.
-ghost use Rattle.std.specs.Prelude.{◌≡◌, ◌≤◌, ◌<◌, ◌+◌, ◌^◌, vec_len, vec_capacity, [], IfOk, if◌then◌else◌};
+ghost use Rattle.std.specs.Prelude.{◌≡◌, ◌≤◌, ◌<◌, ◌+◌, ◌^◌, ◌++◌, vec_len, vec_capacity, [], IfOk, if◌then◌else◌};
+ghost use Rattle.at_engine.specs.Loop.{kept};
 ghost use Rattle.at_engine.specs.declared.stream.desk.TheConstants.{MAX_LINE, REPLY_ROOM};
 
 use std::alloc::{AllocError, Global};
@@ -81,6 +82,20 @@ impl Desk {
             lines: 0,
             memory: 0,
         })
+    }
+
+    /// More bytes of the line that is being read; of a line that is too long only the front is kept.
+    pub fn keep(&mut self, bytes: &[u8])
+        ensures line { self.new.line.items ≡ kept (self.old.line.items ++ bytes.now) }
+        ensures lines { self.new.lines ≡ self.old.lines }
+        ensures memory { self.new.memory ≡ self.old.memory }
+    {
+        let room = MAX_LINE + 1 - self.line.len();
+        let (front, _) = bytes.split_at(room.min(bytes.len()));
+        match self.line.extend_from_slice(front) {
+            Ok(()) => {}
+            Err(_) => unreachable!(),
+        }
     }
 
     /// One more line was answered; whether for want of memory.

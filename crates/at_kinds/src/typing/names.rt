@@ -1,6 +1,6 @@
 //! `this`, names and texts.
 
-ghost use Rattle.std.specs.Prelude.{◌≡◌, ◌∷◌, ◌++◌, map, option_map, slice_get, position, string_bytes, bytes_eq, IfOk, OnOk};
+ghost use Rattle.std.specs.Prelude.{◌≡◌, ◌∷◌, ◌++◌, map, option_map, slice_get, position, bytes_eq, IfOk, OnOk};
 ghost use Rattle.at_model.specs.Bodies as model;
 ghost use Rattle.at_kinds.specs.Judging.{of_kind, named as named_in, bound_to, index_eq, index_named, this_node};
 ghost use Rattle.at_kinds.specs.Typed.{typed_view, scope_view, bound_view, Judges};
@@ -12,6 +12,7 @@ use crate::signatures::WrittenKind;
 use at_class::ClassId;
 use at_rules::{Body, Kind};
 use std::alloc::{AllocError, Global};
+use std::rc::Rc;
 
 impl Scope<'_> {
     /// `this`
@@ -69,7 +70,7 @@ impl Scope<'_> {
 }
 
 fn position_bound(names: &[Bound], name: &str) -> Option<usize>
-    ensures { result ≡ position (λ b. bytes_eq (string_bytes b.name) name.now) names.now }
+    ensures { result ≡ position (λ b. bytes_eq (bound_view b).name name.now) names.now }
 {
     names.iter().position(|bound| bound.name.as_str() == name)
 }
@@ -91,27 +92,28 @@ pub fn within(
 {
     let mut names = Vec::new(alloc);
     names.push(Bound {
-        name: String::from_str(alloc, name)?,
+        name: Rc::new(alloc, String::from_str(alloc, name)?)?,
         kind: WrittenKind::Known(Kind::Class(class)),
     })?;
-    append(alloc, outside, &mut names)?;
+    append(outside, &mut names)?;
     Ok(names)
 }
 
 /// The names behind those that are there.
-fn append(alloc: Global, outside: &[Bound], names: &mut Vec<Bound>) -> Result<(), AllocError>
+fn append(outside: &[Bound], names: &mut Vec<Bound>) -> Result<(), AllocError>
     ensures { OnOk result (map bound_view names.new.items ≡ map bound_view names.old.items ++ map bound_view outside.now) }
 {
     for bound in outside {
-        names.push(copied(alloc, bound)?)?;
+        names.push(shared(bound)?)?;
     }
     Ok(())
 }
 
-fn copied(alloc: Global, bound: &Bound) -> Result<Bound, AllocError>
+/// The same name once more, which is shared.
+fn shared(bound: &Bound) -> Result<Bound, AllocError>
     ensures { IfOk result (λ b. bound_view b ≡ bound_view bound.now) }
 {
-    let name = String::from_str(alloc, bound.name.as_str())?;
+    let name = bound.name.clone()?;
     Ok(Bound {
         name,
         kind: bound.kind,

@@ -21,12 +21,12 @@ pub(super) fn read_command(alloc: Global, text: &str) -> Result<Command, WordFau
     let (word, rest) = cut(text)?;
     match word {
         "ask" => read_ask(alloc, rest),
+        "show" => read_show(alloc, rest),
+        "token" => read_token(alloc, rest),
         "set" => read_set(alloc, rest),
         "put" => read_put(alloc, rest),
         "drop" => read_drop(alloc, rest),
         "insert" => read_insert(alloc, rest),
-        "token" => read_token(alloc, rest),
-        "show" => read_show(alloc, rest),
         "mark" => read_mark(alloc, rest),
         "unmark" => read_unmark(alloc, rest),
         "where" => read_where(alloc, rest),

@@ -40,12 +40,9 @@ pub(super) fn index_first(text: &str) -> Result<(u32, &str), WordFault>
 pub(super) fn read_expected(text: &str) -> Result<(Option<u64>, &str), WordFault>
     ensures { Answers (λ first. (first.0, first.1.now)) (IsExpected text.now) result }
 {
-    let Some((word, rest)) = text.split_once(' ') else {
+    let Some(rest) = text.strip_prefix("at ") else {
         return Ok((None, text));
     };
-    if word != "at" {
-        return Ok((None, text));
-    }
     let (word, rest) = cut(rest)?;
     match read_number(word) {
         Some(version) => Ok((Some(version), rest)),

@@ -2,15 +2,15 @@
 ghost use Rattle.std.specs.Prelude.{◌≡◌, ◌<◌, ◌++◌, ℕ, List, Some, IfOk, IfErr, length, string_bytes, encode_utf8, encode_utf8_all};
 ghost use Rattle.at_model.specs.Paths.{Path};
 ghost use Rattle.at_tree.specs.declared.fault.Refused.TheVariants.{Character, Memory};
-ghost use Rattle.at_tree.specs.Leads.{Leads, Takes, TakesNone};
-ghost use Rattle.at_tree.specs.PartialPath.{at, InPart, in_part, in_index, in_colon, step, next_step};
+ghost use Rattle.at_tree.specs.Leads.{Takes, TakesNone};
+ghost use Rattle.at_tree.specs.PartialPath.{at, InPart, Slash, in_part, in_index, in_colon, step, next_step};
 ghost use Rattle.at_tree.specs.PathSeen.{Gives, GivesBehind, partial_view, place_view};
 ghost use Rattle.at_tree.specs.PathView.{steps_view, step_view};
 
 use super::Step;
 use super::partial::{Index, Place};
 use crate::fault::Refused;
-use crate::runs::{Run, cut};
+use crate::runs::{Run, past};
 use at_text::names::{continues_name, is_reserved, starts_name};
 use std::alloc::Global;
 
@@ -87,18 +87,28 @@ fn step(alloc: Global, steps: &mut Vec<Step>, place: Place, c: char) -> Result<P
     }
 }
 
-/// The front of a name with all that the name goes on with, and what follows it.
-fn whole_name<'a>(mut part: String, text: &'a str) -> Result<(Place, &'a str), Refused>
-    ensures leads { IfOk result (λ r. (cs : List ℕ) × (text.now ≡ encode_utf8_all cs ++ r.1.now) × ((ss : Path) → Leads step (at ss (InPart (string_bytes part))) cs (at ss (place_view r.0)))) }
-    ensures memory { IfErr result (λ e. e ≡ Memory) }
+/// The place behind the name at the front, and what follows it.
+fn whole_name(alloc: Global, text: &str) -> Result<(Place, &str), Refused>
+    requires { 0 < length text.now }
+    ensures taken { IfOk result (λ r. (ss : Path) → Takes step (at ss Slash) text.now (at ss (place_view r.0)) r.1.now) }
+    ensures refused { IfErr result (λ e. e ≡ Character → (ss : Path) → TakesNone step (at ss Slash) text.now) }
 {
-    let (more, rest) = cut(text, Run::Name);
-    part.push_str(more)?;
+    let mut chars = text.chars();
+    let Some(c) = chars.next() else {
+        return Err(Refused::Character);
+    };
+    if !starts_name(c) {
+        return Err(Refused::Character);
+    }
+    let behind = chars.as_str();
+    let rest = past(behind, Run::Name);
+    let (name, _) = text.split_at(text.len() - rest.len());
+    let part = String::from_str(alloc, name)?;
     Ok((Place::InPart(part), rest))
 }
 
-/// The place behind the next character, or behind all that a name goes on with, and what follows it.
-pub(super) fn advance<'a>(
+/// The place behind the next character, and what follows it.
+fn one_character<'a>(
     alloc: Global,
     steps: &mut Vec<Step>,
     place: Place,
@@ -113,9 +123,22 @@ pub(super) fn advance<'a>(
         return Err(Refused::Character);
     };
     let next = step(alloc, steps, place, c)?;
-    let rest = chars.as_str();
-    match next {
-        Place::InPart(part) => whole_name(part, rest),
-        next => Ok((next, rest)),
+    Ok((next, chars.as_str()))
+}
+
+/// The place behind the next character, or behind the whole of a name, and what follows it.
+pub(super) fn advance<'a>(
+    alloc: Global,
+    steps: &mut Vec<Step>,
+    place: Place,
+    text: &'a str,
+) -> Result<(Place, &'a str), Refused>
+    requires { 0 < length text.now }
+    ensures taken { IfOk result (λ r. Takes step (partial_view steps.old.items place) text.now (partial_view steps.new.items r.0) r.1.now) }
+    ensures refused { IfErr result (λ e. e ≡ Character → TakesNone step (partial_view steps.old.items place) text.now) }
+{
+    match place {
+        Place::Slash => whole_name(alloc, text),
+        place => one_character(alloc, steps, place, text),
     }
 }

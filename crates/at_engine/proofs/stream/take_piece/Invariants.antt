@@ -1,5 +1,5 @@
 use Rattle.std.specs.Prelude.{IsTrue, false}
-use Rattle.std.proofs.Common.{◌≡◌, ◌+◌, ◌≤◌, List, ℕ, take}
+use Rattle.std.proofs.Common.{◌≡◌, ◌+◌, ◌≤◌, ◌++◌, List, ℕ, length}
 use Rattle.at_engine.specs.Ends.{Remembers}
 use Rattle.at_engine.specs.Loop.{IsOpen, kept}
 use Rattle.at_engine.specs.Taking.{Takes}
@@ -8,17 +8,21 @@ use Rattle.at_engine.specs.Engines.{state_of, rules_of, IsSound}
 use Rattle.at_engine.proofs.stream.take_piece.Given as goal
 
 -- the bytes so far were taken
-abbrev pub invariant-loop-byte : goal.invariant-loop-byte
-invariant-loop-byte g l =
+abbrev pub invariant-loop-line : goal.invariant-loop-line
+invariant-loop-line g l =
     let contents = g.W.Output.contents in
-    record {
+    (done : List ℕ) × record {
+      split : l.piece ≡ done ++ l.rest;
       taken : (front : List ℕ) → IsOpen front → l.fn.desk.line.items ≡ kept front
-          → Takes (rules_of l.fn.engine) (state_of l.fn.engine) front (take l.byte-index l.piece) (state_of l.engine) l.fn.desk l.desk (contents l.fn.writer) (contents l.writer);
+          → Takes (rules_of l.fn.engine) (state_of l.fn.engine) front done (state_of l.engine) l.fn.desk l.desk (contents l.fn.writer) (contents l.writer);
       keeps : IsTrue g.K.Keeper.exact → IsSpare g.K.Keeper.contents l.fn.engine → (front : List ℕ) → IsOpen front → l.fn.desk.line.items ≡ kept front
-          → KeepsBytes g.K.Keeper.contents front (take l.byte-index l.piece) l.fn.engine l.engine l.fn.desk l.desk;
+          → KeepsBytes g.K.Keeper.contents front done l.fn.engine l.engine l.fn.desk l.desk;
       failed : Remembers (g.W.Output.failed l.fn.writer) (g.W.Output.failed l.writer) false;
       spare : IsTrue g.K.Keeper.exact → IsSpare g.K.Keeper.contents l.fn.engine → IsSpare g.K.Keeper.contents l.engine;
       rules : rules_of l.engine ≡ rules_of l.fn.engine;
       sound : IsSound g.K.Keeper.contents l.engine;
-      grows : l.desk.lines ≤ l.fn.desk.lines + l.byte-index;
+      grows : l.desk.lines ≤ l.fn.desk.lines + length done;
     }
+
+abbrev pub decreases-loop-line : goal.decreases-loop-line
+decreases-loop-line g l = length l.rest

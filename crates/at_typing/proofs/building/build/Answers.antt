@@ -5,7 +5,6 @@ use Rattle.std.proofs.lemmas.Result.{err_from_is_err_and}
 use Rattle.at_jrag.specs.View.{aspect_view}
 use Rattle.at_jrag.specs.declared.syntax.Aspect.{Aspect}
 use Rattle.at_typing.specs.Building.{Builds, IsLack}
-use Rattle.at_typing.specs.Completing.{AreDeclared}
 use Rattle.at_typing.specs.Numbering.{numbered_view, AreNumbered, IsNamed}
 use Rattle.at_typing.specs.Seen.{Tells}
 use Rattle.at_typing.proofs.Built.{are_declared, same_rules, lack_nothing, built, lacking, meant_fault}
@@ -14,19 +13,6 @@ use Rattle.at_typing.proofs.building.build.Goals as goal
 
 pub meant_together-requires : goal.meant_together-requires
 meant_together-requires c = subst (AreNumbered c.args.classes) (sym c.deref.ensures.value) c.in_ok-items.ensures.numbered
-
-pub refuse_incomplete-requires : goal.refuse_incomplete-requires
-refuse_incomplete-requires c =
-    let classes = c.args.classes in
-    let xs = c.deref.result.now in
-    let rules = c.new-rules.result in
-    let keys = c.in_ok-items.field-0.names.keys in
-    let named = subst (All (IsNamed keys)) (sym c.deref.ensures.value) c.in_ok-items.ensures.named in
-    let same = same_rules classes (map numbered_view xs) keys c.in_ok-meant.meant rules (c.in_ok-meant.ensures.1 keys named) c.new-rules.ensures.classes c.new-rules.ensures.attributes c.new-rules.ensures.own c.new-rules.ensures.inherited in
-    let none = c.in_ok-meant.ensures.0 in
-    let again = c.deref-2.ensures.value ∙ sym c.deref.ensures.value in
-    let numbered = subst (AreNumbered classes) (sym c.deref.ensures.value) c.in_ok-items.ensures.numbered in
-    subst (λ l. AreNumbered rules.classes l × AreDeclared rules (map numbered_view l)) (sym again) (subst (λ k. AreNumbered k xs) (sym c.new-rules.ensures.classes) numbered, are_declared classes (map numbered_view xs) rules none same)
 
 pub returns-in_err-meant-clause-built : goal.returns-in_err-meant-clause-built
 returns-in_err-meant-clause-built c =

@@ -1,0 +1,56 @@
+use Rattle.std.proofs.Common.{◌≡◌, ◌∙◌, ap, [], length, ◌<◌, ◌≤◌, arith, refl, vec_len}
+use Rattle.std.proofs.lemmas.Result.{err_from_is_err_and}
+use Rattle.std.proofs.lemmas.Bool.Decides.{nat_tests}
+use Rattle.at_engine.specs.Loop.{kept}
+use Rattle.at_engine.proofs.Kept.{filled_as_kept, empty_as_kept, kept-nil}
+use Rattle.at_engine.proofs.KeepingBytes.{keeps_empty, keeps_line}
+use Rattle.at_engine.proofs.Remembering.{no_call}
+use Rattle.at_engine.proofs.Takings.{took_empty, took_line, stopped_at_line}
+use Rattle.at_engine.proofs.stream.take_newline.Goals as goal
+
+pub returns-in_err-serve-clause-taken : goal.returns-in_err-serve-clause-taken
+returns-in_err-serve-clause-taken g c front o e =
+    let p = err_from_is_err_and c.from_residual.result c.from_residual.ensures.1 in
+    let s = c.in_err-serve.ensures.served in
+    let some : 0 < vec_len c.args.desk.now.line = grind (arith, nat_tests) in
+    let long : 0 < length (kept front) = omega (arith, some, c.args.desk.now.line.ok.0, ap length e) in
+    rw (p.1, p.2) (s.4.0, stopped_at_line _ _ _ front s.0 s.1 c.args.desk.now _ _ s.4.1 s.4.2 o (filled_as_kept front long) e s.2 s.4.3 s.4.4)
+
+pub returns-in_ok-serve-clause-taken : goal.returns-in_ok-serve-clause-taken
+returns-in_ok-serve-clause-taken g c front o e =
+    let s = c.in_ok-serve.ensures.served in
+    let some : 0 < vec_len c.args.desk.now.line = grind (arith, nat_tests) in
+    let long : 0 < length (kept front) = omega (arith, some, c.args.desk.now.line.ok.0, ap length e) in
+    (took_line _ _ _ front s.0 s.1 _ _ _ _ o (filled_as_kept front long) e s.2 c.clear.ensures.items (record { lines = s.3.lines; memory = s.3.memory }) s.4)
+
+pub returns-else-not-is_empty-clause-taken : goal.returns-else-not-is_empty-clause-taken
+returns-else-not-is_empty-clause-taken g c front o e =
+    let none : vec_len c.args.desk.now.line ≡ 0 = grind (arith, nat_tests) in
+    let short : length (kept front) ≤ 0 = omega (arith, none, c.args.desk.now.line.ok.0, ap length e) in
+    let line : c.args.desk.now.line.items ≡ [] = e ∙ ap kept (empty_as_kept front short) ∙ kept-nil in
+    rw (empty_as_kept front short) (took_empty _ _ _ _ _ line refl refl)
+
+pub returns-in_ok-serve-clause-keeps : goal.returns-in_ok-serve-clause-keeps
+returns-in_ok-serve-clause-keeps g c exact spare front o e =
+    let some : 0 < vec_len c.args.desk.now.line = grind (arith, nat_tests) in
+    let long : 0 < length (kept front) = omega (arith, some, c.args.desk.now.line.ok.0, ap length e) in
+    (keeps_line g.K.Keeper.contents c.args.engine.now c.serve.new.engine front c.args.desk.now _ o (filled_as_kept front long) e c.clear.ensures.items (c.in_ok-serve.ensures.keeps exact spare))
+
+pub returns-else-not-is_empty-clause-keeps : goal.returns-else-not-is_empty-clause-keeps
+returns-else-not-is_empty-clause-keeps g c exact spare front o e =
+    let none : vec_len c.args.desk.now.line ≡ 0 = grind (arith, nat_tests) in
+    let short : length (kept front) ≤ 0 = omega (arith, none, c.args.desk.now.line.ok.0, ap length e) in
+    let line : c.args.desk.now.line.items ≡ [] = e ∙ ap kept (empty_as_kept front short) ∙ kept-nil in
+    rw (empty_as_kept front short) (keeps_empty g.K.Keeper.contents c.args.engine.now c.args.desk.now _ line)
+
+pub returns-in_err-serve-clause-keeps : goal.returns-in_err-serve-clause-keeps
+returns-in_err-serve-clause-keeps g c exact spare front o e = let p = err_from_is_err_and c.from_residual.result c.from_residual.ensures.1 in rw p.1 tt
+
+pub returns-in_err-serve-clause-failed : goal.returns-in_err-serve-clause-failed
+returns-in_err-serve-clause-failed g c = let p = err_from_is_err_and c.from_residual.result c.from_residual.ensures.1 in rw p.1 c.in_err-serve.ensures.failed
+
+pub returns-in_ok-serve-clause-failed : goal.returns-in_ok-serve-clause-failed
+returns-in_ok-serve-clause-failed g c = c.in_ok-serve.ensures.failed
+
+pub returns-else-not-is_empty-clause-failed : goal.returns-else-not-is_empty-clause-failed
+returns-else-not-is_empty-clause-failed g c = no_call _

@@ -1,0 +1,237 @@
+//! The same replies with every keeper: what is kept is never heard.
+
+ghost use Rattle.std.specs.Prelude.{None, IfOk};
+ghost use Rattle.at_cache.specs.Kept.{KeepsAll};
+ghost use Rattle.at_engine.specs.Engines.{IsSound};
+
+mod chance;
+
+use crate::sessions::{CALCULATOR, GRAMMAR, PROBE, TREE, named};
+use at_body::{Inst, Value};
+use at_cache::{KeepNone, KeepRecorded, KeepUntilEdit, Keeper};
+use at_engine::{Report, run};
+use at_start::{Files, start_with};
+use at_store::Loc;
+use chance::{Chance, Words, lines};
+use std::alloc::{AllocError, Global};
+use std::test::Fail;
+
+/// Keeps nothing, and finds no memory for it.
+#[derive(Drop)]
+struct KeepRefused {}
+
+impl Keeper for KeepRefused {
+    ghost use Rattle.std.specs.Prelude.{None, false};
+
+    ghost contents = { λ _ _. None };
+
+    ghost exact = { false };
+
+    fn get(&self, _inst: &Inst) -> Option<&Value> {
+        None
+    }
+
+    fn put(
+        &mut self,
+        _inst: Inst,
+        _value: Value,
+        _reads: &[Loc],
+        _uses: &[Inst],
+    ) -> Result<(), AllocError> {
+        Err(AllocError)
+    }
+
+    fn flush<F: Fn(Loc) -> bool>(&mut self, _touched: &F) {}
+}
+
+/// A grammar, a tree and one aspect file.
+struct Sample {
+    grammar: &'static str,
+    tree: &'static str,
+    aspects: &'static [&'static str],
+}
+
+fn files(alloc: Global, sample: &Sample) -> Result<Files, AllocError> {
+    let mut aspects = Vec::new(alloc);
+    for text in sample.aspects {
+        aspects.push(named(alloc, "aspects", text)?)?;
+    }
+    Ok(Files {
+        grammar: named(alloc, "grammar", sample.grammar)?,
+        tree: named(alloc, "tree", sample.tree)?,
+        aspects,
+    })
+}
+
+/// What a fresh engine over an empty keeper writes for the lines, and what the run reports.
+fn heard<K: Keeper>(
+    alloc: Global,
+    sample: &Sample,
+    keeper: K,
+    lines: &str,
+) -> Result<(Vec<u8>, Report), Fail>
+    requires { KeepsAll (λ _. None) (K.contents keeper) }
+{
+    let mut engine = start_with(alloc, &files(alloc, sample)?, keeper)?;
+    let mut reader = lines.as_bytes();
+    let mut out = Vec::new(alloc);
+    let report = run(&mut engine, &mut reader, &mut out)?;
+    Ok((out, report))
+}
+
+/// How many edits the lines make, where every keeper leads to the same replies and memory doesn't run out.
+fn edits_alike(alloc: Global, sample: &Sample, lines: &str) -> Result<u128, Fail> {
+    let (told, report) = heard(alloc, sample, KeepNone::new(alloc), lines)?;
+    if report.memory > 0 {
+        return Err(Fail::new("memory ran out"));
+    }
+    let (until_edit, _) = heard(alloc, sample, KeepUntilEdit::new(alloc), lines)?;
+    if until_edit != told {
+        return Err(Fail::new("what is kept until an edit is heard"));
+    }
+    let (recorded, _) = heard(alloc, sample, KeepRecorded::new(alloc), lines)?;
+    if recorded != told {
+        return Err(Fail::new("what is kept over edits is heard"));
+    }
+    Ok(report.accepted)
+}
+
+const SUM: Sample = Sample {
+    grammar: "Sum ::= Left:Num Right:Num; Num ::= <Value:int>;",
+    tree: "Sum(Num(3),Num(4))",
+    aspects: &[
+        "aspect Sums {
+  syn lazy int Sum.total() = getLeft().twice() + getRight().twice();
+  syn lazy int Num.twice() = getValue() * 2;
+}
+",
+    ],
+};
+
+const SUM_WORDS: Words = Words {
+    places: &["/", "/Left", "/Right", "$u", "$v", "/Left:0", "/Middle"],
+    parts: &["Value", "Value", "Left", "Stmt"],
+    values: &["5", "-7", "2147483647", "2147483648", "\"x\""],
+    terms: &[
+        "Num(4)",
+        "Num(-1)",
+        "Sum(Num(1),Num(2))",
+        "Num(\"x\")",
+        "Non(1)",
+    ],
+    attributes: &["total()", "total()", "twice()", "total(1)", "none()"],
+    edits: &[
+        "token /Left Value 5",
+        "token /Right Value -7",
+        "token /Left Value 2147483647",
+        "set /Right Num(4)",
+        "set / Sum(Num(1),Num(2))",
+    ],
+};
+
+#[test]
+fn sums_are_told_alike(rt: HostRuntime) -> Result<(), Fail> {
+    let alloc = rt.alloc();
+    let lines = lines(alloc, &SUM_WORDS, &mut Chance::from_seed(1968), 5_000)?;
+    let edits = edits_alike(alloc, &SUM, &lines)?;
+    assert!(rt; edits > 1_000, "{edits} edits");
+    Ok(())
+}
+
+const CALC: Sample = Sample {
+    grammar: GRAMMAR,
+    tree: TREE,
+    aspects: &[CALCULATOR, PROBE],
+};
+
+const CALC_WORDS: Words = Words {
+    places: &[
+        "/",
+        "/Block",
+        "/Block/Stmt:0",
+        "/Block/Stmt:0/Init",
+        "/Block/Stmt:1",
+        "/Block/Stmt:1/Expr",
+        "/Block/Stmt:1/Expr/Left",
+        "/Block/Stmt:1/Expr/Right",
+        "/Block/Stmt:2",
+        "/Block/Stmt:2/Expr",
+        "/Block/Stmt:2/Init",
+        "/Block/Stmt:0/Stmt:0/Expr",
+        "$u",
+        "$v",
+        "$v/Init",
+        "/Block/Stmt",
+        "/Left",
+    ],
+    parts: &["Value", "ID", "Stmt", "Init", "Expr", "Left"],
+    values: &["5", "-7", "2147483647", "\"x\"", "\"y\"", "\"\""],
+    terms: &[
+        "Num(4)",
+        "Use(\"x\")",
+        "Add(Num(1),Use(\"y\"))",
+        "Decl(\"x\",Num(5))",
+        "Decl(\"x\",Add(Use(\"y\"),Num(1)))",
+        "Decl(\"y\",-)",
+        "Print(Use(\"x\"))",
+        "Print(Add(Use(\"x\"),Use(\"y\")))",
+        "Block([Decl(\"y\",Num(8)),Print(Use(\"x\"))])",
+        "Num(\"x\")",
+        "Stmt()",
+    ],
+    attributes: &[
+        "value()",
+        "value()",
+        "value()",
+        "decl()",
+        "decl()",
+        "lookup(\"x\")",
+        "local(\"x\")",
+        "local(\"y\")",
+        "declares(\"x\")",
+        "pos()",
+        "circ()",
+        "c2()",
+        "c3()",
+        "same()",
+        "big()",
+        "value(null)",
+        "lookup(/)",
+    ],
+    edits: &[
+        "token /Block/Stmt:0 ID \"x\"",
+        "token /Block/Stmt:0 ID \"y\"",
+        "token /Block/Stmt:1/Expr/Right Value 5",
+        "set /Block/Stmt:1 Print(Add(Use(\"x\"),Num(2)))",
+        "set /Block/Stmt:0/Init Add(Use(\"y\"),Num(3))",
+        "put /Block/Stmt:0 Init Num(6)",
+        "drop /Block/Stmt:0/Init",
+        "drop /Block/Stmt:0",
+        "drop /Block/Stmt:1",
+        "insert /Block Stmt 0 Decl(\"x\",Num(1))",
+        "insert /Block Stmt 0 Decl(\"y\",Use(\"x\"))",
+        "insert /Block Stmt 1 Print(Add(Use(\"x\"),Use(\"y\")))",
+        "insert /Block Stmt 1 Block([Print(Use(\"x\"))])",
+    ],
+};
+
+#[test]
+fn the_calculator_is_told_alike(rt: HostRuntime) -> Result<(), Fail> {
+    let alloc = rt.alloc();
+    let lines = lines(alloc, &CALC_WORDS, &mut Chance::from_seed(2000), 5_000)?;
+    let edits = edits_alike(alloc, &CALC, &lines)?;
+    assert!(rt; edits > 600, "{edits} edits");
+    Ok(())
+}
+
+#[test]
+fn without_memory_for_a_value_there_is_no_answer(rt: HostRuntime) -> Result<(), Fail> {
+    let lines = "0 ask /Block/Stmt:1/Expr value()
+0 ask /Block/Stmt:1/Expr same()
+";
+    let (told, report) = heard(rt.alloc(), &CALC, KeepRefused {}, lines)?;
+    let replies = "0 memory\n0 = false\n";
+    assert!(rt; told.as_slice() == replies.as_bytes());
+    assert_eq!(rt; report.memory, 1);
+    Ok(())
+}

@@ -1,0 +1,12 @@
+//! Tests of whole sessions: over the calculator, with each keeper, with readers and writers that fail, and of files that
+//! are refused.
+#![tactic(auto)]
+
+#[cfg(test)]
+mod failing;
+#[cfg(test)]
+mod keepers;
+#[cfg(test)]
+mod refusals;
+#[cfg(test)]
+mod sessions;

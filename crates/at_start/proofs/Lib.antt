@@ -1,0 +1,6 @@
+mod Naming
+mod Declaring
+mod TermFiles
+mod Ruled
+mod Started
+mod RulesTyped

@@ -1,0 +1,83 @@
+use Rattle.std.proofs.Common.{arith, ◌≡◌, ◌∙◌, List, ℕ, true, length, sym, subst, None}
+use Rattle.std.proofs.lemmas.Result.{err_from_is_err_and}
+use Rattle.at_model.specs.Classes.{Classes}
+use Rattle.at_model.specs.Terms.{term_of}
+use Rattle.at_model.specs.Trees.{Tree, conforms}
+use Rattle.at_model.specs.Edits.{is_within_limits}
+use Rattle.at_model.specs.Rules.{Rules}
+use Rattle.at_model.specs.Machine.{State}
+use Rattle.at_store.specs.Loading.{IsNotLoaded}
+use Rattle.at_store.specs.declared.edit.LoadFault.{LoadFault}
+use Rattle.at_tree.specs.TreeView.{tree_view}
+use Rattle.at_start.specs.AspectFiles.{GivesRules, IsAspectFault}
+use Rattle.at_start.specs.Files.{IsText}
+use Rattle.at_start.specs.GrammarFiles.{GivesClasses, IsGrammarFault}
+use Rattle.at_start.specs.Starts.{aspect_bytes, IsStartFault}
+use Rattle.at_start.specs.TreeFiles.{IsTreeFault, IsTermFile, no_room}
+use Rattle.at_start.specs.declared.code.Code.TheVariants as code
+use Rattle.at_start.specs.declared.files.Source.{Source}
+use Rattle.at_start.specs.declared.fault.FileFault.TheVariants as file
+use Rattle.at_start.proofs.Started.{grammar_refuses, aspects_refuse, tree_refuses}
+use Rattle.at_start.proofs.start_with.Goals as goal
+
+pub returns-in-Err-clause-refused : goal.returns-in-Err-clause-refused
+returns-in-Err-clause-refused g c =
+    let fault = subst (λ (b : List ℕ). IsGrammarFault b c.in-Err.fault) c.deref.ensures.value c.in-Err.ensures.refused in
+    subst (IsStartFault c.args.files.now) (sym c.of_file.ensures) (grammar_refuses c.args.files.now c.in-Err.fault fault)
+
+pub returns-in_err-rules-clause-refused : goal.returns-in_err-rules-clause-refused
+returns-in_err-rules-clause-refused g c =
+    let p = err_from_is_err_and c.from_residual.result c.from_residual.ensures.1 in
+    let given = subst (λ (b : List ℕ). GivesClasses b c.in-Ok.classes) c.deref.ensures.value c.in-Ok.ensures.given in
+    let fault = subst (λ (s : List Source). IsAspectFault c.in-Ok.classes (aspect_bytes s) c.in_err-rules.field-0.0) c.deref-2.ensures.value c.in_err-rules.ensures.refused in
+    rw (p.1, p.2) (aspects_refuse c.args.files.now c.in-Ok.classes c.in_err-rules.field-0.0 given fault)
+
+pub returns-in-Err-tree_of-clause-refused : goal.returns-in-Err-tree_of-clause-refused
+returns-in-Err-tree_of-clause-refused g c =
+    let files = c.args.files.now in
+    let given = subst (λ (b : List ℕ). GivesClasses b c.in-Ok.classes) c.deref.ensures.value c.in-Ok.ensures.given in
+    let rules = subst (λ (s : List Source). GivesRules c.in-Ok.classes (aspect_bytes s) c.in_ok-rules.rules) c.deref-2.ensures.value c.in_ok-rules.ensures.given in
+    let there = subst (λ (k : Classes). IsTreeFault k c.deref-3.result.now c.in-Err-tree_of.fault) (c.classes.ensures ∙ c.in_ok-rules.ensures.classes) c.in-Err-tree_of.ensures.refused in
+    let fault = subst (λ (b : List ℕ). IsTreeFault c.in-Ok.classes b c.in-Err-tree_of.fault) c.deref-3.ensures.value there in
+    let count : c.len-file.result ≡ length files.aspects.items = omega (arith, c.len-file.ensures, files.aspects.ok.0) in
+    rw (c.of_file-in-Err-tree_of.ensures, count) (tree_refuses files c.in-Ok.classes c.in_ok-rules.rules c.in-Err-tree_of.fault given rules fault)
+
+pub returns-in-Err-Limit-clause-refused : goal.returns-in-Err-Limit-clause-refused
+returns-in-Err-Limit-clause-refused g c =
+    let files = c.args.files.now in
+    let t = tree_view c.in-Ok-tree_of.tree in
+    let bytes = files.tree.bytes.items in
+    let same = c.classes.ensures ∙ c.in_ok-rules.ensures.classes in
+    let given = subst (λ (b : List ℕ). GivesClasses b c.in-Ok.classes) c.deref.ensures.value c.in-Ok.ensures.given in
+    let rules = subst (λ (s : List Source). GivesRules c.in-Ok.classes (aspect_bytes s) c.in_ok-rules.rules) c.deref-2.ensures.value c.in_ok-rules.ensures.given in
+    let load = subst (λ (f : LoadFault). IsNotLoaded c.in_ok-rules.rules.classes t f) c.in-Err-Limit.field-0-is c.in-Err-Limit.ensures.refused in
+    let text = subst IsText c.deref-3.ensures.value c.in-Ok-tree_of.ensures.text in
+    let there = subst (λ (b : List ℕ). IsTermFile b (term_of c.classes.result.now t)) c.deref-3.ensures.value c.in-Ok-tree_of.ensures.written in
+    let written = subst (λ (k : Classes). IsTermFile bytes (term_of k t)) same there in
+    let whole = subst (λ (k : Classes). conforms k t 0 ≡ true) same c.in-Ok-tree_of.ensures.whole in
+    let count : c.len-file.result ≡ length files.aspects.items = omega (arith, c.len-file.ensures, files.aspects.ok.0) in
+    rw (c.of_file-in-Err-Limit.ensures, c.refused-in-Err-Limit.ensures, count) (tree_refuses files c.in-Ok.classes c.in_ok-rules.rules (file.Refused code.TreeLimit None) given rules (no_room t text written whole load.1))
+
+pub returns-in-Ok-new-clause-started : goal.returns-in-Ok-new-clause-started
+returns-in-Ok-new-clause-started g c =
+    let files = c.args.files.now in
+    let t = tree_view c.in-Ok-tree_of.tree in
+    let bytes = files.tree.bytes.items in
+    let same = c.classes.ensures ∙ c.in_ok-rules.ensures.classes in
+    let given = subst (λ (b : List ℕ). GivesClasses b c.in-Ok.classes) c.deref.ensures.value c.in-Ok.ensures.given in
+    let read = subst (λ (s : List Source). GivesRules c.in-Ok.classes (aspect_bytes s) c.in_ok-rules.rules) c.deref-2.ensures.value c.in_ok-rules.ensures.given in
+    let rules = subst (λ (r : Rules). GivesRules c.in-Ok.classes (aspect_bytes files.aspects.items) r) (sym c.in-Ok-new.ensures.rules) read in
+    let text = subst IsText c.deref-3.ensures.value c.in-Ok-tree_of.ensures.text in
+    let there = subst (λ (b : List ℕ). IsTermFile b (term_of c.classes.result.now t)) c.deref-3.ensures.value c.in-Ok-tree_of.ensures.written in
+    let written = subst (λ (k : Classes). IsTermFile bytes (term_of k t)) same there in
+    let whole = subst (λ (k : Classes). conforms k t 0 ≡ true) same c.in-Ok-tree_of.ensures.whole in
+    let sound = c.in-Ok-new.ensures.sound c.requires in
+    let within = subst (λ (s : State). is_within_limits s.tree ≡ true) c.in-Ok-new.ensures.first sound.idle.limits in
+    record {
+      classes = c.in-Ok.classes;
+      grammar = given;
+      aspects = rules;
+      opened = t;
+      tree = record { text = text; written = written; whole = whole; within = within };
+      state_is = c.in-Ok-new.ensures.first;
+    }

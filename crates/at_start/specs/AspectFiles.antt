@@ -1,0 +1,109 @@
+-- Which rules aspect files give, and by which fault of which file they are refused.
+use Rattle.std.specs.Prelude.{◌≡◌, ℕ, ◌+◌, suc, false, List, [], ◌∷◌, ◌++◌, length, map, Some, None, Ok, Err}
+use Rattle.at_model.specs.Classes.{Classes}
+use Rattle.at_model.specs.Rules.{Rules}
+use Rattle.at_text.specs.Symbols.{PlacedToken, HasTokens}
+use Rattle.at_jrag.specs.Syntax.{Aspect, Place}
+use Rattle.at_jrag.specs.Grammar.{File, IsWithin}
+use Rattle.at_jrag.specs.Faults.{IsFault}
+use Rattle.at_jrag.specs.declared.JragFault.{JragFault}
+use Rattle.at_jrag.specs.declared.JragFault.TheVariants as jrag
+use Rattle.at_start.specs.Files.{IsText, IsNoText}
+use Rattle.at_typing.specs.Building.{Builds}
+use Rattle.at_typing.specs.Located.{Located, located}
+use Rattle.at_typing.specs.declared.fault.Fault.{Fault}
+use Rattle.at_kinds.specs.declared.code.RuleCode.{RuleCode}
+use Rattle.at_kinds.specs.declared.code.RuleCode.TheVariants as rule
+use Rattle.at_typing.specs.declared.fault.RuleFault.TheVariants.{Refused as Broken}
+use Rattle.at_start.specs.declared.code.Code.{Code}
+use Rattle.at_start.specs.declared.code.Code.TheVariants as code
+use Rattle.at_start.specs.declared.fault.FileFault.{FileFault}
+use Rattle.at_start.specs.declared.fault.FileFault.TheVariants as fault
+use Rattle.at_start.specs.declared.fault.StartFault.{StartFault}
+use Rattle.at_start.specs.declared.fault.StartFault.TheVariants as start
+
+-- the file is a text that spells the aspects, whose expressions don't nest too deep
+pub record Holds (bytes : List ℕ) (aspects : List Aspect) : Type 0 where
+  pub text : IsText bytes
+  pub tokens : List PlacedToken
+  pub cut : HasTokens bytes tokens
+  pub spells : File aspects tokens []
+  pub within : IsWithin aspects
+
+-- each file holds its aspects
+abbrev pub AllHold : List (List ℕ) → List (List Aspect) → Type 0
+AllHold [] [] = Unit {0}
+AllHold [] (a ∷ as') = ⊥
+AllHold (f ∷ fs) [] = ⊥
+AllHold (f ∷ fs) (a ∷ as') = Holds f a × AllHold fs as'
+
+-- the code and the place of a text that is no aspect file
+abbrev pub IsReadingFault : JragFault → Code → Place → Type 0
+IsReadingFault (jrag.Syntax p) c at = (c ≡ code.AspectSyntax) × (at ≡ p)
+IsReadingFault (jrag.LeftOut p) c at = (c ≡ code.AspectFormLeftOut) × (at ≡ p)
+IsReadingFault (jrag.Nesting p) c at = (c ≡ code.AspectLimit) × (at ≡ p)
+IsReadingFault jrag.Memory c at = ⊥
+
+-- the file is refused by the code at the place: it is no text, or this is the fault of its text
+pub data RefusesReading (bytes : List ℕ) : Code → Place → Type 0 where
+  no_text : (c : Code) → IsNoText bytes code.AspectLimit code.AspectSyntax c → RefusesReading bytes c (1, 1)
+  no_aspects : (e : JragFault) (c : Code) (at : Place) → IsText bytes → IsFault bytes e → IsReadingFault e c at → RefusesReading bytes c at
+
+-- the fault is one by which the file is refused; of want of memory nothing is said
+abbrev pub IsReadingFaultOf : List ℕ → FileFault → Type 0
+IsReadingFaultOf bytes (fault.Refused c (Some at)) = RefusesReading bytes c at
+IsReadingFaultOf bytes (fault.Refused c None) = ⊥
+IsReadingFaultOf bytes fault.Memory = Unit {0}
+
+-- The fault is that of the first file that can't be read, by its number from 1; of want of memory nothing is said.
+pub record IsUnreadAt (files : List (List ℕ)) (file : ℕ) (c : Code) (at : Place) : Type 0 where
+  pub front : List (List ℕ)
+  pub rest : List (List ℕ)
+  pub bytes : List ℕ
+  pub aspects : List (List Aspect)
+  pub split : files ≡ front ++ bytes ∷ rest
+  pub hold : AllHold front aspects
+  pub refuses : RefusesReading bytes c at
+  pub number : file ≡ length front + 1
+
+abbrev pub IsUnread : List (List ℕ) → StartFault → Type 0
+IsUnread files (start.Refused file c (Some at)) = IsUnreadAt files file c at
+IsUnread files (start.Refused file c None) = ⊥
+IsUnread files start.Memory = Unit {0}
+
+-- The files give the rules over the classes: each file holds aspects, and all their declarations together make the rules.
+pub record GivesRules (classes : Classes) (files : List (List ℕ)) (rules : Rules) : Type 0 where
+  pub aspects : List (List Aspect)
+  pub hold : AllHold files aspects
+  pub built : Builds classes (located 1 aspects) (Ok rules)
+
+-- a rule's code among those of all files
+abbrev pub rule_code : RuleCode → Code
+rule_code rule.Limit = code.AspectLimit
+rule_code rule.NameOfAccessor = code.NameOfAccessor
+rule_code rule.AttributeTwice = code.AttributeTwice
+rule_code rule.UnknownName = code.UnknownName
+rule_code rule.Argument = code.Argument
+rule_code rule.Kind = code.Kind
+rule_code rule.EquationTwice = code.EquationTwice
+rule_code rule.ClassWithoutEquation = code.ClassWithoutEquation
+rule_code rule.InheritedWithoutEquation = code.InheritedWithoutEquation
+rule_code rule.EquationWithoutAttribute = code.EquationWithoutAttribute
+
+-- The files are refused by the code at the place of the file of that number: it is the first that can't be read; or all can,
+-- and it is the first fault of their declarations.
+pub data RefusesAspects (classes : Classes) (files : List (List ℕ)) : (file : ℕ) → Code → Place → Type 0 where
+  no_file : (file : ℕ) (c : Code) (at : Place) → IsUnreadAt files file c at → RefusesAspects classes files file c at
+  breaks : (aspects : List (List Aspect)) (f : Fault) → AllHold files aspects → Builds classes (located 1 aspects) (Err (Broken f))
+      → RefusesAspects classes files f.file (rule_code f.code) f.at
+
+-- the fault is one by which the files are refused; of want of memory nothing is said
+abbrev pub IsAspectFault : Classes → List (List ℕ) → StartFault → Type 0
+IsAspectFault classes files (start.Refused file c (Some at)) = RefusesAspects classes files file c at
+IsAspectFault classes files (start.Refused file c None) = ⊥
+IsAspectFault classes files start.Memory = Unit {0}
+
+-- the fault is the first of the declarations, in the file of its number and at its place; of want of memory nothing is said
+abbrev pub IsRuleFault : Classes → List Located → StartFault → Type 0
+IsRuleFault classes ds (start.Refused file c at) = (f : Fault) × Builds classes ds (Err (Broken f)) × (file ≡ f.file) × (c ≡ rule_code f.code) × (at ≡ Some f.at)
+IsRuleFault classes ds start.Memory = Unit {0}

@@ -1,0 +1,73 @@
+-- Which classes a grammar file gives, and by which fault it is refused.
+use Rattle.std.specs.Prelude.{◌≡◌, ℕ, List, map, Some, None}
+use Rattle.at_model.specs.Classes.{Classes}
+use Rattle.at_model.specs.Declarations.{Declarations, Declaration, PartDeclaration, Place, classes_of, first_fault}
+use Rattle.at_text.specs.Symbols.{PlacedToken, HasTokens}
+use Rattle.at_grammar.specs.Grammar as written
+use Rattle.at_grammar.specs.Meaning.{Component, Class, class_means}
+use Rattle.at_grammar.specs.Faults.{Spells, IsFault}
+use Rattle.at_grammar.specs.declared.AstFault.{AstFault}
+use Rattle.at_grammar.specs.declared.AstFault.TheVariants as ast
+use Rattle.at_class.specs.Grammar.{form_view}
+use Rattle.at_class.specs.Faults.{code_view}
+use Rattle.at_class.specs.declared.fault.ClassCode.{ClassCode}
+use Rattle.at_class.specs.declared.fault.ClassCode.TheVariants as class
+use Rattle.at_start.specs.Files.{IsText, IsNoText}
+use Rattle.at_start.specs.declared.code.Code.{Code}
+use Rattle.at_start.specs.declared.code.Code.TheVariants as code
+use Rattle.at_start.specs.declared.fault.FileFault.{FileFault}
+use Rattle.at_start.specs.declared.fault.FileFault.TheVariants as fault
+
+abbrev pub part_declared : Component → PartDeclaration
+part_declared p = record { name = p.name; kind = p.kind; form = form_view p.shape; at = p.at }
+
+abbrev pub class_declared : Class → Declaration
+class_declared c = record { name = c.name; is_abstract = c.is_abstract; parent = c.parent; parts = map part_declared c.parts; at = c.at }
+
+-- what a grammar as written declares
+abbrev pub declared : List written.Declaration → Declarations
+declared f = map class_declared (map class_means f)
+
+-- the text spells a grammar that declares this
+pub record Declares (text : List ℕ) (ds : Declarations) : Type 0 where
+  pub tokens : List PlacedToken
+  pub grammar : List written.Declaration
+  pub cut : HasTokens text tokens
+  pub spells : Spells tokens grammar
+  pub means : ds ≡ declared grammar
+
+-- The file gives the classes: its text declares them, and no rule is broken.
+pub record GivesClasses (bytes : List ℕ) (classes : Classes) : Type 0 where
+  pub text : IsText bytes
+  pub declarations : Declarations
+  pub declares : Declares bytes declarations
+  pub faultless : first_fault declarations ≡ None
+  pub built : classes ≡ classes_of declarations
+
+abbrev pub class_code : ClassCode → Code
+class_code class.ClassTwice = code.ClassTwice
+class_code class.UnknownClass = code.UnknownClass
+class_code class.SuperclassCircle = code.SuperclassCircle
+class_code class.ComponentTwice = code.ComponentTwice
+class_code class.TokenKind = code.TokenKind
+class_code class.Limit = code.GrammarLimit
+class_code class.NoClass = code.NoClass
+
+-- the code and the place of a text that is no grammar
+abbrev pub IsReadingFault : AstFault → Code → Place → Type 0
+IsReadingFault (ast.Syntax p) c at = (c ≡ code.GrammarSyntax) × (at ≡ p)
+IsReadingFault (ast.LeftOut p) c at = (c ≡ code.GrammarFormLeftOut) × (at ≡ p)
+IsReadingFault ast.Memory c at = ⊥
+
+-- The file is refused by the code at the place: it is no text; its text is no grammar; the first rule that its classes break.
+pub data RefusesGrammar (bytes : List ℕ) : Code → Place → Type 0 where
+  no_text : (c : Code) → IsNoText bytes code.GrammarLimit code.GrammarSyntax c → RefusesGrammar bytes c (1, 1)
+  no_grammar : (e : AstFault) (c : Code) (at : Place) → IsText bytes → IsFault bytes e → IsReadingFault e c at → RefusesGrammar bytes c at
+  breaks : (ds : Declarations) (c : ClassCode) (at : Place) → IsText bytes → Declares bytes ds
+      → first_fault ds ≡ Some (record { code = code_view c; at = at }) → RefusesGrammar bytes (class_code c) at
+
+-- the fault is one by which the file is refused; of want of memory nothing is said
+abbrev pub IsGrammarFault : List ℕ → FileFault → Type 0
+IsGrammarFault bytes (fault.Refused c (Some at)) = RefusesGrammar bytes c at
+IsGrammarFault bytes (fault.Refused c None) = ⊥
+IsGrammarFault bytes fault.Memory = Unit {0}

@@ -1,0 +1,30 @@
+-- What is printed of files that make no engine.
+use Rattle.std.specs.Prelude.{ℕ, ◌-◌, ◌==◌, List, [], ◌∷◌, ◌++◌, decimal, codes, Option, Some, None, slice_get, string_bytes, if◌then◌else◌}
+use Rattle.at_start.specs.Codes.{code_text}
+use Rattle.at_start.specs.declared.files.Source.{Source}
+use Rattle.at_start.specs.declared.files.Files.{Files}
+use Rattle.at_start.specs.declared.fault.StartFault.{StartFault}
+use Rattle.at_start.specs.declared.fault.StartFault.TheVariants.{Refused, Memory}
+use Rattle.at_start.specs.declared.fault.FileFault.{FileFault}
+use Rattle.at_start.specs.declared.fault.FileFault.TheVariants as file
+
+abbrev pub name_or : Source → Option Source → List ℕ
+name_or other None = string_bytes other.name
+name_or other (Some s) = string_bytes s.name
+
+-- the name of the file of that number, in the order grammar, aspects, tree
+abbrev pub file_name : Files → ℕ → List ℕ
+file_name files file = if file == 0 then string_bytes files.grammar.name else name_or files.tree (slice_get files.aspects.items (file - 1))
+
+abbrev pub place_text : Option (ℕ × ℕ) → List ℕ
+place_text None = []
+place_text (Some at) = codes " at " ++ (decimal at.0 ++ (58 ∷ decimal at.1))
+
+abbrev pub fault_text : Files → StartFault → List ℕ
+fault_text files (Refused file code at) = file_name files file ++ (codes ": " ++ (code_text code ++ (place_text at ++ 10 ∷ [])))
+fault_text files Memory = codes "memory" ++ 10 ∷ []
+
+-- the fault of the file of that number
+abbrev pub of_file : ℕ → FileFault → StartFault
+of_file n (file.Refused code at) = Refused n code at
+of_file n file.Memory = Memory

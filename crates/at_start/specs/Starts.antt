@@ -1,0 +1,52 @@
+-- What files make: an engine, or the first fault in the order grammar, aspects, tree.
+use Rattle.std.specs.Prelude.{◌≡◌, ℕ, ◌+◌, List, [], length, map, Option, Some, None}
+use Rattle.at_model.specs.Classes.{Classes}
+use Rattle.at_model.specs.Trees.{Tree}
+use Rattle.at_model.specs.Rules.{Rules}
+use Rattle.at_model.specs.Machine.{State}
+use Rattle.at_cache.specs.Recorded.{kept_in}
+use Rattle.at_cache.specs.declared.keep_recorded.KeepRecorded.{KeepRecorded}
+use Rattle.at_engine.specs.Engines.{IsSound}
+use Rattle.at_engine.specs.declared.engine.Engine.{Engine}
+use Rattle.at_start.specs.AspectFiles.{GivesRules, RefusesAspects}
+use Rattle.at_start.specs.GrammarFiles.{GivesClasses, RefusesGrammar}
+use Rattle.at_start.specs.TreeFiles.{GivesTree, RefusesTree}
+use Rattle.at_start.specs.declared.code.Code.{Code}
+use Rattle.at_start.specs.declared.files.Source.{Source}
+use Rattle.at_start.specs.declared.files.Files.{Files}
+use Rattle.at_start.specs.declared.fault.StartFault.{StartFault}
+use Rattle.at_start.specs.declared.fault.StartFault.TheVariants.{Refused, Memory}
+
+-- what is in the aspect files
+abbrev pub aspect_bytes : List Source → List (List ℕ)
+aspect_bytes = map (λ s. s.bytes.items)
+
+-- the state at the start: that tree, at version 0 and with no marks
+abbrev pub opening : Tree → State
+opening t = record { tree = t; version = 0; marks = [] }
+
+-- the engine can serve lines: it is sound, and what it keeps is right
+abbrev pub IsReady : Engine KeepRecorded → Type 0
+IsReady e = IsSound (λ k. kept_in k.entries.entries) e
+
+-- the files give these rules, and the engine that they make is in this state
+pub record Starts (files : Files) (rules : Rules) (state : State) : Type 0 where
+  pub classes : Classes
+  pub grammar : GivesClasses files.grammar.bytes.items classes
+  pub aspects : GivesRules classes (aspect_bytes files.aspects.items) rules
+  pub opened : Tree
+  pub tree : GivesTree classes files.tree.bytes.items opened
+  pub state_is : state ≡ opening opened
+
+-- The file of that number is the first that is refused, by the code and at the place; a tree file's fault has none.
+pub data Refuses (files : Files) : (file : ℕ) → Code → Option (ℕ × ℕ) → Type 0 where
+  by_grammar : (c : Code) (at : ℕ × ℕ) → RefusesGrammar files.grammar.bytes.items c at → Refuses files 0 c (Some at)
+  by_aspects : (classes : Classes) (file : ℕ) (c : Code) (at : ℕ × ℕ) → GivesClasses files.grammar.bytes.items classes
+      → RefusesAspects classes (aspect_bytes files.aspects.items) file c at → Refuses files file c (Some at)
+  by_tree : (classes : Classes) (rules : Rules) (c : Code) → GivesClasses files.grammar.bytes.items classes → GivesRules classes (aspect_bytes files.aspects.items) rules
+      → RefusesTree classes files.tree.bytes.items c → Refuses files (length files.aspects.items + 1) c None
+
+-- the fault is the first one of the files; of want of memory nothing is said
+abbrev pub IsStartFault : Files → StartFault → Type 0
+IsStartFault files (Refused file c at) = Refuses files file c at
+IsStartFault files Memory = Unit {0}

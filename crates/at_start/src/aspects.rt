@@ -1,0 +1,109 @@
+//! The rules of aspect files.
+
+ghost use Rattle.std.specs.Prelude.{◌≡◌, None, Some, map, Ok, IfOk, IfErr};
+ghost use Rattle.at_jrag.specs.View.{aspect_view};
+ghost use Rattle.at_model.specs.WellFormed.{AreWellFormed, IsHierarchy};
+ghost use Rattle.at_typing.specs.Building.{Builds};
+ghost use Rattle.at_typing.specs.Located.{declarations_in};
+ghost use Rattle.at_start.specs.AspectFiles.{Holds, AllHold, GivesRules, IsReadingFaultOf, IsAspectFault, IsUnread, IsRuleFault, rule_code};
+ghost use Rattle.at_start.specs.Starts.{aspect_bytes};
+ghost use Rattle.at_start.specs.declared.fault.FileFault.TheVariants.{Refused};
+
+use super::fault::{FileFault, StartFault, of_file};
+use super::files::{Source, text_of};
+use crate::code::Code;
+use at_class::ClassTable;
+use at_jrag::{Aspect, JragFault, parse_jrag};
+use at_kinds::RuleCode;
+use at_rules::Rules;
+use at_typing::RuleFault;
+use std::alloc::Global;
+
+/// The rules of the aspect files over the classes.
+///
+/// # Errors
+///
+/// The first file that can't be read, or else the first fault of the rules. `Memory` for want of memory.
+pub fn rules_of(alloc: Global, classes: ClassTable, aspects: &[Source]) -> Result<Rules, StartFault>
+    ensures classes { IfOk result (λ r. r.classes ≡ classes) }
+    ensures given { IfOk result (λ r. GivesRules classes (aspect_bytes aspects.now) r) }
+    ensures well_formed { IsHierarchy classes → IfOk result AreWellFormed }
+    ensures refused { IfErr result (IsAspectFault classes (aspect_bytes aspects.now)) }
+{
+    let aspects = read_all(alloc, aspects)?;
+    build(alloc, classes, &aspects)
+}
+
+/// The aspects of each file, in order.
+fn read_all(alloc: Global, aspects: &[Source]) -> Result<Vec<Vec<Aspect>>, StartFault>
+    ensures hold { IfOk result (λ v. AllHold (aspect_bytes aspects.now) (map (λ f. map aspect_view f.items) v.items)) }
+    ensures refused { IfErr result (IsUnread (aspect_bytes aspects.now)) }
+{
+    let mut all = Vec::new(alloc);
+    for (i, source) in aspects.iter().enumerate() {
+        match read(alloc, &source.bytes) {
+            Ok(aspects) => all.push(aspects)?,
+            Err(fault) => return Err(of_file(i + 1, fault)),
+        }
+    }
+    Ok(all)
+}
+
+/// The aspects of a file.
+fn read(alloc: Global, bytes: &[u8]) -> Result<Vec<Aspect>, FileFault>
+    ensures hold { IfOk result (λ v. Holds bytes.now (map aspect_view v.items)) }
+    ensures refused { IfErr result (IsReadingFaultOf bytes.now) }
+{
+    let text = match text_of(bytes, Code::AspectLimit, Code::AspectSyntax) {
+        Ok(text) => text,
+        Err(code) => return Err(refused(code, (1, 1))),
+    };
+    match parse_jrag(alloc, text) {
+        Ok(aspects) => Ok(aspects),
+        Err(JragFault::Syntax { at }) => Err(refused(Code::AspectSyntax, at)),
+        Err(JragFault::LeftOut { at }) => Err(refused(Code::AspectFormLeftOut, at)),
+        Err(JragFault::Nesting { at }) => Err(refused(Code::AspectLimit, at)),
+        Err(JragFault::Memory) => Err(FileFault::Memory),
+    }
+}
+
+fn refused(code: Code, at: (u32, u32)) -> FileFault
+    ensures { result ≡ Refused code (Some at) }
+{
+    FileFault::Refused { code, at: Some(at) }
+}
+
+fn build(alloc: Global, classes: ClassTable, aspects: &[Vec<Aspect>]) -> Result<Rules, StartFault>
+    ensures classes { IfOk result (λ r. r.classes ≡ classes) }
+    ensures built { IfOk result (λ r. Builds classes (declarations_in aspects.now) (Ok r)) }
+    ensures refused { IfErr result (IsRuleFault classes (declarations_in aspects.now)) }
+{
+    match at_typing::build(alloc, classes, aspects) {
+        Ok(rules) => Ok(rules),
+        Err(RuleFault::Refused(fault)) => Err(of_file(
+            fault.file,
+            FileFault::Refused {
+                code: rule_code(fault.code),
+                at: Some(fault.at),
+            },
+        )),
+        Err(RuleFault::Memory) => Err(StartFault::Memory),
+    }
+}
+
+fn rule_code(code: RuleCode) -> Code
+    ensures { result ≡ rule_code code }
+{
+    match code {
+        RuleCode::Limit => Code::AspectLimit,
+        RuleCode::NameOfAccessor => Code::NameOfAccessor,
+        RuleCode::AttributeTwice => Code::AttributeTwice,
+        RuleCode::UnknownName => Code::UnknownName,
+        RuleCode::Argument => Code::Argument,
+        RuleCode::Kind => Code::Kind,
+        RuleCode::EquationTwice => Code::EquationTwice,
+        RuleCode::ClassWithoutEquation => Code::ClassWithoutEquation,
+        RuleCode::InheritedWithoutEquation => Code::InheritedWithoutEquation,
+        RuleCode::EquationWithoutAttribute => Code::EquationWithoutAttribute,
+    }
+}

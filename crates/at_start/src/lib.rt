@@ -1,0 +1,78 @@
+//! The engine that files make: grammar, aspects and tree, looked at in this order, or the first fault.
+#![tactic(auto)]
+
+ghost use Rattle.std.specs.Prelude.{◌≡◌, None, IfOk, IfErr};
+ghost use Rattle.at_cache.specs.Kept.{KeepsAll};
+ghost use Rattle.at_cache.specs.Recorded.{kept_in};
+ghost use Rattle.at_engine.specs.Engines.{rules_of, state_of, IsSound};
+ghost use Rattle.at_engine.specs.Keeping.{IsSpare, work_of};
+ghost use Rattle.at_start.specs.Starts.{Starts, IsReady, IsStartFault};
+
+mod aspects;
+mod code;
+mod fault;
+mod files;
+mod grammar;
+mod tree;
+
+use aspects::rules_of;
+use at_cache::{KeepRecorded, Keeper};
+use at_engine::Engine;
+use at_store::LoadFault;
+pub use code::Code;
+use fault::of_file;
+pub use fault::{StartFault, write_fault};
+pub use files::{Files, MAX_FILE, Source};
+use grammar::classes_of;
+use std::alloc::Global;
+use tree::{refused, tree_of};
+
+/// The engine that the files make: they are looked at in the order grammar, aspects, tree.
+///
+/// # Errors
+///
+/// `Refused` for the first file that is refused, `Memory` for want of memory.
+pub fn start(alloc: Global, files: &Files) -> Result<Engine<KeepRecorded>, StartFault>
+    ensures started { IfOk result (λ e. Starts files.now (rules_of e) (state_of e)) }
+    ensures ready { IfOk result IsReady }
+    ensures spare { IfOk result (IsSpare (λ k. kept_in k.entries.entries)) }
+    ensures work { IfOk result (λ e. work_of e ≡ 0) }
+    ensures refused { IfErr result (IsStartFault files.now) }
+{
+    start_with(alloc, files, KeepRecorded::new(alloc))
+}
+
+/// The engine that the files make over an empty keeper.
+///
+/// # Errors
+///
+/// Those of `start`.
+pub fn start_with<K: Keeper>(
+    alloc: Global,
+    files: &Files,
+    keeper: K,
+) -> Result<Engine<K>, StartFault>
+    requires { KeepsAll (λ _. None) (K.contents keeper) }
+    ensures started { IfOk result (λ e. Starts files.now (rules_of e) (state_of e)) }
+    ensures ready { IfOk result (IsSound K.contents) }
+    ensures spare { IfOk result (IsSpare K.contents) }
+    ensures work { IfOk result (λ e. work_of e ≡ 0) }
+    ensures refused { IfErr result (IsStartFault files.now) }
+{
+    let classes = match classes_of(alloc, &files.grammar.bytes) {
+        Ok(classes) => classes,
+        Err(fault) => return Err(of_file(0, fault)),
+    };
+    let rules = rules_of(alloc, classes, &files.aspects)?;
+    let file = files.aspects.len() + 1;
+    let tree = match tree_of(alloc, rules.classes(), &files.tree.bytes) {
+        Ok(tree) => tree,
+        Err(fault) => return Err(of_file(file, fault)),
+    };
+    match Engine::new(alloc, rules, tree, keeper) {
+        Ok(engine) => Ok(engine),
+        Err(LoadFault::Fit) => Err(of_file(file, refused(Code::TreeFit))),
+        Err(LoadFault::Limit) => Err(of_file(file, refused(Code::TreeLimit))),
+        Err(LoadFault::Memory) => Err(StartFault::Memory),
+    }
+}

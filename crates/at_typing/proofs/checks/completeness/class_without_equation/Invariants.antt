@@ -1,8 +1,0 @@
-use Rattle.std.proofs.Common.{◌≡◌, ◌≤◌, length, take}
-use Rattle.at_typing.specs.AttributeKeys.{attributes_in}
-use Rattle.at_typing.specs.Completing.{LacksOwn}
-use Rattle.at_typing.proofs.Lackings.{AreClear}
-use Rattle.at_typing.proofs.checks.completeness.class_without_equation.Given as goal
-
-abbrev pub invariant-loop-numbered : goal.invariant-loop-numbered
-invariant-loop-numbered l = (l.position ≡ length (attributes_in (take l.numbered-index l.declared))) × (l.position ≤ l.numbered-index) × AreClear l.rules (LacksOwn l.rules) l.declared l.position

@@ -1,7 +1,0 @@
-use Rattle.at_model.specs.Rules.{attribute_name}
-use Rattle.at_typing.specs.Completing.{is_passed}
-use Rattle.at_typing.specs.Walks.{MeetsFrom}
-use Rattle.at_typing.proofs.checks.exposure.meet_within.Given as goal
-
-abbrev pub invariant-loop-part : goal.invariant-loop-part
-invariant-loop-part l = MeetsFrom (is_passed l.rules (attribute_name l.rules l.attribute) l.part l.class) l.fn.walk l.walk

@@ -1,8 +1,0 @@
-use Rattle.std.specs.Prelude.{map, take}
-use Rattle.at_jrag.specs.View.{aspect_view}
-use Rattle.attrd.specs.AspectFiles.{AllHold}
-use Rattle.attrd.specs.Starts.{aspect_bytes}
-use Rattle.attrd.proofs.start.aspects.read_all.Given as goal
-
-abbrev pub invariant-loop-i : goal.invariant-loop-i
-invariant-loop-i l = AllHold (aspect_bytes (take l.i l.fn.aspects)) (map (λ f. map aspect_view f.items) l.all.items)

@@ -1,0 +1,164 @@
+//! tries: one try of one equation, told by itself. For whoever works on evaluation: a question shows what many tries
+//! come to together, and no try alone. Here one says which values are known, and is told what an instance's equation
+//! comes to over these, and which locations of the tree were looked at up to there.
+//!
+//! `tries GRAMMAR ASPECTS TREE < LINES` answers each line that isn't empty by one line. `know PLACE CALL = VALUE` says
+//! that the instance has the value, and is answered `known`. `try PLACE CALL` is answered `value VALUE`, `fault WORD`
+//! or `need PLACE CALL`, and behind it the set of locations, each once, in the order of their texts: `is PLACE`,
+//! `slot PLACE PART`, `token PLACE PART`, `up PLACE`, `index PLACE`. Any other line is answered by a word alone: what
+//! it can't be read for, or what it names that isn't there.
+#![tactic(auto)]
+
+ghost use Rattle.std.specs.Prelude.{IfOk};
+ghost use Rattle.at_store.specs.Shown.{IsIdle};
+
+mod failure;
+mod files;
+mod instances;
+mod known;
+mod refusal;
+mod texts;
+
+use at_body::{Reads, try_body};
+use failure::Failure;
+use files::{World, load};
+use instances::{instance, value_for};
+use known::Values;
+use refusal::Refusal;
+use std::alloc::AllocError;
+use std::io::{Read, Write};
+use std::process::ExitCode;
+use std::{env, fs};
+use texts::{write_found, write_locations};
+
+/// Answers the lines, and ends with status 0; 1 where a file is refused, 2 where the words aren't three files, 3 where
+/// a file or a stream fails, 4 for want of memory.
+fn main(rt: HostRuntime) -> ExitCode {
+    match serve(&rt) {
+        Ok(()) => ExitCode::SUCCESS,
+        Err(failure) => {
+            let _ = rt.eprintln(failure.text());
+            ExitCode::from(failure.status())
+        }
+    }
+}
+
+/// Answers the lines of standard input on standard output, over the files that the words name.
+fn serve(rt: &HostRuntime) -> Result<(), Failure> {
+    let world = world_of_words(rt)?;
+    let mut lines = Vec::new(rt.alloc());
+    if rt.stdin().read_to_end(&mut lines).is_err() {
+        return Err(Failure::Read);
+    }
+    let answers = answers(&world, &lines)?;
+    match rt.stdout().write_all(&answers) {
+        Ok(()) => Ok(()),
+        Err(_) => Err(Failure::Write),
+    }
+}
+
+/// The rules and the tree of the files that the words name.
+fn world_of_words(rt: &HostRuntime) -> Result<World, Failure>
+    ensures { IfOk result (λ w. IsIdle w.store) }
+{
+    let Ok(mut words) = env::args(rt) else {
+        return Err(Failure::Words);
+    };
+    let _program = words.next();
+    let grammar = file(rt, words.next())?;
+    let aspects = file(rt, words.next())?;
+    let tree = file(rt, words.next())?;
+    if words.next().is_some() {
+        return Err(Failure::Words);
+    }
+    load(
+        rt.alloc(),
+        grammar.as_str(),
+        aspects.as_str(),
+        tree.as_str(),
+    )
+}
+
+/// The text of the file that the word names.
+fn file(rt: &HostRuntime, word: Option<String>) -> Result<String, Failure> {
+    let Some(name) = word else {
+        return Err(Failure::Words);
+    };
+    match fs::read_to_string(rt, name.as_str()) {
+        Ok(text) => Ok(text),
+        Err(_) => Err(Failure::Read),
+    }
+}
+
+/// The answers to the lines, each with a newline; none to an empty one.
+fn answers(world: &World, lines: &[u8]) -> Result<Vec<u8>, AllocError>
+    requires { IsIdle world.now.store }
+{
+    let mut known = Values::new(world.alloc);
+    let mut out = Vec::new(world.alloc);
+    for line in lines.split(|byte| *byte == b'\n') {
+        if !line.is_empty() {
+            tell(world, &mut known, line, &mut out)?;
+        }
+    }
+    Ok(out)
+}
+
+/// Appends the answer to a line, and a newline.
+fn tell(world: &World, known: &mut Values, line: &[u8], out: &mut Vec<u8>) -> Result<(), AllocError>
+    requires { IsIdle world.now.store }
+{
+    let length = out.len();
+    if let Err(refusal) = answer(world, known, line, out) {
+        out.truncate(length);
+        out.extend_from_slice(refusal.word().as_bytes())?;
+    }
+    Ok(out.push(b'\n')?)
+}
+
+/// Appends the answer to a line, or a part of it where there is none.
+fn answer(world: &World, known: &mut Values, line: &[u8], out: &mut Vec<u8>) -> Result<(), Refusal>
+    requires { IsIdle world.now.store }
+{
+    let Ok(line) = std::str::from_utf8(line) else {
+        return Err(Refusal::Line);
+    };
+    if let Some(call) = line.strip_prefix("try ") {
+        return told(world, known, call, out);
+    }
+    let Some(fact) = line.strip_prefix("know ") else {
+        return Err(Refusal::Line);
+    };
+    learn(world, known, fact)?;
+    Ok(out.extend_from_slice(b"known")?)
+}
+
+/// Appends what a try of the instance comes to, and the locations that it looks at.
+fn told(world: &World, known: &Values, call: &str, out: &mut Vec<u8>) -> Result<(), Refusal>
+    requires { IsIdle world.now.store }
+{
+    let inst = instance(world, call)?;
+    let mut reads = Reads::new(world.alloc);
+    let found = try_body(
+        world.alloc,
+        &world.rules,
+        &world.store,
+        &inst,
+        known,
+        &mut reads,
+    )?;
+    write_found(world, &found, out)?;
+    Ok(write_locations(world, reads.as_slice(), out)?)
+}
+
+/// Notes the value of an instance, by the text behind `know`. The last ` = ` stands in front of the value.
+fn learn(world: &World, known: &mut Values, fact: &str) -> Result<(), Refusal>
+    requires { IsIdle world.now.store }
+{
+    let Some((call, text)) = fact.rsplit_once(" = ") else {
+        return Err(Refusal::Line);
+    };
+    let inst = instance(world, call)?;
+    let value = value_for(world, &inst, text)?;
+    Ok(known.learn(inst, value)?)
+}
