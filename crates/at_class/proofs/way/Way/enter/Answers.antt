@@ -1,0 +1,4 @@
+use Rattle.at_class.proofs.way.Way.enter.Goals as goal
+
+pub returns : goal.returns
+returns c = ?
