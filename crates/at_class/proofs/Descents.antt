@@ -1,6 +1,8 @@
 -- Ways down through the classes, one class at a time.
-use Rattle.std.proofs.Common.{◌≡◌, ℕ, zero, suc, ◌+◌, ◌-◌, ◌<◌, ◌≤◌, ◌⊎◌, inl, inr, List, [], ◌∷◌, ◌++◌, length, map, take, drop, reverse, get_or, refl, ap, sym, ◌∙◌, subst, arith, append-nil, length-append, Option, Some, None, Bool, true, false}
-use Rattle.std.specs.Prelude.{set, replicate, unwrap_or}
+use Rattle.std.proofs.Common.{◌≡◌, ℕ, zero, suc, ◌+◌, ◌-◌, ◌<◌, ◌≤◌, ◌⊎◌, inl, inr, List, [], ◌∷◌, ◌++◌, length, map, take, drop, reverse, get_or, refl, ap, sym, ◌∙◌, subst, arith, append-nil, length-append, Option, Some, None, Bool, true, false, true≢false, eq-eqb}
+use Rattle.std.specs.Prelude.{nat_eq, set, replicate, unwrap_or}
+use Rattle.std.specs.Option.{option_eq}
+use Rattle.std.proofs.lemmas.Bool.{eqb-true}
 use Rattle.std.specs.List.{flat_map, slice_get}
 use Rattle.std.proofs.lemmas.List.{reverse-append}
 use Rattle.std.proofs.lemmas.List.Concat.{flat_map-append}
@@ -36,6 +38,17 @@ rest_above classes led (Some d) [] c rest e =
     let same : d ≡ c = ap (λ xs. unwrap_or (end_of xs) d) f in
     sym (ap (drop 1) f) ∙ ap (above classes) same
 rest_above classes led (Some d) (x ∷ xs) c rest e = rest_above classes led (parent_of classes d) xs c rest (ap (drop 1) (sym (step classes led d) ∙ e))
+
+-- optional classes
+pub same : (a b : Option ℕ) → option_eq nat_eq a b ≡ true → a ≡ b
+same None None e = refl
+same None (Some d) e = absurd (true≢false (sym e))
+same (Some c) None e = absurd (true≢false (sym e))
+same (Some c) (Some d) e = ap Some (eqb-true c d e)
+
+self_same : (a : Option ℕ) → option_eq nat_eq a a ≡ true
+self_same None = refl
+self_same (Some c) = eq-eqb c c refl
 
 -- components ----------------------------------------------------------------------------------------------------------
 
@@ -75,12 +88,18 @@ popped classes levels rest l t s led e f g w =
       (subst (λ ks. Holds classes (reverse rest) (take l.names t.names.keys) ks) (sym g) (subst (λ ls. Holds classes ls t.names.keys t.accessors.keys) r w.holds).2);
     }
 
--- a way to the class is there
-pub missing_none : (classes : Classes) (levels : List Level) (t : TakenNames) (class : Option ℕ) (v : List ℕ) → v ≡ [] → top_of levels ≡ class → IsWay classes levels t → chain_within (length classes) classes class ≡ v ++ on_way levels
-missing_none classes levels t class v none top w = ap (chain_within (length classes) classes) (sym top) ∙ sym w.led ∙ ap (λ ms. ms ++ on_way levels) (sym none)
+-- a way to the superclass is there, or none at all
+pub missing_none : (classes : Classes) (levels : List Level) (t : TakenNames) (class : Option ℕ) (v : List ℕ) → v ≡ [] → option_eq nat_eq (top_of levels) class ≡ true → IsWay classes levels t → chain_within (length classes) classes class ≡ v ++ on_way levels
+missing_none classes levels t class v none e w = ap (chain_within (length classes) classes) (sym (same (top_of levels) class e)) ∙ sym w.led ∙ ap (λ ms. ms ++ on_way levels) (sym none)
 
-pub missing_all : (classes : Classes) (levels : List Level) (class : Option ℕ) (v : List ℕ) → v ≡ chain_within (length classes) classes class → levels ≡ [] → chain_within (length classes) classes class ≡ v ++ on_way levels
-missing_all classes levels class v all none = sym all ∙ sym (append-nil v) ∙ ap (λ ls. v ++ on_way ls) (sym none)
+pub missing_all : (classes : Classes) (levels : List Level) (class : Option ℕ) (v : List ℕ) → v ≡ chain_within (length classes) classes class → option_eq nat_eq (top_of levels) class ≡ false → (top_of levels ≡ class) ⊎ (levels ≡ []) → chain_within (length classes) classes class ≡ v ++ on_way levels
+missing_all classes levels class v all e either = sym all ∙ sym (append-nil v) ∙ ap (λ ls. v ++ on_way ls) (sym none)
+  where
+    none : levels ≡ []
+    none = elim either [
+      | inl there ↦ absurd (true≢false (sym (ap (λ o. option_eq nat_eq o class) there ∙ self_same class) ∙ e))
+      | inr nothing ↦ nothing
+    ]
 
 -- the last level
 pub last_there : (levels : List Level) (l : Level) → slice_get levels (length levels - 1) ≡ Some l → (rest : List Level) × (levels ≡ rest ++ l ∷ [])
@@ -95,8 +114,11 @@ pub last_nowhere : (levels : List Level) → slice_get levels (length levels - 1
 last_nowhere [] e = refl
 last_nowhere (x ∷ xs) e = absurd (there x xs (sym e))
   where
+    never : (x : Level) → None ≡ Some x → ⊥
+    never x h = cc
+
     there : (x : Level) (xs : List Level) → None ≡ slice_get (x ∷ xs) (length (x ∷ xs) - 1) → ⊥
-    there x [] h = cc
+    there x [] h = never x h
     there x (y ∷ ys) h =
         let n : length (x ∷ y ∷ ys) - 1 ≡ suc (length (y ∷ ys) - 1) = omega arith in
         there y ys (h ∙ ap (slice_get (x ∷ y ∷ ys)) n)
@@ -209,6 +231,6 @@ found_more classes fs new n f are here e = subst (λ gs. AreFound classes gs (n 
   count = length-append fs (f ∷ []) ∙ ap (λ m. m + 1) are.count;
   each = λ c d less. elim (pushed_at fs f c d (subst (λ m. c < m + 1) (sym are.count) less)) [
     | inl old ↦ subst (IsFound classes c) (sym old.1) (are.each c d (subst (λ m. c < m) are.count old.0))
-    | inr new ↦ subst (IsFound classes c) (sym new.1) (subst (λ k. IsFound classes k f) (sym (new.0 ∙ are.count)) here)
+    | inr last ↦ subst (IsFound classes c) (sym last.1) (subst (λ k. IsFound classes k f) (sym (last.0 ∙ are.count)) here)
   ];
 })

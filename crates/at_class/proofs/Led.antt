@@ -57,26 +57,31 @@ shorter classes h c p zero e n (x ∷ y ∷ ys) f = absurd (none (ap (drop 1) f)
     none g = cc
 shorter classes h c p (suc k) e n (x ∷ y ∷ ys) f =
     let rest : chain_within k classes (parent_of classes p) ≡ ys ++ chain_within (suc (suc k)) classes (Some p) = ap (drop 1) (ap (λ o. chain_within (suc k) classes o) (sym e) ∙ ap (drop 1) f) in
-    absurd (not_above classes h c p e k (omega (arith, n)) (ap (list_any (nat_eq p)) rest ∙ list_any-append (nat_eq p) ys _ ∙ or_right (list_any (nat_eq p) ys) _ (first_in p (chain_within (suc k) classes (parent_of classes p)))))
+    absurd (not_above classes h c p e k (omega (arith, n)) (ap (list_any (nat_eq p)) rest ∙ list_any-append (nat_eq p) ys (chain_within (suc (suc k)) classes (Some p)) ∙ or_right (list_any (nat_eq p) ys) _ (first_in p (chain_within (suc k) classes (parent_of classes p)))))
 
 -- the superclass is on the chain, if there is more than one class
 on_chain : (classes : Classes) → IsHierarchy classes → (c p m : ℕ) → parent_of classes c ≡ Some p → length classes ≡ suc m → list_any (nat_eq p) (chain_within (suc m) classes (Some c)) ≡ true
-on_chain classes h c p zero e n = or_left (nat_eq p c) _ (eq-eqb p c (omega (arith, n, has_parent classes c p e, subst (λ o. IfSome o (λ b. b < length classes)) e (h.parents c))))
+on_chain classes h c p zero e n =
+    let l : p < length classes = subst (λ o. IfSome o (λ b. b < length classes)) e (h.parents c) in
+    let m : c < length classes = has_parent classes c p e in
+    let same : p ≡ c = omega (arith, n, l, m) in
+    or_left (nat_eq p c) _ (eq-eqb p c same)
 on_chain classes h c p (suc k) e n = or_right (nat_eq p c) _ (ap (λ o. list_any (nat_eq p) (chain_within (suc k) classes o)) e ∙ first_in p (chain_within k classes (parent_of classes p)))
+
+by_parent : (classes : Classes) → IsHierarchy classes → (c m : ℕ) (o : Option ℕ) → length classes ≡ suc m → parent_of classes c ≡ o → chain_within m classes o ≡ chain_within (suc m) classes o
+unfolding chain
+by_parent classes h c m None n e = chain_within-none classes m ∙ sym (chain_within-none classes (suc m))
+by_parent classes h c m (Some p) n e =
+    let r = chained classes h c p (ap (λ k. list_any (nat_eq p) (chain_within k classes (Some c))) n ∙ on_chain classes h c p m e n) in
+    shorter classes h c p m e n r.0 (ap (λ k. chain_within k classes (Some c)) (sym n) ∙ r.1 ∙ ap (λ k. r.0 ++ chain_within k classes (Some p)) n)
+
+by_count : (classes : Classes) → IsHierarchy classes → 0 < length classes → (c n : ℕ) → length classes ≡ n → chain_within (length classes) classes (Some c) ≡ c ∷ above classes c
+by_count classes h some c zero n = absurd (omega (arith, some, n))
+by_count classes h some c (suc m) n =
+    ap (λ k. chain_within k classes (Some c)) n
+    ∙ ap (λ xs. c ∷ xs) (by_parent classes h c m (parent_of classes c) n refl)
+    ∙ ap (λ k. c ∷ chain_within k classes (parent_of classes c)) (sym n)
 
 pub led : (classes : Classes) → IsHierarchy classes → 0 < length classes → AreLed classes
 unfolding chain
-led classes h some c = by (length classes) refl
-  where
-    by_parent : (m : ℕ) (o : Option ℕ) → length classes ≡ suc m → parent_of classes c ≡ o → chain_within m classes o ≡ chain_within (suc m) classes o
-    by_parent m None n e = chain_within-none classes m ∙ sym (chain_within-none classes (suc m))
-    by_parent m (Some p) n e =
-        let r = chained classes h c p (ap (λ k. list_any (nat_eq p) (chain_within k classes (Some c))) n ∙ on_chain classes h c p m e n) in
-        shorter classes h c p m e n r.0 (ap (λ k. chain_within k classes (Some c)) (sym n) ∙ r.1 ∙ ap (λ k. r.0 ++ chain_within k classes (Some p)) n)
-
-    by : (n : ℕ) → length classes ≡ n → chain_within (length classes) classes (Some c) ≡ c ∷ above classes c
-    by zero n = absurd (omega (arith, some, n))
-    by (suc m) n =
-        ap (λ k. chain_within k classes (Some c)) n
-        ∙ ap (λ xs. c ∷ xs) (by_parent m (parent_of classes c) n refl)
-        ∙ ap (λ k. c ∷ chain_within k classes (parent_of classes c)) (sym n)
+led classes h some c = by_count classes h some c (length classes) refl

@@ -200,7 +200,7 @@ taken_here before parts i p less is =
 pub one_more : (before : List Component) (parts : List Part) (i : ℕ) (p : Part) → i < length parts → p ≡ get_or parts i p → (before ++ map part_view (take i parts)) ++ part_view p ∷ [] ≡ before ++ map part_view (take (i + 1) parts)
 one_more before parts i p less is =
     append_assoc before (map part_view (take i parts)) (part_view p ∷ [])
-    ∙ ap (λ ps. before ++ ps) (sym (map_more part_view parts i p less ∙ rw (← is) refl))
+    ∙ ap (λ ps. before ++ ps) (sym (map_more part_view parts i p less ∙ ap (λ q. map part_view (take i parts) ++ part_view q ∷ []) (sym is)))
 
 below : (j i : ℕ) → j < i + 1 → ((j ≡ i) → ⊥) → j < i
 below j i less other = elim (split j i) [

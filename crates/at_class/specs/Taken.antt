@@ -10,9 +10,9 @@ abbrev pub has_key : {A : Type 0} → List (String A) → List ℕ → Bool
 has_key keys text = list_any (λ k. bytes_eq text (string_bytes k)) keys
 
 -- the names are just those of these components, and of the accessors of the lists among them
-pub record AreTaken {A : Type 0} (before : List Component) (names accessors : List (String A)) : Type 0 where
-  pub names : (text : List ℕ) → has_key names text ≡ list_any (λ q. bytes_eq text q.name) before
-  pub accessors : (text : List ℕ) → has_key accessors text ≡ list_any (λ q. takes q text) before
+pub record AreTaken {A : Type 0} (before : List Component) (named taking : List (String A)) : Type 0 where
+  pub names : (text : List ℕ) → has_key named text ≡ list_any (λ q. bytes_eq text q.name) before
+  pub accessors : (text : List ℕ) → has_key taking text ≡ list_any (λ q. takes q text) before
 
 -- the one begins with the other
 abbrev pub Begins : {A : Type 0} → List A → List A → Type 0

@@ -50,8 +50,9 @@ pub record IsFound (classes : Classes) (c : ℕ) (f : Found) : Type 0 where
 abbrev pub known_at : List (Option Found) → ℕ → Option Found
 known_at found c = get_or found c None
 
-pub record Knows (classes : Classes) (way : Way) (found : List (Option Found)) : Type 0 where
-  pub way : IsWay classes way.levels.items way.taken
+-- the way is one, and what is known of classes is right
+pub record Knows (classes : Classes) (w : Way) (found : List (Option Found)) : Type 0 where
+  pub way : IsWay classes w.levels.items w.taken
   pub right : (c : ℕ) (f : Found) → known_at found c ≡ Some f → IsFound classes c f
 
 -- these were found of the first so many classes

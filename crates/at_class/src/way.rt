@@ -27,11 +27,12 @@ pub struct Way {
 }
 
 impl Way {
-    ghost use Rattle.std.specs.Prelude.{◌≡◌, ◌-◌, ◌++◌, ◌∷◌, [], ◌⊎◌, IfOk, length, reverse, suc};
-    ghost use Rattle.at_model.specs.Classes.{Classes, chain_within};
+    ghost use Rattle.std.specs.Prelude.{◌≡◌, ◌-◌, ◌++◌, ◌∷◌, [], ◌⊎◌, IfOk, length, nat_eq, suc};
+    ghost use Rattle.std.specs.Option.{option_eq};
+    ghost use Rattle.at_model.specs.Classes.{Classes, parent_of};
     ghost use Rattle.at_model.specs.Declarations.{above as above_of, max_parts};
     ghost use Rattle.at_class.specs.View.{classes_view};
-    ghost use Rattle.at_class.specs.Ways.{AreLed, Holds, IsFound, IsWay, all_of, on_way, top_of};
+    ghost use Rattle.at_class.specs.Ways.{AreLed, IsFound, IsWay, all_of, on_way, top_of};
 
     /// The way to no class.
     pub fn new(alloc: Global) -> Way
@@ -53,25 +54,29 @@ impl Way {
         requires { AreLed (classes_view classes.now) × IsWay (classes_view classes.now) self.now.levels.items self.now.taken }
         ensures { IfOk result (λ found. IsFound (classes_view classes.now) class found × IsWay (classes_view classes.now) self.new.levels.items self.new.taken) }
     {
-        let superclass = parent_of(classes, class);
-        self.leave_to(superclass);
-        let mut missing = self.missing(alloc, classes, superclass)?;
+        self.leave_to(classes, class);
+        let mut missing = self.missing(alloc, classes, class)?;
         while let Some(above) = missing.pop() {
             self.enter(alloc, classes, above)?;
         }
         self.enter(alloc, classes, class)
     }
 
-    // Goes up to the class, or leaves the way where that isn't on it.
-    fn leave_to(&mut self, class: Option<ClassId>)
-        ensures { (classes : Classes) → AreLed classes → IsWay classes self.old.levels.items self.old.taken → IsWay classes self.new.levels.items self.new.taken × ((top_of self.new.levels.items ≡ class) ⊎ (self.new.levels.items ≡ [])) }
+    // Goes up until the way is that to the class's superclass, or none.
+    fn leave_to(&mut self, classes: &[Class], class: ClassId)
+        ensures { AreLed (classes_view classes.now) → IsWay (classes_view classes.now) self.old.levels.items self.old.taken → IsWay (classes_view classes.now) self.new.levels.items self.new.taken × ((top_of self.new.levels.items ≡ parent_of (classes_view classes.now) class) ⊎ (self.new.levels.items ≡ [])) }
     {
-        while self.top() != class {
-            let Some(level) = self.levels.pop() else {
-                return
-            };
+        while !self.is_above(classes, class) {
+            let Some(level) = self.levels.pop() else { return };
             self.taken.cut(level.names, level.accessors);
         }
+    }
+
+    // Whether the way is that to the class's superclass, or none where there is none.
+    fn is_above(&self, classes: &[Class], class: ClassId) -> bool
+        ensures { result ≡ option_eq nat_eq (top_of self.now.levels.items) (parent_of (classes_view classes.now) class) }
+    {
+        self.top() == parent_of(classes, class)
     }
 
     // The class to which the way goes.
@@ -81,19 +86,19 @@ impl Way {
         Some(self.levels.last()?.class)
     }
 
-    // The class and those above it that aren't on the way, the lowest first.
+    // The classes above the class that aren't on the way, the lowest first.
     fn missing(
         &self,
         alloc: Global,
         classes: &[Class],
-        class: Option<ClassId>,
+        class: ClassId,
     ) -> Result<Vec<ClassId>, AllocError>
-        ensures { IfOk result (λ v. IsWay (classes_view classes.now) self.now.levels.items self.now.taken → (top_of self.now.levels.items ≡ class) ⊎ (self.now.levels.items ≡ []) → chain_within (length (classes_view classes.now)) (classes_view classes.now) class ≡ v.items ++ on_way self.now.levels.items) }
+        ensures { IfOk result (λ v. IsWay (classes_view classes.now) self.now.levels.items self.now.taken → (top_of self.now.levels.items ≡ parent_of (classes_view classes.now) class) ⊎ (self.now.levels.items ≡ []) → above_of (classes_view classes.now) class ≡ v.items ++ on_way self.now.levels.items) }
     {
-        if self.top() == class {
+        if self.is_above(classes, class) {
             return Ok(Vec::new(alloc));
         }
-        lineage(alloc, classes, class)
+        lineage(alloc, classes, parent_of(classes, class))
     }
 
     // How many components are wanting before there are too many.

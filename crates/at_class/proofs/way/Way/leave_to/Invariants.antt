@@ -1,10 +1,10 @@
 use Rattle.std.specs.Prelude.{length}
-use Rattle.at_model.specs.Classes.{Classes}
+use Rattle.at_class.specs.View.{classes_view}
 use Rattle.at_class.specs.Ways.{AreLed, IsWay}
 use Rattle.at_class.proofs.way.Way.leave_to.Given as goal
 
-abbrev pub invariant-loop-level : goal.invariant-loop-level
-invariant-loop-level l = (classes : Classes) → AreLed classes → IsWay classes l.fn.self.levels.items l.fn.self.taken → IsWay classes l.self.levels.items l.self.taken
+abbrev pub invariant-loop : goal.invariant-loop
+invariant-loop l = AreLed (classes_view l.classes) → IsWay (classes_view l.classes) l.fn.self.levels.items l.fn.self.taken → IsWay (classes_view l.classes) l.self.levels.items l.self.taken
 
-abbrev pub decreases-loop-level : goal.decreases-loop-level
-decreases-loop-level l = length l.self.levels.items
+abbrev pub decreases-loop : goal.decreases-loop
+decreases-loop l = length l.self.levels.items
