@@ -1,5 +1,5 @@
 -- Ways down through the classes, one class at a time.
-use Rattle.std.proofs.Common.{◌≡◌, ℕ, zero, suc, ◌+◌, ◌-◌, ◌<◌, ◌≤◌, ◌⊎◌, inl, inr, List, [], ◌∷◌, ◌++◌, length, map, take, drop, reverse, get_or, refl, ap, sym, ◌∙◌, subst, arith, append-nil, length-append, Option, Some, None, Bool, true, false, true≢false, eq-eqb}
+use Rattle.std.proofs.Common.{◌≡◌, ℕ, zero, suc, ◌+◌, ◌-◌, ◌<◌, ◌≤◌, ◌⊎◌, inl, inr, List, [], ◌∷◌, ◌++◌, length, map, take, drop, reverse, get_or, refl, ap, sym, ◌∙◌, subst, arith, append-nil, append_assoc, length-append, Option, Some, None, Bool, true, false, true≢false, eq-eqb}
 use Rattle.std.specs.Prelude.{nat_eq, set, replicate, unwrap_or}
 use Rattle.std.specs.Option.{option_eq}
 use Rattle.std.proofs.lemmas.Bool.{eqb-true}
@@ -75,6 +75,24 @@ no_way_yet classes levels t e h = subst (λ ls. IsWay classes ls t) (sym e) (rec
   holds = h;
 })
 
+pub one_less : (levels rest : List Level) (l : Level) → levels ≡ rest ++ l ∷ [] → length rest < length levels
+one_less levels rest l e = let n : length levels ≡ length rest + 1 = ap length e ∙ length-append rest (l ∷ []) in omega (arith, n)
+
+pub one_missing_less : (missing rest : List ℕ) (c : ℕ) → missing ≡ rest ++ c ∷ [] → length rest < length missing
+one_missing_less missing rest c e = let n : length missing ≡ length rest + 1 = ap length e ∙ length-append rest (c ∷ []) in omega (arith, n)
+
+-- one class less is missing
+pub missing_less : (whole missing rest on : List ℕ) (c : ℕ) → whole ≡ missing ++ on → missing ≡ rest ++ c ∷ [] → whole ≡ rest ++ c ∷ on
+missing_less whole missing rest on c e f = e ∙ ap (λ ms. ms ++ on) f ∙ append_assoc rest (c ∷ []) on
+
+-- a way to nowhere stays one
+pub still : (classes : Classes) (levels rest : List Level) (t : TakenNames) → levels ≡ [] → rest ≡ [] → IsWay classes levels t → IsWay classes rest t
+still classes levels rest t e f w = subst (λ ls. IsWay classes ls t) (e ∙ sym f) w
+
+pub none_left : {A : Type 0} (xs : List A) → length xs ≡ 0 → xs ≡ []
+none_left [] e = refl
+none_left (x ∷ xs) e = absurd (omega (arith, e))
+
 pub popped : (classes : Classes) (levels rest : List Level) (l : Level) (t s : TakenNames) → AreLed classes → levels ≡ rest ++ l ∷ [] → s.names.keys ≡ take l.names t.names.keys → s.accessors.keys ≡ take l.accessors t.accessors.keys
     → IsWay classes levels t → IsWay classes rest s
 popped classes levels rest l t s led e f g w =
@@ -85,7 +103,7 @@ popped classes levels rest l t s led e f g w =
     record {
       led = below ∙ ap (chain_within n classes) (sym (ap end_of below ∙ end_is classes led (parent_of classes l.class)));
       holds = subst (λ ks. Holds classes (reverse rest) ks s.accessors.keys) (sym f)
-      (subst (λ ks. Holds classes (reverse rest) (take l.names t.names.keys) ks) (sym g) (subst (λ ls. Holds classes ls t.names.keys t.accessors.keys) r w.holds).2);
+          (subst (λ ks. Holds classes (reverse rest) (take l.names t.names.keys) ks) (sym g) (subst (λ ls. Holds classes ls t.names.keys t.accessors.keys) r w.holds).2);
     }
 
 -- a way to the superclass is there, or none at all
@@ -164,7 +182,7 @@ entered classes levels more l t s c own led w up is e f g h room grows taken =
         subst (λ ps. AreTaken ps s.names.keys s.accessors.keys) (sym all) taken,
         room ∙ less_room (suc max_parts) (length (all_of classes (on_way levels))) (length own) (length (all_of classes (classes_on (l ∷ reverse levels)))) (ap length all ∙ length-append (all_of classes (on_way levels)) own),
         subst (λ ks. Holds classes (reverse levels) ks (take l.accessors s.accessors.keys)) (sym (ap (λ i. take i s.names.keys) g ∙ grows.0))
-        (subst (λ ks. Holds classes (reverse levels) t.names.keys ks) (sym (ap (λ i. take i s.accessors.keys) h ∙ grows.1)) w.holds),
+            (subst (λ ks. Holds classes (reverse levels) t.names.keys ks) (sym (ap (λ i. take i s.accessors.keys) h ∙ grows.1)) w.holds),
       );
     }
 
@@ -173,7 +191,7 @@ pub found_there : (classes : Classes) (up : List ℕ) (f : Found) (c : ℕ) (own
 found_there classes up f c own led above_it is first room = record {
   twice = subst (λ ps. IsFirst (is_taken_at ps (own_of classes c)) f.twice) (ap (all_of classes) above_it) (subst (λ ps. IsFirst (is_taken_at (all_of classes up) ps) f.twice) is first);
   room = room ∙ less_room (suc max_parts) (length (all_of classes up)) (length own) (length (parts classes c))
-  (ap length (all_parts classes led c ∙ ap (λ cs. all_of classes cs ++ own_of classes c) (sym above_it) ∙ ap (λ ps. all_of classes up ++ ps) (sym is)) ∙ length-append (all_of classes up) own);
+      (ap length (all_parts classes led c ∙ ap (λ cs. all_of classes cs ++ own_of classes c) (sym above_it) ∙ ap (λ ps. all_of classes up ++ ps) (sym is)) ∙ length-append (all_of classes up) own);
 }
 
 -- what is known ------------------------------------------------------------------------------------------------------

@@ -18,11 +18,12 @@ in_longer : (classes : Classes) (m n c : ℕ) (o : Option ℕ) → m ≤ n → l
 in_longer classes zero n c o l e = absurd (true≢false (sym e))
 in_longer classes (suc m) zero c o l e = absurd (omega (arith, l))
 in_longer classes (suc m) (suc n) c None l e = absurd (true≢false (sym e))
-in_longer classes (suc m) (suc n) c (Some b) l e = by (nat_eq c b) refl e
+in_longer classes (suc m) (suc n) c (Some b) l e = by (nat_eq c b) refl (in_longer classes m n c (parent_of classes b) (omega (arith, l))) e
   where
-    by : (s : Bool) → nat_eq c b ≡ s → (s || list_any (nat_eq c) (chain_within m classes (parent_of classes b))) ≡ true → (nat_eq c b || list_any (nat_eq c) (chain_within n classes (parent_of classes b))) ≡ true
-    by true f g = or_left (nat_eq c b) _ f
-    by false f g = or_right (nat_eq c b) _ (in_longer classes m n c (parent_of classes b) (omega (arith, l)) g)
+    by : (s : Bool) → nat_eq c b ≡ s → (list_any (nat_eq c) (chain_within m classes (parent_of classes b)) ≡ true → list_any (nat_eq c) (chain_within n classes (parent_of classes b)) ≡ true)
+        → (s || list_any (nat_eq c) (chain_within m classes (parent_of classes b))) ≡ true → (nat_eq c b || list_any (nat_eq c) (chain_within n classes (parent_of classes b))) ≡ true
+    by true f more g = or_left (nat_eq c b) _ f
+    by false f more g = or_right (nat_eq c b) _ (more g)
 
 -- a class that has a superclass is there
 has_parent : (classes : Classes) (c p : ℕ) → parent_of classes c ≡ Some p → c < length classes

@@ -22,7 +22,7 @@ pub struct Inspection {
 }
 
 impl Inspection {
-    ghost use Rattle.std.specs.Prelude.{◌≡◌, IfOk, None, OnOk, Some, get_or, set};
+    ghost use Rattle.std.specs.Prelude.{◌≡◌, IfOk, OnOk};
     ghost use Rattle.at_model.specs.Classes.{Classes};
     ghost use Rattle.at_class.specs.View.{classes_view};
     ghost use Rattle.at_class.specs.Ways.{AreLed, IsFound, Knows, known_at};
@@ -30,8 +30,7 @@ impl Inspection {
     fn new(alloc: Global, count: usize) -> Result<Inspection, AllocError>
         ensures { IfOk result (λ k. (classes : Classes) → Knows classes k.way k.found.items) }
     {
-        let mut found = Vec::new(alloc);
-        found.resize(count, None)?;
+        let found = unknown(alloc, count)?;
         Ok(Inspection {
             way: Way::new(alloc),
             found,
@@ -47,7 +46,7 @@ impl Inspection {
             return Ok(found);
         }
         let found = self.way.go_to(alloc, classes, class)?;
-        self.keep(class, found);
+        keep(&mut self.found, class, found);
         Ok(found)
     }
 
@@ -57,15 +56,6 @@ impl Inspection {
         match self.found.get(class.index()) {
             Some(found) => *found,
             None => None,
-        }
-    }
-
-    fn keep(&mut self, class: ClassId, found: Found)
-        ensures found { self.new.found.items ≡ set self.old.found.items class (Some found) }
-        ensures way { self.new.way ≡ self.old.way }
-    {
-        if class.index() < self.found.len() {
-            self.found[class.index()] = Some(found);
         }
     }
 
@@ -82,9 +72,25 @@ impl Inspection {
     }
 }
 
-ghost use Rattle.std.specs.Prelude.{IfOk, length};
+ghost use Rattle.std.specs.Prelude.{◌≡◌, IfOk, None, Some, length, replicate, set};
 ghost use Rattle.at_class.specs.View.{classes_view};
 ghost use Rattle.at_class.specs.Ways.{AreLed, AreFound};
+
+fn unknown(alloc: Global, count: usize) -> Result<Vec<Option<Found>>, AllocError>
+    ensures { IfOk result (λ v. v.items ≡ replicate count None) }
+{
+    let mut found = Vec::new(alloc);
+    found.resize(count, None)?;
+    Ok(found)
+}
+
+fn keep(known: &mut Vec<Option<Found>>, class: ClassId, found: Found)
+    ensures { known.new.items ≡ set known.old.items class (Some found) }
+{
+    if class.index() < known.len() {
+        known[class.index()] = Some(found);
+    }
+}
 
 /// What is found of each class.
 pub fn found_of_all(alloc: Global, classes: &[Class]) -> Result<Vec<Found>, AllocError>

@@ -67,7 +67,9 @@ impl Way {
         ensures { AreLed (classes_view classes.now) → IsWay (classes_view classes.now) self.old.levels.items self.old.taken → IsWay (classes_view classes.now) self.new.levels.items self.new.taken × ((top_of self.new.levels.items ≡ parent_of (classes_view classes.now) class) ⊎ (self.new.levels.items ≡ [])) }
     {
         while !self.is_above(classes, class) {
-            let Some(level) = self.levels.pop() else { return };
+            let Some(level) = self.levels.pop() else {
+                return
+            };
             self.taken.cut(level.names, level.accessors);
         }
     }

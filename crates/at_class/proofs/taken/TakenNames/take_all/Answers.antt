@@ -31,7 +31,7 @@ loop-i-preserved c =
           let o = one.1 (before ++ map part_view (take i parts)) w.0 in (
             subst (λ ps. AreTaken ps new.names.keys new.accessors.keys) (one_more before parts i p (omega arith) c.index-parts-i.is) o.0,
             subst (IsFirstBelow (is_taken_at before (map part_view parts)) (i + 1)) (sym c.or_this-twice.ensures)
-            (first_more (is_taken_at before (map part_view parts)) i c.loop-i.twice c.in_ok-is_taken.is_taken (o.1 ∙ taken_here before parts i p (omega arith) c.index-parts-i.is) w.1),
+                (first_more (is_taken_at before (map part_view parts)) i c.loop-i.twice c.in_ok-is_taken.is_taken (o.1 ∙ taken_here before parts i p (omega arith) c.index-parts-i.is) w.1),
           ),
     )
 
