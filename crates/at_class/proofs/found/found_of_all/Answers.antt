@@ -17,7 +17,7 @@ pub loop-position-preserved : goal.loop-position-preserved
 loop-position-preserved c = (
   c.in_ok-found.ensures.1,
   found_more (classes_view c.args.classes.now) c.loop-position.all.items c.push.new.self.items c.loop-position.position c.in_ok-found.found c.loop-position.invariant.1
-      (subst (λ k. IsFound (classes_view c.args.classes.now) k c.in_ok-found.found) c.new.ensures c.in_ok-found.ensures.0) c.in_ok-push.ensures.items,
+      (subst (λ k. IsFound (classes_view c.args.classes.now) k c.in_ok-found.found) c.new-in-loop-position.ensures c.in_ok-found.ensures.0) c.in_ok-push.ensures.items,
 )
 
 pub returns : goal.returns

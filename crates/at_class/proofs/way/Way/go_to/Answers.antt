@@ -31,8 +31,8 @@ loop-above-preserved c =
 pub loop-above-smaller : goal.loop-above-smaller
 loop-above-smaller c = one_missing_less c.loop-above.missing.items c.pop.new.self.items c.in-Some.above c.in-Some.ensures.items
 
-pub enter-2-requires : goal.enter-2-requires
-enter-2-requires c =
+pub enter-requires-2 : goal.enter-requires-2
+enter-requires-2 c =
     let none = none_left c.loop-above.missing.items (omega (arith, c.in_default.ensures.cases.0, c.loop-above.missing.ok.0)) in
     (c.requires.0, c.loop-above.invariant.0, sym (c.loop-above.invariant.1 ∙ ap (λ ms. ms ++ on_way c.loop-above.self.levels.items) none))
 

@@ -24,4 +24,4 @@ returns-in_default c = λ led w.
 pub returns : goal.returns
 returns c = λ led w.
     let classes = classes_view c.args.classes.now in
-    (c.loop-class.invariant led w, inl (same (top_of c.loop-class.self.levels.items) (parent_of classes c.args.class) (sym c.is_above.ensures ∙ c.if-not-is_above.false)))
+    (c.loop-class.invariant led w, inl (same (top_of c.loop-class.self.levels.items) (parent_of classes c.args.class) (sym c.is_above.ensures ∙ c.loop-class-test.false)))
