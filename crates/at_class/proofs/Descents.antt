@@ -120,13 +120,15 @@ missing_all classes levels class v all e either = sym all ∙ sym (append-nil v)
     ]
 
 -- the last level
+more_there : (x : Level) (levels : List Level) (l : Level) → (rest : List Level) × (levels ≡ rest ++ l ∷ []) → (rest : List Level) × (x ∷ levels ≡ rest ++ l ∷ [])
+more_there x levels l h = (x ∷ h.0, ap (λ ls. x ∷ ls) h.1)
+
 pub last_there : (levels : List Level) (l : Level) → slice_get levels (length levels - 1) ≡ Some l → (rest : List Level) × (levels ≡ rest ++ l ∷ [])
 last_there [] l e = absurd (cc)
 last_there (x ∷ []) l e = ([], ap (λ o. unwrap_or o x ∷ []) e)
 last_there (x ∷ y ∷ ys) l e =
     let n : length (x ∷ y ∷ ys) - 1 ≡ suc (length (y ∷ ys) - 1) = omega arith in
-    let (rest, f) = last_there (y ∷ ys) l (sym (ap (slice_get (x ∷ y ∷ ys)) n) ∙ e) in
-    (x ∷ rest, ap (λ ls. x ∷ ls) f)
+    more_there x (y ∷ ys) l (last_there (y ∷ ys) l (sym (ap (slice_get (x ∷ y ∷ ys)) n) ∙ e))
 
 pub last_nowhere : (levels : List Level) → slice_get levels (length levels - 1) ≡ None → levels ≡ []
 last_nowhere [] e = refl

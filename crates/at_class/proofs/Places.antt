@@ -53,10 +53,7 @@ twice_past classes c i parts first past =
     twice_at_first classes c i (map part_declaration_view parts) first
     ∙ ap (option_map (λ (q : PartDeclaration). q.at)) (slice_get-map part_declaration_view parts i ∙ ap (option_map part_declaration_view) (slice_get_past parts i past))
 
--- what was found of the class at a position
-pub found_at : (classes : Classes) (fs : List Found) (k : ℕ) (f : Found) → AreFound classes fs (length fs) → k < length fs → f ≡ get_or fs k f → IsFound classes k f
-found_at classes fs k f are less is = subst (IsFound classes k) (sym is) (are.each k f less)
-
+-- what was found of the classes, as it is lent
 pub found_of : (classes other : Classes) (fs lent : List Found) (n : ℕ) → classes ≡ other → lent ≡ fs → AreFound classes fs n → AreFound other lent (length lent)
 found_of classes other fs lent n same is are =
     subst (λ ks. AreFound ks lent (length lent)) same

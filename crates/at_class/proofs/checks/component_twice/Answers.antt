@@ -1,8 +1,7 @@
-use Rattle.std.proofs.Common.{◌∙◌, ap, sym, refl, arith, map}
+use Rattle.std.proofs.Common.{◌<◌, ◌∙◌, ap, sym, refl, arith, length, map}
 use Rattle.at_class.specs.Checks.{twice_in, twice_at, parts_twice}
 use Rattle.at_class.specs.Grammar.{declaration_view, part_declaration_view}
 use Rattle.at_class.proofs.Firsts.{first_here, none_more, none_at_all}
-use Rattle.at_class.proofs.Places.{found_at}
 use Rattle.at_class.proofs.checks.component_twice.Goals as goal
 
 pub loop-position-init : goal.loop-position-init
@@ -13,17 +12,17 @@ unfolding twice_in
 returns-in-Some c = λ classes are.
     let d = c.index-declarations-position.result in
     let k = c.loop-position.position in
-    let found = found_at classes c.args.found.now k c.index-found-position.result are (omega (arith, c.requires)) c.index-found-position.is in
+    let less : k < length c.args.found.now = omega (arith, c.requires) in
     sym (first_here (twice_at classes) declaration_view c.args.declarations.now k d c.in-Some.at (omega arith) c.index-declarations-position.is (c.loop-position.invariant classes are)
-    (ap (λ ps. parts_twice classes k (map part_declaration_view ps)) (sym c.deref.ensures.value) ∙ sym (c.twice_at.ensures classes k found) ∙ c.in-Some.is))
+    (ap (λ ps. parts_twice classes k (map part_declaration_view ps)) (sym c.deref.ensures.value) ∙ sym (c.twice_at.ensures classes k (are.each k _ less)) ∙ c.in-Some.is))
 
 pub loop-position-preserved : goal.loop-position-preserved
 loop-position-preserved c = λ classes are.
     let d = c.index-declarations-position.result in
     let k = c.loop-position.position in
-    let found = found_at classes c.args.found.now k c.index-found-position.result are (omega (arith, c.requires)) c.index-found-position.is in
+    let less : k < length c.args.found.now = omega (arith, c.requires) in
     none_more (twice_at classes) declaration_view c.args.declarations.now k d (omega arith) c.index-declarations-position.is
-    (ap (λ ps. parts_twice classes k (map part_declaration_view ps)) (sym c.deref.ensures.value) ∙ sym (c.twice_at.ensures classes k found) ∙ c.in_default.is) (c.loop-position.invariant classes are)
+    (ap (λ ps. parts_twice classes k (map part_declaration_view ps)) (sym c.deref.ensures.value) ∙ sym (c.twice_at.ensures classes k (are.each k _ less)) ∙ c.in_default.is) (c.loop-position.invariant classes are)
 
 pub returns : goal.returns
 unfolding twice_in
