@@ -3,7 +3,7 @@ use Rattle.at_tree.specs.ReadTrees.{of_term, of_shape}
 use Rattle.at_tree.specs.View.{term_view}
 use Rattle.at_tree.specs.TreeView.{tree_view}
 use Rattle.at_tree.proofs.ReadTrees.{no_term, no_tree, again_found, again_refused}
-use Rattle.at_tree.proofs.tree.reading.read_tree.Goals as goal
+use Rattle.at_tree.proofs.tree.reading.read_by_term.Goals as goal
 
 pub returns-in_err-term-clause-refused : goal.returns-in_err-term-clause-refused
 returns-in_err-term-clause-refused c =
