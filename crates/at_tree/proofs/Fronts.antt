@@ -27,29 +27,33 @@ use Rattle.at_tree.proofs.TreeTexts.{with_commas-push}
 
 -- a class's name ------------------------------------------------------------------------------------------------------
 
+same_bytes : (xs ys : List ℕ) → bytes_eq xs ys ≡ true → xs ≡ ys
+same_bytes xs ys e = (bytes_eq-Decides xs ys).0 e
+
 pub name_found : (classes : Classes) (name : List ℕ) (c : ℕ) → class_of_name classes name ≡ Some c → name_of classes c ≡ name
 name_found classes name c e =
     let (inside, test, first) = position-Some (λ k. bytes_eq name k.name) classes c spare e in
     let P : Option Class → Type 0 = λ o. elim o [ None ↦ [] | Some k ↦ k.name ] ≡ name in
-    subst P (sym (slice_get-get_or classes c spare inside)) (sym ((bytes_eq-Decides _ _).0 test))
+    subst P (sym (slice_get-get_or classes c spare inside)) (sym (same_bytes _ _ test))
   where
     spare : Class
     spare = record { name = []; is_abstract = false; parent = None; own = [] }
 
 -- trees and cells -----------------------------------------------------------------------------------------------------
 
+and_true : (a b : Bool) → a ≡ true → b ≡ true → (a && b) ≡ true
+and_true a b e f = ap (λ x. x && b) e ∙ f
+
+begun : (text name mid texts rest : List ℕ) → text ≡ name ++ 40 ∷ mid → mid ≡ texts ++ 41 ∷ rest → text ≡ (name ++ 40 ∷ (texts ++ 41 ∷ [])) ++ rest
+begun text name mid texts rest begins inside =
+    begins ∙ ap (λ ys. name ++ 40 ∷ ys) (inside ∙ sym (append_assoc texts (41 ∷ []) rest)) ∙ sym (append_assoc name (40 ∷ (texts ++ 41 ∷ [])) rest)
+
 pub tree_front : (classes : Classes) (text mid rest : List ℕ) (b c levels : ℕ) (ps : List Component) (cs : Cells) (t : Tree) → 0 < levels → IsName (name_of classes c) → fits classes c b ≡ true
     → text ≡ name_of classes c ++ 40 ∷ mid → ps ≡ parts classes c → AreCellsFront classes mid rest ps (levels - 1) cs → t ≡ Node c cs → IsTreeFront classes text rest b levels t
-tree_front classes text mid rest b c levels ps cs t some named fit begins all inside is = subst (IsTreeFront classes text rest b levels) (sym is) (written, whole, (some, named, inside.2))
-  where
-    texts : List ℕ
-    texts = with_commas (cell_texts (cells_of classes cs))
-
-    written : text ≡ (name_of classes c ++ 40 ∷ (texts ++ 41 ∷ [])) ++ rest
-    written = begins ∙ ap (λ ys. name_of classes c ++ 40 ∷ ys) (inside.0 ∙ sym (append_assoc texts (41 ∷ []) rest)) ∙ sym (append_assoc (name_of classes c) (40 ∷ (texts ++ 41 ∷ [])) rest)
-
-    whole : (fits classes c b && cells_conform classes cs (parts classes c)) ≡ true
-    whole = ap (λ f. f && cells_conform classes cs (parts classes c)) fit ∙ ap (cells_conform classes cs) (sym all) ∙ inside.1
+tree_front classes text mid rest b c levels ps cs t some named fit begins all inside is =
+    let written = begun text (name_of classes c) mid (with_commas (cell_texts (cells_of classes cs))) rest begins inside.0 in
+    let whole : (fits classes c b && cells_conform classes cs (parts classes c)) ≡ true = and_true _ _ fit (ap (cells_conform classes cs) (sym all) ∙ inside.1) in
+    subst (IsTreeFront classes text rest b levels) (sym is) (written, whole, (some, named, inside.2))
 
 pub cell_front_by : (classes : Classes) (text rest : List ℕ) (s s' : Shape) (levels : ℕ) (c c' : Cell) → s ≡ s' → c ≡ c' → IsCellFront classes text rest s' levels c' → IsCellFront classes text rest s levels c
 cell_front_by classes text rest s s' levels c c' e f h = subst (λ (z : Shape). IsCellFront classes text rest z levels c) (sym e) (subst (IsCellFront classes text rest s' levels) (sym f) h)
@@ -70,9 +74,6 @@ texts-push classes (x ∷ xs) c = ap (λ ys. cell_text (cell_of classes x) ∷ y
 texts-length : (classes : Classes) (cs : List Cell) → length (cell_texts (cells_of classes (to_cells cs))) ≡ length cs
 texts-length classes [] = refl
 texts-length classes (x ∷ xs) = ap suc (texts-length classes xs)
-
-and_true : (a b : Bool) → a ≡ true → b ≡ true → (a && b) ≡ true
-and_true a b e f = ap (λ x. x && b) e ∙ f
 
 and_both : (a b : Bool) → (a && b) ≡ true → (a ≡ true) × (b ≡ true)
 and_both true b h = (refl, h)
