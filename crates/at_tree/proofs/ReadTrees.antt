@@ -54,8 +54,8 @@ again_refused classes sound text b u Memory whole written none = refl
 
 -- a tree whose text stands in front of nothing
 pub read_whole : (classes : Classes) (text rest : List ℕ) (b : ℕ) (t : Tree) (empty : Bool) → IsTreeFront classes text rest b max_depth t → empty ≡ (length rest == 0) → empty ≡ true → IsReadAs classes text b t
-read_whole classes text rest b t empty front is yes =
-    let end : rest ≡ [] = nothing rest (sym is ∙ yes) in
+read_whole classes text rest b t empty front is none =
+    let end : rest ≡ [] = nothing rest (sym is ∙ none) in
     (term_of classes t, (front.2, sym (front.0 ∙ ap (λ ys. tree_text classes t ++ ys) end ∙ append-nil (tree_text classes t))), record { conforms = front.1; written = refl })
   where
     nothing : (rest : List ℕ) → (length rest == 0) ≡ true → rest ≡ []

@@ -20,7 +20,7 @@ pub take_cells-loop-i-preserved : goal.take_cells-loop-i-preserved
 take_cells-loop-i-preserved t c =
     let classes = c.args.classes.now in
     let ps = map part_view c.args.parts.now in
-    let pushed = ap (map cell_view) c.in_ok-push.ensures.items ∙ map-append cell_view c.loop-i.cells.items (c.in_ok-cell.cell ∷ []) in
+    let pushed = ap (map cell_view) {y = c.loop-i.cells.items ++ c.in_ok-cell.cell ∷ []} c.in_ok-push.ensures.items ∙ map-append cell_view c.loop-i.cells.items (c.in_ok-cell.cell ∷ []) in
     subst (HasCells classes c.args.front.now.rest.now c.take_cell.new.front.rest.now ps c.args.levels (c.loop-i.i + 1)) (sym pushed)
     (one_cell_more classes c.args.front.now.rest.now c.loop-i.front.rest.now c.take_separator.new.front.rest.now c.take_cell.new.front.rest.now c.args.parts.now c.args.levels c.loop-i.i (map cell_view c.loop-i.cells.items)
     c.index-parts-i.result (cell_view c.in_ok-cell.cell) (omega arith) c.index-parts-i.is c.loop-i.invariant c.in_ok-take_separator.ensures c.in_ok-cell.ensures)
@@ -39,23 +39,23 @@ pub take_list-returns-then-takes : goal.take_list-returns-then-takes
 take_list-returns-then-takes t c =
     empty_list c.args.classes.now c.args.front.now.rest.now c.take.new.front.rest.now c.takes.new.front.rest.now c.args.under c.args.levels _ c.in_ok-take.ensures (c.takes.ensures.taken c.if-takes.true) (ap (map tree_view) c.new-trees.ensures.items)
 
-pub take_list-loop-front-init : goal.take_list-loop-front-init
-take_list-loop-front-init t c =
+pub take_list-loop-alloc-init : goal.take_list-loop-alloc-init
+take_list-loop-alloc-init t c =
     let pushed = ap (map tree_view) (c.in_ok-push.ensures.items ∙ ap (λ ts. ts ++ c.in_ok-first.first ∷ []) c.new-trees.ensures.items) in
     first_tree c.args.classes.now c.args.front.now.rest.now c.takes.new.front.rest.now _ c.args.under c.args.levels _ (tree_view c.in_ok-first.first)
     (c.in_ok-take.ensures ∙ ap (λ ys. 91 ∷ ys) (sym (c.takes.ensures.stays c.if-takes.false))) c.in_ok-first.ensures pushed
 
-pub take_list-loop-front-preserved : goal.take_list-loop-front-preserved
-take_list-loop-front-preserved t c =
-    let pushed = ap (map tree_view) c.in_ok-push-2.ensures.items ∙ map-append tree_view c.loop-front.trees.items (c.in_ok-tree.tree ∷ []) in
+pub take_list-loop-alloc-preserved : goal.take_list-loop-alloc-preserved
+take_list-loop-alloc-preserved t c =
+    let pushed = ap (map tree_view) c.in_ok-push-2.ensures.items ∙ map-append tree_view c.loop-alloc.trees.items (c.in_ok-tree.tree ∷ []) in
     subst (HasTrees c.args.classes.now c.args.front.now.rest.now _ c.args.under c.args.levels) (sym pushed)
-    (one_tree_more c.args.classes.now c.args.front.now.rest.now c.loop-front.front.rest.now _ _ c.args.under c.args.levels (map tree_view c.loop-front.trees.items) (tree_view c.in_ok-tree.tree) c.loop-front.invariant
-    (c.loop-front-test.ensures.taken c.loop-front-test.true) c.in_ok-tree.ensures)
+    (one_tree_more c.args.classes.now c.args.front.now.rest.now c.loop-alloc.front.rest.now _ _ c.args.under c.args.levels (map tree_view c.loop-alloc.trees.items) (tree_view c.in_ok-tree.tree) c.loop-alloc.invariant
+    (c.loop-alloc-test.ensures.taken refl) c.in_ok-tree.ensures)
 
-pub take_list-loop-front-smaller : goal.take_list-loop-front-smaller
-take_list-loop-front-smaller t c = shorter c.args.classes.now c.loop-front.front.rest.now _ _ c.args.under c.args.levels (tree_view c.in_ok-tree.tree) (c.loop-front-test.ensures.taken c.loop-front-test.true) c.in_ok-tree.ensures
+pub take_list-loop-alloc-smaller : goal.take_list-loop-alloc-smaller
+take_list-loop-alloc-smaller t c = shorter c.args.classes.now c.loop-alloc.front.rest.now _ _ c.args.under c.args.levels (tree_view c.in_ok-tree.tree) (c.loop-alloc-test.ensures.taken refl) c.in_ok-tree.ensures
 
 pub take_list-returns : goal.take_list-returns
 take_list-returns t c =
-    whole_list c.args.classes.now c.args.front.now.rest.now c.loop-front.front.rest.now _ c.args.under c.args.levels (map tree_view c.loop-front.trees.items) c.loop-front.invariant
-    (sym (c.loop-front-test.ensures.stays c.loop-front-test.false) ∙ c.in_ok-take-2.ensures)
+    whole_list c.args.classes.now c.args.front.now.rest.now c.loop-alloc.front.rest.now _ c.args.under c.args.levels (map tree_view c.loop-alloc.trees.items) c.loop-alloc.invariant
+    (sym (c.loop-alloc-test.ensures.stays refl) ∙ c.in_ok-take-2.ensures)

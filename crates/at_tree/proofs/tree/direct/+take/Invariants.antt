@@ -22,8 +22,8 @@ decreases-take_cells l = 5 * l.levels + 4
 abbrev pub invariant-take_cells-loop-i : goal.invariant-take_cells-loop-i
 invariant-take_cells-loop-i l = HasCells l.classes l.fn.front.rest.now l.front.rest.now (map part_view l.parts) l.levels l.i (map cell_view l.cells.items)
 
-abbrev pub invariant-take_list-loop-front : goal.invariant-take_list-loop-front
-invariant-take_list-loop-front l = HasTrees l.classes l.fn.front.rest.now l.front.rest.now l.under l.levels (map tree_view l.trees.items)
+abbrev pub invariant-take_list-loop-alloc : goal.invariant-take_list-loop-alloc
+invariant-take_list-loop-alloc l = HasTrees l.classes l.fn.front.rest.now l.front.rest.now l.under l.levels (map tree_view l.trees.items)
 
-abbrev pub decreases-take_list-loop-front : goal.decreases-take_list-loop-front
-decreases-take_list-loop-front l = length l.front.rest.now
+abbrev pub decreases-take_list-loop-alloc : goal.decreases-take_list-loop-alloc
+decreases-take_list-loop-alloc l = length l.front.rest.now
