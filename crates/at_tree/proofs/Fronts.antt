@@ -1,12 +1,11 @@
 -- Trees and cells that are taken from the front of a text.
-use Rattle.std.proofs.Common.{◌≡◌, ℕ, ◌+◌, ◌-◌, ◌<◌, ◌≤◌, zero, List, [], ◌∷◌, ◌++◌, length, take, get_or, map, refl, ap, sym, ◌∙◌, subst, append_assoc, arith, add-one, suc, drop, take_all, Some, None, Option}
+use Rattle.std.proofs.Common.{◌≡◌, ℕ, ◌+◌, ◌-◌, ◌<◌, ◌≤◌, zero, List, [], ◌∷◌, ◌++◌, length, take, get_or, map, refl, ap, sym, ◌∙◌, subst, append_assoc, arith, suc, drop, take_all, Some, None, Option}
 use Rattle.std.specs.Prelude.{Bool, true, false, ◌&&◌, ℤ, pos, negsuc, FitsSigned}
 use Rattle.std.specs.Int.{w32}
 use mir.Val.{to_z, of_z}
 use lib.Seq.{drop_at, get_or-append_seam}
-use Rattle.std.specs.List.{slice_get, flat_map}
+use Rattle.std.specs.List.{flat_map}
 use Rattle.std.specs.Str.{bytes_eq, IsUtf8, IsCharBoundary}
-use Rattle.std.proofs.Math.Seq.{take-suc}
 use Rattle.std.proofs.lemmas.List.{length-append, length-map, map_more, take-map}
 use Rattle.std.proofs.lemmas.List.Quantifiers.{position-Some}
 use Rattle.std.proofs.lemmas.Option.{slice_get-get_or}

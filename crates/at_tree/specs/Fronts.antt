@@ -1,5 +1,5 @@
 -- Trees and cells whose text stands at the front of a text.
-use Rattle.std.specs.Prelude.{◌≡◌, ℕ, true, List, [], ◌∷◌, ◌++◌}
+use Rattle.std.specs.Prelude.{◌≡◌, ℕ, true, List, ◌∷◌, ◌++◌}
 use Rattle.at_model.specs.Classes.{Classes, Component, Shape}
 use Rattle.at_model.specs.Terms.{IsTermWithin, AreCellsWithin, IsCellWithin, term_of, cells_of, cell_of, tree_text, cell_text, cell_texts, with_commas}
 use Rattle.at_model.specs.Trees.{Tree, Cells, Cell, conforms, cells_conform, cell_conforms}

@@ -1,4 +1,4 @@
-use Rattle.std.proofs.Common.{◌≡◌, ◌+◌, ◌∙◌, [], ◌∷◌, ◌++◌, ap, sym, arith, length, map, refl, subst}
+use Rattle.std.proofs.Common.{◌+◌, ◌∙◌, [], ◌∷◌, ◌++◌, ap, sym, arith, map, refl, subst}
 use Rattle.std.proofs.lemmas.List.{map-append}
 use Rattle.at_class.specs.View.{part_view}
 use Rattle.at_model.specs.Trees.{to_cells}

@@ -1,5 +1,4 @@
 use Rattle.std.proofs.Common.{◌++◌, sym, ap, ◌∙◌}
-use Rattle.std.specs.Fmt.{signed_decimal}
 use Rattle.at_tree.proofs.Fronts.{same_int}
 use Rattle.at_tree.proofs.tree.front.take_int.Goals as goal
 
