@@ -7,6 +7,7 @@ ghost use Rattle.at_protocol.specs.declared.line.TheConstants.{MAX_LINE};
 use crate::engine::REPLY_ROOM;
 use at_protocol::line::MAX_LINE;
 use std::alloc::{AllocError, Global};
+use thiserror::Error;
 
 /// What a run did.
 #[derive(Clone, Copy, Debug, PartialEq, Eq)]
@@ -21,8 +22,9 @@ pub struct Report {
     pub work: u64,
 }
 
-/// Why a run ended before its input.
-#[derive(Clone, Copy, Debug, PartialEq, Eq)]
+/// Why a run ended before its input. It is shown as its text.
+#[derive(Clone, Copy, Debug, PartialEq, Eq, Error)]
+#[error("{}", self.text())]
 pub enum RunFault {
     /// A read failed.
     Read,
