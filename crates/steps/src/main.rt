@@ -41,7 +41,7 @@ fn main(rt: HostRuntime) -> ExitCode {
 
 /// Prints what the rounds that the words ask for come to.
 fn run(rt: &HostRuntime) -> Result<(), Failure> {
-    let task = task(rt)?;
+    let task = asked(rt)?;
     let found = last_of(&task.world, task.way, task.rounds, task.name.as_str())?;
     let value = found.value;
     let reads = found.reads;
@@ -52,7 +52,7 @@ fn run(rt: &HostRuntime) -> Result<(), Failure> {
 }
 
 /// What the words ask for.
-fn task(rt: &HostRuntime) -> Result<Task, Failure>
+fn asked(rt: &HostRuntime) -> Result<Task, Failure>
     ensures { IfOk result (λ t. IsIdle t.world.store) }
 {
     let Ok(mut words) = env::args(rt) else {
