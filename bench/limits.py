@@ -74,6 +74,27 @@ def filled(front, piece, end):
     return front + piece * ((FILE - len(front) - len(end)) // len(piece)) + end
 
 
+def numbered(front, piece, end):
+    """The front, the pieces of 0, 1 and so on, as many as fit, and the end."""
+    pieces, room, k = [], FILE - len(front) - len(end), 0
+    while room >= len(piece(k)):
+        pieces.append(piece(k))
+        room -= len(pieces[-1])
+        k += 1
+    return front + "".join(pieces) + end
+
+
+def part_of_chain(k):
+    """A component, of a name of its own. Every 500th begins a class, which has all those before it above itself."""
+    opening = f"; C{k // 500:x}:C{k // 500 - 1:x} ::=" if k > 0 and k % 500 == 0 else ""
+    return f"{opening} N{k:x}:Num"
+
+
+def below_a_chain(front, link, classes):
+    """So many classes, each with the next one above it, of which the first stands above those in front."""
+    return front + "".join(link(k) for k in range(classes)) + f"C{classes:x};\n"
+
+
 def folds(levels):
     """A disjunction of so many folds, as a power of two."""
     return "exists (s : getMoreList()) { true }" if levels == 0 else f"({folds(levels - 1)}) || ({folds(levels - 1)})"
@@ -84,6 +105,11 @@ def whole_files():
     nested = FILE // 5
     return [
         ("a class of many components", 0, filled("Sum ::= Left:Num", " Left:Num", "; Num ::= <Value:int>;\n")),
+        ("a class of many components, each of another name", 0, numbered("Sum ::=", lambda k: f" N{k:x}:Num", "; Num ::= <Value:int>;\n")),
+        ("a chain of classes of many components each", 0, numbered("Num ::= <Value:int>; C0 ::=", part_of_chain, ";\n")),
+        ("a chain of classes of one component each", 0, below_a_chain("Sum:C0 ::= Left:Num; Num ::= <Value:int>;\n", lambda k: f"C{k:x}:C{k + 1:x} ::= N{k:x}:Num;\n", 139_000)),
+        ("a thousand classes below a chain", 0, below_a_chain("".join(f"S{k}:C0;\n" for k in range(1000)), lambda k: f"C{k:x}:C{k + 1:x};\n", 267_000)),
+        ("a class with many below it", 0, numbered("Num ::= <Value:int>; C ::= Left:Num;\n", lambda k: f"C{k:x}:C ::= N:Num;\n", "")),
         ("a component with a long name", 0, filled("Sum ::= Left:Num <", "x", ":int>; Num ::= <Value:int>;\n")),
         ("a grammar of comments", 0, filled("", "/* ** */", "\n")),
         ("a grammar of quotes", 0, filled("", '"', "\n")),

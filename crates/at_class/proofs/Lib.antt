@@ -1,10 +1,12 @@
 pub mod Firsts
 pub mod Chains
 pub mod Circling
-pub mod Joins
 pub mod Taking
 pub mod Named
 pub mod Order
 pub mod Sound
 pub mod Acyclic
 pub mod Whole
+pub mod Led
+pub mod Descents
+pub mod Places

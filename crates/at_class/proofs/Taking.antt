@@ -1,20 +1,20 @@
 -- Which names components take.
-use Rattle.std.proofs.Common.{◌≡◌, ℕ, zero, suc, ◌+◌, ◌<◌, ◌≤◌, List, [], ◌∷◌, ◌++◌, length, map, take, get_or, refl, ap, ap₂, sym, ◌∙◌, arith, true≢false, eq-eqb, Bool, true, false, Option, Some, None}
-use Rattle.std.specs.Prelude.{◌||◌, ◌&&◌, nat_eq, String, string_bytes, if◌then◌else◌, codes, ◌==◌, unwrap_or}
+use Rattle.std.proofs.Common.{◌≡◌, ℕ, zero, suc, ◌+◌, ◌<◌, ◌≤◌, ◌⊎◌, inl, inr, List, [], ◌∷◌, ◌++◌, length, map, take, drop, get_or, refl, ap, ap₂, sym, ◌∙◌, arith, append_assoc, true≢false, eq-eqb, Bool, true, false, Option, Some, None}
+use Rattle.std.specs.Prelude.{◌||◌, ◌&&◌, nat_eq, nat_lt, String, string_bytes, if◌then◌else◌, codes}
 use Rattle.std.specs.List.{list_any, slice_get}
 use Rattle.std.specs.Option.{option_map}
 use Rattle.std.proofs.lemmas.Option.{slice_get-map, slice_get_read, slice_get_past}
 use Rattle.std.specs.Str.{bytes_eq}
 use Rattle.std.specs.String.{string_eq}
-use Rattle.std.proofs.lemmas.Bool.{eqb-true, or_left, or_right}
+use Rattle.std.proofs.lemmas.Bool.{eqb-true, ltb-true, ltb-false, or_left, or_right}
+use Rattle.std.proofs.lemmas.List.{map_more, take_all, take-append-drop, take-map}
 use Rattle.std.proofs.lemmas.List.Folds.{list_any-append}
 use Rattle.indexmap.specs.IndexSet.{insert_key}
-use Rattle.at_model.specs.Classes.{Classes, Component, own_of}
-use Rattle.at_model.specs.Declarations.{above, clash, inherited, is_common, is_list, is_taken, is_twice, takes}
-use Rattle.at_class.proofs.Joins.{list_any-flat_map-reverse}
+use Rattle.at_model.specs.Classes.{Component}
+use Rattle.at_model.specs.Declarations.{clash, is_list, is_taken, takes}
 use Rattle.at_class.specs.View.{part_view}
 use Rattle.at_class.specs.declared.part.Part.{Part}
-use Rattle.at_class.specs.Taken.{has_key, AreTaken}
+use Rattle.at_class.specs.Taken.{has_key, AreTaken, Begins, IsFirst, IsFirstBelow, is_taken_at, or_this}
 use Rattle.at_class.specs.declared.taken.TakenNames.{TakenNames}
 
 no_name : {A : Type 0} → false ≡ true → A
@@ -107,22 +107,22 @@ of_list p before e = each before ∙ any_or (λ q. bytes_eq (codes "Num" ++ p.na
         ∙ ap₂ (λ a b. (a || b) || list_any (λ q. takes p q.name) qs) (bytes_eq-swap q.name (codes "Num" ++ p.name)) (bytes_eq-swap q.name (p.name ++ codes "List"))
         ∙ ap (λ b. (bytes_eq (codes "Num" ++ p.name) q.name || bytes_eq (p.name ++ codes "List") q.name) || b) (each qs)
 
-pub by_name : (p : Component) (before : List Component) (t : TakenNames) → AreTaken before t → has_key t.names.keys p.name ≡ true → list_any (clash p) before ≡ true
+pub by_name : (p : Component) (before : List Component) (t : TakenNames) → AreTaken before t.names.keys t.accessors.keys → has_key t.names.keys p.name ≡ true → list_any (clash p) before ≡ true
 by_name p before t k e = three p before ∙ or_left (list_any (λ q. bytes_eq p.name q.name) before || list_any (λ q. takes p q.name) before) _ (or_left (list_any (λ q. bytes_eq p.name q.name) before) _ (sym (k.names p.name) ∙ e))
 
-pub by_accessor : (p : Component) (before : List Component) (t : TakenNames) → AreTaken before t → has_key t.accessors.keys p.name ≡ true → list_any (clash p) before ≡ true
+pub by_accessor : (p : Component) (before : List Component) (t : TakenNames) → AreTaken before t.names.keys t.accessors.keys → has_key t.accessors.keys p.name ≡ true → list_any (clash p) before ≡ true
 by_accessor p before t k e = three p before ∙ or_right (list_any (λ q. bytes_eq p.name q.name) before || list_any (λ q. takes p q.name) before) _ (sym (k.accessors p.name) ∙ e)
 
-only_own : (p : Component) (before : List Component) (t : TakenNames) → AreTaken before t → has_key t.names.keys p.name ≡ false → has_key t.accessors.keys p.name ≡ false → list_any (clash p) before ≡ list_any (λ q. takes p q.name) before
+only_own : (p : Component) (before : List Component) (t : TakenNames) → AreTaken before t.names.keys t.accessors.keys → has_key t.names.keys p.name ≡ false → has_key t.accessors.keys p.name ≡ false → list_any (clash p) before ≡ list_any (λ q. takes p q.name) before
 only_own p before t k e f =
     three p before
     ∙ ap₂ (λ a b. (a || list_any (λ q. takes p q.name) before) || b) (sym (k.names p.name) ∙ e) (sym (k.accessors p.name) ∙ f)
     ∙ or_false (list_any (λ q. takes p q.name) before)
 
-pub by_nothing : (p : Component) (before : List Component) (t : TakenNames) → AreTaken before t → has_key t.names.keys p.name ≡ false → has_key t.accessors.keys p.name ≡ false → is_list p.shape ≡ false → list_any (clash p) before ≡ false
+pub by_nothing : (p : Component) (before : List Component) (t : TakenNames) → AreTaken before t.names.keys t.accessors.keys → has_key t.names.keys p.name ≡ false → has_key t.accessors.keys p.name ≡ false → is_list p.shape ≡ false → list_any (clash p) before ≡ false
 by_nothing p before t k e f g = only_own p before t k e f ∙ no_list p before g
 
-pub by_own : (p : Component) (before : List Component) (t : TakenNames) (count list : List ℕ) → AreTaken before t → has_key t.names.keys p.name ≡ false → has_key t.accessors.keys p.name ≡ false → is_list p.shape ≡ true
+pub by_own : (p : Component) (before : List Component) (t : TakenNames) (count list : List ℕ) → AreTaken before t.names.keys t.accessors.keys → has_key t.names.keys p.name ≡ false → has_key t.accessors.keys p.name ≡ false → is_list p.shape ≡ true
     → count ≡ codes "Num" ++ p.name → list ≡ p.name ++ codes "List" → (has_key t.names.keys count || has_key t.names.keys list) ≡ list_any (clash p) before
 by_own p before t count list k e f g first second =
     ap₂ (λ a b. has_key t.names.keys a || has_key t.names.keys b) first second
@@ -131,15 +131,15 @@ by_own p before t count list k e f g first second =
 
 -- one component more --------------------------------------------------------------------------------------------------
 
-pub none_taken : (t : TakenNames) → t.names.keys ≡ [] → t.accessors.keys ≡ [] → AreTaken [] t
+pub none_taken : (t : TakenNames) → t.names.keys ≡ [] → t.accessors.keys ≡ [] → AreTaken [] t.names.keys t.accessors.keys
 none_taken t e f = record {
   names = λ n. ap (λ ks. has_key ks n) e;
   accessors = λ n. ap (λ ks. has_key ks n) f;
 }
 
-pub one_taken : (p : Component) (old new : TakenNames) (before : List Component) → AreTaken before old
+pub one_taken : (p : Component) (old new : TakenNames) (before : List Component) → AreTaken before old.names.keys old.accessors.keys
     → ((n : List ℕ) → has_key new.names.keys n ≡ (has_key old.names.keys n || bytes_eq n p.name)) → ((n : List ℕ) → has_key new.accessors.keys n ≡ (has_key old.accessors.keys n || takes p n))
-    → AreTaken (before ++ p ∷ []) new
+    → AreTaken (before ++ p ∷ []) new.names.keys new.accessors.keys
 one_taken p old new before k e f = record {
   names = λ n. e n ∙ ap₂ (λ a b. a || b) (k.names n) (sym (or_false (bytes_eq n p.name))) ∙ sym (list_any-append (λ q. bytes_eq n q.name) before (p ∷ []));
   accessors = λ n. f n ∙ ap₂ (λ a b. a || b) (k.accessors n) (sym (or_false (takes p n))) ∙ sym (list_any-append (λ q. takes q n) before (p ∷ []));
@@ -161,43 +161,89 @@ takes_two p old mid new n count list e first second f g =
     by true b c = refl
     by false b c = refl
 
--- one place after the other -------------------------------------------------------------------------------------------
+-- names that come behind others -------------------------------------------------------------------------------------
 
-take_suc : {X : Type 0} (xs : List X) (i : ℕ) (x : X) → slice_get xs i ≡ Some x → take (suc i) xs ≡ take i xs ++ x ∷ []
-take_suc [] i x e = absurd (cc)
-take_suc (y ∷ ys) zero x e = ap (λ o. unwrap_or o y ∷ []) e
-take_suc (y ∷ ys) (suc i) x e = ap (λ zs. y ∷ zs) (take_suc ys i x e)
+take_front : {A : Type 0} (xs ys : List A) → take (length xs) (xs ++ ys) ≡ xs
+take_front [] ys = refl
+take_front (x ∷ xs) ys = ap (λ zs. x ∷ zs) (take_front xs ys)
 
-take_past : {X : Type 0} (xs : List X) (i : ℕ) → slice_get xs i ≡ None → take (suc i) xs ≡ take i xs
-take_past [] zero e = refl
-take_past [] (suc i) e = refl
-take_past (y ∷ ys) zero e = absurd (cc)
-take_past (y ∷ ys) (suc i) e = ap (λ zs. y ∷ zs) (take_past ys i e)
+pub begins_same : {A : Type 0} (xs : List A) → Begins xs xs
+begins_same xs = take_all (length xs) xs (omega arith)
 
-pub take_more : {X : Type 0} (xs : List X) (i : ℕ) (x : X) → slice_get xs i ≡ Some x → take i xs ++ x ∷ [] ≡ take (i + 1) xs
-take_more xs i x e = let n : suc i ≡ i + 1 = omega arith in sym (take_suc xs i x e) ∙ ap (λ m. take m xs) n
+-- what begins with the one begins with what that begins with
+pub begins_on : {A : Type 0} (xs ys zs : List A) → Begins xs ys → Begins ys zs → Begins xs zs
+begins_on xs ys zs e f =
+    let second : zs ≡ ys ++ drop (length ys) zs = sym (take-append-drop (length ys) zs) ∙ ap (λ ks. ks ++ drop (length ys) zs) f in
+    let first : ys ≡ xs ++ drop (length xs) ys = sym (take-append-drop (length xs) ys) ∙ ap (λ ks. ks ++ drop (length xs) ys) e in
+    ap (take (length xs)) (second ∙ ap (λ ks. ks ++ drop (length ys) zs) first ∙ append_assoc xs (drop (length xs) ys) (drop (length ys) zs))
+    ∙ take_front xs (drop (length xs) ys ++ drop (length ys) zs)
 
-pub take_end : {X : Type 0} (xs : List X) (i : ℕ) → slice_get xs i ≡ None → take i xs ≡ take (i + 1) xs
-take_end xs i e = let n : suc i ≡ i + 1 = omega arith in sym (take_past xs i e) ∙ ap (λ m. take m xs) n
+pub begins_insert : {Z : Type 0} (keys new : List (String Z)) (text : String Z) → new ≡ insert_key string_eq keys text → Begins keys new
+begins_insert keys new text e = ap (take (length keys)) e ∙ by (list_any (string_eq text) keys)
+  where
+    by : (s : Bool) → take (length keys) (if s then keys else keys ++ text ∷ []) ≡ keys
+    by true = begins_same keys
+    by false = take_front keys (text ∷ [])
 
--- the class's own component at a place
-pub own_at : (own : List Part) (comps : List Component) (i : ℕ) (p : Part) → map part_view own ≡ comps → i < length own → p ≡ get_or own i p → slice_get comps i ≡ Some (part_view p)
-own_at own comps i p e less is = ap (λ ps. slice_get ps i) (sym e) ∙ slice_get-map part_view own i ∙ ap (option_map part_view) (slice_get_read own (length own) i p refl less is)
+-- all of a class ------------------------------------------------------------------------------------------------------
 
-pub own_none : (own : List Part) (comps : List Component) (i : ℕ) → map part_view own ≡ comps → length own ≤ i → slice_get comps i ≡ None
-own_none own comps i e past = ap (λ ps. slice_get ps i) (sym e) ∙ slice_get-map part_view own i ∙ ap (option_map part_view) (slice_get_past own i past)
+-- the component at a place
+pub part_at : (parts : List Part) (i : ℕ) (p : Part) → i < length parts → p ≡ get_or parts i p → slice_get (map part_view parts) i ≡ Some (part_view p)
+part_at parts i p less is = slice_get-map part_view parts i ∙ ap (option_map part_view) (slice_get_read parts (length parts) i p refl less is)
 
--- it is taken by what every tree has, by those above, or by its own before it
-pub twice_of : (classes : Classes) (c i : ℕ) (p : Component) (way : List ℕ) → way ≡ above classes c → slice_get (own_of classes c) i ≡ Some p
-    → (is_common p.name || (list_any (λ a. list_any (clash p) (own_of classes a)) way || list_any (clash p) (take i (own_of classes c)))) ≡ is_twice classes c i
-twice_of classes c i p way up e =
-    ap (λ w. is_common p.name || (list_any (λ a. list_any (clash p) (own_of classes a)) w || list_any (clash p) (take i (own_of classes c)))) up
-    ∙ ap (λ b. is_common p.name || b) (sym (list_any-append (clash p) (inherited classes c) (take i (own_of classes c)) ∙ ap (λ b. b || list_any (clash p) (take i (own_of classes c))) (list_any-flat_map-reverse (clash p) (own_of classes) (above classes c))))
-    ∙ ap (λ o. elim o [ None ↦ false | Some q ↦ is_taken (inherited classes c ++ take i (own_of classes c)) q ]) (sym e)
+pub taken_here : (before : List Component) (parts : List Part) (i : ℕ) (p : Part) → i < length parts → p ≡ get_or parts i p → is_taken (before ++ map part_view (take i parts)) (part_view p) ≡ is_taken_at before (map part_view parts) i
+taken_here before parts i p less is =
+    ap (λ ps. is_taken (before ++ ps) (part_view p)) (sym (take-map part_view i parts))
+    ∙ ap (λ o. elim o [ None ↦ false | Some q ↦ is_taken (before ++ take i (map part_view parts)) q ]) (sym (part_at parts i p less is))
 
-pub twice_none : (classes : Classes) (c i : ℕ) → slice_get (own_of classes c) i ≡ None → false ≡ is_twice classes c i
-twice_none classes c i e = ap (λ o. elim o [ None ↦ false | Some q ↦ is_taken (inherited classes c ++ take i (own_of classes c)) q ]) (sym e)
+-- those that are gone over, with one more
+pub one_more : (before : List Component) (parts : List Part) (i : ℕ) (p : Part) → i < length parts → p ≡ get_or parts i p → (before ++ map part_view (take i parts)) ++ part_view p ∷ [] ≡ before ++ map part_view (take (i + 1) parts)
+one_more before parts i p less is =
+    append_assoc before (map part_view (take i parts)) (part_view p ∷ [])
+    ∙ ap (λ ps. before ++ ps) (sym (map_more part_view parts i p less ∙ ap (λ q. map part_view (take i parts) ++ part_view q ∷ []) (sym is)))
 
-pub none_of : {X : Type 0} (xs : List X) → (length xs == 0) ≡ true → xs ≡ []
-none_of [] e = refl
-none_of (x ∷ xs) e = let n : length (x ∷ xs) ≡ 0 = eqb-true (length (x ∷ xs)) 0 e in absurd (omega (arith, n))
+below : (j i : ℕ) → j < i + 1 → ((j ≡ i) → ⊥) → j < i
+below j i less other = elim (split j i) [
+  | inl more ↦ more
+  | inr rest ↦ absurd (other (same rest))
+]
+  where
+    split : (j i : ℕ) → (j < i) ⊎ (i ≤ j)
+    split j i = tested (nat_lt j i) refl
+      where
+        tested : (s : Bool) → nat_lt j i ≡ s → (j < i) ⊎ (i ≤ j)
+        tested true e = inl (ltb-true j i e)
+        tested false e = inr (ltb-false j i e)
+
+    same : i ≤ j → j ≡ i
+    same rest = omega (arith, less, rest)
+
+-- one more is looked at
+pub first_more : (test : ℕ → Bool) (i : ℕ) (r : Option ℕ) (b : Bool) → b ≡ test i → IsFirstBelow test i r → IsFirstBelow test (i + 1) (or_this r b i)
+first_more test i (Some k) b e f = f
+first_more test i None true e f = (sym e, f)
+first_more test i None false e f = λ j less. by j (nat_eq j i) refl less
+  where
+    by : (j : ℕ) (s : Bool) → nat_eq j i ≡ s → j < i + 1 → test j ≡ false
+    by j true g less = ap test (eqb-true j i g) ∙ sym e
+    by j false g less = f j (by_less j g less)
+      where
+        by_less : (j : ℕ) → nat_eq j i ≡ false → j < i + 1 → j < i
+        by_less j g less = let h : (j ≡ i) → ⊥ = λ same. true≢false (sym (eq-eqb j i same) ∙ g) in below j i less h
+
+pub none_first : (before : List Component) (ps : List Component) → IsFirstBelow (is_taken_at before ps) 0 None
+none_first before ps = λ j less. absurd (omega (arith, less))
+
+-- no component stands behind the last one
+pub first_of_all : (before : List Component) (parts : List Part) (i : ℕ) (r : Option ℕ) → length parts ≤ i → IsFirstBelow (is_taken_at before (map part_view parts)) i r → IsFirst (is_taken_at before (map part_view parts)) r
+first_of_all before parts i (Some k) past f = f
+first_of_all before parts i None past f = λ j. by j (nat_lt j i) refl
+  where
+    by : (j : ℕ) (s : Bool) → nat_lt j i ≡ s → is_taken_at before (map part_view parts) j ≡ false
+    by j true e = f j (ltb-true j i e)
+    by j false e =
+        let beyond : length parts ≤ j = omega (arith, past, ltb-false j i e) in
+        ap (λ o. elim o [ None ↦ false | Some q ↦ is_taken (before ++ take j (map part_view parts)) q ]) (slice_get-map part_view parts j ∙ ap (option_map part_view) (slice_get_past parts j beyond))
+
+pub all_gone_over : (before : List Component) (parts : List Part) (i : ℕ) → length parts ≤ i → before ++ map part_view (take i parts) ≡ before ++ map part_view parts
+all_gone_over before parts i past = ap (λ ps. before ++ map part_view ps) (take_all i parts past)

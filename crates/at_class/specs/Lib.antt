@@ -3,5 +3,6 @@ pub mod Grammar
 pub mod Faults
 pub mod Climbs
 pub mod Taken
+pub mod Ways
 pub mod Checks
 pub mod Table

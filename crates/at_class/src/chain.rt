@@ -1,3 +1,4 @@
+//! Ways up from class to superclass, and the components on them.
 ghost use Rattle.std.specs.Prelude.{◌≡◌, ◌<◌, ◌++◌, IfOk, OnOk, length, map, nat_eq, nat_lt};
 ghost use Rattle.std.specs.List.{list_any};
 ghost use Rattle.at_model.specs.Classes.{chain_within, chain, parent_of, own_of, parts};

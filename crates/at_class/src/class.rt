@@ -1,3 +1,4 @@
+//! Classes as they are declared.
 ghost use Rattle.std.specs.Prelude.{◌≡◌, None, IfOk, map, unwrap_or, option_map};
 ghost use Rattle.at_model.specs.Declarations.{component_by, class_by, shape_in, token_kind_named};
 ghost use Rattle.at_model.specs.Classes.{Text};

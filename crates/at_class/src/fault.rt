@@ -1,3 +1,4 @@
+//! Why there is no class table.
 use std::alloc::{AllocError, AllocFailed};
 
 /// The rules of an abstract grammar that a refusal may name, in the order in which they are looked at.

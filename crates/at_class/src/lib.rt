@@ -4,15 +4,17 @@
 mod chain;
 mod checks;
 mod circles;
-mod clash;
 mod class;
+mod descent;
 mod fault;
+mod found;
 mod names;
 mod naming;
 mod part;
 mod steps;
 mod table;
 mod taken;
+mod way;
 
 pub use fault::{ClassCode, ClassFault};
 pub use naming::are_named;

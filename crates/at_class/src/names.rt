@@ -1,3 +1,4 @@
+//! Names of classes: each is declared once, and what names a class names one that is declared.
 ghost use Rattle.std.specs.Prelude.{◌≡◌, map, None, Some, IfOk, IfErr, string_bytes, option_and_then, option_map};
 ghost use Rattle.std.specs.List.{list_all};
 ghost use Rattle.at_model.specs.Declarations.{class_twice, is_predefined, is_known, is_parent_known, is_part_known, is_token};

@@ -1,3 +1,4 @@
+//! Whether a grammar is named by names.
 ghost use Rattle.std.specs.Prelude.{◌≡◌, ◌↔◌, All, IsTrue, map, true};
 ghost use Rattle.at_model.specs.Declarations.{AreNamed, IsDeclarationNamed, PartDeclaration};
 ghost use Rattle.at_model.specs.Names.{is_name};

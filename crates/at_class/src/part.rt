@@ -1,3 +1,4 @@
+//! Classes, and components.
 use std::alloc::{AllocError, Global};
 use std::marker::Model;
 

@@ -1,3 +1,4 @@
+//! Steps by which a class table is built.
 ghost use Rattle.std.specs.Prelude.{◌≡◌, IfErr, IfOk, None, OnOk, length};
 ghost use Rattle.at_class.specs.View.{classes_view};
 ghost use Rattle.at_class.specs.Faults.{IsAt};

@@ -1,9 +1,11 @@
+//! The class table: how it is built, and what it is asked.
 use crate::chain::{climbs, parent_of};
 use crate::checks::{
     component_twice, over_limit, superclass_circle, unknown_class, wrong_token_kind,
 };
 use crate::class::{Class, classes_declared};
 use crate::fault::{ClassCode, ClassFault};
+use crate::found::found_of_all;
 use crate::names::{class_named, class_names};
 use crate::part::{ClassId, Part, position_named};
 use crate::steps::{all_parts, refuse};
@@ -168,11 +170,12 @@ fn table_of(alloc: Global, declarations: &[ClassDecl]) -> Result<ClassTable, Cla
         superclass_circle(alloc, &classes, declarations)?,
     )?;
     refuse(ClassCode::TokenKind, wrong_token_kind(declarations))?;
+    let found = found_of_all(alloc, &classes)?;
     refuse(
         ClassCode::ComponentTwice,
-        component_twice(alloc, &classes, declarations)?,
+        component_twice(&found, declarations),
     )?;
-    refuse(ClassCode::Limit, over_limit(alloc, &classes, declarations)?)?;
+    refuse(ClassCode::Limit, over_limit(&found, declarations))?;
     let parts = all_parts(alloc, &classes)?;
     Ok(ClassTable {
         names,

@@ -1,8 +1,10 @@
+use Rattle.std.specs.Prelude.{length}
+use Rattle.at_model.specs.Classes.{Classes}
 use Rattle.at_class.specs.Checks.{over_at}
-use Rattle.at_class.specs.View.{classes_view}
 use Rattle.at_class.specs.Grammar.{declaration_view}
+use Rattle.at_class.specs.Ways.{AreFound}
 use Rattle.at_class.proofs.Firsts.{NoneBefore}
 use Rattle.at_class.proofs.checks.over_limit.Given as goal
 
 abbrev pub invariant-loop-position : goal.invariant-loop-position
-invariant-loop-position l = NoneBefore (over_at (classes_view l.classes)) declaration_view l.declarations l.position
+invariant-loop-position l = (classes : Classes) → AreFound classes l.found (length l.found) → NoneBefore (over_at classes) declaration_view l.declarations l.position
