@@ -19,3 +19,4 @@ pub mod Shaping
 pub mod Made
 pub mod ShapeLaws
 pub mod ReadTrees
+pub mod Fronts

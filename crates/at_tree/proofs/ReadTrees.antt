@@ -1,10 +1,11 @@
 -- A tree that was written as a term is read again as that tree.
-use Rattle.std.proofs.Common.{◌≡◌, ℕ, List, [], true, false, refl, sym, ap, ◌∙◌, append-nil}
+use Rattle.std.proofs.Common.{◌≡◌, ◌==◌, ℕ, List, [], ◌∷◌, ◌++◌, Bool, true, false, length, refl, sym, ap, ◌∙◌, append-nil, arith, eqb-true}
 use Rattle.at_model.specs.Classes.{Classes, AreSound}
 use Rattle.at_model.specs.Shaping.{names_classes}
-use Rattle.at_model.specs.Terms.{Term, IsTerm, term_text, term_of}
+use Rattle.at_model.specs.Terms.{Term, IsTerm, max_depth, term_text, term_of, tree_text}
 use Rattle.at_model.specs.Trees.{Tree, conforms}
 use Rattle.at_model.proofs.Shaped.{conforms_shaped}
+use Rattle.at_tree.specs.Fronts.{IsTreeFront}
 use Rattle.at_tree.specs.ReadTrees.{IsTermOf, IsReadAs, IsUnread, of_term, of_shape}
 use Rattle.at_tree.specs.Reads.{StopsWith}
 use Rattle.at_tree.specs.Shape.{IsShaped, IsMisshaped}
@@ -50,3 +51,13 @@ again_refused classes sound text b u Class whole written (t, is, unknown) =
     absurd cc
 again_refused classes sound text b u Fit whole written (t, is, misfit) = absurd (misfit.1 u (shaped_of classes text b u t whole written is))
 again_refused classes sound text b u Memory whole written none = refl
+
+-- a tree whose text stands in front of nothing
+pub read_whole : (classes : Classes) (text rest : List ℕ) (b : ℕ) (t : Tree) (empty : Bool) → IsTreeFront classes text rest b max_depth t → empty ≡ (length rest == 0) → empty ≡ true → IsReadAs classes text b t
+read_whole classes text rest b t empty front is none =
+    let end : rest ≡ [] = nothing rest (sym is ∙ none) in
+    (term_of classes t, (front.2, sym (front.0 ∙ ap (λ ys. tree_text classes t ++ ys) end ∙ append-nil (tree_text classes t))), record { conforms = front.1; written = refl })
+  where
+    nothing : (rest : List ℕ) → (length rest == 0) ≡ true → rest ≡ []
+    nothing [] e = refl
+    nothing (x ∷ xs) e = absurd (omega (arith, eqb-true (length (x ∷ xs)) 0 e))

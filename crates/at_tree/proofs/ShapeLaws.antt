@@ -43,7 +43,7 @@ misshaped classes sound t b Memory known h = tt
 
 -- the text of a conforming tree is a term's --------------------------------------------------------------------------
 
-name_of-named : (classes : Classes) (c : ℕ) → AreSound classes → c < length classes → IsName (name_of classes c)
+pub name_of-named : (classes : Classes) (c : ℕ) → AreSound classes → c < length classes → IsName (name_of classes c)
 name_of-named classes c sound less =
     subst IsName (sym (ap (λ o. elim o [ None ↦ [] | Some k ↦ k.name ]) (slice_get-get_or classes c spare less))) (sound.each c spare less).name
   where

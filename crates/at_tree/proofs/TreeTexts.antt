@@ -11,7 +11,7 @@ use Rattle.at_tree.specs.declared.tree.Tree.{Tree as TreeValue, out-Tree}
 use Rattle.at_tree.specs.declared.tree.Cell.{Cell as CellValue}
 use Rattle.at_tree.proofs.TreeLoops.{tree_view_out}
 
-with_commas-push : (ys : List (List ℕ)) (y : List ℕ) → with_commas (ys ++ y ∷ []) ≡ with_commas ys ++ (separator (length ys) ++ y)
+pub with_commas-push : (ys : List (List ℕ)) (y : List ℕ) → with_commas (ys ++ y ∷ []) ≡ with_commas ys ++ (separator (length ys) ++ y)
 with_commas-push [] y = refl
 with_commas-push (z ∷ []) y = refl
 with_commas-push (z ∷ w ∷ ws) y = rw (with_commas-push (w ∷ ws) y) (simp append_assoc)

@@ -14,6 +14,7 @@ pub mod PathSeen
 pub mod Laws
 pub mod TreeView
 pub mod Separated
+pub mod Fronts
 pub mod Shape
 pub mod TreeTokens
 pub mod TreeLaws

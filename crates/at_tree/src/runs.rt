@@ -11,6 +11,8 @@ pub(crate) enum Run {
     Name,
     /// Those that stand for themselves between quotes.
     Plain,
+    /// Those of which numbers are written.
+    Number,
 }
 
 /// Whether the run goes on with the character.
@@ -20,6 +22,7 @@ fn takes(run: Run, c: char) -> bool
     match run {
         Run::Name => continues_name(c),
         Run::Plain => c != '"' && c != '\\' && c != '\n' && c != '\t',
+        Run::Number => c == '-' || c.is_ascii_digit(),
     }
 }
 

@@ -1,6 +1,8 @@
 //! Syntax trees: a class, and a cell for each of its components.
 mod conforming;
 mod counts;
+mod direct;
+mod front;
 pub mod laws;
 mod reading;
 mod shaping;

@@ -6,6 +6,8 @@ ghost use Rattle.at_tree.specs.TreeView.{tree_view};
 ghost use Rattle.at_tree.specs.ReadTrees.{IsReadAs, IsUnread, ReadsTree};
 
 use super::Tree;
+use super::direct::whole_tree;
+use super::front::Untaken;
 use super::shaping::{ShapeFault, shape};
 use crate::fault::TermFault;
 use crate::reader::read_term;
@@ -55,8 +57,8 @@ impl From<ShapeFault> for ReadFault {
     }
 }
 
-/// The tree that conforms under the class and that the text is written of: `read_term`, and then
-/// `shape`. A tree that was written as a term is read again as that tree.
+/// The tree that conforms under the class and that the text is written of, as `read_term` and then
+/// `shape` find it. A tree that was written as a term is read again as that tree.
 ///
 /// # Errors
 ///
@@ -76,6 +78,25 @@ pub fn read_tree(
     ensures again { (u : Nodes) → conforms classes.now u under ≡ true → IsTerm (term_of classes.now u) → tree_text classes.now u ≡ text.now → ReadsTree result u }
 {
     // the classes of a table have a name each, so that a tree is known from its term
+    let _ = classes.len();
+    match whole_tree(alloc, classes, text, under) {
+        Ok(tree) => Ok(tree),
+        Err(Untaken::Memory) => Err(ReadFault::Memory),
+        Err(Untaken::Form) => read_by_term(alloc, classes, text, under),
+    }
+}
+
+/// The same by the text's term, which shows the first fault. It goes over the text and the term several times.
+fn read_by_term(
+    alloc: Global,
+    classes: &ClassTable,
+    text: &str,
+    under: ClassId,
+) -> Result<Tree, ReadFault>
+    ensures found { IfOk result (λ t. IsReadAs classes.now text.now under (tree_view t)) }
+    ensures refused { IfErr result (IsUnread classes.now text.now under) }
+    ensures again { (u : Nodes) → conforms classes.now u under ≡ true → IsTerm (term_of classes.now u) → tree_text classes.now u ≡ text.now → ReadsTree result u }
+{
     let _ = classes.len();
     let term = read_term(alloc, text)?;
     Ok(shape(alloc, classes, &term, under)?)

@@ -1,0 +1,150 @@
+//! A tree in one pass over its text, with no term in between.
+ghost use Rattle.std.specs.Prelude.{◌≡◌, ◌++◌, IfOk, OnOk, map, option_map};
+ghost use Rattle.at_model.specs.Classes.{Many, Maybe};
+ghost use Rattle.at_model.specs.Trees.{to_cells, to_trees};
+ghost use Rattle.at_model.specs.Trees as tree;
+ghost use Rattle.at_class.specs.View.{part_view, shape_view};
+ghost use Rattle.at_tree.specs.TreeView.{tree_view, cell_view, optional};
+ghost use Rattle.at_tree.specs.Separated.{separator};
+ghost use Rattle.at_tree.specs.ReadTrees.{IsReadAs};
+ghost use Rattle.at_tree.specs.Fronts.{IsTreeFront, IsCellFront, AreCellsFront};
+
+use super::front::{Front, Untaken, take, take_class, take_value, takes};
+use super::{Cell, Tree};
+use crate::reader::MAX_DEPTH;
+use at_class::{ClassId, ClassTable, Part, PartShape};
+use std::alloc::Global;
+
+/// The tree that conforms under the class and that the whole text is written of. What isn't read so may still be a
+/// term's text, of which `read_term` and `shape` tell why there is no tree.
+pub(super) fn whole_tree(
+    alloc: Global,
+    classes: &ClassTable,
+    text: &str,
+    under: ClassId,
+) -> Result<Tree, Untaken>
+    ensures { IfOk result (λ t. IsReadAs classes.now text.now under (tree_view t)) }
+{
+    let mut front = Front { rest: text };
+    let tree = take_tree(alloc, classes, &mut front, under, MAX_DEPTH)?;
+    if front.rest.is_empty() {
+        Ok(tree)
+    } else {
+        Err(Untaken::Form)
+    }
+}
+
+/// Takes the tree of at most so many levels that conforms under the class, and whose text stands at the front.
+#[cycle(take)]
+pub(super) fn take_tree(
+    alloc: Global,
+    classes: &ClassTable,
+    front: &mut Front<'_>,
+    under: ClassId,
+    levels: usize,
+) -> Result<Tree, Untaken>
+    ensures { IfOk result (λ t. IsTreeFront classes.now front.old.rest.now front.new.rest.now under levels (tree_view t)) }
+{
+    if levels == 0 {
+        return Err(Untaken::Form);
+    }
+    let class = take_class(classes, front, under)?;
+    let cells = take_cells(alloc, classes, front, classes.parts(class), levels - 1)?;
+    Ok(Tree { class, cells })
+}
+
+/// Takes a cell for each component, and the parenthesis behind them.
+#[cycle(take)]
+fn take_cells(
+    alloc: Global,
+    classes: &ClassTable,
+    front: &mut Front<'_>,
+    parts: &[Part],
+    levels: usize,
+) -> Result<Vec<Cell>, Untaken>
+    ensures { IfOk result (λ cells. AreCellsFront classes.now front.old.rest.now front.new.rest.now (map part_view parts.now) levels (to_cells (map cell_view cells.items))) }
+{
+    let mut cells = Vec::with_capacity(alloc, parts.len())?;
+    for (i, part) in parts.iter().enumerate() {
+        take_separator(front, i)?;
+        let cell = take_cell(alloc, classes, front, part.shape, levels)?;
+        cells.push(cell)?;
+    }
+    take(front, ')')?;
+    Ok(cells)
+}
+
+/// Takes the comma before each element but the first.
+fn take_separator(front: &mut Front<'_>, i: usize) -> Result<(), Untaken>
+    ensures { OnOk result (front.old.rest.now ≡ separator i ++ front.new.rest.now) }
+{
+    if i == 0 {
+        return Ok(());
+    }
+    take(front, ',')
+}
+
+/// Takes what a component of the shape holds.
+#[cycle(take)]
+fn take_cell(
+    alloc: Global,
+    classes: &ClassTable,
+    front: &mut Front<'_>,
+    shape: PartShape,
+    levels: usize,
+) -> Result<Cell, Untaken>
+    ensures { IfOk result (λ cell. IsCellFront classes.now front.old.rest.now front.new.rest.now (shape_view shape) levels (cell_view cell)) }
+{
+    match shape {
+        PartShape::One(class) => Ok(Cell::One(take_tree(alloc, classes, front, class, levels)?)),
+        PartShape::Many(class) => Ok(Cell::Many(take_list(alloc, classes, front, class, levels)?)),
+        PartShape::Maybe(class) => Ok(Cell::Maybe(take_optional(
+            alloc, classes, front, class, levels,
+        )?)),
+        PartShape::Tok(kind) => Ok(Cell::Tok(take_value(alloc, front, kind)?)),
+    }
+}
+
+/// Takes a tree, or the sign that there is none.
+#[cycle(take)]
+fn take_optional(
+    alloc: Global,
+    classes: &ClassTable,
+    front: &mut Front<'_>,
+    under: ClassId,
+    levels: usize,
+) -> Result<Option<Tree>, Untaken>
+    ensures { IfOk result (λ held. IsCellFront classes.now front.old.rest.now front.new.rest.now (Maybe under) levels (optional (option_map tree_view held))) }
+{
+    if takes(front, '-') {
+        return Ok(None);
+    }
+    let tree = take_tree(alloc, classes, front, under, levels)?;
+    Ok(Some(tree))
+}
+
+/// Takes the trees of a list between brackets.
+#[cycle(take)]
+fn take_list(
+    alloc: Global,
+    classes: &ClassTable,
+    front: &mut Front<'_>,
+    under: ClassId,
+    levels: usize,
+) -> Result<Vec<Tree>, Untaken>
+    ensures { IfOk result (λ trees. IsCellFront classes.now front.old.rest.now front.new.rest.now (Many under) levels (tree.Many (to_trees (map tree_view trees.items)))) }
+{
+    take(front, '[')?;
+    let mut trees = Vec::new(alloc);
+    if takes(front, ']') {
+        return Ok(trees);
+    }
+    let first = take_tree(alloc, classes, front, under, levels)?;
+    trees.push(first)?;
+    while takes(front, ',') {
+        let tree = take_tree(alloc, classes, front, under, levels)?;
+        trees.push(tree)?;
+    }
+    take(front, ']')?;
+    Ok(trees)
+}
