@@ -5,14 +5,12 @@ ghost use Rattle.at_model.specs.Trees.{to_trees};
 ghost use Rattle.at_tree.specs.Token.{token_view};
 ghost use Rattle.at_tree.specs.TreeView.{cell_view, tree_view};
 
+use at_tree::reader::MAX_DEPTH;
 use at_tree::token::TokVal;
 use at_tree::tree::{Cell, Tree, depth, nodes};
 
 /// How many nodes a tree may have.
 pub const MAX_NODES: usize = 65536;
-
-/// How many levels a tree may have.
-pub const MAX_DEPTH: usize = 512;
 
 /// How many bytes a text may have among the tokens.
 pub const MAX_TOKEN: usize = 4096;

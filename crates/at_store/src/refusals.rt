@@ -17,11 +17,12 @@ ghost use Rattle.at_store.specs.View.{memory_of};
 
 use crate::edit::{Edit, Refusal};
 use crate::entry::{Entry, class_at, is_there, kids_at, up_at};
-use crate::limits::{MAX_DEPTH, MAX_NODES, has_long_token, is_long};
+use crate::limits::{MAX_NODES, has_long_token, is_long};
 use crate::marks::size_at;
 use crate::node::Node;
 use crate::walks::part_of;
 use at_class::{ClassId, ClassTable, PartShape, TokenKind};
+use at_tree::reader::MAX_DEPTH;
 use at_tree::token::TokVal;
 use at_tree::tree::{Tree, depth, fits, nodes};
 use slab::Slab;

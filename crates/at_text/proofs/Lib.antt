@@ -15,3 +15,4 @@ pub mod Breaks
 pub mod Signs
 pub mod Found
 pub mod Scanned
+pub mod Decimals

@@ -1,6 +1,7 @@
-//! Numbers as texts.
-ghost use Rattle.std.specs.Prelude.{◌≡◌, ◌≤◌, ◌++◌, OnOk, OnErr, vec_capacity};
-ghost use Rattle.std.specs.Fmt.{signed_decimal};
+//! Numbers as texts: one spelling for each number.
+ghost use Rattle.std.specs.Prelude.{◌≡◌, ◌≢◌, ◌≤◌, ◌<◌, ◌^◌, ◌++◌, ℕ, ℤ, OnOk, OnErr, MatchOption, vec_capacity};
+ghost use Rattle.std.specs.Fmt.{decimal, signed_decimal};
+ghost use Rattle.at_model.specs.Terms.{IsInt32};
 
 use itoa::Buffer;
 use std::alloc::AllocError;
@@ -15,9 +16,42 @@ pub fn write_int(n: i64, out: &mut Vec<u8>) -> Result<(), AllocError>
     out.extend_from_slice(Buffer::new().format(n).as_bytes())
 }
 
+/// The number of 64 bits whose decimal the word is. The decimal has no sign, and no zero before
+/// another digit.
+pub fn read_number(word: &str) -> Option<u64>
+    ensures { MatchOption result
+        ((n : ℕ) → n < 2 ^ 64 → word.now ≢ decimal n)
+        (λ n. word.now ≡ decimal n) }
+{
+    let Ok(number) = word.parse::<u64>() else {
+        return None;
+    };
+    if Buffer::new().format(number) == word {
+        Some(number)
+    } else {
+        None
+    }
+}
+
+/// The number of 32 bits whose decimal the word is, with a minus sign before a negative one alone.
+pub fn read_int(word: &str) -> Option<i32>
+    ensures { MatchOption result
+        ((n : ℤ) → IsInt32 n → word.now ≢ signed_decimal n)
+        (λ n. IsInt32 n × (word.now ≡ signed_decimal n)) }
+{
+    let Ok(value) = word.parse::<i32>() else {
+        return None;
+    };
+    if Buffer::new().format(value) == word {
+        Some(value)
+    } else {
+        None
+    }
+}
+
 #[cfg(test)]
 mod tests {
-    use super::write_int;
+    use super::{read_int, read_number, write_int};
     use std::test::Fail;
 
     #[test]
@@ -31,5 +65,18 @@ mod tests {
         let want = "-9223372036854775808 0 9223372036854775807";
         assert_eq!(rt; out.as_slice(), want.as_bytes());
         Ok(())
+    }
+
+    #[test]
+    fn numbers_have_one_spelling(rt: HostRuntime) {
+        assert_eq!(rt; read_number("18446744073709551615"), Some(u64::MAX));
+        assert_eq!(rt; read_number("0"), Some(0));
+        assert_eq!(rt; read_int("-2147483648"), Some(i32::MIN));
+        for word in ["", "00", "01", "+1", "-1", "1 ", "18446744073709551616"] {
+            assert_eq!(rt; read_number(word), None, "at {word}");
+        }
+        for word in ["", "-", "-0", "+1", "-01", "2147483648", "-2147483649"] {
+            assert_eq!(rt; read_int(word), None, "at {word}");
+        }
     }
 }

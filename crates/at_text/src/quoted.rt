@@ -3,7 +3,7 @@ ghost use Rattle.std.specs.Prelude.{◌≡◌, ◌≤◌, ◌++◌, ◌∷◌, L
 ghost use Rattle.std.specs.List.{flat_map};
 ghost use Rattle.std.specs.Str.Iter.{chars_rest};
 ghost use Rattle.at_model.specs.Texts.{escaped, quoted};
-ghost use Rattle.at_text.specs.Quoted.{Begins, EndsIn, Extends, Reads};
+ghost use Rattle.at_text.specs.Quoted.{Begins, EndsIn, Extends, Reads, Spells};
 
 use std::alloc::{AllocError, Global};
 use std::str::Chars;
@@ -119,6 +119,19 @@ pub fn read_quoted(alloc: Global, text: &str) -> Result<(String, usize), QuoteFa
     Ok((value, text.len() - chars.as_str().len()))
 }
 
+/// The text whose spelling the whole of this is. `Form` where it is no text's spelling, `Memory`
+/// where memory runs out.
+pub fn read_text(alloc: Global, text: &str) -> Result<String, QuoteFault>
+    ensures { Spells text.now result }
+{
+    let (value, length) = read_quoted(alloc, text)?;
+    if length == text.len() {
+        Ok(value)
+    } else {
+        Err(QuoteFault::Form)
+    }
+}
+
 /// A quoted text tells its text and where it ends, whatever follows: no text has two spellings, no
 /// two texts have one, and none begins another.
 pub fn one_spelling()
@@ -127,7 +140,7 @@ pub fn one_spelling()
 
 #[cfg(test)]
 mod tests {
-    use super::{QuoteFault, read_quoted, write_quoted};
+    use super::{QuoteFault, read_quoted, read_text, write_quoted};
     use std::alloc::Global;
     use std::test::Fail;
 
@@ -149,6 +162,12 @@ mod tests {
         let (value, len) = read_quoted(rt.alloc(), "\"é\",\"b\"")?;
         assert_eq!(rt; value.as_str(), "é");
         assert_eq!(rt; len, 4);
+        let value = read_text(rt.alloc(), "\"é\"")?;
+        assert_eq!(rt; value.as_str(), "é");
+        assert_eq!(rt;
+            read_text(rt.alloc(), "\"é\" ").err(),
+            Some(QuoteFault::Form)
+        );
         Ok(())
     }
 

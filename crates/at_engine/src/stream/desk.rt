@@ -1,15 +1,13 @@
 //! What a run holds from line to line, and what it says of itself.
 ghost use Rattle.std.specs.Prelude.{◌≡◌, ◌≤◌, ◌<◌, ◌+◌, ◌^◌, ◌++◌, vec_len, vec_capacity, [], IfOk, if◌then◌else◌};
 ghost use Rattle.at_engine.specs.Loop.{kept};
-ghost use Rattle.at_engine.specs.declared.stream.desk.TheConstants.{MAX_LINE, REPLY_ROOM};
+ghost use Rattle.at_engine.specs.declared.engine.TheConstants.{REPLY_ROOM};
+ghost use Rattle.at_protocol.specs.declared.line.TheConstants.{MAX_LINE};
 
+use crate::engine::REPLY_ROOM;
+use at_protocol::line::MAX_LINE;
 use std::alloc::{AllocError, Global};
-
-/// The most bytes of a line, its newline not counted.
-pub const MAX_LINE: usize = 65_535;
-
-/// How much room each reply finds.
-pub const REPLY_ROOM: usize = 48;
+use thiserror::Error;
 
 /// What a run did.
 #[derive(Clone, Copy, Debug, PartialEq, Eq)]
@@ -24,8 +22,9 @@ pub struct Report {
     pub work: u64,
 }
 
-/// Why a run ended before its input.
-#[derive(Clone, Copy, Debug, PartialEq, Eq)]
+/// Why a run ended before its input. It is shown as its text.
+#[derive(Clone, Copy, Debug, PartialEq, Eq, Error)]
+#[error("{}", self.text())]
 pub enum RunFault {
     /// A read failed.
     Read,
