@@ -18,10 +18,8 @@ use super::value::{FaultKind, Value};
 use at_class::ClassId;
 use at_rules::{AttrId, Rules};
 use at_store::{Loc, Store};
+use at_tree::reader::MAX_DEPTH;
 use std::alloc::{AllocError, Global};
-
-/// The most nodes on a way down.
-const MAX_DEPTH: u32 = 512;
 
 impl<'a> Trial<'a> {
     /// Begins the evaluation of an instance, and goes on up to the end or to a demand. An error where memory is wanting.
@@ -93,7 +91,7 @@ impl<'a> Trial<'a> {
         rules: &'a Rules,
         store: &'a Store,
         attribute: AttrId,
-        mut height: u32,
+        mut height: usize,
     ) -> Result<Now<'a>, AllocError>
         requires idle_store { IsIdle store.now }
         requires idle { self.old.todo ≡ [] }

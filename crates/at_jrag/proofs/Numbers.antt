@@ -1,11 +1,11 @@
 -- Numbers as digits.
-use Rattle.std.proofs.Common.{◌≡◌, ℕ, ℤ, FitsSigned, w32, pos, ◌<◌, ◌≤◌, List, ◌∷◌, Bool, true, false, Result, Ok, Err, refl, sym, ap, ◌∙◌, arith, inr}
+use Rattle.std.proofs.Common.{◌≡◌, ℕ, ℤ, FitsSigned, w32, pos, ◌<◌, ◌≤◌, ◌^◌, List, ◌∷◌, Bool, true, false, refl, sym, ap, ◌∙◌, arith, inr}
 use lib.Chars.{codes}
 use Rattle.std.specs.Prelude.{◌&&◌, nat_le, nat_lt, decimal}
 use Rattle.std.specs.Str.{bytes_eq}
-use Rattle.std.specs.Str.Parse.{digits_value, ParsesUnsigned}
+use Rattle.std.specs.Str.Parse.{digits_value}
 use Rattle.std.proofs.lemmas.Bool.{leb-true, ltb-true, ltb-false}
-use Rattle.std.proofs.lemmas.Fmt.{parse-decimal}
+use Rattle.std.proofs.lemmas.Fmt.{decimal_injective}
 use Rattle.std.proofs.lemmas.Slice.Eq.{bytes_eq-Decides}
 use Rattle.at_jrag.specs.Grammar.{Row, sign, number, next_is, is_number}
 use Rattle.at_jrag.specs.Syntax as syntax
@@ -36,9 +36,6 @@ within most text e =
     let h = both (nat_le (digits_value 10 text) most) (bytes_eq (decimal (digits_value 10 text)) text) e in
     record { value = digits_value 10 text; small = leb-true (digits_value 10 text) most h.0; digits = sym ((bytes_eq-Decides (decimal (digits_value 10 text)) text).0 h.1) }
 
-pub parsed : {E : Type 0} (most : ℕ) (text : List ℕ) (r : Result ℕ E) → most ≤ 2147483648 → ParsesUnsigned 32 10 text r → (w : Within most text) → r ≡ Ok w.value
-parsed most text r h p w = parse-decimal 32 w.value text r (omega (arith, h, w.small)) (omega (arith, h, w.small)) w.digits p
-
 decide : (b : Bool) (most : ℕ) (text : List ℕ) → is_decimal_within most text ≡ b → (Within most text → ⊥) → b ≡ false
 decide true most text e none = absurd (none (within most text e))
 decide false most text e none = refl
@@ -47,22 +44,13 @@ decide false most text e none = refl
 pub none_within : (most : ℕ) (text : List ℕ) → (Within most text → ⊥) → is_decimal_within most text ≡ false
 none_within most text none = decide (is_decimal_within most text) most text refl none
 
-pub no_parse : {E : Type 0} (most : ℕ) (text : List ℕ) (r : Result ℕ E) → most ≤ 2147483648 → ParsesUnsigned 32 10 text r → ((v : ℕ) → r ≡ Ok v → ⊥) → is_decimal_within most text ≡ false
-no_parse most text r h p none = none_within most text (λ w. none w.value (parsed most text r h p w))
+-- no number has these digits
+pub no_number : (most : ℕ) (text : List ℕ) → most ≤ 2147483648 → ((n : ℕ) → n < 2 ^ 64 → text ≡ decimal n → ⊥) → is_decimal_within most text ≡ false
+no_number most text small none = none_within most text (λ w. none w.value (omega (arith, small, w.small)) w.digits)
 
-abbrev value_of : {E : Type 0} → Result ℕ E → ℕ
-value_of (Ok v) = v
-value_of (Err e) = 0
-
-pub no_decimal : {E : Type 0} (most : ℕ) (text : List ℕ) (r : Result ℕ E) (v : ℕ) → most ≤ 2147483648 → ParsesUnsigned 32 10 text r → r ≡ Ok v → bytes_eq (decimal v) text ≡ false → is_decimal_within most text ≡ false
-no_decimal most text r v h p is other = none_within most text (λ w.
-    let same : v ≡ w.value = ap value_of (sym is ∙ parsed most text r h p w) in
-    let t : bytes_eq (decimal v) text ≡ true = (bytes_eq-Decides (decimal v) text).1 (ap decimal same ∙ sym w.digits) in
-    absurd (let c : true ≡ false = sym t ∙ other in cc))
-
--- what was parsed is the number within the bound
-pub known : {E : Type 0} (most : ℕ) (text : List ℕ) (r : Result ℕ E) (v : ℕ) → most ≤ 2147483648 → ParsesUnsigned 32 10 text r → r ≡ Ok v → Within most text → v ≤ most
-known most text r v h p is w = let same : v ≡ w.value = ap value_of (sym is ∙ parsed most text r h p w) in omega (arith, same, w.small)
+-- what is read of such digits is within the bound
+pub known : (most : ℕ) (text : List ℕ) (v : ℕ) → most ≤ 2147483648 → v < 2 ^ 64 → text ≡ decimal v → Within most text → v ≤ most
+known most text v small fits is w = let same : v ≡ w.value = decimal_injective v w.value fits (omega (arith, small, w.small)) (sym is ∙ w.digits) in omega (arith, same, w.small)
 
 at_least : (x : Bool) (v : ℕ) → nat_lt v 2147483648 ≡ x → (v < 2147483648 → ⊥) → 2147483648 ≤ v
 at_least true v e none = absurd (none (ltb-true v 2147483648 e))

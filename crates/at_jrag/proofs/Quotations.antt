@@ -1,13 +1,10 @@
 -- The spelling of a text between quotes, told by its bytes.
-use Rattle.std.proofs.Common.{◌≡◌, ℕ, List, [], ◌∷◌, ◌++◌, Bool, true, false, cond, refl, sym, ap, subst, ◌∙◌, append_assoc, length-append, arith}
-use Rattle.std.specs.Prelude.{◌==◌, ◌&&◌, ◌||◌, not, length, Result, Ok, String}
-use Rattle.std.proofs.lemmas.List.{append-nil}
+use Rattle.std.proofs.Common.{◌≡◌, ℕ, List, [], ◌∷◌, ◌++◌, Bool, true, false, cond, refl, sym, ap, subst, ◌∙◌, append_assoc}
+use Rattle.std.specs.Prelude.{◌==◌, ◌&&◌, ◌||◌, not}
 use Rattle.std.specs.List.{flat_map}
 use Rattle.std.proofs.lemmas.Bool.{eqb-true}
 use Rattle.std.proofs.lemmas.List.Concat.{flat_map-cons}
 use Rattle.at_model.specs.Texts.{escaped, quoted}
-use Rattle.at_text.specs.Quoted.{Begins, Reads}
-use Rattle.at_text.specs.declared.quoted.QuoteFault.{QuoteFault}
 use Rattle.at_text.specs.Faults.{makes_escape}
 use Rattle.at_jrag.specs.Table.{is_quoted, ends_quoted}
 
@@ -66,24 +63,6 @@ decide : (x : Bool) (bytes : List ℕ) → is_quoted bytes ≡ x → ((text : Li
 decide true bytes e none = let q = quoted_of bytes e in absurd (none q.0 q.1)
 decide false bytes e none = refl
 
-begins_of : (bytes text : List ℕ) → bytes ≡ quoted text → Begins bytes text
-begins_of bytes text e = ([], e ∙ sym (append-nil (quoted text)))
-
--- no text's spelling stands at the front
-pub no_form : (bytes : List ℕ) → ((text : List ℕ) → Begins bytes text → ⊥) → is_quoted bytes ≡ false
-no_form bytes none = decide (is_quoted bytes) bytes refl (λ text e. none text (begins_of bytes text e))
-
-read_length : {Z : Type 0} (r : Result (String Z × ℕ) QuoteFault) (p : String Z × ℕ) (text : List ℕ) → r ≡ Ok p → Reads r text → p.1 ≡ length (quoted text)
-read_length r p text e h = (subst (λ x. Reads x text) e h).1
-
--- a text's spelling stands at the front, and more behind it
-pub no_end : {Z : Type 0} (bytes : List ℕ) (r : Result (String Z × ℕ) QuoteFault) (p : String Z × ℕ) → r ≡ Ok p → ((text : List ℕ) → Begins bytes text → Reads r text) → (p.1 ≡ length bytes → ⊥) → is_quoted bytes ≡ false
-no_end bytes r p e reads more = decide (is_quoted bytes) bytes refl (λ text q. more (read_length r p text e (reads text (begins_of bytes text q)) ∙ ap length (sym q)))
-
-none_behind : (bytes text rest : List ℕ) → bytes ≡ quoted text ++ rest → length bytes ≡ length (quoted text) → bytes ≡ quoted text
-none_behind bytes text [] e h = e ∙ append-nil (quoted text)
-none_behind bytes text (b ∷ rest) e h = let l = ap length e in absurd (omega (arith, l, h, length-append (quoted text) (b ∷ rest)))
-
--- a spelling as long as what it stands at the front of
-pub whole_text : (bytes text : List ℕ) (n : ℕ) → Begins bytes text → n ≡ length (quoted text) → n ≡ length bytes → bytes ≡ quoted text
-whole_text bytes text n b e h = none_behind bytes text b.0 b.1 (sym h ∙ e)
+-- it is no text's spelling
+pub no_text : (bytes : List ℕ) → ((text : List ℕ) → quoted text ≡ bytes → ⊥) → is_quoted bytes ≡ false
+no_text bytes none = decide (is_quoted bytes) bytes refl (λ text e. none text (sym e))

@@ -1,7 +1,6 @@
 //! Literals, and what they are read from.
 
-ghost use Rattle.std.specs.Prelude.{◌≡◌, ◌∷◌, List, IfOk, IfErr, IfNone, MatchOption, true, false, decimal};
-ghost use Rattle.std.specs.Str.{bytes_eq};
+ghost use Rattle.std.specs.Prelude.{◌≡◌, ◌∷◌, List, IfOk, IfErr, IfNone, MatchOption, true, false};
 ghost use Rattle.at_jrag.specs.Syntax as syntax;
 ghost use Rattle.at_jrag.specs.View.{expr_view};
 ghost use Rattle.at_jrag.specs.Grammar.{Row, word, number, quotation, next_is};
@@ -14,28 +13,18 @@ ghost use Rattle.at_jrag.specs.Read.{IsNumber, greatest, opens_negative, is_cons
 use super::forms::{Measured, leaf};
 use super::{ReadError, Reader, is_sign};
 use crate::syntax::Form;
-use at_text::quoted::{QuoteFault, read_quoted};
+use at_text::decimal::read_number;
+use at_text::quoted::{QuoteFault, read_text};
 use at_text::token::TokenKind;
-use itoa::Buffer;
-
-/// Whether these digits are those of the number.
-fn is_decimal(digits: &str, value: u32) -> bool
-    ensures { result ≡ bytes_eq (decimal value) digits.now }
-{
-    Buffer::new().format(value) == digits
-}
 
 /// The number that the digits spell, with a minus before them or without.
 pub fn number(digits: &str, is_negative: bool) -> Option<i32>
     ensures value { MatchOption result (Unit {0}) (IsNumber is_negative digits.now) }
     ensures none { IfNone result (is_decimal_within (greatest is_negative) digits.now ≡ false) }
 {
-    let Ok(value) = digits.parse::<u32>() else {
+    let Some(value) = read_number(digits) else {
         return None;
     };
-    if !is_decimal(digits, value) {
-        return None;
-    }
     match i32::try_from(value) {
         Ok(value) => Some(if is_negative { -value } else { value }),
         Err(_) if is_negative && value == 2147483648 => Some(i32::MIN),
@@ -134,13 +123,8 @@ impl<'a> Reader<'a> {
         ensures spelled { IfOk result (λ m. is_quoted spelling.now ≡ true) }
         ensures refused { IfErr result (NoText spelling.now) }
     {
-        match read_quoted(self.alloc, spelling) {
-            Ok((value, len)) => {
-                if len != spelling.len() {
-                    return Err(ReadError::Syntax);
-                }
-                Ok(leaf(at, Form::Text(value)))
-            }
+        match read_text(self.alloc, spelling) {
+            Ok(value) => Ok(leaf(at, Form::Text(value))),
             Err(QuoteFault::Form) => Err(ReadError::Syntax),
             Err(QuoteFault::Memory) => Err(ReadError::Memory),
         }

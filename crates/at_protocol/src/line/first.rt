@@ -5,7 +5,8 @@ ghost use Rattle.at_protocol.specs.Words.{Answers, IsFirst, IsExpected, IsNameTe
 
 use super::Place;
 use super::places::read_place;
-use super::words::{WordFault, cut, read_index, read_name, read_number};
+use super::words::{WordFault, cut, read_index, read_name};
+use at_text::decimal::read_number;
 use std::alloc::Global;
 
 /// The place that the first word spells, and the rest.

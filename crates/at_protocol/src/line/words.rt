@@ -1,28 +1,27 @@
 //! The words of lines.
-ghost use Rattle.std.specs.Prelude.{◌≡◌, ◌≢◌, ◌==◌, ◌++◌, ◌∷◌, ◌<◌, ◌≤◌, ℕ, ℤ, Some, MatchOption, MatchResult, string_bytes};
+ghost use Rattle.std.specs.Prelude.{◌≡◌, ◌≢◌, ◌==◌, ◌++◌, ◌∷◌, ◌<◌, ℕ, Some, MatchOption, MatchResult, string_bytes};
 ghost use Rattle.std.specs.List.{before_first};
-ghost use Rattle.std.specs.Fmt.{decimal, signed_decimal};
-ghost use Rattle.at_model.specs.Lines.{max_sessions, last_version};
+ghost use Rattle.std.specs.Fmt.{decimal};
+ghost use Rattle.at_model.specs.Lines.{max_sessions};
 ghost use Rattle.at_model.specs.Paths.{IsIndex};
-ghost use Rattle.at_model.specs.Terms.{IsInt32};
 ghost use Rattle.at_tree.specs.Token.{token_view};
 ghost use Rattle.at_tree.specs.View.{term_view};
 ghost use Rattle.at_protocol.specs.Words.{HasNoSpace, Answers, IsNameText, IsQuotedText, IsTermText, IsValueText};
 
+use at_text::decimal::{read_int, read_number};
 use at_text::names::is_name;
-use at_text::quoted::{QuoteFault, read_quoted};
+use at_text::quoted::{QuoteFault, read_text};
 use at_tree::fault::TermFault;
 use at_tree::reader::read_term;
 use at_tree::term::Term;
 use at_tree::token::TokVal;
-use itoa::Buffer;
 use std::alloc::{AllocError, AllocFailed, Global};
 
 /// The sessions are those below.
-const MAX_SESSIONS: u16 = 1000;
+const MAX_SESSIONS: u64 = 1000;
 
 /// The indexes are those below: they have at most nine digits.
-const MAX_INDEXES: u32 = 1_000_000_000;
+const MAX_INDEXES: u64 = 1_000_000_000;
 
 /// Why words were not read.
 #[derive(Clone, Copy, Debug)]
@@ -80,11 +79,11 @@ pub(super) fn read_session(word: &str) -> Option<u16>
         ((session : ℕ) → session < max_sessions → word.now ≢ decimal session)
         (λ session. (session < max_sessions) × (word.now ≡ decimal session)) }
 {
-    let Ok(session) = word.parse::<u16>() else {
+    let Some(session) = read_number(word) else {
         return None;
     };
-    if session < MAX_SESSIONS && Buffer::new().format(session) == word {
-        Some(session)
+    if session < MAX_SESSIONS {
+        Some(session as u16)
     } else {
         None
     }
@@ -101,33 +100,17 @@ pub(super) fn read_name(alloc: Global, word: &str) -> Result<String, WordFault>
     }
 }
 
-/// The number of 64 bits whose decimal the word is.
-pub(super) fn read_number(word: &str) -> Option<u64>
-    ensures { MatchOption result
-        ((n : ℕ) → n ≤ last_version → word.now ≢ decimal n)
-        (λ n. word.now ≡ decimal n) }
-{
-    let Ok(number) = word.parse::<u64>() else {
-        return None;
-    };
-    if Buffer::new().format(number) == word {
-        Some(number)
-    } else {
-        None
-    }
-}
-
 /// The index whose decimal the word is: it has at most nine digits.
 pub(super) fn read_index(word: &str) -> Option<u32>
     ensures { MatchOption result
         ((n : ℕ) → IsIndex (Some n) → word.now ≢ decimal n)
         (λ n. IsIndex (Some n) × (word.now ≡ decimal n)) }
 {
-    let Ok(index) = word.parse::<u32>() else {
+    let Some(index) = read_number(word) else {
         return None;
     };
-    if index < MAX_INDEXES && Buffer::new().format(index) == word {
-        Some(index)
+    if index < MAX_INDEXES {
+        Some(index as u32)
     } else {
         None
     }
@@ -144,35 +127,14 @@ pub(super) fn read_term_text(alloc: Global, text: &str) -> Result<Term, WordFaul
     }
 }
 
-/// The number of 32 bits whose decimal the word is.
-fn read_int(word: &str) -> Option<i32>
-    ensures { MatchOption result
-        ((n : ℤ) → IsInt32 n → word.now ≢ signed_decimal n)
-        (λ n. IsInt32 n × (word.now ≡ signed_decimal n)) }
-{
-    let Ok(value) = word.parse::<i32>() else {
-        return None;
-    };
-    if Buffer::new().format(value) == word {
-        Some(value)
-    } else {
-        None
-    }
-}
-
 /// The text whose spelling between quotes the whole of this is.
-fn read_text(alloc: Global, text: &str) -> Result<String, WordFault>
+fn read_quotation(alloc: Global, text: &str) -> Result<String, WordFault>
     ensures { Answers (λ value. string_bytes value) (IsQuotedText text.now) result }
 {
-    let (value, length) = match read_quoted(alloc, text) {
-        Ok(read) => read,
-        Err(QuoteFault::Form) => return Err(WordFault::Form),
-        Err(QuoteFault::Memory) => return Err(WordFault::Memory),
-    };
-    if length == text.len() {
-        Ok(value)
-    } else {
-        Err(WordFault::Form)
+    match read_text(alloc, text) {
+        Ok(value) => Ok(value),
+        Err(QuoteFault::Form) => Err(WordFault::Form),
+        Err(QuoteFault::Memory) => Err(WordFault::Memory),
     }
 }
 
@@ -189,5 +151,5 @@ pub(super) fn read_value(alloc: Global, text: &str) -> Result<TokVal, WordFault>
     if let Some(value) = read_int(text) {
         return Ok(TokVal::Int(value));
     }
-    Ok(TokVal::Str(read_text(alloc, text)?))
+    Ok(TokVal::Str(read_quotation(alloc, text)?))
 }

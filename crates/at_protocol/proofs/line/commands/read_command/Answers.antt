@@ -1,5 +1,5 @@
 use Rattle.std.proofs.lemmas.Result.{err_from_is_err_and}
-use Rattle.at_protocol.proofs.Numbers.{never_unequal}
+use Rattle.at_text.proofs.Decimals.{never_unequal}
 use Rattle.at_protocol.proofs.Commands.{no_word, no_command, behind}
 use Rattle.at_protocol.proofs.line.commands.read_command.Goals as goal
 

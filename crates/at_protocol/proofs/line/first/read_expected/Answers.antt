@@ -1,4 +1,4 @@
-use Rattle.std.proofs.Common.{◌≡◌, ◌++◌, ◌∷◌, Some, None, refl}
+use Rattle.std.proofs.Common.{◌≡◌, ◌++◌, ◌∷◌, Some, None, refl, arith}
 use Rattle.std.specs.Prelude.{codes}
 use Rattle.std.proofs.lemmas.Result.{err_from_is_err_and}
 use Rattle.at_text.proofs.Fronts.{front_stripped}
@@ -14,4 +14,4 @@ returns-in_err-word c =
 pub returns-in-None : goal.returns-in-None
 returns-in-None c =
     let behind = front_stripped c.args.text.now (codes "at ") (Some c.in-Some.rest) c.in-Some.ensures.cases c.utf8.text in
-    no_version _ _ _ _ behind.0 c.in_ok-word.ensures.0 c.in_ok-word.ensures.1 c.in-None.ensures
+    no_version _ _ _ _ behind.0 c.in_ok-word.ensures.0 c.in_ok-word.ensures.1 (λ n h. c.in-None.ensures n (omega (arith, h)))

@@ -1,5 +1,6 @@
 use Rattle.std.proofs.Common.{sym, ◌∙◌}
-use Rattle.at_protocol.proofs.Numbers.{equal, never_unequal}
+use Rattle.at_text.proofs.Decimals.{never_unequal}
+use Rattle.at_protocol.proofs.Numbers.{equal}
 use Rattle.at_protocol.proofs.Places.{no_steps, steps_answer}
 use Rattle.at_protocol.proofs.line.places.read_steps.Goals as goal
 

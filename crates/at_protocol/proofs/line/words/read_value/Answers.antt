@@ -1,5 +1,6 @@
 use Rattle.std.proofs.Common.{sym}
-use Rattle.at_protocol.proofs.Numbers.{equal, same_int}
+use Rattle.at_text.proofs.Decimals.{same_int}
+use Rattle.at_protocol.proofs.Numbers.{equal}
 use Rattle.at_protocol.proofs.line.words.read_value.Goals as goal
 
 pub returns-then-eq : goal.returns-then-eq
