@@ -1,5 +1,5 @@
 -- Ways up from class to superclass, one step at a time.
-use Rattle.std.proofs.Common.{◌≡◌, ℕ, ◌+◌, ◌-◌, ◌<◌, ◌≤◌, List, [], ◌∷◌, length, refl, ap, ◌∙◌, arith, Option, Some, None, suc, zero}
+use Rattle.std.proofs.Common.{◌≡◌, ℕ, ◌+◌, ◌-◌, ◌<◌, ◌≤◌, [], ◌∷◌, refl, ap, ◌∙◌, arith, Option, Some, None, suc, zero}
 use Rattle.std.specs.Prelude.{true, false, nat_eq}
 use Rattle.std.specs.List.{list_any}
 use Rattle.at_model.specs.Classes.{Classes, chain_within, parent_of}

@@ -1,6 +1,6 @@
 -- Ways up, and what is known of the classes on them.
-use Rattle.std.proofs.Common.{◌≡◌, ℕ, zero, suc, ◌+◌, ◌-◌, ◌<◌, ◌≤◌, ◌⊎◌, inl, inr, List, [], ◌∷◌, ◌++◌, length, length-append, refl, ap, sym, ◌∙◌, subst, arith, true≢false, eq-eqb, Option, Some, None, Bool, true, false}
-use Rattle.std.specs.Prelude.{◌||◌, ◌&&◌, nat_eq, get_or, set, replicate, unwrap_or}
+use Rattle.std.proofs.Common.{◌≡◌, ℕ, zero, suc, ◌+◌, ◌<◌, ◌≤◌, ◌⊎◌, inl, inr, List, [], ◌∷◌, ◌++◌, length, length-append, refl, ap, sym, ◌∙◌, subst, arith, true≢false, eq-eqb, Option, Some, None, Bool, true, false}
+use Rattle.std.specs.Prelude.{◌||◌, ◌&&◌, nat_eq, set, replicate, unwrap_or}
 use Rattle.std.specs.List.{list_any, list_all}
 use Rattle.std.proofs.lemmas.Bool.{eqb-true, or_left, or_right}
 use Rattle.std.proofs.lemmas.List.Folds.{list_any-append}

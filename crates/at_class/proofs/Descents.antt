@@ -1,5 +1,5 @@
 -- Ways down through the classes, one class at a time.
-use Rattle.std.proofs.Common.{◌≡◌, ℕ, zero, suc, ◌+◌, ◌-◌, ◌<◌, ◌≤◌, ◌⊎◌, inl, inr, List, [], ◌∷◌, ◌++◌, length, map, take, drop, reverse, get_or, refl, ap, sym, ◌∙◌, subst, arith, append-nil, append_assoc, length-append, Option, Some, None, Bool, true, false, true≢false, eq-eqb}
+use Rattle.std.proofs.Common.{◌≡◌, ℕ, zero, suc, ◌+◌, ◌-◌, ◌<◌, ◌⊎◌, inl, inr, List, [], ◌∷◌, ◌++◌, length, take, drop, reverse, get_or, refl, ap, sym, ◌∙◌, subst, arith, append-nil, append_assoc, length-append, Option, Some, None, true, false, true≢false, eq-eqb}
 use Rattle.std.specs.Prelude.{nat_eq, set, replicate, unwrap_or}
 use Rattle.std.specs.Option.{option_eq}
 use Rattle.std.proofs.lemmas.Bool.{eqb-true}
@@ -7,7 +7,7 @@ use Rattle.std.specs.List.{flat_map, slice_get}
 use Rattle.std.proofs.lemmas.List.{reverse-append}
 use Rattle.std.proofs.lemmas.List.Concat.{flat_map-append}
 use Rattle.at_model.specs.Classes.{Classes, Component, chain, chain_within, own_of, parent_of, parts}
-use Rattle.at_model.specs.Declarations.{above, inherited, is_twice, max_parts}
+use Rattle.at_model.specs.Declarations.{above, max_parts}
 use Rattle.at_class.proofs.Chains.{chain_within-none}
 use Rattle.at_class.specs.Taken.{AreTaken, Grows, IsFirst, is_taken_at}
 use Rattle.at_class.specs.Ways.{AreLed, AreFound, Holds, IsFound, IsWay, Knows, all_of, classes_on, end_of, known_at, on_way, top_of}
@@ -58,7 +58,7 @@ all_more classes c up =
     ∙ flat_map-append (own_of classes) (reverse up) (c ∷ [])
     ∙ ap (λ ps. all_of classes up ++ ps) (append-nil (own_of classes c))
 
-all_parts : (classes : Classes) → AreLed classes → (c : ℕ) → parts classes c ≡ all_of classes (above classes c) ++ own_of classes c
+pub all_parts : (classes : Classes) → AreLed classes → (c : ℕ) → parts classes c ≡ all_of classes (above classes c) ++ own_of classes c
 all_parts classes led c = ap (all_of classes) (led c) ∙ all_more classes c (above classes c)
 
 -- ways ----------------------------------------------------------------------------------------------------------------
@@ -234,7 +234,7 @@ knows_nothing classes way found n w e = subst (Knows classes way) (sym e) (recor
     none_some : {g : Found} → None ≡ Some g → ⊥
     none_some h = cc
 
-pushed_at : (fs : List Found) (f : Found) (c : ℕ) (d : Found) → c < length fs + 1 → ((c < length fs) × (get_or (fs ++ f ∷ []) c d ≡ get_or fs c d)) ⊎ ((c ≡ length fs) × (get_or (fs ++ f ∷ []) c d ≡ f))
+pub pushed_at : {X : Type 0} (fs : List X) (f : X) (c : ℕ) (d : X) → c < length fs + 1 → ((c < length fs) × (get_or (fs ++ f ∷ []) c d ≡ get_or fs c d)) ⊎ ((c ≡ length fs) × (get_or (fs ++ f ∷ []) c d ≡ f))
 pushed_at [] f zero d less = inr (refl, refl)
 pushed_at [] f (suc c) d less = absurd (omega (arith, less))
 pushed_at (g ∷ gs) f zero d less = inl (omega arith, refl)

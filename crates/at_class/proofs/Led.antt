@@ -5,10 +5,9 @@ use Rattle.std.specs.List.{list_any}
 use Rattle.std.proofs.lemmas.Bool.{ltb-true, ltb-false, or_left, or_right}
 use Rattle.std.proofs.lemmas.Option.{slice_get_past}
 use Rattle.std.proofs.lemmas.List.Folds.{list_any-append}
-use Rattle.at_model.specs.Classes.{Class, Classes, chain, chain_within, is_sub, parent_of}
+use Rattle.at_model.specs.Classes.{Class, Classes, chain, chain_within, parent_of}
 use Rattle.at_model.specs.Declarations.{above}
 use Rattle.at_model.specs.WellFormed.{IsHierarchy}
-use Rattle.at_model.proofs.Below.{AreChained}
 use Rattle.at_model.proofs.Chained.{chained}
 use Rattle.at_class.proofs.Chains.{chain_within-none}
 use Rattle.at_class.specs.Ways.{AreLed, end_of}

@@ -9,4 +9,5 @@ pub mod Acyclic
 pub mod Whole
 pub mod Led
 pub mod Descents
+pub mod Entries
 pub mod Places

@@ -1,14 +1,14 @@
 -- Which class a name names, by whichever list of names.
-use Rattle.std.proofs.Common.{◌≡◌, ℕ, ◌+◌, ◌<◌, List, [], ◌∷◌, length, map, take, get_or, refl, ap, sym, ◌∙◌, arith, Some, suc, zero, add-zero, true≢false}
-use Rattle.std.specs.Prelude.{Bool, true, false, ◌||◌, cond, position, String, string_bytes}
+use Rattle.std.proofs.Common.{◌≡◌, ℕ, ◌+◌, ◌<◌, List, [], ◌∷◌, length, map, take, get_or, refl, ap, sym, ◌∙◌, arith, Option, Some, None, suc, zero, add-zero, true≢false}
+use Rattle.std.specs.Prelude.{Bool, true, false, ◌||◌, cond, position, IfSome, String, string_bytes}
 use Rattle.std.specs.List.{list_any, position_from}
 use Rattle.std.specs.Str.{bytes_eq}
+use Rattle.std.proofs.lemmas.List.Quantifiers.{position-Some}
 use Rattle.std.proofs.lemmas.Iterator.Adapters.{position_from-zero}
-use Rattle.at_model.specs.Classes.{Classes, class_of_name}
+use Rattle.at_model.specs.Classes.{Class, Classes, class_of_name}
 use Rattle.at_model.specs.Declarations.{Declarations, class_named, class_by, classes_of, unknown_class, superclass_circle, component_twice, over_limit}
 use Rattle.at_grammar.specs.declared.syntax.ClassDecl.{ClassDecl}
-use Rattle.at_class.specs.declared.class.Class.{Class as ClassValue}
-use Rattle.at_class.specs.View.{class_view, classes_view, named_in}
+use Rattle.at_class.specs.View.{named_in}
 use Rattle.at_class.specs.Grammar.{declaration_view, declarations_view}
 use Rattle.at_class.specs.Checks.{unknown_by, circle_in, twice_in, over_in, parts_twice}
 
@@ -37,6 +37,14 @@ pub position-at : {A : Type 0} (p : A → Bool) (xs : List A) (k : ℕ) (d : A) 
 position-at p xs k d less none here =
     let n : 0 + k ≡ k = omega arith in position_from-zero p xs ∙ position_from-at p 0 xs k d less none here ∙ ap Some n
 
+pub position-within : {A : Type 0} (p : A → Bool) (xs : List A) → IfSome (position p xs) (λ k. k < length xs)
+position-within p [] = tt
+position-within p (x ∷ xs) = by (position p (x ∷ xs)) refl
+  where
+    by : (r : Option ℕ) → position p (x ∷ xs) ≡ r → IfSome r (λ k. k < length (x ∷ xs))
+    by None e = tt
+    by (Some k) e = (position-Some p (x ∷ xs) k x e).0
+
 -- names that are those of the declarations name the same classes
 pub named_in-declared : {Z : Type 0} (keys : List (String Z)) (xs : List ClassDecl) → map string_bytes keys ≡ map (λ d. string_bytes d.name) xs → (name : List ℕ) → named_in keys name ≡ class_named (declarations_view xs) name
 named_in-declared keys xs same name =
@@ -46,12 +54,11 @@ named_in-declared keys xs same name =
     ∙ sym (position-map (λ d. bytes_eq name d.name) declaration_view xs)
 
 -- and those of the classes too
-pub named_in-classes : {Z : Type 0} (keys : List (String Z)) (ks : List ClassValue) → map string_bytes keys ≡ map (λ k. string_bytes k.name) ks → (name : List ℕ) → named_in keys name ≡ class_of_name (classes_view ks) name
-named_in-classes keys ks same name =
+pub named_in-classes : {Z : Type 0} (keys : List (String Z)) (classes : Classes) → map (λ (k : Class). k.name) classes ≡ map string_bytes keys → (name : List ℕ) → named_in keys name ≡ class_of_name classes name
+named_in-classes keys classes same name =
     sym (position-map (bytes_eq name) string_bytes keys)
-    ∙ ap (position (bytes_eq name)) same
-    ∙ position-map (bytes_eq name) (λ (k : ClassValue). string_bytes k.name) ks
-    ∙ sym (position-map (λ k. bytes_eq name k.name) class_view ks)
+    ∙ ap (position (bytes_eq name)) (sym same)
+    ∙ position-map (bytes_eq name) (λ (k : Class). k.name) classes
 
 same_names : {Z : Type 0} (keys : List (String Z)) (xs : List ClassDecl) → map string_bytes keys ≡ map (λ d. string_bytes d.name) xs → named_in keys ≡ class_named (declarations_view xs)
 same_names keys xs same = λ i name. named_in-declared keys xs same name i

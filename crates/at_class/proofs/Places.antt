@@ -1,5 +1,5 @@
 -- Places of the first components and classes at which a rule is broken, by what was found of their classes.
-use Rattle.std.proofs.Common.{◌≡◌, ℕ, zero, suc, ◌+◌, ◌-◌, ◌<◌, ◌≤◌, List, [], ◌∷◌, length, map, get_or, refl, ap, sym, ◌∙◌, subst, arith, eq-eqb, true≢false, Option, Some, None}
+use Rattle.std.proofs.Common.{◌≡◌, ℕ, zero, suc, ◌+◌, ◌-◌, ◌<◌, ◌≤◌, List, [], ◌∷◌, length, map, get_or, refl, ap, sym, ◌∙◌, subst, arith, eq-eqb, true≢false, Some, None}
 use Rattle.std.specs.Prelude.{Bool, true, false, ◌||◌, if◌then◌else◌, nat_eq, nat_le, nat_lt}
 use Rattle.std.specs.List.{slice_get}
 use Rattle.std.specs.Option.{option_map}
@@ -9,8 +9,8 @@ use Rattle.std.proofs.lemmas.Option.{slice_get-map, slice_get_read, slice_get_pa
 use Rattle.at_grammar.specs.declared.syntax.ClassDecl.{ClassDecl}
 use Rattle.at_grammar.specs.declared.syntax.PartDecl.{PartDecl}
 use Rattle.at_model.specs.Classes.{Classes, parts}
-use Rattle.at_model.specs.Declarations.{PartDeclaration, Place, class_by, class_named, classes_of, first_given, is_twice, max_classes, max_parts}
-use Rattle.at_class.specs.Checks.{part_twice_at, parts_twice}
+use Rattle.at_model.specs.Declarations.{PartDeclaration, class_by, class_named, classes_of, first_given, is_twice, max_classes, max_parts}
+use Rattle.at_class.specs.Checks.{parts_twice}
 use Rattle.at_class.specs.Grammar.{declaration_view, declarations_view, part_declaration_view}
 use Rattle.at_class.specs.Taken.{IsFirst}
 use Rattle.at_class.specs.View.{class_view, classes_view}

@@ -5,7 +5,6 @@ use Rattle.std.specs.Str.{IsUtf8, bytes_eq}
 use Rattle.std.proofs.lemmas.Str.{IsUtf8-string_bytes}
 use Rattle.std.specs.Option.{option_or}
 use Rattle.std.proofs.lemmas.List.{length-map, get_or-map}
-use Rattle.std.proofs.lemmas.List.Quantifiers.{position-Some}
 use Rattle.std.proofs.lemmas.Option.{slice_get-get_or, slice_get-map}
 use Rattle.at_model.specs.Classes.{Class, AreSound, IsClassSound, IsComponentSound, IsShapeWithin, TokenKind, class_of_name, name_of}
 use Rattle.at_model.specs.Names.{IsName}
@@ -13,7 +12,7 @@ use Rattle.at_model.specs.Declarations.{Declarations, Declaration, PartDeclarati
 use Rattle.at_class.proofs.Firsts.{twice_test}
 use Rattle.at_grammar.specs.declared.syntax.ClassDecl.{ClassDecl}
 use Rattle.at_class.specs.Grammar.{declaration_view, part_declaration_view, declarations_view}
-use Rattle.at_class.proofs.Named.{position-at, position-map}
+use Rattle.at_class.proofs.Named.{position-at, position-map, position-within}
 
 -- nothing is given anywhere
 pub given_nowhere : {A B : Type 0} (f : ℕ → A → Option B) (k : ℕ) (xs : List A) (i : ℕ) (d : A) → first_given f k xs ≡ None → i < length xs → f (k + i) (get_or xs i d) ≡ None
@@ -38,11 +37,7 @@ untaken false true p h = absurd (cc)
 untaken false false p h = refl
 
 class_named-within : (ds : Declarations) (name : List ℕ) → IfSome (class_named ds name) (λ c. c < length ds)
-class_named-within [] name = tt
-class_named-within (d ∷ ds) name = by (class_named (d ∷ ds) name) refl where
-  by : (r : Option ℕ) → class_named (d ∷ ds) name ≡ r → IfSome r (λ c. c < length (d ∷ ds))
-  by None e = tt
-  by (Some c) e = (position-Some (λ d. bytes_eq name d.name) (d ∷ ds) c d e).0
+class_named-within ds name = position-within (λ d. bytes_eq name d.name) ds
 
 or_first : (n : ℕ) (r : Option ℕ) → 0 < n → IfSome r (λ c. c < n) → unwrap_or r 0 < n
 or_first n None some within = some

@@ -1,5 +1,5 @@
 -- Which names components take.
-use Rattle.std.proofs.Common.{◌≡◌, ℕ, zero, suc, ◌+◌, ◌<◌, ◌≤◌, ◌⊎◌, inl, inr, List, [], ◌∷◌, ◌++◌, length, map, take, drop, get_or, refl, ap, ap₂, sym, ◌∙◌, arith, append_assoc, true≢false, eq-eqb, Bool, true, false, Option, Some, None}
+use Rattle.std.proofs.Common.{◌≡◌, ℕ, ◌+◌, ◌<◌, ◌≤◌, ◌⊎◌, inl, inr, List, [], ◌∷◌, ◌++◌, length, map, take, drop, get_or, refl, ap, ap₂, sym, ◌∙◌, arith, append_assoc, true≢false, eq-eqb, Bool, true, false, Option, Some, None}
 use Rattle.std.specs.Prelude.{◌||◌, ◌&&◌, nat_eq, nat_lt, String, string_bytes, if◌then◌else◌, codes}
 use Rattle.std.specs.List.{list_any, slice_get}
 use Rattle.std.specs.Option.{option_map}

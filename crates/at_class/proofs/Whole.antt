@@ -1,17 +1,22 @@
 -- The whole table.
-use Rattle.std.proofs.Common.{◌≡◌, ◌<◌, ◌∙◌, ℕ, List, [], ◌∷◌, ap, sym, subst, refl, arith, length, map, None, Some, false, true}
+use Rattle.std.proofs.Common.{◌≡◌, ◌<◌, ◌∙◌, ℕ, List, [], ◌∷◌, ap, sym, subst, refl, arith, length, map, get_or, None, Some, false, true}
 use Rattle.std.proofs.lemmas.Bool.{eqb-true}
+use Rattle.std.proofs.lemmas.List.{length-map}
 use Rattle.std.proofs.Common.{eq-eqb, true≢false}
-use Rattle.std.specs.Prelude.{String, Vec, string_bytes, ◌==◌}
+use Rattle.std.specs.Prelude.{String, string_bytes, ◌==◌}
 use Rattle.at_grammar.specs.declared.syntax.ClassDecl.{ClassDecl}
-use Rattle.at_model.specs.Classes.{AreSound, Class as ModelClass}
+use Rattle.at_model.specs.Classes.{AreSound, Class as ModelClass, parts}
 use Rattle.at_model.specs.WellFormed.{IsHierarchy}
 use Rattle.at_model.specs.Declarations.{no_class, classes_of, class_by, class_named}
 use Rattle.at_class.specs.declared.class.Class.{Class}
-use Rattle.at_class.specs.declared.part.Part.{Part}
-use Rattle.at_class.specs.View.{classes_view}
+use Rattle.at_class.specs.declared.entry.Entry.{Entry}
+use Rattle.at_class.specs.View.{classes_view, part_view}
 use Rattle.at_class.specs.Grammar.{declarations_view}
-use Rattle.at_class.specs.Table.{HoldsParts, IsTable}
+use Rattle.at_class.specs.Table.{AreEntries, IsTable, table_view}
+use Rattle.at_class.specs.Ways.{AreLed}
+use Rattle.at_class.proofs.Entries.{table-declared}
+use Rattle.at_class.proofs.Led.{led}
+use Rattle.at_class.proofs.Places.{as_many}
 
 pub none_declared : (xs : List ClassDecl) → (length xs == 0) ≡ true → no_class (declarations_view xs) ≡ Some (1, 1)
 unfolding no_class
@@ -27,10 +32,6 @@ pub longer : (xs : List ClassDecl) → (length xs == 0) ≡ false → 0 < length
 longer [] h = absurd (true≢false (sym (eq-eqb 0 0 refl) ∙ h))
 longer (x ∷ xs) h = omega arith
 
-names_view : (ks : List Class) → map (λ k. string_bytes k.name) ks ≡ map (λ (k : ModelClass). k.name) (classes_view ks)
-names_view [] = refl
-names_view (k ∷ ks) = ap (λ ns. string_bytes k.name ∷ ns) (names_view ks)
-
 names_of : (named : List ℕ → _) (xs : List ClassDecl) → map (λ (k : ModelClass). k.name) (map (class_by named) (declarations_view xs)) ≡ map (λ d. string_bytes d.name) xs
 names_of named [] = refl
 names_of named (x ∷ xs) = ap (λ ns. string_bytes x.name ∷ ns) (names_of named xs)
@@ -39,11 +40,25 @@ names_declared : (xs : List ClassDecl) → map (λ (k : ModelClass). k.name) (cl
 unfolding classes_of
 names_declared xs = names_of (class_named (declarations_view xs)) xs
 
-pub is_table : {A B : Type 0} (keys : List (String A)) (ks : List Class) (lists : List (Vec Part B)) (xs : List ClassDecl) → map string_bytes keys ≡ map (λ d. string_bytes d.name) xs → classes_view ks ≡ classes_of (declarations_view xs)
-    → (lent : List Class) → lent ≡ ks → HoldsParts (classes_view lent) lists (length lent) → AreSound (classes_of (declarations_view xs)) → IsHierarchy (classes_of (declarations_view xs)) → IsTable keys ks lists
-is_table keys ks lists xs same e lent is holds sound hierarchy = record {
-  names_same = same ∙ sym (names_view ks ∙ ap (map (λ (k : ModelClass). k.name)) e ∙ names_declared xs);
-  parts = subst (λ l. HoldsParts (classes_view l) lists (length l)) is holds;
-  sound = subst AreSound (sym e) sound;
-  hierarchy = subst IsHierarchy (sym e) hierarchy;
-}
+-- the table stands for the classes that are declared
+pub table_of_declared : {A : Type 0} (keys : List (String A)) (ks lent : List Class) (es : List Entry) (xs : List ClassDecl) → map string_bytes keys ≡ map (λ d. string_bytes d.name) xs → classes_view ks ≡ classes_of (declarations_view xs)
+    → lent ≡ ks → AreEntries lent es (length lent) → AreSound (classes_of (declarations_view xs)) → IsHierarchy (classes_of (declarations_view xs)) → table_view keys es ≡ classes_of (declarations_view xs)
+table_of_declared keys ks lent es xs same e is are sound hierarchy =
+    let f : classes_view lent ≡ classes_of (declarations_view xs) = ap classes_view is ∙ e in
+    table-declared keys lent es (same ∙ sym (ap (map (λ (k : ModelClass). k.name)) f ∙ names_declared xs)) are (subst AreLed (sym f) (led (classes_of (declarations_view xs)) hierarchy sound.some)) (subst IsHierarchy (sym f) hierarchy) ∙ f
+
+pub is_table : {A : Type 0} (keys : List (String A)) (ks lent : List Class) (es : List Entry) (xs : List ClassDecl) → map string_bytes keys ≡ map (λ d. string_bytes d.name) xs → classes_view ks ≡ classes_of (declarations_view xs)
+    → lent ≡ ks → AreEntries lent es (length lent) → AreSound (classes_of (declarations_view xs)) → IsHierarchy (classes_of (declarations_view xs)) → IsTable keys es
+is_table keys ks lent es xs same e is are sound hierarchy =
+    let t : table_view keys es ≡ classes_of (declarations_view xs) = table_of_declared keys ks lent es xs same e is are sound hierarchy in
+    let f : classes_view lent ≡ table_view keys es = ap classes_view is ∙ e ∙ sym t in
+    record {
+      count = sym (length-map keys string_bytes) ∙ ap length same ∙ length-map xs (λ (d : ClassDecl). string_bytes d.name) ∙ sym (as_many lent xs (ap classes_view is ∙ e)) ∙ sym are.count;
+      parts = λ c d less. subst (λ classes. map part_view (get_or es c d).parts.items ≡ parts classes c) f (are.each c (spare lent c (subst (λ n. c < n) are.count less)) d (subst (λ n. c < n) are.count less)).parts;
+      sound = subst AreSound (sym t) sound;
+      hierarchy = subst IsHierarchy (sym t) hierarchy;
+    }
+  where
+    spare : {X : Type 0} (xs : List X) (c : ℕ) → c < length xs → X
+    spare [] c less = absurd (omega (arith, less))
+    spare (x ∷ xs) c less = x

@@ -1,5 +1,5 @@
 -- What is known of classes while those are looked for that are above themselves: a mark for each class, and a way up.
-use Rattle.std.specs.Prelude.{◌≡◌, ℕ, suc, ◌+◌, ◌≤◌, ◌⊎◌, Bool, true, false, ◌||◌, cond, nat_eq, List, [], ◌∷◌, length, get_or, Option, Some, None}
+use Rattle.std.specs.Prelude.{◌≡◌, ℕ, suc, ◌+◌, ◌≤◌, ◌⊎◌, Bool, true, false, ◌||◌, cond, nat_eq, List, [], ◌∷◌, length, get_or, Option, Some}
 use Rattle.std.specs.List.{list_any, list_all}
 use Rattle.at_model.specs.Classes.{Classes, parent_of, chain_within}
 use Rattle.at_model.specs.Declarations.{above}

@@ -1,21 +1,38 @@
 -- What a class table holds.
-use Rattle.std.specs.Prelude.{◌≡◌, ℕ, ◌<◌, List, length, map, String, string_bytes, Vec}
-use Rattle.std.specs.List.{slice_index_or}
-use Rattle.at_model.specs.Classes.{Classes, AreSound, parts}
+use Rattle.std.specs.Prelude.{◌≡◌, ℕ, ◌<◌, List, length, map, drop, get_or, zip, option_map, option_and_then, unwrap_or, String, string_bytes}
+use Rattle.std.specs.List.{slice_get}
+use Rattle.at_model.specs.Classes.{Classes, Class as ModelClass, AreSound, parts}
 use Rattle.at_model.specs.WellFormed.{IsHierarchy}
-use Rattle.at_class.specs.declared.part.Part.{Part}
 use Rattle.at_class.specs.declared.class.Class.{Class}
+use Rattle.at_class.specs.declared.entry.Entry.{Entry}
 use Rattle.at_class.specs.View.{part_view, classes_view}
 
--- the lists are all components of the first so many classes
-pub record HoldsParts {A : Type 0} (classes : Classes) (lists : List (Vec Part A)) (n : ℕ) : Type 0 where
-  pub count : length lists ≡ n
-  pub each : (c : ℕ) (d : Vec Part A) → c < n → map part_view (slice_index_or lists c d).items ≡ parts classes c
+-- how many components are inherited: as many as the superclass has
+abbrev pub inherited_count : List Entry → Entry → ℕ
+inherited_count es e = unwrap_or (option_map (λ (above : Entry). length above.parts.items) (option_and_then (slice_get es) e.parent)) 0
 
--- the names are those of the classes, the lists are all their components, and the classes are as a grammar without faults
+-- the class that an entry and its name stand for: its own components are those behind the inherited ones
+abbrev pub entry_view : {A : Type 0} → List Entry → String A → Entry → ModelClass
+entry_view es name e = record { name = string_bytes name; is_abstract = e.is_abstract; parent = e.parent; own = drop (inherited_count es e) (map part_view e.parts.items) }
+
+abbrev pub table_view : {A : Type 0} → List (String A) → List Entry → Classes
+table_view names es = map (λ p. entry_view es p.0 p.1) (zip names es)
+
+-- what is kept of a class: all but its name and, in place of its own components, all of them
+pub record IsEntry (classes : Classes) (c : ℕ) (k : Class) (e : Entry) : Type 0 where
+  pub is_abstract : e.is_abstract ≡ k.is_abstract
+  pub parent : e.parent ≡ k.parent
+  pub parts : map part_view e.parts.items ≡ parts classes c
+
+-- these are kept of the first so many classes
+pub record AreEntries (ks : List Class) (es : List Entry) (n : ℕ) : Type 0 where
+  pub count : length es ≡ n
+  pub each : (c : ℕ) (k : Class) (e : Entry) → c < n → IsEntry (classes_view ks) c (get_or ks c k) (get_or es c e)
+
+-- there is a name for each entry, each entry has all components of its class, and the classes are as a grammar without faults
 -- declares them
-pub record IsTable {A B : Type 0} (names : List (String A)) (ks : List Class) (lists : List (Vec Part B)) : Type 0 where
-  pub names_same : map string_bytes names ≡ map (λ k. string_bytes k.name) ks
-  pub parts : HoldsParts (classes_view ks) lists (length ks)
-  pub sound : AreSound (classes_view ks)
-  pub hierarchy : IsHierarchy (classes_view ks)
+pub record IsTable {A : Type 0} (names : List (String A)) (es : List Entry) : Type 0 where
+  pub count : length names ≡ length es
+  pub parts : (c : ℕ) (e : Entry) → c < length es → map part_view (get_or es c e).parts.items ≡ parts (table_view names es) c
+  pub sound : AreSound (table_view names es)
+  pub hierarchy : IsHierarchy (table_view names es)

@@ -1,5 +1,5 @@
 -- Ways down through the classes: which classes are on one, what is taken there, and what is found of a class at its end.
-use Rattle.std.specs.Prelude.{◌≡◌, ℕ, suc, ◌-◌, ◌<◌, Bool, true, false, List, [], ◌∷◌, ◌++◌, length, map, reverse, take, get_or, Option, Some, None, String}
+use Rattle.std.specs.Prelude.{◌≡◌, ℕ, suc, ◌-◌, ◌<◌, List, [], ◌∷◌, length, map, reverse, take, get_or, Option, Some, None, String}
 use Rattle.std.specs.List.{flat_map}
 use Rattle.at_model.specs.Classes.{Classes, Component, chain, chain_within, own_of, parts}
 use Rattle.at_model.specs.Declarations.{above, is_twice, max_parts}

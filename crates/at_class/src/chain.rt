@@ -1,8 +1,7 @@
 //! Ways up from class to superclass, and the components on them.
-ghost use Rattle.std.specs.Prelude.{◌≡◌, ◌<◌, ◌++◌, IfOk, OnOk, length, map, nat_eq, nat_lt};
-ghost use Rattle.std.specs.List.{list_any};
-ghost use Rattle.at_model.specs.Classes.{chain_within, chain, parent_of, own_of, parts};
-ghost use Rattle.at_class.specs.View.{class_view, classes_view, part_view};
+ghost use Rattle.std.specs.Prelude.{◌≡◌, ◌++◌, IfOk, OnOk, length, map};
+ghost use Rattle.at_model.specs.Classes.{chain_within, parent_of, own_of, parts};
+ghost use Rattle.at_class.specs.View.{classes_view, part_view};
 
 use crate::class::Class;
 use crate::part::{ClassId, Part};
@@ -13,21 +12,6 @@ pub fn parent_of(classes: &[Class], class: ClassId) -> Option<ClassId>
     ensures { result ≡ parent_of (classes_view classes.now) class }
 {
     classes.get(class.index())?.parent
-}
-
-/// Whether the class `to` is met on the way up from the class `from`.
-pub fn climbs(classes: &[Class], from: Option<ClassId>, to: ClassId) -> bool
-    ensures { result ≡ list_any (nat_eq to) (chain_within (length classes.now) (classes_view classes.now) from) }
-{
-    let mut next = from;
-    for step in 0..classes.len() {
-        let Some(class) = next else { return false };
-        if to == class {
-            return true;
-        }
-        next = parent_of(classes, class);
-    }
-    false
 }
 
 /// The classes on the way up from the class `from`.

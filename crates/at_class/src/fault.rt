@@ -50,3 +50,17 @@ impl<T: Drop> From<AllocFailed<T>> for ClassFault {
         ClassFault::Memory
     }
 }
+
+ghost use Rattle.std.specs.Prelude.{◌≡◌, IfErr, None, OnOk};
+ghost use Rattle.at_class.specs.Faults.{IsAt};
+
+/// A refusal with that code, where there is a place for it.
+pub fn refuse(code: ClassCode, place: Option<(u32, u32)>) -> Result<(), ClassFault>
+    ensures ok { OnOk result (place ≡ None) }
+    ensures err { IfErr result (IsAt code place) }
+{
+    match place {
+        None => Ok(()),
+        Some(at) => Err(ClassFault::Refused { code, at }),
+    }
+}

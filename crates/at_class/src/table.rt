@@ -1,14 +1,13 @@
 //! The class table: how it is built, and what it is asked.
-use crate::chain::{climbs, parent_of};
 use crate::checks::{
     component_twice, over_limit, superclass_circle, unknown_class, wrong_token_kind,
 };
-use crate::class::{Class, classes_declared};
-use crate::fault::{ClassCode, ClassFault};
+use crate::class::classes_declared;
+use crate::entry::{Entry, entries_of};
+use crate::fault::{ClassCode, ClassFault, refuse};
 use crate::found::found_of_all;
 use crate::names::{class_named, class_names};
 use crate::part::{ClassId, Part, position_named};
-use crate::steps::{all_parts, refuse};
 use at_grammar::{ClassDecl, Grammar};
 use indexmap::IndexSet;
 use std::alloc::Global;
@@ -18,9 +17,8 @@ use std::marker::Model;
 #[derive(Drop)]
 pub struct ClassTable {
     names: IndexSet<String>,
-    classes: Vec<Class>,
-    // All components of each class, the inherited ones first.
-    parts: Vec<Vec<Part>>,
+    // What is kept of each class, in the order of the names.
+    entries: Vec<Entry>,
 }
 
 impl Model for ClassTable {
@@ -28,12 +26,11 @@ impl Model for ClassTable {
 
     ghost Value = { Classes };
 
-    ghost use Rattle.at_class.specs.View.{classes_view};
-    ghost use Rattle.at_class.specs.Table.{IsTable};
+    ghost use Rattle.at_class.specs.Table.{IsTable, table_view};
 
-    ghost view = { λ t. classes_view t.classes.items };
+    ghost view = { λ t. table_view t.names.keys t.entries.items };
 
-    ghost invariant = { λ t. IsTable t.names.keys t.classes.items t.parts.items };
+    ghost invariant = { λ t. IsTable t.names.keys t.entries.items };
 }
 
 impl ClassTable {
@@ -63,7 +60,7 @@ impl ClassTable {
         ensures sound { AreSound self.now }
         ensures hierarchy { IsHierarchy self.now }
     {
-        self.classes.len()
+        self.entries.len()
     }
 
     /// The first class that is declared.
@@ -71,7 +68,7 @@ impl ClassTable {
         ensures first { result ≡ 0 }
         ensures within { result < length self.now }
     {
-        let _ = &self.classes;
+        let _ = &self.entries;
         ClassId::new(0)
     }
 
@@ -89,7 +86,7 @@ impl ClassTable {
         requires { class < length self.now }
         ensures { result.now ≡ name_of self.now class }
     {
-        self.classes[class.index()].name.as_str()
+        self.names[class.index()].as_str()
     }
 
     /// Whether the class is abstract: it has no instances.
@@ -97,7 +94,7 @@ impl ClassTable {
         requires { class < length self.now }
         ensures { is_concrete self.now class ≡ not result }
     {
-        self.classes[class.index()].is_abstract
+        self.entries[class.index()].is_abstract
     }
 
     /// The class's superclass, where it has one.
@@ -105,14 +102,22 @@ impl ClassTable {
         ensures found { result ≡ parent_of self.now class }
         ensures sound { AreSound self.now }
     {
-        parent_of(&self.classes, class)
+        self.entries.get(class.index())?.parent
     }
 
     /// Whether the class is the other one or below it.
     pub fn is_sub(&self, class: ClassId, above: ClassId) -> bool
         ensures { result ≡ is_sub self.now class above }
     {
-        climbs(&self.classes, Some(class), above)
+        let mut next = Some(class);
+        for step in 0..self.len() {
+            let Some(met) = next else { return false };
+            if above == met {
+                return true;
+            }
+            next = self.parent(met);
+        }
+        false
     }
 
     /// Whether a tree of the class may stand where the other class is asked: the class is not abstract, and is that one or below it.
@@ -132,7 +137,7 @@ impl ClassTable {
         requires { class < length self.now }
         ensures { map part_view result.now ≡ parts self.now class }
     {
-        &self.parts[class.index()]
+        &self.entries[class.index()].parts
     }
 
     /// The position of the component of that name among those of the class.
@@ -176,10 +181,6 @@ fn table_of(alloc: Global, declarations: &[ClassDecl]) -> Result<ClassTable, Cla
         component_twice(&found, declarations),
     )?;
     refuse(ClassCode::Limit, over_limit(&found, declarations))?;
-    let parts = all_parts(alloc, &classes)?;
-    Ok(ClassTable {
-        names,
-        classes,
-        parts,
-    })
+    let entries = entries_of(alloc, &classes)?;
+    Ok(ClassTable { names, entries })
 }

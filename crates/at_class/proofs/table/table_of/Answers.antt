@@ -11,7 +11,7 @@ use Rattle.at_class.proofs.Sound.{classes_sound, view_texts}
 use Rattle.at_class.proofs.Acyclic.{hierarchy}
 use Rattle.at_class.proofs.Led.{led}
 use Rattle.at_class.proofs.Places.{as_many, found_of}
-use Rattle.at_class.proofs.Whole.{none_declared, some_declared, longer, is_table}
+use Rattle.at_class.proofs.Whole.{none_declared, some_declared, longer, is_table, table_of_declared}
 use Rattle.at_class.proofs.table.table_of.Goals as goal
 
 pub returns-then-is_empty-clause-refused : goal.returns-then-is_empty-clause-refused
@@ -101,7 +101,7 @@ invariant_of-result c =
     let e = classes-declared c.in_ok-names.names.keys xs (classes_view ks) names.1 c.in_ok-classes.ensures in
     let s = sym (circle-declared ds (classes_view c.deref.result.now) (ap classes_view c.deref.ensures.value ∙ e)) ∙ sym c.in_ok-superclass_circle.ensures ∙ c.in_ok-refuse-2.ensures.ok in
     let sound = classes_sound ds (longer xs (sym c.is_empty.ensures ∙ c.if-is_empty.false)) c.requires (view_texts xs) names.0 in
-    is_table c.in_ok-names.names.keys ks c.in_ok-parts.parts.items xs names.1 e c.deref-5.result.now c.deref-5.ensures.value c.in_ok-parts.ensures sound (hierarchy ds sound s)
+    is_table c.in_ok-names.names.keys ks c.deref-5.result.now c.in_ok-entries.entries.items xs names.1 e c.deref-5.ensures.value c.in_ok-entries.ensures sound (hierarchy ds sound s)
 
 pub returns-clause-faultless : goal.returns-clause-faultless
 returns-clause-faultless c =
@@ -120,7 +120,15 @@ returns-clause-faultless c =
     no_fault ds a names.0 u s t w l
 
 pub returns-clause-built : goal.returns-clause-built
-returns-clause-built c = classes-declared c.in_ok-names.names.keys c.args.declarations.now (classes_view c.in_ok-classes.classes.items) c.in_ok-names.ensures.ok.1 c.in_ok-classes.ensures
+returns-clause-built c =
+    let xs = c.args.declarations.now in
+    let ds = declarations_view xs in
+    let ks = c.in_ok-classes.classes.items in
+    let names = c.in_ok-names.ensures.ok in
+    let e = classes-declared c.in_ok-names.names.keys xs (classes_view ks) names.1 c.in_ok-classes.ensures in
+    let s = sym (circle-declared ds (classes_view c.deref.result.now) (ap classes_view c.deref.ensures.value ∙ e)) ∙ sym c.in_ok-superclass_circle.ensures ∙ c.in_ok-refuse-2.ensures.ok in
+    let sound = classes_sound ds (longer xs (sym c.is_empty.ensures ∙ c.if-is_empty.false)) c.requires (view_texts xs) names.0 in
+    table_of_declared c.in_ok-names.names.keys ks c.deref-5.result.now c.in_ok-entries.entries.items xs names.1 e c.deref-5.ensures.value c.in_ok-entries.ensures sound (hierarchy ds sound s)
 
 pub found_of_all-requires : goal.found_of_all-requires
 found_of_all-requires c =

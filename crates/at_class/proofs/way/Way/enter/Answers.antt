@@ -1,4 +1,4 @@
-use Rattle.std.proofs.Common.{◌≡◌, ◌∙◌, ◌-◌, ap, ap₂, sym, refl, length, map, suc}
+use Rattle.std.proofs.Common.{◌≡◌, ◌∙◌, ◌-◌, ap₂, sym, refl, length, map, suc}
 use Rattle.std.proofs.lemmas.List.{length-map}
 use Rattle.at_model.specs.Declarations.{max_parts}
 use Rattle.at_class.specs.View.{classes_view, part_view}
