@@ -22,7 +22,7 @@ use at_text::token::TokenKind;
 use std::alloc::{AllocError, AllocFailed, Global};
 
 /// Why nothing was read.
-#[derive(Debug, Drop)]
+#[derive(Drop)]
 pub enum ReadError {
     /// The next token, or the end, doesn't go on.
     Syntax,

@@ -2,14 +2,14 @@
 //! first token begins.
 
 /// A name where it stands.
-#[derive(Debug, Drop)]
+#[derive(Drop)]
 pub struct Word {
     pub text: String,
     pub at: (u32, u32),
 }
 
 /// A kind of values, as it is written.
-#[derive(Debug, Drop)]
+#[derive(Drop)]
 pub enum Kind {
     Int,
     Bool,
@@ -19,28 +19,28 @@ pub enum Kind {
 }
 
 /// A kind where it stands.
-#[derive(Debug, Drop)]
+#[derive(Drop)]
 pub struct KindWord {
     pub kind: Kind,
     pub at: (u32, u32),
 }
 
 /// A parameter: its kind and its name.
-#[derive(Debug, Drop)]
+#[derive(Drop)]
 pub struct Param {
     pub kind: KindWord,
     pub name: Word,
 }
 
 /// The parameters of a declaration, and the place of the parenthesis that ends them.
-#[derive(Debug, Drop)]
+#[derive(Drop)]
 pub struct Params {
     pub items: Vec<Param>,
     pub end: (u32, u32),
 }
 
 /// How a body is written. Both mean the same.
-#[derive(Clone, Copy, Debug, PartialEq, Eq)]
+#[derive(Clone, Copy, PartialEq, Eq)]
 pub enum BodyForm {
     /// `= E;`
     Equation,
@@ -49,7 +49,7 @@ pub enum BodyForm {
 }
 
 /// The body of an equation, with the place of its `=` or `{`.
-#[derive(Debug, Drop)]
+#[derive(Drop)]
 pub struct Body {
     pub at: (u32, u32),
     pub form: BodyForm,
@@ -57,7 +57,7 @@ pub struct Body {
 }
 
 /// What stands behind the parameters of a synthesized attribute.
-#[derive(Debug, Drop)]
+#[derive(Drop)]
 pub enum Ending {
     Body(Body),
     /// A `;` alone, with its place: the equations stand elsewhere.
@@ -65,7 +65,7 @@ pub enum Ending {
 }
 
 /// A declaration of an aspect. Where `lazy` is written, its place is kept.
-#[derive(Debug, Drop)]
+#[derive(Drop)]
 pub enum DeclForm {
     /// `syn KIND CLASS.NAME(..)` with its body, or with a `;`.
     Synthesized {
@@ -103,14 +103,14 @@ pub enum DeclForm {
 }
 
 /// A declaration, with the place of its first token.
-#[derive(Debug, Drop)]
+#[derive(Drop)]
 pub struct Decl {
     pub at: (u32, u32),
     pub form: DeclForm,
 }
 
 /// An aspect: its name, and its declarations in order.
-#[derive(Debug, Drop)]
+#[derive(Drop)]
 pub struct Aspect {
     pub name: Word,
     pub decls: Vec<Decl>,
@@ -118,7 +118,7 @@ pub struct Aspect {
 
 /// The operators with two operands. Those of one level lean left; the levels, from the weakest: `||`; `&&`; `==` and `!=`;
 /// `<`, `<=`, `>` and `>=`; `+` and `-`; `*`, `/` and `%`.
-#[derive(Clone, Copy, Debug, PartialEq, Eq)]
+#[derive(Clone, Copy, PartialEq, Eq)]
 pub enum Operator {
     Or,
     And,
@@ -136,14 +136,14 @@ pub enum Operator {
 }
 
 /// An operator where it stands.
-#[derive(Clone, Copy, Debug, PartialEq, Eq)]
+#[derive(Clone, Copy, PartialEq, Eq)]
 pub struct OperatorWord {
     pub operator: Operator,
     pub at: (u32, u32),
 }
 
 /// What is asked of the elements of a list.
-#[derive(Clone, Copy, Debug, PartialEq, Eq)]
+#[derive(Clone, Copy, PartialEq, Eq)]
 pub enum FoldForm {
     Exists,
     First,
@@ -152,7 +152,7 @@ pub enum FoldForm {
 
 /// An expression, with the place of its first token.
 #[cycle(expr)]
-#[derive(Debug, Drop)]
+#[derive(Drop)]
 pub struct Expr {
     pub at: (u32, u32),
     pub form: Form,
@@ -160,7 +160,7 @@ pub struct Expr {
 
 /// The forms of expressions.
 #[cycle(expr)]
-#[derive(Debug, Drop)]
+#[derive(Drop)]
 pub enum Form {
     /// A number; a `-` directly before its digits belongs to it.
     Number(i32),

@@ -396,19 +396,19 @@ impl<'a> Reader<'a> {
         ensures stays { IfErr result (λ e. (w : Want) (d : ℕ) → table w d (first (left self.old.rest.now)) ≡ body_answer (first (left self.old.rest.now)) → Stays (w ∷ []) d (reason_of e) (left self.old.rest.now) (left self.new.rest.now)) }
     {
         if let Some(at) = self.takes("=") {
-            let expr = self.expression(MAX_NESTING)?.expr;
+            let expr = self.expression(MAX_NESTING)?;
             self.expects(";")?;
             return Ok(Body {
                 at,
                 form: BodyForm::Equation,
-                expr,
+                expr: expr.into_expr(),
             });
         }
         let at = self.expects("{")?;
         if self.takes_word("return").is_none() {
             return Err(self.no_block());
         }
-        let expr = self.expression(MAX_NESTING)?.expr;
+        let expr = self.expression(MAX_NESTING)?;
         self.expects(";")?;
         if !self.skips("}") {
             return Err(self.no_block());
@@ -416,7 +416,7 @@ impl<'a> Reader<'a> {
         Ok(Body {
             at,
             form: BodyForm::Block,
-            expr,
+            expr: expr.into_expr(),
         })
     }
 }

@@ -151,7 +151,7 @@ impl<'a> Reader<'a> {
         loop {
             let next = self.expression(budget)?;
             depth = depth.max(next.depth);
-            items.push(next.expr)?;
+            items.push(next.into_expr())?;
             if self.skips(")") {
                 return Ok(Arguments { items, depth });
             }

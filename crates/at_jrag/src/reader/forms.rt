@@ -11,10 +11,33 @@ use crate::syntax::{Expr, FoldForm, Form, OperatorWord, Word};
 use std::alloc::{AllocError, Global};
 
 /// An expression, and how deep expressions nest in it: a literal, a name or a call without parts once.
-#[derive(Drop)]
 pub struct Measured {
     pub expr: Expr,
     pub depth: usize,
+}
+
+/// One call, where each exit that lets an expression go would else have a case for each form.
+impl Drop for Measured {
+    fn drop(self) {
+        let Measured { expr: _, depth: _ } = self;
+    }
+}
+
+impl Measured {
+    /// The expression alone.
+    pub fn into_expr(self) -> Expr
+        ensures { result ≡ self.expr }
+    {
+        let Measured { expr, depth: _ } = self;
+        expr
+    }
+
+    /// The expression alone, in a box.
+    fn boxed(self, alloc: Global) -> Result<Box<Expr>, AllocError>
+        ensures { IfOk result (λ b. b.value ≡ self.expr) }
+    {
+        Ok(Box::new(alloc, self.into_expr())?)
+    }
 }
 
 /// The arguments of a call, and the nesting of the deepest; 0 where there are none.
@@ -42,7 +65,7 @@ pub fn parenthesized(alloc: Global, at: (u32, u32), inner: Measured) -> Result<M
     ensures made { IfOk result (λ m. expr_view m.expr ≡ syntax.Paren at (expr_view inner.expr)) }
 {
     let depth = 1 + inner.depth;
-    let inner = Box::new(alloc, inner.expr)?;
+    let inner = inner.boxed(alloc)?;
     Ok(Measured {
         expr: Expr {
             at,
@@ -64,7 +87,7 @@ pub fn prefixed(
     ensures made { IfOk result (λ m. expr_view m.expr ≡ prefix_view prefix at (expr_view inner.expr)) }
 {
     let depth = 1 + inner.depth;
-    let inner = Box::new(alloc, inner.expr)?;
+    let inner = inner.boxed(alloc)?;
     let form = match prefix {
         Prefix::Not => Form::Not(inner),
         Prefix::Minus => Form::Negate(inner),
@@ -91,8 +114,8 @@ pub fn operation(
 {
     let at = left.expr.at;
     let depth = 1 + left.depth.max(right.depth);
-    let left = Box::new(alloc, left.expr)?;
-    let right = Box::new(alloc, right.expr)?;
+    let left = left.boxed(alloc)?;
+    let right = right.boxed(alloc)?;
     Ok(Measured {
         expr: Expr {
             at,
@@ -116,7 +139,7 @@ pub fn instance_of(
 {
     let at = operand.expr.at;
     let depth = 1 + operand.depth;
-    let operand = Box::new(alloc, operand.expr)?;
+    let operand = operand.boxed(alloc)?;
     Ok(Measured {
         expr: Expr {
             at,
@@ -143,9 +166,9 @@ pub fn choice(
 {
     let at = condition.expr.at;
     let depth = 1 + condition.depth.max(then.depth.max(other.depth));
-    let condition = Box::new(alloc, condition.expr)?;
-    let then = Box::new(alloc, then.expr)?;
-    let other = Box::new(alloc, other.expr)?;
+    let condition = condition.boxed(alloc)?;
+    let then = then.boxed(alloc)?;
+    let other = other.boxed(alloc)?;
     Ok(Measured {
         expr: Expr {
             at,
@@ -187,7 +210,7 @@ pub fn call_of(
 {
     let at = receiver.expr.at;
     let depth = 1 + receiver.depth.max(arguments.depth);
-    let receiver = Box::new(alloc, receiver.expr)?;
+    let receiver = receiver.boxed(alloc)?;
     Ok(Measured {
         expr: Expr {
             at,
@@ -213,8 +236,8 @@ pub fn fold(
         ≡ syntax.Fold at (fold_view form) (word_view name) (expr_view list.expr) (expr_view body.expr)) }
 {
     let depth = 1 + list.depth.max(body.depth);
-    let list = Box::new(alloc, list.expr)?;
-    let body = Box::new(alloc, body.expr)?;
+    let list = list.boxed(alloc)?;
+    let body = body.boxed(alloc)?;
     Ok(Measured {
         expr: Expr {
             at,

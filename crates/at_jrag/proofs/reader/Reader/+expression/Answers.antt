@@ -1,10 +1,11 @@
-use Rattle.std.proofs.Common.{ℕ, map, max, sym, ap, subst, ◌∙◌, arith, List, ◌≡◌, ◌≤◌, ◌-◌, [], ◌∷◌}
+use Rattle.std.proofs.Common.{ℕ, map, max, sym, ap, subst, ◌∙◌, arith, List, ◌≡◌, ◌≤◌, ◌-◌, [], ◌∷◌, ◌++◌}
 use Rattle.std.specs.Str.{bytes_eq}
 use Rattle.std.proofs.lemmas.Result.{err_from_is_err_and, IfOk-weaker}
 use lib.Chars.{codes}
 use Rattle.std.proofs.lemmas.List.{map_push}
 use Rattle.at_jrag.specs.Syntax.{Expr, to_exprs}
 use Rattle.at_jrag.specs.View.{expr_view, fold_view, word_view, operator_view}
+use Rattle.at_jrag.specs.declared.syntax.Expr.{Expr as ExprValue}
 use Rattle.at_jrag.specs.Grammar.{Row, Arguments, Opens, deepest, is_sign, sign, next_is}
 use Rattle.at_jrag.specs.Left.{left}
 use Rattle.at_jrag.specs.Read.{StandsBefore, LinksTo}
@@ -29,7 +30,8 @@ pub arguments-returns-then-skips-2-clause-found : goal.arguments-returns-then-sk
 arguments-returns-then-skips-2-clause-found t c =
     let i = c.loop-items.invariant in
     let n = c.in_ok-next.ensures.found in
-    let q = ap (map expr_view) c.in_ok-push.ensures.items ∙ map_push expr_view c.loop-items.items.items c.in_ok-next.next.expr in
+    let pushed = c.in_ok-push.ensures.items ∙ ap (λ (e : ExprValue). c.loop-items.items.items ++ e ∷ []) c.into_expr.ensures in
+    let q = ap (map expr_view) pushed ∙ map_push expr_view c.loop-items.items.items c.in_ok-next.next.expr in
     let s = c.if-skips-2.ensures in
     let g = c.if-skips.ensures in
     let o = subst (λ (x : Row). Opens c.args.name.now (left c.args.self.now.rest.now) x) (sym (ap (λ r. left r.rest.now) g.0)) c.in_ok-opens.ensures.found in (
@@ -44,7 +46,8 @@ pub arguments-loop-items-preserved : goal.arguments-loop-items-preserved
 arguments-loop-items-preserved t c =
     let i = c.loop-items.invariant in
     let n = c.in_ok-next.ensures.found in
-    let q = ap (map expr_view) c.in_ok-push.ensures.items ∙ map_push expr_view c.loop-items.items.items c.in_ok-next.next.expr in
+    let pushed = c.in_ok-push.ensures.items ∙ ap (λ (e : ExprValue). c.loop-items.items.items ++ e ∷ []) c.into_expr.ensures in
+    let q = ap (map expr_view) pushed ∙ map_push expr_view c.loop-items.items.items c.in_ok-next.next.expr in
     let comma = sym (ap (λ r. left r.rest.now) c.if-skips-2.ensures.0) ∙ c.in_ok-expects.ensures.found in (
       omega (arith, c.max-depth.ensures, i.0, c.in_ok-next.ensures.depth),
       c.max-depth.ensures ∙ (λ k. max (i.1 k) (n.2 k)) ∙ sym (deepest_push (map expr_view c.loop-items.items.items) (expr_view c.in_ok-next.next.expr)) ∙ ap (λ x. deepest (to_exprs x)) (sym q),
@@ -58,9 +61,9 @@ arguments-loop-items-smaller t c =
     let comma = sym (ap (λ r. left r.rest.now) c.if-skips-2.ensures.0) ∙ c.in_ok-expects.ensures.found in
     next_shorter _ _ _ _ n.0 (_, comma)
 
-pub calls-loop-receiver-preserved : goal.calls-loop-receiver-preserved
-calls-loop-receiver-preserved t c =
-    let i = c.loop-receiver.invariant in
+pub calls-loop-self-preserved : goal.calls-loop-self-preserved
+calls-loop-self-preserved t c =
+    let i = c.loop-self.invariant in
     let b = rw c.in-Some.is at c.in_ok-takes_within.ensures.found in
     let a = c.in_ok-arguments.ensures in
     let m = c.in_ok-receiver.ensures in
@@ -71,7 +74,7 @@ calls-loop-receiver-preserved t c =
     c.as_str.ensures.value a.goes in (
       omega (arith, m.depth, b.1, i.0, a.depth),
       λ old r. call_of_reads _ _ w c.in_ok-arguments.arguments old _ _ _ _ (i.1 old r) (_, b.0) c.in_ok-name.ensures.found h m.made m.depth,
-      calls_more c.args.first.depth c.loop-receiver.receiver.depth c.in_ok-arguments.arguments.depth c.in_ok-receiver.receiver.depth _ w _ _ _ _ _ i.2 b.0 c.in_ok-name.ensures.found g m.depth,
+      calls_more c.args.first.depth c.loop-self.receiver.depth c.in_ok-arguments.arguments.depth c.in_ok-receiver.receiver.depth _ w _ _ _ _ _ i.2 b.0 c.in_ok-name.ensures.found g m.depth,
       omega (arith, m.depth, i.3),
     )
 
@@ -171,52 +174,52 @@ binary-returns-in_err-operand-clause-halts t c =
     (omega arith) c.in_err-operand.ensures.halts in
     at_error _ c.in_err-operand.field-0.0 _ c.from_residual.ensures.1 h
 
-pub binary-loop-operand-init : goal.binary-loop-operand-init
-binary-loop-operand-init t c =
+pub binary-loop-link-init : goal.binary-loop-link-init
+binary-loop-link-init t c =
     let m = c.in_ok-operand.ensures in (
       m.depth,
       (m.found.0, omega (arith, m.found.1), m.found.2),
       operand_goes c.args.level c.in_ok-operand.operand.depth (left c.args.self.now.rest.now) (left c.binary.new.self.rest.now) (omega arith) m.goes,
     )
 
-pub binary-loop-operand-preserved : goal.binary-loop-operand-preserved
-binary-loop-operand-preserved t c =
-    let i = c.loop-operand.invariant in
+pub binary-loop-link-preserved : goal.binary-loop-link-preserved
+binary-loop-link-preserved t c =
+    let i = c.loop-link.invariant in
     let b = rw c.in-Some.is at c.in_ok-link.ensures.found in
     let m = c.in_ok-operand-2.ensures in
     let l = m.deeper in (
       m.depth,
       m.found _ _ i.1 b.1,
-      then_moves (Binary (7 - c.args.level)) (λ b. Links (6 - c.args.level) b ∷ []) (λ b. Links (6 - c.args.level) b ∷ []) c.loop-operand.operand.depth _ (left c.args.self.now.rest.now)
-          (left c.loop-operand.self.rest.now) (left c.linked.new.self.rest.now)
+      then_moves (Binary (7 - c.args.level)) (λ b. Links (6 - c.args.level) b ∷ []) (λ b. Links (6 - c.args.level) b ∷ []) c.loop-link.operand.depth _ (left c.args.self.now.rest.now)
+          (left c.loop-link.self.rest.now) (left c.linked.new.self.rest.now)
           (omega (arith, l)) i.2 (m.goes _ b.1),
     )
 
 pub binary-returns-in_err-link-clause-halts : goal.binary-returns-in_err-link-clause-halts
 binary-returns-in_err-link-clause-halts t c =
-    let i = c.loop-operand.invariant in
+    let i = c.loop-link.invariant in
     let e = c.in_err-link.ensures.refused in
-    let h = link_too_deep c.args.level c.args.budget c.loop-operand.operand.depth c.in_err-link.field-0.0 (left c.args.self.now.rest.now) (left c.loop-operand.self.rest.now)
+    let h = link_too_deep c.args.level c.args.budget c.loop-link.operand.depth c.in_err-link.field-0.0 (left c.args.self.now.rest.now) (left c.loop-link.self.rest.now)
     (left c.link.new.self.rest.now)
     (omega arith) i.0 i.2 (e.0, ap (λ r. left r.rest.now) e.1, e.2, e.3) in
     at_error _ c.in_err-link.field-0.0 _ c.from_residual-in_err-link.ensures.1 h
 
 pub binary-returns-in_err-operand-2-clause-halts : goal.binary-returns-in_err-operand-2-clause-halts
 binary-returns-in_err-operand-2-clause-halts t c =
-    let i = c.loop-operand.invariant in
+    let i = c.loop-link.invariant in
     let b = rw c.in-Some.is at c.in_ok-link.ensures.found in
-    let h = linked_halts c.args.level c.args.budget c.loop-operand.operand.depth (reason_of c.in_err-operand-2.field-0.0) (left c.args.self.now.rest.now) (left c.loop-operand.self.rest.now)
+    let h = linked_halts c.args.level c.args.budget c.loop-link.operand.depth (reason_of c.in_err-operand-2.field-0.0) (left c.args.self.now.rest.now) (left c.loop-link.self.rest.now)
     (left c.linked.new.self.rest.now)
     i.0 i.2 (c.in_err-operand-2.ensures.halts _ b.1) in
     at_error _ c.in_err-operand-2.field-0.0 _ c.from_residual-in_err-operand-2.ensures.1 h
 
 pub binary-returns-clause-goes : goal.binary-returns-clause-goes
 binary-returns-clause-goes t c =
-    let i = c.loop-operand.invariant in
+    let i = c.loop-link.invariant in
     let same = rw c.in_default.is at c.in_ok-link.ensures.found in
     let none = rw c.in_default.is at c.in_ok-link.ensures.none in
-    subst (λ (x : Row). Goes (Binary (7 - c.args.level)) (λ b. []) c.loop-operand.operand.depth (left c.args.self.now.rest.now) x) (sym (ap (λ r. left r.rest.now) same))
-    (operands_end c.args.level c.loop-operand.operand.depth (left c.args.self.now.rest.now) (left c.loop-operand.self.rest.now) (omega arith) none i.2)
+    subst (λ (x : Row). Goes (Binary (7 - c.args.level)) (λ b. []) c.loop-link.operand.depth (left c.args.self.now.rest.now) x) (sym (ap (λ r. left r.rest.now) same))
+    (operands_end c.args.level c.loop-link.operand.depth (left c.args.self.now.rest.now) (left c.loop-link.self.rest.now) (omega arith) none i.2)
 
 pub linked-returns-in_err-right-in-Operator-clause-halts : goal.linked-returns-in_err-right-in-Operator-clause-halts
 linked-returns-in_err-right-in-Operator-clause-halts t c =
@@ -354,34 +357,34 @@ unary-returns-clause-halts t c =
 pub calls-returns-clause-goes : goal.calls-returns-clause-goes
 calls-returns-clause-goes t c =
     let b = rw c.in_default.is at c.in_ok-takes_within.ensures.found in
-    calls_done c.args.first.depth c.loop-receiver.receiver.depth _ _ _ c.loop-receiver.invariant.2 (ap (λ r. left r.rest.now) b.0) b.1
+    calls_done c.args.first.depth c.loop-self.receiver.depth _ _ _ c.loop-self.invariant.2 (ap (λ r. left r.rest.now) b.0) b.1
 
 pub calls-returns-in_err-takes_within-clause-halts : goal.calls-returns-in_err-takes_within-clause-halts
 calls-returns-in_err-takes_within-clause-halts t c =
-    let i = c.loop-receiver.invariant in
+    let i = c.loop-self.invariant in
     let e = c.in_err-takes_within.ensures.refused in
     let p = err_from_is_err_and c.from_residual.result c.from_residual.ensures.1 in
-    rw (p.1, p.2) (calls_too_deep c.args.budget c.args.first.depth c.loop-receiver.receiver.depth _ (left c.args.self.now.rest.now) (left c.loop-receiver.self.rest.now)
+    rw (p.1, p.2) (calls_too_deep c.args.budget c.args.first.depth c.loop-self.receiver.depth _ (left c.args.self.now.rest.now) (left c.loop-self.self.rest.now)
     (left c.takes_within.new.self.rest.now)
     i.2 i.0 e.0 e.2 e.3 (ap (λ r. left r.rest.now) e.1))
 
 pub calls-returns-in_err-name-clause-halts : goal.calls-returns-in_err-name-clause-halts
 calls-returns-in_err-name-clause-halts t c =
-    let i = c.loop-receiver.invariant in
+    let i = c.loop-self.invariant in
     let b = rw c.in-Some.is at c.in_ok-takes_within.ensures.found in
     let p = err_from_is_err_and c.from_residual-in_err-name.result c.from_residual-in_err-name.ensures.1 in
-    rw (p.1, p.2) (calls_no_name c.args.budget c.args.first.depth c.loop-receiver.receiver.depth _ _ (left c.args.self.now.rest.now) (left c.loop-receiver.self.rest.now)
+    rw (p.1, p.2) (calls_no_name c.args.budget c.args.first.depth c.loop-self.receiver.depth _ _ (left c.args.self.now.rest.now) (left c.loop-self.self.rest.now)
     (left c.takes_within.new.self.rest.now) (left c.name.new.self.rest.now)
     i.2 b.1 b.0 c.in_err-name.ensures.missing)
 
 pub calls-returns-in_err-arguments-clause-halts : goal.calls-returns-in_err-arguments-clause-halts
 calls-returns-in_err-arguments-clause-halts t c =
-    let i = c.loop-receiver.invariant in
+    let i = c.loop-self.invariant in
     let b = rw c.in-Some.is at c.in_ok-takes_within.ensures.found in
     let h = rw c.as_str.ensures.value at c.in_err-arguments.ensures.halts in
     let p = err_from_is_err_and c.from_residual-in_err-arguments.result c.from_residual-in_err-arguments.ensures.1 in
-    rw (p.1, p.2) (calls_arguments c.args.budget c.args.first.depth c.loop-receiver.receiver.depth _ (word_view c.in_ok-name.name) _ (left c.args.self.now.rest.now)
-    (left c.loop-receiver.self.rest.now) (left c.takes_within.new.self.rest.now)
+    rw (p.1, p.2) (calls_arguments c.args.budget c.args.first.depth c.loop-self.receiver.depth _ (word_view c.in_ok-name.name) _ (left c.args.self.now.rest.now)
+    (left c.loop-self.self.rest.now) (left c.takes_within.new.self.rest.now)
     (left c.name.new.self.rest.now) (left c.arguments.new.self.rest.now) i.2 b.1 b.0 c.in_ok-name.ensures.found h)
 
 pub arguments-loop-items-init : goal.arguments-loop-items-init

@@ -39,20 +39,20 @@ decreases-named l = 16 * l.budget + 4
 abbrev pub decreases-fold : goal.decreases-fold
 decreases-fold l = 16 * l.budget + 4
 
-abbrev pub invariant-binary-loop-operand : goal.invariant-binary-loop-operand
-invariant-binary-loop-operand l =
+abbrev pub invariant-binary-loop-link : goal.invariant-binary-loop-link
+invariant-binary-loop-link l =
     (l.operand.depth ≤ l.budget) × Reads l.level l.operand (left l.fn.self.rest.now) (left l.self.rest.now)
     × Goes (Binary (7 - l.level)) (λ b. Links (6 - l.level) b ∷ []) l.operand.depth (left l.fn.self.rest.now) (left l.self.rest.now)
 
-abbrev pub decreases-binary-loop-operand : goal.decreases-binary-loop-operand
-decreases-binary-loop-operand l = l.budget - l.operand.depth
+abbrev pub decreases-binary-loop-link : goal.decreases-binary-loop-link
+decreases-binary-loop-link l = l.budget - l.operand.depth
 
-abbrev pub invariant-calls-loop-receiver : goal.invariant-calls-loop-receiver
-invariant-calls-loop-receiver l = (l.receiver.depth ≤ l.budget) × ((old : Row) → Reads 8 l.fn.first old (left l.fn.self.rest.now) → Reads 8 l.receiver old (left l.self.rest.now))
+abbrev pub invariant-calls-loop-self : goal.invariant-calls-loop-self
+invariant-calls-loop-self l = (l.receiver.depth ≤ l.budget) × ((old : Row) → Reads 8 l.fn.first old (left l.fn.self.rest.now) → Reads 8 l.receiver old (left l.self.rest.now))
     × AreCalls l.fn.first.depth l.receiver.depth (left l.fn.self.rest.now) (left l.self.rest.now) × (l.fn.first.depth ≤ l.receiver.depth)
 
-abbrev pub decreases-calls-loop-receiver : goal.decreases-calls-loop-receiver
-decreases-calls-loop-receiver l = l.budget - l.receiver.depth
+abbrev pub decreases-calls-loop-self : goal.decreases-calls-loop-self
+decreases-calls-loop-self l = l.budget - l.receiver.depth
 
 abbrev pub invariant-arguments-loop-items : goal.invariant-arguments-loop-items
 invariant-arguments-loop-items l = (l.depth ≤ l.budget) × (l.depth ≡ deepest (to_exprs (map expr_view l.items.items)))
