@@ -105,7 +105,7 @@ fn index_first(text: &str) -> Option<(u32, &str)>
 
 /// The digit at the front, and what follows it.
 fn digit_first(text: &str) -> Option<(u32, &str)>
-    ensures { IfSome result (λ r. (r.0 < 10) × (text.now ≡ 48 + r.0 ∷ r.1.now)) }
+    ensures { IfSome result (λ r. (r.0 < 10) × (text.now ≡ (48 + r.0) ∷ r.1.now)) }
 {
     match text.as_bytes() {
         [first, ..] if first.is_ascii_digit() => {
