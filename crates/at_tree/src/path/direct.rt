@@ -4,10 +4,10 @@ ghost use Rattle.std.specs.Fmt.{decimal};
 ghost use Rattle.at_model.specs.Names.{IsName};
 ghost use Rattle.at_model.specs.Paths.{IsStep, IsPath, path_text, step_text};
 ghost use Rattle.at_tree.specs.PathView.{path_view, step_view};
-ghost use Rattle.at_tree.specs.PathFronts.{is_name_byte, name_len, begins_name};
 
 use super::{Path, Step};
 use crate::fault::Untaken;
+use crate::names::{begins_name, name_len};
 use at_text::names::is_reserved;
 use std::alloc::Global;
 
@@ -59,33 +59,6 @@ fn part_first(alloc: Global, text: &str) -> Result<(String, &str), Untaken>
         return Err(Untaken::Form);
     }
     Ok((String::from_str(alloc, name)?, rest))
-}
-
-/// How many bytes stand before the first that is none of a name in ASCII.
-fn name_len(text: &str) -> usize
-    ensures { result ≡ name_len text.now }
-{
-    match text.as_bytes().iter().position(|b| !is_name_byte(*b)) {
-        Some(len) => len,
-        None => text.len(),
-    }
-}
-
-/// Whether a name goes on with the byte as a character of ASCII.
-fn is_name_byte(b: u8) -> bool
-    ensures { result ≡ is_name_byte b }
-{
-    b.is_ascii_alphanumeric() || b == b'_'
-}
-
-/// Whether such bytes are some, and no digit is the first.
-fn begins_name(name: &str) -> bool
-    ensures { result ≡ begins_name name.now }
-{
-    match name.as_bytes() {
-        [first, ..] => !first.is_ascii_digit(),
-        [] => false,
-    }
 }
 
 /// The index whose decimal stands at the front, and what follows it.

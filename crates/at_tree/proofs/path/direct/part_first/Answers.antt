@@ -2,8 +2,8 @@ use Rattle.std.proofs.Common.{◌≡◌, ◌++◌, true, false, sym, ap, ◌∙�
 use Rattle.std.specs.Str.{IsCharBoundary}
 use Rattle.std.proofs.lemmas.List.{take-append-drop}
 use Rattle.at_model.specs.Names.{IsName, is_reserved}
-use Rattle.at_tree.specs.PathFronts.{name_len, begins_name}
-use Rattle.at_tree.proofs.PathFronts.{cut_behind_name, name_bytes, named}
+use Rattle.at_tree.specs.PlainNames.{name_len, begins_name}
+use Rattle.at_tree.proofs.PlainNames.{cut_behind_name, name_bytes, named}
 use Rattle.at_tree.proofs.path.direct.part_first.Goals as goal
 
 pub split_at-requires : goal.split_at-requires

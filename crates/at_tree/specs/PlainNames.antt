@@ -1,4 +1,4 @@
--- What stands at the front of a path's text, in ASCII.
+-- Names of ASCII, told by their bytes.
 use Rattle.std.specs.Prelude.{ℕ, Bool, false, not, ◌||◌, ◌==◌, List, [], ◌∷◌}
 use Rattle.std.specs.Char.{is_ascii_alphanumeric, is_ascii_digit}
 use Rattle.std.specs.List.{position_or_len}
