@@ -1,4 +1,5 @@
 pub mod Spaces
+pub mod Cuts
 pub mod Values
 pub mod Answering
 pub mod Commands

@@ -5,6 +5,8 @@ pub mod Passing
 pub mod Finished
 pub mod PathMachine
 pub mod PathRuns
+pub mod PlainNames
+pub mod PathFronts
 pub mod Escapes
 pub mod TermSpelled
 pub mod TermSteps

@@ -39,11 +39,11 @@ pub record Fits (p : Partial) : Type 0 where
   pub place : PlaceFits p.steps p.place
 
 -- one more step
-push_fits : (ss : Path) (s : Step) → IsPath ss → IsStep s → IsPath (ss ++ s ∷ [])
+pub push_fits : (ss : Path) (s : Step) → IsPath ss → IsStep s → IsPath (ss ++ s ∷ [])
 push_fits [] s e h = (h, tt)
 push_fits (x ∷ ss) s e h = (e.0, push_fits ss s e.1 h)
 
-push_text : (ss : Path) (s : Step) → flat_map step_text (ss ++ s ∷ []) ≡ flat_map step_text ss ++ step_text s
+pub push_text : (ss : Path) (s : Step) → flat_map step_text (ss ++ s ∷ []) ≡ flat_map step_text ss ++ step_text s
 push_text ss s = flat_map-append step_text ss (s ∷ []) ∙ ap (λ y. flat_map step_text ss ++ y) (append-nil (step_text s))
 
 push_path : (ss : Path) (s : Step) → path_text (ss ++ s ∷ []) ≡ flat_map step_text ss ++ step_text s

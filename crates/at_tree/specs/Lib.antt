@@ -11,6 +11,7 @@ pub mod Partial
 pub mod Seen
 pub mod PartialPath
 pub mod PathSeen
+pub mod PlainNames
 pub mod Laws
 pub mod TreeView
 pub mod Separated

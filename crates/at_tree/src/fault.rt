@@ -39,3 +39,34 @@ impl<T: Drop> From<AllocFailed<T>> for Refused {
         Refused::Memory
     }
 }
+
+/// Why nothing was taken from the front of a text.
+#[derive(Clone, Copy, Debug)]
+pub(crate) enum Untaken {
+    /// Something else stands there.
+    Form,
+    /// Memory ran out.
+    Memory,
+}
+
+impl From<AllocError> for Untaken {
+    ghost use Rattle.std.specs.Prelude.{◌≡◌};
+    ghost use Rattle.at_tree.specs.declared.fault.Untaken.TheVariants.{Memory};
+
+    ghost from_gives = { λ _ e. e ≡ Memory };
+
+    fn from(_: AllocError) -> Self {
+        Untaken::Memory
+    }
+}
+
+impl<T: Drop> From<AllocFailed<T>> for Untaken {
+    ghost use Rattle.std.specs.Prelude.{◌≡◌};
+    ghost use Rattle.at_tree.specs.declared.fault.Untaken.TheVariants.{Memory};
+
+    ghost from_gives = { λ _ e. e ≡ Memory };
+
+    fn from(_: AllocFailed<T>) -> Self {
+        Untaken::Memory
+    }
+}

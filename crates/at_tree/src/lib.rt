@@ -3,6 +3,7 @@
 
 pub mod fault;
 pub mod laws;
+pub mod names;
 pub mod path;
 pub mod reader;
 mod runs;

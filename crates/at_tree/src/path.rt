@@ -19,6 +19,7 @@ pub struct Path {
     pub steps: Vec<Step>,
 }
 
+mod direct;
 mod partial;
 mod read;
 mod steps;

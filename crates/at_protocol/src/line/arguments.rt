@@ -6,7 +6,7 @@ ghost use Rattle.at_protocol.specs.Calls.{IsCallText, AreArguments, IsNextArgume
 
 use super::Argument;
 use super::places::read_place;
-use super::words::{WordFault, read_name};
+use super::words::{WordFault, cut_at, read_name};
 use at_text::quoted::{QuoteFault, read_quoted};
 use std::alloc::Global;
 
@@ -29,7 +29,7 @@ fn call_parts(text: &str) -> Result<(&str, &str), WordFault>
         (λ parts. (text.now ≡ parts.0.now ++ 40 ∷ (parts.1.now ++ 41 ∷ [])) × HasNo 40 parts.0.now)
         (λ fault. (fault ≡ WordFault.Form) × ((name inside : List ℕ) → HasNo 40 name → text.now ≢ name ++ 40 ∷ (inside ++ 41 ∷ []))) }
 {
-    let Some((name, rest)) = text.split_once('(') else {
+    let Some((name, rest)) = cut_at(text, b'(') else {
         return Err(WordFault::Form);
     };
     match rest.strip_suffix(')') {

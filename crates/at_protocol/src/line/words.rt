@@ -6,7 +6,7 @@ ghost use Rattle.at_model.specs.Lines.{max_sessions};
 ghost use Rattle.at_model.specs.Paths.{IsIndex};
 ghost use Rattle.at_tree.specs.Token.{token_view};
 ghost use Rattle.at_tree.specs.View.{term_view};
-ghost use Rattle.at_protocol.specs.Words.{HasNoSpace, Answers, IsNameText, IsQuotedText, IsTermText, IsValueText};
+ghost use Rattle.at_protocol.specs.Words.{HasNo, HasNoSpace, Answers, IsNameText, IsQuotedText, IsTermText, IsValueText};
 
 use at_text::decimal::{read_int, read_number};
 use at_text::names::is_name;
@@ -64,13 +64,33 @@ pub(super) fn first_word(line: &[u8]) -> &[u8]
     }
 }
 
+/// The text before the first sign of ASCII like this, and the text behind that.
+pub(super) fn cut_at(text: &str, sign: u8) -> Option<(&str, &str)>
+    requires { sign < 128 }
+    ensures { MatchOption result
+        (HasNo sign text.now)
+        (λ cut. (text.now ≡ cut.0.now ++ sign ∷ cut.1.now) × HasNo sign cut.0.now) }
+{
+    let bytes = text.as_bytes();
+    let mut at = 0;
+    while at < bytes.len() && bytes[at] != sign {
+        at += 1;
+    }
+    if at == bytes.len() {
+        return None;
+    }
+    let front = text.split_at(at).0;
+    let rest = text.split_at(at + 1).1;
+    Some((front, rest))
+}
+
 /// The text before the first space, and the text behind it.
 pub(super) fn cut(text: &str) -> Result<(&str, &str), WordFault>
     ensures { MatchResult result
         (λ cut. (text.now ≡ cut.0.now ++ 32 ∷ cut.1.now) × HasNoSpace cut.0.now)
         (λ fault. (fault ≡ WordFault.Form) × HasNoSpace text.now) }
 {
-    text.split_once(' ').ok_or(WordFault::Form)
+    cut_at(text, b' ').ok_or(WordFault::Form)
 }
 
 /// The session that the word spells.

@@ -8,10 +8,11 @@ ghost use Rattle.at_tree.specs.Stops.{IsPathText};
 ghost use Rattle.at_tree.specs.Reads.{Reads, StopsWith};
 ghost use Rattle.at_tree.specs.Finishes.{Finishes};
 
+use super::direct::whole_path;
 use super::partial::Place;
 use super::steps::advance;
 use super::{Path, Step};
-use crate::fault::{Refused, TermFault};
+use crate::fault::{Refused, TermFault, Untaken};
 use at_text::names::is_reserved;
 use std::alloc::Global;
 
@@ -65,6 +66,19 @@ pub fn read_path(alloc: Global, text: &str) -> Result<Path, TermFault>
     // A path's text is read as that path, unless memory runs out.
     ensures only { (p : Steps) → IsPath p → path_text p ≡ text.now → Reads path_view result p }
     // Else the fault stands at the first character that leads to no path's text.
+    ensures fault { IfErr result (StopsWith IsPathText text.now) }
+{
+    match whole_path(alloc, text) {
+        Ok(path) => Ok(path),
+        Err(Untaken::Memory) => Err(TermFault::Memory),
+        Err(Untaken::Form) => read_by_characters(alloc, text),
+    }
+}
+
+/// The same for any text, character by character, which shows where it stops.
+fn read_by_characters(alloc: Global, text: &str) -> Result<Path, TermFault>
+    ensures found { IfOk result (λ p. IsPath (path_view p) × (path_text (path_view p) ≡ text.now)) }
+    ensures only { (p : Steps) → IsPath p → path_text p ≡ text.now → Reads path_view result p }
     ensures fault { IfErr result (StopsWith IsPathText text.now) }
 {
     let mut steps = Vec::new(alloc);

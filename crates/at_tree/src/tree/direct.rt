@@ -9,8 +9,9 @@ ghost use Rattle.at_tree.specs.Separated.{separator};
 ghost use Rattle.at_tree.specs.ReadTrees.{IsReadAs};
 ghost use Rattle.at_tree.specs.Fronts.{IsTreeFront, IsCellFront, AreCellsFront};
 
-use super::front::{Front, Untaken, take, take_class, take_value, takes};
+use super::front::{Front, take, take_class, take_value, takes};
 use super::{Cell, Tree};
+use crate::fault::Untaken;
 use crate::reader::MAX_DEPTH;
 use at_class::{ClassId, ClassTable, Part, PartShape};
 use std::alloc::Global;

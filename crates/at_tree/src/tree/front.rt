@@ -10,48 +10,18 @@ ghost use Rattle.at_model.specs.Trees.{Truth, is_of_kind};
 ghost use Rattle.at_class.specs.View.{token_kind_view};
 ghost use Rattle.at_tree.specs.Token.{token_view};
 
+use crate::fault::Untaken;
 use crate::runs::{Run, cut};
 use crate::token::TokVal;
 use at_class::{ClassId, ClassTable, TokenKind};
 use at_text::decimal::read_int;
 use at_text::quoted::{QuoteFault, read_quoted};
-use std::alloc::{AllocError, AllocFailed, Global};
+use std::alloc::Global;
 
 /// What is left of a text.
 #[derive(Drop)]
 pub(super) struct Front<'a> {
     pub rest: &'a str,
-}
-
-/// Why nothing was taken from the front.
-#[derive(Clone, Copy, Debug)]
-pub(super) enum Untaken {
-    /// Something else stands there.
-    Form,
-    /// Memory ran out.
-    Memory,
-}
-
-impl From<AllocError> for Untaken {
-    ghost use Rattle.std.specs.Prelude.{◌≡◌};
-    ghost use Rattle.at_tree.specs.declared.tree.front.Untaken.TheVariants.{Memory};
-
-    ghost from_gives = { λ _ e. e ≡ Memory };
-
-    fn from(_: AllocError) -> Self {
-        Untaken::Memory
-    }
-}
-
-impl<T: Drop> From<AllocFailed<T>> for Untaken {
-    ghost use Rattle.std.specs.Prelude.{◌≡◌};
-    ghost use Rattle.at_tree.specs.declared.tree.front.Untaken.TheVariants.{Memory};
-
-    ghost from_gives = { λ _ e. e ≡ Memory };
-
-    fn from(_: AllocFailed<T>) -> Self {
-        Untaken::Memory
-    }
 }
 
 /// Whether the sign stands at the front, and takes it.

@@ -7,9 +7,8 @@ ghost use Rattle.at_tree.specs.ReadTrees.{IsReadAs, IsUnread, ReadsTree};
 
 use super::Tree;
 use super::direct::whole_tree;
-use super::front::Untaken;
 use super::shaping::{ShapeFault, shape};
-use crate::fault::TermFault;
+use crate::fault::{TermFault, Untaken};
 use crate::reader::read_term;
 use at_class::{ClassId, ClassTable};
 use std::alloc::Global;

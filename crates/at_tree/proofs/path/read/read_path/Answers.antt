@@ -1,45 +1,7 @@
-use Rattle.std.proofs.Common.{rules, ◌≡◌, ◌-◌, ◌∷◌, length, refl}
-use Rattle.at_tree.specs.Stops.{StopsAt, IsPathText}
+use Rattle.std.proofs.Common.{◌∙◌, sym}
 use Rattle.at_tree.specs.PathView.{path_view}
-use Rattle.at_tree.specs.PathSeen.{partial_view}
-use Rattle.at_tree.proofs.Machine.{read_nothing, read_over, stops_before, no_value}
-use Rattle.at_tree.proofs.Passing.{less_left}
-use Rattle.at_tree.proofs.Finished.{found, fault, only}
-use Rattle.at_tree.proofs.PathMachine.{path_machine}
+use Rattle.at_tree.proofs.TextLaws.{one_path_each}
 use Rattle.at_tree.proofs.path.read.read_path.Goals as goal
 
-pub loop-rest-init : goal.loop-rest-init
-loop-rest-init c = rw c.new-steps.ensures.items (read_nothing path_machine c.args.text.now c.utf8.text)
-
-pub loop-rest-preserved : goal.loop-rest-preserved
-loop-rest-preserved c =
-    let t = c.in-Ok.ensures.taken in
-    read_over path_machine c.args.text.now (t.0 ∷ t.1) c.loop-rest.rest.now c.in-Ok.behind.now (partial_view c.loop-rest.steps.items c.loop-rest.place) (partial_view c.advance.new.steps.items c.in-Ok.next) c.loop-rest.invariant t.2 t.3
-
-pub loop-rest-smaller : goal.loop-rest-smaller
-loop-rest-smaller c = let t = c.in-Ok.ensures.taken in less_left t.0 t.1 c.loop-rest.rest.now c.in-Ok.behind.now t.2
-
-refused : (c : goal.After-drop-steps) → StopsAt IsPathText c.args.text.now (length c.args.text.now - length c.loop-rest.rest.now)
-refused c =
-    stops_before path_machine c.args.text.now (length c.args.text.now - length c.loop-rest.rest.now) c.loop-rest.rest.now (partial_view c.loop-rest.steps.items c.loop-rest.place) c.loop-rest.invariant refl
-    (c.in-Err-Character.ensures.refused c.in-Err-Character.field-0-is)
-
-pub returns-in-Err-Character-clause-only : goal.returns-in-Err-Character-clause-only
-returns-in-Err-Character-clause-only c = λ v fits is. absurd (no_value path_machine _ _ c.utf8.text (refused c) (v, fits, is))
-
-pub returns-in-Err-Character-clause-fault : goal.returns-in-Err-Character-clause-fault
-returns-in-Err-Character-clause-fault c = refused c
-
-none : (c : goal.After-finish) → length c.loop-rest.rest.now ≡ 0
-none c = search rules
-
-pub returns-clause-found : goal.returns-clause-found
-returns-clause-found c = found path_machine path_view _ _ _ _ _ _ c.loop-rest.invariant.1 (none c) c.finish.ensures
-
-pub returns-clause-only : goal.returns-clause-only
-returns-clause-only c =
-    let r = c.loop-rest.invariant.1 in
-    only path_machine path_view _ _ c.utf8.text (found path_machine path_view _ _ _ _ _ _ r (none c) c.finish.ensures) (fault path_machine path_view _ _ _ _ _ r (none c) c.finish.ensures)
-
-pub returns-clause-fault : goal.returns-clause-fault
-returns-clause-fault c = fault path_machine path_view _ _ _ _ _ c.loop-rest.invariant.1 (none c) c.finish.ensures
+pub returns-in-Ok-clause-only : goal.returns-in-Ok-clause-only
+returns-in-Ok-clause-only c = λ p fits is. one_path_each (path_view c.in-Ok.path) p c.in-Ok.ensures.0 fits (c.in-Ok.ensures.1 ∙ sym is)

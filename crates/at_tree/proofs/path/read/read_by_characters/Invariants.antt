@@ -2,7 +2,7 @@ use Rattle.std.specs.Prelude.{length}
 use Rattle.at_tree.specs.PathSeen.{partial_view}
 use Rattle.at_tree.proofs.Machine.{ReadTo}
 use Rattle.at_tree.proofs.PathMachine.{path_machine}
-use Rattle.at_tree.proofs.path.read.read_path.Given as goal
+use Rattle.at_tree.proofs.path.read.read_by_characters.Given as goal
 
 abbrev pub invariant-loop-rest : goal.invariant-loop-rest
 invariant-loop-rest l = ReadTo path_machine l.text l.rest (partial_view l.steps.items l.place)

@@ -1,0 +1,93 @@
+-- Names of ASCII, told by their bytes.
+use Rattle.std.proofs.Common.{◌≡◌, ℕ, zero, suc, ◌+◌, ◌-◌, ◌<◌, ◌≤◌, Bool, true, false, ◌&&◌, ◌||◌, ◌==◌, not, List, [], ◌∷◌, length, take, get_or, Some, None, refl, ap, ◌∙◌, subst, arith, cond, ltb}
+use Rattle.std.specs.Prelude.{chars, IsUtf8}
+use Rattle.std.specs.Char.{is_ascii_alphabetic, is_ascii_digit}
+use Rattle.std.specs.List.{list_all}
+use Rattle.std.specs.Str.{IsAscii, IsCharBoundary}
+use Rattle.std.proofs.lemmas.Bool.Decides.{nat_tests}
+use Rattle.std.proofs.lemmas.List.Sums.{fails_before_first, prefix_len-le-length}
+use Rattle.std.proofs.lemmas.List.Folds.{list_all_more}
+use Rattle.std.proofs.lemmas.List.{take_all}
+use Rattle.std.proofs.lemmas.Str.{chars-IsAscii, IsUtf8-from_ascii, IsCharBoundary-from_take}
+use Rattle.std.proofs.lemmas.Str.Ascii.{IsAscii-nil, IsAscii-cons}
+use Rattle.unicode_ident.proofs.IdentLemmas.{is_xid_start-ascii, is_xid_continue-ascii}
+use Rattle.at_model.specs.Names.{starts_name, continues_name, is_word, IsName, is_reserved}
+use Rattle.at_tree.specs.PlainNames.{is_name_byte, name_len, begins_name}
+use Rattle.at_tree.proofs.Pieces.{both}
+
+below_128 : (b : ℕ) → is_name_byte b ≡ true → b < 128
+below_128 b h = grind (arith, nat_tests, h)
+
+goes_on : (b : ℕ) → is_name_byte b ≡ true → continues_name b ≡ true
+goes_on b h = is_xid_continue-ascii b (below_128 b h) ∙ h
+
+alphabetic : (b : ℕ) → is_name_byte b ≡ true → not (is_ascii_digit b) ≡ true → (is_ascii_alphabetic b || (b == 95)) ≡ true
+alphabetic b h k = grind (arith, nat_tests, h, k)
+
+starts : (b : ℕ) → is_name_byte b ≡ true → not (is_ascii_digit b) ≡ true → starts_name b ≡ true
+starts b h k = ap (λ t. t || (b == 95)) (is_xid_start-ascii b (below_128 b h)) ∙ alphabetic b h k
+
+abbrev AreNameBytes : List ℕ → Type 0
+AreNameBytes bs = list_all is_name_byte bs ≡ true
+
+all_ascii : (bs : List ℕ) → AreNameBytes bs → IsAscii bs
+all_ascii [] h = IsAscii-nil
+all_ascii (b ∷ bs) h = let p = both (is_name_byte b) (list_all is_name_byte bs) h in IsAscii-cons b bs (below_128 b p.0) (all_ascii bs p.1)
+
+all_go_on : (bs : List ℕ) → AreNameBytes bs → list_all continues_name bs ≡ true
+all_go_on [] h = refl
+all_go_on (b ∷ bs) h = let p = both (is_name_byte b) (list_all is_name_byte bs) h in rw (goes_on b p.0, all_go_on bs p.1) refl
+
+word : (bs : List ℕ) → AreNameBytes bs → begins_name bs ≡ true → is_word bs ≡ true
+word [] h k = cc
+word (b ∷ bs) h k = let p = both (is_name_byte b) (list_all is_name_byte bs) h in rw (starts b p.0 k, all_go_on bs p.1) refl
+
+pub named : (bs : List ℕ) → AreNameBytes bs → begins_name bs ≡ true → is_reserved bs ≡ false → IsName bs
+named bs h k r =
+    let a = all_ascii bs h in
+    let w : is_word (chars bs) ≡ true = ap is_word (chars-IsAscii bs a) ∙ word bs h k in
+    (rw (w, r) refl, IsUtf8-from_ascii bs a)
+
+passes : (b : Bool) → not b ≡ false → b ≡ true
+passes true e = refl
+passes false e = cc
+
+up_to : (text : List ℕ) (k : ℕ) → k ≤ name_len text → k ≤ length text → AreNameBytes (take k text)
+up_to text zero h l = refl
+up_to text (suc k) h l =
+    let byte = passes (is_name_byte (get_or text k 0)) (fails_before_first (λ b. not (is_name_byte b)) text k 0 (omega (arith, h))) in
+    let before = up_to text k (omega (arith, h)) (omega (arith, l)) in
+    let more : list_all is_name_byte (take (k + 1) text) ≡ (list_all is_name_byte (take k text) && is_name_byte (get_or text k 0)) = list_all_more is_name_byte text k 0 (omega (arith, l)) in
+    let next : k + 1 ≡ suc k = omega arith in
+    subst (λ n. AreNameBytes (take n text)) next (more ∙ rw (before, byte) refl)
+
+within : (text : List ℕ) → name_len text ≤ length text
+within text = prefix_len-le-length (λ b. not (not (is_name_byte b))) text
+
+-- the position that a search gives
+pub place_found : (p n i : ℕ) → Some i ≡ cond (ltb p n) (Some p) None → i ≡ p
+place_found p n i e = decide (ltb p n) e
+  where
+    decide : (r : Bool) → Some i ≡ cond r (Some p) None → i ≡ p
+    decide true f = cc
+    decide false f = cc
+
+place_past : (p n : ℕ) → None ≡ cond (ltb p n) (Some p) None → n ≤ p
+place_past p n e = decide (ltb p n) refl e
+  where
+    decide : (r : Bool) → ltb p n ≡ r → None ≡ cond r (Some p) None → n ≤ p
+    decide true h f = absurd (cc)
+    decide false h f = grind (arith, nat_tests)
+
+pub all_names : (text : List ℕ) → None ≡ cond (ltb (name_len text) (length text)) (Some (name_len text)) None → length text ≡ name_len text
+all_names text e = let far = place_past (name_len text) (length text) e in omega (arith, far, within text)
+
+pub name_bytes : (text : List ℕ) → AreNameBytes (take (name_len text) text)
+name_bytes text = up_to text (name_len text) (omega arith) (within text)
+
+pub cut_behind_name : (text : List ℕ) → IsUtf8 text → IsCharBoundary text (name_len text)
+cut_behind_name text u = IsCharBoundary-from_take text (name_len text) u (within text) (IsUtf8-from_ascii _ (all_ascii _ (name_bytes text)))
+
+-- a word that is such bytes alone
+pub plain : (word : List ℕ) → length word ≤ name_len word → begins_name word ≡ true → is_reserved word ≡ false → IsName word
+plain word all begins free = named word (subst AreNameBytes (take_all (name_len word) word all) (name_bytes word)) begins free

@@ -1,0 +1,19 @@
+use Rattle.std.proofs.Common.{refl, rules}
+use Rattle.std.specs.Prelude.{IsUtf8}
+use Rattle.at_tree.proofs.PathFronts.{one_digit_first, one_digit_more}
+use Rattle.at_tree.proofs.path.direct.index_first.Goals as goal
+
+pub loop-value-init : goal.loop-value-init
+loop-value-init c =
+    let digit = c.in_ok-value.ensures in
+    let text : IsUtf8 c.in_ok-value.rest.now = search rules in
+    let one = one_digit_first c.args.text.now c.in_ok-value.rest.now c.in_ok-value.value c.in_ok-value.value digit.0 digit.1 refl in
+    (text, one.0, one.1)
+
+pub loop-value-preserved : goal.loop-value-preserved
+loop-value-preserved c =
+    let digit = c.in-Some.ensures in
+    let so_far = c.loop-value.invariant in
+    let text : IsUtf8 c.in-Some.behind.now = search rules in
+    let one = one_digit_more c.args.text.now c.loop-value.rest.now c.in-Some.behind.now c.loop-value.value c.in-Some.digit _ so_far.2 digit.1 digit.0 c.loop-value-test.true c.if-value-lt100000000.true refl in
+    (text, one.0, one.1)

@@ -1,0 +1,43 @@
+//! Names of ASCII alone, which are told by their bytes.
+ghost use Rattle.std.specs.Prelude.{◌≡◌, true};
+ghost use Rattle.at_model.specs.Names.{IsName};
+ghost use Rattle.at_tree.specs.PlainNames.{is_name_byte, name_len, begins_name};
+
+use at_text::names::is_reserved;
+
+/// Whether the word is a name of ASCII alone. It may be another name where it isn't.
+pub fn is_plain_name(word: &str) -> bool
+    ensures { result ≡ true → IsName word.now }
+{
+    if name_len(word) < word.len() || !begins_name(word) {
+        return false;
+    }
+    !is_reserved(word)
+}
+
+/// How many bytes stand before the first that is none of a name in ASCII.
+pub(crate) fn name_len(text: &str) -> usize
+    ensures { result ≡ name_len text.now }
+{
+    match text.as_bytes().iter().position(|b| !is_name_byte(*b)) {
+        Some(len) => len,
+        None => text.len(),
+    }
+}
+
+/// Whether a name goes on with the byte as a character of ASCII.
+fn is_name_byte(b: u8) -> bool
+    ensures { result ≡ is_name_byte b }
+{
+    b.is_ascii_alphanumeric() || b == b'_'
+}
+
+/// Whether such bytes are some, and no digit is the first.
+pub(crate) fn begins_name(name: &str) -> bool
+    ensures { result ≡ begins_name name.now }
+{
+    match name.as_bytes() {
+        [first, ..] => !first.is_ascii_digit(),
+        [] => false,
+    }
+}

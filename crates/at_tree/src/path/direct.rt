@@ -1,0 +1,90 @@
+//! A path in one pass over its text, a step at a time.
+ghost use Rattle.std.specs.Prelude.{◌≡◌, ◌<◌, ◌++◌, ◌∷◌, ◌+◌, IfOk, IfSome, string_bytes};
+ghost use Rattle.std.specs.Fmt.{decimal};
+ghost use Rattle.at_model.specs.Names.{IsName};
+ghost use Rattle.at_model.specs.Paths.{IsStep, IsPath, path_text, step_text};
+ghost use Rattle.at_tree.specs.PathView.{path_view, step_view};
+
+use super::{Path, Step};
+use crate::fault::Untaken;
+use crate::names::{begins_name, name_len};
+use at_text::names::is_reserved;
+use std::alloc::Global;
+
+/// The path that the whole text is written of. What isn't read so (a name that is not of ASCII alone, for one) may
+/// still be a path's text, of which the reader by characters tells the path, or where it stops.
+pub(super) fn whole_path(alloc: Global, text: &str) -> Result<Path, Untaken>
+    ensures { IfOk result (λ p. IsPath (path_view p) × (path_text (path_view p) ≡ text.now)) }
+{
+    let mut steps = Vec::new(alloc);
+    if text.is_empty() {
+        return Err(Untaken::Form);
+    }
+    if text == "/" {
+        return Ok(Path { steps });
+    }
+    let mut rest = text;
+    while !rest.is_empty() {
+        let (step, behind) = step_first(alloc, rest)?;
+        steps.push(step)?;
+        rest = behind;
+    }
+    Ok(Path { steps })
+}
+
+/// The step whose text stands at the front, and what follows it.
+fn step_first(alloc: Global, text: &str) -> Result<(Step, &str), Untaken>
+    ensures { IfOk result (λ r. IsStep (step_view r.0) × (text.now ≡ step_text (step_view r.0) ++ r.1.now)) }
+{
+    let Some(behind) = text.strip_prefix('/') else {
+        return Err(Untaken::Form);
+    };
+    let (part, rest) = part_first(alloc, behind)?;
+    let Some(digits) = rest.strip_prefix(':') else {
+        return Ok((Step { part, index: None }, rest));
+    };
+    let Some((index, rest)) = index_first(digits) else {
+        return Err(Untaken::Form);
+    };
+    let index = Some(index);
+    Ok((Step { part, index }, rest))
+}
+
+/// The name at the front, and what follows it.
+fn part_first(alloc: Global, text: &str) -> Result<(String, &str), Untaken>
+    ensures { IfOk result (λ r. IsName (string_bytes r.0) × (text.now ≡ string_bytes r.0 ++ r.1.now)) }
+{
+    let (name, rest) = text.split_at(name_len(text));
+    if !begins_name(name) || is_reserved(name) {
+        return Err(Untaken::Form);
+    }
+    Ok((String::from_str(alloc, name)?, rest))
+}
+
+/// The index whose decimal stands at the front, and what follows it.
+fn index_first(text: &str) -> Option<(u32, &str)>
+    ensures { IfSome result (λ r. (r.0 < 1000000000) × (text.now ≡ decimal r.0 ++ r.1.now)) }
+{
+    let (mut value, mut rest) = digit_first(text)?;
+    while value > 0 && value < 100_000_000 {
+        let Some((digit, behind)) = digit_first(rest) else {
+            return Some((value, rest));
+        };
+        value = value * 10 + digit;
+        rest = behind;
+    }
+    Some((value, rest))
+}
+
+/// The digit at the front, and what follows it.
+fn digit_first(text: &str) -> Option<(u32, &str)>
+    ensures { IfSome result (λ r. (r.0 < 10) × (text.now ≡ (48 + r.0) ∷ r.1.now)) }
+{
+    match text.as_bytes() {
+        [first, ..] if first.is_ascii_digit() => {
+            let digit = u32::from(*first - b'0');
+            Some((digit, text.split_at(1).1))
+        }
+        _ => None,
+    }
+}
