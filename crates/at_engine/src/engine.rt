@@ -12,7 +12,7 @@ use at_protocol::line::{Command, Line, LineFault, Place, read_line};
 use at_protocol::reply::{Form, Refusal, Reply, Shown, write_reply};
 use at_rules::Rules;
 use at_store::{LoadFault, Store};
-use at_tree::tree::{Tree, write_term};
+use at_tree::tree::Tree;
 use std::alloc::{AllocError, Global};
 
 /// How many bytes each reply has at most that shows no path, no text and no term.
@@ -265,9 +265,9 @@ impl<K: Keeper> Engine<K> {
         let Some(node) = self.node_named(session, place) else {
             return Ok(Form::Refused(Refusal::Path));
         };
-        let tree = self.store.tree_of(self.alloc, node)?;
         let mut text = Vec::new(self.alloc);
-        write_term(self.rules.classes(), &tree, &mut text)?;
+        self.store
+            .write_term(self.rules.classes(), node, &mut text)?;
         Ok(Form::Shows(Shown::Term(text)))
     }
 
