@@ -10,7 +10,6 @@ ghost use Rattle.at_store.specs.View.{MarksNoMore, form_view, kept_view, memory_
 
 use crate::entry::{Entry, Form, Slot};
 use crate::node::Node;
-use crate::walks::copy_value;
 use at_class::ClassId;
 use at_tree::tree::{Cell, Tree};
 use slab::Slab;
@@ -169,7 +168,7 @@ fn plant_cell(
             None => push_slot(slab, node, Slot::Kids(Form::Optional, Vec::new(alloc))),
             Some(tree) => plant_child(alloc, slab, node, part, Form::Optional, tree),
         },
-        Cell::Tok(value) => push_slot(slab, node, Slot::Token(copy_value(alloc, value)?)),
+        Cell::Tok(value) => push_slot(slab, node, Slot::Token(value.copied(alloc)?)),
     }
 }
 
