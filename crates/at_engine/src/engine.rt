@@ -173,10 +173,10 @@ impl<K: Keeper> Engine<K> {
         ensures rules { rules_of self.new ≡ rules_of self.old }
         ensures sound { IsSound K.contents self.new }
     {
-        match read_line(self.alloc, line) {
-            Ok(line) => (Some(line.session), self.obey(&line)),
-            Err(LineFault::Syntax { session }) => (session, Ok(Form::Refused(Refusal::Syntax))),
-            Err(LineFault::Memory { session }) => (session, Err(AllocError)),
+        match &read_line(self.alloc, line) {
+            Ok(line) => (Some(line.session), self.obey(line)),
+            Err(LineFault::Syntax { session }) => (*session, Ok(Form::Refused(Refusal::Syntax))),
+            Err(LineFault::Memory { session }) => (*session, Err(AllocError)),
         }
     }
 

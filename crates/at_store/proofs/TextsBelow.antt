@@ -1,11 +1,10 @@
 -- The text of the tree below a number, from the texts of its cells and of the trees of a list.
-use Rattle.std.proofs.Common.{◌≡◌, ℕ, ◌-◌, ◌<◌, ◌≤◌, List, [], ◌∷◌, ◌++◌, Option, Some, length, take, map, refl, ap, sym, ◌∙◌, take_all}
-use Rattle.std.specs.List.{slice_get}
+use Rattle.std.proofs.Common.{◌≡◌, ℕ, ◌-◌, ◌<◌, ◌≤◌, List, [], ◌∷◌, ◌++◌, Option, length, take, map, refl, ap, sym, ◌∙◌, take_all}
 use Rattle.at_model.specs.Classes.{Classes, name_of}
 use Rattle.at_model.specs.Trees.{Tree, Many, to_cells, to_trees}
 use Rattle.at_model.specs.Terms.{with_commas, tree_text, cell_text, cell_texts, cell_of, cells_of, term_texts, terms_of}
 use Rattle.at_store.specs.Grown.{grown_cell, shown_below}
-use Rattle.at_store.specs.Memory.{Info, Kids, Optional, Plain, cells_in, class_in}
+use Rattle.at_store.specs.Memory.{Info, cells_in, class_in}
 use Rattle.at_store.specs.View.{kept_view}
 use Rattle.at_store.specs.declared.entry.Slot.{Slot}
 use Rattle.at_store.proofs.Copied.{level_above, no_level}
@@ -37,15 +36,6 @@ module _ (classes : Classes) (deeper : ℕ → Tree) where
   list_text ks i most =
       ap (λ ts. 91 ∷ (with_commas ts ++ 93 ∷ [])) (number_texts ks)
       ∙ ap (λ js. 91 ∷ (with_commas (map number_text js) ++ 93 ∷ [])) (sym (take_all i ks most))
-
-  -- a plain child is written as what an optional holds
-  pub plain_text : (ks : List ℕ) → cell_text (cell_of classes (grown_cell deeper (Kids Plain ks))) ≡ cell_text (cell_of classes (grown_cell deeper (Kids Optional ks)))
-  plain_text [] = refl
-  plain_text (k ∷ ks) = refl
-
-  pub first_text : (ks : List ℕ) (k : ℕ) → slice_get ks 0 ≡ Some k → cell_text (cell_of classes (grown_cell deeper (Kids Optional ks))) ≡ number_text k
-  first_text [] k e = absurd cc
-  first_text (j ∷ ks) k e = let same : j ≡ k = cc in ap number_text same
 
 module _ (classes : Classes) (memory : ℕ → Option Info) where
   pub text_at_no_level : (k : ℕ) → tree_text classes (shown_below memory 0 k) ≡ name_of classes (class_in memory k) ++ 40 ∷ 41 ∷ []
