@@ -1,5 +1,8 @@
 //! The engine: one tree, its version, marks, and a reply to each line.
 
+ghost use Rattle.std.specs.Prelude.{◌≡◌, Ok};
+ghost use Rattle.at_protocol.specs.declared.reply.Form.TheVariants as form;
+
 mod asking;
 mod editing;
 mod placing;
@@ -18,6 +21,13 @@ use std::alloc::{AllocError, Global};
 /// How many bytes each reply has at most that shows no path, no text and no term.
 pub const REPLY_ROOM: usize = 48;
 
+/// What is told of a line that is refused. The line ends here, so that one that isn't refused makes no room for that.
+fn turned_away(_line: Line, refusal: Refusal) -> Result<Form, AllocError>
+    ensures { result ≡ Ok (form.Refused refusal) }
+{
+    Ok(Form::Refused(refusal))
+}
+
 /// Answers questions about one tree, which edits change. What it keeps of the answers is up to its keeper.
 #[derive(Drop)]
 pub struct Engine<K> {
@@ -31,7 +41,7 @@ pub struct Engine<K> {
 }
 
 impl<K: Keeper> Engine<K> {
-    ghost use Rattle.std.specs.Prelude.{◌≡◌, ◌++◌, ◌+◌, ◌<◌, ◌≤◌, [], None, true, false, IfOk, IfErr, IsTrue, OnOk, OnErr, vec_len, vec_capacity, length};
+    ghost use Rattle.std.specs.Prelude.{◌≡◌, ◌++◌, ◌+◌, ◌<◌, ◌≤◌, [], None, true, false, IfOk, IfErr, IsTrue, MatchOption, OnOk, OnErr, string_bytes, vec_len, vec_capacity, length};
     ghost use Rattle.at_model.specs.Lines.{IsCommand, IsLine, IsSessionOf, Show, Mark as MarkOf, Unmark, Where};
     ghost use Rattle.at_model.specs.Machine.{State, Serves, is_stale, obeyed, verdict};
     ghost use Rattle.at_model.specs.Replies.{Reply as ModelReply, reply_text};
@@ -173,33 +183,45 @@ impl<K: Keeper> Engine<K> {
         ensures rules { rules_of self.new ≡ rules_of self.old }
         ensures sound { IsSound K.contents self.new }
     {
-        match &read_line(self.alloc, line) {
+        match read_line(self.alloc, line) {
             Ok(line) => (Some(line.session), self.obey(line)),
-            Err(LineFault::Syntax { session }) => (*session, Ok(Form::Refused(Refusal::Syntax))),
-            Err(LineFault::Memory { session }) => (*session, Err(AllocError)),
+            Err(LineFault::Syntax { session }) => (session, Ok(Form::Refused(Refusal::Syntax))),
+            Err(LineFault::Memory { session }) => (session, Err(AllocError)),
         }
     }
 
     /// What the session is told of its line; the line's effect is done, if it has one. Where memory runs
     /// out, and where what is told is not short, nothing has changed.
-    fn obey(&mut self, line: &Line) -> Result<Form, AllocError>
+    fn obey(&mut self, line: Line) -> Result<Form, AllocError>
         requires sound { IsSound K.contents self.old }
-        requires is_line { IsLine (line_view line.now) }
-        ensures meets { IfOk result (λ f. Meets (rules_of self.old) (state_of self.old) (line_view line.now) f (state_of self.new)) }
+        requires is_line { IsLine (line_view line) }
+        ensures meets { IfOk result (λ f. Meets (rules_of self.old) (state_of self.old) (line_view line) f (state_of self.new)) }
         ensures err { OnErr result (state_of self.new ≡ state_of self.old) }
-        ensures spares { IsTrue K.exact → IsSpare K.contents self.old → Spares K.contents (verdict (rules_of self.old) (state_of self.old) (line_view line.now)) result self.old self.new }
+        ensures spares { IsTrue K.exact → IsSpare K.contents self.old → Spares K.contents (verdict (rules_of self.old) (state_of self.old) (line_view line)) result self.old self.new }
         ensures rules { rules_of self.new ≡ rules_of self.old }
         ensures sound { IsSound K.contents self.new }
     {
+        match self.objection(&line) {
+            Some(refusal) => turned_away(line, refusal),
+            None => self.command(line.session, line.command),
+        }
+    }
+
+    /// Why the line is refused before its command is looked at: it expects another version, or uses a mark that its
+    /// session doesn't have.
+    fn objection(&self, line: &Line) -> Option<Refusal>
+        requires sound { IsSound K.contents self.now }
+        ensures { MatchOption result (verdict (rules_of self.now) (state_of self.now) (line_view line.now) ≡ obeyed (rules_of self.now) (state_of self.now) line.now.session (command_view line.now.command)) (λ r. Meets (rules_of self.now) (state_of self.now) (line_view line.now) (form.Refused r) (state_of self.now)) }
+    {
         if self.is_stale(line.expected) {
-            return Ok(Form::Refused(Refusal::Stale {
+            return Some(Refusal::Stale {
                 version: self.version,
-            }));
+            });
         }
         if !self.has_marks(line.session, &line.command) {
-            return Ok(Form::Refused(Refusal::Mark));
+            return Some(Refusal::Mark);
         }
-        self.command(line.session, &line.command)
+        None
     }
 
     /// Whether another version is expected.
@@ -213,12 +235,12 @@ impl<K: Keeper> Engine<K> {
     }
 
     /// What the command leads to, where the marks that it uses are there.
-    fn command(&mut self, session: u16, command: &Command) -> Result<Form, AllocError>
+    fn command(&mut self, session: u16, command: Command) -> Result<Form, AllocError>
         requires sound { IsSound K.contents self.old }
-        requires is_command { IsCommand (command_view command.now) }
-        ensures obeys { IfOk result (λ f. Obeys (rules_of self.old) (state_of self.old) session (command_view command.now) f (state_of self.new)) }
+        requires is_command { IsCommand (command_view command) }
+        ensures obeys { IfOk result (λ f. Obeys (rules_of self.old) (state_of self.old) session (command_view command) f (state_of self.new)) }
         ensures err { OnErr result (state_of self.new ≡ state_of self.old) }
-        ensures spares { IsTrue K.exact → IsSpare K.contents self.old → Spares K.contents (obeyed (rules_of self.old) (state_of self.old) session (command_view command.now)) result self.old self.new }
+        ensures spares { IsTrue K.exact → IsSpare K.contents self.old → Spares K.contents (obeyed (rules_of self.old) (state_of self.old) session (command_view command)) result self.old self.new }
         ensures rules { rules_of self.new ≡ rules_of self.old }
         ensures sound { IsSound K.contents self.new }
     {
@@ -227,21 +249,21 @@ impl<K: Keeper> Engine<K> {
                 place,
                 attribute,
                 arguments,
-            } => self.ask(session, place, attribute.as_str(), arguments),
-            Command::Set { place, term } => self.set(session, place, term),
-            Command::Put { place, part, term } => self.put(session, place, part.as_str(), term),
-            Command::Drop { place } => self.drop_node(session, place),
+            } => self.ask(session, &place, attribute.as_str(), &arguments),
+            Command::Set { place, term } => self.set(session, &place, &term),
+            Command::Put { place, part, term } => self.put(session, &place, part.as_str(), &term),
+            Command::Drop { place } => self.drop_node(session, &place),
             Command::Insert {
                 place,
                 part,
                 index,
                 term,
-            } => self.insert(session, place, part.as_str(), *index, term),
+            } => self.insert(session, &place, part.as_str(), index, &term),
             Command::Token { place, part, value } => {
-                self.token(session, place, part.as_str(), value)
+                self.token(session, &place, part.as_str(), value)
             }
-            Command::Show { place } => self.show(session, place),
-            Command::Mark { name, place } => self.mark(session, name.as_str(), place),
+            Command::Show { place } => self.show(session, &place),
+            Command::Mark { name, place } => self.mark(session, name, &place),
             Command::Unmark { name } => Ok(self.unmark(session, name.as_str())),
             Command::Where { name } => self.whereabouts(session, name.as_str()),
             Command::Version => Ok(self.done()),
@@ -272,9 +294,9 @@ impl<K: Keeper> Engine<K> {
     }
 
     /// A name for the node, where the session has none of that name and not too many.
-    fn mark(&mut self, session: u16, name: &str, place: &Place) -> Result<Form, AllocError>
+    fn mark(&mut self, session: u16, name: String, place: &Place) -> Result<Form, AllocError>
         requires sound { IsSound K.contents self.old }
-        ensures obeys { IfOk result (λ f. Obeys (rules_of self.old) (state_of self.old) session (MarkOf name.now (place_view place.now)) f (state_of self.new)) }
+        ensures obeys { IfOk result (λ f. Obeys (rules_of self.old) (state_of self.old) session (MarkOf (string_bytes name) (place_view place.now)) f (state_of self.new)) }
         ensures err { OnErr result (state_of self.new ≡ state_of self.old) }
         ensures store { self.new.store ≡ self.old.store }
         ensures demand { self.new.demand ≡ self.old.demand }
@@ -284,13 +306,12 @@ impl<K: Keeper> Engine<K> {
         let Some(node) = self.node_named(session, place) else {
             return Ok(Form::Refused(Refusal::Path));
         };
-        if self.has_mark(session, name) {
+        if self.has_mark(session, name.as_str()) {
             return Ok(Form::Refused(Refusal::Taken));
         }
         if self.marks.is_full(session) {
             return Ok(Form::Refused(Refusal::Limit));
         }
-        let name = String::from_str(self.alloc, name)?;
         self.marks.push(session, name, node)?;
         Ok(self.done())
     }

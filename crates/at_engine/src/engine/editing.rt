@@ -219,12 +219,12 @@ impl<K: Keeper> Engine<K> {
         session: u16,
         place: &Place,
         part: &str,
-        value: &TokVal,
+        value: TokVal,
     ) -> Result<Form, AllocError>
         requires sound { IsSound K.contents self.old }
-        ensures obeys { IfOk result (λ f. Obeys (rules_of self.old) (state_of self.old) session (Token (place_view place.now) part.now (token_view value.now)) f (state_of self.new)) }
+        ensures obeys { IfOk result (λ f. Obeys (rules_of self.old) (state_of self.old) session (Token (place_view place.now) part.now (token_view value)) f (state_of self.new)) }
         ensures err { OnErr result (state_of self.new ≡ state_of self.old) }
-        ensures spares { IsTrue K.exact → IsSpare K.contents self.old → Spares K.contents (obeyed (rules_of self.old) (state_of self.old) session (Token (place_view place.now) part.now (token_view value.now))) result self.old self.new }
+        ensures spares { IsTrue K.exact → IsSpare K.contents self.old → Spares K.contents (obeyed (rules_of self.old) (state_of self.old) session (Token (place_view place.now) part.now (token_view value))) result self.old self.new }
         ensures rules { rules_of self.new ≡ rules_of self.old }
         ensures sound { IsSound K.contents self.new }
     {
@@ -238,7 +238,6 @@ impl<K: Keeper> Engine<K> {
             return Ok(Form::Refused(Refusal::Component));
         }
         let part = found.0;
-        let value = value.copied(self.alloc)?;
         self.edit(Edit::Token { node, part, value })
     }
 

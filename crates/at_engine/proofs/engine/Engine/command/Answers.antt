@@ -41,7 +41,7 @@ pub returns-in-Token-clause-obeys : goal.returns-in-Token-clause-obeys
 returns-in-Token-clause-obeys g c = rw (c.in-Token.is, ← c.as_str-in-Token.ensures.value) c.token.ensures.obeys
 
 pub returns-in-Mark-clause-obeys : goal.returns-in-Mark-clause-obeys
-returns-in-Mark-clause-obeys g c = rw (c.in-Mark.is, ← c.as_str-in-Mark.ensures.value) c.mark.ensures.obeys
+returns-in-Mark-clause-obeys g c = rw (c.in-Mark.is) c.mark.ensures.obeys
 
 pub returns-in-Unmark-clause-obeys : goal.returns-in-Unmark-clause-obeys
 returns-in-Unmark-clause-obeys g c = rw (c.in-Unmark.is, ← c.as_str-in-Unmark.ensures.value) c.unmark.ensures.obeys

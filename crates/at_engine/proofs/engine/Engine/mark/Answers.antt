@@ -13,22 +13,22 @@ use Rattle.at_engine.proofs.engine.Engine.mark.Goals as goal
 pub returns-in_default-clause-obeys : goal.returns-in_default-clause-obeys
 returns-in_default-clause-obeys g c =
     let e = c.args.self.now in
-    mark_nowhere (rules_of e) (state_of e) c.args.session (place_view c.args.place.now) c.args.name.now c.in_default.ensures
+    mark_nowhere (rules_of e) (state_of e) c.args.session (place_view c.args.place.now) (string_bytes c.args.name) c.in_default.ensures
 
 pub returns-then-has_mark-clause-obeys : goal.returns-then-has_mark-clause-obeys
 returns-then-has_mark-clause-obeys g c =
     let e = c.args.self.now in
     let (n, named, p) = c.in-Some.ensures in
-    let taken = sym c.has_mark.ensures ∙ c.if-has_mark.true in
-    mark_taken (rules_of e) (state_of e) c.args.session (place_view c.args.place.now) c.args.name.now n named taken
+    let taken = ap (is_marked (state_of e).marks c.args.session) (sym c.as_str.ensures.value) ∙ sym c.has_mark.ensures ∙ c.if-has_mark.true in
+    mark_taken (rules_of e) (state_of e) c.args.session (place_view c.args.place.now) (string_bytes c.args.name) n named taken
 
 pub returns-then-is_full-clause-obeys : goal.returns-then-is_full-clause-obeys
 returns-then-is_full-clause-obeys g c =
     let e = c.args.self.now in
     let (n, named, p) = c.in-Some.ensures in
-    let free = sym c.has_mark.ensures ∙ c.if-has_mark.false in
+    let free = ap (is_marked (state_of e).marks c.args.session) (sym c.as_str.ensures.value) ∙ sym c.has_mark.ensures ∙ c.if-has_mark.false in
     let full = ap (nat_le 100) (counted (path e.store) c.args.session e.marks.items.items c.requires.sound.marked) ∙ sym c.is_full.ensures ∙ c.if-is_full.true in
-    mark_full (rules_of e) (state_of e) c.args.session (place_view c.args.place.now) c.args.name.now n named free full
+    mark_full (rules_of e) (state_of e) c.args.session (place_view c.args.place.now) (string_bytes c.args.name) n named free full
 
 pub returns-in_err-push-clause-err : goal.returns-in_err-push-clause-err
 returns-in_err-push-clause-err g c =
@@ -44,15 +44,15 @@ pub returns-clause-obeys : goal.returns-clause-obeys
 returns-clause-obeys g c =
     let e = c.args.self.now in
     let (n, named, p) = c.in-Some.ensures in
-    let free = ap (is_marked (state_of e).marks c.args.session) c.in_ok-name.ensures.ok ∙ sym c.has_mark.ensures ∙ c.if-has_mark.false in
+    let free = ap (is_marked (state_of e).marks c.args.session) (sym c.as_str.ensures.value) ∙ sym c.has_mark.ensures ∙ c.if-has_mark.false in
     let few = ap (nat_le 100) (counted (path e.store) c.args.session e.marks.items.items c.requires.sound.marked) ∙ sym c.is_full.ensures ∙ c.if-is_full.false in
-    let m : Mark = record { session = c.args.session; name = c.in_ok-name.name; node = c.in-Some.node } in
+    let m : Mark = record { session = c.args.session; name = c.args.name; node = c.in-Some.node } in
     let more = ap (marks_view (path e.store)) c.in_ok-push.ensures.more ∙ pushed (path e.store) e.marks.items.items m n p in
-    rw (c.done.ensures, ← c.in_ok-name.ensures.ok) (mark_made (rules_of e) (state_of e) c.args.session (place_view c.args.place.now) (string_bytes c.in_ok-name.name) n named free few _ more)
+    rw c.done.ensures (mark_made (rules_of e) (state_of e) c.args.session (place_view c.args.place.now) (string_bytes c.args.name) n named free few _ more)
 
 pub returns-clause-sound : goal.returns-clause-sound
 returns-clause-sound g c =
     let e = c.args.self.now in
     let (n, named, p) = c.in-Some.ensures in
-    let m : Mark = record { session = c.args.session; name = c.in_ok-name.name; node = c.in-Some.node } in
+    let m : Mark = record { session = c.args.session; name = c.args.name; node = c.in-Some.node } in
     sound_marks (rules_of e) e.store e.marks.items.items _ _ (subst (AreThere (path e.store)) (sym c.in_ok-push.ensures.more) (there_pushed (path e.store) e.marks.items.items m (ap is_some p) c.requires.sound.marked)) c.requires.sound
