@@ -77,6 +77,24 @@ impl<K: Keeper> Demand<K> {
         if let Some(value) = self.keeper.get(inst) {
             return Ok(Answer::Value(value.copy()?));
         }
+        self.evaluate(rules, store, inst)
+    }
+
+    // The answer for an instance that isn't kept. Apart from the look-up, which most questions end with, so that those
+    // don't make room for a question under way.
+    fn evaluate(&mut self, rules: &Rules, store: &Store, inst: &Inst) -> Result<Answer, AllocError>
+        requires idle { IsIdle store.now }
+        requires unkept { K.contents self.old.keeper inst.now ≡ None }
+        ensures answers { Right (contents store.now) (meaning rules.now) (kept_values (K.contents self.old.keeper)) → IfOk result (λ a. HasAnswer (contents store.now) (meaning rules.now) inst.now (answer_view a)) }
+        ensures worthy { Right (contents store.now) (meaning rules.now) (kept_values (K.contents self.old.keeper)) → AddsWorthy rules.now (contents store.now) inst.now (K.contents self.old.keeper) (K.contents self.new.keeper) }
+        ensures spare { IsTrue K.exact → Right (contents store.now) (meaning rules.now) (kept_values (K.contents self.old.keeper)) → AreSpare rules.now (contents store.now) (K.contents self.old.keeper) → AreSpare rules.now (contents store.now) (K.contents self.new.keeper) }
+        ensures all { IsTrue K.exact → Right (contents store.now) (meaning rules.now) (kept_values (K.contents self.old.keeper)) → AreSpare rules.now (contents store.now) (K.contents self.old.keeper) → IfOk result (λ a. HasWorthy rules.now (contents store.now) inst.now (K.contents self.new.keeper)) }
+        ensures counts { IsTrue K.exact → Counts (K.contents self.old.keeper) (K.contents self.new.keeper) self.old.work self.new.work }
+        ensures work { IsTrue K.exact → Right (contents store.now) (meaning rules.now) (kept_values (K.contents self.old.keeper)) → AreSpare rules.now (contents store.now) (K.contents self.old.keeper) → IfOk result (λ a. IsWork rules.now (contents store.now) inst.now (K.contents self.old.keeper) self.old.work self.new.work) }
+        ensures right { IsThere store.now inst.now → AreRight rules.now store.now (K.contents self.old.keeper) → AreRight rules.now store.now (K.contents self.new.keeper) }
+    {
+        // The call says that it is less than 2^64.
+        let _work = self.work();
         let begun = Question::new(self.alloc, rules, store, inst.copy(self.alloc)?)?;
         let (mut question, mut step) = begun;
         loop {

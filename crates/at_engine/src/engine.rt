@@ -1,5 +1,8 @@
 //! The engine: one tree, its version, marks, and a reply to each line.
 
+ghost use Rattle.std.specs.Prelude.{◌≡◌, Ok};
+ghost use Rattle.at_protocol.specs.declared.reply.Form.TheVariants as form;
+
 mod asking;
 mod editing;
 mod placing;
@@ -12,11 +15,18 @@ use at_protocol::line::{Command, Line, LineFault, Place, read_line};
 use at_protocol::reply::{Form, Refusal, Reply, Shown, write_reply};
 use at_rules::Rules;
 use at_store::{LoadFault, Store};
-use at_tree::tree::{Tree, write_term};
+use at_tree::tree::Tree;
 use std::alloc::{AllocError, Global};
 
 /// How many bytes each reply has at most that shows no path, no text and no term.
 pub const REPLY_ROOM: usize = 48;
+
+/// What is told of a line that is refused. The line ends here, so that one that isn't refused makes no room for that.
+fn turned_away(_line: Line, refusal: Refusal) -> Result<Form, AllocError>
+    ensures { result ≡ Ok (form.Refused refusal) }
+{
+    Ok(Form::Refused(refusal))
+}
 
 /// Answers questions about one tree, which edits change. What it keeps of the answers is up to its keeper.
 #[derive(Drop)]
@@ -31,7 +41,7 @@ pub struct Engine<K> {
 }
 
 impl<K: Keeper> Engine<K> {
-    ghost use Rattle.std.specs.Prelude.{◌≡◌, ◌++◌, ◌+◌, ◌<◌, ◌≤◌, [], None, true, false, IfOk, IfErr, IsTrue, OnOk, OnErr, string_bytes, vec_len, vec_capacity, length};
+    ghost use Rattle.std.specs.Prelude.{◌≡◌, ◌++◌, ◌+◌, ◌<◌, ◌≤◌, [], None, true, false, IfOk, IfErr, IsTrue, MatchOption, OnOk, OnErr, string_bytes, vec_len, vec_capacity, length};
     ghost use Rattle.at_model.specs.Lines.{IsCommand, IsLine, IsSessionOf, Show, Mark as MarkOf, Unmark, Where};
     ghost use Rattle.at_model.specs.Machine.{State, Serves, is_stale, obeyed, verdict};
     ghost use Rattle.at_model.specs.Replies.{Reply as ModelReply, reply_text};
@@ -191,15 +201,27 @@ impl<K: Keeper> Engine<K> {
         ensures rules { rules_of self.new ≡ rules_of self.old }
         ensures sound { IsSound K.contents self.new }
     {
+        match self.objection(&line) {
+            Some(refusal) => turned_away(line, refusal),
+            None => self.command(line.session, line.command),
+        }
+    }
+
+    /// Why the line is refused before its command is looked at: it expects another version, or uses a mark that its
+    /// session doesn't have.
+    fn objection(&self, line: &Line) -> Option<Refusal>
+        requires sound { IsSound K.contents self.now }
+        ensures { MatchOption result (verdict (rules_of self.now) (state_of self.now) (line_view line.now) ≡ obeyed (rules_of self.now) (state_of self.now) line.now.session (command_view line.now.command)) (λ r. Meets (rules_of self.now) (state_of self.now) (line_view line.now) (form.Refused r) (state_of self.now)) }
+    {
         if self.is_stale(line.expected) {
-            return Ok(Form::Refused(Refusal::Stale {
+            return Some(Refusal::Stale {
                 version: self.version,
-            }));
+            });
         }
         if !self.has_marks(line.session, &line.command) {
-            return Ok(Form::Refused(Refusal::Mark));
+            return Some(Refusal::Mark);
         }
-        self.command(line.session, line.command)
+        None
     }
 
     /// Whether another version is expected.
@@ -265,9 +287,9 @@ impl<K: Keeper> Engine<K> {
         let Some(node) = self.node_named(session, place) else {
             return Ok(Form::Refused(Refusal::Path));
         };
-        let tree = self.store.tree_of(self.alloc, node)?;
         let mut text = Vec::new(self.alloc);
-        write_term(self.rules.classes(), &tree, &mut text)?;
+        self.store
+            .write_term(self.rules.classes(), node, &mut text)?;
         Ok(Form::Shows(Shown::Term(text)))
     }
 

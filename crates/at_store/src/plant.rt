@@ -10,7 +10,6 @@ ghost use Rattle.at_store.specs.View.{MarksNoMore, form_view, kept_view, memory_
 
 use crate::entry::{Entry, Form, Slot};
 use crate::node::Node;
-use crate::walks::copy_value;
 use at_class::ClassId;
 use at_tree::tree::{Cell, Tree};
 use slab::Slab;
@@ -43,13 +42,14 @@ fn free_slot(slab: &mut Slab<Entry>, slot: &Slot)
     }
 }
 
-/// A node with no component yet.
+/// A node with no component yet, and room for so many.
 fn add(
     alloc: Global,
     slab: &mut Slab<Entry>,
     class: ClassId,
     up: Option<(Node, usize)>,
     index: usize,
+    parts: usize,
 ) -> Result<Node, AllocError>
     ensures added { IfOk result (λ node. IsAdded node class (up, index) (memory_of slab.old) (memory_of slab.new)) }
     ensures kept { OnErr result (IsAsBefore (memory_of slab.old) (memory_of slab.new)) }
@@ -60,7 +60,7 @@ fn add(
         up,
         index,
         leaves: false,
-        cells: Vec::new(alloc),
+        cells: Vec::with_capacity(alloc, parts)?,
     };
     Ok(Node::new(slab.insert(entry)?))
 }
@@ -121,7 +121,7 @@ fn push_filled(
     ensures kept { OnErr result (IsAsBefore (memory_of slab.old) (memory_of slab.new)) }
     ensures marks { MarksNoMore slab.old slab.new }
 {
-    let mut kids = Vec::new(alloc);
+    let mut kids = Vec::with_capacity(alloc, 1)?;
     kids.push(kid)?;
     push_slot(slab, node, Slot::Kids(form, kids))
 }
@@ -139,7 +139,7 @@ pub(crate) fn plant(
     ensures kept { OnErr result (IsAsBefore (memory_of slab.old) (memory_of slab.new)) }
     ensures marks { MarksNoMore slab.old slab.new }
 {
-    let node = add(alloc, slab, tree.class, up, index)?;
+    let node = add(alloc, slab, tree.class, up, index, tree.cells.len())?;
     for (part, cell) in tree.cells.iter().enumerate() {
         if let Err(error) = plant_cell(alloc, slab, node, part, cell) {
             free(slab, node);
@@ -169,7 +169,7 @@ fn plant_cell(
             None => push_slot(slab, node, Slot::Kids(Form::Optional, Vec::new(alloc))),
             Some(tree) => plant_child(alloc, slab, node, part, Form::Optional, tree),
         },
-        Cell::Tok(value) => push_slot(slab, node, Slot::Token(copy_value(alloc, value)?)),
+        Cell::Tok(value) => push_slot(slab, node, Slot::Token(value.copied(alloc)?)),
     }
 }
 

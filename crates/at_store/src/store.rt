@@ -1,11 +1,12 @@
 //! The node store: the nodes of one tree, by number, and checked edits of it.
-ghost use Rattle.std.specs.Prelude.{◌≡◌, ◌<◌, ◌≤◌, ℕ, IfErr, IfOk, None, OnErr, OnOk, Some, [], cond, is_some, length, nat_eq, true};
+ghost use Rattle.std.specs.Prelude.{◌≡◌, ◌++◌, ◌<◌, ◌≤◌, ℕ, IfErr, IfOk, None, OnErr, OnOk, Some, [], cond, is_some, length, nat_eq, true};
 ghost use Rattle.std.specs.List.{insert, slice_get};
 ghost use Rattle.at_model.specs.Run.{Idx, Is, Location, Slot as Children, Tok, Up};
 ghost use Rattle.at_tree.specs.Token.{token_view};
 ghost use Rattle.at_tree.specs.TreeView.{tree_view};
 ghost use Rattle.at_model.specs.Paths.{IsPath, Node as Place, Path as Steps, path_of, tree_at};
 ghost use Rattle.at_model.specs.Edits.{is_within_limits};
+ghost use Rattle.at_model.specs.Terms.{tree_text};
 ghost use Rattle.at_model.specs.Trees.{Tree as Nested, conforms};
 ghost use Rattle.at_store.specs.Loading.{IsNotLoaded};
 ghost use Rattle.at_tree.specs.PathView.{path_view, steps_view};
@@ -35,6 +36,7 @@ use crate::plant::{free, plant};
 use crate::refusals::refusal;
 use crate::touching::touches;
 use crate::walks::{steps_to, tree_at, walk};
+use crate::writing::write_tree;
 use at_class::{ClassId, ClassTable};
 use at_tree::path::{Path, Step};
 use at_tree::reader::MAX_DEPTH;
@@ -199,6 +201,24 @@ impl Store {
         ensures { (n : Place) (u : Nested) → path self.now node ≡ Some n → tree_at (tree self.now) n ≡ Some u → IfOk result (λ t. tree_view t ≡ u) }
     {
         tree_at(alloc, &self.slab, node, MAX_DEPTH)
+    }
+
+    /// Appends the text of the tree below a node.
+    ///
+    /// # Errors
+    ///
+    /// Where memory is wanting; the output is then as it was.
+    pub fn write_term(
+        &self,
+        classes: &ClassTable,
+        node: Node,
+        out: &mut Vec<u8>,
+    ) -> Result<(), AllocError>
+        requires { IsIdle self.now }
+        ensures ok { (n : Place) (u : Nested) → path self.now node ≡ Some n → tree_at (tree self.now) n ≡ Some u → OnOk result (out.new.items ≡ out.old.items ++ tree_text classes.now u) }
+        ensures err { OnErr result (out.new.items ≡ out.old.items) }
+    {
+        write_tree(&self.slab, classes, node, MAX_DEPTH, out)
     }
 
     /// Prepares an edit of a node that is there: all memory is taken, and nothing is changed. Exactly one edit may be prepared, and

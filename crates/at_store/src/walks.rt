@@ -8,7 +8,6 @@ ghost use Rattle.at_model.specs.Paths.{IsPath, Node as Place, Path, index_in as 
 ghost use Rattle.at_model.specs.Trees.{Tree as Numbered, Node as bare, no_cells};
 ghost use Rattle.at_class.specs.View.{part_view, shape_view};
 ghost use Rattle.at_tree.specs.PathView.{step_view, steps_view};
-ghost use Rattle.at_tree.specs.Token.{token_view};
 ghost use Rattle.at_tree.specs.TreeView.{cell_view, tree_view};
 ghost use Rattle.at_store.specs.Grown.{grown_cell, shown_below};
 ghost use Rattle.at_store.specs.Led.{Led};
@@ -20,7 +19,6 @@ use crate::entry::{Entry, Form, Slot, class_at, index_at, kid_at, slots_at, up_a
 use crate::node::Node;
 use at_class::{ClassId, ClassTable, Part, PartShape};
 use at_tree::path::Step;
-use at_tree::token::TokVal;
 use at_tree::tree::{Cell, Tree};
 use slab::Slab;
 use std::alloc::{AllocError, Global};
@@ -142,17 +140,6 @@ pub(crate) fn steps_to(
     Ok(steps)
 }
 
-/// The same value, or want of memory.
-pub(crate) fn copy_value(alloc: Global, value: &TokVal) -> Result<TokVal, AllocError>
-    ensures { IfOk result (λ v. token_view v ≡ token_view value.now) }
-{
-    match value {
-        TokVal::Str(text) => Ok(TokVal::Str(String::from_str(alloc, text.as_str())?)),
-        TokVal::Int(n) => Ok(TokVal::Int(*n)),
-        TokVal::Bool(b) => Ok(TokVal::Bool(*b)),
-    }
-}
-
 /// A copy of the tree below a node, so many levels down.
 #[cycle(copy)]
 pub(crate) fn tree_at(
@@ -184,7 +171,7 @@ fn cell_at(
     ensures { IfOk result (λ c. cell_view c ≡ grown_cell (shown_below (memory_of slab.now) levels) (kept_view slot.now)) }
 {
     match slot {
-        Slot::Token(value) => Ok(Cell::Tok(copy_value(alloc, value)?)),
+        Slot::Token(value) => Ok(Cell::Tok(value.copied(alloc)?)),
         Slot::Kids(form, kids) => kids_cell(alloc, slab, *form, kids, levels),
     }
 }

@@ -6,7 +6,7 @@ mod front;
 pub mod laws;
 mod reading;
 mod shaping;
-mod writing;
+pub mod writing;
 
 use crate::token::TokVal;
 use at_class::ClassId;

@@ -2,7 +2,6 @@ ghost use Rattle.std.specs.Prelude.{◌≡◌, IfOk, IfErr, OnOk, Some, map, tru
 ghost use Rattle.at_model.specs.Classes.{AreSound};
 ghost use Rattle.at_model.specs.Trees.{to_trees};
 ghost use Rattle.at_class.specs.View.{shape_view};
-ghost use Rattle.at_tree.specs.Token.{token_view};
 ghost use Rattle.at_tree.specs.TreeView.{tree_view};
 ghost use Rattle.at_tree.specs.TreeView.{cell_view as tree_cell_view};
 ghost use Rattle.at_tree.specs.View.{term_view, cell_view, to_terms};
@@ -12,7 +11,6 @@ ghost use Rattle.at_tree.specs.Shape.{IsShaped, IsMisshaped, IsNoneAtFit};
 use super::conforming::is_of_kind;
 use super::{Cell, Tree};
 use crate::term::{Term, TermCell};
-use crate::token::TokVal;
 use at_class::{ClassId, ClassTable, PartShape};
 use std::alloc::{AllocError, AllocFailed, Global};
 
@@ -119,16 +117,6 @@ fn are_known(classes: &ClassTable, terms: &[Term]) -> bool
     true
 }
 
-fn copy_value(alloc: Global, value: &TokVal) -> Result<TokVal, AllocError>
-    ensures { IfOk result (λ v. token_view v ≡ token_view value.now) }
-{
-    match value {
-        TokVal::Str(text) => Ok(TokVal::Str(String::from_str(alloc, text.as_str())?)),
-        TokVal::Int(n) => Ok(TokVal::Int(*n)),
-        TokVal::Bool(b) => Ok(TokVal::Bool(*b)),
-    }
-}
-
 #[cycle(shape)]
 fn shape_tree(
     alloc: Global,
@@ -183,7 +171,7 @@ fn shape_cell(
             if !is_of_kind(value, kind) {
                 return Err(ShapeFault::Fit);
             }
-            Ok(Cell::Tok(copy_value(alloc, value)?))
+            Ok(Cell::Tok(value.copied(alloc)?))
         }
         _ => Err(ShapeFault::Fit),
     }

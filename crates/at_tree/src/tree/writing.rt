@@ -36,8 +36,8 @@ fn name_or_none(classes: &ClassTable, class: ClassId) -> &str
     classes.name_of(class)
 }
 
-// A comma before each element but the first.
-fn separate(i: usize, out: &mut Vec<u8>) -> Result<(), AllocError>
+/// Appends a comma before each element but the first. Where memory is wanting, nothing is.
+pub fn separate(i: usize, out: &mut Vec<u8>) -> Result<(), AllocError>
     ensures ok { OnOk result (out.new.items ≡ out.old.items ++ separator i) }
     ensures err { OnErr result (take (length out.old.items) out.new.items ≡ out.old.items) }
 {
@@ -47,8 +47,9 @@ fn separate(i: usize, out: &mut Vec<u8>) -> Result<(), AllocError>
     Ok(out.push(b',')?)
 }
 
-// A class's name and a parenthesis.
-fn open(classes: &ClassTable, class: ClassId, out: &mut Vec<u8>) -> Result<(), AllocError>
+/// Appends a class's name, none where its number is none of the table's, and a parenthesis. Where memory is wanting, a part may
+/// be appended.
+pub fn open(classes: &ClassTable, class: ClassId, out: &mut Vec<u8>) -> Result<(), AllocError>
     ensures ok { OnOk result (out.new.items ≡ out.old.items ++ (name_of classes.now class ++ 40 ∷ [])) }
     ensures err { OnErr result (take (length out.old.items) out.new.items ≡ out.old.items) }
 {
@@ -56,7 +57,8 @@ fn open(classes: &ClassTable, class: ClassId, out: &mut Vec<u8>) -> Result<(), A
     Ok(out.push(b'(')?)
 }
 
-fn append_value(value: &TokVal, out: &mut Vec<u8>) -> Result<(), AllocError>
+/// Appends the text of the value. Where memory is wanting, a part may be appended.
+pub fn append_value(value: &TokVal, out: &mut Vec<u8>) -> Result<(), AllocError>
     ensures ok { OnOk result (out.new.items ≡ out.old.items ++ token_text (token_view value.now)) }
     ensures err { OnErr result (take (length out.old.items) out.new.items ≡ out.old.items) }
 {

@@ -25,13 +25,13 @@ plant_cell-returns-in-Many-clause-planted t c =
     on_ok c.plant_list.result (subst (λ (x : Cell). GainsCell c.args.node c.args.part x (memory_of c.args.slab.now) (memory_of c.plant_list.new.slab))
     (ap (λ xs. Many (to_trees (map tree_view xs))) c.deref.ensures.value ∙ sym (ap cell_view c.in-Many.is ∙ made_many c.in-Many.trees))) c.plant_list.ensures.planted
 
-pub plant_cell-returns-in_ok-copy_value-in-Tok-clause-planted : goal.plant_cell-returns-in_ok-copy_value-in-Tok-clause-planted
-plant_cell-returns-in_ok-copy_value-in-Tok-clause-planted t c =
+pub plant_cell-returns-in_ok-copied-in-Tok-clause-planted : goal.plant_cell-returns-in_ok-copied-in-Tok-clause-planted
+plant_cell-returns-in_ok-copied-in-Tok-clause-planted t c =
     on_ok c.push_slot-in-Tok.result (λ p. subst (λ (x : Cell). GainsCell c.args.node c.args.part x (memory_of c.args.slab.now) (memory_of c.push_slot-in-Tok.new.slab)) (sym (ap cell_view c.in-Tok.is ∙ made_token c.in-Tok.value))
-    (gains_childless c.args.node c.args.part (Holds (token_view c.in-Tok.value)) _ (memory_of c.args.slab.now) (memory_of c.push_slot-in-Tok.new.slab) (ap Token_of c.in_ok-copy_value-in-Tok.ensures) refl (λ f. refl) p)) c.push_slot-in-Tok.ensures.pushed
+    (gains_childless c.args.node c.args.part (Holds (token_view c.in-Tok.value)) _ (memory_of c.args.slab.now) (memory_of c.push_slot-in-Tok.new.slab) (ap Token_of c.in_ok-copied-in-Tok.ensures) refl (λ f. refl) p)) c.push_slot-in-Tok.ensures.pushed
 
-pub plant_cell-returns-in_ok-copy_value-in-Tok-clause-stays : goal.plant_cell-returns-in_ok-copy_value-in-Tok-clause-stays
-plant_cell-returns-in_ok-copy_value-in-Tok-clause-stays t c = on_err c.push_slot-in-Tok.result (stays_same c.args.node c.args.part (memory_of c.args.slab.now) (memory_of c.push_slot-in-Tok.new.slab)) c.push_slot-in-Tok.ensures.kept
+pub plant_cell-returns-in_ok-copied-in-Tok-clause-stays : goal.plant_cell-returns-in_ok-copied-in-Tok-clause-stays
+plant_cell-returns-in_ok-copied-in-Tok-clause-stays t c = on_err c.push_slot-in-Tok.result (stays_same c.args.node c.args.part (memory_of c.args.slab.now) (memory_of c.push_slot-in-Tok.new.slab)) c.push_slot-in-Tok.ensures.kept
 
 pub plant-loop-part-init : goal.plant-loop-part-init
 plant-loop-part-init t c = (cells_first c.in_ok-node.node (out-Tree c.args.tree.now).class (c.args.up, c.args.index) (memory_of c.args.slab.now) (memory_of c.add.new.slab) c.in_ok-node.ensures.added, c.add.ensures.marks)

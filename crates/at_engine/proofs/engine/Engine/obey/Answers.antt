@@ -1,45 +1,29 @@
-use Rattle.std.proofs.Common.{◌∙◌, sym}
 use Rattle.std.proofs.lemmas.Result.{IfOk-weaker}
+use Rattle.at_model.specs.Machine.{obeyed, verdict}
 use Rattle.at_protocol.specs.LineView.{line_view}
 use Rattle.at_engine.specs.Engines.{rules_of, state_of}
-use Rattle.at_engine.proofs.Telling.{meets_stale, meets_unmarked, meets_obeyed}
-use Rattle.at_model.specs.Machine.{obeyed, verdict}
-use Rattle.at_protocol.specs.declared.reply.Refusal.TheVariants as refusal
-use Rattle.at_engine.proofs.Verdicts.{at_obeyed}
+use Rattle.at_engine.proofs.Following.{as_verdict}
 use Rattle.at_engine.proofs.Keeping.{refused_spares, turned_spares}
 use Rattle.at_engine.proofs.engine.Engine.obey.Goals as goal
 
-pub returns-then-is_stale-clause-meets : goal.returns-then-is_stale-clause-meets
-returns-then-is_stale-clause-meets g c =
-    let e = c.args.self.now in
-    meets_stale (rules_of e) (state_of e) (line_view c.args.line) (sym c.is_stale.ensures ∙ c.if-is_stale.true)
+pub returns-in-Some-clause-meets : goal.returns-in-Some-clause-meets
+returns-in-Some-clause-meets g c = rw c.turned_away.ensures c.in-Some.ensures
 
-pub returns-then-not-has_marks-clause-meets : goal.returns-then-not-has_marks-clause-meets
-returns-then-not-has_marks-clause-meets g c =
+pub returns-in-Some-clause-spares : goal.returns-in-Some-clause-spares
+returns-in-Some-clause-spares g c exact spare =
     let e = c.args.self.now in
-    meets_unmarked (rules_of e) (state_of e) (line_view c.args.line) (sym c.is_stale.ensures ∙ c.if-is_stale.false) (sym c.has_marks.ensures ∙ c.if-not-has_marks.true)
+    rw c.turned_away.ensures (refused_spares g.K.Keeper.contents e (verdict (rules_of e) (state_of e) (line_view c.args.line)) spare c.in-Some.refusal c.in-Some.ensures)
 
-pub returns-clause-meets : goal.returns-clause-meets
-returns-clause-meets g c =
-    let e = c.args.self.now in
-    let current = sym c.is_stale.ensures ∙ c.if-is_stale.false in
-    let marked = sym c.has_marks.ensures ∙ c.if-not-has_marks.false in
-    IfOk-weaker c.command.result _ _ (λ f o. meets_obeyed (rules_of e) (state_of e) (line_view c.args.line) current marked f (state_of c.command.new.self) o) c.command.ensures.obeys
-
-pub returns-then-is_stale-clause-spares : goal.returns-then-is_stale-clause-spares
-returns-then-is_stale-clause-spares g c exact spare =
-    let e = c.args.self.now in
-    refused_spares g.K.Keeper.contents e (verdict (rules_of e) (state_of e) (line_view c.args.line)) spare (refusal.Stale e.version) (returns-then-is_stale-clause-meets g c)
-
-pub returns-then-not-has_marks-clause-spares : goal.returns-then-not-has_marks-clause-spares
-returns-then-not-has_marks-clause-spares g c exact spare =
-    let e = c.args.self.now in
-    refused_spares g.K.Keeper.contents e (verdict (rules_of e) (state_of e) (line_view c.args.line)) spare refusal.Mark (returns-then-not-has_marks-clause-meets g c)
-
-pub returns-clause-spares : goal.returns-clause-spares
-returns-clause-spares g c exact spare =
+pub returns-in-None-clause-meets : goal.returns-in-None-clause-meets
+returns-in-None-clause-meets g c =
     let e = c.args.self.now in
     let l = line_view c.args.line in
-    let current = sym c.is_stale.ensures ∙ c.if-is_stale.false in
-    let marked = sym c.has_marks.ensures ∙ c.if-not-has_marks.false in
-    turned_spares g.K.Keeper.contents e c.command.new.self (verdict (rules_of e) (state_of e) l) (obeyed (rules_of e) (state_of e) l.session l.command) c.command.result (at_obeyed (rules_of e) (state_of e) l current marked) (c.command.ensures.spares exact spare)
+    let v = verdict (rules_of e) (state_of e) l in
+    let o = obeyed (rules_of e) (state_of e) l.session l.command in
+    IfOk-weaker c.command.result _ _ (λ f told. as_verdict (rules_of e) (state_of e) v o f (state_of c.command.new.self) c.in-None.ensures told) c.command.ensures.obeys
+
+pub returns-in-None-clause-spares : goal.returns-in-None-clause-spares
+returns-in-None-clause-spares g c exact spare =
+    let e = c.args.self.now in
+    let l = line_view c.args.line in
+    turned_spares g.K.Keeper.contents e c.command.new.self (verdict (rules_of e) (state_of e) l) (obeyed (rules_of e) (state_of e) l.session l.command) c.command.result c.in-None.ensures (c.command.ensures.spares exact spare)

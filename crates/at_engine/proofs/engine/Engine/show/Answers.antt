@@ -1,7 +1,6 @@
-use Rattle.std.proofs.Common.{◌∙◌, ◌++◌, List, ap}
+use Rattle.std.proofs.Common.{◌∙◌, ◌++◌, ap}
 use Rattle.at_model.specs.Classes.{Classes}
 use Rattle.at_model.specs.Terms.{tree_text}
-use Rattle.at_tree.specs.TreeView.{tree_view}
 use Rattle.at_protocol.specs.LineView.{place_view}
 use Rattle.at_engine.specs.Engines.{rules_of, state_of}
 use Rattle.at_engine.proofs.Commands.{show_nowhere, show_term}
@@ -18,8 +17,7 @@ returns g c =
     let e = c.args.self.now in
     let (n, named, p) = c.in-Some.ensures in
     let (u, at') = tree_there e.store c.in-Some.node n p in
-    let text = c.in_ok-write_term.ensures.ok
-    ∙ ap (λ xs. xs ++ tree_text c.classes.result.now (tree_view c.in_ok-tree.tree)) c.new-text.ensures.items
-    ∙ ap (λ (x : Classes). tree_text x (tree_view c.in_ok-tree.tree)) c.classes.ensures
-    ∙ ap (tree_text e.rules.classes) (c.in_ok-tree.ensures n u p at') in
+    let text = c.in_ok-write_term.ensures.ok n u p at'
+    ∙ ap (λ xs. xs ++ tree_text c.classes.result.now u) c.new-text.ensures.items
+    ∙ ap (λ (x : Classes). tree_text x u) c.classes.ensures in
     show_term (rules_of e) (state_of e) c.args.session (place_view c.args.place.now) n u c.write_term.new.out named at' text

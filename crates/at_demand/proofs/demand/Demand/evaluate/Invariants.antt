@@ -7,7 +7,7 @@ use Rattle.at_demand.specs.Covering.{IsCoveringIn}
 use Rattle.std.specs.Prelude.{IsTrue}
 use Rattle.at_demand.specs.Right.{AreRight, IsThere}
 use Rattle.at_demand.specs.Sparing.{AddsWorthy, AreSpare, Counts, IsSparing}
-use Rattle.at_demand.proofs.demand.Demand.answer.Given as goal
+use Rattle.at_demand.proofs.demand.Demand.evaluate.Given as goal
 
 abbrev pub invariant-loop-next : goal.invariant-loop-next
 invariant-loop-next g l = record {
