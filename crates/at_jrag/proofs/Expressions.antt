@@ -1,5 +1,7 @@
 -- How reading an expression follows from reading its parts.
 use Rattle.std.proofs.Common.{◌≡◌, ℕ, ◌+◌, ◌≤◌, ◌<◌, suc, ℤ, List, [], ◌∷◌, ◌++◌, false, length, max, map, refl, sym, ap, subst, ◌∙◌, append_assoc, arith, inl, inr}
+use Rattle.std.specs.Prelude.{Result, IfOk}
+use Rattle.std.proofs.lemmas.Result.{IfOk-weaker}
 use lib.Chars.{codes}
 use Rattle.at_text.specs.Symbols.{PlacedToken}
 use Rattle.at_jrag.specs.Syntax as syntax
@@ -11,7 +13,7 @@ use Rattle.at_jrag.specs.declared.reader.forms.Measured.{Measured}
 use Rattle.at_jrag.specs.declared.reader.forms.Arguments.{Arguments as ArgumentsValue}
 use Rattle.at_jrag.specs.declared.reader.operators.Prefix.{Prefix}
 use Rattle.at_jrag.specs.declared.reader.operators.Prefix.TheVariants as prefix
-use Rattle.at_jrag.specs.Grammar.{word, fold_text, is_sign, next_is, Name, Row, Spells, Arguments, MoreArguments, NumberOf, Sign, deepest, depth, level}
+use Rattle.at_jrag.specs.Grammar.{word, sign, fold_text, operator_text, operator_level, is_sign, next_is, Name, Row, Spells, Arguments, MoreArguments, NumberOf, Sign, deepest, depth, level}
 
 -- ---- each form takes a token at least
 
@@ -107,3 +109,36 @@ prefix_reads prefix.Not at m inner old one rest made size b r = reads_made 7 m _
 prefix_reads prefix.Minus at m inner old one rest made size b r = reads_made 7 m _ old rest made (one, b.0, b.1, r.1, r.0) (omega arith) (size ∙ ap (λ d. 1 + d) r.2)
 prefix_reads (prefix.Cast class) at m inner old one rest made size (named, close, p, n, c, f) r =
     reads_made 7 m _ old rest made (named, close, one, p, n, c, f, r.1, r.0) (omega arith) (size ∙ ap (λ d. 1 + d) r.2)
+
+pub choice_reads : (m c a b : Measured) (behind : Place) (old link one colon other rest : Row)
+    → Reads 1 c old link → link ≡ sign (codes "?") behind ∷ one → Reads 0 a one colon → Sign (codes ":") colon other → Reads 0 b other rest
+    → expr_view m.expr ≡ syntax.Choose (place (expr_view c.expr)) (expr_view c.expr) behind (expr_view a.expr) (expr_view b.expr)
+    → m.depth ≡ 1 + max c.depth (max a.depth b.depth) → Reads 0 m old rest
+choice_reads m c a b behind old link one colon other rest r q x p y made size =
+    reads_made 0 m _ old rest made (link, one, colon, other, refl, r.1, r.0, q, x.0, p, y.0) (omega arith) (size ∙ (λ i. 1 + max (r.2 i) (max (x.2 i) (y.2 i))))
+
+pub operation_reads : (m a b : Measured) (o : syntax.Operator) (between : Place) (lowest : ℕ) (old link right rest : Row)
+    → Reads lowest a old link → operator_level o ≡ lowest → link ≡ sign (operator_text o) between ∷ right → Reads (lowest + 1) b right rest
+    → expr_view m.expr ≡ syntax.Binary (place (expr_view a.expr)) o between (expr_view a.expr) (expr_view b.expr) → m.depth ≡ 1 + max a.depth b.depth → Reads lowest m old rest
+operation_reads m a b o between lowest old link right rest r same q x made size =
+    reads_made lowest m _ old rest made (link, right, refl, omega (arith, same, r.1), omega (arith, same, x.1), r.0, q, x.0) (omega (arith, same)) (size ∙ (λ i. 1 + max (r.2 i) (x.2 i)))
+
+pub instance_reads : (m a : Measured) (behind : Place) (class : Word) (lowest : ℕ) (old link named rest : Row)
+    → Reads lowest a old link → lowest ≡ 4 → link ≡ word (codes "instanceof") behind ∷ named → Name class named rest
+    → expr_view m.expr ≡ syntax.InstanceOf (place (expr_view a.expr)) (expr_view a.expr) behind class → m.depth ≡ 1 + a.depth → Reads lowest m old rest
+instance_reads m a behind class lowest old link named rest r same q n made size =
+    reads_made lowest m _ old rest made (link, named, refl, omega (arith, same, r.1), r.0, q, n) (omega (arith, same)) (size ∙ (λ i. 1 + r.2 i))
+
+pub paren_reads : (m a : Measured) (at : Place) (old one close rest : Row) → old ≡ sign (codes "(") at ∷ one → Reads 0 a one close → Sign (codes ")") close rest
+    → expr_view m.expr ≡ syntax.Paren at (expr_view a.expr) → m.depth ≡ 1 + a.depth → Reads 8 m old rest
+paren_reads m a at old one close rest q r z made size = reads_made 8 m _ old rest made (one, close, q, r.0, z) (omega arith) (size ∙ (λ i. 1 + r.2 i))
+
+pub call_reads : (m : Measured) (name : Word) (args : ArgumentsValue) (old paren rest : Row) → Name name old paren → HasArguments name.text args paren rest
+    → expr_view m.expr ≡ syntax.Call name.at name.text (to_exprs (map expr_view args.items.items)) → m.depth ≡ 1 + args.depth → Reads 8 m old rest
+call_reads m name args old paren rest n (list, opens, a, deep) made size = reads_made 8 m _ old rest made (paren, list, n, opens, a) (omega arith) (size ∙ (λ i. 1 + deep i))
+
+-- what is read with its calls, as a unary
+pub called_unary : {E : Type 0} (first : Measured) (read : Result Measured E) (old mid rest : Row) → Reads 8 first old mid → IfOk read (λ m. (start : Row) → Reads 8 first start mid → Reads 8 m start rest)
+    → IfOk read (λ m. Reads 7 m old rest)
+called_unary first read old mid rest r f =
+    IfOk-weaker read (λ m. (start : Row) → Reads 8 first start mid → Reads 8 m start rest) (λ m. Reads 7 m old rest) (λ m g. let x = g old r in (x.0, omega (arith, x.1), x.2)) f

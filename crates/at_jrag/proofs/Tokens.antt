@@ -1,13 +1,15 @@
 -- Tokens that are left.
-use Rattle.std.proofs.Common.{◌≡◌, ◌-◌, ◌≤◌, List, [], ◌∷◌, length, take, drop, true, refl, sym, ap, subst, ◌∙◌, arith, slice_index_or}
+use Rattle.std.proofs.Common.{◌≡◌, ℕ, ◌-◌, ◌≤◌, List, Bool, false, inl, inr, [], ◌∷◌, length, take, drop, true, refl, sym, ap, subst, ◌∙◌, arith, slice_index_or}
 use Rattle.std.proofs.Math.Seq.{take-length}
+use Rattle.std.specs.Prelude.{◌⊎◌, Option, Some, None, MatchOption}
+use Rattle.std.proofs.lemmas.Slice.Eq.{bytes_eq-Decides}
 use lib.Chars.{codes}
 use Rattle.at_text.specs.declared.token.TokenKind.TheVariants as kind
 use Rattle.at_text.specs.declared.placed.Placed.{Placed}
 use Rattle.at_text.specs.declared.token.TokenKind.{TokenKind}
 use Rattle.at_text.specs.Symbols.{PlacedToken, placed}
 use Rattle.at_jrag.specs.Left.{left}
-use Rattle.at_jrag.specs.Grammar.{Row, next_is, sign, number}
+use Rattle.at_jrag.specs.Grammar.{Row, next_is, is_sign, sign, number}
 use Rattle.at_jrag.specs.Read.{Reads, is_literal}
 use Rattle.at_jrag.specs.declared.reader.forms.Measured.{Measured}
 
@@ -36,3 +38,11 @@ negative_left (t ∷ u ∷ ts) other h m k =
     let n : length (t ∷ u ∷ ts) - 2 ≡ length ts = omega arith in
     let r = ap (λ l. left l) (sym (ap (λ k. take k ts) n ∙ take-length ts)) in
     λ i. m i ∷ of_kind (placed u) kind.Number k i ∷ r i
+
+-- a sign that is taken, where something holds if it is next
+pub taken_within : (taken : Option (ℕ × ℕ)) (text : List ℕ) (old rest : Row) (before : Bool) (none within : Type 0) → ((before ≡ true) × within) ⊎ (before ≡ false)
+    → before ≡ next_is (is_sign text) old → MatchOption taken none (λ at. old ≡ sign text at ∷ rest) → MatchOption taken none (λ at. (old ≡ sign text at ∷ rest) × within)
+taken_within None text old rest before none within w b h = h
+taken_within (Some at) text old rest before none within (inl w) b h = (h, w.1)
+taken_within (Some at) text old rest before none within (inr f) b h =
+    let e : false ≡ true = sym f ∙ b ∙ ap (next_is (is_sign text)) h ∙ (bytes_eq-Decides text text).1 refl in absurd cc

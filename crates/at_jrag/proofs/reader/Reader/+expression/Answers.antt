@@ -8,9 +8,9 @@ use Rattle.at_jrag.specs.View.{expr_view, fold_view, word_view, operator_view}
 use Rattle.at_jrag.specs.declared.syntax.Expr.{Expr as ExprValue}
 use Rattle.at_jrag.specs.Grammar.{Row, Arguments, Opens, deepest, is_sign, sign, next_is}
 use Rattle.at_jrag.specs.Left.{left}
-use Rattle.at_jrag.specs.Read.{StandsBefore, LinksTo}
+use Rattle.at_jrag.specs.Read.{Reads, StandsBefore, LinksTo}
 use Rattle.at_jrag.specs.Runs.{Goes, IsOther, Moves, Stays, Halts, reason_of}
-use Rattle.at_jrag.proofs.Expressions.{Wanted, wanted_next, wanted_end, next_shorter, deepest_push, call_of_reads, fold_reads, prefix_reads, wanted_first}
+use Rattle.at_jrag.proofs.Expressions.{Wanted, wanted_next, wanted_end, next_shorter, deepest_push, call_of_reads, fold_reads, prefix_reads, choice_reads, operation_reads, instance_reads, paren_reads, call_reads, called_unary, wanted_first}
 use Rattle.at_jrag.specs.Wants.{Binary, Links, Unary, Calls}
 use Rattle.at_jrag.proofs.ExpressionRuns.{expression_plain, choice_goes, then_moves, arguments_go, no_arguments_go, paren_goes}
 use Rattle.at_jrag.proofs.ExpressionsTaken.{next_first, deep}
@@ -91,6 +91,55 @@ unary-returns-in-Some-2-clause-found t c =
     let b = rw c.in-Some-2.is at c.in_ok-at.ensures.found in
     let g = subst (λ (x : Row). StandsBefore c.in-Some-2.prefix c.in-Some-2.at x (left c.prefix.new.self.rest.now)) (ap (λ r. left r.rest.now) same.0) b in
     prefix_reads c.in-Some-2.prefix c.in-Some-2.at _ _ _ _ _ c.in_ok-prefixed.ensures.made c.in_ok-prefixed.ensures.depth g c.in_ok-inner.ensures.found
+
+pub expression-returns-in_default-clause-found : goal.expression-returns-in_default-clause-found
+expression-returns-in_default-clause-found t c =
+    let n = rw c.in_default.is at c.in_ok-behind.ensures.found in
+    let r = c.in_ok-condition.ensures.found in
+    subst (λ (x : Row). Reads 0 c.in_ok-condition.condition (left c.args.self.now.rest.now) x) (sym (ap (λ r. left r.rest.now) n.0)) (r.0, omega arith, r.2)
+
+pub expression-returns-clause-found : goal.expression-returns-clause-found
+expression-returns-clause-found t c =
+    let b = rw c.in-Some.is at c.in_ok-behind.ensures.found in
+    choice_reads _ c.in_ok-condition.condition c.in_ok-then.then c.in_ok-other.other _ (left c.args.self.now.rest.now) _ _ _ _ _
+    c.in_ok-condition.ensures.found b.0 c.in_ok-then.ensures.found (_, c.in_ok-expects.ensures.found) c.in_ok-other.ensures.found c.in_ok-choice.ensures.made c.in_ok-choice.ensures.depth
+
+pub linked-returns-in_ok-operation-in-Operator-clause-found : goal.linked-returns-in_ok-operation-in-Operator-clause-found
+linked-returns-in_ok-operation-in-Operator-clause-found t c = λ old rest r l.
+    let s = rw c.in-Operator.is at l in
+    operation_reads _ c.args.operand c.in_ok-right-in-Operator.right (operator_view c.in-Operator.operator.operator) c.in-Operator.operator.at c.args.level old rest _ _
+    r s.1.0 (s.2 ∙ ap (λ t. t ∷ left c.args.self.now.rest.now) s.1.1) c.in_ok-right-in-Operator.ensures.found (c.in_ok-operation-in-Operator).ensures.made (c.in_ok-operation-in-Operator).ensures.depth
+
+pub linked-returns-in_ok-instance_of-in-InstanceOf-clause-found : goal.linked-returns-in_ok-instance_of-in-InstanceOf-clause-found
+linked-returns-in_ok-instance_of-in-InstanceOf-clause-found t c = λ old rest r l.
+    let s = rw c.in-InstanceOf.is at l in
+    instance_reads _ c.args.operand c.in-InstanceOf.behind (word_view c.in_ok-class-in-InstanceOf.class) c.args.level old rest _ _
+    r s.1.0 (s.2 ∙ ap (λ t. t ∷ left c.args.self.now.rest.now) s.1.1) c.in_ok-class-in-InstanceOf.ensures.found (c.in_ok-instance_of-in-InstanceOf).ensures.made (c.in_ok-instance_of-in-InstanceOf).ensures.depth
+
+pub primary-returns-in-Some-2-clause-found : goal.primary-returns-in-Some-2-clause-found
+primary-returns-in-Some-2-clause-found t c =
+    let l = rw c.in_default.is at c.in_ok-literal.ensures.found in
+    let b = rw c.in-Some-2.is at c.in_ok-at.ensures.found in
+    paren_reads _ c.in_ok-inner.inner _ (left c.args.self.now.rest.now) _ _ _
+    (sym (ap (λ r. left r.rest.now) l.0) ∙ b.0) c.in_ok-inner.ensures.found (_, c.in_ok-expects.ensures.found) c.in_ok-parenthesized.ensures.made c.in_ok-parenthesized.ensures.depth
+
+pub named-returns-clause-found : goal.named-returns-clause-found
+named-returns-clause-found t c =
+    let h = rw c.as_str.ensures.value at c.in_ok-arguments.ensures.found in
+    call_reads _ (word_view c.in_ok-name.name) c.in_ok-arguments.arguments _ _ _ c.in_ok-name.ensures.found h c.call.ensures.made c.call.ensures.depth
+
+pub unary-returns-in-Some-clause-found : goal.unary-returns-in-Some-clause-found
+unary-returns-in-Some-clause-found t c =
+    let m = rw c.in-Some.is at c.in_ok-number.ensures.found in
+    called_unary c.in-Some.number c.calls.result _ _ _ m.0 c.calls.ensures.found
+
+pub unary-returns-clause-found : goal.unary-returns-clause-found
+unary-returns-clause-found t c =
+    let same = rw c.in_default.is at c.in_ok-number.ensures.found in
+    let found = rw c.in_default-2.is at c.in_ok-at.ensures.found in
+    let rows : left c.prefix.new.self.rest.now ≡ left c.args.self.now.rest.now = ap (λ r. left r.rest.now) found.0 ∙ ap (λ r. left r.rest.now) same.0 in
+    let first = subst (λ (x : Row). Reads 8 c.in_ok-first.first x (left c.primary.new.self.rest.now)) rows c.in_ok-first.ensures.found in
+    called_unary c.in_ok-first.first c.calls-2.result _ _ _ first c.calls-2.ensures.found
 
 -- ---- operators and unaries: where the machine goes, and where it halts
 
