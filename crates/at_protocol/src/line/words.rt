@@ -3,6 +3,7 @@ ghost use Rattle.std.specs.Prelude.{◌≡◌, ◌≢◌, ◌==◌, ◌++◌, �
 ghost use Rattle.std.specs.List.{before_first};
 ghost use Rattle.std.specs.Fmt.{decimal};
 ghost use Rattle.at_model.specs.Lines.{max_sessions};
+ghost use Rattle.at_model.specs.Names.{is_name};
 ghost use Rattle.at_model.specs.Paths.{IsIndex};
 ghost use Rattle.at_tree.specs.Token.{token_view};
 ghost use Rattle.at_tree.specs.View.{term_view};
@@ -12,6 +13,7 @@ use at_text::decimal::{read_int, read_number};
 use at_text::names::is_name;
 use at_text::quoted::{QuoteFault, read_text};
 use at_tree::fault::TermFault;
+use at_tree::names::is_plain_name;
 use at_tree::reader::read_term;
 use at_tree::term::Term;
 use at_tree::token::TokVal;
@@ -109,11 +111,21 @@ pub(super) fn read_session(word: &str) -> Option<u16>
     }
 }
 
+/// Whether the word is a name. Most are of ASCII, and told so at once.
+fn is_name_word(word: &str) -> bool
+    ensures { result ≡ is_name word.now }
+{
+    if is_plain_name(word) {
+        return true;
+    }
+    is_name(word)
+}
+
 /// The name that the word is.
 pub(super) fn read_name(alloc: Global, word: &str) -> Result<String, WordFault>
     ensures { Answers (λ name. string_bytes name) (IsNameText word.now) result }
 {
-    if is_name(word) {
+    if is_name_word(word) {
         Ok(String::from_str(alloc, word)?)
     } else {
         Err(WordFault::Form)
