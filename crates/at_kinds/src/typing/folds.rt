@@ -17,7 +17,7 @@ use at_rules::Body;
 /// The list of a fold: the node, the position of its component, and the class of the elements.
 #[derive(Drop)]
 pub struct List {
-    pub node: Body,
+    pub node: Box<Body>,
     pub part: usize,
     pub class: ClassId,
 }
@@ -83,9 +83,8 @@ impl Scope<'_> {
         if !body.kind.is_truth() {
             return Err(refused(RuleCode::Kind, at));
         }
-        let node = Box::new(self.alloc, list.node)?;
-        let body = Box::new(self.alloc, body.body)?;
-        Ok(Typed::truth(Body::Exists(node, list.part, body), at))
+        let whole = Body::Exists(list.node, list.part, body.body);
+        self.of_kind(ExprKind::Bool, whole, at)
     }
 
     /// `first (NAME : LIST) { E }`
@@ -95,10 +94,8 @@ impl Scope<'_> {
         if !body.kind.is_truth() {
             return Err(refused(RuleCode::Kind, at));
         }
-        let node = Box::new(self.alloc, list.node)?;
-        let body = Box::new(self.alloc, body.body)?;
-        let class = list.class;
-        Ok(Typed::node(class, Body::First(node, list.part, body), at))
+        let whole = Body::First(list.node, list.part, body.body);
+        self.of_kind(ExprKind::Class(list.class), whole, at)
     }
 
     /// `sum (NAME : LIST) { E }`
@@ -108,8 +105,7 @@ impl Scope<'_> {
         if !body.kind.is_int() {
             return Err(refused(RuleCode::Kind, at));
         }
-        let node = Box::new(self.alloc, list.node)?;
-        let body = Box::new(self.alloc, body.body)?;
-        Ok(Typed::int(Body::Sum(node, list.part, body), at))
+        let whole = Body::Sum(list.node, list.part, body.body);
+        self.of_kind(ExprKind::Int, whole, at)
     }
 }
