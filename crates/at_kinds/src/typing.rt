@@ -5,7 +5,7 @@ ghost use Rattle.std.specs.Prelude.{◌≡◌, map};
 ghost use Rattle.at_jrag.specs.Syntax.{to_exprs};
 ghost use Rattle.at_jrag.specs.View.{expr_view, fold_view, word_view};
 ghost use Rattle.at_rules.specs.Bodies.{body_view};
-ghost use Rattle.at_kinds.specs.Judging.{Judgement, Listed, and_then, of_kind, judged, judged_all, judged_list, list_or, folded as folded_by, within as within_of, body_of as body_meant};
+ghost use Rattle.at_kinds.specs.Judging.{Judgement, Listed, and_then, of_kind, kind_if, judged, judged_all, judged_list, list_or, folded as folded_by, within as within_of, body_of as body_meant};
 ghost use Rattle.at_kinds.specs.Typed.{typed_view, all_view, list_view, scope_view, Judges};
 ghost use Rattle.at_kinds.specs.declared.typing.TypeFault.TheVariants.{Memory};
 
@@ -103,6 +103,23 @@ impl Scope<'_> {
     {
         let body = Box::new(self.alloc, body)?;
         Ok(Typed { at, kind, body })
+    }
+
+    /// The same, if its parts are of the right kinds.
+    fn kind_if(
+        &self,
+        right: bool,
+        kind: ExprKind,
+        body: Body,
+        at: (u32, u32),
+    ) -> Result<Typed, TypeFault>
+        ensures { Judges typed_view (kind_if right at kind (body_view body)) result }
+    {
+        if right {
+            self.of_kind(kind, body, at)
+        } else {
+            Err(refused(RuleCode::Kind, at))
+        }
     }
 
     /// The expression with its kind.

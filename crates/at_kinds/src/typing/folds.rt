@@ -80,32 +80,23 @@ impl Scope<'_> {
     fn exists(&self, list: List, body: Typed, at: (u32, u32)) -> Result<Typed, TypeFault>
         ensures { Judges typed_view (folded_by at written.Exists (list_view list) (typed_view body)) result }
     {
-        if !body.kind.is_truth() {
-            return Err(refused(RuleCode::Kind, at));
-        }
         let whole = Body::Exists(list.node, list.part, body.body);
-        self.of_kind(ExprKind::Bool, whole, at)
+        self.kind_if(body.kind.is_truth(), ExprKind::Bool, whole, at)
     }
 
     /// `first (NAME : LIST) { E }`
     fn first(&self, list: List, body: Typed, at: (u32, u32)) -> Result<Typed, TypeFault>
         ensures { Judges typed_view (folded_by at written.First (list_view list) (typed_view body)) result }
     {
-        if !body.kind.is_truth() {
-            return Err(refused(RuleCode::Kind, at));
-        }
         let whole = Body::First(list.node, list.part, body.body);
-        self.of_kind(ExprKind::Class(list.class), whole, at)
+        self.kind_if(body.kind.is_truth(), ExprKind::Class(list.class), whole, at)
     }
 
     /// `sum (NAME : LIST) { E }`
     fn sum(&self, list: List, body: Typed, at: (u32, u32)) -> Result<Typed, TypeFault>
         ensures { Judges typed_view (folded_by at written.Sum (list_view list) (typed_view body)) result }
     {
-        if !body.kind.is_int() {
-            return Err(refused(RuleCode::Kind, at));
-        }
         let whole = Body::Sum(list.node, list.part, body.body);
-        self.of_kind(ExprKind::Int, whole, at)
+        self.kind_if(body.kind.is_int(), ExprKind::Int, whole, at)
     }
 }

@@ -19,20 +19,24 @@ impl Scope<'_> {
     pub(super) fn negated(&self, inner: Typed, at: (u32, u32)) -> Result<Typed, TypeFault>
         ensures { Judges typed_view (negation at (typed_view inner)) result }
     {
-        if !inner.kind.is_int() {
-            return Err(refused(RuleCode::Kind, at));
-        }
-        self.of_kind(ExprKind::Int, Body::Negate(inner.body), at)
+        self.kind_if(
+            inner.kind.is_int(),
+            ExprKind::Int,
+            Body::Negate(inner.body),
+            at,
+        )
     }
 
     /// `!E`
     pub(super) fn opposite(&self, inner: Typed, at: (u32, u32)) -> Result<Typed, TypeFault>
         ensures { Judges typed_view (opposite_of at (typed_view inner)) result }
     {
-        if !inner.kind.is_truth() {
-            return Err(refused(RuleCode::Kind, at));
-        }
-        self.of_kind(ExprKind::Bool, Body::Not(inner.body), at)
+        self.kind_if(
+            inner.kind.is_truth(),
+            ExprKind::Bool,
+            Body::Not(inner.body),
+            at,
+        )
     }
 
     /// Two operands with an operator between.
@@ -93,10 +97,8 @@ impl Scope<'_> {
     ) -> Result<Typed, TypeFault>
         ensures { Judges typed_view (computed_of at (operator_view operator) (typed_view left) (typed_view right)) result }
     {
-        if !are_ints(left.kind, right.kind) {
-            return Err(refused(RuleCode::Kind, at));
-        }
-        self.of_kind(
+        self.kind_if(
+            are_ints(left.kind, right.kind),
             ExprKind::Int,
             Body::Arithmetic(operator, left.body, right.body),
             at,
@@ -113,10 +115,8 @@ impl Scope<'_> {
     ) -> Result<Typed, TypeFault>
         ensures { Judges typed_view (ordered_of at (order_view order) (typed_view left) (typed_view right)) result }
     {
-        if !are_ints(left.kind, right.kind) {
-            return Err(refused(RuleCode::Kind, at));
-        }
-        self.of_kind(
+        self.kind_if(
+            are_ints(left.kind, right.kind),
             ExprKind::Bool,
             Body::Compare(order, left.body, right.body),
             at,
@@ -127,40 +127,48 @@ impl Scope<'_> {
     fn same(&self, left: Typed, right: Typed, at: (u32, u32)) -> Result<Typed, TypeFault>
         ensures { Judges typed_view (kind_if (are_alike left.kind right.kind) at ExprKind.Bool (model.Same (body_view left.body.value) (body_view right.body.value))) result }
     {
-        if !are_alike(left.kind, right.kind) {
-            return Err(refused(RuleCode::Kind, at));
-        }
-        self.of_kind(ExprKind::Bool, Body::Same(left.body, right.body), at)
+        self.kind_if(
+            are_alike(left.kind, right.kind),
+            ExprKind::Bool,
+            Body::Same(left.body, right.body),
+            at,
+        )
     }
 
     /// `!=`
     fn different(&self, left: Typed, right: Typed, at: (u32, u32)) -> Result<Typed, TypeFault>
         ensures { Judges typed_view (kind_if (are_alike left.kind right.kind) at ExprKind.Bool (model.Differ (body_view left.body.value) (body_view right.body.value))) result }
     {
-        if !are_alike(left.kind, right.kind) {
-            return Err(refused(RuleCode::Kind, at));
-        }
-        self.of_kind(ExprKind::Bool, Body::Differ(left.body, right.body), at)
+        self.kind_if(
+            are_alike(left.kind, right.kind),
+            ExprKind::Bool,
+            Body::Differ(left.body, right.body),
+            at,
+        )
     }
 
     /// `&&`
     fn both(&self, left: Typed, right: Typed, at: (u32, u32)) -> Result<Typed, TypeFault>
         ensures { Judges typed_view (kind_if (are_truths left.kind right.kind) at ExprKind.Bool (model.And (body_view left.body.value) (body_view right.body.value))) result }
     {
-        if !are_truths(left.kind, right.kind) {
-            return Err(refused(RuleCode::Kind, at));
-        }
-        self.of_kind(ExprKind::Bool, Body::And(left.body, right.body), at)
+        self.kind_if(
+            are_truths(left.kind, right.kind),
+            ExprKind::Bool,
+            Body::And(left.body, right.body),
+            at,
+        )
     }
 
     /// `||`
     fn either(&self, left: Typed, right: Typed, at: (u32, u32)) -> Result<Typed, TypeFault>
         ensures { Judges typed_view (kind_if (are_truths left.kind right.kind) at ExprKind.Bool (model.Or (body_view left.body.value) (body_view right.body.value))) result }
     {
-        if !are_truths(left.kind, right.kind) {
-            return Err(refused(RuleCode::Kind, at));
-        }
-        self.of_kind(ExprKind::Bool, Body::Or(left.body, right.body), at)
+        self.kind_if(
+            are_truths(left.kind, right.kind),
+            ExprKind::Bool,
+            Body::Or(left.body, right.body),
+            at,
+        )
     }
 
     /// `TEST ? LEFT : RIGHT`
