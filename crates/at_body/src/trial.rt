@@ -1,16 +1,16 @@
 //! An evaluation that can be put aside where it demands an instance.
 
-ghost use Rattle.std.specs.Prelude.{◌≡◌, ◌<◌, ◌≤◌, ◌+◌, ◌-◌, ◌++◌, ◌∷◌, [], ℕ, length, IfOk, map, option_copied, slice_get};
+ghost use Rattle.std.specs.Prelude.{◌≡◌, ◌<◌, ◌≤◌, ◌+◌, ◌-◌, ◌++◌, ◌∷◌, [], ℕ, List, length, IfOk, map, option_copied, slice_get};
 ghost use Rattle.at_model.specs.Classes.{Classes};
 ghost use Rattle.at_model.specs.Follow.{follow};
-ghost use Rattle.at_model.specs.Run.{Ref};
+ghost use Rattle.at_model.specs.Run.{Contents, Location, Ref};
 ghost use Rattle.at_model.specs.Bodies.{named, index_of};
 ghost use Rattle.at_store.specs.Shown.{contents, IsIdle};
 ghost use Rattle.at_body.specs.Size.{size, sizes, tests};
 ghost use Rattle.at_body.specs.Values.{value_view};
 ghost use Rattle.at_rules.specs.Bodies.{body_view, bodies_view};
 ghost use Rattle.at_body.specs.Standing.{scope};
-ghost use Rattle.at_body.specs.declared.todo.Now.TheVariants.{Enter};
+ghost use Rattle.at_body.specs.declared.todo.Now.TheVariants.{Ask, Enter};
 ghost use Rattle.at_body.specs.declared.todo.Todo.TheVariants.{And, Choose, Elements, Or, Right};
 ghost use Rattle.at_body.specs.declared.trial.Trial.{Trial};
 ghost use Rattle.at_body.specs.Rest.{rest, weight, place_of, onto, begun, resumed, used, called, gone_over, reached, left, load, cost};
@@ -18,7 +18,7 @@ ghost use Rattle.at_body.specs.Rest.{rest, weight, place_of, onto, begun, resume
 use super::inst::{Arguments, Inst};
 use super::reads::Reads;
 use super::stack::Stack;
-use super::todo::{Binary, Fold, Now, Todo, Unary};
+use super::todo::{Asking, Binary, Fold, Now, Todo, Unary};
 use super::value::{FaultKind, Value};
 use at_rules::{AttrId, Body, Rules};
 use at_store::{Loc, Node, Store};
@@ -90,7 +90,7 @@ impl<'a> Trial<'a> {
                     None => return Ok(Step::Value(value)),
                 },
                 Now::Fail(kind) => return Ok(Step::Fault(kind)),
-                Now::Need(inst) => return Ok(Step::Need(inst)),
+                Now::Ask(call) => return Ok(asked(call)),
             };
         }
     }
@@ -131,7 +131,7 @@ impl<'a> Trial<'a> {
             Body::Call(a, attribute, passed) => self.then(Todo::Arguments(*attribute, passed), a),
             Body::Exists(a, part, b) => self.over(Fold::Exists, a, *part, b),
             Body::First(a, part, b) => self.over(Fold::First, a, *part, b),
-            Body::Sum(a, part, b) => self.over(Fold::Sum(Value::Int(0)), a, *part, b),
+            Body::Sum(a, part, b) => self.over(Fold::Sum(0), a, *part, b),
         }
     }
 
@@ -227,11 +227,16 @@ impl<'a> Trial<'a> {
             Todo::Or(right) => Ok(or(&value, right)),
             Todo::Choose(yes, no) => Ok(choose(&value, yes, no)),
             Todo::Arguments(attribute, arguments) => {
-                self.next_argument(attribute, value.node(), Arguments::new(alloc), arguments)
+                let call = Asking {
+                    attribute,
+                    node: value.node(),
+                    done: Arguments::new(alloc),
+                };
+                self.next_argument(Box::new(alloc, call)?, arguments)
             }
-            Todo::Argument(attribute, node, mut done, others) => {
-                done.push(value)?;
-                self.next_argument(attribute, node, done, others)
+            Todo::Argument(mut call, others) => {
+                call.done.push(value)?;
+                self.next_argument(call, others)
             }
             Todo::Elements(fold, part, body) => {
                 self.elements(store, fold, part, body, value.node())
@@ -243,27 +248,36 @@ impl<'a> Trial<'a> {
         }
     }
 
-    /// Evaluates the next argument, or demands the instance once all are there.
+    /// Evaluates the next argument, or demands the call once all are there.
     fn next_argument(
         &mut self,
-        attribute: AttrId,
-        node: Option<Node>,
-        done: Arguments,
+        call: Box<Asking>,
         others: &'a [Body],
     ) -> Result<Now<'a>, AllocError>
-        ensures same { (classes : Classes) → IfOk result (λ now. called classes self.old attribute (Ref node) (map value_view done.items) (bodies_view others.now) ≡ rest classes now self.new) }
+        ensures same { (classes : Classes) → IfOk result (λ now. called classes self.old call.value.attribute (Ref call.value.node) (map value_view call.value.done.items) (bodies_view others.now) ≡ rest classes now self.new) }
         ensures less { IfOk result (λ now. weight now self.new < sizes (bodies_view others.now) + 2 + load self.old.todo) }
         ensures reads { IfOk result (λ now. self.new.reads ≡ self.old.reads) }
     {
         match others.split_first() {
-            Some((argument, others)) => {
-                self.then(Todo::Argument(attribute, node, done, others), argument)
-            }
-            None => match node {
-                Some(node) => Ok(Now::Need(Inst::new(node, attribute, done))),
-                None => Ok(Now::Fail(FaultKind::Null)),
-            },
+            Some((argument, others)) => self.then(Todo::Argument(call, others), argument),
+            None => Ok(Now::Ask(call)),
         }
+    }
+}
+
+/// The demand of a call, or the fault of one that is asked of null.
+fn asked(call: Box<Asking>) -> Step
+    ensures same { (tree : Contents ℕ) (seen : List (Location ℕ)) (classes : Classes) (t : Trial) → follow tree seen (rest classes (Ask call) t) ≡ (reached classes result t, seen) }
+    ensures less { (t : Trial) → left result t ≤ weight (Ask call) t }
+{
+    let Asking {
+        attribute,
+        node,
+        done,
+    } = Box::into_inner(call);
+    match node {
+        Some(node) => Step::Need(Inst::new(node, attribute, done)),
+        None => Step::Fault(FaultKind::Null),
     }
 }
 

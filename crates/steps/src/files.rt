@@ -1,0 +1,94 @@
+//! The rules and the tree that tries are over.
+
+ghost use Rattle.std.specs.Prelude.{IfOk};
+ghost use Rattle.at_store.specs.Shown.{IsIdle};
+
+use crate::failure::Failure;
+use at_class::{ClassFault, ClassTable, are_named};
+use at_grammar::{AstFault, Grammar, parse_ast};
+use at_jrag::{Aspect, JragFault, parse_jrag};
+use at_rules::Rules;
+use at_store::{LoadFault, Store};
+use at_tree::tree::{ReadFault, Tree, read_tree};
+use at_typing::{RuleFault, build};
+use std::alloc::Global;
+
+/// The rules and the tree that tries are over.
+#[derive(Drop)]
+pub struct World {
+    pub alloc: Global,
+    pub rules: Rules,
+    pub store: Store,
+}
+
+/// The world of the three files' texts.
+///
+/// # Errors
+///
+/// The first file that is refused, or want of memory.
+pub fn load(alloc: Global, grammar: &str, aspects: &str, tree: &str) -> Result<World, Failure>
+    ensures { IfOk result (λ w. IsIdle w.store) }
+{
+    let rules = rules(alloc, grammar, aspects)?;
+    let tree = tree_of(alloc, rules.classes(), tree)?;
+    match Store::load(alloc, rules.classes(), tree) {
+        Ok(store) => Ok(World {
+            alloc,
+            rules,
+            store,
+        }),
+        Err(LoadFault::Memory) => Err(Failure::Memory),
+        Err(_) => Err(Failure::Tree),
+    }
+}
+
+fn rules(alloc: Global, grammar: &str, aspects: &str) -> Result<Rules, Failure> {
+    let classes = classes(alloc, grammar)?;
+    let mut files = Vec::new(alloc);
+    if files.push(aspects_of(alloc, aspects)?).is_err() {
+        return Err(Failure::Memory);
+    }
+    match build(alloc, classes, &files) {
+        Ok(rules) => Ok(rules),
+        Err(RuleFault::Memory) => Err(Failure::Memory),
+        Err(RuleFault::Refused(_)) => Err(Failure::Aspects),
+    }
+}
+
+fn classes(alloc: Global, text: &str) -> Result<ClassTable, Failure> {
+    let grammar = grammar(alloc, text)?;
+    if !are_named(&grammar) {
+        return Err(Failure::Grammar);
+    }
+    match ClassTable::build(alloc, &grammar) {
+        Ok(classes) => Ok(classes),
+        Err(ClassFault::Memory) => Err(Failure::Memory),
+        Err(_) => Err(Failure::Grammar),
+    }
+}
+
+fn grammar(alloc: Global, text: &str) -> Result<Grammar, Failure> {
+    match parse_ast(alloc, text) {
+        Ok(grammar) => Ok(grammar),
+        Err(AstFault::Memory) => Err(Failure::Memory),
+        Err(_) => Err(Failure::Grammar),
+    }
+}
+
+fn aspects_of(alloc: Global, text: &str) -> Result<Vec<Aspect>, Failure> {
+    match parse_jrag(alloc, text) {
+        Ok(aspects) => Ok(aspects),
+        Err(JragFault::Memory) => Err(Failure::Memory),
+        Err(_) => Err(Failure::Aspects),
+    }
+}
+
+/// The tree of a term, behind which a newline may stand.
+fn tree_of(alloc: Global, classes: &ClassTable, text: &str) -> Result<Tree, Failure> {
+    let term = text.strip_suffix('\n').unwrap_or(text);
+    match read_tree(alloc, classes, term, classes.start()) {
+        Ok(tree) => Ok(tree),
+        Err(ReadFault::Memory) => Err(Failure::Memory),
+        Err(_) => Err(Failure::Tree),
+    }
+}
