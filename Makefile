@@ -51,6 +51,7 @@ tries: tools python
 
 # Speed, by the proved program, as ratios in one run; and what it takes at its limits.
 bench: build
+	cd crates/steps && rt run -- data/sum.ast data/sum.jrag data/tree.txt trial 2 total
 	python3 bench/bench.py
 	python3 bench/limits.py
 

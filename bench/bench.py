@@ -8,6 +8,7 @@ import time
 from pathlib import Path
 
 PROGRAM = Path(__file__).resolve().parent.parent / "attrd"
+STEPS = PROGRAM.parent / "crates" / "steps" / "out" / "steps"
 RUNS = 5
 
 
@@ -68,7 +69,7 @@ def chained():
             "  eq Block.getStmt(int i).before() = i == 0 ? 0 : getStmt(i - 1).before() + 1;\n"
             "  eq Program.getBlock().before() = 0;\n"
             "  syn int Block.many() = sum (s : getStmtList()) { s.one() };\n  syn int Stmt.one() = 1;\n"
-            "  syn int Program.long() = " + " ".join(f"{k} {'+-*'[k % 3]}" for k in range(1, 61)) + " 61;\n}\n")
+            "  syn int Program.long() = " + operators(60) + ";\n}\n")
 
 
 def many_equations(classes, attributes, bodies):
@@ -147,9 +148,32 @@ def rules(put, begun):
     print(f"4 MiB of aspects: {times[1] * 1000:.0f} ms, against half of it: ratio {times[1] / times[0]:.2f}")
 
 
+def operators(count):
+    """An expression of that many operators, by turns minus, times and plus."""
+    return " ".join(f"{k} {'+-*'[k % 3]}" for k in range(1, count + 1)) + f" {count + 1}"
+
+
+def trials(folder, put):
+    """What a trial takes, against a plain recursion over the same equation in the same run: by turns, the best of each."""
+    aspects = ("aspect S {\n  syn int Top.long() = " + operators(60) + ";\n  syn int Top.total() = sum (i : getItemList()) { i.getValue() * 2 + 1 };\n}\n")
+    files = [put("steps.ast", "Top ::= Item*; Item ::= <Value:int>;\n"), put("steps.jrag", aspects)]
+    for what, name, elements, rounds in [("an expression of 60 operators", "long", 1, 100000), ("a fold over 30,000 elements", "total", 30000, 200)]:
+        tree = put("steps.txt", "Top([" + ",".join(f"Item({k})" for k in range(elements)) + "])\n")
+        times = {(way, count): [] for way in ("trial", "plain") for count in (0, rounds)}
+        for _ in range(2 * RUNS):
+            for (way, count), spent in times.items():
+                began = os.times().children_user
+                done = subprocess.run([str(STEPS), *files, tree, way, str(count), name], cwd=folder, capture_output=True)
+                spent.append(os.times().children_user - began)
+                if done.returncode:
+                    sys.exit(f"steps ended with status {done.returncode} on {name}")
+        trial, plain = (min(times[way, rounds]) - min(times[way, 0]) for way in ("trial", "plain"))
+        print(f"a trial of {what}: {trial / rounds * 1e6:.1f} us, {trial / plain:.2f} times a plain recursion")
+
+
 def main():
-    if not PROGRAM.exists():
-        sys.exit("make bench builds ./attrd first")
+    if not PROGRAM.exists() or not STEPS.exists():
+        sys.exit("make bench builds ./attrd and crates/steps/out/steps first")
     with tempfile.TemporaryDirectory() as folder:
         def put(name, text):
             (Path(folder) / name).write_text(text, encoding="utf-8")
@@ -210,6 +234,7 @@ def main():
 
         layers(put, lambda files, lines: best(folder, files, Path(folder) / put("lines", lines)) - best(folder, files, nothing))
         rules(put, lambda files: best(folder, files, nothing) - idle)
+        trials(folder, put)
 
 
 if __name__ == "__main__":

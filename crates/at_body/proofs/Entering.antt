@@ -1,5 +1,5 @@
 -- The first thing to do for the value of an expression.
-use Rattle.std.proofs.Common.{◌≡◌, ◌<◌, ◌+◌, ℕ, List, [], ◌∷◌, ◌++◌, refl, ap, ◌∙◌, Result, Ok, Err, IfOk, Bor, arith, Some, cond, map}
+use Rattle.std.proofs.Common.{◌≡◌, ◌<◌, ◌+◌, ℕ, List, [], ◌∷◌, ◌++◌, refl, ap, ◌∙◌, Result, Ok, Err, IfOk, Bor, arith, Some, cond, map, append-nil}
 use Rattle.at_model.specs.Classes.{Classes}
 use Rattle.at_model.specs.Bodies.{Expr, Exprs, no_exprs, expr, Call, truth_of, demand_of}
 use Rattle.at_model.specs.Run.{Value, Ref, Location, Contents, Run, Gives, ◌>>=◌}
@@ -21,14 +21,22 @@ use Rattle.at_body.proofs.Runs.{regroup, fun_ext}
 abbrev pub Put : {E : Type 0} → Result Now E → Trial → Trial → Bor Body → Todo → Type 0
 Put res t new part todo = IfOk res (λ now. (now ≡ Enter part) × (new ≡ record t { todo = todo ∷ t.todo }))
 
+-- an expression whose value comes from that of another one
+pub brought : {E : Type 0} (classes : Classes) (tree : Contents ℕ) (res : Result Now E) (t new : Trial) (e first : Expr) (todo : Todo) →
+    IfOk res (λ now. follow tree t.reads (ev classes first (place_of t) >>= used classes todo t) ≡ follow tree new.reads (rest classes now new)) → outer todo (place_of t) ≡ place_of t →
+    ev classes e (place_of t) ≡ ev classes first (place_of t) >>= then classes todo (place_of t) →
+    IfOk res (λ now. follow tree t.reads (begun classes t e) ≡ follow tree new.reads (rest classes now new))
+brought classes tree (Ok now) t new e first todo h stays shape =
+    let s : begun classes t e ≡ ev classes first (place_of t) >>= λ v. then classes todo (place_of t) v >>= after classes t.todo (outer todo (place_of t)) =
+    rw (stays, shape) (regroup (ev classes first (place_of t)) (then classes todo (place_of t)) (after classes t.todo (place_of t))) in
+    ap (follow tree t.reads) s ∙ h
+brought classes tree (Err e') t new e first todo h stays shape = tt
+
 pub entered : {E : Type 0} (classes : Classes) (tree : Contents ℕ) (res : Result Now E) (t new : Trial) (e : Expr) (part : Bor Body) (todo : Todo) →
     Put res t new part todo → outer todo (place_of t) ≡ place_of t →
     ev classes e (place_of t) ≡ ev classes (body_view part.now) (place_of t) >>= then classes todo (place_of t) →
     IfOk res (λ now. follow tree t.reads (begun classes t e) ≡ follow tree new.reads (rest classes now new))
-entered classes tree (Ok now) t new e part todo (is, becomes) stays shape =
-    let s : begun classes t e ≡ ev classes (body_view part.now) (place_of t) >>= λ v. then classes todo (place_of t) v >>= after classes t.todo (outer todo (place_of t)) =
-    rw (stays, shape) (regroup (ev classes (body_view part.now) (place_of t)) (then classes todo (place_of t)) (after classes t.todo (place_of t))) in
-    rw (is, becomes) (ap (follow tree t.reads) s)
+entered classes tree (Ok now) t new e part todo (is, becomes) stays shape = brought classes tree (Ok now) t new e (body_view part.now) todo (rw (is, becomes) refl) stays shape
 entered classes tree (Err e') t new e part todo h stays shape = tt
 
 -- the arguments of a call as a list
@@ -51,6 +59,9 @@ pub enters : {E : Type 0} (classes : Classes) (res : Result Now E) (t new : Tria
     Put res t new part todo → r ≡ ev classes (body_view part.now) (place_of t) >>= used classes todo t → IfOk res (λ now. r ≡ rest classes now new)
 enters classes (Ok now) t new r part todo (is, becomes) shape = rw (is, becomes) shape
 enters classes (Err e') t new r part todo h shape = tt
+
+pub no_arg : (classes : Classes) (t : Trial) (a : ℕ) (v : Value ℕ) (done : List (Value ℕ)) → called classes t a v done no_exprs ≡ demand_of a v done >>= resumed classes t
+no_arg classes t a v done = ap (λ ws. demand_of a v ws >>= resumed classes t) (append-nil done)
 
 pub first_arg : (classes : Classes) (t : Trial) (a : ℕ) (v : Value ℕ) (done : List (Value ℕ)) (e : Expr) (es : Exprs) →
     called classes t a v done (expr e es) ≡ ev classes e (place_of t) >>= λ w. (ev_all classes es (place_of t) >>= λ ws. demand_of a v (done ++ w ∷ ws)) >>= resumed classes t

@@ -29,6 +29,12 @@ pub kept : {E : Type 0} (res : Result Now E) (seen : List (Location ℕ)) → If
 kept (Ok now) seen = refl
 kept (Err e) seen = tt
 
+-- the same evaluation, in other words
+pub instead : {E : Type 0} (classes : Classes) (tree : Contents ℕ) (seen : List (Location ℕ)) (res : Result Now E) (new : Trial) (r s : Run ℕ (Value ℕ)) →
+    r ≡ s → IfOk res (λ now. follow tree seen s ≡ follow tree new.reads (rest classes now new)) → IfOk res (λ now. follow tree seen r ≡ follow tree new.reads (rest classes now new))
+instead classes tree seen (Ok now) new r s e h = ap (follow tree seen) e ∙ h
+instead classes tree seen (Err e') new r s e h = tt
+
 -- an expression is evaluated for a use of its value
 pub puts : {E : Type 0} (classes : Classes) (tree : Contents ℕ) (res : Result Now E) (t new : Trial) (r : Run ℕ (Value ℕ)) (part : Bor Body) (todo : Todo) →
     Put res t new part todo → r ≡ ev classes (body_view part.now) (place_of t) >>= used classes todo t → IfOk res (λ now. follow tree t.reads r ≡ follow tree new.reads (rest classes now new))

@@ -1,9 +1,9 @@
 //! An evaluation that can be put aside where it demands an instance.
 
-ghost use Rattle.std.specs.Prelude.{◌≡◌, ◌<◌, ◌≤◌, ◌+◌, ◌-◌, ◌++◌, ◌∷◌, [], ℕ, List, length, IfOk, map, option_copied, slice_get};
+ghost use Rattle.std.specs.Prelude.{◌≡◌, ◌<◌, ◌≤◌, ◌+◌, ◌-◌, ◌++◌, ◌∷◌, [], ℕ, List, length, IfOk, IfSome, map, option_copied, slice_get};
 ghost use Rattle.at_model.specs.Classes.{Classes};
 ghost use Rattle.at_model.specs.Follow.{follow};
-ghost use Rattle.at_model.specs.Run.{Contents, Location, Ref};
+ghost use Rattle.at_model.specs.Run.{◌>>=◌, Contents, Gives, Location, Ref};
 ghost use Rattle.at_model.specs.Bodies.{named, index_of};
 ghost use Rattle.at_store.specs.Shown.{contents, IsIdle};
 ghost use Rattle.at_body.specs.Size.{size, sizes, tests};
@@ -11,9 +11,9 @@ ghost use Rattle.at_body.specs.Values.{value_view};
 ghost use Rattle.at_rules.specs.Bodies.{body_view, bodies_view};
 ghost use Rattle.at_body.specs.Standing.{scope};
 ghost use Rattle.at_body.specs.declared.todo.Now.TheVariants.{Ask, Enter};
-ghost use Rattle.at_body.specs.declared.todo.Todo.TheVariants.{And, Choose, Elements, Or, Right};
+ghost use Rattle.at_body.specs.declared.todo.Todo.TheVariants.{And, Choose, Elements, Or, Right, Use};
 ghost use Rattle.at_body.specs.declared.trial.Trial.{Trial};
-ghost use Rattle.at_body.specs.Rest.{rest, weight, place_of, onto, begun, resumed, used, called, gone_over, reached, left, load, cost};
+ghost use Rattle.at_body.specs.Rest.{ev, rest, weight, place_of, onto, begun, resumed, used, called, gone_over, reached, left, load, cost};
 
 use super::inst::{Arguments, Inst};
 use super::reads::Reads;
@@ -84,7 +84,7 @@ impl<'a> Trial<'a> {
     {
         loop {
             now = match now {
-                Now::Enter(body) => self.enter(store, body)?,
+                Now::Enter(body) => self.enter(alloc, rules, store, body)?,
                 Now::Back(value) => match self.todo.pop() {
                     Some(todo) => self.back(alloc, rules, store, todo, value)?,
                     None => return Ok(Step::Value(value)),
@@ -96,9 +96,15 @@ impl<'a> Trial<'a> {
     }
 
     /// The first thing to do for the value of an expression.
-    fn enter(&mut self, store: &'a Store, body: &'a Body) -> Result<Now<'a>, AllocError>
+    fn enter(
+        &mut self,
+        alloc: Global,
+        rules: &'a Rules,
+        store: &'a Store,
+        body: &'a Body,
+    ) -> Result<Now<'a>, AllocError>
         requires idle_store { IsIdle store.now }
-        ensures same { (classes : Classes) → IfOk result (λ now. follow (contents store.now) self.old.reads (begun classes self.old (body_view body.now)) ≡ follow (contents store.now) self.new.reads (rest classes now self.new)) }
+        ensures same { IfOk result (λ now. follow (contents store.now) self.old.reads (begun rules.now.classes self.old (body_view body.now)) ≡ follow (contents store.now) self.new.reads (rest rules.now.classes now self.new)) }
         ensures less { IfOk result (λ now. weight now self.new < size (body_view body.now) + load self.old.todo) }
     {
         match body {
@@ -109,25 +115,25 @@ impl<'a> Trial<'a> {
             Body::This => Ok(Now::Back(Value::Ref(Some(self.this)))),
             Body::Name(position) => self.name(*position),
             Body::IndexName => self.index(store),
-            Body::Negate(a) => self.then(Todo::Use(Unary::Negate), a),
-            Body::Not(a) => self.then(Todo::Use(Unary::Not), a),
-            Body::Arithmetic(operator, a, b) => self.operands(Binary::Arithmetic(*operator), a, b),
-            Body::Compare(order, a, b) => self.operands(Binary::Compare(*order), a, b),
-            Body::Join(a, b) => self.operands(Binary::Join, a, b),
-            Body::JoinInt(a, b) => self.operands(Binary::JoinInt, a, b),
-            Body::Same(a, b) => self.operands(Binary::Same, a, b),
-            Body::Differ(a, b) => self.operands(Binary::Differ, a, b),
+            Body::Negate(a) => self.operand(rules, store, Unary::Negate, a),
+            Body::Not(a) => self.operand(rules, store, Unary::Not, a),
+            Body::Arithmetic(operator, a, b) => self.operands(alloc, store, Binary::Arithmetic(*operator), a, b),
+            Body::Compare(order, a, b) => self.operands(alloc, store, Binary::Compare(*order), a, b),
+            Body::Join(a, b) => self.operands(alloc, store, Binary::Join, a, b),
+            Body::JoinInt(a, b) => self.operands(alloc, store, Binary::JoinInt, a, b),
+            Body::Same(a, b) => self.operands(alloc, store, Binary::Same, a, b),
+            Body::Differ(a, b) => self.operands(alloc, store, Binary::Differ, a, b),
             Body::And(a, b) => self.then(Todo::And(b), a),
             Body::Or(a, b) => self.then(Todo::Or(b), a),
             Body::Choose(test, yes, no) => self.then(Todo::Choose(yes, no), test),
-            Body::Equals(a, b) => self.operands(Binary::Equals, a, b),
-            Body::InstanceOf(a, class) => self.then(Todo::Use(Unary::InstanceOf(*class)), a),
-            Body::CastTo(class, a) => self.then(Todo::Use(Unary::CastTo(*class)), a),
-            Body::Child(a, part) => self.then(Todo::Use(Unary::Child(*part)), a),
-            Body::Element(a, part, b) => self.operands(Binary::Element(*part), a, b),
-            Body::Count(a, part) => self.then(Todo::Use(Unary::Count(*part)), a),
-            Body::Has(a, part) => self.then(Todo::Use(Unary::Has(*part)), a),
-            Body::TokenOf(a, part) => self.then(Todo::Use(Unary::Token(*part)), a),
+            Body::Equals(a, b) => self.operands(alloc, store, Binary::Equals, a, b),
+            Body::InstanceOf(a, class) => self.operand(rules, store, Unary::InstanceOf(*class), a),
+            Body::CastTo(class, a) => self.operand(rules, store, Unary::CastTo(*class), a),
+            Body::Child(a, part) => self.operand(rules, store, Unary::Child(*part), a),
+            Body::Element(a, part, b) => self.operands(alloc, store, Binary::Element(*part), a, b),
+            Body::Count(a, part) => self.operand(rules, store, Unary::Count(*part), a),
+            Body::Has(a, part) => self.operand(rules, store, Unary::Has(*part), a),
+            Body::TokenOf(a, part) => self.operand(rules, store, Unary::Token(*part), a),
             Body::Call(a, attribute, passed) => self.then(Todo::Arguments(*attribute, passed), a),
             Body::Exists(a, part, b) => self.over(Fold::Exists, a, *part, b),
             Body::First(a, part, b) => self.over(Fold::First, a, *part, b),
@@ -143,16 +149,87 @@ impl<'a> Trial<'a> {
         Ok(Now::Enter(body))
     }
 
+    /// Evaluates the operand, for a use of its value.
+    fn operand(
+        &mut self,
+        rules: &'a Rules,
+        store: &'a Store,
+        unary: Unary,
+        operand: &'a Body,
+    ) -> Result<Now<'a>, AllocError>
+        requires idle_store { IsIdle store.now }
+        ensures same { IfOk result (λ now. follow (contents store.now) self.old.reads (ev rules.now.classes (body_view operand.now) (place_of self.old) >>= used rules.now.classes (Use unary) self.old) ≡ follow (contents store.now) self.new.reads (rest rules.now.classes now self.new)) }
+        ensures less { IfOk result (λ now. weight now self.new < size (body_view operand.now) + 2 + load self.old.todo) }
+    {
+        match self.at_hand(operand) {
+            Some(value) => self.unary(rules, store, unary, &value),
+            None => self.then(Todo::Use(unary), operand),
+        }
+    }
+
     /// Evaluates the operands, the left one first, for a use of both values.
     fn operands(
         &mut self,
+        alloc: Global,
+        store: &'a Store,
         binary: Binary,
         left: &'a Body,
         right: &'a Body,
     ) -> Result<Now<'a>, AllocError>
-        ensures { IfOk result (λ now. (now ≡ Enter left.entry) × (self.new ≡ record self.old { todo = Right binary right.entry ∷ self.old.todo })) }
+        requires idle_store { IsIdle store.now }
+        ensures same { (classes : Classes) → IfOk result (λ now. follow (contents store.now) self.old.reads (ev classes (body_view left.now) (place_of self.old) >>= used classes (Right binary right.entry) self.old) ≡ follow (contents store.now) self.new.reads (rest classes now self.new)) }
+        ensures less { IfOk result (λ now. weight now self.new < size (body_view left.now) + size (body_view right.now) + 3 + load self.old.todo) }
     {
-        self.then(Todo::Right(binary, right), left)
+        match self.at_hand(left) {
+            Some(value) => self.right_operand(alloc, store, binary, value, right),
+            None => self.then(Todo::Right(binary, right), left),
+        }
+    }
+
+    /// Evaluates the right operand, for a use of both values.
+    fn right_operand(
+        &mut self,
+        alloc: Global,
+        store: &'a Store,
+        binary: Binary,
+        left: Value,
+        right: &'a Body,
+    ) -> Result<Now<'a>, AllocError>
+        requires idle_store { IsIdle store.now }
+        ensures same { (classes : Classes) → IfOk result (λ now. follow (contents store.now) self.old.reads (used classes (Right binary right.entry) self.old (value_view left)) ≡ follow (contents store.now) self.new.reads (rest classes now self.new)) }
+        ensures less { IfOk result (λ now. weight now self.new < size (body_view right.now) + 2 + load self.old.todo) }
+    {
+        if let Body::Int(n) = right {
+            return self.with_int(alloc, store, binary, left, *n);
+        }
+        match self.at_hand(right) {
+            Some(value) => self.binary(alloc, store, binary, left, &value),
+            None => self.then(Todo::Apply(binary, left), right),
+        }
+    }
+
+    /// The value of an expression for which nothing has to be done first: of a literal that is no text, of `this`, of the name of a fold.
+    fn at_hand(&self, body: &Body) -> Option<Value>
+        ensures { (classes : Classes) → IfSome result (λ value. ev classes (body_view body.now) (place_of self.now) ≡ Gives (value_view value)) }
+    {
+        match body {
+            Body::Int(n) => Some(Value::Int(*n)),
+            Body::Truth(b) => Some(Value::Bool(*b)),
+            Body::Null => Some(Value::Ref(None)),
+            Body::This => Some(Value::Ref(Some(self.this))),
+            Body::Name(position) => self.bound_element(*position),
+            _ => None,
+        }
+    }
+
+    /// The element that the name of a fold stands for; none for a name behind those.
+    fn bound_element(&self, position: usize) -> Option<Value>
+        ensures { IfSome result (λ value. named (scope (place_of self.now)).names position ≡ value_view value) }
+    {
+        match self.bound.get(position) {
+            Some(node) => Some(Value::Ref(Some(node))),
+            None => None,
+        }
     }
 
     /// Evaluates the node over whose elements in a component the fold of an expression goes.
@@ -221,7 +298,7 @@ impl<'a> Trial<'a> {
     {
         match todo {
             Todo::Use(unary) => self.unary(rules, store, unary, &value),
-            Todo::Right(binary, right) => self.then(Todo::Apply(binary, value), right),
+            Todo::Right(binary, right) => self.right_operand(alloc, store, binary, value, right),
             Todo::Apply(binary, left) => self.binary(alloc, store, binary, left, &value),
             Todo::And(right) => Ok(and(&value, right)),
             Todo::Or(right) => Ok(or(&value, right)),

@@ -1,5 +1,6 @@
 //! Why the program ends without a value.
 
+use at_body::FaultKind;
 use std::alloc::{AllocError, AllocFailed};
 
 /// Why the program ends without a value.
@@ -17,6 +18,8 @@ pub enum Failure {
     Tree,
     /// The root has no such attribute, or its equation comes to no int by itself.
     Value,
+    /// The plain recursion comes to a fault.
+    Fault(FaultKind),
     /// Standard output can't be written.
     Write,
     /// Want of memory.
@@ -27,7 +30,7 @@ impl Failure {
     /// The status with which the program ends.
     pub fn status(self) -> u8 {
         match self {
-            Failure::Grammar | Failure::Aspects | Failure::Tree | Failure::Value => 1,
+            Failure::Grammar | Failure::Aspects | Failure::Tree | Failure::Value | Failure::Fault(_) => 1,
             Failure::Words => 2,
             Failure::Read | Failure::Write => 3,
             Failure::Memory => 4,
@@ -42,7 +45,7 @@ impl Failure {
             Failure::Grammar => "the grammar is refused",
             Failure::Aspects => "the aspects are refused",
             Failure::Tree => "the tree is refused",
-            Failure::Value => "no such int",
+            Failure::Value | Failure::Fault(_) => "no such int",
             Failure::Write => "write fault",
             Failure::Memory => "memory",
         }

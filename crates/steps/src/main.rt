@@ -1,7 +1,7 @@
 //! steps: how fast one try of one equation is. `steps GRAMMAR ASPECTS TREE WAY ROUNDS NAME` finds that many times what
-//! the root's attribute of that name comes to, an int, and prints it with the number of locations that one round looks
-//! at. Where WAY is `trial` a round is a trial; where it is `plain`, a plain recursion over the same equation, beside
-//! which trials are measured. `bench/bench.py` takes the times.
+//! the root's attribute of that name comes to, an int, and prints it. Where WAY is `trial` a round is a trial; where it
+//! is `plain`, a plain recursion over the same equation, beside which trials are measured. `bench/bench.py` takes the
+//! times.
 #![tactic(auto)]
 
 ghost use Rattle.std.specs.Prelude.{IfOk};
@@ -42,10 +42,8 @@ fn main(rt: HostRuntime) -> ExitCode {
 /// Prints what the rounds that the words ask for come to.
 fn run(rt: &HostRuntime) -> Result<(), Failure> {
     let task = asked(rt)?;
-    let found = last_of(&task.world, task.way, task.rounds, task.name.as_str())?;
-    let value = found.value;
-    let reads = found.reads;
-    match println!(rt; "{value}, {reads} looked at") {
+    let value = last_of(&task.world, task.way, task.rounds, task.name.as_str())?;
+    match println!(rt; "{value}") {
         Ok(()) => Ok(()),
         Err(_) => Err(Failure::Write),
     }

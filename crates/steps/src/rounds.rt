@@ -27,25 +27,16 @@ impl Way {
     }
 }
 
-/// What a try finds.
-#[derive(Clone, Copy, Debug)]
-pub struct Found {
-    /// The value.
-    pub value: i32,
-    /// How many locations were looked at.
-    pub reads: usize,
-}
-
 /// What the last of so many tries of the root's attribute of that name finds.
 ///
 /// # Errors
 ///
 /// The root has no such attribute, or its equation comes to no int by itself; or want of memory.
-pub fn last_of(world: &World, way: Way, rounds: u32, name: &str) -> Result<Found, Failure>
+pub fn last_of(world: &World, way: Way, rounds: u32, name: &str) -> Result<i32, Failure>
     requires { IsIdle world.now.store }
 {
     let inst = at_root(world, name)?;
-    let mut found = Found { value: 0, reads: 0 };
+    let mut found = 0_i32;
     for _ in 0..rounds {
         found = match way {
             Way::Trial => trial(world, &inst)?,
@@ -67,15 +58,12 @@ fn at_root(world: &World, name: &str) -> Result<Inst, Failure>
 }
 
 /// What a trial of the instance finds.
-fn trial(world: &World, inst: &Inst) -> Result<Found, Failure>
+fn trial(world: &World, inst: &Inst) -> Result<i32, Failure>
     requires { IsIdle world.now.store }
 {
-    let (trial, step) = Trial::start(world.alloc, &world.rules, &world.store, inst)?;
+    let (_, step) = Trial::start(world.alloc, &world.rules, &world.store, inst)?;
     match step {
-        Step::Value(Value::Int(value)) => Ok(Found {
-            value,
-            reads: trial.reads().len(),
-        }),
+        Step::Value(Value::Int(value)) => Ok(value),
         _ => Err(Failure::Value),
     }
 }

@@ -9,7 +9,7 @@ use Rattle.at_body.proofs.Uses.{followed, puts, right_shape, one_more, unbound}
 use Rattle.at_body.proofs.trial.Trial.back.Goals as goal
 
 pub returns-in-Right-clause-same : goal.returns-in-Right-clause-same
-returns-in-Right-clause-same c = rw c.in-Right.is (puts _ (contents c.args.store.now) _ c.args.self.now _ _ c.in-Right.right (Apply c.in-Right.binary c.args.value) c.then.ensures (right_shape _ c.args.self.now c.in-Right.binary c.in-Right.right c.args.value))
+returns-in-Right-clause-same c = rw c.in-Right.is (c.right_operand.ensures.same c.args.rules.now.classes)
 
 pub returns-in-Arguments-clause-same : goal.returns-in-Arguments-clause-same
 returns-in-Arguments-clause-same c = let h = rw (c.new.ensures.items, c.node.ensures) at c.next_argument.ensures.same c.args.rules.now.classes in rw c.in-Arguments.is (followed _ (contents c.args.store.now) _ _ _ _ _ refl h c.next_argument.ensures.reads)

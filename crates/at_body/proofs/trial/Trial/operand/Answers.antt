@@ -1,0 +1,13 @@
+use Rattle.at_store.specs.Shown.{contents}
+use Rattle.std.proofs.Common.{refl, ap}
+use Rattle.at_model.specs.Run.{◌>>=◌}
+use Rattle.at_body.specs.declared.todo.Todo.TheVariants.{Use}
+use Rattle.at_body.specs.Rest.{used}
+use Rattle.at_body.proofs.Uses.{instead, puts}
+use Rattle.at_body.proofs.trial.Trial.operand.Goals as goal
+
+pub returns-in-Some-clause-same : goal.returns-in-Some-clause-same
+returns-in-Some-clause-same c = instead c.args.rules.now.classes (contents c.args.store.now) _ _ _ _ _ (ap (λ r. r >>= used c.args.rules.now.classes (Use c.args.unary) c.args.self.now) (c.in-Some.ensures c.args.rules.now.classes)) c.unary-in-Some.ensures.same
+
+pub returns-in-None-clause-same : goal.returns-in-None-clause-same
+returns-in-None-clause-same c = puts c.args.rules.now.classes (contents c.args.store.now) _ c.args.self.now _ _ c.args.operand (Use c.args.unary) c.then.ensures refl
