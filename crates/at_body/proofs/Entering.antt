@@ -36,7 +36,7 @@ pub entered : {E : Type 0} (classes : Classes) (tree : Contents ℕ) (res : Resu
     Put res t new part todo → outer todo (place_of t) ≡ place_of t →
     ev classes e (place_of t) ≡ ev classes (body_view part.now) (place_of t) >>= then classes todo (place_of t) →
     IfOk res (λ now. follow tree t.reads (begun classes t e) ≡ follow tree new.reads (rest classes now new))
-entered classes tree (Ok now) t new e part todo (is, becomes) stays shape = brought classes tree (Ok now) t new e (body_view part.now) todo (rw (is, becomes) refl) stays shape
+entered {E} classes tree (Ok now) t new e part todo (is, becomes) stays shape = brought {E = E} classes tree (Ok now) t new e (body_view part.now) todo (rw (is, becomes) refl) stays shape
 entered classes tree (Err e') t new e part todo h stays shape = tt
 
 -- the arguments of a call as a list

@@ -1,6 +1,6 @@
 -- What names stand for.
 use Rattle.std.proofs.Common.{◌≡◌, ◌-◌, ℕ, zero, suc, List, [], ◌∷◌, length, map, refl, ap, ◌∙◌, Result, Ok, Err, IfOk, arith, Option, Some, None, IfSome, slice_get}
-use Rattle.at_model.specs.Run.{Value, Ref, Gives}
+use Rattle.at_model.specs.Run.{Value, Ref, Run, Gives}
 use Rattle.at_model.specs.Bodies.{named}
 use Rattle.at_body.specs.Standing.{names, scope}
 use Rattle.at_model.specs.Classes.{Classes}
@@ -17,7 +17,7 @@ is_bound (m ∷ ns) vs zero n e = let f : m ≡ n = cc in rw f refl
 is_bound (m ∷ ns) vs (suc i) n e = is_bound ns vs i n e
 
 -- the value of a name
-pub gives_name : (res : Option ValueCode) (v : Value ℕ) → IfSome res (λ w. v ≡ value_view w) → IfSome res (λ w. Gives {N = ℕ} v ≡ Gives (value_view w))
+pub gives_name : (res : Option ValueCode) (v : Value ℕ) → IfSome res (λ w. v ≡ value_view w) → IfSome res (λ w. ◌≡◌ {A = Run ℕ (Value ℕ)} (Gives v) (Gives (value_view w)))
 gives_name (Some w) v e = ap Gives e
 gives_name None v e = tt
 

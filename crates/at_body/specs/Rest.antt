@@ -107,6 +107,10 @@ onto classes t r = r >>= resumed classes t
 abbrev pub begun : Classes → Trial → Expr → Run ℕ (Value ℕ)
 begun classes t e = ev classes e (place_of t) >>= resumed classes t
 
+-- what it does from an expression on, for that use of its value
+abbrev pub evaluated_for : Classes → Trial → Todo → Expr → Run ℕ (Value ℕ)
+evaluated_for classes t k e = ev classes e (place_of t) >>= used classes k t
+
 -- from the other arguments of a call on
 abbrev pub called : Classes → Trial → ℕ → Value ℕ → List (Value ℕ) → Exprs → Run ℕ (Value ℕ)
 called classes t a v done bs = (ev_all classes bs (place_of t) >>= λ ws. demand_of a v (done ++ ws)) >>= resumed classes t

@@ -3,7 +3,7 @@
 ghost use Rattle.std.specs.Prelude.{◌≡◌, ◌<◌, ◌≤◌, ◌+◌, ◌-◌, ◌++◌, ◌∷◌, [], ℕ, List, length, IfOk, IfSome, map, option_copied, slice_get};
 ghost use Rattle.at_model.specs.Classes.{Classes};
 ghost use Rattle.at_model.specs.Follow.{follow};
-ghost use Rattle.at_model.specs.Run.{◌>>=◌, Contents, Gives, Location, Ref};
+ghost use Rattle.at_model.specs.Run.{Contents, Gives, Location, Ref};
 ghost use Rattle.at_model.specs.Bodies.{named, index_of};
 ghost use Rattle.at_store.specs.Shown.{contents, IsIdle};
 ghost use Rattle.at_body.specs.Size.{size, sizes, tests};
@@ -13,7 +13,7 @@ ghost use Rattle.at_body.specs.Standing.{scope};
 ghost use Rattle.at_body.specs.declared.todo.Now.TheVariants.{Ask, Enter};
 ghost use Rattle.at_body.specs.declared.todo.Todo.TheVariants.{And, Choose, Elements, Or, Right, Use};
 ghost use Rattle.at_body.specs.declared.trial.Trial.{Trial};
-ghost use Rattle.at_body.specs.Rest.{ev, rest, weight, place_of, onto, begun, resumed, used, called, gone_over, reached, left, load, cost};
+ghost use Rattle.at_body.specs.Rest.{ev, evaluated_for, rest, weight, place_of, onto, begun, resumed, used, called, gone_over, reached, left, load, cost};
 
 use super::inst::{Arguments, Inst};
 use super::reads::Reads;
@@ -95,8 +95,30 @@ impl<'a> Trial<'a> {
         }
     }
 
-    /// The first thing to do for the value of an expression.
+    /// The first thing to do for the value of an expression. The forms that are met most stand in front of the others, since room for all arms of a
+    /// `match` is made at each call.
     fn enter(
+        &mut self,
+        alloc: Global,
+        rules: &'a Rules,
+        store: &'a Store,
+        body: &'a Body,
+    ) -> Result<Now<'a>, AllocError>
+        requires idle_store { IsIdle store.now }
+        ensures same { IfOk result (λ now. follow (contents store.now) self.old.reads (begun rules.now.classes self.old (body_view body.now)) ≡ follow (contents store.now) self.new.reads (rest rules.now.classes now self.new)) }
+        ensures less { IfOk result (λ now. weight now self.new < size (body_view body.now) + load self.old.todo) }
+    {
+        match body {
+            Body::TokenOf(a, part) => self.operand(rules, store, Unary::Token(*part), a),
+            Body::Arithmetic(operator, a, b) => {
+                self.operands(alloc, store, Binary::Arithmetic(*operator), a, b)
+            }
+            _ => self.enter_any(alloc, rules, store, body),
+        }
+    }
+
+    /// The first thing to do for the value of an expression of any form.
+    fn enter_any(
         &mut self,
         alloc: Global,
         rules: &'a Rules,
@@ -117,8 +139,20 @@ impl<'a> Trial<'a> {
             Body::IndexName => self.index(store),
             Body::Negate(a) => self.operand(rules, store, Unary::Negate, a),
             Body::Not(a) => self.operand(rules, store, Unary::Not, a),
-            Body::Arithmetic(operator, a, b) => self.operands(alloc, store, Binary::Arithmetic(*operator), a, b),
-            Body::Compare(order, a, b) => self.operands(alloc, store, Binary::Compare(*order), a, b),
+            Body::Arithmetic(operator, a, b) => self.operands(
+                alloc,
+                store,
+                Binary::Arithmetic(*operator),
+                a,
+                b,
+            ),
+            Body::Compare(order, a, b) => self.operands(
+                alloc,
+                store,
+                Binary::Compare(*order),
+                a,
+                b,
+            ),
             Body::Join(a, b) => self.operands(alloc, store, Binary::Join, a, b),
             Body::JoinInt(a, b) => self.operands(alloc, store, Binary::JoinInt, a, b),
             Body::Same(a, b) => self.operands(alloc, store, Binary::Same, a, b),
@@ -158,7 +192,7 @@ impl<'a> Trial<'a> {
         operand: &'a Body,
     ) -> Result<Now<'a>, AllocError>
         requires idle_store { IsIdle store.now }
-        ensures same { IfOk result (λ now. follow (contents store.now) self.old.reads (ev rules.now.classes (body_view operand.now) (place_of self.old) >>= used rules.now.classes (Use unary) self.old) ≡ follow (contents store.now) self.new.reads (rest rules.now.classes now self.new)) }
+        ensures same { IfOk result (λ now. follow (contents store.now) self.old.reads (evaluated_for rules.now.classes self.old (Use unary) (body_view operand.now)) ≡ follow (contents store.now) self.new.reads (rest rules.now.classes now self.new)) }
         ensures less { IfOk result (λ now. weight now self.new < size (body_view operand.now) + 2 + load self.old.todo) }
     {
         match self.at_hand(operand) {
@@ -177,7 +211,7 @@ impl<'a> Trial<'a> {
         right: &'a Body,
     ) -> Result<Now<'a>, AllocError>
         requires idle_store { IsIdle store.now }
-        ensures same { (classes : Classes) → IfOk result (λ now. follow (contents store.now) self.old.reads (ev classes (body_view left.now) (place_of self.old) >>= used classes (Right binary right.entry) self.old) ≡ follow (contents store.now) self.new.reads (rest classes now self.new)) }
+        ensures same { (classes : Classes) → IfOk result (λ now. follow (contents store.now) self.old.reads (evaluated_for classes self.old (Right binary right.entry) (body_view left.now)) ≡ follow (contents store.now) self.new.reads (rest classes now self.new)) }
         ensures less { IfOk result (λ now. weight now self.new < size (body_view left.now) + size (body_view right.now) + 3 + load self.old.todo) }
     {
         match self.at_hand(left) {
@@ -199,9 +233,25 @@ impl<'a> Trial<'a> {
         ensures same { (classes : Classes) → IfOk result (λ now. follow (contents store.now) self.old.reads (used classes (Right binary right.entry) self.old (value_view left)) ≡ follow (contents store.now) self.new.reads (rest classes now self.new)) }
         ensures less { IfOk result (λ now. weight now self.new < size (body_view right.now) + 2 + load self.old.todo) }
     {
-        if let Body::Int(n) = right {
-            return self.with_int(alloc, store, binary, left, *n);
+        match right {
+            Body::Int(n) => self.with_int(alloc, store, binary, left, *n),
+            _ => self.right_value(alloc, store, binary, left, right),
         }
+    }
+
+    /// Evaluates a right operand of any form, for a use of both values.
+    fn right_value(
+        &mut self,
+        alloc: Global,
+        store: &'a Store,
+        binary: Binary,
+        left: Value,
+        right: &'a Body,
+    ) -> Result<Now<'a>, AllocError>
+        requires idle_store { IsIdle store.now }
+        ensures same { (classes : Classes) → IfOk result (λ now. follow (contents store.now) self.old.reads (used classes (Right binary right.entry) self.old (value_view left)) ≡ follow (contents store.now) self.new.reads (rest classes now self.new)) }
+        ensures less { IfOk result (λ now. weight now self.new < size (body_view right.now) + 2 + load self.old.todo) }
+    {
         match self.at_hand(right) {
             Some(value) => self.binary(alloc, store, binary, left, &value),
             None => self.then(Todo::Apply(binary, left), right),
@@ -304,17 +354,9 @@ impl<'a> Trial<'a> {
             Todo::Or(right) => Ok(or(&value, right)),
             Todo::Choose(yes, no) => Ok(choose(&value, yes, no)),
             Todo::Arguments(attribute, arguments) => {
-                let call = Asking {
-                    attribute,
-                    node: value.node(),
-                    done: Arguments::new(alloc),
-                };
-                self.next_argument(Box::new(alloc, call)?, arguments)
+                self.first_argument(alloc, attribute, value.node(), arguments)
             }
-            Todo::Argument(mut call, others) => {
-                call.done.push(value)?;
-                self.next_argument(call, others)
-            }
+            Todo::Argument(call, others) => self.pass(call, value, others),
             Todo::Elements(fold, part, body) => {
                 self.elements(store, fold, part, body, value.node())
             }
@@ -323,6 +365,41 @@ impl<'a> Trial<'a> {
                 self.decide(fold, body, node, others, &value)
             }
         }
+    }
+
+    /// Evaluates the first argument of a call, or demands it where it has none.
+    fn first_argument(
+        &mut self,
+        alloc: Global,
+        attribute: AttrId,
+        node: Option<Node>,
+        arguments: &'a [Body],
+    ) -> Result<Now<'a>, AllocError>
+        ensures same { (classes : Classes) → IfOk result (λ now. called classes self.old attribute (Ref node) [] (bodies_view arguments.now) ≡ rest classes now self.new) }
+        ensures less { IfOk result (λ now. weight now self.new < sizes (bodies_view arguments.now) + 2 + load self.old.todo) }
+        ensures reads { IfOk result (λ now. self.new.reads ≡ self.old.reads) }
+    {
+        let call = Asking {
+            attribute,
+            node,
+            done: Arguments::new(alloc),
+        };
+        self.next_argument(Box::new(alloc, call)?, arguments)
+    }
+
+    /// Passes an argument to a call, and goes on with the others.
+    fn pass(
+        &mut self,
+        mut call: Box<Asking>,
+        value: Value,
+        others: &'a [Body],
+    ) -> Result<Now<'a>, AllocError>
+        ensures same { (classes : Classes) → IfOk result (λ now. called classes self.old call.value.attribute (Ref call.value.node) (map value_view call.value.done.items ++ value_view value ∷ []) (bodies_view others.now) ≡ rest classes now self.new) }
+        ensures less { IfOk result (λ now. weight now self.new < sizes (bodies_view others.now) + 2 + load self.old.todo) }
+        ensures reads { IfOk result (λ now. self.new.reads ≡ self.old.reads) }
+    {
+        call.done.push(value)?;
+        self.next_argument(call, others)
     }
 
     /// Evaluates the next argument, or demands the call once all are there.

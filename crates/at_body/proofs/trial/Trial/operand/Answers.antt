@@ -7,7 +7,7 @@ use Rattle.at_body.proofs.Uses.{instead, puts}
 use Rattle.at_body.proofs.trial.Trial.operand.Goals as goal
 
 pub returns-in-Some-clause-same : goal.returns-in-Some-clause-same
-returns-in-Some-clause-same c = instead c.args.rules.now.classes (contents c.args.store.now) _ _ _ _ _ (ap (λ r. r >>= used c.args.rules.now.classes (Use c.args.unary) c.args.self.now) (c.in-Some.ensures c.args.rules.now.classes)) c.unary-in-Some.ensures.same
+returns-in-Some-clause-same c = instead c.args.rules.now.classes (contents c.args.store.now) _ _ _ _ _ (ap (λ r. r >>= used c.args.rules.now.classes (Use c.args.unary) c.args.self.now) (c.in-Some.ensures c.args.rules.now.classes)) c.unary.ensures.same
 
 pub returns-in-None-clause-same : goal.returns-in-None-clause-same
 returns-in-None-clause-same c = puts c.args.rules.now.classes (contents c.args.store.now) _ c.args.self.now _ _ c.args.operand (Use c.args.unary) c.then.ensures refl

@@ -1,14 +1,4 @@
-use Rattle.at_store.specs.Shown.{contents}
-use Rattle.std.proofs.Common.{ap}
-use Rattle.at_model.specs.Run.{◌>>=◌}
-use Rattle.at_body.specs.declared.todo.Todo.TheVariants.{Apply}
-use Rattle.at_body.specs.Rest.{resumed, with_two}
-use Rattle.at_body.specs.Values.{value_view}
-use Rattle.at_body.proofs.Uses.{instead, puts, right_shape}
 use Rattle.at_body.proofs.trial.Trial.right_operand.Goals as goal
 
-pub returns-in-Some-clause-same : goal.returns-in-Some-clause-same
-returns-in-Some-clause-same c = λ classes. instead classes (contents c.args.store.now) _ _ _ _ _ (ap (λ r. (r >>= with_two c.args.binary (value_view c.args.left)) >>= resumed classes c.args.self.now) (c.in-Some.ensures classes)) (c.binary-in-Some.ensures.same classes)
-
-pub returns-in-None-clause-same : goal.returns-in-None-clause-same
-returns-in-None-clause-same c = λ classes. puts classes (contents c.args.store.now) _ c.args.self.now _ _ c.args.right (Apply c.args.binary c.args.left) c.then.ensures (right_shape classes c.args.self.now c.args.binary c.args.right c.args.left)
+pub returns-in-Int-clause-same : goal.returns-in-Int-clause-same
+returns-in-Int-clause-same c = λ classes. rw c.in-Int.is (c.with_int.ensures.same classes)
