@@ -95,8 +95,8 @@ impl<'a> Trial<'a> {
         }
     }
 
-    /// The first thing to do for the value of an expression. The forms that are met most stand in front of the others, since room for all arms of a
-    /// `match` is made at each call.
+    /// The first thing to do for the value of an expression. The forms that are met most stand in front of the others, since
+    /// room for all arms of a `match` is made at each call.
     fn enter(
         &mut self,
         alloc: Global,
@@ -139,20 +139,8 @@ impl<'a> Trial<'a> {
             Body::IndexName => self.index(store),
             Body::Negate(a) => self.operand(rules, store, Unary::Negate, a),
             Body::Not(a) => self.operand(rules, store, Unary::Not, a),
-            Body::Arithmetic(operator, a, b) => self.operands(
-                alloc,
-                store,
-                Binary::Arithmetic(*operator),
-                a,
-                b,
-            ),
-            Body::Compare(order, a, b) => self.operands(
-                alloc,
-                store,
-                Binary::Compare(*order),
-                a,
-                b,
-            ),
+            Body::Arithmetic(o, a, b) => self.operands(alloc, store, Binary::Arithmetic(*o), a, b),
+            Body::Compare(o, a, b) => self.operands(alloc, store, Binary::Compare(*o), a, b),
             Body::Join(a, b) => self.operands(alloc, store, Binary::Join, a, b),
             Body::JoinInt(a, b) => self.operands(alloc, store, Binary::JoinInt, a, b),
             Body::Same(a, b) => self.operands(alloc, store, Binary::Same, a, b),
@@ -258,7 +246,8 @@ impl<'a> Trial<'a> {
         }
     }
 
-    /// The value of an expression for which nothing has to be done first: of a literal that is no text, of `this`, of the name of a fold.
+    /// The value of an expression for which nothing has to be done first: of a literal that is no text, of `this`, of the
+    /// name of a fold.
     fn at_hand(&self, body: &Body) -> Option<Value>
         ensures { (classes : Classes) → IfSome result (λ value. ev classes (body_view body.now) (place_of self.now) ≡ Gives (value_view value)) }
     {
@@ -384,7 +373,8 @@ impl<'a> Trial<'a> {
             node,
             done: Arguments::new(alloc),
         };
-        self.next_argument(Box::new(alloc, call)?, arguments)
+        let boxed = Box::new(alloc, call)?;
+        self.next_argument(boxed, arguments)
     }
 
     /// Passes an argument to a call, and goes on with the others.

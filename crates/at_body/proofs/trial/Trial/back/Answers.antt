@@ -33,3 +33,12 @@ returns-in-Or-clause-same c = rw c.in-Or.is (ap (follow (contents c.args.store.n
 
 pub returns-in-Choose-clause-same : goal.returns-in-Choose-clause-same
 returns-in-Choose-clause-same c = rw c.in-Choose.is (ap (follow (contents c.args.store.now) c.args.self.now.reads) (c.choose.ensures.same c.args.rules.now.classes c.args.self.now))
+
+pub returns-in-Right-clause-less : goal.returns-in-Right-clause-less
+returns-in-Right-clause-less c = rw c.in-Right.is c.right_operand.ensures.less
+
+pub returns-in-Arguments-clause-less : goal.returns-in-Arguments-clause-less
+returns-in-Arguments-clause-less c = rw c.in-Arguments.is c.first_argument.ensures.less
+
+pub returns-in-Argument-clause-less : goal.returns-in-Argument-clause-less
+returns-in-Argument-clause-less c = rw c.in-Argument.is c.pass.ensures.less

@@ -5,9 +5,10 @@ use Rattle.at_body.specs.declared.todo.Binary.TheVariants as binary
 use Rattle.at_body.specs.declared.todo.Fold.TheVariants as fold
 use Rattle.at_body.specs.declared.todo.Todo.TheVariants.{Use, Right, And, Or, Choose, Arguments, Elements}
 use Rattle.at_rules.specs.declared.body.Body.{items_hidden-the_row-Body-0}
-use Rattle.at_body.specs.Rest.{ev, place_of}
+use Rattle.at_body.specs.Rest.{ev, load, place_of}
+use Rattle.at_body.specs.Size.{size}
 use Rattle.at_rules.specs.Bodies.{body_view}
-use Rattle.at_body.proofs.Entering.{brought, entered, lighter, call_view}
+use Rattle.at_body.proofs.Entering.{bounded, brought, entered, lighter, call_view}
 use Rattle.at_body.proofs.Uses.{followed, kept}
 use Rattle.at_body.proofs.trial.Trial.enter_any.Goals as goal
 
@@ -21,10 +22,10 @@ pub returns-in-Not-clause-same : goal.returns-in-Not-clause-same
 returns-in-Not-clause-same c = brought c.args.rules.now.classes _ _ c.args.self.now _ (body_view c.args.body.now) (body_view c.deref-in-Not.result.now) (Use unary.Not) c.operand-in-Not.ensures.same refl (rw (c.in-Not.is, ← c.deref-in-Not.ensures) refl)
 
 pub returns-in-Arithmetic-clause-same : goal.returns-in-Arithmetic-clause-same
-returns-in-Arithmetic-clause-same c = brought c.args.rules.now.classes _ _ c.args.self.now _ (body_view c.args.body.now) (body_view c.deref-in-Arithmetic.result.now) (Right (binary.Arithmetic c.in-Arithmetic.operator) c.deref-in-Arithmetic-2.result) (c.operands.ensures.same c.args.rules.now.classes) refl (rw (c.in-Arithmetic.is, ← c.deref-in-Arithmetic.ensures, ← c.deref-in-Arithmetic-2.ensures) refl)
+returns-in-Arithmetic-clause-same c = brought c.args.rules.now.classes _ _ c.args.self.now _ (body_view c.args.body.now) (body_view c.deref-in-Arithmetic.result.now) (Right (binary.Arithmetic c.in-Arithmetic.o) c.deref-in-Arithmetic-2.result) (c.operands.ensures.same c.args.rules.now.classes) refl (rw (c.in-Arithmetic.is, ← c.deref-in-Arithmetic.ensures, ← c.deref-in-Arithmetic-2.ensures) refl)
 
 pub returns-in-Compare-clause-same : goal.returns-in-Compare-clause-same
-returns-in-Compare-clause-same c = brought c.args.rules.now.classes _ _ c.args.self.now _ (body_view c.args.body.now) (body_view c.deref-in-Compare.result.now) (Right (binary.Compare c.in-Compare.order) c.deref-in-Compare-2.result) (c.operands-in-Compare.ensures.same c.args.rules.now.classes) refl (rw (c.in-Compare.is, ← c.deref-in-Compare.ensures, ← c.deref-in-Compare-2.ensures) refl)
+returns-in-Compare-clause-same c = brought c.args.rules.now.classes _ _ c.args.self.now _ (body_view c.args.body.now) (body_view c.deref-in-Compare.result.now) (Right (binary.Compare c.in-Compare.o) c.deref-in-Compare-2.result) (c.operands-in-Compare.ensures.same c.args.rules.now.classes) refl (rw (c.in-Compare.is, ← c.deref-in-Compare.ensures, ← c.deref-in-Compare-2.ensures) refl)
 
 pub returns-in-Join-clause-same : goal.returns-in-Join-clause-same
 returns-in-Join-clause-same c = brought c.args.rules.now.classes _ _ c.args.self.now _ (body_view c.args.body.now) (body_view c.deref-in-Join.result.now) (Right binary.Join c.deref-in-Join-2.result) (c.operands-in-Join.ensures.same c.args.rules.now.classes) refl (rw (c.in-Join.is, ← c.deref-in-Join.ensures, ← c.deref-in-Join-2.ensures) refl)
@@ -85,8 +86,56 @@ returns-in-Call-clause-same c = entered c.args.rules.now.classes (contents c.arg
     (ap (λ e. ev c.args.rules.now.classes e (place_of c.args.self.now)) (call_view _ _ _ _ _ _ _ _ c.in-Call.is (items_hidden-the_row-Body-0 c.in-Call.passed ∙ sym c.deref-in-Call.ensures.value) c.deref-in-Call-2.ensures))
 
 pub returns-in-Call-clause-less : goal.returns-in-Call-clause-less
-returns-in-Call-clause-less c = lighter _ c.args.self.now _ (body_view c.args.body.now) c.deref-in-Call-2.result (Arguments c.in-Call.attribute c.deref-in-Call.result) c.then-in-Call.ensures
+returns-in-Call-clause-less c = lighter _ c.args.self.now _ (size (body_view c.args.body.now)) c.deref-in-Call-2.result (Arguments c.in-Call.attribute c.deref-in-Call.result) c.then-in-Call.ensures
     (rw (call_view _ _ _ _ _ _ _ _ c.in-Call.is (items_hidden-the_row-Body-0 c.in-Call.passed ∙ sym c.deref-in-Call.ensures.value) c.deref-in-Call-2.ensures) (omega arith))
 
 pub returns-in-IndexName-clause-same : goal.returns-in-IndexName-clause-same
 returns-in-IndexName-clause-same c = rw c.in-IndexName.is (c.index.ensures.same c.args.rules.now.classes)
+
+pub returns-in-Negate-clause-less : goal.returns-in-Negate-clause-less
+returns-in-Negate-clause-less c = bounded _ _ (load c.args.self.now.todo) (size (body_view c.deref.result.now) + 2) (size (body_view c.args.body.now)) c.operand.ensures.less (rw (c.in-Negate.is, ← c.deref.ensures) refl)
+
+pub returns-in-Not-clause-less : goal.returns-in-Not-clause-less
+returns-in-Not-clause-less c = bounded _ _ (load c.args.self.now.todo) (size (body_view c.deref-in-Not.result.now) + 2) (size (body_view c.args.body.now)) c.operand-in-Not.ensures.less (rw (c.in-Not.is, ← c.deref-in-Not.ensures) refl)
+
+pub returns-in-Arithmetic-clause-less : goal.returns-in-Arithmetic-clause-less
+returns-in-Arithmetic-clause-less c = bounded _ _ (load c.args.self.now.todo) (size (body_view c.deref-in-Arithmetic.result.now) + size (body_view c.deref-in-Arithmetic-2.result.now) + 3) (size (body_view c.args.body.now)) c.operands.ensures.less (rw (c.in-Arithmetic.is, ← c.deref-in-Arithmetic.ensures, ← c.deref-in-Arithmetic-2.ensures) refl)
+
+pub returns-in-Compare-clause-less : goal.returns-in-Compare-clause-less
+returns-in-Compare-clause-less c = bounded _ _ (load c.args.self.now.todo) (size (body_view c.deref-in-Compare.result.now) + size (body_view c.deref-in-Compare-2.result.now) + 3) (size (body_view c.args.body.now)) c.operands-in-Compare.ensures.less (rw (c.in-Compare.is, ← c.deref-in-Compare.ensures, ← c.deref-in-Compare-2.ensures) refl)
+
+pub returns-in-Join-clause-less : goal.returns-in-Join-clause-less
+returns-in-Join-clause-less c = bounded _ _ (load c.args.self.now.todo) (size (body_view c.deref-in-Join.result.now) + size (body_view c.deref-in-Join-2.result.now) + 3) (size (body_view c.args.body.now)) c.operands-in-Join.ensures.less (rw (c.in-Join.is, ← c.deref-in-Join.ensures, ← c.deref-in-Join-2.ensures) refl)
+
+pub returns-in-JoinInt-clause-less : goal.returns-in-JoinInt-clause-less
+returns-in-JoinInt-clause-less c = bounded _ _ (load c.args.self.now.todo) (size (body_view c.deref-in-JoinInt.result.now) + size (body_view c.deref-in-JoinInt-2.result.now) + 3) (size (body_view c.args.body.now)) c.operands-in-JoinInt.ensures.less (rw (c.in-JoinInt.is, ← c.deref-in-JoinInt.ensures, ← c.deref-in-JoinInt-2.ensures) refl)
+
+pub returns-in-Same-clause-less : goal.returns-in-Same-clause-less
+returns-in-Same-clause-less c = bounded _ _ (load c.args.self.now.todo) (size (body_view c.deref-in-Same.result.now) + size (body_view c.deref-in-Same-2.result.now) + 3) (size (body_view c.args.body.now)) c.operands-in-Same.ensures.less (rw (c.in-Same.is, ← c.deref-in-Same.ensures, ← c.deref-in-Same-2.ensures) refl)
+
+pub returns-in-Differ-clause-less : goal.returns-in-Differ-clause-less
+returns-in-Differ-clause-less c = bounded _ _ (load c.args.self.now.todo) (size (body_view c.deref-in-Differ.result.now) + size (body_view c.deref-in-Differ-2.result.now) + 3) (size (body_view c.args.body.now)) c.operands-in-Differ.ensures.less (rw (c.in-Differ.is, ← c.deref-in-Differ.ensures, ← c.deref-in-Differ-2.ensures) refl)
+
+pub returns-in-Equals-clause-less : goal.returns-in-Equals-clause-less
+returns-in-Equals-clause-less c = bounded _ _ (load c.args.self.now.todo) (size (body_view c.deref-in-Equals.result.now) + size (body_view c.deref-in-Equals-2.result.now) + 3) (size (body_view c.args.body.now)) c.operands-in-Equals.ensures.less (rw (c.in-Equals.is, ← c.deref-in-Equals.ensures, ← c.deref-in-Equals-2.ensures) refl)
+
+pub returns-in-InstanceOf-clause-less : goal.returns-in-InstanceOf-clause-less
+returns-in-InstanceOf-clause-less c = bounded _ _ (load c.args.self.now.todo) (size (body_view c.deref-in-InstanceOf.result.now) + 2) (size (body_view c.args.body.now)) c.operand-in-InstanceOf.ensures.less (rw (c.in-InstanceOf.is, ← c.deref-in-InstanceOf.ensures) refl)
+
+pub returns-in-CastTo-clause-less : goal.returns-in-CastTo-clause-less
+returns-in-CastTo-clause-less c = bounded _ _ (load c.args.self.now.todo) (size (body_view c.deref-in-CastTo.result.now) + 2) (size (body_view c.args.body.now)) c.operand-in-CastTo.ensures.less (rw (c.in-CastTo.is, ← c.deref-in-CastTo.ensures) refl)
+
+pub returns-in-Child-clause-less : goal.returns-in-Child-clause-less
+returns-in-Child-clause-less c = bounded _ _ (load c.args.self.now.todo) (size (body_view c.deref-in-Child.result.now) + 2) (size (body_view c.args.body.now)) c.operand-in-Child.ensures.less (rw (c.in-Child.is, ← c.deref-in-Child.ensures) refl)
+
+pub returns-in-Element-clause-less : goal.returns-in-Element-clause-less
+returns-in-Element-clause-less c = bounded _ _ (load c.args.self.now.todo) (size (body_view c.deref-in-Element.result.now) + size (body_view c.deref-in-Element-2.result.now) + 3) (size (body_view c.args.body.now)) c.operands-in-Element.ensures.less (rw (c.in-Element.is, ← c.deref-in-Element.ensures, ← c.deref-in-Element-2.ensures) refl)
+
+pub returns-in-Count-clause-less : goal.returns-in-Count-clause-less
+returns-in-Count-clause-less c = bounded _ _ (load c.args.self.now.todo) (size (body_view c.deref-in-Count.result.now) + 2) (size (body_view c.args.body.now)) c.operand-in-Count.ensures.less (rw (c.in-Count.is, ← c.deref-in-Count.ensures) refl)
+
+pub returns-in-Has-clause-less : goal.returns-in-Has-clause-less
+returns-in-Has-clause-less c = bounded _ _ (load c.args.self.now.todo) (size (body_view c.deref-in-Has.result.now) + 2) (size (body_view c.args.body.now)) c.operand-in-Has.ensures.less (rw (c.in-Has.is, ← c.deref-in-Has.ensures) refl)
+
+pub returns-in-TokenOf-clause-less : goal.returns-in-TokenOf-clause-less
+returns-in-TokenOf-clause-less c = bounded _ _ (load c.args.self.now.todo) (size (body_view c.deref-in-TokenOf.result.now) + 2) (size (body_view c.args.body.now)) c.operand-in-TokenOf.ensures.less (rw (c.in-TokenOf.is, ← c.deref-in-TokenOf.ensures) refl)
