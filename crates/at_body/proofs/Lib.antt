@@ -8,3 +8,7 @@ pub mod OneTry
 pub mod Few
 pub mod Joining
 pub mod Sameness
+pub mod TypedParts
+pub mod TypedUses
+pub mod TypedFolds
+pub mod TypedShown

@@ -7,3 +7,4 @@ pub mod Standing
 pub mod Rest
 pub mod Starting
 pub mod Trying
+pub mod Typed

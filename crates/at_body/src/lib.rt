@@ -4,6 +4,7 @@
 mod folding;
 mod inst;
 mod laws;
+mod probe;
 mod reads;
 mod stack;
 mod starting;
@@ -14,6 +15,7 @@ mod using;
 mod value;
 
 pub use inst::{Arguments, Inst};
+pub use probe::probe;
 pub use laws::{comes, fails, gives, passes};
 pub use reads::Reads;
 pub use trial::{Step, Trial};
