@@ -12,3 +12,6 @@ pub mod TypedParts
 pub mod TypedUses
 pub mod TypedFolds
 pub mod TypedShown
+pub mod TypedAbove
+pub mod TypedStarting
+pub mod TypedInstances

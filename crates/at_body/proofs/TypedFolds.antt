@@ -7,7 +7,7 @@ use Rattle.at_model.specs.Classes.{Classes, Many, class_in}
 use Rattle.at_model.specs.Bodies.{Expr, int_of, named, IndexName, Name}
 use Rattle.at_model.specs.Run.{Value, Int, Truth, Text, Ref, Slot, Contents, Gives}
 use Rattle.at_model.specs.Rules.{Rules, Kind}
-use Rattle.at_model.specs.Rules as kind
+use Rattle.at_model.specs.Rules as model
 use Rattle.at_model.specs.Kinds.{HasKind, shape_of_part}
 use Rattle.at_model.specs.Kinds as form
 use Rattle.at_model.specs.TypedRuns.{ClassAt, IsNodeOf, IsOfKind, AreArguments}
@@ -21,7 +21,7 @@ use Rattle.at_body.specs.declared.value.Value.{Value as ValueCode}
 use Rattle.at_body.specs.declared.todo.Fold.{Fold}
 use Rattle.at_body.specs.declared.todo.Fold.TheVariants as fold
 use Rattle.at_body.specs.declared.todo.Todo.{Todo}
-use Rattle.at_body.specs.declared.todo.Todo.TheVariants as todo
+use Rattle.at_body.specs.declared.todo.Todo.TheVariants as code
 use Rattle.at_body.specs.declared.trial.Trial.{Trial}
 use Rattle.at_body.specs.Values.{value_view}
 use Rattle.at_body.specs.Stacked.{below}
@@ -36,7 +36,7 @@ module _ (rules : Rules) (at : ClassAt ℕ) where
   Is k v = IsOfKind rules.classes at v k
 
   -- the next node is bound, and the fold's expression is evaluated there
-  pub element_enters : (t : Trial) (f : Fold) (e : Bor Body) (n : ℕ) (ns : Bor (List ℕ)) (bound : List ℕ) → bound ≡ n ∷ t.bound → GoesOver rules at t f e.now (n ∷ ns.now) → Enters rules at (record t { bound = bound; todo = todo.Element f e n ns ∷ t.todo }) e.now
+  pub element_enters : (t : Trial) (f : Fold) (e : Bor Body) (n : ℕ) (ns : Bor (List ℕ)) (bound : List ℕ) → bound ≡ n ∷ t.bound → GoesOver rules at t f e.now (n ∷ ns.now) → Enters rules at (record t { bound = bound; todo = code.Element f e n ns ∷ t.todo }) e.now
   element_enters t f e n ns bound is h = record {
     kinds = kinds_inside h.kinds h.class;
     kind = h.kind;
@@ -52,7 +52,7 @@ module _ (rules : Rules) (at : ClassAt ℕ) where
     };
   }
 
-  int_itself : (v : Value ℕ) → Is kind.Int v → Is kind.Int (Int (int_of v))
+  int_itself : (v : Value ℕ) → Is model.Int v → Is model.Int (Int (int_of v))
   int_itself (Int n) h = h
   int_itself (Truth b) h = absurd h
   int_itself (Text bytes) h = absurd h
@@ -63,22 +63,22 @@ module _ (rules : Rules) (at : ClassAt ℕ) where
   comes_to t f e classes x p v h end = by_fold f h.kind h.result h.folds end h.stands
     where
       by_fold : (g : Fold) (k m : Kind) → IsFold rules.classes at h.class g k m → over classes g x p [] ≡ Gives v → Stands rules at h.kinds m t → Takes rules at t v
-      by_fold _ _ _ typed.exists e stands = let is : Truth false ≡ v = cc in backs rules at h.kinds kind.Truth t v stands (subst (Is kind.Truth) is tt)
-      by_fold _ _ _ typed.first e stands = let is : Ref None ≡ v = cc in backs rules at h.kinds (kind.Class h.class) t v stands (subst (Is (kind.Class h.class)) is tt)
-      by_fold _ _ _ (typed.sum total int) e stands = let is : Int (int_of (value_view total)) ≡ v = cc in backs rules at h.kinds kind.Int t v stands (subst (Is kind.Int) is (int_itself (value_view total) int))
+      by_fold _ _ _ typed.exists e stands = let is : Truth false ≡ v = cc in backs rules at h.kinds model.Truth t v stands (subst (Is model.Truth) is tt)
+      by_fold _ _ _ typed.first e stands = let is : Ref None ≡ v = cc in backs rules at h.kinds (model.Class h.class) t v stands (subst (Is (model.Class h.class)) is tt)
+      by_fold _ _ _ (typed.sum total int) e stands = let is : Int (int_of (value_view total)) ≡ v = cc in backs rules at h.kinds model.Int t v stands (subst (Is model.Int) is (int_itself (value_view total) int))
 
   -- the fold is decided: by the truth value, or at this node
   pub decides_true : (t : Trial) (e : Body) (n : ℕ) (ns : List ℕ) (v : Value ℕ) (b : Bool) → Decides rules at t fold.Exists e n ns v → Takes rules at t (Truth b)
   decides_true t e n ns v b h = by_fold h.goes.kind h.goes.result h.goes.folds h.goes.stands
     where
       by_fold : (k m : Kind) → IsFold rules.classes at h.goes.class fold.Exists k m → Stands rules at h.goes.kinds m t → Takes rules at t (Truth b)
-      by_fold _ _ typed.exists stands = backs rules at h.goes.kinds kind.Truth t (Truth b) stands tt
+      by_fold _ _ typed.exists stands = backs rules at h.goes.kinds model.Truth t (Truth b) stands tt
 
   pub decides_here : (t : Trial) (e : Body) (n : ℕ) (ns : List ℕ) (v : Value ℕ) → Decides rules at t fold.First e n ns v → Takes rules at t (Ref (Some n))
   decides_here t e n ns v h = by_fold h.goes.kind h.goes.result h.goes.folds h.goes.stands
     where
       by_fold : (k m : Kind) → IsFold rules.classes at h.goes.class fold.First k m → Stands rules at h.goes.kinds m t → Takes rules at t (Ref (Some n))
-      by_fold _ _ typed.first stands = backs rules at h.goes.kinds (kind.Class h.goes.class) t (Ref (Some n)) stands h.node
+      by_fold _ _ typed.first stands = backs rules at h.goes.kinds (model.Class h.goes.class) t (Ref (Some n)) stands h.node
 
   -- the test of each is a truth value, and what is summed an int
   pub exists_tests : (t : Trial) (e : Body) (n : ℕ) (ns : List ℕ) (v : Value ℕ) → Decides rules at t fold.Exists e n ns v → IsTruth v
@@ -107,19 +107,19 @@ module _ (rules : Rules) (at : ClassAt ℕ) where
       by_fold _ _ (typed.sum _ int) x stands = record {
         kinds = h.goes.kinds;
         class = h.goes.class;
-        kind = kind.Int;
-        result = kind.Int;
-        folds = typed.sum next (subst (Is kind.Int) (sym is) (read_back _));
+        kind = model.Int;
+        result = model.Int;
+        folds = typed.sum next (subst (Is model.Int) (sym is) (read_back _));
         is = x;
         nodes = h.goes.nodes;
         stands = stands;
       }
 
   -- the node over whose elements the fold goes is there
-  pub folds_over : (t : Trial) (f : Fold) (part : ℕ) (e : Bor Body) (n : Option ℕ) → Uses rules at t (todo.Elements f part e) (Ref n) → Folds rules at t f part e.now n
+  pub folds_over : (t : Trial) (f : Fold) (part : ℕ) (e : Bor Body) (n : Option ℕ) → Uses rules at t (code.Elements f part e) (Ref n) → Folds rules at t f part e.now n
   folds_over t f part e n h = by_todo h.kinds h.kind h.later h.result h.is h.does h.place h.rest
     where
-      by_todo : (s : PlaceKinds) (k : Kind) (s' : PlaceKinds) (k' : Kind) → Is k (Ref n) → IsTodo rules at s k (todo.Elements f part e) s' k' → IsPlaceOf rules.classes at s (place_of t) → AreTodos rules at s' k' t.todo → Folds rules at t f part e.now n
+      by_todo : (s : PlaceKinds) (k : Kind) (s' : PlaceKinds) (k' : Kind) → Is k (Ref n) → IsTodo rules at s k (code.Elements f part e) s' k' → IsPlaceOf rules.classes at s (place_of t) → AreTodos rules at s' k' t.todo → Folds rules at t f part e.now n
       by_todo s _ _ _ is (typed.elements _ c _ b _ k m _ shape folds x) place rest = record {
         goes = record { kinds = s; class = b; kind = k; result = m; folds = folds; is = x; nodes = tt; stands = record { place = place; todo = rest } };
         class = c;
@@ -146,10 +146,10 @@ module _ (rules : Rules) (at : ClassAt ℕ) where
   outside_bound cs (n ∷ ns) c h = h.1
 
   -- the fold's expression has a value at this node
-  pub element_told : (t : Trial) (f : Fold) (e : Bor Body) (n : ℕ) (ns : Bor (List ℕ)) (v : Value ℕ) (bound : List ℕ) → bound ≡ below t.bound → Uses rules at t (todo.Element f e n ns) v → Decides rules at (record t { bound = bound }) f e.now n ns.now v
+  pub element_told : (t : Trial) (f : Fold) (e : Bor Body) (n : ℕ) (ns : Bor (List ℕ)) (v : Value ℕ) (bound : List ℕ) → bound ≡ below t.bound → Uses rules at t (code.Element f e n ns) v → Decides rules at (record t { bound = bound }) f e.now n ns.now v
   element_told t f e n ns v bound is h = by_todo h.kinds h.kind h.later h.result h.is h.does h.place h.rest
     where
-      by_todo : (s : PlaceKinds) (k : Kind) (s' : PlaceKinds) (k' : Kind) → Is k v → IsTodo rules at s k (todo.Element f e n ns) s' k' → IsPlaceOf rules.classes at s (place_of t) → AreTodos rules at s' k' t.todo → Decides rules at (record t { bound = bound }) f e.now n ns.now v
+      by_todo : (s : PlaceKinds) (k : Kind) (s' : PlaceKinds) (k' : Kind) → Is k v → IsTodo rules at s k (code.Element f e n ns) s' k' → IsPlaceOf rules.classes at s (place_of t) → AreTodos rules at s' k' t.todo → Decides rules at (record t { bound = bound }) f e.now n ns.now v
       by_todo _ _ _ _ told (typed.element s b _ k m _ _ _ folds x node nodes) place rest = record {
         goes = record {
           kinds = s;
@@ -187,7 +187,7 @@ module _ (rules : Rules) (at : ClassAt ℕ) where
   names_there [] [] vs ks i k b h e = passed_there vs ks i k h e
   names_there [] (c ∷ cs) vs ks i k b h e = absurd b
   names_there (n ∷ ns) [] vs ks i k b h e = absurd b
-  names_there (n ∷ ns) (c ∷ cs) vs ks zero k (x, b) h e = let f : kind.Class c ≡ k = cc in (refl, subst (λ z. Is z (Ref (Some n))) f x)
+  names_there (n ∷ ns) (c ∷ cs) vs ks zero k (x, b) h e = let f : model.Class c ≡ k = cc in (refl, subst (λ z. Is z (Ref (Some n))) f x)
   names_there (n ∷ ns) (c ∷ cs) vs ks (suc i) k (x, b) h e = names_there ns cs vs ks i k b h e
 
   pub record IsNamed (t : Trial) (i : ℕ) : Type 0 where
@@ -199,7 +199,7 @@ module _ (rules : Rules) (at : ClassAt ℕ) where
   name_there t b i e h = by_kind h.kind (subst (λ x. HasKind rules (scope_kinds h.kinds) x h.kind) e h.is) h.stands.todo
     where
       by_kind : (k : Kind) → HasKind rules (scope_kinds h.kinds) (Name i) k → AreTodos rules at h.kinds k t.todo → IsNamed t i
-      by_kind _ (form.widened c d sub x) rest = by_kind (kind.Class c) x (typed.widened c d sub rest)
+      by_kind _ (form.widened c d sub x) rest = by_kind (model.Class c) x (typed.widened c d sub rest)
       by_kind k (form.name _ is) rest =
           let (there, told) = names_there (place_of t).bound h.kinds.bound (map value_view (place_of t).passed) h.kinds.passed i k h.stands.place.bound h.stands.place.passed is in
           record { there = there; takes = backs rules at h.kinds k t (named (scope (place_of t)).names i) (record { place = h.stands.place; todo = rest }) told }
@@ -208,14 +208,14 @@ module _ (rules : Rules) (at : ClassAt ℕ) where
     pub child : ℕ
     pub is : t.child ≡ Some child
     pub there : IsSome (at child)
-    pub stands : (s : PlaceKinds) × Stands rules at s kind.Int t
+    pub stands : (s : PlaceKinds) × Stands rules at s model.Int t
 
   -- an expression that is the index name
   pub index_there : (t : Trial) (b : Body) → body_view b ≡ IndexName → Enters rules at t b → HasIndex t
   index_there t b e h = by_kind h.kind (subst (λ x. HasKind rules (scope_kinds h.kinds) x h.kind) e h.is) h.stands.todo
     where
       by_kind : (k : Kind) → HasKind rules (scope_kinds h.kinds) IndexName k → AreTodos rules at h.kinds k t.todo → HasIndex t
-      by_kind _ (form.widened c d sub x) rest = by_kind (kind.Class c) x (typed.widened c d sub rest)
+      by_kind _ (form.widened c d sub x) rest = by_kind (model.Class c) x (typed.widened c d sub rest)
       by_kind _ (form.index_name is) rest =
           let (n, child, there) = h.stands.place.child is in
           record { child = n; is = child; there = there; stands = (h.kinds, record { place = h.stands.place; todo = rest }) }

@@ -5,9 +5,9 @@ use Rattle.std.specs.Prelude.{IfSome, IsSome}
 use Rattle.std.specs.List.{slice_get, AllByRecursion}
 use Rattle.at_model.specs.Classes.{is_sub}
 use Rattle.at_model.specs.Bodies.{Expr, Exprs, no_exprs, expr}
-use Rattle.at_model.specs.Run.{Value, Int, Truth, Text, Ref, Instance}
+use Rattle.at_model.specs.Run.{Value, Int, Truth, Text, Ref, Instance, Location}
 use Rattle.at_model.specs.Rules.{Rules, Kind, Attribute}
-use Rattle.at_model.specs.Rules as kind
+use Rattle.at_model.specs.Rules as model
 use Rattle.at_model.specs.Kinds.{HasKind, HaveKinds, IsArgumentForm}
 use Rattle.at_model.specs.Kinds as form
 use Rattle.at_model.specs.TypedRuns.{ClassAt, IsNodeOf, IsOfKind, IsAllowed, AreArguments, IsWellTyped, IsOfItsKind}
@@ -15,12 +15,13 @@ use Rattle.at_model.specs.Instances.{AnyText}
 use Rattle.at_model.proofs.Below.{AreChained, sub_sub}
 use Rattle.at_rules.specs.Bodies.{body_view, bodies_view}
 use Rattle.at_rules.specs.declared.body.Body.{Body}
+use Rattle.smallvec.specs.SmallVec.{SmallVec}
 use Rattle.at_body.specs.declared.value.Value.{Value as ValueCode}
 use Rattle.at_body.specs.declared.todo.Fold.{Fold}
 use Rattle.at_body.specs.declared.todo.Fold.TheVariants as fold
 use Rattle.at_body.specs.declared.todo.Binary.{Binary}
 use Rattle.at_body.specs.declared.todo.Todo.{Todo}
-use Rattle.at_body.specs.declared.todo.Todo.TheVariants as todo
+use Rattle.at_body.specs.declared.todo.Todo.TheVariants as code
 use Rattle.at_body.specs.declared.trial.Trial.{Trial}
 use Rattle.at_body.specs.Values.{value_view}
 use Rattle.at_body.specs.Stacked.{below}
@@ -39,32 +40,32 @@ module _ (rules : Rules) (at : ClassAt ℕ) where
   Is k v = IsOfKind rules.classes at v k
 
   -- what a value of a kind is
-  pub is_int : (v : Value ℕ) → Is kind.Int v → IsInt v
+  pub is_int : (v : Value ℕ) → Is model.Int v → IsInt v
   is_int (Int n) h = tt
   is_int (Truth b) h = h
   is_int (Text bytes) h = h
   is_int (Ref n) h = h
 
-  pub is_truth : (v : Value ℕ) → Is kind.Truth v → IsTruth v
+  pub is_truth : (v : Value ℕ) → Is model.Truth v → IsTruth v
   is_truth (Int n) h = h
   is_truth (Truth b) h = tt
   is_truth (Text bytes) h = h
   is_truth (Ref n) h = h
 
-  pub is_text : (v : Value ℕ) → Is kind.Text v → IsText v
+  pub is_text : (v : Value ℕ) → Is model.Text v → IsText v
   is_text (Int n) h = h
   is_text (Truth b) h = h
   is_text (Text bytes) h = tt
   is_text (Ref n) h = h
 
-  pub is_ref : (c : ℕ) (v : Value ℕ) → Is (kind.Class c) v → IsRef v
+  pub is_ref : (c : ℕ) (v : Value ℕ) → Is (model.Class c) v → IsRef v
   is_ref c (Int n) h = h
   is_ref c (Truth b) h = h
   is_ref c (Text bytes) h = h
   is_ref c (Ref n) h = tt
 
   -- where the trial stands, after it looked at more or has put something else away
-  pub looked : (s : PlaceKinds) (k : Kind) (t : Trial) (seen : _) → Stands rules at s k t → Stands rules at s k (record t { reads = seen })
+  pub looked : (s : PlaceKinds) (k : Kind) (t : Trial) (seen : List (Location ℕ)) → Stands rules at s k t → Stands rules at s k (record t { reads = seen })
   looked s k t seen h = record { place = h.place; todo = h.todo }
 
   pub backs : (s : PlaceKinds) (k : Kind) (t : Trial) (v : Value ℕ) → Stands rules at s k t → Is k v → Takes rules at t v
@@ -78,7 +79,7 @@ module _ (rules : Rules) (at : ClassAt ℕ) where
   told t j v h is = record { kinds = h.kinds; kind = h.instance.declaration.result; is = is h.instance.declaration h.instance.attribute; stands = h.stands }
 
   module _ (chained : AreChained rules.classes) where
-    pub widen : (c d : ℕ) (v : Value ℕ) → is_sub rules.classes c d ≡ true → Is (kind.Class c) v → Is (kind.Class d) v
+    pub widen : (c d : ℕ) (v : Value ℕ) → is_sub rules.classes c d ≡ true → Is (model.Class c) v → Is (model.Class d) v
     widen c d (Int n) e h = absurd h
     widen c d (Truth b) e h = absurd h
     widen c d (Text bytes) e h = absurd h
@@ -88,7 +89,7 @@ module _ (rules : Rules) (at : ClassAt ℕ) where
     -- what stands on top is told the value
     pub unwound : (s : PlaceKinds) (k : Kind) (t : Trial) (v : Value ℕ) (top : Todo) (ts : List Todo) → AreTodos rules at s k (top ∷ ts) → IsPlaceOf rules.classes at s (place_of t) → Is k v → Uses rules at (record t { todo = ts }) top v
     unwound s k t v top ts (typed.more {s' = s'} {k' = k'} does rest) place is = record { kinds = s; kind = k; later = s'; result = k'; is = is; does = does; place = place; rest = rest }
-    unwound s _ t v top ts (typed.widened c d sub h) place is = unwound s (kind.Class d) t v top ts h place (widen c d v sub is)
+    unwound s _ t v top ts (typed.widened c d sub h) place is = unwound s (model.Class d) t v top ts h place (widen c d v sub is)
 
     pub taken : (t : Trial) (v : Value ℕ) (top : Todo) (ts : List Todo) → t.todo ≡ top ∷ ts → Takes rules at t v → Uses rules at (record t { todo = ts }) top v
     taken t v top ts e h = unwound h.kinds h.kind t v top ts (subst (AreTodos rules at h.kinds h.kind) e h.stands.todo) h.stands.place h.is
@@ -123,10 +124,10 @@ module _ (rules : Rules) (at : ClassAt ℕ) where
   -- uses --------------------------------------------------------------------------------------------------------------
 
   -- the right operand follows
-  pub right_follows : (t : Trial) (o : Binary) (b : Bor Body) (v : ValueCode) → Uses rules at t (todo.Right o b) (value_view v) → Enters rules at (record t { todo = todo.Apply o v ∷ t.todo }) b.now
+  pub right_follows : (t : Trial) (o : Binary) (b : Bor Body) (v : ValueCode) → Uses rules at t (code.Right o b) (value_view v) → Enters rules at (record t { todo = code.Apply o v ∷ t.todo }) b.now
   right_follows t o b v h = by_todo h.kinds h.kind h.later h.result h.is h.does h.place h.rest
     where
-      by_todo : (s : PlaceKinds) (k : Kind) (s' : PlaceKinds) (k' : Kind) → Is k (value_view v) → IsTodo rules at s k (todo.Right o b) s' k' → IsPlaceOf rules.classes at s (place_of t) → AreTodos rules at s' k' t.todo → Enters rules at (record t { todo = todo.Apply o v ∷ t.todo }) b.now
+      by_todo : (s : PlaceKinds) (k : Kind) (s' : PlaceKinds) (k' : Kind) → Is k (value_view v) → IsTodo rules at s k (code.Right o b) s' k' → IsPlaceOf rules.classes at s (place_of t) → AreTodos rules at s' k' t.todo → Enters rules at (record t { todo = code.Apply o v ∷ t.todo }) b.now
       by_todo s _ _ _ is (typed.right _ k l m _ _ does x) place rest = record { kinds = s; kind = l; is = x; stands = record { place = place; todo = typed.more (typed.apply s k l m o v does is) rest } }
 
   -- the operands are there
@@ -140,48 +141,48 @@ module _ (rules : Rules) (at : ClassAt ℕ) where
     pub is_right : Is right w
     pub stands : Stands rules at kinds result t
 
-  pub operands_there : (t : Trial) (o : Binary) (v : ValueCode) (w : Value ℕ) → Uses rules at t (todo.Apply o v) w → Operates t o (value_view v) w
+  pub operands_there : (t : Trial) (o : Binary) (v : ValueCode) (w : Value ℕ) → Uses rules at t (code.Apply o v) w → Operates t o (value_view v) w
   operands_there t o v w h = by_todo h.kinds h.kind h.later h.result h.is h.does h.place h.rest
     where
-      by_todo : (s : PlaceKinds) (k : Kind) (s' : PlaceKinds) (k' : Kind) → Is k w → IsTodo rules at s k (todo.Apply o v) s' k' → IsPlaceOf rules.classes at s (place_of t) → AreTodos rules at s' k' t.todo → Operates t o (value_view v) w
+      by_todo : (s : PlaceKinds) (k : Kind) (s' : PlaceKinds) (k' : Kind) → Is k w → IsTodo rules at s k (code.Apply o v) s' k' → IsPlaceOf rules.classes at s (place_of t) → AreTodos rules at s' k' t.todo → Operates t o (value_view v) w
       by_todo s _ _ _ is (typed.apply _ k l m _ _ does x) place rest = record { kinds = s; left = k; right = l; result = m; does = does; is_left = x; is_right = is; stands = record { place = place; todo = rest } }
 
   -- `&&`, `||` and `?:` choose what follows
-  pub and_enters : (t : Trial) (b : Bor Body) (v : Value ℕ) → Uses rules at t (todo.And b) v → Enters rules at t b.now
+  pub and_enters : (t : Trial) (b : Bor Body) (v : Value ℕ) → Uses rules at t (code.And b) v → Enters rules at t b.now
   and_enters t b v h = by_todo h.kinds h.kind h.later h.result h.does h.place h.rest
     where
-      by_todo : (s : PlaceKinds) (k : Kind) (s' : PlaceKinds) (k' : Kind) → IsTodo rules at s k (todo.And b) s' k' → IsPlaceOf rules.classes at s (place_of t) → AreTodos rules at s' k' t.todo → Enters rules at t b.now
-      by_todo s _ _ _ (typed.and _ _ x) place rest = enters s kind.Truth t b.now (record { place = place; todo = rest }) x
+      by_todo : (s : PlaceKinds) (k : Kind) (s' : PlaceKinds) (k' : Kind) → IsTodo rules at s k (code.And b) s' k' → IsPlaceOf rules.classes at s (place_of t) → AreTodos rules at s' k' t.todo → Enters rules at t b.now
+      by_todo s _ _ _ (typed.and _ _ x) place rest = enters s model.Truth t b.now (record { place = place; todo = rest }) x
 
-  pub or_enters : (t : Trial) (b : Bor Body) (v : Value ℕ) → Uses rules at t (todo.Or b) v → Enters rules at t b.now
+  pub or_enters : (t : Trial) (b : Bor Body) (v : Value ℕ) → Uses rules at t (code.Or b) v → Enters rules at t b.now
   or_enters t b v h = by_todo h.kinds h.kind h.later h.result h.does h.place h.rest
     where
-      by_todo : (s : PlaceKinds) (k : Kind) (s' : PlaceKinds) (k' : Kind) → IsTodo rules at s k (todo.Or b) s' k' → IsPlaceOf rules.classes at s (place_of t) → AreTodos rules at s' k' t.todo → Enters rules at t b.now
-      by_todo s _ _ _ (typed.or _ _ x) place rest = enters s kind.Truth t b.now (record { place = place; todo = rest }) x
+      by_todo : (s : PlaceKinds) (k : Kind) (s' : PlaceKinds) (k' : Kind) → IsTodo rules at s k (code.Or b) s' k' → IsPlaceOf rules.classes at s (place_of t) → AreTodos rules at s' k' t.todo → Enters rules at t b.now
+      by_todo s _ _ _ (typed.or _ _ x) place rest = enters s model.Truth t b.now (record { place = place; todo = rest }) x
 
-  pub and_takes : (t : Trial) (b : Bor Body) (v : Value ℕ) (c : Bool) → Uses rules at t (todo.And b) v → Takes rules at t (Truth c)
+  pub and_takes : (t : Trial) (b : Bor Body) (v : Value ℕ) (c : Bool) → Uses rules at t (code.And b) v → Takes rules at t (Truth c)
   and_takes t b v c h = by_todo h.kinds h.kind h.later h.result h.does h.place h.rest
     where
-      by_todo : (s : PlaceKinds) (k : Kind) (s' : PlaceKinds) (k' : Kind) → IsTodo rules at s k (todo.And b) s' k' → IsPlaceOf rules.classes at s (place_of t) → AreTodos rules at s' k' t.todo → Takes rules at t (Truth c)
-      by_todo s _ _ _ (typed.and _ _ x) place rest = backs s kind.Truth t (Truth c) (record { place = place; todo = rest }) tt
+      by_todo : (s : PlaceKinds) (k : Kind) (s' : PlaceKinds) (k' : Kind) → IsTodo rules at s k (code.And b) s' k' → IsPlaceOf rules.classes at s (place_of t) → AreTodos rules at s' k' t.todo → Takes rules at t (Truth c)
+      by_todo s _ _ _ (typed.and _ _ x) place rest = backs s model.Truth t (Truth c) (record { place = place; todo = rest }) tt
 
-  pub or_takes : (t : Trial) (b : Bor Body) (v : Value ℕ) (c : Bool) → Uses rules at t (todo.Or b) v → Takes rules at t (Truth c)
+  pub or_takes : (t : Trial) (b : Bor Body) (v : Value ℕ) (c : Bool) → Uses rules at t (code.Or b) v → Takes rules at t (Truth c)
   or_takes t b v c h = by_todo h.kinds h.kind h.later h.result h.does h.place h.rest
     where
-      by_todo : (s : PlaceKinds) (k : Kind) (s' : PlaceKinds) (k' : Kind) → IsTodo rules at s k (todo.Or b) s' k' → IsPlaceOf rules.classes at s (place_of t) → AreTodos rules at s' k' t.todo → Takes rules at t (Truth c)
-      by_todo s _ _ _ (typed.or _ _ x) place rest = backs s kind.Truth t (Truth c) (record { place = place; todo = rest }) tt
+      by_todo : (s : PlaceKinds) (k : Kind) (s' : PlaceKinds) (k' : Kind) → IsTodo rules at s k (code.Or b) s' k' → IsPlaceOf rules.classes at s (place_of t) → AreTodos rules at s' k' t.todo → Takes rules at t (Truth c)
+      by_todo s _ _ _ (typed.or _ _ x) place rest = backs s model.Truth t (Truth c) (record { place = place; todo = rest }) tt
 
   -- the test of each is a truth value
-  pub and_tests : (t : Trial) (b : Bor Body) (v : Value ℕ) → Uses rules at t (todo.And b) v → IsTruth v
+  pub and_tests : (t : Trial) (b : Bor Body) (v : Value ℕ) → Uses rules at t (code.And b) v → IsTruth v
   and_tests t b v h = by_todo h.kinds h.kind h.later h.result h.is h.does
     where
-      by_todo : (s : PlaceKinds) (k : Kind) (s' : PlaceKinds) (k' : Kind) → Is k v → IsTodo rules at s k (todo.And b) s' k' → IsTruth v
+      by_todo : (s : PlaceKinds) (k : Kind) (s' : PlaceKinds) (k' : Kind) → Is k v → IsTodo rules at s k (code.And b) s' k' → IsTruth v
       by_todo s _ _ _ is (typed.and _ _ x) = is_truth v is
 
-  pub or_tests : (t : Trial) (b : Bor Body) (v : Value ℕ) → Uses rules at t (todo.Or b) v → IsTruth v
+  pub or_tests : (t : Trial) (b : Bor Body) (v : Value ℕ) → Uses rules at t (code.Or b) v → IsTruth v
   or_tests t b v h = by_todo h.kinds h.kind h.later h.result h.is h.does
     where
-      by_todo : (s : PlaceKinds) (k : Kind) (s' : PlaceKinds) (k' : Kind) → Is k v → IsTodo rules at s k (todo.Or b) s' k' → IsTruth v
+      by_todo : (s : PlaceKinds) (k : Kind) (s' : PlaceKinds) (k' : Kind) → Is k v → IsTodo rules at s k (code.Or b) s' k' → IsTruth v
       by_todo s _ _ _ is (typed.or _ _ x) = is_truth v is
 
   -- what is chosen, and the test
@@ -190,25 +191,25 @@ module _ (rules : Rules) (at : ClassAt ℕ) where
     pub yes : Enters rules at t a
     pub alternative : Enters rules at t b
 
-  pub choices : (t : Trial) (a b : Bor Body) (v : Value ℕ) → Uses rules at t (todo.Choose a b) v → Chooses t a.now b.now v
+  pub choices : (t : Trial) (a b : Bor Body) (v : Value ℕ) → Uses rules at t (code.Choose a b) v → Chooses t a.now b.now v
   choices t a b v h = by_todo h.kinds h.kind h.later h.result h.is h.does h.place h.rest
     where
-      by_todo : (s : PlaceKinds) (k : Kind) (s' : PlaceKinds) (k' : Kind) → Is k v → IsTodo rules at s k (todo.Choose a b) s' k' → IsPlaceOf rules.classes at s (place_of t) → AreTodos rules at s' k' t.todo → Chooses t a.now b.now v
+      by_todo : (s : PlaceKinds) (k : Kind) (s' : PlaceKinds) (k' : Kind) → Is k v → IsTodo rules at s k (code.Choose a b) s' k' → IsPlaceOf rules.classes at s (place_of t) → AreTodos rules at s' k' t.todo → Chooses t a.now b.now v
       by_todo s _ _ k' is (typed.choose _ _ _ _ x y) place rest =
           let stands : Stands rules at s k' t = record { place = place; todo = rest } in
           record { test = is_truth v is; yes = enters s k' t a.now stands x; alternative = enters s k' t b.now stands y }
 
   -- calls -------------------------------------------------------------------------------------------------------------
 
-  node_in : (c : ℕ) (n : Option ℕ) → Is (kind.Class c) (Ref n) → IfSome n (λ m. IsNodeOf rules.classes at m c)
+  node_in : (c : ℕ) (n : Option ℕ) → Is (model.Class c) (Ref n) → IfSome n (λ m. IsNodeOf rules.classes at m c)
   node_in c None h = tt
   node_in c (Some n) h = h
 
   -- the receiver is there: the arguments follow
-  pub receives : (t : Trial) (attribute : ℕ) (bs : Bor (List Body)) (n : Option ℕ) → Uses rules at t (todo.Arguments attribute bs) (Ref n) → Calls rules at t attribute n [] (bodies_view bs.now)
+  pub receives : (t : Trial) (attribute : ℕ) (bs : Bor (List Body)) (n : Option ℕ) → Uses rules at t (code.Arguments attribute bs) (Ref n) → Calls rules at t attribute n [] (bodies_view bs.now)
   receives t attribute bs n h = by_todo h.kinds h.kind h.later h.result h.is h.does h.place h.rest
     where
-      by_todo : (s : PlaceKinds) (k : Kind) (s' : PlaceKinds) (k' : Kind) → Is k (Ref n) → IsTodo rules at s k (todo.Arguments attribute bs) s' k' → IsPlaceOf rules.classes at s (place_of t) → AreTodos rules at s' k' t.todo → Calls rules at t attribute n [] (bodies_view bs.now)
+      by_todo : (s : PlaceKinds) (k : Kind) (s' : PlaceKinds) (k' : Kind) → Is k (Ref n) → IsTodo rules at s k (code.Arguments attribute bs) s' k' → IsPlaceOf rules.classes at s (place_of t) → AreTodos rules at s' k' t.todo → Calls rules at t attribute n [] (bodies_view bs.now)
       by_todo s _ _ _ is (typed.arguments _ c _ d _ e sub xs) place rest = record {
         kinds = s;
         class = c;
@@ -225,10 +226,10 @@ module _ (rules : Rules) (at : ClassAt ℕ) where
       }
 
   -- an argument is there: the others follow
-  pub passes : (t : Trial) (attribute : ℕ) (n : Option ℕ) (done : _) (bs : Bor (List Body)) (v : Value ℕ) → Uses rules at t (todo.Argument attribute n done bs) v → Calls rules at t attribute n (map value_view done.items ++ v ∷ []) (bodies_view bs.now)
+  pub passes : (t : Trial) (attribute : ℕ) (n : Option ℕ) (done : SmallVec ValueCode) (bs : Bor (List Body)) (v : Value ℕ) → Uses rules at t (code.Argument attribute n done bs) v → Calls rules at t attribute n (map value_view done.items ++ v ∷ []) (bodies_view bs.now)
   passes t attribute n done bs v h = by_todo h.kinds h.kind h.later h.result h.is h.does h.place h.rest
     where
-      by_todo : (s : PlaceKinds) (k : Kind) (s' : PlaceKinds) (k' : Kind) → Is k v → IsTodo rules at s k (todo.Argument attribute n done bs) s' k' → IsPlaceOf rules.classes at s (place_of t) → AreTodos rules at s' k' t.todo → Calls rules at t attribute n (map value_view done.items ++ v ∷ []) (bodies_view bs.now)
+      by_todo : (s : PlaceKinds) (k : Kind) (s' : PlaceKinds) (k' : Kind) → Is k v → IsTodo rules at s k (code.Argument attribute n done bs) s' k' → IsPlaceOf rules.classes at s (place_of t) → AreTodos rules at s' k' t.todo → Calls rules at t attribute n (map value_view done.items ++ v ∷ []) (bodies_view bs.now)
       by_todo s _ _ _ is (typed.argument _ c _ d _ _ _ ks k ls e sub all node args xs) place rest = record {
         kinds = s;
         class = c;
@@ -245,11 +246,11 @@ module _ (rules : Rules) (at : ClassAt ℕ) where
       }
 
   -- the next argument is evaluated
-  pub next_enters : (t : Trial) (attribute : ℕ) (n : Option ℕ) (done : _) (b : Body) (bs : Bor (List Body)) → Calls rules at t attribute n (map value_view done.items) (expr (body_view b) (bodies_view bs.now)) → Enters rules at (record t { todo = todo.Argument attribute n done bs ∷ t.todo }) b
+  pub next_enters : (t : Trial) (attribute : ℕ) (n : Option ℕ) (done : SmallVec ValueCode) (b : Body) (bs : Bor (List Body)) → Calls rules at t attribute n (map value_view done.items) (expr (body_view b) (bodies_view bs.now)) → Enters rules at (record t { todo = code.Argument attribute n done bs ∷ t.todo }) b
   next_enters t attribute n done b bs h = by_kinds h.others h.parameters h.are
     where
-      by_kinds : (others : List Kind) → h.declaration.parameters ≡ h.first ++ others → HaveKinds rules (scope_kinds h.kinds) (expr (body_view b) (bodies_view bs.now)) others → Enters rules at (record t { todo = todo.Argument attribute n done bs ∷ t.todo }) b
-      by_kinds _ all (form.argument {k = k} {ks = ls} form x xs) = record {
+      by_kinds : (others : List Kind) → h.declaration.parameters ≡ h.first ++ others → HaveKinds rules (scope_kinds h.kinds) (expr (body_view b) (bodies_view bs.now)) others → Enters rules at (record t { todo = code.Argument attribute n done bs ∷ t.todo }) b
+      by_kinds _ all (form.argument {k = k} {ks = ls} allowed x xs) = record {
         kinds = h.kinds;
         kind = k;
         is = x;

@@ -8,3 +8,4 @@ pub mod Rest
 pub mod Starting
 pub mod Trying
 pub mod Typed
+pub mod TypedStart

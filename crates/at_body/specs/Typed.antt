@@ -1,7 +1,8 @@
 -- What is left of an evaluation, by the kinds of its values.
 use Rattle.std.specs.Prelude.{◌≡◌, ℕ, Bool, true, List, [], ◌∷◌, ◌++◌, map, Option, Some, IsSome, IfSome, option_and_then, slice_get, ⊤}
 use Rattle.std.specs.List.{AllByRecursion}
-use Rattle.core.specs.Borrow.{Bor}
+use Rattle.std.specs.Borrow.{Bor}
+use Rattle.smallvec.specs.SmallVec.{SmallVec}
 use Rattle.at_model.specs.Classes.{Classes, TokenKind, Many, Maybe, Token, is_sub}
 use Rattle.at_model.specs.Run.{Value, Instance, Contents}
 use Rattle.at_model.specs.Run as value
@@ -14,6 +15,9 @@ use Rattle.at_model.specs.Instances.{AnyText}
 use Rattle.at_store.specs.Shown.{Shown, path, tree}
 use Rattle.at_rules.specs.Bodies.{body_view, bodies_view}
 use Rattle.at_rules.specs.declared.body.Body.{Body}
+use Rattle.at_rules.specs.declared.body.Operator.{Operator}
+use Rattle.at_rules.specs.declared.body.Order.{Order}
+use Rattle.at_body.specs.declared.value.Value.{Value as ValueCode}
 use Rattle.at_body.specs.declared.todo.Unary.{Unary}
 use Rattle.at_body.specs.declared.todo.Unary.TheVariants as unary
 use Rattle.at_body.specs.declared.todo.Binary.{Binary}
@@ -109,8 +113,8 @@ pub data IsUse (rules : Rules) : Kind → Unary → Kind → Type 0 where
 
 -- of values of the first two kinds, the left one first, it gives one of the third
 pub data IsOperation (rules : Rules) : Kind → Kind → Binary → Kind → Type 0 where
-  arithmetic : (o : _) → IsOperation rules Int Int (binary.Arithmetic o) Int
-  compare : (o : _) → IsOperation rules Int Int (binary.Compare o) Truth
+  arithmetic : (o : Operator) → IsOperation rules Int Int (binary.Arithmetic o) Int
+  compare : (o : Order) → IsOperation rules Int Int (binary.Compare o) Truth
   join : IsOperation rules Text Text binary.Join Text
   join_int : IsOperation rules Text Int binary.JoinInt Text
   same : (k l : Kind) → AreComparable k l → IsOperation rules k l binary.Same Truth
@@ -122,7 +126,7 @@ pub data IsOperation (rules : Rules) : Kind → Kind → Binary → Kind → Typ
 pub data IsFold (classes : Classes) (at : ClassAt ℕ) (b : ℕ) : Fold → Kind → Kind → Type 0 where
   exists : IsFold classes at b fold.Exists Truth Truth
   first : IsFold classes at b fold.First Truth (Class b)
-  sum : (total : _) → IsOfKind classes at (value_view total) Int → IsFold classes at b (fold.Sum total) Int Int
+  sum : (total : ValueCode) → IsOfKind classes at (value_view total) Int → IsFold classes at b (fold.Sum total) Int Int
 
 -- what is left to do -------------------------------------------------------------------------------------------------
 
@@ -131,7 +135,7 @@ pub data IsTodo (rules : Rules) (at : ClassAt ℕ) : PlaceKinds → Kind → Tod
   used : (s : PlaceKinds) (k l : Kind) (u : Unary) → IsUse rules k u l → IsTodo rules at s k (Use u) s l
   right : (s : PlaceKinds) (k l m : Kind) (o : Binary) (b : Bor Body) → IsOperation rules k l o m →
       HasKind rules (scope_kinds s) (body_view b.now) l → IsTodo rules at s k (Right o b) s m
-  apply : (s : PlaceKinds) (k l m : Kind) (o : Binary) (v : _) → IsOperation rules k l o m →
+  apply : (s : PlaceKinds) (k l m : Kind) (o : Binary) (v : ValueCode) → IsOperation rules k l o m →
       IsOfKind rules.classes at (value_view v) k → IsTodo rules at s l (Apply o v) s m
   and : (s : PlaceKinds) (b : Bor Body) → HasKind rules (scope_kinds s) (body_view b.now) Truth → IsTodo rules at s Truth (And b) s Truth
   or : (s : PlaceKinds) (b : Bor Body) → HasKind rules (scope_kinds s) (body_view b.now) Truth → IsTodo rules at s Truth (Or b) s Truth
@@ -140,7 +144,7 @@ pub data IsTodo (rules : Rules) (at : ClassAt ℕ) : PlaceKinds → Kind → Tod
   arguments : (s : PlaceKinds) (c attribute : ℕ) (d : Attribute) (bs : Bor (List Body)) → slice_get rules.attributes attribute ≡ Some d →
       is_sub rules.classes c d.class ≡ true → HaveKinds rules (scope_kinds s) (bodies_view bs.now) d.parameters →
       IsTodo rules at s (Class c) (Arguments attribute bs) s d.result
-  argument : (s : PlaceKinds) (c attribute : ℕ) (d : Attribute) (n : Option ℕ) (done : _) (bs : Bor (List Body)) (ks : List Kind) (k : Kind) (ls : List Kind) →
+  argument : (s : PlaceKinds) (c attribute : ℕ) (d : Attribute) (n : Option ℕ) (done : SmallVec ValueCode) (bs : Bor (List Body)) (ks : List Kind) (k : Kind) (ls : List Kind) →
       slice_get rules.attributes attribute ≡ Some d → is_sub rules.classes c d.class ≡ true → d.parameters ≡ ks ++ k ∷ ls →
       IfSome n (λ m. IsNodeOf rules.classes at m c) → AreArguments rules.classes at AnyText (map value_view done.items) ks →
       HaveKinds rules (scope_kinds s) (bodies_view bs.now) ls → IsTodo rules at s k (Argument attribute n done bs) s d.result

@@ -23,3 +23,4 @@ pub mod AlikeBack
 pub mod CalledAsked
 pub mod CalledEdited
 pub mod Called
+pub mod TypedKnown
