@@ -14,7 +14,7 @@ use Rattle.at_model.specs.Rules.{Rules}
 use Rattle.at_model.specs.Meaning.{content}
 use Rattle.at_model.specs.Alike.{AlikeAt, Names, ListLike, end, more, is, tok, slot, idx}
 use Rattle.at_model.specs.Kinds.{shape_of_part, class_of_part, kind_of_token}
-use Rattle.at_model.specs.TypedRuns.{ClassAt, class_at, class_numbered, IsNodeOf, IsOfKind, IsAllowed, AreContentsTyped}
+use Rattle.at_model.specs.TypedRuns.{ClassAt, Texts, class_at, class_numbered, IsNodeOf, IsOfKind, IsAllowed, AreContentsTyped}
 use Rattle.at_model.specs.Instances.{AnyText, tokens}
 use Rattle.at_model.specs.WellFormed.{AreWellFormed, IsTreeSound}
 use Rattle.at_model.proofs.Options.{led, both}
@@ -29,6 +29,11 @@ use Rattle.at_store.specs.Shown.{IsIdle, Shown, contents, numbers, path, tree}
 use Rattle.at_store.specs.View.{memory_of}
 use Rattle.at_store.proofs.Relabelled.{contents_alike}
 use Rattle.at_body.specs.Typed.{IsOver, class_shown}
+
+any_token : (v : held.Token) → IsAllowed {N = ℕ} AnyText (value_of v)
+any_token (held.Text bytes) = tt
+any_token (held.Int n) = tt
+any_token (held.Truth b) = tt
 
 module _ (classes : Classes) (path : ℕ → Option Node) (at : ClassAt Node) (look : Contents ℕ) (other : Contents Node) (alike : (l : Location ℕ) → AlikeAt (Names path) look other l) where
   abbrev At : ClassAt ℕ
@@ -52,11 +57,6 @@ module _ (classes : Classes) (path : ℕ → Option Node) (at : ClassAt Node) (l
   nodes_back b _ _ end h = tt
   nodes_back b _ _ (more {a = n} {b = m} r rs) ((c, e, sub), hs) = ((c, class_back n m r ∙ e, sub), nodes_back b _ _ rs hs)
 
-  any_token : (v : held.Token) → IsAllowed {N = ℕ} AnyText (value_of v)
-  any_token (held.Text bytes) = tt
-  any_token (held.Int n) = tt
-  any_token (held.Truth b) = tt
-
   some_class : (o : Option Node) → IsSome (option_and_then at o) → (m : Node) × (c : ℕ) × (o ≡ Some m) × (at m ≡ Some c)
   some_class None h = absurd (cc)
   some_class (Some m) h = by_class (at m) refl h
@@ -65,16 +65,18 @@ module _ (classes : Classes) (path : ℕ → Option Node) (at : ClassAt Node) (l
       by_class None e h = absurd (cc)
       by_class (Some c) e h = (m, c, refl, e)
 
-  pub numbers_stand : (Allowed : _) → AreContentsTyped classes at Allowed other → ((n part : ℕ) → length (look (Slot n part)) < 2147483648) → AreContentsTyped classes At AnyText look
+  pub numbers_stand : (Allowed : Texts) → AreContentsTyped classes at Allowed other → ((n part : ℕ) → length (look (Slot n part)) < 2147483648) → AreContentsTyped classes At AnyText look
   numbers_stand Allowed stand few = record {
-    class = λ n c e. let (m, f, g) = led at (path n) c e in alike (Is n) (Is m) (is f) ∙ stand.class m c g;
+    class = λ n c e. let (m, f, g) = led at (path n) c e in let x : look (Is n) ≡ other (Is m) = alike (Is n) (Is m) (is f) in x ∙ stand.class m c g;
     token = λ n c part kind e shape. let (m, f, g) = led at (path n) c e in
-        token_back (look (Tok n part)) kind (subst (λ v. IsOfKind {N = Node} classes at (value_of v) (kind_of_token kind)) (sym (alike (Tok n part) (Tok m part) (tok part f))) (stand.token m c part kind g shape));
+        let x : look (Tok n part) ≡ other (Tok m part) = alike (Tok n part) (Tok m part) (tok part f) in
+        token_back (look (Tok n part)) kind (subst (λ v. IsOfKind {N = Node} classes at (value_of v) (kind_of_token kind)) (sym x) (stand.token m c part kind g shape));
     said = λ n part. any_token (look (Tok n part));
     children = λ n c part b e asked. let (m, f, g) = led at (path n) c e in nodes_back b (look (Slot n part)) (other (Slot m part)) (alike (Slot n part) (Slot m part) (slot part f)) (stand.children m c part b g asked);
     few = few;
     early = λ n there. let (m, c, f, g) = some_class (path n) there in
-        subst (λ i. i < 2147483648) (sym (alike (Idx n) (Idx m) (idx f))) (stand.early m (rw g refl));
+        let x : look (Idx n) ≡ other (Idx m) = alike (Idx n) (Idx m) (idx f) in
+        subst (λ i. i < 2147483648) (sym x) (stand.early m (rw g refl));
   }
 
 less_than_ints : (m n : ℕ) → nat_le m n ≡ true → n < 2147483648 → m < 2147483648
