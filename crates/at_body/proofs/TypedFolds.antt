@@ -48,7 +48,7 @@ module _ (rules : Rules) (at : ClassAt ℕ) where
         passed = h.stands.place.passed;
         child = h.stands.place.child;
       };
-      todo = typed.more (typed.element h.kinds h.class f h.kind h.result e n ns h.folds h.is h.nodes.0 h.nodes.1) h.stands.todo;
+      todo = typed.more (typed.at_element h.kinds h.class f h.kind h.result e n ns h.folds h.is h.nodes.0 h.nodes.1) h.stands.todo;
     };
   }
 
@@ -150,7 +150,7 @@ module _ (rules : Rules) (at : ClassAt ℕ) where
   element_told t f e n ns v bound is h = by_todo h.kinds h.kind h.later h.result h.is h.does h.place h.rest
     where
       by_todo : (s : PlaceKinds) (k : Kind) (s' : PlaceKinds) (k' : Kind) → Is k v → IsTodo rules at s k (code.Element f e n ns) s' k' → IsPlaceOf rules.classes at s (place_of t) → AreTodos rules at s' k' t.todo → Decides rules at (record t { bound = bound }) f e.now n ns.now v
-      by_todo _ _ _ _ told (typed.element s b _ k m _ _ _ folds x node nodes) place rest = record {
+      by_todo _ _ _ _ told (typed.at_element s b _ k m _ _ _ folds x node nodes) place rest = record {
         goes = record {
           kinds = s;
           class = b;

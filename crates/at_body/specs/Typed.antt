@@ -151,7 +151,7 @@ pub data IsTodo (rules : Rules) (at : ClassAt ℕ) : PlaceKinds → Kind → Tod
   elements : (s : PlaceKinds) (c part b : ℕ) (f : Fold) (k m : Kind) (e : Bor Body) → shape_of_part rules.classes c part ≡ Some (Many b) →
       IsFold rules.classes at b f k m → HasKind rules (scope_kinds (kinds_inside s b)) (body_view e.now) k →
       IsTodo rules at s (Class c) (Elements f part e) s m
-  element : (s : PlaceKinds) (b : ℕ) (f : Fold) (k m : Kind) (e : Bor Body) (n : ℕ) (ns : Bor (List ℕ)) →
+  at_element : (s : PlaceKinds) (b : ℕ) (f : Fold) (k m : Kind) (e : Bor Body) (n : ℕ) (ns : Bor (List ℕ)) →
       IsFold rules.classes at b f k m → HasKind rules (scope_kinds (kinds_inside s b)) (body_view e.now) k →
       IsNodeOf rules.classes at n b → AllByRecursion (λ m. IsNodeOf rules.classes at m b) ns.now →
       IsTodo rules at (kinds_inside s b) k (Element f e n ns) s m
