@@ -201,7 +201,7 @@ module _ (rules : Rules) (at : ClassAt ℕ) where
 
   -- calls -------------------------------------------------------------------------------------------------------------
 
-  node_in : (c : ℕ) (n : Option ℕ) → Is (model.Class c) (Ref n) → IfSome n (λ m. IsNodeOf rules.classes at m c)
+  pub node_in : (c : ℕ) (n : Option ℕ) → Is (model.Class c) (Ref n) → IfSome n (λ m. IsNodeOf rules.classes at m c)
   node_in c None h = tt
   node_in c (Some n) h = h
 
