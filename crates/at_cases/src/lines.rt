@@ -1,4 +1,4 @@
-use at_protocol::line::{Argument, Command, LineFault, Place, read_line, session_of};
+use at_protocol::line::{Argument, Command, Line, LineFault, Place, read_line, session_of};
 use at_tree::path::{Path, Step};
 use at_tree::term::TermCell;
 use at_tree::token::TokVal;
@@ -35,146 +35,130 @@ fn marked(alloc: Global, name: &str, part: Option<&str>) -> Result<Place, AllocE
     Ok(Place::FromMark { name, steps })
 }
 
-/// The command of a line.
-fn command(alloc: Global, line: &str) -> Result<Command, LineFault> {
-    Ok(read_line(alloc, line.as_bytes())?.command)
-}
-
-/// The session of a line, and the version that it expects.
-fn head(alloc: Global, line: &str) -> Result<(u16, Option<u64>), LineFault> {
-    let line = read_line(alloc, line.as_bytes())?;
-    Ok((line.session, line.expected))
-}
-
-/// A question with each kind of argument.
-const ASKED: &str =
-    "999 at 18446744073709551615 ask $u/Left decl(\"a, \\\"b)\",null,$at,/Right,\"\")";
-
 #[test]
-fn heads_are_read(rt: HostRuntime) -> Result<(), Fail> {
-    for (line, session, expected) in [
-        ("0 ask / total()", 0, None),
-        (ASKED, 999, Some(u64::MAX)),
-        ("999 show /Right", 999, None),
-        ("10 at 0 version", 10, Some(0)),
-    ] {
-        assert_eq!(rt; head(rt.alloc(), line)?, (session, expected), "{line}");
-    }
-    Ok(())
-}
-
-/// Whether the line asks for the attribute at the place, with so many arguments.
-fn asks(
-    alloc: Global,
-    line: &str,
-    at: &Place,
-    name: &str,
-    count: usize,
-) -> Result<bool, LineFault> {
+fn questions_are_read(rt: HostRuntime) -> Result<(), Fail> {
+    let alloc = rt.alloc();
+    let Line {
+        session,
+        expected,
+        command,
+    } = read_line(alloc, b"0 ask / total()")?;
+    assert_eq!(rt; session, 0);
+    assert_eq!(rt; expected, None);
+    assert!(rt;
+        matches!(&command, Command::Ask { place: Place::FromRoot(path), attribute, arguments }
+        if path.steps.is_empty() && attribute.as_str() == "total" && arguments.is_empty())
+    );
+    let line = "999 at 18446744073709551615 ask $u/Left decl(\"a, \\\"b)\",null,$at,/Right,\"\")";
+    let Line {
+        session,
+        expected,
+        command,
+    } = read_line(alloc, line.as_bytes())?;
+    assert_eq!(rt; session, 999);
+    assert_eq!(rt; expected, Some(u64::MAX));
     let Command::Ask {
         place,
         attribute,
         arguments,
-    } = command(alloc, line)?
+    } = command
     else {
-        return Ok(false);
+        return Err(Fail::new("a question"));
     };
-    Ok(place == *at && attribute.as_str() == name && arguments.len() == count)
-}
-
-/// Whether the line's question has this argument there.
-fn has(alloc: Global, line: &str, at: usize, wanted: &Argument) -> Result<bool, LineFault> {
-    let Command::Ask { arguments, .. } = command(alloc, line)? else {
-        return Ok(false);
-    };
-    Ok(arguments.get(at) == Some(wanted))
-}
-
-#[test]
-fn questions_are_read(rt: HostRuntime) -> Result<(), Fail> {
-    let alloc = rt.alloc();
-    let steps = Vec::new(alloc);
-    let root = Place::FromRoot(Path { steps });
-    assert!(rt; asks(alloc, "0 ask / total()", &root, "total", 0)?);
-    let left = marked(alloc, "u", Some("Left"))?;
-    assert!(rt; asks(alloc, ASKED, &left, "decl", 5)?);
-    Ok(())
-}
-
-#[test]
-fn arguments_are_read(rt: HostRuntime) -> Result<(), Fail> {
-    let alloc = rt.alloc();
+    assert!(rt; place == marked(alloc, "u", Some("Left"))?);
+    assert_eq!(rt; attribute.as_str(), "decl");
     let texts = ["a, \"b)", ""];
-    for (at, text) in [(0, texts[0]), (4, texts[1])] {
-        let text = Argument::Text(String::from_str(alloc, text)?);
-        assert!(rt; has(alloc, ASKED, at, &text)?, "{at}");
-    }
-    assert!(rt; has(alloc, ASKED, 1, &Argument::Null)?);
-    let mark = Argument::Node(marked(alloc, "at", None)?);
-    assert!(rt; has(alloc, ASKED, 2, &mark)?);
-    let node = Argument::Node(below(alloc, "Right")?);
-    assert!(rt; has(alloc, ASKED, 3, &node)?);
+    assert_eq!(rt; arguments.len(), 5);
+    assert!(rt; arguments[0] == Argument::Text(String::from_str(alloc, texts[0])?));
+    assert!(rt; arguments[1] == Argument::Null);
+    assert!(rt; arguments[2] == Argument::Node(marked(alloc, "at", None)?));
+    assert!(rt; arguments[3] == Argument::Node(below(alloc, "Right")?));
+    assert!(rt; arguments[4] == Argument::Text(String::from_str(alloc, texts[1])?));
     Ok(())
-}
-
-/// Whether the line sets that place to a term of that name.
-fn sets(alloc: Global, line: &str, at: &Place, name: &str) -> Result<bool, LineFault> {
-    let Command::Set { place, term } = command(alloc, line)? else {
-        return Ok(false);
-    };
-    Ok(place == *at && term.name.as_str() == name)
-}
-
-/// Whether the line puts a term of one cell into the component there.
-fn puts(alloc: Global, line: &str, at: &Place, name: &str) -> Result<bool, LineFault> {
-    let Command::Put { place, part, term } = command(alloc, line)? else {
-        return Ok(false);
-    };
-    Ok(place == *at && part.as_str() == name && term.cells.len() == 1)
-}
-
-/// Whether the line inserts a term of two cells there, of which the second is empty.
-fn inserts(alloc: Global, line: &str, at: &Place, into: (&str, u32)) -> Result<bool, LineFault> {
-    let Command::Insert {
-        place,
-        part,
-        index,
-        term,
-    } = command(alloc, line)?
-    else {
-        return Ok(false);
-    };
-    let is_empty = term.cells.len() == 2 && matches!(&term.cells[1], TermCell::Empty);
-    Ok(place == *at && part.as_str() == into.0 && index == into.1 && is_empty)
-}
-
-/// Whether the line drops what is there.
-fn drops(alloc: Global, line: &str, at: &Place) -> Result<bool, LineFault> {
-    let Command::Drop { place } = command(alloc, line)? else {
-        return Ok(false);
-    };
-    Ok(place == *at)
 }
 
 #[test]
 fn edits_are_read(rt: HostRuntime) -> Result<(), Fail> {
     let alloc = rt.alloc();
     let left = below(alloc, "Left")?;
-    assert!(rt; sets(alloc, "0 set /Left Num(1)", &left, "Num")?);
-    assert!(rt; puts(alloc, "0 put /Left Init Num(7)", &left, "Init")?);
-    assert!(rt; drops(alloc, "0 drop /Left", &left)?);
-    let mark = marked(alloc, "u", None)?;
-    let line = "2 insert $u Stmt 999999999 Decl(\"y z\",-)";
-    assert!(rt; inserts(alloc, line, &mark, ("Stmt", 999999999))?);
+    let Line {
+        session: _,
+        expected: _,
+        command,
+    } = read_line(alloc, b"0 set /Left Num(1)")?;
+    assert!(rt;
+        matches!(&command, Command::Set { place, term } if *place == left && term.name.as_str() == "Num")
+    );
+    let Line {
+        session: _,
+        expected: _,
+        command,
+    } = read_line(alloc, b"0 put /Left Init Num(7)")?;
+    assert!(rt;
+        matches!(&command, Command::Put { place, part, term }
+        if *place == left && part.as_str() == "Init" && term.cells.len() == 1)
+    );
+    let Line {
+        session: _,
+        expected: _,
+        command,
+    } = read_line(alloc, b"0 drop /Left")?;
+    assert!(rt; matches!(&command, Command::Drop { place } if *place == left));
+    let line = b"2 insert $u Stmt 999999999 Decl(\"y z\",-)";
+    let Line {
+        session: _,
+        expected: _,
+        command,
+    } = read_line(alloc, line)?;
+    let marked = marked(alloc, "u", None)?;
+    assert!(rt;
+        matches!(&command, Command::Insert { place, part, index: 999999999, term }
+        if *place == marked && part.as_str() == "Stmt" && term.cells.len() == 2
+        && matches!(&term.cells[1], TermCell::Empty))
+    );
     Ok(())
 }
 
-/// Whether the line writes that value into the token `Value` there.
-fn writes(alloc: Global, line: &str, at: &Place, wanted: &TokVal) -> Result<bool, LineFault> {
-    let Command::Token { place, part, value } = command(alloc, line)? else {
-        return Ok(false);
-    };
-    Ok(place == *at && part.as_str() == "Value" && value == *wanted)
+#[test]
+fn other_commands_are_read(rt: HostRuntime) -> Result<(), Fail> {
+    let alloc = rt.alloc();
+    let right = below(alloc, "Right")?;
+    let Line {
+        session,
+        expected: _,
+        command,
+    } = read_line(alloc, b"999 show /Right")?;
+    assert_eq!(rt; session, 999);
+    assert!(rt; matches!(&command, Command::Show { place } if *place == right));
+    let Line {
+        session: _,
+        expected: _,
+        command,
+    } = read_line(alloc, b"0 mark at /Right")?;
+    assert!(rt;
+        matches!(&command, Command::Mark { name, place } if name.as_str() == "at" && *place == right)
+    );
+    let Line {
+        session: _,
+        expected: _,
+        command,
+    } = read_line(alloc, b"0 unmark u")?;
+    assert!(rt; matches!(&command, Command::Unmark { name } if name.as_str() == "u"));
+    let Line {
+        session: _,
+        expected: _,
+        command,
+    } = read_line(alloc, b"0 where u")?;
+    assert!(rt; matches!(&command, Command::Where { name } if name.as_str() == "u"));
+    let Line {
+        session,
+        expected,
+        command,
+    } = read_line(alloc, b"10 at 0 version")?;
+    assert_eq!(rt; session, 10);
+    assert_eq!(rt; expected, Some(0));
+    assert!(rt; matches!(&command, Command::Version));
+    Ok(())
 }
 
 #[test]
@@ -182,52 +166,24 @@ fn values_are_read(rt: HostRuntime) -> Result<(), Fail> {
     let alloc = rt.alloc();
     let right = below(alloc, "Right")?;
     let spaced = String::from_str(alloc, "a b")?;
-    for (line, value) in [
+    let cases = [
         ("0 token /Right Value 5", TokVal::Int(5)),
         ("0 token /Right Value -2147483648", TokVal::Int(i32::MIN)),
         ("0 token /Right Value true", TokVal::Bool(true)),
         ("0 token /Right Value false", TokVal::Bool(false)),
         ("0 token /Right Value \"a b\"", TokVal::Str(spaced)),
-    ] {
-        assert!(rt; writes(alloc, line, &right, &value)?, "{line}");
+    ];
+    for (line, value) in cases {
+        let Line {
+            session: _,
+            expected: _,
+            command,
+        } = read_line(alloc, line.as_bytes())?;
+        assert!(rt;
+            matches!(&command, Command::Token { place, part, value: read }
+            if *place == right && part.as_str() == "Value" && *read == value)
+        );
     }
-    Ok(())
-}
-
-/// Whether the line asks for the term there.
-fn shows(alloc: Global, line: &str, at: &Place) -> Result<bool, LineFault> {
-    let Command::Show { place } = command(alloc, line)? else {
-        return Ok(false);
-    };
-    Ok(place == *at)
-}
-
-/// Whether the line makes that mark there.
-fn marks(alloc: Global, line: &str, wanted: &str, at: &Place) -> Result<bool, LineFault> {
-    let Command::Mark { name, place } = command(alloc, line)? else {
-        return Ok(false);
-    };
-    Ok(name.as_str() == wanted && place == *at)
-}
-
-/// Whether the line names a mark to be forgotten or to be shown, that one.
-fn names(alloc: Global, line: &str, wanted: &str, forgets: bool) -> Result<bool, LineFault> {
-    match command(alloc, line)? {
-        Command::Unmark { name } => Ok(forgets && name.as_str() == wanted),
-        Command::Where { name } => Ok(!forgets && name.as_str() == wanted),
-        _ => Ok(false),
-    }
-}
-
-#[test]
-fn other_commands_are_read(rt: HostRuntime) -> Result<(), Fail> {
-    let alloc = rt.alloc();
-    let right = below(alloc, "Right")?;
-    assert!(rt; shows(alloc, "999 show /Right", &right)?);
-    assert!(rt; marks(alloc, "0 mark at /Right", "at", &right)?);
-    assert!(rt; names(alloc, "0 unmark u", "u", true)?);
-    assert!(rt; names(alloc, "0 where u", "u", false)?);
-    assert!(rt; matches!(command(alloc, "10 at 0 version")?, Command::Version));
     Ok(())
 }
 
@@ -255,17 +211,19 @@ fn sessions_are_found(rt: HostRuntime) {
 
 #[test]
 fn lines_that_are_no_text_are_refused(rt: HostRuntime) {
-    let lines: [(&[u8], Option<u16>); 3] = [
-        (b"0 show \xff", Some(0)),
-        (b"\xff", None),
-        (b"", None),
-    ];
-    for (line, session) in lines {
-        assert_eq!(rt;
-            fault(rt.alloc(), line),
-            Some(LineFault::Syntax { session })
-        );
-    }
+    let alloc = rt.alloc();
+    assert_eq!(rt;
+        fault(alloc, b"0 show \xff"),
+        Some(LineFault::Syntax { session: Some(0) })
+    );
+    assert_eq!(rt;
+        fault(alloc, b"\xff"),
+        Some(LineFault::Syntax { session: None })
+    );
+    assert_eq!(rt;
+        fault(alloc, b""),
+        Some(LineFault::Syntax { session: None })
+    );
 }
 
 /// A line with a quoted text, of as many bytes.
@@ -280,11 +238,14 @@ fn long(alloc: Global, length: usize) -> Result<Vec<u8>, AllocError> {
 
 #[test]
 fn lines_are_bounded(rt: HostRuntime) -> Result<(), Fail> {
-    let too_long = Some(LineFault::Syntax { session: Some(3) });
-    for (length, wanted) in [(65535, None), (65536, too_long)] {
-        let line = long(rt.alloc(), length)?;
-        assert_eq!(rt; line.len(), length);
-        assert_eq!(rt; fault(rt.alloc(), &line), wanted);
-    }
+    let alloc = rt.alloc();
+    let line = long(alloc, 65535)?;
+    assert_eq!(rt; line.len(), 65535);
+    assert!(rt; read_line(alloc, &line).is_ok());
+    let line = long(alloc, 65536)?;
+    assert_eq!(rt;
+        fault(alloc, &line),
+        Some(LineFault::Syntax { session: Some(3) })
+    );
     Ok(())
 }

@@ -71,90 +71,42 @@ fn truth_in(term: &Term, at: usize) -> Option<bool> {
     }
 }
 
-/// A cell, with an index where it holds a list.
-type Down = (usize, Option<usize>);
-
-/// The term to which cells lead.
-fn at<'a>(term: &'a Term, way: &[Down]) -> Option<&'a Term> {
-    let mut found = term;
-    for (cell, index) in way {
-        found = match index {
-            Some(index) => item(found, *cell, *index)?,
-            None => child(found, *cell)?,
-        };
-    }
-    Some(found)
-}
-
-/// The name of the term there.
-fn name_at<'a>(term: &'a Term, way: &[Down]) -> Option<&'a str> {
-    Some(at(term, way)?.name.as_str())
-}
-
-/// The number in the first cell of the term there.
-fn number_at(term: &Term, way: &[Down]) -> Option<i32> {
-    number_in(at(term, way)?, 0)
-}
-
-const BLOCK: Down = (0, None);
-
-const DECL: Down = (0, Some(0));
-
-const PRINT: Down = (0, Some(1));
-
-const SUM: Down = (0, None);
-
 #[test]
 fn reads_a_program(rt: HostRuntime) -> Result<(), Fail> {
     let text = "Program(Block([Decl(\"x\",Num(1)),Print(Add(Use(\"x\"),Num(2)))]))";
     let program = read_term(rt.alloc(), text)?;
-    let names: [(&[Down], &str); 4] = [
-        (&[], "Program"),
-        (&[BLOCK], "Block"),
-        (&[BLOCK, DECL], "Decl"),
-        (&[BLOCK, PRINT, SUM], "Add"),
-    ];
-    for (way, name) in names {
-        assert_eq!(rt; name_at(&program, way), Some(name));
-    }
-    assert_eq!(rt; number_at(&program, &[BLOCK, DECL, (1, None)]), Some(1));
-    assert_eq!(rt;
-        number_at(&program, &[BLOCK, PRINT, SUM, (1, None)]),
-        Some(2)
-    );
+    assert_eq!(rt; program.name.as_str(), "Program");
+    let block = child(&program, 0).ok_or("no block")?;
+    assert_eq!(rt; block.name.as_str(), "Block");
+    let decl = item(block, 0, 0).ok_or("no declaration")?;
+    assert_eq!(rt; decl.name.as_str(), "Decl");
+    assert_eq!(rt; text_in(decl, 0).ok_or("no name")?, "x");
+    let one = child(decl, 1).ok_or("no number")?;
+    assert_eq!(rt; number_in(one, 0), Some(1));
+    let print = item(block, 0, 1).ok_or("no print")?;
+    let add = child(print, 0).ok_or("no sum")?;
+    assert_eq!(rt; add.name.as_str(), "Add");
+    assert_eq!(rt; add.cells.len(), 2);
+    let two = child(add, 1).ok_or("no number")?;
+    assert_eq!(rt; number_in(two, 0), Some(2));
+    assert!(rt; item(block, 0, 2).is_none());
     Ok(())
 }
 
 #[test]
-fn reads_the_cells_of_a_program(rt: HostRuntime) -> Result<(), Fail> {
-    let text = "Program(Block([Decl(\"x\",Num(1)),Print(Add(Use(\"x\"),Num(2)))]))";
-    let program = read_term(rt.alloc(), text)?;
-    let decl = at(&program, &[BLOCK, DECL]).ok_or("no declaration")?;
-    assert_eq!(rt; text_in(decl, 0), Some("x"));
-    let sum = at(&program, &[BLOCK, PRINT, SUM]).ok_or("no sum")?;
-    assert_eq!(rt; sum.cells.len(), 2);
-    assert!(rt; at(&program, &[BLOCK, (0, Some(2))]).is_none());
-    Ok(())
-}
-
-#[test]
-fn reads_numbers_and_truths(rt: HostRuntime) -> Result<(), Fail> {
-    let low = read_term(rt.alloc(), "Num(-2147483648)")?;
+fn reads_values(rt: HostRuntime) -> Result<(), Fail> {
+    let alloc = rt.alloc();
+    let low = read_term(alloc, "Num(-2147483648)")?;
     assert_eq!(rt; number_in(&low, 0), Some(i32::MIN));
-    let truths = read_term(rt.alloc(), "A(true,false,truth(),-,[],false_())")?;
+    let truths = read_term(alloc, "A(true,false,truth(),-,[],false_())")?;
     assert_eq!(rt; truth_in(&truths, 0), Some(true));
     assert_eq!(rt; truth_in(&truths, 1), Some(false));
-    assert_eq!(rt; name_at(&truths, &[(2, None)]), Some("truth"));
+    assert_eq!(rt; child(&truths, 2).ok_or("no child")?.name.as_str(), "truth");
     assert_eq!(rt; truths.cells.len(), 6);
-    Ok(())
-}
-
-#[test]
-fn reads_texts(rt: HostRuntime) -> Result<(), Fail> {
-    let texts = read_term(rt.alloc(), "Décl(\"\\\"\\\\\\n\\té\",名前())")?;
+    let texts = read_term(alloc, "Décl(\"\\\"\\\\\\n\\té\",名前())")?;
     assert_eq!(rt; texts.name.as_str(), "Décl");
-    assert_eq!(rt; text_in(&texts, 0), Some("\"\\\n\té"));
-    assert_eq!(rt; name_at(&texts, &[(1, None)]), Some("名前"));
+    assert_eq!(rt; text_in(&texts, 0).ok_or("no text")?, "\"\\\n\té");
+    assert_eq!(rt; child(&texts, 1).ok_or("no child")?.name.as_str(), "名前");
     Ok(())
 }
 
@@ -187,72 +139,39 @@ fn stops_at_the_first_wrong_character(rt: HostRuntime) -> Result<(), Fail> {
     Ok(())
 }
 
-/// Where the reading of the front, that many times, and of the end behind it stops.
-fn stops_behind(
-    alloc: Global,
-    front: &str,
-    times: usize,
-    end: &str,
-) -> Result<Option<usize>, AllocError> {
-    let mut text = repeated(alloc, front, times)?;
-    text.push_str(end)?;
-    Ok(stops(alloc, &text))
-}
-
 #[test]
 fn nests_names_512_deep(rt: HostRuntime) -> Result<(), Fail> {
-    for (front, times, end, at) in [
-        ("Block([", 512, "", 512 * 7),
-        ("Block([", 513, "", 512 * 7),
-        ("A(", 512, "true", 512 * 2 + 4),
-        ("A(", 512, "true_", 512 * 2 + 4),
-    ] {
-        assert_eq!(rt; stops_behind(rt.alloc(), front, times, end)?, Some(at));
-    }
+    let alloc = rt.alloc();
+    let mut text = repeated(alloc, "Block([", 512)?;
+    assert_eq!(rt; stops(alloc, &text), Some(512 * 7));
+    text.push_str("Block([")?;
+    assert_eq!(rt; stops(alloc, &text), Some(512 * 7));
+    let mut whole = repeated(alloc, "Block([", 512)?;
+    whole.push_str(&repeated(alloc, "])", 512)?)?;
+    assert_eq!(rt; read_term(alloc, &whole)?.name.as_str(), "Block");
+    let mut plain = repeated(alloc, "A(", 512)?;
+    plain.push_str("true")?;
+    assert_eq!(rt; stops(alloc, &plain), Some(512 * 2 + 4));
+    plain.push_str("_")?;
+    assert_eq!(rt; stops(alloc, &plain), Some(512 * 2 + 4));
     Ok(())
 }
 
 #[test]
-fn reads_512_nested_terms(rt: HostRuntime) -> Result<(), Fail> {
-    let mut text = repeated(rt.alloc(), "Block([", 512)?;
-    text.push_str(&repeated(rt.alloc(), "])", 512)?)?;
-    assert_eq!(rt; read_term(rt.alloc(), &text)?.name.as_str(), "Block");
-    Ok(())
-}
-
-/// The steps of a path, each with its index.
-fn has_steps(path: &Path, steps: &[(&str, Option<u32>)]) -> bool {
-    if path.steps.len() != steps.len() {
-        return false;
-    }
-    for (step, (part, index)) in path.steps.iter().zip(steps.iter()) {
-        if step.part.as_str() != *part || step.index != *index {
-            return false;
-        }
-    }
-    true
-}
-
-#[test]
-fn reads_paths(rt: HostRuntime) -> Result<(), Fail> {
-    let root = read_path(rt.alloc(), "/")?;
-    assert!(rt; has_steps(&root, &[]));
-    let path = read_path(rt.alloc(), "/Block/Stmt:1/Décl:999999999")?;
-    let steps = [
-        ("Block", None),
-        ("Stmt", Some(1)),
-        ("Décl", Some(999_999_999)),
-    ];
-    assert!(rt; has_steps(&path, &steps));
-    Ok(())
-}
-
-#[test]
-fn writes_paths(rt: HostRuntime) -> Result<(), Fail> {
-    let mut out = Vec::from_slice(rt.alloc(), b"at ")?;
-    for text in ["/Block/Stmt:1/Décl:999999999", "/"] {
-        write_path(&read_path(rt.alloc(), text)?, &mut out)?;
-    }
+fn reads_and_writes_paths(rt: HostRuntime) -> Result<(), Fail> {
+    let alloc = rt.alloc();
+    let root = read_path(alloc, "/")?;
+    assert_eq!(rt; root.steps.len(), 0);
+    let path = read_path(alloc, "/Block/Stmt:1/Décl:999999999")?;
+    assert_eq!(rt; path.steps.len(), 3);
+    assert_eq!(rt; path.steps[0].part.as_str(), "Block");
+    assert_eq!(rt; path.steps[0].index, None);
+    assert_eq!(rt; path.steps[1].part.as_str(), "Stmt");
+    assert_eq!(rt; path.steps[1].index, Some(1));
+    assert_eq!(rt; path.steps[2].index, Some(999_999_999));
+    let mut out = Vec::from_slice(alloc, b"at ")?;
+    write_path(&path, &mut out)?;
+    write_path(&root, &mut out)?;
     assert_eq!(rt;
         out.as_slice(),
         "at /Block/Stmt:1/Décl:999999999/".as_bytes()

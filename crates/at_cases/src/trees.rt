@@ -34,62 +34,77 @@ fn fault(alloc: Global, classes: &ClassTable, text: &str) -> Option<ReadFault> {
     tree(alloc, classes, text).err()
 }
 
-/// The text of the tree of this text.
-fn written(alloc: Global, classes: &ClassTable, text: &str) -> Option<Vec<u8>> {
-    let tree = tree(alloc, classes, text).ok()?;
-    let mut out = Vec::new(alloc);
-    write_term(classes, &tree, &mut out).ok()?;
-    Some(out)
+// Where the text stops being a term's.
+fn stop(alloc: Global, classes: &ClassTable, text: &str) -> Option<usize> {
+    match fault(alloc, classes, text) {
+        Some(ReadFault::Syntax { at }) => Some(at),
+        _ => None,
+    }
 }
 
 #[test]
-fn trees_are_measured(rt: HostRuntime) -> Result<(), Fail> {
-    let classes = calc(rt.alloc()).ok_or("calc")?;
-    let program = tree(rt.alloc(), &classes, TREE).ok().ok_or("no tree")?;
+fn shapes_and_writes(rt: HostRuntime) -> Result<(), Fail> {
+    let alloc = rt.alloc();
+    let classes = calc(alloc).ok_or("calc")?;
+    let program = tree(alloc, &classes, TREE).ok().ok_or("no tree")?;
     assert_eq!(rt; nodes(&program), 8);
     assert_eq!(rt; depth(&program), 5);
-    Ok(())
-}
-
-#[test]
-fn trees_fit_their_class(rt: HostRuntime) -> Result<(), Fail> {
-    let classes = calc(rt.alloc()).ok_or("calc")?;
-    let program = tree(rt.alloc(), &classes, TREE).ok().ok_or("no tree")?;
     assert!(rt; fits(&classes, &program, classes.start()));
     let num = classes.id_of("Num").ok_or("no Num")?;
     assert!(rt; !fits(&classes, &program, num));
+    let mut out = Vec::new(alloc);
+    write_term(&classes, &program, &mut out)?;
+    assert_eq!(rt; out.as_slice(), TREE.as_bytes());
     Ok(())
 }
 
 #[test]
-fn trees_are_written_as_they_are_read(rt: HostRuntime) -> Result<(), Fail> {
-    let classes = calc(rt.alloc()).ok_or("calc")?;
-    for text in [TREE, "Program(Block([Decl(\"\\\"\",-),Block([])]))"] {
-        let out = written(rt.alloc(), &classes, text).ok_or("no tree")?;
-        assert_eq!(rt; out.as_slice(), text.as_bytes());
-    }
+fn writes_an_empty_optional(rt: HostRuntime) -> Result<(), Fail> {
+    let alloc = rt.alloc();
+    let classes = calc(alloc).ok_or("calc")?;
+    let text = "Program(Block([Decl(\"\\\"\",-),Block([])]))";
+    let program = tree(alloc, &classes, text).ok().ok_or("no tree")?;
+    let mut out = Vec::new(alloc);
+    write_term(&classes, &program, &mut out)?;
+    assert_eq!(rt; out.as_slice(), text.as_bytes());
     Ok(())
 }
 
 #[test]
 fn terms_that_are_no_trees(rt: HostRuntime) -> Result<(), Fail> {
-    let classes = calc(rt.alloc()).ok_or("calc")?;
-    for (text, wanted) in [
-        // another class than the first
-        ("Num(1)", ReadFault::Fit),
-        // an abstract class, an unknown one, also where the cells don't fit
-        ("Program(Block([Expr()]))", ReadFault::Class),
-        ("Num(1,[Nix()])", ReadFault::Class),
-        // a child too few, a filled optional where a child is asked, a token of another kind
-        ("Program()", ReadFault::Fit),
-        ("Program(Block([Print(-)]))", ReadFault::Fit),
-        ("Program(Block([Print(Num(true))]))", ReadFault::Fit),
-        // the names of what is no term aren't looked at
-        ("Program(", ReadFault::Syntax { at: 8 }),
-        ("Program()\n", ReadFault::Syntax { at: 9 }),
-        ("Nix(Nix()", ReadFault::Syntax { at: 9 }),
-    ] {
-        assert_eq!(rt; fault(rt.alloc(), &classes, text), Some(wanted));
-    }
+    let alloc = rt.alloc();
+    let classes = calc(alloc).ok_or("calc")?;
+    // another class than the first
+    assert_eq!(rt; fault(alloc, &classes, "Num(1)"), Some(ReadFault::Fit));
+    // an abstract class, an unknown one, also where the cells don't fit
+    assert_eq!(rt;
+        fault(alloc, &classes, "Program(Block([Expr()]))"),
+        Some(ReadFault::Class)
+    );
+    assert_eq!(rt;
+        fault(alloc, &classes, "Num(1,[Nix()])"),
+        Some(ReadFault::Class)
+    );
+    // a child too few, a filled optional where a child is asked, a token of another kind
+    assert_eq!(rt; fault(alloc, &classes, "Program()"), Some(ReadFault::Fit));
+    assert_eq!(rt;
+        fault(alloc, &classes, "Program(Block([Print(-)]))"),
+        Some(ReadFault::Fit)
+    );
+    assert_eq!(rt;
+        fault(alloc, &classes, "Program(Block([Print(Num(true))]))"),
+        Some(ReadFault::Fit)
+    );
+    Ok(())
+}
+
+#[test]
+fn texts_of_no_term(rt: HostRuntime) -> Result<(), Fail> {
+    let alloc = rt.alloc();
+    let classes = calc(alloc).ok_or("calc")?;
+    assert_eq!(rt; stop(alloc, &classes, "Program("), Some(8));
+    assert_eq!(rt; stop(alloc, &classes, "Program()\n"), Some(9));
+    // the names of what is no term aren't looked at
+    assert_eq!(rt; stop(alloc, &classes, "Nix(Nix()"), Some(9));
     Ok(())
 }
