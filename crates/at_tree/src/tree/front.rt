@@ -1,5 +1,5 @@
 //! What stands at the front of a text: a class's name, a sign, the value of a token.
-ghost use Rattle.std.specs.Prelude.{◌≡◌, ◌<◌, ◌++◌, ◌∷◌, true, false, length, string_bytes, IfOk, IfSome, OnOk};
+ghost use Rattle.std.specs.Prelude.{◌≡◌, ◌<◌, ◌++◌, ◌∷◌, true, false, length, string_bytes, IfOk, OnOk};
 ghost use Rattle.std.specs.Fmt.{signed_decimal};
 ghost use Rattle.std.specs.Str.{IsUtf8};
 ghost use Rattle.at_model.specs.Classes.{fits, name_of};
@@ -13,8 +13,8 @@ ghost use Rattle.at_tree.specs.Token.{token_view};
 use crate::runs::{Run, cut};
 use crate::token::TokVal;
 use at_class::{ClassId, ClassTable, TokenKind};
+use at_text::decimal::read_int;
 use at_text::quoted::{QuoteFault, read_quoted};
-use itoa::Buffer;
 use std::alloc::{AllocError, AllocFailed, Global};
 
 /// What is left of a text.
@@ -153,20 +153,6 @@ fn take_int(front: &mut Front<'_>) -> Result<i32, Untaken>
     };
     front.rest = rest;
     Ok(value)
-}
-
-/// The number of 32 bits whose decimal the word is.
-fn read_int(word: &str) -> Option<i32>
-    ensures { IfSome result (λ n. IsInt32 n × (word.now ≡ signed_decimal n)) }
-{
-    let Ok(value) = word.parse::<i32>() else {
-        return None;
-    };
-    if Buffer::new().format(value) == word {
-        Some(value)
-    } else {
-        None
-    }
 }
 
 fn take_truth(front: &mut Front<'_>) -> Result<bool, Untaken>
