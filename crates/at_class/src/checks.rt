@@ -13,6 +13,7 @@ use crate::found::Found;
 use crate::names::{is_known, is_token};
 use crate::part::ClassId;
 use at_grammar::{ClassDecl, PartDecl};
+use at_text::place::Place;
 use indexmap::IndexSet;
 use std::alloc::{AllocError, Global};
 
@@ -20,7 +21,7 @@ use std::alloc::{AllocError, Global};
 const MAX_CLASSES: usize = 1000;
 
 /// The name of the first class that has a superclass or a component of a class that is not declared.
-pub fn unknown_class(names: &IndexSet<String>, declarations: &[ClassDecl]) -> Option<(u32, u32)>
+pub fn unknown_class(names: &IndexSet<String>, declarations: &[ClassDecl]) -> Option<Place>
     ensures { result ≡ unknown_by (named_in names.now.keys) (declarations_view declarations.now) }
 {
     for declaration in declarations {
@@ -36,7 +37,7 @@ pub fn superclass_circle(
     alloc: Global,
     classes: &[Class],
     declarations: &[ClassDecl],
-) -> Result<Option<(u32, u32)>, AllocError>
+) -> Result<Option<Place>, AllocError>
     ensures { IfOk result (λ place. place ≡ circle_in (classes_view classes.now) (declarations_view declarations.now)) }
 {
     let mut circles = Circles::new(alloc, classes)?;
@@ -51,7 +52,7 @@ pub fn superclass_circle(
 }
 
 /// The name of the first token whose kind is none of the three.
-pub fn wrong_token_kind(declarations: &[ClassDecl]) -> Option<(u32, u32)>
+pub fn wrong_token_kind(declarations: &[ClassDecl]) -> Option<Place>
     ensures { result ≡ token_kind (declarations_view declarations.now) }
 {
     for declaration in declarations {
@@ -62,7 +63,7 @@ pub fn wrong_token_kind(declarations: &[ClassDecl]) -> Option<(u32, u32)>
     None
 }
 
-fn wrong_kind_in(parts: &[PartDecl]) -> Option<(u32, u32)>
+fn wrong_kind_in(parts: &[PartDecl]) -> Option<Place>
     ensures { result ≡ kind_in (map part_declaration_view parts.now) }
 {
     for part in parts {
@@ -80,7 +81,7 @@ fn has_wrong_kind(part: &PartDecl) -> bool
 }
 
 /// The first component that clashes with one before it in its class, or with what every tree has: of classes of which this was found.
-pub fn component_twice(found: &[Found], declarations: &[ClassDecl]) -> Option<(u32, u32)>
+pub fn component_twice(found: &[Found], declarations: &[ClassDecl]) -> Option<Place>
     requires { length found.now ≡ length declarations.now }
     ensures { (classes : Classes) → AreFound classes found.now (length found.now) → result ≡ twice_in classes (declarations_view declarations.now) }
 {
@@ -92,14 +93,14 @@ pub fn component_twice(found: &[Found], declarations: &[ClassDecl]) -> Option<(u
     None
 }
 
-fn twice_at(found: Found, parts: &[PartDecl]) -> Option<(u32, u32)>
+fn twice_at(found: Found, parts: &[PartDecl]) -> Option<Place>
     ensures { (classes : Classes) (class : ℕ) → IsFound classes class found → result ≡ parts_twice classes class (map part_declaration_view parts.now) }
 {
     Some(parts.get(found.twice?)?.at)
 }
 
 /// The name of the first class that is one too many, or has too many components: of classes of which this was found.
-pub fn over_limit(found: &[Found], declarations: &[ClassDecl]) -> Option<(u32, u32)>
+pub fn over_limit(found: &[Found], declarations: &[ClassDecl]) -> Option<Place>
     requires { length found.now ≡ length declarations.now }
     ensures { (classes : Classes) → AreFound classes found.now (length found.now) → result ≡ over_in classes (declarations_view declarations.now) }
 {

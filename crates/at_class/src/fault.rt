@@ -1,4 +1,5 @@
 //! Why there is no class table.
+use at_text::place::Place;
 use std::alloc::{AllocError, AllocFailed};
 
 /// The rules of an abstract grammar that a refusal may name, in the order in which they are looked at.
@@ -24,7 +25,7 @@ pub enum ClassCode {
 #[derive(Clone, Copy, PartialEq, Eq, Debug)]
 pub enum ClassFault {
     /// The grammar breaks a rule, at a line and a column.
-    Refused { code: ClassCode, at: (u32, u32) },
+    Refused { code: ClassCode, at: Place },
     /// Memory was wanting.
     Memory,
 }

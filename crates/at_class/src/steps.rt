@@ -8,10 +8,11 @@ use crate::chain::whole_parts;
 use crate::class::Class;
 use crate::fault::{ClassCode, ClassFault};
 use crate::part::{ClassId, Part};
+use at_text::place::Place;
 use std::alloc::{AllocError, Global};
 
 /// A refusal with that code, where there is a place for it.
-pub fn refuse(code: ClassCode, place: Option<(u32, u32)>) -> Result<(), ClassFault>
+pub fn refuse(code: ClassCode, place: Option<Place>) -> Result<(), ClassFault>
     ensures ok { OnOk result (place ≡ None) }
     ensures err { IfErr result (IsAt code place) }
 {

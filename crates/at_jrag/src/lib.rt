@@ -15,7 +15,7 @@ mod declared;
 mod reader;
 mod syntax;
 
-use at_text::place::place;
+use at_text::place::Place;
 use at_text::placed::{place_all, place_left};
 use at_text::scan::{ScanFault, lexemes};
 use declared::declaration_place;
@@ -31,11 +31,11 @@ pub use syntax::{
 pub enum JragFault {
     /// The first token that no file goes on with, or the end of the text where more was needed;
     /// where the text can't be cut into tokens, the place where that is met.
-    Syntax { at: (u32, u32) },
+    Syntax { at: Place },
     /// A form of JastAdd's aspects begins at this token that this profile leaves out.
-    LeftOut { at: (u32, u32) },
+    LeftOut { at: Place },
     /// The first token of the declaration in which expressions nest deeper than 64.
-    Nesting { at: (u32, u32) },
+    Nesting { at: Place },
     /// Want of memory.
     Memory,
 }
@@ -57,7 +57,7 @@ fn scan_fault(text: &str, fault: ScanFault) -> JragFault
         ScanFault::Memory => JragFault::Memory,
         ScanFault::Bad { at } | ScanFault::OpenText { at } | ScanFault::OpenComment { at } => {
             JragFault::Syntax {
-                at: place(text, at),
+                at: Place::of(text, at),
             }
         }
     }

@@ -17,6 +17,7 @@ mod operators;
 
 use crate::syntax::Word;
 use at_text::names::is_name;
+use at_text::place::Place;
 use at_text::placed::Placed;
 use at_text::token::TokenKind;
 use std::alloc::{AllocError, AllocFailed, Global};
@@ -138,7 +139,7 @@ impl<'a> Reader<'a> {
     }
 
     /// Steps over the sign, if it is next, and answers its place.
-    fn takes(&mut self, text: &str) -> Option<(u32, u32)>
+    fn takes(&mut self, text: &str) -> Option<Place>
         ensures { MatchOption result
             ((self.new ≡ self.old) × (next_is (is_sign text.now) (left self.old.rest.now) ≡ false))
             (λ at. left self.old.rest.now ≡ sign text.now at ∷ left self.new.rest.now) }
@@ -165,7 +166,7 @@ impl<'a> Reader<'a> {
     }
 
     /// Steps over the word, if it is next, and answers its place.
-    fn takes_word(&mut self, text: &str) -> Option<(u32, u32)>
+    fn takes_word(&mut self, text: &str) -> Option<Place>
         ensures { MatchOption result
             ((self.new ≡ self.old) × (next_is (is_word text.now) (left self.old.rest.now) ≡ false))
             (λ at. left self.old.rest.now ≡ word text.now at ∷ left self.new.rest.now) }
@@ -196,7 +197,7 @@ impl<'a> Reader<'a> {
     }
 
     /// The sign.
-    fn expects(&mut self, text: &str) -> Result<(u32, u32), ReadError>
+    fn expects(&mut self, text: &str) -> Result<Place, ReadError>
         ensures found { IfOk result (λ at. left self.old.rest.now ≡ sign text.now at ∷ left self.new.rest.now) }
         ensures missing { IfErr result (λ e. Missing (is_sign text.now) e (left self.old.rest.now) (left self.new.rest.now)) }
     {

@@ -8,6 +8,7 @@ ghost use Rattle.at_kinds.specs.Typed.{typed_view};
 use crate::signatures::WrittenKind;
 use at_class::{ClassId, ClassTable};
 use at_rules::{Body, Kind};
+use at_text::place::Place;
 
 /// The kind of an expression.
 #[derive(Clone, Copy, Debug, PartialEq, Eq)]
@@ -161,13 +162,13 @@ fn upper(classes: &ClassTable, class: ClassId, second: ClassId) -> Option<ExprKi
 /// An expression with its place: its kind, and the body that it means.
 #[derive(Debug, Drop)]
 pub struct Typed {
-    pub at: (u32, u32),
+    pub at: Place,
     pub kind: ExprKind,
     pub body: Body,
 }
 
 impl Typed {
-    pub fn int(body: Body, at: (u32, u32)) -> Typed
+    pub fn int(body: Body, at: Place) -> Typed
         ensures { typed_view result ≡ record { at = at; kind = ExprKind.Int; body = body_view body } }
     {
         Typed {
@@ -177,7 +178,7 @@ impl Typed {
         }
     }
 
-    pub fn truth(body: Body, at: (u32, u32)) -> Typed
+    pub fn truth(body: Body, at: Place) -> Typed
         ensures { typed_view result ≡ record { at = at; kind = ExprKind.Bool; body = body_view body } }
     {
         Typed {
@@ -187,7 +188,7 @@ impl Typed {
         }
     }
 
-    pub fn text(body: Body, at: (u32, u32)) -> Typed
+    pub fn text(body: Body, at: Place) -> Typed
         ensures { typed_view result ≡ record { at = at; kind = ExprKind.Text; body = body_view body } }
     {
         Typed {
@@ -198,7 +199,7 @@ impl Typed {
     }
 
     /// Null, or a node of the class.
-    pub fn node(class: ClassId, body: Body, at: (u32, u32)) -> Typed
+    pub fn node(class: ClassId, body: Body, at: Place) -> Typed
         ensures { typed_view result ≡ record { at = at; kind = ExprKind.Class class; body = body_view body } }
     {
         Typed {
@@ -208,7 +209,7 @@ impl Typed {
         }
     }
 
-    pub fn null(at: (u32, u32)) -> Typed
+    pub fn null(at: Place) -> Typed
         ensures { typed_view result ≡ record { at = at; kind = ExprKind.Null; body = body_view Body.Null } }
     {
         Typed {
@@ -219,7 +220,7 @@ impl Typed {
     }
 
     /// The same, at another place.
-    pub fn placed(self, at: (u32, u32)) -> Typed
+    pub fn placed(self, at: Place) -> Typed
         ensures { typed_view result ≡ record { at = at; kind = self.kind; body = body_view self.body } }
     {
         Typed {

@@ -11,26 +11,27 @@ use crate::code::RuleCode;
 use crate::signatures::WrittenKind;
 use at_class::ClassId;
 use at_rules::{Body, Kind};
+use at_text::place::Place;
 use std::alloc::{AllocError, Global};
 use std::rc::Rc;
 
 impl Scope<'_> {
     /// `this`
-    pub(super) fn this(&self, at: (u32, u32)) -> Typed
+    pub(super) fn this(&self, at: Place) -> Typed
         ensures { typed_view result ≡ this_node (scope_view self.now) at }
     {
         Typed::node(self.this, Body::This, at)
     }
 
     /// A quoted text.
-    pub(super) fn text(&self, text: &str, at: (u32, u32)) -> Result<Typed, TypeFault>
+    pub(super) fn text(&self, text: &str, at: Place) -> Result<Typed, TypeFault>
         ensures { Judges typed_view (of_kind at ExprKind.Text (model.TextLiteral text.now)) result }
     {
         Ok(Typed::text(Body::Text(String::from_str(self.alloc, text)?), at))
     }
 
     /// A name: of the innermost fold that has it, else of a parameter, else the index name.
-    pub(super) fn named(&self, name: &str, at: (u32, u32)) -> Result<Typed, TypeFault>
+    pub(super) fn named(&self, name: &str, at: Place) -> Result<Typed, TypeFault>
         ensures { Judges typed_view (named_in (scope_view self.now) at name.now) result }
     {
         match self.bound_to(name) {
@@ -53,7 +54,7 @@ impl Scope<'_> {
     }
 
     /// The index name, where it is that one.
-    fn index_named(&self, name: &str, at: (u32, u32)) -> Result<Typed, TypeFault>
+    fn index_named(&self, name: &str, at: Place) -> Result<Typed, TypeFault>
         ensures { Judges typed_view (index_named at (index_eq (option_map (λ n. n.now) self.now.index) name.now)) result }
     {
         match self.index {
