@@ -10,7 +10,7 @@ use std::alloc::{AllocError, Global};
 use std::marker::Model;
 
 /// Values, the newest on top.
-#[derive(Debug, Drop)]
+#[derive(Drop)]
 pub struct Stack<T> {
     items: Vec<T>,
 }

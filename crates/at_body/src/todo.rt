@@ -7,7 +7,7 @@ use at_rules::{AttrId, Body, Operator, Order};
 use at_store::Node;
 
 /// What is done with one value.
-#[derive(Clone, Copy, Debug)]
+#[derive(Clone, Copy)]
 pub enum Unary {
     Negate,
     Not,
@@ -20,7 +20,7 @@ pub enum Unary {
 }
 
 /// What is done with two values, the left one and then the right one.
-#[derive(Clone, Copy, Debug)]
+#[derive(Clone, Copy)]
 pub enum Binary {
     Arithmetic(Operator),
     Compare(Order),
@@ -33,7 +33,7 @@ pub enum Binary {
 }
 
 /// A fold under way, and for a sum the sum up to there.
-#[derive(Debug, Drop)]
+#[derive(Drop)]
 pub enum Fold {
     Exists,
     First,
@@ -41,7 +41,7 @@ pub enum Fold {
 }
 
 /// What is left to do with the value of an expression.
-#[derive(Debug, Drop)]
+#[derive(Drop)]
 pub enum Todo<'a> {
     /// Do this with it.
     Use(Unary),
@@ -63,7 +63,7 @@ pub enum Todo<'a> {
 }
 
 /// What an evaluation does next.
-#[derive(Debug, Drop)]
+#[derive(Drop)]
 pub enum Now<'a> {
     Enter(&'a Body),
     Back(Value),

@@ -25,7 +25,7 @@ use at_store::{Loc, Node, Store};
 use std::alloc::{AllocError, Global};
 
 /// An evaluation under way: where it stands, what is left to do, and the locations that it has looked at.
-#[derive(Debug, Drop)]
+#[derive(Drop)]
 pub struct Trial<'a> {
     pub(crate) this: Node,
     pub(crate) child: Option<Node>,
@@ -36,7 +36,7 @@ pub struct Trial<'a> {
 }
 
 /// Where an evaluation has come to.
-#[derive(Debug, Drop)]
+#[derive(Drop)]
 pub enum Step {
     /// Its value.
     Value(Value),

@@ -10,7 +10,7 @@ use at_class::{ClassId, ClassTable, Part, PartShape, TokenKind};
 use at_rules::Kind;
 
 /// An accessor of a node, with the position of the component that it is of.
-#[derive(Clone, Copy, Debug, PartialEq, Eq)]
+#[derive(Clone, Copy, PartialEq, Eq)]
 pub enum Accessor {
     /// `getB` of a plain child or an optional, with the class of the child.
     Child(usize, ClassId),

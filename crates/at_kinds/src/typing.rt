@@ -30,7 +30,7 @@ use std::rc::Rc;
 use wholes::no_list;
 
 /// Why an expression means no body.
-#[derive(Debug, Drop)]
+#[derive(Drop)]
 pub enum TypeFault {
     /// The code of its first fault, and the place: of an argument, or of the form at which it is found.
     Refused { code: RuleCode, at: (u32, u32) },

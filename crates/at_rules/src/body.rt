@@ -33,7 +33,7 @@ pub enum Kind {
 
 /// The body of an equation, all of whose kinds are right. A component, an attribute and a class are
 /// positions; so is a name: the innermost fold's is 0, the parameters follow in order.
-#[derive(Debug, Drop)]
+#[derive(Drop)]
 pub enum Body {
     Int(i32),
     Truth(bool),

@@ -10,7 +10,7 @@ use at_class::{ClassId, ClassTable};
 use at_rules::{Body, Kind};
 
 /// The kind of an expression.
-#[derive(Clone, Copy, Debug, PartialEq, Eq)]
+#[derive(Clone, Copy, PartialEq, Eq)]
 pub enum ExprKind {
     Int,
     Bool,
@@ -159,7 +159,7 @@ fn upper(classes: &ClassTable, class: ClassId, second: ClassId) -> Option<ExprKi
 }
 
 /// An expression with its place: its kind, and the body that it means.
-#[derive(Debug, Drop)]
+#[derive(Drop)]
 pub struct Typed {
     pub at: (u32, u32),
     pub kind: ExprKind,
