@@ -1,16 +1,11 @@
 //! The same replies with every keeper: what is kept is never heard.
 
-ghost use Rattle.std.specs.Prelude.{None, IfOk};
-ghost use Rattle.at_cache.specs.Kept.{KeepsAll};
-ghost use Rattle.at_engine.specs.Engines.{IsSound};
-
 mod chance;
 
-use crate::sessions::{CALCULATOR, GRAMMAR, PROBE, TREE, named};
+use crate::hearing::{heard, played};
+use crate::samples::{CALC, Sample, files};
 use at_body::{Inst, Value};
-use at_cache::{KeepNone, KeepRecorded, KeepUntilEdit, Keeper};
-use at_engine::{Report, run};
-use at_start::{Files, start_with};
+use at_cache::Keeper;
 use at_store::Loc;
 use chance::{Chance, Words, lines};
 use std::alloc::{AllocError, Global};
@@ -44,68 +39,23 @@ impl Keeper for KeepRefused {
     fn flush<F: Fn(Loc) -> bool>(&mut self, _touched: &F) {}
 }
 
-/// A grammar, a tree and one aspect file.
-struct Sample {
-    grammar: &'static str,
-    tree: &'static str,
-    aspects: &'static [&'static str],
-}
-
-fn files(alloc: Global, sample: &Sample) -> Result<Files, AllocError> {
-    let mut aspects = Vec::new(alloc);
-    for text in sample.aspects {
-        aspects.push(named(alloc, "aspects", text)?)?;
-    }
-    Ok(Files {
-        grammar: named(alloc, "grammar", sample.grammar)?,
-        tree: named(alloc, "tree", sample.tree)?,
-        aspects,
-    })
-}
-
-/// What a fresh engine over an empty keeper writes for the lines, and what the run reports.
-fn heard<K: Keeper>(
-    alloc: Global,
-    sample: &Sample,
-    keeper: K,
-    lines: &str,
-) -> Result<(Vec<u8>, Report), Fail>
-    requires { KeepsAll (λ _. None) (K.contents keeper) }
-{
-    let mut engine = start_with(alloc, &files(alloc, sample)?, keeper)?;
-    let mut reader = lines.as_bytes();
-    let mut out = Vec::new(alloc);
-    let report = run(&mut engine, &mut reader, &mut out)?;
-    Ok((out, report))
-}
-
 /// How many edits the lines make, where every keeper leads to the same replies and memory doesn't run out.
 fn edits_alike(alloc: Global, sample: &Sample, lines: &str) -> Result<u128, Fail> {
-    let (told, report) = heard(alloc, sample, KeepNone::new(alloc), lines)?;
-    if report.memory > 0 {
-        return Err(Fail::new("memory ran out"));
-    }
-    let (until_edit, _) = heard(alloc, sample, KeepUntilEdit::new(alloc), lines)?;
-    if until_edit != told {
-        return Err(Fail::new("what is kept until an edit is heard"));
-    }
-    let (recorded, _) = heard(alloc, sample, KeepRecorded::new(alloc), lines)?;
-    if recorded != told {
-        return Err(Fail::new("what is kept over edits is heard"));
-    }
+    let (_, report) = played(alloc, &files(alloc, sample)?, lines)?;
     Ok(report.accepted)
 }
 
-const SUM: Sample = Sample {
+const SUM: Sample<'static> = Sample {
     grammar: "Sum ::= Left:Num Right:Num; Num ::= <Value:int>;",
     tree: "Sum(Num(3),Num(4))",
-    aspects: &[
+    aspects: &[(
+        "sums.jrag",
         "aspect Sums {
   syn lazy int Sum.total() = getLeft().twice() + getRight().twice();
   syn lazy int Num.twice() = getValue() * 2;
 }
 ",
-    ],
+    )],
 };
 
 const SUM_WORDS: Words = Words {
@@ -137,12 +87,6 @@ fn sums_are_told_alike(rt: HostRuntime) -> Result<(), Fail> {
     assert!(rt; edits > 1_000, "{edits} edits");
     Ok(())
 }
-
-const CALC: Sample = Sample {
-    grammar: GRAMMAR,
-    tree: TREE,
-    aspects: &[CALCULATOR, PROBE],
-};
 
 const CALC_WORDS: Words = Words {
     places: &[
@@ -229,9 +173,9 @@ fn without_memory_for_a_value_there_is_no_answer(rt: HostRuntime) -> Result<(), 
     let lines = "0 ask /Block/Stmt:1/Expr value()
 0 ask /Block/Stmt:1/Expr same()
 ";
-    let (told, report) = heard(rt.alloc(), &CALC, KeepRefused {}, lines)?;
-    let replies = "0 memory\n0 = false\n";
-    assert!(rt; told.as_slice() == replies.as_bytes());
+    let files = files(rt.alloc(), &CALC)?;
+    let (told, report) = heard(rt.alloc(), &files, KeepRefused {}, lines)?;
+    assert_eq!(rt; std::str::from_utf8(&told)?, "0 memory\n0 = false\n");
     assert_eq!(rt; report.memory, 1);
     Ok(())
 }

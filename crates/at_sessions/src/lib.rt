@@ -5,8 +5,12 @@
 #[cfg(test)]
 mod failing;
 #[cfg(test)]
+mod hearing;
+#[cfg(test)]
 mod keepers;
 #[cfg(test)]
 mod refusals;
+#[cfg(test)]
+mod samples;
 #[cfg(test)]
 mod sessions;

@@ -1,87 +1,111 @@
 //! Files that are refused: in which order they are looked at, and what is no text. What their texts are refused for is
-//! shown by the examples of docs/REFUSALS.md.
+//! shown by the examples of docs/REFUSALS.md and docs/EDGES.md.
 
-mod limits;
-
-use crate::sessions::{CALCULATOR, GRAMMAR, TREE};
+use crate::samples::{CALCULATOR, GRAMMAR, TREE, source};
 use at_start::{Files, Source, start, write_fault};
 use std::alloc::{AllocError, Global};
 use std::test::Fail;
 
-fn source(alloc: Global, name: &str, bytes: &[u8]) -> Result<Source, AllocError> {
-    Ok(Source {
-        name: String::from_str(alloc, name)?,
-        bytes: Vec::from_slice(alloc, bytes)?,
+/// What stands in files.
+#[derive(Drop)]
+struct Bytes<'a> {
+    grammar: &'a [u8],
+    tree: &'a [u8],
+    aspects: &'a [&'a [u8]],
+}
+
+fn files(alloc: Global, bytes: &Bytes) -> Result<Files, AllocError> {
+    Ok(Files {
+        grammar: source(alloc, "grammar", bytes.grammar)?,
+        tree: source(alloc, "tree", bytes.tree)?,
+        aspects: aspects(alloc, bytes.aspects)?,
     })
 }
 
-/// The text with which these files are refused, without its newline; empty where they are accepted.
-fn refusal(alloc: Global, grammar: &[u8], tree: &[u8], aspects: &[&[u8]]) -> Result<String, Fail> {
+fn aspects(alloc: Global, texts: &[&[u8]]) -> Result<Vec<Source>, AllocError> {
     let mut sources = Vec::new(alloc);
-    for bytes in aspects {
+    for bytes in texts {
         sources.push(source(alloc, "aspects", bytes)?)?;
     }
-    let files = Files {
-        grammar: source(alloc, "grammar", grammar)?,
-        tree: source(alloc, "tree", tree)?,
-        aspects: sources,
-    };
+    Ok(sources)
+}
+
+/// Whether the files are refused with this text, where it isn't empty, and else accepted.
+fn are_told(alloc: Global, bytes: &Bytes, told: &str) -> Result<bool, Fail> {
+    let files = files(alloc, bytes)?;
     let mut text = Vec::new(alloc);
     if let Err(fault) = start(alloc, &files) {
         write_fault(&files, &fault, &mut text)?;
     }
-    let told = std::str::from_utf8(&text)?;
-    Ok(String::from_str(alloc, told.trim_end())?)
+    Ok(text.as_slice() == told.as_bytes())
 }
+
+const UNKNOWN: &[u8] = b"aspect A { syn int A.a() = b(); }";
 
 #[test]
 fn files_are_looked_at_one_after_the_other(rt: HostRuntime) -> Result<(), Fail> {
-    let alloc = rt.alloc();
-    let told = refusal(alloc, b"A", b"", &[b"aspect"])?;
-    assert_eq!(rt; told.as_str(), "grammar: G1 syntax at 1:2");
-    let told = refusal(alloc, b"A;", b"", &[b"aspect"])?;
-    assert_eq!(rt; told.as_str(), "aspects: J1 syntax at 1:7");
-    let told = refusal(alloc, b"A;", b"", &[b""])?;
-    assert_eq!(rt; told.as_str(), "tree: F1 syntax");
-    let told = refusal(alloc, b"A;", b"B()", &[b""])?;
-    assert_eq!(rt; told.as_str(), "tree: F6 class");
-    let told = refusal(alloc, b"A;", b"A()\n", &[b""])?;
-    assert_eq!(rt; told.as_str(), "");
-    let told = refusal(alloc, b"A;", b"A()\n\n", &[b""])?;
-    assert_eq!(rt; told.as_str(), "tree: F1 syntax");
-    Ok(())
-}
-
-#[test]
-fn all_aspects_are_read_before_any_is_judged(rt: HostRuntime) -> Result<(), Fail> {
-    let alloc = rt.alloc();
-    let unknown = b"aspect A { syn int A.a() = b(); }";
-    let told = refusal(alloc, b"A;", b"A()", &[unknown, b"\naspect"])?;
-    assert_eq!(rt; told.as_str(), "aspects: J1 syntax at 2:7");
-    let told = refusal(alloc, b"A;", b"A()", &[b"\n", unknown])?;
-    assert_eq!(rt; told.as_str(), "aspects: J3 unknown name at 1:28");
+    let rows: [(&[u8], &[u8], &[&[u8]], &str); 8] = [
+        (b"A", b"", &[b"aspect"], "grammar: G1 syntax at 1:2\n"),
+        (b"A;", b"", &[b"aspect"], "aspects: J1 syntax at 1:7\n"),
+        (b"A;", b"", &[b""], "tree: F1 syntax\n"),
+        (b"A;", b"B()", &[b""], "tree: F6 class\n"),
+        (b"A;", b"A()\n", &[b""], ""),
+        (b"A;", b"A()\n\n", &[b""], "tree: F1 syntax\n"),
+        // all aspects are read before any is judged
+        (
+            b"A;",
+            b"A()",
+            &[UNKNOWN, b"\naspect"],
+            "aspects: J1 syntax at 2:7\n",
+        ),
+        (
+            b"A;",
+            b"A()",
+            &[b"\n", UNKNOWN],
+            "aspects: J3 unknown name at 1:28\n",
+        ),
+    ];
+    for (grammar, tree, aspects, told) in rows {
+        let bytes = Bytes {
+            grammar,
+            tree,
+            aspects,
+        };
+        assert!(rt; are_told(rt.alloc(), &bytes, told)?, "{told}");
+    }
     Ok(())
 }
 
 #[test]
 fn files_that_are_not_utf8_are_refused(rt: HostRuntime) -> Result<(), Fail> {
-    let alloc = rt.alloc();
-    let told = refusal(alloc, b"A;\xff", b"A()", &[b""])?;
-    assert_eq!(rt; told.as_str(), "grammar: G1 syntax at 1:1");
-    let told = refusal(alloc, b"A;", b"A()", &[b"", b"\n\xff"])?;
-    assert_eq!(rt; told.as_str(), "aspects: J1 syntax at 1:1");
-    let told = refusal(alloc, b"A;", b"A()\xff", &[b""])?;
-    assert_eq!(rt; told.as_str(), "tree: F1 syntax");
+    let rows: [(&[u8], &[u8], &[u8], &str); 3] = [
+        (b"A;\xff", b"A()", b"", "grammar: G1 syntax at 1:1\n"),
+        (b"A;", b"A()", b"\n\xff", "aspects: J1 syntax at 1:1\n"),
+        (b"A;", b"A()\xff", b"", "tree: F1 syntax\n"),
+    ];
+    for (grammar, tree, last, told) in rows {
+        let bytes = Bytes {
+            grammar,
+            tree,
+            aspects: &[b"", last],
+        };
+        assert!(rt; are_told(rt.alloc(), &bytes, told)?, "{told}");
+    }
     Ok(())
 }
 
 #[test]
 fn a_front_of_a_tree_is_no_tree(rt: HostRuntime) -> Result<(), Fail> {
-    let alloc = rt.alloc();
     for length in 0..TREE.len() {
-        let front = TREE.as_bytes().get(..length).unwrap_or(b"");
-        let told = refusal(alloc, GRAMMAR.as_bytes(), front, &[CALCULATOR.as_bytes()])?;
-        assert_eq!(rt; told.as_str(), "tree: F1 syntax", "{length}");
+        let bytes = Bytes {
+            grammar: GRAMMAR.as_bytes(),
+            tree: TREE.as_bytes().get(..length).unwrap_or(b""),
+            aspects: &[CALCULATOR.as_bytes()],
+        };
+        assert!(rt;
+            are_told(rt.alloc(), &bytes, "tree: F1 syntax\n")?,
+            "{length}"
+        );
     }
     Ok(())
 }

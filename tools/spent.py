@@ -1,0 +1,34 @@
+#!/usr/bin/env python3
+"""Tells where the time of a crate's check went, by the clock: also of one that was stopped, or that goes on.
+
+    tools/spent.py CRATE [COUNT]
+
+CRATE is a crate's folder. A check keeps each module that it has checked as a file in the crate's out/incremental, so the
+time between two files went into the second one. The modules of a function have its name in front: `Statement` and `Lts`
+are what it is to do and how it goes, `Tie` and `Proof` that it does so, `Goals` what search and answers prove. The sums
+are printed, the largest first. Gaps of more than two minutes are left out, since another check began behind them.
+"""
+import collections
+import os
+import re
+import sys
+from pathlib import Path
+
+GAP = 120
+PARTS = re.compile(r"\.(?:Statement|Lts|Tie|Proof|Named|Layout|Met|Goals|Given|View|Code|Answers|Invariants|Goal|Carried|[+]).*")
+
+
+def main():
+    files = [(os.stat(it).st_mtime, it.stem) for it in Path(sys.argv[1]).glob("out/incremental/*/*.oantt")]
+    files.sort()
+    spent = collections.Counter()
+    for (before, _), (after, module) in zip(files, files[1:]):
+        if after - before < GAP:
+            spent[PARTS.sub("", module.partition(".")[2])] += after - before
+    print(f"{sum(spent.values()):8.1f} seconds, {len(files)} modules")
+    for name, seconds in spent.most_common(int(sys.argv[2]) if len(sys.argv) > 2 else 40):
+        print(f"{seconds:8.1f} {name}")
+
+
+if __name__ == "__main__":
+    main()
