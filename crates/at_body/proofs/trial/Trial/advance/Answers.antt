@@ -1,4 +1,11 @@
+use Rattle.std.proofs.Common.{◌∙◌, arith}
 use Rattle.at_body.proofs.trial.Trial.advance.Goals as goal
 
 pub returns-in-Fail-clause-found : goal.returns-in-Fail-clause-found
 returns-in-Fail-clause-found c = rw c.in-Fail.is at c.loop-now.invariant.same
+
+pub returns-in-Ask-clause-found : goal.returns-in-Ask-clause-found
+returns-in-Ask-clause-found c = rw c.in-Ask.is at c.loop-now.invariant.same ∙ c.asked.ensures.same _ _ _ _
+
+pub returns-in-Ask-clause-less : goal.returns-in-Ask-clause-less
+returns-in-Ask-clause-less c = let h = rw c.in-Ask.is at c.loop-now.invariant.less in omega (arith, c.asked.ensures.less c.loop-now.self, h)
