@@ -11,7 +11,7 @@ use Rattle.at_body.specs.declared.todo.Todo.{Todo}
 use Rattle.at_body.specs.declared.todo.Fold.{Fold}
 use Rattle.at_body.specs.declared.todo.Fold.TheVariants as fold
 use Rattle.at_body.specs.declared.todo.Now.{Now}
-use Rattle.at_body.specs.declared.todo.Now.TheVariants.{Enter}
+use Rattle.at_body.specs.declared.todo.Now.TheVariants.{Ask, Enter}
 use Rattle.at_body.specs.declared.trial.Trial.{Trial}
 use Rattle.at_rules.specs.Bodies.{body_view, row_view, bodies_view}
 use Rattle.at_body.specs.Standing.{inside}
@@ -74,6 +74,10 @@ bounded res new l m n h e = let P : ℕ → Type 0 = λ k. IfOk res (λ now. wei
 pub demands : (tree : Contents ℕ) (seen : List (Location ℕ)) (classes : Classes) (t : Trial) (i : Instance ℕ) (n a : ℕ) (o : Option ℕ) (vs : List (Value ℕ)) →
     o ≡ Some n → i ≡ record { node = n; attribute = a; arguments = vs } → follow tree seen (demand_of a (Ref o) vs >>= resumed classes t) ≡ (Waits i (resumed classes t), seen)
 demands tree seen classes t i n a o vs e f = rw (e, f) refl
+
+pub demands_bare : (tree : Contents ℕ) (seen : List (Location ℕ)) (classes : Classes) (t : Trial) (i : Instance ℕ) (n a : ℕ) (vs : List ValueCode) →
+    vs ≡ [] → i ≡ record { node = n; attribute = a; arguments = map value_view vs } → follow tree seen (rest classes (Ask a n) t) ≡ (Waits i (resumed classes t), seen)
+demands_bare tree seen classes t i n a vs e f = rw (f, e) refl
 
 pub asks_null : (tree : Contents ℕ) (seen : List (Location ℕ)) (classes : Classes) (t : Trial) (a : ℕ) (o : Option ℕ) (vs : List (Value ℕ)) →
     o ≡ None → follow tree seen (demand_of a (Ref o) vs >>= resumed classes t) ≡ (Stops Null, seen)

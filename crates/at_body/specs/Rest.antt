@@ -4,7 +4,7 @@ use Rattle.std.specs.Fmt.{signed_decimal}
 use Rattle.std.specs.Int.{w32, int_wrapping_add, int_wrapping_neg}
 use Rattle.at_model.specs.Classes.{Classes}
 use Rattle.at_model.specs.Bodies.{Expr, Exprs, eval, eval_all, computed, joined, is_in_order, value_eq, int_of, truth_of, text_of, ref_of, is_instance, cast_to, child_of, element_of, count_of, has_of, token_of, demand_of, elements_of, exists_in, first_in, sum_in}
-use Rattle.at_model.specs.Run.{Value, Int, Truth, Ref, Run, Gives, Fails, ◌>>=◌}
+use Rattle.at_model.specs.Run.{Value, Int, Truth, Ref, Run, Gives, Fails, Demands, ◌>>=◌}
 use Rattle.at_model.specs.Follow.{Reached, Ends, Stops, Waits}
 use Rattle.at_body.specs.declared.todo.Unary.{Unary}
 use Rattle.at_body.specs.declared.todo.Unary.TheVariants as unary
@@ -15,7 +15,7 @@ use Rattle.at_body.specs.declared.todo.Fold.TheVariants as fold
 use Rattle.at_body.specs.declared.todo.Todo.{Todo}
 use Rattle.at_body.specs.declared.todo.Todo.TheVariants.{Use, Right, Apply, And, Or, Choose, Arguments, Argument, Elements, Element}
 use Rattle.at_body.specs.declared.todo.Now.{Now}
-use Rattle.at_body.specs.declared.todo.Now.TheVariants.{Enter, Back, Fail, Ask}
+use Rattle.at_body.specs.declared.todo.Now.TheVariants.{Enter, Back, Fail, Ask, Call}
 use Rattle.at_body.specs.declared.trial.Trial.{Trial}
 use Rattle.at_body.specs.declared.trial.Step.{Step}
 use Rattle.at_body.specs.declared.trial.Step.TheVariants as step
@@ -131,7 +131,8 @@ abbrev pub rest : Classes → Now → Trial → Run ℕ (Value ℕ)
 rest classes (Enter b) t = begun classes t (body_view b.now)
 rest classes (Back v) t = resumed classes t (value_view v)
 rest classes (Fail f) t = Fails (fault_view f)
-rest classes (Ask call) t = demand_of call.value.attribute (Ref call.value.node) (map value_view call.value.done.items) >>= resumed classes t
+rest classes (Ask attribute node) t = Demands (record { node = node; attribute = attribute; arguments = [] }) (resumed classes t)
+rest classes (Call call) t = demand_of call.value.attribute (Ref call.value.node) (map value_view call.value.done.items) >>= resumed classes t
 
 -- where an evaluation has come to with that step
 abbrev pub reached : Classes → Step → Trial → Reached ℕ (Value ℕ)
@@ -158,7 +159,8 @@ load (k ∷ ks) = cost k + load ks
 
 abbrev pub weight : Now → Trial → ℕ
 weight (Enter b) t = size (body_view b.now) + load t.todo
-weight (Ask call) t = 1 + load t.todo
+weight (Ask attribute node) t = 1 + load t.todo
+weight (Call call) t = 1 + load t.todo
 weight _ t = load t.todo
 
 -- what is left once it waits

@@ -76,6 +76,8 @@ pub enum Now<'a> {
     Enter(&'a Body),
     Back(Value),
     Fail(FaultKind),
+    /// It demands this attribute of the node, without arguments.
+    Ask(AttrId, Node),
     /// It demands this call.
-    Ask(Box<Asking>),
+    Call(Box<Asking>),
 }

@@ -4,13 +4,13 @@ ghost use Rattle.std.specs.Prelude.{◌≡◌, ◌<◌, ◌≤◌, ◌+◌, ◌-
 ghost use Rattle.at_model.specs.Classes.{Classes};
 ghost use Rattle.at_model.specs.Follow.{follow};
 ghost use Rattle.at_model.specs.Run.{Contents, Gives, Location, Ref};
-ghost use Rattle.at_model.specs.Bodies.{named, index_of};
+ghost use Rattle.at_model.specs.Bodies.{named, index_of, demand_of};
 ghost use Rattle.at_store.specs.Shown.{contents, IsIdle};
 ghost use Rattle.at_body.specs.Size.{size, sizes, tests};
 ghost use Rattle.at_body.specs.Values.{value_view};
 ghost use Rattle.at_rules.specs.Bodies.{body_view, bodies_view};
 ghost use Rattle.at_body.specs.Standing.{scope};
-ghost use Rattle.at_body.specs.declared.todo.Now.TheVariants.{Ask, Enter};
+ghost use Rattle.at_body.specs.declared.todo.Now.TheVariants.{Ask, Call, Enter};
 ghost use Rattle.at_body.specs.declared.todo.Todo.TheVariants.{And, Choose, Elements, Or, Right, Use};
 ghost use Rattle.at_body.specs.declared.trial.Trial.{Trial};
 ghost use Rattle.at_body.specs.Rest.{ev, evaluated_for, rest, weight, place_of, onto, begun, resumed, used, called, gone_over, reached, left, load, cost};
@@ -90,7 +90,8 @@ impl<'a> Trial<'a> {
                     None => return Ok(Step::Value(value)),
                 },
                 Now::Fail(kind) => return Ok(Step::Fault(kind)),
-                Now::Ask(call) => return Ok(asked(call)),
+                Now::Ask(attribute, node) => return Ok(asked(alloc, attribute, node)),
+                Now::Call(call) => return Ok(asked_with_arguments(call)),
             };
         }
     }
@@ -356,7 +357,7 @@ impl<'a> Trial<'a> {
         }
     }
 
-    /// Evaluates the first argument of a call, or demands it where it has none.
+    /// Evaluates the first argument of a call, or demands the attribute where it has none, which takes no memory.
     fn first_argument(
         &mut self,
         alloc: Global,
@@ -368,13 +369,18 @@ impl<'a> Trial<'a> {
         ensures less { IfOk result (λ now. weight now self.new < sizes (bodies_view arguments.now) + 2 + load self.old.todo) }
         ensures reads { IfOk result (λ now. self.new.reads ≡ self.old.reads) }
     {
-        let call = Asking {
-            attribute,
-            node,
-            done: Arguments::new(alloc),
-        };
-        let boxed = Box::new(alloc, call)?;
-        self.next_argument(boxed, arguments)
+        match arguments.split_first() {
+            Some((argument, others)) => {
+                let call = Asking {
+                    attribute,
+                    node,
+                    done: Arguments::new(alloc),
+                };
+                let boxed = Box::new(alloc, call)?;
+                self.then(Todo::Argument(boxed, others), argument)
+            }
+            None => Ok(without_arguments(attribute, node)),
+        }
     }
 
     /// Passes an argument to a call, and goes on with the others.
@@ -404,15 +410,35 @@ impl<'a> Trial<'a> {
     {
         match others.split_first() {
             Some((argument, others)) => self.then(Todo::Argument(call, others), argument),
-            None => Ok(Now::Ask(call)),
+            None => Ok(Now::Call(call)),
         }
     }
 }
 
+/// The demand of an attribute without arguments, or the fault of one that is asked of null.
+fn without_arguments<'a>(attribute: AttrId, node: Option<Node>) -> Now<'a>
+    ensures same { (classes : Classes) (t : Trial) → onto classes t (demand_of attribute (Ref node) []) ≡ rest classes result t }
+    ensures less { (t : Trial) → weight result t < 2 + load t.todo }
+{
+    match node {
+        Some(node) => Now::Ask(attribute, node),
+        None => Now::Fail(FaultKind::Null),
+    }
+}
+
+/// The demand of an attribute of a node, without arguments.
+fn asked(alloc: Global, attribute: AttrId, node: Node) -> Step
+    ensures same { (tree : Contents ℕ) (seen : List (Location ℕ)) (classes : Classes) (t : Trial) → follow tree seen (rest classes (Ask attribute node) t) ≡ (reached classes result t, seen) }
+    ensures less { (t : Trial) → left result t ≤ weight (Ask attribute node) t }
+{
+    let none = Arguments::new(alloc);
+    Step::Need(Inst::new(node, attribute, none))
+}
+
 /// The demand of a call, or the fault of one that is asked of null.
-fn asked(call: Box<Asking>) -> Step
-    ensures same { (tree : Contents ℕ) (seen : List (Location ℕ)) (classes : Classes) (t : Trial) → follow tree seen (rest classes (Ask call) t) ≡ (reached classes result t, seen) }
-    ensures less { (t : Trial) → left result t ≤ weight (Ask call) t }
+fn asked_with_arguments(call: Box<Asking>) -> Step
+    ensures same { (tree : Contents ℕ) (seen : List (Location ℕ)) (classes : Classes) (t : Trial) → follow tree seen (rest classes (Call call) t) ≡ (reached classes result t, seen) }
+    ensures less { (t : Trial) → left result t ≤ weight (Call call) t }
 {
     let Asking {
         attribute,
