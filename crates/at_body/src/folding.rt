@@ -1,15 +1,17 @@
 //! The folds over the elements of a component.
 
 ghost use Rattle.std.specs.Prelude.{◌≡◌, ◌<◌, ◌≤◌, ◌+◌, [], length, IfOk};
+ghost use Rattle.std.specs.Int.{w32, int_wrapping_add};
 ghost use Rattle.at_model.specs.Classes.{Classes};
 ghost use Rattle.at_model.specs.Follow.{follow};
-ghost use Rattle.at_model.specs.Bodies.{Expr};
+ghost use Rattle.at_model.specs.Bodies.{Expr, int_of};
 ghost use Rattle.at_model.specs.Run.{Gives, Slot};
 ghost use Rattle.at_store.specs.Shown.{contents, IsIdle};
 ghost use Rattle.at_body.specs.Standing.{Place};
 ghost use Rattle.at_body.specs.Size.{size, tests, most};
 ghost use Rattle.at_body.specs.Values.{value_view};
 ghost use Rattle.at_rules.specs.Bodies.{body_view};
+ghost use Rattle.at_body.specs.declared.todo.Fold.TheVariants.{Sum};
 ghost use Rattle.at_body.specs.Rest.{rest, weight, over, gone_over, folded, decided, load};
 
 use super::todo::{Fold, Now, Todo};
@@ -75,7 +77,7 @@ impl<'a> Trial<'a> {
         ensures less { IfOk result (λ now. weight now self.new < tests (size (body_view body.now)) (length others.now) + load self.old.todo) }
         ensures reads { IfOk result (λ now. self.new.reads ≡ self.old.reads) }
     {
-        match fold {
+        match &fold {
             Fold::Exists => {
                 if value.truth() {
                     return Ok(Now::Back(Value::Bool(true)));
@@ -88,7 +90,7 @@ impl<'a> Trial<'a> {
                 }
                 self.next_element(Fold::First, body, others)
             }
-            Fold::Sum(total) => self.next_element(Fold::Sum(total.plus(value)), body, others),
+            Fold::Sum(total) => self.next_element(sum(total, value), body, others),
         }
     }
 }
@@ -100,8 +102,15 @@ fn come_to(fold: &Fold) -> Value
     match fold {
         Fold::Exists => Value::Bool(false),
         Fold::First => Value::Ref(None),
-        Fold::Sum(total) => Value::Int(total.int()),
+        Fold::Sum(total) => Value::Int(*total),
     }
+}
+
+/// A sum with one int more; it wraps.
+fn sum(total: &i32, value: &Value) -> Fold
+    ensures { result ≡ Sum (int_wrapping_add w32 total.now (int_of (value_view value.now))) }
+{
+    Fold::Sum(total.wrapping_add(value.int()))
 }
 
 /// The children in a component.

@@ -4,7 +4,7 @@ ghost use Rattle.std.specs.Prelude.{◌≡◌, ◌++◌, ◌+◌, ℕ, List, len
 ghost use Rattle.std.specs.Fmt.{signed_decimal};
 ghost use Rattle.at_model.specs.Classes.{Classes};
 ghost use Rattle.at_model.specs.Follow.{follow};
-ghost use Rattle.at_model.specs.Run.{Ref};
+ghost use Rattle.at_model.specs.Run.{Int, Ref};
 ghost use Rattle.at_model.specs.Bodies.{max_text, int_of, text_of, computed, joined, is_in_order, element_at, child_of, element_of, count_of, has_of, token_of, is_instance, cast_to};
 ghost use Rattle.at_store.specs.Shown.{contents, IsIdle};
 ghost use Rattle.at_body.specs.Values.{value_view};
@@ -73,6 +73,31 @@ impl<'a> Trial<'a> {
             Binary::Differ => Ok(Now::Back(Value::Bool(!left.is_same(right)))),
             Binary::Equals => Ok(Now::Back(Value::Bool(left.text() == right.text()))),
             Binary::Element(part) => self.element(store, part, &left, right),
+        }
+    }
+
+    /// What is done with two values, of which the right one is an int.
+    pub(crate) fn with_int(
+        &mut self,
+        alloc: Global,
+        store: &'a Store,
+        binary: Binary,
+        left: Value,
+        right: &i32,
+    ) -> Result<Now<'a>, AllocError>
+        requires idle_store { IsIdle store.now }
+        ensures same { (classes : Classes) → IfOk result (λ now. follow (contents store.now) self.old.reads (onto classes self.old (with_two binary (value_view left) (Int right.now))) ≡ follow (contents store.now) self.new.reads (rest classes now self.new)) }
+        ensures less { IfOk result (λ now. weight now self.new ≡ load self.old.todo) }
+    {
+        match binary {
+            Binary::Arithmetic(operator) => Ok(computed(operator, left.int(), *right)),
+            Binary::Compare(order) => {
+                Ok(Now::Back(Value::Bool(is_in_order(order, left.int(), *right))))
+            }
+            _ => {
+                let value = int_value(right);
+                self.binary(alloc, store, binary, left, &value)
+            }
         }
     }
 
@@ -227,6 +252,13 @@ impl<'a> Trial<'a> {
             None => Ok(Now::Fail(FaultKind::Null)),
         }
     }
+}
+
+/// The value of an int.
+fn int_value(number: &i32) -> Value
+    ensures { value_view result ≡ Int number.now }
+{
+    Value::Int(*number)
 }
 
 /// What an operator gives.

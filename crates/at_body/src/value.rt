@@ -1,7 +1,7 @@
 //! Values and faults.
 
 ghost use Rattle.std.specs.Prelude.{◌≡◌, ◌++◌, ◌≤◌, ℕ, nat_eq, pos, not, length, string_bytes, IfOk, OnOk};
-ghost use Rattle.std.specs.Int.{w32, int_wrapping_add, int_wrapping_neg};
+ghost use Rattle.std.specs.Int.{w32, int_wrapping_neg};
 ghost use Rattle.at_model.specs.Run.{Int};
 ghost use Rattle.at_model.specs.Bodies.{int_of, truth_of, text_of, ref_of, value_of, value_eq};
 ghost use Rattle.at_tree.specs.Token.{token_view};
@@ -184,13 +184,6 @@ impl Value {
         ensures { value_view result ≡ Int (int_wrapping_neg w32 (int_of (value_view self.now))) }
     {
         Value::Int(self.int().wrapping_neg())
-    }
-
-    /// The sum of two ints; it wraps.
-    pub fn plus(&self, other: &Value) -> Value
-        ensures { value_view result ≡ Int (int_wrapping_add w32 (int_of (value_view self.now)) (int_of (value_view other.now))) }
-    {
-        Value::Int(self.int().wrapping_add(other.int()))
     }
 
     /// Whether both are equal ints, truth values or texts, or the same node, or both null.
