@@ -49,6 +49,7 @@ tries: tools python
 
 # Speed, by the proved program, as ratios in one run; and what it takes at its limits.
 bench: build
+	cd crates/tries && rt run < stdin -- data/calc.ast data/calc.jrag data/tree.txt > /dev/null
 	python3 bench/bench.py
 	python3 bench/limits.py
 

@@ -1,8 +1,8 @@
 -- The first thing to do for the value of an expression.
-use Rattle.std.proofs.Common.{◌≡◌, ◌<◌, ◌≤◌, ◌+◌, ℕ, List, [], ◌∷◌, ◌++◌, refl, ap, ◌∙◌, Result, Ok, Err, IfOk, Bor, arith, subst, Option, Some, None, cond, map, length, append-nil}
+use Rattle.std.proofs.Common.{◌≡◌, ◌<◌, ◌≤◌, ◌+◌, ℕ, List, [], ◌∷◌, ◌++◌, refl, ap, ◌∙◌, Result, Ok, Err, IfOk, Bor, arith, subst, Option, Some, None, map, length, append-nil}
 use Rattle.std.proofs.lemmas.List.{map-append}
 use Rattle.at_model.specs.Classes.{Classes}
-use Rattle.at_model.specs.Bodies.{Expr, Exprs, no_exprs, expr, Call, truth_of, demand_of}
+use Rattle.at_model.specs.Bodies.{Expr, Exprs, no_exprs, expr, Call, demand_of}
 use Rattle.at_model.specs.Run.{Value, Ref, Instance, Location, Contents, Null, Run, Gives, ◌>>=◌}
 use Rattle.at_rules.specs.declared.body.Body.{Body, Row_of-Body, end_of-Body, more_of-Body, items-the_row-Body, Call'}
 use Rattle.at_body.specs.declared.value.Value.{Value as ValueCode}
@@ -16,8 +16,8 @@ use Rattle.at_body.specs.declared.trial.Trial.{Trial}
 use Rattle.at_rules.specs.Bodies.{body_view, row_view, bodies_view}
 use Rattle.at_body.specs.Standing.{inside}
 use Rattle.at_model.specs.Follow.{Waits, Stops, follow}
-use Rattle.at_body.specs.Rest.{rest, ev, ev_all, begun, resumed, used, called, gone_over, over, settled, then, outer, after, place_of, weight, cost, load}
-use Rattle.at_body.specs.Size.{size, sizes}
+use Rattle.at_body.specs.Rest.{rest, ev, ev_all, begun, resumed, used, called, gone_over, settled, then, outer, after, place_of, weight, cost, load}
+use Rattle.at_body.specs.Size.{size}
 use Rattle.at_body.proofs.Runs.{regroup, fun_ext}
 
 -- what it means that an expression is evaluated for a use of its value

@@ -1,9 +1,8 @@
 -- The use of a value.
-use Rattle.std.proofs.Common.{◌≡◌, ℕ, List, [], ◌∷◌, ◌++◌, ap, ◌∙◌, refl, sym, subst, Result, Ok, Err, IfOk, Bor, append_assoc, map, Some}
-use Rattle.std.proofs.lemmas.List.{map-append}
+use Rattle.std.proofs.Common.{◌≡◌, ℕ, List, [], ◌∷◌, ◌++◌, ap, ◌∙◌, refl, sym, subst, Result, Ok, Err, IfOk, Bor, append_assoc, Some}
 use Rattle.at_model.specs.Classes.{Classes}
 use Rattle.at_model.specs.Bodies.{Expr, Exprs, demand_of}
-use Rattle.at_model.specs.Run.{Value, Slot, Location, Contents, Run, Gives, ◌>>=◌}
+use Rattle.at_model.specs.Run.{Value, Slot, Location, Contents, Run, ◌>>=◌}
 use Rattle.at_model.specs.Follow.{follow}
 use Rattle.at_rules.specs.declared.body.Body.{Body}
 use Rattle.at_body.specs.declared.value.Value.{Value as ValueCode}

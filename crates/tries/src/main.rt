@@ -5,8 +5,10 @@
 //! `tries GRAMMAR ASPECTS TREE < LINES` answers each line that isn't empty by one line. `know PLACE CALL = VALUE` says
 //! that the instance has the value, and is answered `known`. `try PLACE CALL` is answered `value VALUE`, `fault WORD`
 //! or `need PLACE CALL`, and behind it the set of locations, each once, in the order of their texts: `is PLACE`,
-//! `slot PLACE PART`, `token PLACE PART`, `up PLACE`, `index PLACE`. Any other line is answered by a word alone: what
-//! it can't be read for, or what it names that isn't there.
+//! `slot PLACE PART`, `token PLACE PART`, `up PLACE`, `index PLACE`. `trial ROUNDS PLACE CALL` and `plain ROUNDS PLACE CALL`
+//! are for measuring: the equation is evaluated so many times, by trials over nothing that is known or by a plain recursion,
+//! and answered `value VALUE`. Any other line is answered by a word alone: what it can't be read for, or what it names that
+//! isn't there.
 #![tactic(auto)]
 
 ghost use Rattle.std.specs.Prelude.{IfOk};
@@ -16,7 +18,9 @@ mod failure;
 mod files;
 mod instances;
 mod known;
+mod plain;
 mod refusal;
+mod rounds;
 mod texts;
 
 use at_body::{Reads, try_body};
@@ -25,6 +29,7 @@ use files::{World, load};
 use instances::{instance, value_for};
 use known::Values;
 use refusal::Refusal;
+use rounds::{Way, tell_last};
 use std::alloc::AllocError;
 use std::io::{Read, Write};
 use std::process::ExitCode;
@@ -125,6 +130,12 @@ fn answer(world: &World, known: &mut Values, line: &[u8], out: &mut Vec<u8>) -> 
     };
     if let Some(call) = line.strip_prefix("try ") {
         return told(world, known, call, out);
+    }
+    if let Some(task) = line.strip_prefix("trial ") {
+        return tell_last(world, Way::Trial, task, out);
+    }
+    if let Some(task) = line.strip_prefix("plain ") {
+        return tell_last(world, Way::Plain, task, out);
     }
     let Some(fact) = line.strip_prefix("know ") else {
         return Err(Refusal::Line);

@@ -43,7 +43,8 @@ fn fault_word(kind: FaultKind) -> &'static str {
     }
 }
 
-fn write_value(world: &World, value: &Value, out: &mut Vec<u8>) -> Result<(), AllocError>
+/// Appends a value.
+pub fn write_value(world: &World, value: &Value, out: &mut Vec<u8>) -> Result<(), AllocError>
     requires { IsIdle world.now.store }
 {
     match value {
