@@ -45,6 +45,16 @@ found rules tree seen name vs height h n p part e t high up is idle unbound this
     ∙ ap (λ o. follow tree ((seen ++ Up n ∷ []) ++ Is p ∷ []) (by_equation rules nat_eq (record { this = p; names = vs; child = Some n }) (by_inherited rules nat_eq name vs h p) o)) (sym is)
     ∙ ap (follow tree ((seen ++ Up n ∷ []) ++ Is p ∷ [])) (sym (alone rules.classes t e p vs (Some n) idle unbound this passed down))
 
+-- or it stands above the parent
+pub climbs : (rules : Rules) (tree : Contents ℕ) (seen : List (Location ℕ)) (name : List ℕ) (vs : List (Value ℕ)) (height h n p part : ℕ) →
+    height ≡ suc h → Some (p, part) ≡ tree (Up n) → None ≡ inherited_equation rules (tree (Is p)) part name →
+    follow tree seen (by_inherited rules nat_eq name vs height n) ≡ follow tree ((seen ++ Up n ∷ []) ++ Is p ∷ []) (by_inherited rules nat_eq name vs h p)
+climbs rules tree seen name vs height h n p part high up is =
+    let above : Option (ℕ × ℕ) → Run ℕ (Value ℕ) = elim [ None ↦ Fails Null | Some q ↦ Looks (Is q.0) (λ c. by_equation rules nat_eq (record { this = q.0; names = vs; child = Some n }) (by_inherited rules nat_eq name vs h q.0) (inherited_equation rules c q.1 name)) ] in
+    ap (λ k. follow tree seen (by_inherited rules nat_eq name vs k n)) high
+    ∙ ap (λ o. follow tree (seen ++ Up n ∷ []) (above o)) (sym up)
+    ∙ ap (λ o. follow tree ((seen ++ Up n ∷ []) ++ Is p ∷ []) (by_equation rules nat_eq (record { this = p; names = vs; child = Some n }) (by_inherited rules nat_eq name vs h p) o)) (sym is)
+
 pub starts : (rules : Rules) (tree : Contents ℕ) (i : Instance ℕ) (seen : List (Location ℕ)) (c : ℕ) (end : Reached ℕ (Value ℕ) × List (Location ℕ)) →
     seen ≡ (Is i.node ∷ []) ++ argument_classes i.arguments → c ≡ tree (Is i.node) → follow tree seen (by_rule rules i.node i.attribute i.arguments c) ≡ end → follow tree [] (evaluation rules nat_eq i) ≡ end
 starts rules tree i seen c end grows is h =
