@@ -1,14 +1,14 @@
 -- The start of an evaluation.
-use Rattle.std.proofs.Common.{◌≡◌, ◌+◌, ℕ, suc, List, [], ◌∷◌, ◌++◌, refl, ap, sym, ◌∙◌, subst, nat_eq, map, Option, Some, None, option_map, append_assoc, append-nil}
+use Rattle.std.proofs.Common.{◌≡◌, ℕ, suc, List, [], ◌∷◌, ◌++◌, refl, ap, sym, ◌∙◌, nat_eq, map, Option, Some, None, append_assoc, append-nil}
 use Rattle.at_model.specs.Classes.{Classes}
-use Rattle.at_model.specs.Run.{Value, Instance, Location, Is, Up, Contents, Null, Run, Gives, Fails, Looks, ◌>>=◌}
-use Rattle.at_model.specs.Bodies.{Expr, Scope, ref_of, eval}
+use Rattle.at_model.specs.Run.{Value, Instance, Location, Is, Up, Contents, Null, Run, Fails, Looks}
+use Rattle.at_model.specs.Bodies.{Expr, ref_of, eval}
 use Rattle.at_model.specs.Rules.{Rules, by_inherited, by_equation, inherited_equation, past_arguments, evaluation}
 use Rattle.at_model.specs.Support.{argument_classes}
 use Rattle.at_body.specs.declared.trial.Trial.{Trial}
 use Rattle.at_body.specs.Values.{value_view}
-use Rattle.at_body.specs.Standing.{Place, scope}
-use Rattle.at_model.specs.Follow.{Reached, Stops, follow}
+use Rattle.at_body.specs.Standing.{scope}
+use Rattle.at_model.specs.Follow.{Reached, follow}
 use Rattle.at_body.specs.Starting.{by_rule}
 use Rattle.at_body.specs.Rest.{begun, place_of, ev}
 use Rattle.at_body.proofs.Runs.{to_its_end}

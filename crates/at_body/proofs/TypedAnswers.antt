@@ -1,31 +1,27 @@
 -- What is done with values of the right kinds comes to what the trial may be told.
-use Rattle.std.proofs.Common.{◌≡◌, ℕ, false, nat_eq, List, [], ◌∷◌, map, Option, Some, None, refl, sym, ap, subst, IfSome}
-use Rattle.std.specs.List.{AllByRecursion}
+use Rattle.std.proofs.Common.{◌≡◌, ℕ, false, nat_eq, List, [], ◌∷◌, map, None, refl, subst}
 use Rattle.at_model.specs.Bodies.{Expr, Scope, Name, Negate, Not, Arithmetic, Compare, Join, JoinInt, Same, Differ, Equals, InstanceOf, CastTo, Child, Element, Count, Has, TokenOf, eval}
 use Rattle.at_model.specs.Instances.{AnyText, literals}
 use Rattle.at_model.specs.Kinds.{HasKind, ScopeKinds}
 use Rattle.at_model.specs.Kinds as form
-use Rattle.at_model.specs.Rules.{Rules, Kind, Class}
+use Rattle.at_model.specs.Rules.{Rules, Kind}
 use Rattle.at_model.specs.Run.{Value, Int, Truth, Text, Ref, Contents, Run, Gives, Fails, Looks, Demands}
-use Rattle.at_model.specs.TypedRuns.{ClassAt, AreArguments, IsNodeOf, IsOfKind, IsOfScopeKinds, IsTypedRun}
+use Rattle.at_model.specs.TypedRuns.{ClassAt, AreArguments, IsOfKind, IsOfScopeKinds, IsTypedRun}
 use Rattle.at_model.proofs.Chained.{chained}
 use Rattle.at_model.proofs.Everywhere.{all_any}
 use Rattle.at_model.proofs.TypedExpressions.{typed as evaluated_typed}
 use Rattle.at_rules.specs.Bodies.{body_view, operator_view, order_view}
 use Rattle.at_rules.specs.declared.body.Body.{Body}
 use Rattle.at_body.specs.declared.todo.Binary.{Binary}
-use Rattle.at_body.specs.declared.todo.Binary.TheVariants as binary
 use Rattle.at_body.specs.declared.todo.Now.{Now}
 use Rattle.at_body.specs.declared.todo.Now.TheVariants.{Enter, Back, Fail, Ask, Call}
-use Rattle.at_body.specs.declared.todo.Todo.{Todo}
 use Rattle.at_body.specs.declared.todo.Todo.TheVariants as code
 use Rattle.at_body.specs.declared.todo.Unary.{Unary}
-use Rattle.at_body.specs.declared.todo.Unary.TheVariants as unary
 use Rattle.at_body.specs.declared.trial.Trial.{Trial}
 use Rattle.at_body.specs.Values.{value_view}
 use Rattle.at_body.specs.Standing.{Place, names, scope}
 use Rattle.at_body.specs.Rest.{ev, place_of, with_one, with_two}
-use Rattle.at_body.specs.ValueKinds.{IsInt, IsTruth, IsText, IsRef, AreAlike}
+use Rattle.at_body.specs.ValueKinds.{AreAlike}
 use Rattle.at_body.specs.Typed.{IsOperand, AreOperands, ComesTo, IsOver, PlaceKinds, name_kinds, scope_kinds, AreBound, IsPlaceOf, IsUse, IsOperation, IsTodo, AreTodos, Stands, Takes, Enters, Uses, Operates, IsTypedNow}
 use Rattle.at_body.specs.Typed as typed
 use Rattle.at_body.proofs.TypedUses.{any_text, is_int, is_truth, is_text, is_ref}

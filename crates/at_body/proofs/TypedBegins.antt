@@ -1,9 +1,9 @@
 -- A trial of a well-typed instance begins where there is an equation.
-use Rattle.std.proofs.Common.{◌≡◌, ℕ, Bool, true, false, List, [], map, Option, Some, None, refl, sym, ap, ◌∙◌, subst}
+use Rattle.std.proofs.Common.{◌≡◌, ℕ, Bool, false, List, [], map, Some, None, refl, sym, ap, ◌∙◌, subst}
 use Rattle.std.specs.Prelude.{IsSome}
 use Rattle.at_model.specs.Bodies.{Expr}
 use Rattle.at_model.specs.Instances.{AnyText}
-use Rattle.at_model.specs.Rules.{Rules, Attribute, attribute_name, is_inherited, own_equation}
+use Rattle.at_model.specs.Rules.{Rules, attribute_name, is_inherited, own_equation}
 use Rattle.at_model.specs.Run.{Instance, Is}
 use Rattle.at_model.specs.Terms.{max_depth}
 use Rattle.at_model.specs.TypedRuns.{AreArguments, IsWellTyped}

@@ -1,31 +1,25 @@
 -- Folds under way, by the kinds of their values; and what names stand for.
-use Rattle.std.proofs.Common.{◌≡◌, ℕ, ℤ, zero, suc, Bool, true, false, List, [], ◌∷◌, map, Option, Some, None, refl, ap, sym, subst, Bor}
-use Rattle.std.specs.Prelude.{IsSome, option_and_then}
-use Rattle.std.specs.List.{slice_get, AllByRecursion}
+use Rattle.std.proofs.Common.{◌≡◌, ℕ, ℤ, Bool, false, List, [], ◌∷◌, Some, None, ap, sym, subst, Bor}
+use Rattle.std.specs.Prelude.{option_and_then}
 use Rattle.std.specs.Int.{w32, int_wrapping_add}
-use Rattle.at_model.specs.Classes.{Classes, Many, class_in}
+use Rattle.at_model.specs.Classes.{Classes, class_in}
 use Rattle.at_model.specs.Bodies.{Expr, int_of, ref_of}
-use Rattle.at_model.specs.Run.{Value, Int, Truth, Text, Ref, Slot, Contents, Gives}
+use Rattle.at_model.specs.Run.{Value, Int, Truth, Ref, Slot, Contents, Gives}
 use Rattle.at_model.specs.Rules.{Rules, Kind}
 use Rattle.at_model.specs.Rules as model
-use Rattle.at_model.specs.Kinds.{HasKind, shape_of_part}
-use Rattle.at_model.specs.Kinds as form
-use Rattle.at_model.specs.TypedRuns.{ClassAt, IsNodeOf, IsOfKind, AreArguments}
-use Rattle.at_model.specs.Instances.{AnyText}
+use Rattle.at_model.specs.Kinds.{HasKind}
+use Rattle.at_model.specs.TypedRuns.{ClassAt, IsOfKind}
 use Rattle.at_model.proofs.Below.{asked_below}
 use Rattle.at_model.proofs.Chained.{chained}
 use Rattle.at_model.proofs.TypedExpressions.{read_back}
 use Rattle.at_rules.specs.Bodies.{body_view}
 use Rattle.at_rules.specs.declared.body.Body.{Body}
-use Rattle.at_body.specs.declared.value.Value.{Value as ValueCode}
 use Rattle.at_body.specs.declared.todo.Fold.{Fold}
 use Rattle.at_body.specs.declared.todo.Fold.TheVariants as fold
-use Rattle.at_body.specs.declared.todo.Todo.{Todo}
 use Rattle.at_body.specs.declared.todo.Todo.TheVariants as code
 use Rattle.at_body.specs.declared.trial.Trial.{Trial}
-use Rattle.at_body.specs.Values.{value_view}
 use Rattle.at_body.specs.Stacked.{below}
-use Rattle.at_body.specs.Standing.{Place, names, scope}
+use Rattle.at_body.specs.Standing.{Place}
 use Rattle.at_body.specs.Rest.{place_of, over}
 use Rattle.at_body.specs.ValueKinds.{IsRef}
 use Rattle.at_body.specs.Typed.{IsOver, PlaceKinds, name_kinds, scope_kinds, kinds_inside, AreBound, IsPlaceOf, IsFold, IsTodo, AreTodos, Stands, Takes, Enters, Uses, IsTold, GoesOver, Decides, Folds}

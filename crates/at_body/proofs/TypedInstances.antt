@@ -1,6 +1,5 @@
 -- A well-typed instance by numbers is one of the tree, and has an equation.
-use Rattle.std.proofs.Common.{◌≡◌, ℕ, true, false, List, [], ◌∷◌, Option, Some, None, refl, sym, ap, ◌∙◌, subst}
-use Rattle.std.specs.Prelude.{option_map, option_and_then}
+use Rattle.std.proofs.Common.{◌≡◌, ℕ, true, false, List, [], ◌∷◌, Option, Some, None, refl, sym, subst}
 use Rattle.at_model.specs.Classes.{is_sub}
 use Rattle.at_model.specs.Trees.{Tree, class_of}
 use Rattle.at_model.specs.Terms.{max_depth}
@@ -10,7 +9,7 @@ use Rattle.at_model.specs.Bodies.{Expr}
 use Rattle.at_model.specs.Rules.{Rules, Kind, own_equation}
 use Rattle.at_model.specs.Rules as model
 use Rattle.at_model.specs.Meaning.{content}
-use Rattle.at_model.specs.Alike.{Names, OptionLike, neither, both, ListLike, end, more, ValueLike, int, truth, text, ref, InstanceLike}
+use Rattle.at_model.specs.Alike.{Names, neither, both, ListLike, end, more, ValueLike, int, truth, text, ref, InstanceLike}
 use Rattle.at_model.specs.TypedRuns.{ClassAt, class_at, class_numbered, IsOfKind, IsAllowed, AreArguments, IsWellTyped}
 use Rattle.at_model.specs.Instances.{AnyText}
 use Rattle.at_model.specs.WellFormed.{AreWellFormed, IsTreeSound}

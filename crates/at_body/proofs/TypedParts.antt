@@ -1,27 +1,23 @@
 -- An expression of a kind is evaluated by parts of their kinds, for uses of their values.
-use Rattle.std.proofs.Common.{◌≡◌, ℕ, ℤ, true, List, [], ◌∷◌, map, Some, sym, subst, Bor, Result, Ok, Err, IfOk}
-use Rattle.at_model.specs.Classes.{is_sub}
+use Rattle.std.proofs.Common.{◌≡◌, ℕ, ℤ, List, ◌∷◌, subst, Bor, Result, Ok, Err, IfOk}
 use Rattle.at_model.specs.Terms.{IsInt32}
-use Rattle.at_model.specs.Bodies.{Expr, Exprs, Negate, Not, Arithmetic, Compare, Join, JoinInt, Same, Differ, And, Or, Choose, Equals, InstanceOf, CastTo, Child, Element, Count, Has, TokenOf, Call, Exists, First, Sum}
+use Rattle.at_model.specs.Bodies.{Expr, Negate, Not, Arithmetic, Compare, Join, JoinInt, Same, Differ, And, Or, Choose, Equals, InstanceOf, CastTo, Child, Element, Count, Has, TokenOf, Call, Exists, First, Sum}
 use Rattle.at_model.specs.Rules.{Rules, Kind}
 use Rattle.at_model.specs.Rules as model
 use Rattle.at_model.specs.Kinds.{ScopeKinds, HasKind, HaveKinds}
 use Rattle.at_model.specs.Kinds as form
-use Rattle.at_model.specs.TypedRuns.{ClassAt, IsOfKind}
+use Rattle.at_model.specs.TypedRuns.{ClassAt}
 use Rattle.at_rules.specs.Bodies.{body_view, bodies_view, operator_view, order_view}
 use Rattle.at_rules.specs.declared.body.Body.{Body}
 use Rattle.at_rules.specs.declared.body.Operator.{Operator}
 use Rattle.at_rules.specs.declared.body.Order.{Order}
 use Rattle.at_body.specs.declared.todo.Unary.TheVariants as unary
 use Rattle.at_body.specs.declared.todo.Binary.TheVariants as binary
-use Rattle.at_body.specs.declared.todo.Fold.{Fold}
 use Rattle.at_body.specs.declared.todo.Fold.TheVariants as fold
 use Rattle.at_body.specs.declared.todo.Todo.{Todo}
 use Rattle.at_body.specs.declared.todo.Todo.TheVariants as code
 use Rattle.at_body.specs.declared.todo.Now.{Now}
 use Rattle.at_body.specs.declared.trial.Trial.{Trial}
-use Rattle.at_body.specs.declared.value.Value.{Value as ValueCode}
-use Rattle.at_body.specs.Values.{value_view}
 use Rattle.at_body.specs.Typed.{PlaceKinds, scope_kinds, kinds_inside, IsUse, IsOperation, IsFold, IsTodo, AreTodos, Stands, Enters, IsTypedNow}
 use Rattle.at_body.specs.Typed as typed
 use Rattle.at_body.proofs.Entering.{Put}

@@ -1,5 +1,5 @@
 -- What a store shows of a sound tree is of the right kinds, by numbers.
-use Rattle.std.proofs.Common.{◌≡◌, ℕ, ◌<◌, true, ◌&&◌, nat_le, List, [], ◌∷◌, map, length, Option, Some, None, refl, sym, ap, ◌∙◌, subst, arith}
+use Rattle.std.proofs.Common.{◌≡◌, ℕ, ◌<◌, true, ◌&&◌, nat_le, List, [], map, length, Option, Some, None, refl, sym, ◌∙◌, subst, arith}
 use Rattle.std.proofs.lemmas.List.{length-map}
 use Rattle.std.specs.Prelude.{IsSome, option_and_then}
 use Rattle.std.specs.List.{AllByRecursion}
@@ -8,12 +8,12 @@ use Rattle.at_model.specs.Classes as class
 use Rattle.at_model.specs.Trees.{Tree, nodes}
 use Rattle.at_model.specs.Trees as held
 use Rattle.at_model.specs.Paths.{Node}
-use Rattle.at_model.specs.Run.{Value, Is, Tok, Slot, Idx, Location, Contents}
+use Rattle.at_model.specs.Run.{Is, Tok, Slot, Idx, Location, Contents}
 use Rattle.at_model.specs.Bodies.{value_of}
 use Rattle.at_model.specs.Rules.{Rules}
 use Rattle.at_model.specs.Meaning.{content}
 use Rattle.at_model.specs.Alike.{AlikeAt, Names, ListLike, end, more, is, tok, slot, idx}
-use Rattle.at_model.specs.Kinds.{shape_of_part, class_of_part, kind_of_token}
+use Rattle.at_model.specs.Kinds.{kind_of_token}
 use Rattle.at_model.specs.TypedRuns.{ClassAt, Texts, class_at, class_numbered, IsNodeOf, IsOfKind, IsAllowed, AreContentsTyped}
 use Rattle.at_model.specs.Instances.{AnyText, tokens}
 use Rattle.at_model.specs.WellFormed.{AreWellFormed, IsTreeSound}

@@ -1,6 +1,6 @@
 -- The equation that an instance has is of the kind of its attribute, at the place where it stands.
 use Rattle.std.proofs.Common.{◌≡◌, ℕ, suc, Bool, true, false, cond, ◌&&◌, ◌||◌, nat_eq, List, [], ◌∷◌, map, Option, Some, None, refl, sym, ap, ◌∙◌, subst, arith}
-use Rattle.std.specs.Prelude.{IsSome, IfSome, find, option_map}
+use Rattle.std.specs.Prelude.{IsSome, IfSome, find}
 use Rattle.std.specs.Option.{option_or}
 use Rattle.std.specs.List.{slice_get, AllByRecursion, list_any}
 use Rattle.std.specs.Str.{bytes_eq}

@@ -1,15 +1,14 @@
 -- What a trial does next, by the kinds of its values.
-use Rattle.std.proofs.Common.{◌≡◌, ℕ, ℤ, ◌-◌, zero, suc, true, List, [], ◌∷◌, ◌++◌, length, map, Option, Some, None, refl, sym, ap, ◌∙◌, subst, Bor, Result, Ok, Err, IfOk, IfSome, arith}
+use Rattle.std.proofs.Common.{◌≡◌, ℕ, ℤ, ◌-◌, zero, suc, List, [], ◌∷◌, ◌++◌, length, map, Option, Some, None, refl, sym, subst, Bor, Result, Ok, Err, IfOk, arith}
 use Rattle.std.specs.Prelude.{IsSome}
 use Rattle.std.specs.List.{slice_get}
 use Rattle.at_model.specs.Bodies.{IndexName, Name, computed, joined}
 use Rattle.at_model.specs.Kinds.{HasKind}
 use Rattle.at_model.specs.Kinds as form
 use Rattle.at_model.specs.Rules.{Rules, Kind, Class}
-use Rattle.at_model.specs.Run.{Value, Int, Ref, Contents, Slot, Run, Gives, Location}
+use Rattle.at_model.specs.Run.{Value, Contents, Slot, Gives, Location}
 use Rattle.at_model.specs.TypedRuns.{ClassAt, AreArguments}
 use Rattle.at_model.specs.Instances.{AnyText}
-use Rattle.at_model.specs.WellFormed.{IsHierarchy}
 use Rattle.at_model.proofs.Chained.{chained}
 use Rattle.at_rules.specs.Bodies.{body_view, operator_view}
 use Rattle.at_rules.specs.declared.body.Operator.{Operator}
@@ -17,7 +16,6 @@ use Rattle.at_rules.specs.declared.body.Body.{Body}
 use Rattle.at_body.specs.declared.todo.Binary.{Binary}
 use Rattle.at_body.specs.declared.todo.Fold.{Fold}
 use Rattle.at_body.specs.declared.todo.Now.{Now}
-use Rattle.at_body.specs.declared.todo.Now.TheVariants.{Back, Enter}
 use Rattle.at_body.specs.declared.todo.Todo.{Todo}
 use Rattle.at_body.specs.declared.todo.Todo.TheVariants as code
 use Rattle.at_body.specs.declared.todo.Unary.{Unary}
@@ -26,11 +24,10 @@ use Rattle.at_body.specs.declared.value.Value.{Value as ValueCode}
 use Rattle.at_body.specs.Values.{value_view}
 use Rattle.at_body.specs.Standing.{names, scope}
 use Rattle.at_body.specs.Rest.{ev, place_of, with_one, with_two}
-use Rattle.at_body.specs.Typed.{AreOperands, ComesTo, IsOperand, IsOver, PlaceKinds, name_kinds, scope_kinds, AreBound, AreTodos, Stands, Takes, Enters, Uses, Operates, GoesOver, Folds, IsTypedNow}
-use Rattle.at_body.specs.Typed as typed
+use Rattle.at_body.specs.Typed.{ComesTo, IsOver, PlaceKinds, name_kinds, scope_kinds, AreBound, Stands, Enters, Uses, Operates, GoesOver, Folds, IsTypedNow}
 use Rattle.at_body.proofs.TypedUses.{taken, right_follows, operands_there}
 use Rattle.at_body.proofs.TypedFolds.{elements_there}
-use Rattle.at_body.proofs.TypedAnswers.{evaluated_now, at_hand_takes, use_typed, operates_typed, operands_fit}
+use Rattle.at_body.proofs.TypedAnswers.{evaluated_now, at_hand_takes, use_typed, operates_typed}
 
 -- nothing is left of what has no length
 pub none_more : {A : Type 0} (xs : List A) → length xs ≡ 0 → xs ≡ []

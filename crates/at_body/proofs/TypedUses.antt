@@ -1,16 +1,14 @@
 -- What a trial does with a value of the kind that it waits for is of the right kinds.
-use Rattle.std.proofs.Common.{◌≡◌, ℕ, Bool, true, false, List, [], ◌∷◌, ◌++◌, map, Option, Some, None, refl, sym, ap, ◌∙◌, subst, Bor, Result, Ok, Err, IfOk, append_assoc, append-nil}
-use Rattle.std.proofs.lemmas.List.{map-append}
-use Rattle.std.specs.Prelude.{IfSome, IsSome}
-use Rattle.std.specs.List.{slice_get, AllByRecursion}
+use Rattle.std.proofs.Common.{◌≡◌, ℕ, Bool, true, List, [], ◌∷◌, ◌++◌, map, Option, Some, None, refl, sym, ◌∙◌, subst, Bor, append_assoc, append-nil}
+use Rattle.std.specs.Prelude.{IfSome}
 use Rattle.at_model.specs.Classes.{is_sub}
-use Rattle.at_model.specs.Bodies.{Expr, Exprs, no_exprs, expr, ref_of}
+use Rattle.at_model.specs.Bodies.{no_exprs, expr, ref_of}
 use Rattle.at_model.specs.Run.{Value, Int, Truth, Text, Ref, Instance, Location}
 use Rattle.at_model.specs.Rules.{Rules, Kind, Attribute}
 use Rattle.at_model.specs.Rules as model
 use Rattle.at_model.specs.Kinds.{HasKind, HaveKinds, IsArgumentForm}
 use Rattle.at_model.specs.Kinds as form
-use Rattle.at_model.specs.TypedRuns.{ClassAt, IsNodeOf, IsOfKind, IsAllowed, AreArguments, IsWellTyped, IsOfItsKind}
+use Rattle.at_model.specs.TypedRuns.{ClassAt, IsNodeOf, IsOfKind, IsAllowed, AreArguments, IsOfItsKind}
 use Rattle.at_model.specs.Instances.{AnyText}
 use Rattle.at_model.proofs.Below.{AreChained, sub_sub}
 use Rattle.at_rules.specs.Bodies.{body_view, bodies_view}
@@ -18,14 +16,11 @@ use Rattle.at_rules.specs.declared.body.Body.{Body}
 use Rattle.std.specs.Global.{Box}
 use Rattle.at_body.specs.declared.todo.Asking.{Asking}
 use Rattle.at_body.specs.declared.value.Value.{Value as ValueCode}
-use Rattle.at_body.specs.declared.todo.Fold.{Fold}
-use Rattle.at_body.specs.declared.todo.Fold.TheVariants as fold
 use Rattle.at_body.specs.declared.todo.Binary.{Binary}
 use Rattle.at_body.specs.declared.todo.Todo.{Todo}
 use Rattle.at_body.specs.declared.todo.Todo.TheVariants as code
 use Rattle.at_body.specs.declared.trial.Trial.{Trial}
 use Rattle.at_body.specs.Values.{value_view}
-use Rattle.at_body.specs.Stacked.{below}
 use Rattle.at_body.specs.Rest.{place_of}
 use Rattle.at_body.specs.ValueKinds.{IsInt, IsTruth, IsText, IsRef}
 use Rattle.at_body.specs.Typed.{PlaceKinds, scope_kinds, kinds_inside, AreBound, IsPlaceOf, IsFold, IsOperation, IsTodo, AreTodos, Stands, Takes, Enters, WaitsFor, Uses, Operates, Calls, GoesOver, Decides, Folds}

@@ -1,6 +1,6 @@
 use Rattle.std.proofs.Common.{◌∙◌, ap, sym}
 use Rattle.at_body.specs.Rest.{resumed}
-use Rattle.at_body.proofs.Naming.{is_passed, is_none}
+use Rattle.at_body.proofs.Naming.{is_passed}
 use Rattle.at_body.proofs.trial.Trial.argument.Goals as goal
 
 pub returns-clause-same : goal.returns-clause-same

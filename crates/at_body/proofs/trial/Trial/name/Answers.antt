@@ -1,4 +1,4 @@
-use Rattle.std.proofs.Common.{◌∙◌, ap, map, subst, sym, IfOk, length, ◌-◌, refl}
+use Rattle.std.proofs.Common.{ap, map, subst, sym, IfOk, refl}
 use Rattle.at_body.specs.Rest.{resumed}
 use Rattle.at_body.proofs.Naming.{is_bound, is_behind, behind}
 use Rattle.at_body.specs.Values.{value_view}

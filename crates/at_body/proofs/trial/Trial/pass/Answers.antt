@@ -1,7 +1,7 @@
 use Rattle.at_model.specs.Run.{Ref}
 use Rattle.at_rules.specs.Bodies.{bodies_view}
 use Rattle.at_body.proofs.Entering.{passed_on}
-use Rattle.std.proofs.Common.{map, subst, sym, ap, ◌∙◌, [], ◌∷◌, ◌++◌}
+use Rattle.std.proofs.Common.{map, subst, sym, ap, ◌∙◌, [], ◌∷◌}
 use Rattle.std.proofs.lemmas.List.{map-append}
 use Rattle.at_body.specs.Values.{value_view}
 use Rattle.at_body.specs.Typed.{Calls}
