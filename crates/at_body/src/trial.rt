@@ -1,12 +1,17 @@
 //! An evaluation that can be put aside where it demands an instance.
 
-ghost use Rattle.std.specs.Prelude.{◌≡◌, ◌<◌, ◌≤◌, ◌+◌, ◌-◌, ◌++◌, ◌∷◌, [], ℕ, List, length, IfOk, IfSome, map, option_copied, slice_get};
+ghost use Rattle.std.specs.Prelude.{◌≡◌, ◌<◌, ◌≤◌, ◌+◌, ◌-◌, ◌++◌, ◌∷◌, [], ℕ, List, length, IfOk, IfSome, IsSome, map, option_copied, slice_get};
 ghost use Rattle.at_model.specs.Classes.{Classes};
 ghost use Rattle.at_model.specs.Follow.{follow};
 ghost use Rattle.at_model.specs.Run.{Contents, Gives, Location, Ref};
-ghost use Rattle.at_model.specs.Bodies.{named, index_of, demand_of};
+ghost use Rattle.at_model.specs.Bodies.{named, index_of, demand_of, no_exprs};
+ghost use Rattle.at_model.specs.Rules.{Rules as Meant};
+ghost use Rattle.at_model.specs.TypedRuns.{ClassAt};
+ghost use Rattle.at_model.specs.WellFormed.{IsHierarchy};
 ghost use Rattle.at_store.specs.Shown.{contents, IsIdle};
 ghost use Rattle.at_body.specs.Size.{size, sizes, tests};
+ghost use Rattle.at_body.specs.Typed.{Calls, ComesTo, Enters, IsOver, IsTypedNow, IsTypedStep, Takes, Uses, class_shown};
+ghost use Rattle.at_body.specs.ValueKinds.{IsTruth};
 ghost use Rattle.at_body.specs.Values.{value_view};
 ghost use Rattle.at_rules.specs.Bodies.{body_view, bodies_view};
 ghost use Rattle.at_body.specs.Standing.{scope};
@@ -19,6 +24,7 @@ use super::inst::{Arguments, Inst};
 use super::reads::Reads;
 use super::stack::Stack;
 use super::todo::{Asking, Binary, Fold, Now, Todo, Unary};
+use super::using::int_value;
 use super::value::{FaultKind, Value};
 use at_rules::{AttrId, Body, Rules};
 use at_store::{Loc, Node, Store};
@@ -57,8 +63,11 @@ impl<'a> Trial<'a> {
         value: Value,
     ) -> Result<Step, AllocError>
         requires idle_store { IsIdle store.now }
+        requires over { IsOver rules.now (class_shown store.now) (contents store.now) }
+        requires takes { Takes rules.now (class_shown store.now) self.old (value_view value) }
         ensures found { IfOk result (λ step. follow (contents store.now) self.old.reads (resumed rules.now.classes self.old (value_view value)) ≡ (reached rules.now.classes step self.new, self.new.reads)) }
         ensures less { IfOk result (λ step. left step self.new ≤ load self.old.todo) }
+        ensures typed { IfOk result (λ step. IsTypedStep rules.now (class_shown store.now) step self.new) }
     {
         self.advance(alloc, rules, store, Now::Back(value))
     }
@@ -79,12 +88,15 @@ impl<'a> Trial<'a> {
         mut now: Now<'a>,
     ) -> Result<Step, AllocError>
         requires idle_store { IsIdle store.now }
+        requires over { IsOver rules.now (class_shown store.now) (contents store.now) }
+        requires typed { IsTypedNow rules.now (class_shown store.now) now self.old }
         ensures found { IfOk result (λ step. follow (contents store.now) self.old.reads (rest rules.now.classes now.entry self.old) ≡ (reached rules.now.classes step self.new, self.new.reads)) }
         ensures less { IfOk result (λ step. left step self.new ≤ weight now.entry self.old) }
+        ensures typed { IfOk result (λ step. IsTypedStep rules.now (class_shown store.now) step self.new) }
     {
         loop {
             now = match now {
-                Now::Enter(body) => self.enter(alloc, rules, store, body)?,
+                Now::Enter(body) => self.enter(rules, store, body)?,
                 Now::Back(value) => match self.todo.pop() {
                     Some(todo) => self.back(alloc, rules, store, todo, value)?,
                     None => return Ok(Step::Value(value)),
@@ -100,38 +112,42 @@ impl<'a> Trial<'a> {
     /// room for all arms of a `match` is made at each call.
     fn enter(
         &mut self,
-        alloc: Global,
         rules: &'a Rules,
         store: &'a Store,
         body: &'a Body,
     ) -> Result<Now<'a>, AllocError>
         requires idle_store { IsIdle store.now }
+        requires over { IsOver rules.now (class_shown store.now) (contents store.now) }
+        requires typed { Enters rules.now (class_shown store.now) self.old body.now }
         ensures same { IfOk result (λ now. follow (contents store.now) self.old.reads (begun rules.now.classes self.old (body_view body.now)) ≡ follow (contents store.now) self.new.reads (rest rules.now.classes now self.new)) }
         ensures less { IfOk result (λ now. weight now self.new < size (body_view body.now) + load self.old.todo) }
+        ensures typed { IfOk result (λ now. IsTypedNow rules.now (class_shown store.now) now self.new) }
     {
         match body {
             Body::TokenOf(a, part) => self.operand(rules, store, Unary::Token(*part), a),
             Body::Arithmetic(operator, a, b) => {
-                self.operands(alloc, store, Binary::Arithmetic(*operator), a, b)
+                self.operands(store, Binary::Arithmetic(*operator), a, b)
             }
-            _ => self.enter_any(alloc, rules, store, body),
+            _ => self.enter_any(rules, store, body),
         }
     }
 
     /// The first thing to do for the value of an expression of any form.
     fn enter_any(
         &mut self,
-        alloc: Global,
         rules: &'a Rules,
         store: &'a Store,
         body: &'a Body,
     ) -> Result<Now<'a>, AllocError>
         requires idle_store { IsIdle store.now }
+        requires over { IsOver rules.now (class_shown store.now) (contents store.now) }
+        requires typed { Enters rules.now (class_shown store.now) self.old body.now }
         ensures same { IfOk result (λ now. follow (contents store.now) self.old.reads (begun rules.now.classes self.old (body_view body.now)) ≡ follow (contents store.now) self.new.reads (rest rules.now.classes now self.new)) }
         ensures less { IfOk result (λ now. weight now self.new < size (body_view body.now) + load self.old.todo) }
+        ensures typed { IfOk result (λ now. IsTypedNow rules.now (class_shown store.now) now self.new) }
     {
         match body {
-            Body::Int(n) => Ok(Now::Back(Value::Int(*n))),
+            Body::Int(n) => Ok(Now::Back(int_value(n))),
             Body::Truth(b) => Ok(Now::Back(Value::Bool(*b))),
             Body::Text(text) => Ok(Now::Back(Value::Text(text.clone()?))),
             Body::Null => Ok(Now::Back(Value::Ref(None))),
@@ -140,20 +156,20 @@ impl<'a> Trial<'a> {
             Body::IndexName => self.index(store),
             Body::Negate(a) => self.operand(rules, store, Unary::Negate, a),
             Body::Not(a) => self.operand(rules, store, Unary::Not, a),
-            Body::Arithmetic(o, a, b) => self.operands(alloc, store, Binary::Arithmetic(*o), a, b),
-            Body::Compare(o, a, b) => self.operands(alloc, store, Binary::Compare(*o), a, b),
-            Body::Join(a, b) => self.operands(alloc, store, Binary::Join, a, b),
-            Body::JoinInt(a, b) => self.operands(alloc, store, Binary::JoinInt, a, b),
-            Body::Same(a, b) => self.operands(alloc, store, Binary::Same, a, b),
-            Body::Differ(a, b) => self.operands(alloc, store, Binary::Differ, a, b),
+            Body::Arithmetic(o, a, b) => self.operands(store, Binary::Arithmetic(*o), a, b),
+            Body::Compare(o, a, b) => self.operands(store, Binary::Compare(*o), a, b),
+            Body::Join(a, b) => self.operands(store, Binary::Join, a, b),
+            Body::JoinInt(a, b) => self.operands(store, Binary::JoinInt, a, b),
+            Body::Same(a, b) => self.operands(store, Binary::Same, a, b),
+            Body::Differ(a, b) => self.operands(store, Binary::Differ, a, b),
             Body::And(a, b) => self.then(Todo::And(b), a),
             Body::Or(a, b) => self.then(Todo::Or(b), a),
             Body::Choose(test, yes, no) => self.then(Todo::Choose(yes, no), test),
-            Body::Equals(a, b) => self.operands(alloc, store, Binary::Equals, a, b),
+            Body::Equals(a, b) => self.operands(store, Binary::Equals, a, b),
             Body::InstanceOf(a, class) => self.operand(rules, store, Unary::InstanceOf(*class), a),
             Body::CastTo(class, a) => self.operand(rules, store, Unary::CastTo(*class), a),
             Body::Child(a, part) => self.operand(rules, store, Unary::Child(*part), a),
-            Body::Element(a, part, b) => self.operands(alloc, store, Binary::Element(*part), a, b),
+            Body::Element(a, part, b) => self.operands(store, Binary::Element(*part), a, b),
             Body::Count(a, part) => self.operand(rules, store, Unary::Count(*part), a),
             Body::Has(a, part) => self.operand(rules, store, Unary::Has(*part), a),
             Body::TokenOf(a, part) => self.operand(rules, store, Unary::Token(*part), a),
@@ -181,8 +197,11 @@ impl<'a> Trial<'a> {
         operand: &'a Body,
     ) -> Result<Now<'a>, AllocError>
         requires idle_store { IsIdle store.now }
+        requires over { IsOver rules.now (class_shown store.now) (contents store.now) }
+        requires typed { Enters rules.now (class_shown store.now) (record self.old { todo = Use unary ∷ self.old.todo }) operand.now }
         ensures same { IfOk result (λ now. follow (contents store.now) self.old.reads (evaluated_for rules.now.classes self.old (Use unary) (body_view operand.now)) ≡ follow (contents store.now) self.new.reads (rest rules.now.classes now self.new)) }
         ensures less { IfOk result (λ now. weight now self.new < size (body_view operand.now) + 2 + load self.old.todo) }
+        ensures typed { IfOk result (λ now. IsTypedNow rules.now (class_shown store.now) now self.new) }
     {
         match self.at_hand(operand) {
             Some(value) => self.unary(rules, store, unary, &value),
@@ -193,18 +212,19 @@ impl<'a> Trial<'a> {
     /// Evaluates the operands, the left one first, for a use of both values.
     fn operands(
         &mut self,
-        alloc: Global,
         store: &'a Store,
         binary: Binary,
         left: &'a Body,
         right: &'a Body,
     ) -> Result<Now<'a>, AllocError>
         requires idle_store { IsIdle store.now }
+        requires typed { (meant : Meant) × (at : ClassAt ℕ) × IsOver meant at (contents store.now) × Enters meant at (record self.old { todo = Right binary right ∷ self.old.todo }) left.now }
         ensures same { (classes : Classes) → IfOk result (λ now. follow (contents store.now) self.old.reads (evaluated_for classes self.old (Right binary right.entry) (body_view left.now)) ≡ follow (contents store.now) self.new.reads (rest classes now self.new)) }
         ensures less { IfOk result (λ now. weight now self.new < size (body_view left.now) + size (body_view right.now) + 3 + load self.old.todo) }
+        ensures typed { (meant : Meant) (at : ClassAt ℕ) → IsOver meant at (contents store.now) → Enters meant at (record self.old { todo = Right binary right.entry ∷ self.old.todo }) left.now → IfOk result (λ now. IsTypedNow meant at now self.new) }
     {
         match self.at_hand(left) {
-            Some(value) => self.right_operand(alloc, store, binary, value, right),
+            Some(value) => self.right_operand(store, binary, value, right),
             None => self.then(Todo::Right(binary, right), left),
         }
     }
@@ -212,37 +232,39 @@ impl<'a> Trial<'a> {
     /// Evaluates the right operand, for a use of both values.
     fn right_operand(
         &mut self,
-        alloc: Global,
         store: &'a Store,
         binary: Binary,
         left: Value,
         right: &'a Body,
     ) -> Result<Now<'a>, AllocError>
         requires idle_store { IsIdle store.now }
+        requires typed { (meant : Meant) × (at : ClassAt ℕ) × IsOver meant at (contents store.now) × Uses meant at self.old (Right binary right) (value_view left) }
         ensures same { (classes : Classes) → IfOk result (λ now. follow (contents store.now) self.old.reads (used classes (Right binary right.entry) self.old (value_view left)) ≡ follow (contents store.now) self.new.reads (rest classes now self.new)) }
         ensures less { IfOk result (λ now. weight now self.new < size (body_view right.now) + 2 + load self.old.todo) }
+        ensures typed { (meant : Meant) (at : ClassAt ℕ) → IsOver meant at (contents store.now) → Uses meant at self.old (Right binary right.entry) (value_view left) → IfOk result (λ now. IsTypedNow meant at now self.new) }
     {
         match right {
-            Body::Int(n) => self.with_int(alloc, store, binary, left, n),
-            _ => self.right_value(alloc, store, binary, left, right),
+            Body::Int(n) => self.with_int(store, binary, left, n),
+            _ => self.right_value(store, binary, left, right),
         }
     }
 
     /// Evaluates a right operand of any form, for a use of both values.
     fn right_value(
         &mut self,
-        alloc: Global,
         store: &'a Store,
         binary: Binary,
         left: Value,
         right: &'a Body,
     ) -> Result<Now<'a>, AllocError>
         requires idle_store { IsIdle store.now }
+        requires typed { (meant : Meant) × (at : ClassAt ℕ) × IsOver meant at (contents store.now) × Uses meant at self.old (Right binary right) (value_view left) }
         ensures same { (classes : Classes) → IfOk result (λ now. follow (contents store.now) self.old.reads (used classes (Right binary right.entry) self.old (value_view left)) ≡ follow (contents store.now) self.new.reads (rest classes now self.new)) }
         ensures less { IfOk result (λ now. weight now self.new < size (body_view right.now) + 2 + load self.old.todo) }
+        ensures typed { (meant : Meant) (at : ClassAt ℕ) → IsOver meant at (contents store.now) → Uses meant at self.old (Right binary right.entry) (value_view left) → IfOk result (λ now. IsTypedNow meant at now self.new) }
     {
         match self.at_hand(right) {
-            Some(value) => self.binary(alloc, store, binary, left, &value),
+            Some(value) => self.binary(store, binary, left, &value),
             None => self.then(Todo::Apply(binary, left), right),
         }
     }
@@ -287,8 +309,10 @@ impl<'a> Trial<'a> {
 
     /// What a name stands for.
     fn name(&self, position: usize) -> Result<Now<'a>, AllocError>
+        requires there { IsSome (slice_get (scope (place_of self.now)).names position) }
         ensures same { (classes : Classes) → IfOk result (λ now. resumed classes self.now (named (scope (place_of self.now)).names position) ≡ rest classes now self.now) }
         ensures less { IfOk result (λ now. weight now self.now ≡ load self.now.todo) }
+        ensures told { (look : Contents ℕ) → IfOk result (λ now. ComesTo look (Gives (named (scope (place_of self.now)).names position)) now) }
     {
         match self.bound.get(position) {
             Some(node) => Ok(Now::Back(Value::Ref(Some(node)))),
@@ -298,28 +322,32 @@ impl<'a> Trial<'a> {
 
     /// What a name behind those of the folds stands for.
     fn argument(&self, position: usize) -> Result<Now<'a>, AllocError>
+        requires there { IsSome (slice_get self.now.arguments.items (position - length self.now.bound)) }
         ensures same { (classes : Classes) → IfOk result (λ now. resumed classes self.now (named (map value_view self.now.arguments.items) (position - length self.now.bound)) ≡ rest classes now self.now) }
         ensures less { IfOk result (λ now. weight now self.now ≡ load self.now.todo) }
+        ensures told { (look : Contents ℕ) → IfOk result (λ now. ComesTo look (Gives (named (map value_view self.now.arguments.items) (position - length self.now.bound))) now) }
     {
         let passed = position.saturating_sub(self.bound.len());
         match at(self.arguments.as_slice(), passed) {
             Some(value) => Ok(Now::Back(value.copy()?)),
-            None => Ok(Now::Back(Value::Ref(None))),
+            None => unreachable!(),
         }
     }
 
     /// The index of the child on the way down.
     fn index(&mut self, store: &'a Store) -> Result<Now<'a>, AllocError>
         requires idle_store { IsIdle store.now }
+        requires child { IsSome self.old.child }
         ensures same { (classes : Classes) → IfOk result (λ now. follow (contents store.now) self.old.reads (onto classes self.old (index_of self.old.child)) ≡ follow (contents store.now) self.new.reads (rest classes now self.new)) }
         ensures less { IfOk result (λ now. weight now self.new ≡ load self.old.todo) }
+        ensures told { IfOk result (λ now. ComesTo (contents store.now) (index_of self.old.child) now × (self.new ≡ record self.old { reads = self.new.reads })) }
     {
         match self.child {
             Some(child) => {
                 self.reads.push(Loc::Idx(child))?;
                 Ok(Now::Back(Value::of_count(store.index_in(child))))
             }
-            None => Ok(Now::Back(Value::Int(0))),
+            None => unreachable!(),
         }
     }
 
@@ -333,13 +361,16 @@ impl<'a> Trial<'a> {
         value: Value,
     ) -> Result<Now<'a>, AllocError>
         requires idle_store { IsIdle store.now }
+        requires over { IsOver rules.now (class_shown store.now) (contents store.now) }
+        requires typed { Uses rules.now (class_shown store.now) self.old todo (value_view value) }
         ensures same { IfOk result (λ now. follow (contents store.now) self.old.reads (used rules.now.classes todo.entry self.old (value_view value)) ≡ follow (contents store.now) self.new.reads (rest rules.now.classes now self.new)) }
         ensures less { IfOk result (λ now. weight now self.new < cost todo.entry + load self.old.todo) }
+        ensures typed { IfOk result (λ now. IsTypedNow rules.now (class_shown store.now) now self.new) }
     {
         match todo {
             Todo::Use(unary) => self.unary(rules, store, unary, &value),
-            Todo::Right(binary, right) => self.right_operand(alloc, store, binary, value, right),
-            Todo::Apply(binary, left) => self.binary(alloc, store, binary, left, &value),
+            Todo::Right(binary, right) => self.right_operand(store, binary, value, right),
+            Todo::Apply(binary, left) => self.binary(store, binary, left, &value),
             Todo::And(right) => Ok(and(&value, right)),
             Todo::Or(right) => Ok(or(&value, right)),
             Todo::Choose(yes, no) => Ok(choose(&value, yes, no)),
@@ -368,6 +399,7 @@ impl<'a> Trial<'a> {
         ensures same { (classes : Classes) → IfOk result (λ now. called classes self.old attribute (Ref node) [] (bodies_view arguments.now) ≡ rest classes now self.new) }
         ensures less { IfOk result (λ now. weight now self.new < sizes (bodies_view arguments.now) + 2 + load self.old.todo) }
         ensures reads { IfOk result (λ now. self.new.reads ≡ self.old.reads) }
+        ensures typed { (meant : Meant) (at : ClassAt ℕ) → Calls meant at self.old attribute node [] (bodies_view arguments.now) → IfOk result (λ now. IsTypedNow meant at now self.new) }
     {
         match arguments.split_first() {
             Some((argument, others)) => {
@@ -393,6 +425,7 @@ impl<'a> Trial<'a> {
         ensures same { (classes : Classes) → IfOk result (λ now. called classes self.old call.value.attribute (Ref call.value.node) (map value_view call.value.done.items ++ value_view value ∷ []) (bodies_view others.now) ≡ rest classes now self.new) }
         ensures less { IfOk result (λ now. weight now self.new < sizes (bodies_view others.now) + 2 + load self.old.todo) }
         ensures reads { IfOk result (λ now. self.new.reads ≡ self.old.reads) }
+        ensures typed { (meant : Meant) (at : ClassAt ℕ) → Calls meant at self.old call.value.attribute call.value.node (map value_view call.value.done.items ++ value_view value ∷ []) (bodies_view others.now) → IfOk result (λ now. IsTypedNow meant at now self.new) }
     {
         call.done.push(value)?;
         self.next_argument(call, others)
@@ -407,6 +440,7 @@ impl<'a> Trial<'a> {
         ensures same { (classes : Classes) → IfOk result (λ now. called classes self.old call.value.attribute (Ref call.value.node) (map value_view call.value.done.items) (bodies_view others.now) ≡ rest classes now self.new) }
         ensures less { IfOk result (λ now. weight now self.new < sizes (bodies_view others.now) + 2 + load self.old.todo) }
         ensures reads { IfOk result (λ now. self.new.reads ≡ self.old.reads) }
+        ensures typed { (meant : Meant) (at : ClassAt ℕ) → Calls meant at self.old call.value.attribute call.value.node (map value_view call.value.done.items) (bodies_view others.now) → IfOk result (λ now. IsTypedNow meant at now self.new) }
     {
         match others.split_first() {
             Some((argument, others)) => self.then(Todo::Argument(call, others), argument),
@@ -419,6 +453,7 @@ impl<'a> Trial<'a> {
 fn without_arguments<'a>(attribute: AttrId, node: Option<Node>) -> Now<'a>
     ensures same { (classes : Classes) (t : Trial) → onto classes t (demand_of attribute (Ref node) []) ≡ rest classes result t }
     ensures less { (t : Trial) → weight result t < 2 + load t.todo }
+    ensures typed { (meant : Meant) (at : ClassAt ℕ) (t : Trial) → Calls meant at t attribute node [] no_exprs → IsTypedNow meant at result t }
 {
     match node {
         Some(node) => Now::Ask(attribute, node),
@@ -430,6 +465,7 @@ fn without_arguments<'a>(attribute: AttrId, node: Option<Node>) -> Now<'a>
 fn asked(alloc: Global, attribute: AttrId, node: Node) -> Step
     ensures same { (tree : Contents ℕ) (seen : List (Location ℕ)) (classes : Classes) (t : Trial) → follow tree seen (rest classes (Ask attribute node) t) ≡ (reached classes result t, seen) }
     ensures less { (t : Trial) → left result t ≤ weight (Ask attribute node) t }
+    ensures typed { (meant : Meant) (at : ClassAt ℕ) (t : Trial) → IsHierarchy meant.classes → IsTypedNow meant at (Ask attribute node) t → IsTypedStep meant at result t }
 {
     let none = Arguments::new(alloc);
     Step::Need(Inst::new(node, attribute, none))
@@ -439,6 +475,7 @@ fn asked(alloc: Global, attribute: AttrId, node: Node) -> Step
 fn asked_with_arguments(call: Box<Asking>) -> Step
     ensures same { (tree : Contents ℕ) (seen : List (Location ℕ)) (classes : Classes) (t : Trial) → follow tree seen (rest classes (Call call) t) ≡ (reached classes result t, seen) }
     ensures less { (t : Trial) → left result t ≤ weight (Call call) t }
+    ensures typed { (meant : Meant) (at : ClassAt ℕ) (t : Trial) → IsHierarchy meant.classes → IsTypedNow meant at (Call call) t → IsTypedStep meant at result t }
 {
     let Asking {
         attribute,
@@ -460,8 +497,10 @@ fn at(arguments: &[Value], position: usize) -> Option<&Value>
 
 /// The right operand of `&&` where the left one is true.
 fn and<'a>(left: &Value, right: &'a Body) -> Now<'a>
+    requires { IsTruth (value_view left.now) }
     ensures same { (classes : Classes) (t : Trial) → used classes (And right.entry) t (value_view left.now) ≡ rest classes result t }
     ensures less { (t : Trial) → weight result t < cost (And right.entry) + load t.todo }
+    ensures typed { (meant : Meant) (at : ClassAt ℕ) (t : Trial) → Uses meant at t (And right.entry) (value_view left.now) → IsTypedNow meant at result t }
 {
     if left.truth() {
         return Now::Enter(right);
@@ -471,8 +510,10 @@ fn and<'a>(left: &Value, right: &'a Body) -> Now<'a>
 
 /// The right operand of `||` where the left one is false.
 fn or<'a>(left: &Value, right: &'a Body) -> Now<'a>
+    requires { IsTruth (value_view left.now) }
     ensures same { (classes : Classes) (t : Trial) → used classes (Or right.entry) t (value_view left.now) ≡ rest classes result t }
     ensures less { (t : Trial) → weight result t < cost (Or right.entry) + load t.todo }
+    ensures typed { (meant : Meant) (at : ClassAt ℕ) (t : Trial) → Uses meant at t (Or right.entry) (value_view left.now) → IsTypedNow meant at result t }
 {
     if left.truth() {
         return Now::Back(Value::Bool(true));
@@ -482,8 +523,10 @@ fn or<'a>(left: &Value, right: &'a Body) -> Now<'a>
 
 /// The expression that a truth value chooses.
 fn choose<'a>(test: &Value, yes: &'a Body, no: &'a Body) -> Now<'a>
+    requires { IsTruth (value_view test.now) }
     ensures same { (classes : Classes) (t : Trial) → used classes (Choose yes.entry no.entry) t (value_view test.now) ≡ rest classes result t }
     ensures less { (t : Trial) → weight result t < cost (Choose yes.entry no.entry) + load t.todo }
+    ensures typed { (meant : Meant) (at : ClassAt ℕ) (t : Trial) → Uses meant at t (Choose yes.entry no.entry) (value_view test.now) → IsTypedNow meant at result t }
 {
     if test.truth() {
         return Now::Enter(yes);

@@ -6,6 +6,10 @@ use Rattle.at_body.specs.Rest.{load}
 use Rattle.at_body.specs.Size.{size}
 use Rattle.at_rules.specs.Bodies.{body_view}
 use Rattle.at_body.proofs.Entering.{bounded, brought}
+use Rattle.at_model.specs.Bodies.{TokenOf, Arithmetic}
+use Rattle.at_rules.specs.Bodies.{operator_view}
+use Rattle.at_body.specs.Typed.{class_shown}
+use Rattle.at_body.proofs.TypedParts.{part_enters, asks_token, computes}
 use Rattle.at_body.proofs.trial.Trial.enter.Goals as goal
 
 pub returns-in-TokenOf-clause-same : goal.returns-in-TokenOf-clause-same
@@ -19,3 +23,12 @@ returns-in-TokenOf-clause-less c = bounded _ _ (load c.args.self.now.todo) (size
 
 pub returns-in-Arithmetic-clause-less : goal.returns-in-Arithmetic-clause-less
 returns-in-Arithmetic-clause-less c = bounded _ _ (load c.args.self.now.todo) (size (body_view c.deref-in-Arithmetic.result.now) + size (body_view c.deref-in-Arithmetic-2.result.now) + 3) (size (body_view c.args.body.now)) c.operands.ensures.less (rw (c.in-Arithmetic.is, ← c.deref-in-Arithmetic.ensures, ← c.deref-in-Arithmetic-2.ensures) refl)
+
+pub operand-requires-clause-typed : goal.operand-requires-clause-typed
+operand-requires-clause-typed c = part_enters c.args.rules.now (class_shown c.args.store.now) c.args.self.now c.args.body.now c.deref.result.now (Use (unary.Token c.in-TokenOf.part)) (TokenOf (body_view c.deref.result.now) c.in-TokenOf.part) (rw (c.in-TokenOf.is, ← c.deref.ensures) refl) (λ s k x h. asks_token c.args.rules.now (class_shown c.args.store.now) s (body_view c.deref.result.now) c.in-TokenOf.part k c.args.self.now.todo x h) c.requires.typed
+
+pub operands-requires-clause-typed : goal.operands-requires-clause-typed
+operands-requires-clause-typed c = (c.args.rules.now, class_shown c.args.store.now, c.requires.over, part_enters c.args.rules.now (class_shown c.args.store.now) c.args.self.now c.args.body.now c.deref-in-Arithmetic.result.now (Right (binary.Arithmetic c.in-Arithmetic.operator) c.deref-in-Arithmetic-2.result) (Arithmetic (operator_view c.in-Arithmetic.operator) (body_view c.deref-in-Arithmetic.result.now) (body_view c.deref-in-Arithmetic-2.result.now)) (rw (c.in-Arithmetic.is, ← c.deref-in-Arithmetic.ensures, ← c.deref-in-Arithmetic-2.ensures) refl) (λ s k x h. computes c.args.rules.now (class_shown c.args.store.now) s (body_view c.deref-in-Arithmetic.result.now) c.deref-in-Arithmetic-2.result c.in-Arithmetic.operator k c.args.self.now.todo x h) c.requires.typed)
+
+pub returns-in-Arithmetic-clause-typed : goal.returns-in-Arithmetic-clause-typed
+returns-in-Arithmetic-clause-typed c = c.operands.ensures.typed c.args.rules.now (class_shown c.args.store.now) c.requires.over (part_enters c.args.rules.now (class_shown c.args.store.now) c.args.self.now c.args.body.now c.deref-in-Arithmetic.result.now (Right (binary.Arithmetic c.in-Arithmetic.operator) c.deref-in-Arithmetic-2.result) (Arithmetic (operator_view c.in-Arithmetic.operator) (body_view c.deref-in-Arithmetic.result.now) (body_view c.deref-in-Arithmetic-2.result.now)) (rw (c.in-Arithmetic.is, ← c.deref-in-Arithmetic.ensures, ← c.deref-in-Arithmetic-2.ensures) refl) (λ s k x h. computes c.args.rules.now (class_shown c.args.store.now) s (body_view c.deref-in-Arithmetic.result.now) c.deref-in-Arithmetic-2.result c.in-Arithmetic.operator k c.args.self.now.todo x h) c.requires.typed)

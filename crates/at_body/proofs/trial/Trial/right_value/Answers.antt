@@ -8,6 +8,10 @@ use Rattle.at_body.proofs.Uses.{instead, puts, right_shape}
 use Rattle.at_body.specs.Size.{size}
 use Rattle.at_rules.specs.Bodies.{body_view}
 use Rattle.at_body.proofs.Entering.{lighter, settles}
+use Rattle.at_body.proofs.TypedAnswers.{operands_fit}
+use Rattle.at_body.proofs.TypedUses.{right_follows}
+use Rattle.at_body.proofs.TypedParts.{put_typed}
+use Rattle.at_body.proofs.TypedSteps.{hand_operates, operates_told}
 use Rattle.at_body.proofs.trial.Trial.right_value.Goals as goal
 
 pub returns-in-Some-clause-same : goal.returns-in-Some-clause-same
@@ -21,3 +25,12 @@ returns-in-Some-clause-less c = settles _ _ (load c.args.self.now.todo) (size (b
 
 pub returns-in-None-clause-less : goal.returns-in-None-clause-less
 returns-in-None-clause-less c = lighter _ c.args.self.now _ (size (body_view c.args.right.now) + 2) c.args.right (Apply c.args.binary c.args.left) c.then.ensures (omega arith)
+
+pub binary-requires-clause-operands : goal.binary-requires-clause-operands
+binary-requires-clause-operands c = let (r, a, o, h) = c.requires.typed in operands_fit r a c.args.self.now c.args.binary (value_view c.args.left) (value_view c.in-Some.value) (hand_operates r a (contents c.args.store.now) o c.args.self.now c.args.binary c.args.right c.args.left (value_view c.in-Some.value) h (c.in-Some.ensures r.classes))
+
+pub returns-in-Some-clause-typed : goal.returns-in-Some-clause-typed
+returns-in-Some-clause-typed c = λ r a o h. operates_told r a (contents c.args.store.now) o c.args.self.now _ c.args.binary (value_view c.args.left) (value_view c.in-Some.value) _ (hand_operates r a (contents c.args.store.now) o c.args.self.now c.args.binary c.args.right c.args.left (value_view c.in-Some.value) h (c.in-Some.ensures r.classes)) c.binary.ensures.told
+
+pub returns-in-None-clause-typed : goal.returns-in-None-clause-typed
+returns-in-None-clause-typed c = λ r a o h. put_typed r a _ c.args.self.now _ c.args.right (Apply c.args.binary c.args.left) c.then.ensures (right_follows r a c.args.self.now c.args.binary c.args.right c.args.left h)
