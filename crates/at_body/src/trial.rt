@@ -53,8 +53,8 @@ pub enum Step {
 }
 
 impl<'a> Trial<'a> {
-    /// Goes on with the value that it waits for, up to the end or to the next demand. An error where memory is wanting; then the
-    /// trial is of no use any more.
+    /// Goes on with the value that it waits for, which is of its kind, up to the end or to the next demand. An error where memory is
+    /// wanting; then the trial is of no use any more.
     pub fn resume(
         &mut self,
         alloc: Global,
