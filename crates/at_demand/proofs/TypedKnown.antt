@@ -1,5 +1,5 @@
 -- What is known of the value of a well-typed instance is of its kind.
-use Rattle.std.proofs.Common.{◌≡◌, ℕ, nat_eq, Some, ap, sym, ◌∙◌}
+use Rattle.std.proofs.Common.{ℕ, nat_eq, ap, sym, ◌∙◌}
 use Rattle.std.specs.List.{slice_get}
 use Rattle.at_model.specs.Paths.{node_eq}
 use Rattle.at_model.specs.Run.{Value, Instance}

@@ -17,7 +17,7 @@ use Rattle.at_cache.specs.Kept.{Entries}
 use Rattle.at_demand.specs.declared.question.Frame.{Frame}
 use Rattle.at_demand.specs.declared.question.Question.{Question}
 use Rattle.at_demand.specs.Known.{meaning}
-use Rattle.at_demand.specs.UnderWay.{first_of, IsOrderlyIn}
+use Rattle.at_demand.specs.UnderWay.{IsOrderlyIn}
 use Rattle.at_demand.specs.Typing.{AreTypedWaiting, IsTyped, IsTypedIn}
 use Rattle.at_demand.proofs.Chains.{first_push}
 use Rattle.at_demand.proofs.Orderly.{waits_last}

@@ -4,6 +4,7 @@ ghost use Rattle.std.specs.Prelude.{◌≡◌};
 ghost use Rattle.at_model.specs.Bodies.{int_of};
 ghost use Rattle.at_model.specs.Trees.{Int as Number};
 ghost use Rattle.at_tree.specs.Token.{token_view};
+ghost use Rattle.at_body.specs.ValueKinds.{IsInt};
 ghost use Rattle.at_body.specs.Values.{fault_view, value_view};
 ghost use Rattle.at_protocol.specs.ReplyView.{fault_view as word_view};
 
@@ -30,13 +31,14 @@ fn fault_word(kind: FaultKind) -> FaultWord
     }
 }
 
-/// The int as a token; 0 for a value of another kind.
+/// The int as a token.
 fn number_of(value: &Value) -> TokVal
+    requires { IsInt (value_view value.now) }
     ensures { token_view result ≡ Number (int_of (value_view value.now)) }
 {
     match value {
         Value::Int(number) => TokVal::Int(*number),
-        _ => TokVal::Int(0),
+        _ => unreachable!(),
     }
 }
 
