@@ -30,8 +30,8 @@ use at_tree::reader::MAX_DEPTH;
 use std::alloc::{AllocError, Global};
 
 impl<'a> Trial<'a> {
-    /// Begins the evaluation of a well-typed instance, over well-formed rules and a sound tree, and goes on up to the end or to a demand,
-    /// which is well typed, too. An error where memory is wanting.
+    /// Begins the evaluation of a well-typed instance, over well-formed rules and a sound tree, and goes on up to the end or to a
+    /// demand, which is well typed, too. An error where memory is wanting.
     pub fn start(
         alloc: Global,
         rules: &'a Rules,

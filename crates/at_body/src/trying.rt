@@ -40,8 +40,9 @@ pub enum Tried {
     Need(Inst),
 }
 
-/// The value or fault of the equation of a well-typed instance, or the first instance that it needs and that is not known; what is known
-/// is of its kinds, the rules are well formed, and the tree is sound. The reads gain the locations that are looked at up to there. An error where memory is wanting; then the reads are as they were.
+/// The value or fault of the equation of a well-typed instance, or the first instance that it needs and that is not known. The
+/// rules are well formed, the tree is sound, and what is known is of its kinds. The reads gain the locations that are looked at
+/// up to there. An error where memory is wanting; then the reads are as they were.
 pub fn try_body<K: Known>(
     alloc: Global,
     rules: &Rules,
