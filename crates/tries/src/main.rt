@@ -12,7 +12,7 @@
 #![tactic(auto)]
 
 ghost use Rattle.std.specs.Prelude.{IfOk};
-ghost use Rattle.at_store.specs.Shown.{IsIdle};
+ghost use Rattle.tries.specs.Worlds.{AreSound, IsSound};
 
 mod failure;
 mod files;
@@ -64,7 +64,7 @@ fn serve(rt: &HostRuntime) -> Result<(), Failure> {
 
 /// The rules and the tree of the files that the words name.
 fn world_of_words(rt: &HostRuntime) -> Result<World, Failure>
-    ensures { IfOk result (λ w. IsIdle w.store) }
+    ensures { IfOk result IsSound }
 {
     let Ok(mut words) = env::args(rt) else {
         return Err(Failure::Words);
@@ -97,7 +97,7 @@ fn file(rt: &HostRuntime, word: Option<String>) -> Result<String, Failure> {
 
 /// The answers to the lines, each with a newline; none to an empty one.
 fn answers(world: &World, lines: &[u8]) -> Result<Vec<u8>, AllocError>
-    requires { IsIdle world.now.store }
+    requires { IsSound world.now }
 {
     let mut known = Values::new(world.alloc);
     let mut out = Vec::new(world.alloc);
@@ -111,7 +111,9 @@ fn answers(world: &World, lines: &[u8]) -> Result<Vec<u8>, AllocError>
 
 /// Appends the answer to a line, and a newline.
 fn tell(world: &World, known: &mut Values, line: &[u8], out: &mut Vec<u8>) -> Result<(), AllocError>
-    requires { IsIdle world.now.store }
+    requires sound { IsSound world.now }
+    requires known { AreSound world.now known.old }
+    ensures { AreSound world.now known.new }
 {
     let length = out.len();
     if let Err(refusal) = answer(world, known, line, out) {
@@ -123,7 +125,9 @@ fn tell(world: &World, known: &mut Values, line: &[u8], out: &mut Vec<u8>) -> Re
 
 /// Appends the answer to a line, or a part of it where there is none.
 fn answer(world: &World, known: &mut Values, line: &[u8], out: &mut Vec<u8>) -> Result<(), Refusal>
-    requires { IsIdle world.now.store }
+    requires sound { IsSound world.now }
+    requires known { AreSound world.now known.old }
+    ensures { AreSound world.now known.new }
 {
     let Ok(line) = std::str::from_utf8(line) else {
         return Err(Refusal::Line);
@@ -146,7 +150,8 @@ fn answer(world: &World, known: &mut Values, line: &[u8], out: &mut Vec<u8>) -> 
 
 /// Appends what a try of the instance comes to, and the locations that it looks at.
 fn told(world: &World, known: &Values, call: &str, out: &mut Vec<u8>) -> Result<(), Refusal>
-    requires { IsIdle world.now.store }
+    requires sound { IsSound world.now }
+    requires known { AreSound world.now known.now }
 {
     let inst = instance(world, call)?;
     let mut reads = Reads::new(world.alloc);
@@ -164,7 +169,9 @@ fn told(world: &World, known: &Values, call: &str, out: &mut Vec<u8>) -> Result<
 
 /// Notes the value of an instance, by the text behind `know`. The last ` = ` stands in front of the value.
 fn learn(world: &World, known: &mut Values, fact: &str) -> Result<(), Refusal>
-    requires { IsIdle world.now.store }
+    requires sound { IsSound world.now }
+    requires known { AreSound world.now known.old }
+    ensures { AreSound world.now known.new }
 {
     let Some((call, text)) = fact.rsplit_once(" = ") else {
         return Err(Refusal::Line);

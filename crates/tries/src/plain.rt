@@ -2,7 +2,7 @@
 //! and notes no locations. Left out are calls of attributes, parameters, indices, texts, `&&` and `||`, classes, and the
 //! folds that stop early.
 
-ghost use Rattle.at_store.specs.Shown.{IsIdle};
+ghost use Rattle.tries.specs.Worlds.{IsSound};
 
 use crate::files::World;
 use crate::refusal::Refusal;
@@ -21,9 +21,10 @@ struct Place {
 ///
 /// # Errors
 ///
-/// There is none, it comes to a fault, or it has a form that is left out; or want of memory.
+/// There is none, it comes to a fault or to a value of another kind than is asked, or it has a form that is left out; or
+/// want of memory.
 pub fn plain(world: &World, inst: &Inst) -> Result<Value, Refusal>
-    requires { IsIdle world.now.store }
+    requires { IsSound world.now }
 {
     let this = inst.node();
     let class = world.store.class(this);
@@ -39,7 +40,7 @@ pub fn plain(world: &World, inst: &Inst) -> Result<Value, Refusal>
 
 /// The value of an expression.
 fn value_of(body: &Body, world: &World, place: &mut Place) -> Result<Value, Refusal>
-    requires { IsIdle world.now.store }
+    requires { IsSound world.now }
 {
     match body {
         Body::Int(n) => Ok(Value::Int(*n)),
@@ -47,32 +48,59 @@ fn value_of(body: &Body, world: &World, place: &mut Place) -> Result<Value, Refu
         Body::Null => Ok(Value::Ref(None)),
         Body::This => Ok(Value::Ref(Some(place.this))),
         Body::Name(position) => Ok(Value::Ref(bound(place, *position))),
-        Body::Negate(a) => Ok(value_of(a, world, place)?.negated()),
-        Body::Not(a) => Ok(Value::Bool(!value_of(a, world, place)?.truth())),
+        Body::Negate(a) => {
+            let number = int_of(&value_of(a, world, place)?)?;
+            Ok(Value::Int(number.wrapping_neg()))
+        }
+        Body::Not(a) => Ok(Value::Bool(!truth_of(&value_of(a, world, place)?)?)),
         Body::Arithmetic(operator, a, b) => {
-            let left = value_of(a, world, place)?.int();
-            computed(*operator, left, value_of(b, world, place)?.int())
+            let left = int_of(&value_of(a, world, place)?)?;
+            computed(*operator, left, int_of(&value_of(b, world, place)?)?)
         }
         Body::Compare(order, a, b) => {
-            let left = value_of(a, world, place)?.int();
-            Ok(holds(*order, left, value_of(b, world, place)?.int()))
+            let left = int_of(&value_of(a, world, place)?)?;
+            Ok(holds(*order, left, int_of(&value_of(b, world, place)?)?))
         }
-        Body::Choose(test, yes, no) => match value_of(test, world, place)?.truth() {
+        Body::Choose(test, yes, no) => match truth_of(&value_of(test, world, place)?)? {
             true => value_of(yes, world, place),
             false => value_of(no, world, place),
         },
-        Body::Child(a, part) => child(world, value_of(a, world, place)?.node(), *part),
-        Body::TokenOf(a, part) => token(world, value_of(a, world, place)?.node(), *part),
+        Body::Child(a, part) => child(world, node_of(&value_of(a, world, place)?)?, *part),
+        Body::TokenOf(a, part) => token(world, node_of(&value_of(a, world, place)?)?, *part),
         Body::Sum(a, part, b) => {
-            let node = value_of(a, world, place)?.node();
+            let node = node_of(&value_of(a, world, place)?)?;
             let mut total = 0_i32;
             for element in elements(world, node, *part)? {
                 place.bound.push(*element)?;
-                total = total.wrapping_add(value_of(b, world, place)?.int());
+                total = total.wrapping_add(int_of(&value_of(b, world, place)?)?);
                 let _ = place.bound.pop();
             }
             Ok(Value::Int(total))
         }
+        _ => Err(Refusal::NoValue),
+    }
+}
+
+/// The int that the value is.
+fn int_of(value: &Value) -> Result<i32, Refusal> {
+    match value {
+        Value::Int(number) => Ok(*number),
+        _ => Err(Refusal::NoValue),
+    }
+}
+
+/// The truth value that the value is.
+fn truth_of(value: &Value) -> Result<bool, Refusal> {
+    match value {
+        Value::Bool(truth) => Ok(*truth),
+        _ => Err(Refusal::NoValue),
+    }
+}
+
+/// The node that the value is; none for null.
+fn node_of(value: &Value) -> Result<Option<Node>, Refusal> {
+    match value {
+        Value::Ref(node) => Ok(*node),
         _ => Err(Refusal::NoValue),
     }
 }
@@ -111,7 +139,7 @@ fn holds(order: Order, left: i32, right: i32) -> Value {
 
 /// The child in a component.
 fn child(world: &World, node: Option<Node>, part: usize) -> Result<Value, Refusal>
-    requires { IsIdle world.now.store }
+    requires { IsSound world.now }
 {
     let Some(node) = node else {
         return Err(Refusal::NoValue);
@@ -124,7 +152,7 @@ fn child(world: &World, node: Option<Node>, part: usize) -> Result<Value, Refusa
 
 /// The token in a component.
 fn token(world: &World, node: Option<Node>, part: usize) -> Result<Value, Refusal>
-    requires { IsIdle world.now.store }
+    requires { IsSound world.now }
 {
     match node {
         Some(node) => Ok(Value::of_token(world.store.token(node, part))?),
@@ -134,7 +162,7 @@ fn token(world: &World, node: Option<Node>, part: usize) -> Result<Value, Refusa
 
 /// The children in a component.
 fn elements<'a>(world: &'a World, node: Option<Node>, part: usize) -> Result<&'a [Node], Refusal>
-    requires { IsIdle world.now.store }
+    requires { IsSound world.now }
 {
     match node {
         Some(node) => Ok(world.store.children(node, part)),

@@ -1,6 +1,6 @@
 //! Rounds of the evaluation of one equation, in which `bench/bench.py` measures a trial against a plain recursion.
 
-ghost use Rattle.at_store.specs.Shown.{IsIdle};
+ghost use Rattle.tries.specs.Worlds.{IsSound, IsTyped};
 
 use crate::files::World;
 use crate::instances::instance;
@@ -24,7 +24,7 @@ pub enum Way {
 ///
 /// The text isn't of that form, or names what isn't there; or an evaluation comes to no value. Or want of memory.
 pub fn tell_last(world: &World, way: Way, text: &str, out: &mut Vec<u8>) -> Result<(), Refusal>
-    requires { IsIdle world.now.store }
+    requires { IsSound world.now }
 {
     let Some((count, call)) = text.split_once(" ") else {
         return Err(Refusal::Line);
@@ -40,7 +40,8 @@ pub fn tell_last(world: &World, way: Way, text: &str, out: &mut Vec<u8>) -> Resu
 
 /// The value of the last of so many evaluations; null where there is none.
 fn last(world: &World, way: Way, rounds: u32, inst: &Inst) -> Result<Value, Refusal>
-    requires { IsIdle world.now.store }
+    requires sound { IsSound world.now }
+    requires typed { IsTyped world.now inst.now }
 {
     let mut value = Value::default();
     for _ in 0..rounds {
@@ -54,7 +55,8 @@ fn last(world: &World, way: Way, rounds: u32, inst: &Inst) -> Result<Value, Refu
 
 /// The value that a trial comes to by itself.
 fn by_trial(world: &World, inst: &Inst) -> Result<Value, Refusal>
-    requires { IsIdle world.now.store }
+    requires sound { IsSound world.now }
+    requires typed { IsTyped world.now inst.now }
 {
     let (_, step) = Trial::start(world.alloc, &world.rules, &world.store, inst)?;
     match step {
