@@ -1,9 +1,9 @@
 -- Values that are noted.
-use Rattle.std.proofs.Common.{◌≡◌, ℕ, Bool, true, false, cond, ◌&&◌, nat_eq, List, [], ◌∷◌, Option, Some, None, option_map, refl, sym, ap, ◌∙◌, subst}
+use Rattle.std.proofs.Common.{◌≡◌, ℕ, Bool, true, false, cond, ◌&&◌, nat_eq, List, [], Option, Some, option_map, refl, sym, ap, ◌∙◌, subst}
 use Rattle.std.proofs.lemmas.Bool.{eqb-true}
 use Rattle.std.specs.Map.{lookup}
 use Rattle.std.specs.List.{slice_get}
-use Rattle.at_model.specs.Rules.{Rules, Attribute}
+use Rattle.at_model.specs.Rules.{Rules}
 use Rattle.at_model.specs.Run.{Value, Instance}
 use Rattle.at_model.specs.TypedRuns.{ClassAt, IsOfKind, IsOfItsKind}
 use Rattle.at_model.proofs.Options.{both}

@@ -1,7 +1,6 @@
 -- What holds of a world, and of the values that are named in it and known.
-use Rattle.std.specs.Prelude.{◌≡◌, ℕ, Option, Some, IsSome, option_map, ⊤}
+use Rattle.std.specs.Prelude.{ℕ, Some, IsSome, option_map, ⊤}
 use Rattle.std.specs.Map.{lookup}
-use Rattle.at_model.specs.Classes.{Classes}
 use Rattle.at_model.specs.Instances.{AnyText}
 use Rattle.at_model.specs.Rules.{Kind}
 use Rattle.at_model.specs.Run.{Value, Ref, Instance, Known}

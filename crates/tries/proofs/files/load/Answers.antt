@@ -2,7 +2,7 @@ use Rattle.std.proofs.Common.{◌≡◌, ◌∙◌, true, sym, ap, subst}
 use Rattle.at_model.specs.Edits.{is_within_limits}
 use Rattle.at_model.specs.Enduring.{AreTokens}
 use Rattle.at_model.specs.Trees.{Tree, conforms}
-use Rattle.at_tree.specs.TreeView.{tree_view}
+use Rattle.at_store.specs.Shown.{tree}
 use Rattle.tries.proofs.files.load.Goals as goal
 
 pub returns-in-Ok : goal.returns-in-Ok
@@ -13,7 +13,7 @@ returns-in-Ok c =
       idle = c.in-Ok.ensures.idle;
       formed = c.in_ok-rules.ensures;
       sound = record {
-        conform = ap (λ k. conforms k _ 0) (sym c.classes-2.ensures) ∙ conform;
+        conform = ap (λ k. conforms k (tree c.in-Ok.store) 0) (sym c.classes-2.ensures) ∙ conform;
         within = subst (λ (u : Tree). is_within_limits u ≡ true) same c.in-Ok.ensures.within;
         tokens = subst AreTokens same c.in_ok-tree.ensures;
       };

@@ -5,7 +5,6 @@ use Rattle.at_model.specs.Machine.{parameters_of}
 use Rattle.at_model.specs.Names.{IsName}
 use Rattle.at_model.specs.Rules.{Kind}
 use Rattle.at_model.specs.TypedRuns.{AreArguments}
-use Rattle.at_rules.specs.Bodies.{kind_view}
 use Rattle.at_body.specs.Values.{value_view}
 use Rattle.at_body.specs.declared.value.Value.{Value}
 use Rattle.at_protocol.specs.LineView.{command_view}
