@@ -1,5 +1,4 @@
 pub mod Values
-pub mod ValueKinds
 pub mod Same
 pub mod Sameness
 pub mod Size
@@ -8,5 +7,3 @@ pub mod Standing
 pub mod Rest
 pub mod Starting
 pub mod Trying
-pub mod Typed
-pub mod TypedStart

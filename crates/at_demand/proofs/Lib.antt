@@ -23,5 +23,3 @@ pub mod AlikeBack
 pub mod CalledAsked
 pub mod CalledEdited
 pub mod Called
-pub mod TypedKnown
-pub mod Typing

@@ -1,6 +1,5 @@
 pub mod Known
 pub mod UnderWay
-pub mod Typing
 pub mod Right
 pub mod Touched
 pub mod Covering

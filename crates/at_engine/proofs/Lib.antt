@@ -31,4 +31,3 @@ pub mod Growing
 pub mod Gained
 pub mod Keeping
 pub mod KeepingBytes
-pub mod Typing

@@ -1,9 +1,7 @@
-//! Tests of whole sessions: over the calculator, with each keeper, with readers and writers that fail, of files that are
-//! refused, and of what no session shows.
+//! Tests of whole sessions: over the calculator, with each keeper, with readers and writers that fail, and of files that
+//! are refused.
 #![tactic(auto)]
 
-#[cfg(test)]
-mod cutting;
 #[cfg(test)]
 mod failing;
 #[cfg(test)]

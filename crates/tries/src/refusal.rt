@@ -15,8 +15,6 @@ pub enum Refusal {
     Arguments,
     /// The value isn't of the attribute's kind.
     Value,
-    /// An evaluation in rounds comes to no value.
-    NoValue,
     /// Memory ran out.
     Memory,
 }
@@ -30,7 +28,6 @@ impl Refusal {
             Refusal::Attribute => "attribute",
             Refusal::Arguments => "arguments",
             Refusal::Value => "value",
-            Refusal::NoValue => "none",
             Refusal::Memory => "memory",
         }
     }

@@ -19,24 +19,22 @@ impl Scope<'_> {
     pub(super) fn negated(&self, inner: Typed, at: (u32, u32)) -> Result<Typed, TypeFault>
         ensures { Judges typed_view (negation at (typed_view inner)) result }
     {
-        self.kind_if(
-            inner.kind.is_int(),
-            ExprKind::Int,
-            Body::Negate(inner.body),
-            at,
-        )
+        if !inner.kind.is_int() {
+            return Err(refused(RuleCode::Kind, at));
+        }
+        let inner = Box::new(self.alloc, inner.body)?;
+        Ok(Typed::int(Body::Negate(inner), at))
     }
 
     /// `!E`
     pub(super) fn opposite(&self, inner: Typed, at: (u32, u32)) -> Result<Typed, TypeFault>
         ensures { Judges typed_view (opposite_of at (typed_view inner)) result }
     {
-        self.kind_if(
-            inner.kind.is_truth(),
-            ExprKind::Bool,
-            Body::Not(inner.body),
-            at,
-        )
+        if !inner.kind.is_truth() {
+            return Err(refused(RuleCode::Kind, at));
+        }
+        let inner = Box::new(self.alloc, inner.body)?;
+        Ok(Typed::truth(Body::Not(inner), at))
     }
 
     /// Two operands with an operator between.
@@ -77,12 +75,20 @@ impl Scope<'_> {
     }
 
     /// A text joined with a text, or with an int.
-    fn text_joined(&self, left: Box<Body>, right: Typed, at: (u32, u32)) -> Result<Typed, TypeFault>
-        ensures { Judges typed_view (text_joined_of at (body_view left.value) right.kind (body_view right.body.value)) result }
+    fn text_joined(&self, left: Body, right: Typed, at: (u32, u32)) -> Result<Typed, TypeFault>
+        ensures { Judges typed_view (text_joined_of at (body_view left) right.kind (body_view right.body)) result }
     {
         match right.kind {
-            ExprKind::Text => self.of_kind(ExprKind::Text, Body::Join(left, right.body), at),
-            ExprKind::Int => self.of_kind(ExprKind::Text, Body::JoinInt(left, right.body), at),
+            ExprKind::Text => {
+                let left = Box::new(self.alloc, left)?;
+                let right = Box::new(self.alloc, right.body)?;
+                Ok(Typed::text(Body::Join(left, right), at))
+            }
+            ExprKind::Int => {
+                let left = Box::new(self.alloc, left)?;
+                let right = Box::new(self.alloc, right.body)?;
+                Ok(Typed::text(Body::JoinInt(left, right), at))
+            }
             _ => Err(refused(RuleCode::Kind, at)),
         }
     }
@@ -97,12 +103,12 @@ impl Scope<'_> {
     ) -> Result<Typed, TypeFault>
         ensures { Judges typed_view (computed_of at (operator_view operator) (typed_view left) (typed_view right)) result }
     {
-        self.kind_if(
-            are_ints(left.kind, right.kind),
-            ExprKind::Int,
-            Body::Arithmetic(operator, left.body, right.body),
-            at,
-        )
+        if !are_ints(left.kind, right.kind) {
+            return Err(refused(RuleCode::Kind, at));
+        }
+        let left = Box::new(self.alloc, left.body)?;
+        let right = Box::new(self.alloc, right.body)?;
+        Ok(Typed::int(Body::Arithmetic(operator, left, right), at))
     }
 
     /// A comparison of two ints.
@@ -115,60 +121,60 @@ impl Scope<'_> {
     ) -> Result<Typed, TypeFault>
         ensures { Judges typed_view (ordered_of at (order_view order) (typed_view left) (typed_view right)) result }
     {
-        self.kind_if(
-            are_ints(left.kind, right.kind),
-            ExprKind::Bool,
-            Body::Compare(order, left.body, right.body),
-            at,
-        )
+        if !are_ints(left.kind, right.kind) {
+            return Err(refused(RuleCode::Kind, at));
+        }
+        let left = Box::new(self.alloc, left.body)?;
+        let right = Box::new(self.alloc, right.body)?;
+        Ok(Typed::truth(Body::Compare(order, left, right), at))
     }
 
     /// `==`
     fn same(&self, left: Typed, right: Typed, at: (u32, u32)) -> Result<Typed, TypeFault>
-        ensures { Judges typed_view (kind_if (are_alike left.kind right.kind) at ExprKind.Bool (model.Same (body_view left.body.value) (body_view right.body.value))) result }
+        ensures { Judges typed_view (kind_if (are_alike left.kind right.kind) at ExprKind.Bool (model.Same (body_view left.body) (body_view right.body))) result }
     {
-        self.kind_if(
-            are_alike(left.kind, right.kind),
-            ExprKind::Bool,
-            Body::Same(left.body, right.body),
-            at,
-        )
+        if !are_alike(left.kind, right.kind) {
+            return Err(refused(RuleCode::Kind, at));
+        }
+        let left = Box::new(self.alloc, left.body)?;
+        let right = Box::new(self.alloc, right.body)?;
+        Ok(Typed::truth(Body::Same(left, right), at))
     }
 
     /// `!=`
     fn different(&self, left: Typed, right: Typed, at: (u32, u32)) -> Result<Typed, TypeFault>
-        ensures { Judges typed_view (kind_if (are_alike left.kind right.kind) at ExprKind.Bool (model.Differ (body_view left.body.value) (body_view right.body.value))) result }
+        ensures { Judges typed_view (kind_if (are_alike left.kind right.kind) at ExprKind.Bool (model.Differ (body_view left.body) (body_view right.body))) result }
     {
-        self.kind_if(
-            are_alike(left.kind, right.kind),
-            ExprKind::Bool,
-            Body::Differ(left.body, right.body),
-            at,
-        )
+        if !are_alike(left.kind, right.kind) {
+            return Err(refused(RuleCode::Kind, at));
+        }
+        let left = Box::new(self.alloc, left.body)?;
+        let right = Box::new(self.alloc, right.body)?;
+        Ok(Typed::truth(Body::Differ(left, right), at))
     }
 
     /// `&&`
     fn both(&self, left: Typed, right: Typed, at: (u32, u32)) -> Result<Typed, TypeFault>
-        ensures { Judges typed_view (kind_if (are_truths left.kind right.kind) at ExprKind.Bool (model.And (body_view left.body.value) (body_view right.body.value))) result }
+        ensures { Judges typed_view (kind_if (are_truths left.kind right.kind) at ExprKind.Bool (model.And (body_view left.body) (body_view right.body))) result }
     {
-        self.kind_if(
-            are_truths(left.kind, right.kind),
-            ExprKind::Bool,
-            Body::And(left.body, right.body),
-            at,
-        )
+        if !are_truths(left.kind, right.kind) {
+            return Err(refused(RuleCode::Kind, at));
+        }
+        let left = Box::new(self.alloc, left.body)?;
+        let right = Box::new(self.alloc, right.body)?;
+        Ok(Typed::truth(Body::And(left, right), at))
     }
 
     /// `||`
     fn either(&self, left: Typed, right: Typed, at: (u32, u32)) -> Result<Typed, TypeFault>
-        ensures { Judges typed_view (kind_if (are_truths left.kind right.kind) at ExprKind.Bool (model.Or (body_view left.body.value) (body_view right.body.value))) result }
+        ensures { Judges typed_view (kind_if (are_truths left.kind right.kind) at ExprKind.Bool (model.Or (body_view left.body) (body_view right.body))) result }
     {
-        self.kind_if(
-            are_truths(left.kind, right.kind),
-            ExprKind::Bool,
-            Body::Or(left.body, right.body),
-            at,
-        )
+        if !are_truths(left.kind, right.kind) {
+            return Err(refused(RuleCode::Kind, at));
+        }
+        let left = Box::new(self.alloc, left.body)?;
+        let right = Box::new(self.alloc, right.body)?;
+        Ok(Typed::truth(Body::Or(left, right), at))
     }
 
     /// `TEST ? LEFT : RIGHT`
@@ -187,7 +193,14 @@ impl Scope<'_> {
         let Some(kind) = left.kind.wider(self.classes, right.kind) else {
             return Err(refused(RuleCode::Kind, at));
         };
-        self.of_kind(kind, Body::Choose(test.body, left.body, right.body), at)
+        let test = Box::new(self.alloc, test.body)?;
+        let left = Box::new(self.alloc, left.body)?;
+        let right = Box::new(self.alloc, right.body)?;
+        Ok(Typed {
+            at,
+            kind,
+            body: Body::Choose(test, left, right),
+        })
     }
 }
 

@@ -1,4 +1,0 @@
-pub mod Placed
-pub mod Worlds
-pub mod Fitted
-pub mod Noted
