@@ -15,7 +15,7 @@ run: build
 # samples and single tries.
 test: tools python
 	rt ci
-	@python3 tools/starve.py --program crates/starve/out/starve
+	@python3 tools/starve.py crates/starve/out/starve
 	@python3 tools/examples.py --program crates/attrd/out/attrd --tries crates/tries/out/tries $(PAGES) docs/TRIES.md
 
 # The sample session with no proof, in a minute or two.
@@ -37,12 +37,10 @@ install:
 examples: build python
 	@python3 tools/examples.py $(PAGES)
 
-# A session with each keeper, by the proved program, and the tests of the text layer, with each request for memory
-# refused in turn.
+# A session with each keeper, by the proved program, with each request for memory refused in turn.
 starve: tools python
 	cd crates/starve && rt run
-	@python3 tools/starve.py --program crates/starve/out/starve
-	@python3 tools/starve.py at_text
+	@python3 tools/starve.py crates/starve/out/starve
 
 # Single tries of equations, by the proved program.
 tries: tools python
@@ -51,6 +49,7 @@ tries: tools python
 
 # Speed, by the proved program, as ratios in one run; and what it takes at its limits.
 bench: build
+	cd crates/tries && rt run < stdin -- data/calc.ast data/calc.jrag data/tree.txt > /dev/null
 	python3 bench/bench.py
 	python3 bench/limits.py
 

@@ -1,6 +1,7 @@
 #!/usr/bin/env python3
 """Speed of ./attrd, as ratios in one run. Each time is the best of a few runs; a ratio of 2 is linear."""
 import os
+import resource
 import subprocess
 import sys
 import tempfile
@@ -8,6 +9,7 @@ import time
 from pathlib import Path
 
 PROGRAM = Path(__file__).resolve().parent.parent / "attrd"
+TRIES = PROGRAM.parent / "crates" / "tries" / "out" / "tries"
 RUNS = 5
 
 
@@ -62,13 +64,18 @@ def source(mebibytes):
     return (line * (mebibytes * (1 << 20) // len(line.encode())))
 
 
+def operators(count):
+    """An expression of that many operators, by turns minus, times and plus."""
+    return " ".join(f"{k} {'+-*'[k % 3]}" for k in range(1, count + 1)) + f" {count + 1}"
+
+
 def chained():
     """Aspects over the calculator's blocks: each statement counts those before it, and a block sums a one for each."""
     return ("aspect Counting {\n  inh lazy int Stmt.before();\n"
             "  eq Block.getStmt(int i).before() = i == 0 ? 0 : getStmt(i - 1).before() + 1;\n"
             "  eq Program.getBlock().before() = 0;\n"
             "  syn int Block.many() = sum (s : getStmtList()) { s.one() };\n  syn int Stmt.one() = 1;\n"
-            "  syn int Program.long() = " + " ".join(f"{k} {'+-*'[k % 3]}" for k in range(1, 61)) + " 61;\n}\n")
+            "  syn int Program.long() = " + operators(60) + ";\n}\n")
 
 
 def many_equations(classes, attributes, bodies):
@@ -147,9 +154,39 @@ def rules(put, begun):
     print(f"4 MiB of aspects: {times[1] * 1000:.0f} ms, against half of it: ratio {times[1] / times[0]:.2f}")
 
 
+def by_turns(folder, files, runs):
+    """The least processor time of each of these runs of `tries`, by turns; a run is a tree and a line, answered by a value."""
+    times = {run: [] for run in runs}
+    for _ in range(2 * RUNS):
+        for (tree, line), spent in times.items():
+            began = resource.getrusage(resource.RUSAGE_CHILDREN).ru_utime
+            done = subprocess.run([str(TRIES), *files, tree], cwd=folder, input=line.encode(), capture_output=True)
+            spent.append(resource.getrusage(resource.RUSAGE_CHILDREN).ru_utime - began)
+            if done.returncode or not done.stdout.startswith(b"value "):
+                sys.exit(f"tries ended with status {done.returncode} on {line}")
+    return {run: min(spent) for run, spent in times.items()}
+
+
+def trials(folder, put):
+    """What a trial takes, against a plain recursion over the same equation and against half of it, in the same run."""
+    files = [put("trials.ast", "Top ::= Item*; Item ::= <Value:int>;\n"),
+             put("trials.jrag", f"aspect S {{\n  syn int Top.long() = {operators(60)};\n  syn int Top.half() = {operators(30)};\n"
+                 "  syn int Top.total() = sum (i : getItemList()) { i.getValue() * 2 + 1 };\n}\n")]
+    one, some, many = (put(f"items{n}.txt", "Top([" + ",".join(f"Item({k})" for k in range(n)) + "])\n") for n in (1, 15000, 30000))
+    for what, rounds, half, whole in [("an expression of 60 operators", 50000, (one, "half"), (one, "long")),
+                                      ("a fold over 30,000 elements", 50, (some, "total"), (many, "total"))]:
+        runs = {(way, tree, name): [(tree, f"{way} {n} / {name}()\n") for n in (0, rounds)]
+                for way in ("trial", "plain") for tree, name in (half, whole)}
+        times = by_turns(folder, files, [run for pair in runs.values() for run in pair])
+        taken = {of: times[full] - times[none] for of, (none, full) in runs.items()}
+        trial, plain = (taken[way, *whole] for way in ("trial", "plain"))
+        print(f"a trial of {what}: {trial / rounds * 1e6:.1f} us, {trial / plain:.2f} times a plain recursion; against half of it: "
+              f"ratio {trial / taken['trial', *half]:.2f}, plain {plain / taken['plain', *half]:.2f}")
+
+
 def main():
-    if not PROGRAM.exists():
-        sys.exit("make bench builds ./attrd first")
+    if not PROGRAM.exists() or not TRIES.exists():
+        sys.exit("make bench builds ./attrd and crates/tries/out/tries first")
     with tempfile.TemporaryDirectory() as folder:
         def put(name, text):
             (Path(folder) / name).write_text(text, encoding="utf-8")
@@ -210,6 +247,7 @@ def main():
 
         layers(put, lambda files, lines: best(folder, files, Path(folder) / put("lines", lines)) - best(folder, files, nothing))
         rules(put, lambda files: best(folder, files, nothing) - idle)
+        trials(folder, put)
 
 
 if __name__ == "__main__":

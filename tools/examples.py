@@ -34,7 +34,8 @@ The examples of a page are its fenced blocks; the word behind the fence says wha
     with status 1. '=> accepted' stands for nothing there, and for status 0.
 
 In the blocks with `$ attrd` it may also be `$ tries`. Blocks of text, ebnf and sh, and blocks without a word, are no
-examples. In the others a text X between the quotes in ‹X*N› is written N times, where # in X is the count from 1.
+examples. In the others a text X between the quotes in ‹X*N› is written N times, where # in X is the count from 1; and
+‹\\xHH› is the byte of these two hexadecimal digits.
 """
 import argparse
 import difflib
@@ -46,6 +47,7 @@ from pathlib import Path
 
 FENCE = re.compile(r"^```(.*)$")
 TIMES = re.compile(r"‹([^‹›]*)\*(\d+)›")
+BYTE = re.compile(r"‹\\x([0-9A-F]{2})›".encode())
 PASSED_OVER = ("", "text", "ebnf", "sh")
 SECONDS = 120
 
@@ -65,7 +67,8 @@ def written_out(text):
 
 def lines_text(lines):
     """The bytes of these lines, each ended by a newline."""
-    return "".join(written_out(it) + "\n" for it in lines).encode()
+    written = "".join(written_out(it) + "\n" for it in lines).encode()
+    return BYTE.sub(lambda it: bytes([int(it[1], 16)]), written)
 
 
 def blocks_of(text):

@@ -1,12 +1,11 @@
 #!/usr/bin/env python3
 """Refuses the first request for memory, then the second alone, and so on, until no run asks for that many.
 
-With --program, in the session of the program `starve`, with each keeper. A round may end for want of memory before the
-session's first line, or have one line answered `memory`; each other line must be answered right.
+    tools/starve.py PROGRAM
 
-With names of crates, in their tests. A test in which a request is refused may say so and end; it may not get another answer."""
+In the session of the program `starve`, with each keeper. A round may end for want of memory before the session's first
+line, or have one line answered `memory`; each other line must be answered right."""
 import os
-import re
 import shutil
 import subprocess
 import sys
@@ -19,9 +18,6 @@ from pathlib import Path
 KEEPERS = {"nothing": "nothing kept", "until-edit": "kept until an edit", "over-edits": "kept over edits"}
 BEFORE, ANSWERED, UNSEEN, NONE = "ended before the first line", "had a line answered `memory`", "made no difference", "none refused"
 MOST_ROUNDS = 100_000
-
-WANT_OF_MEMORY = re.compile("memory|AllocError|AllocFailed", re.I)
-NEW_TEST = re.compile(r"^test \S+ \.\.\. ", re.M)
 
 
 def refusing(folder):
@@ -75,40 +71,10 @@ def sessions(program):
             session(program, word, environment)
 
 
-def blocks(text):
-    """The part of the output that belongs to each test, in order."""
-    starts = [found.start() for found in NEW_TEST.finditer(text)]
-    ends = starts[1:] + [text.find("test result:")]
-    return [text[start:end] for start, end in zip(starts, ends)]
-
-
-def starved(crate, nth):
-    """How many tests an nth allocation refused has ended; stops where one ended otherwise."""
-    run = subprocess.run(["rt", "try", "--test", "--fail-alloc", str(nth)], cwd=f"crates/{crate}", capture_output=True, text=True)
-    text = run.stdout + run.stderr
-    if "test result:" not in text:
-        sys.exit(f"{crate}: no tests ran\n{text[-2000:]}")
-    failed = [block for block in blocks(text) if "... FAILED" in block.splitlines()[0]]
-    for block in failed:
-        if not WANT_OF_MEMORY.search(block):
-            sys.exit(f"{crate}: with allocation {nth} refused, a test got another answer\n{block}")
-    return len(failed)
-
-
-def tests(crate):
-    nth = 1
-    while starved(crate, nth) > 0:
-        nth += 1
-    print(f"{crate}: each of {nth - 1} allocations refused in turn, and no test got another answer")
-
-
 def main():
-    words = sys.argv[1:]
-    if words[:1] == ["--program"] and len(words) == 2:
-        sessions(os.path.abspath(words[1]))
-        return
-    for crate in words:
-        tests(crate)
+    if len(sys.argv) != 2:
+        sys.exit("tools/starve.py PROGRAM")
+    sessions(os.path.abspath(sys.argv[1]))
 
 
 if __name__ == "__main__":

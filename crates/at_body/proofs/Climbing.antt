@@ -1,14 +1,14 @@
 -- The start of an evaluation.
-use Rattle.std.proofs.Common.{◌≡◌, ◌+◌, ℕ, suc, List, [], ◌∷◌, ◌++◌, refl, ap, sym, ◌∙◌, subst, nat_eq, map, Option, Some, None, option_map, append_assoc, append-nil}
+use Rattle.std.proofs.Common.{◌≡◌, ℕ, suc, List, [], ◌∷◌, ◌++◌, refl, ap, sym, ◌∙◌, nat_eq, map, Option, Some, None, append_assoc, append-nil}
 use Rattle.at_model.specs.Classes.{Classes}
-use Rattle.at_model.specs.Run.{Value, Instance, Location, Is, Up, Contents, Null, Run, Gives, Fails, Looks, ◌>>=◌}
-use Rattle.at_model.specs.Bodies.{Expr, Scope, ref_of, eval}
+use Rattle.at_model.specs.Run.{Value, Instance, Location, Is, Up, Contents, Null, Run, Fails, Looks}
+use Rattle.at_model.specs.Bodies.{Expr, ref_of, eval}
 use Rattle.at_model.specs.Rules.{Rules, by_inherited, by_equation, inherited_equation, past_arguments, evaluation}
 use Rattle.at_model.specs.Support.{argument_classes}
 use Rattle.at_body.specs.declared.trial.Trial.{Trial}
 use Rattle.at_body.specs.Values.{value_view}
-use Rattle.at_body.specs.Standing.{Place, scope}
-use Rattle.at_model.specs.Follow.{Reached, Stops, follow}
+use Rattle.at_body.specs.Standing.{scope}
+use Rattle.at_model.specs.Follow.{Reached, follow}
 use Rattle.at_body.specs.Starting.{by_rule}
 use Rattle.at_body.specs.Rest.{begun, place_of, ev}
 use Rattle.at_body.proofs.Runs.{to_its_end}
@@ -44,6 +44,16 @@ found rules tree seen name vs height h n p part e t high up is idle unbound this
     ∙ ap (λ o. follow tree (seen ++ Up n ∷ []) (above o)) (sym up)
     ∙ ap (λ o. follow tree ((seen ++ Up n ∷ []) ++ Is p ∷ []) (by_equation rules nat_eq (record { this = p; names = vs; child = Some n }) (by_inherited rules nat_eq name vs h p) o)) (sym is)
     ∙ ap (follow tree ((seen ++ Up n ∷ []) ++ Is p ∷ [])) (sym (alone rules.classes t e p vs (Some n) idle unbound this passed down))
+
+-- or it stands above the parent
+pub climbs : (rules : Rules) (tree : Contents ℕ) (seen : List (Location ℕ)) (name : List ℕ) (vs : List (Value ℕ)) (height h n p part : ℕ) →
+    height ≡ suc h → Some (p, part) ≡ tree (Up n) → None ≡ inherited_equation rules (tree (Is p)) part name →
+    follow tree seen (by_inherited rules nat_eq name vs height n) ≡ follow tree ((seen ++ Up n ∷ []) ++ Is p ∷ []) (by_inherited rules nat_eq name vs h p)
+climbs rules tree seen name vs height h n p part high up is =
+    let above : Option (ℕ × ℕ) → Run ℕ (Value ℕ) = elim [ None ↦ Fails Null | Some q ↦ Looks (Is q.0) (λ c. by_equation rules nat_eq (record { this = q.0; names = vs; child = Some n }) (by_inherited rules nat_eq name vs h q.0) (inherited_equation rules c q.1 name)) ] in
+    ap (λ k. follow tree seen (by_inherited rules nat_eq name vs k n)) high
+    ∙ ap (λ o. follow tree (seen ++ Up n ∷ []) (above o)) (sym up)
+    ∙ ap (λ o. follow tree ((seen ++ Up n ∷ []) ++ Is p ∷ []) (by_equation rules nat_eq (record { this = p; names = vs; child = Some n }) (by_inherited rules nat_eq name vs h p) o)) (sym is)
 
 pub starts : (rules : Rules) (tree : Contents ℕ) (i : Instance ℕ) (seen : List (Location ℕ)) (c : ℕ) (end : Reached ℕ (Value ℕ) × List (Location ℕ)) →
     seen ≡ (Is i.node ∷ []) ++ argument_classes i.arguments → c ≡ tree (Is i.node) → follow tree seen (by_rule rules i.node i.attribute i.arguments c) ≡ end → follow tree [] (evaluation rules nat_eq i) ≡ end

@@ -1,34 +1,45 @@
 -- The first thing to do for the value of an expression.
-use Rattle.std.proofs.Common.{◌≡◌, ◌<◌, ◌+◌, ℕ, List, [], ◌∷◌, ◌++◌, refl, ap, ◌∙◌, Result, Ok, Err, IfOk, Bor, arith, Some, cond, map}
+use Rattle.std.proofs.Common.{◌≡◌, ◌<◌, ◌≤◌, ◌+◌, ℕ, List, [], ◌∷◌, ◌++◌, refl, ap, ◌∙◌, Result, Ok, Err, IfOk, Bor, arith, subst, Option, Some, None, map, length, append-nil}
+use Rattle.std.proofs.lemmas.List.{map-append}
 use Rattle.at_model.specs.Classes.{Classes}
-use Rattle.at_model.specs.Bodies.{Expr, Exprs, no_exprs, expr, Call, truth_of, demand_of}
-use Rattle.at_model.specs.Run.{Value, Ref, Location, Contents, Run, Gives, ◌>>=◌}
+use Rattle.at_model.specs.Bodies.{Expr, Exprs, no_exprs, expr, Call, demand_of}
+use Rattle.at_model.specs.Run.{Value, Ref, Instance, Location, Contents, Null, Run, Gives, ◌>>=◌}
 use Rattle.at_rules.specs.declared.body.Body.{Body, Row_of-Body, end_of-Body, more_of-Body, items-the_row-Body, Call'}
+use Rattle.at_body.specs.declared.value.Value.{Value as ValueCode}
+use Rattle.at_body.specs.Values.{value_view}
 use Rattle.at_body.specs.declared.todo.Todo.{Todo}
 use Rattle.at_body.specs.declared.todo.Fold.{Fold}
 use Rattle.at_body.specs.declared.todo.Fold.TheVariants as fold
 use Rattle.at_body.specs.declared.todo.Now.{Now}
-use Rattle.at_body.specs.declared.todo.Now.TheVariants.{Enter}
+use Rattle.at_body.specs.declared.todo.Now.TheVariants.{Ask, Enter}
 use Rattle.at_body.specs.declared.trial.Trial.{Trial}
 use Rattle.at_rules.specs.Bodies.{body_view, row_view, bodies_view}
 use Rattle.at_body.specs.Standing.{inside}
-use Rattle.at_model.specs.Follow.{follow}
-use Rattle.at_body.specs.Rest.{rest, ev, ev_all, begun, resumed, used, called, gone_over, over, settled, then, outer, after, place_of, weight, cost, load}
-use Rattle.at_body.specs.Size.{size, sizes}
+use Rattle.at_model.specs.Follow.{Waits, Stops, follow}
+use Rattle.at_body.specs.Rest.{rest, ev, ev_all, begun, resumed, used, called, gone_over, settled, then, outer, after, place_of, weight, cost, load}
+use Rattle.at_body.specs.Size.{size}
 use Rattle.at_body.proofs.Runs.{regroup, fun_ext}
 
 -- what it means that an expression is evaluated for a use of its value
 abbrev pub Put : {E : Type 0} → Result Now E → Trial → Trial → Bor Body → Todo → Type 0
 Put res t new part todo = IfOk res (λ now. (now ≡ Enter part) × (new ≡ record t { todo = todo ∷ t.todo }))
 
+-- an expression whose value comes from that of another one
+pub brought : {E : Type 0} (classes : Classes) (tree : Contents ℕ) (res : Result Now E) (t new : Trial) (e first : Expr) (todo : Todo) →
+    IfOk res (λ now. follow tree t.reads (ev classes first (place_of t) >>= used classes todo t) ≡ follow tree new.reads (rest classes now new)) → outer todo (place_of t) ≡ place_of t →
+    ev classes e (place_of t) ≡ ev classes first (place_of t) >>= then classes todo (place_of t) →
+    IfOk res (λ now. follow tree t.reads (begun classes t e) ≡ follow tree new.reads (rest classes now new))
+brought classes tree (Ok now) t new e first todo h stays shape =
+    let s : begun classes t e ≡ ev classes first (place_of t) >>= λ v. then classes todo (place_of t) v >>= after classes t.todo (outer todo (place_of t)) =
+    rw (stays, shape) (regroup (ev classes first (place_of t)) (then classes todo (place_of t)) (after classes t.todo (place_of t))) in
+    ap (follow tree t.reads) s ∙ h
+brought classes tree (Err e') t new e first todo h stays shape = tt
+
 pub entered : {E : Type 0} (classes : Classes) (tree : Contents ℕ) (res : Result Now E) (t new : Trial) (e : Expr) (part : Bor Body) (todo : Todo) →
     Put res t new part todo → outer todo (place_of t) ≡ place_of t →
     ev classes e (place_of t) ≡ ev classes (body_view part.now) (place_of t) >>= then classes todo (place_of t) →
     IfOk res (λ now. follow tree t.reads (begun classes t e) ≡ follow tree new.reads (rest classes now new))
-entered classes tree (Ok now) t new e part todo (is, becomes) stays shape =
-    let s : begun classes t e ≡ ev classes (body_view part.now) (place_of t) >>= λ v. then classes todo (place_of t) v >>= after classes t.todo (outer todo (place_of t)) =
-    rw (stays, shape) (regroup (ev classes (body_view part.now) (place_of t)) (then classes todo (place_of t)) (after classes t.todo (place_of t))) in
-    rw (is, becomes) (ap (follow tree t.reads) s)
+entered {E} classes tree (Ok now) t new e part todo (is, becomes) stays shape = brought {E = E} classes tree (Ok now) t new e (body_view part.now) todo (rw (is, becomes) refl) stays shape
 entered classes tree (Err e') t new e part todo h stays shape = tt
 
 -- the arguments of a call as a list
@@ -41,16 +52,56 @@ pub call_view : (x : Body) (p : _) (b : Body) (a : ℕ) (shape : _) (row : Row_o
     body_view x ≡ Call (body_view part) a (bodies_view bs)
 call_view x p b a shape row bs part is q s = rw (is, s, ← q) (ap (Call (body_view b) a) (of_row _ row))
 
-pub lighter : {E : Type 0} (res : Result Now E) (t new : Trial) (e : Expr) (part : Bor Body) (todo : Todo) →
-    Put res t new part todo → size (body_view part.now) + cost todo < size e → IfOk res (λ now. weight now new < size e + load t.todo)
-lighter (Ok now) t new e part todo (is, becomes) less = rw (is, becomes) (omega arith)
-lighter (Err e') t new e part todo h less = tt
+pub lighter : {E : Type 0} (res : Result Now E) (t new : Trial) (n : ℕ) (part : Bor Body) (todo : Todo) →
+    Put res t new part todo → size (body_view part.now) + cost todo < n → IfOk res (λ now. weight now new < n + load t.todo)
+lighter (Ok now) t new n part todo (is, becomes) less = rw (is, becomes) (omega (arith, less))
+lighter (Err e') t new n part todo h less = tt
+
+-- what is left is as much as before, and less than that and more
+pub settles : {E : Type 0} (res : Result Now E) (new : Trial) (l n : ℕ) → IfOk res (λ now. weight now new ≡ l) → 0 < n → IfOk res (λ now. weight now new < n + l)
+settles (Ok now) new l n e more = omega (arith, e, more)
+settles (Err e') new l n e more = tt
+
+pub below_more : {E : Type 0} (res : Result Now E) (new : Trial) (l m n : ℕ) → IfOk res (λ now. weight now new < m + l) → m ≤ n → IfOk res (λ now. weight now new < n + l)
+below_more (Ok now) new l m n h more = omega (arith, h, more)
+below_more (Err e') new l m n h more = tt
+
+-- the same bound, of the same expression
+pub bounded : {E : Type 0} (res : Result Now E) (new : Trial) (l m n : ℕ) → IfOk res (λ now. weight now new < m + l) → m ≡ n → IfOk res (λ now. weight now new < n + l)
+bounded res new l m n h e = let P : ℕ → Type 0 = λ k. IfOk res (λ now. weight now new < k + l) in subst P e h
+
+-- the demand of a call
+pub demands : (tree : Contents ℕ) (seen : List (Location ℕ)) (classes : Classes) (t : Trial) (i : Instance ℕ) (n a : ℕ) (o : Option ℕ) (vs : List (Value ℕ)) →
+    o ≡ Some n → i ≡ record { node = n; attribute = a; arguments = vs } → follow tree seen (demand_of a (Ref o) vs >>= resumed classes t) ≡ (Waits i (resumed classes t), seen)
+demands tree seen classes t i n a o vs e f = rw (e, f) refl
+
+pub demands_bare : (tree : Contents ℕ) (seen : List (Location ℕ)) (classes : Classes) (t : Trial) (i : Instance ℕ) (n a : ℕ) (vs : List ValueCode) →
+    vs ≡ [] → i ≡ record { node = n; attribute = a; arguments = map value_view vs } → follow tree seen (rest classes (Ask a n) t) ≡ (Waits i (resumed classes t), seen)
+demands_bare tree seen classes t i n a vs e f = rw (f, e) refl
+
+pub asks_null : (tree : Contents ℕ) (seen : List (Location ℕ)) (classes : Classes) (t : Trial) (a : ℕ) (o : Option ℕ) (vs : List (Value ℕ)) →
+    o ≡ None → follow tree seen (demand_of a (Ref o) vs >>= resumed classes t) ≡ (Stops Null, seen)
+asks_null tree seen classes t a o vs e = rw e refl
 
 -- an expression is evaluated for a use of its value
 pub enters : {E : Type 0} (classes : Classes) (res : Result Now E) (t new : Trial) (r : Run ℕ (Value ℕ)) (part : Bor Body) (todo : Todo) →
     Put res t new part todo → r ≡ ev classes (body_view part.now) (place_of t) >>= used classes todo t → IfOk res (λ now. r ≡ rest classes now new)
 enters classes (Ok now) t new r part todo (is, becomes) shape = rw (is, becomes) shape
 enters classes (Err e') t new r part todo h shape = tt
+
+no_arg : (classes : Classes) (t : Trial) (a : ℕ) (v : Value ℕ) (done : List (Value ℕ)) → called classes t a v done no_exprs ≡ demand_of a v done >>= resumed classes t
+no_arg classes t a v done = ap (λ ws. demand_of a v ws >>= resumed classes t) (append-nil done)
+
+pub none_left : (classes : Classes) (t : Trial) (a : ℕ) (v : Value ℕ) (done : List (Value ℕ)) (bs : List Body) → length bs ≡ 0 → called classes t a v done (bodies_view bs) ≡ demand_of a v done >>= resumed classes t
+none_left classes t a v done [] e = no_arg classes t a v done
+none_left classes t a v done (b ∷ bs) e = absurd (omega (arith, e))
+
+-- one argument more is there
+pub passed_on : {E : Type 0} (classes : Classes) (res : Result Now E) (t new : Trial) (a : ℕ) (v : Value ℕ) (w : ValueCode) (done items : List ValueCode) (es : Exprs) →
+    items ≡ done ++ w ∷ [] → IfOk res (λ now. called classes t a v (map value_view items) es ≡ rest classes now new) → IfOk res (λ now. called classes t a v (map value_view done ++ value_view w ∷ []) es ≡ rest classes now new)
+passed_on classes res t new a v w done items es is h =
+    let e : map value_view items ≡ map value_view done ++ value_view w ∷ [] = rw (is, map-append) refl in
+    let P : List (Value ℕ) → Type 0 = λ vs. IfOk res (λ now. called classes t a v vs es ≡ rest classes now new) in subst P e h
 
 pub first_arg : (classes : Classes) (t : Trial) (a : ℕ) (v : Value ℕ) (done : List (Value ℕ)) (e : Expr) (es : Exprs) →
     called classes t a v done (expr e es) ≡ ev classes e (place_of t) >>= λ w. (ev_all classes es (place_of t) >>= λ ws. demand_of a v (done ++ w ∷ ws)) >>= resumed classes t

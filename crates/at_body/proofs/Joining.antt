@@ -1,7 +1,7 @@
 -- Texts behind each other, and their limit.
-use Rattle.std.proofs.Common.{◌≡◌, ◌+◌, ℕ, Bool, true, false, List, ◌++◌, length, nat_le, cond, ap, ◌∙◌, sym, refl}
+use Rattle.std.proofs.Common.{◌≡◌, ◌+◌, ℕ, Bool, List, ◌++◌, length, nat_le, cond, ap, ◌∙◌, sym}
 use Rattle.std.proofs.lemmas.List.{length-append}
-use Rattle.at_model.specs.Run.{Value, Text, Long, Run, Gives, Fails}
+use Rattle.at_model.specs.Run.{Text, Long, Gives, Fails}
 use Rattle.at_model.specs.Bodies.{joined, max_text}
 
 pub by_length : (s t : List ℕ) (b : Bool) → b ≡ nat_le (length s + length t) max_text → joined {N = ℕ} (s ++ t) ≡ cond b (Gives (Text (s ++ t))) (Fails Long)

@@ -8,3 +8,13 @@ pub mod OneTry
 pub mod Few
 pub mod Joining
 pub mod Sameness
+pub mod TypedParts
+pub mod TypedUses
+pub mod TypedFolds
+pub mod TypedAnswers
+pub mod TypedSteps
+pub mod TypedShown
+pub mod TypedAbove
+pub mod TypedStarting
+pub mod TypedInstances
+pub mod TypedBegins

@@ -1,6 +1,6 @@
 -- What names stand for.
-use Rattle.std.proofs.Common.{◌≡◌, ◌-◌, ℕ, zero, suc, List, [], ◌∷◌, length, map, refl, ap, ◌∙◌, Result, Ok, Err, IfOk, arith, Option, Some, None, slice_get}
-use Rattle.at_model.specs.Run.{Value, Ref}
+use Rattle.std.proofs.Common.{◌≡◌, ◌-◌, ℕ, zero, suc, List, [], ◌∷◌, length, map, refl, ap, ◌∙◌, Result, Ok, Err, IfOk, arith, Option, Some, None, IfSome, slice_get}
+use Rattle.at_model.specs.Run.{Value, Ref, Run, Gives}
 use Rattle.at_model.specs.Bodies.{named}
 use Rattle.at_body.specs.Standing.{names, scope}
 use Rattle.at_model.specs.Classes.{Classes}
@@ -15,6 +15,11 @@ is_bound [] vs zero n e = absurd (cc)
 is_bound [] vs (suc i) n e = absurd (cc)
 is_bound (m ∷ ns) vs zero n e = let f : m ≡ n = cc in rw f refl
 is_bound (m ∷ ns) vs (suc i) n e = is_bound ns vs i n e
+
+-- the value of a name
+pub gives_name : (res : Option ValueCode) (v : Value ℕ) → IfSome res (λ w. v ≡ value_view w) → IfSome res (λ w. ◌≡◌ {A = Run ℕ (Value ℕ)} (Gives v) (Gives (value_view w)))
+gives_name (Some w) v e = ap Gives e
+gives_name None v e = tt
 
 pub is_behind : (ns : List ℕ) (vs : List (Value ℕ)) (i j : ℕ) → slice_get ns i ≡ None → j ≡ i - length ns → named (names ns vs) i ≡ named vs j
 is_behind [] vs i j e f = let g : j ≡ i = omega (arith, f) in rw g refl

@@ -1,11 +1,11 @@
 -- Instances in the code's words and in the model's.
 use Rattle.std.proofs.Common.{◌≡◌, ℕ, Bool, true, false, not, List, [], ◌∷◌, ◌++◌, map, length, suc, nat_eq, ap, ◌∙◌, refl, sym}
 use Rattle.std.specs.List.{fold, flat_map}
-use Rattle.std.specs.Hash.{HashWrites, fed_then}
+use Rattle.std.specs.Hash.{fed_then}
 use Rattle.std.specs.Hash as fed
 use Rattle.std.specs.Cmp.Lexicographic.{pointwise}
 use Rattle.std.specs.Cmp.Derive.Mapped.{pointwise-map}
-use Rattle.at_model.specs.Run.{Value, Instance}
+use Rattle.at_model.specs.Run.{Instance}
 use Rattle.at_body.specs.declared.value.Value.{Value as ValueCode}
 use Rattle.at_body.specs.Values.{value_view}
 use Rattle.at_body.specs.Same.{same_value, same_instance, value_writes, instance_writes}

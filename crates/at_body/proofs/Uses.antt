@@ -1,9 +1,8 @@
 -- The use of a value.
-use Rattle.std.proofs.Common.{◌≡◌, ℕ, List, [], ◌∷◌, ◌++◌, ap, ◌∙◌, refl, sym, subst, Result, Ok, Err, IfOk, Bor, append_assoc, map, Some}
-use Rattle.std.proofs.lemmas.List.{map-append}
+use Rattle.std.proofs.Common.{◌≡◌, ℕ, List, [], ◌∷◌, ◌++◌, ap, ◌∙◌, refl, sym, subst, Result, Ok, Err, IfOk, Bor, append_assoc, Some}
 use Rattle.at_model.specs.Classes.{Classes}
 use Rattle.at_model.specs.Bodies.{Expr, Exprs, demand_of}
-use Rattle.at_model.specs.Run.{Value, Slot, Location, Contents, Run, Gives, ◌>>=◌}
+use Rattle.at_model.specs.Run.{Value, Slot, Location, Contents, Run, ◌>>=◌}
 use Rattle.at_model.specs.Follow.{follow}
 use Rattle.at_rules.specs.declared.body.Body.{Body}
 use Rattle.at_body.specs.declared.value.Value.{Value as ValueCode}
@@ -29,6 +28,12 @@ pub kept : {E : Type 0} (res : Result Now E) (seen : List (Location ℕ)) → If
 kept (Ok now) seen = refl
 kept (Err e) seen = tt
 
+-- the same evaluation, in other words
+pub instead : {E : Type 0} (classes : Classes) (tree : Contents ℕ) (seen : List (Location ℕ)) (res : Result Now E) (new : Trial) (r s : Run ℕ (Value ℕ)) →
+    r ≡ s → IfOk res (λ now. follow tree seen s ≡ follow tree new.reads (rest classes now new)) → IfOk res (λ now. follow tree seen r ≡ follow tree new.reads (rest classes now new))
+instead classes tree seen (Ok now) new r s e h = ap (follow tree seen) e ∙ h
+instead classes tree seen (Err e') new r s e h = tt
+
 -- an expression is evaluated for a use of its value
 pub puts : {E : Type 0} (classes : Classes) (tree : Contents ℕ) (res : Result Now E) (t new : Trial) (r : Run ℕ (Value ℕ)) (part : Bor Body) (todo : Todo) →
     Put res t new part todo → r ≡ ev classes (body_view part.now) (place_of t) >>= used classes todo t → IfOk res (λ now. follow tree t.reads r ≡ follow tree new.reads (rest classes now new))
@@ -38,11 +43,11 @@ puts classes tree (Err e') t new r part todo h shape = tt
 pub right_shape : (classes : Classes) (t : Trial) (o : Binary) (b : Bor Body) (v : ValueCode) → used classes (Right o b) t (value_view v) ≡ ev classes (body_view b.now) (place_of t) >>= used classes (Apply o v) t
 right_shape classes t o b v = regroup (ev classes (body_view b.now) (place_of t)) (with_two o (value_view v)) (resumed classes t)
 
-pub one_more : (classes : Classes) (t : Trial) (a : ℕ) (v : Value ℕ) (w : ValueCode) (done items : List ValueCode) (es : Exprs) → items ≡ done ++ w ∷ [] →
-    (ev_all classes es (place_of t) >>= λ ws. demand_of a v (map value_view done ++ value_view w ∷ ws)) >>= resumed classes t ≡ called classes t a v (map value_view items) es
-one_more classes t a v w done items es is =
-    let e : (λ (ws : List (Value ℕ)). demand_of a v (map value_view done ++ value_view w ∷ ws)) ≡ (λ ws. demand_of a v ((map value_view done ++ value_view w ∷ []) ++ ws)) = fun_ext (λ ws. ap (demand_of a v) (sym (append_assoc (map value_view done) (value_view w ∷ []) ws))) in
-    rw (is, map-append) (ap (λ k. (ev_all classes es (place_of t) >>= k) >>= resumed classes t) e)
+pub one_more : (classes : Classes) (t : Trial) (a : ℕ) (v w : Value ℕ) (done : List (Value ℕ)) (es : Exprs) →
+    (ev_all classes es (place_of t) >>= λ ws. demand_of a v (done ++ w ∷ ws)) >>= resumed classes t ≡ called classes t a v (done ++ w ∷ []) es
+one_more classes t a v w done es =
+    let e : (λ (ws : List (Value ℕ)). demand_of a v (done ++ w ∷ ws)) ≡ (λ ws. demand_of a v ((done ++ w ∷ []) ++ ws)) = fun_ext (λ ws. ap (demand_of a v) (sym (append_assoc done (w ∷ []) ws))) in
+    ap (λ k. (ev_all classes es (place_of t) >>= k) >>= resumed classes t) e
 
 -- the value of a fold's expression, once the element is no longer bound
 pub unbound : {E : Type 0} (classes : Classes) (tree : Contents ℕ) (res : Result Now E) (t new : Trial) (f : Fold) (b : Bor Body) (n : ℕ) (ns : Bor (List ℕ)) (v : Value ℕ) (bound : List ℕ) →

@@ -1,4 +1,5 @@
 pub mod Values
+pub mod ValueKinds
 pub mod Same
 pub mod Sameness
 pub mod Size
@@ -7,3 +8,5 @@ pub mod Standing
 pub mod Rest
 pub mod Starting
 pub mod Trying
+pub mod Typed
+pub mod TypedStart

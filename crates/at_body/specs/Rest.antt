@@ -15,7 +15,7 @@ use Rattle.at_body.specs.declared.todo.Fold.TheVariants as fold
 use Rattle.at_body.specs.declared.todo.Todo.{Todo}
 use Rattle.at_body.specs.declared.todo.Todo.TheVariants.{Use, Right, Apply, And, Or, Choose, Arguments, Argument, Elements, Element}
 use Rattle.at_body.specs.declared.todo.Now.{Now}
-use Rattle.at_body.specs.declared.todo.Now.TheVariants.{Enter, Back, Fail, Need}
+use Rattle.at_body.specs.declared.todo.Now.TheVariants.{Enter, Back, Fail, Ask, Call}
 use Rattle.at_body.specs.declared.trial.Trial.{Trial}
 use Rattle.at_body.specs.declared.trial.Step.{Step}
 use Rattle.at_body.specs.declared.trial.Step.TheVariants as step
@@ -57,13 +57,13 @@ with_two (binary.Element part) v w = element_of part v w
 abbrev pub over : Classes → Fold → Expr → Place → List ℕ → Run ℕ (Value ℕ)
 over classes fold.Exists e p ns = exists_in (λ n. ev classes e (inside p n)) ns
 over classes fold.First e p ns = first_in (λ n. ev classes e (inside p n)) ns
-over classes (fold.Sum total) e p ns = sum_in (λ n. ev classes e (inside p n)) (int_of (value_view total)) ns
+over classes (fold.Sum total) e p ns = sum_in (λ n. ev classes e (inside p n)) total ns
 
 -- what it does with the value of its expression at a node, before the nodes that follow
 abbrev pub settled : Classes → Fold → Expr → Place → ℕ → List ℕ → Value ℕ → Run ℕ (Value ℕ)
 settled classes fold.Exists e p n ns v = cond (truth_of v) (Gives (Truth true)) (over classes fold.Exists e p ns)
 settled classes fold.First e p n ns v = cond (truth_of v) (Gives (Ref (Some n))) (over classes fold.First e p ns)
-settled classes (fold.Sum total) e p n ns v = sum_in (λ m. ev classes e (inside p m)) (int_wrapping_add w32 (int_of (value_view total)) (int_of v)) ns
+settled classes (fold.Sum total) e p n ns v = sum_in (λ m. ev classes e (inside p m)) (int_wrapping_add w32 total (int_of v)) ns
 
 -- what is done with a value
 abbrev pub then : Classes → Todo → Place → Value ℕ → Run ℕ (Value ℕ)
@@ -74,7 +74,7 @@ then classes (And b) p v = cond (truth_of v) (ev classes (body_view b.now) p) (G
 then classes (Or b) p v = cond (truth_of v) (Gives (Truth true)) (ev classes (body_view b.now) p)
 then classes (Choose a b) p v = cond (truth_of v) (ev classes (body_view a.now) p) (ev classes (body_view b.now) p)
 then classes (Arguments a bs) p v = ev_all classes (bodies_view bs.now) p >>= demand_of a v
-then classes (Argument a n done bs) p w = ev_all classes (bodies_view bs.now) p >>= λ ws. demand_of a (Ref n) (map value_view done.items ++ w ∷ ws)
+then classes (Argument call bs) p w = ev_all classes (bodies_view bs.now) p >>= λ ws. demand_of call.value.attribute (Ref call.value.node) (map value_view call.value.done.items ++ w ∷ ws)
 then classes (Elements f part b) p v = elements_of part v >>= over classes f (body_view b.now) p
 then classes (Element f b n ns) p v = settled classes f (body_view b.now) (outside p) n ns.now v
 
@@ -107,6 +107,10 @@ onto classes t r = r >>= resumed classes t
 abbrev pub begun : Classes → Trial → Expr → Run ℕ (Value ℕ)
 begun classes t e = ev classes e (place_of t) >>= resumed classes t
 
+-- what it does from an expression on, for that use of its value
+abbrev pub evaluated_for : Classes → Trial → Todo → Expr → Run ℕ (Value ℕ)
+evaluated_for classes t k e = ev classes e (place_of t) >>= used classes k t
+
 -- from the other arguments of a call on
 abbrev pub called : Classes → Trial → ℕ → Value ℕ → List (Value ℕ) → Exprs → Run ℕ (Value ℕ)
 called classes t a v done bs = (ev_all classes bs (place_of t) >>= λ ws. demand_of a v (done ++ ws)) >>= resumed classes t
@@ -127,7 +131,8 @@ abbrev pub rest : Classes → Now → Trial → Run ℕ (Value ℕ)
 rest classes (Enter b) t = begun classes t (body_view b.now)
 rest classes (Back v) t = resumed classes t (value_view v)
 rest classes (Fail f) t = Fails (fault_view f)
-rest classes (Need j) t = Demands j (resumed classes t)
+rest classes (Ask attribute node) t = Demands (record { node = node; attribute = attribute; arguments = [] }) (resumed classes t)
+rest classes (Call call) t = demand_of call.value.attribute (Ref call.value.node) (map value_view call.value.done.items) >>= resumed classes t
 
 -- where an evaluation has come to with that step
 abbrev pub reached : Classes → Step → Trial → Reached ℕ (Value ℕ)
@@ -144,7 +149,7 @@ cost (And b) = size (body_view b.now) + 1
 cost (Or b) = size (body_view b.now) + 1
 cost (Choose a b) = size (body_view a.now) + size (body_view b.now) + 1
 cost (Arguments a bs) = sizes (bodies_view bs.now) + 2
-cost (Argument a n done bs) = sizes (bodies_view bs.now) + 2
+cost (Argument call bs) = sizes (bodies_view bs.now) + 2
 cost (Elements f part b) = tests (size (body_view b.now)) most + 1
 cost (Element f b n ns) = tests (size (body_view b.now)) (length ns.now)
 
@@ -154,7 +159,8 @@ load (k ∷ ks) = cost k + load ks
 
 abbrev pub weight : Now → Trial → ℕ
 weight (Enter b) t = size (body_view b.now) + load t.todo
-weight (Need j) t = 1 + load t.todo
+weight (Ask attribute node) t = 1 + load t.todo
+weight (Call call) t = 1 + load t.todo
 weight _ t = load t.todo
 
 -- what is left once it waits

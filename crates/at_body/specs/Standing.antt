@@ -1,5 +1,5 @@
 -- Where an expression stands.
-use Rattle.std.specs.Prelude.{ℕ, List, [], ◌∷◌, Option, None, Some, map}
+use Rattle.std.specs.Prelude.{ℕ, List, [], ◌∷◌, Option, Some, map}
 use Rattle.at_model.specs.Run.{Value, Ref}
 use Rattle.at_model.specs.Bodies.{Scope}
 use Rattle.at_body.specs.Stacked.{below}

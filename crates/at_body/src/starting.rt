@@ -1,28 +1,37 @@
 //! The start of an evaluation: the node, the nodes among its arguments, and its equation.
 
-ghost use Rattle.std.specs.Prelude.{◌≡◌, ◌++◌, [], ℕ, nat_eq, map, IfOk, OnOk, None};
-ghost use Rattle.at_model.specs.Rules.{evaluation, by_inherited, attribute_name};
+ghost use Rattle.std.specs.Prelude.{◌≡◌, ◌++◌, [], ℕ, nat_eq, map, true, IfOk, IsSome, OnOk, None};
+ghost use Rattle.at_model.specs.Instances.{AnyText};
+ghost use Rattle.at_model.specs.Kinds.{AreTyped};
+ghost use Rattle.at_model.specs.Rules.{evaluation, by_inherited, attribute_name, is_inherited, own_equation};
+ghost use Rattle.at_model.specs.Bodies.{ref_of};
+ghost use Rattle.at_model.specs.Run.{Contents};
+ghost use Rattle.at_model.specs.TypedRuns.{ClassAt, IsWellTyped};
+ghost use Rattle.at_model.specs.WellFormed.{AreWellFormed, IsTreeSound};
 ghost use Rattle.at_model.specs.Support.{argument_classes};
 ghost use Rattle.at_model.specs.Follow.{follow};
-ghost use Rattle.at_store.specs.Shown.{contents, IsIdle};
+ghost use Rattle.at_store.specs.Shown.{contents, tree, IsIdle};
 ghost use Rattle.at_body.specs.Values.{value_view};
 ghost use Rattle.at_body.specs.Rest.{rest, reached};
 ghost use Rattle.at_body.specs.Starting.{own_of, by_rule};
+ghost use Rattle.at_body.specs.Typed.{IsOver, IsTypedNow, IsTypedStep, class_shown};
+ghost use Rattle.at_body.specs.TypedStart.{Begins, HasEquation};
 
 use super::inst::{Inst, copied};
 use super::reads::Reads;
 use super::stack::Stack;
 use super::todo::Now;
 use super::trial::{Step, Trial};
-use super::value::{FaultKind, Value};
+use super::value::Value;
 use at_class::ClassId;
 use at_rules::{AttrId, Rules};
-use at_store::{Loc, Store};
+use at_store::{Loc, Node, Store};
 use at_tree::reader::MAX_DEPTH;
 use std::alloc::{AllocError, Global};
 
 impl<'a> Trial<'a> {
-    /// Begins the evaluation of an instance, and goes on up to the end or to a demand. An error where memory is wanting.
+    /// Begins the evaluation of a well-typed instance, over well-formed rules and a sound tree, and goes on up to the end or to a
+    /// demand, which is well typed, too. An error where memory is wanting.
     pub fn start(
         alloc: Global,
         rules: &'a Rules,
@@ -30,7 +39,11 @@ impl<'a> Trial<'a> {
         inst: &Inst,
     ) -> Result<(Trial<'a>, Step), AllocError>
         requires idle_store { IsIdle store.now }
-        ensures { IfOk result (λ r. follow (contents store.now) [] (evaluation rules.now nat_eq inst.now) ≡ (reached rules.now.classes r.1 r.0, r.0.reads)) }
+        requires formed { AreWellFormed rules.now }
+        requires sound { IsTreeSound rules.now.classes (tree store.now) }
+        requires typed { IsWellTyped rules.now (class_shown store.now) AnyText inst.now }
+        ensures found { IfOk result (λ r. follow (contents store.now) [] (evaluation rules.now nat_eq inst.now) ≡ (reached rules.now.classes r.1 r.0, r.0.reads)) }
+        ensures typed { IfOk result (λ r. IsTypedStep rules.now (class_shown store.now) r.1 r.0) }
     {
         let node = inst.node();
         let attribute = inst.attribute();
@@ -64,7 +77,11 @@ impl<'a> Trial<'a> {
         requires idle { self.old.todo ≡ [] }
         requires unbound { self.old.bound ≡ [] }
         requires top { self.old.child ≡ None }
-        ensures { IfOk result (λ now. follow (contents store.now) self.old.reads (by_rule rules.now self.old.this attribute (map value_view self.old.arguments.items) class) ≡ follow (contents store.now) self.new.reads (rest rules.now.classes now self.new)) }
+        requires formed { AreTyped rules.now }
+        requires over { IsOver rules.now (class_shown store.now) (contents store.now) }
+        requires typed { Begins rules.now (class_shown store.now) (contents store.now) self.old class attribute }
+        ensures same { IfOk result (λ now. follow (contents store.now) self.old.reads (by_rule rules.now self.old.this attribute (map value_view self.old.arguments.items) class) ≡ follow (contents store.now) self.new.reads (rest rules.now.classes now self.new)) }
+        ensures typed { IfOk result (λ now. IsTypedNow rules.now (class_shown store.now) now self.new) }
     {
         if rules.is_inherited(attribute) {
             return self.climb(rules, store, attribute, MAX_DEPTH);
@@ -77,11 +94,13 @@ impl<'a> Trial<'a> {
         requires idle { self.now.todo ≡ [] }
         requires unbound { self.now.bound ≡ [] }
         requires top { self.now.child ≡ None }
-        ensures { own_of rules.now self.now.this attribute (map value_view self.now.arguments.items) class ≡ rest rules.now.classes result self.now }
+        requires there { IsSome (own_equation rules.now class attribute) }
+        ensures same { own_of rules.now self.now.this attribute (map value_view self.now.arguments.items) class ≡ rest rules.now.classes result self.now }
+        ensures typed { (at : ClassAt ℕ) (look : Contents ℕ) → AreTyped rules.now → Begins rules.now at look self.now class attribute → IsTypedNow rules.now at result self.now }
     {
         match rules.own_body(class, attribute) {
             Some(body) => Now::Enter(body),
-            None => Now::Fail(FaultKind::Null),
+            None => unreachable!(),
         }
     }
 
@@ -96,14 +115,19 @@ impl<'a> Trial<'a> {
         requires idle_store { IsIdle store.now }
         requires idle { self.old.todo ≡ [] }
         requires unbound { self.old.bound ≡ [] }
-        ensures { IfOk result (λ now. follow (contents store.now) self.old.reads (by_inherited rules.now nat_eq (attribute_name rules.now attribute) (map value_view self.old.arguments.items) height self.old.this) ≡ follow (contents store.now) self.new.reads (rest rules.now.classes now self.new)) }
+        requires formed { AreTyped rules.now }
+        requires inherited { is_inherited rules.now attribute ≡ true }
+        requires typed { (class : ℕ) × Begins rules.now (class_shown store.now) (contents store.now) self.old class attribute }
+        requires above { HasEquation rules.now (class_shown store.now) (contents store.now) (attribute_name rules.now attribute) height self.old.this }
+        ensures same { IfOk result (λ now. follow (contents store.now) self.old.reads (by_inherited rules.now nat_eq (attribute_name rules.now attribute) (map value_view self.old.arguments.items) height self.old.this) ≡ follow (contents store.now) self.new.reads (rest rules.now.classes now self.new)) }
+        ensures typed { IfOk result (λ now. IsTypedNow rules.now (class_shown store.now) now self.new) }
     {
         while height > 0 {
             height -= 1;
             let node = self.this;
             self.reads.push(Loc::Up(node))?;
             let Some((parent, part)) = store.up(node) else {
-                return Ok(Now::Fail(FaultKind::Null));
+                unreachable!()
             };
             self.reads.push(Loc::Is(parent))?;
             self.this = parent;
@@ -112,7 +136,7 @@ impl<'a> Trial<'a> {
                 return Ok(Now::Enter(body));
             }
         }
-        Ok(Now::Fail(FaultKind::Null))
+        unreachable!()
     }
 }
 
@@ -122,10 +146,20 @@ fn look_at(arguments: &[Value], reads: &mut Reads) -> Result<(), AllocError>
 {
     let mut rest = arguments;
     while let Some((value, others)) = rest.split_first() {
-        if let Some(node) = value.node() {
+        if let Some(node) = node_in(value) {
             reads.push(Loc::Is(node))?;
         }
         rest = others;
     }
     Ok(())
+}
+
+/// The node to which an argument refers; none for null, and for one that is no reference.
+fn node_in(argument: &Value) -> Option<Node>
+    ensures { result ≡ ref_of (value_view argument.now) }
+{
+    match argument {
+        Value::Ref(node) => *node,
+        Value::Int(_) | Value::Bool(_) | Value::Text(_) => None,
+    }
 }

@@ -1,6 +1,6 @@
 //! What is left to do.
 
-use super::inst::{Arguments, Inst};
+use super::inst::Arguments;
 use super::value::{FaultKind, Value};
 use at_class::ClassId;
 use at_rules::{AttrId, Body, Operator, Order};
@@ -37,7 +37,15 @@ pub enum Binary {
 pub enum Fold {
     Exists,
     First,
-    Sum(Value),
+    Sum(i32),
+}
+
+/// A call of an attribute, with the arguments that are there.
+#[derive(Drop)]
+pub struct Asking {
+    pub(crate) attribute: AttrId,
+    pub(crate) node: Option<Node>,
+    pub(crate) done: Arguments,
 }
 
 /// What is left to do with the value of an expression.
@@ -54,8 +62,8 @@ pub enum Todo<'a> {
     Choose(&'a Body, &'a Body),
     /// It is the receiver; the arguments follow.
     Arguments(AttrId, &'a [Body]),
-    /// It is an argument, behind those that are there; others follow.
-    Argument(AttrId, Option<Node>, Arguments, &'a [Body]),
+    /// It is an argument of this call, behind those that are there; others follow.
+    Argument(Box<Asking>, &'a [Body]),
     /// It is the node over the elements of which the fold goes.
     Elements(Fold, usize, &'a Body),
     /// It is what the fold's expression gives at this element; others follow.
@@ -68,5 +76,8 @@ pub enum Now<'a> {
     Enter(&'a Body),
     Back(Value),
     Fail(FaultKind),
-    Need(Inst),
+    /// It demands this attribute of the node, without arguments.
+    Ask(AttrId, Node),
+    /// It demands this call.
+    Call(Box<Asking>),
 }

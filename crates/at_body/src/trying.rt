@@ -3,9 +3,13 @@
 ghost use Rattle.std.specs.Prelude.{◌≡◌, ◌++◌, nat_eq, ℕ, IfOk, OnOk, OnErr, option_map, option_copied};
 ghost use Rattle.at_model.specs.Run.{Known, tried};
 ghost use Rattle.at_model.specs.Run as model;
+ghost use Rattle.at_model.specs.Instances.{AnyText};
 ghost use Rattle.at_model.specs.Rules.{evaluation};
-ghost use Rattle.at_store.specs.Shown.{contents, IsIdle};
+ghost use Rattle.at_model.specs.TypedRuns.{IsWellTyped};
+ghost use Rattle.at_model.specs.WellFormed.{AreWellFormed, IsTreeSound};
+ghost use Rattle.at_store.specs.Shown.{contents, tree, IsIdle};
 ghost use Rattle.at_body.specs.Values.{value_view};
+ghost use Rattle.at_body.specs.Typed.{AreOfTheirKinds, class_shown};
 ghost use Rattle.at_body.specs.Trying.{tried_of, tried_view};
 
 use super::inst::Inst;
@@ -36,8 +40,9 @@ pub enum Tried {
     Need(Inst),
 }
 
-/// The value or fault of an instance's equation, or the first instance that it needs and that is not known. The reads gain the
-/// locations that are looked at up to there. An error where memory is wanting; then the reads are as they were.
+/// The value or fault of the equation of a well-typed instance, or the first instance that it needs and that is not known. The
+/// rules are well formed, the tree is sound, and what is known is of its kinds. The reads gain the locations that are looked at
+/// up to there. An error where memory is wanting; then the reads are as they were.
 pub fn try_body<K: Known>(
     alloc: Global,
     rules: &Rules,
@@ -47,6 +52,10 @@ pub fn try_body<K: Known>(
     reads: &mut Reads,
 ) -> Result<Tried, AllocError>
     requires idle_store { IsIdle store.now }
+    requires formed { AreWellFormed rules.now }
+    requires sound { IsTreeSound rules.now.classes (tree store.now) }
+    requires typed { IsWellTyped rules.now (class_shown store.now) AnyText inst.now }
+    requires known { AreOfTheirKinds rules.now (class_shown store.now) (K.value_of known.now) }
     ensures found { IfOk result (λ t. tried (contents store.now) (K.value_of known.now) (evaluation rules.now nat_eq inst.now) ≡ tried_view t) }
     ensures gained { OnOk result (reads.new ≡ reads.old ++ model.reads (contents store.now) (K.value_of known.now) (evaluation rules.now nat_eq inst.now)) }
     ensures kept { OnErr result (reads.new ≡ reads.old) }
@@ -69,6 +78,10 @@ fn try_steps<'a, K: Known>(
     known: &K,
 ) -> Result<(Trial<'a>, Step), AllocError>
     requires idle_store { IsIdle store.now }
+    requires formed { AreWellFormed rules.now }
+    requires sound { IsTreeSound rules.now.classes (tree store.now) }
+    requires typed { IsWellTyped rules.now (class_shown store.now) AnyText inst.now }
+    requires known { AreOfTheirKinds rules.now (class_shown store.now) (K.value_of known.now) }
     ensures found { IfOk result (λ r. tried (contents store.now) (K.value_of known.now) (evaluation rules.now nat_eq inst.now) ≡ tried_of r.1) }
     ensures looked { IfOk result (λ r. model.reads (contents store.now) (K.value_of known.now) (evaluation rules.now nat_eq inst.now) ≡ r.0.reads) }
 {

@@ -4,9 +4,11 @@ ghost use Rattle.std.specs.Prelude.{◌≡◌, ◌++◌, ◌+◌, ℕ, List, len
 ghost use Rattle.std.specs.Fmt.{signed_decimal};
 ghost use Rattle.at_model.specs.Classes.{Classes};
 ghost use Rattle.at_model.specs.Follow.{follow};
-ghost use Rattle.at_model.specs.Run.{Ref};
+ghost use Rattle.at_model.specs.Run.{Contents, Int, Ref};
 ghost use Rattle.at_model.specs.Bodies.{max_text, int_of, text_of, computed, joined, is_in_order, element_at, child_of, element_of, count_of, has_of, token_of, is_instance, cast_to};
 ghost use Rattle.at_store.specs.Shown.{contents, IsIdle};
+ghost use Rattle.at_body.specs.Typed.{AreOperands, ComesTo, IsOperand};
+ghost use Rattle.at_body.specs.ValueKinds.{IsInt, IsRef};
 ghost use Rattle.at_body.specs.Values.{value_view};
 ghost use Rattle.at_rules.specs.Bodies.{operator_view, order_view};
 ghost use Rattle.at_body.specs.declared.trial.Trial.{Trial};
@@ -19,7 +21,7 @@ use at_class::ClassId;
 use at_rules::{Operator, Order, Rules};
 use at_store::{Loc, Node, Store};
 use itoa::Buffer;
-use std::alloc::{AllocError, Global};
+use std::alloc::AllocError;
 
 /// The most bytes that a text has.
 const MAX_TEXT: usize = 65535;
@@ -34,8 +36,10 @@ impl<'a> Trial<'a> {
         value: &Value,
     ) -> Result<Now<'a>, AllocError>
         requires idle_store { IsIdle store.now }
+        requires operand { IsOperand unary (value_view value.now) }
         ensures same { IfOk result (λ now. follow (contents store.now) self.old.reads (onto rules.now.classes self.old (with_one rules.now.classes unary (value_view value.now))) ≡ follow (contents store.now) self.new.reads (rest rules.now.classes now self.new)) }
         ensures less { IfOk result (λ now. weight now self.new ≡ load self.old.todo) }
+        ensures told { IfOk result (λ now. ComesTo (contents store.now) (with_one rules.now.classes unary (value_view value.now)) now × (self.new ≡ record self.old { reads = self.new.reads })) }
     {
         match unary {
             Unary::Negate => Ok(Now::Back(value.negated())),
@@ -52,27 +56,54 @@ impl<'a> Trial<'a> {
     /// What is done with two values.
     pub(crate) fn binary(
         &mut self,
-        alloc: Global,
         store: &'a Store,
         binary: Binary,
         left: Value,
         right: &Value,
     ) -> Result<Now<'a>, AllocError>
         requires idle_store { IsIdle store.now }
+        requires operands { AreOperands binary (value_view left) (value_view right.now) }
         ensures same { (classes : Classes) → IfOk result (λ now. follow (contents store.now) self.old.reads (onto classes self.old (with_two binary (value_view left) (value_view right.now))) ≡ follow (contents store.now) self.new.reads (rest classes now self.new)) }
         ensures less { IfOk result (λ now. weight now self.new ≡ load self.old.todo) }
+        ensures told { IfOk result (λ now. ComesTo (contents store.now) (with_two binary (value_view left) (value_view right.now)) now × (self.new ≡ record self.old { reads = self.new.reads })) }
     {
         match binary {
             Binary::Arithmetic(operator) => Ok(computed(operator, left.int(), right.int())),
             Binary::Compare(order) => {
                 Ok(Now::Back(Value::Bool(is_in_order(order, left.int(), right.int()))))
             }
-            Binary::Join => joined(left.into_text(alloc), right.text()),
-            Binary::JoinInt => joined_int(left.into_text(alloc), right),
+            Binary::Join => joined(left.into_text(), right.text()),
+            Binary::JoinInt => joined_int(left.into_text(), right),
             Binary::Same => Ok(Now::Back(Value::Bool(left.is_same(right)))),
             Binary::Differ => Ok(Now::Back(Value::Bool(!left.is_same(right)))),
             Binary::Equals => Ok(Now::Back(Value::Bool(left.text() == right.text()))),
             Binary::Element(part) => self.element(store, part, &left, right),
+        }
+    }
+
+    /// What is done with two values, of which the right one is an int.
+    pub(crate) fn with_int(
+        &mut self,
+        store: &'a Store,
+        binary: Binary,
+        left: Value,
+        right: &i32,
+    ) -> Result<Now<'a>, AllocError>
+        requires idle_store { IsIdle store.now }
+        requires operands { AreOperands binary (value_view left) (Int right.now) }
+        ensures same { (classes : Classes) → IfOk result (λ now. follow (contents store.now) self.old.reads (onto classes self.old (with_two binary (value_view left) (Int right.now))) ≡ follow (contents store.now) self.new.reads (rest classes now self.new)) }
+        ensures less { IfOk result (λ now. weight now self.new ≡ load self.old.todo) }
+        ensures told { IfOk result (λ now. ComesTo (contents store.now) (with_two binary (value_view left) (Int right.now)) now × (self.new ≡ record self.old { reads = self.new.reads })) }
+    {
+        match binary {
+            Binary::Arithmetic(operator) => Ok(computed(operator, left.int(), *right)),
+            Binary::Compare(order) => {
+                Ok(Now::Back(Value::Bool(is_in_order(order, left.int(), *right))))
+            }
+            _ => {
+                let value = int_value(right);
+                self.binary(store, binary, left, &value)
+            }
         }
     }
 
@@ -87,6 +118,7 @@ impl<'a> Trial<'a> {
         requires idle_store { IsIdle store.now }
         ensures same { IfOk result (λ now. follow (contents store.now) self.old.reads (onto rules.now.classes self.old (is_instance rules.now.classes class node)) ≡ follow (contents store.now) self.new.reads (rest rules.now.classes now self.new)) }
         ensures less { IfOk result (λ now. weight now self.new ≡ load self.old.todo) }
+        ensures told { IfOk result (λ now. ComesTo (contents store.now) (is_instance rules.now.classes class node) now × (self.new ≡ record self.old { reads = self.new.reads })) }
     {
         match node {
             Some(node) => {
@@ -108,6 +140,7 @@ impl<'a> Trial<'a> {
         requires idle_store { IsIdle store.now }
         ensures same { IfOk result (λ now. follow (contents store.now) self.old.reads (onto rules.now.classes self.old (cast_to rules.now.classes class node)) ≡ follow (contents store.now) self.new.reads (rest rules.now.classes now self.new)) }
         ensures less { IfOk result (λ now. weight now self.new ≡ load self.old.todo) }
+        ensures told { IfOk result (λ now. ComesTo (contents store.now) (cast_to rules.now.classes class node) now × (self.new ≡ record self.old { reads = self.new.reads })) }
     {
         match node {
             Some(node) => {
@@ -131,6 +164,7 @@ impl<'a> Trial<'a> {
         requires idle_store { IsIdle store.now }
         ensures same { (classes : Classes) → IfOk result (λ now. follow (contents store.now) self.old.reads (onto classes self.old (child_of part (Ref node))) ≡ follow (contents store.now) self.new.reads (rest classes now self.new)) }
         ensures less { IfOk result (λ now. weight now self.new ≡ load self.old.todo) }
+        ensures told { IfOk result (λ now. ComesTo (contents store.now) (child_of part (Ref node)) now × (self.new ≡ record self.old { reads = self.new.reads })) }
     {
         match node {
             Some(node) => {
@@ -154,6 +188,7 @@ impl<'a> Trial<'a> {
         requires idle_store { IsIdle store.now }
         ensures same { (classes : Classes) → IfOk result (λ now. follow (contents store.now) self.old.reads (onto classes self.old (count_of part (Ref node))) ≡ follow (contents store.now) self.new.reads (rest classes now self.new)) }
         ensures less { IfOk result (λ now. weight now self.new ≡ load self.old.todo) }
+        ensures told { IfOk result (λ now. ComesTo (contents store.now) (count_of part (Ref node)) now × (self.new ≡ record self.old { reads = self.new.reads })) }
     {
         match node {
             Some(node) => {
@@ -174,6 +209,7 @@ impl<'a> Trial<'a> {
         requires idle_store { IsIdle store.now }
         ensures same { (classes : Classes) → IfOk result (λ now. follow (contents store.now) self.old.reads (onto classes self.old (has_of part (Ref node))) ≡ follow (contents store.now) self.new.reads (rest classes now self.new)) }
         ensures less { IfOk result (λ now. weight now self.new ≡ load self.old.todo) }
+        ensures told { IfOk result (λ now. ComesTo (contents store.now) (has_of part (Ref node)) now × (self.new ≡ record self.old { reads = self.new.reads })) }
     {
         match node {
             Some(node) => {
@@ -194,6 +230,7 @@ impl<'a> Trial<'a> {
         requires idle_store { IsIdle store.now }
         ensures same { (classes : Classes) → IfOk result (λ now. follow (contents store.now) self.old.reads (onto classes self.old (token_of part (Ref node))) ≡ follow (contents store.now) self.new.reads (rest classes now self.new)) }
         ensures less { IfOk result (λ now. weight now self.new ≡ load self.old.todo) }
+        ensures told { IfOk result (λ now. ComesTo (contents store.now) (token_of part (Ref node)) now × (self.new ≡ record self.old { reads = self.new.reads })) }
     {
         match node {
             Some(node) => {
@@ -213,8 +250,11 @@ impl<'a> Trial<'a> {
         index: &Value,
     ) -> Result<Now<'a>, AllocError>
         requires idle_store { IsIdle store.now }
+        requires node { IsRef (value_view node.now) }
+        requires index { IsInt (value_view index.now) }
         ensures same { (classes : Classes) → IfOk result (λ now. follow (contents store.now) self.old.reads (onto classes self.old (element_of part (value_view node.now) (value_view index.now))) ≡ follow (contents store.now) self.new.reads (rest classes now self.new)) }
         ensures less { IfOk result (λ now. weight now self.new ≡ load self.old.todo) }
+        ensures told { IfOk result (λ now. ComesTo (contents store.now) (element_of part (value_view node.now) (value_view index.now)) now × (self.new ≡ record self.old { reads = self.new.reads })) }
     {
         match node.node() {
             Some(node) => {
@@ -229,10 +269,18 @@ impl<'a> Trial<'a> {
     }
 }
 
+/// The value of an int.
+pub(crate) fn int_value(number: &i32) -> Value
+    ensures { value_view result ≡ Int number.now }
+{
+    Value::Int(*number)
+}
+
 /// What an operator gives.
 fn computed<'a>(operator: Operator, left: i32, right: i32) -> Now<'a>
     ensures same { (classes : Classes) (t : Trial) → onto classes t (computed (operator_view operator) left right) ≡ rest classes result t }
     ensures less { (t : Trial) → weight result t ≡ load t.todo }
+    ensures told { (look : Contents ℕ) → ComesTo look (computed (operator_view operator) left right) result }
 {
     match operator {
         Operator::Times => Now::Back(Value::Int(left.wrapping_mul(right))),
@@ -265,6 +313,7 @@ fn is_in_order(order: Order, left: i32, right: i32) -> bool
 fn joined<'a>(left: String, right: &str) -> Result<Now<'a>, AllocError>
     ensures same { (classes : Classes) (t : Trial) → IfOk result (λ now. onto classes t (joined (string_bytes left ++ right.now)) ≡ rest classes now t) }
     ensures less { (t : Trial) → IfOk result (λ now. weight now t ≡ load t.todo) }
+    ensures told { (look : Contents ℕ) → IfOk result (λ now. ComesTo look (joined (string_bytes left ++ right.now)) now) }
 {
     if fits(left.as_str(), right) {
         let mut text = left;
@@ -286,8 +335,10 @@ fn fits(left: &str, right: &str) -> bool
 
 /// The text and the int in decimal, or a fault where that is too long.
 fn joined_int<'a>(left: String, right: &Value) -> Result<Now<'a>, AllocError>
+    requires { IsInt (value_view right.now) }
     ensures same { (classes : Classes) (t : Trial) → IfOk result (λ now. onto classes t (joined (string_bytes left ++ signed_decimal (int_of (value_view right.now)))) ≡ rest classes now t) }
     ensures less { (t : Trial) → IfOk result (λ now. weight now t ≡ load t.todo) }
+    ensures told { (look : Contents ℕ) → IfOk result (λ now. ComesTo look (joined (string_bytes left ++ signed_decimal (int_of (value_view right.now)))) now) }
 {
     let mut digits = Buffer::new();
     let number = right.int();

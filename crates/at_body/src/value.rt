@@ -1,15 +1,16 @@
 //! Values and faults.
 
 ghost use Rattle.std.specs.Prelude.{◌≡◌, ◌++◌, ◌≤◌, ℕ, nat_eq, pos, not, length, string_bytes, IfOk, OnOk};
-ghost use Rattle.std.specs.Int.{w32, int_wrapping_add, int_wrapping_neg};
+ghost use Rattle.std.specs.Int.{w32, int_wrapping_neg};
 ghost use Rattle.at_model.specs.Run.{Int};
 ghost use Rattle.at_model.specs.Bodies.{int_of, truth_of, text_of, ref_of, value_of, value_eq};
 ghost use Rattle.at_tree.specs.Token.{token_view};
 ghost use Rattle.at_body.specs.Values.{value_view};
+ghost use Rattle.at_body.specs.ValueKinds.{AreAlike, IsInt, IsRef, IsText, IsTruth};
 
 use at_store::Node;
 use at_tree::token::TokVal;
-use std::alloc::{AllocError, Global};
+use std::alloc::AllocError;
 use std::hash::{Hash, Hasher};
 
 /// Why an evaluation has no value: something is asked of null, a list has no such index, an optional is empty, a divisor is
@@ -98,53 +99,58 @@ impl Hash for Value {
 }
 
 impl Value {
-    /// The int; 0 for a value of another kind, which no rule lets come here.
+    /// The int that it is.
     pub fn int(&self) -> i32
+        requires { IsInt (value_view self.now) }
         ensures { result ≡ int_of (value_view self.now) }
     {
         match self {
             Value::Int(n) => *n,
-            _ => 0,
+            _ => unreachable!(),
         }
     }
 
-    /// The truth value; false for a value of another kind, which no rule lets come here.
+    /// The truth value that it is.
     pub fn truth(&self) -> bool
+        requires { IsTruth (value_view self.now) }
         ensures { result ≡ truth_of (value_view self.now) }
     {
         match self {
             Value::Bool(b) => *b,
-            _ => false,
+            _ => unreachable!(),
         }
     }
 
-    /// The text; empty for a value of another kind, which no rule lets come here.
+    /// The text that it is.
     pub fn text(&self) -> &str
+        requires { IsText (value_view self.now) }
         ensures { result.now ≡ text_of (value_view self.now) }
     {
         match self {
             Value::Text(text) => text.as_str(),
-            _ => "",
+            _ => unreachable!(),
         }
     }
 
-    /// The node; none for null, and for a value of another kind.
+    /// The node that it is; none for null.
     pub fn node(&self) -> Option<Node>
+        requires { IsRef (value_view self.now) }
         ensures { result ≡ ref_of (value_view self.now) }
     {
         match self {
             Value::Ref(node) => *node,
-            _ => None,
+            _ => unreachable!(),
         }
     }
 
-    /// The text, taken out; empty for a value of another kind.
-    pub fn into_text(self, alloc: Global) -> String
+    /// The text that it is, taken out.
+    pub fn into_text(self) -> String
+        requires { IsText (value_view self) }
         ensures { string_bytes result ≡ text_of (value_view self) }
     {
         match self {
             Value::Text(text) => text,
-            _ => String::new(alloc),
+            _ => unreachable!(),
         }
     }
 
@@ -181,20 +187,15 @@ impl Value {
 
     /// The int with the sign turned; it wraps.
     pub fn negated(&self) -> Value
+        requires { IsInt (value_view self.now) }
         ensures { value_view result ≡ Int (int_wrapping_neg w32 (int_of (value_view self.now))) }
     {
         Value::Int(self.int().wrapping_neg())
     }
 
-    /// The sum of two ints; it wraps.
-    pub fn plus(&self, other: &Value) -> Value
-        ensures { value_view result ≡ Int (int_wrapping_add w32 (int_of (value_view self.now)) (int_of (value_view other.now))) }
-    {
-        Value::Int(self.int().wrapping_add(other.int()))
-    }
-
     /// Whether both are equal ints, truth values or texts, or the same node, or both null.
     pub fn is_same(&self, other: &Value) -> bool
+        requires { AreAlike (value_view self.now) (value_view other.now) }
         ensures { result ≡ value_eq nat_eq (value_view self.now) (value_view other.now) }
     {
         match self {

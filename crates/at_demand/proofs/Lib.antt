@@ -23,3 +23,5 @@ pub mod AlikeBack
 pub mod CalledAsked
 pub mod CalledEdited
 pub mod Called
+pub mod TypedKnown
+pub mod Typing

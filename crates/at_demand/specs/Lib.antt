@@ -1,5 +1,6 @@
 pub mod Known
 pub mod UnderWay
+pub mod Typing
 pub mod Right
 pub mod Touched
 pub mod Covering

@@ -3,15 +3,20 @@
 ghost use Rattle.std.specs.Prelude.{◌≡◌, ◌<◌, ◌^◌, ℕ, true, IfOk, OnOk, IsSome, IsTrue, None};
 ghost use Rattle.std.specs.Map.{lookup};
 ghost use Rattle.at_model.specs.Run.{Contents, Instance};
+ghost use Rattle.at_model.specs.Instances.{AnyText};
 ghost use Rattle.at_model.specs.Meaning.{Answers as HasAnswer, Right};
+ghost use Rattle.at_model.specs.TypedRuns.{ClassAt, IsWellTyped};
+ghost use Rattle.at_model.specs.WellFormed.{AreWellFormed, IsTreeSound};
 ghost use Rattle.at_body.specs.declared.trial.Step.TheVariants as step_code;
-ghost use Rattle.at_store.specs.Shown.{IsIdle, Shown, contents};
+ghost use Rattle.at_store.specs.Shown.{IsIdle, Shown, contents, tree};
 ghost use Rattle.at_body.specs.Same.{same_instance};
+ghost use Rattle.at_body.specs.Typed.{class_shown};
 ghost use Rattle.at_body.specs.Values.{value_view};
 ghost use Rattle.at_cache.specs.Kept.{AreKept, Entries, Answers as Says, LeavesUntouched, LosesTouched};
-ghost use Rattle.at_demand.specs.Known.{meaning, kept_values, answer_view, MayAdd, FoundKept};
+ghost use Rattle.at_demand.specs.Known.{meaning, kept_values, known_in, answer_view, MayAdd, FoundKept};
 ghost use Rattle.at_demand.specs.Right.{AreRight, IsThere};
 ghost use Rattle.at_demand.specs.UnderWay.{IsOrderlyIn, IsTrueIn, IsTurn, IsRightTurn};
+ghost use Rattle.at_demand.specs.Typing.{AreTypedWaiting, IsTypedIn, IsTypedTurn};
 ghost use Rattle.at_model.specs.Rules.{is_lazy};
 ghost use Rattle.at_demand.specs.Only.{AreLean, IsLean};
 ghost use Rattle.at_demand.specs.Sparing.{AddsWorthy, AreOnly, AreSpare, Counts, HasWorthy, IsSparing, IsSparingTurn, IsWork, MayAddLazy};
@@ -55,8 +60,9 @@ impl<K: Keeper> Demand<K> {
         }
     }
 
-    /// The answer for an instance. With an exact keeper just the lazy instances come to what is kept that the question leads
-    /// to and that have a value, and the work grows by their number. An error where memory is wanting.
+    /// The answer for a well-typed instance, over well-formed rules and a sound tree, where what is kept is right. With an
+    /// exact keeper just the lazy instances come to what is kept that the question leads to and that have a value, and the
+    /// work grows by their number. An error where memory is wanting.
     pub fn answer(
         &mut self,
         rules: &Rules,
@@ -64,12 +70,16 @@ impl<K: Keeper> Demand<K> {
         inst: &Inst,
     ) -> Result<Answer, AllocError>
         requires idle { IsIdle store.now }
-        ensures answers { Right (contents store.now) (meaning rules.now) (kept_values (K.contents self.old.keeper)) → IfOk result (λ a. HasAnswer (contents store.now) (meaning rules.now) inst.now (answer_view a)) }
-        ensures worthy { Right (contents store.now) (meaning rules.now) (kept_values (K.contents self.old.keeper)) → AddsWorthy rules.now (contents store.now) inst.now (K.contents self.old.keeper) (K.contents self.new.keeper) }
-        ensures spare { IsTrue K.exact → Right (contents store.now) (meaning rules.now) (kept_values (K.contents self.old.keeper)) → AreSpare rules.now (contents store.now) (K.contents self.old.keeper) → AreSpare rules.now (contents store.now) (K.contents self.new.keeper) }
-        ensures all { IsTrue K.exact → Right (contents store.now) (meaning rules.now) (kept_values (K.contents self.old.keeper)) → AreSpare rules.now (contents store.now) (K.contents self.old.keeper) → IfOk result (λ a. HasWorthy rules.now (contents store.now) inst.now (K.contents self.new.keeper)) }
+        requires formed { AreWellFormed rules.now }
+        requires sound { IsTreeSound rules.now.classes (tree store.now) }
+        requires typed { IsWellTyped rules.now (class_shown store.now) AnyText inst.now }
+        requires right { Right (contents store.now) (meaning rules.now) (kept_values (K.contents self.old.keeper)) }
+        ensures answers { IfOk result (λ a. HasAnswer (contents store.now) (meaning rules.now) inst.now (answer_view a)) }
+        ensures worthy { AddsWorthy rules.now (contents store.now) inst.now (K.contents self.old.keeper) (K.contents self.new.keeper) }
+        ensures spare { IsTrue K.exact → AreSpare rules.now (contents store.now) (K.contents self.old.keeper) → AreSpare rules.now (contents store.now) (K.contents self.new.keeper) }
+        ensures all { IsTrue K.exact → AreSpare rules.now (contents store.now) (K.contents self.old.keeper) → IfOk result (λ a. HasWorthy rules.now (contents store.now) inst.now (K.contents self.new.keeper)) }
         ensures counts { IsTrue K.exact → Counts (K.contents self.old.keeper) (K.contents self.new.keeper) self.old.work self.new.work }
-        ensures work { IsTrue K.exact → Right (contents store.now) (meaning rules.now) (kept_values (K.contents self.old.keeper)) → AreSpare rules.now (contents store.now) (K.contents self.old.keeper) → IfOk result (λ a. IsWork rules.now (contents store.now) inst.now (K.contents self.old.keeper) self.old.work self.new.work) }
+        ensures work { IsTrue K.exact → AreSpare rules.now (contents store.now) (K.contents self.old.keeper) → IfOk result (λ a. IsWork rules.now (contents store.now) inst.now (K.contents self.old.keeper) self.old.work self.new.work) }
         ensures right { IsThere store.now inst.now → AreRight rules.now store.now (K.contents self.old.keeper) → AreRight rules.now store.now (K.contents self.new.keeper) }
     {
         // The call says that it is less than 2^64.
@@ -84,13 +94,17 @@ impl<K: Keeper> Demand<K> {
     // don't make room for a question under way.
     fn evaluate(&mut self, rules: &Rules, store: &Store, inst: &Inst) -> Result<Answer, AllocError>
         requires idle { IsIdle store.now }
+        requires formed { AreWellFormed rules.now }
+        requires sound { IsTreeSound rules.now.classes (tree store.now) }
+        requires typed { IsWellTyped rules.now (class_shown store.now) AnyText inst.now }
+        requires right { Right (contents store.now) (meaning rules.now) (kept_values (K.contents self.old.keeper)) }
         requires unkept { K.contents self.old.keeper inst.now ≡ None }
-        ensures answers { Right (contents store.now) (meaning rules.now) (kept_values (K.contents self.old.keeper)) → IfOk result (λ a. HasAnswer (contents store.now) (meaning rules.now) inst.now (answer_view a)) }
-        ensures worthy { Right (contents store.now) (meaning rules.now) (kept_values (K.contents self.old.keeper)) → AddsWorthy rules.now (contents store.now) inst.now (K.contents self.old.keeper) (K.contents self.new.keeper) }
-        ensures spare { IsTrue K.exact → Right (contents store.now) (meaning rules.now) (kept_values (K.contents self.old.keeper)) → AreSpare rules.now (contents store.now) (K.contents self.old.keeper) → AreSpare rules.now (contents store.now) (K.contents self.new.keeper) }
-        ensures all { IsTrue K.exact → Right (contents store.now) (meaning rules.now) (kept_values (K.contents self.old.keeper)) → AreSpare rules.now (contents store.now) (K.contents self.old.keeper) → IfOk result (λ a. HasWorthy rules.now (contents store.now) inst.now (K.contents self.new.keeper)) }
+        ensures answers { IfOk result (λ a. HasAnswer (contents store.now) (meaning rules.now) inst.now (answer_view a)) }
+        ensures worthy { AddsWorthy rules.now (contents store.now) inst.now (K.contents self.old.keeper) (K.contents self.new.keeper) }
+        ensures spare { IsTrue K.exact → AreSpare rules.now (contents store.now) (K.contents self.old.keeper) → AreSpare rules.now (contents store.now) (K.contents self.new.keeper) }
+        ensures all { IsTrue K.exact → AreSpare rules.now (contents store.now) (K.contents self.old.keeper) → IfOk result (λ a. HasWorthy rules.now (contents store.now) inst.now (K.contents self.new.keeper)) }
         ensures counts { IsTrue K.exact → Counts (K.contents self.old.keeper) (K.contents self.new.keeper) self.old.work self.new.work }
-        ensures work { IsTrue K.exact → Right (contents store.now) (meaning rules.now) (kept_values (K.contents self.old.keeper)) → AreSpare rules.now (contents store.now) (K.contents self.old.keeper) → IfOk result (λ a. IsWork rules.now (contents store.now) inst.now (K.contents self.old.keeper) self.old.work self.new.work) }
+        ensures work { IsTrue K.exact → AreSpare rules.now (contents store.now) (K.contents self.old.keeper) → IfOk result (λ a. IsWork rules.now (contents store.now) inst.now (K.contents self.old.keeper) self.old.work self.new.work) }
         ensures right { IsThere store.now inst.now → AreRight rules.now store.now (K.contents self.old.keeper) → AreRight rules.now store.now (K.contents self.new.keeper) }
     {
         // The call says that it is less than 2^64.
@@ -136,8 +150,13 @@ impl<K: Keeper> Demand<K> {
         step: Step,
     ) -> Result<Turn<'a>, AllocError>
         requires idle { IsIdle store.now }
+        requires formed { AreWellFormed rules.now }
+        requires sound { IsTreeSound rules.now.classes (tree store.now) }
+        requires right { Right (contents store.now) (meaning rules.now) (known_in (K.contents self.old.keeper) question.found.entries) }
+        requires typed { IsTypedIn rules.now (class_shown store.now) question step }
         requires orderly { IsOrderlyIn (K.contents self.old.keeper) question }
         ensures turn { IfOk result (IsTurn (K.contents self.new.keeper) question.entry) }
+        ensures typed { IfOk result (IsTypedTurn rules.now (class_shown store.now)) }
         ensures answers { (asked : Instance ℕ) → IsTrueIn rules.now (contents store.now) asked (K.contents self.old.keeper) question.entry step → IfOk result (IsRightTurn rules.now (contents store.now) asked (K.contents self.new.keeper)) }
         ensures right { (asked : Instance ℕ) → IsTrueIn rules.now (contents store.now) asked (K.contents self.old.keeper) question.entry step → Right (contents store.now) (meaning rules.now) (kept_values (K.contents self.new.keeper)) }
         ensures covering { (asked : Instance ℕ) → IsTrueIn rules.now (contents store.now) asked (K.contents self.old.keeper) question.entry step → IsCoveringIn rules.now (contents store.now) question.entry step → IfOk result (IsCoveringTurn rules.now (contents store.now)) }
@@ -172,10 +191,14 @@ impl<K: Keeper> Demand<K> {
         needed: Inst,
     ) -> Result<Turn<'a>, AllocError>
         requires idle { IsIdle store.now }
+        requires formed { AreWellFormed rules.now }
+        requires sound { IsTreeSound rules.now.classes (tree store.now) }
+        requires typed { IsTypedIn rules.now (class_shown store.now) question (step_code.Need needed) }
         requires orderly { IsOrderlyIn (K.contents self.now.keeper) question }
         requires found { lookup (same_instance needed) question.found.entries ≡ None }
         requires kept { K.contents self.now.keeper needed ≡ None }
         ensures turn { IfOk result (IsTurn (K.contents self.now.keeper) question.entry) }
+        ensures typed { IfOk result (IsTypedTurn rules.now (class_shown store.now)) }
         ensures answers { (asked : Instance ℕ) → IsTrueIn rules.now (contents store.now) asked (K.contents self.now.keeper) question.entry (step_code.Need needed) → IfOk result (IsRightTurn rules.now (contents store.now) asked (K.contents self.now.keeper)) }
         ensures covering { IsCoveringIn rules.now (contents store.now) question.entry (step_code.Need needed) → IfOk result (IsCoveringTurn rules.now (contents store.now)) }
         ensures sparing { (asked : Instance ℕ) → IsTrueIn rules.now (contents store.now) asked (K.contents self.now.keeper) question.entry (step_code.Need needed) → IsCoveringIn rules.now (contents store.now) question.entry (step_code.Need needed) → IsSparing rules.now (contents store.now) (K.contents self.now.keeper) question.entry → IfOk result (IsSparingTurn rules.now (contents store.now) asked (K.contents self.now.keeper)) }
@@ -197,6 +220,7 @@ impl<K: Keeper> Demand<K> {
     ) -> Result<Turn<'a>, AllocError>
         requires orderly { IsOrderlyIn (K.contents self.old.keeper) question }
         ensures turn { IfOk result (IsTurn (K.contents self.new.keeper) question.entry) }
+        ensures typed { (at : ClassAt ℕ) → AreTypedWaiting rules.now at question.entry.waiting.entries question.entry.inst → IfOk result (IsTypedTurn rules.now at) }
         ensures answers { (look : Contents ℕ) (asked : Instance ℕ) → IsTrueIn rules.now look asked (K.contents self.old.keeper) question.entry (step_code.Value value) → IfOk result (IsRightTurn rules.now look asked (K.contents self.new.keeper)) }
         ensures right { (look : Contents ℕ) (asked : Instance ℕ) → IsTrueIn rules.now look asked (K.contents self.old.keeper) question.entry (step_code.Value value) → Right look (meaning rules.now) (kept_values (K.contents self.new.keeper)) }
         ensures covering { (look : Contents ℕ) → IsCoveringIn rules.now look question.entry (step_code.Value value) → IfOk result (IsCoveringTurn rules.now look) }

@@ -2,11 +2,15 @@
 
 ghost use Rattle.std.specs.Prelude.{◌≡◌, ◌<◌, ◌^◌, List, [], length, map, IfOk, OnOk, MatchBool, ℕ};
 ghost use Rattle.at_model.specs.Run.{Instance};
+ghost use Rattle.at_model.specs.Instances.{AnyText};
 ghost use Rattle.at_model.specs.Meaning.{Among, Right};
+ghost use Rattle.at_model.specs.TypedRuns.{IsWellTyped};
+ghost use Rattle.at_model.specs.WellFormed.{AreWellFormed, IsTreeSound};
 ghost use Rattle.at_store.specs.Located.{loc_view};
-ghost use Rattle.at_store.specs.Shown.{IsIdle, contents};
+ghost use Rattle.at_store.specs.Shown.{IsIdle, contents, tree};
 ghost use Rattle.at_cache.specs.Kept.{AreKept};
 ghost use Rattle.at_body.specs.Same.{same_instance};
+ghost use Rattle.at_body.specs.Typed.{IsTypedStep, class_shown};
 ghost use Rattle.indexmap.specs.IndexMap.{insert_entry};
 ghost use Rattle.at_demand.specs.Known.{meaning, known_in, IsRecalled};
 ghost use Rattle.at_demand.specs.UnderWay.{chain_of, HasStepped, IsOpen};
@@ -68,7 +72,10 @@ impl<'a> Question<'a> {
         store: &'a Store,
         inst: Inst,
     ) -> Result<(Question<'a>, Step), AllocError>
-        requires { IsIdle store.now }
+        requires idle { IsIdle store.now }
+        requires formed { AreWellFormed rules.now }
+        requires sound { IsTreeSound rules.now.classes (tree store.now) }
+        requires typed { IsWellTyped rules.now (class_shown store.now) AnyText inst }
         ensures alone { IfOk result (λ r. r.0.waiting.entries ≡ []) }
         ensures nothing { IfOk result (λ r. r.0.found.entries ≡ []) }
         ensures inst { IfOk result (λ r. r.0.inst ≡ inst) }
@@ -76,6 +83,7 @@ impl<'a> Question<'a> {
         ensures unfound { IfOk result (λ r. r.0.frame.demanded.finds.items ≡ []) }
         ensures stepped { IfOk result (λ r. HasStepped rules.now (contents store.now) inst r.0.frame.trial r.1) }
         ensures passed { (finds : List (Instance ℕ × FindCode)) → IfOk result (λ r. HasPassedTo rules.now (contents store.now) finds inst r.0.frame r.1) }
+        ensures typed { IfOk result (λ r. IsTypedStep rules.now (class_shown store.now) r.1 r.0.frame.trial) }
     {
         let (frame, step) = Frame::start(alloc, rules, store, &inst)?;
         let question = Question {
@@ -102,7 +110,10 @@ impl<'a> Question<'a> {
         store: &'a Store,
         needed: Inst,
     ) -> Result<(Question<'a>, Step), AllocError>
-        requires { IsIdle store.now }
+        requires idle { IsIdle store.now }
+        requires formed { AreWellFormed rules.now }
+        requires sound { IsTreeSound rules.now.classes (tree store.now) }
+        requires typed { IsWellTyped rules.now (class_shown store.now) AnyText needed }
         ensures waiting { IfOk result (λ r. r.0.waiting.entries ≡ insert_entry same_instance self.entry.waiting.entries self.entry.inst self.entry.frame) }
         ensures found { IfOk result (λ r. r.0.found.entries ≡ self.entry.found.entries) }
         ensures inst { IfOk result (λ r. r.0.inst ≡ needed) }
@@ -112,6 +123,7 @@ impl<'a> Question<'a> {
         ensures finds { IfOk result (λ r. length r.0.found.entries < 2 ^ 64) }
         ensures stepped { IfOk result (λ r. HasStepped rules.now (contents store.now) needed r.0.frame.trial r.1) }
         ensures passed { (finds : List (Instance ℕ × FindCode)) → IfOk result (λ r. HasPassedTo rules.now (contents store.now) finds needed r.0.frame r.1) }
+        ensures typed { IfOk result (λ r. IsTypedStep rules.now (class_shown store.now) r.1 r.0.frame.trial) }
     {
         let (frame, step) = Frame::start(alloc, rules, store, &needed)?;
         let mut waiting = self.waiting;
@@ -136,11 +148,15 @@ impl<'a> Frame<'a> {
         store: &'a Store,
         inst: &Inst,
     ) -> Result<(Frame<'a>, Step), AllocError>
-        requires { IsIdle store.now }
+        requires idle { IsIdle store.now }
+        requires formed { AreWellFormed rules.now }
+        requires sound { IsTreeSound rules.now.classes (tree store.now) }
+        requires typed { IsWellTyped rules.now (class_shown store.now) AnyText inst.now }
         ensures fresh { IfOk result (λ r. r.0.demanded.kept.items ≡ []) }
         ensures unfound { IfOk result (λ r. r.0.demanded.finds.items ≡ []) }
         ensures stepped { IfOk result (λ r. HasStepped rules.now (contents store.now) inst.now r.0.trial r.1) }
         ensures passed { (finds : List (Instance ℕ × FindCode)) → IfOk result (λ r. HasPassedTo rules.now (contents store.now) finds inst.now r.0 r.1) }
+        ensures typed { IfOk result (λ r. IsTypedStep rules.now (class_shown store.now) r.1 r.0.trial) }
     {
         let (trial, step) = Trial::start(alloc, rules, store, inst)?;
         let demanded = Demanded {
@@ -161,11 +177,16 @@ impl<'a> Frame<'a> {
         step: Step,
     ) -> Result<Step, AllocError>
         requires idle { IsIdle store.now }
+        requires formed { AreWellFormed rules.now }
+        requires sound { IsTreeSound rules.now.classes (tree store.now) }
+        requires right { Right (contents store.now) (meaning rules.now) (known_in (K.contents keeper.now) found.now.entries) }
+        requires typed { IsTypedStep rules.now (class_shown store.now) step self.old.trial }
         requires kept { AreKept (K.contents keeper.now) self.old.demanded.kept.items }
         ensures kept { OnOk result (AreKept (K.contents keeper.now) self.new.demanded.kept.items) }
-        ensures stepped { (i : Instance ℕ) → Right (contents store.now) (meaning rules.now) (known_in (K.contents keeper.now) found.now.entries) → HasStepped rules.now (contents store.now) i self.old.trial step → IfOk result (HasStepped rules.now (contents store.now) i self.new.trial) }
-        ensures passed { (i : Instance ℕ) → Right (contents store.now) (meaning rules.now) (known_in (K.contents keeper.now) found.now.entries) → HasPassedTo rules.now (contents store.now) found.now.entries i self.old step → IfOk result (HasPassedTo rules.now (contents store.now) found.now.entries i self.new) }
-        ensures only { (i : Instance ℕ) → Right (contents store.now) (meaning rules.now) (known_in (K.contents keeper.now) found.now.entries) → HasStepped rules.now (contents store.now) i self.old.trial step → TakesOnly rules.now (contents store.now) found.now.entries i self.old.demanded → IfOk result (λ r. TakesOnly rules.now (contents store.now) found.now.entries i self.new.demanded) }
+        ensures stepped { (i : Instance ℕ) → HasStepped rules.now (contents store.now) i self.old.trial step → IfOk result (HasStepped rules.now (contents store.now) i self.new.trial) }
+        ensures passed { (i : Instance ℕ) → HasPassedTo rules.now (contents store.now) found.now.entries i self.old step → IfOk result (HasPassedTo rules.now (contents store.now) found.now.entries i self.new) }
+        ensures only { (i : Instance ℕ) → HasStepped rules.now (contents store.now) i self.old.trial step → TakesOnly rules.now (contents store.now) found.now.entries i self.old.demanded → IfOk result (λ r. TakesOnly rules.now (contents store.now) found.now.entries i self.new.demanded) }
+        ensures typed { IfOk result (λ r. IsTypedStep rules.now (class_shown store.now) r self.new.trial) }
         ensures unknown { IfOk result (IsOpen (known_in (K.contents keeper.now) found.now.entries)) }
     {
         let mut step = step;

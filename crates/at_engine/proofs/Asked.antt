@@ -4,6 +4,9 @@ use Rattle.at_model.specs.Trees.{Tree, class_of}
 use Rattle.at_model.specs.Paths.{Node, tree_at}
 use Rattle.at_model.specs.Run.{Value, Instance, Contents, Location, Is}
 use Rattle.at_model.specs.Rules.{Rules, attribute_named}
+use Rattle.at_model.specs.Asking.{IsWellFormed}
+use Rattle.at_model.specs.Instances.{AnyText}
+use Rattle.at_model.specs.TypedRuns.{IsWellTyped}
 use Rattle.at_model.specs.Meaning.{Answer, content}
 use Rattle.at_model.specs.Lines.{Place, Argument, Ask}
 use Rattle.at_model.specs.Names.{IsName}
@@ -12,6 +15,7 @@ use Rattle.at_model.specs.Alike.{ListLike, ValueLike, InstanceLike, AlikeAt, Nam
 use Rattle.at_protocol.specs.declared.reply.Refusal.TheVariants as refusal
 use Rattle.at_protocol.specs.declared.reply.Form.{Form as FormValue}
 use Rattle.at_protocol.specs.declared.reply.Form.TheVariants as form
+use Rattle.at_body.specs.Typed.{class_shown}
 use Rattle.at_body.specs.Values.{value_view}
 use Rattle.at_body.specs.declared.value.Value.{Value as ValueCode}
 use Rattle.at_store.specs.Shown.{IsIdle, Shown, contents, path, tree}
@@ -23,6 +27,7 @@ use Rattle.at_engine.specs.Telling.{IsToldAs, Obeys}
 use Rattle.at_engine.proofs.FittingAlike.{class_at, fit_like}
 use Rattle.at_engine.specs.declared.marks.Mark.{Mark}
 use Rattle.at_engine.proofs.Following.{asks, refuses}
+use Rattle.at_engine.proofs.Typing.{formed, numbered_typed}
 use Rattle.at_engine.proofs.Naming.{tree_there}
 use Rattle.at_engine.proofs.Numbered.{shown_alike}
 use Rattle.at_engine.proofs.Valued.{name_filled}
@@ -66,6 +71,9 @@ module _ (rules : Rules) (s : State) (session : ℕ) (place : Place) (name : Lis
         pub fitly_is : fit_numbers rules.classes look (parameters_of rules a) vs ≡ true → obeyed rules s session (Ask place name arguments) ≡ Asks asked_for
         fitly_is e = let (u, there) = found k n p in asked_fitly rules s session place name arguments n named u there ws values a (by_class (Some a) is u there) (by_numbers a true e)
 
+        pub fitly_formed : fit_numbers rules.classes look (parameters_of rules a) vs ≡ true → IsWellFormed rules s.tree asked_for
+        fitly_formed e = let (u, there) = found k n p in formed rules s.tree n u name ws a there (by_class (Some a) is u there) (by_numbers a true e)
+
         pub told_fitly : fit_numbers rules.classes look (parameters_of rules a) vs ≡ true → (f : FormValue) → (b : Answer Node) × AnswersIn rules s.tree asked_for b × IsToldAs rules s.tree b f → asked f
         told_fitly e f (b, answers, told) = let (u, there) = found k n p in
             asks rules s (obeyed rules s session (Ask place name arguments)) asked_for b f (asked_fitly rules s session place name arguments n named u there ws values a (by_class (Some a) is u there) (by_numbers a true e)) answers told
@@ -108,3 +116,8 @@ module _ (rules : Rules) (s : Shown) (idle : IsIdle s) (version : ℕ) (marks : 
 
           pub asked_is : true ≡ fit_numbers rules.classes (contents s) (parameters_of rules a) (map value_view seen) → obeyed rules (state_in s version marks) session (Ask place name arguments) ≡ Asks (asked_of a)
           asked_is h = fitly_is rules (state_in s version marks) session place name arguments number.0 number.1 (path s) (contents s) (shown_alike s idle) (tree_there s) k number.2 (map value_view vs) values.0 values.1 values.2 a (attribute_is (Some a) is) (fit_is true h)
+
+          -- and the question is well typed, by numbers
+          pub asked_typed : true ≡ fit_numbers rules.classes (contents s) (parameters_of rules a) (map value_view seen) → IsWellTyped rules (class_shown s) AnyText (question k a vs)
+          asked_typed h = numbered_typed rules s (question k a vs) (asked_of a) (asked_like a)
+              (fitly_formed rules (state_in s version marks) session place name arguments number.0 number.1 (path s) (contents s) (shown_alike s idle) (tree_there s) k number.2 (map value_view vs) values.0 values.1 values.2 a (attribute_is (Some a) is) (fit_is true h))

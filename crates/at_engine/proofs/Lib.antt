@@ -31,3 +31,4 @@ pub mod Growing
 pub mod Gained
 pub mod Keeping
 pub mod KeepingBytes
+pub mod Typing

@@ -1,6 +1,8 @@
 -- What an engine serves.
 use Rattle.at_model.specs.Rules.{Rules}
+use Rattle.at_model.specs.Enduring.{AreTokens}
 use Rattle.at_model.specs.Machine.{State}
+use Rattle.at_model.specs.WellFormed.{AreWellFormed}
 use Rattle.at_cache.specs.Kept.{Entries}
 use Rattle.at_engine.specs.Holding.{state_in, IsSoundWith}
 use Rattle.at_engine.specs.declared.engine.Engine.{Engine}
@@ -12,5 +14,15 @@ abbrev pub state_of : {K : Type 0} → Engine K → State
 state_of e = state_in e.store e.version e.marks.items.items
 
 -- no edit waits, the tree and the marks are sound, and what the keeper keeps is right
-abbrev pub IsSound : {K : Type 0} → (contents : K → Entries) → Engine K → Type 0
-IsSound contents e = IsSoundWith e.rules e.store e.marks.items.items (contents e.demand.keeper)
+abbrev pub IsHeld : {K : Type 0} → (contents : K → Entries) → Engine K → Type 0
+IsHeld contents e = IsSoundWith e.rules e.store e.marks.items.items (contents e.demand.keeper)
+
+-- The rules are well formed, and each token of the tree can be written, so that evaluations keep to the kinds.
+pub record IsTyped (rules : Rules) (s : State) : Type 0 where
+  pub formed : AreWellFormed rules
+  pub tokens : AreTokens s.tree
+
+-- the engine can serve lines
+pub record IsSound {K : Type 0} (contents : K → Entries) (e : Engine K) : Type 0 where
+  pub held : IsHeld contents e
+  pub typed : IsTyped (rules_of e) (state_of e)

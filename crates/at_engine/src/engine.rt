@@ -42,6 +42,8 @@ pub struct Engine<K> {
 
 impl<K: Keeper> Engine<K> {
     ghost use Rattle.std.specs.Prelude.{◌≡◌, ◌++◌, ◌+◌, ◌<◌, ◌≤◌, [], None, true, false, IfOk, IfErr, IsTrue, MatchOption, OnOk, OnErr, string_bytes, vec_len, vec_capacity, length};
+    ghost use Rattle.at_model.specs.Enduring.{AreTokens};
+    ghost use Rattle.at_model.specs.WellFormed.{AreWellFormed};
     ghost use Rattle.at_model.specs.Lines.{IsCommand, IsLine, IsSessionOf, Show, Mark as MarkOf, Unmark, Where};
     ghost use Rattle.at_model.specs.Machine.{State, Serves, is_stale, obeyed, verdict};
     ghost use Rattle.at_model.specs.Replies.{Reply as ModelReply, reply_text};
@@ -51,7 +53,7 @@ impl<K: Keeper> Engine<K> {
     ghost use Rattle.at_store.specs.Loading.{IsNotLoaded};
     ghost use Rattle.at_store.specs.Shown.{tree as tree_shown};
     ghost use Rattle.at_cache.specs.Kept.{KeepsAll};
-    ghost use Rattle.at_engine.specs.Engines.{rules_of, state_of, IsSound};
+    ghost use Rattle.at_engine.specs.Engines.{rules_of, state_of, IsHeld, IsSound, IsTyped};
     ghost use Rattle.at_engine.specs.Serving.{Steps};
     ghost use Rattle.at_engine.specs.Keeping.{IsSpare, KeepsServed, KeepsStep, Spares, SparesLine, work_of};
     ghost use Rattle.at_engine.specs.Telling.{Obeys, Meets, Gets};
@@ -65,7 +67,7 @@ impl<K: Keeper> Engine<K> {
     pub fn new(alloc: Global, rules: Rules, tree: Tree, keeper: K) -> Result<Engine<K>, LoadFault>
         ensures first { IfOk result (λ e. state_of e ≡ record { tree = tree_view tree; version = 0; marks = [] }) }
         ensures rules { IfOk result (λ e. rules_of e ≡ rules) }
-        ensures sound { KeepsAll (λ _. None) (K.contents keeper) → IfOk result (IsSound K.contents) }
+        ensures sound { AreWellFormed rules → AreTokens (tree_view tree) → KeepsAll (λ _. None) (K.contents keeper) → IfOk result (IsSound K.contents) }
         ensures spare { KeepsAll (λ _. None) (K.contents keeper) → IfOk result (IsSpare K.contents) }
         ensures work { IfOk result (λ e. work_of e ≡ 0) }
         ensures refused { IfErr result (IsNotLoaded rules.classes (tree_view tree)) }
@@ -156,14 +158,15 @@ impl<K: Keeper> Engine<K> {
 
     /// Serves a line unless memory runs out, and then the error is its session and nothing has changed.
     fn attempt(&mut self, line: &[u8], out: &mut Vec<u8>) -> Result<(), Option<u16>>
-        requires sound { IsSound K.contents self.old }
+        requires sound { IsHeld K.contents self.old }
+        requires typed { IsTyped (rules_of self.old) (state_of self.old) }
         requires room { vec_len out.old + 48 ≤ vec_capacity out.old }
         ensures served { IfOk result (λ u. (reply : ModelReply) × Serves (rules_of self.old) false (state_of self.old) line.now (state_of self.new) reply × (out.new.items ≡ out.old.items ++ reply_text reply)) }
         ensures memory { IfErr result (λ session. IsSessionOf line.now session × (out.new.items ≡ out.old.items) × (state_of self.new ≡ state_of self.old)) }
         ensures spares { IsTrue K.exact → IsSpare K.contents self.old → SparesLine K.contents line.now result self.old self.new }
         ensures rules { rules_of self.new ≡ rules_of self.old }
         ensures room { vec_capacity out.old ≤ vec_capacity out.new }
-        ensures sound { IsSound K.contents self.new }
+        ensures sound { IsHeld K.contents self.new }
     {
         let (session, told) = self.outcome(line);
         let Ok(form) = told else {
@@ -177,11 +180,12 @@ impl<K: Keeper> Engine<K> {
 
     /// The session of a line and what it is told, or want of memory.
     fn outcome(&mut self, line: &[u8]) -> (Option<u16>, Result<Form, AllocError>)
-        requires sound { IsSound K.contents self.old }
+        requires sound { IsHeld K.contents self.old }
+        requires typed { IsTyped (rules_of self.old) (state_of self.old) }
         ensures gets { Gets (rules_of self.old) (state_of self.old) line.now (state_of self.new) result.0 result.1 }
         ensures spares { IsTrue K.exact → IsSpare K.contents self.old → SparesLine K.contents line.now result.1 self.old self.new }
         ensures rules { rules_of self.new ≡ rules_of self.old }
-        ensures sound { IsSound K.contents self.new }
+        ensures sound { IsHeld K.contents self.new }
     {
         match read_line(self.alloc, line) {
             Ok(line) => (Some(line.session), self.obey(line)),
@@ -193,13 +197,14 @@ impl<K: Keeper> Engine<K> {
     /// What the session is told of its line; the line's effect is done, if it has one. Where memory runs
     /// out, and where what is told is not short, nothing has changed.
     fn obey(&mut self, line: Line) -> Result<Form, AllocError>
-        requires sound { IsSound K.contents self.old }
+        requires sound { IsHeld K.contents self.old }
+        requires typed { IsTyped (rules_of self.old) (state_of self.old) }
         requires is_line { IsLine (line_view line) }
         ensures meets { IfOk result (λ f. Meets (rules_of self.old) (state_of self.old) (line_view line) f (state_of self.new)) }
         ensures err { OnErr result (state_of self.new ≡ state_of self.old) }
         ensures spares { IsTrue K.exact → IsSpare K.contents self.old → Spares K.contents (verdict (rules_of self.old) (state_of self.old) (line_view line)) result self.old self.new }
         ensures rules { rules_of self.new ≡ rules_of self.old }
-        ensures sound { IsSound K.contents self.new }
+        ensures sound { IsHeld K.contents self.new }
     {
         match self.objection(&line) {
             Some(refusal) => turned_away(line, refusal),
@@ -210,7 +215,7 @@ impl<K: Keeper> Engine<K> {
     /// Why the line is refused before its command is looked at: it expects another version, or uses a mark that its
     /// session doesn't have.
     fn objection(&self, line: &Line) -> Option<Refusal>
-        requires sound { IsSound K.contents self.now }
+        requires sound { IsHeld K.contents self.now }
         ensures { MatchOption result (verdict (rules_of self.now) (state_of self.now) (line_view line.now) ≡ obeyed (rules_of self.now) (state_of self.now) line.now.session (command_view line.now.command)) (λ r. Meets (rules_of self.now) (state_of self.now) (line_view line.now) (form.Refused r) (state_of self.now)) }
     {
         if self.is_stale(line.expected) {
@@ -236,13 +241,14 @@ impl<K: Keeper> Engine<K> {
 
     /// What the command leads to, where the marks that it uses are there.
     fn command(&mut self, session: u16, command: Command) -> Result<Form, AllocError>
-        requires sound { IsSound K.contents self.old }
+        requires sound { IsHeld K.contents self.old }
+        requires typed { IsTyped (rules_of self.old) (state_of self.old) }
         requires is_command { IsCommand (command_view command) }
         ensures obeys { IfOk result (λ f. Obeys (rules_of self.old) (state_of self.old) session (command_view command) f (state_of self.new)) }
         ensures err { OnErr result (state_of self.new ≡ state_of self.old) }
         ensures spares { IsTrue K.exact → IsSpare K.contents self.old → Spares K.contents (obeyed (rules_of self.old) (state_of self.old) session (command_view command)) result self.old self.new }
         ensures rules { rules_of self.new ≡ rules_of self.old }
-        ensures sound { IsSound K.contents self.new }
+        ensures sound { IsHeld K.contents self.new }
     {
         match command {
             Command::Ask {
@@ -281,7 +287,7 @@ impl<K: Keeper> Engine<K> {
 
     /// The term of the node, or that the place leads to none.
     fn show(&self, session: u16, place: &Place) -> Result<Form, AllocError>
-        requires sound { IsSound K.contents self.now }
+        requires sound { IsHeld K.contents self.now }
         ensures { IfOk result (λ f. Obeys (rules_of self.now) (state_of self.now) session (Show (place_view place.now)) f (state_of self.now)) }
     {
         let Some(node) = self.node_named(session, place) else {
@@ -295,13 +301,13 @@ impl<K: Keeper> Engine<K> {
 
     /// A name for the node, where the session has none of that name and not too many.
     fn mark(&mut self, session: u16, name: String, place: &Place) -> Result<Form, AllocError>
-        requires sound { IsSound K.contents self.old }
+        requires sound { IsHeld K.contents self.old }
         ensures obeys { IfOk result (λ f. Obeys (rules_of self.old) (state_of self.old) session (MarkOf (string_bytes name) (place_view place.now)) f (state_of self.new)) }
         ensures err { OnErr result (state_of self.new ≡ state_of self.old) }
         ensures store { self.new.store ≡ self.old.store }
         ensures demand { self.new.demand ≡ self.old.demand }
         ensures rules { rules_of self.new ≡ rules_of self.old }
-        ensures sound { IsSound K.contents self.new }
+        ensures sound { IsHeld K.contents self.new }
     {
         let Some(node) = self.node_named(session, place) else {
             return Ok(Form::Refused(Refusal::Path));
@@ -318,12 +324,12 @@ impl<K: Keeper> Engine<K> {
 
     /// Takes the session's name from its node.
     fn unmark(&mut self, session: u16, name: &str) -> Form
-        requires sound { IsSound K.contents self.old }
+        requires sound { IsHeld K.contents self.old }
         ensures obeys { Obeys (rules_of self.old) (state_of self.old) session (Unmark name.now) result (state_of self.new) }
         ensures store { self.new.store ≡ self.old.store }
         ensures demand { self.new.demand ≡ self.old.demand }
         ensures rules { rules_of self.new ≡ rules_of self.old }
-        ensures sound { IsSound K.contents self.new }
+        ensures sound { IsHeld K.contents self.new }
     {
         self.marks.forget(session, name);
         self.done()
@@ -331,7 +337,7 @@ impl<K: Keeper> Engine<K> {
 
     /// The path of the marked node.
     fn whereabouts(&self, session: u16, name: &str) -> Result<Form, AllocError>
-        requires sound { IsSound K.contents self.now }
+        requires sound { IsHeld K.contents self.now }
         ensures { IfOk result (λ f. Obeys (rules_of self.now) (state_of self.now) session (Where name.now) f (state_of self.now)) }
     {
         match self.marks.get(session, name) {

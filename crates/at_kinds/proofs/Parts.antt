@@ -1,5 +1,5 @@
 -- What is made of parts, or the fault of one.
-use Rattle.std.proofs.Common.{◌≡◌, ℕ, ◌+◌, ◌<◌, ◌≤◌, List, [], ◌∷◌, ◌++◌, map, length, drop, get_or, refl, ap, ap₂, sym, ◌∙◌, append_assoc, append-nil, Option, Some, None, option_map, string_bytes, Result, Ok, Err, suc, zero, cond, subst, arith, add-one, true≢false}
+use Rattle.std.proofs.Common.{◌≡◌, ℕ, ◌+◌, ◌<◌, ◌≤◌, List, [], ◌∷◌, ◌++◌, map, length, drop, get_or, refl, ap, ap₂, sym, ◌∙◌, append_assoc, append-nil, Option, Some, None, option_map, Result, Ok, Err, suc, zero, cond, subst, arith, add-one, true≢false}
 use Rattle.std.specs.Prelude.{Bool, true, false, slice_get, position, option_and_then, nat_eq, vec_len, if◌then◌else◌, Vec}
 use Rattle.std.specs.Str.{bytes_eq}
 use Rattle.std.specs.Global.{Global}
@@ -82,12 +82,12 @@ bound_seen bs name o is =
 -- the arguments of a call ------------------------------------------------------------------------------------------------
 
 -- their bodies
-pub bodies_same : (bs : List Body) (ts : List Typed) → bs ≡ map (λ (t : Typed). t.body) ts → bodies_view bs ≡ bodies (map typed_view ts)
+pub bodies_same : (bs : List Body) (ts : List Typed) → bs ≡ map (λ (t : Typed). t.body.value) ts → bodies_view bs ≡ bodies (map typed_view ts)
 bodies_same bs ts is = ap bodies_view is ∙ each ts
   where
-    each : (ts : List Typed) → bodies_view (map (λ (t : Typed). t.body) ts) ≡ bodies (map typed_view ts)
+    each : (ts : List Typed) → bodies_view (map (λ (t : Typed). t.body.value) ts) ≡ bodies (map typed_view ts)
     each [] = refl
-    each (t ∷ ts) = ap (expr (body_view t.body)) (each ts)
+    each (t ∷ ts) = ap (expr (body_view t.body.value)) (each ts)
 
 -- the first that is wrong, behind those that are right
 pub misfit_more : (classes : Classes) (ts : List Typed) (ps : List WrittenKind) (i : ℕ) (t : Typed) (p : WrittenKind) → slice_get ts i ≡ Some t → slice_get ps i ≡ Some p

@@ -26,7 +26,7 @@ use Rattle.at_kinds.specs.declared.typing.TypeFault.{TypeFault}
 seen_expr : (e : ExprValue) → expr_view e ≡ form_view e.form e.at
 seen_expr e = fold_out-Expr (Place → Expr) Expr see_form see_expr e
 
-seen_number : (e : ExprValue) (n : ℤ) → e.form ≡ (form.Number n) → expr_view e ≡ written.Number e.at n
+pub seen_number : (e : ExprValue) (n : ℤ) → e.form ≡ (form.Number n) → expr_view e ≡ written.Number e.at n
 seen_number e n is =
     seen_expr e ∙ ap (λ g. form_view g e.at) is ∙ ap (λ g. form_view g e.at) (sym (form.rolls-Number n)) ∙ ap (λ g. g e.at) (fold-roll-Form (Place → Expr) Expr see_form see_expr (Form-F.Number n))
 
@@ -34,15 +34,15 @@ seen_text : (e : ExprValue) (s : String Global) → e.form ≡ (form.Text s) →
 seen_text e s is =
     seen_expr e ∙ ap (λ g. form_view g e.at) is ∙ ap (λ g. form_view g e.at) (sym (form.rolls-Text s)) ∙ ap (λ g. g e.at) (fold-roll-Form (Place → Expr) Expr see_form see_expr (Form-F.Text s))
 
-seen_truth : (e : ExprValue) (b : Bool) → e.form ≡ (form.Truth b) → expr_view e ≡ written.Truth e.at b
+pub seen_truth : (e : ExprValue) (b : Bool) → e.form ≡ (form.Truth b) → expr_view e ≡ written.Truth e.at b
 seen_truth e b is =
     seen_expr e ∙ ap (λ g. form_view g e.at) is ∙ ap (λ g. form_view g e.at) (sym (form.rolls-Truth b)) ∙ ap (λ g. g e.at) (fold-roll-Form (Place → Expr) Expr see_form see_expr (Form-F.Truth b))
 
-seen_null : (e : ExprValue) → e.form ≡ form.Null → expr_view e ≡ written.Null e.at
+pub seen_null : (e : ExprValue) → e.form ≡ form.Null → expr_view e ≡ written.Null e.at
 seen_null e is =
     seen_expr e ∙ ap (λ g. form_view g e.at) is ∙ ap (λ g. form_view g e.at) (sym form.rolls-Null) ∙ ap (λ g. g e.at) (fold-roll-Form (Place → Expr) Expr see_form see_expr Form-F.Null)
 
-seen_this : (e : ExprValue) → e.form ≡ form.This → expr_view e ≡ written.This e.at
+pub seen_this : (e : ExprValue) → e.form ≡ form.This → expr_view e ≡ written.This e.at
 seen_this e is =
     seen_expr e ∙ ap (λ g. form_view g e.at) is ∙ ap (λ g. form_view g e.at) (sym form.rolls-This) ∙ ap (λ g. g e.at) (fold-roll-Form (Place → Expr) Expr see_form see_expr Form-F.This)
 

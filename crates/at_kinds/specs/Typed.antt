@@ -1,6 +1,8 @@
 -- What the values of typing stand for, and what is said of a result.
-use Rattle.std.specs.Prelude.{◌≡◌, List, map, option_map, Result, Ok, Err, Vec, string_bytes}
+use Rattle.std.specs.Prelude.{◌≡◌, List, map, option_map, Result, Ok, Err, Vec, Box, string_bytes}
+use Rattle.at_model.specs.Bodies.{Expr}
 use Rattle.at_rules.specs.Bodies.{body_view}
+use Rattle.at_rules.specs.declared.body.Body.{Body}
 use Rattle.at_kinds.specs.Judging.{Kinded, Judgement, Is, Wrong, Bound, Scope, Listed}
 use Rattle.at_kinds.specs.declared.typing.kinds.Typed.{Typed}
 use Rattle.at_kinds.specs.declared.typing.folds.List.{List as ListValue}
@@ -9,14 +11,17 @@ use Rattle.at_kinds.specs.declared.typing.Scope.{Scope as ScopeValue}
 use Rattle.at_kinds.specs.declared.typing.TypeFault.{TypeFault}
 use Rattle.at_kinds.specs.declared.typing.TypeFault.TheVariants.{Refused, Memory}
 
+abbrev pub boxed_view : {Z : Type 0} → Box Body Z → Expr
+boxed_view b = body_view b.value
+
 abbrev pub typed_view : Typed → Kinded
-typed_view t = record { at = t.at; kind = t.kind; body = body_view t.body }
+typed_view t = record { at = t.at; kind = t.kind; body = body_view t.body.value }
 
 abbrev pub all_view : {Z : Type 0} → Vec Typed Z → List Kinded
 all_view ts = map typed_view ts.items
 
 abbrev pub list_view : ListValue → Listed
-list_view l = record { node = body_view l.node; part = l.part; class = l.class }
+list_view l = record { node = body_view l.node.value; part = l.part; class = l.class }
 
 abbrev pub bound_view : BoundValue → Bound
 bound_view b = record { name = string_bytes b.name.value; kind = b.kind }

@@ -5,7 +5,7 @@ ghost use Rattle.std.specs.Prelude.{◌≡◌, map};
 ghost use Rattle.at_jrag.specs.Syntax.{to_exprs};
 ghost use Rattle.at_jrag.specs.View.{expr_view, fold_view, word_view};
 ghost use Rattle.at_rules.specs.Bodies.{body_view};
-ghost use Rattle.at_kinds.specs.Judging.{Judgement, Listed, and_then, judged, judged_all, judged_list, list_or, folded as folded_by, within as within_of, body_of as body_meant};
+ghost use Rattle.at_kinds.specs.Judging.{Judgement, Listed, and_then, of_kind, kind_if, judged, judged_all, judged_list, list_or, folded as folded_by, within as within_of, body_of as body_meant};
 ghost use Rattle.at_kinds.specs.Typed.{typed_view, all_view, list_view, scope_view, Judges};
 ghost use Rattle.at_kinds.specs.declared.typing.TypeFault.TheVariants.{Memory};
 
@@ -23,7 +23,7 @@ use at_class::{ClassId, ClassTable};
 use at_jrag::{Expr, FoldForm, Form, Word};
 use at_rules::Body;
 use folds::List;
-use kinds::Typed;
+use kinds::{ExprKind, Typed};
 use names::within;
 use std::alloc::{AllocError, AllocFailed, Global};
 use std::rc::Rc;
@@ -90,13 +90,40 @@ pub fn body_of(scope: &Scope, expr: &Expr, wanted: WrittenKind) -> Result<Body, 
 {
     let typed = scope.typed(expr)?;
     if typed.kind.fits(scope.classes, wanted) {
-        Ok(typed.body)
+        Ok(Box::into_inner(typed.body))
     } else {
         Err(refused(RuleCode::Kind, expr.at))
     }
 }
 
 impl Scope<'_> {
+    /// The expression of that kind, at that place, which means the body.
+    fn of_kind(&self, kind: ExprKind, body: Body, at: (u32, u32)) -> Result<Typed, TypeFault>
+        ensures { Judges typed_view (of_kind at kind (body_view body)) result }
+    {
+        let body = Box::new(self.alloc, body)?;
+        Ok(Typed { at, kind, body })
+    }
+
+    /// The same where its parts are of the right kinds; else the kind is wrong.
+    fn kind_if(
+        &self,
+        right: bool,
+        kind: ExprKind,
+        body: Body,
+        at: (u32, u32),
+    ) -> Result<Typed, TypeFault>
+        ensures { Judges typed_view (kind_if right at kind (body_view body)) result }
+    {
+        // Boxed first: to let a body go by value is a case for each of its forms.
+        let typed = self.of_kind(kind, body, at)?;
+        if right {
+            Ok(typed)
+        } else {
+            Err(refused(RuleCode::Kind, at))
+        }
+    }
+
     /// The expression with its kind.
     #[cycle(typed)]
     fn typed(&self, expr: &Expr) -> Result<Typed, TypeFault>
@@ -104,19 +131,15 @@ impl Scope<'_> {
     {
         let at = expr.at;
         match &expr.form {
-            Form::Number(value) => Ok(Typed::int(Body::Int(*value), at)),
+            Form::Number(value) => self.number(value, at),
             Form::Text(text) => self.text(text.as_str(), at),
-            Form::Truth(value) => Ok(Typed::truth(Body::Truth(*value), at)),
-            Form::Null => Ok(Typed::null(at)),
-            Form::This => Ok(self.this(at)),
+            Form::Truth(value) => self.of_kind(ExprKind::Bool, Body::Truth(*value), at),
+            Form::Null => self.of_kind(ExprKind::Null, Body::Null, at),
+            Form::This => self.this(at),
             Form::Name(name) => self.named(name.as_str(), at),
             Form::Call(name, arguments) => {
-                self.call(
-                    Ok(self.this(at)),
-                    name.as_str(),
-                    self.typed_all(arguments),
-                    at,
-                )
+                let receiver = self.this(at);
+                self.call(receiver, name.as_str(), self.typed_all(arguments), at)
             }
             Form::CallOf(receiver, name, arguments) => {
                 let receiver = self.typed(receiver);
@@ -188,14 +211,9 @@ impl Scope<'_> {
     {
         match &list.form {
             Form::Call(name, arguments) => {
+                let receiver = self.this(list.at);
                 let arguments = self.typed_all(arguments);
-                self.list_call(
-                    Ok(self.this(list.at)),
-                    name.as_str(),
-                    arguments,
-                    list.at,
-                    fold,
-                )
+                self.list_call(receiver, name.as_str(), arguments, list.at, fold)
             }
             Form::CallOf(receiver, name, arguments) => {
                 let receiver = self.typed(receiver);

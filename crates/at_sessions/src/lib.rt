@@ -1,7 +1,9 @@
-//! Tests of whole sessions: over the calculator, with each keeper, with readers and writers that fail, and of files that
-//! are refused.
+//! Tests of whole sessions: over the calculator, with each keeper, with readers and writers that fail, of files that are
+//! refused, and of what no session shows.
 #![tactic(auto)]
 
+#[cfg(test)]
+mod cutting;
 #[cfg(test)]
 mod failing;
 #[cfg(test)]

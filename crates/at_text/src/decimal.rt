@@ -48,35 +48,3 @@ pub fn read_int(word: &str) -> Option<i32>
         None
     }
 }
-
-#[cfg(test)]
-mod tests {
-    use super::{read_int, read_number, write_int};
-    use std::test::Fail;
-
-    #[test]
-    fn appends_decimals(rt: HostRuntime) -> Result<(), Fail> {
-        let mut out = Vec::new(rt.alloc());
-        write_int(i64::MIN, &mut out)?;
-        out.push(b' ')?;
-        write_int(0, &mut out)?;
-        out.push(b' ')?;
-        write_int(i64::MAX, &mut out)?;
-        let want = "-9223372036854775808 0 9223372036854775807";
-        assert_eq!(rt; out.as_slice(), want.as_bytes());
-        Ok(())
-    }
-
-    #[test]
-    fn numbers_have_one_spelling(rt: HostRuntime) {
-        assert_eq!(rt; read_number("18446744073709551615"), Some(u64::MAX));
-        assert_eq!(rt; read_number("0"), Some(0));
-        assert_eq!(rt; read_int("-2147483648"), Some(i32::MIN));
-        for word in ["", "00", "01", "+1", "-1", "1 ", "18446744073709551616"] {
-            assert_eq!(rt; read_number(word), None, "at {word}");
-        }
-        for word in ["", "-", "-0", "+1", "-01", "2147483648", "-2147483649"] {
-            assert_eq!(rt; read_int(word), None, "at {word}");
-        }
-    }
-}

@@ -82,20 +82,3 @@ pub fn is_name(text: &str) -> bool
 {
     is_word(text) && !is_reserved(text)
 }
-
-#[cfg(test)]
-mod tests {
-    use super::is_name;
-    use std::test::Fail;
-
-    #[test]
-    fn names_are_words_of_unicode(rt: HostRuntime) -> Result<(), Fail> {
-        for name in ["x", "_", "Décl", "_9", "mañana_2", "名前", "ints", "string"] {
-            assert!(rt; is_name(name));
-        }
-        for other in ["", "9x", "a b", "x-y", "int", "String", "·x", "é "] {
-            assert!(rt; !is_name(other));
-        }
-        Ok(())
-    }
-}

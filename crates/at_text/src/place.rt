@@ -21,30 +21,3 @@ pub fn place(text: &str, offset: usize) -> (u32, u32)
     }
     (line, column)
 }
-
-#[cfg(test)]
-mod tests {
-    use super::place;
-
-    #[test]
-    fn columns_count_characters(rt: HostRuntime) {
-        let text = "aé\n\nñ名x\r\n";
-        let places = [
-            (0, (1, 1)),
-            (1, (1, 2)),
-            (3, (1, 3)),
-            (4, (2, 1)),
-            (5, (3, 1)),
-            (7, (3, 2)),
-            (10, (3, 3)),
-            (11, (3, 4)),
-            (12, (3, 5)),
-            (13, (4, 1)),
-        ];
-        for (offset, at) in places {
-            assert!(rt; text.is_char_boundary(offset));
-            assert_eq!(rt; place(text, offset), at, "at {offset}");
-        }
-        assert_eq!(rt; place("", 0), (1, 1));
-    }
-}

@@ -82,26 +82,3 @@ pub fn place_left(text: &str, tokens: &[Placed<'_>], left: usize) -> (u32, u32)
         None => place(text, text.len()),
     }
 }
-
-#[cfg(test)]
-mod tests {
-    use super::{place_all, place_left};
-    use crate::scan::lexemes;
-    use std::test::Fail;
-
-    #[test]
-    fn tokens_have_places(rt: HostRuntime) -> Result<(), Fail> {
-        let text = "é a\n\n x // y\n";
-        let tokens = lexemes(rt.alloc(), text)?;
-        let placed = place_all(rt.alloc(), text, &tokens)?;
-        assert_eq!(rt; placed.len(), 3);
-        let wanted = [("é", (1, 1)), ("a", (1, 3)), ("x", (3, 2))];
-        for (token, (word, at)) in placed.iter().zip(wanted) {
-            assert_eq!(rt; token.text, word);
-            assert_eq!(rt; token.at, at, "{word}");
-        }
-        assert_eq!(rt; place_left(text, &placed, 1), (3, 2));
-        assert_eq!(rt; place_left(text, &placed, 0), (4, 1));
-        Ok(())
-    }
-}

@@ -8,8 +8,6 @@ ghost use Rattle.at_text.specs.Faults.{FaultsAt, IsWithin};
 ghost use Rattle.at_text.specs.Front.{BreaksPiece};
 
 mod front;
-#[cfg(test)]
-mod tests;
 
 use self::front::Break;
 use crate::token::{Lexeme, Token};

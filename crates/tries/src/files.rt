@@ -1,7 +1,12 @@
 //! The rules and the tree that tries are over.
 
-ghost use Rattle.std.specs.Prelude.{IfOk};
-ghost use Rattle.at_store.specs.Shown.{IsIdle};
+ghost use Rattle.std.specs.Prelude.{map, IfOk};
+ghost use Rattle.at_model.specs.Enduring.{AreTokens};
+ghost use Rattle.at_model.specs.WellFormed.{AreWellFormed};
+ghost use Rattle.at_tree.specs.TreeView.{tree_view};
+ghost use Rattle.at_jrag.specs.View.{aspect_view};
+ghost use Rattle.at_typing.specs.Located.{AreSpelled, IsSpelled};
+ghost use Rattle.tries.specs.Worlds.{IsSound};
 
 use crate::failure::Failure;
 use at_class::{ClassFault, ClassTable, are_named};
@@ -27,7 +32,7 @@ pub struct World {
 ///
 /// The first file that is refused, or want of memory.
 pub fn load(alloc: Global, grammar: &str, aspects: &str, tree: &str) -> Result<World, Failure>
-    ensures { IfOk result (λ w. IsIdle w.store) }
+    ensures { IfOk result IsSound }
 {
     let rules = rules(alloc, grammar, aspects)?;
     let tree = tree_of(alloc, rules.classes(), tree)?;
@@ -42,12 +47,13 @@ pub fn load(alloc: Global, grammar: &str, aspects: &str, tree: &str) -> Result<W
     }
 }
 
-fn rules(alloc: Global, grammar: &str, aspects: &str) -> Result<Rules, Failure> {
+fn rules(alloc: Global, grammar: &str, aspects: &str) -> Result<Rules, Failure>
+    ensures { IfOk result AreWellFormed }
+{
     let classes = classes(alloc, grammar)?;
-    let mut files = Vec::new(alloc);
-    if files.push(aspects_of(alloc, aspects)?).is_err() {
-        return Err(Failure::Memory);
-    }
+    // `len` says that the classes are a hierarchy.
+    let _count = classes.len();
+    let files = aspect_files(alloc, aspects)?;
     match build(alloc, classes, &files) {
         Ok(rules) => Ok(rules),
         Err(RuleFault::Memory) => Err(Failure::Memory),
@@ -75,7 +81,21 @@ fn grammar(alloc: Global, text: &str) -> Result<Grammar, Failure> {
     }
 }
 
-fn aspects_of(alloc: Global, text: &str) -> Result<Vec<Aspect>, Failure> {
+/// The aspects of the one file.
+fn aspect_files(alloc: Global, text: &str) -> Result<Vec<Vec<Aspect>>, Failure>
+    ensures { IfOk result (λ v. AreSpelled v.items) }
+{
+    let aspects = aspects_of(alloc, text)?;
+    let mut files = Vec::new(alloc);
+    match files.push(aspects) {
+        Ok(()) => Ok(files),
+        Err(_) => Err(Failure::Memory),
+    }
+}
+
+fn aspects_of(alloc: Global, text: &str) -> Result<Vec<Aspect>, Failure>
+    ensures { IfOk result (λ v. IsSpelled (map aspect_view v.items)) }
+{
     match parse_jrag(alloc, text) {
         Ok(aspects) => Ok(aspects),
         Err(JragFault::Memory) => Err(Failure::Memory),
@@ -84,7 +104,9 @@ fn aspects_of(alloc: Global, text: &str) -> Result<Vec<Aspect>, Failure> {
 }
 
 /// The tree of a term, behind which a newline may stand.
-fn tree_of(alloc: Global, classes: &ClassTable, text: &str) -> Result<Tree, Failure> {
+fn tree_of(alloc: Global, classes: &ClassTable, text: &str) -> Result<Tree, Failure>
+    ensures { IfOk result (λ t. AreTokens (tree_view t)) }
+{
     let term = text.strip_suffix('\n').unwrap_or(text);
     match read_tree(alloc, classes, term, classes.start()) {
         Ok(tree) => Ok(tree),

@@ -1,14 +1,28 @@
 //! The instances and values that lines name. Their texts are those of a question and of a token in a session's lines,
 //! so they are read as such lines are.
 
-ghost use Rattle.at_store.specs.Shown.{IsIdle};
+ghost use Rattle.std.specs.Prelude.{◌≡◌, ℕ, map, None, IfOk, IsSome, IsTrue};
+ghost use Rattle.std.specs.List.{AllByRecursion};
+ghost use Rattle.at_model.specs.Instances.{AnyText};
+ghost use Rattle.at_model.specs.Bodies.{ref_of};
+ghost use Rattle.at_model.specs.Classes.{Classes};
+ghost use Rattle.at_model.specs.Lines.{IsCommand};
+ghost use Rattle.at_protocol.specs.LineView.{command_view};
+ghost use Rattle.at_model.specs.Rules.{Class, Int, Text, Truth};
+ghost use Rattle.at_model.specs.TypedRuns.{AreArguments, ClassAt, IsNodeOf, IsOfKind};
+ghost use Rattle.at_rules.specs.Bodies.{kind_view};
+ghost use Rattle.at_body.specs.Values.{value_view};
+ghost use Rattle.tries.specs.Worlds.{classes_at, IsFor, IsOf, IsSound, IsTyped, RefersThere};
 
 use crate::files::World;
 use crate::refusal::Refusal;
 use at_body::{Arguments, Inst, Value};
+use at_class::ClassId;
 use at_protocol::line::{Argument, Command, LineFault, Place, read_line};
 use at_rules::Kind;
 use at_store::Node;
+use at_tree::token::TokVal;
+use std::alloc::AllocError;
 
 /// The instance that a place and a call name.
 ///
@@ -17,7 +31,8 @@ use at_store::Node;
 /// The first of these that applies: the text isn't of that form; a place leads to no node; the node has no such
 /// attribute; the arguments don't fit. Or want of memory.
 pub fn instance(world: &World, call: &str) -> Result<Inst, Refusal>
-    requires { IsIdle world.now.store }
+    requires { IsSound world.now }
+    ensures { IfOk result (IsTyped world.now) }
 {
     let Command::Ask {
         place,
@@ -41,7 +56,8 @@ pub fn instance(world: &World, call: &str) -> Result<Inst, Refusal>
 
 /// The value that the text names, where it is of the kind of the instance's attribute.
 pub fn value_for(world: &World, inst: &Inst, text: &str) -> Result<Value, Refusal>
-    requires { IsIdle world.now.store }
+    requires { IsSound world.now }
+    ensures { IfOk result (λ v. IsFor world.now inst.now (value_view v)) }
 {
     let value = value(world, text)?;
     if !is_of(world, world.rules.result_kind(inst.attribute()), &value) {
@@ -52,10 +68,11 @@ pub fn value_for(world: &World, inst: &Inst, text: &str) -> Result<Value, Refusa
 
 /// The value that the text names: that of a token, or else of an argument.
 fn value(world: &World, text: &str) -> Result<Value, Refusal>
-    requires { IsIdle world.now.store }
+    requires { IsSound world.now }
+    ensures { IfOk result (λ v. RefersThere world.now (value_view v)) }
 {
     if let Ok(Command::Token { value, .. }) = command(world, "0 token / v ", text, "") {
-        return Ok(Value::of_token(&value)?);
+        return Ok(token_value(&value)?);
     }
     let Command::Ask { arguments, .. } = command(world, "0 ask / v(", text, ")")? else {
         return Err(Refusal::Line);
@@ -66,8 +83,17 @@ fn value(world: &World, text: &str) -> Result<Value, Refusal>
     }
 }
 
+/// The value of a token, which refers to no node.
+fn token_value(token: &TokVal) -> Result<Value, AllocError>
+    ensures { IfOk result (λ v. ref_of (value_view v) ≡ None) }
+{
+    Value::of_token(token)
+}
+
 /// The command of a session's line that these texts make together.
-fn command(world: &World, front: &str, text: &str, back: &str) -> Result<Command, Refusal> {
+fn command(world: &World, front: &str, text: &str, back: &str) -> Result<Command, Refusal>
+    ensures { IfOk result (λ c. IsCommand (command_view c)) }
+{
     let mut line = String::from_str(world.alloc, front)?;
     line.push_str(text)?;
     line.push_str(back)?;
@@ -80,7 +106,8 @@ fn command(world: &World, front: &str, text: &str, back: &str) -> Result<Command
 
 /// The node at the place. Nodes have no marks here.
 fn node(world: &World, place: &Place) -> Result<Node, Refusal>
-    requires { IsIdle world.now.store }
+    requires { IsSound world.now }
+    ensures { IfOk result (λ n. IsSome (classes_at world.now n)) }
 {
     let Place::FromRoot(path) = place else {
         return Err(Refusal::Path);
@@ -94,7 +121,8 @@ fn node(world: &World, place: &Place) -> Result<Node, Refusal>
 
 /// The values of the arguments.
 fn values(world: &World, arguments: &[Argument]) -> Result<Arguments, Refusal>
-    requires { IsIdle world.now.store }
+    requires { IsSound world.now }
+    ensures { IfOk result (λ vs. AllByRecursion (RefersThere world.now) (map value_view vs.items)) }
 {
     let mut values = Arguments::new(world.alloc);
     for argument in arguments {
@@ -104,7 +132,8 @@ fn values(world: &World, arguments: &[Argument]) -> Result<Arguments, Refusal>
 }
 
 fn value_of(world: &World, argument: &Argument) -> Result<Value, Refusal>
-    requires { IsIdle world.now.store }
+    requires { IsSound world.now }
+    ensures { IfOk result (λ v. RefersThere world.now (value_view v)) }
 {
     match argument {
         Argument::Text(text) => Ok(Value::Text(text.clone()?)),
@@ -115,43 +144,88 @@ fn value_of(world: &World, argument: &Argument) -> Result<Value, Refusal>
 
 /// Whether there are as many values as kinds, each of its kind.
 fn are_of(world: &World, kinds: &[Kind], values: &[Value]) -> bool
-    requires { IsIdle world.now.store }
+    requires sound { IsSound world.now }
+    requires there { AllByRecursion (RefersThere world.now) (map value_view values.now) }
+    ensures { IsTrue result → AreArguments world.now.rules.classes (classes_at world.now) AnyText (map value_view values.now) (map kind_view kinds.now) }
 {
-    if kinds.len() != values.len() {
-        return false;
-    }
-    for (kind, value) in kinds.iter().zip(values.iter()) {
+    let mut wanted = kinds;
+    let mut rest = values;
+    while let Some((kind, other_kinds)) = wanted.split_first() {
+        let Some((value, others)) = rest.split_first() else {
+            return false;
+        };
         if !is_of(world, *kind, value) {
             return false;
         }
+        wanted = other_kinds;
+        rest = others;
     }
-    true
+    rest.is_empty()
 }
 
 /// Whether the value is of the kind. Null is of each class.
 fn is_of(world: &World, kind: Kind, value: &Value) -> bool
-    requires { IsIdle world.now.store }
+    requires sound { IsSound world.now }
+    requires there { RefersThere world.now (value_view value.now) }
+    ensures { IsTrue result → IsOf world.now (kind_view kind) (value_view value.now) }
 {
-    match value {
-        Value::Int(_) => kind == Kind::Int,
-        Value::Bool(_) => kind == Kind::Bool,
-        Value::Text(_) => kind == Kind::Text,
-        Value::Ref(node) => is_at(world, kind, *node),
+    match kind {
+        Kind::Int => is_int(value),
+        Kind::Bool => is_truth(value),
+        Kind::Text => is_text(value),
+        Kind::Class(class) => is_at(world, class, value),
     }
 }
 
-/// Whether the kind is a class, and the node, where there is one, is of that class or below it.
-fn is_at(world: &World, kind: Kind, node: Option<Node>) -> bool
-    requires { IsIdle world.now.store }
+fn is_int(value: &Value) -> bool
+    ensures { (classes : Classes) (at : ClassAt ℕ) → IsTrue result → IsOfKind classes at (value_view value.now) Int }
 {
-    let Kind::Class(class) = kind else {
-        return false;
-    };
-    match node {
-        Some(node) => {
-            let classes = world.rules.classes();
-            classes.is_sub(world.store.class(node), class)
+    match value {
+        Value::Int(number) => {
+            let _number: i32 = *number;
+            true
         }
-        None => true,
+        Value::Bool(_) | Value::Text(_) | Value::Ref(_) => false,
     }
+}
+
+fn is_truth(value: &Value) -> bool
+    ensures { (classes : Classes) (at : ClassAt ℕ) → IsTrue result → IsOfKind classes at (value_view value.now) Truth }
+{
+    match value {
+        Value::Bool(_) => true,
+        Value::Int(_) | Value::Text(_) | Value::Ref(_) => false,
+    }
+}
+
+fn is_text(value: &Value) -> bool
+    ensures { (classes : Classes) (at : ClassAt ℕ) → IsTrue result → IsOfKind classes at (value_view value.now) Text }
+{
+    match value {
+        Value::Text(_) => true,
+        Value::Int(_) | Value::Bool(_) | Value::Ref(_) => false,
+    }
+}
+
+/// Whether the value is null, or a node of the class or below it.
+fn is_at(world: &World, class: ClassId, value: &Value) -> bool
+    requires sound { IsSound world.now }
+    requires there { RefersThere world.now (value_view value.now) }
+    ensures { IsTrue result → IsOf world.now (Class class) (value_view value.now) }
+{
+    match value {
+        Value::Ref(Some(node)) => is_below(world, *node, class),
+        Value::Ref(None) => true,
+        Value::Int(_) | Value::Bool(_) | Value::Text(_) => false,
+    }
+}
+
+/// Whether the node is of the class or below it.
+fn is_below(world: &World, node: Node, class: ClassId) -> bool
+    requires sound { IsSound world.now }
+    requires there { IsSome (classes_at world.now node) }
+    ensures { IsTrue result → IsNodeOf world.now.rules.classes (classes_at world.now) node class }
+{
+    let classes = world.rules.classes();
+    classes.is_sub(world.store.class(node), class)
 }

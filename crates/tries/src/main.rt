@@ -5,18 +5,22 @@
 //! `tries GRAMMAR ASPECTS TREE < LINES` answers each line that isn't empty by one line. `know PLACE CALL = VALUE` says
 //! that the instance has the value, and is answered `known`. `try PLACE CALL` is answered `value VALUE`, `fault WORD`
 //! or `need PLACE CALL`, and behind it the set of locations, each once, in the order of their texts: `is PLACE`,
-//! `slot PLACE PART`, `token PLACE PART`, `up PLACE`, `index PLACE`. Any other line is answered by a word alone: what
-//! it can't be read for, or what it names that isn't there.
+//! `slot PLACE PART`, `token PLACE PART`, `up PLACE`, `index PLACE`. `trial ROUNDS PLACE CALL` and `plain ROUNDS PLACE CALL`
+//! are for measuring: the equation is evaluated so many times, by trials over nothing that is known or by a plain recursion,
+//! and answered `value VALUE`. Any other line is answered by a word alone: what it can't be read for, or what it names that
+//! isn't there.
 #![tactic(auto)]
 
 ghost use Rattle.std.specs.Prelude.{IfOk};
-ghost use Rattle.at_store.specs.Shown.{IsIdle};
+ghost use Rattle.tries.specs.Worlds.{AreSound, IsSound};
 
 mod failure;
 mod files;
 mod instances;
 mod known;
+mod plain;
 mod refusal;
+mod rounds;
 mod texts;
 
 use at_body::{Reads, try_body};
@@ -25,6 +29,7 @@ use files::{World, load};
 use instances::{instance, value_for};
 use known::Values;
 use refusal::Refusal;
+use rounds::{Way, tell_last};
 use std::alloc::AllocError;
 use std::io::{Read, Write};
 use std::process::ExitCode;
@@ -59,7 +64,7 @@ fn serve(rt: &HostRuntime) -> Result<(), Failure> {
 
 /// The rules and the tree of the files that the words name.
 fn world_of_words(rt: &HostRuntime) -> Result<World, Failure>
-    ensures { IfOk result (λ w. IsIdle w.store) }
+    ensures { IfOk result IsSound }
 {
     let Ok(mut words) = env::args(rt) else {
         return Err(Failure::Words);
@@ -92,7 +97,7 @@ fn file(rt: &HostRuntime, word: Option<String>) -> Result<String, Failure> {
 
 /// The answers to the lines, each with a newline; none to an empty one.
 fn answers(world: &World, lines: &[u8]) -> Result<Vec<u8>, AllocError>
-    requires { IsIdle world.now.store }
+    requires { IsSound world.now }
 {
     let mut known = Values::new(world.alloc);
     let mut out = Vec::new(world.alloc);
@@ -106,7 +111,9 @@ fn answers(world: &World, lines: &[u8]) -> Result<Vec<u8>, AllocError>
 
 /// Appends the answer to a line, and a newline.
 fn tell(world: &World, known: &mut Values, line: &[u8], out: &mut Vec<u8>) -> Result<(), AllocError>
-    requires { IsIdle world.now.store }
+    requires sound { IsSound world.now }
+    requires known { AreSound world.now known.old }
+    ensures { AreSound world.now known.new }
 {
     let length = out.len();
     if let Err(refusal) = answer(world, known, line, out) {
@@ -118,13 +125,21 @@ fn tell(world: &World, known: &mut Values, line: &[u8], out: &mut Vec<u8>) -> Re
 
 /// Appends the answer to a line, or a part of it where there is none.
 fn answer(world: &World, known: &mut Values, line: &[u8], out: &mut Vec<u8>) -> Result<(), Refusal>
-    requires { IsIdle world.now.store }
+    requires sound { IsSound world.now }
+    requires known { AreSound world.now known.old }
+    ensures { AreSound world.now known.new }
 {
     let Ok(line) = std::str::from_utf8(line) else {
         return Err(Refusal::Line);
     };
     if let Some(call) = line.strip_prefix("try ") {
         return told(world, known, call, out);
+    }
+    if let Some(task) = line.strip_prefix("trial ") {
+        return tell_last(world, Way::Trial, task, out);
+    }
+    if let Some(task) = line.strip_prefix("plain ") {
+        return tell_last(world, Way::Plain, task, out);
     }
     let Some(fact) = line.strip_prefix("know ") else {
         return Err(Refusal::Line);
@@ -135,7 +150,8 @@ fn answer(world: &World, known: &mut Values, line: &[u8], out: &mut Vec<u8>) -> 
 
 /// Appends what a try of the instance comes to, and the locations that it looks at.
 fn told(world: &World, known: &Values, call: &str, out: &mut Vec<u8>) -> Result<(), Refusal>
-    requires { IsIdle world.now.store }
+    requires sound { IsSound world.now }
+    requires known { AreSound world.now known.now }
 {
     let inst = instance(world, call)?;
     let mut reads = Reads::new(world.alloc);
@@ -153,7 +169,9 @@ fn told(world: &World, known: &Values, call: &str, out: &mut Vec<u8>) -> Result<
 
 /// Notes the value of an instance, by the text behind `know`. The last ` = ` stands in front of the value.
 fn learn(world: &World, known: &mut Values, fact: &str) -> Result<(), Refusal>
-    requires { IsIdle world.now.store }
+    requires sound { IsSound world.now }
+    requires known { AreSound world.now known.old }
+    ensures { AreSound world.now known.new }
 {
     let Some((call, text)) = fact.rsplit_once(" = ") else {
         return Err(Refusal::Line);

@@ -15,6 +15,8 @@ pub enum Refusal {
     Arguments,
     /// The value isn't of the attribute's kind.
     Value,
+    /// An evaluation in rounds comes to no value.
+    NoValue,
     /// Memory ran out.
     Memory,
 }
@@ -28,6 +30,7 @@ impl Refusal {
             Refusal::Attribute => "attribute",
             Refusal::Arguments => "arguments",
             Refusal::Value => "value",
+            Refusal::NoValue => "none",
             Refusal::Memory => "memory",
         }
     }

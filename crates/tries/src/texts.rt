@@ -1,6 +1,6 @@
 //! What is told of a try. Where memory is wanting, a part of it may have been appended.
 
-ghost use Rattle.at_store.specs.Shown.{IsIdle};
+ghost use Rattle.tries.specs.Worlds.{IsSound};
 
 use crate::files::World;
 use at_body::{FaultKind, Inst, Tried, Value};
@@ -14,7 +14,7 @@ use std::collections::BTreeSet;
 
 /// Appends what a try found.
 pub fn write_found(world: &World, found: &Tried, out: &mut Vec<u8>) -> Result<(), AllocError>
-    requires { IsIdle world.now.store }
+    requires { IsSound world.now }
 {
     match found {
         Tried::Value(value) => {
@@ -43,8 +43,9 @@ fn fault_word(kind: FaultKind) -> &'static str {
     }
 }
 
-fn write_value(world: &World, value: &Value, out: &mut Vec<u8>) -> Result<(), AllocError>
-    requires { IsIdle world.now.store }
+/// Appends a value.
+pub fn write_value(world: &World, value: &Value, out: &mut Vec<u8>) -> Result<(), AllocError>
+    requires { IsSound world.now }
 {
     match value {
         Value::Int(number) => write_int(i64::from(*number), out),
@@ -58,7 +59,7 @@ fn write_value(world: &World, value: &Value, out: &mut Vec<u8>) -> Result<(), Al
 
 /// Appends the path of the node.
 fn write_node(world: &World, node: Node, out: &mut Vec<u8>) -> Result<(), AllocError>
-    requires { IsIdle world.now.store }
+    requires { IsSound world.now }
 {
     let path = world
         .store
@@ -68,7 +69,7 @@ fn write_node(world: &World, node: Node, out: &mut Vec<u8>) -> Result<(), AllocE
 
 /// Appends the place and the call of an instance.
 fn write_instance(world: &World, inst: &Inst, out: &mut Vec<u8>) -> Result<(), AllocError>
-    requires { IsIdle world.now.store }
+    requires { IsSound world.now }
 {
     write_node(world, inst.node(), out)?;
     out.push(b' ')?;
@@ -85,7 +86,7 @@ fn write_instance(world: &World, inst: &Inst, out: &mut Vec<u8>) -> Result<(), A
 
 /// Appends the texts of the locations, each once and in order, with a semicolon in front of each.
 pub fn write_locations(world: &World, reads: &[Loc], out: &mut Vec<u8>) -> Result<(), AllocError>
-    requires { IsIdle world.now.store }
+    requires { IsSound world.now }
 {
     let mut texts = BTreeSet::new(world.alloc);
     for loc in reads {
@@ -99,7 +100,7 @@ pub fn write_locations(world: &World, reads: &[Loc], out: &mut Vec<u8>) -> Resul
 }
 
 fn location_text(world: &World, loc: &Loc) -> Result<Vec<u8>, AllocError>
-    requires { IsIdle world.now.store }
+    requires { IsSound world.now }
 {
     let (word, part) = match loc {
         Loc::Is(_) => ("is ", None),
@@ -119,7 +120,7 @@ fn location_text(world: &World, loc: &Loc) -> Result<Vec<u8>, AllocError>
 
 /// The name of the component of the node's class at that position; a question mark where there is none.
 fn part_name(world: &World, node: Node, part: usize) -> &str
-    requires { IsIdle world.now.store }
+    requires { IsSound world.now }
 {
     let classes = world.rules.classes();
     let class = world.store.class(node);

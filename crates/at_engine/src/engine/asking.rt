@@ -28,6 +28,8 @@ impl<K: Keeper> Engine<K> {
     ghost use Rattle.std.specs.Prelude.{◌≡◌, map, option_map, IfOk, IsTrue};
     ghost use Rattle.at_model.specs.Paths.{Node as NodeOf};
     ghost use Rattle.at_model.specs.Run.{Instance};
+    ghost use Rattle.at_model.specs.Instances.{AnyText};
+    ghost use Rattle.at_model.specs.TypedRuns.{IsWellTyped};
     ghost use Rattle.at_model.specs.Meaning.{Answer as AnswerOf};
     ghost use Rattle.at_model.specs.Alike.{InstanceLike, Names};
     ghost use Rattle.at_model.specs.Lines.{Ask};
@@ -36,9 +38,10 @@ impl<K: Keeper> Engine<K> {
     ghost use Rattle.at_protocol.specs.LineView.{argument_view, arguments_view, place_view};
     ghost use Rattle.at_rules.specs.Bodies.{kind_view};
     ghost use Rattle.at_store.specs.Shown.{contents, path as path_shown};
+    ghost use Rattle.at_body.specs.Typed.{class_shown};
     ghost use Rattle.at_body.specs.Values.{value_view};
     ghost use Rattle.at_demand.specs.Right.{IsThere};
-    ghost use Rattle.at_engine.specs.Engines.{rules_of, state_of, IsSound};
+    ghost use Rattle.at_engine.specs.Engines.{rules_of, state_of, IsHeld, IsTyped};
     ghost use Rattle.at_engine.specs.Answered.{question, AreValuesOf, IsValueOf};
     ghost use Rattle.at_engine.specs.Fitting.{fits_number, fit_numbers, is_of_class};
     ghost use Rattle.at_engine.specs.Keeping.{IsSpare, Spares};
@@ -52,13 +55,14 @@ impl<K: Keeper> Engine<K> {
         attribute: &str,
         arguments: &[Argument],
     ) -> Result<Form, AllocError>
-        requires sound { IsSound K.contents self.old }
+        requires sound { IsHeld K.contents self.old }
+        requires typed { IsTyped (rules_of self.old) (state_of self.old) }
         requires named { IsName attribute.now }
         ensures obeys { IfOk result (λ f. Obeys (rules_of self.old) (state_of self.old) session (Ask (place_view place.now) attribute.now (arguments_view arguments.now)) f (state_of self.new)) }
         ensures kept { state_of self.new ≡ state_of self.old }
         ensures spares { IsTrue K.exact → IsSpare K.contents self.old → Spares K.contents (obeyed (rules_of self.old) (state_of self.old) session (Ask (place_view place.now) attribute.now (arguments_view arguments.now))) result self.old self.new }
         ensures rules { rules_of self.new ≡ rules_of self.old }
-        ensures sound { IsSound K.contents self.new }
+        ensures sound { IsHeld K.contents self.new }
     {
         let Some(node) = self.node_named(session, place) else {
             return Ok(Form::Refused(Refusal::Path));
@@ -82,14 +86,16 @@ impl<K: Keeper> Engine<K> {
         attribute: AttrId,
         values: Arguments,
     ) -> Result<Form, AllocError>
-        requires sound { IsSound K.contents self.old }
+        requires sound { IsHeld K.contents self.old }
+        requires typed { IsTyped (rules_of self.old) (state_of self.old) }
         requires there { IsThere self.old.store (question node attribute values.items) }
+        requires well_typed { IsWellTyped (rules_of self.old) (class_shown self.old.store) AnyText (question node attribute values.items) }
         ensures answered { (q : Instance NodeOf) → InstanceLike (Names (path_shown self.old.store)) (question node attribute values.items) q
             → IfOk result (λ f. (a : AnswerOf NodeOf) × AnswersIn (rules_of self.old) (state_of self.old).tree q a × IsToldAs (rules_of self.old) (state_of self.old).tree a f) }
         ensures kept { state_of self.new ≡ state_of self.old }
         ensures spares { (q : Instance NodeOf) → InstanceLike (Names (path_shown self.old.store)) (question node attribute values.items) q → IsTrue K.exact → IsSpare K.contents self.old → Spares K.contents (Asks q) result self.old self.new }
         ensures rules { rules_of self.new ≡ rules_of self.old }
-        ensures sound { IsSound K.contents self.new }
+        ensures sound { IsHeld K.contents self.new }
     {
         let inst = Inst::new(node, attribute, values);
         let answer = self.demand.answer(&self.rules, &self.store, &inst)?;
@@ -102,7 +108,7 @@ impl<K: Keeper> Engine<K> {
         session: u16,
         arguments: &[Argument],
     ) -> Result<Option<Arguments>, AllocError>
-        requires sound { IsSound K.contents self.now }
+        requires sound { IsHeld K.contents self.now }
         ensures { IfOk result (λ o. AreValuesOf (path_shown self.now.store) (each (map (value_named (rules_of self.now).classes (state_of self.now) session) (arguments_view arguments.now))) (option_map (λ vs. vs.items) o)) }
     {
         let mut values = Arguments::new(self.alloc);
@@ -119,7 +125,7 @@ impl<K: Keeper> Engine<K> {
 
     /// The value that the argument names; none where its place leads to no node.
     fn value_named(&self, session: u16, argument: &Argument) -> Result<Option<Value>, AllocError>
-        requires sound { IsSound K.contents self.now }
+        requires sound { IsHeld K.contents self.now }
         ensures { IfOk result (IsValueOf (path_shown self.now.store) (value_named (rules_of self.now).classes (state_of self.now) session (argument_view argument.now))) }
     {
         match argument {
@@ -137,7 +143,7 @@ impl<K: Keeper> Engine<K> {
 
     /// Whether there are as many values as parameters, each of its parameter's kind.
     fn fit_parameters(&self, attribute: AttrId, values: &[Value]) -> bool
-        requires sound { IsSound K.contents self.now }
+        requires sound { IsHeld K.contents self.now }
         ensures { result ≡ fit_numbers (rules_of self.now).classes (contents self.now.store) (parameters_of (rules_of self.now) attribute) (map value_view values.now) }
     {
         let mut kinds = self.rules.params(attribute);
@@ -157,7 +163,7 @@ impl<K: Keeper> Engine<K> {
 
     /// Null and the nodes of the class or below it fit a class, texts fit a text.
     fn fits_parameter(&self, kind: Kind, value: &Value) -> bool
-        requires sound { IsSound K.contents self.now }
+        requires sound { IsHeld K.contents self.now }
         ensures { result ≡ fits_number (rules_of self.now).classes (contents self.now.store) (kind_view kind) (value_view value.now) }
     {
         match kind {
@@ -169,7 +175,7 @@ impl<K: Keeper> Engine<K> {
 
     /// Whether the value is null or a node of the class or one below it.
     fn is_of_class(&self, class: ClassId, value: &Value) -> bool
-        requires sound { IsSound K.contents self.now }
+        requires sound { IsHeld K.contents self.now }
         ensures { result ≡ is_of_class (rules_of self.now).classes (contents self.now.store) class (value_view value.now) }
     {
         match value {

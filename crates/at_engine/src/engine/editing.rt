@@ -12,7 +12,7 @@ ghost use Rattle.at_tree.specs.View.{term_view};
 ghost use Rattle.at_protocol.specs.LineView.{place_view};
 ghost use Rattle.at_store.specs.Refusing.{edit_at, node_of};
 ghost use Rattle.at_store.specs.Shown.{path as path_shown};
-ghost use Rattle.at_engine.specs.Engines.{rules_of, state_of, IsSound};
+ghost use Rattle.at_engine.specs.Engines.{rules_of, state_of, IsHeld};
 ghost use Rattle.at_engine.specs.Following.{Follows};
 ghost use Rattle.at_engine.specs.Keeping.{IsSpare, Spares};
 ghost use Rattle.at_engine.specs.Telling.{IsComponentOf, IsToldFor, IsToldOf, IsTreeFor, Obeys};
@@ -110,12 +110,12 @@ impl<K: Keeper> Engine<K> {
         place: &Place,
         term: &Term,
     ) -> Result<Form, AllocError>
-        requires sound { IsSound K.contents self.old }
+        requires sound { IsHeld K.contents self.old }
         ensures obeys { IfOk result (λ f. Obeys (rules_of self.old) (state_of self.old) session (Set (place_view place.now) (term_view term.now)) f (state_of self.new)) }
         ensures err { OnErr result (state_of self.new ≡ state_of self.old) }
         ensures spares { IsTrue K.exact → IsSpare K.contents self.old → Spares K.contents (obeyed (rules_of self.old) (state_of self.old) session (Set (place_view place.now) (term_view term.now))) result self.old self.new }
         ensures rules { rules_of self.new ≡ rules_of self.old }
-        ensures sound { IsSound K.contents self.new }
+        ensures sound { IsHeld K.contents self.new }
     {
         let Some(node) = self.node_named(session, place) else {
             return Ok(Form::Refused(Refusal::Path));
@@ -137,12 +137,12 @@ impl<K: Keeper> Engine<K> {
         part: &str,
         term: &Term,
     ) -> Result<Form, AllocError>
-        requires sound { IsSound K.contents self.old }
+        requires sound { IsHeld K.contents self.old }
         ensures obeys { IfOk result (λ f. Obeys (rules_of self.old) (state_of self.old) session (Put (place_view place.now) part.now (term_view term.now)) f (state_of self.new)) }
         ensures err { OnErr result (state_of self.new ≡ state_of self.old) }
         ensures spares { IsTrue K.exact → IsSpare K.contents self.old → Spares K.contents (obeyed (rules_of self.old) (state_of self.old) session (Put (place_view place.now) part.now (term_view term.now))) result self.old self.new }
         ensures rules { rules_of self.new ≡ rules_of self.old }
-        ensures sound { IsSound K.contents self.new }
+        ensures sound { IsHeld K.contents self.new }
     {
         let Some(node) = self.node_named(session, place) else {
             return Ok(Form::Refused(Refusal::Path));
@@ -162,12 +162,12 @@ impl<K: Keeper> Engine<K> {
 
     /// Takes the element out of its list, or empties the optional.
     pub(super) fn drop_node(&mut self, session: u16, place: &Place) -> Result<Form, AllocError>
-        requires sound { IsSound K.contents self.old }
+        requires sound { IsHeld K.contents self.old }
         ensures obeys { IfOk result (λ f. Obeys (rules_of self.old) (state_of self.old) session (Drop (place_view place.now)) f (state_of self.new)) }
         ensures err { OnErr result (state_of self.new ≡ state_of self.old) }
         ensures spares { IsTrue K.exact → IsSpare K.contents self.old → Spares K.contents (obeyed (rules_of self.old) (state_of self.old) session (Drop (place_view place.now))) result self.old self.new }
         ensures rules { rules_of self.new ≡ rules_of self.old }
-        ensures sound { IsSound K.contents self.new }
+        ensures sound { IsHeld K.contents self.new }
     {
         match self.node_named(session, place) {
             Some(node) => self.edit(Edit::Drop { node }),
@@ -184,12 +184,12 @@ impl<K: Keeper> Engine<K> {
         index: u32,
         term: &Term,
     ) -> Result<Form, AllocError>
-        requires sound { IsSound K.contents self.old }
+        requires sound { IsHeld K.contents self.old }
         ensures obeys { IfOk result (λ f. Obeys (rules_of self.old) (state_of self.old) session (Insert (place_view place.now) part.now index (term_view term.now)) f (state_of self.new)) }
         ensures err { OnErr result (state_of self.new ≡ state_of self.old) }
         ensures spares { IsTrue K.exact → IsSpare K.contents self.old → Spares K.contents (obeyed (rules_of self.old) (state_of self.old) session (Insert (place_view place.now) part.now index (term_view term.now))) result self.old self.new }
         ensures rules { rules_of self.new ≡ rules_of self.old }
-        ensures sound { IsSound K.contents self.new }
+        ensures sound { IsHeld K.contents self.new }
     {
         let Some(node) = self.node_named(session, place) else {
             return Ok(Form::Refused(Refusal::Path));
@@ -221,12 +221,12 @@ impl<K: Keeper> Engine<K> {
         part: &str,
         value: TokVal,
     ) -> Result<Form, AllocError>
-        requires sound { IsSound K.contents self.old }
+        requires sound { IsHeld K.contents self.old }
         ensures obeys { IfOk result (λ f. Obeys (rules_of self.old) (state_of self.old) session (Token (place_view place.now) part.now (token_view value)) f (state_of self.new)) }
         ensures err { OnErr result (state_of self.new ≡ state_of self.old) }
         ensures spares { IsTrue K.exact → IsSpare K.contents self.old → Spares K.contents (obeyed (rules_of self.old) (state_of self.old) session (Token (place_view place.now) part.now (token_view value))) result self.old self.new }
         ensures rules { rules_of self.new ≡ rules_of self.old }
-        ensures sound { IsSound K.contents self.new }
+        ensures sound { IsHeld K.contents self.new }
     {
         let Some(node) = self.node_named(session, place) else {
             return Ok(Form::Refused(Refusal::Path));
@@ -243,7 +243,7 @@ impl<K: Keeper> Engine<K> {
 
     /// The position and the shape of the node's component of that name.
     fn component(&self, node: Node, name: &str) -> Option<(usize, PartShape)>
-        requires sound { IsSound K.contents self.now }
+        requires sound { IsHeld K.contents self.now }
         ensures { (n : NodeOf) → path_shown self.now.store node ≡ Some n → IsComponentOf (rules_of self.now).classes (state_of self.now).tree n name.now result }
     {
         let class = self.store.class(node);
@@ -254,7 +254,7 @@ impl<K: Keeper> Engine<K> {
 
     /// The class that is asked where the node stands.
     fn class_asked(&self, node: Node) -> Option<ClassId>
-        requires sound { IsSound K.contents self.now }
+        requires sound { IsHeld K.contents self.now }
         ensures { (n : NodeOf) → path_shown self.now.store node ≡ Some n → (result ≡ class_asked (rules_of self.now).classes (state_of self.now).tree n) × (is_some result ≡ true) }
     {
         let classes = self.rules.classes();
@@ -267,7 +267,7 @@ impl<K: Keeper> Engine<K> {
 
     /// The tree that the term writes, of the class or one below it.
     fn tree_for(&self, term: &Term, class: ClassId) -> Result<Tree, Obstacle>
-        requires sound { IsSound K.contents self.now }
+        requires sound { IsHeld K.contents self.now }
         ensures { IsTreeFor (rules_of self.now).classes (term_view term.now) class result }
     {
         match shape(self.alloc, self.rules.classes(), term, class) {
@@ -281,7 +281,7 @@ impl<K: Keeper> Engine<K> {
     /// Does the edit, unless it is refused: there is no version after the last. What it touches is no longer
     /// kept then, and the marks of nodes that go are gone.
     fn edit(&mut self, edit: Edit) -> Result<Form, AllocError>
-        requires sound { IsSound K.contents self.old }
+        requires sound { IsHeld K.contents self.old }
         requires there { is_some (path_shown self.old.store (node_of edit)) ≡ true }
         ensures follows { (n : NodeOf) → path_shown self.old.store (node_of edit) ≡ Some n
             → IfOk result (λ f. Follows (rules_of self.old) (state_of self.old) (changed (rules_of self.old).classes (state_of self.old) (edit_at n edit)) f (state_of self.new)) }
@@ -289,7 +289,7 @@ impl<K: Keeper> Engine<K> {
         ensures spares { (n : NodeOf) → path_shown self.old.store (node_of edit) ≡ Some n → IsTrue K.exact → IsSpare K.contents self.old
             → Spares K.contents (changed (rules_of self.old).classes (state_of self.old) (edit_at n edit)) result self.old self.new }
         ensures rules { rules_of self.new ≡ rules_of self.old }
-        ensures sound { IsSound K.contents self.new }
+        ensures sound { IsHeld K.contents self.new }
     {
         let Engine {
             alloc,

@@ -30,12 +30,12 @@ impl<K: Keeper> Engine<K> {
     ghost use Rattle.at_protocol.specs.LineView.{argument_view, command_view, place_view};
     ghost use Rattle.at_store.specs.Shown.{path as path_shown};
     ghost use Rattle.at_tree.specs.PathView.{path_view};
-    ghost use Rattle.at_engine.specs.Engines.{rules_of, state_of, IsSound};
+    ghost use Rattle.at_engine.specs.Engines.{rules_of, state_of, IsHeld};
     ghost use Rattle.at_engine.specs.Naming.{IsNumberOf, origin_of};
 
     /// Whether the session has the marks that its command uses.
     pub(super) fn has_marks(&self, session: u16, command: &Command) -> bool
-        requires sound { IsSound K.contents self.now }
+        requires sound { IsHeld K.contents self.now }
         ensures { result ≡ list_all (is_marked (state_of self.now).marks session) (marks_used (command_view command.now)) }
     {
         match command {
@@ -64,7 +64,7 @@ impl<K: Keeper> Engine<K> {
 
     /// Whether the session has a mark of that name.
     pub(super) fn has_mark(&self, session: u16, name: &str) -> bool
-        requires sound { IsSound K.contents self.now }
+        requires sound { IsHeld K.contents self.now }
         ensures { result ≡ is_marked (state_of self.now).marks session name.now }
     {
         self.marks.get(session, name).is_some()
@@ -72,7 +72,7 @@ impl<K: Keeper> Engine<K> {
 
     /// Whether the session has the mark that the place uses.
     fn has_mark_in(&self, session: u16, place: &Place) -> bool
-        requires sound { IsSound K.contents self.now }
+        requires sound { IsHeld K.contents self.now }
         ensures { result ≡ list_all (is_marked (state_of self.now).marks session) (marks_in (place_view place.now)) }
     {
         match place {
@@ -83,7 +83,7 @@ impl<K: Keeper> Engine<K> {
 
     /// Whether the session has the mark that the argument uses.
     fn has_mark_in_argument(&self, session: u16, argument: &Argument) -> bool
-        requires sound { IsSound K.contents self.now }
+        requires sound { IsHeld K.contents self.now }
         ensures { result ≡ list_all (is_marked (state_of self.now).marks session) (marks_in_argument (argument_view argument.now)) }
     {
         match argument {
@@ -95,7 +95,7 @@ impl<K: Keeper> Engine<K> {
 
     /// Whether the session has the marks that the arguments use.
     fn has_marks_in(&self, session: u16, arguments: &[Argument]) -> bool
-        requires sound { IsSound K.contents self.now }
+        requires sound { IsHeld K.contents self.now }
         ensures { result ≡ list_all (λ a. list_all (is_marked (state_of self.now).marks session) (marks_in_argument (argument_view a))) arguments.now }
     {
         for argument in arguments {
@@ -108,7 +108,7 @@ impl<K: Keeper> Engine<K> {
 
     /// The node that the place names, if it names one.
     pub(super) fn node_named(&self, session: u16, place: &Place) -> Option<Node>
-        requires sound { IsSound K.contents self.now }
+        requires sound { IsHeld K.contents self.now }
         ensures { IsNumberOf self.now.store (node_named (rules_of self.now).classes (state_of self.now) session (place_view place.now)) result }
     {
         let from = self.origin(session, place)?;
@@ -118,7 +118,7 @@ impl<K: Keeper> Engine<K> {
 
     /// The node from which the place leads, if it is there.
     fn origin(&self, session: u16, place: &Place) -> Option<Node>
-        requires sound { IsSound K.contents self.now }
+        requires sound { IsHeld K.contents self.now }
         ensures { IsNumberOf self.now.store (origin_of (state_of self.now) session (place_view place.now)) result }
     {
         match place {
@@ -129,7 +129,7 @@ impl<K: Keeper> Engine<K> {
 
     /// The path of a node.
     pub(super) fn path_to(&self, node: Node) -> Result<Path, AllocError>
-        requires sound { IsSound K.contents self.now }
+        requires sound { IsHeld K.contents self.now }
         ensures writable { IfOk result (λ p. IsPath (path_view p)) }
         ensures shown { (n : NodeOf) → path_shown self.now.store node ≡ Some n → IfOk result (λ p. path_view p ≡ path_to (rules_of self.now).classes (state_of self.now).tree n) }
     {

@@ -4,6 +4,7 @@ ghost use Rattle.std.specs.Prelude.{◌≡◌};
 ghost use Rattle.at_model.specs.Bodies.{int_of};
 ghost use Rattle.at_model.specs.Trees.{Int as Number};
 ghost use Rattle.at_tree.specs.Token.{token_view};
+ghost use Rattle.at_body.specs.ValueKinds.{IsInt};
 ghost use Rattle.at_body.specs.Values.{fault_view, value_view};
 ghost use Rattle.at_protocol.specs.ReplyView.{fault_view as word_view};
 
@@ -30,13 +31,14 @@ fn fault_word(kind: FaultKind) -> FaultWord
     }
 }
 
-/// The int as a token; 0 for a value of another kind.
+/// The int as a token.
 fn number_of(value: &Value) -> TokVal
+    requires { IsInt (value_view value.now) }
     ensures { token_view result ≡ Number (int_of (value_view value.now)) }
 {
     match value {
         Value::Int(number) => TokVal::Int(*number),
-        _ => TokVal::Int(0),
+        _ => unreachable!(),
     }
 }
 
@@ -50,13 +52,13 @@ impl<K: Keeper> Engine<K> {
     ghost use Rattle.at_model.specs.Machine.{shown_value};
     ghost use Rattle.at_body.specs.Values.{value_view};
     ghost use Rattle.at_demand.specs.Known.{answer_view};
-    ghost use Rattle.at_engine.specs.Engines.{rules_of, state_of, IsSound};
+    ghost use Rattle.at_engine.specs.Engines.{rules_of, state_of, IsHeld};
     ghost use Rattle.at_store.specs.Shown.{path as path_shown};
     ghost use Rattle.at_engine.specs.Telling.{IsToldAs, IsShownAs};
 
     /// The value, or the fault or circle with the path of its node.
     pub(super) fn told(&self, answer: Answer) -> Result<Form, AllocError>
-        requires sound { IsSound K.contents self.now }
+        requires sound { IsHeld K.contents self.now }
         ensures { (a : AnswerOf NodeOf) → AnswerLike (Names (path_shown self.now.store)) (answer_view answer) a → IfOk result (IsToldAs (rules_of self.now) (state_of self.now).tree a) }
     {
         match answer {
@@ -82,7 +84,7 @@ impl<K: Keeper> Engine<K> {
 
     /// What is shown of a value: of a node its path.
     fn shown(&self, value: Value) -> Result<Shown, AllocError>
-        requires sound { IsSound K.contents self.now }
+        requires sound { IsHeld K.contents self.now }
         ensures { (v : ValueOf NodeOf) → ValueLike (Names (path_shown self.now.store)) (value_view value) v → IfOk result (IsShownAs (shown_value (rules_of self.now).classes (state_of self.now).tree v)) }
     {
         match value {
@@ -95,7 +97,7 @@ impl<K: Keeper> Engine<K> {
 
     /// What is shown of a node, or of null.
     fn shown_node(&self, node: Option<Node>) -> Result<Shown, AllocError>
-        requires sound { IsSound K.contents self.now }
+        requires sound { IsHeld K.contents self.now }
         ensures { (n : Option NodeOf) → OptionLike (Names (path_shown self.now.store)) node n → IfOk result (IsShownAs (shown_value (rules_of self.now).classes (state_of self.now).tree (Ref n))) }
     {
         match node {

@@ -5,7 +5,7 @@ ghost use Rattle.at_model.specs.Bodies as model;
 ghost use Rattle.at_rules.specs.Bodies.{body_view, bodies_view};
 ghost use Rattle.at_kinds.specs.Judging.{called as called_of, asked_of as asked_by_kind, asked as asked_in, equal as equal_of, only, one_argument, where_fit, misfit, accessed as accessed_by, of_kind, demanded_of, fitted as fitted_to, is_argument as is_argument_for, is_text_word, is_given_text as is_given};
 ghost use Rattle.at_kinds.specs.Kinds.{is_int, is_text};
-ghost use Rattle.at_kinds.specs.Typed.{typed_view, scope_view, Judges};
+ghost use Rattle.at_kinds.specs.Typed.{typed_view, boxed_view, scope_view, Judges};
 
 use super::kinds::{ExprKind, Typed};
 use super::{Scope, TypeFault, refused};
@@ -37,12 +37,12 @@ impl Scope<'_> {
     fn asked_of(
         &self,
         kind: ExprKind,
-        node: Body,
+        node: Box<Body>,
         name: &str,
         arguments: Vec<Typed>,
         at: (u32, u32),
     ) -> Result<Typed, TypeFault>
-        ensures { Judges typed_view (asked_by_kind (scope_view self.now) at name.now kind (body_view node) (map typed_view arguments.items)) result }
+        ensures { Judges typed_view (asked_by_kind (scope_view self.now) at name.now kind (body_view node.value) (map typed_view arguments.items)) result }
     {
         match kind {
             ExprKind::Class(class) => self.asked(class, node, name, arguments, at),
@@ -64,22 +64,20 @@ impl Scope<'_> {
             return Err(refused(RuleCode::Kind, at));
         }
         let argument = self.text_argument(arguments, at)?;
-        let text = Box::new(self.alloc, receiver.body)?;
-        let argument = Box::new(self.alloc, argument)?;
-        Ok(Typed::truth(Body::Equals(text, argument), at))
+        self.of_kind(ExprKind::Bool, Body::Equals(receiver.body, argument), at)
     }
 
     /// The only argument of the call at that place, a text.
-    fn text_argument(&self, arguments: Vec<Typed>, at: (u32, u32)) -> Result<Body, TypeFault>
-        ensures { Judges body_view (one_argument is_text at (map typed_view arguments.items)) result }
+    fn text_argument(&self, arguments: Vec<Typed>, at: (u32, u32)) -> Result<Box<Body>, TypeFault>
+        ensures { Judges boxed_view (one_argument is_text at (map typed_view arguments.items)) result }
     {
         let argument = self.only(arguments, at)?;
         where_fit(argument.kind.is_text(), argument)
     }
 
     /// The only argument of the call at that place, an int.
-    fn int_argument(&self, arguments: Vec<Typed>, at: (u32, u32)) -> Result<Body, TypeFault>
-        ensures { Judges body_view (one_argument is_int at (map typed_view arguments.items)) result }
+    fn int_argument(&self, arguments: Vec<Typed>, at: (u32, u32)) -> Result<Box<Body>, TypeFault>
+        ensures { Judges boxed_view (one_argument is_int at (map typed_view arguments.items)) result }
     {
         let argument = self.only(arguments, at)?;
         where_fit(argument.kind.is_int(), argument)
@@ -103,12 +101,12 @@ impl Scope<'_> {
     fn asked(
         &self,
         class: ClassId,
-        node: Body,
+        node: Box<Body>,
         name: &str,
         arguments: Vec<Typed>,
         at: (u32, u32),
     ) -> Result<Typed, TypeFault>
-        ensures { Judges typed_view (asked_in (scope_view self.now) at name.now class (body_view node) (map typed_view arguments.items)) result }
+        ensures { Judges typed_view (asked_in (scope_view self.now) at name.now class (body_view node.value) (map typed_view arguments.items)) result }
     {
         if let Some(accessor) = accessor_named(self.classes, class, name) {
             return self.accessed(accessor, node, arguments, at);
@@ -124,15 +122,16 @@ impl Scope<'_> {
     fn accessed(
         &self,
         accessor: Accessor,
-        node: Body,
+        node: Box<Body>,
         arguments: Vec<Typed>,
         at: (u32, u32),
     ) -> Result<Typed, TypeFault>
-        ensures { Judges typed_view (accessed_by at accessor (body_view node) (map typed_view arguments.items)) result }
+        ensures { Judges typed_view (accessed_by at accessor (body_view node.value) (map typed_view arguments.items)) result }
     {
         if let Accessor::Element(part, class) = accessor {
             let index = self.int_argument(arguments, at)?;
-            return self.element(class, node, part, index, at);
+            let element = Body::Element(node, part, index);
+            return self.of_kind(ExprKind::Class(class), element, at);
         }
         if !arguments.is_empty() {
             return Err(refused(RuleCode::Argument, at));
@@ -144,62 +143,41 @@ impl Scope<'_> {
     fn accessed_alone(
         &self,
         accessor: Accessor,
-        node: Body,
+        node: Box<Body>,
         at: (u32, u32),
     ) -> Result<Typed, TypeFault>
-        ensures { Judges typed_view (accessed_by at accessor (body_view node) []) result }
+        ensures { Judges typed_view (accessed_by at accessor (body_view node.value) []) result }
     {
-        let node = Box::new(self.alloc, node)?;
         match accessor {
-            Accessor::Child(part, class) => Ok(Typed::node(class, Body::Child(node, part), at)),
-            Accessor::Token(part, kind) => Ok(Typed {
-                at,
-                kind: ExprKind::known(kind),
-                body: Body::TokenOf(node, part),
-            }),
-            Accessor::Has(part) => Ok(Typed::truth(Body::Has(node, part), at)),
-            Accessor::Count(part) => Ok(Typed::int(Body::Count(node, part), at)),
+            Accessor::Child(part, class) => {
+                self.of_kind(ExprKind::Class(class), Body::Child(node, part), at)
+            }
+            Accessor::Token(part, kind) => {
+                self.of_kind(ExprKind::known(kind), Body::TokenOf(node, part), at)
+            }
+            Accessor::Has(part) => self.of_kind(ExprKind::Bool, Body::Has(node, part), at),
+            Accessor::Count(part) => self.of_kind(ExprKind::Int, Body::Count(node, part), at),
             Accessor::List(_) => Err(refused(RuleCode::Kind, at)),
             Accessor::Element(_, _) => Err(refused(RuleCode::Argument, at)),
         }
-    }
-
-    /// The element at an index of a node's list.
-    fn element(
-        &self,
-        class: ClassId,
-        node: Body,
-        part: usize,
-        index: Body,
-        at: (u32, u32),
-    ) -> Result<Typed, TypeFault>
-        ensures { Judges typed_view (of_kind at (ExprKind.Class class) (model.Element (body_view node) part (body_view index))) result }
-    {
-        let node = Box::new(self.alloc, node)?;
-        let index = Box::new(self.alloc, index)?;
-        Ok(Typed::node(class, Body::Element(node, part, index), at))
     }
 
     /// An attribute of a node, with its arguments.
     fn demanded(
         &self,
         attribute: AttrId,
-        node: Body,
+        node: Box<Body>,
         arguments: Vec<Typed>,
         at: (u32, u32),
     ) -> Result<Typed, TypeFault>
-        ensures { Judges typed_view (demanded_of self.now.classes.now at attribute (slice_get self.now.signatures.now attribute) (body_view node) (map typed_view arguments.items)) result }
+        ensures { Judges typed_view (demanded_of self.now.classes.now at attribute (slice_get self.now.signatures.now attribute) (body_view node.value) (map typed_view arguments.items)) result }
     {
         let Some(signature) = self.signatures.get(attribute) else {
             return Err(refused(RuleCode::UnknownName, at));
         };
         let arguments = self.fitted(arguments, &signature.params, at)?;
-        let node = Box::new(self.alloc, node)?;
-        Ok(Typed {
-            at,
-            kind: ExprKind::written(signature.result),
-            body: Body::Call(node, attribute, arguments),
-        })
+        let kind = ExprKind::written(signature.result);
+        self.of_kind(kind, Body::Call(node, attribute, arguments), at)
     }
 
     /// The arguments for parameters of these kinds, in the call at that place.
@@ -273,8 +251,8 @@ fn is_given_text(body: &Body) -> bool
 }
 
 /// The argument's body where it is of the kind that is asked.
-fn where_fit(fits: bool, argument: Typed) -> Result<Body, TypeFault>
-    ensures { Judges body_view (where_fit fits (typed_view argument)) result }
+fn where_fit(fits: bool, argument: Typed) -> Result<Box<Body>, TypeFault>
+    ensures { Judges boxed_view (where_fit fits (typed_view argument)) result }
 {
     if fits {
         Ok(argument.body)
@@ -285,7 +263,10 @@ fn where_fit(fits: bool, argument: Typed) -> Result<Body, TypeFault>
 
 /// The bodies of the expressions.
 fn bodies_of(alloc: Global, exprs: Vec<Typed>) -> Result<Vec<Body>, AllocError>
-    ensures { IfOk result (λ bodies. bodies.items ≡ map (λ t. t.body) exprs.items) }
+    ensures { IfOk result (λ bodies. bodies.items ≡ map (λ t. t.body.value) exprs.items) }
 {
-    exprs.into_iter().map(|expr| expr.body).collect(alloc)
+    exprs
+        .into_iter()
+        .map(|expr| Box::into_inner(expr.body))
+        .collect(alloc)
 }

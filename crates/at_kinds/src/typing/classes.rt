@@ -4,7 +4,7 @@ ghost use Rattle.at_jrag.specs.View.{word_view};
 ghost use Rattle.at_kinds.specs.Judging.{cast as cast_to, tested as tested_by, class_beside};
 ghost use Rattle.at_kinds.specs.Typed.{typed_view, Judges};
 
-use super::kinds::Typed;
+use super::kinds::{ExprKind, Typed};
 use super::{Scope, TypeFault, refused};
 use crate::code::RuleCode;
 use at_class::ClassId;
@@ -22,8 +22,7 @@ impl Scope<'_> {
         ensures { Judges typed_view (cast_to self.now.classes.now at (word_view class.now) (typed_view inner)) result }
     {
         let class = self.class_of_node(class, &inner, at)?;
-        let inner = Box::new(self.alloc, inner.body)?;
-        Ok(Typed::node(class, Body::CastTo(class, inner), at))
+        self.of_kind(ExprKind::Class(class), Body::CastTo(class, inner.body), at)
     }
 
     /// `E instanceof CLASS`
@@ -36,8 +35,7 @@ impl Scope<'_> {
         ensures { Judges typed_view (tested_by self.now.classes.now at (word_view class.now) (typed_view inner)) result }
     {
         let class = self.class_of_node(class, &inner, at)?;
-        let inner = Box::new(self.alloc, inner.body)?;
-        Ok(Typed::truth(Body::InstanceOf(inner, class), at))
+        self.of_kind(ExprKind::Bool, Body::InstanceOf(inner.body, class), at)
     }
 
     /// The class that the word names, beside an expression that has to be a node or null.

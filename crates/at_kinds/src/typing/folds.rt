@@ -17,7 +17,7 @@ use at_rules::Body;
 /// The list of a fold: the node, the position of its component, and the class of the elements.
 #[derive(Drop)]
 pub struct List {
-    pub node: Body,
+    pub node: Box<Body>,
     pub part: usize,
     pub class: ClassId,
 }
@@ -80,36 +80,23 @@ impl Scope<'_> {
     fn exists(&self, list: List, body: Typed, at: (u32, u32)) -> Result<Typed, TypeFault>
         ensures { Judges typed_view (folded_by at written.Exists (list_view list) (typed_view body)) result }
     {
-        if !body.kind.is_truth() {
-            return Err(refused(RuleCode::Kind, at));
-        }
-        let node = Box::new(self.alloc, list.node)?;
-        let body = Box::new(self.alloc, body.body)?;
-        Ok(Typed::truth(Body::Exists(node, list.part, body), at))
+        let whole = Body::Exists(list.node, list.part, body.body);
+        self.kind_if(body.kind.is_truth(), ExprKind::Bool, whole, at)
     }
 
     /// `first (NAME : LIST) { E }`
     fn first(&self, list: List, body: Typed, at: (u32, u32)) -> Result<Typed, TypeFault>
         ensures { Judges typed_view (folded_by at written.First (list_view list) (typed_view body)) result }
     {
-        if !body.kind.is_truth() {
-            return Err(refused(RuleCode::Kind, at));
-        }
-        let node = Box::new(self.alloc, list.node)?;
-        let body = Box::new(self.alloc, body.body)?;
-        let class = list.class;
-        Ok(Typed::node(class, Body::First(node, list.part, body), at))
+        let whole = Body::First(list.node, list.part, body.body);
+        self.kind_if(body.kind.is_truth(), ExprKind::Class(list.class), whole, at)
     }
 
     /// `sum (NAME : LIST) { E }`
     fn sum(&self, list: List, body: Typed, at: (u32, u32)) -> Result<Typed, TypeFault>
         ensures { Judges typed_view (folded_by at written.Sum (list_view list) (typed_view body)) result }
     {
-        if !body.kind.is_int() {
-            return Err(refused(RuleCode::Kind, at));
-        }
-        let node = Box::new(self.alloc, list.node)?;
-        let body = Box::new(self.alloc, body.body)?;
-        Ok(Typed::int(Body::Sum(node, list.part, body), at))
+        let whole = Body::Sum(list.node, list.part, body.body);
+        self.kind_if(body.kind.is_int(), ExprKind::Int, whole, at)
     }
 }

@@ -163,64 +163,13 @@ fn upper(classes: &ClassTable, class: ClassId, second: ClassId) -> Option<ExprKi
 pub struct Typed {
     pub at: (u32, u32),
     pub kind: ExprKind,
-    pub body: Body,
+    pub body: Box<Body>,
 }
 
 impl Typed {
-    pub fn int(body: Body, at: (u32, u32)) -> Typed
-        ensures { typed_view result ≡ record { at = at; kind = ExprKind.Int; body = body_view body } }
-    {
-        Typed {
-            at,
-            kind: ExprKind::Int,
-            body,
-        }
-    }
-
-    pub fn truth(body: Body, at: (u32, u32)) -> Typed
-        ensures { typed_view result ≡ record { at = at; kind = ExprKind.Bool; body = body_view body } }
-    {
-        Typed {
-            at,
-            kind: ExprKind::Bool,
-            body,
-        }
-    }
-
-    pub fn text(body: Body, at: (u32, u32)) -> Typed
-        ensures { typed_view result ≡ record { at = at; kind = ExprKind.Text; body = body_view body } }
-    {
-        Typed {
-            at,
-            kind: ExprKind::Text,
-            body,
-        }
-    }
-
-    /// Null, or a node of the class.
-    pub fn node(class: ClassId, body: Body, at: (u32, u32)) -> Typed
-        ensures { typed_view result ≡ record { at = at; kind = ExprKind.Class class; body = body_view body } }
-    {
-        Typed {
-            at,
-            kind: ExprKind::Class(class),
-            body,
-        }
-    }
-
-    pub fn null(at: (u32, u32)) -> Typed
-        ensures { typed_view result ≡ record { at = at; kind = ExprKind.Null; body = body_view Body.Null } }
-    {
-        Typed {
-            at,
-            kind: ExprKind::Null,
-            body: Body::Null,
-        }
-    }
-
     /// The same, at another place.
     pub fn placed(self, at: (u32, u32)) -> Typed
-        ensures { typed_view result ≡ record { at = at; kind = self.kind; body = body_view self.body } }
+        ensures { typed_view result ≡ record { at = at; kind = self.kind; body = body_view self.body.value } }
     {
         Typed {
             at,

@@ -1,8 +1,8 @@
-//! `this`, names and texts.
+//! `this`, numbers, texts and names.
 
 ghost use Rattle.std.specs.Prelude.{◌≡◌, ◌∷◌, ◌++◌, map, option_map, slice_get, position, bytes_eq, IfOk, OnOk};
 ghost use Rattle.at_model.specs.Bodies as model;
-ghost use Rattle.at_kinds.specs.Judging.{of_kind, named as named_in, bound_to, index_eq, index_named, this_node};
+ghost use Rattle.at_kinds.specs.Judging.{Is, of_kind, named as named_in, bound_to, index_eq, index_named, this_node};
 ghost use Rattle.at_kinds.specs.Typed.{typed_view, scope_view, bound_view, Judges};
 
 use super::kinds::{ExprKind, Typed};
@@ -16,17 +16,26 @@ use std::rc::Rc;
 
 impl Scope<'_> {
     /// `this`
-    pub(super) fn this(&self, at: (u32, u32)) -> Typed
-        ensures { typed_view result ≡ this_node (scope_view self.now) at }
+    pub(super) fn this(&self, at: (u32, u32)) -> Result<Typed, TypeFault>
+        ensures { Judges typed_view (Is (this_node (scope_view self.now) at)) result }
     {
-        Typed::node(self.this, Body::This, at)
+        self.of_kind(ExprKind::Class(self.this), Body::This, at)
+    }
+
+    /// A number.
+    pub(super) fn number(&self, value: &i32, at: (u32, u32)) -> Result<Typed, TypeFault>
+        ensures { Judges typed_view (of_kind at ExprKind.Int (model.IntLiteral value.now)) result }
+    {
+        let value = *value;
+        self.of_kind(ExprKind::Int, Body::Int(value), at)
     }
 
     /// A quoted text.
     pub(super) fn text(&self, text: &str, at: (u32, u32)) -> Result<Typed, TypeFault>
         ensures { Judges typed_view (of_kind at ExprKind.Text (model.TextLiteral text.now)) result }
     {
-        Ok(Typed::text(Body::Text(String::from_str(self.alloc, text)?), at))
+        let text = String::from_str(self.alloc, text)?;
+        self.of_kind(ExprKind::Text, Body::Text(text), at)
     }
 
     /// A name: of the innermost fold that has it, else of a parameter, else the index name.
@@ -34,11 +43,7 @@ impl Scope<'_> {
         ensures { Judges typed_view (named_in (scope_view self.now) at name.now) result }
     {
         match self.bound_to(name) {
-            Some(bound) => Ok(Typed {
-                at,
-                kind: ExprKind::written(bound.1),
-                body: Body::Name(bound.0),
-            }),
+            Some(bound) => self.of_kind(ExprKind::written(bound.1), Body::Name(bound.0), at),
             None => self.index_named(name, at),
         }
     }
@@ -59,7 +64,7 @@ impl Scope<'_> {
         match self.index {
             Some(index) => {
                 if index == name {
-                    Ok(Typed::int(Body::IndexName, at))
+                    self.of_kind(ExprKind::Int, Body::IndexName, at)
                 } else {
                     Err(refused(RuleCode::UnknownName, at))
                 }

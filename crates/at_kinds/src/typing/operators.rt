@@ -19,22 +19,24 @@ impl Scope<'_> {
     pub(super) fn negated(&self, inner: Typed, at: (u32, u32)) -> Result<Typed, TypeFault>
         ensures { Judges typed_view (negation at (typed_view inner)) result }
     {
-        if !inner.kind.is_int() {
-            return Err(refused(RuleCode::Kind, at));
-        }
-        let inner = Box::new(self.alloc, inner.body)?;
-        Ok(Typed::int(Body::Negate(inner), at))
+        self.kind_if(
+            inner.kind.is_int(),
+            ExprKind::Int,
+            Body::Negate(inner.body),
+            at,
+        )
     }
 
     /// `!E`
     pub(super) fn opposite(&self, inner: Typed, at: (u32, u32)) -> Result<Typed, TypeFault>
         ensures { Judges typed_view (opposite_of at (typed_view inner)) result }
     {
-        if !inner.kind.is_truth() {
-            return Err(refused(RuleCode::Kind, at));
-        }
-        let inner = Box::new(self.alloc, inner.body)?;
-        Ok(Typed::truth(Body::Not(inner), at))
+        self.kind_if(
+            inner.kind.is_truth(),
+            ExprKind::Bool,
+            Body::Not(inner.body),
+            at,
+        )
     }
 
     /// Two operands with an operator between.
@@ -75,20 +77,12 @@ impl Scope<'_> {
     }
 
     /// A text joined with a text, or with an int.
-    fn text_joined(&self, left: Body, right: Typed, at: (u32, u32)) -> Result<Typed, TypeFault>
-        ensures { Judges typed_view (text_joined_of at (body_view left) right.kind (body_view right.body)) result }
+    fn text_joined(&self, left: Box<Body>, right: Typed, at: (u32, u32)) -> Result<Typed, TypeFault>
+        ensures { Judges typed_view (text_joined_of at (body_view left.value) right.kind (body_view right.body.value)) result }
     {
         match right.kind {
-            ExprKind::Text => {
-                let left = Box::new(self.alloc, left)?;
-                let right = Box::new(self.alloc, right.body)?;
-                Ok(Typed::text(Body::Join(left, right), at))
-            }
-            ExprKind::Int => {
-                let left = Box::new(self.alloc, left)?;
-                let right = Box::new(self.alloc, right.body)?;
-                Ok(Typed::text(Body::JoinInt(left, right), at))
-            }
+            ExprKind::Text => self.of_kind(ExprKind::Text, Body::Join(left, right.body), at),
+            ExprKind::Int => self.of_kind(ExprKind::Text, Body::JoinInt(left, right.body), at),
             _ => Err(refused(RuleCode::Kind, at)),
         }
     }
@@ -103,12 +97,12 @@ impl Scope<'_> {
     ) -> Result<Typed, TypeFault>
         ensures { Judges typed_view (computed_of at (operator_view operator) (typed_view left) (typed_view right)) result }
     {
-        if !are_ints(left.kind, right.kind) {
-            return Err(refused(RuleCode::Kind, at));
-        }
-        let left = Box::new(self.alloc, left.body)?;
-        let right = Box::new(self.alloc, right.body)?;
-        Ok(Typed::int(Body::Arithmetic(operator, left, right), at))
+        self.kind_if(
+            are_ints(left.kind, right.kind),
+            ExprKind::Int,
+            Body::Arithmetic(operator, left.body, right.body),
+            at,
+        )
     }
 
     /// A comparison of two ints.
@@ -121,60 +115,60 @@ impl Scope<'_> {
     ) -> Result<Typed, TypeFault>
         ensures { Judges typed_view (ordered_of at (order_view order) (typed_view left) (typed_view right)) result }
     {
-        if !are_ints(left.kind, right.kind) {
-            return Err(refused(RuleCode::Kind, at));
-        }
-        let left = Box::new(self.alloc, left.body)?;
-        let right = Box::new(self.alloc, right.body)?;
-        Ok(Typed::truth(Body::Compare(order, left, right), at))
+        self.kind_if(
+            are_ints(left.kind, right.kind),
+            ExprKind::Bool,
+            Body::Compare(order, left.body, right.body),
+            at,
+        )
     }
 
     /// `==`
     fn same(&self, left: Typed, right: Typed, at: (u32, u32)) -> Result<Typed, TypeFault>
-        ensures { Judges typed_view (kind_if (are_alike left.kind right.kind) at ExprKind.Bool (model.Same (body_view left.body) (body_view right.body))) result }
+        ensures { Judges typed_view (kind_if (are_alike left.kind right.kind) at ExprKind.Bool (model.Same (body_view left.body.value) (body_view right.body.value))) result }
     {
-        if !are_alike(left.kind, right.kind) {
-            return Err(refused(RuleCode::Kind, at));
-        }
-        let left = Box::new(self.alloc, left.body)?;
-        let right = Box::new(self.alloc, right.body)?;
-        Ok(Typed::truth(Body::Same(left, right), at))
+        self.kind_if(
+            are_alike(left.kind, right.kind),
+            ExprKind::Bool,
+            Body::Same(left.body, right.body),
+            at,
+        )
     }
 
     /// `!=`
     fn different(&self, left: Typed, right: Typed, at: (u32, u32)) -> Result<Typed, TypeFault>
-        ensures { Judges typed_view (kind_if (are_alike left.kind right.kind) at ExprKind.Bool (model.Differ (body_view left.body) (body_view right.body))) result }
+        ensures { Judges typed_view (kind_if (are_alike left.kind right.kind) at ExprKind.Bool (model.Differ (body_view left.body.value) (body_view right.body.value))) result }
     {
-        if !are_alike(left.kind, right.kind) {
-            return Err(refused(RuleCode::Kind, at));
-        }
-        let left = Box::new(self.alloc, left.body)?;
-        let right = Box::new(self.alloc, right.body)?;
-        Ok(Typed::truth(Body::Differ(left, right), at))
+        self.kind_if(
+            are_alike(left.kind, right.kind),
+            ExprKind::Bool,
+            Body::Differ(left.body, right.body),
+            at,
+        )
     }
 
     /// `&&`
     fn both(&self, left: Typed, right: Typed, at: (u32, u32)) -> Result<Typed, TypeFault>
-        ensures { Judges typed_view (kind_if (are_truths left.kind right.kind) at ExprKind.Bool (model.And (body_view left.body) (body_view right.body))) result }
+        ensures { Judges typed_view (kind_if (are_truths left.kind right.kind) at ExprKind.Bool (model.And (body_view left.body.value) (body_view right.body.value))) result }
     {
-        if !are_truths(left.kind, right.kind) {
-            return Err(refused(RuleCode::Kind, at));
-        }
-        let left = Box::new(self.alloc, left.body)?;
-        let right = Box::new(self.alloc, right.body)?;
-        Ok(Typed::truth(Body::And(left, right), at))
+        self.kind_if(
+            are_truths(left.kind, right.kind),
+            ExprKind::Bool,
+            Body::And(left.body, right.body),
+            at,
+        )
     }
 
     /// `||`
     fn either(&self, left: Typed, right: Typed, at: (u32, u32)) -> Result<Typed, TypeFault>
-        ensures { Judges typed_view (kind_if (are_truths left.kind right.kind) at ExprKind.Bool (model.Or (body_view left.body) (body_view right.body))) result }
+        ensures { Judges typed_view (kind_if (are_truths left.kind right.kind) at ExprKind.Bool (model.Or (body_view left.body.value) (body_view right.body.value))) result }
     {
-        if !are_truths(left.kind, right.kind) {
-            return Err(refused(RuleCode::Kind, at));
-        }
-        let left = Box::new(self.alloc, left.body)?;
-        let right = Box::new(self.alloc, right.body)?;
-        Ok(Typed::truth(Body::Or(left, right), at))
+        self.kind_if(
+            are_truths(left.kind, right.kind),
+            ExprKind::Bool,
+            Body::Or(left.body, right.body),
+            at,
+        )
     }
 
     /// `TEST ? LEFT : RIGHT`
@@ -193,14 +187,7 @@ impl Scope<'_> {
         let Some(kind) = left.kind.wider(self.classes, right.kind) else {
             return Err(refused(RuleCode::Kind, at));
         };
-        let test = Box::new(self.alloc, test.body)?;
-        let left = Box::new(self.alloc, left.body)?;
-        let right = Box::new(self.alloc, right.body)?;
-        Ok(Typed {
-            at,
-            kind,
-            body: Body::Choose(test, left, right),
-        })
+        self.of_kind(kind, Body::Choose(test.body, left.body, right.body), at)
     }
 }
 

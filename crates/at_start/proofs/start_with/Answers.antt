@@ -18,6 +18,7 @@ use Rattle.at_start.specs.declared.code.Code.TheVariants as code
 use Rattle.at_start.specs.declared.files.Source.{Source}
 use Rattle.at_start.specs.declared.fault.FileFault.TheVariants as file
 use Rattle.at_start.proofs.Started.{grammar_refuses, aspects_refuse, tree_refuses}
+use Rattle.at_start.proofs.WrittenTokens.{written_tokens}
 use Rattle.at_start.proofs.start_with.Goals as goal
 
 pub returns-in-Err-clause-refused : goal.returns-in-Err-clause-refused
@@ -58,6 +59,12 @@ returns-in-Err-Limit-clause-refused g c =
     let count : c.len-file.result ≡ length files.aspects.items = omega (arith, c.len-file.ensures, files.aspects.ok.0) in
     rw (c.of_file-in-Err-Limit.ensures, c.refused-in-Err-Limit.ensures, count) (tree_refuses files c.in-Ok.classes c.in_ok-rules.rules (file.Refused code.TreeLimit None) given rules (no_room t text written whole load.1))
 
+pub returns-in-Ok-new-clause-ready : goal.returns-in-Ok-new-clause-ready
+returns-in-Ok-new-clause-ready g c =
+    let formed = c.in_ok-rules.ensures.well_formed c.len-count.ensures.hierarchy in
+    let tokens = written_tokens c.classes.result.now (tree_view c.in-Ok-tree_of.tree) c.in-Ok-tree_of.ensures.written.0 in
+    c.in-Ok-new.ensures.sound formed tokens c.requires
+
 pub returns-in-Ok-new-clause-started : goal.returns-in-Ok-new-clause-started
 returns-in-Ok-new-clause-started g c =
     let files = c.args.files.now in
@@ -71,8 +78,8 @@ returns-in-Ok-new-clause-started g c =
     let there = subst (λ (b : List ℕ). IsTermFile b (term_of c.classes.result.now t)) c.deref-3.ensures.value c.in-Ok-tree_of.ensures.written in
     let written = subst (λ (k : Classes). IsTermFile bytes (term_of k t)) same there in
     let whole = subst (λ (k : Classes). conforms k t 0 ≡ true) same c.in-Ok-tree_of.ensures.whole in
-    let sound = c.in-Ok-new.ensures.sound c.requires in
-    let within = subst (λ (s : State). is_within_limits s.tree ≡ true) c.in-Ok-new.ensures.first sound.idle.limits in
+    let sound = returns-in-Ok-new-clause-ready g c in
+    let within = subst (λ (s : State). is_within_limits s.tree ≡ true) c.in-Ok-new.ensures.first sound.held.idle.limits in
     record {
       classes = c.in-Ok.classes;
       grammar = given;

@@ -1,4 +1,4 @@
-use Rattle.std.proofs.Common.{refl, ap, ◌∙◌}
+use Rattle.std.proofs.Common.{refl}
 use Rattle.at_body.proofs.Sameness.{instance_fed}
 use Rattle.at_body.proofs.inst.InstHash.hash.Goals as goal
 

@@ -1,4 +1,4 @@
-use Rattle.std.proofs.Common.{refl, sym, ◌∙◌}
+use Rattle.std.proofs.Common.{refl}
 use Rattle.at_body.proofs.Sameness.{same_rest}
 use Rattle.at_body.proofs.inst.InstPartialEq.eq.Goals as goal
 

@@ -10,25 +10,25 @@ pub evaluate-requires-clause-unkept : goal.evaluate-requires-clause-unkept
 evaluate-requires-clause-unkept g c = no_value (g.K.Keeper.contents c.args.self.now.keeper c.args.inst.now) (sym c.in_default.ensures)
 
 pub returns-in_err-copy-clause-worthy : goal.returns-in_err-copy-clause-worthy
-returns-in_err-copy-clause-worthy g c right = worthy_none c.args.rules.now (contents c.args.store.now) c.args.inst.now (g.K.Keeper.contents c.args.self.now.keeper)
+returns-in_err-copy-clause-worthy g c = worthy_none c.args.rules.now (contents c.args.store.now) c.args.inst.now (g.K.Keeper.contents c.args.self.now.keeper)
 
 pub returns-in_err-copy-clause-spare : goal.returns-in_err-copy-clause-spare
-returns-in_err-copy-clause-spare g c exact right spare = spare
+returns-in_err-copy-clause-spare g c exact spare = spare
 
 pub returns-in_err-copy-clause-counts : goal.returns-in_err-copy-clause-counts
 returns-in_err-copy-clause-counts g c exact = counts_none (g.K.Keeper.contents c.args.self.now.keeper) c.args.self.now.work (subst (λ n. n < 2 ^ 64) c.work-work.ensures c.work-work.type_inv)
 
 pub returns-in-Some-clause-worthy : goal.returns-in-Some-clause-worthy
-returns-in-Some-clause-worthy g c right = worthy_none c.args.rules.now (contents c.args.store.now) c.args.inst.now (g.K.Keeper.contents c.args.self.now.keeper)
+returns-in-Some-clause-worthy g c = worthy_none c.args.rules.now (contents c.args.store.now) c.args.inst.now (g.K.Keeper.contents c.args.self.now.keeper)
 
 pub returns-in-Some-clause-spare : goal.returns-in-Some-clause-spare
-returns-in-Some-clause-spare g c exact right spare = spare
+returns-in-Some-clause-spare g c exact spare = spare
 
 pub returns-in-Some-clause-counts : goal.returns-in-Some-clause-counts
 returns-in-Some-clause-counts g c exact = counts_none (g.K.Keeper.contents c.args.self.now.keeper) c.args.self.now.work (subst (λ n. n < 2 ^ 64) c.work-work.ensures c.work-work.type_inv)
 
 pub returns-in-Some-clause-work : goal.returns-in-Some-clause-work
-returns-in-Some-clause-work g c exact right spare =
+returns-in-Some-clause-work g c exact spare =
     let rules = c.args.rules.now in
     let look = contents c.args.store.now in
     let asked = c.args.inst.now in
@@ -38,7 +38,7 @@ returns-in-Some-clause-work g c exact right spare =
     work_is rules look asked entries entries w w (counts_none entries w (subst (λ n. n < 2 ^ 64) c.work-work.ensures c.work-work.type_inv)) (worthy_none rules look asked entries) (asked_kept rules look asked entries some spare.deep)
 
 pub returns-in-Some-clause-all : goal.returns-in-Some-clause-all
-returns-in-Some-clause-all g c exact right spare =
+returns-in-Some-clause-all g c exact spare =
     let asked = c.args.inst.now in
     let entries = g.K.Keeper.contents c.args.self.now.keeper in
     asked_kept c.args.rules.now (contents c.args.store.now) asked entries (got_kept c.args.rules.now (contents c.args.store.now) (entries asked) (value_view c.in-Some.value.now) c.in-Some.ensures) spare.deep

@@ -1,11 +1,13 @@
 use Rattle.std.proofs.Common.{refl}
 use Rattle.at_store.specs.Shown.{contents}
+use Rattle.at_body.specs.Typed.{class_shown}
 use Rattle.at_body.specs.declared.trial.Step.TheVariants as step
 use Rattle.at_demand.proofs.Gaining.{circle_all}
 use Rattle.at_demand.proofs.SparingOn.{deepens_sparing}
 use Rattle.at_demand.proofs.Orderly.{deepens}
 use Rattle.at_demand.proofs.Truth.{deepens_true, closes}
 use Rattle.at_demand.proofs.Passing.{deepens_covering}
+use Rattle.at_demand.proofs.Typing.{deepens_typed}
 use Rattle.at_demand.proofs.demand.Demand.deepen.Goals as goal
 
 pub returns-then-has-clause-answers : goal.returns-then-has-clause-answers
@@ -38,3 +40,11 @@ pub returns-clause-sparing : goal.returns-clause-sparing
 returns-clause-sparing g c asked h stands sparing =
     let e = c.in_ok-next.ensures in
     deepens_sparing c.args.rules.now (contents c.args.store.now) (g.K.Keeper.contents c.args.self.now.keeper) c.args.question c.in_ok-next.next sparing c.requires.orderly e.waiting e.found e.fresh e.unfound
+
+pub descend-requires-clause-typed : goal.descend-requires-clause-typed
+descend-requires-clause-typed g c = c.requires.typed.last.instance
+
+pub returns-clause-typed : goal.returns-clause-typed
+returns-clause-typed g c =
+    let e = c.in_ok-next.ensures in
+    deepens_typed c.args.rules.now (class_shown c.args.store.now) (g.K.Keeper.contents c.args.self.now.keeper) c.args.question c.in_ok-next.next c.args.needed c.in_ok-next.step c.requires.orderly c.requires.typed e.waiting e.inst e.typed

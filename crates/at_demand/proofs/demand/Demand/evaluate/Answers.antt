@@ -1,9 +1,14 @@
 use Rattle.std.proofs.Common.{◌<◌, ◌^◌, sym, ◌∙◌, subst}
+use Rattle.at_model.specs.Instances.{AnyText}
+use Rattle.at_model.specs.TypedRuns.{IsWellTyped}
 use Rattle.at_store.specs.Shown.{contents}
+use Rattle.at_body.specs.Typed.{class_shown}
 use Rattle.at_demand.specs.declared.demand.Turn.{Turn}
 use Rattle.at_demand.specs.UnderWay.{HasStepped, IsTurn, IsRightTurn}
 use Rattle.at_demand.proofs.Orderly.{begun}
-use Rattle.at_demand.proofs.Truth.{begun_true}
+use Rattle.at_demand.specs.Typing.{IsTypedTurn}
+use Rattle.at_demand.proofs.Truth.{begun_true, right_known}
+use Rattle.at_demand.proofs.Typing.{begun_typed}
 use Rattle.at_demand.specs.Covering.{HasPassedTo, IsCoveringTurn}
 use Rattle.at_demand.specs.Sparing.{IsSparingTurn}
 use Rattle.at_demand.proofs.Passing.{begun_covering}
@@ -21,18 +26,31 @@ loop-next-init g c =
     let asked = e.inst ∙ c.in_ok-copy.ensures in
     record {
       orderly = begun entries q.waiting.entries q.found.entries q.inst c.args.inst.now q.frame.demanded.kept.items e.alone e.nothing asked e.fresh c.requires.unkept;
-      holds = λ right. begun_true c.args.rules.now look c.args.inst.now entries q.waiting.entries q.found.entries q.inst q.frame.trial c.in_ok-begun.begun.1 e.alone e.nothing asked
-          (subst (λ x. HasStepped c.args.rules.now look x q.frame.trial c.in_ok-begun.begun.1) (sym e.inst) e.stepped) right;
-      covering = λ right. begun_covering c.args.rules.now look q.waiting.entries q.found.entries q.inst q.frame c.in_ok-begun.begun.1 e.alone e.nothing
+      holds = begun_true c.args.rules.now look c.args.inst.now entries q.waiting.entries q.found.entries q.inst q.frame.trial c.in_ok-begun.begun.1 e.alone e.nothing asked
+          (subst (λ x. HasStepped c.args.rules.now look x q.frame.trial c.in_ok-begun.begun.1) (sym e.inst) e.stepped) c.requires.right;
+      covering = begun_covering c.args.rules.now look q.waiting.entries q.found.entries q.inst q.frame c.in_ok-begun.begun.1 e.alone e.nothing
           (subst (λ x. HasPassedTo c.args.rules.now look q.found.entries x q.frame c.in_ok-begun.begun.1) (sym e.inst) (e.passed q.found.entries));
+      typed = begun_typed c.args.rules.now (class_shown c.args.store.now) q c.in_ok-begun.begun.1 e.alone e.typed;
       stays = λ is right. right;
-      worthy = λ right. worthy_none c.args.rules.now look c.args.inst.now entries;
-      sparing = λ exact right spare. begun_sparing c.args.rules.now look entries q e.alone e.nothing e.fresh e.unfound spare;
+      worthy = worthy_none c.args.rules.now look c.args.inst.now entries;
+      sparing = λ exact spare. begun_sparing c.args.rules.now look entries q e.alone e.nothing e.fresh e.unfound spare;
       counts = λ exact. counts_none entries c.args.self.now.work (subst (λ n. n < 2 ^ 64) c.work-work.ensures c.work-work.type_inv);
     }
 
+pub turn-requires-clause-right : goal.turn-requires-clause-right
+turn-requires-clause-right g c =
+    let q = c.loop-next.question in
+    let h = c.loop-next.invariant.holds in
+    right_known c.args.rules.now (contents c.args.store.now) (g.K.Keeper.contents c.loop-next.self.keeper) q.found.entries h.kept h.finds
+
+pub turn-requires-clause-typed : goal.turn-requires-clause-typed
+turn-requires-clause-typed g c = c.loop-next.invariant.typed
+
+pub new-requires-clause-typed : goal.new-requires-clause-typed
+new-requires-clause-typed g c = subst (IsWellTyped c.args.rules.now (class_shown c.args.store.now) AnyText) (sym c.in_ok-copy.ensures) c.requires.typed
+
 pub returns-in_err-next-clause-right : goal.returns-in_err-next-clause-right
-returns-in_err-next-clause-right g c is right = c.turn.ensures.stays c.args.inst.now is (c.loop-next.invariant.holds right.values) (c.loop-next.invariant.covering right.values) (c.loop-next.invariant.stays is right)
+returns-in_err-next-clause-right g c is right = c.turn.ensures.stays c.args.inst.now is c.loop-next.invariant.holds c.loop-next.invariant.covering (c.loop-next.invariant.stays is right)
 
 pub loop-next-preserved : goal.loop-next-preserved
 loop-next-preserved g c =
@@ -40,75 +58,76 @@ loop-next-preserved g c =
     let goes = subst (λ (t : Turn). IsTurn entries c.loop-next.question t) c.in-GoesOn.is c.in_ok-next.ensures.turn in
     record {
       orderly = goes.orderly;
-      holds = λ right. subst (λ (t : Turn). IsRightTurn c.args.rules.now (contents c.args.store.now) c.args.inst.now entries t) c.in-GoesOn.is (c.in_ok-next.ensures.answers c.args.inst.now (c.loop-next.invariant.holds right));
-      covering = λ right. subst (λ (t : Turn). IsCoveringTurn c.args.rules.now (contents c.args.store.now) t) c.in-GoesOn.is (c.in_ok-next.ensures.covering c.args.inst.now (c.loop-next.invariant.holds right) (c.loop-next.invariant.covering right));
-      stays = λ is right. c.turn.ensures.stays c.args.inst.now is (c.loop-next.invariant.holds right.values) (c.loop-next.invariant.covering right.values) (c.loop-next.invariant.stays is right);
-      worthy = λ right. c.turn.ensures.worthy c.args.inst.now (g.K.Keeper.contents c.args.self.now.keeper) (c.loop-next.invariant.holds right) (c.loop-next.invariant.worthy right);
-      sparing = λ exact right spare. subst (λ (t : Turn). IsSparingTurn c.args.rules.now (contents c.args.store.now) c.args.inst.now entries t) c.in-GoesOn.is
-          (c.in_ok-next.ensures.sparing c.args.inst.now exact (c.loop-next.invariant.holds right) (c.loop-next.invariant.covering right) (c.loop-next.invariant.sparing exact right spare));
+      holds = subst (λ (t : Turn). IsRightTurn c.args.rules.now (contents c.args.store.now) c.args.inst.now entries t) c.in-GoesOn.is (c.in_ok-next.ensures.answers c.args.inst.now c.loop-next.invariant.holds);
+      covering = subst (λ (t : Turn). IsCoveringTurn c.args.rules.now (contents c.args.store.now) t) c.in-GoesOn.is (c.in_ok-next.ensures.covering c.args.inst.now c.loop-next.invariant.holds c.loop-next.invariant.covering);
+      typed = subst (λ (t : Turn). IsTypedTurn c.args.rules.now (class_shown c.args.store.now) t) c.in-GoesOn.is c.in_ok-next.ensures.typed;
+      stays = λ is right. c.turn.ensures.stays c.args.inst.now is c.loop-next.invariant.holds c.loop-next.invariant.covering (c.loop-next.invariant.stays is right);
+      worthy = c.turn.ensures.worthy c.args.inst.now (g.K.Keeper.contents c.args.self.now.keeper) c.loop-next.invariant.holds c.loop-next.invariant.worthy;
+      sparing = λ exact spare. subst (λ (t : Turn). IsSparingTurn c.args.rules.now (contents c.args.store.now) c.args.inst.now entries t) c.in-GoesOn.is
+          (c.in_ok-next.ensures.sparing c.args.inst.now exact c.loop-next.invariant.holds c.loop-next.invariant.covering (c.loop-next.invariant.sparing exact spare));
       counts = λ exact. counts_more (g.K.Keeper.contents c.args.self.now.keeper) (g.K.Keeper.contents c.loop-next.self.keeper) entries c.args.self.now.work c.loop-next.self.work c.turn.new.self.work (c.loop-next.invariant.counts exact) (c.turn.ensures.counts exact (counted_small _ _ c.args.self.now.work c.loop-next.self.work (c.loop-next.invariant.counts exact)));
     }
 
 pub returns-in-Answers-clause-answers : goal.returns-in-Answers-clause-answers
-returns-in-Answers-clause-answers g c right =
+returns-in-Answers-clause-answers g c =
     let entries = g.K.Keeper.contents c.turn.new.self.keeper in
-    subst (λ (t : Turn). IsRightTurn c.args.rules.now (contents c.args.store.now) c.args.inst.now entries t) c.in-Answers.is (c.in_ok-next.ensures.answers c.args.inst.now (c.loop-next.invariant.holds right))
+    subst (λ (t : Turn). IsRightTurn c.args.rules.now (contents c.args.store.now) c.args.inst.now entries t) c.in-Answers.is (c.in_ok-next.ensures.answers c.args.inst.now c.loop-next.invariant.holds)
 
 pub returns-in-Answers-clause-right : goal.returns-in-Answers-clause-right
-returns-in-Answers-clause-right g c is right = c.turn.ensures.stays c.args.inst.now is (c.loop-next.invariant.holds right.values) (c.loop-next.invariant.covering right.values) (c.loop-next.invariant.stays is right)
+returns-in-Answers-clause-right g c is right = c.turn.ensures.stays c.args.inst.now is c.loop-next.invariant.holds c.loop-next.invariant.covering (c.loop-next.invariant.stays is right)
 
 pub returns-in_err-next-clause-worthy : goal.returns-in_err-next-clause-worthy
-returns-in_err-next-clause-worthy g c right = c.turn.ensures.worthy c.args.inst.now (g.K.Keeper.contents c.args.self.now.keeper) (c.loop-next.invariant.holds right) (c.loop-next.invariant.worthy right)
+returns-in_err-next-clause-worthy g c = c.turn.ensures.worthy c.args.inst.now (g.K.Keeper.contents c.args.self.now.keeper) c.loop-next.invariant.holds c.loop-next.invariant.worthy
 
 pub returns-in_err-next-clause-spare : goal.returns-in_err-next-clause-spare
-returns-in_err-next-clause-spare g c exact right spare = c.turn.ensures.spare c.args.inst.now exact (c.loop-next.invariant.holds right) (c.loop-next.invariant.covering right) (c.loop-next.invariant.sparing exact right spare)
+returns-in_err-next-clause-spare g c exact spare = c.turn.ensures.spare c.args.inst.now exact c.loop-next.invariant.holds c.loop-next.invariant.covering (c.loop-next.invariant.sparing exact spare)
 
 pub returns-in_err-next-clause-counts : goal.returns-in_err-next-clause-counts
 returns-in_err-next-clause-counts g c exact = counts_more (g.K.Keeper.contents c.args.self.now.keeper) (g.K.Keeper.contents c.loop-next.self.keeper) (g.K.Keeper.contents c.turn.new.self.keeper) c.args.self.now.work c.loop-next.self.work c.turn.new.self.work (c.loop-next.invariant.counts exact) (c.turn.ensures.counts exact (counted_small _ _ c.args.self.now.work c.loop-next.self.work (c.loop-next.invariant.counts exact)))
 
 pub returns-in-Answers-clause-worthy : goal.returns-in-Answers-clause-worthy
-returns-in-Answers-clause-worthy g c right = c.turn.ensures.worthy c.args.inst.now (g.K.Keeper.contents c.args.self.now.keeper) (c.loop-next.invariant.holds right) (c.loop-next.invariant.worthy right)
+returns-in-Answers-clause-worthy g c = c.turn.ensures.worthy c.args.inst.now (g.K.Keeper.contents c.args.self.now.keeper) c.loop-next.invariant.holds c.loop-next.invariant.worthy
 
 pub returns-in-Answers-clause-spare : goal.returns-in-Answers-clause-spare
-returns-in-Answers-clause-spare g c exact right spare = c.turn.ensures.spare c.args.inst.now exact (c.loop-next.invariant.holds right) (c.loop-next.invariant.covering right) (c.loop-next.invariant.sparing exact right spare)
+returns-in-Answers-clause-spare g c exact spare = c.turn.ensures.spare c.args.inst.now exact c.loop-next.invariant.holds c.loop-next.invariant.covering (c.loop-next.invariant.sparing exact spare)
 
 pub returns-in-Answers-clause-counts : goal.returns-in-Answers-clause-counts
 returns-in-Answers-clause-counts g c exact = counts_more (g.K.Keeper.contents c.args.self.now.keeper) (g.K.Keeper.contents c.loop-next.self.keeper) (g.K.Keeper.contents c.turn.new.self.keeper) c.args.self.now.work c.loop-next.self.work c.turn.new.self.work (c.loop-next.invariant.counts exact) (c.turn.ensures.counts exact (counted_small _ _ c.args.self.now.work c.loop-next.self.work (c.loop-next.invariant.counts exact)))
 
 pub returns-in-Answers-clause-work : goal.returns-in-Answers-clause-work
-returns-in-Answers-clause-work g c exact right spare =
+returns-in-Answers-clause-work g c exact spare =
     let rules = c.args.rules.now in
     let look = contents c.args.store.now in
     let asked = c.args.inst.now in
     let old = g.K.Keeper.contents c.args.self.now.keeper in
     let new = g.K.Keeper.contents c.turn.new.self.keeper in
     let counts = counts_more old (g.K.Keeper.contents c.loop-next.self.keeper) new c.args.self.now.work c.loop-next.self.work c.turn.new.self.work (c.loop-next.invariant.counts exact) (c.turn.ensures.counts exact (counted_small _ _ c.args.self.now.work c.loop-next.self.work (c.loop-next.invariant.counts exact))) in
-    let adds = c.turn.ensures.worthy asked old (c.loop-next.invariant.holds right) (c.loop-next.invariant.worthy right) in
+    let adds = c.turn.ensures.worthy asked old c.loop-next.invariant.holds c.loop-next.invariant.worthy in
     let all = subst (λ (t : Turn). IsSparingTurn rules look asked new t) c.in-Answers.is
-    (c.in_ok-next.ensures.sparing asked exact (c.loop-next.invariant.holds right) (c.loop-next.invariant.covering right) (c.loop-next.invariant.sparing exact right spare)) in
+    (c.in_ok-next.ensures.sparing asked exact c.loop-next.invariant.holds c.loop-next.invariant.covering (c.loop-next.invariant.sparing exact spare)) in
     work_is rules look asked old new c.args.self.now.work c.turn.new.self.work counts adds all
 
 pub returns-in_err-copy-clause-worthy : goal.returns-in_err-copy-clause-worthy
-returns-in_err-copy-clause-worthy g c right = worthy_none c.args.rules.now (contents c.args.store.now) c.args.inst.now (g.K.Keeper.contents c.args.self.now.keeper)
+returns-in_err-copy-clause-worthy g c = worthy_none c.args.rules.now (contents c.args.store.now) c.args.inst.now (g.K.Keeper.contents c.args.self.now.keeper)
 
 pub returns-in_err-copy-clause-spare : goal.returns-in_err-copy-clause-spare
-returns-in_err-copy-clause-spare g c exact right spare = spare
+returns-in_err-copy-clause-spare g c exact spare = spare
 
 pub returns-in_err-copy-clause-counts : goal.returns-in_err-copy-clause-counts
 returns-in_err-copy-clause-counts g c exact = counts_none (g.K.Keeper.contents c.args.self.now.keeper) c.args.self.now.work (subst (λ n. n < 2 ^ 64) c.work-work.ensures c.work-work.type_inv)
 
 pub returns-in_err-begun-clause-worthy : goal.returns-in_err-begun-clause-worthy
-returns-in_err-begun-clause-worthy g c right = worthy_none c.args.rules.now (contents c.args.store.now) c.args.inst.now (g.K.Keeper.contents c.args.self.now.keeper)
+returns-in_err-begun-clause-worthy g c = worthy_none c.args.rules.now (contents c.args.store.now) c.args.inst.now (g.K.Keeper.contents c.args.self.now.keeper)
 
 pub returns-in_err-begun-clause-spare : goal.returns-in_err-begun-clause-spare
-returns-in_err-begun-clause-spare g c exact right spare = spare
+returns-in_err-begun-clause-spare g c exact spare = spare
 
 pub returns-in_err-begun-clause-counts : goal.returns-in_err-begun-clause-counts
 returns-in_err-begun-clause-counts g c exact = counts_none (g.K.Keeper.contents c.args.self.now.keeper) c.args.self.now.work (subst (λ n. n < 2 ^ 64) c.work-work.ensures c.work-work.type_inv)
 
 pub returns-in-Answers-clause-all : goal.returns-in-Answers-clause-all
-returns-in-Answers-clause-all g c exact right spare =
+returns-in-Answers-clause-all g c exact spare =
     let look = contents c.args.store.now in
     let new = g.K.Keeper.contents c.turn.new.self.keeper in
     subst (λ (t : Turn). IsSparingTurn c.args.rules.now look c.args.inst.now new t) c.in-Answers.is
-    (c.in_ok-next.ensures.sparing c.args.inst.now exact (c.loop-next.invariant.holds right) (c.loop-next.invariant.covering right) (c.loop-next.invariant.sparing exact right spare))
+    (c.in_ok-next.ensures.sparing c.args.inst.now exact c.loop-next.invariant.holds c.loop-next.invariant.covering (c.loop-next.invariant.sparing exact spare))

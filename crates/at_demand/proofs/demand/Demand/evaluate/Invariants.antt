@@ -1,9 +1,9 @@
 use Rattle.std.proofs.Common.{◌-◌, ◌^◌}
-use Rattle.at_model.specs.Meaning.{Right}
 use Rattle.at_store.specs.Shown.{contents}
-use Rattle.at_demand.specs.Known.{meaning, kept_values}
 use Rattle.at_demand.specs.UnderWay.{IsOrderlyIn, IsTrueIn, progress}
+use Rattle.at_body.specs.Typed.{class_shown}
 use Rattle.at_demand.specs.Covering.{IsCoveringIn}
+use Rattle.at_demand.specs.Typing.{IsTypedIn}
 use Rattle.std.specs.Prelude.{IsTrue}
 use Rattle.at_demand.specs.Right.{AreRight, IsThere}
 use Rattle.at_demand.specs.Sparing.{AddsWorthy, AreSpare, Counts, IsSparing}
@@ -12,11 +12,12 @@ use Rattle.at_demand.proofs.demand.Demand.evaluate.Given as goal
 abbrev pub invariant-loop-next : goal.invariant-loop-next
 invariant-loop-next g l = record {
   orderly : IsOrderlyIn (g.K.Keeper.contents l.self.keeper) l.question;
-  holds : Right (contents l.store) (meaning l.rules) (kept_values (g.K.Keeper.contents l.initial.self.keeper)) → IsTrueIn l.rules (contents l.store) l.inst (g.K.Keeper.contents l.self.keeper) l.question l.step;
-  covering : Right (contents l.store) (meaning l.rules) (kept_values (g.K.Keeper.contents l.initial.self.keeper)) → IsCoveringIn l.rules (contents l.store) l.question l.step;
+  holds : IsTrueIn l.rules (contents l.store) l.inst (g.K.Keeper.contents l.self.keeper) l.question l.step;
+  covering : IsCoveringIn l.rules (contents l.store) l.question l.step;
+  typed : IsTypedIn l.rules (class_shown l.store) l.question l.step;
   stays : IsThere l.store l.inst → AreRight l.rules l.store (g.K.Keeper.contents l.initial.self.keeper) → AreRight l.rules l.store (g.K.Keeper.contents l.self.keeper);
-  worthy : Right (contents l.store) (meaning l.rules) (kept_values (g.K.Keeper.contents l.initial.self.keeper)) → AddsWorthy l.rules (contents l.store) l.inst (g.K.Keeper.contents l.initial.self.keeper) (g.K.Keeper.contents l.self.keeper);
-  sparing : IsTrue g.K.Keeper.exact → Right (contents l.store) (meaning l.rules) (kept_values (g.K.Keeper.contents l.initial.self.keeper)) → AreSpare l.rules (contents l.store) (g.K.Keeper.contents l.initial.self.keeper) → IsSparing l.rules (contents l.store) (g.K.Keeper.contents l.self.keeper) l.question;
+  worthy : AddsWorthy l.rules (contents l.store) l.inst (g.K.Keeper.contents l.initial.self.keeper) (g.K.Keeper.contents l.self.keeper);
+  sparing : IsTrue g.K.Keeper.exact → AreSpare l.rules (contents l.store) (g.K.Keeper.contents l.initial.self.keeper) → IsSparing l.rules (contents l.store) (g.K.Keeper.contents l.self.keeper) l.question;
   counts : IsTrue g.K.Keeper.exact → Counts (g.K.Keeper.contents l.initial.self.keeper) (g.K.Keeper.contents l.self.keeper) l.initial.self.work l.self.work;
 }
 

@@ -9,6 +9,7 @@ use Rattle.at_demand.specs.Known.{meaning, MayAdd}
 use Rattle.at_demand.proofs.Orderly.{last_unkept, none_there, settles}
 use Rattle.at_demand.proofs.Truth.{right_after, ends, settles_true}
 use Rattle.at_demand.proofs.Passing.{settles_covering}
+use Rattle.at_demand.proofs.Typing.{settles_typed}
 use Rattle.at_demand.proofs.There.{settles_right}
 use Rattle.at_demand.proofs.Gaining.{worthy_more, worth_last}
 use Rattle.at_demand.proofs.Counting.{counts_none}
@@ -241,3 +242,8 @@ returns-in_err-insert-clause-counts g c exact small = c.keep.ensures.counts exac
 
 pub returns-clause-counts : goal.returns-clause-counts
 returns-clause-counts g c exact small = c.keep.ensures.counts exact small
+
+pub returns-clause-typed : goal.returns-clause-typed
+returns-clause-typed g c at waits =
+    let new : Question = record { waiting = c.pop.new.self; found = c.insert.new.self; inst = c.in-Some.below; frame = c.in-Some.frame } in
+    settles_typed c.args.rules.now at c.args.question new c.in_ok-needed.needed c.in-Some.below c.in-Some.frame waits c.in-Some.ensures.entries refl refl c.in_ok-needed.ensures

@@ -1,9 +1,10 @@
 use Rattle.std.proofs.Common.{refl, subst}
 use Rattle.at_store.specs.Shown.{contents}
+use Rattle.at_body.specs.Typed.{IsTypedStep, class_shown}
 use Rattle.at_body.specs.declared.trial.Step.{Step}
 use Rattle.at_body.specs.declared.trial.Step.TheVariants as step
 use Rattle.at_demand.specs.UnderWay.{HasStepped, IsOrderlyIn}
-use Rattle.at_demand.proofs.Truth.{steps_on, fails, right_known}
+use Rattle.at_demand.proofs.Truth.{steps_on, fails}
 use Rattle.at_demand.specs.Covering.{HasPassedTo}
 use Rattle.at_demand.specs.declared.question.Question.{Question}
 use Rattle.at_demand.proofs.Passing.{covers_on}
@@ -18,7 +19,7 @@ returns-in-Value-clause-answers g c asked h =
     let look = contents c.args.store.now in
     let entries = g.K.Keeper.contents c.args.self.now.keeper in
     let trial = c.go_on.new.self.trial in
-    let goes = c.in_ok-step.ensures.stepped q.inst (right_known c.args.rules.now look entries q.found.entries h.kept h.finds) h.last in
+    let goes = c.in_ok-step.ensures.stepped q.inst h.last in
     let last = subst (λ (s : Step). HasStepped c.args.rules.now look q.inst trial s) c.in-Value.is goes in
     let on = steps_on c.args.rules.now look asked entries q.waiting.entries q.found.entries q.inst q.frame.trial trial c.args.step (step.Value c.in-Value.value) h last in
     c.settle.ensures.answers look asked on
@@ -29,7 +30,7 @@ returns-in-Value-clause-right g c asked h =
     let look = contents c.args.store.now in
     let entries = g.K.Keeper.contents c.args.self.now.keeper in
     let trial = c.go_on.new.self.trial in
-    let goes = c.in_ok-step.ensures.stepped q.inst (right_known c.args.rules.now look entries q.found.entries h.kept h.finds) h.last in
+    let goes = c.in_ok-step.ensures.stepped q.inst h.last in
     let last = subst (λ (s : Step). HasStepped c.args.rules.now look q.inst trial s) c.in-Value.is goes in
     let on = steps_on c.args.rules.now look asked entries q.waiting.entries q.found.entries q.inst q.frame.trial trial c.args.step (step.Value c.in-Value.value) h last in
     c.settle.ensures.right look asked on
@@ -40,7 +41,7 @@ returns-in-Fault-clause-answers g c asked h =
     let look = contents c.args.store.now in
     let entries = g.K.Keeper.contents c.args.self.now.keeper in
     let trial = c.go_on.new.self.trial in
-    let goes = c.in_ok-step.ensures.stepped q.inst (right_known c.args.rules.now look entries q.found.entries h.kept h.finds) h.last in
+    let goes = c.in_ok-step.ensures.stepped q.inst h.last in
     let last = subst (λ (s : Step). HasStepped c.args.rules.now look q.inst trial s) c.in-Fault.is goes in
     let on = steps_on c.args.rules.now look asked entries q.waiting.entries q.found.entries q.inst q.frame.trial trial c.args.step (step.Fault c.in-Fault.kind) h last in
     fails c.args.rules.now look asked entries q.waiting.entries q.found.entries q.inst trial c.in-Fault.kind on
@@ -51,7 +52,7 @@ returns-clause-answers g c asked h =
     let look = contents c.args.store.now in
     let entries = g.K.Keeper.contents c.args.self.now.keeper in
     let trial = c.go_on.new.self.trial in
-    let goes = c.in_ok-step.ensures.stepped q.inst (right_known c.args.rules.now look entries q.found.entries h.kept h.finds) h.last in
+    let goes = c.in_ok-step.ensures.stepped q.inst h.last in
     let last = subst (λ (s : Step). HasStepped c.args.rules.now look q.inst trial s) c.in-Need.is goes in
     let on = steps_on c.args.rules.now look asked entries q.waiting.entries q.found.entries q.inst q.frame.trial trial c.args.step (step.Need c.in-Need.needed) h last in
     c.deepen.ensures.answers asked on
@@ -63,10 +64,9 @@ returns-in-Value-clause-covering g c asked h stands =
     let look = contents c.args.store.now in
     let entries = g.K.Keeper.contents c.args.self.now.keeper in
     let trial = c.go_on.new.self.trial in
-    let known = right_known rules look entries q.found.entries h.kept h.finds in
-    let last = subst (λ (s : Step). HasStepped rules look q.inst trial s) c.in-Value.is (c.in_ok-step.ensures.stepped q.inst known h.last) in
+    let last = subst (λ (s : Step). HasStepped rules look q.inst trial s) c.in-Value.is (c.in_ok-step.ensures.stepped q.inst h.last) in
     let on = steps_on rules look asked entries q.waiting.entries q.found.entries q.inst q.frame.trial trial c.args.step (step.Value c.in-Value.value) h last in
-    let passed = subst (λ (s : Step). HasPassedTo rules look q.found.entries q.inst c.go_on.new.self s) c.in-Value.is (c.in_ok-step.ensures.passed q.inst known stands.last) in
+    let passed = subst (λ (s : Step). HasPassedTo rules look q.found.entries q.inst c.go_on.new.self s) c.in-Value.is (c.in_ok-step.ensures.passed q.inst stands.last) in
     let stands' = covers_on rules look q.waiting.entries q.found.entries q.inst q.frame c.go_on.new.self c.args.step (step.Value c.in-Value.value) stands passed in
     c.settle.ensures.covering look stands'
 
@@ -77,10 +77,9 @@ returns-in-Value-clause-stays g c asked is h stands right =
     let look = contents c.args.store.now in
     let entries = g.K.Keeper.contents c.args.self.now.keeper in
     let trial = c.go_on.new.self.trial in
-    let known = right_known rules look entries q.found.entries h.kept h.finds in
-    let last = subst (λ (s : Step). HasStepped rules look q.inst trial s) c.in-Value.is (c.in_ok-step.ensures.stepped q.inst known h.last) in
+    let last = subst (λ (s : Step). HasStepped rules look q.inst trial s) c.in-Value.is (c.in_ok-step.ensures.stepped q.inst h.last) in
     let on = steps_on rules look asked entries q.waiting.entries q.found.entries q.inst q.frame.trial trial c.args.step (step.Value c.in-Value.value) h last in
-    let passed = subst (λ (s : Step). HasPassedTo rules look q.found.entries q.inst c.go_on.new.self s) c.in-Value.is (c.in_ok-step.ensures.passed q.inst known stands.last) in
+    let passed = subst (λ (s : Step). HasPassedTo rules look q.found.entries q.inst c.go_on.new.self s) c.in-Value.is (c.in_ok-step.ensures.passed q.inst stands.last) in
     let stands' = covers_on rules look q.waiting.entries q.found.entries q.inst q.frame c.go_on.new.self c.args.step (step.Value c.in-Value.value) stands passed in
     c.settle.ensures.stays c.args.store.now asked c.requires.idle is on stands' right
 
@@ -91,10 +90,9 @@ returns-clause-covering g c asked h stands =
     let look = contents c.args.store.now in
     let entries = g.K.Keeper.contents c.args.self.now.keeper in
     let trial = c.go_on.new.self.trial in
-    let known = right_known rules look entries q.found.entries h.kept h.finds in
-    let last = subst (λ (s : Step). HasStepped rules look q.inst trial s) c.in-Need.is (c.in_ok-step.ensures.stepped q.inst known h.last) in
+    let last = subst (λ (s : Step). HasStepped rules look q.inst trial s) c.in-Need.is (c.in_ok-step.ensures.stepped q.inst h.last) in
     let on = steps_on rules look asked entries q.waiting.entries q.found.entries q.inst q.frame.trial trial c.args.step (step.Need c.in-Need.needed) h last in
-    let passed = subst (λ (s : Step). HasPassedTo rules look q.found.entries q.inst c.go_on.new.self s) c.in-Need.is (c.in_ok-step.ensures.passed q.inst known stands.last) in
+    let passed = subst (λ (s : Step). HasPassedTo rules look q.found.entries q.inst c.go_on.new.self s) c.in-Need.is (c.in_ok-step.ensures.passed q.inst stands.last) in
     let stands' = covers_on rules look q.waiting.entries q.found.entries q.inst q.frame c.go_on.new.self c.args.step (step.Need c.in-Need.needed) stands passed in
     c.deepen.ensures.covering stands'
 
@@ -105,8 +103,7 @@ returns-in-Value-clause-worthy g c asked first h adds =
     let look = contents c.args.store.now in
     let entries = g.K.Keeper.contents c.args.self.now.keeper in
     let trial = c.go_on.new.self.trial in
-    let known = right_known rules look entries q.found.entries h.kept h.finds in
-    let last = subst (λ (s : Step). HasStepped rules look q.inst trial s) c.in-Value.is (c.in_ok-step.ensures.stepped q.inst known h.last) in
+    let last = subst (λ (s : Step). HasStepped rules look q.inst trial s) c.in-Value.is (c.in_ok-step.ensures.stepped q.inst h.last) in
     let on = steps_on rules look asked entries q.waiting.entries q.found.entries q.inst q.frame.trial trial c.args.step (step.Value c.in-Value.value) h last in
     c.settle.ensures.worthy look asked first on adds
 
@@ -117,13 +114,12 @@ returns-in-Value-clause-sparing g c asked exact h stands sparing =
     let look = contents c.args.store.now in
     let entries = g.K.Keeper.contents c.args.self.now.keeper in
     let trial = c.go_on.new.self.trial in
-    let known = right_known rules look entries q.found.entries h.kept h.finds in
-    let last = subst (λ (s : Step). HasStepped rules look q.inst trial s) c.in-Value.is (c.in_ok-step.ensures.stepped q.inst known h.last) in
+    let last = subst (λ (s : Step). HasStepped rules look q.inst trial s) c.in-Value.is (c.in_ok-step.ensures.stepped q.inst h.last) in
     let on = steps_on rules look asked entries q.waiting.entries q.found.entries q.inst q.frame.trial trial c.args.step (step.Value c.in-Value.value) h last in
-    let passed = subst (λ (s : Step). HasPassedTo rules look q.found.entries q.inst c.go_on.new.self s) c.in-Value.is (c.in_ok-step.ensures.passed q.inst known stands.last) in
+    let passed = subst (λ (s : Step). HasPassedTo rules look q.found.entries q.inst c.go_on.new.self s) c.in-Value.is (c.in_ok-step.ensures.passed q.inst stands.last) in
     let stands' = covers_on rules look q.waiting.entries q.found.entries q.inst q.frame c.go_on.new.self c.args.step (step.Value c.in-Value.value) stands passed in
     let next : Question = record { waiting = q.waiting; found = q.found; inst = q.inst; frame = c.go_on.new.self } in
-    let goes = sparing_on rules look entries q next sparing refl refl refl (c.in_ok-step.ensures.only q.inst known h.last sparing.last) in
+    let goes = sparing_on rules look entries q next sparing refl refl refl (c.in_ok-step.ensures.only q.inst h.last sparing.last) in
     c.settle.ensures.sparing look asked exact on stands' goes
 
 pub returns-in-Value-clause-spare : goal.returns-in-Value-clause-spare
@@ -133,13 +129,12 @@ returns-in-Value-clause-spare g c asked exact h stands sparing =
     let look = contents c.args.store.now in
     let entries = g.K.Keeper.contents c.args.self.now.keeper in
     let trial = c.go_on.new.self.trial in
-    let known = right_known rules look entries q.found.entries h.kept h.finds in
-    let last = subst (λ (s : Step). HasStepped rules look q.inst trial s) c.in-Value.is (c.in_ok-step.ensures.stepped q.inst known h.last) in
+    let last = subst (λ (s : Step). HasStepped rules look q.inst trial s) c.in-Value.is (c.in_ok-step.ensures.stepped q.inst h.last) in
     let on = steps_on rules look asked entries q.waiting.entries q.found.entries q.inst q.frame.trial trial c.args.step (step.Value c.in-Value.value) h last in
-    let passed = subst (λ (s : Step). HasPassedTo rules look q.found.entries q.inst c.go_on.new.self s) c.in-Value.is (c.in_ok-step.ensures.passed q.inst known stands.last) in
+    let passed = subst (λ (s : Step). HasPassedTo rules look q.found.entries q.inst c.go_on.new.self s) c.in-Value.is (c.in_ok-step.ensures.passed q.inst stands.last) in
     let stands' = covers_on rules look q.waiting.entries q.found.entries q.inst q.frame c.go_on.new.self c.args.step (step.Value c.in-Value.value) stands passed in
     let next : Question = record { waiting = q.waiting; found = q.found; inst = q.inst; frame = c.go_on.new.self } in
-    let goes = sparing_on rules look entries q next sparing refl refl refl (c.in_ok-step.ensures.only q.inst known h.last sparing.last) in
+    let goes = sparing_on rules look entries q next sparing refl refl refl (c.in_ok-step.ensures.only q.inst h.last sparing.last) in
     c.settle.ensures.spare look asked exact on stands' goes
 
 pub returns-in-Fault-clause-sparing : goal.returns-in-Fault-clause-sparing
@@ -149,13 +144,12 @@ returns-in-Fault-clause-sparing g c asked exact h stands sparing =
     let look = contents c.args.store.now in
     let entries = g.K.Keeper.contents c.args.self.now.keeper in
     let trial = c.go_on.new.self.trial in
-    let known = right_known rules look entries q.found.entries h.kept h.finds in
-    let last = subst (λ (s : Step). HasStepped rules look q.inst trial s) c.in-Fault.is (c.in_ok-step.ensures.stepped q.inst known h.last) in
+    let last = subst (λ (s : Step). HasStepped rules look q.inst trial s) c.in-Fault.is (c.in_ok-step.ensures.stepped q.inst h.last) in
     let on = steps_on rules look asked entries q.waiting.entries q.found.entries q.inst q.frame.trial trial c.args.step (step.Fault c.in-Fault.kind) h last in
-    let passed = subst (λ (s : Step). HasPassedTo rules look q.found.entries q.inst c.go_on.new.self s) c.in-Fault.is (c.in_ok-step.ensures.passed q.inst known stands.last) in
+    let passed = subst (λ (s : Step). HasPassedTo rules look q.found.entries q.inst c.go_on.new.self s) c.in-Fault.is (c.in_ok-step.ensures.passed q.inst stands.last) in
     let stands' = covers_on rules look q.waiting.entries q.found.entries q.inst q.frame c.go_on.new.self c.args.step (step.Fault c.in-Fault.kind) stands passed in
     let next : Question = record { waiting = q.waiting; found = q.found; inst = q.inst; frame = c.go_on.new.self } in
-    let goes = sparing_on rules look entries q next sparing refl refl refl (c.in_ok-step.ensures.only q.inst known h.last sparing.last) in
+    let goes = sparing_on rules look entries q next sparing refl refl refl (c.in_ok-step.ensures.only q.inst h.last sparing.last) in
     let o = c.requires.orderly in
     let orderly : IsOrderlyIn entries next = record { distinct = o.distinct; open_ones = o.open_ones; unkept = o.unkept; waiting_kept = o.waiting_kept; found_kept = o.found_kept; last_kept = c.in_ok-step.ensures.kept } in
     failed_all rules look asked entries next (step.Fault c.in-Fault.kind) orderly on stands' goes.settled goes.spare.deep c.in-Fault.kind refl
@@ -167,13 +161,12 @@ returns-clause-sparing g c asked exact h stands sparing =
     let look = contents c.args.store.now in
     let entries = g.K.Keeper.contents c.args.self.now.keeper in
     let trial = c.go_on.new.self.trial in
-    let known = right_known rules look entries q.found.entries h.kept h.finds in
-    let last = subst (λ (s : Step). HasStepped rules look q.inst trial s) c.in-Need.is (c.in_ok-step.ensures.stepped q.inst known h.last) in
+    let last = subst (λ (s : Step). HasStepped rules look q.inst trial s) c.in-Need.is (c.in_ok-step.ensures.stepped q.inst h.last) in
     let on = steps_on rules look asked entries q.waiting.entries q.found.entries q.inst q.frame.trial trial c.args.step (step.Need c.in-Need.needed) h last in
-    let passed = subst (λ (s : Step). HasPassedTo rules look q.found.entries q.inst c.go_on.new.self s) c.in-Need.is (c.in_ok-step.ensures.passed q.inst known stands.last) in
+    let passed = subst (λ (s : Step). HasPassedTo rules look q.found.entries q.inst c.go_on.new.self s) c.in-Need.is (c.in_ok-step.ensures.passed q.inst stands.last) in
     let stands' = covers_on rules look q.waiting.entries q.found.entries q.inst q.frame c.go_on.new.self c.args.step (step.Need c.in-Need.needed) stands passed in
     let next : Question = record { waiting = q.waiting; found = q.found; inst = q.inst; frame = c.go_on.new.self } in
-    let goes = sparing_on rules look entries q next sparing refl refl refl (c.in_ok-step.ensures.only q.inst known h.last sparing.last) in
+    let goes = sparing_on rules look entries q next sparing refl refl refl (c.in_ok-step.ensures.only q.inst h.last sparing.last) in
     c.deepen.ensures.sparing asked on stands' goes
 
 pub returns-in_err-step-clause-worthy : goal.returns-in_err-step-clause-worthy
@@ -205,3 +198,17 @@ returns-clause-spare g c asked exact h stands sparing = sparing.spare
 
 pub returns-clause-counts : goal.returns-clause-counts
 returns-clause-counts g c exact small = counts_none (g.K.Keeper.contents c.args.self.now.keeper) c.args.self.now.work small
+
+pub returns-in-Value-clause-typed : goal.returns-in-Value-clause-typed
+returns-in-Value-clause-typed g c = c.settle.ensures.typed (class_shown c.args.store.now) c.requires.typed.waits
+
+pub deepen-requires-clause-typed : goal.deepen-requires-clause-typed
+deepen-requires-clause-typed g c =
+    let last = subst (λ (s : Step). IsTypedStep c.args.rules.now (class_shown c.args.store.now) s c.go_on.new.self.trial) c.in-Need.is c.in_ok-step.ensures.typed in
+    record { waits = c.requires.typed.waits; last = last }
+
+pub go_on-requires-clause-right : goal.go_on-requires-clause-right
+go_on-requires-clause-right g c = c.requires.right
+
+pub go_on-requires-clause-typed : goal.go_on-requires-clause-typed
+go_on-requires-clause-typed g c = c.requires.typed.last

@@ -15,6 +15,7 @@ returns-in_err-frame c =
       finds = rw is tt;
       stepped = rw is tt;
       passed = λ finds. rw is tt;
+      typed = rw is tt;
     }
 
 pub returns-in_err-insert : goal.returns-in_err-insert
@@ -30,6 +31,7 @@ returns-in_err-insert c =
       finds = rw is tt;
       stepped = rw is tt;
       passed = λ finds. rw is tt;
+      typed = rw is tt;
     }
 
 pub returns : goal.returns
@@ -44,4 +46,5 @@ returns c =
       finds = subst (λ n. n < 2 ^ 64) c.len-2.ensures.len c.len-2.type_inv;
       stepped = c.in_ok-frame.ensures.stepped;
       passed = λ finds. c.in_ok-frame.ensures.passed finds;
+      typed = c.in_ok-frame.ensures.typed;
     }

@@ -9,7 +9,7 @@ use Rattle.at_engine.proofs.Asked.{told_nowhere, asked_no_values, asked_of, aske
 use Rattle.at_engine.proofs.Valued.{values_none, values_some}
 use Rattle.at_model.specs.Machine.{Asks, obeyed}
 use Rattle.at_protocol.specs.declared.reply.Refusal.TheVariants as refusal
-use Rattle.at_engine.proofs.Asked.{asked_is}
+use Rattle.at_engine.proofs.Asked.{asked_is, asked_typed}
 use Rattle.at_engine.proofs.Keeping.{err_spares, failed_spares, refused_spares, turned_spares}
 use Rattle.at_engine.proofs.engine.Engine.ask.Goals as goal
 
@@ -44,6 +44,14 @@ answer-requires-clause-there g c =
       asked_of (rules_of e) e.store c.requires.sound.idle e.version e.marks.items.items c.args.session (place_view c.args.place.now) c.args.attribute.now (arguments_view c.args.arguments.now) c.in-Some.node c.in-Some.ensures c.in-Some-2.values.items values c.in-Some-attribute.attribute,
       asked_like (rules_of e) e.store c.requires.sound.idle e.version e.marks.items.items c.args.session (place_view c.args.place.now) c.args.attribute.now (arguments_view c.args.arguments.now) c.in-Some.node c.in-Some.ensures c.in-Some-2.values.items values c.in-Some-attribute.attribute,
     )
+
+pub answer-requires-clause-well_typed : goal.answer-requires-clause-well_typed
+answer-requires-clause-well_typed g c =
+    let e = c.args.self.now in
+    let values = values_some _ _ _ _ _ c.in-Some-2.is c.in_ok-values.ensures in
+    asked_typed (rules_of e) e.store c.requires.sound.idle e.version e.marks.items.items c.args.session (place_view c.args.place.now) c.args.attribute.now (arguments_view c.args.arguments.now) c.in-Some.node c.in-Some.ensures
+    c.in-Some-2.values.items values c.class.result c.class.ensures c.requires.named c.in-Some-attribute.attribute c.in-Some-attribute.ensures.named
+    c.as_slice.result.now c.as_slice.ensures c.if-not-fit_parameters.ensures
 
 pub returns-clause-obeys : goal.returns-clause-obeys
 returns-clause-obeys g c =

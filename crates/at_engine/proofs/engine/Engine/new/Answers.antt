@@ -1,5 +1,6 @@
 use Rattle.std.proofs.Common.{◌≡◌, ◌∙◌, true, List, ap, sym, subst}
 use Rattle.at_model.specs.Classes.{Classes, AreSound}
+use Rattle.at_model.specs.Enduring.{AreTokens}
 use Rattle.at_model.specs.Trees.{Tree, conforms}
 use Rattle.at_tree.specs.TreeView.{tree_view}
 use Rattle.at_store.specs.Shown.{contents, path}
@@ -15,12 +16,15 @@ returns-clause-first g c =
     ∙ ap (λ (l : List Mark). held (tree_view c.args.tree) 0 (marks_view (path c.in_ok-store.store) l)) c.new-2.ensures
 
 pub returns-clause-sound : goal.returns-clause-sound
-returns-clause-sound g c empty = record {
-  idle = c.in_ok-store.ensures.idle;
-  sound = subst (λ (x : Classes). AreSound x) c.classes-2.ensures c.len-classes.ensures.sound;
-  conforming = subst (λ (t : Tree). conforms c.args.rules.classes t 0 ≡ true) (sym c.in_ok-store.ensures.loaded) (subst (λ (x : Classes). conforms x (tree_view c.args.tree) 0 ≡ true) c.classes.ensures c.in_ok-store.ensures.fits);
-  marked = subst (AreThere (path c.in_ok-store.store)) (sym c.new-2.ensures) tt;
-  right = right_of_nothing c.args.rules c.in_ok-store.store _ (λ i. ap (λ k. g.K.Keeper.contents k i) c.new.ensures.keeper ∙ empty i);
+returns-clause-sound g c formed tokens empty = record {
+  held = record {
+    idle = c.in_ok-store.ensures.idle;
+    sound = subst (λ (x : Classes). AreSound x) c.classes-2.ensures c.len-classes.ensures.sound;
+    conforming = subst (λ (t : Tree). conforms c.args.rules.classes t 0 ≡ true) (sym c.in_ok-store.ensures.loaded) (subst (λ (x : Classes). conforms x (tree_view c.args.tree) 0 ≡ true) c.classes.ensures c.in_ok-store.ensures.fits);
+    marked = subst (AreThere (path c.in_ok-store.store)) (sym c.new-2.ensures) tt;
+    right = right_of_nothing c.args.rules c.in_ok-store.store _ (λ i. ap (λ k. g.K.Keeper.contents k i) c.new.ensures.keeper ∙ empty i);
+  };
+  typed = record { formed = formed; tokens = subst AreTokens (sym c.in_ok-store.ensures.loaded) tokens };
 }
 
 pub returns-clause-spare : goal.returns-clause-spare

@@ -6,7 +6,7 @@ use Rattle.at_jrag.specs.View.{expr_view, fold_view, word_view, operator_view}
 use Rattle.at_kinds.specs.Judging.{Scope, Listed, Is, and_then, judged, judged_all, judged_list, list_or, this_node, folded, within}
 use Rattle.at_kinds.specs.Typed.{Judges, typed_view, list_view, bound_view, scope_view}
 use Rattle.at_kinds.proofs.Parts.{node_bound, behind, behind_none, all_more, all_fault, all_there, fault_of, made_of, fault_in, made_in}
-use Rattle.at_kinds.proofs.Seen.{moved, moved_list, no_call, seen_name, seen_call, seen_call_of, seen_paren, seen_negate, seen_not, seen_cast, seen_instance, seen_binary, seen_choose, seen_fold}
+use Rattle.at_kinds.proofs.Seen.{moved, moved_list, no_call, seen_number, seen_truth, seen_null, seen_this, seen_name, seen_call, seen_call_of, seen_paren, seen_negate, seen_not, seen_cast, seen_instance, seen_binary, seen_choose, seen_fold}
 use Rattle.at_kinds.proofs.typing.Scope.+typed.Goals as goal
 
 pub typed_all-loop-expr-init : goal.typed_all-loop-expr-init
@@ -45,6 +45,18 @@ fold-returns t c =
     λ l is. made_in list_view typed_view (λ (l : Listed). and_then (folded c.args.at (fold_view c.args.form) l) (judged (within (scope_view c.args.self.now) (word_view c.args.name.now).text l.class) (expr_view c.args.body.now))) l c.args.list c.in_ok-list.list c.folded.result c.in_ok-list.was is
     (made_of typed_view typed_view (folded c.args.at (fold_view c.args.form) (list_view c.in_ok-list.list)) (judged (within (scope_view c.args.self.now) (word_view c.args.name.now).text c.in_ok-list.list.class) (expr_view c.args.body.now)) c.in_ok-body.body c.folded.result (ap (λ (s : Scope). judged s (expr_view c.args.body.now)) (sym (ap (λ ns. record (scope_view c.args.self.now) { names = ns }) (ap (map bound_view) c.as_slice.ensures.value ∙ c.in_ok-names.ensures ∙ ap (λ (text : List ℕ). node_bound text c.in_ok-list.list.class ∷ map bound_view c.args.self.now.names.now) c.as_str.ensures.value))) ∙ c.in_ok-body.ensures) c.folded.ensures)
 
+pub typed-returns-in-Number : goal.typed-returns-in-Number
+typed-returns-in-Number t c = moved (scope_view c.args.self.now) (expr_view c.args.expr.now) (written.Number c.args.expr.now.at c.in-Number.value) c.number.result (seen_number c.args.expr.now c.in-Number.value c.in-Number.is) c.number.ensures
+
+pub typed-returns-in-Truth : goal.typed-returns-in-Truth
+typed-returns-in-Truth t c = moved (scope_view c.args.self.now) (expr_view c.args.expr.now) (written.Truth c.args.expr.now.at c.in-Truth.value) c.of_kind.result (seen_truth c.args.expr.now c.in-Truth.value c.in-Truth.is) c.of_kind.ensures
+
+pub typed-returns-in-Null : goal.typed-returns-in-Null
+typed-returns-in-Null t c = moved (scope_view c.args.self.now) (expr_view c.args.expr.now) (written.Null c.args.expr.now.at) c.of_kind-in-Null.result (seen_null c.args.expr.now c.in-Null.is) c.of_kind-in-Null.ensures
+
+pub typed-returns-in-This : goal.typed-returns-in-This
+typed-returns-in-This t c = moved (scope_view c.args.self.now) (expr_view c.args.expr.now) (written.This c.args.expr.now.at) c.this.result (seen_this c.args.expr.now c.in-This.is) c.this.ensures
+
 pub typed-returns-in-Name : goal.typed-returns-in-Name
 typed-returns-in-Name t c =
     moved (scope_view c.args.self.now) (expr_view c.args.expr.now) (written.Name c.args.expr.now.at c.as_str-in-Name.result.now) c.named.result
@@ -55,7 +67,7 @@ pub typed-returns-in-Call : goal.typed-returns-in-Call
 typed-returns-in-Call t c =
     moved (scope_view c.args.self.now) (expr_view c.args.expr.now) (written.Call c.args.expr.now.at c.as_str-in-Call.result.now (to_exprs (map expr_view c.deref.result.now))) c.call.result
     (seen_call c.args.expr.now c.in-Call.name c.in-Call.arguments c.as_str-in-Call.result.now c.deref.result.now c.in-Call.is c.as_str-in-Call.ensures.value c.deref.ensures.value)
-    (c.call.ensures (Is (this_node (scope_view c.args.self.now) c.args.expr.now.at)) (judged_all (scope_view c.args.self.now) (to_exprs (map expr_view c.deref.result.now))) (ap Is (sym c.this-in-Call.ensures)) c.typed_all.ensures)
+    (c.call.ensures (Is (this_node (scope_view c.args.self.now) c.args.expr.now.at)) (judged_all (scope_view c.args.self.now) (to_exprs (map expr_view c.deref.result.now))) c.this-receiver.ensures c.typed_all.ensures)
 
 pub typed-returns-in-CallOf : goal.typed-returns-in-CallOf
 typed-returns-in-CallOf t c =
@@ -115,7 +127,7 @@ pub list-returns-in-Call : goal.list-returns-in-Call
 list-returns-in-Call t c =
     moved_list (scope_view c.args.self.now) c.args.fold (expr_view c.args.list.now) (written.Call c.args.list.now.at c.as_str.result.now (to_exprs (map expr_view c.deref.result.now))) c.list_call.result
     (seen_call c.args.list.now c.in-Call.name c.in-Call.arguments c.as_str.result.now c.deref.result.now c.in-Call.is c.as_str.ensures.value c.deref.ensures.value)
-    (c.list_call.ensures (Is (this_node (scope_view c.args.self.now) c.args.list.now.at)) (judged_all (scope_view c.args.self.now) (to_exprs (map expr_view c.deref.result.now))) (ap Is (sym c.this.ensures)) c.typed_all-arguments.ensures)
+    (c.list_call.ensures (Is (this_node (scope_view c.args.self.now) c.args.list.now.at)) (judged_all (scope_view c.args.self.now) (to_exprs (map expr_view c.deref.result.now))) c.this-receiver.ensures c.typed_all-arguments.ensures)
 
 pub list-returns-in-CallOf : goal.list-returns-in-CallOf
 list-returns-in-CallOf t c =

@@ -1,10 +1,10 @@
-use Rattle.std.proofs.Common.{◌≡◌, ap, ap₂, sym, ◌∙◌, map, option_map}
+use Rattle.std.proofs.Common.{◌≡◌, ap, ap₂, sym, ◌∙◌, subst, map, option_map}
 use Rattle.at_model.specs.Bodies.{Call}
 use Rattle.at_rules.specs.Bodies.{body_view, bodies_view}
 use Rattle.at_rules.specs.declared.body.Body as body
 use Rattle.at_kinds.specs.Judging.{of_kind, fitted}
 use Rattle.at_kinds.specs.Signatures.{declared_view}
-use Rattle.at_kinds.specs.Typed.{typed_view}
+use Rattle.at_kinds.specs.Typed.{Judges, typed_view}
 use Rattle.at_kinds.proofs.Parts.{demanded_there}
 use Rattle.at_kinds.proofs.Seen.{call_seen}
 use Rattle.at_kinds.proofs.typing.Scope.demanded.Goals as goal
@@ -14,6 +14,8 @@ returns c =
     let classes = c.args.self.now.classes.now in
     let ks = map typed_view c.args.arguments.items in
     let d = declared_view c.in-Some.signature.now in
-    let same : body_view (body.Call c.in_ok-node.node c.args.attribute c.in_ok-arguments.arguments) ≡ Call (body_view c.args.node) c.args.attribute (bodies_view c.in_ok-arguments.arguments.items) = call_seen c.in_ok-node.node c.args.attribute c.in_ok-arguments.arguments ∙ ap (λ b. Call (body_view b) c.args.attribute (bodies_view c.in_ok-arguments.arguments.items)) c.in_ok-node.ensures.ok in
-    demanded_there classes c.args.at c.args.attribute _ d (body_view c.args.node) ks (bodies_view c.in_ok-arguments.arguments.items) (sym c.get.ensures ∙ ap (option_map (λ s. declared_view s.now)) c.in-Some.is) (ap (fitted classes c.args.at ks) (sym c.deref.ensures.value) ∙ c.in_ok-arguments.ensures)
-    ∙ ap₂ (λ k b. of_kind c.args.at k b) (sym c.written.ensures) (sym same)
+    let same : body_view (body.Call c.args.node c.args.attribute c.in_ok-arguments.arguments) ≡ Call (body_view c.args.node.value) c.args.attribute (bodies_view c.in_ok-arguments.arguments.items) = call_seen c.args.node c.args.attribute c.in_ok-arguments.arguments in
+    subst (λ j. Judges typed_view j c.of_kind.result)
+    (sym (demanded_there classes c.args.at c.args.attribute _ d (body_view c.args.node.value) ks (bodies_view c.in_ok-arguments.arguments.items) (sym c.get.ensures ∙ ap (option_map (λ s. declared_view s.now)) c.in-Some.is) (ap (fitted classes c.args.at ks) (sym c.deref.ensures.value) ∙ c.in_ok-arguments.ensures)
+    ∙ ap₂ (λ k b. of_kind c.args.at k b) (sym c.written-kind.ensures) (sym same)))
+    c.of_kind.ensures

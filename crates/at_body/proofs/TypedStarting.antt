@@ -1,0 +1,190 @@
+-- The equation that an instance has is of the kind of its attribute, at the place where it stands.
+use Rattle.std.proofs.Common.{◌≡◌, ℕ, suc, Bool, true, false, cond, ◌&&◌, ◌||◌, nat_eq, List, [], ◌∷◌, map, Option, Some, None, refl, sym, ap, ◌∙◌, subst, arith}
+use Rattle.std.specs.Prelude.{IsSome, IfSome, find}
+use Rattle.std.specs.Option.{option_or}
+use Rattle.std.specs.List.{slice_get, AllByRecursion, list_any}
+use Rattle.std.specs.Str.{bytes_eq}
+use Rattle.std.proofs.lemmas.Bool.Decides.{nat_tests}
+use Rattle.at_model.specs.Classes.{chain, is_sub}
+use Rattle.at_model.specs.Run.{Contents, Is, Up}
+use Rattle.at_model.specs.Bodies.{Expr}
+use Rattle.at_model.specs.Rules.{Rules, Attribute, OwnEquation, InheritedEquation, first_answer, own_in, own_equation, part_eq, inherited_in, inherited_equation, attribute_name, is_inherited}
+use Rattle.at_model.specs.Kinds.{HasKind, AreTyped, IsOwnTyped, IsInheritedTyped, is_for_list}
+use Rattle.at_model.specs.TypedRuns.{ClassAt, AreArguments}
+use Rattle.at_model.specs.Instances.{AnyText}
+use Rattle.at_model.proofs.Nodes.{both_of}
+use Rattle.at_model.proofs.Options.{mapped}
+use Rattle.at_model.proofs.Everywhere.{all_more}
+use Rattle.at_rules.specs.Bodies.{body_view}
+use Rattle.at_rules.specs.declared.body.Body.{Body}
+use Rattle.at_body.specs.declared.trial.Trial.{Trial}
+use Rattle.at_body.specs.Values.{value_view}
+use Rattle.at_body.specs.Typed.{PlaceKinds, AreBound, Stands, Enters}
+use Rattle.at_body.specs.Typed as typed
+use Rattle.at_body.specs.TypedStart.{AtParent, Begins, HasEquation, OrElse}
+
+by_test : {A : Type 0} (P : A → Type 0) (p : A → Bool) (y x : A) (o : Option A) → P y → (o ≡ Some x → P x × (p x ≡ true)) → (b : Bool) → p y ≡ b → cond b (Some y) o ≡ Some x → P x × (p x ≡ true)
+by_test P p y x o h rest true is f = let g : y ≡ x = cc in (subst P g h, subst (λ z. p z ≡ true) g is)
+by_test P p y x o h rest false is f = rest f
+
+-- the first that is found stands in the list and passes
+found_in : {A : Type 0} (P : A → Type 0) (p : A → Bool) (xs : List A) (x : A) → AllByRecursion P xs → find p xs ≡ Some x → P x × (p x ≡ true)
+found_in P p [] x h e = absurd (cc)
+found_in P p (y ∷ xs) x (h, hs) e = by_test P p y x (find p xs) h (found_in P p xs x hs) (p y) refl e
+
+either_of : {A : Type 0} (Q : A → Type 0) (o p : Option A) (a : A) → (o ≡ Some a → Q a) → (p ≡ Some a → Q a) → option_or o p ≡ Some a → Q a
+either_of Q None p a f g e = g e
+either_of Q (Some b) p a f g e = f e
+
+-- the first answer is that of an element
+answered : {A B : Type 0} (P : A → Type 0) (f : A → Option B) (xs : List A) (b : B) → AllByRecursion P xs → first_answer f xs ≡ Some b → (a : A) × P a × (f a ≡ Some b)
+answered P f [] b h e = absurd (cc)
+answered {A} P f (x ∷ xs) b (h, hs) e = either_of (λ z. (a : A) × P a × (f a ≡ Some z)) (f x) (first_answer f xs) b (λ g. (x, h, g)) (answered P f xs b hs) e
+
+same_nat : (n : ℕ) → nat_eq n n ≡ true
+same_nat n = grind (arith, nat_tests)
+
+nat_same : (m n : ℕ) → nat_eq m n ≡ true → m ≡ n
+nat_same m n e = grind (arith, nat_tests)
+
+or_left : (a b : Bool) → a ≡ true → (a || b) ≡ true
+or_left a b e = rw e refl
+
+or_right : (a b : Bool) → b ≡ true → (a || b) ≡ true
+or_right true b e = refl
+or_right false b e = e
+
+-- each is among them
+each_among : (xs : List ℕ) → AllByRecursion (λ n. list_any (nat_eq n) xs ≡ true) xs
+each_among [] = tt
+each_among (x ∷ xs) = (or_left (nat_eq x x) _ (same_nat x), all_more (λ n. list_any (nat_eq n) xs ≡ true) (λ n. list_any (nat_eq n) (x ∷ xs) ≡ true) xs (λ n h. or_right (nat_eq n x) _ h) (each_among xs))
+
+one_declaration : (d e : Attribute) (o : Option Attribute) → o ≡ Some d → o ≡ Some e → d ≡ e
+one_declaration d e o f g = let h : Some d ≡ Some e = sym f ∙ g in cc
+
+module _ (rules : Rules) (are : AreTyped rules) where
+  -- the own equation of a class has the kind of its attribute, in the class where it stands
+  pub record IsOwn (c : ℕ) (d : Attribute) (body : Expr) : Type 0 where
+    pub class : ℕ
+    pub above : is_sub rules.classes c class ≡ true
+    pub is : HasKind rules (record { this = class; names = d.parameters; has_index = false }) body d.result
+
+  pub own_is : (c attribute : ℕ) (d : Attribute) (body : Expr) → slice_get rules.attributes attribute ≡ Some d → own_equation rules c attribute ≡ Some body → IsOwn c d body
+  own_is c attribute d body at h =
+      let (b, sub, g) = answered (λ b. is_sub rules.classes c b ≡ true) (own_in rules attribute) (chain rules.classes c) body (each_among (chain rules.classes c)) h in
+      let (e, f, k) = mapped (λ (e : OwnEquation). e.body) (find (λ (e : OwnEquation). nat_eq e.class b && nat_eq e.attribute attribute) rules.own) body g in
+      let (p, test) = found_in (IsOwnTyped rules) (λ (e : OwnEquation). nat_eq e.class b && nat_eq e.attribute attribute) rules.own e are.own f in
+      let (x, y) = both_of (nat_eq e.class b) (nat_eq e.attribute attribute) test in
+      let same : e.attribute ≡ attribute = nat_same e.attribute attribute y in
+      let is = one_declaration p.declaration d (slice_get rules.attributes attribute) (ap (slice_get rules.attributes) (sym same) ∙ p.attribute) at in
+      let kind : HasKind rules (record { this = e.class; names = d.parameters; has_index = false }) e.body d.result = subst (λ (z : Attribute). HasKind rules (record { this = e.class; names = z.parameters; has_index = false }) e.body z.result) is p.body in
+      record {
+        class = e.class;
+        above = subst (λ z. is_sub rules.classes c z ≡ true) (sym (nat_same e.class b x)) sub;
+        is = subst (λ (z : Expr). HasKind rules (record { this = e.class; names = d.parameters; has_index = false }) z d.result) k kind;
+      }
+
+  -- and so has an inherited one
+  pub record IsPassed (c : ℕ) (d : Attribute) (body : Expr) : Type 0 where
+    pub class : ℕ
+    pub has_index : Bool
+    pub above : is_sub rules.classes c class ≡ true
+    pub is : HasKind rules (record { this = class; names = d.parameters; has_index = has_index }) body d.result
+
+  passed_in : (c b attribute : ℕ) (part : Option ℕ) (d : Attribute) (body : Expr) → slice_get rules.attributes attribute ≡ Some d → d.is_inherited ≡ true → is_sub rules.classes c b ≡ true → inherited_in rules d.name part b ≡ Some body → IsPassed c d body
+  passed_in c b attribute part d body at inh sub h =
+      let (e, f, k) = mapped (λ (e : InheritedEquation). e.body) (find (λ (e : InheritedEquation). nat_eq e.class b && part_eq e.part part && bytes_eq e.name d.name) rules.inherited) body h in
+      let (p, test) = found_in (IsInheritedTyped rules) (λ (e : InheritedEquation). nat_eq e.class b && part_eq e.part part && bytes_eq e.name d.name) rules.inherited e are.inherited f in
+      let (xy, z) = both_of (nat_eq e.class b && part_eq e.part part) (bytes_eq e.name d.name) test in
+      let (x, y) = both_of (nat_eq e.class b) (part_eq e.part part) xy in
+      record {
+        class = e.class;
+        has_index = is_for_list rules e;
+        above = subst (λ z. is_sub rules.classes c z ≡ true) (sym (nat_same e.class b x)) sub;
+        is = subst (λ (z : Expr). HasKind rules (record { this = e.class; names = d.parameters; has_index = is_for_list rules e }) z d.result) k (p.body attribute d (at, inh, z));
+      }
+
+  pub passed_is : (c part attribute : ℕ) (d : Attribute) (body : Expr) → slice_get rules.attributes attribute ≡ Some d → d.is_inherited ≡ true → inherited_equation rules c part d.name ≡ Some body → IsPassed c d body
+  passed_is c part attribute d body at inh h =
+      let (b, sub, g) = answered (λ b. is_sub rules.classes c b ≡ true) (λ b. option_or (inherited_in rules d.name (Some part) b) (inherited_in rules d.name None b)) (chain rules.classes c) body (each_among (chain rules.classes c)) h in
+      either_of (λ z. IsPassed c d z) (inherited_in rules d.name (Some part) b) (inherited_in rules d.name None b) body (passed_in c b attribute (Some part) d body at inh sub) (passed_in c b attribute None d body at inh sub) g
+
+  declared_inherited : (attribute : ℕ) (d : Attribute) → slice_get rules.attributes attribute ≡ Some d → is_inherited rules attribute ≡ true → d.is_inherited ≡ true
+  declared_inherited attribute d e h = sym (ap (λ o. elim o as (λ _. Bool) [ None ↦ false | Some a ↦ a.is_inherited ]) e) ∙ h
+
+  declared_name : (attribute : ℕ) (d : Attribute) → slice_get rules.attributes attribute ≡ Some d → attribute_name rules attribute ≡ d.name
+  declared_name attribute d e = ap (λ o. elim o as (λ _. List ℕ) [ None ↦ [] | Some a ↦ a.name ]) e
+
+  module _ (at : ClassAt ℕ) (look : Contents ℕ) where
+    -- a trial that begins with the own equation enters it
+    pub own_enters : (t : Trial) (class attribute : ℕ) (b : Body) → Begins rules at look t class attribute → t.child ≡ None → t.bound ≡ [] → t.todo ≡ [] → own_equation rules class attribute ≡ Some (body_view b) → Enters rules at t b
+    own_enters t class attribute b begins top unbound idle has =
+        let own = own_is class attribute begins.declaration (body_view b) begins.attribute_is has in
+        record {
+          kinds = record { this = own.class; bound = []; passed = begins.declaration.parameters; has_index = false };
+          kind = begins.declaration.result;
+          is = own.is;
+          stands = record {
+            place = record {
+              this = (class, begins.node, own.above);
+              bound = subst (λ ns. AreBound rules.classes at ns []) (sym unbound) tt;
+              passed = begins.arguments;
+              child = subst (λ o. IfSome o (λ n. IsSome (at n))) (sym top) tt;
+              index = λ e. absurd (cc);
+            };
+            todo = subst (λ ts. typed.AreTodos rules at (record { this = own.class; bound = []; passed = begins.declaration.parameters; has_index = false }) begins.declaration.result ts) (sym idle) (typed.ended _ _);
+          };
+        }
+
+    -- and so does one that has come up to an inherited equation
+    pub passed_enters : (first t : Trial) (class attribute : ℕ) (b : Body) → Begins rules at look first class attribute → is_inherited rules attribute ≡ true → t.arguments ≡ first.arguments → (part c child : ℕ) → t.child ≡ Some child → at t.this ≡ Some c → IsSome (at child) →
+        t.bound ≡ [] → t.todo ≡ [] → inherited_equation rules c part (attribute_name rules attribute) ≡ Some (body_view b) → Enters rules at t b
+    passed_enters first t class attribute b begins inh same part c child below there child_there unbound idle has =
+        let d = begins.declaration in
+        let passed = passed_is c part attribute d (body_view b) begins.attribute_is (declared_inherited attribute d begins.attribute_is inh) (subst (λ name. inherited_equation rules c part name ≡ Some (body_view b)) (declared_name attribute d begins.attribute_is) has) in
+        record {
+          kinds = record { this = passed.class; bound = []; passed = d.parameters; has_index = passed.has_index };
+          kind = d.result;
+          is = passed.is;
+          stands = record {
+            place = record {
+              this = (c, there, passed.above);
+              bound = subst (λ ns. AreBound rules.classes at ns []) (sym unbound) tt;
+              passed = subst (λ vs. AreArguments rules.classes at AnyText (map value_view vs.items) d.parameters) (sym same) begins.arguments;
+              child = subst (λ o. IfSome o (λ n. IsSome (at n))) (sym below) child_there;
+              index = λ e. subst (λ o. IsSome o) (sym below) refl;
+            };
+            todo = subst (λ ts. typed.AreTodos rules at (record { this = passed.class; bound = []; passed = d.parameters; has_index = passed.has_index }) d.result ts) (sym idle) (typed.ended _ _);
+          };
+        }
+
+-- an equation stands at the parent, or above it
+pub record Above (rules : Rules) (at : ClassAt ℕ) (look : Contents ℕ) (name : List ℕ) (h m part : ℕ) : Type 0 where
+  pub there : at m ≡ Some (look (Is m))
+  pub further : OrElse (inherited_equation rules (look (Is m)) part name) (HasEquation rules at look name h m)
+
+module _ (rules : Rules) (at : ClassAt ℕ) (look : Contents ℕ) (name : List ℕ) where
+  abbrev Stood : ℕ → ℕ → ℕ → Type 0
+  Stood h m part = (at m ≡ Some (look (Is m))) × OrElse (inherited_equation rules (look (Is m)) part name) (HasEquation rules at look name h m)
+
+  pub at_parent : (height h n m part : ℕ) → height ≡ suc h → Some (m, part) ≡ look (Up n) → HasEquation rules at look name height n → Above rules at look name h m part
+  at_parent height h n m part high up x =
+      let y : AtParent (look (Up n)) (Stood h) = subst (λ k. HasEquation rules at look name k n) high x in
+      let z : Stood h m part = subst (λ o. AtParent o (Stood h)) (sym up) y in
+      record { there = z.0; further = z.1 }
+
+  pub has_parent : (height h n : ℕ) → height ≡ suc h → None ≡ look (Up n) → HasEquation rules at look name height n → ⊥
+  has_parent height h n high up x =
+      let y : AtParent (look (Up n)) (Stood h) = subst (λ k. HasEquation rules at look name k n) high x in
+      let z : AtParent {N = ℕ} None (Stood h) = subst (λ o. AtParent o (Stood h)) (sym up) y in z
+
+  pub goes_on_above : (h m part c : ℕ) → c ≡ look (Is m) → None ≡ inherited_equation rules c part name → Above rules at look name h m part → HasEquation rules at look name h m
+  goes_on_above h m part c is none x =
+      let e : None ≡ inherited_equation rules (look (Is m)) part name = none ∙ ap (λ d. inherited_equation rules d part name) is in
+      subst (λ o. OrElse o (HasEquation rules at look name h m)) (sym e) x.further
+
+  pub parent_class : (h m part c : ℕ) → c ≡ look (Is m) → Above rules at look name h m part → at m ≡ Some c
+  parent_class h m part c is x = x.there ∙ ap Some (sym is)
+
+  pub some_class : (m c : ℕ) → at m ≡ Some c → IsSome (at m)
+  some_class m c e = subst (λ o. IsSome o) (sym e) refl

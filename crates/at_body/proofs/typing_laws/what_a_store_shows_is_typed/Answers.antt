@@ -1,0 +1,5 @@
+use Rattle.at_body.proofs.TypedShown.{shown_typed}
+use Rattle.at_body.proofs.typing_laws.what_a_store_shows_is_typed.Goals as goal
+
+pub returns : goal.returns
+returns c = shown_typed

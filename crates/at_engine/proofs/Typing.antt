@@ -1,0 +1,80 @@
+-- What is asked is well typed, and what holds of the rules and of the tokens holds after each line.
+use Rattle.std.proofs.Common.{◌≡◌, ℕ, zero, suc, ◌<◌, Bool, true, ◌&&◌, List, [], ◌∷◌, length, get_or, Option, Some, None, refl, sym, ap, subst, arith}
+use Rattle.std.specs.Prelude.{position}
+use Rattle.std.specs.List.{slice_get}
+use Rattle.std.specs.Str.{bytes_eq}
+use Rattle.std.proofs.lemmas.List.Quantifiers.{position-Some}
+use Rattle.at_model.specs.Classes.{Classes, is_sub}
+use Rattle.at_model.specs.Trees.{Tree, class_of}
+use Rattle.at_model.specs.Paths.{Node, tree_at}
+use Rattle.at_model.specs.Run.{Value, Int, Truth, Text, Ref, Instance}
+use Rattle.at_model.specs.Rules.{Rules, Attribute, Kind, attribute_named}
+use Rattle.at_model.specs.Alike.{InstanceLike, Names}
+use Rattle.at_model.specs.Replies.{Reply}
+use Rattle.at_model.specs.Machine.{State, Serves, fit_parameters, parameters_of}
+use Rattle.at_model.specs.Asking.{IsWellFormed}
+use Rattle.at_model.specs.Instances.{AnyText, IsGiven}
+use Rattle.at_model.specs.TypedRuns.{ClassAt, Texts, class_at, IsAllowed, AreArguments, IsWellTyped}
+use Rattle.at_model.proofs.Options.{both}
+use Rattle.at_model.proofs.TokensKept.{tokens_served}
+use Rattle.at_model.proofs.TypedNumbers.{instance_back}
+use Rattle.at_model.proofs.TypedQuestions.{typed_of_formed}
+use Rattle.at_store.specs.Shown.{Shown, path, tree}
+use Rattle.at_body.specs.Typed.{class_shown}
+use Rattle.at_engine.specs.Engines.{IsTyped}
+
+inside : {A : Type 0} (xs : List A) (i : ℕ) (d : A) → i < length xs → slice_get xs i ≡ Some (get_or xs i d)
+inside [] i d h = let none : ⊥ = omega (arith, h) in absurd none
+inside (x ∷ xs) zero d h = refl
+inside (x ∷ xs) (suc i) d h = inside xs i d (omega (arith, h))
+
+-- the element at the first position at which a test passes
+element_at : {A : Type 0} (p : A → Bool) (xs : List A) (i : ℕ) → position p xs ≡ Some i → (a : A) × (slice_get xs i ≡ Some a) × (p a ≡ true)
+element_at p [] i e = absurd cc
+element_at p (x ∷ xs) i e =
+    let (small, passes, first) = position-Some p (x ∷ xs) i x e in
+    (get_or (x ∷ xs) i x, inside (x ∷ xs) i x small, passes)
+
+-- the attribute of that name at a node that is there, with values that fit
+pub formed : (rules : Rules) (t : Tree) (n : Node) (u : Tree) (name : List ℕ) (ws : List (Value Node)) (attribute : ℕ) → tree_at t n ≡ Some u → attribute_named rules (class_of u) name ≡ Some attribute →
+    fit_parameters rules.classes t (parameters_of rules attribute) ws ≡ true → IsWellFormed rules t (record { node = n; attribute = attribute; arguments = ws })
+formed rules t n u name ws attribute there named fit =
+    let (a, at, passes) = element_at (λ a. bytes_eq a.name name && is_sub rules.classes (class_of u) a.class) rules.attributes attribute named in
+    let (same, below) = both (bytes_eq a.name name) (is_sub rules.classes (class_of u) a.class) passes in
+    let parameters : parameters_of rules attribute ≡ a.parameters = ap (λ (o : Option Attribute). elim o as (λ _. List Kind) [ None ↦ [] | Some b ↦ b.parameters ]) at in
+    record { node = u; there = there; declared = a; attribute = at; has = below; fit = subst (λ ks. fit_parameters rules.classes t ks ws ≡ true) parameters fit }
+
+-- whichever texts the arguments may be, any may
+any_text : (v : Value ℕ) → IsAllowed AnyText v
+any_text (Int n) = tt
+any_text (Truth b) = tt
+any_text (Text bytes) = tt
+any_text (Ref n) = tt
+
+any_texts : (classes : Classes) (at : ClassAt ℕ) (Allowed : Texts) (vs : List (Value ℕ)) (ks : List Kind) → AreArguments classes at Allowed vs ks → AreArguments classes at AnyText vs ks
+any_texts classes at Allowed [] [] h = tt
+any_texts classes at Allowed [] (k ∷ ks) h = absurd h
+any_texts classes at Allowed (v ∷ vs) [] h = absurd h
+any_texts classes at Allowed (v ∷ vs) (k ∷ ks) (is, allowed, are) = (is, any_text v, any_texts classes at Allowed vs ks are)
+
+-- what stands for a well-formed instance is well typed
+pub numbered_typed : (rules : Rules) (s : Shown) (i : Instance ℕ) (j : Instance Node) → InstanceLike (Names (path s)) i j → IsWellFormed rules (tree s) j → IsWellTyped rules (class_shown s) AnyText i
+numbered_typed rules s i j like well =
+    let w = instance_back rules (path s) (class_at (tree s)) (IsGiven rules (tree s) j.arguments) i j like (typed_of_formed rules (tree s) j well) in
+    record {
+      class = w.class;
+      declaration = w.declaration;
+      node = w.node;
+      attribute = w.attribute;
+      declared = w.declared;
+      arguments = any_texts rules.classes (class_shown s) (IsGiven rules (tree s) j.arguments) i.arguments w.declaration.parameters w.arguments;
+    }
+
+-- after a line that was served, and where the state is as it was
+pub typed_served : (rules later : Rules) (wants : Bool) (old new : State) (line : List ℕ) (reply : Reply) → IsTyped rules old → later ≡ rules → Serves rules wants old line new reply → IsTyped later new
+typed_served rules later wants old new line reply typed same serves =
+    subst (λ r. IsTyped r new) (sym same) (record { formed = typed.formed; tokens = tokens_served rules wants old line new reply typed.tokens serves })
+
+pub typed_still : (rules later : Rules) (old new : State) → IsTyped rules old → later ≡ rules → new ≡ old → IsTyped later new
+typed_still rules later old new typed same state =
+    subst (λ r. IsTyped r new) (sym same) (subst (λ s. IsTyped rules s) (sym state) typed)

@@ -1,0 +1,4 @@
+pub mod Placed
+pub mod Worlds
+pub mod Fitted
+pub mod Noted
