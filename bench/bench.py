@@ -13,18 +13,24 @@ TRIES = PROGRAM.parent / "crates" / "tries" / "out" / "tries"
 RUNS = 5
 
 
+def best_of_turns(folder, names, inputs, runs, statuses=(0,)):
+    """The least time of so many runs over these files with each of these inputs, in seconds, by turns; the lines come through a pipe."""
+    times = [[] for _ in inputs]
+    texts = [Path(stdin).read_bytes() for stdin in inputs]
+    for _ in range(runs):
+        for lines, spent in zip(texts, times):
+            with open(os.devnull, "wb") as out:
+                began = time.perf_counter()
+                status = subprocess.run([str(PROGRAM), *names], cwd=folder, input=lines, stdout=out, stderr=out).returncode
+                spent.append(time.perf_counter() - began)
+            if status not in statuses:
+                sys.exit(f"attrd ended with status {status} on {names}")
+    return [min(spent) for spent in times]
+
+
 def best(folder, names, stdin, statuses=(0,)):
-    """The least time of a few runs over these files, in seconds; the lines come through a pipe."""
-    times = []
-    lines = Path(stdin).read_bytes()
-    for _ in range(RUNS):
-        with open(os.devnull, "wb") as out:
-            began = time.perf_counter()
-            status = subprocess.run([str(PROGRAM), *names], cwd=folder, input=lines, stdout=out, stderr=out).returncode
-            times.append(time.perf_counter() - began)
-        if status not in statuses:
-            sys.exit(f"attrd ended with status {status} on {names}")
-    return min(times)
+    """The least time of a few runs over these files, in seconds."""
+    return best_of_turns(folder, names, [stdin], RUNS, statuses)[0]
 
 
 def doubling_grammar(levels):
@@ -207,9 +213,9 @@ def main():
 
         def ratio(files, what, lines, count):
             """What these lines cost, each as a multiple of a `version` line of the same run."""
-            begun = best(folder, files, nothing)
-            versions = best(folder, files, Path(folder) / put("versions", "0 version\n" * count)) - begun
-            spent = best(folder, files, Path(folder) / put("lines", lines)) - begun
+            inputs = [nothing, Path(folder) / put("versions", "0 version\n" * count), Path(folder) / put("lines", lines)]
+            begun, versions, spent = best_of_turns(folder, files, inputs, 3 * RUNS)
+            versions, spent = versions - begun, spent - begun
             print(f"{count:,} lines, {what}: {spent * 1000:.0f} ms, {spent / versions:.1f} times as many `version` lines")
             return spent
 
