@@ -1,4 +1,5 @@
 //! Why there is no class table.
+use at_text::place::Place;
 use std::alloc::{AllocError, AllocFailed};
 
 /// The rules of an abstract grammar that a refusal may name, in the order in which they are looked at.
@@ -24,7 +25,7 @@ pub enum ClassCode {
 #[derive(Clone, Copy, PartialEq, Eq, Debug)]
 pub enum ClassFault {
     /// The grammar breaks a rule, at a line and a column.
-    Refused { code: ClassCode, at: (u32, u32) },
+    Refused { code: ClassCode, at: Place },
     /// Memory was wanting.
     Memory,
 }
@@ -51,13 +52,14 @@ impl<T: Drop> From<AllocFailed<T>> for ClassFault {
     }
 }
 
-ghost use Rattle.std.specs.Prelude.{◌≡◌, IfErr, None, OnOk};
+ghost use Rattle.std.specs.Prelude.{◌≡◌, IfErr, None, OnOk, option_map};
+ghost use Rattle.at_class.specs.Grammar.{place_view};
 ghost use Rattle.at_class.specs.Faults.{IsAt};
 
 /// A refusal with that code, where there is a place for it.
-pub fn refuse(code: ClassCode, place: Option<(u32, u32)>) -> Result<(), ClassFault>
+pub fn refuse(code: ClassCode, place: Option<Place>) -> Result<(), ClassFault>
     ensures ok { OnOk result (place ≡ None) }
-    ensures err { IfErr result (IsAt code place) }
+    ensures err { IfErr result (IsAt code (option_map place_view place)) }
 {
     match place {
         None => Ok(()),

@@ -9,6 +9,7 @@ use crate::found::found_of_all;
 use crate::names::{class_named, class_names};
 use crate::part::{ClassId, Part, position_named};
 use at_grammar::{ClassDecl, Grammar};
+use at_text::place::Place;
 use indexmap::IndexSet;
 use std::alloc::Global;
 use std::marker::Model;
@@ -164,7 +165,7 @@ fn table_of(alloc: Global, declarations: &[ClassDecl]) -> Result<ClassTable, Cla
     if declarations.is_empty() {
         return Err(ClassFault::Refused {
             code: ClassCode::NoClass,
-            at: (1, 1),
+            at: Place::START,
         });
     }
     let names = class_names(alloc, declarations)?;

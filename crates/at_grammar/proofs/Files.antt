@@ -12,6 +12,7 @@ use Rattle.at_text.specs.Pieces.{Piece, Cut, Spelled, spelled_at}
 use Rattle.at_text.specs.Reading.{first, Reason, Refused, LeftOut, IsFirstFault, Stuck, run}
 use Rattle.at_text.specs.Symbols.{HasTokens, next_place, Symbol, PlacedToken, placed, placed_in, symbol, symbols, words_keep}
 use Rattle.at_text.proofs.ReadingLaws.{first_fault}
+use Rattle.at_text.specs.declared.place.Place.{Place}
 use Rattle.at_grammar.specs.Grammar as grammar
 use Rattle.at_grammar.specs.Grammar.{IsFile, Declaration}
 use Rattle.at_grammar.specs.Meaning.{class_means}
@@ -75,7 +76,7 @@ met r ts rest s =
 
 -- ---- the text's tokens
 
-pub stops_at : (text : List ℕ) (r : Reason) (ts rest : List Placed) (at : ℕ × ℕ) → HasTokens text (map placed ts) → (m : Met r ts rest) → at ≡ next_place text (map placed (drop (length ts - length rest) ts)) → StopsAt text (map placed m.front) (map placed m.back) at
+pub stops_at : (text : List ℕ) (r : Reason) (ts rest : List Placed) (at : Place) → HasTokens text (map placed ts) → (m : Met r ts rest) → at ≡ next_place text (map placed (drop (length ts - length rest) ts)) → StopsAt text (map placed m.front) (map placed m.back) at
 stops_at text r ts rest at (ps, cut, e) m p = record {
   tokens = (ps, cut, sym (map-append placed m.front m.back) ∙ ap (map placed) (sym m.whole) ∙ e);
   fault = m.fault;
@@ -115,10 +116,10 @@ has_tokens text ps ss ts cut e f = (ps, cut, f ∙ ap (map (placed_in text)) e)
 
 -- ---- a text that can't be cut into tokens
 
-pub cut_fault : (text : List ℕ) (fault : ScanFault) (offset : ℕ) (at : ℕ × ℕ) → at ≡ place_of text offset → (fault ≡ scan.Bad offset) ⊎ ((fault ≡ scan.OpenText offset) ⊎ (fault ≡ scan.OpenComment offset)) → FaultsAt text fault → IsScanFaultAt text at fault
+pub cut_fault : (text : List ℕ) (fault : ScanFault) (offset : ℕ) (at : Place) → at ≡ place_of text offset → (fault ≡ scan.Bad offset) ⊎ ((fault ≡ scan.OpenText offset) ⊎ (fault ≡ scan.OpenComment offset)) → FaultsAt text fault → IsScanFaultAt text at fault
 cut_fault text fault offset at p (inl e) f = subst (λ (x : ScanFault). FaultsAt text x → IsScanFaultAt text at x) (sym e) (λ g. (g, p)) f
 cut_fault text fault offset at p (inr (inl e)) f = subst (λ (x : ScanFault). FaultsAt text x → IsScanFaultAt text at x) (sym e) (λ g. (g, p)) f
 cut_fault text fault offset at p (inr (inr e)) f = subst (λ (x : ScanFault). FaultsAt text x → IsScanFaultAt text at x) (sym e) (λ g. (g, p)) f
 
-pub place_behind : (text : List ℕ) (ts vs : List Placed) (n m : ℕ) (at : ℕ × ℕ) → vs ≡ ts → n ≡ m → at ≡ next_place text (map placed (drop (length vs - n) vs)) → at ≡ next_place text (map placed (drop (length ts - m) ts))
+pub place_behind : (text : List ℕ) (ts vs : List Placed) (n m : ℕ) (at : Place) → vs ≡ ts → n ≡ m → at ≡ next_place text (map placed (drop (length vs - n) vs)) → at ≡ next_place text (map placed (drop (length ts - m) ts))
 place_behind text ts vs n m at e f p = p ∙ ap (λ l. next_place text (map placed (drop (length l - n) l))) e ∙ ap (λ k. next_place text (map placed (drop (length ts - k) ts))) f

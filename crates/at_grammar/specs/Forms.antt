@@ -5,6 +5,7 @@ use Rattle.at_text.specs.declared.placed.Placed.{Placed}
 use Rattle.at_text.specs.Reading as reading
 use Rattle.at_text.specs.Reading.{Reason, Refused, LeftOut, Form}
 use Rattle.at_text.specs.Symbols.{Symbol, sign, symbol, placed, words_keep}
+use Rattle.at_text.specs.declared.place.Place.{Place}
 use Rattle.at_grammar.specs.declared.reader.ReadError.{ReadError}
 use Rattle.at_grammar.specs.declared.reader.ReadError.TheVariants as errors
 use Rattle.at_grammar.specs.Grammar as grammar
@@ -94,7 +95,7 @@ body = record {
   LeavesAt = λ front s. (more : List Symbol) × (front ≡ sign (codes "::=") ∷ more) × LeftOutOfParts more s;
 }
 
-abbrev pub modifier : Form Symbol Want (Option (ℕ × ℕ))
+abbrev pub modifier : Form Symbol Want (Option Place)
 modifier = record { want = want.Modifier; spell = grammar.modifier; Is = λ _. Unit {0}; LeavesAt = Never }
 
 abbrev pub declaration : Form Symbol Want Declaration

@@ -13,7 +13,7 @@ ghost use Rattle.at_grammar.specs.declared.AstFault.TheVariants.{Memory};
 mod reader;
 mod syntax;
 
-use at_text::place::place;
+use at_text::place::Place;
 use at_text::placed::{place_all, place_left};
 use at_text::scan::{ScanFault, lexemes};
 use reader::{ReadError, Reader};
@@ -25,10 +25,10 @@ pub use syntax::{ClassDecl, Grammar, PartDecl, Shape};
 pub enum AstFault {
     /// The first token that no grammar goes on with, or the end of the text where more was needed;
     /// where the text can't be cut into tokens, the place where that is met.
-    Syntax { at: (u32, u32) },
+    Syntax { at: Place },
     /// A form of JastAdd's grammars begins here that this profile leaves out: a `/` where a
     /// component may begin, or a `.` or `<` behind a token's kind.
-    LeftOut { at: (u32, u32) },
+    LeftOut { at: Place },
     /// Want of memory.
     Memory,
 }
@@ -51,7 +51,7 @@ fn scan_fault(text: &str, fault: ScanFault) -> AstFault
         ScanFault::Memory => AstFault::Memory,
         ScanFault::Bad { at } | ScanFault::OpenText { at } | ScanFault::OpenComment { at } => {
             AstFault::Syntax {
-                at: place(text, at),
+                at: Place::of(text, at),
             }
         }
     }

@@ -14,6 +14,7 @@ ghost use Rattle.at_grammar.specs.declared.reader.ReadError.TheVariants.{Memory}
 
 use crate::syntax::{ClassDecl, PartDecl, Shape};
 use at_text::names::is_name;
+use at_text::place::Place;
 use at_text::placed::Placed;
 use at_text::token::TokenKind;
 use std::alloc::{AllocError, AllocFailed, Global};
@@ -48,7 +49,7 @@ impl<T: Drop> From<AllocFailed<T>> for ReadError {
 #[derive(Debug, Drop)]
 struct Name {
     text: String,
-    at: (u32, u32),
+    at: Place,
 }
 
 /// Whether the word may stand as a token's kind.
@@ -152,7 +153,7 @@ impl<'a> Reader<'a> {
     }
 
     /// Steps over the word, if it is next, and answers its place.
-    fn takes_word(&mut self, text: &str) -> Option<(u32, u32)>
+    fn takes_word(&mut self, text: &str) -> Option<Place>
         ensures { MatchOption result
             ((self.new.rest.now ≡ self.old.rest.now) × (is_word text.now (first (left self.old.rest.now)) ≡ false))
             (λ at. left self.old.rest.now ≡ word text.now at ∷ left self.new.rest.now) }

@@ -8,8 +8,9 @@ use lib.Chars.{codes}
 use Rattle.at_model.specs.Names.{is_name, reserved_words}
 use Rattle.at_text.specs.Reading.{first}
 use Rattle.at_text.specs.Symbols.{PlacedToken}
+use Rattle.at_text.specs.declared.place.Place.{Place}
 use Rattle.at_jrag.specs.Syntax as syntax
-use Rattle.at_jrag.specs.Syntax.{Place, Word, Param, Params, KindWord, Body, Ending, Decl, DeclForm, Aspect, Expr}
+use Rattle.at_jrag.specs.Syntax.{Word, Param, Params, KindWord, Body, Ending, Decl, DeclForm, Aspect, Expr}
 use Rattle.at_jrag.specs.Grammar as grammar
 use Rattle.at_jrag.specs.Grammar.{Row, sign, word, is_sign, is_word, is_name_token, next_is, kind_text, IsKind, Sign, Keyword, Lazy, KindOf, ParamOf, MoreParams, Listed, Opens, Signature, Owner, Index, Getter, Declared, BodyOf, EndingOf, Behind, DeclOf, AspectOf, File, Spells, depth, nesting, ending_depth, max_nesting, NestsWithin, IsWithin}
 use Rattle.at_jrag.specs.Heads.{is_int, is_getter}

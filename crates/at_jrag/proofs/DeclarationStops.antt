@@ -6,7 +6,8 @@ use Rattle.std.specs.Str.{bytes_eq}
 use lib.Chars.{codes}
 use Rattle.at_text.specs.Reading.{first}
 use Rattle.at_text.specs.Symbols.{PlacedToken, is_word_kind}
-use Rattle.at_jrag.specs.Syntax.{Place, Word, Params, KindWord}
+use Rattle.at_text.specs.declared.place.Place.{Place}
+use Rattle.at_jrag.specs.Syntax.{Word, Params, KindWord}
 use Rattle.at_jrag.specs.Grammar as grammar
 use Rattle.at_jrag.specs.Grammar.{Row, sign, word, is_sign, is_word, is_name_token, next_is, Sign, Keyword, Lazy, KindOf, Signature, Owner, Declared, max_nesting}
 use Rattle.at_jrag.specs.Heads.{is_getter}

@@ -4,8 +4,9 @@ use Rattle.std.specs.Prelude.{Result, IfOk}
 use Rattle.std.proofs.lemmas.Result.{IfOk-weaker}
 use lib.Chars.{codes}
 use Rattle.at_text.specs.Symbols.{PlacedToken}
+use Rattle.at_text.specs.declared.place.Place.{Place}
 use Rattle.at_jrag.specs.Syntax as syntax
-use Rattle.at_jrag.specs.Syntax.{Place, Expr, Exprs, to_exprs, place}
+use Rattle.at_jrag.specs.Syntax.{Expr, Exprs, to_exprs, place}
 use Rattle.at_jrag.specs.Syntax.{Word, FoldForm}
 use Rattle.at_jrag.specs.View.{expr_view}
 use Rattle.at_jrag.specs.Read.{Reads, HasArguments, prefix_view, StandsBefore}

@@ -7,6 +7,7 @@ use Rattle.at_jrag.specs.Syntax.{Aspect}
 use Rattle.at_jrag.specs.Grammar.{File, IsWithin}
 use Rattle.at_text.specs.Pieces.{Piece, Cut, Spelled, spelled_at}
 use Rattle.at_text.specs.Symbols.{HasTokens, PlacedToken, placed, placed_in, next_place}
+use Rattle.at_text.specs.declared.place.Place.{Place}
 use Rattle.at_jrag.specs.Machine.{Reason, Stuck, Whole, run}
 use Rattle.at_jrag.specs.Wants as want
 use Rattle.at_jrag.specs.Table.{table}
@@ -88,8 +89,8 @@ file_same text ts us rest read aspects h k found end file = one_file read aspect
 
 -- ---- places
 
-pub place_behind : (text : List ℕ) (ts vs : List Placed) (n m : ℕ) (rest : List PlacedToken) (at : ℕ × ℕ) → vs ≡ ts → n ≡ m → at ≡ next_place text (map placed (drop (length vs - n) vs)) → left (drop (length ts - m) ts) ≡ rest → at ≡ next_place text rest
+pub place_behind : (text : List ℕ) (ts vs : List Placed) (n m : ℕ) (rest : List PlacedToken) (at : Place) → vs ≡ ts → n ≡ m → at ≡ next_place text (map placed (drop (length vs - n) vs)) → left (drop (length ts - m) ts) ≡ rest → at ≡ next_place text rest
 place_behind text ts vs n m rest at e f p r = p ∙ ap (λ l. next_place text (left (drop (length l - n) l))) e ∙ ap (λ k. next_place text (left (drop (length ts - k) ts))) f ∙ ap (next_place text) r
 
-pub declaration_at : (ts vs fs : List Placed) (j k : ℕ) (front : List PlacedToken) (at : ℕ × ℕ) → at ≡ last_declaration (left fs) → fs ≡ take j vs → vs ≡ ts → j ≡ k → left (take k ts) ≡ front → at ≡ last_declaration front
+pub declaration_at : (ts vs fs : List Placed) (j k : ℕ) (front : List PlacedToken) (at : Place) → at ≡ last_declaration (left fs) → fs ≡ take j vs → vs ≡ ts → j ≡ k → left (take k ts) ≡ front → at ≡ last_declaration front
 declaration_at ts vs fs j k front at p e f g r = p ∙ ap (λ l. last_declaration (left l)) (e ∙ ap (take j) f ∙ ap (λ n. take n ts) g) ∙ ap last_declaration r

@@ -7,6 +7,8 @@ use Rattle.at_model.specs.Names.{is_name}
 use Rattle.at_text.specs.Reading.{first}
 use Rattle.at_text.specs.Symbols.{PlacedToken, is_word_kind}
 use Rattle.at_text.specs.declared.token.TokenKind.TheVariants as kind
+use Rattle.at_text.specs.declared.place.Place.{Place}
+use Rattle.at_text.specs.Place.{first_place}
 use Rattle.at_jrag.specs.Grammar.{Row, Name, is_name_token, is_sign, is_number, follows_cast, next_is, sign, word, operator_text, operator_level}
 use Rattle.at_jrag.specs.Syntax as syntax
 use Rattle.at_jrag.specs.Syntax.{Operator}
@@ -46,7 +48,7 @@ at_next test [] e = absurd cc
 at_next test (t ∷ ts) e = record { token = t; behind = ts; row_is = refl; passes = e }
 
 -- the sign is next
-pub at_sign : (text : List ℕ) (row : Row) → next_is (is_sign text) row ≡ true → (at : ℕ × ℕ) × (behind : Row) × (row ≡ sign text at ∷ behind)
+pub at_sign : (text : List ℕ) (row : Row) → next_is (is_sign text) row ≡ true → (at : Place) × (behind : Row) × (row ≡ sign text at ∷ behind)
 at_sign text row e = let n = at_next (is_sign text) row e in (n.token.at, n.behind, n.row_is ∙ ap (λ t. t ∷ n.behind) (sign_is text n.token n.passes))
 
 -- ---- how a stop carries on
@@ -100,7 +102,7 @@ number_opens_by x t k e = ap opens_unary (of_kind t kind.Number k) ∙ ap (λ b.
 pub number_opens : (t : PlacedToken) (o : Option ℤ) (r : Bool) → t.kind ≡ kind.Number → r ≡ is_some o → MatchOption o (Unit {0}) (IsNumber false t.text)
     → IfNone o (is_decimal_within 2147483647 t.text ≡ false) → r ≡ opens_unary t
 number_opens t None r k e some none = e ∙ sym (number_opens_by false t k none)
-number_opens t (Some n) r k e (m, small, is, digits) none = e ∙ sym (number_opens_by true t k (ap (λ d. is_decimal_within 2147483647 d) digits ∙ number_is 2147483647 m (1, 1) (omega arith) small))
+number_opens t (Some n) r k e (m, small, is, digits) none = e ∙ sym (number_opens_by true t k (ap (λ d. is_decimal_within 2147483647 d) digits ∙ number_is 2147483647 m first_place (omega arith) small))
 
 text_opens : (x : Bool) (t : PlacedToken) (old rest : Row) → old ≡ t ∷ rest → t.kind ≡ kind.Text → is_quoted t.text ≡ x → next_is opens_unary old ≡ x
 text_opens x t old rest front k e = ap (next_is opens_unary) front ∙ ap opens_unary (of_kind t kind.Text k) ∙ ap (λ b. (b || false) || false) e ∙ plain_or x
@@ -139,7 +141,7 @@ choice_too_deep b k e old link rest fits c (is, same, question, deep) d =
     ∙ ap (λ (x : Row). Stuck TooDeep x) (sym n.2))
 
 -- behind the `?`
-asked : (b k : ℕ) (at : ℕ × ℕ) (old link chosen : Row) → k < b → Goes (Binary 6) (λ b. []) k old link → link ≡ sign (codes "?") at ∷ chosen
+asked : (b k : ℕ) (at : Place) (old link chosen : Row) → k < b → Goes (Binary 6) (λ b. []) k old link → link ≡ sign (codes "?") at ∷ chosen
     → (ws : List Want) (d : ℕ) → run true table (Expression b ∷ ws) d old ≡ run true table (Expression (b - 1) ∷ Otherwise b k ∷ ws) 0 chosen
 unfolding table
 asked b k at old link chosen within c q ws d =
@@ -147,24 +149,24 @@ asked b k at old link chosen within c q ws d =
     ∙ ap (run true table (Choice b ∷ ws) k) q
     ∙ run-takes true table (Choice b) (nat_lt k b) (Expression (b - 1) ∷ Otherwise b k ∷ []) ws k 0 (sign (codes "?") at) chosen refl (λ h. lt-ltb k b within)
 
-pub chosen_halts : (b k : ℕ) (r : Option Reason) (at : ℕ × ℕ) (old link chosen rest : Row) → k < b → Goes (Binary 6) (λ b. []) k old link → link ≡ sign (codes "?") at ∷ chosen
+pub chosen_halts : (b k : ℕ) (r : Option Reason) (at : Place) (old link chosen rest : Row) → k < b → Goes (Binary 6) (λ b. []) k old link → link ≡ sign (codes "?") at ∷ chosen
     → Halts (Expression (b - 1)) r chosen rest → Halts (Expression b) r old rest
 chosen_halts b k r at old link chosen rest within c q s d =
     stays_on (Expression b ∷ []) (Expression (b - 1)) (λ ws. Otherwise b k ∷ ws) d 0 r old chosen rest (λ ws. asked b k at old link chosen within c q ws d) (s 0)
 
 -- up to where a `:` is wanted
-answered : (b k m : ℕ) (at : ℕ × ℕ) (old link chosen colon : Row) → k < b → m ≤ b - 1 → Goes (Binary 6) (λ b. []) k old link → link ≡ sign (codes "?") at ∷ chosen
+answered : (b k m : ℕ) (at : Place) (old link chosen colon : Row) → k < b → m ≤ b - 1 → Goes (Binary 6) (λ b. []) k old link → link ≡ sign (codes "?") at ∷ chosen
     → Goes Expression (λ b. []) m chosen colon → (ws : List Want) (d : ℕ) → run true table (Expression b ∷ ws) d old ≡ run true table (Otherwise b k ∷ ws) m colon
 answered b k m at old link chosen colon within fits c q t ws d = asked b k at old link chosen within c q ws d ∙ t true (b - 1) (λ h. fits) (Otherwise b k ∷ ws) 0
 
-pub colon_halts : (b k m : ℕ) (e : ReadError) (at : ℕ × ℕ) (old link chosen colon rest : Row) → k < b → m ≤ b - 1 → Goes (Binary 6) (λ b. []) k old link → link ≡ sign (codes "?") at ∷ chosen
+pub colon_halts : (b k m : ℕ) (e : ReadError) (at : Place) (old link chosen colon rest : Row) → k < b → m ≤ b - 1 → Goes (Binary 6) (λ b. []) k old link → link ≡ sign (codes "?") at ∷ chosen
     → Goes Expression (λ b. []) m chosen colon → Missing (is_sign (codes ":")) e colon rest → Halts (Expression b) (reason_of e) old rest
 unfolding table
 colon_halts b k m e at old link chosen colon rest within fits c q t s d =
     stays_missing (Expression b ∷ []) (Otherwise b k) (λ ws. ws) d m (is_sign (codes ":")) e old colon rest (λ ws. answered b k m at old link chosen colon within fits c q t ws d)
     (λ none. ap (λ x. cond x (Takes true (Expression (b - 1) ∷ Deepest m ∷ Join k ∷ []) 0) Refuses) (sym (next_first (is_sign (codes ":")) colon) ∙ none)) s
 
-pub other_halts : (b k m : ℕ) (r : Option Reason) (at colon_at : ℕ × ℕ) (old link chosen colon other rest : Row) → k < b → m ≤ b - 1 → Goes (Binary 6) (λ b. []) k old link
+pub other_halts : (b k m : ℕ) (r : Option Reason) (at colon_at : Place) (old link chosen colon other rest : Row) → k < b → m ≤ b - 1 → Goes (Binary 6) (λ b. []) k old link
     → link ≡ sign (codes "?") at ∷ chosen
     → Goes Expression (λ b. []) m chosen colon → colon ≡ sign (codes ":") colon_at ∷ other → Halts (Expression (b - 1)) r other rest → Halts (Expression b) r old rest
 unfolding table
@@ -237,7 +239,7 @@ linked_halts level b k r old here rest fits g s d = stays_on (Binary (7 - level)
 
 -- ---- what is linked
 
-pub operator_moves : (o : Operator) (at : ℕ × ℕ) (level m n k : ℕ) (start mid rest : Row) → operator_level o ≡ level → k ≡ 1 + max m n → start ≡ sign (operator_text o) at ∷ mid
+pub operator_moves : (o : Operator) (at : Place) (level m n k : ℕ) (start mid rest : Row) → operator_level o ≡ level → k ≡ 1 + max m n → start ≡ sign (operator_text o) at ∷ mid
     → Goes (Binary (7 - (level + 1))) (λ b. []) n mid rest → Moves (λ b. Links (6 - level) b ∷ []) (λ b. Links (6 - level) b ∷ []) m k start rest
 operator_moves o at level m n k start mid rest is deep e g =
     let f = operator_facts o at in
@@ -248,12 +250,12 @@ operator_moves o at level m n k start mid rest is deep e g =
     subst (λ (j : ℕ). Moves (λ b. Links (6 - level) b ∷ []) (λ b. Links (6 - level) b ∷ []) m j start rest) (sym deep)
     (subst (λ (r : ℕ). Moves (λ b. Links r b ∷ []) (λ b. Links r b ∷ []) m (1 + max m n) start rest) z moves)
 
-right_stays : (o : Operator) (at : ℕ × ℕ) (f : Facts o at) (b m : ℕ) (r : Option Reason) (start mid rest : Row) → m < b → start ≡ sign (operator_text o) at ∷ mid
+right_stays : (o : Operator) (at : Place) (f : Facts o at) (b m : ℕ) (r : Option Reason) (start mid rest : Row) → m < b → start ≡ sign (operator_text o) at ∷ mid
     → Halts (Binary f.rank (b - 1)) r mid rest → Stays (Links f.rank b ∷ []) m r start rest
 right_stays o at f b m r start mid rest within e s = stays_on (Links f.rank b ∷ []) (Binary f.rank (b - 1)) (λ ws. Join m ∷ Links f.rank b ∷ ws) m 0 r start mid rest
     (λ ws. ap (run true table (Links f.rank b ∷ ws) m) e ∙ operator_taken true o at f b ws m mid (λ h. lt-ltb m b within)) (s 0)
 
-pub operator_stays : (o : Operator) (at : ℕ × ℕ) (level b m : ℕ) (r : Option Reason) (start mid rest : Row) → operator_level o ≡ level → m < b → start ≡ sign (operator_text o) at ∷ mid
+pub operator_stays : (o : Operator) (at : Place) (level b m : ℕ) (r : Option Reason) (start mid rest : Row) → operator_level o ≡ level → m < b → start ≡ sign (operator_text o) at ∷ mid
     → Halts (Binary (7 - (level + 1)) (b - 1)) r mid rest → Stays (Links (6 - level) b ∷ []) m r start rest
 operator_stays o at level b m r start mid rest is within e s =
     let f = operator_facts o at in
@@ -262,7 +264,7 @@ operator_stays o at level b m r start mid rest is within e s =
     let z : f.rank ≡ 6 - level = omega (arith, at_level, is) in
     subst (λ (k : ℕ). Stays (Links k b ∷ []) m r start rest) z (right_stays o at f b m r start mid rest within e (subst (λ (k : ℕ). Halts (Binary k (b - 1)) r mid rest) y s))
 
-pub instance_goes : (at : ℕ × ℕ) (class : syntax.Word) (level m k : ℕ) (start mid rest : Row) → level ≡ 4 → k ≡ 1 + m → start ≡ word (codes "instanceof") at ∷ mid → Name class mid rest
+pub instance_goes : (at : Place) (class : syntax.Word) (level m k : ℕ) (start mid rest : Row) → level ≡ 4 → k ≡ 1 + m → start ≡ word (codes "instanceof") at ∷ mid → Name class mid rest
     → Moves (λ b. Links (6 - level) b ∷ []) (λ b. Links (6 - level) b ∷ []) m k start rest
 instance_goes at class level m k start mid rest is deep e n =
     let z : 2 ≡ 6 - level = omega (arith, is) in
@@ -270,7 +272,7 @@ instance_goes at class level m k start mid rest is deep e n =
     subst (λ (j : ℕ). Moves (λ b. Links (6 - level) b ∷ []) (λ b. Links (6 - level) b ∷ []) m j start rest) (sym deep)
     (subst (λ (r : ℕ). Moves (λ b. Links r b ∷ []) (λ b. Links r b ∷ []) m (1 + m) start rest) z moves)
 
-class_stays : (at : ℕ × ℕ) (b m : ℕ) (e : ReadError) (start mid rest : Row) → m < b → start ≡ word (codes "instanceof") at ∷ mid → Missing is_name_token e mid rest
+class_stays : (at : Place) (b m : ℕ) (e : ReadError) (start mid rest : Row) → m < b → start ≡ word (codes "instanceof") at ∷ mid → Missing is_name_token e mid rest
     → Stays (Links 2 b ∷ []) m (reason_of e) start rest
 unfolding table
 class_stays at b m e start mid rest within is s = stays_missing (Links 2 b ∷ []) NameWant (λ ws. Counts (1 + m) ∷ Links 2 b ∷ ws) m 0 is_name_token e start mid rest
@@ -278,7 +280,7 @@ class_stays at b m e start mid rest within is s = stays_missing (Links 2 b ∷ [
     (λ h. lt-ltb m b within))
     (λ none. ap (λ x. cond x (Takes true [] 0) Refuses) (sym (next_first is_name_token mid) ∙ none)) s
 
-pub instance_stays : (at : ℕ × ℕ) (level b m : ℕ) (e : ReadError) (start mid rest : Row) → level ≡ 4 → m < b → start ≡ word (codes "instanceof") at ∷ mid → Missing is_name_token e mid rest
+pub instance_stays : (at : Place) (level b m : ℕ) (e : ReadError) (start mid rest : Row) → level ≡ 4 → m < b → start ≡ word (codes "instanceof") at ∷ mid → Missing is_name_token e mid rest
     → Stays (Links (6 - level) b ∷ []) m (reason_of e) start rest
 instance_stays at level b m e start mid rest is within q s =
     let z : 2 ≡ 6 - level = omega (arith, is) in subst (λ (k : ℕ). Stays (Links k b ∷ []) m (reason_of e) start rest) z (class_stays at b m e start mid rest within q s)
@@ -353,7 +355,7 @@ negative_halts b k r old mid rest some one t s d = stays_on (Unary b ∷ []) (Ca
 
 -- ---- what stands before an operand
 
-pub prefix_goes : (p : Prefix) (at : ℕ × ℕ) (n k : ℕ) (old one rest : Row) → 1 ≤ n → k ≡ 1 + n → StandsBefore p at old one → Goes Unary (λ b. []) n one rest → Goes Unary (λ b. []) k old rest
+pub prefix_goes : (p : Prefix) (at : Place) (n k : ℕ) (old one rest : Row) → 1 ≤ n → k ≡ 1 + n → StandsBefore p at old one → Goes Unary (λ b. []) n one rest → Goes Unary (λ b. []) k old rest
 prefix_goes prefix.Not at n k old one rest some deep s g = subst (λ (j : ℕ). Goes Unary (λ b. []) j old rest) (sym deep) (not_goes at n old one rest some s g)
 prefix_goes prefix.Minus at n k old one rest some deep s g =
     subst (λ (j : ℕ). Goes Unary (λ b. []) j old rest) (sym deep) (minus_goes at n old one rest some s.0 (sym (next_first is_number one) ∙ s.1) g)
@@ -362,14 +364,14 @@ prefix_goes (prefix.Cast class) at n k old one rest some deep (named, close, p, 
     (λ r. sign (codes "(") at ∷ r) (q.1 ∙ ap (λ r. word (word_view class).text (word_view class).at ∷ r) c.1)) q.0 (sym (next_first follows_cast one) ∙ f) g)
 
 -- up to the operand of a `!`, a `-` and a cast
-not_taken : (at : ℕ × ℕ) (b : ℕ) (old one : Row) → 1 < b → old ≡ sign (codes "!") at ∷ one → (ws : List Want) (d : ℕ)
+not_taken : (at : Place) (b : ℕ) (old one : Row) → 1 < b → old ≡ sign (codes "!") at ∷ one → (ws : List Want) (d : ℕ)
     → run true table (Unary b ∷ ws) d old ≡ run true table (Unary (b - 1) ∷ Deeper ∷ ws) 0 one
 unfolding table
 not_taken at b old one some e ws d =
     ap (run true table (Unary b ∷ ws) d) e
     ∙ run-takes true table (Unary b) (nat_lt 1 b) (Unary (b - 1) ∷ Deeper ∷ []) ws d 0 (sign (codes "!") at) one refl (λ h. lt-ltb 1 b some)
 
-minus_taken : (at : ℕ × ℕ) (b : ℕ) (old one : Row) → 1 ≤ b → old ≡ sign (codes "-") at ∷ one → next is_number (first one) ≡ false
+minus_taken : (at : Place) (b : ℕ) (old one : Row) → 1 ≤ b → old ≡ sign (codes "-") at ∷ one → next is_number (first one) ≡ false
     → (ws : List Want) (d : ℕ) → run true table (Unary b ∷ ws) d old ≡ run true table (Unary (b - 1) ∷ Deeper ∷ ws) 0 one
 unfolding table
 minus_taken at b old one some e none ws d =
@@ -379,7 +381,7 @@ minus_taken at b old one some e none ws d =
     (ap (λ x. cond x (cond (next (is_number_within 2147483648) (first one)) (Takes true (Calls b ∷ []) 1) Refuses) (and_then (unary_answer (b - 1) (first one)) (Deeper ∷ []))) none)
     (unary_stays (b - 1) (first one))
 
-cast_taken : (at name_at close_at : ℕ × ℕ) (text : List ℕ) (b : ℕ) (old one : Row) → 1 < b → old ≡ sign (codes "(") at ∷ word text name_at ∷ sign (codes ")") close_at ∷ one → is_name text ≡ true
+cast_taken : (at name_at close_at : Place) (text : List ℕ) (b : ℕ) (old one : Row) → 1 < b → old ≡ sign (codes "(") at ∷ word text name_at ∷ sign (codes ")") close_at ∷ one → is_name text ≡ true
     → next follows_cast (first one) ≡ true
     → (ws : List Want) (d : ℕ) → run true table (Unary b ∷ ws) d old ≡ run true table (Unary (b - 1) ∷ Deeper ∷ ws) 2 one
 unfolding table
@@ -395,7 +397,7 @@ cast_taken at name_at close_at text b old one some e is follows ws d =
     (on (next (is_sign (codes ".")) (first one)) (Takes (nat_lt 2 b) (Called (b - 1) ∷ Join 2 ∷ Calls b ∷ []) 0) (Skips 2))) follows) (unary_stays (b - 1) (first one))
 
 -- the operand stops
-pub inner_halts : (p : Prefix) (at : ℕ × ℕ) (b : ℕ) (r : Option Reason) (old one rest : Row) → 1 ≤ b → NestsWithin p b → StandsBefore p at old one → Halts (Unary (b - 1)) r one rest
+pub inner_halts : (p : Prefix) (at : Place) (b : ℕ) (r : Option Reason) (old one rest : Row) → 1 ≤ b → NestsWithin p b → StandsBefore p at old one → Halts (Unary (b - 1)) r one rest
     → Halts (Unary b) r old rest
 inner_halts prefix.Not at b r old one rest some nests s g d = stays_on (Unary b ∷ []) (Unary (b - 1)) (λ ws. Deeper ∷ ws) d 0 r old one rest (λ ws. not_taken at b old one nests s ws d) (g 0)
 inner_halts prefix.Minus at b r old one rest some nests s g d =

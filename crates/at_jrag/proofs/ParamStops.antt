@@ -7,8 +7,9 @@ use Rattle.at_text.specs.Reading.{first}
 use Rattle.at_text.specs.declared.token.TokenKind.{TokenKind}
 use Rattle.at_text.specs.declared.token.TokenKind.TheVariants as kind
 use Rattle.at_text.specs.Symbols.{PlacedToken, is_word_kind, is_sign_kind}
+use Rattle.at_text.specs.declared.place.Place.{Place}
 use Rattle.at_jrag.specs.Syntax as syntax
-use Rattle.at_jrag.specs.Syntax.{Place, Word, Param, KindWord}
+use Rattle.at_jrag.specs.Syntax.{Word, Param, KindWord}
 use Rattle.at_jrag.specs.Grammar as grammar
 use Rattle.at_jrag.specs.Grammar.{Row, sign, word, is_sign, is_word, is_name_token, next_is, kind_text, Sign, KindOf, ParamOf, Opens}
 use Rattle.at_jrag.specs.Heads.{is_int}

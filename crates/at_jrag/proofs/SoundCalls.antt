@@ -7,8 +7,9 @@ use lib.Chars.{codes}
 use Rattle.at_model.specs.Names.{is_name}
 use Rattle.at_text.specs.Reading.{first}
 use Rattle.at_text.specs.Symbols.{PlacedToken}
+use Rattle.at_text.specs.declared.place.Place.{Place}
 use Rattle.at_jrag.specs.Syntax as syntax
-use Rattle.at_jrag.specs.Syntax.{Place, Word, Expr, Exprs, place}
+use Rattle.at_jrag.specs.Syntax.{Word, Expr, Exprs, place}
 use Rattle.at_jrag.specs.Grammar.{Row, sign, word, is_sign, is_word, is_name_token, follows_cast, next_is, Sign, deepest}
 use Rattle.at_jrag.specs.Machine.{Answer, Takes, Skips, Refuses, LeavesOut, and_then}
 use Rattle.at_jrag.specs.Wants.{Want, Expression, Links, Choice, Enclosed, Parenthesized, Calls, Called, Arguments, FirstArgument, MoreArguments, Deeper, Join, Deepest, Mark}

@@ -6,8 +6,9 @@ use lib.Chars.{codes}
 use Rattle.at_model.specs.Names.{is_name}
 use Rattle.at_text.specs.Reading.{first}
 use Rattle.at_text.specs.Symbols.{PlacedToken, is_word_kind}
+use Rattle.at_text.specs.declared.place.Place.{Place}
 use Rattle.at_jrag.specs.Syntax as syntax
-use Rattle.at_jrag.specs.Syntax.{Place, Word, Expr, Exprs, place}
+use Rattle.at_jrag.specs.Syntax.{Word, Expr, Exprs, place}
 use Rattle.at_jrag.specs.Grammar as grammar
 use Rattle.at_jrag.specs.Grammar.{Row, sign, word, number, is_sign, is_word, is_number, is_name_token, follows_cast, next_is, Sign, Spells, level, depth, deepest, operator_text, operator_level, fold_text, Keyword}
 use Rattle.at_jrag.specs.Machine.{Takes, Skips, Refuses, and_then}

@@ -8,7 +8,8 @@ use Rattle.at_jrag.specs.Forms.{IsFile, IsFileWithin, MeetsLeftOut}
 use Rattle.at_text.specs.declared.scan.ScanFault.{ScanFault}
 use Rattle.at_text.specs.declared.scan.ScanFault.TheVariants as scan
 use Rattle.at_text.specs.Faults.{FaultsAt}
-use Rattle.at_text.specs.Place.{place_of}
+use Rattle.at_text.specs.Place.{first_place, place_of}
+use Rattle.at_text.specs.declared.place.Place.{Place}
 use Rattle.at_jrag.specs.declared.JragFault.{JragFault}
 use Rattle.at_jrag.specs.declared.JragFault.TheVariants.{Memory, Syntax, LeftOut, Nesting}
 
@@ -19,12 +20,12 @@ abbrev pub begins_declaration : PlacedToken → Bool
 begins_declaration t = is_word (codes "syn") t || is_word (codes "inh") t || is_word (codes "eq") t
 
 -- the place of the last of the tokens that begins one; this place, where there is none
-abbrev pub last_from : ℕ × ℕ → List PlacedToken → ℕ × ℕ
+abbrev pub last_from : Place → List PlacedToken → Place
 last_from at [] = at
 last_from at (t ∷ ts) = last_from (cond (begins_declaration t) t.at at) ts
 
-abbrev pub last_declaration : List PlacedToken → ℕ × ℕ
-last_declaration tokens = last_from (1, 1) tokens
+abbrev pub last_declaration : List PlacedToken → Place
+last_declaration tokens = last_from first_place tokens
 
 -- ---- texts that can't be cut into tokens
 
@@ -36,7 +37,7 @@ uncut text (scan.OpenText offset) = Syntax (place_of text offset)
 uncut text (scan.OpenComment offset) = Syntax (place_of text offset)
 
 -- the text is no row of tokens, and this is the place where it can't be cut further
-abbrev pub IsScanFaultAt : List ℕ → ℕ × ℕ → ScanFault → Type 0
+abbrev pub IsScanFaultAt : List ℕ → Place → ScanFault → Type 0
 IsScanFaultAt text at fault = FaultsAt text fault × (uncut text fault ≡ Syntax at)
 
 -- ---- where reading stops

@@ -8,8 +8,9 @@ use Rattle.at_model.specs.Names.{is_name}
 use Rattle.at_model.specs.Texts.{quoted}
 use Rattle.at_text.specs.declared.token.TokenKind.TheVariants as kind
 use Rattle.at_text.specs.Symbols.{PlacedToken, is_word_kind, is_sign_kind}
+use Rattle.at_text.specs.declared.place.Place.{Place}
 use Rattle.at_jrag.specs.Syntax as syntax
-use Rattle.at_jrag.specs.Syntax.{Place, Word, Kind, KindWord, Param, Params, Operator, FoldForm, Expr, Exprs, place, Body, Ending, Decl, DeclForm, Aspect}
+use Rattle.at_jrag.specs.Syntax.{Word, Kind, KindWord, Param, Params, Operator, FoldForm, Expr, Exprs, place, Body, Ending, Decl, DeclForm, Aspect}
 
 -- the tokens that are left
 abbrev pub Row : Type 0

@@ -3,6 +3,7 @@ use Rattle.std.specs.Prelude.{◌≡◌, ℕ, ◌≤◌, List, [], ◌∷◌, �
 use Rattle.std.specs.Str.{bytes_eq}
 use lib.Chars.{codes}
 use Rattle.at_text.specs.Symbols.{PlacedToken}
+use Rattle.at_text.specs.declared.place.Place.{Place}
 use Rattle.at_jrag.specs.Syntax.{KindWord}
 use Rattle.at_jrag.specs.Grammar.{Row, Sign, KindOf, sign, number, is_sign, is_word, is_name_token, is_number, next_is}
 use Rattle.at_jrag.specs.Machine.{Reason, Refused, LeftOut, TooDeep, Stuck, run}
@@ -80,13 +81,13 @@ NoParam e old rest = Missing is_kind e old rest ⊎ ((k : KindWord) × (mid : Ro
 -- a `-` was taken, and the number behind it is none
 abbrev pub NoNegative : ReadError → Row → Row → Type 0
 NoNegative errors.Memory old rest = ⊥
-NoNegative errors.Syntax old rest = (at : ℕ × ℕ) × (old ≡ sign (codes "-") at ∷ rest) × (next_is is_number rest ≡ true) × (next_is (is_number_within 2147483648) rest ≡ false)
+NoNegative errors.Syntax old rest = (at : Place) × (old ≡ sign (codes "-") at ∷ rest) × (next_is is_number rest ≡ true) × (next_is (is_number_within 2147483648) rest ≡ false)
 NoNegative errors.LeftOut old rest = ⊥
 NoNegative errors.Nesting old rest = ⊥
 
 -- a `-` and a number were taken
 abbrev pub TakesNegative : Row → Row → Type 0
-TakesNegative old rest = (at : ℕ × ℕ) × (digits : List ℕ) × (digits_at : ℕ × ℕ) × (old ≡ sign (codes "-") at ∷ number digits digits_at ∷ rest) × (is_decimal_within 2147483648 digits ≡ true)
+TakesNegative old rest = (at : Place) × (digits : List ℕ) × (digits_at : Place) × (old ≡ sign (codes "-") at ∷ number digits digits_at ∷ rest) × (is_decimal_within 2147483648 digits ≡ true)
 
 -- what is next is no literal, no parenthesis and no fold
 abbrev pub IsOther : Row → Type 0

@@ -5,6 +5,7 @@ ghost use Rattle.std.specs.Prelude.{◌≡◌, ◌⊎◌, ℕ, [], List, map, If
 ghost use Rattle.at_text.specs.Symbols.{PlacedToken, HasTokens};
 ghost use Rattle.at_text.specs.Faults as scanning;
 ghost use Rattle.at_text.specs.declared.scan.ScanFault.{ScanFault};
+ghost use Rattle.at_text.specs.declared.place.Place.{Place};
 ghost use Rattle.at_jrag.specs.View.{aspect_view};
 ghost use Rattle.at_jrag.specs.Faults.{uncut, IsScanFaultAt, IsFault};
 ghost use Rattle.at_jrag.specs.Syntax as written;
@@ -15,7 +16,7 @@ mod declared;
 mod reader;
 mod syntax;
 
-use at_text::place::place;
+use at_text::place::Place;
 use at_text::placed::{place_all, place_left};
 use at_text::scan::{ScanFault, lexemes};
 use declared::declaration_place;
@@ -31,11 +32,11 @@ pub use syntax::{
 pub enum JragFault {
     /// The first token that no file goes on with, or the end of the text where more was needed;
     /// where the text can't be cut into tokens, the place where that is met.
-    Syntax { at: (u32, u32) },
+    Syntax { at: Place },
     /// A form of JastAdd's aspects begins at this token that this profile leaves out.
-    LeftOut { at: (u32, u32) },
+    LeftOut { at: Place },
     /// The first token of the declaration in which expressions nest deeper than 64.
-    Nesting { at: (u32, u32) },
+    Nesting { at: Place },
     /// Want of memory.
     Memory,
 }
@@ -57,7 +58,7 @@ fn scan_fault(text: &str, fault: ScanFault) -> JragFault
         ScanFault::Memory => JragFault::Memory,
         ScanFault::Bad { at } | ScanFault::OpenText { at } | ScanFault::OpenComment { at } => {
             JragFault::Syntax {
-                at: place(text, at),
+                at: Place::of(text, at),
             }
         }
     }
@@ -76,7 +77,7 @@ pub fn parse_jrag(alloc: Global, text: &str) -> Result<Vec<Aspect>, JragFault>
     ensures found { IfOk result (λ v. (tokens : List PlacedToken) × HasTokens text.now tokens
         × File (map aspect_view v.items) tokens [] × IsWithin (map aspect_view v.items)) }
     // A text that can't be cut into tokens is refused where that is met, whatever stands before it.
-    ensures uncut { (fault : ScanFault) (at : ℕ × ℕ) → IsScanFaultAt text.now at fault
+    ensures uncut { (fault : ScanFault) (at : Place) → IsScanFaultAt text.now at fault
         → MatchResult result (λ v. ⊥) (λ e. (e ≡ Memory) ⊎ (e ≡ Syntax at)) }
     // Of a text that spells aspects whose expressions nest at most 64 deep, these are what is read, unless memory runs out.
     ensures only { (tokens : List PlacedToken) (aspects : List written.Aspect) → HasTokens text.now tokens → File aspects tokens []

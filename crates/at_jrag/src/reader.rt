@@ -3,6 +3,7 @@
 ghost use Rattle.std.specs.Prelude.{◌≡◌, [], ◌∷◌, List, length, IfOk, IfErr, OnOk, MatchOption, MatchBool, ℕ, true, false};
 ghost use Rattle.at_model.specs.Names.{is_name};
 ghost use Rattle.at_text.specs.Symbols.{PlacedToken, placed};
+ghost use Rattle.at_text.specs.declared.place.Place.{Place};
 ghost use Rattle.at_jrag.specs.View.{word_view};
 ghost use Rattle.at_jrag.specs.Grammar.{Row, sign, word, is_sign, is_word, is_name_token, next_is, Name, Opens};
 ghost use Rattle.at_jrag.specs.Left.{left};
@@ -17,6 +18,7 @@ mod operators;
 
 use crate::syntax::Word;
 use at_text::names::is_name;
+use at_text::place::Place;
 use at_text::placed::Placed;
 use at_text::token::TokenKind;
 use std::alloc::{AllocError, AllocFailed, Global};
@@ -138,7 +140,7 @@ impl<'a> Reader<'a> {
     }
 
     /// Steps over the sign, if it is next, and answers its place.
-    fn takes(&mut self, text: &str) -> Option<(u32, u32)>
+    fn takes(&mut self, text: &str) -> Option<Place>
         ensures { MatchOption result
             ((self.new ≡ self.old) × (next_is (is_sign text.now) (left self.old.rest.now) ≡ false))
             (λ at. left self.old.rest.now ≡ sign text.now at ∷ left self.new.rest.now) }
@@ -155,7 +157,7 @@ impl<'a> Reader<'a> {
     /// Steps over the sign, if it is next.
     fn skips(&mut self, text: &str) -> bool
         ensures { MatchBool result
-            ((at : ℕ × ℕ) × (left self.old.rest.now ≡ sign text.now at ∷ left self.new.rest.now))
+            ((at : Place) × (left self.old.rest.now ≡ sign text.now at ∷ left self.new.rest.now))
             ((self.new ≡ self.old) × (next_is (is_sign text.now) (left self.old.rest.now) ≡ false)) }
     {
         match self.takes(text) {
@@ -165,7 +167,7 @@ impl<'a> Reader<'a> {
     }
 
     /// Steps over the word, if it is next, and answers its place.
-    fn takes_word(&mut self, text: &str) -> Option<(u32, u32)>
+    fn takes_word(&mut self, text: &str) -> Option<Place>
         ensures { MatchOption result
             ((self.new ≡ self.old) × (next_is (is_word text.now) (left self.old.rest.now) ≡ false))
             (λ at. left self.old.rest.now ≡ word text.now at ∷ left self.new.rest.now) }
@@ -196,7 +198,7 @@ impl<'a> Reader<'a> {
     }
 
     /// The sign.
-    fn expects(&mut self, text: &str) -> Result<(u32, u32), ReadError>
+    fn expects(&mut self, text: &str) -> Result<Place, ReadError>
         ensures found { IfOk result (λ at. left self.old.rest.now ≡ sign text.now at ∷ left self.new.rest.now) }
         ensures missing { IfErr result (λ e. Missing (is_sign text.now) e (left self.old.rest.now) (left self.new.rest.now)) }
     {

@@ -10,7 +10,8 @@ use Rattle.std.proofs.lemmas.Option.{none-some, slice_get-map}
 use Rattle.at_class.proofs.Named.{position-map}
 use Rattle.at_model.specs.Classes.{Classes}
 use Rattle.at_model.specs.Bodies.{Expr, Exprs, expr, Call}
-use Rattle.at_jrag.specs.Syntax.{Place, to_exprs}
+use Rattle.at_text.specs.declared.place.Place.{Place}
+use Rattle.at_jrag.specs.Syntax.{to_exprs}
 use Rattle.at_jrag.specs.View.{expr_view}
 use Rattle.at_jrag.specs.declared.syntax.Expr.{Expr as ExprValue}
 use Rattle.at_rules.specs.Bodies.{body_view, bodies_view}

@@ -1,7 +1,7 @@
 -- Expressions as they are seen, by their forms.
 use Rattle.std.proofs.Common.{◌≡◌, ℕ, ℤ, Bool, List, map, refl, ap, sym, subst, ◌∙◌, rules, Vec, Box, String, string_bytes, Result, None}
 use Rattle.std.specs.Global.{Global}
-use Rattle.at_jrag.specs.Syntax.{Place, Expr, to_exprs, place}
+use Rattle.at_jrag.specs.Syntax.{Expr, to_exprs, place}
 use Rattle.at_jrag.specs.Syntax as written
 use Rattle.at_jrag.specs.View.{expr_view, form_view, see_form, see_expr, word_view, operator_view, fold_view}
 use Rattle.at_jrag.specs.declared.syntax.Expr.{Expr as ExprValue, fold_out-Expr}
@@ -13,6 +13,7 @@ use Rattle.at_jrag.specs.declared.syntax.Form.TheVariants as form
 use Rattle.at_jrag.specs.declared.syntax.Form.TheOpen.{Form-F}
 use Rattle.at_jrag.specs.declared.syntax.Form.TheFolds.{fold-roll-Form}
 use Rattle.at_model.specs.Bodies.{expr, Call}
+use Rattle.at_text.specs.declared.place.Place.{Place}
 use Rattle.at_rules.specs.Bodies.{body_view, row_view, bodies_view}
 use Rattle.at_rules.specs.declared.body.Body.{Body, Row_of-Body, end_of-Body, more_of-Body, items-the_row-Body, the_lemmas}
 use Rattle.at_rules.specs.declared.body.Body as body

@@ -22,6 +22,7 @@ use crate::signatures::{Signatures, WrittenKind};
 use at_class::{ClassId, ClassTable};
 use at_jrag::{Expr, FoldForm, Form, Word};
 use at_rules::Body;
+use at_text::place::Place;
 use folds::List;
 use kinds::{ExprKind, Typed};
 use names::within;
@@ -33,7 +34,7 @@ use wholes::no_list;
 #[derive(Drop)]
 pub enum TypeFault {
     /// The code of its first fault, and the place: of an argument, or of the form at which it is found.
-    Refused { code: RuleCode, at: (u32, u32) },
+    Refused { code: RuleCode, at: Place },
     /// Want of memory.
     Memory,
 }
@@ -54,7 +55,7 @@ impl<T: Drop> From<AllocFailed<T>> for TypeFault {
     }
 }
 
-fn refused(code: RuleCode, at: (u32, u32)) -> TypeFault
+fn refused(code: RuleCode, at: Place) -> TypeFault
     ensures { result ≡ TypeFault.Refused code at }
 {
     TypeFault::Refused { code, at }
@@ -98,7 +99,7 @@ pub fn body_of(scope: &Scope, expr: &Expr, wanted: WrittenKind) -> Result<Body, 
 
 impl Scope<'_> {
     /// The expression of that kind, at that place, which means the body.
-    fn of_kind(&self, kind: ExprKind, body: Body, at: (u32, u32)) -> Result<Typed, TypeFault>
+    fn of_kind(&self, kind: ExprKind, body: Body, at: Place) -> Result<Typed, TypeFault>
         ensures { Judges typed_view (of_kind at kind (body_view body)) result }
     {
         let body = Box::new(self.alloc, body)?;
@@ -111,7 +112,7 @@ impl Scope<'_> {
         right: bool,
         kind: ExprKind,
         body: Body,
-        at: (u32, u32),
+        at: Place,
     ) -> Result<Typed, TypeFault>
         ensures { Judges typed_view (kind_if right at kind (body_view body)) result }
     {
@@ -186,7 +187,7 @@ impl Scope<'_> {
         list: Result<List, TypeFault>,
         form: FoldForm,
         name: &Word,
-        at: (u32, u32),
+        at: Place,
     ) -> Result<Typed, TypeFault>
         ensures { (l : Judgement Listed) → Judges list_view l list → Judges typed_view (and_then (λ l. and_then (folded_by at (fold_view form) l) (judged (within_of (scope_view self.now) (word_view name.now).text l.class) (expr_view body.now))) l) result }
     {
@@ -206,7 +207,7 @@ impl Scope<'_> {
 
     /// The list of the fold that stands at that place.
     #[cycle(typed)]
-    fn list(&self, list: &Expr, fold: (u32, u32)) -> Result<List, TypeFault>
+    fn list(&self, list: &Expr, fold: Place) -> Result<List, TypeFault>
         ensures { Judges list_view (list_or fold (judged (scope_view self.now) (expr_view list.now)) (judged_list (scope_view self.now) fold (expr_view list.now))) result }
     {
         match &list.form {

@@ -5,6 +5,7 @@ use Rattle.std.specs.Global.{Global}
 use Rattle.std.specs.Result.{IfOk, IfErr}
 use Rattle.at_model.specs.Classes.{Classes}
 use Rattle.at_model.specs.Rules.{Rules}
+use Rattle.at_text.specs.declared.place.Place.{Place}
 use Rattle.at_jrag.specs.Syntax.{Aspect}
 use Rattle.at_typing.specs.Building.{Builds}
 use Rattle.at_typing.specs.Located.{declarations_in, located}
@@ -73,7 +74,7 @@ given_by classes files read (Err e) h built = built
 
 rule_refuses : (classes : Classes) (files : List (List ℕ)) (aspects : List (List Aspect)) (e : StartFault) → AllHold files aspects → IsRuleFault classes (located 1 aspects) e → IsAspectFault classes files e
 rule_refuses classes files aspects (Refused n c at) h (f, first, of_number, of_code, of_place) =
-    let placed = subst (λ (o : Option (ℕ × ℕ)). IsAspectFault classes files (Refused f.file (rule_code f.code) o)) (sym of_place) (breaks aspects f h first) in
+    let placed = subst (λ (o : Option Place). IsAspectFault classes files (Refused f.file (rule_code f.code) o)) (sym of_place) (breaks aspects f h first) in
     let coded = subst (λ (k : Code). IsAspectFault classes files (Refused f.file k at)) (sym of_code) placed in
     subst (λ (m : ℕ). IsAspectFault classes files (Refused m c at)) (sym of_number) coded
 rule_refuses classes files aspects Memory h says = tt

@@ -3,7 +3,9 @@ use Rattle.std.specs.Prelude.{◌≡◌, ℕ, ◌+◌, suc, false, List, [], ◌
 use Rattle.at_model.specs.Classes.{Classes}
 use Rattle.at_model.specs.Rules.{Rules}
 use Rattle.at_text.specs.Symbols.{PlacedToken, HasTokens}
-use Rattle.at_jrag.specs.Syntax.{Aspect, Place}
+use Rattle.at_text.specs.declared.place.Place.{Place}
+use Rattle.at_text.specs.Place.{first_place}
+use Rattle.at_jrag.specs.Syntax.{Aspect}
 use Rattle.at_jrag.specs.Grammar.{File, IsWithin}
 use Rattle.at_jrag.specs.Faults.{IsFault}
 use Rattle.at_jrag.specs.declared.JragFault.{JragFault}
@@ -46,7 +48,7 @@ IsReadingFault jrag.Memory c at = ⊥
 
 -- the file is refused by the code at the place: it is no text, or this is the fault of its text
 pub data RefusesReading (bytes : List ℕ) : Code → Place → Type 0 where
-  no_text : (c : Code) → IsNoText bytes code.AspectLimit code.AspectSyntax c → RefusesReading bytes c (1, 1)
+  no_text : (c : Code) → IsNoText bytes code.AspectLimit code.AspectSyntax c → RefusesReading bytes c first_place
   no_aspects : (e : JragFault) (c : Code) (at : Place) → IsText bytes → IsFault bytes e → IsReadingFault e c at → RefusesReading bytes c at
 
 -- the fault is one by which the file is refused; of want of memory nothing is said

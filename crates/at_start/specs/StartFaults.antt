@@ -1,5 +1,6 @@
 -- What is printed of files that make no engine.
 use Rattle.std.specs.Prelude.{ℕ, ◌-◌, ◌==◌, List, [], ◌∷◌, ◌++◌, decimal, codes, Option, Some, None, slice_get, string_bytes, if◌then◌else◌}
+use Rattle.at_text.specs.declared.place.Place.{Place}
 use Rattle.at_start.specs.Codes.{code_text}
 use Rattle.at_start.specs.declared.files.Source.{Source}
 use Rattle.at_start.specs.declared.files.Files.{Files}
@@ -16,9 +17,9 @@ name_or other (Some s) = string_bytes s.name
 abbrev pub file_name : Files → ℕ → List ℕ
 file_name files file = if file == 0 then string_bytes files.grammar.name else name_or files.tree (slice_get files.aspects.items (file - 1))
 
-abbrev pub place_text : Option (ℕ × ℕ) → List ℕ
+abbrev pub place_text : Option Place → List ℕ
 place_text None = []
-place_text (Some at) = codes " at " ++ (decimal at.0 ++ (58 ∷ decimal at.1))
+place_text (Some at) = codes " at " ++ (decimal at.line ++ (58 ∷ decimal at.column))
 
 abbrev pub fault_text : Files → StartFault → List ℕ
 fault_text files (Refused file code at) = file_name files file ++ (codes ": " ++ (code_text code ++ (place_text at ++ 10 ∷ [])))

@@ -16,6 +16,7 @@ use at_class::ClassTable;
 use at_jrag::{Aspect, JragFault, parse_jrag};
 use at_kinds::RuleCode;
 use at_rules::Rules;
+use at_text::place::Place;
 use at_typing::RuleFault;
 use std::alloc::Global;
 
@@ -56,7 +57,7 @@ fn read(alloc: Global, bytes: &[u8]) -> Result<Vec<Aspect>, FileFault>
 {
     let text = match text_of(bytes, Code::AspectLimit, Code::AspectSyntax) {
         Ok(text) => text,
-        Err(code) => return Err(refused(code, (1, 1))),
+        Err(code) => return Err(refused(code, Place::START)),
     };
     match parse_jrag(alloc, text) {
         Ok(aspects) => Ok(aspects),
@@ -67,7 +68,7 @@ fn read(alloc: Global, bytes: &[u8]) -> Result<Vec<Aspect>, FileFault>
     }
 }
 
-fn refused(code: Code, at: (u32, u32)) -> FileFault
+fn refused(code: Code, at: Place) -> FileFault
     ensures { result ≡ Refused code (Some at) }
 {
     FileFault::Refused { code, at: Some(at) }

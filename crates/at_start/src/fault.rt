@@ -6,6 +6,7 @@ ghost use Rattle.at_start.specs.StartFaults.{fault_text, place_text, file_name, 
 
 use super::files::{Files, Source};
 use crate::code::Code;
+use at_text::place::Place;
 use itoa::Buffer;
 use std::alloc::{AllocError, AllocFailed};
 
@@ -17,7 +18,7 @@ pub enum StartFault {
     Refused {
         file: usize,
         code: Code,
-        at: Option<(u32, u32)>,
+        at: Option<Place>,
     },
     /// Want of memory.
     Memory,
@@ -27,7 +28,7 @@ pub enum StartFault {
 #[derive(Debug, Drop)]
 pub enum FileFault {
     /// The code, and but for a tree file the line and the column, both from 1.
-    Refused { code: Code, at: Option<(u32, u32)> },
+    Refused { code: Code, at: Option<Place> },
     /// Want of memory.
     Memory,
 }
@@ -102,7 +103,7 @@ fn append_fault(files: &Files, fault: &StartFault, out: &mut Vec<u8>) -> Result<
 }
 
 /// Appends ` at LINE:COLUMN`. Where memory is wanting the output stays as it was.
-fn append_place(at: (u32, u32), out: &mut Vec<u8>) -> Result<(), AllocError>
+fn append_place(at: Place, out: &mut Vec<u8>) -> Result<(), AllocError>
     ensures ok { OnOk result (out.new.items ≡ out.old.items ++ place_text (Some at)) }
     ensures err { OnErr result (out.new.items ≡ out.old.items) }
 {
@@ -115,11 +116,11 @@ fn append_place(at: (u32, u32), out: &mut Vec<u8>) -> Result<(), AllocError>
 }
 
 /// Appends ` at LINE:COLUMN`, or a front of it where memory is wanting.
-fn append_numbers(at: (u32, u32), out: &mut Vec<u8>) -> Result<(), AllocError>
+fn append_numbers(at: Place, out: &mut Vec<u8>) -> Result<(), AllocError>
     ensures ok { OnOk result (out.new.items ≡ out.old.items ++ place_text (Some at)) }
     ensures err { OnErr result (take (length out.old.items) out.new.items ≡ out.old.items) }
 {
-    let (line, column) = at;
+    let Place { line, column } = at;
     out.extend_from_slice(b" at ")?;
     out.extend_from_slice(Buffer::new().format(line).as_bytes())?;
     out.extend_from_slice(b":")?;

@@ -12,6 +12,7 @@ use super::files::text_of;
 use crate::code::Code;
 use at_class::{ClassCode, ClassFault, ClassTable};
 use at_grammar::{AstFault, Grammar, parse_ast};
+use at_text::place::Place;
 use std::alloc::Global;
 
 /// The classes of a grammar file.
@@ -26,7 +27,7 @@ pub fn classes_of(alloc: Global, bytes: &[u8]) -> Result<ClassTable, FileFault>
 {
     let text = match text_of(bytes, Code::GrammarLimit, Code::GrammarSyntax) {
         Ok(text) => text,
-        Err(code) => return Err(refused(code, (1, 1))),
+        Err(code) => return Err(refused(code, Place::START)),
     };
     let grammar = parse(alloc, text)?;
     match ClassTable::build(alloc, &grammar) {
@@ -36,7 +37,7 @@ pub fn classes_of(alloc: Global, bytes: &[u8]) -> Result<ClassTable, FileFault>
     }
 }
 
-fn refused(code: Code, at: (u32, u32)) -> FileFault
+fn refused(code: Code, at: Place) -> FileFault
     ensures { result ≡ Refused code (Some at) }
 {
     FileFault::Refused { code, at: Some(at) }

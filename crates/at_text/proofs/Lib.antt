@@ -1,4 +1,3 @@
-pub mod Places
 pub mod Spelling
 pub mod Characters
 pub mod Reading

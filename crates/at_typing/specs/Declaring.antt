@@ -6,7 +6,8 @@ use Rattle.std.specs.Option.{option_or}
 use Rattle.std.specs.Str.{bytes_eq}
 use Rattle.at_model.specs.Classes.{Classes, is_sub, class_of_name}
 use Rattle.at_model.specs.Declarations.{first_given}
-use Rattle.at_jrag.specs.Syntax.{Place, Word, Kind, Int, Bool', Text, Class, KindWord, Param, Params, Ending, With, Semicolon, Body, DeclForm, Synthesized, Inherited, Equation, InheritedEquation, Decl}
+use Rattle.at_text.specs.declared.place.Place.{Place}
+use Rattle.at_jrag.specs.Syntax.{Word, Kind, Int, Bool', Text, Class, KindWord, Param, Params, Ending, With, Semicolon, Body, DeclForm, Synthesized, Inherited, Equation, InheritedEquation, Decl}
 use Rattle.at_jrag.specs.Syntax as written
 use Rattle.at_kinds.specs.Accessors.{is_accessor}
 use Rattle.at_typing.specs.Located.{Located, class_word, name_word}

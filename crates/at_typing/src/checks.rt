@@ -18,6 +18,7 @@ use crate::numbered::Numbered;
 use accessor_names::accessor_named;
 use at_class::ClassTable;
 use at_kinds::RuleCode;
+use at_text::place::Place;
 pub use completeness::fault_of;
 use equations::{equation_twice, without_attribute};
 use limits::over_limit;
@@ -50,7 +51,7 @@ pub fn fault_together(
     equation_twice(alloc, declared)
 }
 
-fn fault_at(code: RuleCode, numbered: &Numbered, at: (u32, u32)) -> Fault
+fn fault_at(code: RuleCode, numbered: &Numbered, at: Place) -> Fault
     ensures { result ≡ fault_at code (numbered_view numbered.now) at }
 {
     Fault {

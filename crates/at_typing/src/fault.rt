@@ -4,6 +4,7 @@ ghost use Rattle.std.specs.Prelude.{◌≡◌};
 ghost use Rattle.at_typing.specs.declared.fault.RuleFault.TheVariants.{Memory};
 
 use at_kinds::RuleCode;
+use at_text::place::Place;
 use std::alloc::{AllocError, AllocFailed};
 
 /// A rule that a declaration breaks: its code, the number of the aspect file, from 1, and the place in
@@ -12,7 +13,7 @@ use std::alloc::{AllocError, AllocFailed};
 pub struct Fault {
     pub code: RuleCode,
     pub file: usize,
-    pub at: (u32, u32),
+    pub at: Place,
 }
 
 /// Why declarations are no rules.

@@ -31,6 +31,7 @@ use at_kinds::components::parts_of;
 use at_kinds::signatures::{Signature, Signatures, WrittenKind};
 use at_kinds::typing::{Bound, Scope, TypeFault, body_of};
 use at_rules::{AttrId, Attribute, Body, Equations, Kind};
+use at_text::place::Place;
 use std::alloc::{AllocError, Global};
 use std::rc::Rc;
 
@@ -401,7 +402,7 @@ impl Among<'_> {
     fn component_at(
         &self,
         class: ClassId,
-        at: (u32, u32),
+        at: Place,
         part: Option<usize>,
     ) -> Result<Option<usize>, TypeFault>
         ensures { Judges (λ p. p) (component_at self.now.classes.now class at part) result }
@@ -517,7 +518,7 @@ fn is_many(shape: Option<PartShape>) -> bool
     matches!(shape, Some(PartShape::Many(_)))
 }
 
-fn refused(code: RuleCode, at: (u32, u32)) -> TypeFault
+fn refused(code: RuleCode, at: Place) -> TypeFault
     ensures { result ≡ Refused code at }
 {
     TypeFault::Refused { code, at }

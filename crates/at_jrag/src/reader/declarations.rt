@@ -23,6 +23,7 @@ use super::{ReadError, Reader};
 use crate::syntax::{
     Aspect, Body, BodyForm, Decl, DeclForm, Ending, Kind, KindWord, Param, Params, Word,
 };
+use at_text::place::Place;
 use at_text::token::TokenKind;
 
 /// How deep expressions may nest.
@@ -31,7 +32,7 @@ const MAX_NESTING: usize = 64;
 /// A declared attribute, up to the end of its parameters.
 #[derive(Drop)]
 struct Head {
-    lazy: Option<(u32, u32)>,
+    lazy: Option<Place>,
     kind: KindWord,
     class: Word,
     name: Word,
@@ -234,7 +235,7 @@ impl<'a> Reader<'a> {
     }
 
     /// `["lazy"]`, where `nta` before it or behind it is left out.
-    fn lazy(&mut self) -> Result<Option<(u32, u32)>, ReadError>
+    fn lazy(&mut self) -> Result<Option<Place>, ReadError>
         ensures found { IfOk result (λ o. Lazy o (left self.old.rest.now) (left self.new.rest.now)) }
         ensures goes { IfOk result (λ o. Pass true (want.Lazy ∷ []) (left self.old.rest.now) (left self.new.rest.now)) }
         ensures stays { IfErr result (λ e. Stay (want.Lazy ∷ []) (reason_of e) (left self.old.rest.now) (left self.new.rest.now)) }

@@ -18,6 +18,7 @@ use super::forms::{
 use super::operators::{Link, UNARY};
 use super::{ReadError, Reader};
 use crate::syntax::{FoldForm, Form};
+use at_text::place::Place;
 
 impl<'a> Reader<'a> {
     /// `or ["?" expr ":" expr]`
@@ -205,7 +206,7 @@ impl<'a> Reader<'a> {
 
     /// `"(" name ":" post ")" "{" expr "}"`, behind the word of a fold.
     #[cycle(expression)]
-    fn fold(&mut self, at: (u32, u32), form: FoldForm, budget: usize) -> Result<Measured, ReadError>
+    fn fold(&mut self, at: Place, form: FoldForm, budget: usize) -> Result<Measured, ReadError>
         requires some { 1 < budget }
         requires limit { budget ≤ 64 }
         ensures depth { IfOk result (λ m. m.depth ≤ budget) }

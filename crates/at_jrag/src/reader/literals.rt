@@ -14,6 +14,7 @@ use super::forms::{Measured, leaf};
 use super::{ReadError, Reader, is_sign};
 use crate::syntax::Form;
 use at_text::decimal::read_number;
+use at_text::place::Place;
 use at_text::quoted::{QuoteFault, read_text};
 use at_text::token::TokenKind;
 
@@ -33,7 +34,7 @@ pub fn number(digits: &str, is_negative: bool) -> Option<i32>
 }
 
 /// The literal that the reserved word is.
-fn constant(at: (u32, u32), text: &str) -> Option<Measured>
+fn constant(at: Place, text: &str) -> Option<Measured>
     ensures { MatchOption result (is_constant text.now ≡ false)
         (λ m. ((rest : Row) → Reads 8 m (word text.now at ∷ rest) rest) × (m.depth ≡ 1) × (is_constant text.now ≡ true)) }
 {
@@ -107,7 +108,7 @@ impl<'a> Reader<'a> {
     }
 
     /// The number that these digits are.
-    fn digits(&self, at: (u32, u32), digits: &str) -> Result<Measured, ReadError>
+    fn digits(&self, at: Place, digits: &str) -> Result<Measured, ReadError>
         ensures found { IfOk result (λ m. ((rest : Row) → Reads 8 m (number digits.now at ∷ rest) rest) × (m.depth ≡ 1)) }
         ensures refused { IfErr result (λ e. (e ≡ error.Syntax) × (is_decimal_within 2147483647 digits.now ≡ false)) }
     {
@@ -118,7 +119,7 @@ impl<'a> Reader<'a> {
     }
 
     /// The text of this spelling.
-    pub fn text(&self, at: (u32, u32), spelling: &str) -> Result<Measured, ReadError>
+    pub fn text(&self, at: Place, spelling: &str) -> Result<Measured, ReadError>
         ensures found { IfOk result (λ m. ((rest : Row) → Reads 8 m (quotation spelling.now at ∷ rest) rest) × (m.depth ≡ 1)) }
         ensures spelled { IfOk result (λ m. is_quoted spelling.now ≡ true) }
         ensures refused { IfErr result (NoText spelling.now) }

@@ -16,6 +16,7 @@ use super::literals::number;
 use super::{ReadError, Reader, is_name_token, is_sign, is_word};
 use crate::syntax::{FoldForm, Operator, OperatorWord, Word};
 use at_text::names::is_name;
+use at_text::place::Place;
 use at_text::placed::Placed;
 use at_text::token::TokenKind;
 
@@ -29,7 +30,7 @@ pub const UNARY: usize = 7;
 #[derive(Clone, Copy)]
 pub enum Link {
     Operator(OperatorWord),
-    InstanceOf((u32, u32)),
+    InstanceOf(Place),
 }
 
 /// What stands before its operand.
@@ -142,7 +143,7 @@ impl<'a> Reader<'a> {
         text: &str,
         depth: usize,
         budget: usize,
-    ) -> Result<Option<(u32, u32)>, ReadError>
+    ) -> Result<Option<Place>, ReadError>
         ensures found { IfOk result (λ o. MatchOption o
             ((self.new ≡ self.old) × (next_is (is_sign text.now) (left self.old.rest.now) ≡ false))
             (λ at. (left self.old.rest.now ≡ sign text.now at ∷ left self.new.rest.now) × (depth < budget))) }
@@ -202,7 +203,7 @@ impl<'a> Reader<'a> {
     }
 
     /// Steps over the word that begins a fold, if one is next.
-    pub fn fold_word(&mut self, budget: usize) -> Result<Option<((u32, u32), FoldForm)>, ReadError>
+    pub fn fold_word(&mut self, budget: usize) -> Result<Option<(Place, FoldForm)>, ReadError>
         ensures found { IfOk result (λ o. MatchOption o (self.new ≡ self.old)
             (λ f. (1 < budget) × (left self.old.rest.now ≡ word (fold_text (fold_view f.1)) f.0 ∷ left self.new.rest.now))) }
         ensures none { IfOk result (λ o. IfNone o (next_is begins_fold (left self.old.rest.now) ≡ false)) }
@@ -237,7 +238,7 @@ impl<'a> Reader<'a> {
     }
 
     /// `( NAME )`
-    fn cast(&mut self) -> Result<((u32, u32), Prefix), ReadError>
+    fn cast(&mut self) -> Result<(Place, Prefix), ReadError>
         requires { opens_cast (left self.now.rest.now) ≡ true }
         ensures found { IfOk result (λ p. StandsBefore p.1 p.0 (left self.old.rest.now) (left self.new.rest.now)) }
         ensures refused { IfErr result (λ e. e ≡ error.Memory) }
@@ -249,7 +250,7 @@ impl<'a> Reader<'a> {
     }
 
     /// What stands before an operand, if that is next: `!`, `-`, or the class of a cast.
-    pub fn prefix(&mut self, budget: usize) -> Result<Option<((u32, u32), Prefix)>, ReadError>
+    pub fn prefix(&mut self, budget: usize) -> Result<Option<(Place, Prefix)>, ReadError>
         requires { opens_negative (left self.now.rest.now) ≡ false }
         ensures found { IfOk result (λ o. MatchOption o
             ((self.new ≡ self.old) × (next_is (is_sign (codes "-")) (left self.old.rest.now) ≡ false))

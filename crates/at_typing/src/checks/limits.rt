@@ -12,6 +12,7 @@ use crate::located::{body_in, is_attribute};
 use crate::numbered::Numbered;
 use at_jrag::{Expr, Form};
 use at_kinds::RuleCode;
+use at_text::place::Place;
 
 /// How many attributes may be declared.
 const MAX_ATTRIBUTES: usize = 2000;
@@ -47,7 +48,7 @@ fn limit_of(is_full: bool, numbered: &Numbered) -> Option<Fault>
 }
 
 /// The first text in the declaration's body that is too long.
-fn long_text_of(numbered: &Numbered) -> Option<(u32, u32)>
+fn long_text_of(numbered: &Numbered) -> Option<Place>
     ensures { result ≡ option_and_then (λ b. long_text b.expr) (body_in (numbered_view numbered.now).decl.form) }
 {
     long_text(&body_in(&numbered.decl.form)?.expr)
@@ -55,7 +56,7 @@ fn long_text_of(numbered: &Numbered) -> Option<(u32, u32)>
 
 /// The place of the text, if it is too long.
 #[tactic(auto, unfolding(crate::specs::Declaring::max_text))]
-fn long_literal(at: (u32, u32), text: &str) -> Option<(u32, u32)>
+fn long_literal(at: Place, text: &str) -> Option<Place>
     ensures { result ≡ long_text (TextLiteral at text.now) }
 {
     if text.len() > MAX_TEXT {
@@ -67,7 +68,7 @@ fn long_literal(at: (u32, u32), text: &str) -> Option<(u32, u32)>
 
 /// The first text in the expression that is too long.
 #[cycle(long)]
-fn long_text(expr: &Expr) -> Option<(u32, u32)>
+fn long_text(expr: &Expr) -> Option<Place>
     ensures { result ≡ long_text (expr_view expr.now) }
 {
     match &expr.form {
@@ -88,7 +89,7 @@ fn long_text(expr: &Expr) -> Option<(u32, u32)>
 }
 
 #[cycle(long)]
-fn long_text_among(arguments: &[Expr]) -> Option<(u32, u32)>
+fn long_text_among(arguments: &[Expr]) -> Option<Place>
     ensures { result ≡ long_text_among (to_exprs (map expr_view arguments.now)) }
 {
     for argument in arguments {
