@@ -4,6 +4,7 @@ use Rattle.std.proofs.lemmas.List.{append-nil, map-append, length-map}
 use Rattle.std.specs.Prelude.{◌⊎◌}
 use Rattle.std.proofs.Common.{inl, inr}
 use Rattle.at_text.specs.declared.placed.Placed.{Placed}
+use Rattle.at_text.specs.declared.fault.Fault.TheVariants as refusal
 use Rattle.at_text.specs.declared.scan.ScanFault.{ScanFault}
 use Rattle.at_text.specs.declared.scan.ScanFault.TheVariants as scan
 use Rattle.at_text.specs.Faults.{FaultsAt}
@@ -16,10 +17,12 @@ use Rattle.at_text.specs.declared.place.Place.{Place}
 use Rattle.at_grammar.specs.Grammar as grammar
 use Rattle.at_grammar.specs.Grammar.{IsFile, Declaration}
 use Rattle.at_grammar.specs.Meaning.{class_means}
-use Rattle.at_grammar.specs.Faults.{Spells, IsLeftOut, MeetsLeftOut, StopsAt, IsScanFaultAt}
+use Rattle.at_grammar.specs.declared.AstCode.{AstCode}
+use Rattle.at_grammar.specs.declared.AstCode.TheVariants as code
+use Rattle.at_grammar.specs.Faults.{Spells, IsLeftOut, MeetsLeftOut, StopsAt, IsScanFaultAt, IsFault}
 use Rattle.at_grammar.specs.Table as want
 use Rattle.at_grammar.specs.Table.{table}
-use Rattle.at_grammar.specs.Forms.{left, file}
+use Rattle.at_grammar.specs.Forms.{left, file, reason}
 use Rattle.at_grammar.proofs.Paths.{Reads, Stops}
 use Rattle.at_grammar.proofs.Accepts.{file_taken, left_out_met}
 use Rattle.at_grammar.proofs.Unique.{file_unique}
@@ -123,3 +126,9 @@ cut_fault text fault offset at p (inr (inr e)) f = subst (λ (x : ScanFault). Fa
 
 pub place_behind : (text : List ℕ) (ts vs : List Placed) (n m : ℕ) (at : Place) → vs ≡ ts → n ≡ m → at ≡ next_place text (map placed (drop (length vs - n) vs)) → at ≡ next_place text (map placed (drop (length ts - m) ts))
 place_behind text ts vs n m at e f p = p ∙ ap (λ l. next_place text (map placed (drop (length l - n) l))) e ∙ ap (λ k. next_place text (map placed (drop (length ts - k) ts))) f
+
+-- where reading stops for a reason, that is the fault of the text
+pub is_met : (text : List ℕ) (c : AstCode) (ts rest : List Placed) (at : Place) → Stops file (reason c) (left ts) (left rest) → HasTokens text (map placed ts)
+    → at ≡ next_place text (map placed (drop (length ts - length rest) ts)) → IsFault text (refusal.Refused c at)
+is_met text code.Syntax ts rest at s has p = let m = met Refused ts rest s in inr (map placed m.front, map placed m.back, stops_at text Refused ts rest at has m p, not_left_out ts rest s)
+is_met text code.LeftOut ts rest at s has p = let m = met LeftOut ts rest s in (map placed m.front, map placed m.back, stops_at text LeftOut ts rest at has m p, left_out ts rest s)

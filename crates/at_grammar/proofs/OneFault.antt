@@ -10,8 +10,10 @@ use Rattle.at_text.specs.Symbols.{HasTokens, next_place, PlacedToken, placed_in,
 use Rattle.at_text.proofs.ReadingLaws.{one_first_fault, cut_once}
 use Rattle.at_text.proofs.Scanned as scanned
 use Rattle.at_text.specs.declared.place.Place.{Place}
-use Rattle.at_grammar.specs.declared.AstFault.{AstFault}
-use Rattle.at_grammar.specs.declared.AstFault.TheVariants.{Memory, Syntax, LeftOut}
+use Rattle.at_text.specs.declared.fault.Fault.{Fault}
+use Rattle.at_text.specs.declared.fault.Fault.TheVariants.{Refused, Memory}
+use Rattle.at_grammar.specs.declared.AstCode.{AstCode}
+use Rattle.at_grammar.specs.declared.AstCode.TheVariants.{Syntax, LeftOut}
 use Rattle.at_grammar.specs.Grammar as grammar
 use Rattle.at_grammar.specs.Grammar.{IsFile, Declaration}
 use Rattle.at_grammar.specs.Faults.{Spells, MeetsLeftOut, StopsAt, IsScanFaultAt, IsFault}
@@ -70,23 +72,23 @@ no_file_stops text a x p ts f s h k =
 -- ---- the laws
 
 -- a text that spells a file has no fault
-pub fault_only : (text : List ℕ) (e : AstFault) → IsFault text e → (ts : List PlacedToken) (f : List Declaration) → HasTokens text ts → Spells ts f → e ≡ Memory
+pub fault_only : (text : List ℕ) (e : Fault AstCode) → IsFault text e → (ts : List PlacedToken) (f : List Declaration) → HasTokens text ts → Spells ts f → e ≡ Memory
 fault_only text Memory h ts f k s = refl
-fault_only text (Syntax at) (inl h) ts f k s = absurd (no_scan_fault text at h.0 ts h.1 k)
-fault_only text (Syntax at) (inr h) ts f k s = absurd (no_file_stops text h.0 h.1 at ts f h.2 k s)
-fault_only text (LeftOut at) h ts f k s = absurd (no_file_stops text h.0 h.1 at ts f h.2 k s)
+fault_only text (Refused Syntax at) (inl h) ts f k s = absurd (no_scan_fault text at h.0 ts h.1 k)
+fault_only text (Refused Syntax at) (inr h) ts f k s = absurd (no_file_stops text h.0 h.1 at ts f h.2 k s)
+fault_only text (Refused LeftOut at) h ts f k s = absurd (no_file_stops text h.0 h.1 at ts f h.2 k s)
 
 -- a text has one fault
-pub fault_same : (text : List ℕ) (e : AstFault) → IsFault text e → (f : AstFault) → (f ≡ Memory → ⊥) → IsFault text f → (e ≡ Memory) ⊎ (e ≡ f)
+pub fault_same : (text : List ℕ) (e : Fault AstCode) → IsFault text e → (f : Fault AstCode) → (f ≡ Memory → ⊥) → IsFault text f → (e ≡ Memory) ⊎ (e ≡ f)
 fault_same text Memory h f none k = inl refl
-fault_same text (Syntax p) h Memory none k = absurd (none refl)
-fault_same text (LeftOut p) h Memory none k = absurd (none refl)
-fault_same text (Syntax p) (inl h) (Syntax q) none (inl k) = inr (ap (λ at. Syntax at) (same_scan_fault text p q h.0 k.0 h.1 k.1))
-fault_same text (Syntax p) (inl h) (Syntax q) none (inr k) = absurd (no_scan_fault text p h.0 (k.0 ++ k.1) h.1 k.2.tokens)
-fault_same text (Syntax p) (inr h) (Syntax q) none (inl k) = absurd (no_scan_fault text q k.0 (h.0 ++ h.1) k.1 h.2.tokens)
-fault_same text (Syntax p) (inr h) (Syntax q) none (inr k) = inr (ap (λ at. Syntax at) (stops_once text h.0 k.0 h.1 k.1 p q h.2 k.2))
-fault_same text (Syntax p) (inl h) (LeftOut q) none k = absurd (no_scan_fault text p h.0 (k.0 ++ k.1) h.1 k.2.tokens)
-fault_same text (Syntax p) (inr h) (LeftOut q) none k = absurd (h.3 (also_left_out k.0 h.0 k.1 h.1 (cut_alike text k.0 h.0 k.1 h.1 q p k.2 h.2) k.3))
-fault_same text (LeftOut p) h (Syntax q) none (inl k) = absurd (no_scan_fault text q k.0 (h.0 ++ h.1) k.1 h.2.tokens)
-fault_same text (LeftOut p) h (Syntax q) none (inr k) = absurd (k.3 (also_left_out h.0 k.0 h.1 k.1 (cut_alike text h.0 k.0 h.1 k.1 p q h.2 k.2) h.3))
-fault_same text (LeftOut p) h (LeftOut q) none k = inr (ap (λ at. LeftOut at) (stops_once text h.0 k.0 h.1 k.1 p q h.2 k.2))
+fault_same text (Refused Syntax p) h Memory none k = absurd (none refl)
+fault_same text (Refused LeftOut p) h Memory none k = absurd (none refl)
+fault_same text (Refused Syntax p) (inl h) (Refused Syntax q) none (inl k) = inr (ap (λ at. Refused Syntax at) (same_scan_fault text p q h.0 k.0 h.1 k.1))
+fault_same text (Refused Syntax p) (inl h) (Refused Syntax q) none (inr k) = absurd (no_scan_fault text p h.0 (k.0 ++ k.1) h.1 k.2.tokens)
+fault_same text (Refused Syntax p) (inr h) (Refused Syntax q) none (inl k) = absurd (no_scan_fault text q k.0 (h.0 ++ h.1) k.1 h.2.tokens)
+fault_same text (Refused Syntax p) (inr h) (Refused Syntax q) none (inr k) = inr (ap (λ at. Refused Syntax at) (stops_once text h.0 k.0 h.1 k.1 p q h.2 k.2))
+fault_same text (Refused Syntax p) (inl h) (Refused LeftOut q) none k = absurd (no_scan_fault text p h.0 (k.0 ++ k.1) h.1 k.2.tokens)
+fault_same text (Refused Syntax p) (inr h) (Refused LeftOut q) none k = absurd (h.3 (also_left_out k.0 h.0 k.1 h.1 (cut_alike text k.0 h.0 k.1 h.1 q p k.2 h.2) k.3))
+fault_same text (Refused LeftOut p) h (Refused Syntax q) none (inl k) = absurd (no_scan_fault text q k.0 (h.0 ++ h.1) k.1 h.2.tokens)
+fault_same text (Refused LeftOut p) h (Refused Syntax q) none (inr k) = absurd (k.3 (also_left_out h.0 k.0 h.1 k.1 (cut_alike text h.0 k.0 h.1 k.1 p q h.2 k.2) h.3))
+fault_same text (Refused LeftOut p) h (Refused LeftOut q) none k = inr (ap (λ at. Refused LeftOut at) (stops_once text h.0 k.0 h.1 k.1 p q h.2 k.2))

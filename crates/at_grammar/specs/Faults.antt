@@ -9,8 +9,10 @@ use Rattle.at_text.specs.Place.{place_of}
 use Rattle.at_text.specs.Reading.{first, IsFirstFault}
 use Rattle.at_text.specs.Symbols.{PlacedToken, HasTokens, next_place, Symbol, sign, symbols, words_keep}
 use Rattle.at_text.specs.declared.place.Place.{Place}
-use Rattle.at_grammar.specs.declared.AstFault.{AstFault}
-use Rattle.at_grammar.specs.declared.AstFault.TheVariants.{Memory, Syntax, LeftOut}
+use Rattle.at_text.specs.declared.fault.Fault.{Fault}
+use Rattle.at_text.specs.declared.fault.Fault.TheVariants.{Refused, Memory}
+use Rattle.at_grammar.specs.declared.AstCode.{AstCode}
+use Rattle.at_grammar.specs.declared.AstCode.TheVariants.{Syntax, LeftOut}
 use Rattle.at_grammar.specs.Grammar as grammar
 use Rattle.at_grammar.specs.Grammar.{Word, IsName, IsTokenKind, Part, AreParts, Declaration, IsDeclaration, IsFile}
 
@@ -59,8 +61,8 @@ IsScanFaultAt text at (scan.OpenText offset) = scanning.FaultsAt text (scan.Open
 IsScanFaultAt text at (scan.OpenComment offset) = scanning.FaultsAt text (scan.OpenComment offset) × (at ≡ place_of text offset)
 
 -- the fault of the text; of want of memory nothing is said
-abbrev pub IsFault : List ℕ → AstFault → Type 0
+abbrev pub IsFault : List ℕ → Fault AstCode → Type 0
 IsFault text Memory = Unit {0}
-IsFault text (Syntax at) = ((fault : ScanFault) × IsScanFaultAt text at fault)
+IsFault text (Refused Syntax at) = ((fault : ScanFault) × IsScanFaultAt text at fault)
     ⊎ ((front : List PlacedToken) × (rest : List PlacedToken) × StopsAt text front rest at × (MeetsLeftOut front rest → ⊥))
-IsFault text (LeftOut at) = (front : List PlacedToken) × (rest : List PlacedToken) × StopsAt text front rest at × MeetsLeftOut front rest
+IsFault text (Refused LeftOut at) = (front : List PlacedToken) × (rest : List PlacedToken) × StopsAt text front rest at × MeetsLeftOut front rest

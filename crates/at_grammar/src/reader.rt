@@ -10,40 +10,18 @@ ghost use Rattle.at_grammar.specs.Table.{is_kind_next};
 ghost use Rattle.at_grammar.specs.Meaning.{kind_or, bytes_of, text_of, seen_part, seen_class, child_means, token_means, part_means, body_means, class_means};
 ghost use Rattle.at_grammar.specs.Forms.{left, Parses, name, kind_name, mark, kind, typed, child, optional, close, token_kind, token, part, parts, body, declaration, file};
 ghost use Rattle.at_grammar.specs.declared.syntax.Shape.TheVariants as shape;
-ghost use Rattle.at_grammar.specs.declared.reader.ReadError.TheVariants.{Memory};
 
+use crate::AstCode;
 use crate::syntax::{ClassDecl, PartDecl, Shape};
+use at_text::fault::Failure;
 use at_text::names::is_name;
 use at_text::place::Place;
 use at_text::placed::Placed;
 use at_text::token::TokenKind;
-use std::alloc::{AllocError, AllocFailed, Global};
+use std::alloc::{AllocError, Global};
 
-/// Why nothing was read.
-#[derive(Debug, Drop)]
-pub enum ReadError {
-    /// The next token, or the end, doesn't go on.
-    Syntax,
-    /// The next token begins a form that is left out.
-    LeftOut,
-    Memory,
-}
-
-impl From<AllocError> for ReadError {
-    ghost from_gives = { λ _ e. e ≡ Memory };
-
-    fn from(_e: AllocError) -> ReadError {
-        ReadError::Memory
-    }
-}
-
-impl<T: Drop> From<AllocFailed<T>> for ReadError {
-    ghost from_gives = { λ _ e. e ≡ Memory };
-
-    fn from(_e: AllocFailed<T>) -> ReadError {
-        ReadError::Memory
-    }
-}
+/// Why nothing was read: what the next token, or the end, breaks, or want of memory.
+pub type ReadFault = Failure<AstCode>;
 
 /// A name with its line and column.
 #[derive(Debug, Drop)]
@@ -198,18 +176,18 @@ impl<'a> Reader<'a> {
     }
 
     /// The sign.
-    fn expects(&mut self, text: &str) -> Result<(), ReadError>
+    fn expects(&mut self, text: &str) -> Result<(), ReadFault>
         ensures { Parses (mark text.now) (λ _ _. Unit {0}) result self.old.rest.now self.new.rest.now }
     {
         if self.takes(text) {
             Ok(())
         } else {
-            Err(ReadError::Syntax)
+            Err(ReadFault::For(AstCode::Syntax))
         }
     }
 
     /// `name`
-    fn name(&mut self) -> Result<Name, ReadError>
+    fn name(&mut self) -> Result<Name, ReadFault>
         ensures { Parses name (λ w n. (string_bytes n.text ≡ w.text) × (n.at ≡ w.at)) result self.old.rest.now self.new.rest.now }
     {
         match self.takes_name() {
@@ -217,12 +195,12 @@ impl<'a> Reader<'a> {
                 text: String::from_str(self.alloc, token.text)?,
                 at: token.at,
             }),
-            None => Err(ReadError::Syntax),
+            None => Err(ReadFault::For(AstCode::Syntax)),
         }
     }
 
     /// `[":" name]`
-    fn kind(&mut self) -> Result<Option<String>, ReadError>
+    fn kind(&mut self) -> Result<Option<String>, ReadFault>
         ensures { Parses kind (λ k found. bytes_of found ≡ text_of k) result self.old.rest.now self.new.rest.now }
     {
         if self.takes(":") {
@@ -233,7 +211,7 @@ impl<'a> Reader<'a> {
     }
 
     /// `name [":" name]`, a component of this shape.
-    fn typed(&mut self, shape: Shape) -> Result<PartDecl, ReadError>
+    fn typed(&mut self, shape: Shape) -> Result<PartDecl, ReadFault>
         ensures { Parses typed (λ t p. seen_part p ≡ child_means shape t) result self.old.rest.now self.new.rest.now }
     {
         let name = self.name()?;
@@ -248,7 +226,7 @@ impl<'a> Reader<'a> {
     }
 
     /// `name [":" name] ["*"]`
-    fn child(&mut self) -> Result<PartDecl, ReadError>
+    fn child(&mut self) -> Result<PartDecl, ReadFault>
         ensures { Parses child (λ t p. seen_part p ≡ part_means t) result self.old.rest.now self.new.rest.now }
     {
         let mut part = self.typed(Shape::One)?;
@@ -259,7 +237,7 @@ impl<'a> Reader<'a> {
     }
 
     /// An optional component, behind its `[`: `name [":" name] "]"`
-    fn optional(&mut self) -> Result<PartDecl, ReadError>
+    fn optional(&mut self) -> Result<PartDecl, ReadFault>
         ensures { Parses optional (λ t p. seen_part p ≡ child_means shape.Maybe t) result self.old.rest.now self.new.rest.now }
     {
         let part = self.typed(Shape::Maybe)?;
@@ -268,27 +246,27 @@ impl<'a> Reader<'a> {
     }
 
     /// A word that may be a token's kind.
-    fn kind_name(&mut self) -> Result<String, ReadError>
+    fn kind_name(&mut self) -> Result<String, ReadFault>
         ensures { Parses kind_name (λ w s. string_bytes s ≡ w.text) result self.old.rest.now self.new.rest.now }
     {
         match self.takes_kind() {
             Some(token) => Ok(String::from_str(self.alloc, token.text)?),
-            None => Err(ReadError::Syntax),
+            None => Err(ReadFault::For(AstCode::Syntax)),
         }
     }
 
     /// `">"`, where a kind of more than one name, or with arguments, is left out.
-    fn close(&mut self) -> Result<(), ReadError>
+    fn close(&mut self) -> Result<(), ReadFault>
         ensures { Parses close (λ _ _. Unit {0}) result self.old.rest.now self.new.rest.now }
     {
         if self.is_before(".") || self.is_before("<") {
-            return Err(ReadError::LeftOut);
+            return Err(ReadFault::For(AstCode::LeftOut));
         }
         self.expects(">")
     }
 
     /// A token behind its name: `[":" kind] ">"`
-    fn token_kind(&mut self) -> Result<Option<String>, ReadError>
+    fn token_kind(&mut self) -> Result<Option<String>, ReadFault>
         ensures { Parses token_kind (λ k found. bytes_of found ≡ text_of k) result self.old.rest.now self.new.rest.now }
     {
         if self.takes(">") {
@@ -301,7 +279,7 @@ impl<'a> Reader<'a> {
     }
 
     /// A token behind its `<`: `name [":" kind] ">"`
-    fn token(&mut self) -> Result<PartDecl, ReadError>
+    fn token(&mut self) -> Result<PartDecl, ReadFault>
         ensures { Parses token (λ t p. seen_part p ≡ token_means t) result self.old.rest.now self.new.rest.now }
     {
         let name = self.name()?;
@@ -316,7 +294,7 @@ impl<'a> Reader<'a> {
     }
 
     /// A component.
-    fn part(&mut self) -> Result<PartDecl, ReadError>
+    fn part(&mut self) -> Result<PartDecl, ReadFault>
         ensures { Parses part (λ t p. seen_part p ≡ part_means t) result self.old.rest.now self.new.rest.now }
     {
         if self.takes("<") {
@@ -329,7 +307,7 @@ impl<'a> Reader<'a> {
     }
 
     /// `{ part } ";"`, where a component that begins with `/` is left out.
-    fn parts(&mut self) -> Result<Vec<PartDecl>, ReadError>
+    fn parts(&mut self) -> Result<Vec<PartDecl>, ReadFault>
         ensures { Parses parts (λ ps v. map seen_part v.items ≡ map part_means ps) result self.old.rest.now self.new.rest.now }
     {
         let mut parts = Vec::new(self.alloc);
@@ -338,7 +316,7 @@ impl<'a> Reader<'a> {
                 return Ok(parts);
             }
             if self.is_before("/") {
-                return Err(ReadError::LeftOut);
+                return Err(ReadFault::For(AstCode::LeftOut));
             }
             let part = self.part()?;
             parts.push(part)?;
@@ -346,7 +324,7 @@ impl<'a> Reader<'a> {
     }
 
     /// `["::=" { part }] ";"`
-    fn body(&mut self) -> Result<Vec<PartDecl>, ReadError>
+    fn body(&mut self) -> Result<Vec<PartDecl>, ReadFault>
         ensures { Parses body (λ b v. map seen_part v.items ≡ body_means b) result self.old.rest.now self.new.rest.now }
     {
         if self.takes(";") {
@@ -357,7 +335,7 @@ impl<'a> Reader<'a> {
     }
 
     /// `["abstract"] name [":" name] ["::=" { part }] ";"`
-    fn declaration(&mut self) -> Result<ClassDecl, ReadError>
+    fn declaration(&mut self) -> Result<ClassDecl, ReadFault>
         ensures { Parses declaration (λ d c. seen_class c ≡ class_means d) result self.old.rest.now self.new.rest.now }
     {
         let is_abstract = self.takes_word("abstract").is_some();
@@ -374,7 +352,7 @@ impl<'a> Reader<'a> {
     }
 
     /// `{ decl }`, up to the end.
-    pub fn file(&mut self) -> Result<Vec<ClassDecl>, ReadError>
+    pub fn file(&mut self) -> Result<Vec<ClassDecl>, ReadFault>
         ensures read { Parses file (λ ds v. map seen_class v.items ≡ map class_means ds) result self.old.rest.now self.new.rest.now }
         ensures end { OnOk result (left self.new.rest.now ≡ []) }
     {

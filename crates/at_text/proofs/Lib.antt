@@ -15,3 +15,4 @@ pub mod Signs
 pub mod Found
 pub mod Scanned
 pub mod Decimals
+pub mod Rows
