@@ -13,7 +13,8 @@ use Rattle.at_text.specs.Reading.{first}
 use Rattle.at_text.specs.Symbols.{PlacedToken}
 use Rattle.at_text.specs.declared.place.Place.{Place}
 use Rattle.at_text.specs.Place.{first_place}
-use Rattle.at_jrag.specs.Grammar.{Row, sign, word, number, is_sign, is_word, max_nesting}
+use Rattle.at_text.specs.Rows.{Row, sign, word, is_sign, is_word}
+use Rattle.at_jrag.specs.Grammar.{number, max_nesting}
 use Rattle.at_jrag.specs.Machine.{Takes, Skips, Refuses, LeavesOut, and_then, Whole, run}
 use Rattle.at_jrag.specs.Wants.{Want, Expression, Binary, Links, Choice, Otherwise, Unary, Minus, Opened, Enclosed, Parenthesized, Calls, Called, Arguments, FirstArgument, MoreArguments, Primary, Named, FoldBody, Deeper, Join, Deepest, Counts, Name, Mark, File, Decls, Lazy, NotNta, Kind, Signed, Opening, Params, OneParam, MoreParams, NotCircular, Ending, Body, Defined, Return, Close}
 use Rattle.at_jrag.specs.Table.{table, next, on, is_number_within, expression_answer, link_rank, link_answer, links_answer, choice_answer, calls_answer, named_answer, parenthesized_answer, file_answer, lazy_answer, not_nta_answer, body_answer}

@@ -6,7 +6,8 @@ use lib.Chars.{codes}
 use Rattle.at_text.specs.Reading.{first}
 use Rattle.at_text.specs.Symbols.{PlacedToken}
 use Rattle.at_text.specs.declared.place.Place.{Place}
-use Rattle.at_jrag.specs.Grammar.{Row, is_sign, follows_cast, sign, operator_text, operator_level}
+use Rattle.at_text.specs.Rows.{Row, sign, is_sign}
+use Rattle.at_jrag.specs.Grammar.{follows_cast, operator_text, operator_level}
 use Rattle.at_jrag.specs.Syntax as syntax
 use Rattle.at_jrag.specs.Syntax.{Operator}
 use Rattle.at_jrag.specs.Machine.{Takes, Skips, run}

@@ -7,7 +7,8 @@ use Rattle.at_model.specs.Names.{is_name}
 use Rattle.at_text.specs.Reading.{first}
 use Rattle.at_text.specs.Symbols.{PlacedToken}
 use Rattle.at_text.specs.declared.place.Place.{Place}
-use Rattle.at_jrag.specs.Grammar.{Row, is_name_token, is_sign, is_word, is_number, follows_cast, sign, word, number, operator_text, fold_text}
+use Rattle.at_text.specs.Rows.{Row, sign, word, is_sign, is_word, is_name_token}
+use Rattle.at_jrag.specs.Grammar.{is_number, follows_cast, number, operator_text, fold_text}
 use Rattle.at_jrag.specs.Syntax as syntax
 use Rattle.at_jrag.specs.Syntax.{Operator, FoldForm}
 use Rattle.at_jrag.specs.Machine.{Answer, Takes, Skips, Refuses, LeavesOut, and_then, run}

@@ -14,7 +14,8 @@ use Rattle.at_jrag.specs.declared.reader.forms.Measured.{Measured}
 use Rattle.at_jrag.specs.declared.reader.forms.Arguments.{Arguments as ArgumentsValue}
 use Rattle.at_jrag.specs.declared.reader.operators.Prefix.{Prefix}
 use Rattle.at_jrag.specs.declared.reader.operators.Prefix.TheVariants as prefix
-use Rattle.at_jrag.specs.Grammar.{word, sign, fold_text, operator_text, operator_level, is_sign, next_is, Name, Row, Spells, Arguments, MoreArguments, NumberOf, Sign, deepest, depth, level}
+use Rattle.at_text.specs.Rows.{Row, sign, word, is_sign, next_is}
+use Rattle.at_jrag.specs.Grammar.{fold_text, operator_text, operator_level, Name, Spells, Arguments, MoreArguments, NumberOf, Sign, deepest, depth, level}
 
 -- ---- each form takes a token at least
 

@@ -9,7 +9,8 @@ use Rattle.at_model.specs.Names.{is_name, is_reserved, reserved_words}
 use Rattle.at_text.specs.Symbols.{PlacedToken, is_word_kind}
 use Rattle.at_text.specs.declared.place.Place.{Place}
 use Rattle.at_text.specs.Place.{first_place}
-use Rattle.at_jrag.specs.Grammar.{Row, sign, word, is_sign, is_word, is_opening}
+use Rattle.at_text.specs.Rows.{Row, sign, word, is_sign, is_word}
+use Rattle.at_jrag.specs.Grammar.{is_opening}
 use Rattle.at_jrag.specs.Machine.{Answer, Takes, Skips, Refuses, LeavesOut, Move, Goes, Halts, Refused, answered, after}
 use Rattle.at_jrag.specs.Wants.{Want, Links, Choice, Parenthesized, Calls, FirstArgument, Named, Deeper, Join, Deepest, Counts, Mark, File, Decls, Lazy, NotNta, Params, NotCircular, Ending, Return, Close}
 use Rattle.at_jrag.specs.Table.{table, is_constant, begins_fold}

@@ -2,10 +2,10 @@
 
 ghost use Rattle.std.specs.Prelude.{◌≡◌};
 ghost use Rattle.at_text.specs.Symbols.{placed};
-ghost use Rattle.at_jrag.specs.Left.{left};
+ghost use Rattle.at_text.specs.Rows.{left};
 ghost use Rattle.at_jrag.specs.Faults.{begins_declaration, last_declaration};
 
-use crate::reader::is_word;
+use at_text::cursor::is_word;
 use at_text::place::Place;
 use at_text::placed::Placed;
 
