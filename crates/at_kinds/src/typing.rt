@@ -7,7 +7,7 @@ ghost use Rattle.at_jrag.specs.View.{expr_view, fold_view, word_view};
 ghost use Rattle.at_rules.specs.Bodies.{body_view};
 ghost use Rattle.at_kinds.specs.Judging.{Judgement, Listed, and_then, of_kind, kind_if, judged, judged_all, judged_list, list_or, folded as folded_by, within as within_of, body_of as body_meant};
 ghost use Rattle.at_kinds.specs.Typed.{typed_view, all_view, list_view, scope_view, Judges};
-ghost use Rattle.at_kinds.specs.declared.typing.TypeFault.TheVariants.{Memory};
+ghost use Rattle.at_text.specs.declared.fault.Fault.TheVariants.{Refused};
 
 mod calls;
 mod classes;
@@ -22,43 +22,23 @@ use crate::signatures::{Signatures, WrittenKind};
 use at_class::{ClassId, ClassTable};
 use at_jrag::{Expr, FoldForm, Form, Word};
 use at_rules::Body;
+use at_text::fault::Fault;
 use at_text::place::Place;
 use folds::List;
 use kinds::{ExprKind, Typed};
 use names::within;
-use std::alloc::{AllocError, AllocFailed, Global};
+use std::alloc::Global;
 use std::rc::Rc;
 use wholes::no_list;
 
-/// Why an expression means no body.
-#[derive(Drop)]
-pub enum TypeFault {
-    /// The code of its first fault, and the place: of an argument, or of the form at which it is found.
-    Refused { code: RuleCode, at: Place },
-    /// Want of memory.
-    Memory,
-}
-
-impl From<AllocError> for TypeFault {
-    ghost from_gives = { λ _ e. e ≡ Memory };
-
-    fn from(_e: AllocError) -> TypeFault {
-        TypeFault::Memory
-    }
-}
-
-impl<T: Drop> From<AllocFailed<T>> for TypeFault {
-    ghost from_gives = { λ _ e. e ≡ Memory };
-
-    fn from(_e: AllocFailed<T>) -> TypeFault {
-        TypeFault::Memory
-    }
-}
+/// Why an expression means no body: the code of its first fault and the place, of an argument or of the form
+/// at which it is found; or want of memory.
+pub type TypeFault = Fault<RuleCode>;
 
 fn refused(code: RuleCode, at: Place) -> TypeFault
-    ensures { result ≡ TypeFault.Refused code at }
+    ensures { result ≡ Refused code at }
 {
-    TypeFault::Refused { code, at }
+    Fault::Refused { code, at }
 }
 
 /// A parameter's or a fold's name, with the kind of what it stands for. The scopes within share the name.

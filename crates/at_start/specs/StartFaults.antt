@@ -6,8 +6,11 @@ use Rattle.at_start.specs.declared.files.Source.{Source}
 use Rattle.at_start.specs.declared.files.Files.{Files}
 use Rattle.at_start.specs.declared.fault.StartFault.{StartFault}
 use Rattle.at_start.specs.declared.fault.StartFault.TheVariants.{Refused, Memory}
-use Rattle.at_start.specs.declared.fault.FileFault.{FileFault}
-use Rattle.at_start.specs.declared.fault.FileFault.TheVariants as file
+use Rattle.at_start.specs.declared.code.Code.{Code}
+use Rattle.at_text.specs.declared.fault.Fault.{Fault}
+use Rattle.at_text.specs.declared.fault.Fault.TheVariants as fault
+use Rattle.at_text.specs.declared.fault.Failure.{Failure}
+use Rattle.at_text.specs.declared.fault.Failure.TheVariants as failure
 
 abbrev pub name_or : Source → Option Source → List ℕ
 name_or other None = string_bytes other.name
@@ -25,7 +28,12 @@ abbrev pub fault_text : Files → StartFault → List ℕ
 fault_text files (Refused file code at) = file_name files file ++ (codes ": " ++ (code_text code ++ (place_text at ++ 10 ∷ [])))
 fault_text files Memory = codes "memory" ++ 10 ∷ []
 
--- the fault of the file of that number
-abbrev pub of_file : ℕ → FileFault → StartFault
-of_file n (file.Refused code at) = Refused n code at
-of_file n file.Memory = Memory
+-- the fault of the grammar or of an aspect file, by its number
+abbrev pub of_file : ℕ → Fault Code → StartFault
+of_file n (fault.Refused code at) = Refused n code (Some at)
+of_file n fault.Memory = Memory
+
+-- the fault of the tree file, by its number
+abbrev pub of_tree : ℕ → Failure Code → StartFault
+of_tree n (failure.For code) = Refused n code None
+of_tree n failure.Memory = Memory

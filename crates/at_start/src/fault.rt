@@ -2,10 +2,11 @@
 
 ghost use Rattle.std.specs.Prelude.{◌≡◌, ◌++◌, Some, take, length, string_bytes, OnOk, OnErr};
 ghost use Rattle.at_start.specs.declared.fault.StartFault.TheVariants.{Memory};
-ghost use Rattle.at_start.specs.StartFaults.{fault_text, place_text, file_name, of_file};
+ghost use Rattle.at_start.specs.StartFaults.{fault_text, place_text, file_name, of_file, of_tree};
 
 use super::files::{Files, Source};
 use crate::code::Code;
+use at_text::fault::{Failure, Fault};
 use at_text::place::Place;
 use itoa::Buffer;
 use std::alloc::{AllocError, AllocFailed};
@@ -24,22 +25,31 @@ pub enum StartFault {
     Memory,
 }
 
-/// Why a file is refused.
-#[derive(Debug, Drop)]
-pub enum FileFault {
-    /// The code, and but for a tree file the line and the column, both from 1.
-    Refused { code: Code, at: Option<Place> },
-    /// Want of memory.
-    Memory,
-}
-
-/// The fault of the file of that number.
-pub fn of_file(file: usize, fault: FileFault) -> StartFault
+/// The fault of the grammar or of an aspect file, by its number.
+pub fn of_file(file: usize, fault: Fault<Code>) -> StartFault
     ensures { result ≡ of_file file fault }
 {
     match fault {
-        FileFault::Refused { code, at } => StartFault::Refused { file, code, at },
-        FileFault::Memory => StartFault::Memory,
+        Fault::Refused { code, at } => StartFault::Refused {
+            file,
+            code,
+            at: Some(at),
+        },
+        Fault::Memory => StartFault::Memory,
+    }
+}
+
+/// The fault of the tree file, by its number.
+pub fn of_tree(file: usize, fault: Failure<Code>) -> StartFault
+    ensures { result ≡ of_tree file fault }
+{
+    match fault {
+        Failure::For(code) => StartFault::Refused {
+            file,
+            code,
+            at: None,
+        },
+        Failure::Memory => StartFault::Memory,
     }
 }
 

@@ -12,7 +12,7 @@ ghost use Rattle.at_typing.specs.Located.{name_word};
 ghost use Rattle.at_typing.specs.Numbering.{numbered_view};
 
 use super::fault_at;
-use crate::fault::Fault;
+use crate::fault::Breach;
 use crate::located::{is_attribute, name_word};
 use crate::numbered::Numbered;
 use at_class::{ClassId, ClassTable, Part, PartShape};
@@ -26,7 +26,7 @@ pub fn accessor_named(
     alloc: Global,
     classes: &ClassTable,
     declared: &[Numbered],
-) -> Result<Option<Fault>, AllocError>
+) -> Result<Option<Breach>, AllocError>
     ensures { IfOk result (λ f. f ≡ accessor_named classes.now (map numbered_view declared.now)) }
 {
     let accessors = Accessors::of(alloc, classes)?;

@@ -7,7 +7,7 @@ ghost use Rattle.at_typing.specs.Declaring.{body_in, over_limit, long_text, long
 ghost use Rattle.at_typing.specs.Numbering.{numbered_view, limit_of};
 
 use super::fault_at;
-use crate::fault::Fault;
+use crate::fault::Breach;
 use crate::located::{body_in, is_attribute};
 use crate::numbered::Numbered;
 use at_jrag::{Expr, Form};
@@ -21,7 +21,7 @@ const MAX_ATTRIBUTES: usize = 2000;
 const MAX_TEXT: usize = 4096;
 
 /// The first attribute that is one too many, or the first text that is too long, whichever comes first.
-pub fn over_limit(declared: &[Numbered]) -> Option<Fault>
+pub fn over_limit(declared: &[Numbered]) -> Option<Breach>
     ensures { result ≡ over_limit (map numbered_view declared.now) }
 {
     let mut left = MAX_ATTRIBUTES;
@@ -37,7 +37,7 @@ pub fn over_limit(declared: &[Numbered]) -> Option<Fault>
 }
 
 /// The fault of a declaration, where as many attributes as there may be stand before it, or don't.
-fn limit_of(is_full: bool, numbered: &Numbered) -> Option<Fault>
+fn limit_of(is_full: bool, numbered: &Numbered) -> Option<Breach>
     ensures { result ≡ limit_of is_full (numbered_view numbered.now) }
 {
     if is_attribute(&numbered.decl.form) && is_full {

@@ -9,7 +9,7 @@ ghost use Rattle.at_typing.specs.Twice.{TellsTwice};
 
 use super::bound::binds_twice;
 use super::fault_at;
-use crate::fault::Fault;
+use crate::fault::Breach;
 use crate::firsts::note_first;
 use crate::located::{is_attribute, is_inherited, params_in, result_in};
 use crate::numbered::{NamedClass, Numbered};
@@ -24,7 +24,7 @@ pub fn declared_twice(
     alloc: Global,
     classes: &ClassTable,
     declared: &[Numbered],
-) -> Result<Option<Fault>, AllocError>
+) -> Result<Option<Breach>, AllocError>
     requires { AreNumbered classes.now declared.now }
     ensures { IfOk result (λ fault. fault ≡ declared_twice classes.now (map numbered_view declared.now)) }
 {
