@@ -1,6 +1,6 @@
 //! Why there is no class table.
+use at_text::fault::Fault;
 use at_text::place::Place;
-use std::alloc::{AllocError, AllocFailed};
 
 /// The rules of an abstract grammar that a refusal may name, in the order in which they are looked at.
 #[derive(Clone, Copy, PartialEq, Eq, Debug)]
@@ -21,36 +21,8 @@ pub enum ClassCode {
     Limit,
 }
 
-/// Why there is no class table.
-#[derive(Clone, Copy, PartialEq, Eq, Debug)]
-pub enum ClassFault {
-    /// The grammar breaks a rule, at a line and a column.
-    Refused { code: ClassCode, at: Place },
-    /// Memory was wanting.
-    Memory,
-}
-
-impl From<AllocError> for ClassFault {
-    ghost use Rattle.std.specs.Prelude.{◌≡◌};
-    ghost use Rattle.at_class.specs.declared.fault.ClassFault.TheVariants.{Memory};
-
-    ghost from_gives = { λ _ e. e ≡ Memory };
-
-    fn from(_: AllocError) -> Self {
-        ClassFault::Memory
-    }
-}
-
-impl<T: Drop> From<AllocFailed<T>> for ClassFault {
-    ghost use Rattle.std.specs.Prelude.{◌≡◌};
-    ghost use Rattle.at_class.specs.declared.fault.ClassFault.TheVariants.{Memory};
-
-    ghost from_gives = { λ _ e. e ≡ Memory };
-
-    fn from(_: AllocFailed<T>) -> Self {
-        ClassFault::Memory
-    }
-}
+/// Why there is no class table: the rule that the grammar breaks and its place, or want of memory.
+pub type ClassFault = Fault<ClassCode>;
 
 ghost use Rattle.std.specs.Prelude.{◌≡◌, IfErr, None, OnOk, option_map};
 ghost use Rattle.at_class.specs.Grammar.{place_view};

@@ -29,12 +29,8 @@ use Rattle.at_grammar.proofs.Unique.{file_unique}
 
 -- ---- tokens and symbols
 
-pub seen_symbols : (ts : List Placed) → symbols words_keep (map placed ts) ≡ left ts
-seen_symbols [] = refl
-seen_symbols (t ∷ ts) = ap (λ l. symbol words_keep (placed t) ∷ l) (seen_symbols ts)
-
 pub length_left : (ts : List Placed) → length (left ts) ≡ length ts
-length_left ts = length-map ts (λ t. symbol words_keep (placed t))
+length_left ts = length-map (map placed ts) (symbol words_keep) ∙ length-map ts placed
 
 -- the tokens of a front of symbols
 pub front_of : (ts : List Placed) (front rest : List Symbol) → left ts ≡ front ++ rest → (fs : List Placed) × (rs : List Placed) × (ts ≡ fs ++ rs) × (left fs ≡ front) × (left rs ≡ rest)
@@ -74,7 +70,7 @@ met r ts rest s =
       back = p.1;
       whole = p.2;
       behind = ap (λ k. drop k ts) count ∙ ap (drop (length p.0)) p.2 ∙ drop_front p.0 p.1;
-      fault = same_fault _ s.front _ (left rest) (seen_symbols p.0 ∙ p.3) (seen_symbols p.1 ∙ p.4) (first_fault table file r (left ts) (left rest) file_taken s);
+      fault = same_fault _ s.front _ (left rest) p.3 p.4 (first_fault table file r (left ts) (left rest) file_taken s);
     }
 
 -- ---- the text's tokens
@@ -94,21 +90,21 @@ why_met front rest a b e f h = subst (λ (l : List Symbol). IsLeftOut l (first b
 pub left_out : (ts rest : List Placed) → (s : Stops file LeftOut (left ts) (left rest)) → let m = met LeftOut ts rest s in MeetsLeftOut (map placed m.front) (map placed m.back)
 left_out ts rest s =
     let p = front_of ts s.front (left rest) s.split in
-    why_met s.front (left rest) _ _ (seen_symbols p.0 ∙ p.3) (seen_symbols p.1 ∙ p.4) s.why
+    why_met s.front (left rest) _ _ p.3 p.4 s.why
 
 pub not_left_out : (ts rest : List Placed) → (s : Stops file Refused (left ts) (left rest)) → let m = met Refused ts rest s in MeetsLeftOut (map placed m.front) (map placed m.back) → ⊥
 not_left_out ts rest s h =
     let p = front_of ts s.front (left rest) s.split in
     let a = symbols words_keep (map placed p.0) in
     let b = symbols words_keep (map placed p.1) in
-    let text : left ts ≡ a ++ b = s.split ∙ (λ i. (sym p.3 ∙ sym (seen_symbols p.0)) i ++ (sym p.4 ∙ sym (seen_symbols p.1)) i) in
+    let text : left ts ≡ a ++ b = s.split ∙ (λ i. sym p.3 i ++ sym p.4 i) in
     let out : run table (want.File ∷ []) (left ts) ≡ Stuck LeftOut b = ap (run table (want.File ∷ [])) text ∙ left_out_met a b h in
     absurd (let e : Stuck Refused (left rest) ≡ Stuck LeftOut b = sym (s.stuck []) ∙ out in cc)
 
 -- ---- what is read
 
 pub read_whole : (ts rest : List Placed) (ds : List Declaration) → Reads file ds (left ts) (left rest) → left rest ≡ [] → Spells (map placed ts) ds
-read_whole ts rest ds r e = (r.is, seen_symbols ts ∙ r.text ∙ ap (λ l. grammar.file ds ++ l) e ∙ append-nil (grammar.file ds))
+read_whole ts rest ds r e = (r.is, r.text ∙ ap (λ l. grammar.file ds ++ l) e ∙ append-nil (grammar.file ds))
 
 pub same_classes : (ts us : List PlacedToken) (ds es : List Declaration) → ts ≡ us → Spells ts ds → Spells us es → map class_means ds ≡ map class_means es
 same_classes ts us ds es e a b = ap (map class_means) (file_unique ds es a.0 b.0 (sym a.1 ∙ ap (symbols words_keep) e ∙ b.1))

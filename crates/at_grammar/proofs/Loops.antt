@@ -6,17 +6,19 @@ use Rattle.std.proofs.lemmas.List.{append-nil}
 use Rattle.std.proofs.lemmas.Grind.{flat_map-append}
 use lib.Chars.{codes}
 use Rattle.at_text.specs.Reading.{first, Reason, LeftOut, Takes, Skips, Refuses, LeavesOut, and_then, is_skip, run}
-use Rattle.at_text.specs.Symbols.{Symbol, word, sign, is_sign, is_word, is_name_next}
+use Rattle.at_text.specs.Symbols.{Symbol, word, sign, is_sign, is_word, is_name_next, symbols, words_keep}
+use Rattle.at_text.specs.Rows as rows
 use Rattle.at_text.proofs.ReadingLaws.{run-takes, run-skips, run-begins, leaves_here, stops_within, Many, all_push, all_append, one_more}
 use Rattle.at_grammar.specs.Grammar as grammar
 use Rattle.at_grammar.specs.Grammar.{Word, Typed, IsName, IsPart, AreParts, IsBody, IsDeclaration, IsFile, IfWritten, Declaration}
 use Rattle.at_grammar.specs.Faults.{LeftOutOfParts}
 use Rattle.at_grammar.specs.Table as want
 use Rattle.at_grammar.specs.Table.{Want, table, name_answer, child_answer, part_answer, more_parts_answer, declaration_answer, mark_answer}
-use Rattle.at_text.specs.declared.placed.Placed.{Placed}
+use Rattle.at_text.specs.declared.cursor.Cursor.{Cursor}
 use Rattle.at_text.specs.declared.place.Place.{Place}
 use Rattle.at_grammar.specs.Forms.{left, name, mark, kind, part, parts, body, modifier, declaration, file}
 use Rattle.at_grammar.proofs.Paths.{Reads, Stops, Goes, on_never_skips}
+use Rattle.at_grammar.proofs.Tokens.{same_left, next_word}
 
 -- ---- { part } ";"
 
@@ -107,9 +109,9 @@ pub modifier_some : (at : Place) (old rest : List Symbol) → old ≡ word (code
 unfolding table
 modifier_some at old rest e = record { is = tt; text = e; goes = λ ws. ap (run table (want.Modifier ∷ ws)) e ∙ run-takes table want.Modifier [] ws (word (codes "abstract") at) rest refl }
 
-pub modifier_reads : (r : Option Place) (old new : List Placed) → MatchOption r ((new ≡ old) × (is_word (codes "abstract") (first (left old)) ≡ false)) (λ at. left old ≡ word (codes "abstract") at ∷ left new) → Reads modifier r (left old) (left new)
-modifier_reads None old new h = modifier_none (left old) (left new) (ap left h.0) h.1
-modifier_reads (Some at) old new h = modifier_some at (left old) (left new) h
+pub modifier_reads : (r : Option Place) (old new : Cursor) → MatchOption r ((new ≡ old) × (rows.next_is (rows.is_word (codes "abstract")) (rows.left old.rest.now) ≡ false)) (λ at. rows.left old.rest.now ≡ rows.word (codes "abstract") at ∷ rows.left new.rest.now) → Reads modifier r (left old.rest.now) (left new.rest.now)
+modifier_reads None old new h = modifier_none _ _ (same_left new old h.0) (sym (next_word (codes "abstract") (rows.left old.rest.now)) ∙ h.1)
+modifier_reads (Some at) old new h = modifier_some at _ _ (ap (symbols words_keep) h)
 
 -- ---- ["abstract"] name [":" name] ["::=" { part }] ";"
 

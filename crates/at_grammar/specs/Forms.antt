@@ -1,10 +1,11 @@
 -- The forms of the grammar, and what the reader's methods say of them.
-use Rattle.std.specs.Prelude.{◌≡◌, ℕ, List, [], ◌∷◌, ◌++◌, map, Option, Some, None, Result}
+use Rattle.std.specs.Prelude.{◌≡◌, ℕ, List, [], ◌∷◌, ◌++◌, Option, Some, None, Result}
 use lib.Chars.{codes}
 use Rattle.at_text.specs.declared.placed.Placed.{Placed}
 use Rattle.at_text.specs.Reading as reading
 use Rattle.at_text.specs.Reading.{Reason, Refused, LeftOut, Form}
-use Rattle.at_text.specs.Symbols.{Symbol, sign, symbol, placed, words_keep}
+use Rattle.at_text.specs.Symbols.{Symbol, sign, symbols, words_keep}
+use Rattle.at_text.specs.Rows as rows
 use Rattle.at_text.specs.declared.place.Place.{Place}
 use Rattle.at_text.specs.declared.fault.Failure.{Failure}
 use Rattle.at_text.specs.declared.fault.Failure.TheVariants as failure
@@ -18,7 +19,7 @@ use Rattle.at_grammar.specs.Table.{Want, table}
 
 -- the tokens that are left, as the grammar sees them
 abbrev pub left : List Placed → List Symbol
-left = map (λ t. symbol words_keep (placed t))
+left ts = symbols words_keep (rows.left ts)
 
 abbrev pub reason : AstCode → Reason
 reason code.Syntax = Refused

@@ -3,9 +3,8 @@
 ghost use Rattle.std.specs.Prelude.{◌≡◌, ◌∷◌, length, [], IfOk, OnOk, MatchOption, MatchBool, Some, map, true, false};
 ghost use Rattle.std.specs.String.{string_bytes};
 ghost use Rattle.at_text.specs.Reading.{first};
-ghost use Rattle.at_text.specs.Symbols.{sign, word, is_sign, is_word, is_name_next, symbol, placed, words_keep};
+ghost use Rattle.at_text.specs.Symbols.{sign, word, is_sign, symbol, placed, words_keep};
 ghost use Rattle.at_grammar.specs.Grammar.{is_token_kind};
-ghost use Rattle.at_model.specs.Names.{is_name};
 ghost use Rattle.at_grammar.specs.Table.{is_kind_next};
 ghost use Rattle.at_grammar.specs.Meaning.{kind_or, bytes_of, text_of, seen_part, seen_class, child_means, token_means, part_means, body_means, class_means};
 ghost use Rattle.at_grammar.specs.Forms.{left, Parses, name, kind_name, mark, kind, typed, child, optional, close, token_kind, token, part, parts, body, declaration, file};
@@ -13,6 +12,7 @@ ghost use Rattle.at_grammar.specs.declared.syntax.Shape.TheVariants as shape;
 
 use crate::AstCode;
 use crate::syntax::{ClassDecl, PartDecl, Shape};
+use at_text::cursor::Cursor;
 use at_text::fault::Failure;
 use at_text::names::is_name;
 use at_text::place::Place;
@@ -47,30 +47,6 @@ fn kind_or(alloc: Global, written: Option<String>, other: &str) -> Result<String
     }
 }
 
-/// Whether the token is this sign.
-fn is_sign(token: &Placed<'_>, text: &str) -> bool
-    ensures value { result ≡ is_sign text.now (Some (symbol words_keep (placed token.now))) }
-    ensures same { result ≡ true → symbol words_keep (placed token.now) ≡ sign text.now }
-{
-    token.kind == TokenKind::Sign && token.text == text
-}
-
-/// Whether the token is this word.
-fn is_word(token: &Placed<'_>, text: &str) -> bool
-    ensures value { result ≡ is_word text.now (Some (symbol words_keep (placed token.now))) }
-    ensures same { result ≡ true → symbol words_keep (placed token.now) ≡ word text.now token.now.at }
-{
-    token.kind == TokenKind::Word && token.text == text
-}
-
-/// Whether the token is a name.
-fn is_name_token(token: &Placed<'_>) -> bool
-    ensures value { result ≡ is_name_next (Some (symbol words_keep (placed token.now))) }
-    ensures same { result ≡ true → symbol words_keep (placed token.now) ≡ word token.now.text.now token.now.at }
-{
-    token.kind == TokenKind::Word && is_name(token.text)
-}
-
 /// Whether the token may stand as a token's kind.
 fn is_kind_token(token: &Placed<'_>) -> bool
     ensures value { result ≡ is_kind_next (Some (symbol words_keep (placed token.now))) }
@@ -83,92 +59,53 @@ fn is_kind_token(token: &Placed<'_>) -> bool
 #[derive(Drop)]
 pub struct Reader<'a> {
     alloc: Global,
-    rest: &'a [Placed<'a>],
+    cursor: Cursor<'a>,
 }
 
 impl<'a> Reader<'a> {
     /// A reader before the first token.
     pub fn new(alloc: Global, tokens: &'a [Placed<'a>]) -> Reader<'a>
-        ensures { result.rest.now ≡ tokens.now }
+        ensures { result.cursor.rest.now ≡ tokens.now }
     {
         Reader {
             alloc,
-            rest: tokens,
+            cursor: Cursor::new(tokens),
         }
     }
 
     /// How many tokens are left.
     pub fn count_left(&self) -> usize
-        ensures { result ≡ length self.now.rest.now }
+        ensures { result ≡ length self.now.cursor.rest.now }
     {
-        self.rest.len()
+        self.cursor.count_left()
     }
 
     /// Whether the sign is next.
     fn is_before(&self, text: &str) -> bool
-        ensures value { result ≡ is_sign text.now (first (left self.now.rest.now)) }
-        ensures same { result ≡ true → first (left self.now.rest.now) ≡ Some (sign text.now) }
+        ensures value { result ≡ is_sign text.now (first (left self.now.cursor.rest.now)) }
+        ensures same { result ≡ true → first (left self.now.cursor.rest.now) ≡ Some (sign text.now) }
     {
-        match self.rest {
-            [token, ..] => is_sign(token, text),
-            [] => false,
-        }
+        self.cursor.is_before_sign(text)
     }
 
     /// Steps over the sign, if it is next.
     fn takes(&mut self, text: &str) -> bool
         ensures { MatchBool result
-            (left self.old.rest.now ≡ sign text.now ∷ left self.new.rest.now)
-            ((self.new.rest.now ≡ self.old.rest.now) × (is_sign text.now (first (left self.old.rest.now)) ≡ false)) }
+            (left self.old.cursor.rest.now ≡ sign text.now ∷ left self.new.cursor.rest.now)
+            ((self.new.cursor.rest.now ≡ self.old.cursor.rest.now) × (is_sign text.now (first (left self.old.cursor.rest.now)) ≡ false)) }
     {
-        match self.rest {
-            [token, rest @ ..] if is_sign(token, text) => {
-                self.rest = rest;
-                true
-            }
-            _ => false,
-        }
-    }
-
-    /// Steps over the word, if it is next, and answers its place.
-    fn takes_word(&mut self, text: &str) -> Option<Place>
-        ensures { MatchOption result
-            ((self.new.rest.now ≡ self.old.rest.now) × (is_word text.now (first (left self.old.rest.now)) ≡ false))
-            (λ at. left self.old.rest.now ≡ word text.now at ∷ left self.new.rest.now) }
-    {
-        match self.rest {
-            [token, rest @ ..] if is_word(token, text) => {
-                self.rest = rest;
-                Some(token.at)
-            }
-            _ => None,
-        }
-    }
-
-    /// Steps over a name, if one is next.
-    fn takes_name(&mut self) -> Option<&'a Placed<'a>>
-        ensures { MatchOption result
-            ((self.new.rest.now ≡ self.old.rest.now) × (is_name_next (first (left self.old.rest.now)) ≡ false))
-            (λ t. (left self.old.rest.now ≡ word t.now.text.now t.now.at ∷ left self.new.rest.now) × (is_name t.now.text.now ≡ true)) }
-    {
-        match self.rest {
-            [token, rest @ ..] if is_name_token(token) => {
-                self.rest = rest;
-                Some(token)
-            }
-            _ => None,
-        }
+        self.cursor.takes_sign(text).is_some()
     }
 
     /// Steps over a token's kind, if one is next.
     fn takes_kind(&mut self) -> Option<&'a Placed<'a>>
         ensures { MatchOption result
-            ((self.new.rest.now ≡ self.old.rest.now) × (is_kind_next (first (left self.old.rest.now)) ≡ false))
-            (λ t. (left self.old.rest.now ≡ word t.now.text.now t.now.at ∷ left self.new.rest.now) × (is_token_kind t.now.text.now ≡ true)) }
+            ((self.new.cursor.rest.now ≡ self.old.cursor.rest.now) × (is_kind_next (first (left self.old.cursor.rest.now)) ≡ false))
+            (λ t. (left self.old.cursor.rest.now ≡ word t.now.text.now t.now.at ∷ left self.new.cursor.rest.now) × (is_token_kind t.now.text.now ≡ true)) }
     {
-        match self.rest {
+        match self.cursor.rest {
             [token, rest @ ..] if is_kind_token(token) => {
-                self.rest = rest;
+                self.cursor.rest = rest;
                 Some(token)
             }
             _ => None,
@@ -177,7 +114,7 @@ impl<'a> Reader<'a> {
 
     /// The sign.
     fn expects(&mut self, text: &str) -> Result<(), ReadFault>
-        ensures { Parses (mark text.now) (λ _ _. Unit {0}) result self.old.rest.now self.new.rest.now }
+        ensures { Parses (mark text.now) (λ _ _. Unit {0}) result self.old.cursor.rest.now self.new.cursor.rest.now }
     {
         if self.takes(text) {
             Ok(())
@@ -188,9 +125,9 @@ impl<'a> Reader<'a> {
 
     /// `name`
     fn name(&mut self) -> Result<Name, ReadFault>
-        ensures { Parses name (λ w n. (string_bytes n.text ≡ w.text) × (n.at ≡ w.at)) result self.old.rest.now self.new.rest.now }
+        ensures { Parses name (λ w n. (string_bytes n.text ≡ w.text) × (n.at ≡ w.at)) result self.old.cursor.rest.now self.new.cursor.rest.now }
     {
-        match self.takes_name() {
+        match self.cursor.takes_name() {
             Some(token) => Ok(Name {
                 text: String::from_str(self.alloc, token.text)?,
                 at: token.at,
@@ -201,7 +138,7 @@ impl<'a> Reader<'a> {
 
     /// `[":" name]`
     fn kind(&mut self) -> Result<Option<String>, ReadFault>
-        ensures { Parses kind (λ k found. bytes_of found ≡ text_of k) result self.old.rest.now self.new.rest.now }
+        ensures { Parses kind (λ k found. bytes_of found ≡ text_of k) result self.old.cursor.rest.now self.new.cursor.rest.now }
     {
         if self.takes(":") {
             Ok(Some(self.name()?.text))
@@ -212,7 +149,7 @@ impl<'a> Reader<'a> {
 
     /// `name [":" name]`, a component of this shape.
     fn typed(&mut self, shape: Shape) -> Result<PartDecl, ReadFault>
-        ensures { Parses typed (λ t p. seen_part p ≡ child_means shape t) result self.old.rest.now self.new.rest.now }
+        ensures { Parses typed (λ t p. seen_part p ≡ child_means shape t) result self.old.cursor.rest.now self.new.cursor.rest.now }
     {
         let name = self.name()?;
         let written = self.kind()?;
@@ -227,7 +164,7 @@ impl<'a> Reader<'a> {
 
     /// `name [":" name] ["*"]`
     fn child(&mut self) -> Result<PartDecl, ReadFault>
-        ensures { Parses child (λ t p. seen_part p ≡ part_means t) result self.old.rest.now self.new.rest.now }
+        ensures { Parses child (λ t p. seen_part p ≡ part_means t) result self.old.cursor.rest.now self.new.cursor.rest.now }
     {
         let mut part = self.typed(Shape::One)?;
         if self.takes("*") {
@@ -238,7 +175,7 @@ impl<'a> Reader<'a> {
 
     /// An optional component, behind its `[`: `name [":" name] "]"`
     fn optional(&mut self) -> Result<PartDecl, ReadFault>
-        ensures { Parses optional (λ t p. seen_part p ≡ child_means shape.Maybe t) result self.old.rest.now self.new.rest.now }
+        ensures { Parses optional (λ t p. seen_part p ≡ child_means shape.Maybe t) result self.old.cursor.rest.now self.new.cursor.rest.now }
     {
         let part = self.typed(Shape::Maybe)?;
         self.expects("]")?;
@@ -247,7 +184,7 @@ impl<'a> Reader<'a> {
 
     /// A word that may be a token's kind.
     fn kind_name(&mut self) -> Result<String, ReadFault>
-        ensures { Parses kind_name (λ w s. string_bytes s ≡ w.text) result self.old.rest.now self.new.rest.now }
+        ensures { Parses kind_name (λ w s. string_bytes s ≡ w.text) result self.old.cursor.rest.now self.new.cursor.rest.now }
     {
         match self.takes_kind() {
             Some(token) => Ok(String::from_str(self.alloc, token.text)?),
@@ -257,7 +194,7 @@ impl<'a> Reader<'a> {
 
     /// `">"`, where a kind of more than one name, or with arguments, is left out.
     fn close(&mut self) -> Result<(), ReadFault>
-        ensures { Parses close (λ _ _. Unit {0}) result self.old.rest.now self.new.rest.now }
+        ensures { Parses close (λ _ _. Unit {0}) result self.old.cursor.rest.now self.new.cursor.rest.now }
     {
         if self.is_before(".") || self.is_before("<") {
             return Err(ReadFault::For(AstCode::LeftOut));
@@ -267,7 +204,7 @@ impl<'a> Reader<'a> {
 
     /// A token behind its name: `[":" kind] ">"`
     fn token_kind(&mut self) -> Result<Option<String>, ReadFault>
-        ensures { Parses token_kind (λ k found. bytes_of found ≡ text_of k) result self.old.rest.now self.new.rest.now }
+        ensures { Parses token_kind (λ k found. bytes_of found ≡ text_of k) result self.old.cursor.rest.now self.new.cursor.rest.now }
     {
         if self.takes(">") {
             return Ok(None);
@@ -280,7 +217,7 @@ impl<'a> Reader<'a> {
 
     /// A token behind its `<`: `name [":" kind] ">"`
     fn token(&mut self) -> Result<PartDecl, ReadFault>
-        ensures { Parses token (λ t p. seen_part p ≡ token_means t) result self.old.rest.now self.new.rest.now }
+        ensures { Parses token (λ t p. seen_part p ≡ token_means t) result self.old.cursor.rest.now self.new.cursor.rest.now }
     {
         let name = self.name()?;
         let written = self.token_kind()?;
@@ -295,7 +232,7 @@ impl<'a> Reader<'a> {
 
     /// A component.
     fn part(&mut self) -> Result<PartDecl, ReadFault>
-        ensures { Parses part (λ t p. seen_part p ≡ part_means t) result self.old.rest.now self.new.rest.now }
+        ensures { Parses part (λ t p. seen_part p ≡ part_means t) result self.old.cursor.rest.now self.new.cursor.rest.now }
     {
         if self.takes("<") {
             self.token()
@@ -308,7 +245,7 @@ impl<'a> Reader<'a> {
 
     /// `{ part } ";"`, where a component that begins with `/` is left out.
     fn parts(&mut self) -> Result<Vec<PartDecl>, ReadFault>
-        ensures { Parses parts (λ ps v. map seen_part v.items ≡ map part_means ps) result self.old.rest.now self.new.rest.now }
+        ensures { Parses parts (λ ps v. map seen_part v.items ≡ map part_means ps) result self.old.cursor.rest.now self.new.cursor.rest.now }
     {
         let mut parts = Vec::new(self.alloc);
         loop {
@@ -325,7 +262,7 @@ impl<'a> Reader<'a> {
 
     /// `["::=" { part }] ";"`
     fn body(&mut self) -> Result<Vec<PartDecl>, ReadFault>
-        ensures { Parses body (λ b v. map seen_part v.items ≡ body_means b) result self.old.rest.now self.new.rest.now }
+        ensures { Parses body (λ b v. map seen_part v.items ≡ body_means b) result self.old.cursor.rest.now self.new.cursor.rest.now }
     {
         if self.takes(";") {
             return Ok(Vec::new(self.alloc));
@@ -336,9 +273,9 @@ impl<'a> Reader<'a> {
 
     /// `["abstract"] name [":" name] ["::=" { part }] ";"`
     fn declaration(&mut self) -> Result<ClassDecl, ReadFault>
-        ensures { Parses declaration (λ d c. seen_class c ≡ class_means d) result self.old.rest.now self.new.rest.now }
+        ensures { Parses declaration (λ d c. seen_class c ≡ class_means d) result self.old.cursor.rest.now self.new.cursor.rest.now }
     {
-        let is_abstract = self.takes_word("abstract").is_some();
+        let is_abstract = self.cursor.takes_word("abstract").is_some();
         let name = self.name()?;
         let parent = self.kind()?;
         let parts = self.body()?;
@@ -353,11 +290,11 @@ impl<'a> Reader<'a> {
 
     /// `{ decl }`, up to the end.
     pub fn file(&mut self) -> Result<Vec<ClassDecl>, ReadFault>
-        ensures read { Parses file (λ ds v. map seen_class v.items ≡ map class_means ds) result self.old.rest.now self.new.rest.now }
-        ensures end { OnOk result (left self.new.rest.now ≡ []) }
+        ensures read { Parses file (λ ds v. map seen_class v.items ≡ map class_means ds) result self.old.cursor.rest.now self.new.cursor.rest.now }
+        ensures end { OnOk result (left self.new.cursor.rest.now ≡ []) }
     {
         let mut classes = Vec::new(self.alloc);
-        while !self.rest.is_empty() {
+        while !self.cursor.rest.is_empty() {
             let class = self.declaration()?;
             classes.push(class)?;
         }
