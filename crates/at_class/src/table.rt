@@ -15,11 +15,17 @@ use std::alloc::Global;
 use std::marker::Model;
 
 /// The classes of an abstract grammar without faults. A class is known by its position among the declarations.
-#[derive(Drop)]
 pub struct ClassTable {
     names: IndexSet<String>,
     // What is kept of each class, in the order of the names.
     entries: Vec<Entry>,
+}
+
+/// One call, where each exit that lets it go would else have a case for each collection.
+impl Drop for ClassTable {
+    fn drop(self) {
+        let ClassTable { names: _, entries: _ } = self;
+    }
 }
 
 impl Model for ClassTable {

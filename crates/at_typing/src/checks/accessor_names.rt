@@ -39,11 +39,21 @@ pub fn accessor_named(
 }
 
 /// The names of the components of all classes: of all of them, of the optionals and of the lists.
-#[derive(Drop)]
 struct Accessors<'a> {
     components: IndexSet<&'a [u8]>,
     optionals: IndexSet<&'a [u8]>,
     lists: IndexSet<&'a [u8]>,
+}
+
+/// One call, where each exit that lets it go would else have a case for each collection.
+impl Drop for Accessors<'_> {
+    fn drop(self) {
+        let Accessors {
+            components: _,
+            optionals: _,
+            lists: _,
+        } = self;
+    }
 }
 
 impl<'a> Accessors<'a> {

@@ -56,7 +56,6 @@ fn is_twice(
 }
 
 /// The attributes that are declared before a declaration.
-#[derive(Drop)]
 struct Before<'a> {
     // The first declaration of each name.
     first: IndexMap<usize, &'a DeclForm>,
@@ -64,6 +63,17 @@ struct Before<'a> {
     declared: IndexSet<(NamedClass, usize)>,
     // Each class with each name that it or a class below it declares.
     above: IndexSet<(NamedClass, usize)>,
+}
+
+/// One call, where each exit that lets them go would else have a case for each collection.
+impl Drop for Before<'_> {
+    fn drop(self) {
+        let Before {
+            first: _,
+            declared: _,
+            above: _,
+        } = self;
+    }
 }
 
 impl<'a> Before<'a> {
