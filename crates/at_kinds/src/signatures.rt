@@ -16,6 +16,7 @@ pub enum WrittenKind {
 
 /// What is declared of an attribute: its name, the class that has it, where that is there, and the kinds
 /// of its parameters and of its value.
+#[derive(Drop)]
 pub struct Signature {
     pub name: String,
     pub class: Option<ClassId>,
@@ -37,7 +38,12 @@ pub struct Signatures {
 /// One call, where each exit that lets it go would else have a case for each collection.
 impl Drop for Signatures {
     fn drop(self) {
-        let Signatures { alloc: _, items: _, names: _, first: _ } = self;
+        let Signatures {
+            alloc: _,
+            items: _,
+            names: _,
+            first: _,
+        } = self;
     }
 }
 
