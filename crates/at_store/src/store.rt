@@ -95,7 +95,7 @@ impl Store {
             return Err(LoadFault::Limit);
         }
         let mut slab = Slab::new(alloc);
-        let root = plant(alloc, &mut slab, None, 0, &tree)?;
+        let root = plant(alloc, &mut slab, None, 0, tree)?;
         Ok(Store {
             slab,
             root,
@@ -292,7 +292,7 @@ impl Store {
         ensures kept { OnErr result (IsStoreAsBefore self.old self.new) }
         ensures marks { MarksNoMore self.old.slab self.new.slab }
     {
-        let new = plant(alloc, &mut self.slab, None, 0, &tree)?;
+        let new = plant(alloc, &mut self.slab, None, 0, tree)?;
         self.waiting = Some(new);
         Ok(new)
     }
