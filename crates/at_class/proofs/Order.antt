@@ -1,14 +1,15 @@
 -- The first of the faults.
 use Rattle.std.proofs.Common.{◌≡◌, refl, ap, sym, ◌∙◌, Option, Some, None}
 use Rattle.at_model.specs.Declarations.{Declarations, Place, NoClass, ClassTwice, UnknownClass, SuperclassCircle, TokenKindCode, ComponentTwice, Limit, first_fault, no_class, class_twice, unknown_class, superclass_circle, token_kind, component_twice, over_limit}
+use Rattle.at_text.specs.declared.fault.Fault.{Fault}
+use Rattle.at_text.specs.declared.fault.Fault.TheVariants.{Refused, Memory}
 use Rattle.at_class.specs.declared.fault.ClassCode.{ClassCode}
-use Rattle.at_class.specs.declared.fault.ClassFault.{ClassFault}
-use Rattle.at_class.specs.declared.fault.ClassFault.TheVariants.{Refused, Memory}
+use Rattle.at_class.specs.Grammar.{place_view}
 use Rattle.at_class.specs.Faults.{IsAt, IsRefusedFor, code_view}
 
 -- what a refusal says is the first fault, if its code has it at that place
-pub refused_for : (ds : Declarations) (code : ClassCode) (place : Option Place) (e : ClassFault) → ((at : Place) → place ≡ Some at → first_fault ds ≡ Some (record { code = code_view code; at = at })) → IsAt code place e → IsRefusedFor ds e
-refused_for ds code place (Refused c at) first (same, there) = first at there ∙ ap (λ k. Some (record { code = code_view k; at = at })) (sym same)
+pub refused_for : (ds : Declarations) (code : ClassCode) (place : Option Place) (e : Fault ClassCode) → ((at : Place) → place ≡ Some at → first_fault ds ≡ Some (record { code = code_view code; at = at })) → IsAt code place e → IsRefusedFor ds e
+refused_for ds code place (Refused c at) first (same, there) = first (place_view at) there ∙ ap (λ k. Some (record { code = code_view k; at = place_view at })) (sym same)
 refused_for ds code place Memory first h = tt
 
 pub fault_no_class : (ds : Declarations) (at : Place) → no_class ds ≡ Some at → first_fault ds ≡ Some (record { code = NoClass; at = at })

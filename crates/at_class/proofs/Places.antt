@@ -11,7 +11,7 @@ use Rattle.at_grammar.specs.declared.syntax.PartDecl.{PartDecl}
 use Rattle.at_model.specs.Classes.{Classes, parts}
 use Rattle.at_model.specs.Declarations.{PartDeclaration, class_by, class_named, classes_of, first_given, is_twice, max_classes, max_parts}
 use Rattle.at_class.specs.Checks.{parts_twice}
-use Rattle.at_class.specs.Grammar.{declaration_view, declarations_view, part_declaration_view}
+use Rattle.at_class.specs.Grammar.{declaration_view, declarations_view, part_declaration_view, place_view}
 use Rattle.at_class.specs.Taken.{IsFirst}
 use Rattle.at_class.specs.View.{class_view, classes_view}
 use Rattle.at_class.specs.Ways.{AreFound, IsFound}
@@ -43,7 +43,7 @@ twice_at_first classes c i ps first =
     let n : 0 + i ≡ i = omega arith in
     given_at (is_twice classes c) 0 i ps (ap (is_twice classes c) n ∙ first.0) (λ j less. first.1 j (omega (arith, less, n)))
 
-pub twice_there : (classes : Classes) (c i : ℕ) (parts : List PartDecl) (p : PartDecl) → IsFirst (is_twice classes c) (Some i) → i < length parts → p ≡ get_or parts i p → parts_twice classes c (map part_declaration_view parts) ≡ Some p.at
+pub twice_there : (classes : Classes) (c i : ℕ) (parts : List PartDecl) (p : PartDecl) → IsFirst (is_twice classes c) (Some i) → i < length parts → p ≡ get_or parts i p → parts_twice classes c (map part_declaration_view parts) ≡ Some (place_view p.at)
 twice_there classes c i parts p first less is =
     twice_at_first classes c i (map part_declaration_view parts) first
     ∙ ap (option_map (λ (q : PartDeclaration). q.at)) (slice_get-map part_declaration_view parts i ∙ ap (option_map part_declaration_view) (slice_get_read parts (length parts) i p refl less is))

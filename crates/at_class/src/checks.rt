@@ -1,9 +1,9 @@
 //! The rules of a grammar, each with the first place at which it is broken.
-ghost use Rattle.std.specs.Prelude.{◌≡◌, ◌||◌, ℕ, IfOk, length, map, nat_eq, nat_le};
+ghost use Rattle.std.specs.Prelude.{◌≡◌, ◌||◌, ℕ, IfOk, length, map, option_map, nat_eq, nat_le};
 ghost use Rattle.at_model.specs.Classes.{Classes};
 ghost use Rattle.at_model.specs.Declarations.{token_kind, max_classes};
 ghost use Rattle.at_class.specs.View.{named_in, classes_view};
-ghost use Rattle.at_class.specs.Grammar.{declarations_view, part_declaration_view};
+ghost use Rattle.at_class.specs.Grammar.{declarations_view, place_view, part_declaration_view};
 ghost use Rattle.at_class.specs.Checks.{unknown_by, circle_in, kind_in, is_of_no_kind, twice_in, parts_twice, over_in};
 ghost use Rattle.at_class.specs.Ways.{AreFound, IsFound};
 
@@ -13,6 +13,7 @@ use crate::found::Found;
 use crate::names::{is_known, is_token};
 use crate::part::ClassId;
 use at_grammar::{ClassDecl, PartDecl};
+use at_text::place::Place;
 use indexmap::IndexSet;
 use std::alloc::{AllocError, Global};
 
@@ -20,8 +21,8 @@ use std::alloc::{AllocError, Global};
 const MAX_CLASSES: usize = 1000;
 
 /// The name of the first class that has a superclass or a component of a class that is not declared.
-pub fn unknown_class(names: &IndexSet<String>, declarations: &[ClassDecl]) -> Option<(u32, u32)>
-    ensures { result ≡ unknown_by (named_in names.now.keys) (declarations_view declarations.now) }
+pub fn unknown_class(names: &IndexSet<String>, declarations: &[ClassDecl]) -> Option<Place>
+    ensures { option_map place_view result ≡ unknown_by (named_in names.now.keys) (declarations_view declarations.now) }
 {
     for declaration in declarations {
         if !is_known(names, declaration) {
@@ -36,8 +37,8 @@ pub fn superclass_circle(
     alloc: Global,
     classes: &[Class],
     declarations: &[ClassDecl],
-) -> Result<Option<(u32, u32)>, AllocError>
-    ensures { IfOk result (λ place. place ≡ circle_in (classes_view classes.now) (declarations_view declarations.now)) }
+) -> Result<Option<Place>, AllocError>
+    ensures { IfOk result (λ place. option_map place_view place ≡ circle_in (classes_view classes.now) (declarations_view declarations.now)) }
 {
     let mut circles = Circles::new(alloc, classes)?;
     for (position, declaration) in declarations.iter().enumerate() {
@@ -51,8 +52,8 @@ pub fn superclass_circle(
 }
 
 /// The name of the first token whose kind is none of the three.
-pub fn wrong_token_kind(declarations: &[ClassDecl]) -> Option<(u32, u32)>
-    ensures { result ≡ token_kind (declarations_view declarations.now) }
+pub fn wrong_token_kind(declarations: &[ClassDecl]) -> Option<Place>
+    ensures { option_map place_view result ≡ token_kind (declarations_view declarations.now) }
 {
     for declaration in declarations {
         if let Some(at) = wrong_kind_in(&declaration.parts) {
@@ -62,8 +63,8 @@ pub fn wrong_token_kind(declarations: &[ClassDecl]) -> Option<(u32, u32)>
     None
 }
 
-fn wrong_kind_in(parts: &[PartDecl]) -> Option<(u32, u32)>
-    ensures { result ≡ kind_in (map part_declaration_view parts.now) }
+fn wrong_kind_in(parts: &[PartDecl]) -> Option<Place>
+    ensures { option_map place_view result ≡ kind_in (map part_declaration_view parts.now) }
 {
     for part in parts {
         if has_wrong_kind(part) {
@@ -80,9 +81,9 @@ fn has_wrong_kind(part: &PartDecl) -> bool
 }
 
 /// The first component that clashes with one before it in its class, or with what every tree has: of classes of which this was found.
-pub fn component_twice(found: &[Found], declarations: &[ClassDecl]) -> Option<(u32, u32)>
+pub fn component_twice(found: &[Found], declarations: &[ClassDecl]) -> Option<Place>
     requires { length found.now ≡ length declarations.now }
-    ensures { (classes : Classes) → AreFound classes found.now (length found.now) → result ≡ twice_in classes (declarations_view declarations.now) }
+    ensures { (classes : Classes) → AreFound classes found.now (length found.now) → option_map place_view result ≡ twice_in classes (declarations_view declarations.now) }
 {
     for (position, declaration) in declarations.iter().enumerate() {
         if let Some(at) = twice_at(found[position], &declaration.parts) {
@@ -92,16 +93,16 @@ pub fn component_twice(found: &[Found], declarations: &[ClassDecl]) -> Option<(u
     None
 }
 
-fn twice_at(found: Found, parts: &[PartDecl]) -> Option<(u32, u32)>
-    ensures { (classes : Classes) (class : ℕ) → IsFound classes class found → result ≡ parts_twice classes class (map part_declaration_view parts.now) }
+fn twice_at(found: Found, parts: &[PartDecl]) -> Option<Place>
+    ensures { (classes : Classes) (class : ℕ) → IsFound classes class found → option_map place_view result ≡ parts_twice classes class (map part_declaration_view parts.now) }
 {
     Some(parts.get(found.twice?)?.at)
 }
 
 /// The name of the first class that is one too many, or has too many components: of classes of which this was found.
-pub fn over_limit(found: &[Found], declarations: &[ClassDecl]) -> Option<(u32, u32)>
+pub fn over_limit(found: &[Found], declarations: &[ClassDecl]) -> Option<Place>
     requires { length found.now ≡ length declarations.now }
-    ensures { (classes : Classes) → AreFound classes found.now (length found.now) → result ≡ over_in classes (declarations_view declarations.now) }
+    ensures { (classes : Classes) → AreFound classes found.now (length found.now) → option_map place_view result ≡ over_in classes (declarations_view declarations.now) }
 {
     for (position, declaration) in declarations.iter().enumerate() {
         if is_over(found[position], position) {

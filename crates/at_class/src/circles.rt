@@ -18,10 +18,16 @@ pub enum Mark {
 }
 
 /// What is known of each class, and the classes on the way up that is gone now.
-#[derive(Drop)]
 pub struct Circles {
     marks: Vec<Mark>,
     way: Vec<ClassId>,
+}
+
+/// One call, where each exit that lets it go would else have a case for each collection.
+impl Drop for Circles {
+    fn drop(self) {
+        let Circles { marks: _, way: _ } = self;
+    }
 }
 
 impl Circles {

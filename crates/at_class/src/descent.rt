@@ -5,11 +5,17 @@ use crate::part::ClassId;
 use std::alloc::{AllocError, Global};
 
 /// Lists of the classes below each class, as links: the first of them, and the next one below the same class.
-#[derive(Drop)]
 struct Kin {
     below: Vec<Option<ClassId>>,
     beside: Vec<Option<ClassId>>,
     highest: Option<ClassId>,
+}
+
+/// One call, where each exit that lets it go would else have a case for each collection.
+impl Drop for Kin {
+    fn drop(self) {
+        let Kin { below: _, beside: _, highest: _ } = self;
+    }
 }
 
 impl Kin {

@@ -1,5 +1,6 @@
 //! Why there is no class table.
-use std::alloc::{AllocError, AllocFailed};
+use at_text::fault::Fault;
+use at_text::place::Place;
 
 /// The rules of an abstract grammar that a refusal may name, in the order in which they are looked at.
 #[derive(Clone, Copy, PartialEq, Eq, Debug)]
@@ -20,44 +21,17 @@ pub enum ClassCode {
     Limit,
 }
 
-/// Why there is no class table.
-#[derive(Clone, Copy, PartialEq, Eq, Debug)]
-pub enum ClassFault {
-    /// The grammar breaks a rule, at a line and a column.
-    Refused { code: ClassCode, at: (u32, u32) },
-    /// Memory was wanting.
-    Memory,
-}
+/// Why there is no class table: the rule that the grammar breaks and its place, or want of memory.
+pub type ClassFault = Fault<ClassCode>;
 
-impl From<AllocError> for ClassFault {
-    ghost use Rattle.std.specs.Prelude.{◌≡◌};
-    ghost use Rattle.at_class.specs.declared.fault.ClassFault.TheVariants.{Memory};
-
-    ghost from_gives = { λ _ e. e ≡ Memory };
-
-    fn from(_: AllocError) -> Self {
-        ClassFault::Memory
-    }
-}
-
-impl<T: Drop> From<AllocFailed<T>> for ClassFault {
-    ghost use Rattle.std.specs.Prelude.{◌≡◌};
-    ghost use Rattle.at_class.specs.declared.fault.ClassFault.TheVariants.{Memory};
-
-    ghost from_gives = { λ _ e. e ≡ Memory };
-
-    fn from(_: AllocFailed<T>) -> Self {
-        ClassFault::Memory
-    }
-}
-
-ghost use Rattle.std.specs.Prelude.{◌≡◌, IfErr, None, OnOk};
+ghost use Rattle.std.specs.Prelude.{◌≡◌, IfErr, None, OnOk, option_map};
+ghost use Rattle.at_class.specs.Grammar.{place_view};
 ghost use Rattle.at_class.specs.Faults.{IsAt};
 
 /// A refusal with that code, where there is a place for it.
-pub fn refuse(code: ClassCode, place: Option<(u32, u32)>) -> Result<(), ClassFault>
+pub fn refuse(code: ClassCode, place: Option<Place>) -> Result<(), ClassFault>
     ensures ok { OnOk result (place ≡ None) }
-    ensures err { IfErr result (IsAt code place) }
+    ensures err { IfErr result (IsAt code (option_map place_view place)) }
 {
     match place {
         None => Ok(()),

@@ -15,10 +15,16 @@ pub struct Found {
 }
 
 /// What is found of the classes that were looked at.
-#[derive(Drop)]
 pub struct Inspection {
     way: Way,
     found: Vec<Option<Found>>,
+}
+
+/// One call, where each exit that lets it go would else have a case for each collection.
+impl Drop for Inspection {
+    fn drop(self) {
+        let Inspection { way: _, found: _ } = self;
+    }
 }
 
 impl Inspection {

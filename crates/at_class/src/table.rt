@@ -9,16 +9,23 @@ use crate::found::found_of_all;
 use crate::names::{class_named, class_names};
 use crate::part::{ClassId, Part, position_named};
 use at_grammar::{ClassDecl, Grammar};
+use at_text::place::Place;
 use indexmap::IndexSet;
 use std::alloc::Global;
 use std::marker::Model;
 
 /// The classes of an abstract grammar without faults. A class is known by its position among the declarations.
-#[derive(Drop)]
 pub struct ClassTable {
     names: IndexSet<String>,
     // What is kept of each class, in the order of the names.
     entries: Vec<Entry>,
+}
+
+/// One call, where each exit that lets it go would else have a case for each collection.
+impl Drop for ClassTable {
+    fn drop(self) {
+        let ClassTable { names: _, entries: _ } = self;
+    }
 }
 
 impl Model for ClassTable {
@@ -164,7 +171,7 @@ fn table_of(alloc: Global, declarations: &[ClassDecl]) -> Result<ClassTable, Cla
     if declarations.is_empty() {
         return Err(ClassFault::Refused {
             code: ClassCode::NoClass,
-            at: (1, 1),
+            at: Place::START,
         });
     }
     let names = class_names(alloc, declarations)?;

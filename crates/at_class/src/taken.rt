@@ -4,10 +4,16 @@ use indexmap::IndexSet;
 use std::alloc::{AllocError, Global};
 
 /// The names of some components, and those of the accessors of the lists among them.
-#[derive(Drop)]
 pub struct TakenNames {
     names: IndexSet<String>,
     accessors: IndexSet<String>,
+}
+
+/// One call, where each exit that lets it go would else have a case for each collection.
+impl Drop for TakenNames {
+    fn drop(self) {
+        let TakenNames { names: _, accessors: _ } = self;
+    }
 }
 
 impl TakenNames {

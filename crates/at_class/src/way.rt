@@ -20,10 +20,16 @@ pub struct Level {
 }
 
 /// The way down to a class from the highest above it, and the names that the components on it take.
-#[derive(Drop)]
 pub struct Way {
     levels: Vec<Level>,
     taken: TakenNames,
+}
+
+/// One call, where each exit that lets it go would else have a case for each collection.
+impl Drop for Way {
+    fn drop(self) {
+        let Way { levels: _, taken: _ } = self;
+    }
 }
 
 impl Way {

@@ -11,6 +11,7 @@ use Rattle.at_model.specs.Names as names
 use Rattle.at_text.specs.Reading.{first, LeftOut, Takes, Refuses, and_then, Whole, Stuck, run}
 use Rattle.at_text.specs.Symbols.{Symbol, sign, is_sign, is_word}
 use Rattle.at_text.proofs.ReadingLaws.{run-takes, run-leaves_out, many_none}
+use Rattle.at_text.specs.declared.place.Place.{Place}
 use Rattle.at_grammar.specs.Grammar as grammar
 use Rattle.at_grammar.specs.Grammar.{Word, Typed, IsName, IsTokenKind, IsTyped, IsToken, IsPart, AreParts, IsBody, IsDeclaration, IsFile, IfWritten, Declaration}
 use Rattle.at_grammar.specs.Faults.{GoesOnKind, LeftOutOfParts, IsLeftOut}
@@ -112,11 +113,11 @@ differs true text is e =
 no_name_is_abstract : (text : List ℕ) → is_name text ≡ true → bytes_eq text (codes "abstract") ≡ false
 no_name_is_abstract text is = differs (bytes_eq text (codes "abstract")) text is refl
 
-modifier_spelled : (m : Option (ℕ × ℕ)) (more : List Symbol) → is_word (codes "abstract") (first more) ≡ false → Reads modifier m (grammar.modifier m ++ more) more
+modifier_spelled : (m : Option Place) (more : List Symbol) → is_word (codes "abstract") (first more) ≡ false → Reads modifier m (grammar.modifier m ++ more) more
 modifier_spelled None more e = modifier_none _ more refl e
 modifier_spelled (Some at) more e = modifier_some at _ more refl
 
-head_spelled : (m : Option (ℕ × ℕ)) (n : Word) (p : Option Word) (more : List Symbol) → IsName n → IfWritten IsName p → is_sign (codes ":") (first more) ≡ false → HeadRead (head_of m n p) (grammar.head (head_of m n p) ++ more) more
+head_spelled : (m : Option Place) (n : Word) (p : Option Word) (more : List Symbol) → IsName n → IfWritten IsName p → is_sign (codes ":") (first more) ≡ false → HeadRead (head_of m n p) (grammar.head (head_of m n p) ++ more) more
 head_spelled m n p more is below e =
     let text : grammar.head (head_of m n p) ++ more ≡ grammar.modifier m ++ (grammar.name n ∷ (grammar.kind p ++ more)) = append_assoc (grammar.modifier m) (grammar.name n ∷ grammar.kind p) more in
     subst (λ (x : List Symbol). HeadRead (head_of m n p) x more) (sym text)

@@ -1,21 +1,24 @@
 -- How reading components, classes and files follows from reading their parts.
-use Rattle.std.proofs.Common.{◌≡◌, ℕ, ◌<◌, List, [], ◌∷◌, ◌++◌, Bool, true, false, cond, Option, Some, None, length, refl, sym, ap, ◌∙◌, append_assoc, length-append, arith, inl, inr}
+use Rattle.std.proofs.Common.{◌≡◌, ◌<◌, List, [], ◌∷◌, ◌++◌, Bool, true, false, cond, Option, Some, None, length, refl, sym, ap, ◌∙◌, append_assoc, length-append, arith, inl, inr}
 use Rattle.std.specs.Prelude.{MatchOption}
 use Rattle.std.specs.List.{flat_map}
 use Rattle.std.proofs.lemmas.List.{append-nil}
 use Rattle.std.proofs.lemmas.Grind.{flat_map-append}
 use lib.Chars.{codes}
 use Rattle.at_text.specs.Reading.{first, Reason, LeftOut, Takes, Skips, Refuses, LeavesOut, and_then, is_skip, run}
-use Rattle.at_text.specs.Symbols.{Symbol, word, sign, is_sign, is_word, is_name_next}
+use Rattle.at_text.specs.Symbols.{Symbol, word, sign, is_sign, is_word, is_name_next, symbols, words_keep}
+use Rattle.at_text.specs.Rows as rows
 use Rattle.at_text.proofs.ReadingLaws.{run-takes, run-skips, run-begins, leaves_here, stops_within, Many, all_push, all_append, one_more}
 use Rattle.at_grammar.specs.Grammar as grammar
 use Rattle.at_grammar.specs.Grammar.{Word, Typed, IsName, IsPart, AreParts, IsBody, IsDeclaration, IsFile, IfWritten, Declaration}
 use Rattle.at_grammar.specs.Faults.{LeftOutOfParts}
 use Rattle.at_grammar.specs.Table as want
 use Rattle.at_grammar.specs.Table.{Want, table, name_answer, child_answer, part_answer, more_parts_answer, declaration_answer, mark_answer}
-use Rattle.at_text.specs.declared.placed.Placed.{Placed}
+use Rattle.at_text.specs.declared.cursor.Cursor.{Cursor}
+use Rattle.at_text.specs.declared.place.Place.{Place}
 use Rattle.at_grammar.specs.Forms.{left, name, mark, kind, part, parts, body, modifier, declaration, file}
 use Rattle.at_grammar.proofs.Paths.{Reads, Stops, Goes, on_never_skips}
+use Rattle.at_grammar.proofs.Tokens.{same_left, next_word}
 
 -- ---- { part } ";"
 
@@ -102,13 +105,13 @@ pub modifier_none : (old rest : List Symbol) → rest ≡ old → is_word (codes
 unfolding table
 modifier_none old rest same e = record { is = tt; text = sym same; goes = λ ws. run-skips table want.Modifier ws old (ap (λ b. cond b (Takes []) Skips) e) ∙ ap (run table ws) (sym same) }
 
-pub modifier_some : (at : ℕ × ℕ) (old rest : List Symbol) → old ≡ word (codes "abstract") at ∷ rest → Reads modifier (Some at) old rest
+pub modifier_some : (at : Place) (old rest : List Symbol) → old ≡ word (codes "abstract") at ∷ rest → Reads modifier (Some at) old rest
 unfolding table
 modifier_some at old rest e = record { is = tt; text = e; goes = λ ws. ap (run table (want.Modifier ∷ ws)) e ∙ run-takes table want.Modifier [] ws (word (codes "abstract") at) rest refl }
 
-pub modifier_reads : (r : Option (ℕ × ℕ)) (old new : List Placed) → MatchOption r ((new ≡ old) × (is_word (codes "abstract") (first (left old)) ≡ false)) (λ at. left old ≡ word (codes "abstract") at ∷ left new) → Reads modifier r (left old) (left new)
-modifier_reads None old new h = modifier_none (left old) (left new) (ap left h.0) h.1
-modifier_reads (Some at) old new h = modifier_some at (left old) (left new) h
+pub modifier_reads : (r : Option Place) (old new : Cursor) → MatchOption r ((new ≡ old) × (rows.next_is (rows.is_word (codes "abstract")) (rows.left old.rest.now) ≡ false)) (λ at. rows.left old.rest.now ≡ rows.word (codes "abstract") at ∷ rows.left new.rest.now) → Reads modifier r (left old.rest.now) (left new.rest.now)
+modifier_reads None old new h = modifier_none _ _ (same_left new old h.0) (sym (next_word (codes "abstract") (rows.left old.rest.now)) ∙ h.1)
+modifier_reads (Some at) old new h = modifier_some at _ _ (ap (symbols words_keep) h)
 
 -- ---- ["abstract"] name [":" name] ["::=" { part }] ";"
 
@@ -142,10 +145,10 @@ pub record HeadRead (d : Declaration) (old rest : List Symbol) : Type 0 where
   pub text : old ≡ grammar.head d ++ rest
   pub goes : Goes (want.Declaration ∷ []) old (want.Body ∷ []) rest
 
-abbrev pub head_of : Option (ℕ × ℕ) → Word → Option Word → Declaration
+abbrev pub head_of : Option Place → Word → Option Word → Declaration
 head_of m n p = record { abstract_at = m; name = n; parent = p; parts = None }
 
-pub head_read : (m : Option (ℕ × ℕ)) (n : Word) (p : Option Word) (old a b rest : List Symbol) → Reads modifier m old a → Reads name n a b → Reads kind p b rest → HeadRead (head_of m n p) old rest
+pub head_read : (m : Option Place) (n : Word) (p : Option Word) (old a b rest : List Symbol) → Reads modifier m old a → Reads name n a b → Reads kind p b rest → HeadRead (head_of m n p) old rest
 head_read m n p old a b rest x y z = record {
   named = y.is;
   below = z.is;
@@ -153,23 +156,23 @@ head_read m n p old a b rest x y z = record {
   goes = λ ws. declaration_goes old ws ∙ x.goes (after_modifier ws) ∙ y.goes (want.Kind ∷ want.Body ∷ ws) ∙ z.goes (want.Body ∷ ws);
 }
 
-pub declaration_reads : (m : Option (ℕ × ℕ)) (n : Word) (p : Option Word) (b : Option (List grammar.Part)) (old mid rest : List Symbol) → HeadRead (head_of m n p) old mid → Reads body b mid rest → Reads declaration (record { abstract_at = m; name = n; parent = p; parts = b }) old rest
+pub declaration_reads : (m : Option Place) (n : Word) (p : Option Word) (b : Option (List grammar.Part)) (old mid rest : List Symbol) → HeadRead (head_of m n p) old mid → Reads body b mid rest → Reads declaration (record { abstract_at = m; name = n; parent = p; parts = b }) old rest
 declaration_reads m n p b old mid rest h r = record {
   is = (h.named, h.below, r.is);
   text = h.text ∙ ap (λ l. grammar.head (head_of m n p) ++ l) r.text ∙ sym (append_assoc (grammar.head (head_of m n p)) (grammar.body b) rest);
   goes = λ ws. h.goes ws ∙ r.goes ws;
 }
 
-pub declaration_stops_name : (m : Option (ℕ × ℕ)) (q : Reason) (old a rest : List Symbol) → Reads modifier m old a → Stops name q a rest → Stops declaration q old rest
+pub declaration_stops_name : (m : Option Place) (q : Reason) (old a rest : List Symbol) → Reads modifier m old a → Stops name q a rest → Stops declaration q old rest
 declaration_stops_name m q old a rest x s = stops_within table name declaration q old a rest (grammar.modifier m) (want.Kind ∷ want.Body ∷ []) (λ n. head_of m n None) (sign (codes ";") ∷ []) x.text
     (λ ws. declaration_goes old ws ∙ x.goes (after_modifier ws)) (λ u is. (is, tt, tt)) (λ u. append_assoc (grammar.modifier m) (grammar.name u ∷ []) (sign (codes ";") ∷ [])) (λ xs y h. absurd h) s
 
-pub declaration_stops_parent : (m : Option (ℕ × ℕ)) (n : Word) (q : Reason) (old a b rest : List Symbol) → Reads modifier m old a → Reads name n a b → Stops kind q b rest → Stops declaration q old rest
+pub declaration_stops_parent : (m : Option Place) (n : Word) (q : Reason) (old a b rest : List Symbol) → Reads modifier m old a → Reads name n a b → Stops kind q b rest → Stops declaration q old rest
 declaration_stops_parent m n q old a b rest x y s = stops_within table kind declaration q old b rest (grammar.modifier m ++ grammar.name n ∷ []) (want.Body ∷ []) (λ p. head_of m n p) (sign (codes ";") ∷ [])
     (x.text ∙ ap (λ l. grammar.modifier m ++ l) y.text ∙ sym (append_assoc (grammar.modifier m) (grammar.name n ∷ []) b))
     (λ ws. declaration_goes old ws ∙ x.goes (after_modifier ws) ∙ y.goes (want.Kind ∷ want.Body ∷ ws)) (λ u is. (y.is, is, tt)) (λ u. simp append_assoc) (λ xs z h. absurd h) s
 
-pub declaration_stops_body : (m : Option (ℕ × ℕ)) (n : Word) (p : Option Word) (q : Reason) (old mid rest : List Symbol) → HeadRead (head_of m n p) old mid → Stops body q mid rest → Stops declaration q old rest
+pub declaration_stops_body : (m : Option Place) (n : Word) (p : Option Word) (q : Reason) (old mid rest : List Symbol) → HeadRead (head_of m n p) old mid → Stops body q mid rest → Stops declaration q old rest
 declaration_stops_body m n p q old mid rest h s = stops_within table body declaration q old mid rest (grammar.head (head_of m n p)) [] (λ b. record { abstract_at = m; name = n; parent = p; parts = b }) [] h.text h.goes
     (λ u is. (h.named, h.below, is)) (λ u. ap (λ l. grammar.head (head_of m n p) ++ l) (sym (append-nil (grammar.body u))))
     (λ xs z k. (head_of m n p, k.0, (h.named, h.below, tt), ap (λ l. grammar.head (head_of m n p) ++ l) k.1, k.2)) s

@@ -13,6 +13,7 @@ use Rattle.at_text.specs.Reading.{first, Reason, Refused, LeftOut, Answer, Takes
 use Rattle.at_text.specs.Reading as reading
 use Rattle.at_text.specs.Symbols.{Symbol, sign, is_sign, is_name_next}
 use Rattle.at_text.proofs.ReadingLaws.{run-takes, run-skips, run-same, run-begins, stops_here, leaves_here, stops_within}
+use Rattle.at_text.specs.Place.{first_place}
 use Rattle.at_grammar.specs.Grammar as grammar
 use Rattle.at_grammar.specs.Grammar.{Word, Typed, IsName, IsTokenKind, IsPart, IfWritten, is_token_kind, is_basic_kind, Declaration}
 use Rattle.at_grammar.specs.Table as want
@@ -44,7 +45,7 @@ stops_mark text old rest same e = rw same (stops_here table (mark text) tt old t
 
 -- a name, to complete what was read
 some_name : Word
-some_name = record { text = codes "_"; at = (1, 1) }
+some_name = record { text = codes "_"; at = first_place }
 
 is_some_name : is_name (codes "_") ≡ true
 unfolding reserved_words

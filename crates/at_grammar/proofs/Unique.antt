@@ -5,6 +5,7 @@ use lib.Chars.{codes}
 use Rattle.at_model.specs.Names.{is_name}
 use Rattle.at_text.specs.Reading.{first}
 use Rattle.at_text.specs.Symbols.{Symbol, word, sign, is_sign}
+use Rattle.at_text.specs.declared.place.Place.{Place}
 use Rattle.at_grammar.specs.Grammar as grammar
 use Rattle.at_grammar.specs.Grammar.{Word, Typed, IsName, IsDeclaration, IsFile, Declaration}
 use Rattle.at_grammar.proofs.Accepts.{Follows, follows_parts, no_end, no_colon, abstract_is_no_name}
@@ -89,12 +90,12 @@ body_unique None (Some qs) x y e = absurd (apart (codes "::=") _ _ e refl refl)
 body_unique (Some ps) None x y e = absurd (apart (codes "::=") _ _ (sym e) refl refl)
 body_unique (Some ps) (Some qs) x y e = let k = parts_unique ps qs x y (tail_is _ _ _ _ e) in (ap (λ (l : List grammar.Part). Some l) k.0, k.1)
 
-named_abstract : (n : Word) (at : ℕ × ℕ) → IsName n → grammar.name n ≡ word (codes "abstract") at → ⊥
+named_abstract : (n : Word) (at : Place) → IsName n → grammar.name n ≡ word (codes "abstract") at → ⊥
 named_abstract n at is e =
     let same : n.text ≡ codes "abstract" = ap (λ (s : Symbol). s.text) e in
     absurd (let h : true ≡ false = sym is ∙ ap is_name same ∙ abstract_is_no_name in cc)
 
-modifier_unique : (a b : Option (ℕ × ℕ)) (m n : Word) (x y : List Symbol) → IsName m → IsName n → grammar.modifier a ++ grammar.name m ∷ x ≡ grammar.modifier b ++ grammar.name n ∷ y → (a ≡ b) × (m ≡ n) × (x ≡ y)
+modifier_unique : (a b : Option Place) (m n : Word) (x y : List Symbol) → IsName m → IsName n → grammar.modifier a ++ grammar.name m ∷ x ≡ grammar.modifier b ++ grammar.name n ∷ y → (a ≡ b) × (m ≡ n) × (x ≡ y)
 modifier_unique None None m n x y i j e = (refl, word_unique m n (head_is _ _ _ _ e), tail_is _ _ _ _ e)
 modifier_unique None (Some at) m n x y i j e = absurd (named_abstract m at i (head_is _ _ _ _ e))
 modifier_unique (Some at) None m n x y i j e = absurd (named_abstract n at j (head_is _ _ _ _ (sym e)))

@@ -8,8 +8,11 @@ use Rattle.at_text.specs.Faults as scanning
 use Rattle.at_text.specs.Place.{place_of}
 use Rattle.at_text.specs.Reading.{first, IsFirstFault}
 use Rattle.at_text.specs.Symbols.{PlacedToken, HasTokens, next_place, Symbol, sign, symbols, words_keep}
-use Rattle.at_grammar.specs.declared.AstFault.{AstFault}
-use Rattle.at_grammar.specs.declared.AstFault.TheVariants.{Memory, Syntax, LeftOut}
+use Rattle.at_text.specs.declared.place.Place.{Place}
+use Rattle.at_text.specs.declared.fault.Fault.{Fault}
+use Rattle.at_text.specs.declared.fault.Fault.TheVariants.{Refused, Memory}
+use Rattle.at_grammar.specs.declared.AstCode.{AstCode}
+use Rattle.at_grammar.specs.declared.AstCode.TheVariants.{Syntax, LeftOut}
 use Rattle.at_grammar.specs.Grammar as grammar
 use Rattle.at_grammar.specs.Grammar.{Word, IsName, IsTokenKind, Part, AreParts, Declaration, IsDeclaration, IsFile}
 
@@ -41,7 +44,7 @@ IsLeftOut front s = (ds : List Declaration) × (d : Declaration) × (more : List
 -- ---- the faults
 
 -- The front begins a file. No file goes on with the token after it, or with the end of the text; its place is this.
-pub record StopsAt (text : List ℕ) (front rest : List PlacedToken) (at : ℕ × ℕ) : Type 0 where
+pub record StopsAt (text : List ℕ) (front rest : List PlacedToken) (at : Place) : Type 0 where
   pub tokens : HasTokens text (front ++ rest)
   pub fault : IsFirstFault IsFile grammar.file (symbols words_keep front) (symbols words_keep rest)
   pub place : at ≡ next_place text rest
@@ -51,15 +54,15 @@ abbrev pub MeetsLeftOut : List PlacedToken → List PlacedToken → Type 0
 MeetsLeftOut front rest = IsLeftOut (symbols words_keep front) (first (symbols words_keep rest))
 
 -- the text is no row of tokens, and this is the place where it can't be cut further
-abbrev pub IsScanFaultAt : List ℕ → ℕ × ℕ → ScanFault → Type 0
+abbrev pub IsScanFaultAt : List ℕ → Place → ScanFault → Type 0
 IsScanFaultAt text at scan.Memory = ⊥
 IsScanFaultAt text at (scan.Bad offset) = scanning.FaultsAt text (scan.Bad offset) × (at ≡ place_of text offset)
 IsScanFaultAt text at (scan.OpenText offset) = scanning.FaultsAt text (scan.OpenText offset) × (at ≡ place_of text offset)
 IsScanFaultAt text at (scan.OpenComment offset) = scanning.FaultsAt text (scan.OpenComment offset) × (at ≡ place_of text offset)
 
 -- the fault of the text; of want of memory nothing is said
-abbrev pub IsFault : List ℕ → AstFault → Type 0
+abbrev pub IsFault : List ℕ → Fault AstCode → Type 0
 IsFault text Memory = Unit {0}
-IsFault text (Syntax at) = ((fault : ScanFault) × IsScanFaultAt text at fault)
+IsFault text (Refused Syntax at) = ((fault : ScanFault) × IsScanFaultAt text at fault)
     ⊎ ((front : List PlacedToken) × (rest : List PlacedToken) × StopsAt text front rest at × (MeetsLeftOut front rest → ⊥))
-IsFault text (LeftOut at) = (front : List PlacedToken) × (rest : List PlacedToken) × StopsAt text front rest at × MeetsLeftOut front rest
+IsFault text (Refused LeftOut at) = (front : List PlacedToken) × (rest : List PlacedToken) × StopsAt text front rest at × MeetsLeftOut front rest

@@ -1,12 +1,16 @@
 -- The forms of the grammar, and what the reader's methods say of them.
-use Rattle.std.specs.Prelude.{◌≡◌, ℕ, List, [], ◌∷◌, ◌++◌, map, Option, Some, None, Result}
+use Rattle.std.specs.Prelude.{◌≡◌, ℕ, List, [], ◌∷◌, ◌++◌, Option, Some, None, Result}
 use lib.Chars.{codes}
 use Rattle.at_text.specs.declared.placed.Placed.{Placed}
 use Rattle.at_text.specs.Reading as reading
 use Rattle.at_text.specs.Reading.{Reason, Refused, LeftOut, Form}
-use Rattle.at_text.specs.Symbols.{Symbol, sign, symbol, placed, words_keep}
-use Rattle.at_grammar.specs.declared.reader.ReadError.{ReadError}
-use Rattle.at_grammar.specs.declared.reader.ReadError.TheVariants as errors
+use Rattle.at_text.specs.Symbols.{Symbol, sign, symbols, words_keep}
+use Rattle.at_text.specs.Rows as rows
+use Rattle.at_text.specs.declared.place.Place.{Place}
+use Rattle.at_text.specs.declared.fault.Failure.{Failure}
+use Rattle.at_text.specs.declared.fault.Failure.TheVariants as failure
+use Rattle.at_grammar.specs.declared.AstCode.{AstCode}
+use Rattle.at_grammar.specs.declared.AstCode.TheVariants as code
 use Rattle.at_grammar.specs.Grammar as grammar
 use Rattle.at_grammar.specs.Grammar.{Word, Typed, Part, Declaration, IsName, IsTokenKind, IfWritten, IsTyped, IsToken, IsPart, AreParts, IsBody, IsDeclaration, IsFile}
 use Rattle.at_grammar.specs.Faults.{GoesOnKind, IsTokenFront, LeftOutOfParts, IsLeftOut}
@@ -15,15 +19,19 @@ use Rattle.at_grammar.specs.Table.{Want, table}
 
 -- the tokens that are left, as the grammar sees them
 abbrev pub left : List Placed → List Symbol
-left = map (λ t. symbol words_keep (placed t))
+left ts = symbols words_keep (rows.left ts)
 
-abbrev pub reason_of : ReadError → Option Reason
-reason_of errors.Memory = None
-reason_of errors.Syntax = Some Refused
-reason_of errors.LeftOut = Some LeftOut
+abbrev pub reason : AstCode → Reason
+reason code.Syntax = Refused
+reason code.LeftOut = LeftOut
+
+-- why reading stops, if it isn't for want of memory
+abbrev pub reason_of : Failure AstCode → Option Reason
+reason_of (failure.For c) = Some (reason c)
+reason_of failure.Memory = None
 
 -- A form was read, or the reader stands where it stops.
-abbrev pub Parses : {V A : Type 0} → Form Symbol Want V → (V → A → Type 0) → Result A ReadError → List Placed → List Placed → Type 0
+abbrev pub Parses : {V A : Type 0} → Form Symbol Want V → (V → A → Type 0) → Result A (Failure AstCode) → List Placed → List Placed → Type 0
 Parses form Means r old rest = reading.Parses table reason_of form Means r (left old) (left rest)
 
 -- nothing in the form is left out
@@ -94,7 +102,7 @@ body = record {
   LeavesAt = λ front s. (more : List Symbol) × (front ≡ sign (codes "::=") ∷ more) × LeftOutOfParts more s;
 }
 
-abbrev pub modifier : Form Symbol Want (Option (ℕ × ℕ))
+abbrev pub modifier : Form Symbol Want (Option Place)
 modifier = record { want = want.Modifier; spell = grammar.modifier; Is = λ _. Unit {0}; LeavesAt = Never }
 
 abbrev pub declaration : Form Symbol Want Declaration

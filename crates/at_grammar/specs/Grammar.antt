@@ -5,11 +5,12 @@ use Rattle.std.specs.Str.{bytes_eq}
 use lib.Chars.{codes}
 use Rattle.at_model.specs.Names.{is_name}
 use Rattle.at_text.specs.Symbols.{Symbol, word, sign}
+use Rattle.at_text.specs.declared.place.Place.{Place}
 
 -- a word, with the line and the column where it begins
 pub record Word : Type 0 where
   pub text : List ℕ
-  pub at : ℕ × ℕ
+  pub at : Place
 
 -- a name, and what stands behind its colon, if one is written
 pub record Typed : Type 0 where
@@ -25,7 +26,7 @@ pub data Part : Type 0 where
 
 -- a class: where the word `abstract` begins, its name, its superclass, and the components behind `::=`, each if written
 pub record Declaration : Type 0 where
-  pub abstract_at : Option (ℕ × ℕ)
+  pub abstract_at : Option Place
   pub name : Word
   pub parent : Option Word
   pub parts : Option (List Part)
@@ -61,7 +62,7 @@ body None = sign (codes ";") ∷ []
 body (Some ps) = sign (codes "::=") ∷ parts ps
 
 -- ["abstract"]
-abbrev pub modifier : Option (ℕ × ℕ) → List Symbol
+abbrev pub modifier : Option Place → List Symbol
 modifier None = []
 modifier (Some at) = word (codes "abstract") at ∷ []
 

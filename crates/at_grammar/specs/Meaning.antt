@@ -4,6 +4,7 @@ use Rattle.std.specs.Option.{is_some}
 use Rattle.std.specs.Global.{Global}
 use Rattle.std.specs.String.{string_bytes}
 use lib.Chars.{codes}
+use Rattle.at_text.specs.declared.place.Place.{Place}
 use Rattle.at_grammar.specs.declared.syntax.PartDecl.{PartDecl}
 use Rattle.at_grammar.specs.declared.syntax.ClassDecl.{ClassDecl}
 use Rattle.at_grammar.specs.declared.syntax.Shape.{Shape}
@@ -15,7 +16,7 @@ pub record Component : Type 0 where
   pub name : List ℕ
   pub kind : List ℕ
   pub shape : Shape
-  pub at : ℕ × ℕ
+  pub at : Place
 
 -- a class: its name, its superclass, its own components in order, and the line and column of its name
 pub record Class : Type 0 where
@@ -23,7 +24,7 @@ pub record Class : Type 0 where
   pub is_abstract : Bool
   pub parent : Option (List ℕ)
   pub parts : List Component
-  pub at : ℕ × ℕ
+  pub at : Place
 
 abbrev pub text_of : Option Word → Option (List ℕ)
 text_of None = None

@@ -7,39 +7,34 @@ ghost use Rattle.at_grammar.specs.Grammar.{Declaration};
 ghost use Rattle.at_grammar.specs.Meaning.{seen_class, class_means};
 ghost use Rattle.at_text.specs.Faults.{FaultsAt, IsWithin};
 ghost use Rattle.at_grammar.specs.Faults.{Spells, IsFault};
-ghost use Rattle.at_grammar.specs.declared.AstFault.{AstFault};
-ghost use Rattle.at_grammar.specs.declared.AstFault.TheVariants.{Memory};
+ghost use Rattle.at_text.specs.declared.fault.Fault.{Fault};
+ghost use Rattle.at_text.specs.declared.fault.Fault.TheVariants.{Memory};
+ghost use Rattle.at_grammar.specs.declared.AstCode.{AstCode};
 
 mod reader;
 mod syntax;
 
-use at_text::place::place;
+use at_text::fault::{Failure, Fault};
+use at_text::place::Place;
 use at_text::placed::{place_all, place_left};
 use at_text::scan::{ScanFault, lexemes};
-use reader::{ReadError, Reader};
-use std::alloc::{AllocError, Global};
+use reader::Reader;
+use std::alloc::Global;
 pub use syntax::{ClassDecl, Grammar, PartDecl, Shape};
 
-/// Why a text is no abstract grammar. Places are lines and columns, both from 1.
-#[derive(Debug, Drop)]
-pub enum AstFault {
-    /// The first token that no grammar goes on with, or the end of the text where more was needed;
-    /// where the text can't be cut into tokens, the place where that is met.
-    Syntax { at: (u32, u32) },
+/// What is wrong with a text that is no abstract grammar.
+#[derive(Clone, Copy, PartialEq, Eq, Debug)]
+pub enum AstCode {
+    /// No grammar goes on with this token, or more was needed at the end of the text; where the
+    /// text can't be cut into tokens, that is met here.
+    Syntax,
     /// A form of JastAdd's grammars begins here that this profile leaves out: a `/` where a
     /// component may begin, or a `.` or `<` behind a token's kind.
-    LeftOut { at: (u32, u32) },
-    /// Want of memory.
-    Memory,
+    LeftOut,
 }
 
-impl From<AllocError> for AstFault {
-    ghost from_gives = { λ _ e. e ≡ Memory };
-
-    fn from(_e: AllocError) -> AstFault {
-        AstFault::Memory
-    }
-}
+/// Why a text is no abstract grammar: its code and its place, or want of memory.
+pub type AstFault = Fault<AstCode>;
 
 /// The fault of a text that can't be cut into tokens.
 fn scan_fault(text: &str, fault: ScanFault) -> AstFault
@@ -48,10 +43,11 @@ fn scan_fault(text: &str, fault: ScanFault) -> AstFault
     ensures { IsFault text.now result }
 {
     match fault {
-        ScanFault::Memory => AstFault::Memory,
+        ScanFault::Memory => Fault::Memory,
         ScanFault::Bad { at } | ScanFault::OpenText { at } | ScanFault::OpenComment { at } => {
-            AstFault::Syntax {
-                at: place(text, at),
+            Fault::Refused {
+                code: AstCode::Syntax,
+                at: Place::of(text, at),
             }
         }
     }
@@ -74,7 +70,7 @@ pub fn parse_ast(alloc: Global, text: &str) -> Result<Grammar, AstFault>
     // A fault is the first one, and says whether what stands there is a form that is left out.
     ensures fault { IfErr result (IsFault text.now) }
     // A text with a fault is refused for it, unless memory runs out.
-    ensures refused { (e : AstFault) → (e ≡ Memory → ⊥) → IsFault text.now e
+    ensures refused { (e : Fault AstCode) → (e ≡ Memory → ⊥) → IsFault text.now e
         → MatchResult result (λ g. ⊥) (λ f. (f ≡ Memory) ⊎ (f ≡ e)) }
 {
     let tokens = match lexemes(alloc, text) {
@@ -85,14 +81,10 @@ pub fn parse_ast(alloc: Global, text: &str) -> Result<Grammar, AstFault>
     let mut reader = Reader::new(alloc, &tokens);
     match reader.file() {
         Ok(classes) => Ok(Grammar { classes }),
-        Err(ReadError::Memory) => Err(AstFault::Memory),
-        Err(ReadError::Syntax) => {
+        Err(Failure::For(code)) => {
             let at = place_left(text, &tokens, reader.count_left());
-            Err(AstFault::Syntax { at })
+            Err(Fault::Refused { code, at })
         }
-        Err(ReadError::LeftOut) => {
-            let at = place_left(text, &tokens, reader.count_left());
-            Err(AstFault::LeftOut { at })
-        }
+        Err(Failure::Memory) => Err(Fault::Memory),
     }
 }

@@ -3,52 +3,31 @@
 ghost use Rattle.std.specs.Prelude.{◌≡◌, ◌∷◌, length, [], IfOk, OnOk, MatchOption, MatchBool, Some, map, true, false};
 ghost use Rattle.std.specs.String.{string_bytes};
 ghost use Rattle.at_text.specs.Reading.{first};
-ghost use Rattle.at_text.specs.Symbols.{sign, word, is_sign, is_word, is_name_next, symbol, placed, words_keep};
+ghost use Rattle.at_text.specs.Symbols.{sign, word, is_sign, symbol, placed, words_keep};
 ghost use Rattle.at_grammar.specs.Grammar.{is_token_kind};
-ghost use Rattle.at_model.specs.Names.{is_name};
 ghost use Rattle.at_grammar.specs.Table.{is_kind_next};
 ghost use Rattle.at_grammar.specs.Meaning.{kind_or, bytes_of, text_of, seen_part, seen_class, child_means, token_means, part_means, body_means, class_means};
 ghost use Rattle.at_grammar.specs.Forms.{left, Parses, name, kind_name, mark, kind, typed, child, optional, close, token_kind, token, part, parts, body, declaration, file};
 ghost use Rattle.at_grammar.specs.declared.syntax.Shape.TheVariants as shape;
-ghost use Rattle.at_grammar.specs.declared.reader.ReadError.TheVariants.{Memory};
 
+use crate::AstCode;
 use crate::syntax::{ClassDecl, PartDecl, Shape};
+use at_text::cursor::Cursor;
+use at_text::fault::Failure;
 use at_text::names::is_name;
+use at_text::place::Place;
 use at_text::placed::Placed;
 use at_text::token::TokenKind;
-use std::alloc::{AllocError, AllocFailed, Global};
+use std::alloc::{AllocError, Global};
 
-/// Why nothing was read.
-#[derive(Debug, Drop)]
-pub enum ReadError {
-    /// The next token, or the end, doesn't go on.
-    Syntax,
-    /// The next token begins a form that is left out.
-    LeftOut,
-    Memory,
-}
-
-impl From<AllocError> for ReadError {
-    ghost from_gives = { λ _ e. e ≡ Memory };
-
-    fn from(_e: AllocError) -> ReadError {
-        ReadError::Memory
-    }
-}
-
-impl<T: Drop> From<AllocFailed<T>> for ReadError {
-    ghost from_gives = { λ _ e. e ≡ Memory };
-
-    fn from(_e: AllocFailed<T>) -> ReadError {
-        ReadError::Memory
-    }
-}
+/// Why nothing was read: what the next token, or the end, breaks, or want of memory.
+pub type ReadFault = Failure<AstCode>;
 
 /// A name with its line and column.
 #[derive(Debug, Drop)]
 struct Name {
     text: String,
-    at: (u32, u32),
+    at: Place,
 }
 
 /// Whether the word may stand as a token's kind.
@@ -68,30 +47,6 @@ fn kind_or(alloc: Global, written: Option<String>, other: &str) -> Result<String
     }
 }
 
-/// Whether the token is this sign.
-fn is_sign(token: &Placed<'_>, text: &str) -> bool
-    ensures value { result ≡ is_sign text.now (Some (symbol words_keep (placed token.now))) }
-    ensures same { result ≡ true → symbol words_keep (placed token.now) ≡ sign text.now }
-{
-    token.kind == TokenKind::Sign && token.text == text
-}
-
-/// Whether the token is this word.
-fn is_word(token: &Placed<'_>, text: &str) -> bool
-    ensures value { result ≡ is_word text.now (Some (symbol words_keep (placed token.now))) }
-    ensures same { result ≡ true → symbol words_keep (placed token.now) ≡ word text.now token.now.at }
-{
-    token.kind == TokenKind::Word && token.text == text
-}
-
-/// Whether the token is a name.
-fn is_name_token(token: &Placed<'_>) -> bool
-    ensures value { result ≡ is_name_next (Some (symbol words_keep (placed token.now))) }
-    ensures same { result ≡ true → symbol words_keep (placed token.now) ≡ word token.now.text.now token.now.at }
-{
-    token.kind == TokenKind::Word && is_name(token.text)
-}
-
 /// Whether the token may stand as a token's kind.
 fn is_kind_token(token: &Placed<'_>) -> bool
     ensures value { result ≡ is_kind_next (Some (symbol words_keep (placed token.now))) }
@@ -104,92 +59,53 @@ fn is_kind_token(token: &Placed<'_>) -> bool
 #[derive(Drop)]
 pub struct Reader<'a> {
     alloc: Global,
-    rest: &'a [Placed<'a>],
+    cursor: Cursor<'a>,
 }
 
 impl<'a> Reader<'a> {
     /// A reader before the first token.
     pub fn new(alloc: Global, tokens: &'a [Placed<'a>]) -> Reader<'a>
-        ensures { result.rest.now ≡ tokens.now }
+        ensures { result.cursor.rest.now ≡ tokens.now }
     {
         Reader {
             alloc,
-            rest: tokens,
+            cursor: Cursor::new(tokens),
         }
     }
 
     /// How many tokens are left.
     pub fn count_left(&self) -> usize
-        ensures { result ≡ length self.now.rest.now }
+        ensures { result ≡ length self.now.cursor.rest.now }
     {
-        self.rest.len()
+        self.cursor.count_left()
     }
 
     /// Whether the sign is next.
     fn is_before(&self, text: &str) -> bool
-        ensures value { result ≡ is_sign text.now (first (left self.now.rest.now)) }
-        ensures same { result ≡ true → first (left self.now.rest.now) ≡ Some (sign text.now) }
+        ensures value { result ≡ is_sign text.now (first (left self.now.cursor.rest.now)) }
+        ensures same { result ≡ true → first (left self.now.cursor.rest.now) ≡ Some (sign text.now) }
     {
-        match self.rest {
-            [token, ..] => is_sign(token, text),
-            [] => false,
-        }
+        self.cursor.is_before_sign(text)
     }
 
     /// Steps over the sign, if it is next.
     fn takes(&mut self, text: &str) -> bool
         ensures { MatchBool result
-            (left self.old.rest.now ≡ sign text.now ∷ left self.new.rest.now)
-            ((self.new.rest.now ≡ self.old.rest.now) × (is_sign text.now (first (left self.old.rest.now)) ≡ false)) }
+            (left self.old.cursor.rest.now ≡ sign text.now ∷ left self.new.cursor.rest.now)
+            ((self.new.cursor.rest.now ≡ self.old.cursor.rest.now) × (is_sign text.now (first (left self.old.cursor.rest.now)) ≡ false)) }
     {
-        match self.rest {
-            [token, rest @ ..] if is_sign(token, text) => {
-                self.rest = rest;
-                true
-            }
-            _ => false,
-        }
-    }
-
-    /// Steps over the word, if it is next, and answers its place.
-    fn takes_word(&mut self, text: &str) -> Option<(u32, u32)>
-        ensures { MatchOption result
-            ((self.new.rest.now ≡ self.old.rest.now) × (is_word text.now (first (left self.old.rest.now)) ≡ false))
-            (λ at. left self.old.rest.now ≡ word text.now at ∷ left self.new.rest.now) }
-    {
-        match self.rest {
-            [token, rest @ ..] if is_word(token, text) => {
-                self.rest = rest;
-                Some(token.at)
-            }
-            _ => None,
-        }
-    }
-
-    /// Steps over a name, if one is next.
-    fn takes_name(&mut self) -> Option<&'a Placed<'a>>
-        ensures { MatchOption result
-            ((self.new.rest.now ≡ self.old.rest.now) × (is_name_next (first (left self.old.rest.now)) ≡ false))
-            (λ t. (left self.old.rest.now ≡ word t.now.text.now t.now.at ∷ left self.new.rest.now) × (is_name t.now.text.now ≡ true)) }
-    {
-        match self.rest {
-            [token, rest @ ..] if is_name_token(token) => {
-                self.rest = rest;
-                Some(token)
-            }
-            _ => None,
-        }
+        self.cursor.takes_sign(text).is_some()
     }
 
     /// Steps over a token's kind, if one is next.
     fn takes_kind(&mut self) -> Option<&'a Placed<'a>>
         ensures { MatchOption result
-            ((self.new.rest.now ≡ self.old.rest.now) × (is_kind_next (first (left self.old.rest.now)) ≡ false))
-            (λ t. (left self.old.rest.now ≡ word t.now.text.now t.now.at ∷ left self.new.rest.now) × (is_token_kind t.now.text.now ≡ true)) }
+            ((self.new.cursor.rest.now ≡ self.old.cursor.rest.now) × (is_kind_next (first (left self.old.cursor.rest.now)) ≡ false))
+            (λ t. (left self.old.cursor.rest.now ≡ word t.now.text.now t.now.at ∷ left self.new.cursor.rest.now) × (is_token_kind t.now.text.now ≡ true)) }
     {
-        match self.rest {
+        match self.cursor.rest {
             [token, rest @ ..] if is_kind_token(token) => {
-                self.rest = rest;
+                self.cursor.rest = rest;
                 Some(token)
             }
             _ => None,
@@ -197,32 +113,32 @@ impl<'a> Reader<'a> {
     }
 
     /// The sign.
-    fn expects(&mut self, text: &str) -> Result<(), ReadError>
-        ensures { Parses (mark text.now) (λ _ _. Unit {0}) result self.old.rest.now self.new.rest.now }
+    fn expects(&mut self, text: &str) -> Result<(), ReadFault>
+        ensures { Parses (mark text.now) (λ _ _. Unit {0}) result self.old.cursor.rest.now self.new.cursor.rest.now }
     {
         if self.takes(text) {
             Ok(())
         } else {
-            Err(ReadError::Syntax)
+            Err(ReadFault::For(AstCode::Syntax))
         }
     }
 
     /// `name`
-    fn name(&mut self) -> Result<Name, ReadError>
-        ensures { Parses name (λ w n. (string_bytes n.text ≡ w.text) × (n.at ≡ w.at)) result self.old.rest.now self.new.rest.now }
+    fn name(&mut self) -> Result<Name, ReadFault>
+        ensures { Parses name (λ w n. (string_bytes n.text ≡ w.text) × (n.at ≡ w.at)) result self.old.cursor.rest.now self.new.cursor.rest.now }
     {
-        match self.takes_name() {
+        match self.cursor.takes_name() {
             Some(token) => Ok(Name {
                 text: String::from_str(self.alloc, token.text)?,
                 at: token.at,
             }),
-            None => Err(ReadError::Syntax),
+            None => Err(ReadFault::For(AstCode::Syntax)),
         }
     }
 
     /// `[":" name]`
-    fn kind(&mut self) -> Result<Option<String>, ReadError>
-        ensures { Parses kind (λ k found. bytes_of found ≡ text_of k) result self.old.rest.now self.new.rest.now }
+    fn kind(&mut self) -> Result<Option<String>, ReadFault>
+        ensures { Parses kind (λ k found. bytes_of found ≡ text_of k) result self.old.cursor.rest.now self.new.cursor.rest.now }
     {
         if self.takes(":") {
             Ok(Some(self.name()?.text))
@@ -232,8 +148,8 @@ impl<'a> Reader<'a> {
     }
 
     /// `name [":" name]`, a component of this shape.
-    fn typed(&mut self, shape: Shape) -> Result<PartDecl, ReadError>
-        ensures { Parses typed (λ t p. seen_part p ≡ child_means shape t) result self.old.rest.now self.new.rest.now }
+    fn typed(&mut self, shape: Shape) -> Result<PartDecl, ReadFault>
+        ensures { Parses typed (λ t p. seen_part p ≡ child_means shape t) result self.old.cursor.rest.now self.new.cursor.rest.now }
     {
         let name = self.name()?;
         let written = self.kind()?;
@@ -247,8 +163,8 @@ impl<'a> Reader<'a> {
     }
 
     /// `name [":" name] ["*"]`
-    fn child(&mut self) -> Result<PartDecl, ReadError>
-        ensures { Parses child (λ t p. seen_part p ≡ part_means t) result self.old.rest.now self.new.rest.now }
+    fn child(&mut self) -> Result<PartDecl, ReadFault>
+        ensures { Parses child (λ t p. seen_part p ≡ part_means t) result self.old.cursor.rest.now self.new.cursor.rest.now }
     {
         let mut part = self.typed(Shape::One)?;
         if self.takes("*") {
@@ -258,8 +174,8 @@ impl<'a> Reader<'a> {
     }
 
     /// An optional component, behind its `[`: `name [":" name] "]"`
-    fn optional(&mut self) -> Result<PartDecl, ReadError>
-        ensures { Parses optional (λ t p. seen_part p ≡ child_means shape.Maybe t) result self.old.rest.now self.new.rest.now }
+    fn optional(&mut self) -> Result<PartDecl, ReadFault>
+        ensures { Parses optional (λ t p. seen_part p ≡ child_means shape.Maybe t) result self.old.cursor.rest.now self.new.cursor.rest.now }
     {
         let part = self.typed(Shape::Maybe)?;
         self.expects("]")?;
@@ -267,28 +183,28 @@ impl<'a> Reader<'a> {
     }
 
     /// A word that may be a token's kind.
-    fn kind_name(&mut self) -> Result<String, ReadError>
-        ensures { Parses kind_name (λ w s. string_bytes s ≡ w.text) result self.old.rest.now self.new.rest.now }
+    fn kind_name(&mut self) -> Result<String, ReadFault>
+        ensures { Parses kind_name (λ w s. string_bytes s ≡ w.text) result self.old.cursor.rest.now self.new.cursor.rest.now }
     {
         match self.takes_kind() {
             Some(token) => Ok(String::from_str(self.alloc, token.text)?),
-            None => Err(ReadError::Syntax),
+            None => Err(ReadFault::For(AstCode::Syntax)),
         }
     }
 
     /// `">"`, where a kind of more than one name, or with arguments, is left out.
-    fn close(&mut self) -> Result<(), ReadError>
-        ensures { Parses close (λ _ _. Unit {0}) result self.old.rest.now self.new.rest.now }
+    fn close(&mut self) -> Result<(), ReadFault>
+        ensures { Parses close (λ _ _. Unit {0}) result self.old.cursor.rest.now self.new.cursor.rest.now }
     {
         if self.is_before(".") || self.is_before("<") {
-            return Err(ReadError::LeftOut);
+            return Err(ReadFault::For(AstCode::LeftOut));
         }
         self.expects(">")
     }
 
     /// A token behind its name: `[":" kind] ">"`
-    fn token_kind(&mut self) -> Result<Option<String>, ReadError>
-        ensures { Parses token_kind (λ k found. bytes_of found ≡ text_of k) result self.old.rest.now self.new.rest.now }
+    fn token_kind(&mut self) -> Result<Option<String>, ReadFault>
+        ensures { Parses token_kind (λ k found. bytes_of found ≡ text_of k) result self.old.cursor.rest.now self.new.cursor.rest.now }
     {
         if self.takes(">") {
             return Ok(None);
@@ -300,8 +216,8 @@ impl<'a> Reader<'a> {
     }
 
     /// A token behind its `<`: `name [":" kind] ">"`
-    fn token(&mut self) -> Result<PartDecl, ReadError>
-        ensures { Parses token (λ t p. seen_part p ≡ token_means t) result self.old.rest.now self.new.rest.now }
+    fn token(&mut self) -> Result<PartDecl, ReadFault>
+        ensures { Parses token (λ t p. seen_part p ≡ token_means t) result self.old.cursor.rest.now self.new.cursor.rest.now }
     {
         let name = self.name()?;
         let written = self.token_kind()?;
@@ -315,8 +231,8 @@ impl<'a> Reader<'a> {
     }
 
     /// A component.
-    fn part(&mut self) -> Result<PartDecl, ReadError>
-        ensures { Parses part (λ t p. seen_part p ≡ part_means t) result self.old.rest.now self.new.rest.now }
+    fn part(&mut self) -> Result<PartDecl, ReadFault>
+        ensures { Parses part (λ t p. seen_part p ≡ part_means t) result self.old.cursor.rest.now self.new.cursor.rest.now }
     {
         if self.takes("<") {
             self.token()
@@ -328,8 +244,8 @@ impl<'a> Reader<'a> {
     }
 
     /// `{ part } ";"`, where a component that begins with `/` is left out.
-    fn parts(&mut self) -> Result<Vec<PartDecl>, ReadError>
-        ensures { Parses parts (λ ps v. map seen_part v.items ≡ map part_means ps) result self.old.rest.now self.new.rest.now }
+    fn parts(&mut self) -> Result<Vec<PartDecl>, ReadFault>
+        ensures { Parses parts (λ ps v. map seen_part v.items ≡ map part_means ps) result self.old.cursor.rest.now self.new.cursor.rest.now }
     {
         let mut parts = Vec::new(self.alloc);
         loop {
@@ -337,7 +253,7 @@ impl<'a> Reader<'a> {
                 return Ok(parts);
             }
             if self.is_before("/") {
-                return Err(ReadError::LeftOut);
+                return Err(ReadFault::For(AstCode::LeftOut));
             }
             let part = self.part()?;
             parts.push(part)?;
@@ -345,8 +261,8 @@ impl<'a> Reader<'a> {
     }
 
     /// `["::=" { part }] ";"`
-    fn body(&mut self) -> Result<Vec<PartDecl>, ReadError>
-        ensures { Parses body (λ b v. map seen_part v.items ≡ body_means b) result self.old.rest.now self.new.rest.now }
+    fn body(&mut self) -> Result<Vec<PartDecl>, ReadFault>
+        ensures { Parses body (λ b v. map seen_part v.items ≡ body_means b) result self.old.cursor.rest.now self.new.cursor.rest.now }
     {
         if self.takes(";") {
             return Ok(Vec::new(self.alloc));
@@ -356,10 +272,10 @@ impl<'a> Reader<'a> {
     }
 
     /// `["abstract"] name [":" name] ["::=" { part }] ";"`
-    fn declaration(&mut self) -> Result<ClassDecl, ReadError>
-        ensures { Parses declaration (λ d c. seen_class c ≡ class_means d) result self.old.rest.now self.new.rest.now }
+    fn declaration(&mut self) -> Result<ClassDecl, ReadFault>
+        ensures { Parses declaration (λ d c. seen_class c ≡ class_means d) result self.old.cursor.rest.now self.new.cursor.rest.now }
     {
-        let is_abstract = self.takes_word("abstract").is_some();
+        let is_abstract = self.cursor.takes_word("abstract").is_some();
         let name = self.name()?;
         let parent = self.kind()?;
         let parts = self.body()?;
@@ -373,12 +289,12 @@ impl<'a> Reader<'a> {
     }
 
     /// `{ decl }`, up to the end.
-    pub fn file(&mut self) -> Result<Vec<ClassDecl>, ReadError>
-        ensures read { Parses file (λ ds v. map seen_class v.items ≡ map class_means ds) result self.old.rest.now self.new.rest.now }
-        ensures end { OnOk result (left self.new.rest.now ≡ []) }
+    pub fn file(&mut self) -> Result<Vec<ClassDecl>, ReadFault>
+        ensures read { Parses file (λ ds v. map seen_class v.items ≡ map class_means ds) result self.old.cursor.rest.now self.new.cursor.rest.now }
+        ensures end { OnOk result (left self.new.cursor.rest.now ≡ []) }
     {
         let mut classes = Vec::new(self.alloc);
-        while !self.rest.is_empty() {
+        while !self.cursor.rest.is_empty() {
             let class = self.declaration()?;
             classes.push(class)?;
         }

@@ -1,5 +1,6 @@
 //! Abstract grammars as they are read.
 
+use at_text::place::Place;
 use std::alloc::Global;
 
 /// What a component holds.
@@ -24,7 +25,7 @@ pub struct PartDecl {
     pub kind: String,
     pub shape: Shape,
     /// The line and the column of its name, both from 1.
-    pub at: (u32, u32),
+    pub at: Place,
 }
 
 /// A class, with its own components in order.
@@ -36,7 +37,7 @@ pub struct ClassDecl {
     pub parent: Option<String>,
     pub parts: Vec<PartDecl>,
     /// The line and the column of its name, both from 1.
-    pub at: (u32, u32),
+    pub at: Place,
 }
 
 /// An abstract grammar: its classes, in the order of the text.

@@ -2,7 +2,7 @@
 use Rattle.std.proofs.Common.{◌≡◌, ℕ, List, [], ◌∷◌, ◌++◌, Bool, true, false, refl, sym, ap, subst, ◌∙◌, inl, inr}
 use Rattle.at_text.specs.Reading.{first}
 use Rattle.at_text.specs.Symbols.{PlacedToken}
-use Rattle.at_jrag.specs.Grammar.{Row}
+use Rattle.at_text.specs.Rows.{Row}
 use Rattle.at_jrag.specs.Machine.{Reason, TooDeep, Move, Goes, Halts, after, may_end, Whole, Stuck, run}
 use Rattle.at_jrag.specs.Wants as want
 use Rattle.at_jrag.specs.Wants.{Want}

@@ -11,7 +11,10 @@ use lib.Chars.{codes}
 use Rattle.at_model.specs.Names.{is_name, reserved_words}
 use Rattle.at_text.specs.Reading.{first}
 use Rattle.at_text.specs.Symbols.{PlacedToken}
-use Rattle.at_jrag.specs.Grammar.{Row, sign, word, number, is_sign, is_word, max_nesting}
+use Rattle.at_text.specs.declared.place.Place.{Place}
+use Rattle.at_text.specs.Place.{first_place}
+use Rattle.at_text.specs.Rows.{Row, sign, word, is_sign, is_word}
+use Rattle.at_jrag.specs.Grammar.{number, max_nesting}
 use Rattle.at_jrag.specs.Machine.{Takes, Skips, Refuses, LeavesOut, and_then, Whole, run}
 use Rattle.at_jrag.specs.Wants.{Want, Expression, Binary, Links, Choice, Otherwise, Unary, Minus, Opened, Enclosed, Parenthesized, Calls, Called, Arguments, FirstArgument, MoreArguments, Primary, Named, FoldBody, Deeper, Join, Deepest, Counts, Name, Mark, File, Decls, Lazy, NotNta, Kind, Signed, Opening, Params, OneParam, MoreParams, NotCircular, Ending, Body, Defined, Return, Close}
 use Rattle.at_jrag.specs.Table.{table, next, on, is_number_within, expression_answer, link_rank, link_answer, links_answer, choice_answer, calls_answer, named_answer, parenthesized_answer, file_answer, lazy_answer, not_nta_answer, body_answer}
@@ -24,16 +27,16 @@ use Rattle.at_jrag.proofs.DeclarationRuns.{pass_none, pass_then, pass_skips}
 -- ---- the symbols
 
 abbrev pub mark : List ℕ → PlacedToken
-mark text = sign text (1, 1)
+mark text = sign text first_place
 
 abbrev pub int_word : PlacedToken
-int_word = word (codes "int") (1, 1)
+int_word = word (codes "int") first_place
 
 abbrev pub null : PlacedToken
-null = word (codes "null") (1, 1)
+null = word (codes "null") first_place
 
 abbrev pub some_name : PlacedToken
-some_name = word (codes "_") (1, 1)
+some_name = word (codes "_") first_place
 
 abbrev pub completion : Want → Row
 completion (Expression b) = null ∷ []
@@ -42,7 +45,7 @@ completion (Links rank b) = []
 completion (Choice b) = []
 completion (Otherwise b m) = mark (codes ":") ∷ null ∷ []
 completion (Unary b) = null ∷ []
-completion (Minus b) = number (codes "0") (1, 1) ∷ []
+completion (Minus b) = number (codes "0") first_place ∷ []
 completion (Opened b) = some_name ∷ mark (codes ")") ∷ []
 completion (Enclosed g b) = mark (codes ")") ∷ []
 completion (Parenthesized b) = []
@@ -74,7 +77,7 @@ completion NotCircular = []
 completion Ending = mark (codes ";") ∷ []
 completion Body = mark (codes "=") ∷ null ∷ mark (codes ";") ∷ []
 completion Defined = mark (codes "=") ∷ null ∷ mark (codes ";") ∷ []
-completion Return = word (codes "return") (1, 1) ∷ []
+completion Return = word (codes "return") first_place ∷ []
 completion Close = mark (codes "}") ∷ []
 
 abbrev pub closing : List Want → Row
@@ -257,26 +260,26 @@ never_zero false n e = refl
 no_link : (t : PlacedToken) → link_rank t ≡ 0 → (rank b d : ℕ) → links_answer rank b d (Some t) ≡ Skips d
 no_link t h rank b d = ap (λ x. cond x (link_answer rank b d t) (Skips d)) (ap (λ n. n == suc rank) h ∙ never_zero (0 == suc rank) rank refl)
 
-absent_sign : (text : List ℕ) (t : PlacedToken) → ((at : ℕ × ℕ) → Absent (Some (sign text at))) → is_sign text t ≡ true → Absent (Some t)
+absent_sign : (text : List ℕ) (t : PlacedToken) → ((at : Place) → Absent (Some (sign text at))) → is_sign text t ≡ true → Absent (Some t)
 absent_sign text t h e = subst (λ (x : PlacedToken). Absent (Some x)) (sym (sign_is text t e)) (h t.at)
 
 one_of : {A : Type 0} (a b : Bool) → (a ≡ true → A) → (b ≡ true → A) → a || b ≡ true → A
 one_of true b f g e = f refl
 one_of false b f g e = g e
 
-absent_paren : (at : ℕ × ℕ) → Absent (Some (sign (codes ")") at))
+absent_paren : (at : Place) → Absent (Some (sign (codes ")") at))
 absent_paren at = record { links = no_link (sign (codes ")") at) refl; choice = λ b d. refl; calls = λ b d. refl; named = λ g b. refl; parenthesized = λ b d. refl; circular = refl }
 
-absent_brace : (at : ℕ × ℕ) → Absent (Some (sign (codes "}") at))
+absent_brace : (at : Place) → Absent (Some (sign (codes "}") at))
 absent_brace at = record { links = no_link (sign (codes "}") at) refl; choice = λ b d. refl; calls = λ b d. refl; named = λ g b. refl; parenthesized = λ b d. refl; circular = refl }
 
-absent_colon : (at : ℕ × ℕ) → Absent (Some (sign (codes ":") at))
+absent_colon : (at : Place) → Absent (Some (sign (codes ":") at))
 absent_colon at = record { links = no_link (sign (codes ":") at) refl; choice = λ b d. refl; calls = λ b d. refl; named = λ g b. refl; parenthesized = λ b d. refl; circular = refl }
 
-absent_semicolon : (at : ℕ × ℕ) → Absent (Some (sign (codes ";") at))
+absent_semicolon : (at : Place) → Absent (Some (sign (codes ";") at))
 absent_semicolon at = record { links = no_link (sign (codes ";") at) refl; choice = λ b d. refl; calls = λ b d. refl; named = λ g b. refl; parenthesized = λ b d. refl; circular = refl }
 
-absent_block : (at : ℕ × ℕ) → Absent (Some (sign (codes "{") at))
+absent_block : (at : Place) → Absent (Some (sign (codes "{") at))
 absent_block at = record { links = no_link (sign (codes "{") at) refl; choice = λ b d. refl; calls = λ b d. refl; named = λ g b. refl; parenthesized = λ b d. refl; circular = refl }
 
 absent : (s : Option PlacedToken) → closes s ≡ true → Absent s
@@ -291,7 +294,7 @@ is_some_name : is_name (codes "_") ≡ true
 unfolding reserved_words
 is_some_name = rw (chars-IsAscii (codes "_") (search rules), is_xid_start-ascii 95 (lit< tt)) refl
 
-is_zero : is_number_within 2147483648 (number (codes "0") (1, 1)) ≡ true
+is_zero : is_number_within 2147483648 (number (codes "0") first_place) ≡ true
 unfolding digits
 is_zero = refl
 
@@ -387,7 +390,7 @@ ends l p (Otherwise b m) more n f =
     (pass_then l (Deepest d) (Join m ∷ []) more more more (pass_skips l (Deepest d) more (λ e. (max d e, refl))) (pass_skips l (Join m) more (λ e. (1 + max m e, refl)))))
 ends l p (Unary b) more n f = unary_ends l b more n f
 ends l p (Minus b) more n f =
-    takes l (Minus b) (λ d. Calls b ∷ []) true (number (codes "0") (1, 1)) more more (λ h. refl) (λ d. (1, ap (λ x. on x (Takes true (Calls b ∷ []) 1) Refuses) is_zero)) (λ d. calls_end l b more f)
+    takes l (Minus b) (λ d. Calls b ∷ []) true (number (codes "0") first_place) more more (λ h. refl) (λ d. (1, ap (λ x. on x (Takes true (Calls b ∷ []) 1) Refuses) is_zero)) (λ d. calls_end l b more f)
 ends l p (Opened b) more n f =
     let other = and_then (expression_answer (b - 1) (Some some_name)) (Mark (codes ")") ∷ Deeper ∷ Calls b ∷ []) in
     takes l (Opened b) (λ d. Enclosed false b ∷ []) (nat_lt 0 (b - 1)) some_name (mark (codes ")") ∷ more) more (λ h. lt-ltb 0 (b - 1) (omega (arith, n h)))
@@ -428,7 +431,7 @@ ends l p NotCircular more n f = pass_skips l NotCircular more (λ d. (0, ap (λ 
 ends l p Ending more n f = takes_one l Ending (mark (codes ";")) more (λ d. (0, refl))
 ends l p Body more n f = body_ends l Body more (λ d. refl)
 ends l p Defined more n f = body_ends l Defined more (λ d. ap (λ x. on x (Takes true (Signed ∷ Body ∷ []) 0) (body_answer (Some (mark (codes "="))))) (no_both (d == 0)))
-ends l p Return more n f = takes_one l Return (word (codes "return") (1, 1)) more (λ d. (0, refl))
+ends l p Return more n f = takes_one l Return (word (codes "return") first_place) more (λ d. (0, refl))
 ends l p Close more n f = takes_one l Close (mark (codes "}")) more (λ d. (0, refl))
 
 -- What can be completed is, by these symbols.

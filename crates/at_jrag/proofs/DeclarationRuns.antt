@@ -8,18 +8,22 @@ use lib.Chars.{codes}
 use Rattle.at_model.specs.Names.{is_name, reserved_words}
 use Rattle.at_text.specs.Reading.{first}
 use Rattle.at_text.specs.Symbols.{PlacedToken}
+use Rattle.at_text.specs.declared.place.Place.{Place}
 use Rattle.at_jrag.specs.Syntax as syntax
-use Rattle.at_jrag.specs.Syntax.{Place, Word, Param, Params, KindWord, Body, Ending, Decl, DeclForm, Aspect, Expr}
+use Rattle.at_jrag.specs.Syntax.{Word, Param, Params, KindWord, Body, Ending, Decl, DeclForm, Aspect, Expr}
 use Rattle.at_jrag.specs.Grammar as grammar
-use Rattle.at_jrag.specs.Grammar.{Row, sign, word, is_sign, is_word, is_name_token, next_is, kind_text, IsKind, Sign, Keyword, Lazy, KindOf, ParamOf, MoreParams, Listed, Opens, Signature, Owner, Index, Getter, Declared, BodyOf, EndingOf, Behind, DeclOf, AspectOf, File, Spells, depth, nesting, ending_depth, max_nesting, NestsWithin, IsWithin}
+use Rattle.at_text.specs.Rows.{Row, sign, word, is_sign, is_word, is_name_token, next_is}
+use Rattle.at_jrag.specs.Grammar.{kind_text, IsKind, Sign, Keyword, Lazy, KindOf, ParamOf, MoreParams, Listed, Opens, Signature, Owner, Index, Getter, Declared, BodyOf, EndingOf, Behind, DeclOf, AspectOf, File, Spells, depth, nesting, ending_depth, max_nesting, NestsWithin, IsWithin}
 use Rattle.at_jrag.specs.Heads.{is_int, is_getter}
 use Rattle.at_jrag.specs.Machine.{Reason, Refused, LeftOut, Answer, Takes, Skips, Refuses, LeavesOut, Whole, Stuck, run}
 use Rattle.at_jrag.specs.Wants as want
 use Rattle.at_jrag.specs.Wants.{Want}
 use Rattle.at_jrag.specs.Table.{table, next, on, is_kind, body_answer, declared}
 use Rattle.at_jrag.specs.Runs.{Stay, Pass, Missing, reason_of}
-use Rattle.at_jrag.specs.declared.reader.ReadError.{ReadError}
-use Rattle.at_jrag.specs.declared.reader.ReadError.TheVariants as errors
+use Rattle.at_text.specs.declared.fault.Failure.{Failure}
+use Rattle.at_text.specs.declared.fault.Failure.TheVariants as failure
+use Rattle.at_jrag.specs.declared.JragCode.{JragCode}
+use Rattle.at_jrag.specs.declared.JragCode.TheVariants as code
 use Rattle.at_jrag.proofs.MachineLaws.{run-takes, run-skips, run-refuses, run-leaves_out}
 use Rattle.at_jrag.proofs.ExpressionSteps.{no_word}
 use Rattle.at_jrag.proofs.ExpressionRanks.{EndsWhole}
@@ -71,24 +75,24 @@ next_same test [] = refl
 next_same test (t ∷ ts) = refl
 
 -- a want of one token, which is missing
-pub missing_stays : (w : Want) (test : PlacedToken → Bool) (e : ReadError) (old rest : Row) → ((d : ℕ) (s : Option PlacedToken) → next test s ≡ false → table w d s ≡ Refuses) → Missing test e old rest → Stay (w ∷ []) (reason_of e) old rest
-missing_stays w test errors.Memory old rest row m = λ d. tt
-missing_stays w test errors.Syntax old rest row m = stay_refuses w old rest m.0 (λ d. row d (first old) (next_same test old ∙ m.1))
-missing_stays w test errors.LeftOut old rest row m = absurd m
-missing_stays w test errors.Nesting old rest row m = absurd m
+pub missing_stays : (w : Want) (test : PlacedToken → Bool) (e : Failure JragCode) (old rest : Row) → ((d : ℕ) (s : Option PlacedToken) → next test s ≡ false → table w d s ≡ Refuses) → Missing test e old rest → Stay (w ∷ []) (reason_of e) old rest
+missing_stays w test failure.Memory old rest row m = λ d. tt
+missing_stays w test (failure.For code.Syntax) old rest row m = stay_refuses w old rest m.0 (λ d. row d (first old) (next_same test old ∙ m.1))
+missing_stays w test (failure.For code.LeftOut) old rest row m = absurd m
+missing_stays w test (failure.For code.Nesting) old rest row m = absurd m
 
 mark_row : (text : List ℕ) (d : ℕ) (s : Option PlacedToken) → next (is_sign text) s ≡ false → table (want.Mark text) d s ≡ Refuses
 unfolding table
 mark_row text d s e = ap (λ b. on b (Takes true [] d) Refuses) e
 
-pub mark_missing : (text : List ℕ) (e : ReadError) (old rest : Row) → Missing (is_sign text) e old rest → Stay (want.Mark text ∷ []) (reason_of e) old rest
+pub mark_missing : (text : List ℕ) (e : Failure JragCode) (old rest : Row) → Missing (is_sign text) e old rest → Stay (want.Mark text ∷ []) (reason_of e) old rest
 mark_missing text e old rest m = missing_stays (want.Mark text) (is_sign text) e old rest (mark_row text) m
 
 name_row : (d : ℕ) (s : Option PlacedToken) → next is_name_token s ≡ false → table want.Name d s ≡ Refuses
 unfolding table
 name_row d s e = ap (λ b. on b (Takes true [] d) Refuses) e
 
-pub name_missing : (e : ReadError) (old rest : Row) → Missing is_name_token e old rest → Stay (want.Name ∷ []) (reason_of e) old rest
+pub name_missing : (e : Failure JragCode) (old rest : Row) → Missing is_name_token e old rest → Stay (want.Name ∷ []) (reason_of e) old rest
 name_missing e old rest m = missing_stays want.Name is_name_token e old rest name_row m
 
 same_bytes : (text : List ℕ) → bytes_eq text text ≡ true

@@ -6,17 +6,21 @@ use Rattle.std.specs.Str.{bytes_eq}
 use lib.Chars.{codes}
 use Rattle.at_text.specs.Reading.{first}
 use Rattle.at_text.specs.Symbols.{PlacedToken, is_word_kind}
-use Rattle.at_jrag.specs.Syntax.{Place, Word, Params, KindWord}
+use Rattle.at_text.specs.declared.place.Place.{Place}
+use Rattle.at_jrag.specs.Syntax.{Word, Params, KindWord}
 use Rattle.at_jrag.specs.Grammar as grammar
-use Rattle.at_jrag.specs.Grammar.{Row, sign, word, is_sign, is_word, is_name_token, next_is, Sign, Keyword, Lazy, KindOf, Signature, Owner, Declared, max_nesting}
+use Rattle.at_text.specs.Rows.{Row, sign, word, is_sign, is_word, is_name_token, next_is}
+use Rattle.at_jrag.specs.Grammar.{Sign, Keyword, Lazy, KindOf, Signature, Owner, Declared, max_nesting}
 use Rattle.at_jrag.specs.Heads.{is_getter}
 use Rattle.at_jrag.specs.Machine.{Reason, Refused, LeftOut, Answer, Takes, Skips, Refuses, LeavesOut, Stuck, run}
 use Rattle.at_jrag.specs.Wants as want
 use Rattle.at_jrag.specs.Wants.{Want}
 use Rattle.at_jrag.specs.Table.{table, next, on, is_kind, body_answer, declared, alone}
 use Rattle.at_jrag.specs.Runs.{Goes, Stay, Stays, Pass, Missing, reason_of}
-use Rattle.at_jrag.specs.declared.reader.ReadError.{ReadError}
-use Rattle.at_jrag.specs.declared.reader.ReadError.TheVariants as errors
+use Rattle.at_text.specs.declared.fault.Failure.{Failure}
+use Rattle.at_text.specs.declared.fault.Failure.TheVariants as failure
+use Rattle.at_jrag.specs.declared.JragCode.{JragCode}
+use Rattle.at_jrag.specs.declared.JragCode.TheVariants as code
 use Rattle.at_jrag.proofs.MachineLaws.{run-takes, run-refuses}
 use Rattle.at_jrag.proofs.DeclarationRuns.{next_same, dot_row, signed_row, aspect_row, synthesized_row, inherited_row, equation_row, pass_none, lazy_pass, kind_pass, name_pass, mark_pass, return_pass, signed_pass, signature_goes, declared_then, stay_then, stay_first, stay_takes, stay_refuses, stay_leaves_out, name_missing, mark_missing}
 use Rattle.at_jrag.proofs.ParamStops.{kind_missing, signed_missing}
@@ -24,13 +28,13 @@ use Rattle.at_jrag.proofs.ParamStops.{kind_missing, signed_missing}
 -- ---- where a keyword is wanted
 
 -- an error of a reader that took nothing
-at_same : (w : Want) (f : Row → ReadError) (old rest : Row) → rest ≡ old → Stay (w ∷ []) (reason_of (f old)) old old → Stay (w ∷ []) (reason_of (f rest)) old rest
+at_same : (w : Want) (f : Row → Failure JragCode) (old rest : Row) → rest ≡ old → Stay (w ∷ []) (reason_of (f old)) old old → Stay (w ∷ []) (reason_of (f rest)) old rest
 at_same w f old rest same s = subst (λ (x : Row). Stay (w ∷ []) (reason_of (f x)) old x) (sym same) s
 
-abbrev no_keyword : Row → ReadError
-no_keyword old = cond (next_is (λ t. is_word_kind t.kind) old) errors.LeftOut errors.Syntax
+abbrev no_keyword : Row → Failure JragCode
+no_keyword old = cond (next_is (λ t. is_word_kind t.kind) old) (failure.For code.LeftOut) (failure.For code.Syntax)
 
-keyword_stays : (w : Want) (t : PlacedToken) (ts : Row) (b : Bool) → ((d : ℕ) → table w d (Some t) ≡ cond b LeavesOut Refuses) → Stay (w ∷ []) (reason_of (cond b errors.LeftOut errors.Syntax)) (t ∷ ts) (t ∷ ts)
+keyword_stays : (w : Want) (t : PlacedToken) (ts : Row) (b : Bool) → ((d : ℕ) → table w d (Some t) ≡ cond b LeavesOut Refuses) → Stay (w ∷ []) (reason_of (cond b (failure.For code.LeftOut) (failure.For code.Syntax))) (t ∷ ts) (t ∷ ts)
 keyword_stays w t ts true row = stay_leaves_out w t (t ∷ ts) ts (t ∷ ts) refl refl row
 keyword_stays w t ts false row = stay_refuses w (t ∷ ts) (t ∷ ts) refl row
 
@@ -68,8 +72,8 @@ decl_stays old rest same close syn inh eq = at_same want.Decls no_keyword old re
 
 -- ---- where one token alone is wanted
 
-abbrev no_block : Row → ReadError
-no_block old = cond (next_is (λ t. true) old) errors.LeftOut errors.Syntax
+abbrev no_block : Row → Failure JragCode
+no_block old = cond (next_is (λ t. true) old) (failure.For code.LeftOut) (failure.For code.Syntax)
 
 alone_at : (w : Want) (test : PlacedToken → Bool) (old : Row) → ((d : ℕ) (s : Option PlacedToken) → table w d s ≡ alone test s) → next_is test old ≡ false → Stay (w ∷ []) (reason_of (no_block old)) old old
 alone_at w test [] row h = stay_refuses w [] [] refl (λ d. row d None)
@@ -147,14 +151,14 @@ pub owner_stays : (class : Word) (us : List Want) (r : Option Reason) (old mid r
 owner_stays class us r old mid rest (dot, n, s) st =
     stay_then want.Name (want.Mark (codes ".") ∷ us) r old dot rest (name_pass true class old dot n) (stay_then (want.Mark (codes ".")) us r dot mid rest (mark_pass true (codes ".") dot mid s) st)
 
-pub no_class : (us : List Want) (e : ReadError) (old rest : Row) → Missing is_name_token e old rest → Stay (want.Name ∷ us) (reason_of e) old rest
+pub no_class : (us : List Want) (e : Failure JragCode) (old rest : Row) → Missing is_name_token e old rest → Stay (want.Name ∷ us) (reason_of e) old rest
 no_class us e old rest m = stay_first want.Name us (reason_of e) old rest (name_missing e old rest m)
 
-pub no_dot : (us : List Want) (class : Word) (e : ReadError) (old dot rest : Row) → grammar.Name class old dot → Missing (is_sign (codes ".")) e dot rest → Stay (want.Name ∷ want.Mark (codes ".") ∷ us) (reason_of e) old rest
+pub no_dot : (us : List Want) (class : Word) (e : Failure JragCode) (old dot rest : Row) → grammar.Name class old dot → Missing (is_sign (codes ".")) e dot rest → Stay (want.Name ∷ want.Mark (codes ".") ∷ us) (reason_of e) old rest
 no_dot us class e old dot rest n m =
     stay_then want.Name (want.Mark (codes ".") ∷ us) (reason_of e) old dot rest (name_pass true class old dot n) (stay_first (want.Mark (codes ".")) us (reason_of e) dot rest (mark_missing (codes ".") e dot rest m))
 
-pub no_name : (us : List Want) (e : ReadError) (old rest : Row) → Missing is_name_token e old rest → Stay (want.Signed ∷ us) (reason_of e) old rest
+pub no_name : (us : List Want) (e : Failure JragCode) (old rest : Row) → Missing is_name_token e old rest → Stay (want.Signed ∷ us) (reason_of e) old rest
 no_name us e old rest m = stay_first want.Signed us (reason_of e) old rest (signed_missing e old rest m)
 
 pub signed_stays : (us : List Want) (name : Word) (r : Option Reason) (old paren rest : Row) → grammar.Name name old paren → Stay (want.Opening (bytes_eq name.text (codes "getChild")) ∷ []) r paren rest → Stay (want.Signed ∷ us) r old rest
@@ -164,7 +168,7 @@ signed_stays us name r old paren rest n st =
 
 -- ---- a declared attribute
 
-pub no_kind : (us : List Want) (e : ReadError) (old kinds rest : Row) → Pass true (want.Lazy ∷ []) old kinds → Missing is_kind e kinds rest → Stay (declared us) (reason_of e) old rest
+pub no_kind : (us : List Want) (e : Failure JragCode) (old kinds rest : Row) → Pass true (want.Lazy ∷ []) old kinds → Missing is_kind e kinds rest → Stay (declared us) (reason_of e) old rest
 no_kind us e old kinds rest p m =
     let vs = want.Name ∷ want.Mark (codes ".") ∷ want.Signed ∷ want.NotCircular ∷ us in
     stay_then want.Lazy (want.Kind ∷ vs) (reason_of e) old kinds rest p (stay_first want.Kind vs (reason_of e) kinds rest (kind_missing e kinds rest m))
@@ -211,12 +215,12 @@ body_takes us t (Some q) old mid rest front answer st w d row = λ ws.
 body_refused : (s : Option PlacedToken) → next (is_sign (codes "=")) s ≡ false → next (is_sign (codes "{")) s ≡ false → body_answer s ≡ Refuses
 body_refused s a b = simp (a, b)
 
-pub no_body : (e : ReadError) (old rest : Row) → next_is (is_sign (codes "=")) old ≡ false → Missing (is_sign (codes "{")) e old rest → BodyStays (reason_of e) old rest
-no_body errors.Memory old rest a m w d row = tt
-no_body errors.Syntax old rest a m w d row = λ ws.
+pub no_body : (e : Failure JragCode) (old rest : Row) → next_is (is_sign (codes "=")) old ≡ false → Missing (is_sign (codes "{")) e old rest → BodyStays (reason_of e) old rest
+no_body failure.Memory old rest a m w d row = tt
+no_body (failure.For code.Syntax) old rest a m w d row = λ ws.
     run-refuses true table w ws d old (row ∙ body_refused (first old) (next_same (is_sign (codes "=")) old ∙ a) (next_same (is_sign (codes "{")) old ∙ m.1)) ∙ ap (Stuck Refused) (sym m.0)
-no_body errors.LeftOut old rest a m w d row = absurd m
-no_body errors.Nesting old rest a m w d row = absurd m
+no_body (failure.For code.LeftOut) old rest a m w d row = absurd m
+no_body (failure.For code.Nesting) old rest a m w d row = absurd m
 
 goes_pass : (n : ℕ) (old rest : Row) → Goes want.Expression (λ b. []) n old rest → n ≤ max_nesting → Pass true (want.Expression max_nesting ∷ []) old rest
 goes_pass n old rest g fits ws d = (n, g true max_nesting (λ e. fits) ws d)
@@ -226,7 +230,7 @@ equation_stays at r old one rest front st =
     let vs = want.Mark (codes ";") ∷ [] in
     body_takes (want.Expression max_nesting ∷ vs) (sign (codes "=") at) r old one rest front refl (stay_first (want.Expression max_nesting) vs r one rest st)
 
-pub equation_ends : (at : Place) (n : ℕ) (e : ReadError) (old one end rest : Row) → old ≡ sign (codes "=") at ∷ one → Goes want.Expression (λ b. []) n one end → n ≤ max_nesting → Missing (is_sign (codes ";")) e end rest → BodyStays (reason_of e) old rest
+pub equation_ends : (at : Place) (n : ℕ) (e : Failure JragCode) (old one end rest : Row) → old ≡ sign (codes "=") at ∷ one → Goes want.Expression (λ b. []) n one end → n ≤ max_nesting → Missing (is_sign (codes ";")) e end rest → BodyStays (reason_of e) old rest
 equation_ends at n e old one end rest front g fits m =
     let vs = want.Mark (codes ";") ∷ [] in
     body_takes (want.Expression max_nesting ∷ vs) (sign (codes "=") at) (reason_of e) old one rest front refl
@@ -245,7 +249,7 @@ block_then at r old mid one rest front k st = body_takes (want.Return ∷ block_
 pub block_stays : (at : Place) (r : Option Reason) (old mid one rest : Row) → old ≡ sign (codes "{") at ∷ mid → Keyword (codes "return") mid one → Stay (want.Expression max_nesting ∷ []) r one rest → BodyStays r old rest
 block_stays at r old mid one rest front k st = block_then at r old mid one rest front k (stay_first (want.Expression max_nesting) (want.Mark (codes ";") ∷ want.Close ∷ []) r one rest st)
 
-pub block_ends : (at : Place) (n : ℕ) (e : ReadError) (old mid one end rest : Row) → old ≡ sign (codes "{") at ∷ mid → Keyword (codes "return") mid one → Goes want.Expression (λ b. []) n one end → n ≤ max_nesting
+pub block_ends : (at : Place) (n : ℕ) (e : Failure JragCode) (old mid one end rest : Row) → old ≡ sign (codes "{") at ∷ mid → Keyword (codes "return") mid one → Goes want.Expression (λ b. []) n one end → n ≤ max_nesting
     → Missing (is_sign (codes ";")) e end rest → BodyStays (reason_of e) old rest
 block_ends at n e old mid one end rest front k g fits m =
     block_then at (reason_of e) old mid one rest front k
@@ -309,7 +313,7 @@ pub getter_stays : (us : List Want) (class name : Word) (ps : Params) (r : Optio
 getter_stays us class name ps r old called dot mid rest o s is c st = owner_stays class (want.Signed ∷ want.Defined ∷ us) r old called rest o (dotted us name ps r called dot mid rest s is c st)
 
 -- an error of what stands behind a getter is one of the equation
-pub behind_getter : {A : Type 0} (x : Result A ReadError) (us : List Want) (class name : Word) (ps : Params) (old called dot mid rest : Row) → Owner class old called → Signature name ps called dot → is_getter ps.items ≡ true → Sign (codes ".") dot mid
+pub behind_getter : {A : Type 0} (x : Result A (Failure JragCode)) (us : List Want) (class name : Word) (ps : Params) (old called dot mid rest : Row) → Owner class old called → Signature name ps called dot → is_getter ps.items ≡ true → Sign (codes ".") dot mid
     → IfErr x (λ e. Stay (want.Signed ∷ want.Body ∷ us) (reason_of e) mid rest) → IfErr x (λ e. Stay (want.Name ∷ want.Mark (codes ".") ∷ want.Signed ∷ want.Defined ∷ us) (reason_of e) old rest)
 behind_getter (Ok a) us class name ps old called dot mid rest o s is c st = tt
 behind_getter (Err e) us class name ps old called dot mid rest o s is c st = getter_stays us class name ps (reason_of e) old called dot mid rest o s is c st
@@ -332,14 +336,14 @@ eq_stays at r old mid rest front st =
 abbrev aspect_wants : List Want
 aspect_wants = want.Mark (codes "{") ∷ want.Decls ∷ want.File ∷ []
 
-pub aspect_no_name : (at : Place) (e : ReadError) (old mid rest : Row) → old ≡ word (codes "aspect") at ∷ mid → Missing is_name_token e mid rest → Stay (want.File ∷ []) (reason_of e) old rest
+pub aspect_no_name : (at : Place) (e : Failure JragCode) (old mid rest : Row) → old ≡ word (codes "aspect") at ∷ mid → Missing is_name_token e mid rest → Stay (want.File ∷ []) (reason_of e) old rest
 aspect_no_name at e old mid rest front m = stay_takes want.File (want.Name ∷ aspect_wants) (word (codes "aspect") at) (reason_of e) old mid rest front (λ d. (0, aspect_row at d)) (no_class aspect_wants e mid rest m)
 
 named_stays : (at : Place) (name : Word) (r : Option Reason) (old mid brace rest : Row) → old ≡ word (codes "aspect") at ∷ mid → grammar.Name name mid brace → Stay aspect_wants r brace rest → Stay (want.File ∷ []) r old rest
 named_stays at name r old mid brace rest front n st =
     stay_takes want.File (want.Name ∷ aspect_wants) (word (codes "aspect") at) r old mid rest front (λ d. (0, aspect_row at d)) (stay_then want.Name aspect_wants r mid brace rest (name_pass true name mid brace n) st)
 
-pub aspect_no_brace : (at : Place) (name : Word) (e : ReadError) (old mid brace rest : Row) → old ≡ word (codes "aspect") at ∷ mid → grammar.Name name mid brace → Missing (is_sign (codes "{")) e brace rest → Stay (want.File ∷ []) (reason_of e) old rest
+pub aspect_no_brace : (at : Place) (name : Word) (e : Failure JragCode) (old mid brace rest : Row) → old ≡ word (codes "aspect") at ∷ mid → grammar.Name name mid brace → Missing (is_sign (codes "{")) e brace rest → Stay (want.File ∷ []) (reason_of e) old rest
 aspect_no_brace at name e old mid brace rest front n m =
     named_stays at name (reason_of e) old mid brace rest front n (stay_first (want.Mark (codes "{")) (want.Decls ∷ want.File ∷ []) (reason_of e) brace rest (mark_missing (codes "{") e brace rest m))
 

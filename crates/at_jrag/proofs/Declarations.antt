@@ -2,12 +2,14 @@
 use Rattle.std.proofs.Common.{◌≡◌, ◌≤◌, ◌<◌, List, [], ◌∷◌, ◌++◌, true, Option, Some, None, length, refl, sym, ap, subst, ◌∙◌, append_assoc, arith}
 use Rattle.std.specs.Prelude.{Result, Ok, Err, IfOk}
 use lib.Chars.{codes}
+use Rattle.at_text.specs.declared.place.Place.{Place}
 use Rattle.at_jrag.specs.View.{decl_form_view}
 use Rattle.at_jrag.specs.declared.syntax.DeclForm.{DeclForm as DeclFormValue}
 use Rattle.at_jrag.specs.declared.reader.declarations.Target.{Target}
 use Rattle.at_jrag.specs.Syntax as syntax
-use Rattle.at_jrag.specs.Syntax.{Place, Word, Param, Params, KindWord, Body, Ending, Decl, DeclForm, Aspect}
-use Rattle.at_jrag.specs.Grammar.{word, kind_text, Row, Sign, Lazy, ParamOf, MoreParams, Listed, Signature, Owner, Index, Getter, Declared, BodyOf, EndingOf, Behind, DeclOf, Decls, AspectOf, File}
+use Rattle.at_jrag.specs.Syntax.{Word, Param, Params, KindWord, Body, Ending, Decl, DeclForm, Aspect}
+use Rattle.at_text.specs.Rows.{Row, word}
+use Rattle.at_jrag.specs.Grammar.{kind_text, Sign, Lazy, ParamOf, MoreParams, Listed, Signature, Owner, Index, Getter, Declared, BodyOf, EndingOf, Behind, DeclOf, Decls, AspectOf, File}
 use Rattle.at_jrag.specs.Heads.{is_getter, is_int, index, TargetOf}
 use Rattle.at_jrag.proofs.Expressions.{takes_one, spells_shorter}
 

@@ -5,9 +5,11 @@ use Rattle.std.specs.Str.{bytes_eq}
 use lib.Chars.{codes}
 use Rattle.at_model.specs.Names.{is_name, is_reserved, reserved_words}
 use Rattle.at_text.specs.declared.token.TokenKind.TheVariants as kind
+use Rattle.at_text.specs.declared.place.Place.{Place}
 use Rattle.at_jrag.specs.Syntax as syntax
-use Rattle.at_jrag.specs.Syntax.{Place, Word, FoldForm, Expr, Exprs}
-use Rattle.at_jrag.specs.Grammar.{Row, sign, word, is_sign, is_number, is_name_token, next_is, follows_cast, NumberOf, Spells, level, truth_text, fold_text}
+use Rattle.at_jrag.specs.Syntax.{Word, FoldForm, Expr, Exprs}
+use Rattle.at_text.specs.Rows.{Row, sign, word, is_sign, is_name_token, next_is}
+use Rattle.at_jrag.specs.Grammar.{is_number, follows_cast, NumberOf, Spells, level, truth_text, fold_text}
 use Rattle.at_jrag.proofs.ExpressionSteps.{reserved_is_no_name, sign_is, name_is}
 use Rattle.at_jrag.proofs.ExpressionRanks.{operator_facts}
 use Rattle.at_jrag.proofs.Expressions.{takes_one}

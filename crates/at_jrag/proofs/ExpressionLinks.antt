@@ -5,9 +5,11 @@ use lib.Chars.{codes}
 use Rattle.at_model.specs.Names.{reserved_words}
 use Rattle.at_text.specs.declared.token.TokenKind.TheVariants as kind
 use Rattle.at_text.specs.Symbols.{PlacedToken}
+use Rattle.at_text.specs.declared.place.Place.{Place}
 use Rattle.at_jrag.specs.Syntax as syntax
-use Rattle.at_jrag.specs.Syntax.{Place, Word, Operator, Expr, Exprs, place}
-use Rattle.at_jrag.specs.Grammar.{Row, sign, word, is_sign, next_is, follows_cast, Name, Opens, Spells, Arguments, level, operator_text, operator_level}
+use Rattle.at_jrag.specs.Syntax.{Word, Operator, Expr, Exprs, place}
+use Rattle.at_text.specs.Rows.{Row, sign, word, is_sign, next_is}
+use Rattle.at_jrag.specs.Grammar.{follows_cast, Name, Opens, Spells, Arguments, level, operator_text, operator_level}
 use Rattle.at_jrag.specs.Table.{link_rank}
 use Rattle.at_jrag.proofs.ExpressionSteps.{reserved_is_no_name}
 use Rattle.at_jrag.proofs.ExpressionRanks.{operator_facts}

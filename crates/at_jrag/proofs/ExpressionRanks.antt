@@ -5,7 +5,9 @@ use Rattle.std.proofs.lemmas.Bool.{eq-eqb, eqb-true, ltb-true, ltb-false}
 use lib.Chars.{codes}
 use Rattle.at_text.specs.Reading.{first}
 use Rattle.at_text.specs.Symbols.{PlacedToken}
-use Rattle.at_jrag.specs.Grammar.{Row, is_sign, follows_cast, sign, operator_text, operator_level}
+use Rattle.at_text.specs.declared.place.Place.{Place}
+use Rattle.at_text.specs.Rows.{Row, sign, is_sign}
+use Rattle.at_jrag.specs.Grammar.{follows_cast, operator_text, operator_level}
 use Rattle.at_jrag.specs.Syntax as syntax
 use Rattle.at_jrag.specs.Syntax.{Operator}
 use Rattle.at_jrag.specs.Machine.{Takes, Skips, run}
@@ -105,7 +107,7 @@ expression_of level n old rest h t e l b f ws d =
 
 -- ---- operators
 
-pub record Facts (o : Operator) (at : ℕ × ℕ) : Type 0 where
+pub record Facts (o : Operator) (at : Place) : Type 0 where
   pub rank : ℕ
   pub level : operator_level o + suc rank ≡ 7
   pub low : 1 ≤ operator_level o
@@ -114,7 +116,7 @@ pub record Facts (o : Operator) (at : ℕ × ℕ) : Type 0 where
   pub dot : is_sign (codes ".") (sign (operator_text o) at) ≡ false
   pub choice : is_sign (codes "?") (sign (operator_text o) at) ≡ false
 
-pub operator_facts : (o : Operator) (at : ℕ × ℕ) → Facts o at
+pub operator_facts : (o : Operator) (at : Place) → Facts o at
 operator_facts syntax.Or at = record { rank = 5; level = refl; low = omega arith; link = refl; cast = refl; dot = refl; choice = refl }
 operator_facts syntax.And at = record { rank = 4; level = refl; low = omega arith; link = refl; cast = refl; dot = refl; choice = refl }
 operator_facts syntax.Same at = record { rank = 3; level = refl; low = omega arith; link = refl; cast = refl; dot = refl; choice = refl }
@@ -129,11 +131,11 @@ operator_facts syntax.Multiply at = record { rank = 0; level = refl; low = omega
 operator_facts syntax.Divide at = record { rank = 0; level = refl; low = omega arith; link = refl; cast = refl; dot = refl; choice = refl }
 operator_facts syntax.Remainder at = record { rank = 0; level = refl; low = omega arith; link = refl; cast = refl; dot = refl; choice = refl }
 
-pub ends_operator : (o : Operator) (at : ℕ × ℕ) → (f : Facts o at) → Ends f.rank (Some (sign (operator_text o) at))
+pub ends_operator : (o : Operator) (at : Place) → (f : Facts o at) → Ends f.rank (Some (sign (operator_text o) at))
 ends_operator o at f = record { cast = f.cast; dot = f.dot; links = λ j h e. let same : suc f.rank ≡ suc j = sym f.link ∙ e in omega (arith, same, h) }
 
 -- the operator is taken, where its left operand may stand
-pub operator_taken : (l : Bool) (o : Operator) (at : ℕ × ℕ) (f : Facts o at) (b : ℕ) (ws : List Want) (d : ℕ) (right : Row) → (l ≡ true → nat_lt d b ≡ true)
+pub operator_taken : (l : Bool) (o : Operator) (at : Place) (f : Facts o at) (b : ℕ) (ws : List Want) (d : ℕ) (right : Row) → (l ≡ true → nat_lt d b ≡ true)
     → run l table (Links f.rank b ∷ ws) d (sign (operator_text o) at ∷ right) ≡ run l table (Binary f.rank (b - 1) ∷ Join d ∷ Links f.rank b ∷ ws) 0 right
 unfolding table
 operator_taken l o at f b ws d right h = run-takes l table (Links f.rank b) (nat_lt d b) (Binary f.rank (b - 1) ∷ Join d ∷ Links f.rank b ∷ []) ws d 0 (sign (operator_text o) at) right

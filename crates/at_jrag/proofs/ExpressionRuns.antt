@@ -6,7 +6,9 @@ use lib.Chars.{codes}
 use Rattle.at_model.specs.Names.{is_name}
 use Rattle.at_text.specs.Reading.{first}
 use Rattle.at_text.specs.Symbols.{PlacedToken}
-use Rattle.at_jrag.specs.Grammar.{Row, is_name_token, is_sign, is_word, is_number, follows_cast, sign, word, number, operator_text, fold_text}
+use Rattle.at_text.specs.declared.place.Place.{Place}
+use Rattle.at_text.specs.Rows.{Row, sign, word, is_sign, is_word, is_name_token}
+use Rattle.at_jrag.specs.Grammar.{is_number, follows_cast, number, operator_text, fold_text}
 use Rattle.at_jrag.specs.Syntax as syntax
 use Rattle.at_jrag.specs.Syntax.{Operator, FoldForm}
 use Rattle.at_jrag.specs.Machine.{Answer, Takes, Skips, Refuses, LeavesOut, and_then, run}
@@ -27,7 +29,7 @@ moves_on us vs ts m n k old mid rest h g s l b f ws = g l b (λ e. omega (arith,
 
 -- ---- operators and choices
 
-pub operation_moves : (o : Operator) (at : ℕ × ℕ) (f : Facts o at) (m n : ℕ) (link right rest : Row) → link ≡ sign (operator_text o) at ∷ right → Goes (Binary f.rank) (λ b. []) n right rest
+pub operation_moves : (o : Operator) (at : Place) (f : Facts o at) (m n : ℕ) (link right rest : Row) → link ≡ sign (operator_text o) at ∷ right → Goes (Binary f.rank) (λ b. []) n right rest
     → Moves (λ b. Links f.rank b ∷ []) (λ b. Links f.rank b ∷ []) m (1 + max m n) link rest
 unfolding table
 operation_moves o at f m n link right rest e g l b h ws =
@@ -36,7 +38,7 @@ operation_moves o at f m n link right rest e g l b h ws =
     ∙ g l (b - 1) (λ x. omega (arith, h x)) (Join m ∷ Links f.rank b ∷ ws) 0
     ∙ run-skips l table (Join m) (Links f.rank b ∷ ws) n (1 + max m n) rest refl
 
-pub instance_moves : (at name_at : ℕ × ℕ) (text : List ℕ) (m : ℕ) (link rest : Row) → link ≡ word (codes "instanceof") at ∷ word text name_at ∷ rest → is_name text ≡ true
+pub instance_moves : (at name_at : Place) (text : List ℕ) (m : ℕ) (link rest : Row) → link ≡ word (codes "instanceof") at ∷ word text name_at ∷ rest → is_name text ≡ true
     → Moves (λ b. Links 2 b ∷ []) (λ b. Links 2 b ∷ []) m (1 + m) link rest
 unfolding table
 instance_moves at name_at text m link rest e is l b h ws =
@@ -52,7 +54,7 @@ expression_plain n old rest e g l b f ws d =
     ∙ g l b f (Choice b ∷ ws) d
     ∙ run-skips l table (Choice b) ws n n rest (ap (λ x. cond x (Takes (nat_lt n b) (Expression (b - 1) ∷ Otherwise b n ∷ []) 0) (Skips n)) e)
 
-pub choice_goes : (k m n : ℕ) (behind colon_at : ℕ × ℕ) (old link then colon other rest : Row) → Goes (Binary 6) (λ b. []) k old link → link ≡ sign (codes "?") behind ∷ then
+pub choice_goes : (k m n : ℕ) (behind colon_at : Place) (old link then colon other rest : Row) → Goes (Binary 6) (λ b. []) k old link → link ≡ sign (codes "?") behind ∷ then
     → Goes Expression (λ b. []) m then colon → colon ≡ sign (codes ":") colon_at ∷ other → Goes Expression (λ b. []) n other rest → Goes Expression (λ b. []) (1 + max k (max m n)) old rest
 unfolding table
 choice_goes k m n behind colon_at old link then colon other rest c q t e o l b f ws d =
@@ -69,7 +71,7 @@ choice_goes k m n behind colon_at old link then colon other rest c q t e o l b f
 
 -- ---- unaries
 
-pub not_goes : (at : ℕ × ℕ) (n : ℕ) (old one rest : Row) → 1 ≤ n → old ≡ sign (codes "!") at ∷ one → Goes Unary (λ b. []) n one rest → Goes Unary (λ b. []) (1 + n) old rest
+pub not_goes : (at : Place) (n : ℕ) (old one rest : Row) → 1 ≤ n → old ≡ sign (codes "!") at ∷ one → Goes Unary (λ b. []) n one rest → Goes Unary (λ b. []) (1 + n) old rest
 unfolding table
 not_goes at n old one rest some e g l b f ws d =
     ap (run l table (Unary b ∷ ws) d) e
@@ -77,7 +79,7 @@ not_goes at n old one rest some e g l b f ws d =
     ∙ g l (b - 1) (λ h. omega (arith, f h)) (Deeper ∷ ws) 0
     ∙ run-skips l table Deeper ws n (1 + n) rest refl
 
-pub minus_goes : (at : ℕ × ℕ) (n : ℕ) (old one rest : Row) → 1 ≤ n → old ≡ sign (codes "-") at ∷ one → next is_number (first one) ≡ false → Goes Unary (λ b. []) n one rest → Goes Unary (λ b. []) (1 + n) old rest
+pub minus_goes : (at : Place) (n : ℕ) (old one rest : Row) → 1 ≤ n → old ≡ sign (codes "-") at ∷ one → next is_number (first one) ≡ false → Goes Unary (λ b. []) n one rest → Goes Unary (λ b. []) (1 + n) old rest
 unfolding table
 minus_goes at n old one rest some e none g l b f ws d =
     ap (run l table (Unary b ∷ ws) d) e
@@ -87,14 +89,14 @@ minus_goes at n old one rest some e none g l b f ws d =
     ∙ g l (b - 1) (λ h. omega (arith, f h)) (Deeper ∷ ws) 0
     ∙ run-skips l table Deeper ws n (1 + n) rest refl
 
-pub negative_goes : (at digits_at : ℕ × ℕ) (digits : List ℕ) (old rest : Row) → old ≡ sign (codes "-") at ∷ number digits digits_at ∷ rest → is_number_within 2147483648 (number digits digits_at) ≡ true → Goes Unary (λ b. Calls b ∷ []) 1 old rest
+pub negative_goes : (at digits_at : Place) (digits : List ℕ) (old rest : Row) → old ≡ sign (codes "-") at ∷ number digits digits_at ∷ rest → is_number_within 2147483648 (number digits digits_at) ≡ true → Goes Unary (λ b. Calls b ∷ []) 1 old rest
 unfolding table
 negative_goes at digits_at digits old rest e is l b f ws d =
     ap (run l table (Unary b ∷ ws) d) e
     ∙ run-takes l table (Unary b) (nat_lt 0 b) (Minus b ∷ []) ws d 0 (sign (codes "-") at) (number digits digits_at ∷ rest) refl (λ h. lt-ltb 0 b (omega (arith, f h)))
     ∙ run-takes l table (Minus b) true (Calls b ∷ []) ws 0 1 (number digits digits_at) rest (ap (λ x. cond x (Takes true (Calls b ∷ []) 1) Refuses) is) (λ h. refl)
 
-pub cast_goes : (at name_at close_at : ℕ × ℕ) (text : List ℕ) (n : ℕ) (old one rest : Row) → 1 ≤ n → old ≡ sign (codes "(") at ∷ word text name_at ∷ sign (codes ")") close_at ∷ one → is_name text ≡ true → next follows_cast (first one) ≡ true
+pub cast_goes : (at name_at close_at : Place) (text : List ℕ) (n : ℕ) (old one rest : Row) → 1 ≤ n → old ≡ sign (codes "(") at ∷ word text name_at ∷ sign (codes ")") close_at ∷ one → is_name text ≡ true → next follows_cast (first one) ≡ true
     → Goes Unary (λ b. []) n one rest → Goes Unary (λ b. []) (1 + n) old rest
 unfolding table
 cast_goes at name_at close_at text n old one rest some e is follows g l b f ws d =
@@ -112,13 +114,13 @@ cast_goes at name_at close_at text n old one rest some e is follows g l b f ws d
 
 -- a parenthesis that is no cast's
 abbrev pub NoCastBehind : Row → Type 0
-NoCastBehind old = (at : ℕ × ℕ) (one : Row) → old ≡ sign (codes "(") at ∷ one → NoCast one
+NoCastBehind old = (at : Place) (one : Row) → old ≡ sign (codes "(") at ∷ one → NoCast one
 
 and_true : (a b : Bool) → a ≡ true → a && b ≡ b
 and_true true b e = refl
 and_true false b e = absurd cc
 
-no_cast_at : (at : ℕ × ℕ) (t c : PlacedToken) (rest : Row) → opens_cast (sign (codes "(") at ∷ t ∷ c ∷ rest) ≡ false → is_name_token t ≡ true → is_sign (codes ")") c ≡ true → next follows_cast (first rest) ≡ false
+no_cast_at : (at : Place) (t c : PlacedToken) (rest : Row) → opens_cast (sign (codes "(") at ∷ t ∷ c ∷ rest) ≡ false → is_name_token t ≡ true → is_sign (codes ")") c ≡ true → next follows_cast (first rest) ≡ false
 no_cast_at at t c [] none named closes = refl
 no_cast_at at t c (d ∷ rest) none named closes = sym (and_true (is_sign (codes ")") c) (follows_cast d) closes) ∙ sym (and_true (is_name_token t) (is_sign (codes ")") c && follows_cast d) named) ∙ none
 
@@ -126,7 +128,7 @@ no_cast_at at t c (d ∷ rest) none named closes = sym (and_true (is_sign (codes
 pub no_cast : (old : Row) → opens_cast old ≡ false → NoCastBehind old
 no_cast old none at one e t c rest f named closes = no_cast_at at t c rest (sym (ap opens_cast (e ∙ ap (λ r. sign (codes "(") at ∷ r) f)) ∙ none) named closes
 
-paren_unary : (l : Bool) (b : ℕ) (ws : List Want) (d : ℕ) (at : ℕ × ℕ) (one : Row) → NoCast one → run l table (Unary b ∷ ws) d (sign (codes "(") at ∷ one) ≡ run l table (Primary b ∷ Calls b ∷ ws) d (sign (codes "(") at ∷ one)
+paren_unary : (l : Bool) (b : ℕ) (ws : List Want) (d : ℕ) (at : Place) (one : Row) → NoCast one → run l table (Unary b ∷ ws) d (sign (codes "(") at ∷ one) ≡ run l table (Primary b ∷ Calls b ∷ ws) d (sign (codes "(") at ∷ one)
 unfolding table
 paren_unary l b ws d at one none =
     run-acts l (Unary b) ws d (sign (codes "(") at ∷ one)
@@ -158,7 +160,7 @@ unary_is_primary l b ws d (t ∷ one) m n none = unary_at (is_sign (codes "(") t
 
 -- ---- calls
 
-pub call_moves : (dot_at name_at : ℕ × ℕ) (text : List ℕ) (m n : ℕ) (old paren rest : Row) → old ≡ sign (codes ".") dot_at ∷ word text name_at ∷ paren → is_name text ≡ true
+pub call_moves : (dot_at name_at : Place) (text : List ℕ) (m n : ℕ) (old paren rest : Row) → old ≡ sign (codes ".") dot_at ∷ word text name_at ∷ paren → is_name text ≡ true
     → Goes (Arguments (is_get_child (word text name_at))) (λ b. []) n paren rest → Moves (λ b. Calls b ∷ []) (λ b. Calls b ∷ []) m (1 + max m n) old rest
 unfolding table
 call_moves dot_at name_at text m n old paren rest e is g l b f ws =
@@ -176,14 +178,14 @@ calls_end n rest e l b f ws = run-skips l table (Calls b) ws n n rest (ap (λ x.
 
 -- ---- arguments
 
-pub arguments_go : (g : Bool) (at : ℕ × ℕ) (n : ℕ) (paren list rest : Row) → paren ≡ sign (codes "(") at ∷ list → Goes (FirstArgument g) (λ b. []) n list rest → Goes (Arguments g) (λ b. []) n paren rest
+pub arguments_go : (g : Bool) (at : Place) (n : ℕ) (paren list rest : Row) → paren ≡ sign (codes "(") at ∷ list → Goes (FirstArgument g) (λ b. []) n list rest → Goes (Arguments g) (λ b. []) n paren rest
 unfolding table
 arguments_go g at n paren list rest e a l b f ws d =
     ap (run l table (Arguments g b ∷ ws) d) e
     ∙ run-takes l table (Arguments g b) true (FirstArgument g b ∷ []) ws d 0 (sign (codes "(") at) list refl (λ h. refl)
     ∙ a l b f ws 0
 
-pub no_arguments_go : (g : Bool) (at : ℕ × ℕ) (list rest : Row) → list ≡ sign (codes ")") at ∷ rest → Goes (FirstArgument g) (λ b. []) 0 list rest
+pub no_arguments_go : (g : Bool) (at : Place) (list rest : Row) → list ≡ sign (codes ")") at ∷ rest → Goes (FirstArgument g) (λ b. []) 0 list rest
 unfolding table
 no_arguments_go g at list rest e l b f ws d = ap (run l table (FirstArgument g b ∷ ws) d) e ∙ run-takes l table (FirstArgument g b) true [] ws d 0 (sign (codes ")") at) rest refl (λ h. refl)
 
@@ -198,11 +200,11 @@ first_goes g m n list more rest h close int e s l b f ws d =
     ∙ e l b (λ k. omega (arith, h, f k)) (MoreArguments b ∷ ws) d
     ∙ s l b f ws
 
-pub more_none : (at : ℕ × ℕ) (n : ℕ) (more rest : Row) → more ≡ sign (codes ")") at ∷ rest → Moves (λ b. MoreArguments b ∷ []) (λ b. []) n n more rest
+pub more_none : (at : Place) (n : ℕ) (more rest : Row) → more ≡ sign (codes ")") at ∷ rest → Moves (λ b. MoreArguments b ∷ []) (λ b. []) n n more rest
 unfolding table
 more_none at n more rest e l b f ws = ap (run l table (MoreArguments b ∷ ws) n) e ∙ run-takes l table (MoreArguments b) true [] ws n n (sign (codes ")") at) rest refl (λ h. refl)
 
-pub more_moves : (at : ℕ × ℕ) (m n : ℕ) (old one mid : Row) → old ≡ sign (codes ",") at ∷ one → Goes Expression (λ b. []) n one mid → Moves (λ b. MoreArguments b ∷ []) (λ b. MoreArguments b ∷ []) m (max m n) old mid
+pub more_moves : (at : Place) (m n : ℕ) (old one mid : Row) → old ≡ sign (codes ",") at ∷ one → Goes Expression (λ b. []) n one mid → Moves (λ b. MoreArguments b ∷ []) (λ b. MoreArguments b ∷ []) m (max m n) old mid
 unfolding table
 more_moves at m n old one mid e g l b f ws =
     ap (run l table (MoreArguments b ∷ ws) m) e
@@ -222,18 +224,18 @@ literal_goes t old rest e is l b f ws d =
     ap (run l table (Primary b ∷ ws) d) e
     ∙ run-takes l table (Primary b) (nat_lt 0 b) [] ws d 1 t rest (cond_true (is_literal t) (Takes (nat_lt 0 b) [] 1) _ is) (λ h. lt-ltb 0 b (omega (arith, f h)))
 
-pub named_taken : (l : Bool) (b : ℕ) (ws : List Want) (d : ℕ) (text : List ℕ) (at : ℕ × ℕ) (mid : Row) → is_name text ≡ true → (l ≡ true → 1 ≤ b) → run l table (Primary b ∷ ws) d (word text at ∷ mid) ≡ run l table (Named (is_get_child (word text at)) b ∷ ws) 0 mid
+pub named_taken : (l : Bool) (b : ℕ) (ws : List Want) (d : ℕ) (text : List ℕ) (at : Place) (mid : Row) → is_name text ≡ true → (l ≡ true → 1 ≤ b) → run l table (Primary b ∷ ws) d (word text at ∷ mid) ≡ run l table (Named (is_get_child (word text at)) b ∷ ws) 0 mid
 unfolding table
 named_taken l b ws d text at mid is f = run-takes l table (Primary b) (nat_lt 0 b) (Named (is_get_child (word text at)) b ∷ []) ws d 0 (word text at) mid (name_primary b text at is) (λ h. lt-ltb 0 b (omega (arith, f h)))
 
-pub name_goes : (text : List ℕ) (at : ℕ × ℕ) (old rest : Row) → old ≡ word text at ∷ rest → is_name text ≡ true → next (is_sign (codes "(")) (first rest) ≡ false → Goes Primary (λ b. []) 1 old rest
+pub name_goes : (text : List ℕ) (at : Place) (old rest : Row) → old ≡ word text at ∷ rest → is_name text ≡ true → next (is_sign (codes "(")) (first rest) ≡ false → Goes Primary (λ b. []) 1 old rest
 unfolding table
 name_goes text at old rest e is none l b f ws d =
     ap (run l table (Primary b ∷ ws) d) e
     ∙ named_taken l b ws d text at rest is f
     ∙ run-skips l table (Named (is_get_child (word text at)) b) ws 0 1 rest (ap (λ x. cond x (Takes true (FirstArgument (is_get_child (word text at)) (b - 1) ∷ Deeper ∷ []) 0) (Skips 1)) none)
 
-pub call_goes : (text : List ℕ) (at paren_at : ℕ × ℕ) (n : ℕ) (old list rest : Row) → old ≡ word text at ∷ sign (codes "(") paren_at ∷ list → is_name text ≡ true
+pub call_goes : (text : List ℕ) (at paren_at : Place) (n : ℕ) (old list rest : Row) → old ≡ word text at ∷ sign (codes "(") paren_at ∷ list → is_name text ≡ true
     → Goes (FirstArgument (is_get_child (word text at))) (λ b. []) n list rest → Goes Primary (λ b. []) (1 + n) old rest
 unfolding table
 call_goes text at paren_at n old list rest e is g l b f ws d =
@@ -244,7 +246,7 @@ call_goes text at paren_at n old list rest e is g l b f ws d =
     ∙ g l (b - 1) (λ h. omega (arith, f h)) (Deeper ∷ ws) 0
     ∙ run-skips l table Deeper ws n (1 + n) rest refl
 
-pub paren_goes : (at close_at : ℕ × ℕ) (n : ℕ) (old one close rest : Row) → 1 ≤ n → old ≡ sign (codes "(") at ∷ one → Goes Expression (λ b. []) n one close → close ≡ sign (codes ")") close_at ∷ rest → Goes Primary (λ b. []) (1 + n) old rest
+pub paren_goes : (at close_at : Place) (n : ℕ) (old one close rest : Row) → 1 ≤ n → old ≡ sign (codes "(") at ∷ one → Goes Expression (λ b. []) n one close → close ≡ sign (codes ")") close_at ∷ rest → Goes Primary (λ b. []) (1 + n) old rest
 unfolding table
 paren_goes at close_at n old one close rest some e g c l b f ws d =
     ap (run l table (Primary b ∷ ws) d) e
@@ -254,12 +256,12 @@ paren_goes at close_at n old one close rest some e g c l b f ws d =
     ∙ run-takes l table (Mark (codes ")")) true [] (Deeper ∷ ws) n n (sign (codes ")") close_at) rest refl (λ h. refl)
     ∙ run-skips l table Deeper ws n (1 + n) rest refl
 
-pub fold_taken : (form : FoldForm) (at : ℕ × ℕ) (b : ℕ) → primary_answer b (Some (word (fold_text form) at)) ≡ Takes (nat_lt 1 b) (Mark (codes "(") ∷ Name ∷ Mark (codes ":") ∷ Primary (b - 1) ∷ Calls (b - 1) ∷ Mark (codes ")") ∷ FoldBody b ∷ []) 0
+pub fold_taken : (form : FoldForm) (at : Place) (b : ℕ) → primary_answer b (Some (word (fold_text form) at)) ≡ Takes (nat_lt 1 b) (Mark (codes "(") ∷ Name ∷ Mark (codes ":") ∷ Primary (b - 1) ∷ Calls (b - 1) ∷ Mark (codes ")") ∷ FoldBody b ∷ []) 0
 fold_taken syntax.Exists at b = refl
 fold_taken syntax.First at b = refl
 fold_taken syntax.Sum at b = refl
 
-pub fold_goes : (form : FoldForm) (at paren_at name_at colon_at close_at brace_at end_at : ℕ × ℕ) (text : List ℕ) (m n : ℕ) (old items close one end rest : Row) → 1 ≤ m
+pub fold_goes : (form : FoldForm) (at paren_at name_at colon_at close_at brace_at end_at : Place) (text : List ℕ) (m n : ℕ) (old items close one end rest : Row) → 1 ≤ m
     → old ≡ word (fold_text form) at ∷ sign (codes "(") paren_at ∷ word text name_at ∷ sign (codes ":") colon_at ∷ items → is_name text ≡ true
     → ((l : Bool) (b : ℕ) → (l ≡ true → m ≤ b) → (ws : List Want) (d : ℕ) → run l table (Primary b ∷ Calls b ∷ ws) d items ≡ run l table ws m close)
     → close ≡ sign (codes ")") close_at ∷ sign (codes "{") brace_at ∷ one → Goes Expression (λ b. []) n one end → end ≡ sign (codes "}") end_at ∷ rest → Goes Primary (λ b. []) (1 + max m n) old rest

@@ -10,7 +10,9 @@ use Rattle.at_text.specs.Reading.{first}
 use Rattle.at_text.specs.declared.token.TokenKind.{TokenKind}
 use Rattle.at_text.specs.declared.token.TokenKind.TheVariants as kind
 use Rattle.at_text.specs.Symbols.{PlacedToken, is_word_kind, is_sign_kind}
-use Rattle.at_jrag.specs.Grammar.{Row, is_sign, is_name_token, follows_cast, sign, word}
+use Rattle.at_text.specs.declared.place.Place.{Place}
+use Rattle.at_text.specs.Rows.{Row, sign, word, is_sign, is_name_token}
+use Rattle.at_jrag.specs.Grammar.{follows_cast}
 use Rattle.at_jrag.specs.Machine.{Answer, Takes, Skips, Refuses, LeavesOut, and_then, is_skip, Goes, Halts, answered, after, ended, may_end, Outcome, Whole, Stuck, Refused, TooDeep, run}
 use Rattle.at_jrag.specs.Wants.{Want, Expression, Links, Choice, Opened, Enclosed, Parenthesized, Calls, Primary, Named, FoldBody, Deeper, Name, Mark}
 use Rattle.at_jrag.specs.Table.{next, is_get_child, table, or_else, primary_answer, unary_answer, binary_answer, expression_answer, links_answer, calls_answer, choice_answer, named_answer, links_from, tails_answer, enclosed_rest, is_literal, begins_fold}
@@ -35,11 +37,11 @@ differs true text word r is e =
 pub no_word : (text word : List ℕ) → is_reserved word ≡ true → is_name text ≡ true → bytes_eq text word ≡ false
 no_word text word r is = differs (bytes_eq text word) text word r is refl
 
-pub name_is_no_literal : (text : List ℕ) (at : ℕ × ℕ) → is_name text ≡ true → is_literal (word text at) ≡ false
+pub name_is_no_literal : (text : List ℕ) (at : Place) → is_name text ≡ true → is_literal (word text at) ≡ false
 unfolding reserved_words
 name_is_no_literal text at is = simp (no_word text (codes "true") refl is, no_word text (codes "false") refl is, no_word text (codes "null") refl is, no_word text (codes "this") refl is)
 
-pub name_begins_no_fold : (text : List ℕ) (at : ℕ × ℕ) → is_name text ≡ true → begins_fold (word text at) ≡ false
+pub name_begins_no_fold : (text : List ℕ) (at : Place) → is_name text ≡ true → begins_fold (word text at) ≡ false
 unfolding reserved_words
 name_begins_no_fold text at is = simp (no_word text (codes "exists") refl is, no_word text (codes "first") refl is, no_word text (codes "sum") refl is)
 
@@ -174,7 +176,7 @@ name_is t e =
     ((λ i. record { kind = k i; text = t.text; at = t.at }), h.1)
 
 -- a name alone within a parenthesis
-name_alone : (l g : Bool) (b d : ℕ) (ws : List Want) (at : ℕ × ℕ) (rest : Row) → run l table (within_parenthesis g b (Deeper ∷ ws)) d (sign (codes ")") at ∷ rest) ≡ run l table ws 2 rest
+name_alone : (l g : Bool) (b d : ℕ) (ws : List Want) (at : Place) (rest : Row) → run l table (within_parenthesis g b (Deeper ∷ ws)) d (sign (codes ")") at ∷ rest) ≡ run l table ws 2 rest
 unfolding table
 name_alone l g b d ws at rest =
     let ss = sign (codes ")") at ∷ rest in
@@ -191,7 +193,7 @@ name_alone l g b d ws at rest =
     ∙ run-takes l table (Mark (codes ")")) true [] (Deeper ∷ ws) 1 1 (sign (codes ")") at) rest refl (λ h. refl)
     ∙ run-skips l table Deeper ws 1 2 rest refl
 
-enclosed_alone : (l g : Bool) (b : ℕ) (ws : List Want) (at : ℕ × ℕ) (rest : Row) → next follows_cast (first rest) ≡ false → run l table (Enclosed g b ∷ ws) 0 (sign (codes ")") at ∷ rest) ≡ run l table (Calls b ∷ ws) 2 rest
+enclosed_alone : (l g : Bool) (b : ℕ) (ws : List Want) (at : Place) (rest : Row) → next follows_cast (first rest) ≡ false → run l table (Enclosed g b ∷ ws) 0 (sign (codes ")") at ∷ rest) ≡ run l table (Calls b ∷ ws) 2 rest
 unfolding table
 enclosed_alone l g b ws at rest h =
     run-takes l table (Enclosed g b) true (Parenthesized b ∷ []) ws 0 2 (sign (codes ")") at) rest refl (λ h. refl)
@@ -216,7 +218,7 @@ enclosed_either true l g b ws (t ∷ rest) e h =
     ∙ sym (ap (λ x. run l table (within_parenthesis g (b - 1) (Deeper ∷ Calls b ∷ ws)) 0 (x ∷ rest)) same ∙ name_alone l g (b - 1) 0 (Calls b ∷ ws) t.at rest)
 
 -- a name begins a primary
-pub name_primary : (b : ℕ) (text : List ℕ) (at : ℕ × ℕ) → is_name text ≡ true → primary_answer b (Some (word text at)) ≡ Takes (nat_lt 0 b) (Named (is_get_child (word text at)) b ∷ []) 0
+pub name_primary : (b : ℕ) (text : List ℕ) (at : Place) → is_name text ≡ true → primary_answer b (Some (word text at)) ≡ Takes (nat_lt 0 b) (Named (is_get_child (word text at)) b ∷ []) 0
 name_primary b text at is =
     ap (λ x. cond x (Takes (nat_lt 0 b) [] 1) (cond (begins_fold (word text at)) (Takes (nat_lt 1 b) (Mark (codes "(") ∷ Name ∷ Mark (codes ":") ∷ Primary (b - 1) ∷ Calls (b - 1) ∷ Mark (codes ")") ∷ FoldBody b ∷ []) 0) (cond (is_name text) (Takes (nat_lt 0 b) (Named (is_get_child (word text at)) b ∷ []) 0) Refuses))) (name_is_no_literal text at is)
     ∙ ap (λ x. cond x (Takes (nat_lt 1 b) (Mark (codes "(") ∷ Name ∷ Mark (codes ":") ∷ Primary (b - 1) ∷ Calls (b - 1) ∷ Mark (codes ")") ∷ FoldBody b ∷ []) 0) (cond (is_name text) (Takes (nat_lt 0 b) (Named (is_get_child (word text at)) b ∷ []) 0) Refuses)) (name_begins_no_fold text at is)
@@ -230,7 +232,7 @@ takes_alike false l us vs e s ss h = refl
 abbrev pub NoCast : Row → Type 0
 NoCast one = (t c : PlacedToken) (rest : Row) → one ≡ t ∷ c ∷ rest → is_name_token t ≡ true → is_sign (codes ")") c ≡ true → next follows_cast (first rest) ≡ false
 
-opened_name : (l : Bool) (b : ℕ) (ws : List Want) (d : ℕ) (text : List ℕ) (at : ℕ × ℕ) (ss : Row) → is_name text ≡ true → NoCast (word text at ∷ ss)
+opened_name : (l : Bool) (b : ℕ) (ws : List Want) (d : ℕ) (text : List ℕ) (at : Place) (ss : Row) → is_name text ≡ true → NoCast (word text at ∷ ss)
     → run l table (Opened b ∷ ws) d (word text at ∷ ss) ≡ run l table (Expression (b - 1) ∷ Mark (codes ")") ∷ Deeper ∷ Calls b ∷ ws) d (word text at ∷ ss)
 unfolding table
 opened_name l b ws d text at ss is h =

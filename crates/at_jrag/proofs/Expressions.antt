@@ -4,8 +4,9 @@ use Rattle.std.specs.Prelude.{Result, IfOk}
 use Rattle.std.proofs.lemmas.Result.{IfOk-weaker}
 use lib.Chars.{codes}
 use Rattle.at_text.specs.Symbols.{PlacedToken}
+use Rattle.at_text.specs.declared.place.Place.{Place}
 use Rattle.at_jrag.specs.Syntax as syntax
-use Rattle.at_jrag.specs.Syntax.{Place, Expr, Exprs, to_exprs, place}
+use Rattle.at_jrag.specs.Syntax.{Expr, Exprs, to_exprs, place}
 use Rattle.at_jrag.specs.Syntax.{Word, FoldForm}
 use Rattle.at_jrag.specs.View.{expr_view}
 use Rattle.at_jrag.specs.Read.{Reads, HasArguments, prefix_view, StandsBefore}
@@ -13,7 +14,8 @@ use Rattle.at_jrag.specs.declared.reader.forms.Measured.{Measured}
 use Rattle.at_jrag.specs.declared.reader.forms.Arguments.{Arguments as ArgumentsValue}
 use Rattle.at_jrag.specs.declared.reader.operators.Prefix.{Prefix}
 use Rattle.at_jrag.specs.declared.reader.operators.Prefix.TheVariants as prefix
-use Rattle.at_jrag.specs.Grammar.{word, sign, fold_text, operator_text, operator_level, is_sign, next_is, Name, Row, Spells, Arguments, MoreArguments, NumberOf, Sign, deepest, depth, level}
+use Rattle.at_text.specs.Rows.{Row, sign, word, is_sign, next_is}
+use Rattle.at_jrag.specs.Grammar.{fold_text, operator_text, operator_level, Name, Spells, Arguments, MoreArguments, NumberOf, Sign, deepest, depth, level}
 
 -- ---- each form takes a token at least
 

@@ -11,8 +11,10 @@ use Rattle.at_model.specs.Names.{is_name, reserved_words}
 use Rattle.at_model.specs.Texts.{escaped, quoted}
 use Rattle.at_text.specs.Reading.{first}
 use Rattle.at_text.specs.Symbols.{PlacedToken}
+use Rattle.at_text.specs.declared.place.Place.{Place}
 use Rattle.at_jrag.specs.Grammar as grammar
-use Rattle.at_jrag.specs.Grammar.{Row, is_sign, is_word, is_name_token, is_number, follows_cast, next_is, sign, word, number, quotation, Spells, level, depth, deepest}
+use Rattle.at_text.specs.Rows.{Row, sign, word, is_sign, is_word, is_name_token, next_is}
+use Rattle.at_jrag.specs.Grammar.{is_number, follows_cast, number, quotation, Spells, level, depth, deepest}
 use Rattle.at_jrag.specs.Syntax as syntax
 use Rattle.at_jrag.specs.Syntax.{Expr, Exprs}
 use Rattle.at_jrag.specs.Machine.{Stuck, Refused, run}
@@ -28,7 +30,7 @@ use Rattle.std.proofs.lemmas.Bool.{le-leb}
 
 -- ---- literals
 
-pub number_is : (most m : ℕ) (at : ℕ × ℕ) → most ≤ 2147483648 → m ≤ most → is_number_within most (number (decimal m) at) ≡ true
+pub number_is : (most m : ℕ) (at : Place) → most ≤ 2147483648 → m ≤ most → is_number_within most (number (decimal m) at) ≡ true
 number_is most m at h k =
     let small : m < 2 ^ 64 = omega (arith, h, k) in
     ap (λ v. nat_le v most && bytes_eq (decimal v) (decimal m)) (decimal_is_IsNumeral m small).1
@@ -65,22 +67,22 @@ next_first test [] = refl
 next_first test (t ∷ ts) = refl
 
 -- these end an expression
-close_ends : (at : ℕ × ℕ) → EndsWhole (Some (sign (codes ")") at))
+close_ends : (at : Place) → EndsWhole (Some (sign (codes ")") at))
 close_ends at = record { ends = record { cast = refl; dot = refl; links = λ j h e. omega (arith, e) }; choice = refl }
 
-comma_ends : (at : ℕ × ℕ) → EndsWhole (Some (sign (codes ",") at))
+comma_ends : (at : Place) → EndsWhole (Some (sign (codes ",") at))
 comma_ends at = record { ends = record { cast = refl; dot = refl; links = λ j h e. omega (arith, e) }; choice = refl }
 
-colon_ends : (at : ℕ × ℕ) → EndsWhole (Some (sign (codes ":") at))
+colon_ends : (at : Place) → EndsWhole (Some (sign (codes ":") at))
 colon_ends at = record { ends = record { cast = refl; dot = refl; links = λ j h e. omega (arith, e) }; choice = refl }
 
-brace_ends : (at : ℕ × ℕ) → EndsWhole (Some (sign (codes "}") at))
+brace_ends : (at : Place) → EndsWhole (Some (sign (codes "}") at))
 brace_ends at = record { ends = record { cast = refl; dot = refl; links = λ j h e. omega (arith, e) }; choice = refl }
 
-question_ends : (at : ℕ × ℕ) → Ends 6 (Some (sign (codes "?") at))
+question_ends : (at : Place) → Ends 6 (Some (sign (codes "?") at))
 question_ends at = record { cast = refl; dot = refl; links = λ j h e. omega (arith, e) }
 
-instance_ends : (at : ℕ × ℕ) → Ends 2 (Some (word (codes "instanceof") at))
+instance_ends : (at : Place) → Ends 2 (Some (word (codes "instanceof") at))
 unfolding reserved_words
 instance_ends at = record { cast = ap (λ x. (x || false) || false) (reserved_is_no_name (codes "instanceof") refl); dot = refl; links = λ j h e. omega (arith, h, e) }
 
@@ -173,16 +175,16 @@ or_first false b e = absurd cc
 pub number_literal : (t : PlacedToken) → is_number_within 2147483647 t ≡ true → is_literal t ≡ true
 number_literal t e = or_first (is_number_within 2147483647 t) _ e
 
-number_accepted : (at : ℕ × ℕ) (n : ℤ) (old rest : Row) → grammar.NumberOf at n old rest → Accepted 8 1 old rest
+number_accepted : (at : Place) (n : ℤ) (old rest : Row) → grammar.NumberOf at n old rest → Accepted 8 1 old rest
 number_accepted at n old rest (inl (m, small, is, e)) = literal_accepted (number (decimal m) at) old rest e (number_literal (number (decimal m) at) (number_is 2147483647 m at (omega arith) small)) refl refl refl
 number_accepted at n old rest (inr (m, digits, small, is, e)) = by_post 8 1 old rest (omega arith)
     (λ f. negative_goes at digits (decimal m) old rest e (number_is 2147483648 m digits (omega arith) small))
     (λ f minus. absurd (let q : true ≡ false = sym (ap (λ r. next (is_sign (codes "-")) (first r)) e) ∙ minus in cc))
 
-text_accepted : (at : ℕ × ℕ) (bytes : List ℕ) (old rest : Row) → old ≡ quotation (quoted bytes) at ∷ rest → Accepted 8 1 old rest
+text_accepted : (at : Place) (bytes : List ℕ) (old rest : Row) → old ≡ quotation (quoted bytes) at ∷ rest → Accepted 8 1 old rest
 text_accepted at bytes old rest e = literal_accepted (quotation (quoted bytes) at) old rest e (ap (λ x. x || false) (quoted_is bytes)) refl refl refl
 
-truth_accepted : (b : Bool) (at : ℕ × ℕ) (old rest : Row) → old ≡ word (grammar.truth_text b) at ∷ rest → Accepted 8 1 old rest
+truth_accepted : (b : Bool) (at : Place) (old rest : Row) → old ≡ word (grammar.truth_text b) at ∷ rest → Accepted 8 1 old rest
 truth_accepted true at old rest e = literal_accepted (word (codes "true") at) old rest e refl refl refl refl
 truth_accepted false at old rest e = literal_accepted (word (codes "false") at) old rest e refl refl refl refl
 
@@ -194,7 +196,7 @@ no_open : (s : Option PlacedToken) → next follows_cast s ≡ false → next (i
 no_open None f = refl
 no_open (Some t) f = open_follows (is_sign (codes "(") t) t refl f
 
-name_accepted : (text : List ℕ) (at : ℕ × ℕ) (old rest : Row) → old ≡ word text at ∷ rest → is_name text ≡ true → Accepted 8 1 old rest
+name_accepted : (text : List ℕ) (at : Place) (old rest : Row) → old ≡ word text at ∷ rest → is_name text ≡ true → Accepted 8 1 old rest
 name_accepted text at old rest e is = by_primary 8 1 old rest (omega arith) (ap (λ r. next (is_sign (codes "-")) (first r)) e) (ap (λ r. next (is_sign (codes "!")) (first r)) e)
     (λ f. no_paren old (ap (λ r. next (is_sign (codes "(")) (first r)) e)) (λ f. name_goes text at old rest e is (no_open (first rest) f))
 
@@ -205,11 +207,11 @@ tail_is t u x y e = cc
 stuck_tail : (x y : Row) → Stuck Refused x ≡ Stuck Refused y → x ≡ y
 stuck_tail x y e = cc
 
-stuck_close : (n : ℕ) (at : ℕ × ℕ) (rest : Row) → run false table [] n (sign (codes ")") at ∷ rest) ≡ Stuck Refused (sign (codes ")") at ∷ rest)
+stuck_close : (n : ℕ) (at : Place) (rest : Row) → run false table [] n (sign (codes ")") at ∷ rest) ≡ Stuck Refused (sign (codes ")") at ∷ rest)
 unfolding run
 stuck_close n at rest = refl
 
-paren_is_no_cast : (at close_at : ℕ × ℕ) (n : ℕ) (old one close rest : Row) → old ≡ sign (codes "(") at ∷ one → Goes Expression (λ b. []) n one close → close ≡ sign (codes ")") close_at ∷ rest → next follows_cast (first rest) ≡ false → NoCastBehind old
+paren_is_no_cast : (at close_at : Place) (n : ℕ) (old one close rest : Row) → old ≡ sign (codes "(") at ∷ one → Goes Expression (λ b. []) n one close → close ≡ sign (codes ")") close_at ∷ rest → next follows_cast (first rest) ≡ false → NoCastBehind old
 paren_is_no_cast at close_at n old one close rest e g c f at2 one2 e2 t u rest2 split named closes =
     let same : one ≡ one2 = tail_is _ _ one one2 (sym e ∙ e2) in
     let name = name_is t named in
@@ -220,11 +222,11 @@ paren_is_no_cast at close_at n old one close rest e g c f at2 one2 e2 t u rest2 
     let met : sign (codes ")") close_at ∷ rest ≡ sign (codes ")") u.at ∷ rest2 = stuck_tail _ _ (sym left ∙ ap (run false table (Expression 0 ∷ []) 0) same ∙ right) in
     ap (λ r. next follows_cast (first r)) (sym (tail_is _ _ rest rest2 met)) ∙ f
 
-paren_accepted : (at close_at : ℕ × ℕ) (n : ℕ) (old one close rest : Row) → 1 ≤ n → old ≡ sign (codes "(") at ∷ one → Goes Expression (λ b. []) n one close → close ≡ sign (codes ")") close_at ∷ rest → Accepted 8 (1 + n) old rest
+paren_accepted : (at close_at : Place) (n : ℕ) (old one close rest : Row) → 1 ≤ n → old ≡ sign (codes "(") at ∷ one → Goes Expression (λ b. []) n one close → close ≡ sign (codes ")") close_at ∷ rest → Accepted 8 (1 + n) old rest
 paren_accepted at close_at n old one close rest some e g c = by_primary 8 (1 + n) old rest (omega arith) (ap (λ r. next (is_sign (codes "-")) (first r)) e) (ap (λ r. next (is_sign (codes "!")) (first r)) e)
     (λ f. paren_is_no_cast at close_at n old one close rest e g c f) (λ f. paren_goes at close_at n old one close rest some e g c)
 
-operation_accepted : (o : syntax.Operator) (at : ℕ × ℕ) (f : Facts o at) (j k m n : ℕ) (old link right rest : Row) → grammar.operator_level o ≤ j → grammar.operator_level o + 1 ≤ k
+operation_accepted : (o : syntax.Operator) (at : Place) (f : Facts o at) (j k m n : ℕ) (old link right rest : Row) → grammar.operator_level o ≤ j → grammar.operator_level o + 1 ≤ k
     → Accepted j m old link → link ≡ sign (grammar.operator_text o) at ∷ right → Accepted k n right rest → Accepted (grammar.operator_level o) (1 + max m n) old rest
 operation_accepted o at f j k m n old link right rest lj lk a e b = by_taken (grammar.operator_level o) (1 + max m n) old rest f.low (omega (arith, f.level))
     (taken_link (grammar.operator_level o) f.rank (1 + max m n) old rest f.level (λ ends.
@@ -232,14 +234,14 @@ operation_accepted o at f j k m n old link right rest lj lk a e b = by_taken (gr
     ((a.taken (omega (arith, f.low, lj))).linked f.rank (omega (arith, f.level, lj)) (ends_at f.rank (sign (grammar.operator_text o) at) link right e (ends_operator o at f)))
     (operation_moves o at f m n link right rest e ((b.taken (omega (arith, f.low, lk))).whole f.rank (omega (arith, f.level, lk)) ends))))
 
-instance_accepted : (at name_at : ℕ × ℕ) (text : List ℕ) (j m : ℕ) (old link rest : Row) → 4 ≤ j → Accepted j m old link → link ≡ word (codes "instanceof") at ∷ word text name_at ∷ rest → is_name text ≡ true → Accepted 4 (1 + m) old rest
+instance_accepted : (at name_at : Place) (text : List ℕ) (j m : ℕ) (old link rest : Row) → 4 ≤ j → Accepted j m old link → link ≡ word (codes "instanceof") at ∷ word text name_at ∷ rest → is_name text ≡ true → Accepted 4 (1 + m) old rest
 instance_accepted at name_at text j m old link rest h a e is = by_taken 4 (1 + m) old rest (omega arith) (omega arith)
     (taken_link 4 2 (1 + m) old rest refl (λ ends.
     then_moves (Binary 3) (λ b. Links 2 b ∷ []) (λ b. Links 2 b ∷ []) m (1 + m) old link rest (omega arith)
     ((a.taken (omega (arith, h))).linked 2 (omega (arith, h)) (ends_at 2 (word (codes "instanceof") at) link (word text name_at ∷ rest) e (instance_ends at)))
     (instance_moves at name_at text m link rest e is)))
 
-choice_accepted : (at colon_at : ℕ × ℕ) (j k m n : ℕ) (old link chosen colon other rest : Row) → 1 ≤ j → Accepted j k old link → link ≡ sign (codes "?") at ∷ chosen
+choice_accepted : (at colon_at : Place) (j k m n : ℕ) (old link chosen colon other rest : Row) → 1 ≤ j → Accepted j k old link → link ≡ sign (codes "?") at ∷ chosen
     → Goes Expression (λ b. []) m chosen colon → colon ≡ sign (codes ":") colon_at ∷ other → (EndsWhole (first rest) → Goes Expression (λ b. []) n other rest) → Accepted 0 (1 + max k (max m n)) old rest
 choice_accepted at colon_at j k m n old link chosen colon other rest low c e t z o = record {
   post = λ h f. absurd (omega (arith, h));
@@ -248,10 +250,10 @@ choice_accepted at colon_at j k m n old link chosen colon other rest low c e t z
   whole = λ w. choice_goes k m n at colon_at old link chosen colon other rest ((c.taken low).whole 6 (omega (arith, low)) (ends_at 6 (sign (codes "?") at) link chosen e (question_ends at))) e t z (o w);
 }
 
-dot_follows : (at : ℕ × ℕ) (old rest : Row) → old ≡ sign (codes ".") at ∷ rest → next follows_cast (first old) ≡ false
+dot_follows : (at : Place) (old rest : Row) → old ≡ sign (codes ".") at ∷ rest → next follows_cast (first old) ≡ false
 dot_follows at old rest e = ap (λ r. next follows_cast (first r)) e
 
-call_of_accepted : (dot_at name_at : ℕ × ℕ) (text : List ℕ) (j m n : ℕ) (old dot paren rest : Row) → 8 ≤ j → Accepted j m old dot → dot ≡ sign (codes ".") dot_at ∷ word text name_at ∷ paren → is_name text ≡ true
+call_of_accepted : (dot_at name_at : Place) (text : List ℕ) (j m n : ℕ) (old dot paren rest : Row) → 8 ≤ j → Accepted j m old dot → dot ≡ sign (codes ".") dot_at ∷ word text name_at ∷ paren → is_name text ≡ true
     → Goes (want.Arguments (is_get_child (word text name_at))) (λ b. []) n paren rest → Accepted 8 (1 + max m n) old rest
 call_of_accepted dot_at name_at text j m n old dot paren rest h a e is g =
     let moves = call_moves dot_at name_at text m n dot paren rest e is g in
@@ -259,11 +261,11 @@ call_of_accepted dot_at name_at text j m n old dot paren rest h a e is g =
     (λ f. then_moves Unary (λ b. Calls b ∷ []) (λ b. Calls b ∷ []) m (1 + max m n) old dot rest (omega arith) (a.post h (dot_follows dot_at dot _ e)) moves)
     (λ f minus l b fits ws d. a.primary h (dot_follows dot_at dot _ e) minus l b (λ x. omega (arith, fits x)) ws d ∙ moves l b fits ws)
 
-call_accepted : (text : List ℕ) (at paren_at : ℕ × ℕ) (n : ℕ) (old list rest : Row) → old ≡ word text at ∷ sign (codes "(") paren_at ∷ list → is_name text ≡ true → Goes (FirstArgument (is_get_child (word text at))) (λ b. []) n list rest → Accepted 8 (1 + n) old rest
+call_accepted : (text : List ℕ) (at paren_at : Place) (n : ℕ) (old list rest : Row) → old ≡ word text at ∷ sign (codes "(") paren_at ∷ list → is_name text ≡ true → Goes (FirstArgument (is_get_child (word text at))) (λ b. []) n list rest → Accepted 8 (1 + n) old rest
 call_accepted text at paren_at n old list rest e is g = by_primary 8 (1 + n) old rest (omega arith) (ap (λ r. next (is_sign (codes "-")) (first r)) e) (ap (λ r. next (is_sign (codes "!")) (first r)) e)
     (λ f. no_paren old (ap (λ r. next (is_sign (codes "(")) (first r)) e)) (λ f. call_goes text at paren_at n old list rest e is g)
 
-fold_accepted : (form : syntax.FoldForm) (at : ℕ × ℕ) (n : ℕ) (old mid rest : Row) → old ≡ word (grammar.fold_text form) at ∷ mid → Goes Primary (λ b. []) n old rest → Accepted 8 n old rest
+fold_accepted : (form : syntax.FoldForm) (at : Place) (n : ℕ) (old mid rest : Row) → old ≡ word (grammar.fold_text form) at ∷ mid → Goes Primary (λ b. []) n old rest → Accepted 8 n old rest
 fold_accepted form at n old mid rest e g = by_primary 8 n old rest (omega arith) (ap (λ r. next (is_sign (codes "-")) (first r)) e) (ap (λ r. next (is_sign (codes "!")) (first r)) e)
     (λ f. no_paren old (ap (λ r. next (is_sign (codes "(")) (first r)) e)) (λ f. g)
 
@@ -281,15 +283,15 @@ name_heads : (w : syntax.Word) (old rest : Row) → grammar.Name w old rest → 
 unfolding reserved_words
 name_heads w old rest h = heads_at (word w.text w.at) old rest h.1 refl (no_word w.text (codes "int") refl h.0)
 
-number_heads : (at : ℕ × ℕ) (n : ℤ) (old rest : Row) → grammar.NumberOf at n old rest → Heads old
+number_heads : (at : Place) (n : ℤ) (old rest : Row) → grammar.NumberOf at n old rest → Heads old
 number_heads at n old rest (inl h) = heads_at _ old rest h.3 refl refl
 number_heads at n old rest (inr h) = heads_at _ old _ h.4 refl refl
 
-truth_heads : (b : Bool) (at : ℕ × ℕ) (old rest : Row) → old ≡ word (grammar.truth_text b) at ∷ rest → Heads old
+truth_heads : (b : Bool) (at : Place) (old rest : Row) → old ≡ word (grammar.truth_text b) at ∷ rest → Heads old
 truth_heads true at old rest e = heads_at _ old rest e refl refl
 truth_heads false at old rest e = heads_at _ old rest e refl refl
 
-fold_heads : (f : syntax.FoldForm) (at : ℕ × ℕ) (old rest : Row) → old ≡ word (grammar.fold_text f) at ∷ rest → Heads old
+fold_heads : (f : syntax.FoldForm) (at : Place) (old rest : Row) → old ≡ word (grammar.fold_text f) at ∷ rest → Heads old
 fold_heads syntax.Exists at old rest e = heads_at _ old rest e refl refl
 fold_heads syntax.First at old rest e = heads_at _ old rest e refl refl
 fold_heads syntax.Sum at old rest e = heads_at _ old rest e refl refl

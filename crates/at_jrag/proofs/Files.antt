@@ -1,5 +1,5 @@
 -- A text's tokens, and where reading them stops.
-use Rattle.std.proofs.Common.{◌≡◌, ℕ, ◌-◌, ◌≤◌, List, [], ◌∷◌, ◌++◌, true, length, map, take, drop, refl, sym, ap, subst, subst₂, ◌∙◌, length-append, arith}
+use Rattle.std.proofs.Common.{◌≡◌, ℕ, ◌-◌, ◌≤◌, List, [], ◌∷◌, ◌++◌, true, length, map, take, drop, refl, sym, ap, subst, subst₂, ◌∙◌, length-append, arith, inr}
 use Rattle.std.proofs.lemmas.List.{length-map}
 use Rattle.at_text.specs.declared.placed.Placed.{Placed}
 use Rattle.at_text.proofs.Scanned as scanned
@@ -7,13 +7,18 @@ use Rattle.at_jrag.specs.Syntax.{Aspect}
 use Rattle.at_jrag.specs.Grammar.{File, IsWithin}
 use Rattle.at_text.specs.Pieces.{Piece, Cut, Spelled, spelled_at}
 use Rattle.at_text.specs.Symbols.{HasTokens, PlacedToken, placed, placed_in, next_place}
-use Rattle.at_jrag.specs.Machine.{Reason, Stuck, Whole, run}
+use Rattle.at_text.specs.declared.place.Place.{Place}
+use Rattle.at_jrag.specs.Machine.{Reason, Refused, LeftOut, TooDeep, Stuck, Whole, run}
 use Rattle.at_jrag.specs.Wants as want
 use Rattle.at_jrag.specs.Table.{table}
-use Rattle.at_jrag.specs.Left.{left}
-use Rattle.at_jrag.specs.Faults.{StopsAt, last_declaration}
+use Rattle.at_text.specs.Rows.{left}
+use Rattle.at_jrag.specs.Runs.{reason}
+use Rattle.at_jrag.specs.Faults.{StopsAt, IsFault, fault_place}
+use Rattle.at_text.specs.declared.fault.Fault.TheVariants as fault
+use Rattle.at_jrag.specs.declared.JragCode.{JragCode}
+use Rattle.at_jrag.specs.declared.JragCode.TheVariants as code
 use Rattle.at_jrag.proofs.MachineLaws.{stuck_behind}
-use Rattle.at_jrag.proofs.FirstFaults.{first_fault}
+use Rattle.at_jrag.proofs.FirstFaults.{first_fault, none_at_all, one_deeper, one_left_out, none_left_out_there}
 use Rattle.at_jrag.proofs.DeclarationRuns.{file_taken}
 use Rattle.at_jrag.proofs.Unambiguous.{one_file}
 
@@ -88,8 +93,16 @@ file_same text ts us rest read aspects h k found end file = one_file read aspect
 
 -- ---- places
 
-pub place_behind : (text : List ℕ) (ts vs : List Placed) (n m : ℕ) (rest : List PlacedToken) (at : ℕ × ℕ) → vs ≡ ts → n ≡ m → at ≡ next_place text (map placed (drop (length vs - n) vs)) → left (drop (length ts - m) ts) ≡ rest → at ≡ next_place text rest
-place_behind text ts vs n m rest at e f p r = p ∙ ap (λ l. next_place text (left (drop (length l - n) l))) e ∙ ap (λ k. next_place text (left (drop (length ts - k) ts))) f ∙ ap (next_place text) r
+pub place_met : (text : List ℕ) (c : JragCode) (ts vs : List Placed) (n k : ℕ) (front rest : List PlacedToken) (at : Place) → vs ≡ ts → n ≡ k
+    → at ≡ fault_place text c (left (take (length vs - n) vs)) (left (drop (length vs - n) vs))
+    → left (take (length ts - k) ts) ≡ front → left (drop (length ts - k) ts) ≡ rest → at ≡ fault_place text c front rest
+place_met text c ts vs n k front rest at e f p g h =
+    p ∙ (λ i. fault_place text c (left (take (length (e i) - f i) (e i))) (left (drop (length (e i) - f i) (e i)))) ∙ (λ i. fault_place text c (g i) (h i))
 
-pub declaration_at : (ts vs fs : List Placed) (j k : ℕ) (front : List PlacedToken) (at : ℕ × ℕ) → at ≡ last_declaration (left fs) → fs ≡ take j vs → vs ≡ ts → j ≡ k → left (take k ts) ≡ front → at ≡ last_declaration front
-declaration_at ts vs fs j k front at p e f g r = p ∙ ap (λ l. last_declaration (left l)) (e ∙ ap (take j) f ∙ ap (λ n. take n ts) g) ∙ ap last_declaration r
+-- where reading stops for the reason of a code, there is the text's fault of that code
+pub is_met : (text : List ℕ) (c : JragCode) (ts rest : List Placed) (at : Place) (m : Met text (reason c) ts rest) → at ≡ fault_place text c (left m.front) (left rest) → IsFault text (fault.Refused c at)
+is_met text code.Syntax ts rest at m p =
+    inr (left m.front, left rest, m.stops, none_at_all Refused (left m.front) (left rest) (λ other e. absurd cc) m.stuck, none_left_out_there (left m.front) (left rest) m.stuck, p)
+is_met text code.LeftOut ts rest at m p =
+    (left m.front, left rest, m.stops, none_at_all LeftOut (left m.front) (left rest) (λ other e. absurd cc) m.stuck, one_left_out (left m.front) (left rest) m.stuck, p)
+is_met text code.Nesting ts rest at m p = (left m.front, left rest, m.stops, one_deeper (left m.front) (left rest) m.stuck, p)

@@ -7,7 +7,10 @@ use Rattle.std.proofs.lemmas.Slice.Eq.{bytes_eq-Decides}
 use lib.Chars.{codes}
 use Rattle.at_model.specs.Names.{is_name, is_reserved, reserved_words}
 use Rattle.at_text.specs.Symbols.{PlacedToken, is_word_kind}
-use Rattle.at_jrag.specs.Grammar.{Row, sign, word, is_sign, is_word, is_opening}
+use Rattle.at_text.specs.declared.place.Place.{Place}
+use Rattle.at_text.specs.Place.{first_place}
+use Rattle.at_text.specs.Rows.{Row, sign, word, is_sign, is_word}
+use Rattle.at_jrag.specs.Grammar.{is_opening}
 use Rattle.at_jrag.specs.Machine.{Answer, Takes, Skips, Refuses, LeavesOut, Move, Goes, Halts, Refused, answered, after}
 use Rattle.at_jrag.specs.Wants.{Want, Links, Choice, Parenthesized, Calls, FirstArgument, Named, Deeper, Join, Deepest, Counts, Mark, File, Decls, Lazy, NotNta, Params, NotCircular, Ending, Return, Close}
 use Rattle.at_jrag.specs.Table.{table, is_constant, begins_fold}
@@ -33,7 +36,7 @@ or_off : (x y : Bool) → x ≡ false → y ≡ false → x || y ≡ false
 or_off true y h k = absurd cc
 or_off false y h k = k
 
-keyword : (text : List ℕ) (at : ℕ × ℕ) (t : PlacedToken) → t ≡ word text at → is_reserved text ≡ true → is_constant (word text at) ≡ false → begins_fold (word text at) ≡ false
+keyword : (text : List ℕ) (at : Place) (t : PlacedToken) → t ≡ word text at → is_reserved text ≡ true → is_constant (word text at) ≡ false → begins_fold (word text at) ≡ false
     → is_word (codes "int") (word text at) || is_word (codes "boolean") (word text at) || is_word (codes "String") (word text at) ≡ false → is_word (codes "int") (word text at) ≡ false
     → is_word (codes "instanceof") (word text at) ≡ false → is_opening text ≡ false → IsKeyword t
 keyword text at t is reserved constant fold kind int link opening =
@@ -51,23 +54,23 @@ keyword text at t is reserved constant fold kind int link opening =
       cast = or_off (is_name text || is_opening text) false (or_off (is_name text) (is_opening text) n opening) refl;
     }
 
-aspect_word : (at : ℕ × ℕ) → IsKeyword (word (codes "aspect") at)
+aspect_word : (at : Place) → IsKeyword (word (codes "aspect") at)
 unfolding reserved_words
 aspect_word at = keyword (codes "aspect") at _ refl refl refl refl refl refl refl refl
 
-syn_word : (at : ℕ × ℕ) (t : PlacedToken) → t ≡ word (codes "syn") at → IsKeyword t
+syn_word : (at : Place) (t : PlacedToken) → t ≡ word (codes "syn") at → IsKeyword t
 unfolding reserved_words
 syn_word at t e = keyword (codes "syn") at t e refl refl refl refl refl refl refl
 
-inh_word : (at : ℕ × ℕ) (t : PlacedToken) → t ≡ word (codes "inh") at → IsKeyword t
+inh_word : (at : Place) (t : PlacedToken) → t ≡ word (codes "inh") at → IsKeyword t
 unfolding reserved_words
 inh_word at t e = keyword (codes "inh") at t e refl refl refl refl refl refl refl
 
-lazy_word : (at : ℕ × ℕ) (t : PlacedToken) → t ≡ word (codes "lazy") at → IsKeyword t
+lazy_word : (at : Place) (t : PlacedToken) → t ≡ word (codes "lazy") at → IsKeyword t
 unfolding reserved_words
 lazy_word at t e = keyword (codes "lazy") at t e refl refl refl refl refl refl refl
 
-return_word : (at : ℕ × ℕ) → IsKeyword (word (codes "return") at)
+return_word : (at : Place) → IsKeyword (word (codes "return") at)
 unfolding reserved_words
 return_word at = keyword (codes "return") at _ refl refl refl refl refl refl refl refl
 
@@ -82,7 +85,7 @@ takes_first v t k f is ws d o (m, e, h) =
     let w = is x.want x.left x.holds in
     (x.behind, x.first (ap firm w ∙ f) ∙ ap (λ u. u ∷ x.behind) w)
 
-at_aspect : (at : ℕ × ℕ) (w : Want) (m : List Want) → TakesWord (word (codes "aspect") at) w m → w ≡ File
+at_aspect : (at : Place) (w : Want) (m : List Want) → TakesWord (word (codes "aspect") at) w m → w ≡ File
 at_aspect at File m h = refl
 at_aspect at Decls m (inl h) = absurd cc
 at_aspect at Decls m (inr (h, k)) = absurd cc
@@ -90,14 +93,14 @@ at_aspect at Lazy m (h, k) = absurd cc
 at_aspect at Return m h = absurd cc
 at_aspect at w m h = absurd h
 
-at_syn : (at : ℕ × ℕ) (w : Want) (m : List Want) → TakesWord (word (codes "syn") at) w m → w ≡ Decls
+at_syn : (at : Place) (w : Want) (m : List Want) → TakesWord (word (codes "syn") at) w m → w ≡ Decls
 at_syn at File m h = absurd cc
 at_syn at Decls m h = refl
 at_syn at Lazy m (h, k) = absurd cc
 at_syn at Return m h = absurd cc
 at_syn at w m h = absurd h
 
-at_return : (at : ℕ × ℕ) (w : Want) (m : List Want) → TakesWord (word (codes "return") at) w m → w ≡ Return
+at_return : (at : Place) (w : Want) (m : List Want) → TakesWord (word (codes "return") at) w m → w ≡ Return
 at_return at File m h = absurd cc
 at_return at Decls m (inl h) = absurd cc
 at_return at Decls m (inr (h, k)) = absurd cc
@@ -177,7 +180,7 @@ closes_first (w ∷ ws) h = absurd cc
 
 -- `||` may stand, too
 abbrev Bars : List Want → Type 0
-Bars ws = (at : ℕ × ℕ) (d : ℕ) → TakesIt ws d (bar at)
+Bars ws = (at : Place) (d : ℕ) → TakesIt ws d (bar at)
 
 barred_behind : (w : Want) (ws : List Want) → Is (passes w) → barred (w ∷ ws) ≡ true → Bars (w ∷ ws) ⊎ ((next_closes (w ∷ ws) ≡ true) ⊎ (barred ws ≡ true))
 barred_behind (Links rank b) ws p h =
@@ -238,7 +241,7 @@ walk_at w ws m e Refuses f c o b ih h = absurd cc
 walk_at w ws m e LeavesOut f c o b ih h = absurd cc
 
 -- Where `;` or `}` may stand, an expression ends there and `||` may, or a declaration, a block or an aspect does.
-walk : (x : Bool) (ws : List Want) (d : ℕ) (at : ℕ × ℕ) (m : List Want) (e : ℕ) → Stands ws → barred ws ≡ true → after false table ws d (sign (end_text x) at) ≡ Goes m e → Bars ws ⊎ (next_closes ws ≡ true)
+walk : (x : Bool) (ws : List Want) (d : ℕ) (at : Place) (m : List Want) (e : ℕ) → Stands ws → barred ws ≡ true → after false table ws d (sign (end_text x) at) ≡ Goes m e → Bars ws ⊎ (next_closes ws ≡ true)
 walk x [] d at m e o b h = absurd cc
 walk x (w ∷ ws) d at m e o b h =
     walk_at w ws m e (table w d (Some (sign (end_text x) at))) (λ y. after false table ws y (sign (end_text x) at)) (end_row x w d at) o b (λ y i k. walk x ws y at m e o.2 k i) h
@@ -251,22 +254,22 @@ circular_there (Decls ∷ us) d t n h k = let b = both (is_word_kind t.kind) (by
 circular_there (Close ∷ us) d t n h k = close_kept us d t k
 circular_there (w ∷ us) d t n h k = absurd cc
 
-semicolon_closes : (us : List Want) (d : ℕ) (at : ℕ × ℕ) → TakesIt (NotCircular ∷ Mark (codes ";") ∷ us) d (sign (codes "}") at) → ⊥
+semicolon_closes : (us : List Want) (d : ℕ) (at : Place) → TakesIt (NotCircular ∷ Mark (codes ";") ∷ us) d (sign (codes "}") at) → ⊥
 unfolding table
 semicolon_closes us d at (more, e, h) = absurd cc
 
-circular_closes : (us : List Want) (d : ℕ) (at : ℕ × ℕ) → next_ends us ≡ true → TakesIt (NotCircular ∷ us) d (sign (codes "}") at) → ⊥
+circular_closes : (us : List Want) (d : ℕ) (at : Place) → next_ends us ≡ true → TakesIt (NotCircular ∷ us) d (sign (codes "}") at) → ⊥
 unfolding table
 circular_closes [] d at h k = absurd cc
 circular_closes (Mark text ∷ us) d at h k = semicolon_closes us d at (subst (λ (s : List ℕ). TakesIt (NotCircular ∷ Mark s ∷ us) d (sign (codes "}") at)) ((bytes_eq-Decides text (codes ";")).0 h) k)
 circular_closes (Ending ∷ us) d at h (more, e, k) = absurd cc
 circular_closes (w ∷ us) d at h k = absurd cc
 
-close_there : (ws : List Want) (d : ℕ) (at : ℕ × ℕ) (t : PlacedToken) → Stands ws → next_closes ws ≡ true → TakesIt ws d (sign (codes "}") at) → (TakesIt ws d (word (codes "syn") (1, 1)) → ⊥)
+close_there : (ws : List Want) (d : ℕ) (at : Place) (t : PlacedToken) → Stands ws → next_closes ws ≡ true → TakesIt ws d (sign (codes "}") at) → (TakesIt ws d (word (codes "syn") first_place) → ⊥)
     → after true table ws d t ≡ Halts Refused → ⊥
 close_there [] d at t o n h s k = absurd cc
 close_there (NotCircular ∷ us) d at t o n h s k = circular_closes us d at o.0 h
-close_there (Decls ∷ us) d at t o n h s k = s (decls_take us d (1, 1))
+close_there (Decls ∷ us) d at t o n h s k = s (decls_take us d first_place)
 close_there (Close ∷ us) d at t o n h s k = close_kept us d t k
 close_there (w ∷ us) d at t o n h s k = absurd cc
 
@@ -355,7 +358,7 @@ loosely T w Refuses h = tt
 loosely T w LeavesOut h = tt
 
 -- behind a `getChild`
-get_stands : (at : ℕ × ℕ) (vs : List Want) (x : ℕ) (ws : List Want) (d : ℕ) → Stands vs → after false table vs x (word (codes "getChild") at) ≡ Goes ws d → (next_firm ws ≡ true) ⊎ (next_asks ws ≡ true)
+get_stands : (at : Place) (vs : List Want) (x : ℕ) (ws : List Want) (d : ℕ) → Stands vs → after false table vs x (word (codes "getChild") at) ≡ Goes ws d → (next_firm ws ≡ true) ⊎ (next_asks ws ≡ true)
 get_stands at vs x ws d o h =
     let y = taker (λ w. Begins (λ v. Is (firm v || asks v)) (Is (loose w))) (word (codes "getChild") at) (λ w e. loosely (Begins (λ v. Is (firm v || asks v)) (Is (loose w))) w (table w e (Some (word (codes "getChild") at))) (get_row w e at)) vs x ws d o h in
     get_front y.want y.left y.behind ws y.now y.follows y.holds
@@ -369,12 +372,12 @@ asked_at us ws d (Skips e) f c h = absurd c
 asked_at us ws d Refuses f c h = absurd cc
 asked_at us ws d LeavesOut f c h = absurd cc
 
-asked_stands : (at : ℕ × ℕ) (vs : List Want) (x : ℕ) (ws : List Want) (d : ℕ) → next_asks vs ≡ true → after false table vs x (paren at) ≡ Goes ws d → next_int ws ≡ true
+asked_stands : (at : Place) (vs : List Want) (x : ℕ) (ws : List Want) (d : ℕ) → next_asks vs ≡ true → after false table vs x (paren at) ≡ Goes ws d → next_int ws ≡ true
 asked_stands at [] x ws d n h = absurd cc
 asked_stands at (w ∷ us) x ws d n h = asked_at us ws d (table w x (Some (paren at))) (λ e. after false table us e (paren at)) (paren_asked w x at n) h
 
 -- and behind the `(` after it
-int_stands : (at : ℕ × ℕ) (vs : List Want) (x : ℕ) (ws : List Want) (d : ℕ) → Stands vs → (next_firm vs ≡ true) ⊎ (next_asks vs ≡ true) → after false table vs x (paren at) ≡ Goes ws d → next_int ws ≡ true
+int_stands : (at : Place) (vs : List Want) (x : ℕ) (ws : List Want) (d : ℕ) → Stands vs → (next_firm vs ≡ true) ⊎ (next_asks vs ≡ true) → after false table vs x (paren at) ≡ Goes ws d → next_int ws ≡ true
 int_stands at vs x ws d o (inr n) h = asked_stands at vs x ws d n h
 int_stands at vs x ws d o (inl n) h =
     let y = taker (λ w m. Is (not (firm w))) (paren at) (λ w e. loosely (λ m. Is (not (firm w))) w (table w e (Some (paren at))) (paren_row w e at)) vs x ws d o h in
@@ -412,7 +415,7 @@ none_left_out front ws d t r k (circular h (at, g) n) =
     let o = reached_shape front ws d r in
     let x = goes_taken front ws d (sign (codes ";") at) r g in
     elim (walk true ws d at x.0 x.1 o.1 o.0 x.2) [
-      | inl bars ↦ n ((1, 1), taken_goes front ws d (bar (1, 1)) r (bars (1, 1) d))
+      | inl bars ↦ n (first_place, taken_goes front ws d (bar first_place) r (bars first_place d))
       | inr closes ↦ circular_there ws d t closes h k
     ]
 none_left_out front ws d t r k (no_return (at, g)) =
@@ -422,8 +425,8 @@ none_left_out front ws d t r k (no_close (at, g) n m) =
     let o = reached_shape front ws d r in
     let x = goes_taken front ws d (sign (codes "}") at) r g in
     elim (walk false ws d at x.0 x.1 o.1 o.0 x.2) [
-      | inl bars ↦ n ((1, 1), taken_goes front ws d (bar (1, 1)) r (bars (1, 1) d))
-      | inr closes ↦ close_there ws d at t o.1 closes x (λ y. m ((1, 1), taken_goes front ws d (word (codes "syn") (1, 1)) r y)) k
+      | inl bars ↦ n (first_place, taken_goes front ws d (bar first_place) r (bars first_place d))
+      | inr closes ↦ close_there ws d at t o.1 closes x (λ y. m (first_place, taken_goes front ws d (word (codes "syn") first_place) r y)) k
     ]
 none_left_out front ws d t r k (get_child more name p e n s i) =
     get_child_kept more name p t ws d (moved front ((more ++ name ∷ []) ++ p ∷ []) ws d (e ∙ sym (append_assoc more (name ∷ []) (p ∷ []))) r) n s i k

@@ -5,7 +5,9 @@ use Rattle.std.specs.Str.{bytes_eq}
 use Rattle.std.proofs.lemmas.Slice.Eq.{bytes_eq-Decides}
 use lib.Chars.{codes}
 use Rattle.at_text.specs.Symbols.{PlacedToken, is_word_kind}
-use Rattle.at_jrag.specs.Grammar.{Row, sign, word, is_sign, is_word}
+use Rattle.at_text.specs.declared.place.Place.{Place}
+use Rattle.at_text.specs.Place.{first_place}
+use Rattle.at_text.specs.Rows.{Row, sign, word, is_sign, is_word}
 use Rattle.at_jrag.specs.Machine.{Goes, Halts, LeftOut, after}
 use Rattle.at_jrag.specs.Wants.{Want, Enclosed, Arguments, FirstArgument, Named, Name, Mark, File, Decls, Lazy, NotNta, Opening, Params, NotCircular, Ending, Return, Close}
 use Rattle.at_jrag.specs.Table.{table, is_get_child, declared}
@@ -43,27 +45,27 @@ has_last front w us d h never = elim (last_of front (w ∷ us) d h) [
 
 -- ---- what is taken
 
-pub file_takes : (us : List Want) (d : ℕ) (at : ℕ × ℕ) → TakesIt (File ∷ us) d (word (codes "aspect") at)
+pub file_takes : (us : List Want) (d : ℕ) (at : Place) → TakesIt (File ∷ us) d (word (codes "aspect") at)
 unfolding table
 file_takes us d at = (Name ∷ Mark (codes "{") ∷ Decls ∷ File ∷ us, 0, refl)
 
-pub decls_take : (us : List Want) (d : ℕ) (at : ℕ × ℕ) → TakesIt (Decls ∷ us) d (word (codes "syn") at)
+pub decls_take : (us : List Want) (d : ℕ) (at : Place) → TakesIt (Decls ∷ us) d (word (codes "syn") at)
 unfolding table
 decls_take us d at = (declared (Ending ∷ Decls ∷ []) ++ us, 0, refl)
 
-return_takes : (us : List Want) (d : ℕ) (at : ℕ × ℕ) → TakesIt (Return ∷ us) d (word (codes "return") at)
+return_takes : (us : List Want) (d : ℕ) (at : Place) → TakesIt (Return ∷ us) d (word (codes "return") at)
 unfolding table
 return_takes us d at = (us, 0, refl)
 
-close_takes : (us : List Want) (d : ℕ) (at : ℕ × ℕ) → TakesIt (Close ∷ us) d (sign (codes "}") at)
+close_takes : (us : List Want) (d : ℕ) (at : Place) → TakesIt (Close ∷ us) d (sign (codes "}") at)
 unfolding table
 close_takes us d at = (us, 0, refl)
 
-close_bars : (us : List Want) (d : ℕ) (at : ℕ × ℕ) → TakesIt (Close ∷ us) d (bar at) → ⊥
+close_bars : (us : List Want) (d : ℕ) (at : Place) → TakesIt (Close ∷ us) d (bar at) → ⊥
 unfolding table
 close_bars us d at (more, e, h) = absurd cc
 
-close_ends : (us : List Want) (d : ℕ) (at : ℕ × ℕ) → TakesIt (Close ∷ us) d (word (codes "syn") at) → ⊥
+close_ends : (us : List Want) (d : ℕ) (at : Place) → TakesIt (Close ∷ us) d (word (codes "syn") at) → ⊥
 unfolding table
 close_ends us d at (more, e, h) = absurd cc
 
@@ -71,18 +73,18 @@ semicolon_of : (text : List ℕ) → bytes_eq text (codes ";") ≡ true → text
 semicolon_of text h = (bytes_eq-Decides text (codes ";")).0 h
 
 -- behind the parameters of a declared attribute stands `;`, and no `||`
-circular_takes : (us : List Want) (d : ℕ) (at : ℕ × ℕ) → next_ends us ≡ true → TakesIt (NotCircular ∷ us) d (sign (codes ";") at)
+circular_takes : (us : List Want) (d : ℕ) (at : Place) → next_ends us ≡ true → TakesIt (NotCircular ∷ us) d (sign (codes ";") at)
 unfolding table
 circular_takes [] d at h = absurd cc
 circular_takes (Mark text ∷ us) d at h = subst (λ (s : List ℕ). TakesIt (NotCircular ∷ Mark s ∷ us) d (sign (codes ";") at)) (sym (semicolon_of text h)) (us, 0, refl)
 circular_takes (Ending ∷ us) d at h = (us, 0, refl)
 circular_takes (w ∷ us) d at h = absurd cc
 
-semicolon_bars : (us : List Want) (d : ℕ) (at : ℕ × ℕ) → TakesIt (NotCircular ∷ Mark (codes ";") ∷ us) d (bar at) → ⊥
+semicolon_bars : (us : List Want) (d : ℕ) (at : Place) → TakesIt (NotCircular ∷ Mark (codes ";") ∷ us) d (bar at) → ⊥
 unfolding table
 semicolon_bars us d at (more, e, h) = absurd cc
 
-circular_bars : (us : List Want) (d : ℕ) (at : ℕ × ℕ) → next_ends us ≡ true → TakesIt (NotCircular ∷ us) d (bar at) → ⊥
+circular_bars : (us : List Want) (d : ℕ) (at : Place) → next_ends us ≡ true → TakesIt (NotCircular ∷ us) d (bar at) → ⊥
 unfolding table
 circular_bars [] d at h k = absurd cc
 circular_bars (Mark text ∷ us) d at h k = semicolon_bars us d at (subst (λ (s : List ℕ). TakesIt (NotCircular ∷ Mark s ∷ us) d (bar at)) (semicolon_of text h) k)
@@ -143,16 +145,16 @@ nta_left front w us d t r never s before h =
     nta l.before l.token l.front_is (before p.by l.token p.leaves) h
 
 left_by : (front : Row) (w : Want) (us : List Want) (d : ℕ) (t : PlacedToken) → Reached front (w ∷ us) d → Stands (w ∷ us) → LeavesIt w t → IsLeftOut front t
-left_by front File us d t r o h = no_aspect h ((1, 1), taken_goes front (File ∷ us) d (word (codes "aspect") (1, 1)) r (file_takes us d (1, 1)))
-left_by front Decls us d t r o h = no_declaration h ((1, 1), taken_goes front (Decls ∷ us) d (word (codes "syn") (1, 1)) r (decls_take us d (1, 1)))
+left_by front File us d t r o h = no_aspect h (first_place, taken_goes front (File ∷ us) d (word (codes "aspect") first_place) r (file_takes us d first_place))
+left_by front Decls us d t r o h = no_declaration h (first_place, taken_goes front (Decls ∷ us) d (word (codes "syn") first_place) r (decls_take us d first_place))
 left_by front Lazy us d t r o h = nta_left front Lazy us d t r (λ e. absurd cc) refl (λ by p k. k) h
 left_by front NotNta us d t r o h = nta_left front NotNta us d t r (λ e. absurd cc) refl (λ by p k. k) h
 left_by front NotCircular us d t r o h =
-    circular h ((1, 1), taken_goes front (NotCircular ∷ us) d (sign (codes ";") (1, 1)) r (circular_takes us d (1, 1) o.0))
+    circular h (first_place, taken_goes front (NotCircular ∷ us) d (sign (codes ";") first_place) r (circular_takes us d first_place o.0))
     (λ g. circular_bars us d g.0 o.0 (goes_taken front (NotCircular ∷ us) d (bar g.0) r g.1))
-left_by front Return us d t r o h = no_return ((1, 1), taken_goes front (Return ∷ us) d (word (codes "return") (1, 1)) r (return_takes us d (1, 1)))
+left_by front Return us d t r o h = no_return (first_place, taken_goes front (Return ∷ us) d (word (codes "return") first_place) r (return_takes us d first_place))
 left_by front Close us d t r o h =
-    no_close ((1, 1), taken_goes front (Close ∷ us) d (sign (codes "}") (1, 1)) r (close_takes us d (1, 1)))
+    no_close (first_place, taken_goes front (Close ∷ us) d (sign (codes "}") first_place) r (close_takes us d first_place))
     (λ g. close_bars us d g.0 (goes_taken front (Close ∷ us) d (bar g.0) r g.1)) (λ g. close_ends us d g.0 (goes_taken front (Close ∷ us) d (word (codes "syn") g.0) r g.1))
 left_by front (Params g) us d t r o h = got_child front (Params g) us d t r (λ e. absurd cc) refl (λ by p k. (k.0, k.1 ∙ ap Some h.0)) h.1
 left_by front (FirstArgument g b) us d t r o h = got_child front (FirstArgument g b) us d t r (λ e. absurd cc) refl (λ by p k. (k.0, k.1 ∙ ap Some h.0)) h.1

@@ -7,9 +7,11 @@ use Rattle.std.specs.Str.Parse.{digits_value}
 use Rattle.std.proofs.lemmas.Bool.{leb-true, ltb-true, ltb-false}
 use Rattle.std.proofs.lemmas.Fmt.{decimal_injective}
 use Rattle.std.proofs.lemmas.Slice.Eq.{bytes_eq-Decides}
-use Rattle.at_jrag.specs.Grammar.{Row, sign, number, next_is, is_number}
+use Rattle.at_text.specs.declared.place.Place.{Place}
+use Rattle.at_text.specs.Rows.{Row, sign, next_is}
+use Rattle.at_jrag.specs.Grammar.{number, is_number}
 use Rattle.at_jrag.specs.Syntax as syntax
-use Rattle.at_jrag.specs.Syntax.{Place, Expr}
+use Rattle.at_jrag.specs.Syntax.{Expr}
 use Rattle.at_jrag.specs.View.{expr_view, form_view, see_form, see_expr}
 use Rattle.at_jrag.specs.declared.syntax.Form.TheOpen.{Form-F}
 use Rattle.at_jrag.specs.declared.syntax.Form.TheVariants as form
@@ -17,7 +19,9 @@ use Rattle.at_jrag.specs.declared.syntax.Form.TheFolds.{fold-roll-Form}
 use Rattle.at_jrag.specs.Table.{is_decimal_within, is_number_within}
 use Rattle.at_jrag.specs.Read.{Reads, IsNumber}
 use Rattle.at_jrag.specs.Runs.{NoNegative}
-use Rattle.at_jrag.specs.declared.reader.ReadError.TheVariants as errors
+use Rattle.at_text.specs.declared.fault.Failure.TheVariants as failure
+use Rattle.at_jrag.specs.declared.JragCode.{JragCode}
+use Rattle.at_jrag.specs.declared.JragCode.TheVariants as code
 use Rattle.at_jrag.specs.declared.reader.forms.Measured.{Measured}
 use Rattle.at_jrag.proofs.Expressions.{reads_made}
 
@@ -62,12 +66,12 @@ unfit v none = at_least (nat_lt v 2147483648) v refl (λ h. none (omega (arith, 
 
 -- ---- a `-` and digits
 
-pub negative_reads : (m : Measured) (v : ℤ) (at digits_at : ℕ × ℕ) (text : List ℕ) (old rest : Row) → old ≡ sign (codes "-") at ∷ number text digits_at ∷ rest → IsNumber true text v
+pub negative_reads : (m : Measured) (v : ℤ) (at digits_at : Place) (text : List ℕ) (old rest : Row) → old ≡ sign (codes "-") at ∷ number text digits_at ∷ rest → IsNumber true text v
     → expr_view m.expr ≡ form_view (form.Number v) at → m.depth ≡ 1 → Reads 8 m old rest × (m.depth ≡ 1)
 negative_reads m v at digits_at text old rest front (n, small, is, digits) made deep =
     (reads_made 8 m (syntax.Number at v) old rest (made ∙ ap (λ f. form_view f at) (sym (form.rolls-Number v)) ∙ ap (λ f. f at) (fold-roll-Form (Place → Expr) Expr see_form see_expr (Form-F.Number v))) (inr (n, digits_at, small, is, front ∙ ap (λ t. sign (codes "-") at ∷ number t digits_at ∷ rest) digits)) (omega arith) deep, deep)
 
-pub no_negative : (text : List ℕ) (at digits_at : ℕ × ℕ) (old here rest : Row) → old ≡ sign (codes "-") at ∷ number text digits_at ∷ rest → here ≡ number text digits_at ∷ rest → is_decimal_within 2147483648 text ≡ false
-    → NoNegative errors.Syntax old here
+pub no_negative : (text : List ℕ) (at digits_at : Place) (old here rest : Row) → old ≡ sign (codes "-") at ∷ number text digits_at ∷ rest → here ≡ number text digits_at ∷ rest → is_decimal_within 2147483648 text ≡ false
+    → NoNegative (failure.For code.Syntax) old here
 no_negative text at digits_at old here rest front stepped none =
     (at, front ∙ ap (λ r. sign (codes "-") at ∷ r) (sym stepped), ap (next_is is_number) stepped, ap (next_is (is_number_within 2147483648)) stepped ∙ none)

@@ -7,9 +7,11 @@ use lib.Chars.{codes}
 use Rattle.at_model.specs.Texts.{quoted}
 use Rattle.at_model.proofs.QuotedTexts.{same_quoted}
 use Rattle.at_text.specs.Reading.{first}
+use Rattle.at_text.specs.declared.place.Place.{Place}
 use Rattle.at_jrag.specs.Syntax as syntax
-use Rattle.at_jrag.specs.Syntax.{Place, Word, Operator, FoldForm, Expr, Exprs, place}
-use Rattle.at_jrag.specs.Grammar.{Row, sign, is_sign, is_number, NumberOf, Spells, Arguments, MoreArguments, operator_text, truth_text, fold_text}
+use Rattle.at_jrag.specs.Syntax.{Word, Operator, FoldForm, Expr, Exprs, place}
+use Rattle.at_text.specs.Rows.{Row, sign, is_sign}
+use Rattle.at_jrag.specs.Grammar.{is_number, NumberOf, Spells, Arguments, MoreArguments, operator_text, truth_text, fold_text}
 use Rattle.at_jrag.specs.Table.{next}
 use Rattle.at_jrag.proofs.Expressions.{takes_one, spells_shorter}
 use Rattle.at_jrag.proofs.ExpressionRanks.{operator_facts}

@@ -2,7 +2,7 @@
 use Rattle.std.proofs.Common.{◌≡◌, ◌∷◌, Bool, true, false, sym, ap, ◌∙◌}
 use Rattle.at_text.specs.Symbols.{PlacedToken}
 use Rattle.at_jrag.specs.Syntax.{Word}
-use Rattle.at_jrag.specs.Grammar.{Row, word}
+use Rattle.at_text.specs.Rows.{Row, word}
 
 head_is : (t u : PlacedToken) (r s : Row) → t ∷ r ≡ u ∷ s → t ≡ u
 head_is t u r s e = cc

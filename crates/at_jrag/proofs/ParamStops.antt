@@ -7,18 +7,22 @@ use Rattle.at_text.specs.Reading.{first}
 use Rattle.at_text.specs.declared.token.TokenKind.{TokenKind}
 use Rattle.at_text.specs.declared.token.TokenKind.TheVariants as kind
 use Rattle.at_text.specs.Symbols.{PlacedToken, is_word_kind, is_sign_kind}
+use Rattle.at_text.specs.declared.place.Place.{Place}
 use Rattle.at_jrag.specs.Syntax as syntax
-use Rattle.at_jrag.specs.Syntax.{Place, Word, Param, KindWord}
+use Rattle.at_jrag.specs.Syntax.{Word, Param, KindWord}
 use Rattle.at_jrag.specs.Grammar as grammar
-use Rattle.at_jrag.specs.Grammar.{Row, sign, word, is_sign, is_word, is_name_token, next_is, kind_text, Sign, KindOf, ParamOf, Opens}
+use Rattle.at_text.specs.Rows.{Row, sign, word, is_sign, is_word, is_name_token, next_is}
+use Rattle.at_jrag.specs.Grammar.{kind_text, Sign, KindOf, ParamOf, Opens}
 use Rattle.at_jrag.specs.Heads.{is_int}
 use Rattle.at_jrag.specs.Machine.{Reason, LeftOut, Answer, Takes, Refuses, LeavesOut, run}
 use Rattle.at_jrag.specs.Wants as want
 use Rattle.at_jrag.specs.Wants.{Want}
 use Rattle.at_jrag.specs.Table.{table, next, on, is_kind, is_get_child, more_params_answer}
 use Rattle.at_jrag.specs.Runs.{Stay, Missing, NotOpened, NoParam, reason_of}
-use Rattle.at_jrag.specs.declared.reader.ReadError.{ReadError}
-use Rattle.at_jrag.specs.declared.reader.ReadError.TheVariants as errors
+use Rattle.at_text.specs.declared.fault.Failure.{Failure}
+use Rattle.at_text.specs.declared.fault.Failure.TheVariants as failure
+use Rattle.at_jrag.specs.declared.JragCode.{JragCode}
+use Rattle.at_jrag.specs.declared.JragCode.TheVariants as code
 use Rattle.at_jrag.proofs.MachineLaws.{run-takes}
 use Rattle.at_jrag.proofs.DeclarationRuns.{Comes, next_same, and_off, kind_cases, int_row, kind_row, kind_pass, name_pass, stay_then, stay_first, stay_takes, stay_refuses, stay_leaves_out, missing_stays, name_missing}
 
@@ -60,7 +64,7 @@ kind_refused : (d : ℕ) (s : Option PlacedToken) → next is_kind s ≡ false �
 unfolding table
 kind_refused d s e = ap (λ b. on b (Takes true [] 0) Refuses) e
 
-pub kind_missing : (e : ReadError) (old rest : Row) → Missing is_kind e old rest → Stay (want.Kind ∷ []) (reason_of e) old rest
+pub kind_missing : (e : Failure JragCode) (old rest : Row) → Missing is_kind e old rest → Stay (want.Kind ∷ []) (reason_of e) old rest
 kind_missing e old rest m = missing_stays want.Kind is_kind e old rest kind_refused m
 
 signed_refused : (d : ℕ) (s : Option PlacedToken) → next is_name_token s ≡ false → table want.Signed d s ≡ Refuses
@@ -68,7 +72,7 @@ unfolding table
 signed_refused d None e = refl
 signed_refused d (Some t) e = ap (λ b. on b (Takes true (want.Opening (is_get_child t) ∷ []) 0) Refuses) e
 
-pub signed_missing : (e : ReadError) (old rest : Row) → Missing is_name_token e old rest → Stay (want.Signed ∷ []) (reason_of e) old rest
+pub signed_missing : (e : Failure JragCode) (old rest : Row) → Missing is_name_token e old rest → Stay (want.Signed ∷ []) (reason_of e) old rest
 signed_missing e old rest m = missing_stays want.Signed is_name_token e old rest signed_refused m
 
 -- ---- "(" behind a name
@@ -92,15 +96,15 @@ int_stays : (g : Bool) (rest : Row) → g && next_is (is_word (codes "int")) res
 int_stays g [] h = absurd (let q : false ≡ true = and_right g false h in cc)
 int_stays g (t ∷ ts) h = stay_leaves_out (want.Params g) t (t ∷ ts) ts (t ∷ ts) refl refl (λ d. params_left_out g t d h)
 
-pub opens_stays : (name : List ℕ) (e : ReadError) (old rest : Row) → NotOpened name e old rest → Stay (want.Opening (bytes_eq name (codes "getChild")) ∷ []) (reason_of e) old rest
-opens_stays name errors.Memory old rest h = λ d. tt
-opens_stays name errors.Syntax old rest h =
+pub opens_stays : (name : List ℕ) (e : Failure JragCode) (old rest : Row) → NotOpened name e old rest → Stay (want.Opening (bytes_eq name (codes "getChild")) ∷ []) (reason_of e) old rest
+opens_stays name failure.Memory old rest h = λ d. tt
+opens_stays name (failure.For code.Syntax) old rest h =
     let g = bytes_eq name (codes "getChild") in
     stay_refuses (want.Opening g) old rest h.0 (λ d. opening_refused g d (first old) (next_same (is_sign (codes "(")) old ∙ h.1))
-opens_stays name errors.LeftOut old rest h =
+opens_stays name (failure.For code.LeftOut) old rest h =
     let g = bytes_eq name (codes "getChild") in
     stay_takes (want.Opening g) (want.Params g ∷ []) (sign (codes "(") h.0.0) (Some LeftOut) old rest rest h.0.1 (λ d. (0, opening_row g h.0.0 d)) (int_stays g rest h.1)
-opens_stays name errors.Nesting old rest h = absurd h
+opens_stays name (failure.For code.Nesting) old rest h = absurd h
 
 opening_comes : (g : Bool) (old list : Row) → Sign (codes "(") old list → Comes true (want.Opening g ∷ []) (want.Params g ∷ []) old list
 opening_comes g old list s = takes_comes (want.Opening g) (want.Params g ∷ []) (sign (codes "(") s.0) old list s.1 (λ d. (0, opening_row g s.0 d))
@@ -121,7 +125,7 @@ more_ends d s = (1, refl)
 
 -- What is wanted where one more parameter is: where there is none the machine is stuck, and behind one it goes on.
 pub record BeforeParam (g : Bool) (start old : Row) : Type 0 where
-  pub stays : (e : ReadError) (rest : Row) → NoParam e old rest → Stay (want.Opening g ∷ []) (reason_of e) start rest
+  pub stays : (e : Failure JragCode) (rest : Row) → NoParam e old rest → Stay (want.Opening g ∷ []) (reason_of e) start rest
   pub goes : (p : Param) (mid : Row) → ParamOf p old mid → (w : Want) × EndsParams w × Comes true (want.Opening g ∷ []) (w ∷ []) start mid
 
 name_comes : (w : Word) (us : List Want) (old mid : Row) → grammar.Name w old mid → Comes true (want.Name ∷ us) us old mid
@@ -133,7 +137,7 @@ param_comes p us old mid (one, k, n) ws d =
     let b = name_pass true p.name one mid n (us ++ ws) a.0 in
     (b.0, a.1 ∙ b.1)
 
-no_param_stays : (us : List Want) (e : ReadError) (old rest : Row) → NoParam e old rest → Stay (want.Kind ∷ want.Name ∷ us) (reason_of e) old rest
+no_param_stays : (us : List Want) (e : Failure JragCode) (old rest : Row) → NoParam e old rest → Stay (want.Kind ∷ want.Name ∷ us) (reason_of e) old rest
 no_param_stays us e old rest (inl m) = stay_first want.Kind (want.Name ∷ us) (reason_of e) old rest (kind_missing e old rest m)
 no_param_stays us e old rest (inr (k, mid, is, m)) =
     stay_then want.Kind (want.Name ∷ us) (reason_of e) old mid rest (kind_pass true k old mid is) (stay_first want.Name us (reason_of e) mid rest (name_missing e mid rest m))
@@ -159,14 +163,14 @@ before_next g p start old mid following b r s =
 comma_refused : (n : ℕ) (s : Option PlacedToken) → next (is_sign (codes ")")) s ≡ false → next (is_sign (codes ",")) s ≡ false → more_params_answer n s ≡ Refuses
 comma_refused n s a b = simp (a, b)
 
-more_missing : (w : Want) (e : ReadError) (old rest : Row) → EndsParams w → next_is (is_sign (codes ")")) old ≡ false → Missing (is_sign (codes ",")) e old rest → Stay (w ∷ []) (reason_of e) old rest
-more_missing w errors.Memory old rest ends close m = λ d. tt
-more_missing w errors.Syntax old rest ends close m =
+more_missing : (w : Want) (e : Failure JragCode) (old rest : Row) → EndsParams w → next_is (is_sign (codes ")")) old ≡ false → Missing (is_sign (codes ",")) e old rest → Stay (w ∷ []) (reason_of e) old rest
+more_missing w failure.Memory old rest ends close m = λ d. tt
+more_missing w (failure.For code.Syntax) old rest ends close m =
     stay_refuses w old rest m.0 (λ d. let r = ends d (first old) in r.1 ∙ comma_refused r.0 (first old) (next_same (is_sign (codes ")")) old ∙ close) (next_same (is_sign (codes ",")) old ∙ m.1))
-more_missing w errors.LeftOut old rest ends close m = absurd m
-more_missing w errors.Nesting old rest ends close m = absurd m
+more_missing w (failure.For code.LeftOut) old rest ends close m = absurd m
+more_missing w (failure.For code.Nesting) old rest ends close m = absurd m
 
-pub comma_stays : (g : Bool) (p : Param) (e : ReadError) (start old mid rest : Row) → BeforeParam g start old → ParamOf p old mid → next_is (is_sign (codes ")")) mid ≡ false → Missing (is_sign (codes ",")) e mid rest
+pub comma_stays : (g : Bool) (p : Param) (e : Failure JragCode) (start old mid rest : Row) → BeforeParam g start old → ParamOf p old mid → next_is (is_sign (codes ")")) mid ≡ false → Missing (is_sign (codes ",")) e mid rest
     → Stay (want.Opening g ∷ []) (reason_of e) start rest
 comma_stays g p e start old mid rest b r close m =
     let f = b.goes p mid r in
@@ -185,11 +189,11 @@ no_kind_row g d (Some t) a b =
     let none = or_first (is_word (codes "int") t) (is_word (codes "boolean") t) (is_word (codes "String") t) (is_name_token t) b in
     last_row (is_sign (codes ")") t) (g && is_word (codes "int") t) (is_word (codes "int") t) (is_kind t) _ _ _ _ Refuses a (and_off g _ none) none b
 
-no_kind_stays : (g : Bool) (e : ReadError) (old rest : Row) → next_is (is_sign (codes ")")) old ≡ false → Missing is_kind e old rest → Stay (want.Params g ∷ []) (reason_of e) old rest
-no_kind_stays g errors.Memory old rest close m = λ d. tt
-no_kind_stays g errors.Syntax old rest close m = stay_refuses (want.Params g) old rest m.0 (λ d. no_kind_row g d (first old) (next_same (is_sign (codes ")")) old ∙ close) (next_same is_kind old ∙ m.1))
-no_kind_stays g errors.LeftOut old rest close m = absurd m
-no_kind_stays g errors.Nesting old rest close m = absurd m
+no_kind_stays : (g : Bool) (e : Failure JragCode) (old rest : Row) → next_is (is_sign (codes ")")) old ≡ false → Missing is_kind e old rest → Stay (want.Params g ∷ []) (reason_of e) old rest
+no_kind_stays g failure.Memory old rest close m = λ d. tt
+no_kind_stays g (failure.For code.Syntax) old rest close m = stay_refuses (want.Params g) old rest m.0 (λ d. no_kind_row g d (first old) (next_same (is_sign (codes ")")) old ∙ close) (next_same is_kind old ∙ m.1))
+no_kind_stays g (failure.For code.LeftOut) old rest close m = absurd m
+no_kind_stays g (failure.For code.Nesting) old rest close m = absurd m
 
 -- behind the first parameter's kind
 abbrev BehindKind : Bool → Row → Row → Type 0
@@ -212,7 +216,7 @@ kind_comes_by g k old mid none is (inr other) = (
 kind_comes : (g : Bool) (k : KindWord) (old mid : Row) → g && next_is (is_word (codes "int")) old ≡ false → KindOf k old mid → BehindKind g old mid
 kind_comes g k old mid none is = kind_comes_by g k old mid none is (kind_cases k.kind k.at is.0)
 
-first_stays : (g : Bool) (e : ReadError) (old rest : Row) → g && next_is (is_word (codes "int")) old ≡ false → next_is (is_sign (codes ")")) old ≡ false → NoParam e old rest → Stay (want.Params g ∷ []) (reason_of e) old rest
+first_stays : (g : Bool) (e : Failure JragCode) (old rest : Row) → g && next_is (is_word (codes "int")) old ≡ false → next_is (is_sign (codes ")")) old ≡ false → NoParam e old rest → Stay (want.Params g ∷ []) (reason_of e) old rest
 first_stays g e old rest none close (inl m) = no_kind_stays g e old rest close m
 first_stays g e old rest none close (inr (k, mid, is, m)) =
     let f = kind_comes g k old mid none is in

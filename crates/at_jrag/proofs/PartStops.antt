@@ -11,8 +11,10 @@ use Rattle.at_model.specs.Texts.{quoted}
 use Rattle.at_text.specs.declared.token.TokenKind.{TokenKind}
 use Rattle.at_text.specs.declared.token.TokenKind.TheVariants as kind
 use Rattle.at_text.specs.Symbols.{PlacedToken, is_sign_kind, is_word_kind}
+use Rattle.at_text.specs.declared.place.Place.{Place}
 use Rattle.at_jrag.specs.Grammar as grammar
-use Rattle.at_jrag.specs.Grammar.{Row, Spells, NumberOf, depth, fold_text, next_is, is_sign, is_word, is_name_token, sign, word, number, quotation}
+use Rattle.at_text.specs.Rows.{Row, sign, word, is_sign, is_word, is_name_token, next_is}
+use Rattle.at_jrag.specs.Grammar.{Spells, NumberOf, depth, fold_text, number, quotation}
 use Rattle.at_jrag.specs.Syntax as syntax
 use Rattle.at_jrag.specs.Syntax.{Word, Expr, FoldForm}
 use Rattle.at_jrag.specs.Machine.{Answer, Takes, Skips, Refuses, LeavesOut, Reason, Refused, LeftOut, TooDeep, Stuck, and_then, is_skip, run}
@@ -21,8 +23,10 @@ use Rattle.at_jrag.specs.Wants.{Want, Expression, Choice, Calls, Called, Argumen
 use Rattle.at_jrag.specs.Table as tables
 use Rattle.at_jrag.specs.Table.{next, expects, table, is_plain, begins_fold, is_number_within, primary_answer, binary_answer, expression_answer}
 use Rattle.at_jrag.specs.Runs.{Goes, Moves, Stays, Halts, Missing, NotOpened, NoLiteral, IsOther, reason_of}
-use Rattle.at_jrag.specs.declared.reader.ReadError.{ReadError}
-use Rattle.at_jrag.specs.declared.reader.ReadError.TheVariants as errors
+use Rattle.at_text.specs.declared.fault.Failure.{Failure}
+use Rattle.at_text.specs.declared.fault.Failure.TheVariants as failure
+use Rattle.at_jrag.specs.declared.JragCode.{JragCode}
+use Rattle.at_jrag.specs.declared.JragCode.TheVariants as code
 use Rattle.at_jrag.proofs.MachineLaws.{run-takes, run-skips, run-refuses, run-too_deep, run-leaves_out}
 use Rattle.at_jrag.proofs.MachineLaws.{run-begins}
 use Rattle.at_jrag.proofs.ExpressionSteps.{then_stays, sign_is, name_is_no_literal}
@@ -47,10 +51,10 @@ reach_takes {vs = vs} {e = e} w more x t rest r m a = record {
       ∙ ap (λ l. run true table l x rest) (sym (append_assoc more vs ws));
 }
 
-sign_next : (text : List ℕ) (at : ℕ × ℕ) → is_sign text (sign text at) ≡ true
+sign_next : (text : List ℕ) (at : Place) → is_sign text (sign text at) ≡ true
 sign_next text at = (bytes_eq-Decides text text).1 refl
 
-pub reach_sign : {us vs : List Want} {d e : ℕ} {old mid : Row} (text : List ℕ) (at : ℕ × ℕ) (rest : Row) → Reaches us d (Mark text ∷ vs) e old mid → mid ≡ sign text at ∷ rest
+pub reach_sign : {us vs : List Want} {d e : ℕ} {old mid : Row} (text : List ℕ) (at : Place) (rest : Row) → Reaches us d (Mark text ∷ vs) e old mid → mid ≡ sign text at ∷ rest
     → Reaches us d vs e old rest
 unfolding table
 reach_sign {e = e} text at rest r m = reach_takes (Mark text) [] e (sign text at) rest r m (ap (λ x. cond x (Takes true [] e) Refuses) (sign_next text at))
@@ -88,24 +92,24 @@ too_deep_at test w more x d within [] rest n a k s = absurd cc
 too_deep_at test w more x d within (t ∷ ts) rest n a k s = λ ws. run-too_deep table w more ws d x t ts (a ∙ ap (λ y. Takes y more x) k) ∙ ap (λ (y : Row). Stuck TooDeep y) (sym s)
 
 -- an error for the limit
-by_nesting : (us : List Want) (d : ℕ) (e : ReadError) (old rest : Row) → e ≡ errors.Nesting → Stays us d (Some TooDeep) old rest → Stays us d (reason_of e) old rest
-by_nesting us d e old rest h s = subst (λ (x : ReadError). Stays us d (reason_of x) old rest) (sym h) s
+by_nesting : (us : List Want) (d : ℕ) (e : Failure JragCode) (old rest : Row) → e ≡ (failure.For code.Nesting) → Stays us d (Some TooDeep) old rest → Stays us d (reason_of e) old rest
+by_nesting us d e old rest h s = subst (λ (x : Failure JragCode). Stays us d (reason_of x) old rest) (sym h) s
 
-missing_halts : (w : Want) (test : PlacedToken → Bool) → ((d : ℕ) (old : Row) → next_is test old ≡ false → table w d (first old) ≡ Refuses) → (e : ReadError) (old rest : Row)
+missing_halts : (w : Want) (test : PlacedToken → Bool) → ((d : ℕ) (old : Row) → next_is test old ≡ false → table w d (first old) ≡ Refuses) → (e : Failure JragCode) (old rest : Row)
     → Missing test e old rest → Halts w (reason_of e) old rest
-missing_halts w test h errors.Memory old rest m = λ d. tt
-missing_halts w test h errors.Syntax old rest m = λ d. refused_at w d old rest (h d old m.1) m.0
-missing_halts w test h errors.LeftOut old rest m = absurd m
-missing_halts w test h errors.Nesting old rest m = absurd m
+missing_halts w test h failure.Memory old rest m = λ d. tt
+missing_halts w test h (failure.For code.Syntax) old rest m = λ d. refused_at w d old rest (h d old m.1) m.0
+missing_halts w test h (failure.For code.LeftOut) old rest m = absurd m
+missing_halts w test h (failure.For code.Nesting) old rest m = absurd m
 
 expects_refuses : (test : PlacedToken → Bool) (takes : Answer Want) (old : Row) → next_is test old ≡ false → expects test takes (first old) ≡ Refuses
 expects_refuses test takes old e = ap (λ x. cond x takes Refuses) (sym (next_first test old) ∙ e)
 
-pub mark_missing : (text : List ℕ) (e : ReadError) (old rest : Row) → Missing (is_sign text) e old rest → Halts (Mark text) (reason_of e) old rest
+pub mark_missing : (text : List ℕ) (e : Failure JragCode) (old rest : Row) → Missing (is_sign text) e old rest → Halts (Mark text) (reason_of e) old rest
 unfolding table
 mark_missing text e old rest m = missing_halts (Mark text) (is_sign text) (λ d row h. expects_refuses (is_sign text) (Takes true [] d) row h) e old rest m
 
-pub name_missing : (e : ReadError) (old rest : Row) → Missing is_name_token e old rest → Halts Name (reason_of e) old rest
+pub name_missing : (e : Failure JragCode) (old rest : Row) → Missing is_name_token e old rest → Halts Name (reason_of e) old rest
 unfolding table
 name_missing e old rest m = missing_halts Name is_name_token (λ d row h. expects_refuses is_name_token (Takes true [] d) row h) e old rest m
 
@@ -116,7 +120,7 @@ unfolding table
 called_refuses b d [] h = refl
 called_refuses b d (t ∷ ts) h = ap (λ x. cond x (Takes true (Arguments (bytes_eq t.text (codes "getChild")) b ∷ []) 0) Refuses) h
 
-called : {us : List Want} {d n : ℕ} {old mid : Row} (b : ℕ) (at : ℕ × ℕ) (rest : Row) → Reaches us d (Calls b ∷ []) n old mid → n < b → mid ≡ sign (codes ".") at ∷ rest
+called : {us : List Want} {d n : ℕ} {old mid : Row} (b : ℕ) (at : Place) (rest : Row) → Reaches us d (Calls b ∷ []) n old mid → n < b → mid ≡ sign (codes ".") at ∷ rest
     → Reaches us d (Called (b - 1) ∷ Join n ∷ Calls b ∷ []) 0 old rest
 unfolding table
 called {n = n} b at rest r h m =
@@ -130,7 +134,7 @@ calls_from : (b m n : ℕ) (old mid : Row) → AreCalls m n old mid → n ≤ b 
 calls_from b m n old mid g h = record { over = λ ws. g true b (λ l. h) ws }
 
 -- a `.` where the receiver is as deep as the budget
-pub calls_too_deep : (b m n : ℕ) (e : ReadError) (start old rest : Row) → AreCalls m n start old → n ≤ b → e ≡ errors.Nesting → next_is (is_sign (codes ".")) old ≡ true → b ≤ n
+pub calls_too_deep : (b m n : ℕ) (e : Failure JragCode) (start old rest : Row) → AreCalls m n start old → n ≤ b → e ≡ (failure.For code.Nesting) → next_is (is_sign (codes ".")) old ≡ true → b ≤ n
     → rest ≡ old → Stays (Calls b ∷ []) m (reason_of e) start rest
 unfolding table
 calls_too_deep b m n e start old rest g h is dot k s =
@@ -139,14 +143,14 @@ calls_too_deep b m n e start old rest g h is dot k s =
     (ap (λ x. cond x (Takes (nat_lt n b) (Called (b - 1) ∷ Join n ∷ Calls b ∷ []) 0) (Skips n)) (sym (next_first (is_sign (codes ".")) old) ∙ dot)) (le-ltb n b k) s))
 
 -- no name behind the `.`
-pub calls_no_name : (b m n : ℕ) (at : ℕ × ℕ) (e : ReadError) (start old mid rest : Row) → AreCalls m n start old → n < b → old ≡ sign (codes ".") at ∷ mid → Missing is_name_token e mid rest
+pub calls_no_name : (b m n : ℕ) (at : Place) (e : Failure JragCode) (start old mid rest : Row) → AreCalls m n start old → n < b → old ≡ sign (codes ".") at ∷ mid → Missing is_name_token e mid rest
     → Stays (Calls b ∷ []) m (reason_of e) start rest
 calls_no_name b m n at e start old mid rest g h dot none =
     reach_halts (Called (b - 1)) (reason_of e) rest (called b at mid (calls_from b m n start old g (omega (arith, h))) h dot)
     (missing_halts (Called (b - 1)) is_name_token (called_refuses (b - 1)) e mid rest none)
 
 -- the arguments of a call stop
-pub calls_arguments : (b m n : ℕ) (at : ℕ × ℕ) (w : Word) (r : Option Reason) (start old mid paren rest : Row) → AreCalls m n start old → n < b → old ≡ sign (codes ".") at ∷ mid
+pub calls_arguments : (b m n : ℕ) (at : Place) (w : Word) (r : Option Reason) (start old mid paren rest : Row) → AreCalls m n start old → n < b → old ≡ sign (codes ".") at ∷ mid
     → grammar.Name w mid paren
     → Halts (Arguments (bytes_eq w.text (codes "getChild")) (b - 1)) r paren rest → Stays (Calls b ∷ []) m r start rest
 unfolding table
@@ -157,7 +161,7 @@ calls_arguments b m n at w r start old mid paren rest g h dot name s =
     (ap (λ x. cond x (Takes true more 0) Refuses) name.0)) s
 
 -- one call more
-pub calls_more : (m n k p : ℕ) (at : ℕ × ℕ) (w : Word) (start old mid paren rest : Row) → AreCalls m n start old → old ≡ sign (codes ".") at ∷ mid → grammar.Name w mid paren
+pub calls_more : (m n k p : ℕ) (at : Place) (w : Word) (start old mid paren rest : Row) → AreCalls m n start old → old ≡ sign (codes ".") at ∷ mid → grammar.Name w mid paren
     → Goes (Arguments (bytes_eq w.text (codes "getChild"))) (λ b. []) k paren rest → p ≡ 1 + max n k → AreCalls m p start rest
 calls_more m n k p at w start old mid paren rest g dot name a size =
     subst (λ (x : ℕ). AreCalls m x start rest) (sym size)
@@ -196,7 +200,7 @@ pub among_start : (g : Bool) (start old : Row) → start ≡ old → next_is (is
 among_start g start old s close int = subst (λ (x : Row). Among g 0 x x) (sym s) (among_first g old close int)
 
 -- a `,` behind an argument
-pub among_next : (g : Bool) (m n k : ℕ) (at : ℕ × ℕ) (start old more one : Row) → Among g m start old → Goes Expression (λ b. []) n old more → more ≡ sign (codes ",") at ∷ one
+pub among_next : (g : Bool) (m n k : ℕ) (at : Place) (start old more one : Row) → Among g m start old → Goes Expression (λ b. []) n old more → more ≡ sign (codes ",") at ∷ one
     → k ≡ max m n → Among g k start one
 unfolding table
 among_next g m n k at start old more one h e comma size l b f ws d =
@@ -213,7 +217,7 @@ among_next g m n k at start old more one h e comma size l b f ws d =
     )
 
 -- a `)` behind an argument
-pub among_end : (g : Bool) (m n k : ℕ) (at : ℕ × ℕ) (start old more rest : Row) → Among g m start old → Goes Expression (λ b. []) n old more
+pub among_end : (g : Bool) (m n k : ℕ) (at : Place) (start old more rest : Row) → Among g m start old → Goes Expression (λ b. []) n old more
     → more ≡ sign (codes ")") at ∷ rest → k ≡ max m n → Goes (FirstArgument g) (λ b. []) k start rest
 among_end g m n k at start old more rest h e close size l b f ws d =
     let a = h l b (λ x. omega (arith, size, f x)) ws d in
@@ -235,30 +239,30 @@ among_stays g b m n (Some r) start old more rest h e k j s = λ d ws.
     let a = h true b (λ x. k) ws d in
     a.2 ∙ e true b (λ x. j) (a.0 ++ MoreArguments b ∷ ws) a.1 ∙ a.3 n more ∙ s ws
 
-more_missing : (b n : ℕ) (e : ReadError) (more rest : Row)
+more_missing : (b n : ℕ) (e : Failure JragCode) (more rest : Row)
     → next_is (is_sign (codes ")")) more ≡ false → Missing (is_sign (codes ",")) e more rest → Stays (MoreArguments b ∷ []) n (reason_of e) more rest
 unfolding table
-more_missing b n errors.Memory more rest close m = tt
-more_missing b n errors.Syntax more rest close m =
+more_missing b n failure.Memory more rest close m = tt
+more_missing b n (failure.For code.Syntax) more rest close m =
     let takes = Takes true (Expression b ∷ Deepest n ∷ MoreArguments b ∷ []) 0 in
     refused_at (MoreArguments b) n more rest
     (ap (λ x. cond x (Takes true [] n) (expects (is_sign (codes ",")) takes (first more))) (sym (next_first (is_sign (codes ")")) more) ∙ close) ∙ expects_refuses (is_sign (codes ","))
     takes more m.1) m.0
-more_missing b n errors.LeftOut more rest close m = absurd m
-more_missing b n errors.Nesting more rest close m = absurd m
+more_missing b n (failure.For code.LeftOut) more rest close m = absurd m
+more_missing b n (failure.For code.Nesting) more rest close m = absurd m
 
 -- neither `)` nor `,` behind an argument
-pub among_no_comma : (g : Bool) (b m n : ℕ) (e : ReadError) (start old more same rest : Row) → Among g m start old → Goes Expression (λ b. []) n old more → m ≤ b → n ≤ b
+pub among_no_comma : (g : Bool) (b m n : ℕ) (e : Failure JragCode) (start old more same rest : Row) → Among g m start old → Goes Expression (λ b. []) n old more → m ≤ b → n ≤ b
     → next_is (is_sign (codes ")")) more ≡ false → same ≡ more → Missing (is_sign (codes ",")) e same rest → Halts (FirstArgument g b) (reason_of e) start rest
 among_no_comma g b m n e start old more same rest h x k j close s none =
     among_stays g b m n (reason_of e) start old more rest h x k j (more_missing b (max m n) e more rest close (subst (λ (y : Row). Missing (is_sign (codes ",")) e y rest) s none))
 
-opens : (g : Bool) (b d : ℕ) (at : ℕ × ℕ) (old list : Row) → old ≡ sign (codes "(") at ∷ list → Reaches (Arguments g b ∷ []) d (FirstArgument g b ∷ []) 0 old list
+opens : (g : Bool) (b d : ℕ) (at : Place) (old list : Row) → old ≡ sign (codes "(") at ∷ list → Reaches (Arguments g b ∷ []) d (FirstArgument g b ∷ []) 0 old list
 unfolding table
 opens g b d at old list e = reach_takes (Arguments g b) (FirstArgument g b ∷ []) 0 (sign (codes "(") at) list (reach_start (Arguments g b ∷ []) d old) e refl
 
 -- the arguments stop behind the `(`
-pub arguments_halt : (g : Bool) (b : ℕ) (r : Option Reason) (at : ℕ × ℕ) (old list rest : Row)
+pub arguments_halt : (g : Bool) (b : ℕ) (r : Option Reason) (at : Place) (old list rest : Row)
     → old ≡ sign (codes "(") at ∷ list → Halts (FirstArgument g b) r list rest → Halts (Arguments g b) r old rest
 arguments_halt g b r at old list rest e s = λ d. reach_halts (FirstArgument g b) r rest (opens g b d at old list e) s
 
@@ -279,16 +283,16 @@ int_left_out g b (t ∷ ts) e = λ ws.
     ∙ ap (λ x. cond x LeavesOut more) e)
 
 -- no `(` behind a name, or an `int` behind that of `getChild`
-pub not_opened : (name : List ℕ) (b : ℕ) (e : ReadError) (old rest : Row) → NotOpened name e old rest → Halts (Arguments (bytes_eq name (codes "getChild")) b) (reason_of e) old rest
+pub not_opened : (name : List ℕ) (b : ℕ) (e : Failure JragCode) (old rest : Row) → NotOpened name e old rest → Halts (Arguments (bytes_eq name (codes "getChild")) b) (reason_of e) old rest
 unfolding table
-not_opened name b errors.Memory old rest m = λ d. tt
-not_opened name b errors.Syntax old rest m = λ d.
+not_opened name b failure.Memory old rest m = λ d. tt
+not_opened name b (failure.For code.Syntax) old rest m = λ d.
     let g = bytes_eq name (codes "getChild") in
     refused_at (Arguments g b) d old rest (expects_refuses (is_sign (codes "(")) (Takes true (FirstArgument g b ∷ []) 0) old m.1) m.0
-not_opened name b errors.LeftOut old rest m = λ d.
+not_opened name b (failure.For code.LeftOut) old rest m = λ d.
     let g = bytes_eq name (codes "getChild") in
     reach_stays (FirstArgument g b) (Some LeftOut) rest (opens g b d m.0.0 old rest m.0.1) (int_left_out g b rest m.1)
-not_opened name b errors.Nesting old rest m = absurd m
+not_opened name b (failure.For code.Nesting) old rest m = absurd m
 
 -- ---- primaries
 
@@ -313,22 +317,22 @@ not_plain (t ∷ ts) l p =
     )
 
 -- a number or a text that is none
-pub literal_missing : (b : ℕ) (e : ReadError) (old rest : Row) → NoLiteral e old rest → Halts (Primary b) (reason_of e) old rest
+pub literal_missing : (b : ℕ) (e : Failure JragCode) (old rest : Row) → NoLiteral e old rest → Halts (Primary b) (reason_of e) old rest
 unfolding table
-literal_missing b errors.Memory old rest m = λ d. tt
-literal_missing b errors.Syntax old rest m = λ d. let h = not_plain old m.1 m.2 in refused_at (Primary b) d old rest (primary_refuses b old h.0 h.1) m.0
-literal_missing b errors.LeftOut old rest m = absurd m
-literal_missing b errors.Nesting old rest m = absurd m
+literal_missing b failure.Memory old rest m = λ d. tt
+literal_missing b (failure.For code.Syntax) old rest m = λ d. let h = not_plain old m.1 m.2 in refused_at (Primary b) d old rest (primary_refuses b old h.0 h.1) m.0
+literal_missing b (failure.For code.LeftOut) old rest m = absurd m
+literal_missing b (failure.For code.Nesting) old rest m = absurd m
 
 -- nothing of a primary is next
-pub primary_missing : (b : ℕ) (e : ReadError) (old rest : Row) → IsOther old → Missing is_name_token e old rest → Halts (Primary b) (reason_of e) old rest
+pub primary_missing : (b : ℕ) (e : Failure JragCode) (old rest : Row) → IsOther old → Missing is_name_token e old rest → Halts (Primary b) (reason_of e) old rest
 unfolding table
-primary_missing b errors.Memory old rest o m = λ d. tt
-primary_missing b errors.Syntax old rest o m = λ d. refused_at (Primary b) d old rest (primary_refuses b old o m.1) m.0
-primary_missing b errors.LeftOut old rest o m = absurd m
-primary_missing b errors.Nesting old rest o m = absurd m
+primary_missing b failure.Memory old rest o m = λ d. tt
+primary_missing b (failure.For code.Syntax) old rest o m = λ d. refused_at (Primary b) d old rest (primary_refuses b old o m.1) m.0
+primary_missing b (failure.For code.LeftOut) old rest o m = absurd m
+primary_missing b (failure.For code.Nesting) old rest o m = absurd m
 
-no_literal_at : (k : TokenKind) (text : List ℕ) (at : ℕ × ℕ) → is_literal (record { kind = k; text = text; at = at }) ≡ false
+no_literal_at : (k : TokenKind) (text : List ℕ) (at : Place) → is_literal (record { kind = k; text = text; at = at }) ≡ false
     → tables.is_literal (record { kind = k; text = text; at = at }) ≡ false
 no_literal_at kind.Word text at e = e
 no_literal_at kind.Number text at e = absurd cc
@@ -345,7 +349,7 @@ paren_answer b [] e = absurd cc
 paren_answer b (t ∷ ts) e = ap (λ x. primary_answer b (Some x)) (sign_is (codes "(") t e)
 
 -- a `(` where nothing may nest
-pub paren_too_deep : (b : ℕ) (e : ReadError) (old rest : Row) → e ≡ errors.Nesting → next_is (is_sign (codes "(")) old ≡ true → b ≤ 1 → rest ≡ old → Halts (Primary b) (reason_of e) old rest
+pub paren_too_deep : (b : ℕ) (e : Failure JragCode) (old rest : Row) → e ≡ (failure.For code.Nesting) → next_is (is_sign (codes "(")) old ≡ true → b ≤ 1 → rest ≡ old → Halts (Primary b) (reason_of e) old rest
 unfolding table
 paren_too_deep b e old rest is p h s = λ d. by_nesting (Primary b ∷ []) d e old rest is
     (too_deep_at (is_sign (codes "(")) (Primary b) (Expression (b - 1) ∷ Mark (codes ")") ∷ Deeper ∷ []) 0 d (nat_lt 1 b) old rest p (paren_answer b old p) (le-ltb 1 b h) s)
@@ -359,26 +363,26 @@ fold_answer b [] l p e = absurd cc
 fold_answer b (t ∷ ts) l p e = third_of (tables.is_literal t) (is_sign (codes "(") t) (begins_fold t) _ _ _ _ l p e
 
 -- a fold where nothing may nest
-pub fold_too_deep : (b : ℕ) (e : ReadError) (old rest : Row) → e ≡ errors.Nesting → next_is tables.is_literal old ≡ false
+pub fold_too_deep : (b : ℕ) (e : Failure JragCode) (old rest : Row) → e ≡ (failure.For code.Nesting) → next_is tables.is_literal old ≡ false
     → next_is (is_sign (codes "(")) old ≡ false → next_is begins_fold old ≡ true → b ≤ 1 → rest ≡ old
     → Halts (Primary b) (reason_of e) old rest
 unfolding table
 fold_too_deep b e old rest is l p f h s = λ d. by_nesting (Primary b ∷ []) d e old rest is
     (too_deep_at begins_fold (Primary b) (fold_wants b) 0 d (nat_lt 1 b) old rest f (fold_answer b old l p f) (le-ltb 1 b h) s)
 
-paren_opens : (b d : ℕ) (at : ℕ × ℕ) (old one : Row) → 1 < b → old ≡ sign (codes "(") at ∷ one → Reaches (Primary b ∷ []) d (Expression (b - 1) ∷ Mark (codes ")") ∷ Deeper ∷ []) 0 old one
+paren_opens : (b d : ℕ) (at : Place) (old one : Row) → 1 < b → old ≡ sign (codes "(") at ∷ one → Reaches (Primary b ∷ []) d (Expression (b - 1) ∷ Mark (codes ")") ∷ Deeper ∷ []) 0 old one
 unfolding table
 paren_opens b d at old one h e =
     let more = Expression (b - 1) ∷ Mark (codes ")") ∷ Deeper ∷ [] in
     reach_takes (Primary b) more 0 (sign (codes "(") at) one (reach_start (Primary b ∷ []) d old) e (ap (λ x. Takes x more 0) (lt-ltb 1 b h))
 
 -- the expression within a parenthesis stops
-pub paren_halts : (b : ℕ) (r : Option Reason) (at : ℕ × ℕ) (old one rest : Row) → 1 < b
+pub paren_halts : (b : ℕ) (r : Option Reason) (at : Place) (old one rest : Row) → 1 < b
     → old ≡ sign (codes "(") at ∷ one → Halts (Expression (b - 1)) r one rest → Halts (Primary b) r old rest
 paren_halts b r at old one rest h e s = λ d. reach_halts (Expression (b - 1)) r rest (paren_opens b d at old one h e) s
 
 -- no `)` behind it
-pub paren_open : (b n : ℕ) (at : ℕ × ℕ) (e : ReadError) (old one close rest : Row) → 1 < b
+pub paren_open : (b n : ℕ) (at : Place) (e : Failure JragCode) (old one close rest : Row) → 1 < b
     → old ≡ sign (codes "(") at ∷ one → Goes Expression (λ b. []) n one close → n ≤ b - 1 → Missing (is_sign (codes ")")) e close rest
     → Halts (Primary b) (reason_of e) old rest
 paren_open b n at e old one close rest h p g k m = λ d.
@@ -425,7 +429,7 @@ pub named_halts : (w : Word) (b : ℕ) (r : Option Reason) (old mid rest : Row) 
 named_halts w b r old mid rest h name p s = λ d. reach_halts (Arguments (bytes_eq w.text (codes "getChild")) (b - 1)) r rest (named_reach w b d old mid h name p) s
 
 -- a name stops where nothing else of a primary is next
-pub named_here : {A : Type 0} (r : Result A ReadError) (b : ℕ) (old mid rest : Row) → mid ≡ old → IsOther old → IfErr r (λ e. IsOther mid → Halts (Primary b) (reason_of e) mid rest)
+pub named_here : {A : Type 0} (r : Result A (Failure JragCode)) (b : ℕ) (old mid rest : Row) → mid ≡ old → IsOther old → IfErr r (λ e. IsOther mid → Halts (Primary b) (reason_of e) mid rest)
     → IfErr r (λ e. Halts (Primary b) (reason_of e) old rest)
 named_here (Ok a) b old mid rest s o h = h
 named_here (Err e) b old mid rest s o h = subst (λ (x : Row). Halts (Primary b) (reason_of e) x rest) s (h (subst (λ (x : Row). IsOther x) (sym s) o))
@@ -433,13 +437,13 @@ named_here (Err e) b old mid rest s o h = subst (λ (x : Row). Halts (Primary b)
 -- ---- folds
 
 -- behind its word
-pub fold_opens : (form : FoldForm) (at : ℕ × ℕ) (b d : ℕ) (old paren : Row) → 1 < b → old ≡ word (fold_text form) at ∷ paren → Reaches (Primary b ∷ []) d (fold_wants b) 0 old paren
+pub fold_opens : (form : FoldForm) (at : Place) (b d : ℕ) (old paren : Row) → 1 < b → old ≡ word (fold_text form) at ∷ paren → Reaches (Primary b ∷ []) d (fold_wants b) 0 old paren
 unfolding table
 fold_opens form at b d old paren h e =
     reach_takes (Primary b) (fold_wants b) 0 (word (fold_text form) at) paren (reach_start (Primary b ∷ []) d old) e (fold_taken form at b ∙ ap (λ x. Takes x (fold_wants b) 0) (lt-ltb 1 b h))
 
 -- up to the list, of which a primary begins
-pub fold_list : (form : FoldForm) (at paren_at colon_at : ℕ × ℕ) (w : Word) (b d : ℕ) (old paren named colon items : Row) → 1 < b → old ≡ word (fold_text form) at ∷ paren
+pub fold_list : (form : FoldForm) (at paren_at colon_at : Place) (w : Word) (b d : ℕ) (old paren named colon items : Row) → 1 < b → old ≡ word (fold_text form) at ∷ paren
     → paren ≡ sign (codes "(") paren_at ∷ named → grammar.Name w named colon
     → colon ≡ sign (codes ":") colon_at ∷ items → Reaches (Primary b ∷ []) d (Primary (b - 1) ∷ Calls (b - 1) ∷ Mark (codes ")") ∷ FoldBody b ∷ []) 0 old items
 fold_list form at paren_at colon_at w b d old paren named colon items h e p n c =
@@ -452,27 +456,27 @@ pub fold_close : {d : ℕ} {old items : Row} (b m n : ℕ) (mid close : Row) →
 fold_close b m n mid close r p h c k = reach_moves Calls (b - 1) n close (reach_goes Primary (b - 1) m mid r p h) c k
 
 -- up to its body
-pub fold_body : {d n : ℕ} {old close : Row} (b : ℕ) (close_at brace_at : ℕ × ℕ) (brace one : Row) → Reaches (Primary b ∷ []) d (Mark (codes ")") ∷ FoldBody b ∷ []) n old close
+pub fold_body : {d n : ℕ} {old close : Row} (b : ℕ) (close_at brace_at : Place) (brace one : Row) → Reaches (Primary b ∷ []) d (Mark (codes ")") ∷ FoldBody b ∷ []) n old close
     → close ≡ sign (codes ")") close_at ∷ brace → brace ≡ sign (codes "{") brace_at ∷ one → Reaches (Primary b ∷ []) d (Expression (b - 1) ∷ Mark (codes "}") ∷ Join n ∷ []) 0 old one
 unfolding table
 fold_body {n = n} b close_at brace_at brace one r c e =
     reach_takes (FoldBody b) (Expression (b - 1) ∷ Mark (codes "}") ∷ Join n ∷ []) 0 (sign (codes "{") brace_at) one (reach_sign (codes ")") close_at brace r c) e refl
 
 -- no `{` behind the `)`
-pub brace_missing : (b : ℕ) (e : ReadError) (old rest : Row) → Missing (is_sign (codes "{")) e old rest → Halts (FoldBody b) (reason_of e) old rest
+pub brace_missing : (b : ℕ) (e : Failure JragCode) (old rest : Row) → Missing (is_sign (codes "{")) e old rest → Halts (FoldBody b) (reason_of e) old rest
 unfolding table
 brace_missing b e old rest m =
     missing_halts (FoldBody b) (is_sign (codes "{")) (λ d row h. expects_refuses (is_sign (codes "{")) (Takes true (Expression (b - 1) ∷ Mark (codes "}") ∷ Join d ∷ []) 0) row h) e old rest m
 
 -- a fold stops behind its word
-pub fold_here : {A : Type 0} (r : Result A ReadError) (b : ℕ) (t : PlacedToken) (old mid rest : Row) → old ≡ t ∷ mid
+pub fold_here : {A : Type 0} (r : Result A (Failure JragCode)) (b : ℕ) (t : PlacedToken) (old mid rest : Row) → old ≡ t ∷ mid
     → IfErr r (λ e. (row : Row) → row ≡ t ∷ mid → Halts (Primary b) (reason_of e) row rest)
     → IfErr r (λ e. Halts (Primary b) (reason_of e) old rest)
 fold_here (Ok a) b t old mid rest s h = h
 fold_here (Err e) b t old mid rest s h = h old s
 
 -- a fold that was read
-pub fold_done : (form : FoldForm) (at paren_at colon_at close_at brace_at end_at : ℕ × ℕ) (w : Word) (m n k : ℕ) (old paren named colon items mid close brace one end rest : Row)
+pub fold_done : (form : FoldForm) (at paren_at colon_at close_at brace_at end_at : Place) (w : Word) (m n k : ℕ) (old paren named colon items mid close brace one end rest : Row)
     → 1 ≤ m → m ≤ n
     → old ≡ word (fold_text form) at ∷ paren → paren ≡ sign (codes "(") paren_at ∷ named → grammar.Name w named colon → colon ≡ sign (codes ":") colon_at ∷ items
     → Goes Primary (λ b. []) m items mid → Moves (λ b. Calls b ∷ []) (λ b. []) m n mid close → close ≡ sign (codes ")") close_at ∷ brace → brace ≡ sign (codes "{") brace_at ∷ one
@@ -488,11 +492,11 @@ fold_done form at paren_at colon_at close_at brace_at end_at w m n k old paren n
 by_no_literal : (t : PlacedToken) (old ts rest : Row) → old ≡ t ∷ ts → is_literal t ≡ false → next_is is_literal old ≡ true → Goes Primary (λ b. []) 1 old rest
 by_no_literal t old ts rest e none some = absurd (let q : true ≡ false = sym some ∙ ap (next_is is_literal) e ∙ none in cc)
 
-number_taken : (at : ℕ × ℕ) (n : ℤ) (old rest : Row) → NumberOf at n old rest → next_is is_literal old ≡ true → Goes Primary (λ b. []) 1 old rest
+number_taken : (at : Place) (n : ℤ) (old rest : Row) → NumberOf at n old rest → next_is is_literal old ≡ true → Goes Primary (λ b. []) 1 old rest
 number_taken at n old rest (inl (m, small, is, e)) some = literal_goes (number (decimal m) at) old rest e (number_literal (number (decimal m) at) (number_is 2147483647 m at (omega arith) small))
 number_taken at n old rest (inr (m, digits, small, is, e)) some = by_no_literal _ old _ rest e refl some
 
-truth_taken : (b : Bool) (at : ℕ × ℕ) (old rest : Row) → old ≡ word (grammar.truth_text b) at ∷ rest → Goes Primary (λ b. []) 1 old rest
+truth_taken : (b : Bool) (at : Place) (old rest : Row) → old ≡ word (grammar.truth_text b) at ∷ rest → Goes Primary (λ b. []) 1 old rest
 truth_taken true at old rest e = literal_goes (word (codes "true") at) old rest e refl
 truth_taken false at old rest e = literal_goes (word (codes "false") at) old rest e refl
 

@@ -5,7 +5,9 @@ use Rattle.std.specs.Str.{bytes_eq}
 use Rattle.std.proofs.lemmas.Slice.Eq.{bytes_eq-Decides}
 use lib.Chars.{codes}
 use Rattle.at_text.specs.Symbols.{PlacedToken}
-use Rattle.at_jrag.specs.Grammar.{sign, word, is_name_token, follows_cast}
+use Rattle.at_text.specs.declared.place.Place.{Place}
+use Rattle.at_text.specs.Rows.{sign, word, is_name_token}
+use Rattle.at_jrag.specs.Grammar.{follows_cast}
 use Rattle.at_jrag.specs.Machine.{Answer, Takes, Skips, Refuses, LeavesOut, and_then, Goes, Halts, TooDeep, answered, after}
 use Rattle.at_jrag.specs.Wants.{Want, Expression, Binary, Links, Choice, Unary, Minus, Opened, Enclosed, Parenthesized, Calls, Called, Arguments, FirstArgument, MoreArguments, Primary, Named, Deeper, Join, Deepest, Counts, Name, Mark, Decls, Lazy, NotNta, Kind, Signed, Opening, Params, NotCircular, Ending, Defined, Close}
 use Rattle.at_jrag.specs.Table.{table, is_kind, link_answer, primary_answer, unary_answer, binary_answer, expression_answer}
@@ -76,11 +78,11 @@ passes w = false
 abbrev Ends : Want → Answer Want → Type 0
 Ends w a = Comes (λ m. EndsAt w) (Is (passes w)) (Unit {0}) a
 
-end_unary : (x : Bool) (b : ℕ) (at : ℕ × ℕ) → unary_answer b (Some (sign (end_text x) at)) ≡ Refuses
+end_unary : (x : Bool) (b : ℕ) (at : Place) → unary_answer b (Some (sign (end_text x) at)) ≡ Refuses
 end_unary true b at = refl
 end_unary false b at = refl
 
-end_binary : (x : Bool) (rank b : ℕ) (at : ℕ × ℕ) → binary_answer rank b (Some (sign (end_text x) at)) ≡ Refuses
+end_binary : (x : Bool) (rank b : ℕ) (at : Place) → binary_answer rank b (Some (sign (end_text x) at)) ≡ Refuses
 end_binary x zero b at = end_unary x b at
 end_binary x (suc rank) b at = ap (λ a. and_then a (Links rank b ∷ [])) (end_binary x rank b at)
 
@@ -88,7 +90,7 @@ end_mark : (x : Bool) (text : List ℕ) → bytes_eq (end_text x) text ≡ true 
 end_mark true text h = let e : codes ";" ≡ text = (bytes_eq-Decides (codes ";") text).0 h in ap (λ (s : List ℕ). bytes_eq s (codes ";") || bytes_eq s (codes "}")) (sym e)
 end_mark false text h = let e : codes "}" ≡ text = (bytes_eq-Decides (codes "}") text).0 h in ap (λ (s : List ℕ). bytes_eq s (codes ";") || bytes_eq s (codes "}")) (sym e)
 
-pub end_row : (x : Bool) (w : Want) (d : ℕ) (at : ℕ × ℕ) → Comes (λ m. EndsAt w) (Is (passes w)) (Unit {0}) (table w d (Some (sign (end_text x) at)))
+pub end_row : (x : Bool) (w : Want) (d : ℕ) (at : Place) → Comes (λ m. EndsAt w) (Is (passes w)) (Unit {0}) (table w d (Some (sign (end_text x) at)))
 unfolding table
 end_row x (Binary rank b) d at = refused _ _ _ _ (end_binary x rank b at)
 end_row true (Links rank b) d at = either (Ends (Links rank b)) (0 == suc rank) _ (Skips d) (λ h. absurd (no_rank 0 rank refl h)) (λ h. tt)
@@ -106,7 +108,7 @@ end_row false w d at = tt
 
 -- ---- `||`
 
-abbrev pub bar : ℕ × ℕ → PlacedToken
+abbrev pub bar : Place → PlacedToken
 bar at = sign (codes "||") at
 
 -- no limit stops it
@@ -114,13 +116,13 @@ unlimited : (within : Bool) (ws : List Want) (e : ℕ) → cond (within || true)
 unlimited true ws e = refl
 unlimited false ws e = refl
 
-bar_link : (x : Bool) (rank b d : ℕ) (ws : List Want) (at : ℕ × ℕ) → TakesIt ws d (bar at)
+bar_link : (x : Bool) (rank b d : ℕ) (ws : List Want) (at : Place) → TakesIt ws d (bar at)
     → (more : List Want) × (e : ℕ) × (answered false (cond x (link_answer rank b d (bar at)) (Skips d)) ws (λ y. after false table ws y (bar at)) ≡ Goes more e)
 bar_link true rank b d ws at h = (Binary rank (b - 1) ∷ Join d ∷ Links rank b ∷ ws, 0, unlimited (nat_lt d b) _ 0)
 bar_link false rank b d ws at h = h
 
 -- behind what passes it, `||` is taken where it is taken behind that
-pub bar_passes : (w : Want) (ws : List Want) (d : ℕ) (at : ℕ × ℕ) → passes w ≡ true → ((e : ℕ) → TakesIt ws e (bar at)) → TakesIt (w ∷ ws) d (bar at)
+pub bar_passes : (w : Want) (ws : List Want) (d : ℕ) (at : Place) → passes w ≡ true → ((e : ℕ) → TakesIt ws e (bar at)) → TakesIt (w ∷ ws) d (bar at)
 unfolding table
 bar_passes (Links rank b) ws d at p h = bar_link (6 == suc rank) rank b d ws at (h d)
 bar_passes (Choice b) ws d at p h = h d
@@ -137,7 +139,7 @@ bar_passes NotCircular ws d at p h = h 0
 bar_passes w ws d at p h = absurd cc
 
 -- and where the rank of `||` itself goes on, it is taken
-pub bar_taken : (b : ℕ) (ws : List Want) (d : ℕ) (at : ℕ × ℕ) → TakesIt (Links 5 b ∷ ws) d (bar at)
+pub bar_taken : (b : ℕ) (ws : List Want) (d : ℕ) (at : Place) → TakesIt (Links 5 b ∷ ws) d (bar at)
 unfolding table
 bar_taken b ws d at = (Binary 5 (b - 1) ∷ Join d ∷ Links 5 b ∷ ws, 0, unlimited (nat_lt d b) _ 0)
 
@@ -151,7 +153,7 @@ asks (Enclosed g b) = g
 asks (Opening g) = g
 asks w = false
 
-abbrev pub get_child : ℕ × ℕ → PlacedToken
+abbrev pub get_child : Place → PlacedToken
 get_child at = word (codes "getChild") at
 
 abbrev First : Want → Type 0
@@ -160,20 +162,20 @@ First v = Is (firm v || asks v)
 abbrev Gets : (K : Type 0) → Want → Answer Want → Type 0
 Gets K w a = Comes (Begins First (Is (loose w))) K (Unit {0}) a
 
-get_primary : (w : Want) (K : Type 0) (b : ℕ) (at : ℕ × ℕ) → Gets K w (primary_answer b (Some (get_child at)))
+get_primary : (w : Want) (K : Type 0) (b : ℕ) (at : Place) → Gets K w (primary_answer b (Some (get_child at)))
 get_primary w K b at = either (Gets K w) (is_name_token (get_child at)) _ Refuses (λ h. tt) (λ h. tt)
 
-get_unary : (w : Want) (K : Type 0) (b : ℕ) (at : ℕ × ℕ) → Gets K w (unary_answer b (Some (get_child at)))
+get_unary : (w : Want) (K : Type 0) (b : ℕ) (at : Place) → Gets K w (unary_answer b (Some (get_child at)))
 get_unary w K b at = then_comes First (Is (loose w)) K (Unit {0}) (Calls b ∷ []) (primary_answer b (Some (get_child at))) tt (get_primary w (Unit {0}) b at)
 
-get_binary : (w : Want) (K : Type 0) (rank b : ℕ) (at : ℕ × ℕ) → Gets K w (binary_answer rank b (Some (get_child at)))
+get_binary : (w : Want) (K : Type 0) (rank b : ℕ) (at : Place) → Gets K w (binary_answer rank b (Some (get_child at)))
 get_binary w K zero b at = get_unary w K b at
 get_binary w K (suc rank) b at = then_comes First (Is (loose w)) K (Unit {0}) (Links rank b ∷ []) (binary_answer rank b (Some (get_child at))) tt (get_binary w (Unit {0}) rank b at)
 
-get_expression : (w : Want) (K : Type 0) (b : ℕ) (at : ℕ × ℕ) → Gets K w (expression_answer b (Some (get_child at)))
+get_expression : (w : Want) (K : Type 0) (b : ℕ) (at : Place) → Gets K w (expression_answer b (Some (get_child at)))
 get_expression w K b at = then_comes First (Is (loose w)) K (Unit {0}) (Choice b ∷ []) (binary_answer 6 b (Some (get_child at))) tt (get_binary w (Unit {0}) 6 b at)
 
-pub get_row : (w : Want) (d : ℕ) (at : ℕ × ℕ) → Comes (Begins (λ v. Is (firm v || asks v)) (Is (loose w))) (Is (loose w)) (Unit {0}) (table w d (Some (get_child at)))
+pub get_row : (w : Want) (d : ℕ) (at : Place) → Comes (Begins (λ v. Is (firm v || asks v)) (Is (loose w))) (Is (loose w)) (Unit {0}) (table w d (Some (get_child at)))
 unfolding table
 get_row (Expression b) d at = get_expression (Expression b) _ b at
 get_row (Binary rank b) d at = get_binary (Binary rank b) _ rank b at
@@ -200,7 +202,7 @@ get_row w d at = tt
 
 -- ---- `(`
 
-abbrev pub paren : ℕ × ℕ → PlacedToken
+abbrev pub paren : Place → PlacedToken
 paren at = sign (codes "(") at
 
 abbrev Opens : Want → Answer Want → Type 0
@@ -209,7 +211,7 @@ Opens w a = Comes (λ m. Is (not (firm w))) (Is (loose w)) (Unit {0}) a
 not_firm : (text : List ℕ) → bytes_eq (codes "(") text ≡ true → Is (not (not (bytes_eq text (codes "("))))
 not_firm text h = let e : codes "(" ≡ text = (bytes_eq-Decides (codes "(") text).0 h in subst (λ (s : List ℕ). Is (not (not (bytes_eq s (codes "("))))) e tt
 
-pub paren_row : (w : Want) (d : ℕ) (at : ℕ × ℕ) → Comes (λ m. Is (not (firm w))) (Is (loose w)) (Unit {0}) (table w d (Some (paren at)))
+pub paren_row : (w : Want) (d : ℕ) (at : Place) → Comes (λ m. Is (not (firm w))) (Is (loose w)) (Unit {0}) (table w d (Some (paren at)))
 unfolding table
 paren_row (Expression b) d at = anything (expression_answer b (Some (paren at)))
 paren_row (Binary rank b) d at = anything (binary_answer rank b (Some (paren at)))
@@ -227,7 +229,7 @@ takes_int (Params g) = g
 takes_int w = false
 
 -- the `(` behind `getChild`
-pub paren_asked : (w : Want) (d : ℕ) (at : ℕ × ℕ) → asks w ≡ true → Comes (Begins (λ v. takes_int v ≡ true) ⊥) ⊥ (Unit {0}) (table w d (Some (paren at)))
+pub paren_asked : (w : Want) (d : ℕ) (at : Place) → asks w ≡ true → Comes (Begins (λ v. takes_int v ≡ true) ⊥) ⊥ (Unit {0}) (table w d (Some (paren at)))
 unfolding table
 paren_asked (Arguments g b) d at h = h
 paren_asked (Named g b) d at h = h

@@ -1,7 +1,8 @@
 -- What the machine takes whole, is spelled.
 use Rattle.std.proofs.Common.{◌≡◌, ℕ, ◌≤◌, List, [], ◌∷◌, Bool, true, subst}
 use Rattle.at_jrag.specs.Syntax.{Aspect, Expr}
-use Rattle.at_jrag.specs.Grammar.{Row, File, Spells, depth, IsWithin}
+use Rattle.at_text.specs.Rows.{Row}
+use Rattle.at_jrag.specs.Grammar.{File, Spells, depth, IsWithin}
 use Rattle.at_jrag.specs.Machine.{Whole, run}
 use Rattle.at_jrag.specs.Wants as want
 use Rattle.at_jrag.specs.Table.{table}

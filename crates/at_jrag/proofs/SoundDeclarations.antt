@@ -6,10 +6,12 @@ use Rattle.std.proofs.lemmas.Bool.{eqb-true}
 use lib.Chars.{codes}
 use Rattle.at_text.specs.Reading.{first}
 use Rattle.at_text.specs.Symbols.{PlacedToken, is_word_kind}
+use Rattle.at_text.specs.declared.place.Place.{Place}
 use Rattle.at_jrag.specs.Syntax as syntax
-use Rattle.at_jrag.specs.Syntax.{Place, Word, Param, KindWord, Ending, Body, Decl, Aspect}
+use Rattle.at_jrag.specs.Syntax.{Word, Param, KindWord, Ending, Body, Decl, Aspect}
 use Rattle.at_jrag.specs.Grammar as grammar
-use Rattle.at_jrag.specs.Grammar.{Row, sign, word, is_sign, is_word, is_name_token, next_is, kind_text, IsKind, Sign, Keyword, KindOf, ParamOf, Listed, Index, Signature, Owner, Getter, Declared, BodyOf, EndingOf, DeclOf, ending_depth, max_nesting, NestsWithin, IsWithin}
+use Rattle.at_text.specs.Rows.{Row, sign, word, is_sign, is_word, is_name_token, next_is}
+use Rattle.at_jrag.specs.Grammar.{kind_text, IsKind, Sign, Keyword, KindOf, ParamOf, Listed, Index, Signature, Owner, Getter, Declared, BodyOf, EndingOf, DeclOf, ending_depth, max_nesting, NestsWithin, IsWithin}
 use Rattle.at_jrag.specs.Machine.{Takes, Skips, Refuses, LeavesOut}
 use Rattle.at_jrag.specs.Wants as want
 use Rattle.at_jrag.specs.Wants.{Want}

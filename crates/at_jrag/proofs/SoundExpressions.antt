@@ -6,10 +6,12 @@ use lib.Chars.{codes}
 use Rattle.at_model.specs.Names.{is_name}
 use Rattle.at_text.specs.Reading.{first}
 use Rattle.at_text.specs.Symbols.{PlacedToken, is_word_kind}
+use Rattle.at_text.specs.declared.place.Place.{Place}
 use Rattle.at_jrag.specs.Syntax as syntax
-use Rattle.at_jrag.specs.Syntax.{Place, Word, Expr, Exprs, place}
+use Rattle.at_jrag.specs.Syntax.{Word, Expr, Exprs, place}
 use Rattle.at_jrag.specs.Grammar as grammar
-use Rattle.at_jrag.specs.Grammar.{Row, sign, word, number, is_sign, is_word, is_number, is_name_token, follows_cast, next_is, Sign, Spells, level, depth, deepest, operator_text, operator_level, fold_text, Keyword}
+use Rattle.at_text.specs.Rows.{Row, sign, word, is_sign, is_word, is_name_token, next_is}
+use Rattle.at_jrag.specs.Grammar.{number, is_number, follows_cast, Sign, Spells, level, depth, deepest, operator_text, operator_level, fold_text, Keyword}
 use Rattle.at_jrag.specs.Machine.{Takes, Skips, Refuses, and_then}
 use Rattle.at_jrag.specs.Wants.{Expression, Binary, Links, Choice, Otherwise, Unary, Minus, Opened, Calls, Primary, Named, FoldBody, Deeper, Join, Deepest, Counts, Name, Mark}
 use Rattle.at_jrag.specs.Table.{next, link_rank, is_get_child, is_literal, is_number_within, begins_fold, expects, primary_answer, unary_answer, minus_answer, binary_answer, expression_answer, link_answer, links_answer, choice_answer}

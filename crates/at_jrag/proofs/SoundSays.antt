@@ -7,10 +7,12 @@ use lib.Chars.{codes}
 use Rattle.at_model.specs.Names.{is_name}
 use Rattle.at_text.specs.Reading.{first}
 use Rattle.at_text.specs.Symbols.{PlacedToken}
+use Rattle.at_text.specs.declared.place.Place.{Place}
 use Rattle.at_jrag.specs.Syntax as syntax
-use Rattle.at_jrag.specs.Syntax.{Place, Word, Param, KindWord, Ending, Body, Decl, Aspect, Expr, Exprs}
+use Rattle.at_jrag.specs.Syntax.{Word, Param, KindWord, Ending, Body, Decl, Aspect, Expr, Exprs}
 use Rattle.at_jrag.specs.Grammar as grammar
-use Rattle.at_jrag.specs.Grammar.{Row, sign, word, is_sign, is_word, next_is, Sign, Keyword, Opens, KindOf, Listed, Index, Signature, BodyOf, EndingOf, Spells, level, depth, deepest, ending_depth, max_nesting, NestsWithin, IsWithin}
+use Rattle.at_text.specs.Rows.{Row, sign, word, is_sign, is_word, next_is}
+use Rattle.at_jrag.specs.Grammar.{Sign, Keyword, Opens, KindOf, Listed, Index, Signature, BodyOf, EndingOf, Spells, level, depth, deepest, ending_depth, max_nesting, NestsWithin, IsWithin}
 use Rattle.at_jrag.specs.Machine.{Answer, Takes, Skips, Refuses, LeavesOut, and_then, Goes, Halts, answered, after, ended, may_end, Outcome, Whole, Stuck, Refused, TooDeep, run}
 use Rattle.at_jrag.specs.Wants as want
 use Rattle.at_jrag.specs.Wants.{Want}

@@ -8,7 +8,8 @@ use Rattle.at_text.specs.Reading.{first}
 use Rattle.at_text.specs.declared.token.TokenKind.{TokenKind}
 use Rattle.at_text.specs.declared.token.TokenKind.TheVariants as kind
 use Rattle.at_text.specs.Symbols.{PlacedToken, is_word_kind}
-use Rattle.at_jrag.specs.Grammar.{Row, sign, word, number, quotation, is_sign, is_word, is_number, Spells, level, depth, operator_text, operator_level, fold_text}
+use Rattle.at_text.specs.Rows.{Row, sign, word, is_sign, is_word}
+use Rattle.at_jrag.specs.Grammar.{number, quotation, is_number, Spells, level, depth, operator_text, operator_level, fold_text}
 use Rattle.at_jrag.specs.Syntax as syntax
 use Rattle.at_jrag.specs.Syntax.{Operator, FoldForm, Expr}
 use Rattle.at_jrag.specs.Table.{next, is_literal, is_quotation, is_quoted, is_constant, is_number_within, is_decimal_within, begins_fold, sign_rank, link_rank}

@@ -4,7 +4,9 @@ use Rattle.std.specs.Prelude.{◌&&◌, ◌||◌, ◌==◌, ◌⊎◌}
 use Rattle.std.proofs.lemmas.Bool.{eqb-true}
 use lib.Chars.{codes}
 use Rattle.at_text.specs.Symbols.{PlacedToken}
-use Rattle.at_jrag.specs.Grammar.{word, is_word, is_name_token, follows_cast}
+use Rattle.at_text.specs.declared.place.Place.{Place}
+use Rattle.at_text.specs.Rows.{word, is_word, is_name_token}
+use Rattle.at_jrag.specs.Grammar.{follows_cast}
 use Rattle.at_jrag.specs.Machine.{Answer, Skips, Refuses, LeavesOut, and_then}
 use Rattle.at_jrag.specs.Wants.{Want, Expression, Binary, Links, Choice, Unary, Minus, Opened, Enclosed, Parenthesized, Calls, Called, FirstArgument, MoreArguments, Primary, Named, Deeper, Join, Deepest, Counts, Name, Mark, File, Decls, Lazy, NotNta, Kind, Signed, Params, NotCircular, Defined, Return}
 use Rattle.at_jrag.specs.Table.{table, is_literal, begins_fold, is_kind, link_rank, link_answer, or_else, tails_answer, primary_answer, unary_answer, binary_answer, expression_answer, links_answer}
@@ -37,7 +39,7 @@ no_tails t e (suc rank) b us f d h =
 -- a word that is no name, and stands in no expression
 pub record IsKeyword (t : PlacedToken) : Type 0 where
   pub text : List ℕ
-  pub at : ℕ × ℕ
+  pub at : Place
   pub is : t ≡ word text at
   pub name : is_name_token (word text at) ≡ false
   pub literal : is_literal (word text at) ≡ false

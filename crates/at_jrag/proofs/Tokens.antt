@@ -8,14 +8,11 @@ use Rattle.at_text.specs.declared.token.TokenKind.TheVariants as kind
 use Rattle.at_text.specs.declared.placed.Placed.{Placed}
 use Rattle.at_text.specs.declared.token.TokenKind.{TokenKind}
 use Rattle.at_text.specs.Symbols.{PlacedToken, placed}
-use Rattle.at_jrag.specs.Left.{left}
-use Rattle.at_jrag.specs.Grammar.{Row, next_is, is_sign, sign, number}
+use Rattle.at_text.specs.declared.place.Place.{Place}
+use Rattle.at_text.specs.Rows.{Row, left, sign, is_sign, next_is}
+use Rattle.at_jrag.specs.Grammar.{number}
 use Rattle.at_jrag.specs.Read.{Reads, is_literal}
 use Rattle.at_jrag.specs.declared.reader.forms.Measured.{Measured}
-
-pub next_left : (ts : List Placed) (other : Placed) → 1 ≤ length ts → (rest : Row) × (left ts ≡ placed (slice_index_or ts 0 other) ∷ rest)
-next_left [] other h = absurd (omega (arith, h))
-next_left (t ∷ ts) other h = (left ts, refl)
 
 -- a token of this kind
 pub of_kind : (t : PlacedToken) (k : TokenKind) → t.kind ≡ k → t ≡ record { kind = k; text = t.text; at = t.at }
@@ -40,7 +37,7 @@ negative_left (t ∷ u ∷ ts) other h m k =
     λ i. m i ∷ of_kind (placed u) kind.Number k i ∷ r i
 
 -- a sign that is taken, where something holds if it is next
-pub taken_within : (taken : Option (ℕ × ℕ)) (text : List ℕ) (old rest : Row) (before : Bool) (none within : Type 0) → ((before ≡ true) × within) ⊎ (before ≡ false)
+pub taken_within : (taken : Option Place) (text : List ℕ) (old rest : Row) (before : Bool) (none within : Type 0) → ((before ≡ true) × within) ⊎ (before ≡ false)
     → before ≡ next_is (is_sign text) old → MatchOption taken none (λ at. old ≡ sign text at ∷ rest) → MatchOption taken none (λ at. (old ≡ sign text at ∷ rest) × within)
 taken_within None text old rest before none within w b h = h
 taken_within (Some at) text old rest before none within (inl w) b h = (h, w.1)

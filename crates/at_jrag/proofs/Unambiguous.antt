@@ -6,9 +6,11 @@ use Rattle.std.proofs.lemmas.Slice.Eq.{bytes_eq-Decides}
 use lib.Chars.{codes}
 use Rattle.at_model.specs.Names.{is_name, reserved_words}
 use Rattle.at_text.specs.Symbols.{PlacedToken}
+use Rattle.at_text.specs.declared.place.Place.{Place}
 use Rattle.at_jrag.specs.Syntax as syntax
-use Rattle.at_jrag.specs.Syntax.{Place, Word, Kind, KindWord, Param, Params, BodyForm, Body, Ending, Decl, DeclForm, Aspect}
-use Rattle.at_jrag.specs.Grammar.{Row, sign, is_sign, is_word, next_is, Sign, kind_text, IsKind, KindOf, ParamOf, MoreParams, Listed, Signature, Owner, Lazy, Index, Getter, Declared, BodyOf, EndingOf, Behind, keyword, DeclOf, Decls, AspectOf, File}
+use Rattle.at_jrag.specs.Syntax.{Word, Kind, KindWord, Param, Params, BodyForm, Body, Ending, Decl, DeclForm, Aspect}
+use Rattle.at_text.specs.Rows.{Row, sign, is_sign, is_word, next_is}
+use Rattle.at_jrag.specs.Grammar.{Sign, kind_text, IsKind, KindOf, ParamOf, MoreParams, Listed, Signature, Owner, Lazy, Index, Getter, Declared, BodyOf, EndingOf, Behind, keyword, DeclOf, Decls, AspectOf, File}
 use Rattle.at_jrag.proofs.ExpressionSteps.{reserved_is_no_name, no_word}
 use Rattle.at_jrag.proofs.OneToken.{token_one, text_one, at_one, apart, name_one}
 use Rattle.at_jrag.proofs.ExpressionLinks.{ended}

@@ -2,8 +2,10 @@
 use Rattle.std.specs.Prelude.{◌≡◌, ℕ, List, [], ◌∷◌, ◌++◌, true, ◌||◌}
 use lib.Chars.{codes}
 use Rattle.at_text.specs.Symbols.{PlacedToken, is_word_kind}
-use Rattle.at_jrag.specs.Syntax.{Aspect, Place}
-use Rattle.at_jrag.specs.Grammar.{sign, word, is_sign, is_word, File, IsWithin}
+use Rattle.at_text.specs.declared.place.Place.{Place}
+use Rattle.at_jrag.specs.Syntax.{Aspect}
+use Rattle.at_text.specs.Rows.{sign, word, is_sign, is_word}
+use Rattle.at_jrag.specs.Grammar.{File, IsWithin}
 use Rattle.at_jrag.specs.FirstFault.{GoesOn}
 
 -- the tokens are a file

@@ -7,21 +7,13 @@ use lib.Chars.{codes}
 use Rattle.at_model.specs.Names.{is_name}
 use Rattle.at_model.specs.Texts.{quoted}
 use Rattle.at_text.specs.declared.token.TokenKind.TheVariants as kind
-use Rattle.at_text.specs.Symbols.{PlacedToken, is_word_kind, is_sign_kind}
+use Rattle.at_text.specs.Symbols.{PlacedToken, is_word_kind}
+use Rattle.at_text.specs.Rows.{Row, sign, word, is_sign, is_word, next_is}
+use Rattle.at_text.specs.declared.place.Place.{Place}
 use Rattle.at_jrag.specs.Syntax as syntax
-use Rattle.at_jrag.specs.Syntax.{Place, Word, Kind, KindWord, Param, Params, Operator, FoldForm, Expr, Exprs, place, Body, Ending, Decl, DeclForm, Aspect}
-
--- the tokens that are left
-abbrev pub Row : Type 0
-Row = List PlacedToken
+use Rattle.at_jrag.specs.Syntax.{Word, Kind, KindWord, Param, Params, Operator, FoldForm, Expr, Exprs, place, Body, Ending, Decl, DeclForm, Aspect}
 
 -- ---- tokens
-
-abbrev pub sign : List ℕ → Place → PlacedToken
-sign text at = record { kind = kind.Sign; text = text; at = at }
-
-abbrev pub word : List ℕ → Place → PlacedToken
-word text at = record { kind = kind.Word; text = text; at = at }
 
 abbrev pub number : List ℕ → Place → PlacedToken
 number text at = record { kind = kind.Number; text = text; at = at }
@@ -43,25 +35,11 @@ Name w old rest = (is_name w.text ≡ true) × (old ≡ word w.text w.at ∷ res
 
 -- ---- what comes next
 
-abbrev pub is_sign : List ℕ → PlacedToken → Bool
-is_sign text t = is_sign_kind t.kind && bytes_eq t.text text
-
-abbrev pub is_word : List ℕ → PlacedToken → Bool
-is_word text t = is_word_kind t.kind && bytes_eq t.text text
-
-abbrev pub is_name_token : PlacedToken → Bool
-is_name_token t = is_word_kind t.kind && is_name t.text
-
 abbrev pub is_number : PlacedToken → Bool
 is_number t = elim t.kind [ kind.Word ↦ false | kind.Number ↦ true | kind.Text ↦ false | kind.Sign ↦ false ]
 
 abbrev pub is_text : PlacedToken → Bool
 is_text t = elim t.kind [ kind.Word ↦ false | kind.Number ↦ false | kind.Text ↦ true | kind.Sign ↦ false ]
-
--- the next token is one that passes the test
-abbrev pub next_is : (PlacedToken → Bool) → Row → Bool
-next_is test [] = false
-next_is test (t ∷ ts) = test t
 
 -- ---- declarations
 

@@ -2,7 +2,8 @@
 use Rattle.std.specs.Prelude.{◌∷◌, List, [], ℕ, Bool, true, false, Option, Some, None}
 use Rattle.at_jrag.specs.Syntax as syntax
 use Rattle.at_jrag.specs.Syntax.{Word, Param, Params, Kind}
-use Rattle.at_jrag.specs.Grammar.{Row, Owner, Opens, Listed, Signature, Declared}
+use Rattle.at_text.specs.Rows.{Row}
+use Rattle.at_jrag.specs.Grammar.{Owner, Opens, Listed, Signature, Declared}
 use Rattle.at_jrag.specs.View.{word_view, kind_word_view, params_view}
 use Rattle.at_jrag.specs.declared.reader.declarations.Head.{Head}
 use Rattle.at_jrag.specs.declared.reader.declarations.Target.{Target}

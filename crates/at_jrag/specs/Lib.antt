@@ -8,6 +8,5 @@ pub mod Table
 pub mod Runs
 pub mod Forms
 pub mod Faults
-pub mod Left
 pub mod Read
 pub mod Heads

@@ -4,10 +4,12 @@ use Rattle.std.specs.Str.{bytes_eq}
 use lib.Chars.{codes}
 use Rattle.at_text.specs.declared.token.TokenKind.TheVariants as kind
 use Rattle.at_text.specs.Symbols.{PlacedToken}
+use Rattle.at_text.specs.declared.place.Place.{Place}
 use Rattle.at_jrag.specs.Syntax as syntax
-use Rattle.at_jrag.specs.Syntax.{Place, Expr, place, to_exprs}
+use Rattle.at_jrag.specs.Syntax.{Expr, place, to_exprs}
 use Rattle.at_jrag.specs.Grammar as grammar
-use Rattle.at_jrag.specs.Grammar.{Opens, deepest, Row, Spells, level, depth, is_sign, is_number, next_is, sign, word, operator_text, operator_level, Name, Sign, follows_cast, is_name_token}
+use Rattle.at_text.specs.Rows.{Row, sign, word, is_sign, is_name_token, next_is}
+use Rattle.at_jrag.specs.Grammar.{Opens, deepest, Spells, level, depth, is_number, operator_text, operator_level, Name, Sign, follows_cast}
 use Rattle.at_jrag.specs.View.{word_view, expr_view, operator_view}
 use Rattle.at_jrag.specs.declared.reader.forms.Measured.{Measured}
 use Rattle.at_jrag.specs.declared.reader.forms.Arguments.{Arguments}

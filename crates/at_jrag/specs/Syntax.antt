@@ -1,9 +1,6 @@
 -- Aspects as they are read: declarations and expressions, with their places.
 use Rattle.std.specs.Prelude.{ℕ, ℤ, Bool, List, [], ◌∷◌, Option}
-
--- a line and a column, both from 1
-abbrev pub Place : Type 0
-Place = ℕ × ℕ
+use Rattle.at_text.specs.declared.place.Place.{Place}
 
 -- a name where it stands
 pub record Word : Type 0 where

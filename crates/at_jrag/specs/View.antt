@@ -1,6 +1,7 @@
 -- What the aspects that are handed out stand for.
 use Rattle.std.specs.Prelude.{map, string_bytes, option_map}
-use Rattle.at_jrag.specs.Syntax.{Place, Word, Kind, KindWord, Param, Params, Operator, FoldForm, Expr, Exprs, to_exprs, BodyForm, Body, Ending, DeclForm, Decl, Aspect}
+use Rattle.at_text.specs.declared.place.Place.{Place}
+use Rattle.at_jrag.specs.Syntax.{Word, Kind, KindWord, Param, Params, Operator, FoldForm, Expr, Exprs, to_exprs, BodyForm, Body, Ending, DeclForm, Decl, Aspect}
 use Rattle.at_jrag.specs.Syntax as syntax
 use Rattle.at_jrag.specs.declared.syntax.Word.{Word as WordValue}
 use Rattle.at_jrag.specs.declared.syntax.Kind.{Kind as KindValue}

@@ -2,10 +2,11 @@
 
 ghost use Rattle.std.specs.Prelude.{◌≡◌};
 ghost use Rattle.at_text.specs.Symbols.{placed};
-ghost use Rattle.at_jrag.specs.Left.{left};
+ghost use Rattle.at_text.specs.Rows.{left};
 ghost use Rattle.at_jrag.specs.Faults.{begins_declaration, last_declaration};
 
-use crate::reader::is_word;
+use at_text::cursor::is_word;
+use at_text::place::Place;
 use at_text::placed::Placed;
 
 /// Whether a declaration begins with the token.
@@ -16,10 +17,10 @@ fn begins_declaration(token: &Placed<'_>) -> bool
 }
 
 /// The place of the last declaration that begins among the tokens; line 1, column 1, where none does.
-pub fn declaration_place(tokens: &[Placed<'_>]) -> (u32, u32)
+pub fn declaration_place(tokens: &[Placed<'_>]) -> Place
     ensures { result ≡ last_declaration (left tokens.now) }
 {
-    let mut at = (1, 1);
+    let mut at = Place::START;
     let mut rest = tokens;
     while let [token, more @ ..] = rest {
         if begins_declaration(token) {

@@ -1,52 +1,49 @@
 //! Aspects (.jrag, JastAdd2 reference manual), read from their text.
 #![tactic(auto)]
 
-ghost use Rattle.std.specs.Prelude.{◌≡◌, ◌⊎◌, ℕ, [], List, map, IfOk, IfErr, MatchResult};
+ghost use Rattle.std.specs.Prelude.{◌≡◌, ◌⊎◌, ◌≤◌, ◌-◌, ℕ, [], List, length, map, take, drop, IfOk, IfErr, MatchResult};
 ghost use Rattle.at_text.specs.Symbols.{PlacedToken, HasTokens};
+ghost use Rattle.at_text.specs.Rows.{left};
 ghost use Rattle.at_text.specs.Faults as scanning;
 ghost use Rattle.at_text.specs.declared.scan.ScanFault.{ScanFault};
+ghost use Rattle.at_text.specs.declared.place.Place.{Place};
+ghost use Rattle.at_text.specs.declared.fault.Fault.TheVariants.{Refused, Memory};
 ghost use Rattle.at_jrag.specs.View.{aspect_view};
-ghost use Rattle.at_jrag.specs.Faults.{uncut, IsScanFaultAt, IsFault};
+ghost use Rattle.at_jrag.specs.Faults.{uncut, IsScanFaultAt, IsFault, fault_place};
 ghost use Rattle.at_jrag.specs.Syntax as written;
 ghost use Rattle.at_jrag.specs.Grammar.{File, IsWithin};
-ghost use Rattle.at_jrag.specs.declared.JragFault.TheVariants.{Memory, Syntax};
+ghost use Rattle.at_jrag.specs.declared.JragCode.TheVariants.{Syntax};
 
 mod declared;
 mod reader;
 mod syntax;
 
-use at_text::place::place;
-use at_text::placed::{place_all, place_left};
+use at_text::fault::{Failure, Fault};
+use at_text::place::Place;
+use at_text::placed::{Placed, place_all, place_left};
 use at_text::scan::{ScanFault, lexemes};
 use declared::declaration_place;
-use reader::{ReadError, Reader};
-use std::alloc::{AllocError, Global};
+use reader::Reader;
+use std::alloc::Global;
 pub use syntax::{
     Aspect, Body, BodyForm, Decl, DeclForm, Ending, Expr, FoldForm, Form, Kind, KindWord, Operator,
     OperatorWord, Param, Params, Word,
 };
 
-/// Why a text holds no aspects. Places are lines and columns, both from 1.
-#[derive(Debug, Drop)]
-pub enum JragFault {
-    /// The first token that no file goes on with, or the end of the text where more was needed;
-    /// where the text can't be cut into tokens, the place where that is met.
-    Syntax { at: (u32, u32) },
+/// What is wrong with a text that holds no aspects.
+#[derive(Clone, Copy, PartialEq, Eq, Debug)]
+pub enum JragCode {
+    /// No file goes on with this token, or more was needed at the end of the text; where the text
+    /// can't be cut into tokens, that is met here.
+    Syntax,
     /// A form of JastAdd's aspects begins at this token that this profile leaves out.
-    LeftOut { at: (u32, u32) },
-    /// The first token of the declaration in which expressions nest deeper than 64.
-    Nesting { at: (u32, u32) },
-    /// Want of memory.
-    Memory,
+    LeftOut,
+    /// Expressions nest deeper than 64 in the declaration that begins here.
+    Nesting,
 }
 
-impl From<AllocError> for JragFault {
-    ghost from_gives = { λ _ e. e ≡ Memory };
-
-    fn from(_e: AllocError) -> JragFault {
-        JragFault::Memory
-    }
-}
+/// Why a text holds no aspects: its code and its place, or want of memory.
+pub type JragFault = Fault<JragCode>;
 
 /// The fault of a text that can't be cut into tokens.
 fn scan_fault(text: &str, fault: ScanFault) -> JragFault
@@ -54,12 +51,24 @@ fn scan_fault(text: &str, fault: ScanFault) -> JragFault
     ensures { result ≡ uncut text.now fault }
 {
     match fault {
-        ScanFault::Memory => JragFault::Memory,
+        ScanFault::Memory => Fault::Memory,
         ScanFault::Bad { at } | ScanFault::OpenText { at } | ScanFault::OpenComment { at } => {
-            JragFault::Syntax {
-                at: place(text, at),
+            Fault::Refused {
+                code: JragCode::Syntax,
+                at: Place::of(text, at),
             }
         }
+    }
+}
+
+/// The place of a fault where reading stops before the last `count` tokens.
+fn fault_place(text: &str, tokens: &[Placed<'_>], count: usize, code: JragCode) -> Place
+    requires { count ≤ length tokens.now }
+    ensures { result ≡ fault_place text.now code (left (take (length tokens.now - count) tokens.now)) (left (drop (length tokens.now - count) tokens.now)) }
+{
+    match code {
+        JragCode::Syntax | JragCode::LeftOut => place_left(text, tokens, count),
+        JragCode::Nesting => declaration_place(tokens.split_at(tokens.len() - count).0),
     }
 }
 
@@ -76,8 +85,8 @@ pub fn parse_jrag(alloc: Global, text: &str) -> Result<Vec<Aspect>, JragFault>
     ensures found { IfOk result (λ v. (tokens : List PlacedToken) × HasTokens text.now tokens
         × File (map aspect_view v.items) tokens [] × IsWithin (map aspect_view v.items)) }
     // A text that can't be cut into tokens is refused where that is met, whatever stands before it.
-    ensures uncut { (fault : ScanFault) (at : ℕ × ℕ) → IsScanFaultAt text.now at fault
-        → MatchResult result (λ v. ⊥) (λ e. (e ≡ Memory) ⊎ (e ≡ Syntax at)) }
+    ensures uncut { (fault : ScanFault) (at : Place) → IsScanFaultAt text.now at fault
+        → MatchResult result (λ v. ⊥) (λ e. (e ≡ Memory) ⊎ (e ≡ Refused Syntax at)) }
     // Of a text that spells aspects whose expressions nest at most 64 deep, these are what is read, unless memory runs out.
     ensures only { (tokens : List PlacedToken) (aspects : List written.Aspect) → HasTokens text.now tokens → File aspects tokens []
         → IsWithin aspects → MatchResult result (λ v. map aspect_view v.items ≡ aspects) (λ e. e ≡ Memory) }
@@ -92,19 +101,10 @@ pub fn parse_jrag(alloc: Global, text: &str) -> Result<Vec<Aspect>, JragFault>
     let mut reader = Reader::new(alloc, &tokens);
     match reader.file() {
         Ok(aspects) => Ok(aspects),
-        Err(ReadError::Memory) => Err(JragFault::Memory),
-        Err(ReadError::Syntax) => {
-            let at = place_left(text, &tokens, reader.count_left());
-            Err(JragFault::Syntax { at })
+        Err(Failure::For(code)) => {
+            let at = fault_place(text, &tokens, reader.cursor.count_left(), code);
+            Err(Fault::Refused { code, at })
         }
-        Err(ReadError::LeftOut) => {
-            let at = place_left(text, &tokens, reader.count_left());
-            Err(JragFault::LeftOut { at })
-        }
-        Err(ReadError::Nesting) => {
-            let front = tokens.split_at(tokens.len() - reader.count_left()).0;
-            let at = declaration_place(front);
-            Err(JragFault::Nesting { at })
-        }
+        Err(Failure::Memory) => Err(Fault::Memory),
     }
 }

@@ -1,11 +1,13 @@
 //! Aspects as they are read. A place is a line and a column, both from 1: of a word where it begins, of a form where its
 //! first token begins.
 
+use at_text::place::Place;
+
 /// A name where it stands.
 #[derive(Drop)]
 pub struct Word {
     pub text: String,
-    pub at: (u32, u32),
+    pub at: Place,
 }
 
 /// A kind of values, as it is written.
@@ -22,7 +24,7 @@ pub enum Kind {
 #[derive(Drop)]
 pub struct KindWord {
     pub kind: Kind,
-    pub at: (u32, u32),
+    pub at: Place,
 }
 
 /// A parameter: its kind and its name.
@@ -36,7 +38,7 @@ pub struct Param {
 #[derive(Drop)]
 pub struct Params {
     pub items: Vec<Param>,
-    pub end: (u32, u32),
+    pub end: Place,
 }
 
 /// How a body is written. Both mean the same.
@@ -51,7 +53,7 @@ pub enum BodyForm {
 /// The body of an equation, with the place of its `=` or `{`.
 #[derive(Drop)]
 pub struct Body {
-    pub at: (u32, u32),
+    pub at: Place,
     pub form: BodyForm,
     pub expr: Expr,
 }
@@ -61,7 +63,7 @@ pub struct Body {
 pub enum Ending {
     Body(Body),
     /// A `;` alone, with its place: the equations stand elsewhere.
-    Semicolon((u32, u32)),
+    Semicolon(Place),
 }
 
 /// A declaration of an aspect. Where `lazy` is written, its place is kept.
@@ -69,7 +71,7 @@ pub enum Ending {
 pub enum DeclForm {
     /// `syn KIND CLASS.NAME(..)` with its body, or with a `;`.
     Synthesized {
-        lazy: Option<(u32, u32)>,
+        lazy: Option<Place>,
         kind: KindWord,
         class: Word,
         name: Word,
@@ -78,7 +80,7 @@ pub enum DeclForm {
     },
     /// `inh KIND CLASS.NAME(..);`
     Inherited {
-        lazy: Option<(u32, u32)>,
+        lazy: Option<Place>,
         kind: KindWord,
         class: Word,
         name: Word,
@@ -105,7 +107,7 @@ pub enum DeclForm {
 /// A declaration, with the place of its first token.
 #[derive(Drop)]
 pub struct Decl {
-    pub at: (u32, u32),
+    pub at: Place,
     pub form: DeclForm,
 }
 
@@ -139,7 +141,7 @@ pub enum Operator {
 #[derive(Clone, Copy, PartialEq, Eq)]
 pub struct OperatorWord {
     pub operator: Operator,
-    pub at: (u32, u32),
+    pub at: Place,
 }
 
 /// What is asked of the elements of a list.
@@ -154,7 +156,7 @@ pub enum FoldForm {
 #[cycle(expr)]
 #[derive(Drop)]
 pub struct Expr {
-    pub at: (u32, u32),
+    pub at: Place,
     pub form: Form,
 }
 
@@ -184,10 +186,10 @@ pub enum Form {
     /// `(CLASS) E`
     Cast(Word, Box<Expr>),
     /// `E instanceof CLASS`; the place is that of the word `instanceof`.
-    InstanceOf(Box<Expr>, (u32, u32), Word),
+    InstanceOf(Box<Expr>, Place, Word),
     Binary(OperatorWord, Box<Expr>, Box<Expr>),
     /// `E ? E : E`; the place is that of the `?`.
-    Choose(Box<Expr>, (u32, u32), Box<Expr>, Box<Expr>),
+    Choose(Box<Expr>, Place, Box<Expr>, Box<Expr>),
     /// `exists (NAME : LIST) { E }`, and so with `first` and `sum`.
     Fold(FoldForm, Word, Box<Expr>, Box<Expr>),
 }

@@ -15,7 +15,7 @@ use Rattle.at_model.specs.Rules as model
 use Rattle.at_model.specs.Kinds.{ScopeKinds, HasKind, HaveKinds, IsArgumentForm, bound_kinds, kind_of_token, shape_of_part, single_class}
 use Rattle.at_model.specs.Kinds as has
 use Rattle.at_model.proofs.Options.{both, led, mapped}
-use Rattle.at_jrag.specs.Syntax.{Place}
+use Rattle.at_text.specs.declared.place.Place.{Place}
 use Rattle.at_jrag.specs.Syntax as written
 use Rattle.at_rules.specs.declared.body.Kind.TheVariants as known_kind
 use Rattle.at_kinds.specs.Accessors.{accessor_named, accessed as accessed_part, got_or, getter, named_besides, is_had, is_counted, is_listed, is_list, is_optional, shape_of, token_kind, element_class, listed, listed_in}

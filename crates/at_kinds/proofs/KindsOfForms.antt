@@ -11,7 +11,8 @@ use Rattle.at_model.specs.Rules as model
 use Rattle.at_model.specs.Kinds.{ScopeKinds, HasKind, AreComparable}
 use Rattle.at_model.specs.Kinds as has
 use Rattle.at_model.proofs.Options.{both}
-use Rattle.at_jrag.specs.Syntax.{Place, Word}
+use Rattle.at_text.specs.declared.place.Place.{Place}
+use Rattle.at_jrag.specs.Syntax.{Word}
 use Rattle.at_jrag.specs.Syntax as written
 use Rattle.at_kinds.specs.Judging.{Kinded, Is, Wrong, kind_if, of_kind, negation, opposite, computed, ordered, added, text_joined, joined, of_wider, chosen, beside, class_beside, cast, tested}
 use Rattle.at_kinds.specs.Kinds.{is_int, is_truth, is_text, is_node, are_ints, are_truths, are_alike, only_if, upper, wider_class, wider}

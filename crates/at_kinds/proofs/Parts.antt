@@ -10,7 +10,8 @@ use Rattle.std.proofs.lemmas.Option.{none-some, slice_get-map}
 use Rattle.at_class.proofs.Named.{position-map}
 use Rattle.at_model.specs.Classes.{Classes}
 use Rattle.at_model.specs.Bodies.{Expr, Exprs, expr, Call}
-use Rattle.at_jrag.specs.Syntax.{Place, to_exprs}
+use Rattle.at_text.specs.declared.place.Place.{Place}
+use Rattle.at_jrag.specs.Syntax.{to_exprs}
 use Rattle.at_jrag.specs.View.{expr_view}
 use Rattle.at_jrag.specs.declared.syntax.Expr.{Expr as ExprValue}
 use Rattle.at_rules.specs.Bodies.{body_view, bodies_view}
@@ -28,33 +29,33 @@ use Rattle.at_kinds.specs.declared.signatures.WrittenKind.TheVariants.{Known}
 use Rattle.at_rules.specs.declared.body.Kind.TheVariants as kind
 use Rattle.at_kinds.specs.declared.typing.kinds.Typed.{Typed}
 use Rattle.at_kinds.specs.declared.typing.Bound.{Bound as BoundValue}
-use Rattle.at_kinds.specs.declared.typing.TypeFault.{TypeFault}
-use Rattle.at_kinds.specs.declared.typing.TypeFault.TheVariants.{Refused, Memory}
+use Rattle.at_text.specs.declared.fault.Fault.{Fault}
+use Rattle.at_text.specs.declared.fault.Fault.TheVariants.{Refused, Memory}
 
 -- a part's fault is that of the whole
-pub fault_of : {A B T U : Type 0} (view : T → A) (whole : U → B) (f : A → Judgement B) (j : Judgement A) (e : TypeFault) → Judges view j (Err e) → Judges whole (and_then f j) (Err e)
+pub fault_of : {A B T U : Type 0} (view : T → A) (whole : U → B) (f : A → Judgement B) (j : Judgement A) (e : Fault RuleCode) → Judges view j (Err e) → Judges whole (and_then f j) (Err e)
 fault_of view whole f j (Refused c at) is = ap (and_then f) is
 fault_of view whole f j Memory is = tt
 
 -- what is made of a part
-pub made_of : {A B T U : Type 0} (view : T → A) (whole : U → B) (f : A → Judgement B) (j : Judgement A) (t : T) (r : Result U TypeFault) → Judges view j (Ok t) → Judges whole (f (view t)) r → Judges whole (and_then f j) r
+pub made_of : {A B T U : Type 0} (view : T → A) (whole : U → B) (f : A → Judgement B) (j : Judgement A) (t : T) (r : Result U (Fault RuleCode)) → Judges view j (Ok t) → Judges whole (f (view t)) r → Judges whole (and_then f j) r
 made_of view whole f j t (Ok u) is so = ap (and_then f) is ∙ so
 made_of view whole f j t (Err (Refused c at)) is so = ap (and_then f) is ∙ so
 made_of view whole f j t (Err Memory) is so = tt
 
-pub fault_in : {A B T U : Type 0} (view : T → A) (whole : U → B) (f : A → Judgement B) (j : Judgement A) (o : Result T TypeFault) (e : TypeFault) → o ≡ Err e → Judges view j o → Judges whole (and_then f j) (Err e)
+pub fault_in : {A B T U : Type 0} (view : T → A) (whole : U → B) (f : A → Judgement B) (j : Judgement A) (o : Result T (Fault RuleCode)) (e : Fault RuleCode) → o ≡ Err e → Judges view j o → Judges whole (and_then f j) (Err e)
 fault_in view whole f j o e was is = fault_of view whole f j e (subst (λ p. Judges view j p) was is)
 
-pub made_in : {A B T U : Type 0} (view : T → A) (whole : U → B) (f : A → Judgement B) (j : Judgement A) (o : Result T TypeFault) (t : T) (r : Result U TypeFault) → o ≡ Ok t → Judges view j o → Judges whole (f (view t)) r → Judges whole (and_then f j) r
+pub made_in : {A B T U : Type 0} (view : T → A) (whole : U → B) (f : A → Judgement B) (j : Judgement A) (o : Result T (Fault RuleCode)) (t : T) (r : Result U (Fault RuleCode)) → o ≡ Ok t → Judges view j o → Judges whole (f (view t)) r → Judges whole (and_then f j) r
 made_in view whole f j o t r was is so = made_of view whole f j t r (subst (λ p. Judges view j p) was is) so
 
 -- where the condition holds
-pub where_true : {A T : Type 0} (view : T → A) (b : Bool) (j l : Judgement A) (r : Result T TypeFault) → b ≡ true → Judges view j r → Judges view (if b then j else l) r
+pub where_true : {A T : Type 0} (view : T → A) (b : Bool) (j l : Judgement A) (r : Result T (Fault RuleCode)) → b ≡ true → Judges view j r → Judges view (if b then j else l) r
 where_true view true j l r is so = so
 where_true view false j l r is so = absurd (true≢false (sym is))
 
 -- where it doesn't
-pub where_false : {A T : Type 0} (view : T → A) (b : Bool) (j l : Judgement A) (r : Result T TypeFault) → b ≡ false → Judges view l r → Judges view (if b then j else l) r
+pub where_false : {A T : Type 0} (view : T → A) (b : Bool) (j l : Judgement A) (r : Result T (Fault RuleCode)) → b ≡ false → Judges view l r → Judges view (if b then j else l) r
 where_false view true j l r is so = absurd (true≢false is)
 where_false view false j l r is so = so
 
@@ -143,10 +144,10 @@ accessed_crowded at (accessor.Count part) e k ks other = refl
 accessed_crowded at (accessor.List part) e k ks other = refl
 
 -- what is asked is an accessor, or else an attribute
-pub by_accessor : (s : Scope) (at : Place) (a : Option ℕ) (o : Option Accessor) (x : Accessor) (e : Expr) (ks : List Kinded) (r : Result Typed TypeFault) → o ≡ Some x → Judges typed_view (accessed at x e ks) r → Judges typed_view (asked_by s at a o e ks) r
+pub by_accessor : (s : Scope) (at : Place) (a : Option ℕ) (o : Option Accessor) (x : Accessor) (e : Expr) (ks : List Kinded) (r : Result Typed (Fault RuleCode)) → o ≡ Some x → Judges typed_view (accessed at x e ks) r → Judges typed_view (asked_by s at a o e ks) r
 by_accessor s at a o x e ks r is so = subst (λ p. Judges typed_view (asked_by s at a p e ks) r) (sym is) so
 
-pub by_attribute : (s : Scope) (at : Place) (a : Option ℕ) (b : ℕ) (o : Option Accessor) (e : Expr) (ks : List Kinded) (r : Result Typed TypeFault) → o ≡ None → a ≡ Some b
+pub by_attribute : (s : Scope) (at : Place) (a : Option ℕ) (b : ℕ) (o : Option Accessor) (e : Expr) (ks : List Kinded) (r : Result Typed (Fault RuleCode)) → o ≡ None → a ≡ Some b
     → Judges typed_view (demanded_of s.classes at b (slice_get s.declared b) e ks) r → Judges typed_view (asked_by s at a o e ks) r
 by_attribute s at a b o e ks r none is so = subst (λ p. Judges typed_view (asked_by s at a p e ks) r) (sym none) (subst (λ p. Judges typed_view (demanded s at p e ks) r) (sym is) so)
 
@@ -164,7 +165,7 @@ not_fitting classes wanted here at k is other = ap (λ b. if b then Is k.body el
 
 -- the list of a fold ------------------------------------------------------------------------------------------------------
 
-pub no_list_fault : (fold at : Place) (o : Option (ℕ × ℕ)) (call : Judged) (k : Kinded) (ks : List Kinded) (e : TypeFault) → o ≡ None → Judges typed_view call (Err e) → Judges list_view (list_by fold at o call k ks) (Err e)
+pub no_list_fault : (fold at : Place) (o : Option (ℕ × ℕ)) (call : Judged) (k : Kinded) (ks : List Kinded) (e : Fault RuleCode) → o ≡ None → Judges typed_view call (Err e) → Judges list_view (list_by fold at o call k ks) (Err e)
 no_list_fault fold at None call k ks e is so = fault_of typed_view list_view (λ j. Wrong code.Kind fold) call e so
 no_list_fault fold at (Some l) call k ks e is so = absurd (none-some l (sym is))
 
@@ -214,7 +215,7 @@ pub all_wrong : (s : Scope) (es : List ExprValue) (i : ℕ) (e : ExprValue) (c :
 all_wrong s es i e c at done whole less is here so_far =
     so_far ∙ ap (behind done) (next_all s es i e less is ∙ ap (and_then (λ k. and_then (λ ks. Is (k ∷ ks)) (judged_all s (to_exprs (map expr_view (drop (suc i) es)))))) here)
 
-pub all_fault : (s : Scope) (es : List ExprValue) (i : ℕ) (e : ExprValue) (f : TypeFault) (done : List Kinded) (whole : Judgement (List Kinded)) → i < length es → e ≡ get_or es i e → Judges typed_view (judged s (expr_view e)) (Err f)
+pub all_fault : (s : Scope) (es : List ExprValue) (i : ℕ) (e : ExprValue) (f : Fault RuleCode) (done : List Kinded) (whole : Judgement (List Kinded)) → i < length es → e ≡ get_or es i e → Judges typed_view (judged s (expr_view e)) (Err f)
     → whole ≡ behind done (judged_all s (to_exprs (map expr_view (drop i es)))) → Judges {T = Vec Typed Global} all_view whole (Err f)
 all_fault s es i e (Refused c at) done whole less is here so_far = all_wrong s es i e c at done whole less is here so_far
 all_fault s es i e Memory done whole less is here so_far = tt

@@ -1,7 +1,7 @@
 -- Expressions as they are seen, by their forms.
 use Rattle.std.proofs.Common.{◌≡◌, ℕ, ℤ, Bool, List, map, refl, ap, sym, subst, ◌∙◌, rules, Vec, Box, String, string_bytes, Result, None}
 use Rattle.std.specs.Global.{Global}
-use Rattle.at_jrag.specs.Syntax.{Place, Expr, to_exprs, place}
+use Rattle.at_jrag.specs.Syntax.{Expr, to_exprs, place}
 use Rattle.at_jrag.specs.Syntax as written
 use Rattle.at_jrag.specs.View.{expr_view, form_view, see_form, see_expr, word_view, operator_view, fold_view}
 use Rattle.at_jrag.specs.declared.syntax.Expr.{Expr as ExprValue, fold_out-Expr}
@@ -13,14 +13,16 @@ use Rattle.at_jrag.specs.declared.syntax.Form.TheVariants as form
 use Rattle.at_jrag.specs.declared.syntax.Form.TheOpen.{Form-F}
 use Rattle.at_jrag.specs.declared.syntax.Form.TheFolds.{fold-roll-Form}
 use Rattle.at_model.specs.Bodies.{expr, Call}
+use Rattle.at_text.specs.declared.place.Place.{Place}
 use Rattle.at_rules.specs.Bodies.{body_view, row_view, bodies_view}
 use Rattle.at_rules.specs.declared.body.Body.{Body, Row_of-Body, end_of-Body, more_of-Body, items-the_row-Body, the_lemmas}
 use Rattle.at_rules.specs.declared.body.Body as body
 use Rattle.at_kinds.specs.Judging.{Scope, judged, judged_list, list_or}
 use Rattle.at_kinds.specs.Typed.{Judges, typed_view, list_view}
+use Rattle.at_kinds.specs.declared.code.RuleCode.{RuleCode}
 use Rattle.at_kinds.specs.declared.typing.kinds.Typed.{Typed}
 use Rattle.at_kinds.specs.declared.typing.folds.List.{List as ListValue}
-use Rattle.at_kinds.specs.declared.typing.TypeFault.{TypeFault}
+use Rattle.at_text.specs.declared.fault.Fault.{Fault}
 
 -- an expression is a form where it stands
 seen_expr : (e : ExprValue) → expr_view e ≡ form_view e.form e.at
@@ -47,10 +49,10 @@ seen_this e is =
     seen_expr e ∙ ap (λ g. form_view g e.at) is ∙ ap (λ g. form_view g e.at) (sym form.rolls-This) ∙ ap (λ g. g e.at) (fold-roll-Form (Place → Expr) Expr see_form see_expr Form-F.This)
 
 -- what is said of an expression that is seen
-pub moved : (s : Scope) (x y : Expr) (r : Result Typed TypeFault) → x ≡ y → Judges typed_view (judged s y) r → Judges typed_view (judged s x) r
+pub moved : (s : Scope) (x y : Expr) (r : Result Typed (Fault RuleCode)) → x ≡ y → Judges typed_view (judged s y) r → Judges typed_view (judged s x) r
 moved s x y r is so = subst (λ z. Judges typed_view (judged s z) r) (sym is) so
 
-pub moved_list : (s : Scope) (fold : Place) (x y : Expr) (r : Result ListValue TypeFault) → x ≡ y → Judges list_view (list_or fold (judged s y) (judged_list s fold y)) r → Judges list_view (list_or fold (judged s x) (judged_list s fold x)) r
+pub moved_list : (s : Scope) (fold : Place) (x y : Expr) (r : Result ListValue (Fault RuleCode)) → x ≡ y → Judges list_view (list_or fold (judged s y) (judged_list s fold y)) r → Judges list_view (list_or fold (judged s x) (judged_list s fold x)) r
 moved_list s fold x y r is so = subst (λ z. Judges list_view (list_or fold (judged s z) (judged_list s fold z)) r) (sym is) so
 
 pub seen_name : (e : ExprValue) (s : String Global) (t : List ℕ) → e.form ≡ form.Name s → t ≡ string_bytes s → expr_view e ≡ written.Name e.at t

@@ -5,7 +5,8 @@ use Rattle.std.specs.Str.{bytes_eq}
 use Rattle.at_model.specs.Classes.{Classes, class_of_name}
 use Rattle.at_model.specs.Bodies as body
 use Rattle.at_model.specs.Bodies.{Expr, Exprs, no_exprs, expr}
-use Rattle.at_jrag.specs.Syntax.{Place, Word, place}
+use Rattle.at_text.specs.declared.place.Place.{Place}
+use Rattle.at_jrag.specs.Syntax.{Word, place}
 use Rattle.at_jrag.specs.Syntax as written
 use Rattle.at_kinds.specs.Signatures.{Declared, declared_named}
 use Rattle.at_kinds.specs.Accessors.{accessor_named, listed}

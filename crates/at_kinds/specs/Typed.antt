@@ -4,12 +4,13 @@ use Rattle.at_model.specs.Bodies.{Expr}
 use Rattle.at_rules.specs.Bodies.{body_view}
 use Rattle.at_rules.specs.declared.body.Body.{Body}
 use Rattle.at_kinds.specs.Judging.{Kinded, Judgement, Is, Wrong, Bound, Scope, Listed}
+use Rattle.at_kinds.specs.declared.code.RuleCode.{RuleCode}
 use Rattle.at_kinds.specs.declared.typing.kinds.Typed.{Typed}
 use Rattle.at_kinds.specs.declared.typing.folds.List.{List as ListValue}
 use Rattle.at_kinds.specs.declared.typing.Bound.{Bound as BoundValue}
 use Rattle.at_kinds.specs.declared.typing.Scope.{Scope as ScopeValue}
-use Rattle.at_kinds.specs.declared.typing.TypeFault.{TypeFault}
-use Rattle.at_kinds.specs.declared.typing.TypeFault.TheVariants.{Refused, Memory}
+use Rattle.at_text.specs.declared.fault.Fault.{Fault}
+use Rattle.at_text.specs.declared.fault.Fault.TheVariants.{Refused, Memory}
 
 abbrev pub boxed_view : {Z : Type 0} → Box Body Z → Expr
 boxed_view b = body_view b.value
@@ -30,7 +31,7 @@ abbrev pub scope_view : ScopeValue → Scope
 scope_view s = record { classes = s.classes.now; declared = s.signatures.now; this = s.this; names = map bound_view s.names.now; index = option_map (λ n. n.now) s.index }
 
 -- it is what is judged, or its first fault; of want of memory nothing is said
-abbrev pub Judges : {A T : Type 0} → (T → A) → Judgement A → Result T TypeFault → Type 0
+abbrev pub Judges : {A T : Type 0} → (T → A) → Judgement A → Result T (Fault RuleCode) → Type 0
 Judges view j (Ok t) = j ≡ Is (view t)
 Judges view j (Err (Refused c at)) = j ≡ Wrong c at
 Judges view j (Err Memory) = Unit {0}

@@ -27,13 +27,24 @@ pub struct Signature {
 }
 
 /// All attributes that are declared, in order.
-#[derive(Drop)]
 pub struct Signatures {
     alloc: Global,
     items: Vec<Signature>,
     names: IndexSet<String>,
     // The first attribute of a class, by its position, and a name, by its position among the names.
     first: IndexMap<(usize, usize), AttrId>,
+}
+
+/// One call, where each exit that lets it go would else have a case for each collection.
+impl Drop for Signatures {
+    fn drop(self) {
+        let Signatures {
+            alloc: _,
+            items: _,
+            names: _,
+            first: _,
+        } = self;
+    }
 }
 
 impl Model for Signatures {

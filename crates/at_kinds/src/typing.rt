@@ -7,7 +7,7 @@ ghost use Rattle.at_jrag.specs.View.{expr_view, fold_view, word_view};
 ghost use Rattle.at_rules.specs.Bodies.{body_view};
 ghost use Rattle.at_kinds.specs.Judging.{Judgement, Listed, and_then, of_kind, kind_if, judged, judged_all, judged_list, list_or, folded as folded_by, within as within_of, body_of as body_meant};
 ghost use Rattle.at_kinds.specs.Typed.{typed_view, all_view, list_view, scope_view, Judges};
-ghost use Rattle.at_kinds.specs.declared.typing.TypeFault.TheVariants.{Memory};
+ghost use Rattle.at_text.specs.declared.fault.Fault.TheVariants.{Refused};
 
 mod calls;
 mod classes;
@@ -22,42 +22,23 @@ use crate::signatures::{Signatures, WrittenKind};
 use at_class::{ClassId, ClassTable};
 use at_jrag::{Expr, FoldForm, Form, Word};
 use at_rules::Body;
+use at_text::fault::Fault;
+use at_text::place::Place;
 use folds::List;
 use kinds::{ExprKind, Typed};
 use names::within;
-use std::alloc::{AllocError, AllocFailed, Global};
+use std::alloc::Global;
 use std::rc::Rc;
 use wholes::no_list;
 
-/// Why an expression means no body.
-#[derive(Drop)]
-pub enum TypeFault {
-    /// The code of its first fault, and the place: of an argument, or of the form at which it is found.
-    Refused { code: RuleCode, at: (u32, u32) },
-    /// Want of memory.
-    Memory,
-}
+/// Why an expression means no body: the code of its first fault and the place, of an argument or of the form
+/// at which it is found; or want of memory.
+pub type TypeFault = Fault<RuleCode>;
 
-impl From<AllocError> for TypeFault {
-    ghost from_gives = { λ _ e. e ≡ Memory };
-
-    fn from(_e: AllocError) -> TypeFault {
-        TypeFault::Memory
-    }
-}
-
-impl<T: Drop> From<AllocFailed<T>> for TypeFault {
-    ghost from_gives = { λ _ e. e ≡ Memory };
-
-    fn from(_e: AllocFailed<T>) -> TypeFault {
-        TypeFault::Memory
-    }
-}
-
-fn refused(code: RuleCode, at: (u32, u32)) -> TypeFault
-    ensures { result ≡ TypeFault.Refused code at }
+fn refused(code: RuleCode, at: Place) -> TypeFault
+    ensures { result ≡ Refused code at }
 {
-    TypeFault::Refused { code, at }
+    Fault::Refused { code, at }
 }
 
 /// A parameter's or a fold's name, with the kind of what it stands for. The scopes within share the name.
@@ -98,7 +79,7 @@ pub fn body_of(scope: &Scope, expr: &Expr, wanted: WrittenKind) -> Result<Body, 
 
 impl Scope<'_> {
     /// The expression of that kind, at that place, which means the body.
-    fn of_kind(&self, kind: ExprKind, body: Body, at: (u32, u32)) -> Result<Typed, TypeFault>
+    fn of_kind(&self, kind: ExprKind, body: Body, at: Place) -> Result<Typed, TypeFault>
         ensures { Judges typed_view (of_kind at kind (body_view body)) result }
     {
         let body = Box::new(self.alloc, body)?;
@@ -111,7 +92,7 @@ impl Scope<'_> {
         right: bool,
         kind: ExprKind,
         body: Body,
-        at: (u32, u32),
+        at: Place,
     ) -> Result<Typed, TypeFault>
         ensures { Judges typed_view (kind_if right at kind (body_view body)) result }
     {
@@ -186,7 +167,7 @@ impl Scope<'_> {
         list: Result<List, TypeFault>,
         form: FoldForm,
         name: &Word,
-        at: (u32, u32),
+        at: Place,
     ) -> Result<Typed, TypeFault>
         ensures { (l : Judgement Listed) → Judges list_view l list → Judges typed_view (and_then (λ l. and_then (folded_by at (fold_view form) l) (judged (within_of (scope_view self.now) (word_view name.now).text l.class) (expr_view body.now))) l) result }
     {
@@ -206,7 +187,7 @@ impl Scope<'_> {
 
     /// The list of the fold that stands at that place.
     #[cycle(typed)]
-    fn list(&self, list: &Expr, fold: (u32, u32)) -> Result<List, TypeFault>
+    fn list(&self, list: &Expr, fold: Place) -> Result<List, TypeFault>
         ensures { Judges list_view (list_or fold (judged (scope_view self.now) (expr_view list.now)) (judged_list (scope_view self.now) fold (expr_view list.now))) result }
     {
         match &list.form {

@@ -3,7 +3,7 @@ use Rattle.std.proofs.Common.{◌≡◌, List, [], ◌∷◌, map, Option, Some,
 use Rattle.std.specs.Option.{option_map}
 use Rattle.std.specs.Global.{Global}
 use Rattle.at_model.specs.Declarations.{Declaration, PartDeclaration}
-use Rattle.at_class.specs.Grammar.{declaration_view, part_declaration_view}
+use Rattle.at_class.specs.Grammar.{declaration_view, part_declaration_view, place_view}
 use Rattle.at_grammar.specs.declared.syntax.ClassDecl.{ClassDecl}
 use Rattle.at_grammar.specs.declared.syntax.PartDecl.{PartDecl}
 use Rattle.at_grammar.specs.Grammar.{Declaration as Written}
@@ -20,7 +20,7 @@ parent_read (Some s) = refl
 
 class_read : (c : ClassDecl) → declaration_view c ≡ class_declared (seen_class c)
 class_read c =
-    ap₂ (λ (o : Option _) (ps : List PartDeclaration). let d : Declaration = record { name = string_bytes c.name; is_abstract = c.is_abstract; parent = o; parts = ps; at = c.at } in d)
+    ap₂ (λ (o : Option _) (ps : List PartDeclaration). let d : Declaration = record { name = string_bytes c.name; is_abstract = c.is_abstract; parent = o; parts = ps; at = place_view c.at } in d)
     (parent_read c.parent) (parts_read c.parts.items)
 
 classes_read : (cs : List ClassDecl) → map declaration_view cs ≡ map class_declared (map seen_class cs)

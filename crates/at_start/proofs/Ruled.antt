@@ -5,6 +5,7 @@ use Rattle.std.specs.Global.{Global}
 use Rattle.std.specs.Result.{IfOk, IfErr}
 use Rattle.at_model.specs.Classes.{Classes}
 use Rattle.at_model.specs.Rules.{Rules}
+use Rattle.at_text.specs.declared.place.Place.{Place}
 use Rattle.at_jrag.specs.Syntax.{Aspect}
 use Rattle.at_typing.specs.Building.{Builds}
 use Rattle.at_typing.specs.Located.{declarations_in, located}
@@ -15,8 +16,8 @@ use Rattle.at_start.specs.declared.code.Code.{Code}
 use Rattle.at_start.specs.Starts.{aspect_bytes}
 use Rattle.at_start.specs.StartFaults.{of_file}
 use Rattle.at_start.specs.declared.files.Source.{Source}
-use Rattle.at_start.specs.declared.fault.FileFault.{FileFault}
-use Rattle.at_start.specs.declared.fault.FileFault.TheVariants as file
+use Rattle.at_text.specs.declared.fault.Fault.{Fault}
+use Rattle.at_text.specs.declared.fault.Fault.TheVariants as fault
 use Rattle.at_start.specs.declared.fault.StartFault.{StartFault}
 use Rattle.at_start.specs.declared.fault.StartFault.TheVariants.{Refused, Memory}
 
@@ -45,9 +46,9 @@ one_more_read sources i x all v within is h k =
     rw (files, read) (hold_more (aspect_bytes (take i sources)) (map aspects_of all) x.bytes.items (aspects_of v) h k)
 
 -- the file at that position is the first that could not be read
-pub unread_at : (sources : List Source) (i : ℕ) (x : Source) (aspects : List (List Aspect)) (f : FileFault) → i < length sources → x ≡ get_or sources i x
+pub unread_at : (sources : List Source) (i : ℕ) (x : Source) (aspects : List (List Aspect)) (f : Fault Code) → i < length sources → x ≡ get_or sources i x
     → AllHold (aspect_bytes (take i sources)) aspects → IsReadingFaultOf x.bytes.items f → IsUnread (aspect_bytes sources) (of_file (i + 1) f)
-unread_at sources i x aspects (file.Refused c (Some at)) within is h k = record {
+unread_at sources i x aspects (fault.Refused c at) within is h k = record {
   front = aspect_bytes (take i sources);
   rest = aspect_bytes (drop (i + 1) sources);
   bytes = x.bytes.items;
@@ -57,8 +58,7 @@ unread_at sources i x aspects (file.Refused c (Some at)) within is h k = record 
   refuses = k;
   number = ap (λ n. n + 1) (sym (length-map (take i sources) (λ (s : Source). s.bytes.items) ∙ length-take-le i sources (omega (arith, within))));
 }
-unread_at sources i x aspects (file.Refused c None) within is h k = k
-unread_at sources i x aspects file.Memory within is h k = tt
+unread_at sources i x aspects fault.Memory within is h k = tt
 
 pub unread_refuses : (classes : Classes) (files : List (List ℕ)) (e : StartFault) → IsUnread files e → IsAspectFault classes files e
 unread_refuses classes files (Refused file c (Some at)) h = no_file file c at h
@@ -73,7 +73,7 @@ given_by classes files read (Err e) h built = built
 
 rule_refuses : (classes : Classes) (files : List (List ℕ)) (aspects : List (List Aspect)) (e : StartFault) → AllHold files aspects → IsRuleFault classes (located 1 aspects) e → IsAspectFault classes files e
 rule_refuses classes files aspects (Refused n c at) h (f, first, of_number, of_code, of_place) =
-    let placed = subst (λ (o : Option (ℕ × ℕ)). IsAspectFault classes files (Refused f.file (rule_code f.code) o)) (sym of_place) (breaks aspects f h first) in
+    let placed = subst (λ (o : Option Place). IsAspectFault classes files (Refused f.file (rule_code f.code) o)) (sym of_place) (breaks aspects f h first) in
     let coded = subst (λ (k : Code). IsAspectFault classes files (Refused f.file k at)) (sym of_code) placed in
     subst (λ (m : ℕ). IsAspectFault classes files (Refused m c at)) (sym of_number) coded
 rule_refuses classes files aspects Memory h says = tt

@@ -5,26 +5,27 @@ use Rattle.at_model.specs.Rules.{Rules}
 use Rattle.at_start.specs.AspectFiles.{GivesRules, IsAspectFault}
 use Rattle.at_start.specs.GrammarFiles.{GivesClasses, IsGrammarFault}
 use Rattle.at_start.specs.TreeFiles.{IsTreeFault}
-use Rattle.at_start.specs.StartFaults.{of_file}
+use Rattle.at_start.specs.StartFaults.{of_file, of_tree}
 use Rattle.at_start.specs.Starts.{aspect_bytes, IsStartFault, by_grammar, by_aspects, by_tree}
 use Rattle.at_start.specs.declared.files.Files.{Files}
-use Rattle.at_start.specs.declared.fault.FileFault.{FileFault}
-use Rattle.at_start.specs.declared.fault.FileFault.TheVariants as file
+use Rattle.at_start.specs.declared.code.Code.{Code}
+use Rattle.at_text.specs.declared.fault.Fault.{Fault}
+use Rattle.at_text.specs.declared.fault.Fault.TheVariants as fault
+use Rattle.at_text.specs.declared.fault.Failure.{Failure}
+use Rattle.at_text.specs.declared.fault.Failure.TheVariants as failure
 use Rattle.at_start.specs.declared.fault.StartFault.{StartFault}
 use Rattle.at_start.specs.declared.fault.StartFault.TheVariants.{Refused, Memory}
 
-pub grammar_refuses : (files : Files) (f : FileFault) → IsGrammarFault files.grammar.bytes.items f → IsStartFault files (of_file 0 f)
-grammar_refuses files (file.Refused c (Some at)) h = by_grammar c at h
-grammar_refuses files (file.Refused c None) h = absurd h
-grammar_refuses files file.Memory h = tt
+pub grammar_refuses : (files : Files) (f : Fault Code) → IsGrammarFault files.grammar.bytes.items f → IsStartFault files (of_file 0 f)
+grammar_refuses files (fault.Refused c at) h = by_grammar c at h
+grammar_refuses files fault.Memory h = tt
 
 pub aspects_refuse : (files : Files) (classes : Classes) (e : StartFault) → GivesClasses files.grammar.bytes.items classes → IsAspectFault classes (aspect_bytes files.aspects.items) e → IsStartFault files e
 aspects_refuse files classes (Refused n c (Some at)) g h = by_aspects classes n c at g h
 aspects_refuse files classes (Refused n c None) g h = absurd h
 aspects_refuse files classes Memory g h = tt
 
-pub tree_refuses : (files : Files) (classes : Classes) (rules : Rules) (f : FileFault) → GivesClasses files.grammar.bytes.items classes → GivesRules classes (aspect_bytes files.aspects.items) rules
-    → IsTreeFault classes files.tree.bytes.items f → IsStartFault files (of_file (length files.aspects.items + 1) f)
-tree_refuses files classes rules (file.Refused c None) g r h = by_tree classes rules c g r h
-tree_refuses files classes rules (file.Refused c (Some at)) g r h = absurd h
-tree_refuses files classes rules file.Memory g r h = tt
+pub tree_refuses : (files : Files) (classes : Classes) (rules : Rules) (f : Failure Code) → GivesClasses files.grammar.bytes.items classes → GivesRules classes (aspect_bytes files.aspects.items) rules
+    → IsTreeFault classes files.tree.bytes.items f → IsStartFault files (of_tree (length files.aspects.items + 1) f)
+tree_refuses files classes rules (failure.For c) g r h = by_tree classes rules c g r h
+tree_refuses files classes rules failure.Memory g r h = tt

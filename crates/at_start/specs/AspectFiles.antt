@@ -3,22 +3,24 @@ use Rattle.std.specs.Prelude.{◌≡◌, ℕ, ◌+◌, suc, false, List, [], ◌
 use Rattle.at_model.specs.Classes.{Classes}
 use Rattle.at_model.specs.Rules.{Rules}
 use Rattle.at_text.specs.Symbols.{PlacedToken, HasTokens}
-use Rattle.at_jrag.specs.Syntax.{Aspect, Place}
+use Rattle.at_text.specs.declared.place.Place.{Place}
+use Rattle.at_text.specs.Place.{first_place}
+use Rattle.at_jrag.specs.Syntax.{Aspect}
 use Rattle.at_jrag.specs.Grammar.{File, IsWithin}
 use Rattle.at_jrag.specs.Faults.{IsFault}
-use Rattle.at_jrag.specs.declared.JragFault.{JragFault}
-use Rattle.at_jrag.specs.declared.JragFault.TheVariants as jrag
+use Rattle.at_jrag.specs.declared.JragCode.{JragCode}
+use Rattle.at_jrag.specs.declared.JragCode.TheVariants as jrag
 use Rattle.at_start.specs.Files.{IsText, IsNoText}
 use Rattle.at_typing.specs.Building.{Builds}
 use Rattle.at_typing.specs.Located.{Located, located}
-use Rattle.at_typing.specs.declared.fault.Fault.{Fault}
+use Rattle.at_typing.specs.declared.fault.Breach.{Breach}
 use Rattle.at_kinds.specs.declared.code.RuleCode.{RuleCode}
 use Rattle.at_kinds.specs.declared.code.RuleCode.TheVariants as rule
-use Rattle.at_typing.specs.declared.fault.RuleFault.TheVariants.{Refused as Broken}
+use Rattle.at_text.specs.declared.fault.Failure.TheVariants.{For}
 use Rattle.at_start.specs.declared.code.Code.{Code}
 use Rattle.at_start.specs.declared.code.Code.TheVariants as code
-use Rattle.at_start.specs.declared.fault.FileFault.{FileFault}
-use Rattle.at_start.specs.declared.fault.FileFault.TheVariants as fault
+use Rattle.at_text.specs.declared.fault.Fault.{Fault}
+use Rattle.at_text.specs.declared.fault.Fault.TheVariants as fault
 use Rattle.at_start.specs.declared.fault.StartFault.{StartFault}
 use Rattle.at_start.specs.declared.fault.StartFault.TheVariants as start
 
@@ -37,22 +39,19 @@ AllHold [] (a ∷ as') = ⊥
 AllHold (f ∷ fs) [] = ⊥
 AllHold (f ∷ fs) (a ∷ as') = Holds f a × AllHold fs as'
 
--- the code and the place of a text that is no aspect file
-abbrev pub IsReadingFault : JragFault → Code → Place → Type 0
-IsReadingFault (jrag.Syntax p) c at = (c ≡ code.AspectSyntax) × (at ≡ p)
-IsReadingFault (jrag.LeftOut p) c at = (c ≡ code.AspectFormLeftOut) × (at ≡ p)
-IsReadingFault (jrag.Nesting p) c at = (c ≡ code.AspectLimit) × (at ≡ p)
-IsReadingFault jrag.Memory c at = ⊥
+abbrev pub jrag_code : JragCode → Code
+jrag_code jrag.Syntax = code.AspectSyntax
+jrag_code jrag.LeftOut = code.AspectFormLeftOut
+jrag_code jrag.Nesting = code.AspectLimit
 
 -- the file is refused by the code at the place: it is no text, or this is the fault of its text
 pub data RefusesReading (bytes : List ℕ) : Code → Place → Type 0 where
-  no_text : (c : Code) → IsNoText bytes code.AspectLimit code.AspectSyntax c → RefusesReading bytes c (1, 1)
-  no_aspects : (e : JragFault) (c : Code) (at : Place) → IsText bytes → IsFault bytes e → IsReadingFault e c at → RefusesReading bytes c at
+  no_text : (c : Code) → IsNoText bytes code.AspectLimit code.AspectSyntax c → RefusesReading bytes c first_place
+  no_aspects : (c : JragCode) (at : Place) → IsText bytes → IsFault bytes (fault.Refused c at) → RefusesReading bytes (jrag_code c) at
 
 -- the fault is one by which the file is refused; of want of memory nothing is said
-abbrev pub IsReadingFaultOf : List ℕ → FileFault → Type 0
-IsReadingFaultOf bytes (fault.Refused c (Some at)) = RefusesReading bytes c at
-IsReadingFaultOf bytes (fault.Refused c None) = ⊥
+abbrev pub IsReadingFaultOf : List ℕ → Fault Code → Type 0
+IsReadingFaultOf bytes (fault.Refused c at) = RefusesReading bytes c at
 IsReadingFaultOf bytes fault.Memory = Unit {0}
 
 -- The fault is that of the first file that can't be read, by its number from 1; of want of memory nothing is said.
@@ -94,7 +93,7 @@ rule_code rule.EquationWithoutAttribute = code.EquationWithoutAttribute
 -- and it is the first fault of their declarations.
 pub data RefusesAspects (classes : Classes) (files : List (List ℕ)) : (file : ℕ) → Code → Place → Type 0 where
   no_file : (file : ℕ) (c : Code) (at : Place) → IsUnreadAt files file c at → RefusesAspects classes files file c at
-  breaks : (aspects : List (List Aspect)) (f : Fault) → AllHold files aspects → Builds classes (located 1 aspects) (Err (Broken f))
+  breaks : (aspects : List (List Aspect)) (f : Breach) → AllHold files aspects → Builds classes (located 1 aspects) (Err (For f))
       → RefusesAspects classes files f.file (rule_code f.code) f.at
 
 -- the fault is one by which the files are refused; of want of memory nothing is said
@@ -105,5 +104,5 @@ IsAspectFault classes files start.Memory = Unit {0}
 
 -- the fault is the first of the declarations, in the file of its number and at its place; of want of memory nothing is said
 abbrev pub IsRuleFault : Classes → List Located → StartFault → Type 0
-IsRuleFault classes ds (start.Refused file c at) = (f : Fault) × Builds classes ds (Err (Broken f)) × (file ≡ f.file) × (c ≡ rule_code f.code) × (at ≡ Some f.at)
+IsRuleFault classes ds (start.Refused file c at) = (f : Breach) × Builds classes ds (Err (For f)) × (file ≡ f.file) × (c ≡ rule_code f.code) × (at ≡ Some f.at)
 IsRuleFault classes ds start.Memory = Unit {0}

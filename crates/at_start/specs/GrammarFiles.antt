@@ -1,28 +1,30 @@
 -- Which classes a grammar file gives, and by which fault it is refused.
 use Rattle.std.specs.Prelude.{◌≡◌, ℕ, List, map, Some, None}
 use Rattle.at_model.specs.Classes.{Classes}
-use Rattle.at_model.specs.Declarations.{Declarations, Declaration, PartDeclaration, Place, classes_of, first_fault}
+use Rattle.at_model.specs.Declarations.{Declarations, Declaration, PartDeclaration, classes_of, first_fault}
+use Rattle.at_text.specs.declared.place.Place.{Place}
 use Rattle.at_text.specs.Symbols.{PlacedToken, HasTokens}
+use Rattle.at_text.specs.Place.{first_place}
 use Rattle.at_grammar.specs.Grammar as written
 use Rattle.at_grammar.specs.Meaning.{Component, Class, class_means}
 use Rattle.at_grammar.specs.Faults.{Spells, IsFault}
-use Rattle.at_grammar.specs.declared.AstFault.{AstFault}
-use Rattle.at_grammar.specs.declared.AstFault.TheVariants as ast
-use Rattle.at_class.specs.Grammar.{form_view}
+use Rattle.at_grammar.specs.declared.AstCode.{AstCode}
+use Rattle.at_grammar.specs.declared.AstCode.TheVariants as ast
+use Rattle.at_class.specs.Grammar.{form_view, place_view}
 use Rattle.at_class.specs.Faults.{code_view}
 use Rattle.at_class.specs.declared.fault.ClassCode.{ClassCode}
 use Rattle.at_class.specs.declared.fault.ClassCode.TheVariants as class
 use Rattle.at_start.specs.Files.{IsText, IsNoText}
 use Rattle.at_start.specs.declared.code.Code.{Code}
 use Rattle.at_start.specs.declared.code.Code.TheVariants as code
-use Rattle.at_start.specs.declared.fault.FileFault.{FileFault}
-use Rattle.at_start.specs.declared.fault.FileFault.TheVariants as fault
+use Rattle.at_text.specs.declared.fault.Fault.{Fault}
+use Rattle.at_text.specs.declared.fault.Fault.TheVariants as fault
 
 abbrev pub part_declared : Component → PartDeclaration
-part_declared p = record { name = p.name; kind = p.kind; form = form_view p.shape; at = p.at }
+part_declared p = record { name = p.name; kind = p.kind; form = form_view p.shape; at = place_view p.at }
 
 abbrev pub class_declared : Class → Declaration
-class_declared c = record { name = c.name; is_abstract = c.is_abstract; parent = c.parent; parts = map part_declared c.parts; at = c.at }
+class_declared c = record { name = c.name; is_abstract = c.is_abstract; parent = c.parent; parts = map part_declared c.parts; at = place_view c.at }
 
 -- what a grammar as written declares
 abbrev pub declared : List written.Declaration → Declarations
@@ -53,21 +55,18 @@ class_code class.TokenKind = code.TokenKind
 class_code class.Limit = code.GrammarLimit
 class_code class.NoClass = code.NoClass
 
--- the code and the place of a text that is no grammar
-abbrev pub IsReadingFault : AstFault → Code → Place → Type 0
-IsReadingFault (ast.Syntax p) c at = (c ≡ code.GrammarSyntax) × (at ≡ p)
-IsReadingFault (ast.LeftOut p) c at = (c ≡ code.GrammarFormLeftOut) × (at ≡ p)
-IsReadingFault ast.Memory c at = ⊥
+abbrev pub ast_code : AstCode → Code
+ast_code ast.Syntax = code.GrammarSyntax
+ast_code ast.LeftOut = code.GrammarFormLeftOut
 
 -- The file is refused by the code at the place: it is no text; its text is no grammar; the first rule that its classes break.
 pub data RefusesGrammar (bytes : List ℕ) : Code → Place → Type 0 where
-  no_text : (c : Code) → IsNoText bytes code.GrammarLimit code.GrammarSyntax c → RefusesGrammar bytes c (1, 1)
-  no_grammar : (e : AstFault) (c : Code) (at : Place) → IsText bytes → IsFault bytes e → IsReadingFault e c at → RefusesGrammar bytes c at
+  no_text : (c : Code) → IsNoText bytes code.GrammarLimit code.GrammarSyntax c → RefusesGrammar bytes c first_place
+  no_grammar : (c : AstCode) (at : Place) → IsText bytes → IsFault bytes (fault.Refused c at) → RefusesGrammar bytes (ast_code c) at
   breaks : (ds : Declarations) (c : ClassCode) (at : Place) → IsText bytes → Declares bytes ds
-      → first_fault ds ≡ Some (record { code = code_view c; at = at }) → RefusesGrammar bytes (class_code c) at
+      → first_fault ds ≡ Some (record { code = code_view c; at = place_view at }) → RefusesGrammar bytes (class_code c) at
 
 -- the fault is one by which the file is refused; of want of memory nothing is said
-abbrev pub IsGrammarFault : List ℕ → FileFault → Type 0
-IsGrammarFault bytes (fault.Refused c (Some at)) = RefusesGrammar bytes c at
-IsGrammarFault bytes (fault.Refused c None) = ⊥
+abbrev pub IsGrammarFault : List ℕ → Fault Code → Type 0
+IsGrammarFault bytes (fault.Refused c at) = RefusesGrammar bytes c at
 IsGrammarFault bytes fault.Memory = Unit {0}

@@ -4,6 +4,7 @@ use Rattle.at_model.specs.Classes.{Classes}
 use Rattle.at_model.specs.Trees.{Tree}
 use Rattle.at_model.specs.Rules.{Rules}
 use Rattle.at_model.specs.Machine.{State}
+use Rattle.at_text.specs.declared.place.Place.{Place}
 use Rattle.at_cache.specs.Recorded.{kept_in}
 use Rattle.at_cache.specs.declared.keep_recorded.KeepRecorded.{KeepRecorded}
 use Rattle.at_engine.specs.Engines.{IsSound}
@@ -39,9 +40,9 @@ pub record Starts (files : Files) (rules : Rules) (state : State) : Type 0 where
   pub state_is : state ≡ opening opened
 
 -- The file of that number is the first that is refused, by the code and at the place; a tree file's fault has none.
-pub data Refuses (files : Files) : (file : ℕ) → Code → Option (ℕ × ℕ) → Type 0 where
-  by_grammar : (c : Code) (at : ℕ × ℕ) → RefusesGrammar files.grammar.bytes.items c at → Refuses files 0 c (Some at)
-  by_aspects : (classes : Classes) (file : ℕ) (c : Code) (at : ℕ × ℕ) → GivesClasses files.grammar.bytes.items classes
+pub data Refuses (files : Files) : (file : ℕ) → Code → Option Place → Type 0 where
+  by_grammar : (c : Code) (at : Place) → RefusesGrammar files.grammar.bytes.items c at → Refuses files 0 c (Some at)
+  by_aspects : (classes : Classes) (file : ℕ) (c : Code) (at : Place) → GivesClasses files.grammar.bytes.items classes
       → RefusesAspects classes (aspect_bytes files.aspects.items) file c at → Refuses files file c (Some at)
   by_tree : (classes : Classes) (rules : Rules) (c : Code) → GivesClasses files.grammar.bytes.items classes → GivesRules classes (aspect_bytes files.aspects.items) rules
       → RefusesTree classes files.tree.bytes.items c → Refuses files (length files.aspects.items + 1) c None

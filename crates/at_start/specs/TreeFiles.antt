@@ -1,5 +1,5 @@
 -- Which tree a tree file gives, and by which fault it is refused.
-use Rattle.std.specs.Prelude.{◌≡◌, ◌≢◌, ◌⊎◌, ℕ, true, false, List, [], ◌∷◌, ◌++◌, Some, None}
+use Rattle.std.specs.Prelude.{◌≡◌, ◌≢◌, ◌⊎◌, ℕ, true, false, List, [], ◌∷◌, ◌++◌}
 use Rattle.at_model.specs.Classes.{Classes}
 use Rattle.at_model.specs.Trees.{Tree, conforms}
 use Rattle.at_model.specs.Terms.{Term, IsTerm, term_text, term_of}
@@ -9,8 +9,8 @@ use Rattle.at_tree.specs.Shape.{IsShaped}
 use Rattle.at_start.specs.Files.{IsText, IsNoText}
 use Rattle.at_start.specs.declared.code.Code.{Code}
 use Rattle.at_start.specs.declared.code.Code.TheVariants as code
-use Rattle.at_start.specs.declared.fault.FileFault.{FileFault}
-use Rattle.at_start.specs.declared.fault.FileFault.TheVariants as fault
+use Rattle.at_text.specs.declared.fault.Failure.{Failure}
+use Rattle.at_text.specs.declared.fault.Failure.TheVariants as failure
 
 -- the file is the term's text, and at most one newline after it
 abbrev pub IsTermFile : List ℕ → Term → Type 0
@@ -37,7 +37,6 @@ pub data RefusesTree (classes : Classes) (bytes : List ℕ) : Code → Type 0 wh
   no_room : (u : Tree) → IsText bytes → IsTermFile bytes (term_of classes u) → conforms classes u 0 ≡ true → is_within_limits u ≡ false → RefusesTree classes bytes code.TreeLimit
 
 -- the fault is one by which the file is refused; of want of memory nothing is said
-abbrev pub IsTreeFault : Classes → List ℕ → FileFault → Type 0
-IsTreeFault classes bytes (fault.Refused c None) = RefusesTree classes bytes c
-IsTreeFault classes bytes (fault.Refused c (Some at)) = ⊥
-IsTreeFault classes bytes fault.Memory = Unit {0}
+abbrev pub IsTreeFault : Classes → List ℕ → Failure Code → Type 0
+IsTreeFault classes bytes (failure.For c) = RefusesTree classes bytes c
+IsTreeFault classes bytes failure.Memory = Unit {0}

@@ -5,18 +5,18 @@ ghost use Rattle.at_jrag.specs.View.{aspect_view};
 ghost use Rattle.at_model.specs.WellFormed.{AreWellFormed, IsHierarchy};
 ghost use Rattle.at_typing.specs.Building.{Builds};
 ghost use Rattle.at_typing.specs.Located.{declarations_in};
-ghost use Rattle.at_start.specs.AspectFiles.{Holds, AllHold, GivesRules, IsReadingFaultOf, IsAspectFault, IsUnread, IsRuleFault, rule_code};
+ghost use Rattle.at_start.specs.AspectFiles.{Holds, AllHold, GivesRules, IsReadingFaultOf, IsAspectFault, IsUnread, IsRuleFault, jrag_code, rule_code};
 ghost use Rattle.at_start.specs.Starts.{aspect_bytes};
-ghost use Rattle.at_start.specs.declared.fault.FileFault.TheVariants.{Refused};
 
-use super::fault::{FileFault, StartFault, of_file};
+use super::fault::{StartFault, of_file};
 use super::files::{Source, text_of};
 use crate::code::Code;
 use at_class::ClassTable;
-use at_jrag::{Aspect, JragFault, parse_jrag};
+use at_jrag::{Aspect, JragCode, parse_jrag};
 use at_kinds::RuleCode;
 use at_rules::Rules;
-use at_typing::RuleFault;
+use at_text::fault::{Failure, Fault};
+use at_text::place::Place;
 use std::alloc::Global;
 
 /// The rules of the aspect files over the classes.
@@ -50,27 +50,37 @@ fn read_all(alloc: Global, aspects: &[Source]) -> Result<Vec<Vec<Aspect>>, Start
 }
 
 /// The aspects of a file.
-fn read(alloc: Global, bytes: &[u8]) -> Result<Vec<Aspect>, FileFault>
+fn read(alloc: Global, bytes: &[u8]) -> Result<Vec<Aspect>, Fault<Code>>
     ensures hold { IfOk result (λ v. Holds bytes.now (map aspect_view v.items)) }
     ensures refused { IfErr result (IsReadingFaultOf bytes.now) }
 {
     let text = match text_of(bytes, Code::AspectLimit, Code::AspectSyntax) {
         Ok(text) => text,
-        Err(code) => return Err(refused(code, (1, 1))),
+        Err(code) => {
+            return Err(Fault::Refused {
+                code,
+                at: Place::START,
+            });
+        }
     };
     match parse_jrag(alloc, text) {
         Ok(aspects) => Ok(aspects),
-        Err(JragFault::Syntax { at }) => Err(refused(Code::AspectSyntax, at)),
-        Err(JragFault::LeftOut { at }) => Err(refused(Code::AspectFormLeftOut, at)),
-        Err(JragFault::Nesting { at }) => Err(refused(Code::AspectLimit, at)),
-        Err(JragFault::Memory) => Err(FileFault::Memory),
+        Err(Fault::Refused { code, at }) => Err(Fault::Refused {
+            code: jrag_code(code),
+            at,
+        }),
+        Err(Fault::Memory) => Err(Fault::Memory),
     }
 }
 
-fn refused(code: Code, at: (u32, u32)) -> FileFault
-    ensures { result ≡ Refused code (Some at) }
+fn jrag_code(code: JragCode) -> Code
+    ensures { result ≡ jrag_code code }
 {
-    FileFault::Refused { code, at: Some(at) }
+    match code {
+        JragCode::Syntax => Code::AspectSyntax,
+        JragCode::LeftOut => Code::AspectFormLeftOut,
+        JragCode::Nesting => Code::AspectLimit,
+    }
 }
 
 fn build(alloc: Global, classes: ClassTable, aspects: &[Vec<Aspect>]) -> Result<Rules, StartFault>
@@ -80,14 +90,12 @@ fn build(alloc: Global, classes: ClassTable, aspects: &[Vec<Aspect>]) -> Result<
 {
     match at_typing::build(alloc, classes, aspects) {
         Ok(rules) => Ok(rules),
-        Err(RuleFault::Refused(fault)) => Err(of_file(
-            fault.file,
-            FileFault::Refused {
-                code: rule_code(fault.code),
-                at: Some(fault.at),
-            },
-        )),
-        Err(RuleFault::Memory) => Err(StartFault::Memory),
+        Err(Failure::For(breach)) => Err(StartFault::Refused {
+            file: breach.file,
+            code: rule_code(breach.code),
+            at: Some(breach.at),
+        }),
+        Err(Failure::Memory) => Err(StartFault::Memory),
     }
 }
 

@@ -2,10 +2,12 @@
 
 ghost use Rattle.std.specs.Prelude.{◌≡◌, ◌++◌, Some, take, length, string_bytes, OnOk, OnErr};
 ghost use Rattle.at_start.specs.declared.fault.StartFault.TheVariants.{Memory};
-ghost use Rattle.at_start.specs.StartFaults.{fault_text, place_text, file_name, of_file};
+ghost use Rattle.at_start.specs.StartFaults.{fault_text, place_text, file_name, of_file, of_tree};
 
 use super::files::{Files, Source};
 use crate::code::Code;
+use at_text::fault::{Failure, Fault};
+use at_text::place::Place;
 use itoa::Buffer;
 use std::alloc::{AllocError, AllocFailed};
 
@@ -17,28 +19,37 @@ pub enum StartFault {
     Refused {
         file: usize,
         code: Code,
-        at: Option<(u32, u32)>,
+        at: Option<Place>,
     },
     /// Want of memory.
     Memory,
 }
 
-/// Why a file is refused.
-#[derive(Debug, Drop)]
-pub enum FileFault {
-    /// The code, and but for a tree file the line and the column, both from 1.
-    Refused { code: Code, at: Option<(u32, u32)> },
-    /// Want of memory.
-    Memory,
-}
-
-/// The fault of the file of that number.
-pub fn of_file(file: usize, fault: FileFault) -> StartFault
+/// The fault of the grammar or of an aspect file, by its number.
+pub fn of_file(file: usize, fault: Fault<Code>) -> StartFault
     ensures { result ≡ of_file file fault }
 {
     match fault {
-        FileFault::Refused { code, at } => StartFault::Refused { file, code, at },
-        FileFault::Memory => StartFault::Memory,
+        Fault::Refused { code, at } => StartFault::Refused {
+            file,
+            code,
+            at: Some(at),
+        },
+        Fault::Memory => StartFault::Memory,
+    }
+}
+
+/// The fault of the tree file, by its number.
+pub fn of_tree(file: usize, fault: Failure<Code>) -> StartFault
+    ensures { result ≡ of_tree file fault }
+{
+    match fault {
+        Failure::For(code) => StartFault::Refused {
+            file,
+            code,
+            at: None,
+        },
+        Failure::Memory => StartFault::Memory,
     }
 }
 
@@ -102,7 +113,7 @@ fn append_fault(files: &Files, fault: &StartFault, out: &mut Vec<u8>) -> Result<
 }
 
 /// Appends ` at LINE:COLUMN`. Where memory is wanting the output stays as it was.
-fn append_place(at: (u32, u32), out: &mut Vec<u8>) -> Result<(), AllocError>
+fn append_place(at: Place, out: &mut Vec<u8>) -> Result<(), AllocError>
     ensures ok { OnOk result (out.new.items ≡ out.old.items ++ place_text (Some at)) }
     ensures err { OnErr result (out.new.items ≡ out.old.items) }
 {
@@ -115,11 +126,11 @@ fn append_place(at: (u32, u32), out: &mut Vec<u8>) -> Result<(), AllocError>
 }
 
 /// Appends ` at LINE:COLUMN`, or a front of it where memory is wanting.
-fn append_numbers(at: (u32, u32), out: &mut Vec<u8>) -> Result<(), AllocError>
+fn append_numbers(at: Place, out: &mut Vec<u8>) -> Result<(), AllocError>
     ensures ok { OnOk result (out.new.items ≡ out.old.items ++ place_text (Some at)) }
     ensures err { OnErr result (take (length out.old.items) out.new.items ≡ out.old.items) }
 {
-    let (line, column) = at;
+    let Place { line, column } = at;
     out.extend_from_slice(b" at ")?;
     out.extend_from_slice(Buffer::new().format(line).as_bytes())?;
     out.extend_from_slice(b":")?;

@@ -4,14 +4,14 @@ ghost use Rattle.std.specs.Prelude.{◌≡◌, Some, IfOk, IfErr};
 ghost use Rattle.at_model.specs.Declarations.{AreNamed};
 ghost use Rattle.at_class.specs.Grammar.{grammar_view};
 ghost use Rattle.at_start.specs.Files.{IsText};
-ghost use Rattle.at_start.specs.GrammarFiles.{GivesClasses, Declares, IsGrammarFault, class_code};
-ghost use Rattle.at_start.specs.declared.fault.FileFault.TheVariants.{Refused};
+ghost use Rattle.at_start.specs.GrammarFiles.{GivesClasses, Declares, IsGrammarFault, ast_code, class_code};
 
-use super::fault::FileFault;
 use super::files::text_of;
 use crate::code::Code;
-use at_class::{ClassCode, ClassFault, ClassTable};
-use at_grammar::{AstFault, Grammar, parse_ast};
+use at_class::{ClassCode, ClassTable};
+use at_grammar::{AstCode, Grammar, parse_ast};
+use at_text::fault::Fault;
+use at_text::place::Place;
 use std::alloc::Global;
 
 /// The classes of a grammar file.
@@ -20,29 +20,31 @@ use std::alloc::Global;
 ///
 /// The code and the place of the first fault: a file that is too long or no UTF-8, a text that is no
 /// grammar, the first rule that is broken. `Memory` for want of memory.
-pub fn classes_of(alloc: Global, bytes: &[u8]) -> Result<ClassTable, FileFault>
+pub fn classes_of(alloc: Global, bytes: &[u8]) -> Result<ClassTable, Fault<Code>>
     ensures given { IfOk result (GivesClasses bytes.now) }
     ensures refused { IfErr result (IsGrammarFault bytes.now) }
 {
     let text = match text_of(bytes, Code::GrammarLimit, Code::GrammarSyntax) {
         Ok(text) => text,
-        Err(code) => return Err(refused(code, (1, 1))),
+        Err(code) => {
+            return Err(Fault::Refused {
+                code,
+                at: Place::START,
+            });
+        }
     };
     let grammar = parse(alloc, text)?;
     match ClassTable::build(alloc, &grammar) {
         Ok(classes) => Ok(classes),
-        Err(ClassFault::Refused { code, at }) => Err(refused(class_code(code), at)),
-        Err(ClassFault::Memory) => Err(FileFault::Memory),
+        Err(Fault::Refused { code, at }) => Err(Fault::Refused {
+            code: class_code(code),
+            at,
+        }),
+        Err(Fault::Memory) => Err(Fault::Memory),
     }
 }
 
-fn refused(code: Code, at: (u32, u32)) -> FileFault
-    ensures { result ≡ Refused code (Some at) }
-{
-    FileFault::Refused { code, at: Some(at) }
-}
-
-fn parse(alloc: Global, text: &str) -> Result<Grammar, FileFault>
+fn parse(alloc: Global, text: &str) -> Result<Grammar, Fault<Code>>
     requires { IsText text.now }
     ensures named { IfOk result (λ g. AreNamed (grammar_view g)) }
     ensures declares { IfOk result (λ g. Declares text.now (grammar_view g)) }
@@ -50,9 +52,20 @@ fn parse(alloc: Global, text: &str) -> Result<Grammar, FileFault>
 {
     match parse_ast(alloc, text) {
         Ok(grammar) => Ok(grammar),
-        Err(AstFault::Syntax { at }) => Err(refused(Code::GrammarSyntax, at)),
-        Err(AstFault::LeftOut { at }) => Err(refused(Code::GrammarFormLeftOut, at)),
-        Err(AstFault::Memory) => Err(FileFault::Memory),
+        Err(Fault::Refused { code, at }) => Err(Fault::Refused {
+            code: ast_code(code),
+            at,
+        }),
+        Err(Fault::Memory) => Err(Fault::Memory),
+    }
+}
+
+fn ast_code(code: AstCode) -> Code
+    ensures { result ≡ ast_code code }
+{
+    match code {
+        AstCode::Syntax => Code::GrammarSyntax,
+        AstCode::LeftOut => Code::GrammarFormLeftOut,
     }
 }
 

@@ -19,13 +19,14 @@ use aspects::rules_of;
 use at_cache::{KeepRecorded, Keeper};
 use at_engine::Engine;
 use at_store::LoadFault;
+use at_text::fault::Failure;
 pub use code::Code;
-use fault::of_file;
+use fault::{of_file, of_tree};
 pub use fault::{StartFault, write_fault};
 pub use files::{Files, MAX_FILE, Source};
 use grammar::classes_of;
 use std::alloc::Global;
-use tree::{refused, tree_of};
+use tree::tree_of;
 
 /// The engine that the files make: they are looked at in the order grammar, aspects, tree.
 ///
@@ -69,12 +70,12 @@ pub fn start_with<K: Keeper>(
     let file = files.aspects.len() + 1;
     let tree = match tree_of(alloc, rules.classes(), &files.tree.bytes) {
         Ok(tree) => tree,
-        Err(fault) => return Err(of_file(file, fault)),
+        Err(fault) => return Err(of_tree(file, fault)),
     };
     match Engine::new(alloc, rules, tree, keeper) {
         Ok(engine) => Ok(engine),
-        Err(LoadFault::Fit) => Err(of_file(file, refused(Code::TreeFit))),
-        Err(LoadFault::Limit) => Err(of_file(file, refused(Code::TreeLimit))),
+        Err(LoadFault::Fit) => Err(of_tree(file, Failure::For(Code::TreeFit))),
+        Err(LoadFault::Limit) => Err(of_tree(file, Failure::For(Code::TreeLimit))),
         Err(LoadFault::Memory) => Err(StartFault::Memory),
     }
 }

@@ -1,17 +1,16 @@
 //! The tree of a tree file.
 
-ghost use Rattle.std.specs.Prelude.{◌≡◌, true, None, IfOk, IfErr};
+ghost use Rattle.std.specs.Prelude.{◌≡◌, true, IfOk, IfErr};
 ghost use Rattle.at_model.specs.Terms.{term_of};
 ghost use Rattle.at_model.specs.Trees.{conforms};
 ghost use Rattle.at_tree.specs.TreeView.{tree_view};
 ghost use Rattle.at_start.specs.Files.{IsText};
-ghost use Rattle.at_start.specs.declared.fault.FileFault.TheVariants.{Refused};
 ghost use Rattle.at_start.specs.TreeFiles.{IsTermFile, IsTreeFault, IsWithoutNewline};
 
-use super::fault::FileFault;
 use super::files::text_of;
 use crate::code::Code;
 use at_class::ClassTable;
+use at_text::fault::Failure;
 use at_tree::tree::{ReadFault, Tree, read_tree};
 use std::alloc::Global;
 
@@ -21,7 +20,7 @@ use std::alloc::Global;
 ///
 /// The code of the first fault: a file that is too long or no UTF-8, a text that is no term, a name that
 /// is not that of a concrete class, a term that fits no tree. `Memory` for want of memory.
-pub fn tree_of(alloc: Global, classes: &ClassTable, bytes: &[u8]) -> Result<Tree, FileFault>
+pub fn tree_of(alloc: Global, classes: &ClassTable, bytes: &[u8]) -> Result<Tree, Failure<Code>>
     ensures text { IfOk result (λ t. IsText bytes.now) }
     ensures written { IfOk result (λ t. IsTermFile bytes.now (term_of classes.now (tree_view t))) }
     ensures whole { IfOk result (λ t. conforms classes.now (tree_view t) 0 ≡ true) }
@@ -29,22 +28,15 @@ pub fn tree_of(alloc: Global, classes: &ClassTable, bytes: &[u8]) -> Result<Tree
 {
     let text = match text_of(bytes, Code::TreeLimit, Code::TreeSyntax) {
         Ok(text) => text,
-        Err(code) => return Err(refused(code)),
+        Err(code) => return Err(Failure::For(code)),
     };
     match read_tree(alloc, classes, without_newline(text), classes.start()) {
         Ok(tree) => Ok(tree),
-        Err(ReadFault::Syntax { at: _ }) => Err(refused(Code::TreeSyntax)),
-        Err(ReadFault::Class) => Err(refused(Code::TreeClass)),
-        Err(ReadFault::Fit) => Err(refused(Code::TreeFit)),
-        Err(ReadFault::Memory) => Err(FileFault::Memory),
+        Err(ReadFault::Syntax { at: _ }) => Err(Failure::For(Code::TreeSyntax)),
+        Err(ReadFault::Class) => Err(Failure::For(Code::TreeClass)),
+        Err(ReadFault::Fit) => Err(Failure::For(Code::TreeFit)),
+        Err(ReadFault::Memory) => Err(Failure::Memory),
     }
-}
-
-/// The fault of a tree file, which has no place.
-pub fn refused(code: Code) -> FileFault
-    ensures { result ≡ Refused code None }
-{
-    FileFault::Refused { code, at: None }
 }
 
 /// The text without the newline at its end, where one stands there.

@@ -1,4 +1,3 @@
-pub mod Places
 pub mod Spelling
 pub mod Characters
 pub mod Reading
@@ -16,3 +15,4 @@ pub mod Signs
 pub mod Found
 pub mod Scanned
 pub mod Decimals
+pub mod Rows

@@ -5,6 +5,7 @@ use Rattle.at_model.specs.Names.{is_name}
 use Rattle.at_text.specs.declared.token.TokenKind.{TokenKind}
 use Rattle.at_text.specs.declared.token.TokenKind.TheVariants as kind
 use Rattle.at_text.specs.declared.placed.Placed.{Placed}
+use Rattle.at_text.specs.declared.place.Place.{Place}
 use Rattle.at_text.specs.Place.{place_of}
 use Rattle.at_text.specs.Pieces.{Piece, Cut, Spelled, spelled_at}
 
@@ -12,7 +13,7 @@ use Rattle.at_text.specs.Pieces.{Piece, Cut, Spelled, spelled_at}
 pub record PlacedToken : Type 0 where
   pub kind : TokenKind
   pub text : List ℕ
-  pub at : ℕ × ℕ
+  pub at : Place
 
 -- a token of a text
 abbrev pub placed_in : List ℕ → Spelled → PlacedToken
@@ -27,7 +28,7 @@ abbrev pub HasTokens : List ℕ → List PlacedToken → Type 0
 HasTokens text tokens = (ps : List Piece) × Cut text ps [] × (tokens ≡ map (placed_in text) (spelled_at 0 ps))
 
 -- the place of the first token, or of the end of the text
-abbrev pub next_place : List ℕ → List PlacedToken → ℕ × ℕ
+abbrev pub next_place : List ℕ → List PlacedToken → Place
 next_place text [] = place_of text (length text)
 next_place text (t ∷ ts) = t.at
 
@@ -37,9 +38,9 @@ next_place text (t ∷ ts) = t.at
 pub record Symbol : Type 0 where
   pub kind : TokenKind
   pub text : List ℕ
-  pub at : Option (ℕ × ℕ)
+  pub at : Option Place
 
-abbrev pub word : List ℕ → ℕ × ℕ → Symbol
+abbrev pub word : List ℕ → Place → Symbol
 word text at = record { kind = kind.Word; text = text; at = Some at }
 
 abbrev pub sign : List ℕ → Symbol
@@ -49,7 +50,7 @@ sign text = record { kind = kind.Sign; text = text; at = None }
 abbrev pub Keeping : Type 0
 Keeping = TokenKind → List ℕ → Bool
 
-abbrev pub kept : Bool → ℕ × ℕ → Option (ℕ × ℕ)
+abbrev pub kept : Bool → Place → Option Place
 kept true at = Some at
 kept false at = None
 

@@ -1,7 +1,9 @@
 //! Tokens, names, quoted texts, decimals and places: the base of every reader.
 #![tactic(auto)]
 
+pub mod cursor;
 pub mod decimal;
+pub mod fault;
 pub mod names;
 pub mod place;
 pub mod placed;

@@ -1,23 +1,51 @@
 //! Lines and columns.
-ghost use Rattle.std.specs.Prelude.{◌≡◌};
+ghost use Rattle.std.specs.Prelude.{◌≡◌, ◌++◌, ◌∷◌, [], ℕ, List, chars};
 ghost use Rattle.std.specs.Str.{IsCharBoundary};
-ghost use Rattle.at_text.specs.Place.{place_of};
+ghost use Rattle.at_text.specs.Place.{place_after, place_of};
 
-/// The line and the column of an offset in bytes, both from 1: a line ends at its newline, and a
-/// column is a character. Each stays at the greatest `u32`.
-pub fn place(text: &str, offset: usize) -> (u32, u32)
-    requires { IsCharBoundary text.now offset }
-    ensures { result ≡ place_of text.now offset }
-{
-    let mut line = 1u32;
-    let mut column = 1u32;
-    for c in text[..offset].chars() {
+/// A line and a column, both from 1: a line ends at its newline, and a column is a character.
+#[derive(Clone, Copy, PartialEq, Eq, Debug)]
+pub struct Place {
+    pub line: u32,
+    pub column: u32,
+}
+
+impl Place {
+    /// The place where each text begins.
+    pub const START: Place = Place { line: 1, column: 1 };
+
+    /// The place of an offset in bytes.
+    pub fn of(text: &str, offset: usize) -> Place
+        requires { IsCharBoundary text.now offset }
+        ensures { result ≡ place_of text.now offset }
+    {
+        Place::START.behind(&text[..offset])
+    }
+
+    /// The place behind a text that begins here.
+    pub(crate) fn behind(self, passed: &str) -> Place
+        ensures { (front : List ℕ) → self ≡ place_after front → result ≡ place_after (front ++ chars passed.now) }
+    {
+        let mut at = self;
+        for c in passed.chars() {
+            at = at.next(c);
+        }
+        at
+    }
+
+    /// The place behind a character that stands here. Line and column stay at the greatest `u32`.
+    fn next(self, c: char) -> Place
+        ensures { (front : List ℕ) → self ≡ place_after front → result ≡ place_after (front ++ c ∷ []) }
+    {
         if c == '\n' {
-            line = line.saturating_add(1);
-            column = 1;
-        } else {
-            column = column.saturating_add(1);
+            return Place {
+                line: self.line.saturating_add(1),
+                column: 1,
+            };
+        }
+        Place {
+            line: self.line,
+            column: self.column.saturating_add(1),
         }
     }
-    (line, column)
 }

@@ -1,10 +1,10 @@
 //! Tokens with their lines and columns.
 ghost use Rattle.std.specs.Prelude.{◌≡◌, ◌++◌, ◌-◌, ◌≤◌, ℕ, List, length, drop, map, All, IfOk, IsCharBoundary, chars};
-ghost use Rattle.at_text.specs.Place.{place_after, place_of};
+ghost use Rattle.at_text.specs.Place.{place_of};
 ghost use Rattle.at_text.specs.Pieces.{spelled};
 ghost use Rattle.at_text.specs.Symbols.{placed, placed_in, next_place};
 
-use crate::place::place;
+use crate::place::Place;
 use crate::token::{Lexeme, TokenKind};
 use std::alloc::{AllocError, Global};
 
@@ -13,37 +13,21 @@ use std::alloc::{AllocError, Global};
 pub struct Placed<'a> {
     pub kind: TokenKind,
     pub text: &'a str,
-    pub at: (u32, u32),
-}
-
-/// The place behind the characters, if this is the place before them.
-fn behind(at: (u32, u32), passed: &str) -> (u32, u32)
-    ensures { (front : List ℕ) → at ≡ place_after front → result ≡ place_after (front ++ chars passed.now) }
-{
-    let (mut line, mut column) = at;
-    for c in passed.chars() {
-        if c == '\n' {
-            line = line.saturating_add(1);
-            column = 1;
-        } else {
-            column = column.saturating_add(1);
-        }
-    }
-    (line, column)
+    pub at: Place,
 }
 
 /// The place of an offset, by that of another one. What lies between is counted, or all that lies
 /// before it, if it is the first of the two.
-fn place_from(text: &str, from: usize, at: (u32, u32), to: usize) -> (u32, u32)
+fn place_from(text: &str, from: usize, at: Place, to: usize) -> Place
     requires from { IsCharBoundary text.now from }
     requires at { at ≡ place_of text.now from }
     requires to { IsCharBoundary text.now to }
     ensures { result ≡ place_of text.now to }
 {
     if from <= to {
-        behind(at, &text[from..to])
+        at.behind(&text[from..to])
     } else {
-        place(text, to)
+        Place::of(text, to)
     }
 }
 
@@ -59,7 +43,7 @@ pub fn place_all<'a>(
 {
     let mut all = Vec::new(alloc);
     let mut from = 0;
-    let mut at = (1, 1);
+    let mut at = Place::START;
     for token in tokens {
         at = place_from(text, from, at, token.start);
         from = token.start;
@@ -73,12 +57,12 @@ pub fn place_all<'a>(
 }
 
 /// The place of the first of the last `left` tokens, or of the end of the text where none is left.
-pub fn place_left(text: &str, tokens: &[Placed<'_>], left: usize) -> (u32, u32)
+pub fn place_left(text: &str, tokens: &[Placed<'_>], left: usize) -> Place
     requires { left ≤ length tokens.now }
     ensures { result ≡ next_place text.now (map placed (drop (length tokens.now - left) tokens.now)) }
 {
     match tokens.get(tokens.len() - left) {
         Some(token) => token.at,
-        None => place(text, text.len()),
+        None => Place::of(text, text.len()),
     }
 }

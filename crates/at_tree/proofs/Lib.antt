@@ -22,3 +22,4 @@ pub mod Made
 pub mod ShapeLaws
 pub mod ReadTrees
 pub mod Fronts
+mod Misfits

@@ -7,7 +7,8 @@ use Rattle.at_tree.specs.declared.reader.Level.{Level as LevelValue}
 use Rattle.at_tree.specs.declared.reader.Place.{Place as PlaceValue}
 use Rattle.at_tree.specs.declared.reader.Place.TheVariants as place
 use Rattle.at_tree.specs.declared.reader.Partial.{Partial as PartialValue}
-use Rattle.at_tree.specs.declared.fault.Refused.{Refused}
+use Rattle.at_text.specs.declared.fault.Failure.{Failure}
+use Rattle.at_tree.specs.declared.fault.Misfit.{Misfit}
 
 abbrev pub level_view : LevelValue → Level
 level_view f = record { name = string_bytes f.name; cells = map cell_view f.cells.items; items = option_map (λ v. map term_view v.items) f.items }
@@ -31,5 +32,5 @@ abbrev pub partial_view : PartialValue → Partial
 partial_view p = at (levels_view p.levels.items) (place_view p.place)
 
 -- what was returned is what the step gives, unless memory ran out
-abbrev pub Gives : Result PartialValue Refused → Option Partial → Type 0
+abbrev pub Gives : Result PartialValue (Failure Misfit) → Option Partial → Type 0
 Gives result read = GivesBy partial_view result read

@@ -18,11 +18,11 @@ use Rattle.at_typing.specs.Located.{Located}
 use Rattle.at_typing.specs.Meanings.{Meaning, meant}
 use Rattle.at_typing.specs.Numbering.{numbered_view}
 use Rattle.at_typing.specs.Seen.{Stands, Tells, Means}
-use Rattle.at_typing.specs.declared.fault.Fault.{Fault}
+use Rattle.at_typing.specs.declared.fault.Breach.{Breach}
 use Rattle.at_kinds.specs.declared.code.RuleCode.{RuleCode}
 use Rattle.at_kinds.specs.declared.code.RuleCode.TheVariants as code
-use Rattle.at_typing.specs.declared.fault.RuleFault.{RuleFault}
-use Rattle.at_typing.specs.declared.fault.RuleFault.TheVariants as fault
+use Rattle.at_text.specs.declared.fault.Failure.{Failure}
+use Rattle.at_text.specs.declared.fault.Failure.TheVariants as failure
 use Rattle.at_typing.specs.declared.numbered.Numbered.{Numbered as NumberedValue}
 use Rattle.at_complete.proofs.Completed.{complete}
 use Rattle.at_typing.proofs.Gathering.{first_none, other_none}
@@ -60,21 +60,21 @@ same_rules classes ds names e rules stands same attributes own inherited =
 
 -- what rules lack ----------------------------------------------------------------------------------------------------------
 
-pub lacks_own : (rules : Rules) (ds : List Located) (own : Option Fault) (e : RuleFault) → IsFirstFault code.ClassWithoutEquation (LacksOwn rules) ds own → Tells (λ f. f ≡ own) (Err e) → Tells (IsLack rules ds) (Err e)
-lacks_own rules ds own (fault.Refused f) first is = (own, first, subst (λ o. IsLackBehind rules ds o (Some f)) is refl)
-lacks_own rules ds own fault.Memory first is = tt
+pub lacks_own : (rules : Rules) (ds : List Located) (own : Option Breach) (e : Failure Breach) → IsFirstFault code.ClassWithoutEquation (LacksOwn rules) ds own → Tells (λ f. f ≡ own) (Err e) → Tells (IsLack rules ds) (Err e)
+lacks_own rules ds own (failure.For f) first is = (own, first, subst (λ o. IsLackBehind rules ds o (Some f)) is refl)
+lacks_own rules ds own failure.Memory first is = tt
 
-pub lacks_inherited : (rules : Rules) (ds : List Located) (own inherited : Option Fault) (r : Result (Unit {0}) RuleFault) → IsFirstFault code.ClassWithoutEquation (LacksOwn rules) ds own → None ≡ own → IsFirstFault code.InheritedWithoutEquation (LacksInherited rules) ds inherited
+pub lacks_inherited : (rules : Rules) (ds : List Located) (own inherited : Option Breach) (r : Result (Unit {0}) (Failure Breach)) → IsFirstFault code.ClassWithoutEquation (LacksOwn rules) ds own → None ≡ own → IsFirstFault code.InheritedWithoutEquation (LacksInherited rules) ds inherited
     → Tells (λ f. f ≡ inherited) r → Tells (IsLack rules ds) r
 lacks_inherited rules ds own inherited r first none other = by r
   where
-    behind : (f : Option Fault) → f ≡ inherited → IsLack rules ds f
+    behind : (f : Option Breach) → f ≡ inherited → IsLack rules ds f
     behind f is = (own, first, subst (λ o. IsLackBehind rules ds o f) none (subst (IsFirstFault code.InheritedWithoutEquation (LacksInherited rules) ds) (sym is) other))
 
-    by : (r : Result (Unit {0}) RuleFault) → Tells (λ f. f ≡ inherited) r → Tells (IsLack rules ds) r
+    by : (r : Result (Unit {0}) (Failure Breach)) → Tells (λ f. f ≡ inherited) r → Tells (IsLack rules ds) r
     by (Ok u) is = behind None is
-    by (Err (fault.Refused f)) is = behind (Some f) is
-    by (Err fault.Memory) is = tt
+    by (Err (failure.For f)) is = behind (Some f) is
+    by (Err failure.Memory) is = tt
 
 declared_there : (R : Located → Attribute → Type 0) (ds : List Located) (as' : List Attribute) (k : ℕ) (a : Attribute) → AllZip R ds as' → slice_get as' k ≡ Some a → is_some (slice_get ds k) ≡ true
 declared_there R [] [] k a zip is = absurd (none-some a is)
@@ -104,11 +104,11 @@ lack_nothing rules ds declared (Some f, first, behind) = absurd (none-some f beh
 pub built : (classes : Classes) (ds : List Located) (rules : Rules) → first_fault classes ds ≡ None → rules ≡ rules_of classes ds → IsLack rules ds None → Builds classes ds (Ok rules)
 built classes ds rules none is lack = (subst (λ f. IsFault classes ds f None) (sym none) (subst (λ r. IsLack r ds None) is lack), is)
 
-pub lacking : (classes : Classes) (ds : List Located) (rules : Rules) (e : RuleFault) → first_fault classes ds ≡ None → rules ≡ rules_of classes ds → Tells (IsLack rules ds) (Err e) → Builds classes ds (Err e)
-lacking classes ds rules (fault.Refused f) none is lack = subst (λ g. IsFault classes ds g (Some f)) (sym none) (subst (λ r. IsLack r ds (Some f)) is lack)
-lacking classes ds rules fault.Memory none is lack = tt
+pub lacking : (classes : Classes) (ds : List Located) (rules : Rules) (e : Failure Breach) → first_fault classes ds ≡ None → rules ≡ rules_of classes ds → Tells (IsLack rules ds) (Err e) → Builds classes ds (Err e)
+lacking classes ds rules (failure.For f) none is lack = subst (λ g. IsFault classes ds g (Some f)) (sym none) (subst (λ r. IsLack r ds (Some f)) is lack)
+lacking classes ds rules failure.Memory none is lack = tt
 
 -- the first fault of the declarations
-pub meant_fault : (classes : Classes) (xs : List NumberedValue) (e : RuleFault) → Means classes xs (first_fault classes (map numbered_view xs)) (Err e) → Builds classes (map numbered_view xs) (Err e)
-meant_fault classes xs (fault.Refused f) is = subst (λ g. IsFault classes (map numbered_view xs) g (Some f)) (sym is) refl
-meant_fault classes xs fault.Memory is = tt
+pub meant_fault : (classes : Classes) (xs : List NumberedValue) (e : Failure Breach) → Means classes xs (first_fault classes (map numbered_view xs)) (Err e) → Builds classes (map numbered_view xs) (Err e)
+meant_fault classes xs (failure.For f) is = subst (λ g. IsFault classes (map numbered_view xs) g (Some f)) (sym is) refl
+meant_fault classes xs failure.Memory is = tt

@@ -8,7 +8,7 @@ use Rattle.at_model.specs.WellFormed.{IsHierarchy, AreWellFormed}
 use Rattle.at_jrag.specs.Syntax.{Aspect}
 use Rattle.at_typing.specs.Building.{first_fault, IsLack, IsFault, Builds}
 use Rattle.at_typing.specs.Located.{Located, IsSpelled, located}
-use Rattle.at_typing.specs.declared.fault.Fault.{Fault}
+use Rattle.at_typing.specs.declared.fault.Breach.{Breach}
 use Rattle.at_typing.proofs.Built.{are_declared, lack_nothing}
 use Rattle.at_typing.proofs.EquationsOfKinds.{well_formed}
 use Rattle.at_typing.proofs.Literals.{AreIntsIn, located_ints}
@@ -16,7 +16,7 @@ use Rattle.at_typing.proofs.Literals.{AreIntsIn, located_ints}
 declared_well_formed : (classes : Classes) (ds : List Located) (rules : Rules) → IsHierarchy classes → AllByRecursion AreIntsIn ds → Builds classes ds (Ok rules) → AreWellFormed rules
 declared_well_formed classes ds rules hierarchy ints (fault, is) = by (first_fault classes ds) refl fault
   where
-    by : (o : Option Fault) → first_fault classes ds ≡ o → IsFault classes ds o None → AreWellFormed rules
+    by : (o : Option Breach) → first_fault classes ds ≡ o → IsFault classes ds o None → AreWellFormed rules
     by None none lack = well_formed classes ds rules hierarchy none is ints (lack_nothing rules ds (are_declared classes ds rules none is) (subst (λ (r : Rules). IsLack r ds None) (sym is) lack))
     by (Some f) some lack = absurd (none-some f lack)
 

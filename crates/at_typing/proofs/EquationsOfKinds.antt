@@ -13,7 +13,7 @@ use Rattle.at_model.specs.WellFormed.{IsHierarchy, AreWellFormed}
 use Rattle.at_model.specs.Rules.{AreComplete}
 use Rattle.at_model.proofs.Everywhere.{all_more}
 use Rattle.at_model.proofs.Options.{both}
-use Rattle.at_jrag.specs.Syntax.{Place, Word, KindWord, Body, DeclForm}
+use Rattle.at_jrag.specs.Syntax.{Word, KindWord, Body, DeclForm}
 use Rattle.at_jrag.specs.Syntax as written
 use Rattle.at_kinds.specs.Accessors.{accessed, shape_of}
 use Rattle.at_typing.specs.Building.{meaning_if, meanings, first_fault, rules_of}

@@ -14,13 +14,14 @@ use Rattle.at_typing.specs.Located.{Located}
 use Rattle.at_typing.specs.Meanings.{Meaning, meant, signatures}
 use Rattle.at_typing.specs.Numbering.{numbered_view, AreNumbered, IsNamed}
 use Rattle.at_typing.specs.Seen.{IsAbout, Adds, AddsOrTells, Stands, Means, refusal_of}
-use Rattle.at_typing.specs.declared.fault.Fault.{Fault}
-use Rattle.at_typing.specs.declared.fault.RuleFault.{RuleFault}
-use Rattle.at_typing.specs.declared.fault.RuleFault.TheVariants as fault
+use Rattle.at_typing.specs.declared.fault.Breach.{Breach}
+use Rattle.at_text.specs.declared.fault.Failure.{Failure}
+use Rattle.at_text.specs.declared.fault.Failure.TheVariants as failure
 use Rattle.at_typing.specs.declared.meaning.Among.{Among}
 use Rattle.at_typing.specs.declared.numbered.Numbered.{Numbered as NumberedValue}
-use Rattle.at_kinds.specs.declared.typing.TypeFault.{TypeFault}
-use Rattle.at_kinds.specs.declared.typing.TypeFault.TheVariants as type_fault
+use Rattle.at_kinds.specs.declared.code.RuleCode.{RuleCode}
+use Rattle.at_text.specs.declared.fault.Fault.{Fault}
+use Rattle.at_text.specs.declared.fault.Fault.TheVariants as type_fault
 use Rattle.at_typing.proofs.FirstFaults.{NoneBefore, none_more, first_here, none_at_all}
 use Rattle.at_typing.proofs.Gathering.{stands_more, other_none, first_none}
 
@@ -33,7 +34,7 @@ view_at v (y ∷ ys) zero x = refl
 view_at v (y ∷ ys) (suc i) x = view_at v ys i x
 
 -- a declaration's fault is told with its file
-pub told : (d : Located) (n : ℕ) (j : Judgement Meaning) (old new : Equations) (e : TypeFault) (r : RuleFault) → r ≡ refusal_of d e → Adds d n j old new (Err e) → AddsOrTells d n j old new (Err r)
+pub told : (d : Located) (n : ℕ) (j : Judgement Meaning) (old new : Equations) (e : Fault RuleCode) (r : Failure Breach) → r ≡ refusal_of d e → Adds d n j old new (Err e) → AddsOrTells d n j old new (Err r)
 told d n j old new (type_fault.Refused c at) r is adds = subst (λ x. AddsOrTells d n j old new (Err x)) (sym is) (ap (refusal d) adds)
 told d n j old new type_fault.Memory r is adds = subst (λ x. AddsOrTells d n j old new (Err x)) (sym is) tt
 
@@ -70,10 +71,10 @@ module _ (classes : Classes) (xs : List NumberedValue) (i : ℕ) (d : NumberedVa
   none_refused u less at (m, is, added) so_far = none_more (refused_at classes (views xs)) numbered_view xs i d less at (ap (refusal (numbered_view d)) is) so_far
 
   -- the first fault of a declaration by itself
-  pub refused_here : (e : RuleFault) → i < length xs → d ≡ get_or xs i d → AddsOrTells (numbered_view d) d.name (meant classes (views xs) (numbered_view d)) old new (Err e)
+  pub refused_here : (e : Failure Breach) → i < length xs → d ≡ get_or xs i d → AddsOrTells (numbered_view d) d.name (meant classes (views xs) (numbered_view d)) old new (Err e)
       → NoneBefore (refused_at classes (views xs)) numbered_view xs i → Means classes xs (refused classes (views xs)) (Err e)
-  refused_here (fault.Refused f) less at told so_far = first_here (refused_at classes (views xs)) numbered_view xs i d f less at so_far told
-  refused_here fault.Memory less at told so_far = tt
+  refused_here (failure.For f) less at told so_far = first_here (refused_at classes (views xs)) numbered_view xs i d f less at so_far told
+  refused_here failure.Memory less at told so_far = tt
 
 -- all of them
 pub all_meant : (classes : Classes) (xs : List NumberedValue) (i : ℕ) (e : Equations) → length xs ≤ i → NoneBefore (refused_at classes (views xs)) numbered_view xs i → StandBefore classes xs i e → Means classes xs (refused classes (views xs)) (Ok e)
@@ -83,9 +84,9 @@ all_meant classes xs i e past none stand = (
 )
 
 -- without a fault of several together
-pub together : (classes : Classes) (xs : List NumberedValue) (r : Result Equations RuleFault) → fault_together classes (views xs) ≡ None → Means classes xs (refused classes (views xs)) r → Means classes xs (first_fault classes (views xs)) r
+pub together : (classes : Classes) (xs : List NumberedValue) (r : Result Equations (Failure Breach)) → fault_together classes (views xs) ≡ None → Means classes xs (refused classes (views xs)) r → Means classes xs (first_fault classes (views xs)) r
 together classes xs r none means = subst (λ f. Means classes xs (option_or f (refused classes (views xs))) r) (sym none) means
 
 -- the first fault of several together
-pub told_together : (classes : Classes) (xs : List NumberedValue) (f : Fault) → fault_together classes (views xs) ≡ Some f → Means classes xs (first_fault classes (views xs)) (Err (fault.Refused f))
+pub told_together : (classes : Classes) (xs : List NumberedValue) (f : Breach) → fault_together classes (views xs) ≡ Some f → Means classes xs (first_fault classes (views xs)) (Err (failure.For f))
 told_together classes xs f is = ap (λ o. option_or o (refused classes (views xs))) is

@@ -10,7 +10,7 @@ use Rattle.at_model.specs.Rules as model
 use Rattle.at_model.specs.Kinds.{ScopeKinds, HasKind, bound_kinds}
 use Rattle.at_model.specs.Kinds as has
 use Rattle.at_model.proofs.Options.{led, mapped}
-use Rattle.at_jrag.specs.Syntax.{Place}
+use Rattle.at_text.specs.declared.place.Place.{Place}
 use Rattle.at_jrag.specs.Syntax as written
 use Rattle.at_rules.specs.declared.body.Kind.TheVariants as known_kind
 use Rattle.at_kinds.specs.Judging.{Kinded, Is, Wrong, Scope, Bound, and_then, within, index_eq, bound_to, index_named, named_by, named, this_node, negation, opposite, joined, chosen, cast, tested, called, list_called, list_or, folded, placed, judged, judged_all, judged_list}

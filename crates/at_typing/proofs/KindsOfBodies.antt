@@ -11,7 +11,8 @@ use Rattle.at_model.specs.Bodies.{Expr}
 use Rattle.at_model.specs.Rules.{Rules, Attribute}
 use Rattle.at_model.specs.Rules as model
 use Rattle.at_model.specs.Kinds.{ScopeKinds, HasKind}
-use Rattle.at_jrag.specs.Syntax.{Place, Word, Param, Body, DeclForm, place}
+use Rattle.at_text.specs.declared.place.Place.{Place}
+use Rattle.at_jrag.specs.Syntax.{Word, Param, Body, DeclForm, place}
 use Rattle.at_rules.specs.Bodies.{kind_view}
 use Rattle.at_rules.specs.declared.body.Kind.{Kind}
 use Rattle.at_rules.specs.declared.body.Kind.TheVariants as kind

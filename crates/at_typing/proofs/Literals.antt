@@ -5,8 +5,10 @@ use Rattle.std.specs.List.{AllByRecursion}
 use Rattle.std.proofs.lemmas.List.Concat.{flat_map-cons}
 use Rattle.at_model.specs.Terms.{IsInt32}
 use Rattle.at_model.proofs.Everywhere.{all_both}
-use Rattle.at_jrag.specs.Syntax.{Place, Expr, Exprs, no_exprs, expr, Number, TextLiteral, Truth, Null, This, Name, Call, CallOf, Paren, Negate, Not, Cast, InstanceOf, Binary, Choose, Fold, Body, BodyForm, Equation', Block, Ending, With, Semicolon, DeclForm, Synthesized, Inherited, Equation, InheritedEquation, Decl, Aspect}
-use Rattle.at_jrag.specs.Grammar.{Row, NumberOf, Spells, Arguments, MoreArguments, BodyOf, EndingOf, Behind, Decls, File}
+use Rattle.at_text.specs.declared.place.Place.{Place}
+use Rattle.at_jrag.specs.Syntax.{Expr, Exprs, no_exprs, expr, Number, TextLiteral, Truth, Null, This, Name, Call, CallOf, Paren, Negate, Not, Cast, InstanceOf, Binary, Choose, Fold, Body, BodyForm, Equation', Block, Ending, With, Semicolon, DeclForm, Synthesized, Inherited, Equation, InheritedEquation, Decl, Aspect}
+use Rattle.at_text.specs.Rows.{Row}
+use Rattle.at_jrag.specs.Grammar.{NumberOf, Spells, Arguments, MoreArguments, BodyOf, EndingOf, Behind, Decls, File}
 use Rattle.at_typing.specs.Declaring.{body_at, body_in}
 use Rattle.at_typing.specs.Located.{Located, IsSpelled, from_aspect, from_file, located}
 

@@ -8,7 +8,8 @@ use Rattle.std.proofs.lemmas.Option.{none-some}
 use Rattle.at_model.specs.Bodies.{Expr}
 use Rattle.at_model.specs.Classes.{Class, Classes, class_of_name, parts}
 use Rattle.at_model.specs.Rules.{Attribute, OwnEquation, InheritedEquation}
-use Rattle.at_jrag.specs.Syntax.{Place, Word, KindWord, Body, DeclForm}
+use Rattle.at_text.specs.declared.place.Place.{Place}
+use Rattle.at_jrag.specs.Syntax.{Word, KindWord, Body, DeclForm}
 use Rattle.at_jrag.specs.Syntax as written
 use Rattle.at_kinds.specs.Accessors.{accessed, is_got, shape_of}
 use Rattle.at_typing.specs.Declaring.{is_attribute, is_inherited, is_own_equation, getter_in, params_in, body_in, class_text, name_text, synthesized_named, inherited_named, is_synthesized_by, is_below, attributes}

@@ -12,36 +12,36 @@ use Rattle.at_typing.specs.Declaring.{fault_at, fault_together}
 use Rattle.at_kinds.specs.Judging.{Judgement, Is, Wrong}
 use Rattle.at_typing.specs.Located.{Located}
 use Rattle.at_typing.specs.Meanings.{Meaning, meant}
-use Rattle.at_typing.specs.declared.fault.Fault.{Fault}
+use Rattle.at_typing.specs.declared.fault.Breach.{Breach}
 use Rattle.at_kinds.specs.declared.code.RuleCode.TheVariants as code
-use Rattle.at_typing.specs.declared.fault.RuleFault.{RuleFault}
-use Rattle.at_typing.specs.declared.fault.RuleFault.TheVariants.{Refused, Memory}
+use Rattle.at_text.specs.declared.fault.Failure.{Failure}
+use Rattle.at_text.specs.declared.fault.Failure.TheVariants.{For, Memory}
 
 -- faults ---------------------------------------------------------------------------------------------------------------
 
-abbrev pub refusal : Located → Judgement Meaning → Option Fault
+abbrev pub refusal : Located → Judgement Meaning → Option Breach
 refusal d (Is m) = None
 refusal d (Wrong c at) = Some (fault_at c d at)
 
-abbrev pub refused_at : Classes → List Located → ℕ → Located → Option Fault
+abbrev pub refused_at : Classes → List Located → ℕ → Located → Option Breach
 refused_at classes ds i d = refusal d (meant classes ds d)
 
 -- the first fault of a declaration by itself
-abbrev pub refused : Classes → List Located → Option Fault
+abbrev pub refused : Classes → List Located → Option Breach
 refused classes ds = first_given (refused_at classes ds) 0 ds
 
 -- the first fault before any class is looked at for what it lacks
-abbrev pub first_fault : Classes → List Located → Option Fault
+abbrev pub first_fault : Classes → List Located → Option Breach
 first_fault classes ds = option_or (fault_together classes ds) (refused classes ds)
 
 -- J8, where J7 has no fault
-abbrev pub IsLackBehind : Rules → List Located → Option Fault → Option Fault → Type 0
+abbrev pub IsLackBehind : Rules → List Located → Option Breach → Option Breach → Type 0
 IsLackBehind rules ds (Some own) f = f ≡ Some own
 IsLackBehind rules ds None f = IsFirstFault code.InheritedWithoutEquation (LacksInherited rules) ds f
 
 -- the fault of rules in which a class lacks an equation, if there is one
-abbrev pub IsLack : Rules → List Located → Option Fault → Type 0
-IsLack rules ds f = (own : Option Fault) × IsFirstFault code.ClassWithoutEquation (LacksOwn rules) ds own × IsLackBehind rules ds own f
+abbrev pub IsLack : Rules → List Located → Option Breach → Type 0
+IsLack rules ds f = (own : Option Breach) × IsFirstFault code.ClassWithoutEquation (LacksOwn rules) ds own × IsLackBehind rules ds own f
 
 -- rules ----------------------------------------------------------------------------------------------------------------
 
@@ -63,12 +63,12 @@ rules_of classes ds = record {
 }
 
 -- faults of the declarations come before what their rules lack
-abbrev pub IsFault : Classes → List Located → Option Fault → Option Fault → Type 0
+abbrev pub IsFault : Classes → List Located → Option Breach → Option Breach → Type 0
 IsFault classes ds (Some first) f = f ≡ Some first
 IsFault classes ds None f = IsLack (rules_of classes ds) ds f
 
 -- the rules that the declarations make, where they have no fault; else their first fault; of want of memory nothing is said
-abbrev pub Builds : Classes → List Located → Result Rules RuleFault → Type 0
+abbrev pub Builds : Classes → List Located → Result Rules (Failure Breach) → Type 0
 Builds classes ds (Ok rules) = IsFault classes ds (first_fault classes ds) None × (rules ≡ rules_of classes ds)
-Builds classes ds (Err (Refused f)) = IsFault classes ds (first_fault classes ds) (Some f)
+Builds classes ds (Err (For f)) = IsFault classes ds (first_fault classes ds) (Some f)
 Builds classes ds (Err Memory) = Unit {0}

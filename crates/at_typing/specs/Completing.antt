@@ -6,7 +6,7 @@ use Rattle.at_model.specs.Rules.{Rules, Attribute}
 use Rattle.at_complete.specs.Completing.{IsFirst}
 use Rattle.at_typing.specs.Declaring.{attributes, class_text, fault_at, is_inherited, name_text}
 use Rattle.at_typing.specs.Located.{Located}
-use Rattle.at_typing.specs.declared.fault.Fault.{Fault}
+use Rattle.at_typing.specs.declared.fault.Breach.{Breach}
 use Rattle.at_kinds.specs.declared.code.RuleCode.{RuleCode}
 
 -- the attribute of the rules is the one that is declared
@@ -20,10 +20,10 @@ abbrev pub AreDeclared : Rules → List Located → Type 0
 AreDeclared rules ds = AllZip (IsDeclaredBy rules.classes) (attributes ds) rules.attributes
 
 -- at the declaration of the attribute of that number
-abbrev pub fault_of : RuleCode → List Located → Option ℕ → Option Fault
+abbrev pub fault_of : RuleCode → List Located → Option ℕ → Option Breach
 fault_of c ds None = None
 fault_of c ds (Some a) = option_map (λ d. fault_at c d d.decl.at) (slice_get (attributes ds) a)
 
 -- the fault of the first attribute of which it is so
-abbrev pub IsFirstFault : RuleCode → (ℕ → Type 0) → List Located → Option Fault → Type 0
+abbrev pub IsFirstFault : RuleCode → (ℕ → Type 0) → List Located → Option Breach → Type 0
 IsFirstFault c Lacks ds f = (a : Option ℕ) × IsFirst Lacks a × (f ≡ fault_of c ds a)

@@ -6,19 +6,20 @@ use Rattle.std.specs.Option.{option_or}
 use Rattle.std.specs.Str.{bytes_eq}
 use Rattle.at_model.specs.Classes.{Classes, is_sub, class_of_name}
 use Rattle.at_model.specs.Declarations.{first_given}
-use Rattle.at_jrag.specs.Syntax.{Place, Word, Kind, Int, Bool', Text, Class, KindWord, Param, Params, Ending, With, Semicolon, Body, DeclForm, Synthesized, Inherited, Equation, InheritedEquation, Decl}
+use Rattle.at_text.specs.declared.place.Place.{Place}
+use Rattle.at_jrag.specs.Syntax.{Word, Kind, Int, Bool', Text, Class, KindWord, Param, Params, Ending, With, Semicolon, Body, DeclForm, Synthesized, Inherited, Equation, InheritedEquation, Decl}
 use Rattle.at_jrag.specs.Syntax as written
 use Rattle.at_kinds.specs.Accessors.{is_accessor}
 use Rattle.at_typing.specs.Located.{Located, class_word, name_word}
-use Rattle.at_typing.specs.declared.fault.Fault.{Fault}
+use Rattle.at_typing.specs.declared.fault.Breach.{Breach}
 use Rattle.at_kinds.specs.declared.code.RuleCode.{RuleCode}
 use Rattle.at_kinds.specs.declared.code.RuleCode.TheVariants as code
 
-abbrev pub fault_at : RuleCode → Located → Place → Fault
+abbrev pub fault_at : RuleCode → Located → Place → Breach
 fault_at c d at = record { code = c; file = d.file; at = at }
 
 -- at the declaration's first token
-abbrev pub fault_if : Bool → RuleCode → Located → Option Fault
+abbrev pub fault_if : Bool → RuleCode → Located → Option Breach
 fault_if b c d = if b then Some (fault_at c d d.decl.at) else None
 
 -- what a declaration has ---------------------------------------------------------------------------------------------
@@ -136,20 +137,20 @@ attributes ds = filter (λ d. is_attribute d.decl.form) ds
 abbrev pub is_too_many : List Located → Located → Bool
 is_too_many before d = is_attribute d.decl.form && not (nat_lt (length (attributes before)) max_attributes)
 
-abbrev pub limit_at : List Located → ℕ → Located → Option Fault
+abbrev pub limit_at : List Located → ℕ → Located → Option Breach
 limit_at ds i d = option_or (fault_if (is_too_many (take i ds) d) code.Limit d) (option_map (fault_at code.Limit d) (option_and_then (λ b. long_text b.expr) (body_in d.decl.form)))
 
 -- an attribute too many, or a text too long
-abbrev pub over_limit : List Located → Option Fault
+abbrev pub over_limit : List Located → Option Breach
 over_limit ds = first_given (limit_at ds) 0 ds
 
 -- J12 ----------------------------------------------------------------------------------------------------------------
 
-abbrev pub accessor_at : Classes → ℕ → Located → Option Fault
+abbrev pub accessor_at : Classes → ℕ → Located → Option Breach
 accessor_at classes i d = fault_if (is_attribute d.decl.form && is_accessor classes (name_text d)) code.NameOfAccessor d
 
 -- an attribute has the name of an accessor
-abbrev pub accessor_named : Classes → List Located → Option Fault
+abbrev pub accessor_named : Classes → List Located → Option Breach
 accessor_named classes ds = first_given (accessor_at classes) 0 ds
 
 -- J2 -----------------------------------------------------------------------------------------------------------------
@@ -227,11 +228,11 @@ param_names form = map (λ p. p.name.text) (params_in form).items
 abbrev pub binds_twice : DeclForm → Bool
 binds_twice form = is_repeated (index_names form) (param_names form) || elim (body_in form) [ None ↦ false | Some b ↦ is_bound_again (param_names form ++ index_names form) b.expr ]
 
-abbrev pub twice_at : Classes → List Located → ℕ → Located → Option Fault
+abbrev pub twice_at : Classes → List Located → ℕ → Located → Option Breach
 twice_at classes ds i d = fault_if ((is_attribute d.decl.form && list_any (clashes classes d) (take i ds)) || binds_twice d.decl.form) code.AttributeTwice d
 
 -- an attribute clashes with one before it, or a name is bound twice
-abbrev pub declared_twice : Classes → List Located → Option Fault
+abbrev pub declared_twice : Classes → List Located → Option Breach
 declared_twice classes ds = first_given (twice_at classes ds) 0 ds
 
 -- J9 -----------------------------------------------------------------------------------------------------------------
@@ -263,11 +264,11 @@ is_of_attribute classes ds (Inherited lazy kind class name params) = true
 is_of_attribute classes ds (Equation class name params body) = is_synthesized classes ds class.text name.text
 is_of_attribute classes ds (InheritedEquation class getter index name params body) = is_inherited_name ds name.text
 
-abbrev pub undeclared_at : Classes → List Located → ℕ → Located → Option Fault
+abbrev pub undeclared_at : Classes → List Located → ℕ → Located → Option Breach
 undeclared_at classes ds i d = fault_if (not (is_of_attribute classes ds d.decl.form)) code.EquationWithoutAttribute d
 
 -- an equation's attribute isn't declared
-abbrev pub without_attribute : Classes → List Located → Option Fault
+abbrev pub without_attribute : Classes → List Located → Option Breach
 without_attribute classes ds = first_given (undeclared_at classes ds) 0 ds
 
 -- J6 -----------------------------------------------------------------------------------------------------------------
@@ -285,17 +286,17 @@ is_same_getter None w = false
 abbrev pub is_same_equation : Located → Located → Bool
 is_same_equation d e = (bytes_eq (class_text d) (class_text e) && bytes_eq (name_text d) (name_text e)) && ((is_own_equation d.decl.form && is_own_equation e.decl.form) || is_same_getter (getter_in d.decl.form) (getter_in e.decl.form))
 
-abbrev pub equation_at : List Located → ℕ → Located → Option Fault
+abbrev pub equation_at : List Located → ℕ → Located → Option Breach
 equation_at ds i d = fault_if (list_any (is_same_equation d) (take i ds)) code.EquationTwice d
 
 -- an equation is there already
-abbrev pub equation_twice : List Located → Option Fault
+abbrev pub equation_twice : List Located → Option Breach
 equation_twice ds = first_given (equation_at ds) 0 ds
 
 -- ---------------------------------------------------------------------------------------------------------------------
 
 -- the first fault of the declarations together, before any is looked at by itself
-abbrev pub fault_together : Classes → List Located → Option Fault
+abbrev pub fault_together : Classes → List Located → Option Breach
 fault_together classes ds =
     option_or (over_limit ds)
     (option_or (accessor_named classes ds)

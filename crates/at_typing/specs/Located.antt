@@ -1,7 +1,8 @@
 -- The declarations of all aspect files, in order, each with the number of its file. They are counted from 1: the grammar is 0.
 use Rattle.std.specs.Prelude.{ℕ, ◌+◌, List, [], ◌∷◌, ◌++◌, map, Vec}
 use Rattle.std.specs.List.{flat_map, AllByRecursion}
-use Rattle.at_jrag.specs.Grammar.{Row, File}
+use Rattle.at_text.specs.Rows.{Row}
+use Rattle.at_jrag.specs.Grammar.{File}
 use Rattle.at_jrag.specs.Syntax.{Word, DeclForm, Synthesized, Inherited, Equation, InheritedEquation, Decl, Aspect}
 use Rattle.at_jrag.specs.View.{aspect_view, decl_view}
 use Rattle.at_jrag.specs.declared.syntax.Aspect.{Aspect as AspectValue}

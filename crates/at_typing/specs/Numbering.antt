@@ -6,7 +6,7 @@ use Rattle.at_model.specs.Classes.{Classes, class_of_name, parent_of}
 use Rattle.at_jrag.specs.View.{decl_view}
 use Rattle.at_typing.specs.Declaring.{class_text, name_text, is_sub_or_none, fault_if, fault_at, is_attribute, long_text, body_in}
 use Rattle.at_typing.specs.Located.{Located}
-use Rattle.at_typing.specs.declared.fault.Fault.{Fault}
+use Rattle.at_typing.specs.declared.fault.Breach.{Breach}
 use Rattle.at_kinds.specs.declared.code.RuleCode.TheVariants as code
 use Rattle.at_typing.specs.declared.numbered.NamedClass.{NamedClass}
 use Rattle.at_typing.specs.declared.numbered.NamedClass.TheVariants as named
@@ -91,5 +91,5 @@ pub record HasNumbers {Y Z : Type 0} (classes : Classes) (unknown : List (String
 -- limits -------------------------------------------------------------------------------------------------------------
 
 -- the fault of a declaration before which there are as many attributes as there may be, or not
-abbrev pub limit_of : Bool → Located → Option Fault
+abbrev pub limit_of : Bool → Located → Option Breach
 limit_of is_full d = option_or (fault_if (is_attribute d.decl.form && is_full) code.Limit d) (option_map (fault_at code.Limit d) (option_and_then (λ b. long_text b.expr) (body_in d.decl.form)))

@@ -20,13 +20,14 @@ use Rattle.at_kinds.specs.Judging.{Judgement, Is, Wrong}
 use Rattle.at_typing.specs.Located.{Located}
 use Rattle.at_typing.specs.Meanings.{Meaning, signatures, inherited_equation}
 use Rattle.at_typing.specs.Numbering.{numbered_view, IsNamed}
-use Rattle.at_typing.specs.declared.fault.Fault.{Fault}
-use Rattle.at_typing.specs.declared.fault.RuleFault.{RuleFault}
-use Rattle.at_typing.specs.declared.fault.RuleFault.TheVariants as fault
+use Rattle.at_typing.specs.declared.fault.Breach.{Breach}
+use Rattle.at_text.specs.declared.fault.Failure.{Failure}
+use Rattle.at_text.specs.declared.fault.Failure.TheVariants as failure
 use Rattle.at_typing.specs.declared.meaning.Among.{Among}
 use Rattle.at_typing.specs.declared.numbered.Numbered.{Numbered as NumberedValue}
-use Rattle.at_kinds.specs.declared.typing.TypeFault.{TypeFault}
-use Rattle.at_kinds.specs.declared.typing.TypeFault.TheVariants.{Refused, Memory}
+use Rattle.at_kinds.specs.declared.code.RuleCode.{RuleCode}
+use Rattle.at_text.specs.declared.fault.Fault.{Fault}
+use Rattle.at_text.specs.declared.fault.Fault.TheVariants.{Refused, Memory}
 
 -- an attribute of a class, which the declaration declares
 abbrev pub attribute_of : Located → ℕ × AttributeValue → Attribute
@@ -51,19 +52,19 @@ abbrev pub same_place : ℕ × Option ℕ × ℕ → ℕ × Option ℕ × ℕ �
 same_place j k = (nat_eq j.0 k.0 && option_eq nat_eq j.1 k.1) && nat_eq j.2 k.2
 
 -- the attribute that is judged stands by its class and that name, or its first fault is told
-abbrev pub Declares : Located → (name : ℕ) → Judgement Attribute → (old new : List ((ℕ × ℕ) × AttributeValue)) → Result ℕ TypeFault → Type 0
+abbrev pub Declares : Located → (name : ℕ) → Judgement Attribute → (old new : List ((ℕ × ℕ) × AttributeValue)) → Result ℕ (Fault RuleCode) → Type 0
 Declares d n j old new (Ok c) = (a : AttributeValue) × (j ≡ Is (attribute_of d (c, a))) × (new ≡ insert_entry same_key old (c, n) a)
 Declares d n j old new (Err (Refused code at)) = j ≡ Wrong code at
 Declares d n j old new (Err Memory) = Unit {0}
 
 -- the body that is judged stands by the class and its attribute, or its first fault is told
-abbrev pub AddsOwn : (class : ℕ) → Judgement (ℕ × Expr) → (old new : List ((ℕ × ℕ) × BodyValue)) → Result (Unit {0}) TypeFault → Type 0
+abbrev pub AddsOwn : (class : ℕ) → Judgement (ℕ × Expr) → (old new : List ((ℕ × ℕ) × BodyValue)) → Result (Unit {0}) (Fault RuleCode) → Type 0
 AddsOwn c j old new (Ok u) = (e : ℕ × BodyValue) × (j ≡ Is (equation_view e)) × (new ≡ insert_entry same_key old (c, e.0) e.1)
 AddsOwn c j old new (Err (Refused code at)) = j ≡ Wrong code at
 AddsOwn c j old new (Err Memory) = Unit {0}
 
 -- the body that is judged stands by the class, the component and that name, or its first fault is told
-abbrev pub AddsInherited : (class : ℕ) → Option ℕ → (name : ℕ) → Judgement (ℕ × Expr) → (old new : List ((ℕ × Option ℕ × ℕ) × BodyValue)) → Result (Unit {0}) TypeFault → Type 0
+abbrev pub AddsInherited : (class : ℕ) → Option ℕ → (name : ℕ) → Judgement (ℕ × Expr) → (old new : List ((ℕ × Option ℕ × ℕ) × BodyValue)) → Result (Unit {0}) (Fault RuleCode) → Type 0
 AddsInherited c part n j old new (Ok u) = (e : ℕ × BodyValue) × (j ≡ Is (equation_view e)) × (new ≡ insert_entry same_place old (c, part, n) e.1)
 AddsInherited c part n j old new (Err (Refused code at)) = j ≡ Wrong code at
 AddsInherited c part n j old new (Err Memory) = Unit {0}
@@ -103,7 +104,7 @@ pub record Inserts (n : ℕ) (m : Added) (old new : Equations) : Type 0 where
   pub inherited : new.inherited.entries ≡ with_entry same_place old.inherited.entries (option_map (inherited_by n) m.inherited)
 
 -- what the declaration means is inserted, where its name has that number, or its first fault is told
-abbrev pub Adds : Located → (name : ℕ) → Judgement Meaning → (old new : Equations) → Result (Unit {0}) TypeFault → Type 0
+abbrev pub Adds : Located → (name : ℕ) → Judgement Meaning → (old new : Equations) → Result (Unit {0}) (Fault RuleCode) → Type 0
 Adds d n j old new (Ok u) = (m : Added) × (j ≡ Is (meaning_of d m)) × Inserts n m old new
 Adds d n j old new (Err (Refused code at)) = j ≡ Wrong code at
 Adds d n j old new (Err Memory) = Unit {0}
@@ -121,24 +122,24 @@ pub record Stands {Z : Type 0} (names : List (String Z)) (ms : List Meaning) (e 
   pub inherited : map (inherited_view names) (named names e.inherited.entries) ≡ filter_map (λ (m : Meaning). m.inherited) ms
 
 -- what the declarations mean, where there is no fault; else the fault is told; of want of memory nothing is said
-abbrev pub Means : Classes → List NumberedValue → Option Fault → Result Equations RuleFault → Type 0
+abbrev pub Means : Classes → List NumberedValue → Option Breach → Result Equations (Failure Breach) → Type 0
 Means classes ds first (Ok e) = (first ≡ None) × ((names : List (String Global)) → All (IsNamed names) ds → Stands names (meanings classes (map numbered_view ds) (map numbered_view ds)) e)
-Means classes ds first (Err (fault.Refused f)) = first ≡ Some f
-Means classes ds first (Err fault.Memory) = Unit {0}
+Means classes ds first (Err (failure.For f)) = first ≡ Some f
+Means classes ds first (Err failure.Memory) = Unit {0}
 
 -- it is the fault that is told, or there is none; of want of memory nothing is said
-abbrev pub Tells : (Option Fault → Type 0) → Result (Unit {0}) RuleFault → Type 0
+abbrev pub Tells : (Option Breach → Type 0) → Result (Unit {0}) (Failure Breach) → Type 0
 Tells IsFault (Ok u) = IsFault None
-Tells IsFault (Err (fault.Refused f)) = IsFault (Some f)
-Tells IsFault (Err fault.Memory) = Unit {0}
+Tells IsFault (Err (failure.For f)) = IsFault (Some f)
+Tells IsFault (Err failure.Memory) = Unit {0}
 
 -- the declaration's fault, with its file
-abbrev pub refusal_of : Located → TypeFault → RuleFault
-refusal_of d (Refused c at) = fault.Refused (fault_at c d at)
-refusal_of d Memory = fault.Memory
+abbrev pub refusal_of : Located → Fault RuleCode → Failure Breach
+refusal_of d (Refused c at) = failure.For (fault_at c d at)
+refusal_of d Memory = failure.Memory
 
 -- what the declaration means is inserted, or its first fault is told
-abbrev pub AddsOrTells : Located → (name : ℕ) → Judgement Meaning → (old new : Equations) → Result (Unit {0}) RuleFault → Type 0
+abbrev pub AddsOrTells : Located → (name : ℕ) → Judgement Meaning → (old new : Equations) → Result (Unit {0}) (Failure Breach) → Type 0
 AddsOrTells d n j old new (Ok u) = (m : Added) × (j ≡ Is (meaning_of d m)) × Inserts n m old new
-AddsOrTells d n j old new (Err (fault.Refused f)) = refusal d j ≡ Some f
-AddsOrTells d n j old new (Err fault.Memory) = Unit {0}
+AddsOrTells d n j old new (Err (failure.For f)) = refusal d j ≡ Some f
+AddsOrTells d n j old new (Err failure.Memory) = Unit {0}

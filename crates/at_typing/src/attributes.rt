@@ -9,12 +9,21 @@ use indexmap::IndexMap;
 use std::alloc::{AllocError, Global};
 
 /// The attributes that are declared.
-#[derive(Drop)]
 pub struct Attributes {
     // The first synthesized attribute of each class and name.
     synthesized: IndexMap<(NamedClass, usize), AttrId>,
     // The first inherited attribute of each name.
     inherited: IndexMap<usize, AttrId>,
+}
+
+/// One call, where each exit that lets it go would else have a case for each collection.
+impl Drop for Attributes {
+    fn drop(self) {
+        let Attributes {
+            synthesized: _,
+            inherited: _,
+        } = self;
+    }
 }
 
 impl Attributes {

@@ -15,7 +15,7 @@ ghost use Rattle.at_typing.specs.declared.numbered.Numbered.{Numbered as Numbere
 
 use crate::attributes::Attributes;
 use crate::checks::{fault_of, fault_together};
-use crate::fault::{Fault, RuleFault};
+use crate::fault::{Breach, RuleFault};
 use crate::meaning::Among;
 use crate::numbered::{Declarations, Numbered};
 use crate::written::signatures_of;
@@ -25,6 +25,7 @@ use at_jrag::Aspect;
 use at_kinds::RuleCode;
 use at_kinds::typing::TypeFault;
 use at_rules::{AttrId, Equations, Rules};
+use at_text::fault::{Failure, Fault};
 use indexmap::IndexMap;
 use std::alloc::Global;
 
@@ -32,7 +33,7 @@ use std::alloc::Global;
 ///
 /// # Errors
 ///
-/// `Refused` for the first of these codes that applies, each at its earliest place: too many attributes or
+/// The first of these codes that applies, each at its earliest place: too many attributes or
 /// too long a text, an attribute with an accessor's name, one declared twice, an equation without attribute,
 /// an equation twice; then in the order of the declarations unknown names, wrong arguments and wrong kinds; a
 /// class without equation for a synthesized attribute, and for an inherited one. `Memory` for want of memory.
@@ -61,7 +62,7 @@ fn meant_together(
     let attributes = Attributes::of(alloc, declared)?;
     let fault = fault_together(alloc, classes, &attributes, declared)?;
     match fault {
-        Some(fault) => Err(RuleFault::Refused(fault)),
+        Some(fault) => Err(Failure::For(fault)),
         None => meant_by(alloc, classes, &attributes, declared),
     }
 }
@@ -81,7 +82,7 @@ fn refuse(code: RuleCode, declared: &[Numbered], attribute: Option<AttrId>) -> R
     ensures { Tells (λ f. f ≡ fault_of code (map numbered_view declared.now) attribute) result }
 {
     match fault_of(code, declared, attribute) {
-        Some(fault) => Err(RuleFault::Refused(fault)),
+        Some(fault) => Err(Failure::For(fault)),
         None => Ok(()),
     }
 }
@@ -135,11 +136,11 @@ fn refusal(numbered: &Numbered, fault: TypeFault) -> RuleFault
     ensures { result ≡ refusal_of (numbered_view numbered.now) fault }
 {
     match fault {
-        TypeFault::Refused { code, at } => RuleFault::Refused(Fault {
+        Fault::Refused { code, at } => Failure::For(Breach {
             code,
             file: numbered.file,
             at,
         }),
-        TypeFault::Memory => RuleFault::Memory,
+        Fault::Memory => Failure::Memory,
     }
 }

@@ -13,11 +13,12 @@ mod limits;
 mod twice;
 
 use crate::attributes::Attributes;
-use crate::fault::Fault;
+use crate::fault::Breach;
 use crate::numbered::Numbered;
 use accessor_names::accessor_named;
 use at_class::ClassTable;
 use at_kinds::RuleCode;
+use at_text::place::Place;
 pub use completeness::fault_of;
 use equations::{equation_twice, without_attribute};
 use limits::over_limit;
@@ -31,7 +32,7 @@ pub fn fault_together(
     classes: &ClassTable,
     attributes: &Attributes,
     declared: &[Numbered],
-) -> Result<Option<Fault>, AllocError>
+) -> Result<Option<Breach>, AllocError>
     requires { AreNumbered classes.now declared.now × AreAttributes declared.now attributes.now }
     ensures { IfOk result (λ fault. fault ≡ fault_together classes.now (map numbered_view declared.now)) }
 {
@@ -50,10 +51,10 @@ pub fn fault_together(
     equation_twice(alloc, declared)
 }
 
-fn fault_at(code: RuleCode, numbered: &Numbered, at: (u32, u32)) -> Fault
+fn fault_at(code: RuleCode, numbered: &Numbered, at: Place) -> Breach
     ensures { result ≡ fault_at code (numbered_view numbered.now) at }
 {
-    Fault {
+    Breach {
         code,
         file: numbered.file,
         at,

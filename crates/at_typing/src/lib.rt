@@ -14,4 +14,4 @@ mod numbered;
 mod written;
 
 pub use building::build;
-pub use fault::{Fault, RuleFault};
+pub use fault::{Breach, RuleFault};

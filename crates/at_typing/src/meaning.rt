@@ -16,7 +16,7 @@ ghost use Rattle.at_kinds.specs.Signatures.{declared_view};
 ghost use Rattle.at_kinds.specs.Typed.{bound_view, Judges};
 ghost use Rattle.at_kinds.specs.declared.code.RuleCode.TheVariants as code;
 ghost use Rattle.at_typing.specs.declared.numbered.Numbered.{Numbered as NumberedValue};
-ghost use Rattle.at_kinds.specs.declared.typing.TypeFault.TheVariants.{Refused};
+ghost use Rattle.at_text.specs.declared.fault.Fault.TheVariants.{Refused};
 ghost use Rattle.at_rules.specs.declared.body.Kind.TheVariants as kinds;
 
 use crate::attributes::Attributes;
@@ -31,6 +31,8 @@ use at_kinds::components::parts_of;
 use at_kinds::signatures::{Signature, Signatures, WrittenKind};
 use at_kinds::typing::{Bound, Scope, TypeFault, body_of};
 use at_rules::{AttrId, Attribute, Body, Equations, Kind};
+use at_text::fault::Fault;
+use at_text::place::Place;
 use std::alloc::{AllocError, Global};
 use std::rc::Rc;
 
@@ -401,7 +403,7 @@ impl Among<'_> {
     fn component_at(
         &self,
         class: ClassId,
-        at: (u32, u32),
+        at: Place,
         part: Option<usize>,
     ) -> Result<Option<usize>, TypeFault>
         ensures { Judges (λ p. p) (component_at self.now.classes.now class at part) result }
@@ -517,10 +519,10 @@ fn is_many(shape: Option<PartShape>) -> bool
     matches!(shape, Some(PartShape::Many(_)))
 }
 
-fn refused(code: RuleCode, at: (u32, u32)) -> TypeFault
+fn refused(code: RuleCode, at: Place) -> TypeFault
     ensures { result ≡ Refused code at }
 {
-    TypeFault::Refused { code, at }
+    Fault::Refused { code, at }
 }
 
 /// The fault of an equation whose attribute isn't declared.

@@ -75,13 +75,12 @@ impl<'a> Declarations<'a> {
         }
         Ok(Declarations {
             items,
-            names: words.names,
+            names: words.into_names(),
         })
     }
 }
 
 /// The words that have numbers, by their positions.
-#[derive(Drop)]
 struct Words {
     // The names of attributes.
     names: IndexSet<String>,
@@ -89,7 +88,25 @@ struct Words {
     unknown: IndexSet<String>,
 }
 
+/// One call, where each exit that lets it go would else have a case for each collection.
+impl Drop for Words {
+    fn drop(self) {
+        let Words {
+            names: _,
+            unknown: _,
+        } = self;
+    }
+}
+
 impl Words {
+    /// The names of attributes alone.
+    fn into_names(self) -> IndexSet<String>
+        ensures { result ≡ self.names }
+    {
+        let Words { names, unknown: _ } = self;
+        names
+    }
+
     /// The declaration with its numbers. Its words join where they are new; what has a number keeps it.
     fn numbered<'a>(
         &mut self,

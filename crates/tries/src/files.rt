@@ -57,7 +57,7 @@ fn rules(alloc: Global, grammar: &str, aspects: &str) -> Result<Rules, Failure>
     match build(alloc, classes, &files) {
         Ok(rules) => Ok(rules),
         Err(RuleFault::Memory) => Err(Failure::Memory),
-        Err(RuleFault::Refused(_)) => Err(Failure::Aspects),
+        Err(RuleFault::For(_)) => Err(Failure::Aspects),
     }
 }
 

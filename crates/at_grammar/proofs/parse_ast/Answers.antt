@@ -1,8 +1,8 @@
-use Rattle.std.proofs.Common.{ap, ◌∙◌, sym, map, length, inr, arith}
+use Rattle.std.proofs.Common.{ap, ◌∙◌, sym, map, length, arith}
 use Rattle.at_text.specs.Pieces.{spelled}
 use Rattle.at_text.specs.Symbols.{placed, placed_in}
-use Rattle.at_text.specs.Reading.{Refused, LeftOut}
-use Rattle.at_grammar.proofs.Files.{stops_at, has_tokens, read_whole, same_classes, met, left_out, not_left_out, left_within, place_behind}
+use Rattle.at_grammar.specs.Forms.{reason}
+use Rattle.at_grammar.proofs.Files.{has_tokens, read_whole, same_classes, is_met, left_within, place_behind}
 use Rattle.at_grammar.proofs.OneFault.{one_row, fault_only, fault_same}
 use Rattle.at_grammar.proofs.parse_ast.Goals as goal
 
@@ -36,43 +36,24 @@ returns-in-Err-clause-refused c = λ e none h. fault_same c.args.text.now _ c.sc
 
 -- ---- where reading stops
 
-pub returns-in-Err-Syntax-clause-fault : goal.returns-in-Err-Syntax-clause-fault
-returns-in-Err-Syntax-clause-fault c =
+pub place_left-at-requires : goal.place_left-at-requires
+place_left-at-requires c =
+    let same = c.new-reader.ensures ∙ c.deref-2.ensures.value in
+    let s = rw c.in-Err-For.field-0-is at c.in-Err-For.ensures.read in
+    let w = left_within (reason c.in-Err-For.code) _ _ s in
+    omega (arith, w, c.count_left.ensures, ap length same, ap length c.deref-in-Err-For.ensures.value)
+
+pub returns-in-Err-For-clause-fault : goal.returns-in-Err-For-clause-fault
+returns-in-Err-For-clause-fault c =
     let same = c.new-reader.ensures ∙ c.deref-2.ensures.value in
     let placing = ap (map placed) same ∙ c.in_ok-tokens.ensures ∙ ap (λ x. map (placed_in c.args.text.now) (map spelled x)) c.deref.ensures.value in
     let l = c.in-Ok.ensures.tokens in
-    let s = rw c.in-Err-Syntax.field-0-is at c.in-Err-Syntax.ensures.read in
-    let at = place_behind c.args.text.now _ _ _ _ _ (c.deref-in-Err-Syntax.ensures.value ∙ sym same) c.count_left.ensures c.place_left-at.ensures in
-    let m = met Refused _ _ s in
-    let stops = stops_at c.args.text.now Refused _ _ _ (has_tokens c.args.text.now l.0 _ _ l.1 l.2 placing) m at in
-    inr (map placed m.front, map placed m.back, stops, not_left_out _ _ s)
+    let s = rw c.in-Err-For.field-0-is at c.in-Err-For.ensures.read in
+    let at = place_behind c.args.text.now _ _ _ _ _ (c.deref-in-Err-For.ensures.value ∙ sym same) c.count_left.ensures c.place_left-at.ensures in
+    is_met c.args.text.now c.in-Err-For.code _ _ _ s (has_tokens c.args.text.now l.0 _ _ l.1 l.2 placing) at
 
-pub returns-in-Err-Syntax-clause-only : goal.returns-in-Err-Syntax-clause-only
-returns-in-Err-Syntax-clause-only c = λ ts f has spells. fault_only c.args.text.now _ (returns-in-Err-Syntax-clause-fault c) ts f has spells
+pub returns-in-Err-For-clause-only : goal.returns-in-Err-For-clause-only
+returns-in-Err-For-clause-only c = λ ts f has spells. fault_only c.args.text.now _ (returns-in-Err-For-clause-fault c) ts f has spells
 
-pub returns-in-Err-Syntax-clause-refused : goal.returns-in-Err-Syntax-clause-refused
-returns-in-Err-Syntax-clause-refused c = λ e none h. fault_same c.args.text.now _ (returns-in-Err-Syntax-clause-fault c) e none h
-
-pub place_left-at-requires-in-Err-LeftOut : goal.place_left-at-requires-in-Err-LeftOut
-place_left-at-requires-in-Err-LeftOut c =
-    let same = c.new-reader.ensures ∙ c.deref-2.ensures.value in
-    let s = rw c.in-Err-LeftOut.field-0-is at c.in-Err-LeftOut.ensures.read in
-    let w = left_within LeftOut _ _ s in
-    omega (arith, w, c.count_left-in-Err-LeftOut.ensures, ap length same, ap length c.deref-in-Err-LeftOut.ensures.value)
-
-pub returns-clause-fault : goal.returns-clause-fault
-returns-clause-fault c =
-    let same = c.new-reader.ensures ∙ c.deref-2.ensures.value in
-    let placing = ap (map placed) same ∙ c.in_ok-tokens.ensures ∙ ap (λ x. map (placed_in c.args.text.now) (map spelled x)) c.deref.ensures.value in
-    let l = c.in-Ok.ensures.tokens in
-    let s = rw c.in-Err-LeftOut.field-0-is at c.in-Err-LeftOut.ensures.read in
-    let at = place_behind c.args.text.now _ _ _ _ _ (c.deref-in-Err-LeftOut.ensures.value ∙ sym same) c.count_left-in-Err-LeftOut.ensures c.place_left-at-in-Err-LeftOut.ensures in
-    let m = met LeftOut _ _ s in
-    let stops = stops_at c.args.text.now LeftOut _ _ _ (has_tokens c.args.text.now l.0 _ _ l.1 l.2 placing) m at in
-    (map placed m.front, map placed m.back, stops, left_out _ _ s)
-
-pub returns-clause-only : goal.returns-clause-only
-returns-clause-only c = λ ts f has spells. fault_only c.args.text.now _ (returns-clause-fault c) ts f has spells
-
-pub returns-clause-refused : goal.returns-clause-refused
-returns-clause-refused c = λ e none h. fault_same c.args.text.now _ (returns-clause-fault c) e none h
+pub returns-in-Err-For-clause-refused : goal.returns-in-Err-For-clause-refused
+returns-in-Err-For-clause-refused c = λ e none h. fault_same c.args.text.now _ (returns-in-Err-For-clause-fault c) e none h

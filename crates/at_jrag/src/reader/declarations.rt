@@ -4,25 +4,27 @@ ghost use Rattle.std.specs.Prelude.{◌≡◌, ◌∷◌, [], ◌≤◌, map, op
 ghost use Rattle.std.specs.List.{AllByRecursion};
 ghost use lib.Chars.{codes};
 ghost use Rattle.at_jrag.specs.View.{kind_word_view, param_view, params_view, body_view, ending_view, decl_form_view, decl_view, aspect_view, word_view};
-ghost use Rattle.at_jrag.specs.Grammar.{Row, KindOf, ParamOf, Signature, Opens, Listed, Lazy, BodyOf, EndingOf, Behind, DeclOf, Decls};
+ghost use Rattle.at_text.specs.Rows.{Row, left, is_sign, is_word, next_is};
+ghost use Rattle.at_jrag.specs.Grammar.{KindOf, ParamOf, Signature, Opens, Listed, Lazy, BodyOf, EndingOf, Behind, DeclOf, Decls};
 ghost use Rattle.at_jrag.specs.Grammar.{AspectOf, File, NestsWithin, IsWithin, nesting, ending_depth, max_nesting, depth, keyword, Sign};
-ghost use Rattle.at_jrag.specs.Left.{left};
 ghost use Rattle.at_jrag.specs.Heads.{HeadOf, TargetOf, is_getter, index, ParamsOf};
 ghost use Rattle.std.specs.Prelude.{ℕ, ◌<◌, length, List, cond, false, ◌&&◌, IfErr};
 ghost use Rattle.std.specs.Str.{bytes_eq};
 ghost use Rattle.at_text.specs.Reading.{first};
 ghost use Rattle.at_text.specs.Symbols.{is_word_kind};
-ghost use Rattle.at_jrag.specs.Grammar.{next_is, is_sign, is_word};
 ghost use Rattle.at_jrag.specs.Wants as want;
 ghost use Rattle.at_jrag.specs.Wants.{Want};
 ghost use Rattle.at_jrag.specs.Table.{table, is_kind, body_answer, declared};
 ghost use Rattle.at_jrag.specs.Runs.{Pass, Stay, Stays, Missing, NoParam, reason_of};
-ghost use Rattle.at_jrag.specs.declared.reader.ReadError.TheVariants as errors;
+ghost use Rattle.at_text.specs.declared.fault.Failure.TheVariants as failure;
+ghost use Rattle.at_jrag.specs.declared.JragCode.TheVariants as code;
 
-use super::{ReadError, Reader};
+use super::{ReadFault, Reader};
+use crate::JragCode;
 use crate::syntax::{
     Aspect, Body, BodyForm, Decl, DeclForm, Ending, Kind, KindWord, Param, Params, Word,
 };
+use at_text::place::Place;
 use at_text::token::TokenKind;
 
 /// How deep expressions may nest.
@@ -31,7 +33,7 @@ const MAX_NESTING: usize = 64;
 /// A declared attribute, up to the end of its parameters.
 #[derive(Drop)]
 struct Head {
-    lazy: Option<(u32, u32)>,
+    lazy: Option<Place>,
     kind: KindWord,
     class: Word,
     name: Word,
@@ -81,35 +83,35 @@ fn index_of(params: Params) -> Option<Word>
 
 impl<'a> Reader<'a> {
     /// The fault where a keyword was wanted: any other word begins a form that is left out.
-    fn no_keyword(&self) -> ReadError
-        ensures { result ≡ cond (next_is (λ t. is_word_kind t.kind) (left self.now.rest.now)) errors.LeftOut errors.Syntax }
+    fn no_keyword(&self) -> ReadFault
+        ensures { result ≡ cond (next_is (λ t. is_word_kind t.kind) (left self.now.cursor.rest.now)) (failure.For code.LeftOut) (failure.For code.Syntax) }
     {
-        match self.rest {
-            [token, ..] if token.kind == TokenKind::Word => ReadError::LeftOut,
-            _ => ReadError::Syntax,
+        match self.cursor.rest {
+            [token, ..] if token.kind == TokenKind::Word => ReadFault::For(JragCode::LeftOut),
+            _ => ReadFault::For(JragCode::Syntax),
         }
     }
 
     /// The fault where a block has one form alone: any other token is left out.
-    fn no_block(&self) -> ReadError
-        ensures { result ≡ cond (next_is (λ t. true) (left self.now.rest.now)) errors.LeftOut errors.Syntax }
+    fn no_block(&self) -> ReadFault
+        ensures { result ≡ cond (next_is (λ t. true) (left self.now.cursor.rest.now)) (failure.For code.LeftOut) (failure.For code.Syntax) }
     {
-        if self.rest.is_empty() {
-            ReadError::Syntax
+        if self.cursor.rest.is_empty() {
+            ReadFault::For(JragCode::Syntax)
         } else {
-            ReadError::LeftOut
+            ReadFault::For(JragCode::LeftOut)
         }
     }
 
     /// `{ "aspect" name "{" { decl } "}" }`, up to the end.
-    pub fn file(&mut self) -> Result<Vec<Aspect>, ReadError>
-        ensures found { IfOk result (λ v. File (map aspect_view v.items) (left self.old.rest.now) (left self.new.rest.now)) }
+    pub fn file(&mut self) -> Result<Vec<Aspect>, ReadFault>
+        ensures found { IfOk result (λ v. File (map aspect_view v.items) (left self.old.cursor.rest.now) (left self.new.cursor.rest.now)) }
         ensures within { IfOk result (λ v. IsWithin (map aspect_view v.items)) }
-        ensures end { IfOk result (λ v. left self.new.rest.now ≡ []) }
-        ensures stays { IfErr result (λ e. Stay (want.File ∷ []) (reason_of e) (left self.old.rest.now) (left self.new.rest.now)) }
+        ensures end { IfOk result (λ v. left self.new.cursor.rest.now ≡ []) }
+        ensures stays { IfErr result (λ e. Stay (want.File ∷ []) (reason_of e) (left self.old.cursor.rest.now) (left self.new.cursor.rest.now)) }
     {
         let mut aspects = Vec::new(self.alloc);
-        while !self.rest.is_empty() {
+        while !self.cursor.rest.is_empty() {
             let aspect = self.aspect()?;
             aspects.push(aspect)?;
         }
@@ -117,13 +119,13 @@ impl<'a> Reader<'a> {
     }
 
     /// `"aspect" name "{" { decl } "}"`
-    fn aspect(&mut self) -> Result<Aspect, ReadError>
-        requires { 0 < length self.now.rest.now }
-        ensures found { IfOk result (λ a. AspectOf (aspect_view a) (left self.old.rest.now) (left self.new.rest.now)) }
+    fn aspect(&mut self) -> Result<Aspect, ReadFault>
+        requires { 0 < length self.now.cursor.rest.now }
+        ensures found { IfOk result (λ a. AspectOf (aspect_view a) (left self.old.cursor.rest.now) (left self.new.cursor.rest.now)) }
         ensures within { IfOk result (λ a. AllByRecursion NestsWithin (map decl_view a.decls.items)) }
-        ensures stays { IfErr result (λ e. Stay (want.File ∷ []) (reason_of e) (left self.old.rest.now) (left self.new.rest.now)) }
+        ensures stays { IfErr result (λ e. Stay (want.File ∷ []) (reason_of e) (left self.old.cursor.rest.now) (left self.new.cursor.rest.now)) }
     {
-        if self.takes_word("aspect").is_none() {
+        if self.cursor.takes_word("aspect").is_none() {
             return Err(self.no_keyword());
         }
         let name = self.name()?;
@@ -133,11 +135,11 @@ impl<'a> Reader<'a> {
     }
 
     /// `{ decl } "}"`
-    fn decls(&mut self) -> Result<Vec<Decl>, ReadError>
-        ensures found { IfOk result (λ v. (close : Row) × Decls (map decl_view v.items) (left self.old.rest.now) close
-            × Sign (codes "}") close (left self.new.rest.now)) }
+    fn decls(&mut self) -> Result<Vec<Decl>, ReadFault>
+        ensures found { IfOk result (λ v. (close : Row) × Decls (map decl_view v.items) (left self.old.cursor.rest.now) close
+            × Sign (codes "}") close (left self.new.cursor.rest.now)) }
         ensures within { IfOk result (λ v. AllByRecursion NestsWithin (map decl_view v.items)) }
-        ensures stays { IfErr result (λ e. Stay (want.Decls ∷ []) (reason_of e) (left self.old.rest.now) (left self.new.rest.now)) }
+        ensures stays { IfErr result (λ e. Stay (want.Decls ∷ []) (reason_of e) (left self.old.cursor.rest.now) (left self.new.cursor.rest.now)) }
     {
         let mut decls = Vec::new(self.alloc);
         while !self.skips("}") {
@@ -148,25 +150,25 @@ impl<'a> Reader<'a> {
     }
 
     /// A declaration.
-    fn decl(&mut self) -> Result<Decl, ReadError>
-        requires { next_is (is_sign (codes "}")) (left self.now.rest.now) ≡ false }
-        ensures found { IfOk result (λ d. DeclOf (decl_view d) (left self.old.rest.now) (left self.new.rest.now)) }
+    fn decl(&mut self) -> Result<Decl, ReadFault>
+        requires { next_is (is_sign (codes "}")) (left self.now.cursor.rest.now) ≡ false }
+        ensures found { IfOk result (λ d. DeclOf (decl_view d) (left self.old.cursor.rest.now) (left self.new.cursor.rest.now)) }
         ensures within { IfOk result (λ d. NestsWithin (decl_view d)) }
-        ensures stays { IfErr result (λ e. Stay (want.Decls ∷ []) (reason_of e) (left self.old.rest.now) (left self.new.rest.now)) }
+        ensures stays { IfErr result (λ e. Stay (want.Decls ∷ []) (reason_of e) (left self.old.cursor.rest.now) (left self.new.cursor.rest.now)) }
     {
-        if let Some(at) = self.takes_word("syn") {
+        if let Some(at) = self.cursor.takes_word("syn") {
             return Ok(Decl {
                 at,
                 form: self.synthesized()?,
             });
         }
-        if let Some(at) = self.takes_word("inh") {
+        if let Some(at) = self.cursor.takes_word("inh") {
             return Ok(Decl {
                 at,
                 form: self.inherited()?,
             });
         }
-        match self.takes_word("eq") {
+        match self.cursor.takes_word("eq") {
             Some(at) => Ok(Decl {
                 at,
                 form: self.equation()?,
@@ -176,11 +178,11 @@ impl<'a> Reader<'a> {
     }
 
     /// A synthesized attribute behind its `syn`.
-    fn synthesized(&mut self) -> Result<DeclForm, ReadError>
-        ensures found { IfOk result (λ f. Behind (decl_form_view f) (left self.old.rest.now) (left self.new.rest.now)) }
+    fn synthesized(&mut self) -> Result<DeclForm, ReadFault>
+        ensures found { IfOk result (λ f. Behind (decl_form_view f) (left self.old.cursor.rest.now) (left self.new.cursor.rest.now)) }
         ensures keyword { IfOk result (λ f. keyword (decl_form_view f) ≡ codes "syn") }
         ensures within { IfOk result (λ f. nesting (decl_form_view f) ≤ max_nesting) }
-        ensures stays { IfErr result (λ e. Stay (declared (want.Ending ∷ want.Decls ∷ [])) (reason_of e) (left self.old.rest.now) (left self.new.rest.now)) }
+        ensures stays { IfErr result (λ e. Stay (declared (want.Ending ∷ want.Decls ∷ [])) (reason_of e) (left self.old.cursor.rest.now) (left self.new.cursor.rest.now)) }
     {
         let head = self.head()?;
         let ending = self.ending()?;
@@ -195,11 +197,11 @@ impl<'a> Reader<'a> {
     }
 
     /// An inherited attribute behind its `inh`.
-    fn inherited(&mut self) -> Result<DeclForm, ReadError>
-        ensures found { IfOk result (λ f. Behind (decl_form_view f) (left self.old.rest.now) (left self.new.rest.now)) }
+    fn inherited(&mut self) -> Result<DeclForm, ReadFault>
+        ensures found { IfOk result (λ f. Behind (decl_form_view f) (left self.old.cursor.rest.now) (left self.new.cursor.rest.now)) }
         ensures keyword { IfOk result (λ f. keyword (decl_form_view f) ≡ codes "inh") }
         ensures within { IfOk result (λ f. nesting (decl_form_view f) ≤ max_nesting) }
-        ensures stays { IfErr result (λ e. Stay (declared (want.Mark (codes ";") ∷ want.Decls ∷ [])) (reason_of e) (left self.old.rest.now) (left self.new.rest.now)) }
+        ensures stays { IfErr result (λ e. Stay (declared (want.Mark (codes ";") ∷ want.Decls ∷ [])) (reason_of e) (left self.old.cursor.rest.now) (left self.new.cursor.rest.now)) }
     {
         let head = self.head()?;
         self.expects(";")?;
@@ -213,16 +215,16 @@ impl<'a> Reader<'a> {
     }
 
     /// `["lazy"] kind name "." name "(" [params] ")"`, where `circular` behind it is left out.
-    fn head(&mut self) -> Result<Head, ReadError>
-        ensures found { IfOk result (λ h. HeadOf h (left self.old.rest.now) (left self.new.rest.now)) }
-        ensures behind { IfOk result (λ h. next_is (is_word (codes "circular")) (left self.new.rest.now) ≡ false) }
-        ensures stays { IfErr result (λ e. (us : List Want) → Stay (declared us) (reason_of e) (left self.old.rest.now) (left self.new.rest.now)) }
+    fn head(&mut self) -> Result<Head, ReadFault>
+        ensures found { IfOk result (λ h. HeadOf h (left self.old.cursor.rest.now) (left self.new.cursor.rest.now)) }
+        ensures behind { IfOk result (λ h. next_is (is_word (codes "circular")) (left self.new.cursor.rest.now) ≡ false) }
+        ensures stays { IfErr result (λ e. (us : List Want) → Stay (declared us) (reason_of e) (left self.old.cursor.rest.now) (left self.new.cursor.rest.now)) }
     {
         let lazy = self.lazy()?;
         let kind = self.kind()?;
         let target = self.target()?;
-        if self.is_before_word("circular") {
-            return Err(ReadError::LeftOut);
+        if self.cursor.is_before_word("circular") {
+            return Err(ReadFault::For(JragCode::LeftOut));
         }
         Ok(Head {
             lazy,
@@ -234,22 +236,22 @@ impl<'a> Reader<'a> {
     }
 
     /// `["lazy"]`, where `nta` before it or behind it is left out.
-    fn lazy(&mut self) -> Result<Option<(u32, u32)>, ReadError>
-        ensures found { IfOk result (λ o. Lazy o (left self.old.rest.now) (left self.new.rest.now)) }
-        ensures goes { IfOk result (λ o. Pass true (want.Lazy ∷ []) (left self.old.rest.now) (left self.new.rest.now)) }
-        ensures stays { IfErr result (λ e. Stay (want.Lazy ∷ []) (reason_of e) (left self.old.rest.now) (left self.new.rest.now)) }
+    fn lazy(&mut self) -> Result<Option<Place>, ReadFault>
+        ensures found { IfOk result (λ o. Lazy o (left self.old.cursor.rest.now) (left self.new.cursor.rest.now)) }
+        ensures goes { IfOk result (λ o. Pass true (want.Lazy ∷ []) (left self.old.cursor.rest.now) (left self.new.cursor.rest.now)) }
+        ensures stays { IfErr result (λ e. Stay (want.Lazy ∷ []) (reason_of e) (left self.old.cursor.rest.now) (left self.new.cursor.rest.now)) }
     {
-        let lazy = self.takes_word("lazy");
-        if self.is_before_word("nta") {
-            return Err(ReadError::LeftOut);
+        let lazy = self.cursor.takes_word("lazy");
+        if self.cursor.is_before_word("nta") {
+            return Err(ReadFault::For(JragCode::LeftOut));
         }
         Ok(lazy)
     }
 
     /// `name "." name "(" [params] ")"`
-    fn target(&mut self) -> Result<Target, ReadError>
-        ensures found { IfOk result (λ t. TargetOf t (left self.old.rest.now) (left self.new.rest.now)) }
-        ensures stays { IfErr result (λ e. (us : List Want) → Stay (want.Name ∷ want.Mark (codes ".") ∷ want.Signed ∷ us) (reason_of e) (left self.old.rest.now) (left self.new.rest.now)) }
+    fn target(&mut self) -> Result<Target, ReadFault>
+        ensures found { IfOk result (λ t. TargetOf t (left self.old.cursor.rest.now) (left self.new.cursor.rest.now)) }
+        ensures stays { IfErr result (λ e. (us : List Want) → Stay (want.Name ∷ want.Mark (codes ".") ∷ want.Signed ∷ us) (reason_of e) (left self.old.cursor.rest.now) (left self.new.cursor.rest.now)) }
     {
         let class = self.name()?;
         self.expects(".")?;
@@ -263,23 +265,23 @@ impl<'a> Reader<'a> {
     }
 
     /// `"int" | "boolean" | "String" | name`
-    fn kind(&mut self) -> Result<KindWord, ReadError>
-        ensures found { IfOk result (λ k. KindOf (kind_word_view k) (left self.old.rest.now) (left self.new.rest.now)) }
-        ensures missing { IfErr result (λ e. Missing is_kind e (left self.old.rest.now) (left self.new.rest.now)) }
+    fn kind(&mut self) -> Result<KindWord, ReadFault>
+        ensures found { IfOk result (λ k. KindOf (kind_word_view k) (left self.old.cursor.rest.now) (left self.new.cursor.rest.now)) }
+        ensures missing { IfErr result (λ e. Missing is_kind e (left self.old.cursor.rest.now) (left self.new.cursor.rest.now)) }
     {
-        if let Some(at) = self.takes_word("int") {
+        if let Some(at) = self.cursor.takes_word("int") {
             return Ok(KindWord {
                 kind: Kind::Int,
                 at,
             });
         }
-        if let Some(at) = self.takes_word("boolean") {
+        if let Some(at) = self.cursor.takes_word("boolean") {
             return Ok(KindWord {
                 kind: Kind::Bool,
                 at,
             });
         }
-        if let Some(at) = self.takes_word("String") {
+        if let Some(at) = self.cursor.takes_word("String") {
             return Ok(KindWord {
                 kind: Kind::Text,
                 at,
@@ -293,9 +295,9 @@ impl<'a> Reader<'a> {
     }
 
     /// `kind name`
-    fn param(&mut self) -> Result<Param, ReadError>
-        ensures found { IfOk result (λ p. ParamOf (param_view p) (left self.old.rest.now) (left self.new.rest.now)) }
-        ensures missing { IfErr result (λ e. NoParam e (left self.old.rest.now) (left self.new.rest.now)) }
+    fn param(&mut self) -> Result<Param, ReadFault>
+        ensures found { IfOk result (λ p. ParamOf (param_view p) (left self.old.cursor.rest.now) (left self.new.cursor.rest.now)) }
+        ensures missing { IfErr result (λ e. NoParam e (left self.old.cursor.rest.now) (left self.new.cursor.rest.now)) }
     {
         let kind = self.kind()?;
         let name = self.name()?;
@@ -303,19 +305,19 @@ impl<'a> Reader<'a> {
     }
 
     /// `"(" [kind name { "," kind name }] ")"`, behind this name.
-    fn params(&mut self, name: &str) -> Result<Params, ReadError>
-        ensures found { IfOk result (λ p. ParamsOf name.now (params_view p) (left self.old.rest.now) (left self.new.rest.now)) }
-        ensures stays { IfErr result (λ e. Stay (want.Opening (bytes_eq name.now (codes "getChild")) ∷ []) (reason_of e) (left self.old.rest.now) (left self.new.rest.now)) }
+    fn params(&mut self, name: &str) -> Result<Params, ReadFault>
+        ensures found { IfOk result (λ p. ParamsOf name.now (params_view p) (left self.old.cursor.rest.now) (left self.new.cursor.rest.now)) }
+        ensures stays { IfErr result (λ e. Stay (want.Opening (bytes_eq name.now (codes "getChild")) ∷ []) (reason_of e) (left self.old.cursor.rest.now) (left self.new.cursor.rest.now)) }
     {
         self.opens(name)?;
         let mut items = Vec::new(self.alloc);
-        if let Some(end) = self.takes(")") {
+        if let Some(end) = self.cursor.takes_sign(")") {
             return Ok(Params { items, end });
         }
         loop {
             let param = self.param()?;
             items.push(param)?;
-            if let Some(end) = self.takes(")") {
+            if let Some(end) = self.cursor.takes_sign(")") {
                 return Ok(Params { items, end });
             }
             self.expects(",")?;
@@ -325,8 +327,8 @@ impl<'a> Reader<'a> {
     /// Steps over the `.` behind what may be a getter's parameters, if it is next.
     fn skips_getter(&mut self, params: &Params) -> bool
         ensures { MatchBool result
-            ((is_getter (params_view params.now).items ≡ true) × Sign (codes ".") (left self.old.rest.now) (left self.new.rest.now))
-            ((self.new ≡ self.old) × (is_getter (params_view params.now).items && next_is (is_sign (codes ".")) (left self.old.rest.now) ≡ false)) }
+            ((is_getter (params_view params.now).items ≡ true) × Sign (codes ".") (left self.old.cursor.rest.now) (left self.new.cursor.rest.now))
+            ((self.new.cursor ≡ self.old.cursor) × (is_getter (params_view params.now).items && next_is (is_sign (codes ".")) (left self.old.cursor.rest.now) ≡ false)) }
     {
         if is_getter(params) {
             self.skips(".")
@@ -336,11 +338,11 @@ impl<'a> Reader<'a> {
     }
 
     /// An equation behind its `eq`, of a synthesized or of an inherited attribute.
-    fn equation(&mut self) -> Result<DeclForm, ReadError>
-        ensures found { IfOk result (λ f. Behind (decl_form_view f) (left self.old.rest.now) (left self.new.rest.now)) }
+    fn equation(&mut self) -> Result<DeclForm, ReadFault>
+        ensures found { IfOk result (λ f. Behind (decl_form_view f) (left self.old.cursor.rest.now) (left self.new.cursor.rest.now)) }
         ensures keyword { IfOk result (λ f. keyword (decl_form_view f) ≡ codes "eq") }
         ensures within { IfOk result (λ f. nesting (decl_form_view f) ≤ max_nesting) }
-        ensures stays { IfErr result (λ e. Stay (want.Name ∷ want.Mark (codes ".") ∷ want.Signed ∷ want.Defined ∷ want.Decls ∷ []) (reason_of e) (left self.old.rest.now) (left self.new.rest.now)) }
+        ensures stays { IfErr result (λ e. Stay (want.Name ∷ want.Mark (codes ".") ∷ want.Signed ∷ want.Defined ∷ want.Decls ∷ []) (reason_of e) (left self.old.cursor.rest.now) (left self.new.cursor.rest.now)) }
     {
         let target = self.target()?;
         if self.skips_getter(&target.params) {
@@ -356,13 +358,13 @@ impl<'a> Reader<'a> {
     }
 
     /// An equation of an inherited attribute, behind its getter and the `.` there.
-    fn inherited_equation(&mut self, getter: Target) -> Result<DeclForm, ReadError>
+    fn inherited_equation(&mut self, getter: Target) -> Result<DeclForm, ReadFault>
         requires { is_getter (params_view getter.params).items ≡ true }
-        ensures found { IfOk result (λ f. (old mid : Row) → TargetOf getter old mid → Sign (codes ".") mid (left self.old.rest.now)
-            → Behind (decl_form_view f) old (left self.new.rest.now)) }
+        ensures found { IfOk result (λ f. (old mid : Row) → TargetOf getter old mid → Sign (codes ".") mid (left self.old.cursor.rest.now)
+            → Behind (decl_form_view f) old (left self.new.cursor.rest.now)) }
         ensures keyword { IfOk result (λ f. keyword (decl_form_view f) ≡ codes "eq") }
         ensures within { IfOk result (λ f. nesting (decl_form_view f) ≤ max_nesting) }
-        ensures stays { IfErr result (λ e. Stay (want.Signed ∷ want.Body ∷ want.Decls ∷ []) (reason_of e) (left self.old.rest.now) (left self.new.rest.now)) }
+        ensures stays { IfErr result (λ e. Stay (want.Signed ∷ want.Body ∷ want.Decls ∷ []) (reason_of e) (left self.old.cursor.rest.now) (left self.new.cursor.rest.now)) }
     {
         let name = self.name()?;
         let params = self.params(name.text.as_str())?;
@@ -378,24 +380,24 @@ impl<'a> Reader<'a> {
     }
 
     /// `";"`, or a body.
-    fn ending(&mut self) -> Result<Ending, ReadError>
-        ensures found { IfOk result (λ e. EndingOf (ending_view e) (left self.old.rest.now) (left self.new.rest.now)) }
+    fn ending(&mut self) -> Result<Ending, ReadFault>
+        ensures found { IfOk result (λ e. EndingOf (ending_view e) (left self.old.cursor.rest.now) (left self.new.cursor.rest.now)) }
         ensures within { IfOk result (λ e. ending_depth (ending_view e) ≤ max_nesting) }
-        ensures stays { IfErr result (λ e. Stay (want.Ending ∷ []) (reason_of e) (left self.old.rest.now) (left self.new.rest.now)) }
+        ensures stays { IfErr result (λ e. Stay (want.Ending ∷ []) (reason_of e) (left self.old.cursor.rest.now) (left self.new.cursor.rest.now)) }
     {
-        match self.takes(";") {
+        match self.cursor.takes_sign(";") {
             Some(at) => Ok(Ending::Semicolon(at)),
             None => Ok(Ending::Body(self.body()?)),
         }
     }
 
     /// `"=" expr ";" | "{" "return" expr ";" "}"`
-    fn body(&mut self) -> Result<Body, ReadError>
-        ensures found { IfOk result (λ b. BodyOf (body_view b) (left self.old.rest.now) (left self.new.rest.now)) }
+    fn body(&mut self) -> Result<Body, ReadFault>
+        ensures found { IfOk result (λ b. BodyOf (body_view b) (left self.old.cursor.rest.now) (left self.new.cursor.rest.now)) }
         ensures within { IfOk result (λ b. depth (body_view b).expr ≤ max_nesting) }
-        ensures stays { IfErr result (λ e. (w : Want) (d : ℕ) → table w d (first (left self.old.rest.now)) ≡ body_answer (first (left self.old.rest.now)) → Stays (w ∷ []) d (reason_of e) (left self.old.rest.now) (left self.new.rest.now)) }
+        ensures stays { IfErr result (λ e. (w : Want) (d : ℕ) → table w d (first (left self.old.cursor.rest.now)) ≡ body_answer (first (left self.old.cursor.rest.now)) → Stays (w ∷ []) d (reason_of e) (left self.old.cursor.rest.now) (left self.new.cursor.rest.now)) }
     {
-        if let Some(at) = self.takes("=") {
+        if let Some(at) = self.cursor.takes_sign("=") {
             let expr = self.expression(MAX_NESTING)?;
             self.expects(";")?;
             return Ok(Body {
@@ -405,7 +407,7 @@ impl<'a> Reader<'a> {
             });
         }
         let at = self.expects("{")?;
-        if self.takes_word("return").is_none() {
+        if self.cursor.takes_word("return").is_none() {
             return Err(self.no_block());
         }
         let expr = self.expression(MAX_NESTING)?;

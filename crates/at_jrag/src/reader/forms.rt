@@ -8,6 +8,7 @@ ghost use Rattle.at_jrag.specs.Read.{prefix_view};
 
 use super::operators::Prefix;
 use crate::syntax::{Expr, FoldForm, Form, OperatorWord, Word};
+use at_text::place::Place;
 use std::alloc::{AllocError, Global};
 
 /// An expression, and how deep expressions nest in it: a literal, a name or a call without parts once.
@@ -48,7 +49,7 @@ pub struct Arguments {
 }
 
 /// A form without parts.
-pub fn leaf(at: (u32, u32), form: Form) -> Measured
+pub fn leaf(at: Place, form: Form) -> Measured
     ensures depth { result.depth ≡ 1 }
     ensures made { expr_view result.expr ≡ form_view form at }
 {
@@ -59,7 +60,7 @@ pub fn leaf(at: (u32, u32), form: Form) -> Measured
 }
 
 /// `(E)`
-pub fn parenthesized(alloc: Global, at: (u32, u32), inner: Measured) -> Result<Measured, AllocError>
+pub fn parenthesized(alloc: Global, at: Place, inner: Measured) -> Result<Measured, AllocError>
     requires { inner.depth < 64 }
     ensures depth { IfOk result (λ m. m.depth ≡ 1 + inner.depth) }
     ensures made { IfOk result (λ m. expr_view m.expr ≡ syntax.Paren at (expr_view inner.expr)) }
@@ -78,7 +79,7 @@ pub fn parenthesized(alloc: Global, at: (u32, u32), inner: Measured) -> Result<M
 /// An operand behind what stands before it.
 pub fn prefixed(
     alloc: Global,
-    at: (u32, u32),
+    at: Place,
     prefix: Prefix,
     inner: Measured,
 ) -> Result<Measured, AllocError>
@@ -129,7 +130,7 @@ pub fn operation(
 pub fn instance_of(
     alloc: Global,
     operand: Measured,
-    behind: (u32, u32),
+    behind: Place,
     class: Word,
 ) -> Result<Measured, AllocError>
     requires { operand.depth < 64 }
@@ -153,7 +154,7 @@ pub fn instance_of(
 pub fn choice(
     alloc: Global,
     condition: Measured,
-    behind: (u32, u32),
+    behind: Place,
     then: Measured,
     other: Measured,
 ) -> Result<Measured, AllocError>
@@ -223,7 +224,7 @@ pub fn call_of(
 /// A fold over a list.
 pub fn fold(
     alloc: Global,
-    at: (u32, u32),
+    at: Place,
     form: FoldForm,
     name: Word,
     list: Measured,

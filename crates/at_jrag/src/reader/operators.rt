@@ -4,18 +4,22 @@ ghost use Rattle.std.specs.Prelude.{◌≡◌, ◌∷◌, ◌<◌, ◌≤◌, �
 ghost use Rattle.at_model.specs.Names.{is_name};
 ghost use Rattle.at_text.specs.Reading.{first};
 ghost use Rattle.at_jrag.specs.Table.{next_rank, link_rank, sign_rank, begins_fold, opens_unary};
-ghost use Rattle.at_jrag.specs.declared.reader.ReadError.TheVariants as error;
+ghost use Rattle.at_text.specs.declared.fault.Failure.TheVariants as failure;
+ghost use Rattle.at_jrag.specs.declared.JragCode.TheVariants as code;
 ghost use lib.Chars.{codes};
 ghost use Rattle.at_text.specs.Symbols.{placed};
 ghost use Rattle.at_jrag.specs.View.{operator_view, fold_view};
-ghost use Rattle.at_jrag.specs.Grammar.{Row, sign, word, next_is, is_sign, is_word, is_text, operator_text, operator_level, fold_text, follows_cast, is_opening};
-ghost use Rattle.at_jrag.specs.Left.{left};
+ghost use Rattle.at_text.specs.Rows.{Row, left, sign, word, is_sign, is_word, next_is};
+ghost use Rattle.at_jrag.specs.Grammar.{is_text, operator_text, operator_level, fold_text, follows_cast, is_opening};
 ghost use Rattle.at_jrag.specs.Read.{LinkIs, LinksTo, opens_negative, opens_cast, is_constant, StandsBefore, NestsWithin};
 
 use super::literals::number;
-use super::{ReadError, Reader, is_name_token, is_sign, is_word};
+use super::{ReadFault, Reader};
+use crate::JragCode;
 use crate::syntax::{FoldForm, Operator, OperatorWord, Word};
+use at_text::cursor::{is_name_token, is_sign, is_word};
 use at_text::names::is_name;
+use at_text::place::Place;
 use at_text::placed::Placed;
 use at_text::token::TokenKind;
 
@@ -29,7 +33,7 @@ pub const UNARY: usize = 7;
 #[derive(Clone, Copy)]
 pub enum Link {
     Operator(OperatorWord),
-    InstanceOf((u32, u32)),
+    InstanceOf(Place),
 }
 
 /// What stands before its operand.
@@ -142,16 +146,16 @@ impl<'a> Reader<'a> {
         text: &str,
         depth: usize,
         budget: usize,
-    ) -> Result<Option<(u32, u32)>, ReadError>
+    ) -> Result<Option<Place>, ReadFault>
         ensures found { IfOk result (λ o. MatchOption o
-            ((self.new ≡ self.old) × (next_is (is_sign text.now) (left self.old.rest.now) ≡ false))
-            (λ at. (left self.old.rest.now ≡ sign text.now at ∷ left self.new.rest.now) × (depth < budget))) }
-        ensures refused { IfErr result (λ e. (e ≡ error.Nesting) × (self.new ≡ self.old) × (next_is (is_sign text.now) (left self.old.rest.now) ≡ true) × (budget ≤ depth)) }
+            ((self.new.cursor ≡ self.old.cursor) × (next_is (is_sign text.now) (left self.old.cursor.rest.now) ≡ false))
+            (λ at. (left self.old.cursor.rest.now ≡ sign text.now at ∷ left self.new.cursor.rest.now) × (depth < budget))) }
+        ensures refused { IfErr result (λ e. (e ≡ failure.For code.Nesting) × (self.new.cursor ≡ self.old.cursor) × (next_is (is_sign text.now) (left self.old.cursor.rest.now) ≡ true) × (budget ≤ depth)) }
     {
-        if self.is_before(text) && budget <= depth {
-            return Err(ReadError::Nesting);
+        if self.cursor.is_before_sign(text) && budget <= depth {
+            return Err(ReadFault::For(JragCode::Nesting));
         }
-        Ok(self.takes(text))
+        Ok(self.cursor.takes_sign(text))
     }
 
     /// Steps over what goes on behind a left operand of this level and depth, if that is next.
@@ -160,14 +164,14 @@ impl<'a> Reader<'a> {
         level: usize,
         depth: usize,
         budget: usize,
-    ) -> Result<Option<Link>, ReadError>
+    ) -> Result<Option<Link>, ReadFault>
         requires level { level < 7 }
-        ensures found { IfOk result (λ o. MatchOption o (self.new ≡ self.old)
-            (λ l. (depth < budget) × LinksTo level l (left self.old.rest.now) (left self.new.rest.now))) }
-        ensures none { IfOk result (λ o. IfNone o (next_rank (first (left self.old.rest.now)) + level ≡ 7 → ⊥)) }
-        ensures refused { IfErr result (λ e. (e ≡ error.Nesting) × (self.new ≡ self.old) × (budget ≤ depth) × (next_rank (first (left self.old.rest.now)) + level ≡ 7)) }
+        ensures found { IfOk result (λ o. MatchOption o (self.new.cursor ≡ self.old.cursor)
+            (λ l. (depth < budget) × LinksTo level l (left self.old.cursor.rest.now) (left self.new.cursor.rest.now))) }
+        ensures none { IfOk result (λ o. IfNone o (next_rank (first (left self.old.cursor.rest.now)) + level ≡ 7 → ⊥)) }
+        ensures refused { IfErr result (λ e. (e ≡ failure.For code.Nesting) × (self.new.cursor ≡ self.old.cursor) × (budget ≤ depth) × (next_rank (first (left self.old.cursor.rest.now)) + level ≡ 7)) }
     {
-        let link = match self.rest {
+        let link = match self.cursor.rest {
             [token, ..] => link_of(token, level),
             [] => None,
         };
@@ -175,57 +179,57 @@ impl<'a> Reader<'a> {
             return Ok(None);
         }
         if budget <= depth {
-            return Err(ReadError::Nesting);
+            return Err(ReadFault::For(JragCode::Nesting));
         }
-        self.step();
+        self.cursor.advance();
         Ok(link)
     }
 
     /// The fault where no expression may nest any more.
-    pub fn too_deep(&self) -> ReadError
-        ensures { (result ≡ error.Memory) ⊎ (result ≡ cond (next_is opens_unary (left self.now.rest.now)) error.Nesting error.Syntax) }
+    pub fn too_deep(&self) -> ReadFault
+        ensures { (result ≡ failure.Memory) ⊎ (result ≡ cond (next_is opens_unary (left self.now.cursor.rest.now)) (failure.For code.Nesting) (failure.For code.Syntax)) }
     {
-        let [token, ..] = self.rest else {
-            return ReadError::Syntax;
+        let [token, ..] = self.cursor.rest else {
+            return ReadFault::For(JragCode::Syntax);
         };
         if token.kind == TokenKind::Text {
             return match self.text(token.at, token.text) {
-                Ok(_) => ReadError::Nesting,
+                Ok(_) => ReadFault::For(JragCode::Nesting),
                 Err(e) => e,
             };
         }
         if opens_expression(token) {
-            ReadError::Nesting
+            ReadFault::For(JragCode::Nesting)
         } else {
-            ReadError::Syntax
+            ReadFault::For(JragCode::Syntax)
         }
     }
 
     /// Steps over the word that begins a fold, if one is next.
-    pub fn fold_word(&mut self, budget: usize) -> Result<Option<((u32, u32), FoldForm)>, ReadError>
-        ensures found { IfOk result (λ o. MatchOption o (self.new ≡ self.old)
-            (λ f. (1 < budget) × (left self.old.rest.now ≡ word (fold_text (fold_view f.1)) f.0 ∷ left self.new.rest.now))) }
-        ensures none { IfOk result (λ o. IfNone o (next_is begins_fold (left self.old.rest.now) ≡ false)) }
-        ensures refused { IfErr result (λ e. (e ≡ error.Nesting) × (self.new ≡ self.old) × (budget ≤ 1) × (next_is begins_fold (left self.old.rest.now) ≡ true)) }
+    pub fn fold_word(&mut self, budget: usize) -> Result<Option<(Place, FoldForm)>, ReadFault>
+        ensures found { IfOk result (λ o. MatchOption o (self.new.cursor ≡ self.old.cursor)
+            (λ f. (1 < budget) × (left self.old.cursor.rest.now ≡ word (fold_text (fold_view f.1)) f.0 ∷ left self.new.cursor.rest.now))) }
+        ensures none { IfOk result (λ o. IfNone o (next_is begins_fold (left self.old.cursor.rest.now) ≡ false)) }
+        ensures refused { IfErr result (λ e. (e ≡ failure.For code.Nesting) × (self.new.cursor ≡ self.old.cursor) × (budget ≤ 1) × (next_is begins_fold (left self.old.cursor.rest.now) ≡ true)) }
     {
-        let [token, ..] = self.rest else {
+        let [token, ..] = self.cursor.rest else {
             return Ok(None);
         };
         let Some(form) = fold_of(token) else {
             return Ok(None);
         };
         if budget <= 1 {
-            return Err(ReadError::Nesting);
+            return Err(ReadFault::For(JragCode::Nesting));
         }
-        self.step();
+        self.cursor.advance();
         Ok(Some((token.at, form)))
     }
 
     /// Whether `( NAME )` is next, and behind it what makes it a cast.
     fn is_at_cast(&self) -> bool
-        ensures { result ≡ opens_cast (left self.now.rest.now) }
+        ensures { result ≡ opens_cast (left self.now.cursor.rest.now) }
     {
-        match self.rest {
+        match self.cursor.rest {
             [open, name, close, next, ..] => {
                 is_sign(open, "(")
                     && is_name_token(name)
@@ -237,10 +241,10 @@ impl<'a> Reader<'a> {
     }
 
     /// `( NAME )`
-    fn cast(&mut self) -> Result<((u32, u32), Prefix), ReadError>
-        requires { opens_cast (left self.now.rest.now) ≡ true }
-        ensures found { IfOk result (λ p. StandsBefore p.1 p.0 (left self.old.rest.now) (left self.new.rest.now)) }
-        ensures refused { IfErr result (λ e. e ≡ error.Memory) }
+    fn cast(&mut self) -> Result<(Place, Prefix), ReadFault>
+        requires { opens_cast (left self.now.cursor.rest.now) ≡ true }
+        ensures found { IfOk result (λ p. StandsBefore p.1 p.0 (left self.old.cursor.rest.now) (left self.new.cursor.rest.now)) }
+        ensures refused { IfErr result (λ e. e ≡ failure.Memory) }
     {
         let at = self.expects("(")?;
         let class = self.name()?;
@@ -249,17 +253,17 @@ impl<'a> Reader<'a> {
     }
 
     /// What stands before an operand, if that is next: `!`, `-`, or the class of a cast.
-    pub fn prefix(&mut self, budget: usize) -> Result<Option<((u32, u32), Prefix)>, ReadError>
-        requires { opens_negative (left self.now.rest.now) ≡ false }
+    pub fn prefix(&mut self, budget: usize) -> Result<Option<(Place, Prefix)>, ReadFault>
+        requires { opens_negative (left self.now.cursor.rest.now) ≡ false }
         ensures found { IfOk result (λ o. MatchOption o
-            ((self.new ≡ self.old) × (next_is (is_sign (codes "-")) (left self.old.rest.now) ≡ false))
-            (λ p. StandsBefore p.1 p.0 (left self.old.rest.now) (left self.new.rest.now))) }
+            ((self.new.cursor ≡ self.old.cursor) × (next_is (is_sign (codes "-")) (left self.old.cursor.rest.now) ≡ false))
+            (λ p. StandsBefore p.1 p.0 (left self.old.cursor.rest.now) (left self.new.cursor.rest.now))) }
         ensures within { IfOk result (λ o. MatchOption o (Unit {0}) (λ p. NestsWithin p.1 budget)) }
-        ensures none { IfOk result (λ o. IfNone o ((next_is (is_sign (codes "!")) (left self.old.rest.now) ≡ false) × (opens_cast (left self.old.rest.now) ≡ false))) }
-        ensures refused { IfErr result (λ e. (e ≡ error.Memory) ⊎ ((e ≡ error.Nesting) × (self.new ≡ self.old) × (budget ≤ 1)
-            × ((next_is (is_sign (codes "!")) (left self.old.rest.now) ≡ true) ⊎ (opens_cast (left self.old.rest.now) ≡ true)))) }
+        ensures none { IfOk result (λ o. IfNone o ((next_is (is_sign (codes "!")) (left self.old.cursor.rest.now) ≡ false) × (opens_cast (left self.old.cursor.rest.now) ≡ false))) }
+        ensures refused { IfErr result (λ e. (e ≡ failure.Memory) ⊎ ((e ≡ failure.For code.Nesting) × (self.new.cursor ≡ self.old.cursor) × (budget ≤ 1)
+            × ((next_is (is_sign (codes "!")) (left self.old.cursor.rest.now) ≡ true) ⊎ (opens_cast (left self.old.cursor.rest.now) ≡ true)))) }
     {
-        if let Some(at) = self.takes("-") {
+        if let Some(at) = self.cursor.takes_sign("-") {
             return Ok(Some((at, Prefix::Minus)));
         }
         if let Some(at) = self.takes_within("!", 1, budget)? {
@@ -269,7 +273,7 @@ impl<'a> Reader<'a> {
             return Ok(None);
         }
         if budget <= 1 {
-            return Err(ReadError::Nesting);
+            return Err(ReadFault::For(JragCode::Nesting));
         }
         Ok(Some(self.cast()?))
     }

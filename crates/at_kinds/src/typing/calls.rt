@@ -14,6 +14,7 @@ use crate::code::RuleCode;
 use crate::signatures::WrittenKind;
 use at_class::ClassId;
 use at_rules::{AttrId, Body, Kind};
+use at_text::place::Place;
 use std::alloc::{AllocError, Global};
 
 impl Scope<'_> {
@@ -23,7 +24,7 @@ impl Scope<'_> {
         receiver: Typed,
         name: &str,
         arguments: Vec<Typed>,
-        at: (u32, u32),
+        at: Place,
     ) -> Result<Typed, TypeFault>
         ensures { Judges typed_view (called_of (scope_view self.now) at name.now (typed_view receiver) (map typed_view arguments.items)) result }
     {
@@ -40,7 +41,7 @@ impl Scope<'_> {
         node: Box<Body>,
         name: &str,
         arguments: Vec<Typed>,
-        at: (u32, u32),
+        at: Place,
     ) -> Result<Typed, TypeFault>
         ensures { Judges typed_view (asked_by_kind (scope_view self.now) at name.now kind (body_view node.value) (map typed_view arguments.items)) result }
     {
@@ -52,12 +53,7 @@ impl Scope<'_> {
     }
 
     /// `equals` of two texts.
-    fn equal(
-        &self,
-        receiver: Typed,
-        arguments: Vec<Typed>,
-        at: (u32, u32),
-    ) -> Result<Typed, TypeFault>
+    fn equal(&self, receiver: Typed, arguments: Vec<Typed>, at: Place) -> Result<Typed, TypeFault>
         ensures { Judges typed_view (equal_of at (typed_view receiver) (map typed_view arguments.items)) result }
     {
         if !receiver.kind.is_text() {
@@ -68,7 +64,7 @@ impl Scope<'_> {
     }
 
     /// The only argument of the call at that place, a text.
-    fn text_argument(&self, arguments: Vec<Typed>, at: (u32, u32)) -> Result<Box<Body>, TypeFault>
+    fn text_argument(&self, arguments: Vec<Typed>, at: Place) -> Result<Box<Body>, TypeFault>
         ensures { Judges boxed_view (one_argument is_text at (map typed_view arguments.items)) result }
     {
         let argument = self.only(arguments, at)?;
@@ -76,7 +72,7 @@ impl Scope<'_> {
     }
 
     /// The only argument of the call at that place, an int.
-    fn int_argument(&self, arguments: Vec<Typed>, at: (u32, u32)) -> Result<Box<Body>, TypeFault>
+    fn int_argument(&self, arguments: Vec<Typed>, at: Place) -> Result<Box<Body>, TypeFault>
         ensures { Judges boxed_view (one_argument is_int at (map typed_view arguments.items)) result }
     {
         let argument = self.only(arguments, at)?;
@@ -84,7 +80,7 @@ impl Scope<'_> {
     }
 
     /// The only argument of the call at that place.
-    fn only(&self, arguments: Vec<Typed>, at: (u32, u32)) -> Result<Typed, TypeFault>
+    fn only(&self, arguments: Vec<Typed>, at: Place) -> Result<Typed, TypeFault>
         ensures { Judges typed_view (only at (map typed_view arguments.items)) result }
     {
         let mut arguments = arguments;
@@ -104,7 +100,7 @@ impl Scope<'_> {
         node: Box<Body>,
         name: &str,
         arguments: Vec<Typed>,
-        at: (u32, u32),
+        at: Place,
     ) -> Result<Typed, TypeFault>
         ensures { Judges typed_view (asked_in (scope_view self.now) at name.now class (body_view node.value) (map typed_view arguments.items)) result }
     {
@@ -124,7 +120,7 @@ impl Scope<'_> {
         accessor: Accessor,
         node: Box<Body>,
         arguments: Vec<Typed>,
-        at: (u32, u32),
+        at: Place,
     ) -> Result<Typed, TypeFault>
         ensures { Judges typed_view (accessed_by at accessor (body_view node.value) (map typed_view arguments.items)) result }
     {
@@ -144,7 +140,7 @@ impl Scope<'_> {
         &self,
         accessor: Accessor,
         node: Box<Body>,
-        at: (u32, u32),
+        at: Place,
     ) -> Result<Typed, TypeFault>
         ensures { Judges typed_view (accessed_by at accessor (body_view node.value) []) result }
     {
@@ -168,7 +164,7 @@ impl Scope<'_> {
         attribute: AttrId,
         node: Box<Body>,
         arguments: Vec<Typed>,
-        at: (u32, u32),
+        at: Place,
     ) -> Result<Typed, TypeFault>
         ensures { Judges typed_view (demanded_of self.now.classes.now at attribute (slice_get self.now.signatures.now attribute) (body_view node.value) (map typed_view arguments.items)) result }
     {
@@ -185,7 +181,7 @@ impl Scope<'_> {
         &self,
         arguments: Vec<Typed>,
         params: &[WrittenKind],
-        at: (u32, u32),
+        at: Place,
     ) -> Result<Vec<Body>, TypeFault>
         ensures { Judges (λ bodies. bodies_view bodies.items) (fitted_to self.now.classes.now at (map typed_view arguments.items) params.now) result }
     {
@@ -200,7 +196,7 @@ impl Scope<'_> {
     }
 
     /// The place of the first argument that is wrong for its parameter.
-    fn misfit(&self, arguments: &[Typed], params: &[WrittenKind]) -> Option<(u32, u32)>
+    fn misfit(&self, arguments: &[Typed], params: &[WrittenKind]) -> Option<Place>
         ensures { result ≡ misfit self.now.classes.now (map typed_view arguments.now) params.now }
     {
         for (i, argument) in arguments.iter().enumerate() {

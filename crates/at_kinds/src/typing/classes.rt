@@ -10,15 +10,11 @@ use crate::code::RuleCode;
 use at_class::ClassId;
 use at_jrag::Word;
 use at_rules::Body;
+use at_text::place::Place;
 
 impl Scope<'_> {
     /// `(CLASS) E`
-    pub(super) fn cast(
-        &self,
-        class: &Word,
-        inner: Typed,
-        at: (u32, u32),
-    ) -> Result<Typed, TypeFault>
+    pub(super) fn cast(&self, class: &Word, inner: Typed, at: Place) -> Result<Typed, TypeFault>
         ensures { Judges typed_view (cast_to self.now.classes.now at (word_view class.now) (typed_view inner)) result }
     {
         let class = self.class_of_node(class, &inner, at)?;
@@ -26,12 +22,7 @@ impl Scope<'_> {
     }
 
     /// `E instanceof CLASS`
-    pub(super) fn tested(
-        &self,
-        inner: Typed,
-        class: &Word,
-        at: (u32, u32),
-    ) -> Result<Typed, TypeFault>
+    pub(super) fn tested(&self, inner: Typed, class: &Word, at: Place) -> Result<Typed, TypeFault>
         ensures { Judges typed_view (tested_by self.now.classes.now at (word_view class.now) (typed_view inner)) result }
     {
         let class = self.class_of_node(class, &inner, at)?;
@@ -39,12 +30,7 @@ impl Scope<'_> {
     }
 
     /// The class that the word names, beside an expression that has to be a node or null.
-    fn class_of_node(
-        &self,
-        class: &Word,
-        inner: &Typed,
-        at: (u32, u32),
-    ) -> Result<ClassId, TypeFault>
+    fn class_of_node(&self, class: &Word, inner: &Typed, at: Place) -> Result<ClassId, TypeFault>
         ensures { Judges (λ c. c) (class_beside self.now.classes.now at (word_view class.now) (typed_view inner.now)) result }
     {
         let Some(class) = self.classes.id_of(class.text.as_str()) else {

@@ -13,6 +13,7 @@ use crate::code::RuleCode;
 use at_class::ClassId;
 use at_jrag::FoldForm;
 use at_rules::Body;
+use at_text::place::Place;
 
 /// The list of a fold: the node, the position of its component, and the class of the elements.
 #[derive(Drop)]
@@ -30,8 +31,8 @@ impl Scope<'_> {
         receiver: Typed,
         name: &str,
         arguments: Vec<Typed>,
-        at: (u32, u32),
-        fold: (u32, u32),
+        at: Place,
+        fold: Place,
     ) -> Result<List, TypeFault>
         ensures { Judges list_view (list_called_by (scope_view self.now) fold at name.now (typed_view receiver) (map typed_view arguments.items)) result }
     {
@@ -65,7 +66,7 @@ impl Scope<'_> {
         form: FoldForm,
         list: List,
         body: Typed,
-        at: (u32, u32),
+        at: Place,
     ) -> Result<Typed, TypeFault>
         ensures { Judges typed_view (folded_by at (fold_view form) (list_view list) (typed_view body)) result }
     {
@@ -77,7 +78,7 @@ impl Scope<'_> {
     }
 
     /// `exists (NAME : LIST) { E }`
-    fn exists(&self, list: List, body: Typed, at: (u32, u32)) -> Result<Typed, TypeFault>
+    fn exists(&self, list: List, body: Typed, at: Place) -> Result<Typed, TypeFault>
         ensures { Judges typed_view (folded_by at written.Exists (list_view list) (typed_view body)) result }
     {
         let whole = Body::Exists(list.node, list.part, body.body);
@@ -85,7 +86,7 @@ impl Scope<'_> {
     }
 
     /// `first (NAME : LIST) { E }`
-    fn first(&self, list: List, body: Typed, at: (u32, u32)) -> Result<Typed, TypeFault>
+    fn first(&self, list: List, body: Typed, at: Place) -> Result<Typed, TypeFault>
         ensures { Judges typed_view (folded_by at written.First (list_view list) (typed_view body)) result }
     {
         let whole = Body::First(list.node, list.part, body.body);
@@ -93,7 +94,7 @@ impl Scope<'_> {
     }
 
     /// `sum (NAME : LIST) { E }`
-    fn sum(&self, list: List, body: Typed, at: (u32, u32)) -> Result<Typed, TypeFault>
+    fn sum(&self, list: List, body: Typed, at: Place) -> Result<Typed, TypeFault>
         ensures { Judges typed_view (folded_by at written.Sum (list_view list) (typed_view body)) result }
     {
         let whole = Body::Sum(list.node, list.part, body.body);

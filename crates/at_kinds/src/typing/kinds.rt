@@ -8,6 +8,7 @@ ghost use Rattle.at_kinds.specs.Typed.{typed_view};
 use crate::signatures::WrittenKind;
 use at_class::{ClassId, ClassTable};
 use at_rules::{Body, Kind};
+use at_text::place::Place;
 
 /// The kind of an expression.
 #[derive(Clone, Copy, PartialEq, Eq)]
@@ -161,14 +162,14 @@ fn upper(classes: &ClassTable, class: ClassId, second: ClassId) -> Option<ExprKi
 /// An expression with its place: its kind, and the body that it means.
 #[derive(Drop)]
 pub struct Typed {
-    pub at: (u32, u32),
+    pub at: Place,
     pub kind: ExprKind,
     pub body: Box<Body>,
 }
 
 impl Typed {
     /// The same, at another place.
-    pub fn placed(self, at: (u32, u32)) -> Typed
+    pub fn placed(self, at: Place) -> Typed
         ensures { typed_view result ≡ record { at = at; kind = self.kind; body = body_view self.body.value } }
     {
         Typed {

@@ -11,19 +11,20 @@ use crate::code::RuleCode;
 use crate::signatures::WrittenKind;
 use at_class::ClassId;
 use at_rules::{Body, Kind};
+use at_text::place::Place;
 use std::alloc::{AllocError, Global};
 use std::rc::Rc;
 
 impl Scope<'_> {
     /// `this`
-    pub(super) fn this(&self, at: (u32, u32)) -> Result<Typed, TypeFault>
+    pub(super) fn this(&self, at: Place) -> Result<Typed, TypeFault>
         ensures { Judges typed_view (Is (this_node (scope_view self.now) at)) result }
     {
         self.of_kind(ExprKind::Class(self.this), Body::This, at)
     }
 
     /// A number.
-    pub(super) fn number(&self, value: &i32, at: (u32, u32)) -> Result<Typed, TypeFault>
+    pub(super) fn number(&self, value: &i32, at: Place) -> Result<Typed, TypeFault>
         ensures { Judges typed_view (of_kind at ExprKind.Int (model.IntLiteral value.now)) result }
     {
         let value = *value;
@@ -31,7 +32,7 @@ impl Scope<'_> {
     }
 
     /// A quoted text.
-    pub(super) fn text(&self, text: &str, at: (u32, u32)) -> Result<Typed, TypeFault>
+    pub(super) fn text(&self, text: &str, at: Place) -> Result<Typed, TypeFault>
         ensures { Judges typed_view (of_kind at ExprKind.Text (model.TextLiteral text.now)) result }
     {
         let text = String::from_str(self.alloc, text)?;
@@ -39,7 +40,7 @@ impl Scope<'_> {
     }
 
     /// A name: of the innermost fold that has it, else of a parameter, else the index name.
-    pub(super) fn named(&self, name: &str, at: (u32, u32)) -> Result<Typed, TypeFault>
+    pub(super) fn named(&self, name: &str, at: Place) -> Result<Typed, TypeFault>
         ensures { Judges typed_view (named_in (scope_view self.now) at name.now) result }
     {
         match self.bound_to(name) {
@@ -58,7 +59,7 @@ impl Scope<'_> {
     }
 
     /// The index name, where it is that one.
-    fn index_named(&self, name: &str, at: (u32, u32)) -> Result<Typed, TypeFault>
+    fn index_named(&self, name: &str, at: Place) -> Result<Typed, TypeFault>
         ensures { Judges typed_view (index_named at (index_eq (option_map (λ n. n.now) self.now.index) name.now)) result }
     {
         match self.index {

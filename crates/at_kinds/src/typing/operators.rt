@@ -13,10 +13,11 @@ use super::{Scope, TypeFault, refused};
 use crate::code::RuleCode;
 use at_jrag::Operator as Sign;
 use at_rules::{Body, Operator, Order};
+use at_text::place::Place;
 
 impl Scope<'_> {
     /// `-E`
-    pub(super) fn negated(&self, inner: Typed, at: (u32, u32)) -> Result<Typed, TypeFault>
+    pub(super) fn negated(&self, inner: Typed, at: Place) -> Result<Typed, TypeFault>
         ensures { Judges typed_view (negation at (typed_view inner)) result }
     {
         self.kind_if(
@@ -28,7 +29,7 @@ impl Scope<'_> {
     }
 
     /// `!E`
-    pub(super) fn opposite(&self, inner: Typed, at: (u32, u32)) -> Result<Typed, TypeFault>
+    pub(super) fn opposite(&self, inner: Typed, at: Place) -> Result<Typed, TypeFault>
         ensures { Judges typed_view (opposite_of at (typed_view inner)) result }
     {
         self.kind_if(
@@ -45,7 +46,7 @@ impl Scope<'_> {
         sign: Sign,
         left: Typed,
         right: Typed,
-        at: (u32, u32),
+        at: Place,
     ) -> Result<Typed, TypeFault>
         ensures { Judges typed_view (joined_of at (sign_view sign) (typed_view left) (typed_view right)) result }
     {
@@ -67,7 +68,7 @@ impl Scope<'_> {
     }
 
     /// `+`: of two ints; of a text with a text or with an int.
-    fn added(&self, left: Typed, right: Typed, at: (u32, u32)) -> Result<Typed, TypeFault>
+    fn added(&self, left: Typed, right: Typed, at: Place) -> Result<Typed, TypeFault>
         ensures { Judges typed_view (added_of at (typed_view left) (typed_view right)) result }
     {
         if left.kind.is_text() {
@@ -77,7 +78,7 @@ impl Scope<'_> {
     }
 
     /// A text joined with a text, or with an int.
-    fn text_joined(&self, left: Box<Body>, right: Typed, at: (u32, u32)) -> Result<Typed, TypeFault>
+    fn text_joined(&self, left: Box<Body>, right: Typed, at: Place) -> Result<Typed, TypeFault>
         ensures { Judges typed_view (text_joined_of at (body_view left.value) right.kind (body_view right.body.value)) result }
     {
         match right.kind {
@@ -93,7 +94,7 @@ impl Scope<'_> {
         operator: Operator,
         left: Typed,
         right: Typed,
-        at: (u32, u32),
+        at: Place,
     ) -> Result<Typed, TypeFault>
         ensures { Judges typed_view (computed_of at (operator_view operator) (typed_view left) (typed_view right)) result }
     {
@@ -111,7 +112,7 @@ impl Scope<'_> {
         order: Order,
         left: Typed,
         right: Typed,
-        at: (u32, u32),
+        at: Place,
     ) -> Result<Typed, TypeFault>
         ensures { Judges typed_view (ordered_of at (order_view order) (typed_view left) (typed_view right)) result }
     {
@@ -124,7 +125,7 @@ impl Scope<'_> {
     }
 
     /// `==`
-    fn same(&self, left: Typed, right: Typed, at: (u32, u32)) -> Result<Typed, TypeFault>
+    fn same(&self, left: Typed, right: Typed, at: Place) -> Result<Typed, TypeFault>
         ensures { Judges typed_view (kind_if (are_alike left.kind right.kind) at ExprKind.Bool (model.Same (body_view left.body.value) (body_view right.body.value))) result }
     {
         self.kind_if(
@@ -136,7 +137,7 @@ impl Scope<'_> {
     }
 
     /// `!=`
-    fn different(&self, left: Typed, right: Typed, at: (u32, u32)) -> Result<Typed, TypeFault>
+    fn different(&self, left: Typed, right: Typed, at: Place) -> Result<Typed, TypeFault>
         ensures { Judges typed_view (kind_if (are_alike left.kind right.kind) at ExprKind.Bool (model.Differ (body_view left.body.value) (body_view right.body.value))) result }
     {
         self.kind_if(
@@ -148,7 +149,7 @@ impl Scope<'_> {
     }
 
     /// `&&`
-    fn both(&self, left: Typed, right: Typed, at: (u32, u32)) -> Result<Typed, TypeFault>
+    fn both(&self, left: Typed, right: Typed, at: Place) -> Result<Typed, TypeFault>
         ensures { Judges typed_view (kind_if (are_truths left.kind right.kind) at ExprKind.Bool (model.And (body_view left.body.value) (body_view right.body.value))) result }
     {
         self.kind_if(
@@ -160,7 +161,7 @@ impl Scope<'_> {
     }
 
     /// `||`
-    fn either(&self, left: Typed, right: Typed, at: (u32, u32)) -> Result<Typed, TypeFault>
+    fn either(&self, left: Typed, right: Typed, at: Place) -> Result<Typed, TypeFault>
         ensures { Judges typed_view (kind_if (are_truths left.kind right.kind) at ExprKind.Bool (model.Or (body_view left.body.value) (body_view right.body.value))) result }
     {
         self.kind_if(
@@ -177,7 +178,7 @@ impl Scope<'_> {
         test: Typed,
         left: Typed,
         right: Typed,
-        at: (u32, u32),
+        at: Place,
     ) -> Result<Typed, TypeFault>
         ensures { Judges typed_view (chosen_of self.now.classes.now at (typed_view test) (typed_view left) (typed_view right)) result }
     {

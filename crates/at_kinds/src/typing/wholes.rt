@@ -11,6 +11,7 @@ use super::kinds::Typed;
 use super::{Scope, TypeFault, refused};
 use crate::code::RuleCode;
 use at_jrag::{Operator, Word};
+use at_text::place::Place;
 
 impl Scope<'_> {
     /// `RECEIVER.NAME(..)`, or a call of `this`.
@@ -19,7 +20,7 @@ impl Scope<'_> {
         receiver: Result<Typed, TypeFault>,
         name: &str,
         arguments: Result<Vec<Typed>, TypeFault>,
-        at: (u32, u32),
+        at: Place,
     ) -> Result<Typed, TypeFault>
         ensures { (j : Judged) (ks : Judgement (Items Kinded)) → Judges typed_view j receiver → Judges all_view ks arguments → Judges typed_view (and_then (λ k. and_then (called_of (scope_view self.now) at name.now k) ks) j) result }
     {
@@ -32,7 +33,7 @@ impl Scope<'_> {
     pub(super) fn paren(
         &self,
         inner: Result<Typed, TypeFault>,
-        at: (u32, u32),
+        at: Place,
     ) -> Result<Typed, TypeFault>
         ensures { (j : Judged) → Judges typed_view j inner → Judges typed_view (and_then (placed_at at) j) result }
     {
@@ -44,7 +45,7 @@ impl Scope<'_> {
     pub(super) fn negation(
         &self,
         inner: Result<Typed, TypeFault>,
-        at: (u32, u32),
+        at: Place,
     ) -> Result<Typed, TypeFault>
         ensures { (j : Judged) → Judges typed_view j inner → Judges typed_view (and_then (negation_of at) j) result }
     {
@@ -56,7 +57,7 @@ impl Scope<'_> {
     pub(super) fn complement(
         &self,
         inner: Result<Typed, TypeFault>,
-        at: (u32, u32),
+        at: Place,
     ) -> Result<Typed, TypeFault>
         ensures { (j : Judged) → Judges typed_view j inner → Judges typed_view (and_then (opposite_of at) j) result }
     {
@@ -69,7 +70,7 @@ impl Scope<'_> {
         &self,
         class: &Word,
         inner: Result<Typed, TypeFault>,
-        at: (u32, u32),
+        at: Place,
     ) -> Result<Typed, TypeFault>
         ensures { (j : Judged) → Judges typed_view j inner → Judges typed_view (and_then (cast_to self.now.classes.now at (word_view class.now)) j) result }
     {
@@ -82,7 +83,7 @@ impl Scope<'_> {
         &self,
         inner: Result<Typed, TypeFault>,
         class: &Word,
-        at: (u32, u32),
+        at: Place,
     ) -> Result<Typed, TypeFault>
         ensures { (j : Judged) → Judges typed_view j inner → Judges typed_view (and_then (tested_by self.now.classes.now at (word_view class.now)) j) result }
     {
@@ -96,7 +97,7 @@ impl Scope<'_> {
         sign: Operator,
         left: Result<Typed, TypeFault>,
         right: Result<Typed, TypeFault>,
-        at: (u32, u32),
+        at: Place,
     ) -> Result<Typed, TypeFault>
         ensures { (j k : Judged) → Judges typed_view j left → Judges typed_view k right → Judges typed_view (and_then (λ a. and_then (joined_of at (sign_view sign) a) k) j) result }
     {
@@ -111,7 +112,7 @@ impl Scope<'_> {
         test: Result<Typed, TypeFault>,
         left: Result<Typed, TypeFault>,
         right: Result<Typed, TypeFault>,
-        at: (u32, u32),
+        at: Place,
     ) -> Result<Typed, TypeFault>
         ensures { (i j k : Judged) → Judges typed_view i test → Judges typed_view j left → Judges typed_view k right → Judges typed_view (and_then (λ c. and_then (λ a. and_then (chosen_of self.now.classes.now at c a) k) j) i) result }
     {
@@ -127,8 +128,8 @@ impl Scope<'_> {
         receiver: Result<Typed, TypeFault>,
         name: &str,
         arguments: Result<Vec<Typed>, TypeFault>,
-        at: (u32, u32),
-        fold: (u32, u32),
+        at: Place,
+        fold: Place,
     ) -> Result<List, TypeFault>
         ensures { (j : Judged) (ks : Judgement (Items Kinded)) → Judges typed_view j receiver → Judges all_view ks arguments → Judges list_view (and_then (λ k. and_then (list_called_by (scope_view self.now) fold at name.now k) ks) j) result }
     {
@@ -139,7 +140,7 @@ impl Scope<'_> {
 }
 
 /// What is no call is no list: a wrong kind of the fold at that place, where it has no fault itself.
-pub(super) fn no_list(whole: Result<Typed, TypeFault>, fold: (u32, u32)) -> Result<List, TypeFault>
+pub(super) fn no_list(whole: Result<Typed, TypeFault>, fold: Place) -> Result<List, TypeFault>
     ensures { (j : Judged) → Judges typed_view j whole → Judges list_view (and_then (λ k. Wrong code.Kind fold) j) result }
 {
     whole?;

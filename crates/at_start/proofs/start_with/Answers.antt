@@ -1,4 +1,4 @@
-use Rattle.std.proofs.Common.{arith, ◌≡◌, ◌∙◌, List, ℕ, true, length, sym, subst, None}
+use Rattle.std.proofs.Common.{arith, ◌≡◌, ◌∙◌, List, ℕ, true, length, sym, subst}
 use Rattle.std.proofs.lemmas.Result.{err_from_is_err_and}
 use Rattle.at_model.specs.Classes.{Classes}
 use Rattle.at_model.specs.Terms.{term_of}
@@ -16,7 +16,7 @@ use Rattle.at_start.specs.Starts.{aspect_bytes, IsStartFault}
 use Rattle.at_start.specs.TreeFiles.{IsTreeFault, IsTermFile, no_room}
 use Rattle.at_start.specs.declared.code.Code.TheVariants as code
 use Rattle.at_start.specs.declared.files.Source.{Source}
-use Rattle.at_start.specs.declared.fault.FileFault.TheVariants as file
+use Rattle.at_text.specs.declared.fault.Failure.TheVariants as failure
 use Rattle.at_start.proofs.Started.{grammar_refuses, aspects_refuse, tree_refuses}
 use Rattle.at_start.proofs.WrittenTokens.{written_tokens}
 use Rattle.at_start.proofs.start_with.Goals as goal
@@ -41,7 +41,7 @@ returns-in-Err-tree_of-clause-refused g c =
     let there = subst (λ (k : Classes). IsTreeFault k c.deref-3.result.now c.in-Err-tree_of.fault) (c.classes.ensures ∙ c.in_ok-rules.ensures.classes) c.in-Err-tree_of.ensures.refused in
     let fault = subst (λ (b : List ℕ). IsTreeFault c.in-Ok.classes b c.in-Err-tree_of.fault) c.deref-3.ensures.value there in
     let count : c.len-file.result ≡ length files.aspects.items = omega (arith, c.len-file.ensures, files.aspects.ok.0) in
-    rw (c.of_file-in-Err-tree_of.ensures, count) (tree_refuses files c.in-Ok.classes c.in_ok-rules.rules c.in-Err-tree_of.fault given rules fault)
+    rw (c.of_tree.ensures, count) (tree_refuses files c.in-Ok.classes c.in_ok-rules.rules c.in-Err-tree_of.fault given rules fault)
 
 pub returns-in-Err-Limit-clause-refused : goal.returns-in-Err-Limit-clause-refused
 returns-in-Err-Limit-clause-refused g c =
@@ -57,7 +57,7 @@ returns-in-Err-Limit-clause-refused g c =
     let written = subst (λ (k : Classes). IsTermFile bytes (term_of k t)) same there in
     let whole = subst (λ (k : Classes). conforms k t 0 ≡ true) same c.in-Ok-tree_of.ensures.whole in
     let count : c.len-file.result ≡ length files.aspects.items = omega (arith, c.len-file.ensures, files.aspects.ok.0) in
-    rw (c.of_file-in-Err-Limit.ensures, c.refused-in-Err-Limit.ensures, count) (tree_refuses files c.in-Ok.classes c.in_ok-rules.rules (file.Refused code.TreeLimit None) given rules (no_room t text written whole load.1))
+    rw (c.of_tree-in-Err-Limit.ensures, count) (tree_refuses files c.in-Ok.classes c.in_ok-rules.rules (failure.For code.TreeLimit) given rules (no_room t text written whole load.1))
 
 pub returns-in-Ok-new-clause-ready : goal.returns-in-Ok-new-clause-ready
 returns-in-Ok-new-clause-ready g c =

@@ -6,7 +6,7 @@ ghost use Rattle.at_model.specs.Paths.{IsStep, IsPath, path_text, step_text};
 ghost use Rattle.at_tree.specs.PathView.{path_view, step_view};
 
 use super::{Path, Step};
-use crate::fault::Untaken;
+use crate::fault::{Misfit, Untaken};
 use crate::names::{begins_name, name_len};
 use at_text::names::is_reserved;
 use std::alloc::Global;
@@ -18,7 +18,7 @@ pub(super) fn whole_path(alloc: Global, text: &str) -> Result<Path, Untaken>
 {
     let mut steps = Vec::new(alloc);
     if text.is_empty() {
-        return Err(Untaken::Form);
+        return Err(Untaken::For(Misfit::Form));
     }
     if text == "/" {
         return Ok(Path { steps });
@@ -37,14 +37,14 @@ fn step_first(alloc: Global, text: &str) -> Result<(Step, &str), Untaken>
     ensures { IfOk result (λ r. IsStep (step_view r.0) × (text.now ≡ step_text (step_view r.0) ++ r.1.now)) }
 {
     let Some(behind) = text.strip_prefix('/') else {
-        return Err(Untaken::Form);
+        return Err(Untaken::For(Misfit::Form));
     };
     let (part, rest) = part_first(alloc, behind)?;
     let Some(digits) = rest.strip_prefix(':') else {
         return Ok((Step { part, index: None }, rest));
     };
     let Some((index, rest)) = index_first(digits) else {
-        return Err(Untaken::Form);
+        return Err(Untaken::For(Misfit::Form));
     };
     let index = Some(index);
     Ok((Step { part, index }, rest))
@@ -56,7 +56,7 @@ fn part_first(alloc: Global, text: &str) -> Result<(String, &str), Untaken>
 {
     let (name, rest) = text.split_at(name_len(text));
     if !begins_name(name) || is_reserved(name) {
-        return Err(Untaken::Form);
+        return Err(Untaken::For(Misfit::Form));
     }
     Ok((String::from_str(alloc, name)?, rest))
 }

@@ -12,7 +12,7 @@ use super::direct::whole_path;
 use super::partial::Place;
 use super::steps::advance;
 use super::{Path, Step};
-use crate::fault::{Refused, TermFault, Untaken};
+use crate::fault::{TermFault, Untaken};
 use at_text::names::is_reserved;
 use std::alloc::Global;
 
@@ -71,7 +71,7 @@ pub fn read_path(alloc: Global, text: &str) -> Result<Path, TermFault>
     match whole_path(alloc, text) {
         Ok(path) => Ok(path),
         Err(Untaken::Memory) => Err(TermFault::Memory),
-        Err(Untaken::Form) => read_by_characters(alloc, text),
+        Err(Untaken::For(_)) => read_by_characters(alloc, text),
     }
 }
 
@@ -90,12 +90,12 @@ fn read_by_characters(alloc: Global, text: &str) -> Result<Path, TermFault>
                 place = next;
                 rest = behind;
             }
-            Err(Refused::Character) => {
+            Err(Untaken::For(_)) => {
                 return Err(TermFault::Syntax {
                     at: text.len() - rest.len(),
                 });
             }
-            Err(Refused::Memory) => return Err(TermFault::Memory),
+            Err(Untaken::Memory) => return Err(TermFault::Memory),
         }
     }
     finish(steps, place, text.len())

@@ -1,13 +1,14 @@
 //! The steps of the reader of terms, each over a character and the run that it stands in.
 ghost use Rattle.std.specs.Prelude.{◌≡◌, ◌<◌, IfOk, IfErr, length, string_bytes};
-ghost use Rattle.at_tree.specs.declared.fault.Refused.TheVariants.{Character, Memory};
+ghost use Rattle.at_text.specs.declared.fault.Failure.TheVariants.{For, Memory};
+ghost use Rattle.at_tree.specs.declared.fault.Misfit.TheVariants.{Form};
 ghost use Rattle.at_tree.specs.Leads.{LeadsTo, Takes, TakesNone};
 ghost use Rattle.at_tree.specs.Partial.{at, InText, InWord, can_open, step};
 ghost use Rattle.at_tree.specs.Seen.{levels_view, partial_view, place_view};
 
 use super::steps::step;
 use super::{Level, MAX_DEPTH, Partial, Place};
-use crate::fault::Refused;
+use crate::fault::{Misfit, Untaken};
 use crate::runs::{Run, cut};
 use std::alloc::Global;
 
@@ -23,7 +24,7 @@ fn whole_word<'a>(
     levels: Vec<Level>,
     mut word: String,
     text: &'a str,
-) -> Result<(Partial, &'a str), Refused>
+) -> Result<(Partial, &'a str), Untaken>
     ensures leads { IfOk result (λ r. LeadsTo step (at (levels_view levels.items) (InWord (string_bytes word))) text.now (partial_view r.0) r.1.now) }
     ensures memory { IfErr result (λ e. e ≡ Memory) }
 {
@@ -42,7 +43,7 @@ fn plain_text<'a>(
     levels: Vec<Level>,
     mut value: String,
     text: &'a str,
-) -> Result<(Partial, &'a str), Refused>
+) -> Result<(Partial, &'a str), Untaken>
     ensures leads { IfOk result (λ r. LeadsTo step (at (levels_view levels.items) (InText (string_bytes value))) text.now (partial_view r.0) r.1.now) }
     ensures memory { IfErr result (λ e. e ≡ Memory) }
 {
@@ -57,7 +58,7 @@ fn run_on<'a>(
     levels: Vec<Level>,
     place: Place,
     text: &'a str,
-) -> Result<(Partial, &'a str), Refused>
+) -> Result<(Partial, &'a str), Untaken>
     ensures leads { IfOk result (λ r. LeadsTo step (at (levels_view levels.items) (place_view place)) text.now (partial_view r.0) r.1.now) }
     ensures memory { IfErr result (λ e. e ≡ Memory) }
 {
@@ -73,14 +74,14 @@ pub(super) fn advance<'a>(
     alloc: Global,
     partial: Partial,
     text: &'a str,
-) -> Result<(Partial, &'a str), Refused>
+) -> Result<(Partial, &'a str), Untaken>
     requires { 0 < length text.now }
     ensures taken { IfOk result (λ r. Takes step (partial_view partial) text.now (partial_view r.0) r.1.now) }
-    ensures refused { IfErr result (λ e. e ≡ Character → TakesNone step (partial_view partial) text.now) }
+    ensures refused { IfErr result (λ e. e ≡ For Form → TakesNone step (partial_view partial) text.now) }
 {
     let mut chars = text.chars();
     let Some(c) = chars.next() else {
-        return Err(Refused::Character);
+        return Err(Untaken::For(Misfit::Form));
     };
     let next = step(alloc, partial, c)?;
     let rest = chars.as_str();

@@ -10,7 +10,7 @@ ghost use Rattle.at_tree.specs.Finishes.{Finishes};
 
 use super::advance::advance;
 use super::{Partial, Place};
-use crate::fault::{Refused, TermFault};
+use crate::fault::{TermFault, Untaken};
 use crate::term::Term;
 use std::alloc::Global;
 
@@ -55,12 +55,12 @@ pub fn read_term(alloc: Global, text: &str) -> Result<Term, TermFault>
                 partial = next;
                 rest = behind;
             }
-            Err(Refused::Character) => {
+            Err(Untaken::For(_)) => {
                 return Err(TermFault::Syntax {
                     at: text.len() - rest.len(),
                 });
             }
-            Err(Refused::Memory) => return Err(TermFault::Memory),
+            Err(Untaken::Memory) => return Err(TermFault::Memory),
         }
     }
     finish(partial, text.len())

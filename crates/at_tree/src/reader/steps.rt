@@ -6,14 +6,14 @@ ghost use Rattle.at_tree.specs.Seen.{Gives, partial_view, level_view, levels_vie
 
 use super::words::{after_word, in_word};
 use super::{Level, Number, Partial, Place};
-use crate::fault::Refused;
+use crate::fault::{Misfit, Untaken};
 use crate::term::{Term, TermCell};
 use crate::token::TokVal;
 use at_text::names::starts_name;
 use std::alloc::Global;
 
 /// The reading goes on inside this level.
-pub(super) fn inside(mut levels: Vec<Level>, level: Level, place: Place) -> Result<Partial, Refused>
+pub(super) fn inside(mut levels: Vec<Level>, level: Level, place: Place) -> Result<Partial, Untaken>
     ensures { Gives result (Some (at (level_view level ∷ levels_view levels.items) (place_view place))) }
 {
     levels.push(level)?;
@@ -42,11 +42,11 @@ fn complete(levels: Vec<Level>, term: Term) -> Partial
 }
 
 /// The character behind a cell.
-pub(super) fn in_cell(mut levels: Vec<Level>, cell: TermCell, c: char) -> Result<Partial, Refused>
+pub(super) fn in_cell(mut levels: Vec<Level>, cell: TermCell, c: char) -> Result<Partial, Untaken>
     ensures { Gives result (in_cell (levels_view levels.items) (cell_view cell) c) }
 {
     let Some(mut level) = levels.pop() else {
-        return Err(Refused::Character);
+        return Err(Untaken::For(Misfit::Form));
     };
     match c {
         ',' => {
@@ -62,19 +62,19 @@ pub(super) fn in_cell(mut levels: Vec<Level>, cell: TermCell, c: char) -> Result
             } = level;
             Ok(complete(levels, Term { name, cells }))
         }
-        _ => Err(Refused::Character),
+        _ => Err(Untaken::For(Misfit::Form)),
     }
 }
 
 /// The character behind a list's item.
-fn in_item(mut levels: Vec<Level>, term: Term, c: char) -> Result<Partial, Refused>
+fn in_item(mut levels: Vec<Level>, term: Term, c: char) -> Result<Partial, Untaken>
     ensures { Gives result (in_item (levels_view levels.items) (term_view term) c) }
 {
     let Some(mut level) = levels.pop() else {
-        return Err(Refused::Character);
+        return Err(Untaken::For(Misfit::Form));
     };
     let Some(mut items) = level.items.take() else {
-        return Err(Refused::Character);
+        return Err(Untaken::For(Misfit::Form));
     };
     match c {
         ',' => {
@@ -86,7 +86,7 @@ fn in_item(mut levels: Vec<Level>, term: Term, c: char) -> Result<Partial, Refus
             items.push(term)?;
             inside(levels, level, Place::Whole(TermCell::Many(items)))
         }
-        _ => Err(Refused::Character),
+        _ => Err(Untaken::For(Misfit::Form)),
     }
 }
 
@@ -96,19 +96,19 @@ fn first_in_list(
     level: Level,
     items: Vec<Term>,
     c: char,
-) -> Result<Partial, Refused>
+) -> Result<Partial, Untaken>
     requires { level.items ≡ None }
     ensures { Gives result (first_in (level_view level) (levels_view levels.items) (Some (map term_view items.items)) c) }
 {
     if c == ']' && items.is_empty() {
         inside(levels, level, Place::Whole(TermCell::Many(items)))
     } else {
-        Err(Refused::Character)
+        Err(Untaken::For(Misfit::Form))
     }
 }
 
 /// The first digit of a number.
-fn first_digit(levels: Vec<Level>, level: Level, c: char) -> Result<Partial, Refused>
+fn first_digit(levels: Vec<Level>, level: Level, c: char) -> Result<Partial, Untaken>
     requires { IsTrue (is_digit c) }
     ensures { Gives result (Some (at (level_view level ∷ levels_view levels.items) (Digits false (c - 48)))) }
 {
@@ -126,7 +126,7 @@ fn first_in_term(
     levels: Vec<Level>,
     mut level: Level,
     c: char,
-) -> Result<Partial, Refused>
+) -> Result<Partial, Untaken>
     requires { level.items ≡ None }
     ensures { Gives result (first_in (level_view level) (levels_view levels.items) None c) }
 {
@@ -146,19 +146,19 @@ fn first_in_term(
             } = level;
             Ok(complete(levels, Term { name, cells }))
         }
-        _ => Err(Refused::Character),
+        _ => Err(Untaken::For(Misfit::Form)),
     }
 }
 
 /// The character behind a bracket, a comma or nothing.
-fn first(alloc: Global, mut levels: Vec<Level>, c: char) -> Result<Partial, Refused>
+fn first(alloc: Global, mut levels: Vec<Level>, c: char) -> Result<Partial, Untaken>
     ensures { Gives result (first (levels_view levels.items) c) }
 {
     if starts_name(c) {
         return in_word(levels, String::new(alloc), c);
     }
     let Some(mut level) = levels.pop() else {
-        return Err(Refused::Character);
+        return Err(Untaken::For(Misfit::Form));
     };
     match level.items.take() {
         Some(items) => first_in_list(levels, level, items, c),
@@ -187,7 +187,7 @@ impl Number {
 }
 
 /// The character behind digits.
-fn in_digits(levels: Vec<Level>, number: Number, c: char) -> Result<Partial, Refused>
+fn in_digits(levels: Vec<Level>, number: Number, c: char) -> Result<Partial, Untaken>
     ensures { Gives result (in_digits (levels_view levels.items) number.minus number.value c) }
 {
     if c.is_ascii_digit() && number.value > 0 {
@@ -205,7 +205,7 @@ fn in_digits(levels: Vec<Level>, number: Number, c: char) -> Result<Partial, Ref
 }
 
 /// The character behind a dash.
-fn in_dash(levels: Vec<Level>, c: char) -> Result<Partial, Refused>
+fn in_dash(levels: Vec<Level>, c: char) -> Result<Partial, Untaken>
     ensures { Gives result (in_dash (levels_view levels.items) c) }
 {
     match c {
@@ -221,13 +221,13 @@ fn in_dash(levels: Vec<Level>, c: char) -> Result<Partial, Refused>
 }
 
 /// A character of a quoted text.
-fn in_text(levels: Vec<Level>, mut text: String, c: char) -> Result<Partial, Refused>
+fn in_text(levels: Vec<Level>, mut text: String, c: char) -> Result<Partial, Untaken>
     ensures { Gives result (in_text (levels_view levels.items) (string_bytes text) c) }
 {
     let place = match c {
         '"' => Place::Whole(TermCell::Holds(TokVal::Str(text))),
         '\\' => Place::Escape(text),
-        '\n' | '\t' => return Err(Refused::Character),
+        '\n' | '\t' => return Err(Untaken::For(Misfit::Form)),
         _ => {
             text.push(c)?;
             Place::InText(text)
@@ -249,11 +249,11 @@ fn unescaped(c: char) -> Option<char>
 }
 
 /// The character behind a backslash.
-fn in_escape(levels: Vec<Level>, mut text: String, c: char) -> Result<Partial, Refused>
+fn in_escape(levels: Vec<Level>, mut text: String, c: char) -> Result<Partial, Untaken>
     ensures { Gives result (in_escape (levels_view levels.items) (string_bytes text) c) }
 {
     let Some(plain) = unescaped(c) else {
-        return Err(Refused::Character);
+        return Err(Untaken::For(Misfit::Form));
     };
     text.push(plain)?;
     Ok(Partial {
@@ -263,7 +263,7 @@ fn in_escape(levels: Vec<Level>, mut text: String, c: char) -> Result<Partial, R
 }
 
 /// One more character.
-pub(super) fn step(alloc: Global, partial: Partial, c: char) -> Result<Partial, Refused>
+pub(super) fn step(alloc: Global, partial: Partial, c: char) -> Result<Partial, Untaken>
     ensures { Gives result (step (partial_view partial) c) }
 {
     let levels = partial.levels;
@@ -276,6 +276,6 @@ pub(super) fn step(alloc: Global, partial: Partial, c: char) -> Result<Partial, 
         Place::Escape(text) => in_escape(levels, text, c),
         Place::Whole(cell) => in_cell(levels, cell, c),
         Place::Item(term) => in_item(levels, term, c),
-        Place::Done(_) => Err(Refused::Character),
+        Place::Done(_) => Err(Untaken::For(Misfit::Form)),
     }
 }

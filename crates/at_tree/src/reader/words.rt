@@ -5,7 +5,7 @@ ghost use Rattle.at_tree.specs.Seen.{Gives, levels_view};
 
 use super::steps::{in_cell, inside};
 use super::{Level, MAX_DEPTH, Partial, Place};
-use crate::fault::Refused;
+use crate::fault::{Misfit, Untaken};
 use crate::term::TermCell;
 use crate::token::TokVal;
 use at_text::names::{continues_name, is_reserved};
@@ -51,12 +51,12 @@ fn may_be_word(levels: &[Level], word: &str) -> bool
 }
 
 /// The front of a word, one character longer.
-pub(super) fn in_word(levels: Vec<Level>, mut word: String, c: char) -> Result<Partial, Refused>
+pub(super) fn in_word(levels: Vec<Level>, mut word: String, c: char) -> Result<Partial, Untaken>
     ensures { Gives result (in_word (levels_view levels.items) (string_bytes word ++ encode_utf8 c)) }
 {
     word.push(c)?;
     if !may_be_word(&levels, &word) {
-        return Err(Refused::Character);
+        return Err(Untaken::For(Misfit::Form));
     }
     Ok(Partial {
         levels,
@@ -65,11 +65,11 @@ pub(super) fn in_word(levels: Vec<Level>, mut word: String, c: char) -> Result<P
 }
 
 /// The parenthesis behind a name.
-fn open_term(alloc: Global, levels: Vec<Level>, name: String) -> Result<Partial, Refused>
+fn open_term(alloc: Global, levels: Vec<Level>, name: String) -> Result<Partial, Untaken>
     ensures { Gives result (open_term (levels_view levels.items) (string_bytes name)) }
 {
     if levels.len() >= MAX_DEPTH || is_reserved(&name) {
-        return Err(Refused::Character);
+        return Err(Untaken::For(Misfit::Form));
     }
     // most terms have two cells at most
     let cells = Vec::with_capacity(alloc, 2)?;
@@ -82,14 +82,14 @@ fn open_term(alloc: Global, levels: Vec<Level>, name: String) -> Result<Partial,
 }
 
 /// The character behind `true` or `false`.
-fn after_truth(levels: Vec<Level>, truth: Option<bool>, c: char) -> Result<Partial, Refused>
+fn after_truth(levels: Vec<Level>, truth: Option<bool>, c: char) -> Result<Partial, Untaken>
     ensures { Gives result (after_truth (levels_view levels.items) truth c) }
 {
     match truth {
         Some(truth) if takes_cell(&levels) => {
             in_cell(levels, TermCell::Holds(TokVal::Bool(truth)), c)
         }
-        _ => Err(Refused::Character),
+        _ => Err(Untaken::For(Misfit::Form)),
     }
 }
 
@@ -99,7 +99,7 @@ pub(super) fn after_word(
     levels: Vec<Level>,
     word: String,
     c: char,
-) -> Result<Partial, Refused>
+) -> Result<Partial, Untaken>
     ensures { Gives result (after_word (levels_view levels.items) (string_bytes word) c) }
 {
     if c == '(' {

@@ -11,7 +11,7 @@ ghost use Rattle.at_tree.specs.Fronts.{IsTreeFront, IsCellFront, AreCellsFront};
 
 use super::front::{Front, take, take_class, take_value, takes};
 use super::{Cell, Tree};
-use crate::fault::Untaken;
+use crate::fault::{Misfit, Untaken};
 use crate::reader::MAX_DEPTH;
 use at_class::{ClassId, ClassTable, Part, PartShape};
 use std::alloc::Global;
@@ -31,7 +31,7 @@ pub(super) fn whole_tree(
     if front.rest.is_empty() {
         Ok(tree)
     } else {
-        Err(Untaken::Form)
+        Err(Untaken::For(Misfit::Form))
     }
 }
 
@@ -47,7 +47,7 @@ pub(super) fn take_tree(
     ensures { IfOk result (λ t. IsTreeFront classes.now front.old.rest.now front.new.rest.now under levels (tree_view t)) }
 {
     if levels == 0 {
-        return Err(Untaken::Form);
+        return Err(Untaken::For(Misfit::Form));
     }
     let class = take_class(classes, front, under)?;
     let cells = take_cells(alloc, classes, front, classes.parts(class), levels - 1)?;

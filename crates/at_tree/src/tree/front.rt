@@ -10,7 +10,7 @@ ghost use Rattle.at_model.specs.Trees.{Truth, is_of_kind};
 ghost use Rattle.at_class.specs.View.{token_kind_view};
 ghost use Rattle.at_tree.specs.Token.{token_view};
 
-use crate::fault::Untaken;
+use crate::fault::{Misfit, Untaken};
 use crate::runs::{Run, cut};
 use crate::token::TokVal;
 use at_class::{ClassId, ClassTable, TokenKind};
@@ -47,7 +47,7 @@ pub(super) fn take(front: &mut Front<'_>, sign: char) -> Result<(), Untaken>
     if takes(front, sign) {
         Ok(())
     } else {
-        Err(Untaken::Form)
+        Err(Untaken::For(Misfit::Form))
     }
 }
 
@@ -63,13 +63,13 @@ pub(super) fn take_class(
     ensures taken { IfOk result (λ c. front.old.rest.now ≡ name_of classes.now c ++ 40 ∷ front.new.rest.now) }
 {
     let Some((name, behind)) = front.rest.split_once('(') else {
-        return Err(Untaken::Form);
+        return Err(Untaken::For(Misfit::Form));
     };
     let Some(class) = classes.id_of(name) else {
-        return Err(Untaken::Form);
+        return Err(Untaken::For(Misfit::Form));
     };
     if !classes.fits(class, under) {
-        return Err(Untaken::Form);
+        return Err(Untaken::For(Misfit::Form));
     }
     front.rest = behind;
     Ok(class)
@@ -108,7 +108,7 @@ fn text_first(alloc: Global, text: &str) -> Result<(String, &str), Untaken>
 {
     match read_quoted(alloc, text) {
         Ok((value, length)) => Ok((value, text.split_at(length).1)),
-        Err(QuoteFault::Form) => Err(Untaken::Form),
+        Err(QuoteFault::Form) => Err(Untaken::For(Misfit::Form)),
         Err(QuoteFault::Memory) => Err(Untaken::Memory),
     }
 }
@@ -119,7 +119,7 @@ fn take_int(front: &mut Front<'_>) -> Result<i32, Untaken>
 {
     let (word, rest) = cut(front.rest, Run::Number);
     let Some(value) = read_int(word) else {
-        return Err(Untaken::Form);
+        return Err(Untaken::For(Misfit::Form));
     };
     front.rest = rest;
     Ok(value)
@@ -137,6 +137,6 @@ fn take_truth(front: &mut Front<'_>) -> Result<bool, Untaken>
             front.rest = rest;
             Ok(false)
         }
-        None => Err(Untaken::Form),
+        None => Err(Untaken::For(Misfit::Form)),
     }
 }

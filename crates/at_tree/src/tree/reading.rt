@@ -81,7 +81,7 @@ pub fn read_tree(
     match whole_tree(alloc, classes, text, under) {
         Ok(tree) => Ok(tree),
         Err(Untaken::Memory) => Err(ReadFault::Memory),
-        Err(Untaken::Form) => read_by_term(alloc, classes, text, under),
+        Err(Untaken::For(_)) => read_by_term(alloc, classes, text, under),
     }
 }
 

@@ -12,7 +12,7 @@ ghost use Rattle.at_typing.specs.Located.{name_word};
 ghost use Rattle.at_typing.specs.Numbering.{numbered_view};
 
 use super::fault_at;
-use crate::fault::Fault;
+use crate::fault::Breach;
 use crate::located::{is_attribute, name_word};
 use crate::numbered::Numbered;
 use at_class::{ClassId, ClassTable, Part, PartShape};
@@ -26,7 +26,7 @@ pub fn accessor_named(
     alloc: Global,
     classes: &ClassTable,
     declared: &[Numbered],
-) -> Result<Option<Fault>, AllocError>
+) -> Result<Option<Breach>, AllocError>
     ensures { IfOk result (λ f. f ≡ accessor_named classes.now (map numbered_view declared.now)) }
 {
     let accessors = Accessors::of(alloc, classes)?;
@@ -39,11 +39,21 @@ pub fn accessor_named(
 }
 
 /// The names of the components of all classes: of all of them, of the optionals and of the lists.
-#[derive(Drop)]
 struct Accessors<'a> {
     components: IndexSet<&'a [u8]>,
     optionals: IndexSet<&'a [u8]>,
     lists: IndexSet<&'a [u8]>,
+}
+
+/// One call, where each exit that lets it go would else have a case for each collection.
+impl Drop for Accessors<'_> {
+    fn drop(self) {
+        let Accessors {
+            components: _,
+            optionals: _,
+            lists: _,
+        } = self;
+    }
 }
 
 impl<'a> Accessors<'a> {

@@ -29,9 +29,15 @@ pub fn binds_twice(alloc: Global, form: &DeclForm) -> Result<bool, AllocError>
 }
 
 /// The names that are bound somewhere.
-#[derive(Drop)]
 struct Names<'a> {
     texts: IndexSet<&'a str>,
+}
+
+/// One call, where each exit that lets it go would else have a case for each collection.
+impl Drop for Names<'_> {
+    fn drop(self) {
+        let Names { texts: _ } = self;
+    }
 }
 
 impl<'a> Names<'a> {

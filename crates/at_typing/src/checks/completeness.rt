@@ -6,14 +6,14 @@ ghost use Rattle.at_typing.specs.Declaring.{attributes};
 ghost use Rattle.at_typing.specs.Numbering.{numbered_view};
 
 use super::fault_at;
-use crate::fault::Fault;
+use crate::fault::Breach;
 use crate::located::is_attribute;
 use crate::numbered::Numbered;
 use at_kinds::RuleCode;
 use at_rules::AttrId;
 
 /// The fault of that code at the declaration of the attribute, if there is one.
-pub fn fault_of(code: RuleCode, declared: &[Numbered], attribute: Option<AttrId>) -> Option<Fault>
+pub fn fault_of(code: RuleCode, declared: &[Numbered], attribute: Option<AttrId>) -> Option<Breach>
     ensures { result ≡ fault_of code (map numbered_view declared.now) attribute }
 {
     let numbered = declaration_of(declared, attribute?)?;

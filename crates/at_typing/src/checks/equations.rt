@@ -10,7 +10,7 @@ ghost use Rattle.at_typing.specs.Numbering.{numbered_view, AreAlike, AreNumbered
 
 use super::fault_at;
 use crate::attributes::Attributes;
-use crate::fault::Fault;
+use crate::fault::Breach;
 use crate::located::getter_in;
 use crate::numbered::{NamedClass, Numbered};
 use at_class::ClassTable;
@@ -25,7 +25,7 @@ pub fn without_attribute(
     classes: &ClassTable,
     attributes: &Attributes,
     declared: &[Numbered],
-) -> Option<Fault>
+) -> Option<Breach>
     requires { AreNumbered classes.now declared.now × AreAttributes declared.now attributes.now }
     ensures { result ≡ without_attribute classes.now (map numbered_view declared.now) }
 {
@@ -55,7 +55,7 @@ fn is_of_attribute(classes: &ClassTable, attributes: &Attributes, numbered: &Num
 }
 
 /// The first equation that its class has already: for the attribute, or for the component and the attribute.
-pub fn equation_twice(alloc: Global, declared: &[Numbered]) -> Result<Option<Fault>, AllocError>
+pub fn equation_twice(alloc: Global, declared: &[Numbered]) -> Result<Option<Breach>, AllocError>
     requires { All (λ d. All (AreAlike d) declared.now) declared.now }
     ensures { IfOk result (λ fault. fault ≡ equation_twice (map numbered_view declared.now)) }
 {

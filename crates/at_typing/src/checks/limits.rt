@@ -7,11 +7,12 @@ ghost use Rattle.at_typing.specs.Declaring.{body_in, over_limit, long_text, long
 ghost use Rattle.at_typing.specs.Numbering.{numbered_view, limit_of};
 
 use super::fault_at;
-use crate::fault::Fault;
+use crate::fault::Breach;
 use crate::located::{body_in, is_attribute};
 use crate::numbered::Numbered;
 use at_jrag::{Expr, Form};
 use at_kinds::RuleCode;
+use at_text::place::Place;
 
 /// How many attributes may be declared.
 const MAX_ATTRIBUTES: usize = 2000;
@@ -20,7 +21,7 @@ const MAX_ATTRIBUTES: usize = 2000;
 const MAX_TEXT: usize = 4096;
 
 /// The first attribute that is one too many, or the first text that is too long, whichever comes first.
-pub fn over_limit(declared: &[Numbered]) -> Option<Fault>
+pub fn over_limit(declared: &[Numbered]) -> Option<Breach>
     ensures { result ≡ over_limit (map numbered_view declared.now) }
 {
     let mut left = MAX_ATTRIBUTES;
@@ -36,7 +37,7 @@ pub fn over_limit(declared: &[Numbered]) -> Option<Fault>
 }
 
 /// The fault of a declaration, where as many attributes as there may be stand before it, or don't.
-fn limit_of(is_full: bool, numbered: &Numbered) -> Option<Fault>
+fn limit_of(is_full: bool, numbered: &Numbered) -> Option<Breach>
     ensures { result ≡ limit_of is_full (numbered_view numbered.now) }
 {
     if is_attribute(&numbered.decl.form) && is_full {
@@ -47,7 +48,7 @@ fn limit_of(is_full: bool, numbered: &Numbered) -> Option<Fault>
 }
 
 /// The first text in the declaration's body that is too long.
-fn long_text_of(numbered: &Numbered) -> Option<(u32, u32)>
+fn long_text_of(numbered: &Numbered) -> Option<Place>
     ensures { result ≡ option_and_then (λ b. long_text b.expr) (body_in (numbered_view numbered.now).decl.form) }
 {
     long_text(&body_in(&numbered.decl.form)?.expr)
@@ -55,7 +56,7 @@ fn long_text_of(numbered: &Numbered) -> Option<(u32, u32)>
 
 /// The place of the text, if it is too long.
 #[tactic(auto, unfolding(crate::specs::Declaring::max_text))]
-fn long_literal(at: (u32, u32), text: &str) -> Option<(u32, u32)>
+fn long_literal(at: Place, text: &str) -> Option<Place>
     ensures { result ≡ long_text (TextLiteral at text.now) }
 {
     if text.len() > MAX_TEXT {
@@ -67,7 +68,7 @@ fn long_literal(at: (u32, u32), text: &str) -> Option<(u32, u32)>
 
 /// The first text in the expression that is too long.
 #[cycle(long)]
-fn long_text(expr: &Expr) -> Option<(u32, u32)>
+fn long_text(expr: &Expr) -> Option<Place>
     ensures { result ≡ long_text (expr_view expr.now) }
 {
     match &expr.form {
@@ -88,7 +89,7 @@ fn long_text(expr: &Expr) -> Option<(u32, u32)>
 }
 
 #[cycle(long)]
-fn long_text_among(arguments: &[Expr]) -> Option<(u32, u32)>
+fn long_text_among(arguments: &[Expr]) -> Option<Place>
     ensures { result ≡ long_text_among (to_exprs (map expr_view arguments.now)) }
 {
     for argument in arguments {

@@ -9,7 +9,7 @@ ghost use Rattle.at_typing.specs.Twice.{TellsTwice};
 
 use super::bound::binds_twice;
 use super::fault_at;
-use crate::fault::Fault;
+use crate::fault::Breach;
 use crate::firsts::note_first;
 use crate::located::{is_attribute, is_inherited, params_in, result_in};
 use crate::numbered::{NamedClass, Numbered};
@@ -24,7 +24,7 @@ pub fn declared_twice(
     alloc: Global,
     classes: &ClassTable,
     declared: &[Numbered],
-) -> Result<Option<Fault>, AllocError>
+) -> Result<Option<Breach>, AllocError>
     requires { AreNumbered classes.now declared.now }
     ensures { IfOk result (λ fault. fault ≡ declared_twice classes.now (map numbered_view declared.now)) }
 {
@@ -56,7 +56,6 @@ fn is_twice(
 }
 
 /// The attributes that are declared before a declaration.
-#[derive(Drop)]
 struct Before<'a> {
     // The first declaration of each name.
     first: IndexMap<usize, &'a DeclForm>,
@@ -64,6 +63,17 @@ struct Before<'a> {
     declared: IndexSet<(NamedClass, usize)>,
     // Each class with each name that it or a class below it declares.
     above: IndexSet<(NamedClass, usize)>,
+}
+
+/// One call, where each exit that lets them go would else have a case for each collection.
+impl Drop for Before<'_> {
+    fn drop(self) {
+        let Before {
+            first: _,
+            declared: _,
+            above: _,
+        } = self;
+    }
 }
 
 impl<'a> Before<'a> {

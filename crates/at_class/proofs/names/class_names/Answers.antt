@@ -4,7 +4,7 @@ use Rattle.std.specs.Prelude.{not}
 use Rattle.std.specs.List.{list_any}
 use Rattle.std.specs.Str.{bytes_eq}
 use Rattle.at_model.specs.Declarations.{class_twice, is_predefined, first_given}
-use Rattle.at_class.specs.Grammar.{declaration_view, declarations_view}
+use Rattle.at_class.specs.Grammar.{declaration_view, declarations_view, place_view}
 use Rattle.at_class.proofs.Firsts.{twice_test, twice_predefined, twice_there, twice_nowhere, names_same, names_more, first_given_here, first_given_more}
 use Rattle.at_class.proofs.names.class_names.Goals as goal
 use Rattle.at_class.proofs.names.class_names.Goals.{then-not-is_new-via-then-not-is_new, then-not-is_new-via-else-not-is_new+then-is_predefined}
@@ -18,12 +18,12 @@ returns-then-not-is_new-clause-err c =
     let d = c.declaration-item.result in
     let there : list_any (λ e. bytes_eq (string_bytes d.name) e.name) (take k ds) ≡ not c.in_ok-is_new.is_new =
     names_same c.loop-declaration.names.keys xs k c.in_ok-name.name (string_bytes d.name) c.in_ok-is_new.is_new c.loop-declaration.invariant.0 (c.in_ok-name.ensures.ok ∙ c.as_str.ensures.value) c.in_ok-is_new.ensures.added in
-    let given : twice_test ds k (declaration_view d) ≡ Some d.at =
+    let given : twice_test ds k (declaration_view d) ≡ Some (place_view d.at) =
     elim c.then-not-is_new.branch [
       | then-not-is_new-via-then-not-is_new w ↦ twice_there ds k (declaration_view d) (there ∙ ap not w.if-not-is_new.true)
       | then-not-is_new-via-else-not-is_new+then-is_predefined w ↦ twice_predefined ds k (declaration_view d) (ap is_predefined (sym w.as_str-else-not-is_new.ensures.value) ∙ sym w.is_predefined.ensures ∙ w.if-is_predefined.true)
     ] in
-    (refl, c.loop-declaration.invariant.1 ∙ first_given_here (twice_test ds) declaration_view xs k d d.at (omega arith) c.declaration-item.is given)
+    (refl, c.loop-declaration.invariant.1 ∙ first_given_here (twice_test ds) declaration_view xs k d (place_view d.at) (omega arith) c.declaration-item.is given)
 
 pub loop-declaration-preserved : goal.loop-declaration-preserved
 loop-declaration-preserved c =

@@ -1,5 +1,5 @@
 use Rattle.std.proofs.Common.{◌≡◌, length}
-use Rattle.at_jrag.specs.Left.{left}
+use Rattle.at_text.specs.Rows.{left}
 use Rattle.at_jrag.specs.Faults.{last_from, last_declaration}
 use Rattle.at_jrag.proofs.declared.declaration_place.Given as goal
 

@@ -1,8 +1,6 @@
-use Rattle.std.proofs.Common.{sym, subst, refl}
+use Rattle.std.proofs.Common.{subst}
 use Rattle.at_grammar.specs.Faults.{IsFault}
-use Rattle.at_grammar.specs.declared.AstFault.TheVariants as ast
-use Rattle.at_start.specs.GrammarFiles.{IsGrammarFault, no_grammar}
-use Rattle.at_start.specs.declared.code.Code.TheVariants as code
+use Rattle.at_start.specs.GrammarFiles.{no_grammar}
 use Rattle.at_start.proofs.Declaring.{read_declared}
 use Rattle.at_start.proofs.Naming.{classes_named}
 use Rattle.at_start.proofs.grammar.parse.Goals as goal
@@ -15,12 +13,7 @@ returns-in-Ok-clause-declares c =
     let read = c.in-Ok.ensures.found in
     record { tokens = read.0; grammar = read.2.0; cut = read.1; spells = read.2.1; means = read_declared c.in-Ok.grammar.classes.items read.2.0 read.2.2 }
 
-pub returns-in-Err-Syntax-clause-refused : goal.returns-in-Err-Syntax-clause-refused
-returns-in-Err-Syntax-clause-refused c =
-    let at = c.in-Err-Syntax.at in
-    subst (IsGrammarFault c.args.text.now) (sym c.refused.ensures) (no_grammar (ast.Syntax at) code.GrammarSyntax at c.requires (subst (IsFault c.args.text.now) c.in-Err-Syntax.field-0-is c.in-Err-Syntax.ensures.fault) (refl, refl))
-
-pub returns-in-Err-LeftOut-clause-refused : goal.returns-in-Err-LeftOut-clause-refused
-returns-in-Err-LeftOut-clause-refused c =
-    let at = c.in-Err-LeftOut.at in
-    subst (IsGrammarFault c.args.text.now) (sym c.refused-in-Err-LeftOut.ensures) (no_grammar (ast.LeftOut at) code.GrammarFormLeftOut at c.requires (subst (IsFault c.args.text.now) c.in-Err-LeftOut.field-0-is c.in-Err-LeftOut.ensures.fault) (refl, refl))
+pub returns-in-Err-Refused-clause-refused : goal.returns-in-Err-Refused-clause-refused
+returns-in-Err-Refused-clause-refused c =
+    let f = subst (IsFault c.args.text.now) c.in-Err-Refused.field-0-is c.in-Err-Refused.ensures.fault in
+    rw c.ast_code.ensures (no_grammar c.in-Err-Refused.code c.in-Err-Refused.at c.requires f)

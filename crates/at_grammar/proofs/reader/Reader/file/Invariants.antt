@@ -7,7 +7,7 @@ use Rattle.at_grammar.specs.Forms.{left, declaration}
 use Rattle.at_grammar.proofs.reader.Reader.file.Given as goal
 
 abbrev pub invariant-loop-self : goal.invariant-loop-self
-invariant-loop-self l = (m : Many table declaration want.File (left l.fn.self.rest.now) (left l.self.rest.now)) × (map seen_class l.classes.items ≡ map class_means m.items)
+invariant-loop-self l = (m : Many table declaration want.File (left l.fn.self.cursor.rest.now) (left l.self.cursor.rest.now)) × (map seen_class l.classes.items ≡ map class_means m.items)
 
 abbrev pub decreases-loop-self : goal.decreases-loop-self
-decreases-loop-self l = length (left l.self.rest.now)
+decreases-loop-self l = length (left l.self.cursor.rest.now)

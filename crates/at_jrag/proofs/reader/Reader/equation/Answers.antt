@@ -1,8 +1,7 @@
 use Rattle.std.proofs.Common.{[], ◌∷◌, ap, subst}
 use Rattle.std.proofs.lemmas.Result.{err_from_is_err_and}
-use Rattle.at_jrag.specs.Left.{left}
+use Rattle.at_text.specs.Rows.{Row, left}
 use Rattle.at_jrag.specs.View.{word_view, params_view}
-use Rattle.at_jrag.specs.Grammar.{Row}
 use Rattle.at_jrag.specs.Runs.{reason_of}
 use Rattle.at_jrag.specs.Wants as want
 use Rattle.at_jrag.proofs.Declarations.{equation_read}
@@ -21,14 +20,14 @@ pub returns-then-skips_getter-clause-stays : goal.returns-then-skips_getter-clau
 returns-then-skips_getter-clause-stays c =
     let s = c.if-skips_getter.ensures in
     let t = c.in_ok-target.ensures.found in
-    behind_getter c.inherited_equation.result (want.Decls ∷ []) (word_view c.in_ok-target.target.class) (word_view c.in_ok-target.target.name) (params_view c.in_ok-target.target.params) (left c.args.self.now.rest.now) t.0 (left c.target.new.self.rest.now) (left c.skips_getter.new.self.rest.now) (left c.inherited_equation.new.self.rest.now) t.1 t.2 s.0 s.1 c.inherited_equation.ensures.stays
+    behind_getter c.inherited_equation.result (want.Decls ∷ []) (word_view c.in_ok-target.target.class) (word_view c.in_ok-target.target.name) (params_view c.in_ok-target.target.params) (left c.args.self.now.cursor.rest.now) t.0 (left c.target.new.self.cursor.rest.now) (left c.skips_getter.new.self.cursor.rest.now) (left c.inherited_equation.new.self.cursor.rest.now) t.1 t.2 s.0 s.1 c.inherited_equation.ensures.stays
 
 pub returns-in_err-body-clause-stays : goal.returns-in_err-body-clause-stays
 returns-in_err-body-clause-stays c =
     let s = c.if-skips_getter.ensures in
     let t = c.in_ok-target.ensures.found in
-    let b = subst (λ (x : Row). BodyStays (reason_of c.in_err-body.field-0.0) x (left c.body.new.self.rest.now)) (ap (λ r. left r.rest.now) s.0) c.in_err-body.ensures.stays in
+    let b = subst (λ (x : Row). BodyStays (reason_of c.in_err-body.field-0.0) x (left c.body.new.self.cursor.rest.now)) (ap (λ r. left r.rest.now) s.0) c.in_err-body.ensures.stays in
     let p = err_from_is_err_and c.from_residual-in_err-body.result c.from_residual-in_err-body.ensures.1 in
     rw (p.1, p.2)
     (equation_body (want.Decls ∷ []) (word_view c.in_ok-target.target.class) (word_view c.in_ok-target.target.name) (params_view c.in_ok-target.target.params)
-    (reason_of c.in_err-body.field-0.0) (left c.args.self.now.rest.now) t.0 (left c.target.new.self.rest.now) (left c.body.new.self.rest.now) t.1 t.2 s.1 b)
+    (reason_of c.in_err-body.field-0.0) (left c.args.self.now.cursor.rest.now) t.0 (left c.target.new.self.cursor.rest.now) (left c.body.new.self.cursor.rest.now) t.1 t.2 s.1 b)

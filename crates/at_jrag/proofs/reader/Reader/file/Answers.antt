@@ -5,7 +5,7 @@ use Rattle.at_text.proofs.ReadingLaws.{all_push}
 use Rattle.at_jrag.specs.Syntax.{Aspect}
 use Rattle.at_jrag.specs.View.{aspect_view}
 use Rattle.at_jrag.specs.Grammar.{File, NestsWithin}
-use Rattle.at_jrag.specs.Left.{left}
+use Rattle.at_text.specs.Rows.{left}
 use Rattle.at_jrag.proofs.Declarations.{file_push, aspect_shorter}
 use Rattle.at_jrag.proofs.reader.Reader.file.Goals as goal
 use Rattle.std.proofs.Common.{[], ◌∷◌, true}
@@ -20,7 +20,7 @@ loop-self-preserved c =
     let i = c.loop-self.invariant in
     let q = ap (map aspect_view) c.in_ok-push.ensures.items ∙ map_push aspect_view c.loop-self.aspects.items c.in_ok-aspect.aspect in
     let r = c.in_ok-aspect.ensures.found in (
-      subst (λ (x : List Aspect). File x (left c.args.self.now.rest.now) (left c.aspect.new.self.rest.now)) (sym q) (file_push _ _ _ _ _ i.0 r),
+      subst (λ (x : List Aspect). File x (left c.args.self.now.cursor.rest.now) (left c.aspect.new.self.cursor.rest.now)) (sym q) (file_push _ _ _ _ _ i.0 r),
       subst (λ (x : List Aspect). AllByRecursion (λ a. AllByRecursion NestsWithin a.decls) x) (sym q) (all_push (λ a. AllByRecursion NestsWithin a.decls) _ _ i.1 c.in_ok-aspect.ensures.within),
     )
 
@@ -33,5 +33,5 @@ returns-in_err-aspect-clause-stays c =
     let i = c.loop-self.invariant in
     let p = err_from_is_err_and c.from_residual.result c.from_residual.ensures.1 in
     rw (p.1, p.2)
-    (comes_stay (want.File ∷ []) (want.File ∷ []) (reason_of c.in_err-aspect.field-0.0) (left c.args.self.now.rest.now) (left c.loop-self.self.rest.now)
-    (left c.aspect.new.self.rest.now) (file_comes true _ (left c.args.self.now.rest.now) (left c.loop-self.self.rest.now) (λ e. i.1) i.0) c.in_err-aspect.ensures.stays)
+    (comes_stay (want.File ∷ []) (want.File ∷ []) (reason_of c.in_err-aspect.field-0.0) (left c.args.self.now.cursor.rest.now) (left c.loop-self.self.cursor.rest.now)
+    (left c.aspect.new.self.cursor.rest.now) (file_comes true _ (left c.args.self.now.cursor.rest.now) (left c.loop-self.self.cursor.rest.now) (λ e. i.1) i.0) c.in_err-aspect.ensures.stays)

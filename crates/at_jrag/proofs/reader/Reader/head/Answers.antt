@@ -2,7 +2,7 @@ use Rattle.std.proofs.Common.{◌∷◌, Some, sym, ◌∙◌}
 use Rattle.at_jrag.specs.Machine.{LeftOut}
 use lib.Chars.{codes}
 use Rattle.std.proofs.lemmas.Result.{err_from_is_err_and}
-use Rattle.at_jrag.specs.Left.{left}
+use Rattle.at_text.specs.Rows.{left}
 use Rattle.at_jrag.specs.View.{word_view, params_view, kind_word_view}
 use Rattle.at_jrag.specs.Runs.{reason_of}
 use Rattle.at_jrag.specs.Wants as want
@@ -15,24 +15,24 @@ returns-in_err-lazy-clause-stays c =
     let p = err_from_is_err_and c.from_residual.result c.from_residual.ensures.1 in
     rw (p.1, p.2)
     (λ us. stay_first want.Lazy (want.Kind ∷ want.Name ∷ want.Mark (codes ".") ∷ want.Signed ∷ want.NotCircular ∷ us) (reason_of c.in_err-lazy.field-0.0)
-    (left c.args.self.now.rest.now) (left c.lazy.new.self.rest.now) c.in_err-lazy.ensures.stays)
+    (left c.args.self.now.cursor.rest.now) (left c.lazy.new.self.cursor.rest.now) c.in_err-lazy.ensures.stays)
 
 pub returns-in_err-kind-clause-stays : goal.returns-in_err-kind-clause-stays
 returns-in_err-kind-clause-stays c =
     let p = err_from_is_err_and c.from_residual-in_err-kind.result c.from_residual-in_err-kind.ensures.1 in
     rw (p.1, p.2)
-    (λ us. no_kind us c.in_err-kind.field-0.0 (left c.args.self.now.rest.now) (left c.lazy.new.self.rest.now) (left c.kind.new.self.rest.now) c.in_ok-lazy.ensures.goes c.in_err-kind.ensures.missing)
+    (λ us. no_kind us c.in_err-kind.field-0.0 (left c.args.self.now.cursor.rest.now) (left c.lazy.new.self.cursor.rest.now) (left c.kind.new.self.cursor.rest.now) c.in_ok-lazy.ensures.goes c.in_err-kind.ensures.missing)
 
 pub returns-in_err-target-clause-stays : goal.returns-in_err-target-clause-stays
 returns-in_err-target-clause-stays c =
     let p = err_from_is_err_and c.from_residual-in_err-target.result c.from_residual-in_err-target.ensures.1 in
     rw (p.1, p.2)
-    (λ us. no_target us (kind_word_view c.in_ok-kind.kind) (reason_of c.in_err-target.field-0.0) (left c.args.self.now.rest.now) (left c.lazy.new.self.rest.now)
-    (left c.kind.new.self.rest.now) (left c.target.new.self.rest.now) c.in_ok-lazy.ensures.goes c.in_ok-kind.ensures.found (c.in_err-target.ensures.stays (want.NotCircular ∷ us)))
+    (λ us. no_target us (kind_word_view c.in_ok-kind.kind) (reason_of c.in_err-target.field-0.0) (left c.args.self.now.cursor.rest.now) (left c.lazy.new.self.cursor.rest.now)
+    (left c.kind.new.self.cursor.rest.now) (left c.target.new.self.cursor.rest.now) c.in_ok-lazy.ensures.goes c.in_ok-kind.ensures.found (c.in_err-target.ensures.stays (want.NotCircular ∷ us)))
 
 pub returns-then-is_before_word-clause-stays : goal.returns-then-is_before_word-clause-stays
 returns-then-is_before_word-clause-stays c = λ us.
     let t = c.in_ok-target.ensures.found in
-    no_target us (kind_word_view c.in_ok-kind.kind) (Some LeftOut) (left c.args.self.now.rest.now) (left c.lazy.new.self.rest.now) (left c.kind.new.self.rest.now) (left c.target.new.self.rest.now) c.in_ok-lazy.ensures.goes c.in_ok-kind.ensures.found
-    (circular_stays us (word_view c.in_ok-target.target.class) (word_view c.in_ok-target.target.name) (params_view c.in_ok-target.target.params) (left c.kind.new.self.rest.now) t.0
-    (left c.target.new.self.rest.now) t.1 t.2 (sym c.is_before_word.ensures ∙ c.if-is_before_word.true))
+    no_target us (kind_word_view c.in_ok-kind.kind) (Some LeftOut) (left c.args.self.now.cursor.rest.now) (left c.lazy.new.self.cursor.rest.now) (left c.kind.new.self.cursor.rest.now) (left c.target.new.self.cursor.rest.now) c.in_ok-lazy.ensures.goes c.in_ok-kind.ensures.found
+    (circular_stays us (word_view c.in_ok-target.target.class) (word_view c.in_ok-target.target.name) (params_view c.in_ok-target.target.params) (left c.kind.new.self.cursor.rest.now) t.0
+    (left c.target.new.self.cursor.rest.now) t.1 t.2 (sym c.is_before_word.ensures ∙ c.if-is_before_word.true))

@@ -1,6 +1,6 @@
 use Rattle.std.proofs.Common.{[], ◌∷◌}
 use Rattle.std.proofs.lemmas.Result.{err_from_is_err_and}
-use Rattle.at_jrag.specs.Left.{left}
+use Rattle.at_text.specs.Rows.{left}
 use Rattle.at_jrag.specs.View.{word_view, params_view, kind_word_view}
 use Rattle.at_jrag.specs.Runs.{reason_of}
 use Rattle.at_jrag.specs.Wants as want
@@ -16,5 +16,5 @@ returns-in_err-head-clause-stays c =
 pub returns-in_err-ending-clause-stays : goal.returns-in_err-ending-clause-stays
 returns-in_err-ending-clause-stays c = let p = err_from_is_err_and c.from_residual-in_err-ending.result c.from_residual-in_err-ending.ensures.1 in rw (p.1, p.2)
     (declared_stays (want.Ending ∷ want.Decls ∷ []) c.in_ok-head.head.lazy (kind_word_view c.in_ok-head.head.kind) (word_view c.in_ok-head.head.class)
-    (word_view c.in_ok-head.head.name) (params_view c.in_ok-head.head.params) (reason_of c.in_err-ending.field-0.0) (left c.args.self.now.rest.now) (left c.head.new.self.rest.now) (left c.ending.new.self.rest.now) c.in_ok-head.ensures.found c.in_ok-head.ensures.behind
-    (stay_first want.Ending (want.Decls ∷ []) (reason_of c.in_err-ending.field-0.0) (left c.head.new.self.rest.now) (left c.ending.new.self.rest.now) c.in_err-ending.ensures.stays))
+    (word_view c.in_ok-head.head.name) (params_view c.in_ok-head.head.params) (reason_of c.in_err-ending.field-0.0) (left c.args.self.now.cursor.rest.now) (left c.head.new.self.cursor.rest.now) (left c.ending.new.self.cursor.rest.now) c.in_ok-head.ensures.found c.in_ok-head.ensures.behind
+    (stay_first want.Ending (want.Decls ∷ []) (reason_of c.in_err-ending.field-0.0) (left c.head.new.self.cursor.rest.now) (left c.ending.new.self.cursor.rest.now) c.in_err-ending.ensures.stays))

@@ -1,7 +1,8 @@
 use Rattle.std.proofs.Common.{◌≡◌, ◌∷◌, Err, sym, ap, subst, ◌∙◌, arith}
 use Rattle.std.specs.Prelude.{string_bytes}
 use Rattle.at_text.specs.Quoted.{Spells}
-use Rattle.at_jrag.specs.Syntax.{Place, Expr, TextLiteral}
+use Rattle.at_text.specs.declared.place.Place.{Place}
+use Rattle.at_jrag.specs.Syntax.{Expr, TextLiteral}
 use Rattle.at_jrag.specs.View.{expr_view, form_view, see_form, see_expr}
 use Rattle.at_jrag.specs.declared.syntax.Form.TheOpen.{Form-F}
 use Rattle.at_jrag.specs.declared.syntax.Form.TheVariants.{rolls-Text}

@@ -1,4 +1,6 @@
-use Rattle.std.proofs.Common.{rules, ◌≡◌, ◌-◌, ◌∷◌, length, refl}
+use Rattle.std.proofs.Common.{rules, ◌≡◌, ◌-◌, ◌∷◌, length, refl, ◌∙◌, ap}
+use Rattle.at_text.specs.declared.fault.Failure.TheVariants.{For}
+use Rattle.at_tree.proofs.Misfits.{one_form}
 use Rattle.at_tree.specs.Stops.{StopsAt, IsPathText}
 use Rattle.at_tree.specs.PathView.{path_view}
 use Rattle.at_tree.specs.PathSeen.{partial_view}
@@ -22,13 +24,13 @@ loop-rest-smaller c = let t = c.in-Ok.ensures.taken in less_left t.0 t.1 c.loop-
 refused : (c : goal.After-drop-steps) → StopsAt IsPathText c.args.text.now (length c.args.text.now - length c.loop-rest.rest.now)
 refused c =
     stops_before path_machine c.args.text.now (length c.args.text.now - length c.loop-rest.rest.now) c.loop-rest.rest.now (partial_view c.loop-rest.steps.items c.loop-rest.place) c.loop-rest.invariant refl
-    (c.in-Err-Character.ensures.refused c.in-Err-Character.field-0-is)
+    (c.in-Err-For.ensures.refused (c.in-Err-For.field-0-is ∙ ap (λ m. For m) (one_form _)))
 
-pub returns-in-Err-Character-clause-only : goal.returns-in-Err-Character-clause-only
-returns-in-Err-Character-clause-only c = λ v fits is. absurd (no_value path_machine _ _ c.utf8.text (refused c) (v, fits, is))
+pub returns-in-Err-For-clause-only : goal.returns-in-Err-For-clause-only
+returns-in-Err-For-clause-only c = λ v fits is. absurd (no_value path_machine _ _ c.utf8.text (refused c) (v, fits, is))
 
-pub returns-in-Err-Character-clause-fault : goal.returns-in-Err-Character-clause-fault
-returns-in-Err-Character-clause-fault c = refused c
+pub returns-in-Err-For-clause-fault : goal.returns-in-Err-For-clause-fault
+returns-in-Err-For-clause-fault c = refused c
 
 none : (c : goal.After-finish) → length c.loop-rest.rest.now ≡ 0
 none c = search rules

@@ -1,6 +1,7 @@
 use Rattle.std.proofs.Common.{◌≡◌, IfOk, IfErr, sym, subst}
 use Rattle.std.proofs.lemmas.Result.{IfOk-weaker, IfErr-weaker}
-use Rattle.at_tree.specs.declared.fault.Refused.TheVariants.{Character}
+use Rattle.at_text.specs.declared.fault.Failure.TheVariants.{For}
+use Rattle.at_tree.specs.declared.fault.Misfit.TheVariants.{Form}
 use Rattle.at_tree.specs.Leads.{Takes, TakesNone}
 use Rattle.at_tree.specs.PartialPath.{step}
 use Rattle.at_tree.specs.PathSeen.{partial_view}
@@ -14,5 +15,5 @@ returns-in-Slash-clause-taken c =
 
 pub returns-in-Slash-clause-refused : goal.returns-in-Slash-clause-refused
 returns-in-Slash-clause-refused c =
-    subst (λ p. IfErr c.whole_name.result (λ e. e ≡ Character → TakesNone step (partial_view c.args.steps.now.items p) c.args.text.now)) (sym c.in-Slash.is)
+    subst (λ p. IfErr c.whole_name.result (λ e. e ≡ For Form → TakesNone step (partial_view c.args.steps.now.items p) c.args.text.now)) (sym c.in-Slash.is)
     (IfErr-weaker c.whole_name.result _ _ (λ e h is. h is (steps_view c.args.steps.now.items)) c.whole_name.ensures.refused)

@@ -22,4 +22,4 @@ pub returns-clause-numbered : goal.returns-clause-numbered
 returns-clause-numbered c = numbered c.args.classes.now c.loop-located.words.unknown.keys c.loop-located.words.names.keys c.loop-located.items.items c.loop-located.invariant.1
 
 pub returns-clause-named : goal.returns-clause-named
-returns-clause-named c = λ k d less. (c.loop-located.invariant.1 k d less).name
+returns-clause-named c = λ k d less. rw c.into_names.ensures (c.loop-located.invariant.1 k d less).name
