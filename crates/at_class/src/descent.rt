@@ -14,7 +14,11 @@ struct Kin {
 /// One call, where each exit that lets it go would else have a case for each collection.
 impl Drop for Kin {
     fn drop(self) {
-        let Kin { below: _, beside: _, highest: _ } = self;
+        let Kin {
+            below: _,
+            beside: _,
+            highest: _,
+        } = self;
     }
 }
 

@@ -24,7 +24,10 @@ pub struct ClassTable {
 /// One call, where each exit that lets it go would else have a case for each collection.
 impl Drop for ClassTable {
     fn drop(self) {
-        let ClassTable { names: _, entries: _ } = self;
+        let ClassTable {
+            names: _,
+            entries: _,
+        } = self;
     }
 }
 

@@ -12,7 +12,10 @@ pub struct TakenNames {
 /// One call, where each exit that lets it go would else have a case for each collection.
 impl Drop for TakenNames {
     fn drop(self) {
-        let TakenNames { names: _, accessors: _ } = self;
+        let TakenNames {
+            names: _,
+            accessors: _,
+        } = self;
     }
 }
 

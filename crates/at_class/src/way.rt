@@ -28,7 +28,10 @@ pub struct Way {
 /// One call, where each exit that lets it go would else have a case for each collection.
 impl Drop for Way {
     fn drop(self) {
-        let Way { levels: _, taken: _ } = self;
+        let Way {
+            levels: _,
+            taken: _,
+        } = self;
     }
 }
 
