@@ -19,7 +19,6 @@ pub struct Attribute {
 
 /// Attributes and equations, in the order of their declarations. Classes stand here by their positions, and
 /// names by their numbers.
-#[derive(Drop)]
 pub struct Equations {
     /// By class and name.
     pub attributes: IndexMap<(usize, usize), Attribute>,
@@ -27,6 +26,17 @@ pub struct Equations {
     pub own: IndexMap<(usize, usize), Body>,
     /// By class, component and name; without a component the equation is for each one.
     pub inherited: IndexMap<(usize, Option<usize>, usize), Body>,
+}
+
+/// One call, where each exit that lets it go would else have a case for each collection.
+impl Drop for Equations {
+    fn drop(self) {
+        let Equations {
+            attributes: _,
+            own: _,
+            inherited: _,
+        } = self;
+    }
 }
 
 impl Equations {
@@ -40,18 +50,22 @@ impl Equations {
     }
 }
 
-/// Classes, their attributes and their equations. Classes stand here by their positions, and names by their
-/// numbers.
-#[derive(Drop)]
+/// Classes, their attributes and their equations.
 pub struct Rules {
     classes: ClassTable,
     names: IndexSet<String>,
-    // By class and name, in the order of the declarations.
-    attributes: IndexMap<(usize, usize), Attribute>,
-    // By class and attribute.
-    own: IndexMap<(usize, usize), Body>,
-    // By class, component and name; without a component the equation is for each one.
-    inherited: IndexMap<(usize, Option<usize>, usize), Body>,
+    equations: Equations,
+}
+
+/// One call, where each exit that lets it go would else have a case for each collection.
+impl Drop for Rules {
+    fn drop(self) {
+        let Rules {
+            classes: _,
+            names: _,
+            equations: _,
+        } = self;
+    }
 }
 
 impl Model for Rules {
@@ -66,7 +80,7 @@ impl Model for Rules {
     ghost use Rattle.std.specs.Prelude.{map};
     ghost use Rattle.at_rules.specs.RulesView.{attribute_view, own_view, inherited_view, named};
 
-    ghost view = { λ r. record { classes = r.classes; attributes = map (attribute_view r.names.keys) r.attributes.entries; own = map own_view r.own.entries; inherited = map (inherited_view r.names.keys) (named r.names.keys r.inherited.entries) } };
+    ghost view = { λ r. record { classes = r.classes; attributes = map (attribute_view r.names.keys) r.equations.attributes.entries; own = map own_view r.equations.own.entries; inherited = map (inherited_view r.names.keys) (named r.names.keys r.equations.inherited.entries) } };
 }
 
 impl Rules {
@@ -88,9 +102,7 @@ impl Rules {
         Rules {
             classes,
             names,
-            attributes: equations.attributes,
-            own: equations.own,
-            inherited: equations.inherited,
+            equations,
         }
     }
 
@@ -105,7 +117,7 @@ impl Rules {
     pub fn len(&self) -> usize
         ensures { result ≡ length self.now.attributes }
     {
-        self.attributes.len()
+        self.equations.attributes.len()
     }
 
     /// The attribute of that name that the class or one above it declares: the first one among the
@@ -115,7 +127,7 @@ impl Rules {
         ensures named { (name.now ≡ [] → ⊥) → result ≡ attribute_named self.now class name.now }
     {
         let name = number_named(&self.names, name)?;
-        let position = declared_above(&self.classes, &self.attributes, class, name)?;
+        let position = declared_above(&self.classes, &self.equations.attributes, class, name)?;
         Some(AttrId::new(position))
     }
 
@@ -123,7 +135,7 @@ impl Rules {
     pub fn params(&self, attribute: AttrId) -> &[Kind]
         ensures { map kind_view result.now ≡ parameters_of self.now attribute }
     {
-        match self.attributes.get_index(attribute.index()) {
+        match self.equations.attributes.get_index(attribute.index()) {
             Some((_, declared)) => &declared.params,
             None => &[],
         }
@@ -133,7 +145,7 @@ impl Rules {
     pub fn result_kind(&self, attribute: AttrId) -> Kind
         ensures { kind_view result ≡ result_of self.now attribute }
     {
-        match self.attributes.get_index(attribute.index()) {
+        match self.equations.attributes.get_index(attribute.index()) {
             Some((_, declared)) => declared.result,
             None => Kind::Int,
         }
@@ -143,7 +155,7 @@ impl Rules {
     pub fn name_of(&self, attribute: AttrId) -> &str
         ensures { result.now ≡ attribute_name self.now attribute }
     {
-        match self.attributes.get_index(attribute.index()) {
+        match self.equations.attributes.get_index(attribute.index()) {
             Some((key, _)) => text_at(&self.names, key.1),
             None => "",
         }
@@ -153,7 +165,7 @@ impl Rules {
     pub fn class_of(&self, attribute: AttrId) -> Option<ClassId>
         ensures { result ≡ option_map (λ a. a.class) (slice_get self.now.attributes attribute) }
     {
-        match self.attributes.get_index(attribute.index()) {
+        match self.equations.attributes.get_index(attribute.index()) {
             Some((key, _)) => Some(ClassId::new(key.0)),
             None => None,
         }
@@ -163,7 +175,7 @@ impl Rules {
     pub fn is_lazy(&self, attribute: AttrId) -> bool
         ensures { result ≡ is_lazy self.now attribute }
     {
-        match self.attributes.get_index(attribute.index()) {
+        match self.equations.attributes.get_index(attribute.index()) {
             Some((_, declared)) => declared.is_lazy,
             None => false,
         }
@@ -174,7 +186,7 @@ impl Rules {
     pub fn is_inherited(&self, attribute: AttrId) -> bool
         ensures { result ≡ is_inherited self.now attribute }
     {
-        match self.attributes.get_index(attribute.index()) {
+        match self.equations.attributes.get_index(attribute.index()) {
             Some((_, declared)) => declared.is_inherited,
             None => false,
         }
@@ -200,7 +212,7 @@ impl Rules {
     pub fn own_in(&self, class: ClassId, attribute: AttrId) -> Option<&Body>
         ensures { option_map (λ b. body_view b.now) result ≡ own_in self.now attribute class }
     {
-        self.own.get(&(class.index(), attribute.index()))
+        self.equations.own.get(&(class.index(), attribute.index()))
     }
 
     /// The body of the equation that nodes of the class have for that inherited attribute of the nodes in a
@@ -208,8 +220,8 @@ impl Rules {
     pub fn inherited_body(&self, class: ClassId, part: usize, attribute: AttrId) -> Option<&Body>
         ensures { option_map (λ b. body_view b.now) result ≡ inherited_equation self.now class part (attribute_name self.now attribute) }
     {
-        let name = name_number(&self.names, &self.attributes, attribute)?;
-        inherited_above(&self.classes, &self.inherited, class, part, name)
+        let name = name_number(&self.names, &self.equations.attributes, attribute)?;
+        inherited_above(&self.classes, &self.equations.inherited, class, part, name)
     }
 }
 

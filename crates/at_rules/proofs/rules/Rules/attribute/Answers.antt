@@ -7,7 +7,7 @@ use Rattle.at_rules.proofs.rules.Rules.attribute.Goals as goal
 pub returns-in_err-name-clause-named : goal.returns-in_err-name-clause-named
 returns-in_err-name-clause-named c = λ some.
     let names = c.self.inside.names.keys in
-    let es = c.self.inside.attributes.entries in
+    let es = c.self.inside.equations.attributes.entries in
     let classes = c.self.inside.classes in
     c.from_residual.ensures
     ∙ sym (none_by_name names c.args.name.now some (sym c.in_err-name.ensures.found) es (chain classes c.args.class))
@@ -16,7 +16,7 @@ returns-in_err-name-clause-named c = λ some.
 pub returns-in_err-position-clause-named : goal.returns-in_err-position-clause-named
 returns-in_err-position-clause-named c = λ some.
     let names = c.self.inside.names.keys in
-    let es = c.self.inside.attributes.entries in
+    let es = c.self.inside.equations.attributes.entries in
     let classes = c.self.inside.classes in
     c.from_residual-in_err-position.ensures
     ∙ sym c.in_err-position.was
@@ -27,7 +27,7 @@ returns-in_err-position-clause-named c = λ some.
 pub returns-clause-named : goal.returns-clause-named
 returns-clause-named c = λ some.
     let names = c.self.inside.names.keys in
-    let es = c.self.inside.attributes.entries in
+    let es = c.self.inside.equations.attributes.entries in
     let classes = c.self.inside.classes in
     ap Some c.new.ensures
     ∙ sym c.in_ok-position.was
