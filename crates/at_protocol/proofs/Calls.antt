@@ -12,7 +12,8 @@ use Rattle.at_protocol.specs.Words.{HasNo, FailsOn, IsNameText}
 use Rattle.at_protocol.specs.Calls.{IsCallText, AreArguments, IsNextArgument, IsBareArgument, IsQuotedFirst, behind_argument}
 use Rattle.at_protocol.specs.LineView.{argument_view, arguments_view}
 use Rattle.at_protocol.specs.declared.line.Argument.{Argument as ArgumentValue}
-use Rattle.at_protocol.specs.declared.line.words.WordFault.{WordFault}
+use Rattle.at_text.specs.declared.fault.Failure.{Failure}
+use Rattle.at_protocol.specs.declared.line.words.Misfit.{Misfit}
 use Rattle.at_protocol.proofs.Answering.{fails_with}
 use Rattle.at_protocol.proofs.Spaces.{two_parts, one_cut, has_no_name, has_no_place, has_no_test, comma_outside, tail_of, first, IsNext}
 
@@ -25,7 +26,7 @@ inside_call text name inside b arguments split one h =
 pub no_call : (text : List ℕ) → ((name inside : List ℕ) → HasNo 40 name → text ≢ name ++ 40 ∷ (inside ++ 41 ∷ [])) → (call : List ℕ × List Argument) → IsCallText text call → ⊥
 no_call text none call h = none call.0 _ (has_no_name 40 refl call.0 h.0) (sym h.2)
 
-pub name_fails : (text name inside : List ℕ) (fault : WordFault) → text ≡ name ++ 40 ∷ (inside ++ 41 ∷ []) → HasNo 40 name → FailsOn (IsNameText name) fault → FailsOn (IsCallText text) fault
+pub name_fails : (text name inside : List ℕ) (fault : Failure Misfit) → text ≡ name ++ 40 ∷ (inside ++ 41 ∷ []) → HasNo 40 name → FailsOn (IsNameText name) fault → FailsOn (IsCallText text) fault
 name_fails text name inside fault split one = fails_with (IsNameText name) (IsCallText text) fault (λ call h. (call.0, (h.0, (inside_call text name inside call.0 call.1 split one h).0)))
 
 -- with something inside there are arguments
@@ -33,7 +34,7 @@ are_inside : (inside : List ℕ) (arguments : List Argument) → (inside ≡ [] 
 are_inside inside [] some h e = absurd (some (sym e))
 are_inside inside (a ∷ as') some h e = (h, e)
 
-pub arguments_fail : (text name inside : List ℕ) (fault : WordFault) → text ≡ name ++ 40 ∷ (inside ++ 41 ∷ []) → HasNo 40 name → (inside ≡ [] → ⊥) → FailsOn (AreArguments inside) fault → FailsOn (IsCallText text) fault
+pub arguments_fail : (text name inside : List ℕ) (fault : Failure Misfit) → text ≡ name ++ 40 ∷ (inside ++ 41 ∷ []) → HasNo 40 name → (inside ≡ [] → ⊥) → FailsOn (AreArguments inside) fault → FailsOn (IsCallText text) fault
 arguments_fail text name inside fault split one some = fails_with (AreArguments inside) (IsCallText text) fault (λ call h. (call.1, are_inside inside call.1 some h.1 (inside_call text name inside call.0 call.1 split one h).1))
 
 -- one argument more at the front
@@ -77,10 +78,10 @@ wanted_next text rest read a (Some more) w h = (
   λ arguments k. let inner = w.1 arguments k in behind_comma rest more a inner.0 h inner.1,
 )
 
-pub first_fails : (text : List ℕ) (fault : WordFault) → FailsOn (IsNextArgument text) fault → FailsOn (AreArguments text) fault
+pub first_fails : (text : List ℕ) (fault : Failure Misfit) → FailsOn (IsNextArgument text) fault → FailsOn (AreArguments text) fault
 first_fails text fault = fails_with (IsNextArgument text) (AreArguments text) fault (next_of text)
 
-pub next_fails : (text rest : List ℕ) (read : List Argument) (fault : WordFault) → Wanted text read (Some rest) → FailsOn (IsNextArgument rest) fault → FailsOn (AreArguments text) fault
+pub next_fails : (text rest : List ℕ) (read : List Argument) (fault : Failure Misfit) → Wanted text read (Some rest) → FailsOn (IsNextArgument rest) fault → FailsOn (AreArguments text) fault
 next_fails text rest read fault w = fails_with (IsNextArgument rest) (AreArguments text) fault (λ arguments k. let inner = w.1 arguments k in next_of rest inner.0 inner.1)
 
 -- how much is left
@@ -120,7 +121,7 @@ behind_next : (behind : Option (List ℕ)) → IsNext 44 (behind_argument behind
 behind_next None = tt
 behind_next (Some rest) = refl
 
-pub comma_fails : (text word rest : List ℕ) (fault : WordFault) → (slice_index text 0 ≡ 34 → ⊥) → text ≡ word ++ 44 ∷ rest → HasNo 44 word → FailsOn (IsBareArgument word) fault → FailsOn (IsNextArgument text) fault
+pub comma_fails : (text word rest : List ℕ) (fault : Failure Misfit) → (slice_index text 0 ≡ 34 → ⊥) → text ≡ word ++ 44 ∷ rest → HasNo 44 word → FailsOn (IsBareArgument word) fault → FailsOn (IsNextArgument text) fault
 comma_fails text word rest fault none split one = fails_with (IsBareArgument word) (IsNextArgument text) fault part
   where
     part : (next : Argument × Option (List ℕ)) → IsNextArgument text next → (a : Argument) × IsBareArgument word a
@@ -129,7 +130,7 @@ comma_fails text word rest fault none split one = fails_with (IsBareArgument wor
         let same = one_cut 44 (argument_text next.0) word (behind_argument next.1) (44 ∷ rest) (h.1 ∙ split) b.one one (behind_next next.1) refl in
         (next.0, subst (λ y. IsBareArgument y next.0) same.0 b.is_bare)
 
-pub end_fails : (text : List ℕ) (fault : WordFault) → (slice_index text 0 ≡ 34 → ⊥) → HasNo 44 text → FailsOn (IsBareArgument text) fault → FailsOn (IsNextArgument text) fault
+pub end_fails : (text : List ℕ) (fault : Failure Misfit) → (slice_index text 0 ≡ 34 → ⊥) → HasNo 44 text → FailsOn (IsBareArgument text) fault → FailsOn (IsNextArgument text) fault
 end_fails text fault none one = fails_with (IsBareArgument text) (IsNextArgument text) fault part
   where
     part : (next : Argument × Option (List ℕ)) → IsNextArgument text next → (a : Argument) × IsBareArgument text a
@@ -148,7 +149,7 @@ is_quoted text (Text value) behind q h = (value, h)
 is_quoted text (Ref place) behind q h = absurd (no_place_quote text place (behind_argument behind) q h.1)
 is_quoted text Null behind q h = let f : 110 ≡ slice_index text 0 = first _ _ h.1 in absurd (omega (arith, f, q))
 
-pub quote_fails : (text : List ℕ) (fault : WordFault) → slice_index text 0 ≡ 34 → FailsOn (IsQuotedFirst text) fault → FailsOn (IsNextArgument text) fault
+pub quote_fails : (text : List ℕ) (fault : Failure Misfit) → slice_index text 0 ≡ 34 → FailsOn (IsQuotedFirst text) fault → FailsOn (IsNextArgument text) fault
 quote_fails text fault q = fails_with (IsQuotedFirst text) (IsNextArgument text) fault (λ next h. let f = is_quoted text next.0 next.1 q h in ((f.0, behind_argument next.1), f.1))
 
 neither : (behind : Option (List ℕ)) (rest : List ℕ) → (rest ≡ [] → ⊥) → ((more : List ℕ) → rest ≢ 44 ∷ more) → behind_argument behind ≡ rest → ⊥

@@ -8,7 +8,8 @@ use Rattle.at_model.specs.Lines.{Command, Line, Spells, IsVersion, max_line, max
 use Rattle.at_model.proofs.OneLine.{command_text, body_text, line_flat, no_at, same_line}
 use Rattle.at_protocol.specs.Commands.{IsCommandText}
 use Rattle.at_protocol.specs.Words.{HasNoSpace, FailsOn, IsExpected}
-use Rattle.at_protocol.specs.declared.line.words.WordFault.{WordFault}
+use Rattle.at_text.specs.declared.fault.Failure.{Failure}
+use Rattle.at_protocol.specs.declared.line.words.Misfit.{Misfit}
 use Rattle.at_protocol.proofs.Answering.{fails_with}
 use Rattle.at_protocol.proofs.Spaces.{one_front, no_space_decimal, space_inside, two_words}
 use Rattle.at_protocol.proofs.Utf8.{utf8_line}
@@ -77,13 +78,13 @@ behind_session bytes text word rest l same split one h =
     let words = two_words (decimal l.session) word a.rest rest (sym a.split ∙ sym same ∙ split) (no_space_decimal l.session (omega (arith, a.small))) one in
     sym words.1 ∙ a.is_body
 
-pub needs_expected : (bytes text word rest : List ℕ) (fault : WordFault) → text ≡ bytes → text ≡ word ++ 32 ∷ rest → HasNoSpace word → FailsOn (IsExpected rest) fault → FailsOn (Spells bytes) fault
+pub needs_expected : (bytes text word rest : List ℕ) (fault : Failure Misfit) → text ≡ bytes → text ≡ word ++ 32 ∷ rest → HasNoSpace word → FailsOn (IsExpected rest) fault → FailsOn (Spells bytes) fault
 needs_expected bytes text word rest fault same split one = fails_with (IsExpected rest) (Spells bytes) fault part
   where
     part : (l : Line) → Spells bytes l → (first : Option ℕ × List ℕ) × IsExpected rest first
     part l h = ((l.expected, command_text l.command), expected_in rest l.expected l.command h.is_line.expected (behind_session bytes text word rest l same split one h))
 
-pub needs_command : (bytes text word rest end : List ℕ) (expected : Option ℕ) (fault : WordFault) → text ≡ bytes → text ≡ word ++ 32 ∷ rest → HasNoSpace word → IsExpected rest (expected, end) → FailsOn (IsCommandText end) fault → FailsOn (Spells bytes) fault
+pub needs_command : (bytes text word rest end : List ℕ) (expected : Option ℕ) (fault : Failure Misfit) → text ≡ bytes → text ≡ word ++ 32 ∷ rest → HasNoSpace word → IsExpected rest (expected, end) → FailsOn (IsCommandText end) fault → FailsOn (Spells bytes) fault
 needs_command bytes text word rest end expected fault same split one k = fails_with (IsCommandText end) (Spells bytes) fault part
   where
     part : (l : Line) → Spells bytes l → (c : Command) × IsCommandText end c

@@ -9,8 +9,9 @@ use Rattle.at_model.specs.Terms.{Term, term_text, token_text, IsTerm, IsToken}
 use Rattle.at_model.specs.Paths.{Path, path_text, step_text, IsPath, IsIndex}
 use Rattle.at_model.specs.Lines.{Place, place_text, IsPlace, last_version}
 use Rattle.at_model.specs.Names.{IsName}
-use Rattle.at_protocol.specs.declared.line.words.WordFault.{WordFault}
-use Rattle.at_protocol.specs.declared.line.words.WordFault.TheVariants.{Form, Memory}
+use Rattle.at_text.specs.declared.fault.Failure.{Failure}
+use Rattle.at_text.specs.declared.fault.Failure.TheVariants.{For, Memory}
+use Rattle.at_protocol.specs.declared.line.words.Misfit.{Misfit}
 
 -- the byte stands nowhere in it
 abbrev pub HasNo : ℕ → List ℕ → Type 0
@@ -21,12 +22,12 @@ abbrev pub HasNoSpace : List ℕ → Type 0
 HasNoSpace text = HasNo 32 text
 
 -- why nothing was read: no value has this text, or memory ran out
-abbrev pub FailsOn : {B : Type 0} → (B → Type 0) → WordFault → Type 0
-FailsOn {B} IsRead Form = (b : B) → IsRead b → ⊥
+abbrev pub FailsOn : {B : Type 0} → (B → Type 0) → Failure Misfit → Type 0
+FailsOn {B} IsRead (For m) = (b : B) → IsRead b → ⊥
 FailsOn {B} IsRead Memory = ⊤
 
 -- what was read has this text
-abbrev pub Answers : {A B : Type 0} → (A → B) → (B → Type 0) → Result A WordFault → Type 0
+abbrev pub Answers : {A B : Type 0} → (A → B) → (B → Type 0) → Result A (Failure Misfit) → Type 0
 Answers {A} {B} view IsRead (Ok a) = IsRead (view a)
 Answers {A} {B} view IsRead (Err fault) = FailsOn IsRead fault
 

@@ -18,7 +18,7 @@ mod words;
 
 use commands::read_command;
 use first::read_expected;
-use words::{WordFault, cut, first_word, read_session};
+use words::{Misfit, Unread, cut, first_word, read_session};
 
 /// The most bytes of a line, its newline not counted.
 pub const MAX_LINE: usize = 65535;
@@ -144,24 +144,24 @@ pub fn read_line(alloc: Global, line: &[u8]) -> Result<Line, LineFault>
     let session = session_of(line);
     match read_spelled(alloc, session, line) {
         Ok(line) => Ok(line),
-        Err(WordFault::Form) => Err(LineFault::Syntax { session }),
-        Err(WordFault::Memory) => Err(LineFault::Memory { session }),
+        Err(Unread::For(_)) => Err(LineFault::Syntax { session }),
+        Err(Unread::Memory) => Err(LineFault::Memory { session }),
     }
 }
 
 /// The line that the bytes spell, where this is the session at their front.
-fn read_spelled(alloc: Global, session: Option<u16>, line: &[u8]) -> Result<Line, WordFault>
+fn read_spelled(alloc: Global, session: Option<u16>, line: &[u8]) -> Result<Line, Unread>
     requires { IsSessionOf line.now session }
     ensures { Answers line_view (Spells line.now) result }
 {
     if line.len() > MAX_LINE {
-        return Err(WordFault::Form);
+        return Err(Unread::For(Misfit::Form));
     }
     let Some(session) = session else {
-        return Err(WordFault::Form);
+        return Err(Unread::For(Misfit::Form));
     };
     let Ok(text) = std::str::from_utf8(line) else {
-        return Err(WordFault::Form);
+        return Err(Unread::For(Misfit::Form));
     };
     let (_, rest) = cut(text)?;
     let (expected, rest) = read_expected(rest)?;

@@ -1,17 +1,19 @@
 //! Questions: an attribute and its arguments.
 ghost use Rattle.std.specs.Prelude.{◌≡◌, ◌≢◌, ◌++◌, ◌∷◌, [], ℕ, List, MatchResult, slice_index, string_bytes};
+ghost use Rattle.at_text.specs.declared.fault.Failure.TheVariants.{For};
+ghost use Rattle.at_protocol.specs.declared.line.words.Misfit.TheVariants.{Form};
 ghost use Rattle.at_protocol.specs.LineView.{argument_view, arguments_view};
 ghost use Rattle.at_protocol.specs.Words.{Answers, HasNo};
 ghost use Rattle.at_protocol.specs.Calls.{IsCallText, AreArguments, IsNextArgument, IsBareArgument, IsQuotedFirst, next_view};
 
 use super::Argument;
 use super::places::read_place;
-use super::words::{WordFault, cut_at, read_name};
+use super::words::{Misfit, Unread, cut_at, read_name};
 use at_text::quoted::{QuoteFault, read_quoted};
 use std::alloc::Global;
 
 /// The attribute and the arguments that `ATTRIBUTE(ARGUMENTS)` names.
-pub(super) fn read_call(alloc: Global, text: &str) -> Result<(String, Vec<Argument>), WordFault>
+pub(super) fn read_call(alloc: Global, text: &str) -> Result<(String, Vec<Argument>), Unread>
     ensures { Answers (λ call. (string_bytes call.0, arguments_view call.1.items)) (IsCallText text.now) result }
 {
     let (name, inside) = call_parts(text)?;
@@ -24,22 +26,22 @@ pub(super) fn read_call(alloc: Global, text: &str) -> Result<(String, Vec<Argume
 }
 
 /// The text before the first parenthesis, and the text from there to the last.
-fn call_parts(text: &str) -> Result<(&str, &str), WordFault>
+fn call_parts(text: &str) -> Result<(&str, &str), Unread>
     ensures { MatchResult result
         (λ parts. (text.now ≡ parts.0.now ++ 40 ∷ (parts.1.now ++ 41 ∷ [])) × HasNo 40 parts.0.now)
-        (λ fault. (fault ≡ WordFault.Form) × ((name inside : List ℕ) → HasNo 40 name → text.now ≢ name ++ 40 ∷ (inside ++ 41 ∷ []))) }
+        (λ fault. (fault ≡ For Form) × ((name inside : List ℕ) → HasNo 40 name → text.now ≢ name ++ 40 ∷ (inside ++ 41 ∷ []))) }
 {
     let Some((name, rest)) = cut_at(text, b'(') else {
-        return Err(WordFault::Form);
+        return Err(Unread::For(Misfit::Form));
     };
     match rest.strip_suffix(')') {
         Some(inside) => Ok((name, inside)),
-        None => Err(WordFault::Form),
+        None => Err(Unread::For(Misfit::Form)),
     }
 }
 
 /// The arguments that the text spells, one or more, with a comma between each two.
-fn read_arguments(alloc: Global, text: &str) -> Result<Vec<Argument>, WordFault>
+fn read_arguments(alloc: Global, text: &str) -> Result<Vec<Argument>, Unread>
     ensures { Answers (λ arguments. arguments_view arguments.items) (AreArguments text.now) result }
 {
     let (first, mut rest) = next_argument(alloc, text)?;
@@ -54,7 +56,7 @@ fn read_arguments(alloc: Global, text: &str) -> Result<Vec<Argument>, WordFault>
 }
 
 /// The argument before the next comma or the end, and what stands behind the comma.
-fn next_argument(alloc: Global, text: &str) -> Result<(Argument, Option<&str>), WordFault>
+fn next_argument(alloc: Global, text: &str) -> Result<(Argument, Option<&str>), Unread>
     ensures { Answers next_view (IsNextArgument text.now) result }
 {
     if text.starts_with('"') {
@@ -67,7 +69,7 @@ fn next_argument(alloc: Global, text: &str) -> Result<(Argument, Option<&str>), 
 }
 
 /// The same, where a quote stands at the front.
-fn next_text(alloc: Global, text: &str) -> Result<(Argument, Option<&str>), WordFault>
+fn next_text(alloc: Global, text: &str) -> Result<(Argument, Option<&str>), Unread>
     requires { slice_index text.now 0 ≡ 34 }
     ensures { Answers next_view (IsNextArgument text.now) result }
 {
@@ -77,23 +79,23 @@ fn next_text(alloc: Global, text: &str) -> Result<(Argument, Option<&str>), Word
     }
     match rest.strip_prefix(',') {
         Some(rest) => Ok((Argument::Text(value), Some(rest))),
-        None => Err(WordFault::Form),
+        None => Err(Unread::For(Misfit::Form)),
     }
 }
 
 /// The text whose spelling between quotes stands at the front, and the rest.
-fn text_first(alloc: Global, text: &str) -> Result<(String, &str), WordFault>
+fn text_first(alloc: Global, text: &str) -> Result<(String, &str), Unread>
     ensures { Answers (λ first. (string_bytes first.0, first.1.now)) (IsQuotedFirst text.now) result }
 {
     match read_quoted(alloc, text) {
         Ok((value, length)) => Ok((value, text.split_at(length).1)),
-        Err(QuoteFault::Form) => Err(WordFault::Form),
-        Err(QuoteFault::Memory) => Err(WordFault::Memory),
+        Err(QuoteFault::Form) => Err(Unread::For(Misfit::Form)),
+        Err(QuoteFault::Memory) => Err(Unread::Memory),
     }
 }
 
 /// The argument that the word spells: `null` or a place.
-fn read_bare(alloc: Global, word: &str) -> Result<Argument, WordFault>
+fn read_bare(alloc: Global, word: &str) -> Result<Argument, Unread>
     ensures { Answers argument_view (IsBareArgument word.now) result }
 {
     if word == "null" {

@@ -8,11 +8,11 @@ use super::Command;
 use super::arguments::read_call;
 use super::first::{index_first, name_first, place_first};
 use super::places::read_place;
-use super::words::{WordFault, cut, read_name, read_term_text, read_value};
+use super::words::{Misfit, Unread, cut, read_name, read_term_text, read_value};
 use std::alloc::Global;
 
 /// The command that the text spells.
-pub(super) fn read_command(alloc: Global, text: &str) -> Result<Command, WordFault>
+pub(super) fn read_command(alloc: Global, text: &str) -> Result<Command, Unread>
     ensures { Answers command_view (IsCommandText text.now) result }
 {
     if text == "version" {
@@ -30,12 +30,12 @@ pub(super) fn read_command(alloc: Global, text: &str) -> Result<Command, WordFau
         "mark" => read_mark(alloc, rest),
         "unmark" => read_unmark(alloc, rest),
         "where" => read_where(alloc, rest),
-        _ => Err(WordFault::Form),
+        _ => Err(Unread::For(Misfit::Form)),
     }
 }
 
 /// `PLACE ATTRIBUTE(ARGUMENTS)` behind `ask`
-fn read_ask(alloc: Global, text: &str) -> Result<Command, WordFault>
+fn read_ask(alloc: Global, text: &str) -> Result<Command, Unread>
     ensures { Answers command_view (IsCommandText (codes "ask" ++ 32 ∷ text.now)) result }
 {
     let (place, call) = place_first(alloc, text)?;
@@ -48,7 +48,7 @@ fn read_ask(alloc: Global, text: &str) -> Result<Command, WordFault>
 }
 
 /// `PLACE TERM` behind `set`
-fn read_set(alloc: Global, text: &str) -> Result<Command, WordFault>
+fn read_set(alloc: Global, text: &str) -> Result<Command, Unread>
     ensures { Answers command_view (IsCommandText (codes "set" ++ 32 ∷ text.now)) result }
 {
     let (place, rest) = place_first(alloc, text)?;
@@ -57,7 +57,7 @@ fn read_set(alloc: Global, text: &str) -> Result<Command, WordFault>
 }
 
 /// `PLACE PART TERM` behind `put`
-fn read_put(alloc: Global, text: &str) -> Result<Command, WordFault>
+fn read_put(alloc: Global, text: &str) -> Result<Command, Unread>
     ensures { Answers command_view (IsCommandText (codes "put" ++ 32 ∷ text.now)) result }
 {
     let (place, rest) = place_first(alloc, text)?;
@@ -67,7 +67,7 @@ fn read_put(alloc: Global, text: &str) -> Result<Command, WordFault>
 }
 
 /// `PLACE` behind `drop`
-fn read_drop(alloc: Global, text: &str) -> Result<Command, WordFault>
+fn read_drop(alloc: Global, text: &str) -> Result<Command, Unread>
     ensures { Answers command_view (IsCommandText (codes "drop" ++ 32 ∷ text.now)) result }
 {
     let place = read_place(alloc, text)?;
@@ -75,7 +75,7 @@ fn read_drop(alloc: Global, text: &str) -> Result<Command, WordFault>
 }
 
 /// `PLACE PART INDEX TERM` behind `insert`
-fn read_insert(alloc: Global, text: &str) -> Result<Command, WordFault>
+fn read_insert(alloc: Global, text: &str) -> Result<Command, Unread>
     ensures { Answers command_view (IsCommandText (codes "insert" ++ 32 ∷ text.now)) result }
 {
     let (place, rest) = place_first(alloc, text)?;
@@ -91,7 +91,7 @@ fn read_insert(alloc: Global, text: &str) -> Result<Command, WordFault>
 }
 
 /// `PLACE PART VALUE` behind `token`
-fn read_token(alloc: Global, text: &str) -> Result<Command, WordFault>
+fn read_token(alloc: Global, text: &str) -> Result<Command, Unread>
     ensures { Answers command_view (IsCommandText (codes "token" ++ 32 ∷ text.now)) result }
 {
     let (place, rest) = place_first(alloc, text)?;
@@ -101,7 +101,7 @@ fn read_token(alloc: Global, text: &str) -> Result<Command, WordFault>
 }
 
 /// `PLACE` behind `show`
-fn read_show(alloc: Global, text: &str) -> Result<Command, WordFault>
+fn read_show(alloc: Global, text: &str) -> Result<Command, Unread>
     ensures { Answers command_view (IsCommandText (codes "show" ++ 32 ∷ text.now)) result }
 {
     let place = read_place(alloc, text)?;
@@ -109,7 +109,7 @@ fn read_show(alloc: Global, text: &str) -> Result<Command, WordFault>
 }
 
 /// `NAME PLACE` behind `mark`
-fn read_mark(alloc: Global, text: &str) -> Result<Command, WordFault>
+fn read_mark(alloc: Global, text: &str) -> Result<Command, Unread>
     ensures { Answers command_view (IsCommandText (codes "mark" ++ 32 ∷ text.now)) result }
 {
     let (name, rest) = name_first(alloc, text)?;
@@ -118,7 +118,7 @@ fn read_mark(alloc: Global, text: &str) -> Result<Command, WordFault>
 }
 
 /// `NAME` behind `unmark`
-fn read_unmark(alloc: Global, text: &str) -> Result<Command, WordFault>
+fn read_unmark(alloc: Global, text: &str) -> Result<Command, Unread>
     ensures { Answers command_view (IsCommandText (codes "unmark" ++ 32 ∷ text.now)) result }
 {
     let name = read_name(alloc, text)?;
@@ -126,7 +126,7 @@ fn read_unmark(alloc: Global, text: &str) -> Result<Command, WordFault>
 }
 
 /// `NAME` behind `where`
-fn read_where(alloc: Global, text: &str) -> Result<Command, WordFault>
+fn read_where(alloc: Global, text: &str) -> Result<Command, Unread>
     ensures { Answers command_view (IsCommandText (codes "where" ++ 32 ∷ text.now)) result }
 {
     let name = read_name(alloc, text)?;

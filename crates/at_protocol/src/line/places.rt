@@ -5,13 +5,13 @@ ghost use Rattle.at_protocol.specs.LineView.{place_view};
 ghost use Rattle.at_protocol.specs.Words.{Answers, HasNo, IsPlaceText, IsPathText, IsStepsText, IsSlashOrEnd};
 
 use super::Place;
-use super::words::{WordFault, read_name};
+use super::words::{Misfit, Unread, read_name};
 use at_tree::fault::TermFault;
 use at_tree::path::{Path, read_path};
 use std::alloc::Global;
 
 /// The place that the word spells.
-pub(super) fn read_place(alloc: Global, word: &str) -> Result<Place, WordFault>
+pub(super) fn read_place(alloc: Global, word: &str) -> Result<Place, Unread>
     ensures { Answers place_view (IsPlaceText word.now) result }
 {
     match word.strip_prefix('$') {
@@ -21,7 +21,7 @@ pub(super) fn read_place(alloc: Global, word: &str) -> Result<Place, WordFault>
 }
 
 /// A mark's name and the steps from there, behind the dollar sign.
-fn read_marked(alloc: Global, text: &str) -> Result<Place, WordFault>
+fn read_marked(alloc: Global, text: &str) -> Result<Place, Unread>
     ensures { Answers place_view (IsPlaceText (36 ∷ text.now)) result }
 {
     let (name, steps) = at_slash(text);
@@ -43,7 +43,7 @@ fn at_slash(text: &str) -> (&str, &str)
 }
 
 /// The steps that the text spells: none where it is empty.
-fn read_steps(alloc: Global, text: &str) -> Result<Path, WordFault>
+fn read_steps(alloc: Global, text: &str) -> Result<Path, Unread>
     ensures { Answers path_view (IsStepsText text.now) result }
 {
     if text.is_empty() {
@@ -53,18 +53,18 @@ fn read_steps(alloc: Global, text: &str) -> Result<Path, WordFault>
     }
     // This is the root's path, and no step.
     if text == "/" {
-        return Err(WordFault::Form);
+        return Err(Unread::For(Misfit::Form));
     }
     read_whole_path(alloc, text)
 }
 
 /// The path that the text spells.
-fn read_whole_path(alloc: Global, text: &str) -> Result<Path, WordFault>
+fn read_whole_path(alloc: Global, text: &str) -> Result<Path, Unread>
     ensures { Answers path_view (IsPathText text.now) result }
 {
     match read_path(alloc, text) {
         Ok(path) => Ok(path),
-        Err(TermFault::Syntax { at: _ }) => Err(WordFault::Form),
-        Err(TermFault::Memory) => Err(WordFault::Memory),
+        Err(TermFault::Syntax { at: _ }) => Err(Unread::For(Misfit::Form)),
+        Err(TermFault::Memory) => Err(Unread::Memory),
     }
 }

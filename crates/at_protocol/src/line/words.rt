@@ -7,9 +7,12 @@ ghost use Rattle.at_model.specs.Names.{is_name};
 ghost use Rattle.at_model.specs.Paths.{IsIndex};
 ghost use Rattle.at_tree.specs.Token.{token_view};
 ghost use Rattle.at_tree.specs.View.{term_view};
+ghost use Rattle.at_text.specs.declared.fault.Failure.TheVariants.{For};
+ghost use Rattle.at_protocol.specs.declared.line.words.Misfit.TheVariants.{Form};
 ghost use Rattle.at_protocol.specs.Words.{HasNo, HasNoSpace, Answers, IsNameText, IsQuotedText, IsTermText, IsValueText};
 
 use at_text::decimal::{read_int, read_number};
+use at_text::fault::Failure;
 use at_text::names::is_name;
 use at_text::quoted::{QuoteFault, read_text};
 use at_tree::fault::TermFault;
@@ -17,7 +20,7 @@ use at_tree::names::is_plain_name;
 use at_tree::reader::read_term;
 use at_tree::term::Term;
 use at_tree::token::TokVal;
-use std::alloc::{AllocError, AllocFailed, Global};
+use std::alloc::Global;
 
 /// The sessions are those below.
 const MAX_SESSIONS: u64 = 1000;
@@ -25,36 +28,14 @@ const MAX_SESSIONS: u64 = 1000;
 /// The indexes are those below: they have at most nine digits.
 const MAX_INDEXES: u64 = 1_000_000_000;
 
-/// Why words were not read.
+/// Words are of another form than what is wanted.
 #[derive(Clone, Copy, Debug)]
-pub(super) enum WordFault {
-    /// They have another form.
+pub(super) enum Misfit {
     Form,
-    /// Memory ran out.
-    Memory,
 }
 
-impl From<AllocError> for WordFault {
-    ghost use Rattle.std.specs.Prelude.{◌≡◌};
-    ghost use Rattle.at_protocol.specs.declared.line.words.WordFault.TheVariants.{Memory};
-
-    ghost from_gives = { λ _ e. e ≡ Memory };
-
-    fn from(_: AllocError) -> WordFault {
-        WordFault::Memory
-    }
-}
-
-impl<T: Drop> From<AllocFailed<T>> for WordFault {
-    ghost use Rattle.std.specs.Prelude.{◌≡◌};
-    ghost use Rattle.at_protocol.specs.declared.line.words.WordFault.TheVariants.{Memory};
-
-    ghost from_gives = { λ _ e. e ≡ Memory };
-
-    fn from(_: AllocFailed<T>) -> WordFault {
-        WordFault::Memory
-    }
-}
+/// Why words were not read.
+pub(super) type Unread = Failure<Misfit>;
 
 /// The bytes before the first space, or all.
 pub(super) fn first_word(line: &[u8]) -> &[u8]
@@ -87,12 +68,12 @@ pub(super) fn cut_at(text: &str, sign: u8) -> Option<(&str, &str)>
 }
 
 /// The text before the first space, and the text behind it.
-pub(super) fn cut(text: &str) -> Result<(&str, &str), WordFault>
+pub(super) fn cut(text: &str) -> Result<(&str, &str), Unread>
     ensures { MatchResult result
         (λ cut. (text.now ≡ cut.0.now ++ 32 ∷ cut.1.now) × HasNoSpace cut.0.now)
-        (λ fault. (fault ≡ WordFault.Form) × HasNoSpace text.now) }
+        (λ fault. (fault ≡ For Form) × HasNoSpace text.now) }
 {
-    cut_at(text, b' ').ok_or(WordFault::Form)
+    cut_at(text, b' ').ok_or(Unread::For(Misfit::Form))
 }
 
 /// The session that the word spells.
@@ -122,13 +103,13 @@ fn is_name_word(word: &str) -> bool
 }
 
 /// The name that the word is.
-pub(super) fn read_name(alloc: Global, word: &str) -> Result<String, WordFault>
+pub(super) fn read_name(alloc: Global, word: &str) -> Result<String, Unread>
     ensures { Answers (λ name. string_bytes name) (IsNameText word.now) result }
 {
     if is_name_word(word) {
         Ok(String::from_str(alloc, word)?)
     } else {
-        Err(WordFault::Form)
+        Err(Unread::For(Misfit::Form))
     }
 }
 
@@ -149,29 +130,29 @@ pub(super) fn read_index(word: &str) -> Option<u32>
 }
 
 /// The term that the text spells.
-pub(super) fn read_term_text(alloc: Global, text: &str) -> Result<Term, WordFault>
+pub(super) fn read_term_text(alloc: Global, text: &str) -> Result<Term, Unread>
     ensures { Answers term_view (IsTermText text.now) result }
 {
     match read_term(alloc, text) {
         Ok(term) => Ok(term),
-        Err(TermFault::Syntax { at: _ }) => Err(WordFault::Form),
-        Err(TermFault::Memory) => Err(WordFault::Memory),
+        Err(TermFault::Syntax { at: _ }) => Err(Unread::For(Misfit::Form)),
+        Err(TermFault::Memory) => Err(Unread::Memory),
     }
 }
 
 /// The text whose spelling between quotes the whole of this is.
-fn read_quotation(alloc: Global, text: &str) -> Result<String, WordFault>
+fn read_quotation(alloc: Global, text: &str) -> Result<String, Unread>
     ensures { Answers (λ value. string_bytes value) (IsQuotedText text.now) result }
 {
     match read_text(alloc, text) {
         Ok(value) => Ok(value),
-        Err(QuoteFault::Form) => Err(WordFault::Form),
-        Err(QuoteFault::Memory) => Err(WordFault::Memory),
+        Err(QuoteFault::Form) => Err(Unread::For(Misfit::Form)),
+        Err(QuoteFault::Memory) => Err(Unread::Memory),
     }
 }
 
 /// The value that the text spells: a decimal within 32 bits, `true`, `false` or a quoted text.
-pub(super) fn read_value(alloc: Global, text: &str) -> Result<TokVal, WordFault>
+pub(super) fn read_value(alloc: Global, text: &str) -> Result<TokVal, Unread>
     ensures { Answers token_view (IsValueText text.now) result }
 {
     if text == "true" {

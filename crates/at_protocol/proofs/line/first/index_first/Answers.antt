@@ -1,7 +1,8 @@
 use Rattle.std.proofs.Common.{sym}
 use Rattle.std.proofs.lemmas.Result.{err_from_is_err_and}
 use Rattle.at_protocol.specs.Words.{IsIndexText}
-use Rattle.at_protocol.specs.declared.line.words.WordFault.TheVariants.{Form}
+use Rattle.at_text.specs.declared.fault.Failure.TheVariants.{For}
+use Rattle.at_protocol.specs.declared.line.words.Misfit.TheVariants.{Form}
 use Rattle.at_protocol.proofs.Answering.{no_first, first_fails}
 use Rattle.at_protocol.proofs.line.first.index_first.Goals as goal
 
@@ -13,4 +14,4 @@ returns-in_err-word c =
 pub returns-in-None : goal.returns-in-None
 returns-in-None c =
     let cut = c.in_ok-word.ensures in
-    first_fails IsIndexText _ _ _ Form cut.0 cut.1 (λ n h. c.in-None.ensures n h.0 (sym h.1))
+    first_fails IsIndexText _ _ _ (For Form) cut.0 cut.1 (λ n h. c.in-None.ensures n h.0 (sym h.1))
