@@ -28,7 +28,9 @@ ghost use Rattle.at_store.specs.Refusing.{edit_at};
 
 use crate::changes::{place, replace, set_token, take_away};
 use crate::edit::{Edit, LoadFault, Prepared, Ready, Refusal};
-use crate::entry::{Children, Entry, Form, class_at, index_at, is_there, kid_at, kids_at, token_at, up_at};
+use crate::entry::{
+    Children, Entry, Form, class_at, index_at, is_there, kid_at, kids_at, token_at, up_at,
+};
 use crate::limits::is_within_limits;
 use crate::marks::mark;
 use crate::node::{Loc, Node};
@@ -46,7 +48,6 @@ use slab::Slab;
 use std::alloc::{AllocError, Global};
 
 /// The nodes of a syntax tree. Between `check` and the `commit` or `cancel` that spends its answer an edit waits.
-#[derive(Drop)]
 pub struct Store {
     slab: Slab<Entry>,
     root: Node,
@@ -56,6 +57,19 @@ pub struct Store {
     leaving: Option<Node>,
     /// The value of a token that isn't there.
     absent: TokVal,
+}
+
+/// One call, where each exit that lets it go would else have a case for each field.
+impl Drop for Store {
+    fn drop(self) {
+        let Store {
+            slab: _,
+            root: _,
+            waiting: _,
+            leaving: _,
+            absent: _,
+        } = self;
+    }
 }
 
 /// A list with one more child at a position.
