@@ -15,11 +15,22 @@ use std::marker::Model;
 pub type Arguments = SmallVec<Value, 2>;
 
 /// The question for an attribute of a node, with arguments: texts, nodes and null.
-#[derive(Debug, Drop)]
+#[derive(Debug)]
 pub struct Inst {
     node: Node,
     attribute: AttrId,
     arguments: Arguments,
+}
+
+/// One call, where each exit that lets it go would else have a case for each field.
+impl Drop for Inst {
+    fn drop(self) {
+        let Inst {
+            node: _,
+            attribute: _,
+            arguments: _,
+        } = self;
+    }
 }
 
 impl Model for Inst {

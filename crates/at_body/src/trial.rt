@@ -31,7 +31,6 @@ use at_store::{Loc, Node, Store};
 use std::alloc::{AllocError, Global};
 
 /// An evaluation under way: where it stands, what is left to do, and the locations that it has looked at.
-#[derive(Drop)]
 pub struct Trial<'a> {
     pub(crate) this: Node,
     pub(crate) child: Option<Node>,
@@ -39,6 +38,20 @@ pub struct Trial<'a> {
     pub(crate) arguments: Arguments,
     pub(crate) todo: Stack<Todo<'a>>,
     pub(crate) reads: Reads,
+}
+
+/// One call, where each exit that lets it go would else have a case for each field.
+impl Drop for Trial<'_> {
+    fn drop(self) {
+        let Trial {
+            this: _,
+            child: _,
+            bound: _,
+            arguments: _,
+            todo: _,
+            reads: _,
+        } = self;
+    }
 }
 
 /// Where an evaluation has come to.

@@ -17,7 +17,6 @@ use indexmap::IndexMap;
 use std::alloc::{AllocError, Global};
 
 /// A value with the locations that its evaluation read, and links to the entries that it used, by their places.
-#[derive(Drop)]
 struct Entry {
     value: Value,
     reads: Vec<Loc>,
@@ -26,14 +25,36 @@ struct Entry {
     stays: bool,
 }
 
+/// One call, where each exit that lets it go would else have a case for each field.
+impl Drop for Entry {
+    fn drop(self) {
+        let Entry {
+            value: _,
+            reads: _,
+            links: _,
+            stays: _,
+        } = self;
+    }
+}
+
 /// Keeps each value with its direct reads and with links to earlier entries, in the order in which they were put.
-#[derive(Drop)]
 pub struct KeepRecorded {
     alloc: Global,
     entries: IndexMap<Inst, Entry>,
     // Where the flush under way puts each entry, or that it goes.
     places: Vec<Option<usize>>,
     ghost has_room: { index_map_len entries ≤ vec_len places },
+}
+
+/// One call, where each exit that lets it go would else have a case for each field.
+impl Drop for KeepRecorded {
+    fn drop(self) {
+        let KeepRecorded {
+            alloc: _,
+            entries: _,
+            places: _,
+        } = self;
+    }
 }
 
 impl KeepRecorded {

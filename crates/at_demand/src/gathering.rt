@@ -13,10 +13,16 @@ use indexmap::{IndexMap, IndexSet};
 use std::alloc::{AllocError, Global};
 
 // The locations that an evaluation and the finds below it read, and the kept instances that they demanded.
-#[derive(Drop)]
 pub struct Sources {
     pub reads: Vec<Loc>,
     pub kept: Vec<Inst>,
+}
+
+/// One call, where each exit that lets it go would else have a case for each field.
+impl Drop for Sources {
+    fn drop(self) {
+        let Sources { reads: _, kept: _ } = self;
+    }
 }
 
 impl Sources {

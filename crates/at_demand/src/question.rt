@@ -26,10 +26,16 @@ use indexmap::IndexMap;
 use std::alloc::{AllocError, Global};
 
 // The instances whose values an evaluation took: the kept ones, and the positions of the others among the finds.
-#[derive(Drop)]
 pub struct Demanded {
     pub kept: Vec<Inst>,
     pub finds: Vec<usize>,
+}
+
+/// One call, where each exit that lets it go would else have a case for each field.
+impl Drop for Demanded {
+    fn drop(self) {
+        let Demanded { kept: _, finds: _ } = self;
+    }
 }
 
 // An evaluation under way, and the instances whose values it took.

@@ -6,7 +6,7 @@ ghost use Rattle.at_tree.specs.Token.{token_view};
 ghost use Rattle.at_store.specs.Memory.{IsPlacedIn, IsReplaced, IsTakenAway, Kids, Token_of, indexed, kids_in, raised, relinked, renumbered, replaced, rewritten, taken_out, with_numbers};
 ghost use Rattle.at_store.specs.View.{MarksNoMore, form_view, kept_view, leaves_in, memory_of};
 
-use crate::entry::{Entry, Form, Slot, index_at, kid_at, kids_at, up_at};
+use crate::entry::{Children, Entry, Form, Slot, index_at, kid_at, kids_at, up_at};
 use crate::node::Node;
 use crate::plant::free;
 use at_tree::token::TokVal;
@@ -30,7 +30,7 @@ fn write_slot(slab: &mut Slab<Entry>, node: Node, part: usize, new: Slot)
     }
 }
 
-fn set_number(kids: &mut Vec<Node>, index: usize, new: Node)
+fn set_number(kids: &mut Children, index: usize, new: Node)
     ensures { kids.new.items ≡ changed_at (λ old. new) kids.old.items index }
 {
     if let Some(kid) = kids.get_mut(index) {
@@ -64,7 +64,7 @@ fn set_kid(slab: &mut Slab<Entry>, node: Node, part: usize, index: usize, new: N
     }
 }
 
-fn remove_number(kids: &mut Vec<Node>, index: usize)
+fn remove_number(kids: &mut Children, index: usize)
     ensures { kids.new.items ≡ remove kids.old.items index }
 {
     if index < kids.len() {
@@ -144,7 +144,7 @@ pub(crate) fn place(
     index: usize,
     new: Node,
     form: Form,
-    kids: Vec<Node>,
+    kids: Children,
 )
     ensures written { IsPlacedIn node part index new (Kids (form_view form) kids.items) (memory_of slab.old) (memory_of slab.new) }
     ensures marks { (k : ℕ) → leaves_in slab.new k ≡ leaves_in slab.old k }

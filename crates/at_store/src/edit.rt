@@ -1,4 +1,5 @@
 //! Edits, why they are refused, and edits that are prepared.
+use crate::entry::Children;
 use crate::node::Node;
 use at_tree::token::TokVal;
 use at_tree::tree::Tree;
@@ -105,7 +106,7 @@ pub enum Prepared {
         node: Node,
         part: usize,
         new: Node,
-        kids: Vec<Node>,
+        kids: Children,
     },
     Drop {
         node: Node,
@@ -116,7 +117,7 @@ pub enum Prepared {
         part: usize,
         index: usize,
         new: Node,
-        kids: Vec<Node>,
+        kids: Children,
     },
     Token {
         node: Node,

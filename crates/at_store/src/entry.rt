@@ -11,6 +11,7 @@ use crate::node::Node;
 use at_class::ClassId;
 use at_tree::token::TokVal;
 use slab::Slab;
+use smallvec::SmallVec;
 
 /// How many children may stand in a component: one, any number, or at most one.
 #[derive(Clone, Copy, PartialEq, Eq, Debug)]
@@ -20,10 +21,13 @@ pub enum Form {
     Optional,
 }
 
+/// The children in a component. One alone, as a plain component has, takes no memory of its own.
+pub type Children = SmallVec<Node, 1>;
+
 /// What is kept of a component: the children, or the value of a token.
 #[derive(Drop)]
 pub enum Slot {
-    Kids(Form, Vec<Node>),
+    Kids(Form, Children),
     Token(TokVal),
 }
 
@@ -116,7 +120,7 @@ pub(crate) fn kids_in(slot: &Slot) -> &[Node]
     ensures { result.now ≡ numbers_in (Some (kept_view slot.now)) }
 {
     match slot {
-        Slot::Kids(_, kids) => kids,
+        Slot::Kids(_, kids) => kids.as_slice(),
         Slot::Token(_) => &[],
     }
 }
@@ -126,7 +130,7 @@ pub(crate) fn kids_at(slab: &Slab<Entry>, node: Node, part: usize) -> &[Node]
     ensures { result.now ≡ kids_in (memory_of slab.now node) part }
 {
     match slot_at(slab, node, part) {
-        Some(Slot::Kids(_, kids)) => kids,
+        Some(Slot::Kids(_, kids)) => kids.as_slice(),
         _ => &[],
     }
 }

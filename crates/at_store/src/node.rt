@@ -2,7 +2,7 @@
 use std::marker::Model;
 
 /// A node of a store, by its number. The number stays as long as the node does.
-#[derive(Clone, Copy, PartialEq, Eq, Hash, Debug)]
+#[derive(Clone, Copy, PartialEq, Eq, Hash, Debug, Default)]
 pub struct Node(usize);
 
 impl Model for Node {

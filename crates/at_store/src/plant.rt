@@ -8,7 +8,7 @@ ghost use Rattle.at_store.specs.Memory.{IsCellFreed, IsFreed, Kids, with_numbers
 ghost use Rattle.at_store.specs.Planting.{GainsCell, GainsTree, IsAdded, IsAsBefore, IsPlanted, IsPushed, IsPushedKid, StaysPlanted, holding};
 ghost use Rattle.at_store.specs.View.{MarksNoMore, form_view, kept_view, memory_of};
 
-use crate::entry::{Entry, Form, Slot};
+use crate::entry::{Children, Entry, Form, Slot};
 use crate::node::Node;
 use at_class::ClassId;
 use at_tree::tree::{Cell, Tree};
@@ -36,7 +36,7 @@ fn free_slot(slab: &mut Slab<Entry>, slot: &Slot)
     ensures marks { MarksNoMore slab.old slab.new }
 {
     if let Slot::Kids(_, kids) = slot {
-        for kid in kids {
+        for kid in kids.as_slice() {
             free(slab, *kid);
         }
     }
@@ -121,7 +121,7 @@ fn push_filled(
     ensures kept { OnErr result (IsAsBefore (memory_of slab.old) (memory_of slab.new)) }
     ensures marks { MarksNoMore slab.old slab.new }
 {
-    let mut kids = Vec::with_capacity(alloc, 1)?;
+    let mut kids = Children::new(alloc);
     kids.push(kid)?;
     push_slot(slab, node, Slot::Kids(form, kids))
 }
@@ -166,7 +166,7 @@ fn plant_cell(
         Cell::One(tree) => plant_child(alloc, slab, node, part, Form::Plain, tree),
         Cell::Many(trees) => plant_list(alloc, slab, node, part, trees),
         Cell::Maybe(held) => match held {
-            None => push_slot(slab, node, Slot::Kids(Form::Optional, Vec::new(alloc))),
+            None => push_slot(slab, node, Slot::Kids(Form::Optional, Children::new(alloc))),
             Some(tree) => plant_child(alloc, slab, node, part, Form::Optional, tree),
         },
         Cell::Tok(value) => push_slot(slab, node, Slot::Token(value.copied(alloc)?)),
@@ -206,7 +206,7 @@ fn plant_list(
     ensures stays { OnErr result (StaysPlanted node part (memory_of slab.old) (memory_of slab.new)) }
     ensures marks { MarksNoMore slab.old slab.new }
 {
-    push_slot(slab, node, Slot::Kids(Form::List, Vec::new(alloc)))?;
+    push_slot(slab, node, Slot::Kids(Form::List, Children::new(alloc)))?;
     for (index, tree) in trees.iter().enumerate() {
         plant_element(alloc, slab, node, part, index, tree)?;
     }

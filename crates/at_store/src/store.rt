@@ -28,7 +28,9 @@ ghost use Rattle.at_store.specs.Refusing.{edit_at};
 
 use crate::changes::{place, replace, set_token, take_away};
 use crate::edit::{Edit, LoadFault, Prepared, Ready, Refusal};
-use crate::entry::{Entry, Form, class_at, index_at, is_there, kid_at, kids_at, token_at, up_at};
+use crate::entry::{
+    Children, Entry, Form, class_at, index_at, is_there, kid_at, kids_at, token_at, up_at,
+};
 use crate::limits::is_within_limits;
 use crate::marks::mark;
 use crate::node::{Loc, Node};
@@ -46,7 +48,6 @@ use slab::Slab;
 use std::alloc::{AllocError, Global};
 
 /// The nodes of a syntax tree. Between `check` and the `commit` or `cancel` that spends its answer an edit waits.
-#[derive(Drop)]
 pub struct Store {
     slab: Slab<Entry>,
     root: Node,
@@ -58,16 +59,29 @@ pub struct Store {
     absent: TokVal,
 }
 
+/// One call, where each exit that lets it go would else have a case for each field.
+impl Drop for Store {
+    fn drop(self) {
+        let Store {
+            slab: _,
+            root: _,
+            waiting: _,
+            leaving: _,
+            absent: _,
+        } = self;
+    }
+}
+
 /// A list with one more child at a position.
 fn with_one_more(
     alloc: Global,
     kids: &[Node],
     index: usize,
     new: Node,
-) -> Result<Vec<Node>, AllocError>
+) -> Result<Children, AllocError>
     ensures { IfOk result (λ all. index ≤ length kids.now → all.items ≡ insert kids.now index new) }
 {
-    let mut all = Vec::from_slice(alloc, kids)?;
+    let mut all = Children::from_slice(alloc, kids)?;
     if index <= all.len() {
         all.insert(index, new)?;
     }
@@ -305,7 +319,7 @@ impl Store {
         part: usize,
         index: usize,
         tree: Tree,
-    ) -> Result<(Node, Vec<Node>), AllocError>
+    ) -> Result<(Node, Children), AllocError>
         ensures brought { IfOk result (λ r. IsBrought self.old self.new (tree_view tree) r.0) }
         ensures list { IfOk result (λ r. index ≤ length (kids_in (memory_of self.new.slab node) part) → r.1.items ≡ insert (kids_in (memory_of self.new.slab node) part) index r.0) }
         ensures kept { OnErr result (self.old.waiting ≡ None → IsStoreAsBefore self.old self.new) }
@@ -375,7 +389,7 @@ impl Store {
         set_token(&mut self.slab, node, part, value);
     }
 
-    fn commit_put(&mut self, node: Node, part: usize, new: Node, kids: Vec<Node>)
+    fn commit_put(&mut self, node: Node, part: usize, new: Node, kids: Children)
         ensures { (classes : Classes) (old : Shown) (e : EditOf) → IsPrepared classes old e (DoesPut node part new kids.items) self.old → IsCommitted old e self.new }
     {
         self.waiting = None;
@@ -383,7 +397,7 @@ impl Store {
         place(&mut self.slab, node, part, 0, new, Form::Optional, kids);
     }
 
-    fn commit_insert(&mut self, node: Node, part: usize, index: usize, new: Node, kids: Vec<Node>)
+    fn commit_insert(&mut self, node: Node, part: usize, index: usize, new: Node, kids: Children)
         ensures { (classes : Classes) (old : Shown) (e : EditOf) → IsPrepared classes old e (DoesInsert node part index new kids.items) self.old → IsCommitted old e self.new }
     {
         self.waiting = None;

@@ -172,7 +172,7 @@ fn cell_at(
 {
     match slot {
         Slot::Token(value) => Ok(Cell::Tok(value.copied(alloc)?)),
-        Slot::Kids(form, kids) => kids_cell(alloc, slab, *form, kids, levels),
+        Slot::Kids(form, kids) => kids_cell(alloc, slab, *form, kids.as_slice(), levels),
     }
 }
 

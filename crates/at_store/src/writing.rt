@@ -68,7 +68,7 @@ fn append_slot(
 {
     match slot {
         Slot::Token(value) => append_value(value, out),
-        Slot::Kids(form, kids) => append_kids(slab, classes, *form, kids, levels, out),
+        Slot::Kids(form, kids) => append_kids(slab, classes, *form, kids.as_slice(), levels, out),
     }
 }
 

@@ -54,7 +54,6 @@ impl RunFault {
 }
 
 /// What a run holds from line to line: the line that is being read, the reply that is being written, and counts.
-#[derive(Drop)]
 pub struct Desk {
     pub line: Vec<u8>,
     pub reply: Vec<u8>,
@@ -64,6 +63,18 @@ pub struct Desk {
     ghost line_short: { vec_len line ≤ MAX_LINE + 1 },
     ghost reply_room: { REPLY_ROOM ≤ vec_capacity reply },
     ghost memory_few: { memory ≤ lines },
+}
+
+/// One call, where each exit that lets it go would else have a case for each field.
+impl Drop for Desk {
+    fn drop(self) {
+        let Desk {
+            line: _,
+            reply: _,
+            lines: _,
+            memory: _,
+        } = self;
+    }
 }
 
 impl Desk {
