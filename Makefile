@@ -11,11 +11,12 @@ run: build
 	@cd $(SAMPLE) && ../../../attrd calc.ast tree.txt calc.jrag < session
 
 # The gate: every proof from nothing, the must-fail edits, the tests, the programs; and then, on the programs that
-# were proved, a session with each request for memory refused in turn, and the examples of the manual, the tutorial, the
-# samples and single tries.
+# were proved, a session with each request for memory refused in turn, the words of the command line and real sockets, and
+# the examples of the manual, the tutorial, the samples and single tries.
 test: tools python
 	rt ci
 	@python3 tools/starve.py crates/starve/out/starve
+	@python3 tools/program.py crates/attrd/out/attrd
 	@python3 tools/examples.py --program crates/attrd/out/attrd --tries crates/tries/out/tries $(PAGES) docs/TRIES.md
 
 # The sample session with no proof, in a minute or two.

@@ -8,8 +8,6 @@ ghost use Rattle.at_start.specs.Starts.{IsReady};
 mod failure;
 mod options;
 mod serving;
-#[cfg(test)]
-mod sockets;
 
 use at_cache::KeepRecorded;
 use at_engine::{Engine, Watched, run};

@@ -2,15 +2,13 @@
 ghost use Rattle.std.specs.Prelude.{◌≡◌};
 ghost use Rattle.attrd.specs.declared.options.WordsFault.TheVariants.{Memory};
 
-#[cfg(test)]
-mod tests;
 mod words;
 
 use std::alloc::{AllocError, AllocFailed};
 pub use words::options;
 
 /// What the command line asks for.
-#[derive(Debug, Drop)]
+#[derive(Drop)]
 pub struct Options {
     /// The path of the socket that is served; standard input and output where there is none.
     pub socket: Option<String>,
@@ -24,7 +22,7 @@ pub struct Options {
 }
 
 /// Why the words ask for nothing that can be served.
-#[derive(Debug, Drop)]
+#[derive(Drop)]
 pub enum WordsFault {
     /// What is wrong with the words, or the help that they ask for.
     Words { text: String },
