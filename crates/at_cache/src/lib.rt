@@ -5,8 +5,6 @@ mod keep_none;
 mod keep_recorded;
 mod keep_until_edit;
 mod keeper;
-#[cfg(test)]
-mod tests;
 
 pub use keep_none::KeepNone;
 pub use keep_recorded::KeepRecorded;

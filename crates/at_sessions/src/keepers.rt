@@ -13,7 +13,7 @@ use std::test::Fail;
 
 /// Keeps nothing, and finds no memory for it.
 #[derive(Drop)]
-struct KeepRefused {}
+pub struct KeepRefused {}
 
 impl Keeper for KeepRefused {
     ghost use Rattle.std.specs.Prelude.{None, false};

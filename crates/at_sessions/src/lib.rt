@@ -1,7 +1,9 @@
 //! Tests of whole sessions: over the calculator, with each keeper, with readers and writers that fail, of files that are
-//! refused, and of what no session shows.
+//! refused, and of what no session shows; and of keepers by themselves.
 #![tactic(auto)]
 
+#[cfg(test)]
+mod caches;
 #[cfg(test)]
 mod cutting;
 #[cfg(test)]

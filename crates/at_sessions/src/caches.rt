@@ -1,41 +1,13 @@
-use crate::keep_none::KeepNone;
-use crate::keep_recorded::KeepRecorded;
-use crate::keep_until_edit::KeepUntilEdit;
-use crate::keeper::Keeper;
+//! What keepers keep of instances that are put by themselves, and what they forget.
+
+use crate::keepers::KeepRefused;
 use at_body::{Arguments, Inst, Value};
+use at_cache::{KeepNone, KeepRecorded, KeepUntilEdit, Keeper};
 use at_rules::AttrId;
 use at_store::{Loc, Node};
 use indexmap::IndexMap;
 use std::alloc::{AllocError, Global};
 use std::test::Fail;
-
-/// Keeps nothing, and finds no memory for it.
-#[derive(Drop)]
-pub struct KeepRefused {}
-
-impl Keeper for KeepRefused {
-    ghost use Rattle.std.specs.Prelude.{None, false};
-
-    ghost contents = { λ _ _. None };
-
-    ghost exact = { false };
-
-    fn get(&self, _inst: &Inst) -> Option<&Value> {
-        None
-    }
-
-    fn put(
-        &mut self,
-        _inst: Inst,
-        _value: Value,
-        _reads: &[Loc],
-        _uses: &[Inst],
-    ) -> Result<(), AllocError> {
-        Err(AllocError)
-    }
-
-    fn flush<F: Fn(Loc) -> bool>(&mut self, _touched: &F) {}
-}
 
 /// Keeps with each entry a flat list of all its locations, each once.
 #[derive(Drop)]

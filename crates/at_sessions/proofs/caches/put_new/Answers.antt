@@ -2,7 +2,7 @@ use Rattle.std.proofs.Common.{Contains, sym, subst, take_all}
 use Rattle.std.specs.Prelude.{IsSome}
 use Rattle.at_body.specs.Values.{value_view}
 use Rattle.at_cache.proofs.Looked.{has_value, holds_next}
-use Rattle.at_cache.proofs.tests.put_new.Goals as goal
+use Rattle.at_sessions.proofs.caches.put_new.Goals as goal
 
 pub loop-used-preserved : goal.loop-used-preserved
 loop-used-preserved g c =
