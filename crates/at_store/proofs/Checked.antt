@@ -1,7 +1,7 @@
 -- What a check prepares is the edit that was asked.
 use Rattle.std.proofs.Common.{◌≡◌, ℕ, ◌≤◌, arith, [], length, Option, Some, None, ◌⊎◌, refl, sym, ap, ◌∙◌, subst, option_map, is_some}
-use Rattle.std.specs.Prelude.{Vec, map}
-use Rattle.std.specs.Global.{Global}
+use Rattle.std.specs.Prelude.{map}
+use Rattle.smallvec.specs.SmallVec.{SmallVec}
 use Rattle.std.specs.List.{insert}
 use Rattle.at_model.specs.Classes.{Classes}
 use Rattle.at_model.specs.Trees.{Empty, Tree, class_of, from_trees}
@@ -170,7 +170,7 @@ set_prepared old mid new node root t arrives fresh m classes n h =
     (m.1 ∙ ap Some (sym number) ∙ ap (option_map class_of) (sym found), λ k. marks k ∙ ap (stands_in k) (sym found))
     (record { place = n; brings = b.arrived; gone = u; is = refl; there = found; number = number; root = b.number })
 
-pub put_prepared : (old new : Shown) (node part root : ℕ) (t : Nested) (kids : Vec ℕ Global) → Brings old new (tree_view t) root → new.leaving ≡ old.leaving → MarksNoMore old.slab new.slab → (0 ≤ length (kids_in (memory_of new.slab node) part) → kids.items ≡ insert (kids_in (memory_of new.slab node) part) 0 root) →
+pub put_prepared : (old new : Shown) (node part root : ℕ) (t : Nested) (kids : SmallVec ℕ) → Brings old new (tree_view t) root → new.leaving ≡ old.leaving → MarksNoMore old.slab new.slab → (0 ≤ length (kids_in (memory_of new.slab node) part) → kids.items ≡ insert (kids_in (memory_of new.slab node) part) 0 root) →
     Prepares old (edit.Put node part t) new (plan.Put node part root kids)
 put_prepared old new node part root t kids b leaving marks listed classes n h =
     let asked : Edit = edit.Put node part t in
@@ -184,7 +184,7 @@ put_prepared old new node part root t kids b leaving marks listed classes n h =
     with_tree classes old new asked n h (tree_view t) root b (DoesPut node part root kids.items) (model.Put n part b.arrived) refl (ap (model.Put n part) b.planted.classes) (leaving ∙ idle.leaving, unmarked_still old.slab new.slab marks idle.unmarked)
     (record { place = n; parent = u; brings = b.arrived; is = refl; found = found; number = number; root = b.number; here = here; kids_are = listed (omega arith) ∙ ap (λ ns. insert ns 0 root) none })
 
-pub insert_prepared : (old new : Shown) (node part index root : ℕ) (t : Nested) (kids : Vec ℕ Global) → Brings old new (tree_view t) root → new.leaving ≡ old.leaving → MarksNoMore old.slab new.slab → (index ≤ length (kids_in (memory_of new.slab node) part) → kids.items ≡ insert (kids_in (memory_of new.slab node) part) index root) →
+pub insert_prepared : (old new : Shown) (node part index root : ℕ) (t : Nested) (kids : SmallVec ℕ) → Brings old new (tree_view t) root → new.leaving ≡ old.leaving → MarksNoMore old.slab new.slab → (index ≤ length (kids_in (memory_of new.slab node) part) → kids.items ≡ insert (kids_in (memory_of new.slab node) part) index root) →
     Prepares old (edit.Insert node part index t) new (plan.Insert node part index root kids)
 insert_prepared old new node part index root t kids b leaving marks listed classes n h =
     let asked : Edit = edit.Insert node part index t in
