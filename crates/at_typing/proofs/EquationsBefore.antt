@@ -1,5 +1,5 @@
 -- Equations that were met, by their numbers and by their words.
-use Rattle.std.proofs.Common.{◌≡◌, ℕ, ◌+◌, ◌<◌, List, [], ◌∷◌, ◌++◌, subst, length, take, get_or, map, refl, ap, sym, ◌∙◌, arith, Option, Some, None}
+use Rattle.std.proofs.Common.{◌≡◌, ℕ, ◌+◌, ◌<◌, List, [], ◌∷◌, ◌++◌, subst, length, take, get_or, map, refl, ap, sym, ◌∙◌, arith, Option, Some, None, true≢false}
 use Rattle.std.specs.Prelude.{Bool, true, false, ◌&&◌, ◌||◌, not, nat_eq, cond, if◌then◌else◌, All}
 use Rattle.std.specs.Borrow.{Bor}
 use Rattle.std.specs.List.{list_any}
@@ -8,8 +8,9 @@ use Rattle.std.proofs.lemmas.List.{map-append, take_more, take-map}
 use Rattle.std.proofs.lemmas.List.Elements.{All-tail, All-take}
 use Rattle.at_jrag.specs.Syntax.{Word}
 use Rattle.at_typing.specs.Declaring.{is_same_equation, is_same_getter, name_text}
-use Rattle.at_typing.specs.EquationKeys.{is_own, own_keys, is_own_key, getter_of, inherited_keys, inherited_keys_with, is_inherited_key, is_there, key_view}
+use Rattle.at_typing.specs.EquationKeys.{is_own, own_keys, is_own_key, getter_of, inherited_keys, inherited_keys_with, is_inherited_key, is_there, key_view, has_equation, HasEquations, AddsEquation}
 use Rattle.at_typing.specs.Numbering.{numbered_view, same_class, AreAlike}
+use Rattle.at_typing.specs.declared.checks.equations.Before.{Before}
 use Rattle.at_typing.specs.declared.numbered.NamedClass.{NamedClass}
 use Rattle.at_typing.specs.declared.numbered.NamedClass.TheVariants.{Known, Unknown}
 use Rattle.at_typing.specs.declared.numbered.Numbered.{Numbered as NumberedValue}
@@ -73,10 +74,10 @@ inherited_keys-append (x ∷ xs) ys = by (getter_of x) (inherited_keys-append xs
 one_more : {A : Type 0} (xs : List A) (k : ℕ) (x : A) → k < length xs → x ≡ get_or xs k x → take (k + 1) xs ≡ take k xs ++ x ∷ []
 one_more xs k x less is = take_more xs k x less ∙ ap (λ y. take k xs ++ y ∷ []) (sym is)
 
-pub own_keys_more : (xs : List NumberedValue) (k : ℕ) (x : NumberedValue) (keys new : List (NamedClass × ℕ)) → k < length xs → x ≡ get_or xs k x → keys ≡ own_keys (take k xs) → new ≡ keys ++ own_keys (x ∷ []) → new ≡ own_keys (take (k + 1) xs)
+own_keys_more : (xs : List NumberedValue) (k : ℕ) (x : NumberedValue) (keys new : List (NamedClass × ℕ)) → k < length xs → x ≡ get_or xs k x → keys ≡ own_keys (take k xs) → new ≡ keys ++ own_keys (x ∷ []) → new ≡ own_keys (take (k + 1) xs)
 own_keys_more xs k x keys new less is so_far added = added ∙ ap (λ ks. ks ++ own_keys (x ∷ [])) so_far ∙ sym (own_keys-append (take k xs) (x ∷ [])) ∙ ap own_keys (sym (one_more xs k x less is))
 
-pub inherited_keys_more : (xs : List NumberedValue) (k : ℕ) (x : NumberedValue) (keys new : List (NamedClass × List ℕ × ℕ)) → k < length xs → x ≡ get_or xs k x → keys ≡ inherited_keys (take k xs) → new ≡ keys ++ inherited_keys (x ∷ []) → new ≡ inherited_keys (take (k + 1) xs)
+inherited_keys_more : (xs : List NumberedValue) (k : ℕ) (x : NumberedValue) (keys new : List (NamedClass × List ℕ × ℕ)) → k < length xs → x ≡ get_or xs k x → keys ≡ inherited_keys (take k xs) → new ≡ keys ++ inherited_keys (x ∷ []) → new ≡ inherited_keys (take (k + 1) xs)
 inherited_keys_more xs k x keys new less is so_far added = added ∙ ap (λ ks. ks ++ inherited_keys (x ∷ [])) so_far ∙ sym (inherited_keys-append (take k xs) (x ∷ [])) ∙ ap inherited_keys (sym (one_more xs k x less is))
 
 -- by words ------------------------------------------------------------------------------------------------------------
@@ -160,21 +161,32 @@ same_before d xs all =
     ∙ ap (λ b. b || list_any (λ e. is_alike d e && is_same_getter (getter_of d) (getter_of e)) xs) (own_there d xs)
     ∙ ap (λ b. (is_own d && list_any (is_own_key d) (own_keys xs)) || b) (inherited_there d (getter_of d) xs)
 
-neither : (x y a b : Bool) → a ≡ not x → b ≡ not y → (x || y) ≡ not (a && b)
-neither x y a b first second = by x y ∙ ap (λ c. not (c && not y)) (sym first) ∙ ap (λ c. not (a && c)) (sym second)
-  where
-    by : (x y : Bool) → (x || y) ≡ not (not x && not y)
-    by true y = refl
-    by false true = refl
-    by false false = refl
-
--- there is one unless it is new by both kinds of keys
-pub before : (xs : List NumberedValue) (i : ℕ) (d : NumberedValue) → i < length xs → d ≡ get_or xs i d → All (λ e. All (AreAlike e) xs) xs
-    → (own : List (NamedClass × ℕ)) → own ≡ own_keys (take i xs) → (inherited : List (NamedClass × List ℕ × ℕ)) → inherited ≡ inherited_keys (take i xs)
-    → (a b : Bool) → a ≡ not (is_own d && list_any (is_own_key d) own) → b ≡ not (is_there inherited d (getter_of d)) → list_any (is_same_equation (numbered_view d)) (take i (map numbered_view xs)) ≡ not (a && b)
-before xs i d less is alike own owns inherited inherits a b first second =
+-- one is there where its equation is
+pub before : (xs : List NumberedValue) (i : ℕ) (d : NumberedValue) → i < length xs → d ≡ get_or xs i d → All (λ e. All (AreAlike e) xs) xs → (b : Before) → HasEquations (take i xs) b
+    → list_any (is_same_equation (numbered_view d)) (take i (map numbered_view xs)) ≡ has_equation b d
+before xs i d less is alike b has =
     ap (list_any (is_same_equation (numbered_view d))) (take-map numbered_view i xs)
     ∙ same_before d (take i xs) (All-take (AreAlike d) i xs (subst (λ e. All (AreAlike e) xs) (sym is) (alike i d less)))
-    ∙ ap (λ ks. (is_own d && list_any (is_own_key d) ks) || is_there (inherited_keys (take i xs)) d (getter_of d)) (sym owns)
-    ∙ ap (λ ks. (is_own d && list_any (is_own_key d) own) || is_there ks d (getter_of d)) (sym inherits)
-    ∙ neither (is_own d && list_any (is_own_key d) own) (is_there inherited d (getter_of d)) a b first second
+    ∙ ap (λ ks. (is_own d && list_any (is_own_key d) ks) || is_there (inherited_keys (take i xs)) d (getter_of d)) (sym has.own)
+    ∙ ap (λ ks. (is_own d && list_any (is_own_key d) b.own.keys) || is_there ks d (getter_of d)) (sym has.inherited)
+
+pub one_equation_more : (xs : List NumberedValue) (k : ℕ) (x : NumberedValue) (old new : Before) → k < length xs → x ≡ get_or xs k x → HasEquations (take k xs) old → AddsEquation x old new → HasEquations (take (k + 1) xs) new
+one_equation_more xs k x old new less is has adds = record {
+  own = own_keys_more xs k x old.own.keys new.own.keys less is has.own adds.own;
+  inherited = inherited_keys_more xs k x (map key_view old.inherited.keys) (map key_view new.inherited.keys) less is has.inherited adds.inherited;
+}
+
+-- the answers of the two kinds are that of both
+pub had : (x y a : Bool) → a ≡ not x → a ≡ false → false ≡ not (x || y)
+had true y a is off = refl
+had false y a is off = absurd (true≢false (sym is ∙ off))
+
+pub had_if : (x y a b : Bool) → a ≡ not x → a ≡ true → b ≡ not y → b ≡ not (x || y)
+had_if x y a b is on so = so ∙ ap (λ z. not (z || y)) (sym (not_false x (sym on ∙ is)))
+
+pub is_had : (a b : Bool) → a ≡ not b → a ≡ false → b ≡ true
+is_had a true is off = refl
+is_had a false is off = sym off ∙ is
+
+pub is_missing : (a b : Bool) → a ≡ not b → a ≡ true → b ≡ false
+is_missing a b is on = not_false b (sym on ∙ is)

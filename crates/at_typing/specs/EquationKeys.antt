@@ -1,11 +1,12 @@
 -- The equations before a declaration, by their numbers.
-use Rattle.std.specs.Prelude.{ℕ, Bool, false, ◌&&◌, nat_eq, List, [], ◌∷◌, cond, Option, Some, None}
+use Rattle.std.specs.Prelude.{◌≡◌, ℕ, Bool, false, ◌&&◌, ◌||◌, nat_eq, List, [], ◌∷◌, ◌++◌, map, cond, Option, Some, None}
 use Rattle.std.specs.Borrow.{Bor}
 use Rattle.std.specs.List.{list_any}
 use Rattle.std.specs.Str.{bytes_eq}
 use Rattle.at_jrag.specs.Syntax.{Word}
 use Rattle.at_typing.specs.Declaring.{is_own_equation, getter_in}
 use Rattle.at_typing.specs.Numbering.{numbered_view, same_class}
+use Rattle.at_typing.specs.declared.checks.equations.Before.{Before}
 use Rattle.at_typing.specs.declared.numbered.NamedClass.{NamedClass}
 use Rattle.at_typing.specs.declared.numbered.Numbered.{Numbered as NumberedValue}
 
@@ -44,3 +45,19 @@ is_there keys d (Some g) = list_any (is_inherited_key d g) keys
 -- with the getter's text itself
 abbrev pub key_view : NamedClass × Bor (List ℕ) × ℕ → NamedClass × List ℕ × ℕ
 key_view k = (k.0, k.1.now, k.2)
+
+-- both kinds ----------------------------------------------------------------------------------------------------------
+
+-- the declaration's equation is there already
+abbrev pub has_equation : Before → NumberedValue → Bool
+has_equation b d = (is_own d && list_any (is_own_key d) b.own.keys) || is_there (map key_view b.inherited.keys) d (getter_of d)
+
+-- they are the equations of these declarations
+pub record HasEquations (ds : List NumberedValue) (b : Before) : Type 0 where
+  pub own : b.own.keys ≡ own_keys ds
+  pub inherited : map key_view b.inherited.keys ≡ inherited_keys ds
+
+-- that of the declaration is one more
+pub record AddsEquation (d : NumberedValue) (old new : Before) : Type 0 where
+  pub own : new.own.keys ≡ old.own.keys ++ own_keys (d ∷ [])
+  pub inherited : map key_view new.inherited.keys ≡ map key_view old.inherited.keys ++ inherited_keys (d ∷ [])

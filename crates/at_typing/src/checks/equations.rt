@@ -59,17 +59,57 @@ pub fn equation_twice(alloc: Global, declared: &[Numbered]) -> Result<Option<Bre
     requires { All (λ d. All (AreAlike d) declared.now) declared.now }
     ensures { IfOk result (λ fault. fault ≡ equation_twice (map numbered_view declared.now)) }
 {
-    let mut own = IndexSet::new(alloc);
-    let mut inherited = IndexSet::new(alloc);
+    let mut before = Before::new(alloc);
     for numbered in declared {
-        if !add_own(&mut own, numbered)? {
-            return Ok(Some(fault_at(RuleCode::EquationTwice, numbered, numbered.decl.at)));
-        }
-        if !add_inherited(&mut inherited, numbered)? {
+        if !before.add(numbered)? {
             return Ok(Some(fault_at(RuleCode::EquationTwice, numbered, numbered.decl.at)));
         }
     }
     Ok(None)
+}
+
+/// The equations before a declaration.
+struct Before<'a> {
+    // Each class with each name that it has an equation for, for its own nodes.
+    own: IndexSet<(NamedClass, usize)>,
+    // Each class with each getter and name that it has an equation for, for the nodes below.
+    inherited: IndexSet<(NamedClass, &'a str, usize)>,
+}
+
+/// One call, where each exit that lets them go would else have a case for each collection.
+impl Drop for Before<'_> {
+    fn drop(self) {
+        let Before {
+            own: _,
+            inherited: _,
+        } = self;
+    }
+}
+
+impl<'a> Before<'a> {
+    ghost use Rattle.std.specs.Prelude.{◌≡◌, [], true, not, IfOk};
+    ghost use Rattle.at_typing.specs.EquationKeys.{has_equation, AddsEquation};
+
+    fn new(alloc: Global) -> Before<'a>
+        ensures own { result.own.keys ≡ [] }
+        ensures inherited { result.inherited.keys ≡ [] }
+    {
+        Before {
+            own: IndexSet::new(alloc),
+            inherited: IndexSet::new(alloc),
+        }
+    }
+
+    /// Adds the declaration's equation, if it has one; `false` where it is there already.
+    fn add(&mut self, numbered: &Numbered<'a>) -> Result<bool, AllocError>
+        ensures new { IfOk result (λ is_new. is_new ≡ not (has_equation self.old numbered.now)) }
+        ensures added { IfOk result (λ is_new. is_new ≡ true → AddsEquation numbered.now self.old self.new) }
+    {
+        if !add_own(&mut self.own, numbered)? {
+            return Ok(false);
+        }
+        add_inherited(&mut self.inherited, numbered)
+    }
 }
 
 /// Adds the declaration's equation for the class's own nodes, if it has one; `false` where it is there already.
