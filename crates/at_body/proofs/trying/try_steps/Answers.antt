@@ -13,9 +13,6 @@ use Rattle.at_body.proofs.trying.try_steps.Goals as goal
 pub loop-step-init : goal.loop-step-init
 loop-step-init g c = record { found = goes_on (contents c.args.store.now) (g.K.Known.value_of c.args.known.now) [] (evaluation c.args.rules.now nat_eq c.args.inst.now) ∙ ap (onward (contents c.args.store.now) (g.K.Known.value_of c.args.known.now)) c.in_ok-trial.ensures.found; typed = c.in_ok-trial.ensures.typed }
 
-pub loop-step-preserved-in_ok-step-in-Some : goal.loop-step-preserved-in_ok-step-in-Some
-loop-step-preserved-in_ok-step-in-Some g c = let h = rw c.in-Need.is at c.loop-step.invariant.found in record { found = h ∙ next_step (contents c.args.store.now) (g.K.Known.value_of c.args.known.now) _ c.in-Need.wanted (resumed c.args.rules.now.classes c.loop-step.trial) (value_view c.in_ok-copy-in-Some.field-0) _ (ap Some c.in_ok-copy-in-Some.ensures ∙ c.in-Some.ensures) c.in_ok-step-in-Some.ensures.found; typed = c.in_ok-step-in-Some.ensures.typed }
-
 pub loop-step-preserved : goal.loop-step-preserved
 loop-step-preserved g c = let h = rw c.in-Need.is at c.loop-step.invariant.found in record { found = h ∙ next_step (contents c.args.store.now) (g.K.Known.value_of c.args.known.now) _ c.in-Need.wanted (resumed c.args.rules.now.classes c.loop-step.trial) (value_view c.in_ok-copy-in-Some.field-0) _ (ap Some c.in_ok-copy-in-Some.ensures ∙ c.in-Some.ensures) c.in_ok-step-in-Some.ensures.found; typed = c.in_ok-step-in-Some.ensures.typed }
 
