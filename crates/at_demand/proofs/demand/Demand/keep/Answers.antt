@@ -21,26 +21,26 @@ returns-in_err-put-clause-covers g c look whole one covers =
     let old = g.K.Keeper.contents c.args.self.now.keeper in
     let s = c.in_ok-sources.sources in
     put_covers c.args.rules.now look old c.args.found.now.entries c.args.find.now s c.in_ok-sources.ensures.gathered whole (c.in_ok-sources.ensures.kept old c.requires.found c.requires.kept) covers
-    g.K.Keeper.exact (g.K.Keeper.contents c.put-2.new.self) c.args.inst.now c.in_ok-copy.field-0 (value_view c.in_ok-copy-2.field-0) c.as_slice.result.now c.as_slice-2.result.now c.put-2.result one c.in_ok-copy.ensures c.as_slice.ensures.value c.as_slice-2.ensures.value c.put-2.ensures.puts c.put-2.ensures.err
+    g.K.Keeper.exact (g.K.Keeper.contents c.put.new.self) c.args.inst.now c.in_ok-copy.field-0 (value_view c.in_ok-copy-2.field-0) c.as_slice.result.now c.as_slice-2.result.now c.put.result one c.in_ok-copy.ensures c.as_slice.ensures.value c.as_slice-2.ensures.value c.put.ensures.puts c.put.ensures.err
 
 pub returns-clause-covers : goal.returns-clause-covers
 returns-clause-covers g c look whole one covers =
     let old = g.K.Keeper.contents c.args.self.now.keeper in
     let s = c.in_ok-sources.sources in
     put_covers c.args.rules.now look old c.args.found.now.entries c.args.find.now s c.in_ok-sources.ensures.gathered whole (c.in_ok-sources.ensures.kept old c.requires.found c.requires.kept) covers
-    g.K.Keeper.exact (g.K.Keeper.contents c.put-2.new.self) c.args.inst.now c.in_ok-copy.field-0 (value_view c.in_ok-copy-2.field-0) c.as_slice.result.now c.as_slice-2.result.now c.put-2.result one c.in_ok-copy.ensures c.as_slice.ensures.value c.as_slice-2.ensures.value c.put-2.ensures.puts c.put-2.ensures.err
+    g.K.Keeper.exact (g.K.Keeper.contents c.put.new.self) c.args.inst.now c.in_ok-copy.field-0 (value_view c.in_ok-copy-2.field-0) c.as_slice.result.now c.as_slice-2.result.now c.put.result one c.in_ok-copy.ensures c.as_slice.ensures.value c.as_slice-2.ensures.value c.put.ensures.puts c.put.ensures.err
 
 pub returns-in_err-put-clause-only : goal.returns-in_err-put-clause-only
 returns-in_err-put-clause-only g c look exact all one only =
     let s = c.in_ok-sources.sources in
     put_only c.args.rules.now look c.args.found.now.entries c.args.find.now c.args.inst.now all one (g.K.Keeper.contents c.args.self.now.keeper) s c.in_ok-sources.ensures.only only
-    g.K.Keeper.exact (g.K.Keeper.contents c.put-2.new.self) c.in_ok-copy.field-0 (value_view c.in_ok-copy-2.field-0) c.as_slice.result.now c.as_slice-2.result.now c.put-2.result exact c.in_ok-copy.ensures c.as_slice.ensures.value c.as_slice-2.ensures.value c.put-2.ensures.puts c.put-2.ensures.err
+    g.K.Keeper.exact (g.K.Keeper.contents c.put.new.self) c.in_ok-copy.field-0 (value_view c.in_ok-copy-2.field-0) c.as_slice.result.now c.as_slice-2.result.now c.put.result exact c.in_ok-copy.ensures c.as_slice.ensures.value c.as_slice-2.ensures.value c.put.ensures.puts c.put.ensures.err
 
 pub returns-clause-only : goal.returns-clause-only
 returns-clause-only g c look exact all one only =
     let s = c.in_ok-sources.sources in
     put_only c.args.rules.now look c.args.found.now.entries c.args.find.now c.args.inst.now all one (g.K.Keeper.contents c.args.self.now.keeper) s c.in_ok-sources.ensures.only only
-    g.K.Keeper.exact (g.K.Keeper.contents c.put-2.new.self) c.in_ok-copy.field-0 (value_view c.in_ok-copy-2.field-0) c.as_slice.result.now c.as_slice-2.result.now c.put-2.result exact c.in_ok-copy.ensures c.as_slice.ensures.value c.as_slice-2.ensures.value c.put-2.ensures.puts c.put-2.ensures.err
+    g.K.Keeper.exact (g.K.Keeper.contents c.put.new.self) c.in_ok-copy.field-0 (value_view c.in_ok-copy-2.field-0) c.as_slice.result.now c.as_slice-2.result.now c.put.result exact c.in_ok-copy.ensures c.as_slice.ensures.value c.as_slice-2.ensures.value c.put.ensures.puts c.put.ensures.err
 
 pub returns-then-not-is_lazy-clause-lazy : goal.returns-then-not-is_lazy-clause-lazy
 returns-then-not-is_lazy-clause-lazy g c = λ j. inl refl
@@ -74,26 +74,26 @@ returns-in_err-copy-2-clause-counts g c exact small = counts_none (g.K.Keeper.co
 pub returns-in_err-put-clause-lazy : goal.returns-in_err-put-clause-lazy
 returns-in_err-put-clause-lazy g c =
     let lazy = told_lazy c.args.rules.now c.is_lazy.result true c.attribute.result c.args.inst.now.attribute c.is_lazy.ensures c.attribute.ensures c.if-not-is_lazy.false in
-    put_lazy c.args.rules.now g.K.Keeper.exact (g.K.Keeper.contents c.args.self.now.keeper) (g.K.Keeper.contents c.put-2.new.self) c.args.inst.now c.in_ok-copy.field-0 (value_view c.in_ok-copy-2.field-0) (map loc_view c.as_slice.result.now) c.as_slice-2.result.now c.put-2.result
-    c.in_ok-copy.ensures lazy c.put-2.ensures.puts c.put-2.ensures.err
+    put_lazy c.args.rules.now g.K.Keeper.exact (g.K.Keeper.contents c.args.self.now.keeper) (g.K.Keeper.contents c.put.new.self) c.args.inst.now c.in_ok-copy.field-0 (value_view c.in_ok-copy-2.field-0) (map loc_view c.as_slice.result.now) c.as_slice-2.result.now c.put.result
+    c.in_ok-copy.ensures lazy c.put.ensures.puts c.put.ensures.err
 
 pub returns-in_err-put-clause-counts : goal.returns-in_err-put-clause-counts
-returns-in_err-put-clause-counts g c exact small = counts_same (g.K.Keeper.contents c.args.self.now.keeper) (g.K.Keeper.contents c.put-2.new.self) c.args.self.now.work small c.in_err-put.ensures.err
+returns-in_err-put-clause-counts g c exact small = counts_same (g.K.Keeper.contents c.args.self.now.keeper) (g.K.Keeper.contents c.put.new.self) c.args.self.now.work small c.in_err-put.ensures.err
 
 pub returns-clause-lazy : goal.returns-clause-lazy
 returns-clause-lazy g c =
     let lazy = told_lazy c.args.rules.now c.is_lazy.result true c.attribute.result c.args.inst.now.attribute c.is_lazy.ensures c.attribute.ensures c.if-not-is_lazy.false in
-    put_lazy c.args.rules.now g.K.Keeper.exact (g.K.Keeper.contents c.args.self.now.keeper) (g.K.Keeper.contents c.put-2.new.self) c.args.inst.now c.in_ok-copy.field-0 (value_view c.in_ok-copy-2.field-0) (map loc_view c.as_slice.result.now) c.as_slice-2.result.now c.put-2.result
-    c.in_ok-copy.ensures lazy c.put-2.ensures.puts c.put-2.ensures.err
+    put_lazy c.args.rules.now g.K.Keeper.exact (g.K.Keeper.contents c.args.self.now.keeper) (g.K.Keeper.contents c.put.new.self) c.args.inst.now c.in_ok-copy.field-0 (value_view c.in_ok-copy-2.field-0) (map loc_view c.as_slice.result.now) c.as_slice-2.result.now c.put.result
+    c.in_ok-copy.ensures lazy c.put.ensures.puts c.put.ensures.err
 
 pub returns-clause-keeps : goal.returns-clause-keeps
 returns-clause-keeps g c exact lazy =
-    put_keeps g.K.Keeper.exact (g.K.Keeper.contents c.args.self.now.keeper) (g.K.Keeper.contents c.put-2.new.self) c.args.inst.now c.in_ok-copy.field-0 (value_view c.in_ok-copy-2.field-0) (map loc_view c.as_slice.result.now) c.as_slice-2.result.now
+    put_keeps g.K.Keeper.exact (g.K.Keeper.contents c.args.self.now.keeper) (g.K.Keeper.contents c.put.new.self) c.args.inst.now c.in_ok-copy.field-0 (value_view c.in_ok-copy-2.field-0) (map loc_view c.as_slice.result.now) c.as_slice-2.result.now
     c.in_ok-copy.ensures exact c.in_ok-put.ensures.puts
 
 pub returns-clause-counts : goal.returns-clause-counts
 returns-clause-counts g c exact small =
-    counts_put (g.K.Keeper.contents c.args.self.now.keeper) (g.K.Keeper.contents c.put-2.new.self) g.K.Keeper.exact c.args.inst.now c.in_ok-copy.field-0 (value_view c.in_ok-copy-2.field-0) (map loc_view c.as_slice.result.now) c.as_slice-2.result.now
+    counts_put (g.K.Keeper.contents c.args.self.now.keeper) (g.K.Keeper.contents c.put.new.self) g.K.Keeper.exact c.args.inst.now c.in_ok-copy.field-0 (value_view c.in_ok-copy-2.field-0) (map loc_view c.as_slice.result.now) c.as_slice-2.result.now
     c.args.self.now.work c.saturating_add-self.result c.in_ok-copy.ensures exact c.requires.absent c.in_ok-put.ensures.puts c.saturating_add-self.ensures
 
 pub returns-then-not-is_lazy-clause-adds : goal.returns-then-not-is_lazy-clause-adds
@@ -111,15 +111,15 @@ returns-in_err-copy-2-clause-adds g c = λ j. inl refl
 pub returns-in_err-put-clause-adds : goal.returns-in_err-put-clause-adds
 returns-in_err-put-clause-adds g c =
     let old = g.K.Keeper.contents c.args.self.now.keeper in
-    let new = g.K.Keeper.contents c.put-2.new.self in
+    let new = g.K.Keeper.contents c.put.new.self in
     let v = value_view c.in_ok-copy-2.field-0 in
-    let adds = put_adds g.K.Keeper.exact old new c.in_ok-copy.field-0 v (map loc_view c.as_slice.result.now) c.as_slice-2.result.now c.put-2.result c.put-2.ensures.puts c.put-2.ensures.err in
+    let adds = put_adds g.K.Keeper.exact old new c.in_ok-copy.field-0 v (map loc_view c.as_slice.result.now) c.as_slice-2.result.now c.put.result c.put.ensures.puts c.put.ensures.err in
     subst (MayAdd old new c.args.inst.now) c.in_ok-copy-2.ensures (subst (λ (i : Instance ℕ). MayAdd old new i v) c.in_ok-copy.ensures adds)
 
 pub returns-clause-adds : goal.returns-clause-adds
 returns-clause-adds g c =
     let old = g.K.Keeper.contents c.args.self.now.keeper in
-    let new = g.K.Keeper.contents c.put-2.new.self in
+    let new = g.K.Keeper.contents c.put.new.self in
     let v = value_view c.in_ok-copy-2.field-0 in
-    let adds = put_adds g.K.Keeper.exact old new c.in_ok-copy.field-0 v (map loc_view c.as_slice.result.now) c.as_slice-2.result.now c.put-2.result c.put-2.ensures.puts c.put-2.ensures.err in
+    let adds = put_adds g.K.Keeper.exact old new c.in_ok-copy.field-0 v (map loc_view c.as_slice.result.now) c.as_slice-2.result.now c.put.result c.put.ensures.puts c.put.ensures.err in
     subst (MayAdd old new c.args.inst.now) c.in_ok-copy-2.ensures (subst (λ (i : Instance ℕ). MayAdd old new i v) c.in_ok-copy.ensures adds)
