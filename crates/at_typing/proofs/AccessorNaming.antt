@@ -14,7 +14,7 @@ use Rattle.std.specs.Str.{bytes_eq}
 use Rattle.indexmap.specs.IndexSet.{insert_key}
 use Rattle.at_model.specs.Classes.{Classes, Component, parts}
 use Rattle.at_model.specs.Declarations.{first_given}
-use Rattle.at_typing.specs.AccessorNames.{any_class, any_part, any_component, any_optional, any_list, is_of_shape, HasNames, AddsNames}
+use Rattle.at_typing.specs.AccessorNames.{same_name, any_class, any_part, any_component, any_optional, any_list, is_of_shape, HasNames, AddsNames}
 use Rattle.at_kinds.specs.Accessors.{is_optional, is_list, is_got, is_had, is_counted, is_listed, shape_of, getter, got_or, accessor_named, is_accessed}
 use Rattle.at_kinds.specs.declared.accessors.Accessor.{Accessor}
 use Rattle.at_kinds.specs.declared.accessors.Accessor.TheVariants as accessor
@@ -74,44 +74,48 @@ between name front rest list back ks is ends = same_any (λ (k : Bor (List ℕ))
   (λ h. (bytes_eq-Decides name (front ++ k.now ++ back)).1 (is ∙ ap (λ r. front ++ r) (ends ∙ ap (λ l. l ++ back) h) ∙ sym (assoc front k.now back))),
 ))
 
--- names that are added ------------------------------------------------------------------------------------------------
+-- one of them stands behind it
+pub one_behind : (name front rest : List ℕ) (ks : List (Bor (List ℕ))) → name ≡ front ++ rest → list_any (λ k. bytes_eq rest k.now) ks ≡ list_any (λ k. bytes_eq name (front ++ k.now)) ks
+one_behind name front rest ks is = same_any (λ (k : Bor (List ℕ)). bytes_eq rest k.now) (λ (k : Bor (List ℕ)). bytes_eq name (front ++ k.now)) ks (λ k. same_from_decides _ _ (bytes_eq-Decides rest k.now) (
+  (λ h. append_cancel_left front rest k.now (sym is ∙ (bytes_eq-Decides name (front ++ k.now)).0 h)),
+  (λ h. (bytes_eq-Decides name (front ++ k.now)).1 (is ∙ ap (λ r. front ++ r) h)),
+))
 
-abbrev pub same_key : Bor (List ℕ) → Bor (List ℕ) → Bool
-same_key x y = bytes_eq x.now y.now
+-- names that are added ------------------------------------------------------------------------------------------------
 
 absorbs : (t x a : Bool) → x ≡ t → (x || a) ≡ ((x || a) || t)
 absorbs t true a h = refl
 absorbs t false a h = rw (sym h) (sym (or-false a))
 
 -- a key that is there already
-present : (test : List ℕ → Bool) (keys : List (Bor (List ℕ))) (k : Bor (List ℕ)) → list_any (same_key k) keys ≡ true → list_any (λ k. test k.now) keys ≡ (list_any (λ k. test k.now) keys || test k.now)
+present : (test : List ℕ → Bool) (keys : List (Bor (List ℕ))) (k : Bor (List ℕ)) → list_any (same_name k) keys ≡ true → list_any (λ k. test k.now) keys ≡ (list_any (λ k. test k.now) keys || test k.now)
 present test [] k h = absurd cc
-present test (x ∷ xs) k h = cases (present test xs k) (same_key k x) refl
+present test (x ∷ xs) k h = cases (present test xs k) (same_name k x) refl
   where
-    cases : (list_any (same_key k) xs ≡ true → list_any (λ k. test k.now) xs ≡ (list_any (λ k. test k.now) xs || test k.now)) → (b : Bool) → same_key k x ≡ b → (test x.now || list_any (λ k. test k.now) xs) ≡ ((test x.now || list_any (λ k. test k.now) xs) || test k.now)
+    cases : (list_any (same_name k) xs ≡ true → list_any (λ k. test k.now) xs ≡ (list_any (λ k. test k.now) xs || test k.now)) → (b : Bool) → same_name k x ≡ b → (test x.now || list_any (λ k. test k.now) xs) ≡ ((test x.now || list_any (λ k. test k.now) xs) || test k.now)
     cases rest true is = absorbs (test k.now) (test x.now) (list_any (λ k. test k.now) xs) (ap test (sym ((bytes_eq-Decides k.now x.now).0 is)))
-    cases rest false is = ap (λ b. test x.now || b) (rest (ap (λ b. b || list_any (same_key k) xs) (sym is) ∙ h)) ∙ sym (or-assoc (test x.now) (list_any (λ k. test k.now) xs) (test k.now))
+    cases rest false is = ap (λ b. test x.now || b) (rest (ap (λ b. b || list_any (same_name k) xs) (sym is) ∙ h)) ∙ sym (or-assoc (test x.now) (list_any (λ k. test k.now) xs) (test k.now))
 
-inserted : (test : List ℕ → Bool) (keys : List (Bor (List ℕ))) (k : Bor (List ℕ)) → list_any (λ k. test k.now) (insert_key same_key keys k) ≡ (list_any (λ k. test k.now) keys || test k.now)
-inserted test keys k = cases (list_any (same_key k) keys) refl
+inserted : (test : List ℕ → Bool) (keys : List (Bor (List ℕ))) (k : Bor (List ℕ)) → list_any (λ k. test k.now) (insert_key same_name keys k) ≡ (list_any (λ k. test k.now) keys || test k.now)
+inserted test keys k = cases (list_any (same_name k) keys) refl
   where
-    cases : (b : Bool) → list_any (same_key k) keys ≡ b → list_any (λ k. test k.now) (insert_key same_key keys k) ≡ (list_any (λ k. test k.now) keys || test k.now)
+    cases : (b : Bool) → list_any (same_name k) keys ≡ b → list_any (λ k. test k.now) (insert_key same_name keys k) ≡ (list_any (λ k. test k.now) keys || test k.now)
     cases true is = rw is (present test keys k is)
     cases false is = rw is (list_any-append (λ k. test k.now) keys (k ∷ []) ∙ ap (λ b. list_any (λ k. test k.now) keys || b) (or-false (test k.now)))
 
-inserted_where : (b : Bool) (test : List ℕ → Bool) (keys new : List (Bor (List ℕ))) (k : Bor (List ℕ)) → new ≡ cond b (insert_key same_key keys k) keys → list_any (λ k. test k.now) new ≡ (list_any (λ k. test k.now) keys || (b && test k.now))
+inserted_where : (b : Bool) (test : List ℕ → Bool) (keys new : List (Bor (List ℕ))) (k : Bor (List ℕ)) → new ≡ cond b (insert_key same_name keys k) keys → list_any (λ k. test k.now) new ≡ (list_any (λ k. test k.now) keys || (b && test k.now))
 inserted_where true test keys new k is = ap (list_any (λ k. test k.now)) is ∙ inserted test keys k
 inserted_where false test keys new k is = ap (list_any (λ k. test k.now)) is ∙ sym (or-false _)
 
 pub adds_one : (p : Component) (k : Bor (List ℕ)) (old new : Accessors) → k.now ≡ p.name
-    → new.components.keys ≡ insert_key same_key old.components.keys k
-    → new.optionals.keys ≡ cond (is_optional p.shape) (insert_key same_key old.optionals.keys k) old.optionals.keys
-    → new.lists.keys ≡ cond (is_list p.shape) (insert_key same_key old.lists.keys k) old.lists.keys
+    → new.components.texts.keys ≡ insert_key same_name old.components.texts.keys k
+    → new.optionals.texts.keys ≡ cond (is_optional p.shape) (insert_key same_name old.optionals.texts.keys k) old.optionals.texts.keys
+    → new.lists.texts.keys ≡ cond (is_list p.shape) (insert_key same_name old.lists.texts.keys k) old.lists.texts.keys
     → AddsNames (p ∷ []) old new
 adds_one p k old new name cs os ls = record {
-  components = λ test. ap (list_any (λ k. test k.now)) cs ∙ inserted test old.components.keys k ∙ ap (λ b. any_component old test || b) (ap test name ∙ sym (or-false _));
-  optionals = λ test. inserted_where (is_optional p.shape) test old.optionals.keys new.optionals.keys k os ∙ ap (λ b. any_optional old test || b) (ap (λ n. is_optional p.shape && test n) name ∙ sym (or-false _));
-  lists = λ test. inserted_where (is_list p.shape) test old.lists.keys new.lists.keys k ls ∙ ap (λ b. any_list old test || b) (ap (λ n. is_list p.shape && test n) name ∙ sym (or-false _));
+  components = λ test. ap (list_any (λ k. test k.now)) cs ∙ inserted test old.components.texts.keys k ∙ ap (λ b. any_component old test || b) (ap test name ∙ sym (or-false _));
+  optionals = λ test. inserted_where (is_optional p.shape) test old.optionals.texts.keys new.optionals.texts.keys k os ∙ ap (λ b. any_optional old test || b) (ap (λ n. is_optional p.shape && test n) name ∙ sym (or-false _));
+  lists = λ test. inserted_where (is_list p.shape) test old.lists.texts.keys new.lists.texts.keys k ls ∙ ap (λ b. any_list old test || b) (ap (λ n. is_list p.shape && test n) name ∙ sym (or-false _));
 }
 
 -- one by one ----------------------------------------------------------------------------------------------------------
@@ -179,7 +183,7 @@ has_end classes k a past left = record {
   lists = λ test. sym (or-false _) ∙ ap (λ r. any_list a test || r) (sym (from_end _ classes k past)) ∙ left.lists test;
 }
 
-pub has_none : (classes : Classes) (a : Accessors) → a.components.keys ≡ [] → a.optionals.keys ≡ [] → a.lists.keys ≡ [] → HasLeft classes 0 a
+pub has_none : (classes : Classes) (a : Accessors) → a.components.texts.keys ≡ [] → a.optionals.texts.keys ≡ [] → a.lists.texts.keys ≡ [] → HasLeft classes 0 a
 has_none classes a cs os ls = record {
   components = λ test. ap (λ ks. list_any (λ (k : Bor (List ℕ)). test k.now) ks || any_from (λ p. test p.name) classes 0) cs;
   optionals = λ test. ap (λ ks. list_any (λ (k : Bor (List ℕ)). test k.now) ks || any_from (λ p. is_optional p.shape && test p.name) classes 0) os;

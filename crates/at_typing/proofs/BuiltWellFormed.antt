@@ -1,5 +1,5 @@
 -- Rules that are built are well formed.
-use Rattle.std.proofs.Common.{◌≡◌, List, Option, Some, None, Ok, refl, sym, subst}
+use Rattle.std.proofs.Common.{◌≡◌, List, Option, Some, None, Result, Ok, Err, IfOk, refl, sym, subst}
 use Rattle.std.specs.List.{AllByRecursion}
 use Rattle.std.proofs.lemmas.Option.{none-some}
 use Rattle.at_model.specs.Classes.{Classes}
@@ -8,6 +8,7 @@ use Rattle.at_model.specs.WellFormed.{IsHierarchy, AreWellFormed}
 use Rattle.at_jrag.specs.Syntax.{Aspect}
 use Rattle.at_typing.specs.Building.{first_fault, IsLack, IsFault, Builds}
 use Rattle.at_typing.specs.Located.{Located, IsSpelled, located}
+use Rattle.at_text.specs.declared.fault.Failure.{Failure}
 use Rattle.at_typing.specs.declared.fault.Breach.{Breach}
 use Rattle.at_typing.proofs.Built.{are_declared, lack_nothing}
 use Rattle.at_typing.proofs.EquationsOfKinds.{well_formed}
@@ -22,3 +23,7 @@ declared_well_formed classes ds rules hierarchy ints (fault, is) = by (first_fau
 
 pub built_well_formed : (classes : Classes) (files : List (List Aspect)) (rules : Rules) → IsHierarchy classes → AllByRecursion IsSpelled files → Builds classes (located 1 files) (Ok rules) → AreWellFormed rules
 built_well_formed classes files rules hierarchy spelled built = declared_well_formed classes (located 1 files) rules hierarchy (located_ints 1 files spelled) built
+
+pub built_if_ok : (classes : Classes) (files : List (List Aspect)) (r : Result Rules (Failure Breach)) → IsHierarchy classes → AllByRecursion IsSpelled files → Builds classes (located 1 files) r → IfOk r AreWellFormed
+built_if_ok classes files (Ok rules) hierarchy spelled built = built_well_formed classes files rules hierarchy spelled built
+built_if_ok classes files (Err e) hierarchy spelled built = tt

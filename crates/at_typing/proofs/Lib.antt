@@ -1,3 +1,4 @@
+mod Appending
 mod Locating
 mod Binding
 mod FirstFaults
@@ -18,6 +19,7 @@ mod Keys
 mod AttributesDeclared
 mod Adding
 mod MeaningParts
+mod ParamsNamed
 mod Gathering
 mod InOrder
 mod Built

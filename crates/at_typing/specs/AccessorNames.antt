@@ -1,10 +1,14 @@
 -- The names of the components of all classes, by what they are asked for.
 use Rattle.std.specs.Prelude.{◌≡◌, ℕ, ◌+◌, Bool, false, ◌||◌, ◌&&◌, List, [], ◌∷◌, ◌++◌, codes}
+use Rattle.std.specs.Borrow.{Bor}
 use Rattle.std.specs.Str.{bytes_eq}
 use Rattle.std.specs.List.{list_any}
 use Rattle.at_model.specs.Classes.{Classes, Component, parts}
 use Rattle.at_kinds.specs.Accessors.{is_optional, is_list}
 use Rattle.at_typing.specs.declared.checks.accessor_names.Accessors.{Accessors}
+
+abbrev pub same_name : Bor (List ℕ) → Bor (List ℕ) → Bool
+same_name j k = bytes_eq j.now k.now
 
 -- the test holds of a class, counted from k
 abbrev pub any_class : (ℕ → Bool) → ℕ → Classes → Bool
@@ -16,13 +20,13 @@ abbrev pub any_part : (Component → Bool) → Classes → Bool
 any_part test classes = any_class (λ c. list_any test (parts classes c)) 0 classes
 
 abbrev pub any_component : Accessors → (List ℕ → Bool) → Bool
-any_component a test = list_any (λ k. test k.now) a.components.keys
+any_component a test = list_any (λ k. test k.now) a.components.texts.keys
 
 abbrev pub any_optional : Accessors → (List ℕ → Bool) → Bool
-any_optional a test = list_any (λ k. test k.now) a.optionals.keys
+any_optional a test = list_any (λ k. test k.now) a.optionals.texts.keys
 
 abbrev pub any_list : Accessors → (List ℕ → Bool) → Bool
-any_list a test = list_any (λ k. test k.now) a.lists.keys
+any_list a test = list_any (λ k. test k.now) a.lists.texts.keys
 
 -- it is the number of a list, or all of it
 abbrev pub is_of_list : Accessors → List ℕ → Bool

@@ -4,13 +4,13 @@ ghost use Rattle.std.specs.Prelude.{◌≡◌, List, [], None, map, IfOk};
 ghost use Rattle.at_model.specs.Rules.{AreComplete};
 ghost use Rattle.at_model.specs.WellFormed.{AreWellFormed, IsHierarchy};
 ghost use Rattle.at_typing.specs.AttributeKeys.{AreAttributes};
-ghost use Rattle.at_typing.specs.Building.{first_fault, refused, Builds, IsLack};
+ghost use Rattle.at_typing.specs.Building.{first_fault, meanings, refused, Builds, IsLack};
 ghost use Rattle.at_typing.specs.Completing.{fault_of};
 ghost use Rattle.at_typing.specs.Declaring.{fault_together};
 ghost use Rattle.at_typing.specs.Located.{declarations_in, AreSpelled};
 ghost use Rattle.at_typing.specs.Meanings.{meant as meant_by_itself};
 ghost use Rattle.at_typing.specs.Numbering.{numbered_view, AreNumbered};
-ghost use Rattle.at_typing.specs.Seen.{refusal_of, AddsOrTells, IsAbout, Means, Tells};
+ghost use Rattle.at_typing.specs.Seen.{refusal_of, AddsOrTells, IsAbout, Means, Stands, Tells};
 ghost use Rattle.at_typing.specs.declared.numbered.Numbered.{Numbered as NumberedValue};
 
 use crate::attributes::Attributes;
@@ -43,8 +43,24 @@ pub fn build(alloc: Global, classes: ClassTable, files: &[Vec<Aspect>]) -> Resul
     ensures well_formed { IsHierarchy classes → AreSpelled files.now → IfOk result AreWellFormed }
     ensures classes { IfOk result (λ r. r.classes ≡ classes) }
 {
-    let Declarations { items, names } = Declarations::of(alloc, &classes, files)?;
-    let meant = meant_together(alloc, &classes, &items)?;
+    let declared = Declarations::of(alloc, &classes, files)?;
+    let meant = meant_together(alloc, &classes, &declared.items)?;
+    complete_rules(alloc, classes, declared, meant)
+}
+
+/// The rules of declarations that mean that, unless a class lacks an equation.
+fn complete_rules(
+    alloc: Global,
+    classes: ClassTable,
+    declared: Declarations,
+    meant: Equations,
+) -> Result<Rules, RuleFault>
+    requires { (first_fault classes (map numbered_view declared.items.items) ≡ None) × Stands declared.names.keys (meanings classes (map numbered_view declared.items.items) (map numbered_view declared.items.items)) meant }
+    ensures built { Builds classes (map numbered_view declared.entry.items.items) result }
+    ensures complete { IfOk result AreComplete }
+    ensures classes { IfOk result (λ r. r.classes ≡ classes) }
+{
+    let Declarations { items, names } = declared;
     let rules = Rules::new(classes, names, meant);
     refuse_incomplete(alloc, &rules, &items)?;
     Ok(rules)

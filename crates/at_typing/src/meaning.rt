@@ -20,6 +20,7 @@ ghost use Rattle.at_text.specs.declared.fault.Fault.TheVariants.{Refused};
 ghost use Rattle.at_rules.specs.declared.body.Kind.TheVariants as kinds;
 
 use crate::attributes::Attributes;
+use crate::firsts::put;
 use crate::located::{body_in, class_word, index_name, is_inherited, is_lazy, params_in};
 use crate::numbered::Numbered;
 use crate::written::{as_written, known_kind};
@@ -174,9 +175,11 @@ impl Among<'_> {
         ensures inherited { meant.new.inherited ≡ meant.old.inherited }
     {
         let (class, attribute) = self.attribute(numbered, kind)?;
-        meant
-            .attributes
-            .insert((class.index(), numbered.name), attribute)?;
+        put(
+            &mut meant.attributes,
+            (class.index(), numbered.name),
+            attribute,
+        )?;
         Ok(class)
     }
 
@@ -194,7 +197,7 @@ impl Among<'_> {
         ensures inherited { meant.new.inherited ≡ meant.old.inherited }
     {
         let (attribute, body) = self.equation(class, attribute, numbered, body)?;
-        meant.own.insert((class.index(), attribute.index()), body)?;
+        put(&mut meant.own, (class.index(), attribute.index()), body)?;
         Ok(())
     }
 
@@ -213,9 +216,11 @@ impl Among<'_> {
         ensures own { meant.new.own ≡ meant.old.own }
     {
         let (_, body) = self.equation(class, attribute, numbered, body)?;
-        meant
-            .inherited
-            .insert((class.index(), part, numbered.name), body)?;
+        put(
+            &mut meant.inherited,
+            (class.index(), part, numbered.name),
+            body,
+        )?;
         Ok(())
     }
 

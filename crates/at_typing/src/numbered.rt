@@ -13,7 +13,7 @@ use std::alloc::{AllocError, Global};
 
 /// The class that a declaration names: a class that isn't there counts as one of its own, without a
 /// superclass.
-#[derive(Clone, Copy, Debug, PartialEq, Eq, Hash)]
+#[derive(Clone, Copy, PartialEq, Eq, Hash)]
 pub enum NamedClass {
     /// A class, by its position.
     Known(usize),
@@ -65,14 +65,11 @@ impl<'a> Declarations<'a> {
         ensures named { IfOk result (λ d. All (IsNamed d.names.keys) d.items.items) }
     {
         let all = locate(alloc, files)?;
-        let mut items = Vec::new(alloc);
         let mut words = Words {
             names: IndexSet::new(alloc),
             unknown: IndexSet::new(alloc),
         };
-        for located in &all {
-            items.push(words.numbered(alloc, classes, located)?)?;
-        }
+        let items = words.all_numbered(alloc, classes, &all)?;
         Ok(Declarations {
             items,
             names: words.into_names(),
@@ -105,6 +102,23 @@ impl Words {
     {
         let Words { names, unknown: _ } = self;
         names
+    }
+
+    /// The declarations with their numbers, or want of memory.
+    fn all_numbered<'a>(
+        &mut self,
+        alloc: Global,
+        classes: &ClassTable,
+        all: &[Located<'a>],
+    ) -> Result<Vec<Numbered<'a>>, AllocError>
+        ensures view { IfOk result (λ items. map numbered_view items.items ≡ map located_view all.now) }
+        ensures numbers { IfOk result (λ items. All (HasNumbers classes.now self.new.unknown.keys self.new.names.keys) items.items) }
+    {
+        let mut items = Vec::new(alloc);
+        for located in all {
+            items.push(self.numbered(alloc, classes, located)?)?;
+        }
+        Ok(items)
     }
 
     /// The declaration with its numbers. Its words join where they are new; what has a number keeps it.

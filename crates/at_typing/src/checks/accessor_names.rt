@@ -30,19 +30,58 @@ pub fn accessor_named(
     ensures { IfOk result (λ f. f ≡ accessor_named classes.now (map numbered_view declared.now)) }
 {
     let accessors = Accessors::of(alloc, classes)?;
-    for numbered in declared {
-        if accessors.have_name_of(&numbered.decl.form) {
-            return Ok(Some(fault_at(RuleCode::NameOfAccessor, numbered, numbered.decl.at)));
+    Ok(accessors.first_named(declared))
+}
+
+/// Names of components.
+struct PartNames<'a> {
+    texts: IndexSet<&'a [u8]>,
+}
+
+/// One call, so that what holds several of them lets each go by one.
+impl Drop for PartNames<'_> {
+    fn drop(self) {
+        let PartNames { texts: _ } = self;
+    }
+}
+
+impl<'a> PartNames<'a> {
+    ghost use Rattle.std.specs.List.{list_any};
+    ghost use Rattle.indexmap.specs.IndexSet.{insert_key};
+    ghost use Rattle.at_typing.specs.AccessorNames.{same_name};
+
+    fn new(alloc: Global) -> PartNames<'a>
+        ensures { result.texts.keys ≡ [] }
+    {
+        PartNames {
+            texts: IndexSet::new(alloc),
         }
     }
-    Ok(None)
+
+    /// Adds the name, unless it is there already.
+    fn add(&mut self, name: &'a [u8]) -> Result<(), AllocError>
+        ensures { OnOk result (self.new.texts.keys ≡ insert_key same_name self.old.texts.keys name.entry) }
+    {
+        self.texts.insert(name)?;
+        Ok(())
+    }
+
+    /// Whether the name is that prefix, and one of these behind it.
+    fn has_behind(&self, prefix: &[u8], name: &[u8]) -> bool
+        ensures { result ≡ list_any (λ k. bytes_eq name.now (prefix.now ++ k.now)) self.now.texts.keys }
+    {
+        match name.strip_prefix(prefix) {
+            Some(rest) => self.texts.contains(rest),
+            None => false,
+        }
+    }
 }
 
 /// The names of the components of all classes: of all of them, of the optionals and of the lists.
 struct Accessors<'a> {
-    components: IndexSet<&'a [u8]>,
-    optionals: IndexSet<&'a [u8]>,
-    lists: IndexSet<&'a [u8]>,
+    components: PartNames<'a>,
+    optionals: PartNames<'a>,
+    lists: PartNames<'a>,
 }
 
 /// One call, where each exit that lets it go would else have a case for each collection.
@@ -61,9 +100,9 @@ impl<'a> Accessors<'a> {
         ensures { IfOk result (HasNames classes.now) }
     {
         let mut accessors = Accessors {
-            components: IndexSet::new(alloc),
-            optionals: IndexSet::new(alloc),
-            lists: IndexSet::new(alloc),
+            components: PartNames::new(alloc),
+            optionals: PartNames::new(alloc),
+            lists: PartNames::new(alloc),
         };
         for class in 0..classes.len() {
             accessors.add_all(classes.parts(ClassId::new(class)))?;
@@ -84,17 +123,24 @@ impl<'a> Accessors<'a> {
         ensures { OnOk result (AddsNames (part_view part.now ∷ []) self.old self.new) }
     {
         let name = part.name.as_bytes();
-        self.components.insert(name)?;
+        self.components.add(name)?;
         match part.shape {
-            PartShape::Maybe(_) => {
-                self.optionals.insert(name)?;
-            }
-            PartShape::Many(_) => {
-                self.lists.insert(name)?;
-            }
-            PartShape::One(_) | PartShape::Tok(_) => {}
+            PartShape::Maybe(_) => self.optionals.add(name),
+            PartShape::Many(_) => self.lists.add(name),
+            PartShape::One(_) | PartShape::Tok(_) => Ok(()),
         }
-        Ok(())
+    }
+
+    /// The first attribute that has such a name.
+    fn first_named(&self, declared: &[Numbered]) -> Option<Breach>
+        ensures { (classes : Classes) → HasNames classes self.now → result ≡ accessor_named classes (map numbered_view declared.now) }
+    {
+        for numbered in declared {
+            if self.have_name_of(&numbered.decl.form) {
+                return Some(fault_at(RuleCode::NameOfAccessor, numbered, numbered.decl.at));
+            }
+        }
+        None
     }
 
     /// Whether the declaration declares an attribute that has such a name.
@@ -120,47 +166,20 @@ impl<'a> Accessors<'a> {
     fn is_named(&self, name: &[u8]) -> bool
         ensures { result ≡ any_component self.now (λ k. bytes_eq name.now (codes "get" ++ k)) || is_of_shape self.now name.now }
     {
-        self.is_getter(name) || self.is_of_shape(name)
+        self.components.has_behind(b"get", name) || self.is_of_shape(name)
     }
 
     /// Whether it is the name of an accessor that optionals or lists alone have.
     fn is_of_shape(&self, name: &[u8]) -> bool
         ensures { result ≡ is_of_shape self.now name.now }
     {
-        self.is_test(name) || self.is_of_list(name)
+        self.optionals.has_behind(b"has", name) || self.is_of_list(name)
     }
 
     fn is_of_list(&self, name: &[u8]) -> bool
         ensures { result ≡ is_of_list self.now name.now }
     {
-        self.is_count(name) || self.is_list(name)
-    }
-
-    fn is_getter(&self, name: &[u8]) -> bool
-        ensures { result ≡ any_component self.now (λ k. bytes_eq name.now (codes "get" ++ k)) }
-    {
-        match name.strip_prefix(b"get") {
-            Some(component) => self.components.contains(component),
-            None => false,
-        }
-    }
-
-    fn is_count(&self, name: &[u8]) -> bool
-        ensures { result ≡ any_list self.now (λ k. bytes_eq name.now (codes "getNum" ++ k)) }
-    {
-        match name.strip_prefix(b"getNum") {
-            Some(list) => self.lists.contains(list),
-            None => false,
-        }
-    }
-
-    fn is_test(&self, name: &[u8]) -> bool
-        ensures { result ≡ any_optional self.now (λ k. bytes_eq name.now (codes "has" ++ k)) }
-    {
-        match name.strip_prefix(b"has") {
-            Some(optional) => self.optionals.contains(optional),
-            None => false,
-        }
+        self.lists.has_behind(b"getNum", name) || self.is_list(name)
     }
 
     fn is_list(&self, name: &[u8]) -> bool
@@ -170,7 +189,7 @@ impl<'a> Accessors<'a> {
             return false;
         };
         match rest.strip_suffix(b"List") {
-            Some(list) => self.lists.contains(list),
+            Some(list) => self.lists.texts.contains(list),
             None => false,
         }
     }

@@ -87,20 +87,27 @@ impl<'a> Names<'a> {
             Form::This | Form::Name(_) => Ok(false),
             Form::Call(_, arguments) => self.is_bound_among(arguments),
             Form::CallOf(receiver, _, arguments) => {
-                Ok(self.is_bound_again(receiver)? || self.is_bound_among(arguments)?)
+                if self.is_bound_again(receiver)? {
+                    return Ok(true);
+                }
+                self.is_bound_among(arguments)
             }
             Form::Paren(inner) | Form::Negate(inner) | Form::Not(inner) => {
                 self.is_bound_again(inner)
             }
             Form::Cast(_, inner) | Form::InstanceOf(inner, _, _) => self.is_bound_again(inner),
             Form::Binary(_, left, right) => {
-                Ok(self.is_bound_again(left)? || self.is_bound_again(right)?)
+                if self.is_bound_again(left)? {
+                    return Ok(true);
+                }
+                self.is_bound_again(right)
             }
-            Form::Choose(test, _, then, otherwise) => Ok(
-                self.is_bound_again(test)?
-                    || self.is_bound_again(then)?
-                    || self.is_bound_again(otherwise)?,
-            ),
+            Form::Choose(test, _, then, otherwise) => {
+                if self.is_bound_again(test)? || self.is_bound_again(then)? {
+                    return Ok(true);
+                }
+                self.is_bound_again(otherwise)
+            }
             Form::Fold(_, name, list, body) => {
                 if self.is_bound_again(list)? {
                     return Ok(true);

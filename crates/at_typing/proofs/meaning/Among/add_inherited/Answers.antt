@@ -7,5 +7,5 @@ pub returns-clause-added : goal.returns-clause-added
 returns-clause-added c = (
   (_, c.in_ok-body.body),
   c.in_ok-body.ensures,
-  c.in_ok-insert.ensures.entries ∙ ap (λ j. insert_entry same_place c.args.meant.now.inherited.entries (j, c.args.part, c.args.numbered.now.name) c.in_ok-body.body) c.index.ensures,
+  c.in_ok-put.ensures.entries ∙ ap (λ j. insert_entry same_place c.args.meant.now.inherited.entries (j, c.args.part, c.args.numbered.now.name) c.in_ok-body.body) c.index.ensures,
 )

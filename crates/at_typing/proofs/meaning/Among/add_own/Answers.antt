@@ -7,5 +7,5 @@ pub returns-clause-added : goal.returns-clause-added
 returns-clause-added c = (
   (c.in_ok-attribute.attribute, c.in_ok-attribute.body),
   c.in_ok-attribute.ensures,
-  c.in_ok-insert.ensures.entries ∙ ap₂ (λ j k. insert_entry same_key c.args.meant.now.own.entries (j, k) c.in_ok-attribute.body) c.index.ensures c.index-2.ensures,
+  c.in_ok-put.ensures.entries ∙ ap₂ (λ j k. insert_entry same_key c.args.meant.now.own.entries (j, k) c.in_ok-attribute.body) c.index.ensures c.index-2.ensures,
 )

@@ -7,5 +7,5 @@ pub returns-clause-declared : goal.returns-clause-declared
 returns-clause-declared c = (
   c.in_ok-class.attribute,
   c.in_ok-class.ensures,
-  c.in_ok-insert.ensures.entries ∙ ap (λ j. insert_entry same_key c.args.meant.now.attributes.entries (j, c.args.numbered.now.name) c.in_ok-class.attribute) c.index.ensures,
+  c.in_ok-put.ensures.entries ∙ ap (λ j. insert_entry same_key c.args.meant.now.attributes.entries (j, c.args.numbered.now.name) c.in_ok-class.attribute) c.index.ensures,
 )

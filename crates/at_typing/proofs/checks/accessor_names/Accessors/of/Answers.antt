@@ -5,7 +5,7 @@ use Rattle.at_typing.proofs.AccessorNaming.{has_more, has_end, has_none}
 use Rattle.at_typing.proofs.checks.accessor_names.Accessors.of.Goals as goal
 
 pub loop-class-init : goal.loop-class-init
-loop-class-init c = has_none c.args.classes.now _ c.new.ensures.empty c.new-2.ensures.empty c.new-3.ensures.empty
+loop-class-init c = has_none c.args.classes.now _ c.new.ensures c.new-2.ensures c.new-3.ensures
 
 pub loop-class-preserved : goal.loop-class-preserved
 loop-class-preserved c =

@@ -1,8 +1,0 @@
-use Rattle.std.proofs.Common.{codes, None}
-use Rattle.std.proofs.lemmas.Bool.Decides.{Decides-eqb}
-use Rattle.std.proofs.lemmas.Slice.Eq.{strip_prefix_is}
-use Rattle.at_typing.proofs.AccessorNaming.{none_behind}
-use Rattle.at_typing.proofs.checks.accessor_names.Accessors.is_getter.Goals as goal
-
-pub returns-in-None : goal.returns-in-None
-returns-in-None c = none_behind c.args.name.now (codes "get") c.args.self.now.components.keys (strip_prefix_is Decides-eqb c.args.name.now (codes "get") None c.in-None.ensures.cases)
