@@ -2,7 +2,7 @@
 use at_text::fault::Failure;
 
 /// Why a text is no term's or no path's.
-#[derive(Debug, PartialEq, Drop)]
+#[derive(Drop)]
 pub enum TermFault {
     /// The offset in bytes of the first character with which no such text goes on, or the end of
     /// the text where more was needed.
@@ -12,7 +12,7 @@ pub enum TermFault {
 }
 
 /// What stands there is of another form than what is wanted.
-#[derive(Clone, Copy, Debug)]
+#[derive(Clone, Copy)]
 pub(crate) enum Misfit {
     Form,
 }

@@ -7,14 +7,14 @@ use at_text::decimal::write_int;
 use std::alloc::AllocError;
 
 /// A step down: a component's name, and an index where it is a list.
-#[derive(Debug, PartialEq, Drop)]
+#[derive(Drop)]
 pub struct Step {
     pub part: String,
     pub index: Option<u32>,
 }
 
 /// A path: the steps from the root down.
-#[derive(Debug, PartialEq, Drop)]
+#[derive(Drop)]
 pub struct Path {
     pub steps: Vec<Step>,
 }

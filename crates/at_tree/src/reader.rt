@@ -1,6 +1,8 @@
 //! The reader of terms: a term as it is read, character by character.
-ghost use Rattle.std.specs.Prelude.{◌≡◌, ◌≤◌, ◌<◌, true};
+ghost use Rattle.std.specs.Prelude.{◌≡◌, ◌≤◌, ◌<◌, true, map, string_bytes};
+ghost use Rattle.at_model.specs.Terms.{Node};
 ghost use Rattle.at_tree.specs.Partial.{limit};
+ghost use Rattle.at_tree.specs.View.{term_view, cell_view, to_cells};
 
 use crate::term::{Term, TermCell};
 
@@ -9,11 +11,35 @@ pub const MAX_DEPTH: usize = 512;
 
 /// A term whose parenthesis is open: its cells, and the terms of its open list, as far as a comma
 /// follows each.
-#[derive(Drop)]
 struct Level {
     name: String,
     cells: Vec<TermCell>,
     items: Option<Vec<Term>>,
+}
+
+/// One call, where each exit that lets a level go would else have a case for each field.
+impl Drop for Level {
+    fn drop(self) {
+        let Level {
+            name: _,
+            cells: _,
+            items: _,
+        } = self;
+    }
+}
+
+impl Level {
+    /// The term, whose parenthesis is closed.
+    fn closed(self) -> Term
+        ensures { term_view result ≡ Node (string_bytes self.name) (to_cells (map cell_view self.cells.items)) }
+    {
+        let Level {
+            name,
+            cells,
+            items: _,
+        } = self;
+        Term { name, cells }
+    }
 }
 
 /// A minus sign or none, and digits.
@@ -45,10 +71,19 @@ enum Place {
 
 /// What has been read of a term's text: the open terms, from outside in, and the place in the
 /// innermost.
-#[derive(Drop)]
 struct Partial {
     levels: Vec<Level>,
     place: Place,
+}
+
+/// One call, where each exit that lets it go would else have a case for each place.
+impl Drop for Partial {
+    fn drop(self) {
+        let Partial {
+            levels: _,
+            place: _,
+        } = self;
+    }
 }
 
 mod advance;

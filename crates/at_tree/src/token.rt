@@ -3,7 +3,7 @@
 use std::alloc::{AllocError, Global};
 
 /// The value of a token: a text, a number or a truth value.
-#[derive(Debug, PartialEq, Drop)]
+#[derive(Drop)]
 pub enum TokVal {
     Str(String),
     Int(i32),

@@ -4,9 +4,8 @@ ghost use Rattle.at_text.specs.declared.fault.Failure.TheVariants.{For, Memory};
 ghost use Rattle.at_tree.specs.declared.fault.Misfit.TheVariants.{Form};
 ghost use Rattle.at_tree.specs.Leads.{LeadsTo, Takes, TakesNone};
 ghost use Rattle.at_tree.specs.Partial.{at, InText, InWord, can_open, step};
-ghost use Rattle.at_tree.specs.Seen.{levels_view, partial_view, place_view};
+ghost use Rattle.at_tree.specs.Seen.{levels_view, partial_view};
 
-use super::steps::step;
 use super::{Level, MAX_DEPTH, Partial, Place};
 use crate::fault::{Misfit, Untaken};
 use crate::runs::{Run, cut};
@@ -53,19 +52,18 @@ fn plain_text<'a>(
     Ok((Partial { levels, place }, rest))
 }
 
-/// The end of the run that stands here, if one does, and what follows it.
-fn run_on<'a>(
-    levels: Vec<Level>,
-    place: Place,
-    text: &'a str,
-) -> Result<(Partial, &'a str), Untaken>
-    ensures leads { IfOk result (λ r. LeadsTo step (at (levels_view levels.items) (place_view place)) text.now (partial_view r.0) r.1.now) }
-    ensures memory { IfErr result (λ e. e ≡ Memory) }
-{
-    match place {
-        Place::InWord(word) => whole_word(levels, word, text),
-        Place::InText(value) => plain_text(levels, value, text),
-        place => Ok((Partial { levels, place }, text)),
+impl Partial {
+    /// The end of the run that stands here, if one does, and what follows it.
+    fn run_on<'a>(self, text: &'a str) -> Result<(Partial, &'a str), Untaken>
+        ensures leads { IfOk result (λ r. LeadsTo step (partial_view self) text.now (partial_view r.0) r.1.now) }
+        ensures memory { IfErr result (λ e. e ≡ Memory) }
+    {
+        let Partial { levels, place } = self;
+        match place {
+            Place::InWord(word) => whole_word(levels, word, text),
+            Place::InText(value) => plain_text(levels, value, text),
+            place => Ok((Partial { levels, place }, text)),
+        }
     }
 }
 
@@ -83,7 +81,7 @@ pub(super) fn advance<'a>(
     let Some(c) = chars.next() else {
         return Err(Untaken::For(Misfit::Form));
     };
-    let next = step(alloc, partial, c)?;
+    let next = partial.step(alloc, c)?;
     let rest = chars.as_str();
-    run_on(next.levels, next.place, rest)
+    next.run_on(rest)
 }

@@ -14,14 +14,16 @@ use crate::fault::{TermFault, Untaken};
 use crate::term::Term;
 use std::alloc::Global;
 
-/// The term that is whole at the end of its text.
-fn finish(partial: Partial, at: usize) -> Result<Term, TermFault>
-    ensures { Finishes term_view result (whole_term (partial_view partial)) at }
-{
-    let Partial { levels: _, place } = partial;
-    match place {
-        Place::Done(term) => Ok(term),
-        _ => Err(TermFault::Syntax { at }),
+impl Partial {
+    /// The term that is whole at the end of its text.
+    fn finish(self, at: usize) -> Result<Term, TermFault>
+        ensures { Finishes term_view result (whole_term (partial_view self)) at }
+    {
+        let Partial { levels: _, place } = self;
+        match place {
+            Place::Done(term) => Ok(term),
+            _ => Err(TermFault::Syntax { at }),
+        }
     }
 }
 
@@ -63,5 +65,5 @@ pub fn read_term(alloc: Global, text: &str) -> Result<Term, TermFault>
             Err(Untaken::Memory) => return Err(TermFault::Memory),
         }
     }
-    finish(partial, text.len())
+    partial.finish(text.len())
 }

@@ -13,11 +13,12 @@ use at_text::names::starts_name;
 use std::alloc::Global;
 
 /// The reading goes on inside this level.
-pub(super) fn inside(mut levels: Vec<Level>, level: Level, place: Place) -> Result<Partial, Untaken>
+pub(super) fn inside(levels: Vec<Level>, level: Level, place: Place) -> Result<Partial, Untaken>
     ensures { Gives result (Some (at (level_view level ∷ levels_view levels.items) (place_view place))) }
 {
-    levels.push(level)?;
-    Ok(Partial { levels, place })
+    let mut partial = Partial { levels, place };
+    partial.levels.push(level)?;
+    Ok(partial)
 }
 
 /// A term is whole.
@@ -55,12 +56,7 @@ pub(super) fn in_cell(mut levels: Vec<Level>, cell: TermCell, c: char) -> Result
         }
         ')' => {
             level.cells.push(cell)?;
-            let Level {
-                name,
-                cells,
-                items: _,
-            } = level;
-            Ok(complete(levels, Term { name, cells }))
+            Ok(complete(levels, level.closed()))
         }
         _ => Err(Untaken::For(Misfit::Form)),
     }
@@ -138,14 +134,7 @@ fn first_in_term(
             level.items = Some(Vec::new(alloc));
             inside(levels, level, Place::Start)
         }
-        ')' if level.cells.is_empty() => {
-            let Level {
-                name,
-                cells,
-                items: _,
-            } = level;
-            Ok(complete(levels, Term { name, cells }))
-        }
+        ')' if level.cells.is_empty() => Ok(complete(levels, level.closed())),
         _ => Err(Untaken::For(Misfit::Form)),
     }
 }
@@ -262,20 +251,22 @@ fn in_escape(levels: Vec<Level>, mut text: String, c: char) -> Result<Partial, U
     })
 }
 
-/// One more character.
-pub(super) fn step(alloc: Global, partial: Partial, c: char) -> Result<Partial, Untaken>
-    ensures { Gives result (step (partial_view partial) c) }
-{
-    let levels = partial.levels;
-    match partial.place {
-        Place::Start => first(alloc, levels, c),
-        Place::InWord(word) => after_word(alloc, levels, word, c),
-        Place::Dash => in_dash(levels, c),
-        Place::Digits(number) => in_digits(levels, number, c),
-        Place::InText(text) => in_text(levels, text, c),
-        Place::Escape(text) => in_escape(levels, text, c),
-        Place::Whole(cell) => in_cell(levels, cell, c),
-        Place::Item(term) => in_item(levels, term, c),
-        Place::Done(_) => Err(Untaken::For(Misfit::Form)),
+impl Partial {
+    /// One more character.
+    pub(super) fn step(self, alloc: Global, c: char) -> Result<Partial, Untaken>
+        ensures { Gives result (step (partial_view self) c) }
+    {
+        let Partial { levels, place } = self;
+        match place {
+            Place::Start => first(alloc, levels, c),
+            Place::InWord(word) => after_word(alloc, levels, word, c),
+            Place::Dash => in_dash(levels, c),
+            Place::Digits(number) => in_digits(levels, number, c),
+            Place::InText(text) => in_text(levels, text, c),
+            Place::Escape(text) => in_escape(levels, text, c),
+            Place::Whole(cell) => in_cell(levels, cell, c),
+            Place::Item(term) => in_item(levels, term, c),
+            Place::Done(_) => Err(Untaken::For(Misfit::Form)),
+        }
     }
 }

@@ -14,7 +14,7 @@ use at_class::{ClassId, ClassTable};
 use std::alloc::Global;
 
 /// Why a text is no tree's under a class.
-#[derive(Debug, PartialEq, Drop)]
+#[derive(Drop)]
 pub enum ReadFault {
     /// It is no term's: the offset in bytes of the first character with which no term's text goes
     /// on, or the end of the text where more was needed.

@@ -15,7 +15,7 @@ use at_class::{ClassId, ClassTable, PartShape};
 use std::alloc::{AllocError, AllocFailed, Global};
 
 /// Why a term is no tree under a class.
-#[derive(Clone, Copy, PartialEq, Eq, Debug)]
+#[derive(Clone, Copy)]
 pub enum ShapeFault {
     /// A name in it is that of no class, or of an abstract one.
     Class,
