@@ -34,7 +34,7 @@ pub struct Line {
 }
 
 /// A node, as a line names it.
-#[derive(Debug, PartialEq, Drop)]
+#[derive(Drop)]
 pub enum Place {
     /// `/..`: the steps from the root.
     FromRoot(Path),
@@ -43,7 +43,7 @@ pub enum Place {
 }
 
 /// An argument of a question.
-#[derive(Debug, PartialEq, Drop)]
+#[derive(Drop)]
 pub enum Argument {
     /// A text between quotes.
     Text(String),

@@ -209,26 +209,62 @@ fn append_shown(shown: &Shown, out: &mut Vec<u8>) -> Result<(), AllocError>
     }
 }
 
-/// Appends the attribute of a node, or a part of it where memory is wanting.
-fn append_instance(path: &Path, attribute: &str, out: &mut Vec<u8>) -> Result<(), AllocError>
+/// Appends ` = ` and a value, or a part of them where memory is wanting.
+fn append_value(shown: &Shown, out: &mut Vec<u8>) -> Result<(), AllocError>
+    requires { IsShownWritable shown.now }
+    ensures ok { OnOk result (out.new.items ≡ out.old.items ++ (codes " = " ++ shown_bytes shown.now)) }
+    ensures kept { Extends out.old.items out.new.items }
+    ensures grows { vec_capacity out.old ≤ vec_capacity out.new }
+    ensures full { IsShownShort shown.now → OnErr result (vec_capacity out.old < vec_len out.old + 14) }
+    ensures short { IsShownShort shown.now → OnOk result (vec_len out.new ≤ vec_len out.old + 14) }
+{
+    out.extend_from_slice(b" = ")?;
+    append_shown(shown, out)
+}
+
+/// Appends this and the attribute of a node, or a part of them where memory is wanting.
+fn append_instance(
+    front: &[u8],
+    path: &Path,
+    attribute: &str,
+    out: &mut Vec<u8>,
+) -> Result<(), AllocError>
     requires { IsPath (path_view path.now) }
-    ensures ok { OnOk result (out.new.items ≡ out.old.items ++ instance_text (path_view path.now) attribute.now) }
+    ensures ok { OnOk result (out.new.items ≡ out.old.items ++ (front.now ++ instance_text (path_view path.now) attribute.now)) }
     ensures kept { Extends out.old.items out.new.items }
     ensures grows { vec_capacity out.old ≤ vec_capacity out.new }
 {
+    out.extend_from_slice(front)?;
     write_path(path, out)?;
     append_both(b".", attribute.as_bytes(), out)
 }
 
-/// Appends the code with its name, or a part of them where memory is wanting.
-fn append_refusal(refusal: Refusal, out: &mut Vec<u8>) -> Result<(), AllocError>
-    ensures ok { OnOk result (out.new.items ≡ out.old.items ++ join_with_byte 32 (code_words (code_view refusal))) }
+/// Appends ` fault `, the word, ` in ` and the attribute of a node, or a part of them where memory
+/// is wanting.
+fn append_fault(
+    kind: FaultWord,
+    path: &Path,
+    attribute: &str,
+    out: &mut Vec<u8>,
+) -> Result<(), AllocError>
+    requires { IsPath (path_view path.now) }
+    ensures ok { OnOk result (out.new.items ≡ out.old.items ++ (codes " fault " ++ (fault_text (fault_view kind) ++ (codes " in " ++ instance_text (path_view path.now) attribute.now)))) }
     ensures kept { Extends out.old.items out.new.items }
     ensures grows { vec_capacity out.old ≤ vec_capacity out.new }
-    ensures full { OnErr result (vec_capacity out.old < vec_len out.old + 33) }
-    ensures short { OnOk result (vec_len out.new ≤ vec_len out.old + 33) }
 {
-    out.extend_from_slice(refusal.text().as_bytes())?;
+    append_both(b" fault ", kind.text().as_bytes(), out)?;
+    append_instance(b" in ", path, attribute, out)
+}
+
+/// Appends ` refused ` and the code with its name, or a part of them where memory is wanting.
+fn append_refusal(refusal: Refusal, out: &mut Vec<u8>) -> Result<(), AllocError>
+    ensures ok { OnOk result (out.new.items ≡ out.old.items ++ (codes " refused " ++ join_with_byte 32 (code_words (code_view refusal)))) }
+    ensures kept { Extends out.old.items out.new.items }
+    ensures grows { vec_capacity out.old ≤ vec_capacity out.new }
+    ensures full { OnErr result (vec_capacity out.old < vec_len out.old + 42) }
+    ensures short { OnOk result (vec_len out.new ≤ vec_len out.old + 42) }
+{
+    append_both(b" refused ", refusal.text().as_bytes(), out)?;
     if let Refusal::Stale { version } = refusal {
         return append_both(b" ", Buffer::new().format(version).as_bytes(), out);
     }
@@ -250,27 +286,16 @@ fn append_form(form: &Form, out: &mut Vec<u8>) -> Result<(), AllocError>
             Buffer::new().format(*version).as_bytes(),
             out,
         ),
-        Form::Shows(shown) => {
-            out.extend_from_slice(b" = ")?;
-            append_shown(shown, out)
-        }
+        Form::Shows(shown) => append_value(shown, out),
         Form::Fault {
             kind,
             path,
             attribute,
-        } => {
-            append_both(b" fault ", kind.text().as_bytes(), out)?;
-            out.extend_from_slice(b" in ")?;
-            append_instance(path, attribute, out)
-        }
+        } => append_fault(*kind, path, attribute, out),
         Form::Circular { path, attribute } => {
-            out.extend_from_slice(b" circular ")?;
-            append_instance(path, attribute, out)
+            append_instance(b" circular ", path, attribute, out)
         }
-        Form::Refused(refusal) => {
-            out.extend_from_slice(b" refused ")?;
-            append_refusal(*refusal, out)
-        }
+        Form::Refused(refusal) => append_refusal(*refusal, out),
         Form::Memory => out.extend_from_slice(b" memory"),
     }
 }
