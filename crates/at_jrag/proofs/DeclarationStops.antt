@@ -323,6 +323,12 @@ inherited_body us name ps r old mid rest s b = stay_then want.Signed (want.Body 
 
 -- ---- declarations
 
+-- an error behind a keyword is one of the declaration
+pub behind_keyword : {A : Type 0} (x : Result A (Failure JragCode)) (ws : List Want) (mid rest old : Row) → ((r : Option Reason) → Stay ws r mid rest → Stay (want.Decls ∷ []) r old rest)
+    → IfErr x (λ e. Stay ws (reason_of e) mid rest) → IfErr x (λ e. Stay (want.Decls ∷ []) (reason_of e) old rest)
+behind_keyword (Ok a) ws mid rest old h st = tt
+behind_keyword (Err e) ws mid rest old h st = h (reason_of e) st
+
 pub syn_stays : (at : Place) (r : Option Reason) (old mid rest : Row) → old ≡ word (codes "syn") at ∷ mid → Stay (declared (want.Ending ∷ want.Decls ∷ [])) r mid rest → Stay (want.Decls ∷ []) r old rest
 syn_stays at r old mid rest front st = stay_takes want.Decls (declared (want.Ending ∷ want.Decls ∷ [])) (word (codes "syn") at) r old mid rest front (λ d. (0, synthesized_row at d)) st
 

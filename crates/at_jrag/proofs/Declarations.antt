@@ -1,10 +1,10 @@
 -- How reading a declaration follows from reading its parts.
-use Rattle.std.proofs.Common.{◌≡◌, ◌≤◌, ◌<◌, List, [], ◌∷◌, ◌++◌, true, Option, Some, None, length, refl, sym, ap, subst, ◌∙◌, append_assoc, arith}
+use Rattle.std.proofs.Common.{◌≡◌, ℕ, ◌≤◌, ◌<◌, List, [], ◌∷◌, ◌++◌, true, Option, Some, None, length, refl, sym, ap, subst, ◌∙◌, append_assoc, arith}
 use Rattle.std.specs.Prelude.{Result, Ok, Err, IfOk}
 use lib.Chars.{codes}
 use Rattle.at_text.specs.declared.place.Place.{Place}
-use Rattle.at_jrag.specs.View.{decl_form_view}
-use Rattle.at_jrag.specs.declared.syntax.DeclForm.{DeclForm as DeclFormValue}
+use Rattle.at_jrag.specs.View.{decl_view}
+use Rattle.at_jrag.specs.declared.syntax.Decl.{Decl as DeclValue}
 use Rattle.at_jrag.specs.declared.reader.declarations.Target.{Target}
 use Rattle.at_jrag.specs.Syntax as syntax
 use Rattle.at_jrag.specs.Syntax.{Word, Param, Params, KindWord, Body, Ending, Decl, DeclForm, Aspect}
@@ -131,9 +131,15 @@ getter_index (p ∷ q ∷ ps) end list rest is h = absurd cc
 pub getter_read : (name : Word) (ps : Params) (old mid rest : Row) → is_getter ps.items ≡ true → Signature name ps old mid → Sign (codes ".") mid rest → Getter name (index ps.items) old rest
 getter_read name ps old mid rest is (paren, list, n, o, l) d = (paren, list, mid, n, o, getter_index ps.items ps.end list mid is l, d)
 
+-- a declaration was read behind its keyword
+pub decl_read : {E : Type 0} (r : Result DeclValue E) (text : List ℕ) (at : Place) (old mid rest : Row)
+    → IfOk r (λ d. (o : Row) → o ≡ word text at ∷ mid → DeclOf (decl_view d) o rest) → old ≡ word text at ∷ mid → IfOk r (λ d. DeclOf (decl_view d) old rest)
+decl_read (Ok d) text at old mid rest h e = h old e
+decl_read (Err e) text at old mid rest h f = tt
+
 -- an equation of an inherited attribute was read behind its getter
-pub equation_read : {E : Type 0} (r : Result DeclFormValue E) (t : Target) (old mid dot rest : Row)
-    → IfOk r (λ f. (o m : Row) → TargetOf t o m → Sign (codes ".") m dot → Behind (decl_form_view f) o rest) → TargetOf t old mid → Sign (codes ".") mid dot
-    → IfOk r (λ f. Behind (decl_form_view f) old rest)
-equation_read (Ok f) t old mid dot rest h is d = h old mid is d
-equation_read (Err e) t old mid dot rest h is d = tt
+pub equation_read : {E : Type 0} (r : Result DeclValue E) (t : Target) (at : Place) (named mid dot rest : Row)
+    → IfOk r (λ d. (o n m : Row) → o ≡ word (codes "eq") at ∷ n → TargetOf t n m → Sign (codes ".") m dot → DeclOf (decl_view d) o rest) → TargetOf t named mid → Sign (codes ".") mid dot
+    → IfOk r (λ d. (o : Row) → o ≡ word (codes "eq") at ∷ named → DeclOf (decl_view d) o rest)
+equation_read (Ok d) t at named mid dot rest h is s = λ o e. h o named mid e is s
+equation_read (Err e) t at named mid dot rest h is s = tt

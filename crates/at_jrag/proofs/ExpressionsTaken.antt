@@ -13,7 +13,7 @@ use Rattle.at_text.specs.Reading.{first}
 use Rattle.at_text.specs.Symbols.{PlacedToken}
 use Rattle.at_text.specs.declared.place.Place.{Place}
 use Rattle.at_jrag.specs.Grammar as grammar
-use Rattle.at_text.specs.Rows.{Row, sign, word, is_sign, is_word, is_name_token, next_is}
+use Rattle.at_text.specs.Rows.{Row, sign, word, is_sign, is_word, next_is}
 use Rattle.at_jrag.specs.Grammar.{is_number, follows_cast, number, quotation, Spells, level, depth, deepest}
 use Rattle.at_jrag.specs.Syntax as syntax
 use Rattle.at_jrag.specs.Syntax.{Expr, Exprs}

@@ -6,9 +6,9 @@ use Rattle.at_text.proofs.Scanned as scanned
 use Rattle.at_jrag.specs.Syntax.{Aspect}
 use Rattle.at_jrag.specs.Grammar.{File, IsWithin}
 use Rattle.at_text.specs.Pieces.{Piece, Cut, Spelled, spelled_at}
-use Rattle.at_text.specs.Symbols.{HasTokens, PlacedToken, placed, placed_in, next_place}
+use Rattle.at_text.specs.Symbols.{HasTokens, PlacedToken, placed, placed_in}
 use Rattle.at_text.specs.declared.place.Place.{Place}
-use Rattle.at_jrag.specs.Machine.{Reason, Refused, LeftOut, TooDeep, Stuck, Whole, run}
+use Rattle.at_jrag.specs.Machine.{Reason, Refused, LeftOut, Stuck, Whole, run}
 use Rattle.at_jrag.specs.Wants as want
 use Rattle.at_jrag.specs.Table.{table}
 use Rattle.at_text.specs.Rows.{left}

@@ -25,7 +25,7 @@ use Rattle.at_jrag.proofs.SignRows.{Is, it_is, is_not, end_text, EndsAt, passes,
 use Rattle.at_jrag.proofs.SoundTokens.{and_off, or_case, word_is}
 use Rattle.at_jrag.proofs.ExpressionSteps.{sign_is}
 use Rattle.at_jrag.proofs.TokenRows.{IsKeyword, TakesWord, next_lazy, word_row}
-use Rattle.at_jrag.proofs.Walks.{never, loose_firm, IsTaker, taker}
+use Rattle.at_jrag.proofs.Walks.{never, off, goes_not, halts_not, left_not, loose_firm, IsTaker, taker}
 
 -- ---- keywords
 
@@ -115,37 +115,37 @@ Kept us t a = answered true a us (λ e. after true table us e t) ≡ Halts Refus
 
 file_kept : (us : List Want) (d : ℕ) (t : PlacedToken) → is_word_kind t.kind ≡ true → after true table (File ∷ us) d t ≡ Halts Refused → ⊥
 unfolding table
-file_kept us d t h = either (Kept us t) (is_word (codes "aspect") t) _ _ (λ x k. absurd cc) (λ x. either (Kept us t) (is_word_kind t.kind) LeavesOut Refuses (λ y k. absurd cc) (λ y k. never (is_word_kind t.kind) h y))
+file_kept us d t h = either (Kept us t) (is_word (codes "aspect") t) _ _ (λ x k. goes_not k) (λ x. either (Kept us t) (is_word_kind t.kind) LeavesOut Refuses (λ y k. left_not k) (λ y k. never (is_word_kind t.kind) h y))
 
 decls_kept : (us : List Want) (d : ℕ) (t : PlacedToken) → is_word_kind t.kind ≡ true → after true table (Decls ∷ us) d t ≡ Halts Refused → ⊥
 unfolding table
 decls_kept us d t h =
-    either (Kept us t) (is_sign (codes "}") t) _ _ (λ x k. absurd cc)
-    (λ x. either (Kept us t) (is_word (codes "syn") t) _ _ (λ x k. absurd cc)
-    (λ x. either (Kept us t) (is_word (codes "inh") t) _ _ (λ x k. absurd cc)
-    (λ x. either (Kept us t) (is_word (codes "eq") t) _ _ (λ x k. absurd cc)
-    (λ x. either (Kept us t) (is_word_kind t.kind) LeavesOut Refuses (λ y k. absurd cc) (λ y k. never (is_word_kind t.kind) h y)))))
+    either (Kept us t) (is_sign (codes "}") t) _ _ (λ x k. goes_not k)
+    (λ x. either (Kept us t) (is_word (codes "syn") t) _ _ (λ x k. goes_not k)
+    (λ x. either (Kept us t) (is_word (codes "inh") t) _ _ (λ x k. goes_not k)
+    (λ x. either (Kept us t) (is_word (codes "eq") t) _ _ (λ x k. goes_not k)
+    (λ x. either (Kept us t) (is_word_kind t.kind) LeavesOut Refuses (λ y k. left_not k) (λ y k. never (is_word_kind t.kind) h y)))))
 
 return_kept : (us : List Want) (d : ℕ) (t : PlacedToken) → after true table (Return ∷ us) d t ≡ Halts Refused → ⊥
 unfolding table
-return_kept us d t = either (Kept us t) (is_word (codes "return") t) _ LeavesOut (λ x k. absurd cc) (λ x k. absurd cc)
+return_kept us d t = either (Kept us t) (is_word (codes "return") t) _ LeavesOut (λ x k. goes_not k) (λ x k. left_not k)
 
 close_kept : (us : List Want) (d : ℕ) (t : PlacedToken) → after true table (Close ∷ us) d t ≡ Halts Refused → ⊥
 unfolding table
-close_kept us d t = either (Kept us t) (is_sign (codes "}") t) _ LeavesOut (λ x k. absurd cc) (λ x k. absurd cc)
+close_kept us d t = either (Kept us t) (is_sign (codes "}") t) _ LeavesOut (λ x k. goes_not k) (λ x k. left_not k)
 
 circular_kept : (us : List Want) (d : ℕ) (t : PlacedToken) → is_word (codes "circular") t ≡ true → after true table (NotCircular ∷ us) d t ≡ Halts Refused → ⊥
 unfolding table
-circular_kept us d t h = either (Kept us t) (is_word (codes "circular") t) LeavesOut (Skips 0) (λ x k. absurd cc) (λ x k. never (is_word (codes "circular") t) h x)
+circular_kept us d t h = either (Kept us t) (is_word (codes "circular") t) LeavesOut (Skips 0) (λ x k. left_not k) (λ x k. never (is_word (codes "circular") t) h x)
 
 -- `nta` behind `syn`, `inh` or `lazy`
 nta_kept : (ws : List Want) (d : ℕ) (t : PlacedToken) → next_lazy ws ≡ true → is_word (codes "nta") t ≡ true → after true table ws d t ≡ Halts Refused → ⊥
 unfolding table
-nta_kept [] d t n h k = absurd cc
+nta_kept [] d t n h k = off n
 nta_kept (Lazy ∷ us) d t n h k =
-    either (Kept us t) (is_word (codes "lazy") t) _ _ (λ x k. absurd cc) (λ x. either (Kept us t) (is_word (codes "nta") t) LeavesOut (Skips 0) (λ y k. absurd cc) (λ y k. never (is_word (codes "nta") t) h y)) k
-nta_kept (NotNta ∷ us) d t n h k = either (Kept us t) (is_word (codes "nta") t) LeavesOut (Skips 0) (λ y k. absurd cc) (λ y k. never (is_word (codes "nta") t) h y) k
-nta_kept (w ∷ us) d t n h k = absurd cc
+    either (Kept us t) (is_word (codes "lazy") t) _ _ (λ x k. goes_not k) (λ x. either (Kept us t) (is_word (codes "nta") t) LeavesOut (Skips 0) (λ y k. left_not k) (λ y k. never (is_word (codes "nta") t) h y)) k
+nta_kept (NotNta ∷ us) d t n h k = either (Kept us t) (is_word (codes "nta") t) LeavesOut (Skips 0) (λ y k. left_not k) (λ y k. never (is_word (codes "nta") t) h y) k
+nta_kept (w ∷ us) d t n h k = off n
 
 abbrev next_int : List Want → Bool
 next_int [] = false
@@ -154,14 +154,14 @@ next_int (w ∷ ws) = takes_int w
 -- `int` behind `getChild` and `(`
 int_kept : (ws : List Want) (d : ℕ) (t : PlacedToken) → next_int ws ≡ true → is_word (codes "int") t ≡ true → after true table ws d t ≡ Halts Refused → ⊥
 unfolding table
-int_kept [] d t n h k = absurd cc
+int_kept [] d t n h k = off n
 int_kept (FirstArgument g b ∷ us) d t n h k =
-    either (Kept us t) (is_sign (codes ")") t) _ _ (λ x k. absurd cc)
-    (λ x. either (Kept us t) (g && is_word (codes "int") t) LeavesOut _ (λ y k. absurd cc) (λ y k. never (g && is_word (codes "int") t) (both_hold g (is_word (codes "int") t) n h) y)) k
+    either (Kept us t) (is_sign (codes ")") t) _ _ (λ x k. goes_not k)
+    (λ x. either (Kept us t) (g && is_word (codes "int") t) LeavesOut _ (λ y k. left_not k) (λ y k. never (g && is_word (codes "int") t) (both_hold g (is_word (codes "int") t) n h) y)) k
 int_kept (Params g ∷ us) d t n h k =
-    either (Kept us t) (is_sign (codes ")") t) _ _ (λ x k. absurd cc)
-    (λ x. either (Kept us t) (g && is_word (codes "int") t) LeavesOut _ (λ y k. absurd cc) (λ y k. never (g && is_word (codes "int") t) (both_hold g (is_word (codes "int") t) n h) y)) k
-int_kept (w ∷ us) d t n h k = absurd cc
+    either (Kept us t) (is_sign (codes ")") t) _ _ (λ x k. goes_not k)
+    (λ x. either (Kept us t) (g && is_word (codes "int") t) LeavesOut _ (λ y k. left_not k) (λ y k. never (g && is_word (codes "int") t) (both_hold g (is_word (codes "int") t) n h) y)) k
+int_kept (w ∷ us) d t n h k = off n
 
 -- ---- where `;` or `}` may stand
 
@@ -175,8 +175,8 @@ closes_first : (ws : List Want) → next_closes ws ≡ true → next_firm ws ≡
 closes_first (NotCircular ∷ ws) h = refl
 closes_first (Decls ∷ ws) h = refl
 closes_first (Close ∷ ws) h = refl
-closes_first [] h = absurd cc
-closes_first (w ∷ ws) h = absurd cc
+closes_first [] h = off h
+closes_first (w ∷ ws) h = off h
 
 -- `||` may stand, too
 abbrev Bars : List Want → Type 0
@@ -219,7 +219,7 @@ ends_not false h k = absurd cc
 
 ends_closes : (w : Want) (ws : List Want) → EndsAt w → barred (w ∷ ws) ≡ true → next_closes (w ∷ ws) ≡ true
 ends_closes (Mark text) ws h b = absurd (ends_not (bytes_eq text (codes ";") || bytes_eq text (codes "}")) h b)
-ends_closes Ending ws h b = absurd cc
+ends_closes Ending ws h b = off b
 ends_closes Decls ws h b = refl
 ends_closes Close ws h b = refl
 ends_closes w ws h b = absurd h
@@ -237,41 +237,41 @@ walk_at w ws m e (Skips y) f c o b ih h = elim (barred_behind w ws c b) [
     ]
   ]
 ]
-walk_at w ws m e Refuses f c o b ih h = absurd cc
-walk_at w ws m e LeavesOut f c o b ih h = absurd cc
+walk_at w ws m e Refuses f c o b ih h = halts_not h
+walk_at w ws m e LeavesOut f c o b ih h = halts_not h
 
 -- Where `;` or `}` may stand, an expression ends there and `||` may, or a declaration, a block or an aspect does.
 walk : (x : Bool) (ws : List Want) (d : ℕ) (at : Place) (m : List Want) (e : ℕ) → Stands ws → barred ws ≡ true → after false table ws d (sign (end_text x) at) ≡ Goes m e → Bars ws ⊎ (next_closes ws ≡ true)
-walk x [] d at m e o b h = absurd cc
+walk x [] d at m e o b h = halts_not h
 walk x (w ∷ ws) d at m e o b h =
     walk_at w ws m e (table w d (Some (sign (end_text x) at))) (λ y. after false table ws y (sign (end_text x) at)) (end_row x w d at) o b (λ y i k. walk x ws y at m e o.2 k i) h
 
 -- `circular` is not refused there
 circular_there : (ws : List Want) (d : ℕ) (t : PlacedToken) → next_closes ws ≡ true → is_word (codes "circular") t ≡ true → after true table ws d t ≡ Halts Refused → ⊥
-circular_there [] d t n h k = absurd cc
+circular_there [] d t n h k = off n
 circular_there (NotCircular ∷ us) d t n h k = circular_kept us d t h k
 circular_there (Decls ∷ us) d t n h k = let b = both (is_word_kind t.kind) (bytes_eq t.text (codes "circular")) h in decls_kept us d t b.0 k
 circular_there (Close ∷ us) d t n h k = close_kept us d t k
-circular_there (w ∷ us) d t n h k = absurd cc
+circular_there (w ∷ us) d t n h k = off n
 
 semicolon_closes : (us : List Want) (d : ℕ) (at : Place) → TakesIt (NotCircular ∷ Mark (codes ";") ∷ us) d (sign (codes "}") at) → ⊥
 unfolding table
-semicolon_closes us d at (more, e, h) = absurd cc
+semicolon_closes us d at (more, e, h) = halts_not h
 
 circular_closes : (us : List Want) (d : ℕ) (at : Place) → next_ends us ≡ true → TakesIt (NotCircular ∷ us) d (sign (codes "}") at) → ⊥
 unfolding table
-circular_closes [] d at h k = absurd cc
+circular_closes [] d at h k = off h
 circular_closes (Mark text ∷ us) d at h k = semicolon_closes us d at (subst (λ (s : List ℕ). TakesIt (NotCircular ∷ Mark s ∷ us) d (sign (codes "}") at)) ((bytes_eq-Decides text (codes ";")).0 h) k)
-circular_closes (Ending ∷ us) d at h (more, e, k) = absurd cc
-circular_closes (w ∷ us) d at h k = absurd cc
+circular_closes (Ending ∷ us) d at h (more, e, k) = halts_not k
+circular_closes (w ∷ us) d at h k = off h
 
 close_there : (ws : List Want) (d : ℕ) (at : Place) (t : PlacedToken) → Stands ws → next_closes ws ≡ true → TakesIt ws d (sign (codes "}") at) → (TakesIt ws d (word (codes "syn") first_place) → ⊥)
     → after true table ws d t ≡ Halts Refused → ⊥
-close_there [] d at t o n h s k = absurd cc
+close_there [] d at t o n h s k = off n
 close_there (NotCircular ∷ us) d at t o n h s k = circular_closes us d at o.0 h
 close_there (Decls ∷ us) d at t o n h s k = s (decls_take us d first_place)
 close_there (Close ∷ us) d at t o n h s k = close_kept us d t k
-close_there (w ∷ us) d at t o n h s k = absurd cc
+close_there (w ∷ us) d at t o n h s k = off n
 
 -- ---- the last tokens
 
@@ -322,10 +322,10 @@ lazy_after t Return m a q r h = never (is_word (codes "return") t) h r
 lazy_after t w m a q r h = absurd h
 
 lazy_front : (m us ws : List Want) → ws ≡ m ++ us → next_lazy m ≡ true → next_lazy ws ≡ true
-lazy_front [] us ws e h = absurd cc
+lazy_front [] us ws e h = off h
 lazy_front (Lazy ∷ m) us ws e h = ap next_lazy e
 lazy_front (NotNta ∷ m) us ws e h = ap next_lazy e
-lazy_front (w ∷ m) us ws e h = absurd cc
+lazy_front (w ∷ m) us ws e h = off h
 
 lazy_stands : (t : PlacedToken) → IsKeyword t → is_word (codes "aspect") t ≡ false → is_word (codes "eq") t ≡ false → is_word (codes "return") t ≡ false → (vs : List Want) (x : ℕ) (ws : List Want) (d : ℕ) → Stands vs
     → after false table vs x t ≡ Goes ws d → next_lazy ws ≡ true
@@ -369,11 +369,11 @@ asked_at us ws d (Takes false [] e) f c h = absurd c
 asked_at us ws d (Takes true (v ∷ m) e) f c h = let s : v ∷ (m ++ us) ≡ ws = cc in ap next_int (sym s) ∙ c
 asked_at us ws d (Takes false (v ∷ m) e) f c h = let s : v ∷ (m ++ us) ≡ ws = cc in ap next_int (sym s) ∙ c
 asked_at us ws d (Skips e) f c h = absurd c
-asked_at us ws d Refuses f c h = absurd cc
-asked_at us ws d LeavesOut f c h = absurd cc
+asked_at us ws d Refuses f c h = halts_not h
+asked_at us ws d LeavesOut f c h = halts_not h
 
 asked_stands : (at : Place) (vs : List Want) (x : ℕ) (ws : List Want) (d : ℕ) → next_asks vs ≡ true → after false table vs x (paren at) ≡ Goes ws d → next_int ws ≡ true
-asked_stands at [] x ws d n h = absurd cc
+asked_stands at [] x ws d n h = off n
 asked_stands at (w ∷ us) x ws d n h = asked_at us ws d (table w x (Some (paren at))) (λ e. after false table us e (paren at)) (paren_asked w x at n) h
 
 -- and behind the `(` after it

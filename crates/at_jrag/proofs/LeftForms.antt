@@ -15,7 +15,7 @@ use Rattle.at_jrag.specs.Forms.{IsLeftOut, no_aspect, no_declaration, nta, circu
 use Rattle.at_jrag.proofs.Reached.{Reached, start, step, TakesIt, goes_taken, taken_goes}
 use Rattle.at_jrag.proofs.Shapes.{firm, second, next_ends, Stands, reached_shape}
 use Rattle.at_jrag.proofs.Pushes.{Leaves, LeavesIt, asked}
-use Rattle.at_jrag.proofs.Walks.{left_first, pushed}
+use Rattle.at_jrag.proofs.Walks.{never, off, halts_not, left_first, pushed}
 use Rattle.at_jrag.proofs.SignRows.{bar}
 
 -- ---- the last token of a front
@@ -43,6 +43,13 @@ has_last front w us d h never = elim (last_of front (w ∷ us) d h) [
     first_is : (w : Want) (us : List Want) → w ∷ us ≡ File ∷ [] → w ≡ File
     first_is w us f = cc
 
+abbrev is_file : Want → Bool
+is_file File = true
+is_file w = false
+
+other : (w : Want) → is_file w ≡ false → w ≡ File → ⊥
+other w n e = never (is_file w) (ap is_file e) n
+
 -- ---- what is taken
 
 pub file_takes : (us : List Want) (d : ℕ) (at : Place) → TakesIt (File ∷ us) d (word (codes "aspect") at)
@@ -63,11 +70,11 @@ close_takes us d at = (us, 0, refl)
 
 close_bars : (us : List Want) (d : ℕ) (at : Place) → TakesIt (Close ∷ us) d (bar at) → ⊥
 unfolding table
-close_bars us d at (more, e, h) = absurd cc
+close_bars us d at (more, e, h) = halts_not h
 
 close_ends : (us : List Want) (d : ℕ) (at : Place) → TakesIt (Close ∷ us) d (word (codes "syn") at) → ⊥
 unfolding table
-close_ends us d at (more, e, h) = absurd cc
+close_ends us d at (more, e, h) = halts_not h
 
 semicolon_of : (text : List ℕ) → bytes_eq text (codes ";") ≡ true → text ≡ codes ";"
 semicolon_of text h = (bytes_eq-Decides text (codes ";")).0 h
@@ -75,21 +82,21 @@ semicolon_of text h = (bytes_eq-Decides text (codes ";")).0 h
 -- behind the parameters of a declared attribute stands `;`, and no `||`
 circular_takes : (us : List Want) (d : ℕ) (at : Place) → next_ends us ≡ true → TakesIt (NotCircular ∷ us) d (sign (codes ";") at)
 unfolding table
-circular_takes [] d at h = absurd cc
+circular_takes [] d at h = off h
 circular_takes (Mark text ∷ us) d at h = subst (λ (s : List ℕ). TakesIt (NotCircular ∷ Mark s ∷ us) d (sign (codes ";") at)) (sym (semicolon_of text h)) (us, 0, refl)
 circular_takes (Ending ∷ us) d at h = (us, 0, refl)
-circular_takes (w ∷ us) d at h = absurd cc
+circular_takes (w ∷ us) d at h = off h
 
 semicolon_bars : (us : List Want) (d : ℕ) (at : Place) → TakesIt (NotCircular ∷ Mark (codes ";") ∷ us) d (bar at) → ⊥
 unfolding table
-semicolon_bars us d at (more, e, h) = absurd cc
+semicolon_bars us d at (more, e, h) = halts_not h
 
 circular_bars : (us : List Want) (d : ℕ) (at : Place) → next_ends us ≡ true → TakesIt (NotCircular ∷ us) d (bar at) → ⊥
 unfolding table
-circular_bars [] d at h k = absurd cc
+circular_bars [] d at h k = off h
 circular_bars (Mark text ∷ us) d at h k = semicolon_bars us d at (subst (λ (s : List ℕ). TakesIt (NotCircular ∷ Mark s ∷ us) d (bar at)) (semicolon_of text h) k)
-circular_bars (Ending ∷ us) d at h (more, e, k) = absurd cc
-circular_bars (w ∷ us) d at h k = absurd cc
+circular_bars (Ending ∷ us) d at h (more, e, k) = halts_not k
+circular_bars (w ∷ us) d at h k = off h
 
 -- ---- `int` behind `getChild` and `(`
 
@@ -147,8 +154,8 @@ nta_left front w us d t r never s before h =
 left_by : (front : Row) (w : Want) (us : List Want) (d : ℕ) (t : PlacedToken) → Reached front (w ∷ us) d → Stands (w ∷ us) → LeavesIt w t → IsLeftOut front t
 left_by front File us d t r o h = no_aspect h (first_place, taken_goes front (File ∷ us) d (word (codes "aspect") first_place) r (file_takes us d first_place))
 left_by front Decls us d t r o h = no_declaration h (first_place, taken_goes front (Decls ∷ us) d (word (codes "syn") first_place) r (decls_take us d first_place))
-left_by front Lazy us d t r o h = nta_left front Lazy us d t r (λ e. absurd cc) refl (λ by p k. k) h
-left_by front NotNta us d t r o h = nta_left front NotNta us d t r (λ e. absurd cc) refl (λ by p k. k) h
+left_by front Lazy us d t r o h = nta_left front Lazy us d t r (other Lazy refl) refl (λ by p k. k) h
+left_by front NotNta us d t r o h = nta_left front NotNta us d t r (other NotNta refl) refl (λ by p k. k) h
 left_by front NotCircular us d t r o h =
     circular h (first_place, taken_goes front (NotCircular ∷ us) d (sign (codes ";") first_place) r (circular_takes us d first_place o.0))
     (λ g. circular_bars us d g.0 o.0 (goes_taken front (NotCircular ∷ us) d (bar g.0) r g.1))
@@ -156,8 +163,8 @@ left_by front Return us d t r o h = no_return (first_place, taken_goes front (Re
 left_by front Close us d t r o h =
     no_close (first_place, taken_goes front (Close ∷ us) d (sign (codes "}") first_place) r (close_takes us d first_place))
     (λ g. close_bars us d g.0 (goes_taken front (Close ∷ us) d (bar g.0) r g.1)) (λ g. close_ends us d g.0 (goes_taken front (Close ∷ us) d (word (codes "syn") g.0) r g.1))
-left_by front (Params g) us d t r o h = got_child front (Params g) us d t r (λ e. absurd cc) refl (λ by p k. (k.0, k.1 ∙ ap Some h.0)) h.1
-left_by front (FirstArgument g b) us d t r o h = got_child front (FirstArgument g b) us d t r (λ e. absurd cc) refl (λ by p k. (k.0, k.1 ∙ ap Some h.0)) h.1
+left_by front (Params g) us d t r o h = got_child front (Params g) us d t r (other (Params g) refl) refl (λ by p k. (k.0, k.1 ∙ ap Some h.0)) h.1
+left_by front (FirstArgument g b) us d t r o h = got_child front (FirstArgument g b) us d t r (other (FirstArgument g b) refl) refl (λ by p k. (k.0, k.1 ∙ ap Some h.0)) h.1
 left_by front w us d t r o h = absurd h
 
 -- Where the table leaves a form out, the token begins one.

@@ -20,7 +20,6 @@ use Rattle.at_jrag.specs.Table.{is_decimal_within, is_number_within}
 use Rattle.at_jrag.specs.Read.{Reads, IsNumber}
 use Rattle.at_jrag.specs.Runs.{NoNegative}
 use Rattle.at_text.specs.declared.fault.Failure.TheVariants as failure
-use Rattle.at_jrag.specs.declared.JragCode.{JragCode}
 use Rattle.at_jrag.specs.declared.JragCode.TheVariants as code
 use Rattle.at_jrag.specs.declared.reader.forms.Measured.{Measured}
 use Rattle.at_jrag.proofs.Expressions.{reads_made}

@@ -5,7 +5,7 @@ use Rattle.std.specs.Str.{bytes_eq}
 use Rattle.std.proofs.lemmas.Slice.Eq.{bytes_eq-Decides}
 use lib.Chars.{codes}
 use Rattle.at_text.specs.Symbols.{PlacedToken}
-use Rattle.at_jrag.specs.Machine.{Answer, Takes, Skips, Refuses, LeavesOut, Move, Goes, Halts, LeftOut, TooDeep, answered, after}
+use Rattle.at_jrag.specs.Machine.{Answer, Takes, Skips, Refuses, LeavesOut, Move, Goes, Halts, Reason, Refused, LeftOut, TooDeep, answered, after}
 use Rattle.at_jrag.specs.Wants.{Want, FirstArgument, Mark, File, Decls, Lazy, NotNta, Params, NotCircular, Ending, Return, Close}
 use Rattle.at_jrag.specs.Table.{table}
 use Rattle.at_jrag.proofs.Shapes.{loose, firm, second, next_firm, next_second, next_ends, follows, Stands}
@@ -15,6 +15,22 @@ use Rattle.at_jrag.proofs.Pushes.{Comes, Begins, Leaves, LeavesIt, row_does}
 
 pub never : {A : Type 0} (x : Bool) → x ≡ true → x ≡ false → A
 never x h k = absurd (let q : true ≡ false = sym h ∙ k in cc)
+
+-- by terms, where a tactic would compute all that stands beside them
+pub off : {A : Type 0} → false ≡ true → A
+off h = absurd cc
+
+pub goes_not : {A : Type 0} {m : List Want} {e : ℕ} {r : Reason} → Goes m e ≡ Halts r → A
+goes_not h = absurd cc
+
+pub halts_not : {A : Type 0} {m : List Want} {e : ℕ} {r : Reason} → Halts r ≡ Goes m e → A
+halts_not h = absurd cc
+
+abbrev pub halts_at : Reason → Move Want
+halts_at r = Halts r
+
+pub left_not : {A : Type 0} → halts_at LeftOut ≡ halts_at Refused → A
+left_not h = absurd cc
 
 ends_firm : (us : List Want) → next_ends us ≡ true → next_firm us ≡ true
 ends_firm [] h = refl

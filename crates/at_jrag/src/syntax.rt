@@ -21,10 +21,16 @@ pub enum Kind {
 }
 
 /// A kind where it stands.
-#[derive(Drop)]
 pub struct KindWord {
     pub kind: Kind,
     pub at: Place,
+}
+
+/// One call, where each exit that lets it go would else have a case for each kind.
+impl Drop for KindWord {
+    fn drop(self) {
+        let KindWord { kind: _, at: _ } = self;
+    }
 }
 
 /// A parameter: its kind and its name.
@@ -51,11 +57,21 @@ pub enum BodyForm {
 }
 
 /// The body of an equation, with the place of its `=` or `{`.
-#[derive(Drop)]
 pub struct Body {
     pub at: Place,
     pub form: BodyForm,
     pub expr: Expr,
+}
+
+/// One call, where each exit that lets it go would else have one for each field.
+impl Drop for Body {
+    fn drop(self) {
+        let Body {
+            at: _,
+            form: _,
+            expr: _,
+        } = self;
+    }
 }
 
 /// What stands behind the parameters of a synthesized attribute.
@@ -105,17 +121,29 @@ pub enum DeclForm {
 }
 
 /// A declaration, with the place of its first token.
-#[derive(Drop)]
 pub struct Decl {
     pub at: Place,
     pub form: DeclForm,
 }
 
+/// One call, where each exit that lets a declaration go would else have a case for each form.
+impl Drop for Decl {
+    fn drop(self) {
+        let Decl { at: _, form: _ } = self;
+    }
+}
+
 /// An aspect: its name, and its declarations in order.
-#[derive(Drop)]
 pub struct Aspect {
     pub name: Word,
     pub decls: Vec<Decl>,
+}
+
+/// One call, where each exit that lets it go would else have one for each field.
+impl Drop for Aspect {
+    fn drop(self) {
+        let Aspect { name: _, decls: _ } = self;
+    }
 }
 
 /// The operators with two operands. Those of one level lean left; the levels, from the weakest: `||`; `&&`; `==` and `!=`;

@@ -3,10 +3,10 @@
 ghost use Rattle.std.specs.Prelude.{◌≡◌, ◌∷◌, [], ◌≤◌, map, option_map, true, IfOk, MatchBool};
 ghost use Rattle.std.specs.List.{AllByRecursion};
 ghost use lib.Chars.{codes};
-ghost use Rattle.at_jrag.specs.View.{kind_word_view, param_view, params_view, body_view, ending_view, decl_form_view, decl_view, aspect_view, word_view};
-ghost use Rattle.at_text.specs.Rows.{Row, left, is_sign, is_word, next_is};
-ghost use Rattle.at_jrag.specs.Grammar.{KindOf, ParamOf, Signature, Opens, Listed, Lazy, BodyOf, EndingOf, Behind, DeclOf, Decls};
-ghost use Rattle.at_jrag.specs.Grammar.{AspectOf, File, NestsWithin, IsWithin, nesting, ending_depth, max_nesting, depth, keyword, Sign};
+ghost use Rattle.at_jrag.specs.View.{kind_word_view, param_view, params_view, body_view, ending_view, decl_view, aspect_view, word_view};
+ghost use Rattle.at_text.specs.Rows.{Row, left, word, is_sign, is_word, next_is};
+ghost use Rattle.at_jrag.specs.Grammar.{KindOf, ParamOf, Signature, Opens, Listed, Lazy, BodyOf, EndingOf, DeclOf, Decls};
+ghost use Rattle.at_jrag.specs.Grammar.{AspectOf, File, NestsWithin, IsWithin, ending_depth, max_nesting, depth, Sign};
 ghost use Rattle.at_jrag.specs.Heads.{HeadOf, TargetOf, is_getter, index, ParamsOf};
 ghost use Rattle.std.specs.Prelude.{ℕ, ◌<◌, length, List, cond, false, ◌&&◌, IfErr};
 ghost use Rattle.std.specs.Str.{bytes_eq};
@@ -157,61 +157,52 @@ impl<'a> Reader<'a> {
         ensures stays { IfErr result (λ e. Stay (want.Decls ∷ []) (reason_of e) (left self.old.cursor.rest.now) (left self.new.cursor.rest.now)) }
     {
         if let Some(at) = self.cursor.takes_word("syn") {
-            return Ok(Decl {
-                at,
-                form: self.synthesized()?,
-            });
+            return self.synthesized(at);
         }
         if let Some(at) = self.cursor.takes_word("inh") {
-            return Ok(Decl {
-                at,
-                form: self.inherited()?,
-            });
+            return self.inherited(at);
         }
         match self.cursor.takes_word("eq") {
-            Some(at) => Ok(Decl {
-                at,
-                form: self.equation()?,
-            }),
+            Some(at) => self.equation(at),
             None => Err(self.no_keyword()),
         }
     }
 
-    /// A synthesized attribute behind its `syn`.
-    fn synthesized(&mut self) -> Result<DeclForm, ReadFault>
-        ensures found { IfOk result (λ f. Behind (decl_form_view f) (left self.old.cursor.rest.now) (left self.new.cursor.rest.now)) }
-        ensures keyword { IfOk result (λ f. keyword (decl_form_view f) ≡ codes "syn") }
-        ensures within { IfOk result (λ f. nesting (decl_form_view f) ≤ max_nesting) }
+    /// A synthesized attribute behind its `syn`, whose place this is.
+    fn synthesized(&mut self, at: Place) -> Result<Decl, ReadFault>
+        ensures found { IfOk result (λ d. (old : Row) → old ≡ word (codes "syn") at ∷ left self.old.cursor.rest.now → DeclOf (decl_view d) old (left self.new.cursor.rest.now)) }
+        ensures within { IfOk result (λ d. NestsWithin (decl_view d)) }
         ensures stays { IfErr result (λ e. Stay (declared (want.Ending ∷ want.Decls ∷ [])) (reason_of e) (left self.old.cursor.rest.now) (left self.new.cursor.rest.now)) }
     {
         let head = self.head()?;
         let ending = self.ending()?;
-        Ok(DeclForm::Synthesized {
+        let form = DeclForm::Synthesized {
             lazy: head.lazy,
             kind: head.kind,
             class: head.class,
             name: head.name,
             params: head.params,
             ending,
-        })
+        };
+        Ok(Decl { at, form })
     }
 
-    /// An inherited attribute behind its `inh`.
-    fn inherited(&mut self) -> Result<DeclForm, ReadFault>
-        ensures found { IfOk result (λ f. Behind (decl_form_view f) (left self.old.cursor.rest.now) (left self.new.cursor.rest.now)) }
-        ensures keyword { IfOk result (λ f. keyword (decl_form_view f) ≡ codes "inh") }
-        ensures within { IfOk result (λ f. nesting (decl_form_view f) ≤ max_nesting) }
+    /// An inherited attribute behind its `inh`, whose place this is.
+    fn inherited(&mut self, at: Place) -> Result<Decl, ReadFault>
+        ensures found { IfOk result (λ d. (old : Row) → old ≡ word (codes "inh") at ∷ left self.old.cursor.rest.now → DeclOf (decl_view d) old (left self.new.cursor.rest.now)) }
+        ensures within { IfOk result (λ d. NestsWithin (decl_view d)) }
         ensures stays { IfErr result (λ e. Stay (declared (want.Mark (codes ";") ∷ want.Decls ∷ [])) (reason_of e) (left self.old.cursor.rest.now) (left self.new.cursor.rest.now)) }
     {
         let head = self.head()?;
         self.expects(";")?;
-        Ok(DeclForm::Inherited {
+        let form = DeclForm::Inherited {
             lazy: head.lazy,
             kind: head.kind,
             class: head.class,
             name: head.name,
             params: head.params,
-        })
+        };
+        Ok(Decl { at, form })
     }
 
     /// `["lazy"] kind name "." name "(" [params] ")"`, where `circular` behind it is left out.
@@ -337,46 +328,46 @@ impl<'a> Reader<'a> {
         }
     }
 
-    /// An equation behind its `eq`, of a synthesized or of an inherited attribute.
-    fn equation(&mut self) -> Result<DeclForm, ReadFault>
-        ensures found { IfOk result (λ f. Behind (decl_form_view f) (left self.old.cursor.rest.now) (left self.new.cursor.rest.now)) }
-        ensures keyword { IfOk result (λ f. keyword (decl_form_view f) ≡ codes "eq") }
-        ensures within { IfOk result (λ f. nesting (decl_form_view f) ≤ max_nesting) }
+    /// An equation behind its `eq`, whose place this is, of a synthesized or of an inherited attribute.
+    fn equation(&mut self, at: Place) -> Result<Decl, ReadFault>
+        ensures found { IfOk result (λ d. (old : Row) → old ≡ word (codes "eq") at ∷ left self.old.cursor.rest.now → DeclOf (decl_view d) old (left self.new.cursor.rest.now)) }
+        ensures within { IfOk result (λ d. NestsWithin (decl_view d)) }
         ensures stays { IfErr result (λ e. Stay (want.Name ∷ want.Mark (codes ".") ∷ want.Signed ∷ want.Defined ∷ want.Decls ∷ []) (reason_of e) (left self.old.cursor.rest.now) (left self.new.cursor.rest.now)) }
     {
         let target = self.target()?;
         if self.skips_getter(&target.params) {
-            return self.inherited_equation(target);
+            return self.inherited_equation(at, target);
         }
         let body = self.body()?;
-        Ok(DeclForm::Equation {
+        let form = DeclForm::Equation {
             class: target.class,
             name: target.name,
             params: target.params,
             body,
-        })
+        };
+        Ok(Decl { at, form })
     }
 
-    /// An equation of an inherited attribute, behind its getter and the `.` there.
-    fn inherited_equation(&mut self, getter: Target) -> Result<DeclForm, ReadFault>
+    /// An equation of an inherited attribute, whose `eq` has this place, behind its getter and the `.` there.
+    fn inherited_equation(&mut self, at: Place, getter: Target) -> Result<Decl, ReadFault>
         requires { is_getter (params_view getter.params).items ≡ true }
-        ensures found { IfOk result (λ f. (old mid : Row) → TargetOf getter old mid → Sign (codes ".") mid (left self.old.cursor.rest.now)
-            → Behind (decl_form_view f) old (left self.new.cursor.rest.now)) }
-        ensures keyword { IfOk result (λ f. keyword (decl_form_view f) ≡ codes "eq") }
-        ensures within { IfOk result (λ f. nesting (decl_form_view f) ≤ max_nesting) }
+        ensures found { IfOk result (λ d. (old named mid : Row) → old ≡ word (codes "eq") at ∷ named → TargetOf getter named mid → Sign (codes ".") mid (left self.old.cursor.rest.now)
+            → DeclOf (decl_view d) old (left self.new.cursor.rest.now)) }
+        ensures within { IfOk result (λ d. NestsWithin (decl_view d)) }
         ensures stays { IfErr result (λ e. Stay (want.Signed ∷ want.Body ∷ want.Decls ∷ []) (reason_of e) (left self.old.cursor.rest.now) (left self.new.cursor.rest.now)) }
     {
         let name = self.name()?;
         let params = self.params(name.text.as_str())?;
         let body = self.body()?;
-        Ok(DeclForm::InheritedEquation {
+        let form = DeclForm::InheritedEquation {
             class: getter.class,
             getter: getter.name,
             index: index_of(getter.params),
             name,
             params,
             body,
-        })
+        };
+        Ok(Decl { at, form })
     }
 
     /// `";"`, or a body.

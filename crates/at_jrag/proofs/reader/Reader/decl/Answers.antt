@@ -1,32 +1,50 @@
-use Rattle.std.proofs.Common.{sym, ap, ◌∙◌}
+use Rattle.std.proofs.Common.{[], ◌∷◌, sym, ap, ◌∙◌}
 use lib.Chars.{codes}
 use Rattle.at_text.specs.Rows.{left, is_word, next_is}
-use Rattle.std.proofs.lemmas.Result.{err_from_is_err_and}
-use Rattle.at_jrag.specs.Runs.{reason_of}
-use Rattle.at_jrag.proofs.DeclarationStops.{syn_stays, inh_stays, eq_stays, decl_stays}
+use Rattle.at_jrag.specs.Wants as want
+use Rattle.at_jrag.specs.Table.{declared}
+use Rattle.at_jrag.proofs.Declarations.{decl_read}
+use Rattle.at_jrag.proofs.DeclarationStops.{behind_keyword, syn_stays, inh_stays, eq_stays, decl_stays}
 use Rattle.at_jrag.proofs.reader.Reader.decl.Goals as goal
 
-pub returns-in_err-synthesized-clause-stays : goal.returns-in_err-synthesized-clause-stays
-returns-in_err-synthesized-clause-stays c =
-    let p = err_from_is_err_and c.from_residual.result c.from_residual.ensures.1 in
-    rw (p.1, p.2)
-    (syn_stays c.in-Some.at (reason_of c.in_err-synthesized.field-0.0) (left c.args.self.now.cursor.rest.now) (left c.takes_word.new.self.rest.now)
-    (left c.synthesized.new.self.cursor.rest.now) c.in-Some.ensures c.in_err-synthesized.ensures.stays)
+-- ---- behind `syn`
 
-pub returns-in_err-inherited-clause-stays : goal.returns-in_err-inherited-clause-stays
-returns-in_err-inherited-clause-stays c =
+pub returns-in-Some-clause-found : goal.returns-in-Some-clause-found
+returns-in-Some-clause-found c =
+    decl_read c.synthesized.result (codes "syn") c.in-Some.at (left c.args.self.now.cursor.rest.now) (left c.takes_word.new.self.rest.now) (left c.synthesized.new.self.cursor.rest.now) c.synthesized.ensures.found c.in-Some.ensures
+
+pub returns-in-Some-clause-stays : goal.returns-in-Some-clause-stays
+returns-in-Some-clause-stays c =
+    behind_keyword c.synthesized.result (declared (want.Ending ∷ want.Decls ∷ [])) (left c.takes_word.new.self.rest.now) (left c.synthesized.new.self.cursor.rest.now) (left c.args.self.now.cursor.rest.now)
+    (λ r st. syn_stays c.in-Some.at r (left c.args.self.now.cursor.rest.now) (left c.takes_word.new.self.rest.now) (left c.synthesized.new.self.cursor.rest.now) c.in-Some.ensures st) c.synthesized.ensures.stays
+
+-- ---- behind `inh`
+
+pub returns-in-Some-takes_word-clause-found : goal.returns-in-Some-takes_word-clause-found
+returns-in-Some-takes_word-clause-found c =
     let front = sym (ap (λ r. left r.rest.now) c.in_default.ensures.0) ∙ c.in-Some-takes_word.ensures in
-    let p = err_from_is_err_and c.from_residual-in_err-inherited.result c.from_residual-in_err-inherited.ensures.1 in
-    rw (p.1, p.2)
-    (inh_stays c.in-Some-takes_word.at (reason_of c.in_err-inherited.field-0.0) (left c.args.self.now.cursor.rest.now) (left c.takes_word-2.new.self.rest.now)
-    (left c.inherited.new.self.cursor.rest.now) front c.in_err-inherited.ensures.stays)
+    decl_read c.inherited.result (codes "inh") c.in-Some-takes_word.at (left c.args.self.now.cursor.rest.now) (left c.takes_word-2.new.self.rest.now) (left c.inherited.new.self.cursor.rest.now) c.inherited.ensures.found front
 
-pub returns-in_err-equation-in-Some-takes_word-2-clause-stays : goal.returns-in_err-equation-in-Some-takes_word-2-clause-stays
-returns-in_err-equation-in-Some-takes_word-2-clause-stays c =
+pub returns-in-Some-takes_word-clause-stays : goal.returns-in-Some-takes_word-clause-stays
+returns-in-Some-takes_word-clause-stays c =
+    let front = sym (ap (λ r. left r.rest.now) c.in_default.ensures.0) ∙ c.in-Some-takes_word.ensures in
+    behind_keyword c.inherited.result (declared (want.Mark (codes ";") ∷ want.Decls ∷ [])) (left c.takes_word-2.new.self.rest.now) (left c.inherited.new.self.cursor.rest.now) (left c.args.self.now.cursor.rest.now)
+    (λ r st. inh_stays c.in-Some-takes_word.at r (left c.args.self.now.cursor.rest.now) (left c.takes_word-2.new.self.rest.now) (left c.inherited.new.self.cursor.rest.now) front st) c.inherited.ensures.stays
+
+-- ---- behind `eq`
+
+pub returns-in-Some-takes_word-2-clause-found : goal.returns-in-Some-takes_word-2-clause-found
+returns-in-Some-takes_word-2-clause-found c =
     let same = ap (λ r. left r.rest.now) (c.in_default-takes_word.ensures.0 ∙ c.in_default.ensures.0) in
-    let p = err_from_is_err_and c.from_residual-in_err-equation-in-Some-takes_word-2.result c.from_residual-in_err-equation-in-Some-takes_word-2.ensures.1 in rw (p.1, p.2)
-    (eq_stays c.in-Some-takes_word-2.at (reason_of c.in_err-equation-in-Some-takes_word-2.field-0.0) (left c.args.self.now.cursor.rest.now) (left c.takes_word-3.new.self.rest.now)
-    (left c.equation.new.self.cursor.rest.now) (sym same ∙ c.in-Some-takes_word-2.ensures) c.in_err-equation-in-Some-takes_word-2.ensures.stays)
+    decl_read c.equation.result (codes "eq") c.in-Some-takes_word-2.at (left c.args.self.now.cursor.rest.now) (left c.takes_word-3.new.self.rest.now) (left c.equation.new.self.cursor.rest.now) c.equation.ensures.found (sym same ∙ c.in-Some-takes_word-2.ensures)
+
+pub returns-in-Some-takes_word-2-clause-stays : goal.returns-in-Some-takes_word-2-clause-stays
+returns-in-Some-takes_word-2-clause-stays c =
+    let same = ap (λ r. left r.rest.now) (c.in_default-takes_word.ensures.0 ∙ c.in_default.ensures.0) in
+    behind_keyword c.equation.result (want.Name ∷ want.Mark (codes ".") ∷ want.Signed ∷ want.Defined ∷ want.Decls ∷ []) (left c.takes_word-3.new.self.rest.now) (left c.equation.new.self.cursor.rest.now) (left c.args.self.now.cursor.rest.now)
+    (λ r st. eq_stays c.in-Some-takes_word-2.at r (left c.args.self.now.cursor.rest.now) (left c.takes_word-3.new.self.rest.now) (left c.equation.new.self.cursor.rest.now) (sym same ∙ c.in-Some-takes_word-2.ensures) st) c.equation.ensures.stays
+
+-- ---- where no declaration begins
 
 pub returns-in-None-clause-stays : goal.returns-in-None-clause-stays
 returns-in-None-clause-stays c =

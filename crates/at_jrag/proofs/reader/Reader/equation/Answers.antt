@@ -1,7 +1,8 @@
 use Rattle.std.proofs.Common.{[], ◌∷◌, ap, subst}
 use Rattle.std.proofs.lemmas.Result.{err_from_is_err_and}
 use Rattle.at_text.specs.Rows.{Row, left}
-use Rattle.at_jrag.specs.View.{word_view, params_view}
+use Rattle.at_jrag.specs.View.{word_view, params_view, body_view}
+use Rattle.at_jrag.specs.Grammar.{BodyOf}
 use Rattle.at_jrag.specs.Runs.{reason_of}
 use Rattle.at_jrag.specs.Wants as want
 use Rattle.at_jrag.proofs.Declarations.{equation_read}
@@ -9,7 +10,14 @@ use Rattle.at_jrag.proofs.DeclarationStops.{BodyStays, behind_getter, equation_b
 use Rattle.at_jrag.proofs.reader.Reader.equation.Goals as goal
 
 pub returns-then-skips_getter-clause-found : goal.returns-then-skips_getter-clause-found
-returns-then-skips_getter-clause-found c = let s = c.if-skips_getter.ensures in equation_read c.inherited_equation.result c.in_ok-target.target _ _ _ _ c.inherited_equation.ensures.found c.in_ok-target.ensures.found s.1
+returns-then-skips_getter-clause-found c = let s = c.if-skips_getter.ensures in equation_read c.inherited_equation.result c.in_ok-target.target c.args.at _ _ _ _ c.inherited_equation.ensures.found c.in_ok-target.ensures.found s.1
+
+pub returns-clause-found : goal.returns-clause-found
+returns-clause-found c = λ old e.
+    let s = c.if-skips_getter.ensures in
+    let t = c.in_ok-target.ensures.found in
+    let b = subst (λ (x : Row). BodyOf (body_view c.in_ok-body.body) x (left c.body.new.self.cursor.rest.now)) (ap (λ r. left r.rest.now) s.0) c.in_ok-body.ensures.found in
+    (left c.args.self.now.cursor.rest.now, e, (t.0, left c.target.new.self.cursor.rest.now, t.1, t.2, b))
 
 pub returns-in_err-target-clause-stays : goal.returns-in_err-target-clause-stays
 returns-in_err-target-clause-stays c =

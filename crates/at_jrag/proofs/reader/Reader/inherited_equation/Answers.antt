@@ -11,11 +11,11 @@ use Rattle.at_jrag.proofs.DeclarationStops.{no_name, signed_stays, inherited_bod
 use Rattle.at_jrag.proofs.reader.Reader.inherited_equation.Goals as goal
 
 pub returns-clause-found : goal.returns-clause-found
-returns-clause-found c = λ old mid t d.
+returns-clause-found c = λ old named mid e t d.
     let p = rw c.as_str.ensures.value at c.in_ok-params.ensures.found in
     let got = getter_read (word_view c.args.getter.name) (params_view c.args.getter.params) t.0 mid (left c.args.self.now.cursor.rest.now) c.requires t.2 d in
     let g = subst (λ (x : Option Word). Getter (word_view c.args.getter.name) x t.0 (left c.args.self.now.cursor.rest.now)) (sym c.index_of.ensures) got in
-    (t.0, left c.args.self.now.cursor.rest.now, left c.params.new.self.cursor.rest.now, t.1, g, (_, p.0, c.in_ok-name.ensures.found, p.1, p.2), c.in_ok-body.ensures.found)
+    (named, e, (t.0, left c.args.self.now.cursor.rest.now, left c.params.new.self.cursor.rest.now, t.1, g, (_, p.0, c.in_ok-name.ensures.found, p.1, p.2), c.in_ok-body.ensures.found))
 
 pub returns-in_err-name-clause-stays : goal.returns-in_err-name-clause-stays
 returns-in_err-name-clause-stays c =

@@ -8,6 +8,9 @@ use Rattle.at_jrag.proofs.DeclarationRuns.{stay_first}
 use Rattle.at_jrag.proofs.DeclarationStops.{declared_stays}
 use Rattle.at_jrag.proofs.reader.Reader.synthesized.Goals as goal
 
+pub returns-clause-found : goal.returns-clause-found
+returns-clause-found c = λ old e. (left c.args.self.now.cursor.rest.now, e, (left c.head.new.self.cursor.rest.now, c.in_ok-head.ensures.found, c.in_ok-ending.ensures.found))
+
 pub returns-in_err-head-clause-stays : goal.returns-in_err-head-clause-stays
 returns-in_err-head-clause-stays c =
     let p = err_from_is_err_and c.from_residual.result c.from_residual.ensures.1 in
