@@ -11,8 +11,8 @@ use Rattle.at_model.specs.Rules.{Rules, attribute_name}
 use Rattle.at_model.specs.Classes.{Classes}
 use Rattle.at_model.specs.Meaning.{Answer, Outcomes, Circle, Finds, Faults}
 use Rattle.at_model.specs.Machine.{path_to, shown_value}
-use Rattle.at_model.specs.Replies.{Shown, Fails, Circular, At, Plain}
-use Rattle.at_model.specs.Alike.{AnswerLike, outcome, circle, find, fault, InstanceLike, ValueLike, int, truth, text, ref, OptionLike, neither, both, Names}
+use Rattle.at_model.specs.Replies.{Fails, Circular, At, Plain}
+use Rattle.at_model.specs.Alike.{AnswerLike, outcome, circle, find, fault, ValueLike, int, truth, text, ref, OptionLike, neither, both, Names}
 use Rattle.at_tree.specs.PathView.{path_view}
 use Rattle.at_tree.specs.declared.path.Path.{Path as PathValue}
 use Rattle.at_tree.specs.Token.{token_view}

@@ -1,18 +1,17 @@
 -- What each command is told, and what it leaves.
-use Rattle.std.proofs.Common.{◌≡◌, ℕ, ◌+◌, Bool, true, false, not, nat_eq, nat_le, List, [], ◌∷◌, ◌++◌, count_by, filter, Option, Some, None, is_some, option_and_then, refl, sym, ap, ◌∙◌, subst, Result, Ok, Err, inl, inr}
+use Rattle.std.proofs.Common.{◌≡◌, ℕ, true, false, not, nat_eq, nat_le, List, [], ◌∷◌, ◌++◌, count_by, filter, Option, Some, None, option_and_then, refl, sym, ap, ◌∙◌, subst, Ok, Err, inl, inr}
 use Rattle.std.specs.Prelude.{Vec}
 use Rattle.std.specs.Global.{Global}
-use Rattle.at_model.specs.Classes.{Classes, Shape, TokenKind}
-use Rattle.at_model.specs.Trees.{Tree, Token as TokenOf, class_of}
+use Rattle.at_model.specs.Classes.{Shape, TokenKind}
+use Rattle.at_model.specs.Trees.{Tree, Token as TokenOf}
 use Rattle.at_model.specs.Terms.{Term, term_of, tree_text}
-use Rattle.at_model.specs.Paths.{Node, part_named, tree_at}
+use Rattle.at_model.specs.Paths.{Node, tree_at}
 use Rattle.at_model.specs.Rules.{Rules}
 use Rattle.at_model.specs.Shaping.{shaped}
 use Rattle.at_model.specs.Edits.{class_asked, list_class, optional_class, token_kind, shape_at}
 use Rattle.at_model.specs.Edits as edit
-use Rattle.at_model.specs.Run.{Instance}
-use Rattle.at_model.specs.Lines.{Argument, Place, Command, Ask, Set, Put, Drop, Insert, Token, Show, Mark, Unmark, Where, Version}
-use Rattle.at_model.specs.Machine.{State, Marked, Verdict, Refuses, Tells, Leaves, Asks, changed, with_tree, with_component, with_mark, marked, is_mark, is_marked, max_marks, node_named, obeyed, path_to}
+use Rattle.at_model.specs.Lines.{Place, Set, Put, Drop, Insert, Token, Show, Mark, Unmark, Where, Version}
+use Rattle.at_model.specs.Machine.{State, Marked, Verdict, Refuses, Tells, Leaves, changed, with_tree, with_component, with_mark, marked, is_mark, is_marked, max_marks, node_named, obeyed, path_to}
 use Rattle.at_model.specs.Replies.{At, Written}
 use Rattle.at_model.specs.Replies as code
 use Rattle.at_tree.specs.PathView.{path_view}
@@ -29,7 +28,7 @@ use Rattle.at_protocol.specs.declared.reply.Shown.TheVariants as shown
 use Rattle.at_protocol.specs.declared.reply.Form.{Form as FormValue}
 use Rattle.at_protocol.specs.declared.reply.Form.TheVariants as form
 use Rattle.at_store.specs.Checking.{IsRefused}
-use Rattle.at_store.specs.Shown.{Shown, numbers, tree}
+use Rattle.at_store.specs.Shown.{Shown}
 use Rattle.at_store.specs.declared.edit.Refusal.{Refusal as EditRefusal}
 use Rattle.at_store.specs.declared.edit.Refusal.TheVariants as reason
 use Rattle.at_engine.specs.Following.{Follows}

@@ -1,8 +1,8 @@
 -- Components of nodes by their numbers, and the class that is asked where a node stands.
-use Rattle.std.proofs.Common.{◌≡◌, ℕ, true, List, [], ◌∷◌, ◌++◌, map, Option, Some, None, is_some, option_and_then, option_map, refl, sym, ap, ◌∙◌, subst}
+use Rattle.std.proofs.Common.{◌≡◌, ℕ, true, List, [], ◌∷◌, ◌++◌, map, Option, Some, None, option_and_then, option_map, refl, sym, ap, ◌∙◌, subst}
 use Rattle.std.specs.List.{slice_get}
 use Rattle.std.proofs.lemmas.Option.{slice_get-map}
-use Rattle.at_model.specs.Classes.{Classes, Component, Shape, class_in, parts}
+use Rattle.at_model.specs.Classes.{Classes, Component, class_in, parts}
 use Rattle.at_model.specs.Trees.{Tree, class_of, conforms}
 use Rattle.at_model.specs.Paths.{Node, parent_of, part_named, tree_at}
 use Rattle.at_model.specs.Run.{Is, Up}
@@ -13,7 +13,7 @@ use Rattle.at_model.proofs.Complete.{child_conforms, conforms_at}
 use Rattle.at_model.proofs.Surviving.{parent_is}
 use Rattle.at_model.proofs.WayUp.{parent_there}
 use Rattle.at_model.proofs.WithinTree.{tree_at-snoc}
-use Rattle.at_class.specs.View.{part_view, shape_view}
+use Rattle.at_class.specs.View.{part_view}
 use Rattle.at_class.specs.declared.part.Part.{Part}
 use Rattle.at_store.specs.Numbers.{number_at}
 use Rattle.at_store.specs.Shown.{IsIdle, Shown, contents, numbers, path, tree}

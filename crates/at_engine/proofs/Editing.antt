@@ -1,5 +1,5 @@
 -- What comes of an edit: of the store, the version, the marks and what is kept.
-use Rattle.std.proofs.Common.{◌≡◌, ◌∙◌, ℕ, ◌+◌, Bool, true, false, nat_eq, List, Option, Some, Result, Ok, Err, IfOk, OnErr, filter, is_some, sym, subst}
+use Rattle.std.proofs.Common.{◌≡◌, ◌∙◌, ℕ, ◌+◌, Bool, true, false, nat_eq, List, Some, Result, Ok, Err, IfOk, OnErr, filter, is_some, sym, subst}
 use Rattle.at_model.specs.Classes.{Classes}
 use Rattle.at_model.specs.Paths.{Node}
 use Rattle.at_model.specs.Rules.{Rules}

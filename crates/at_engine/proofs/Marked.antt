@@ -1,10 +1,10 @@
 -- What is done with marks, and with what they stand for.
-use Rattle.std.proofs.Common.{◌≡◌, ℕ, Bool, true, false, cond, not, nat_eq, List, [], ◌∷◌, ◌++◌, length, Option, Some, None, is_some, option_map, option_and_then, filter, count_by, suc, refl, sym, ap, ◌∙◌, subst}
-use Rattle.std.specs.List.{AllByRecursion, find, filter_map, cons_option}
+use Rattle.std.proofs.Common.{◌≡◌, ℕ, Bool, true, false, cond, nat_eq, List, [], ◌∷◌, ◌++◌, length, Option, Some, None, is_some, option_map, option_and_then, filter, count_by, suc, refl, sym, ap, ◌∙◌, subst}
+use Rattle.std.specs.List.{find, cons_option}
 use Rattle.std.proofs.lemmas.List.Sums.{length-filter}
 use Rattle.at_model.specs.Paths.{Node}
 use Rattle.at_model.specs.Edits.{Edit, carried}
-use Rattle.at_model.specs.Machine.{Marked, is_mark, marked, is_marked, carried_marks}
+use Rattle.at_model.specs.Machine.{Marked, is_mark, marked, carried_marks}
 use Rattle.at_engine.specs.Marks.{is_named, number_marked, mark_at, marks_view, AreThere}
 use Rattle.at_engine.specs.declared.marks.Mark.{Mark}
 

@@ -3,7 +3,7 @@ use Rattle.std.proofs.Common.{◌≡◌, ℕ, Bool, true, false, cond, List, [],
 use Rattle.std.specs.List.{slice_get, find}
 use Rattle.std.specs.Option.{unwrap_or}
 use Rattle.at_model.specs.Classes.{Classes, parts, class_in}
-use Rattle.at_model.specs.Trees.{Tree, Node as branch, class_of, conforms}
+use Rattle.at_model.specs.Trees.{Tree, class_of, conforms}
 use Rattle.at_model.specs.Paths.{Node, Path, Step, node_at, path_of, tree_at, children_at, step_of, index_in}
 use Rattle.at_model.specs.Run.{Is}
 use Rattle.at_model.specs.Lines.{Place, From_root, From_mark}
@@ -11,7 +11,6 @@ use Rattle.at_model.specs.Machine.{State, Marked, node_below, node_named, path_t
 use Rattle.at_model.proofs.Options.{led}
 use Rattle.at_model.proofs.Complete.{child_conforms}
 use Rattle.at_store.specs.Led.{Led}
-use Rattle.at_store.specs.Numbers.{path_in}
 use Rattle.at_store.specs.Shown.{Shown, contents, numbers, path, tree}
 use Rattle.at_store.proofs.Reading.{shown_there}
 use Rattle.at_engine.specs.Marks.{AreThere, is_named, marks_view, number_marked}

@@ -1,7 +1,6 @@
 -- What the numbers of a store stand for, in questions.
-use Rattle.std.proofs.Common.{◌≡◌, ℕ, Some, nat_eq}
-use Rattle.at_model.specs.Paths.{Node, node_eq, tree_at}
-use Rattle.at_model.specs.Trees.{Tree}
+use Rattle.std.proofs.Common.{ℕ, nat_eq}
+use Rattle.at_model.specs.Paths.{Node, node_eq}
 use Rattle.at_model.specs.Run.{Instance, Location}
 use Rattle.at_model.specs.Rules.{Rules, evaluation}
 use Rattle.at_model.specs.Meaning.{Answer, Answers, content, equations}

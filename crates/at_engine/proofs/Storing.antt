@@ -1,5 +1,5 @@
 -- What an engine's state is when its store has changed.
-use Rattle.std.proofs.Common.{◌≡◌, ℕ, ◌+◌, Bool, true, false, nat_eq, List, Option, Some, None, option_map, Result, Ok, Err, OnErr, filter, is_some, refl, sym, ap, ◌∙◌, subst}
+use Rattle.std.proofs.Common.{◌≡◌, ℕ, ◌+◌, true, false, nat_eq, List, Option, Some, None, option_map, Result, Ok, Err, OnErr, filter, is_some, sym, ap, ◌∙◌, subst}
 use Rattle.at_model.specs.Rules.{Rules}
 use Rattle.at_model.specs.Run.{Contents, Instance, Value}
 use Rattle.at_model.specs.Meaning.{Right}
@@ -7,10 +7,9 @@ use Rattle.at_model.specs.Support.{Supports}
 use Rattle.at_model.specs.Alike.{InstanceLike, Names}
 use Rattle.at_model.specs.Trees.{Tree, conforms}
 use Rattle.at_model.specs.Paths.{Node}
-use Rattle.at_model.specs.Edits.{Edit, carried, edited, left_by}
+use Rattle.at_model.specs.Edits.{Edit}
 use Rattle.at_model.specs.Lines.{last_version}
-use Rattle.at_model.specs.Machine.{State, Marked, Verdict, Edits, Refuses, after, changed, carried_marks}
-use Rattle.at_model.specs.Replies as code
+use Rattle.at_model.specs.Machine.{State, Marked, Edits, after, changed, carried_marks}
 use Rattle.at_model.proofs.Conforming.{accepted_conforms}
 use Rattle.at_protocol.specs.declared.reply.Form.TheVariants as form
 use Rattle.at_protocol.specs.declared.reply.Refusal.TheVariants as told

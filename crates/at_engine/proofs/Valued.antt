@@ -7,7 +7,7 @@ use Rattle.at_model.specs.Paths.{Node}
 use Rattle.at_model.specs.Run.{Value, Text}
 use Rattle.at_model.specs.Lines.{Argument}
 use Rattle.at_model.specs.Machine.{each}
-use Rattle.at_model.specs.Alike.{ListLike, ValueLike, text, Names}
+use Rattle.at_model.specs.Alike.{ValueLike, text, Names}
 use Rattle.at_body.specs.Values.{value_view}
 use Rattle.at_body.specs.declared.value.Value.{Value as ValueCode}
 use Rattle.at_protocol.specs.LineView.{argument_view, arguments_view}

@@ -1,9 +1,9 @@
 -- The machine's verdicts, step by step.
-use Rattle.std.proofs.Common.{◌≡◌, ℕ, Bool, true, false, not, nat_eq, nat_le, cond, if◌then◌else◌, List, [], ◌∷◌, ◌++◌, count_by, Option, Some, None, Result, Ok, Err, option_and_then, option_map, refl, sym, ap, ◌∙◌, subst}
+use Rattle.std.proofs.Common.{◌≡◌, ℕ, Bool, true, false, not, nat_eq, nat_le, if◌then◌else◌, List, [], ◌∷◌, ◌++◌, count_by, Option, Some, None, Result, Ok, Err, option_and_then, refl, ap, ◌∙◌, subst}
 use Rattle.std.specs.List.{list_all}
 use Rattle.at_model.specs.Classes.{Classes, AreSound, Shape}
-use Rattle.at_model.specs.Trees.{Tree, class_of, conforms}
-use Rattle.at_model.specs.Terms.{Term, term_of}
+use Rattle.at_model.specs.Trees.{Tree, class_of}
+use Rattle.at_model.specs.Terms.{Term}
 use Rattle.at_model.specs.Paths.{Node, part_named, tree_at}
 use Rattle.at_model.specs.Rules.{Rules}
 use Rattle.at_model.specs.Edits.{Edit, edited, shape_at, left_by}

@@ -47,10 +47,10 @@ impl<K: Keeper> Engine<K> {
     ghost use Rattle.at_model.specs.Paths.{Node as NodeOf};
     ghost use Rattle.at_model.specs.Run.{Ref, Value as ValueOf};
     ghost use Rattle.at_model.specs.Rules.{attribute_name};
-    ghost use Rattle.at_model.specs.Meaning.{Answer as AnswerOf};
+    ghost use Rattle.at_model.specs.Meaning.{Answer as AnswerOf, Circle, Faults, Outcomes};
     ghost use Rattle.at_model.specs.Alike.{AnswerLike, Names, OptionLike, ValueLike};
     ghost use Rattle.at_model.specs.Machine.{shown_value};
-    ghost use Rattle.at_body.specs.Values.{value_view};
+    ghost use Rattle.at_body.specs.Values.{fault_view, value_view};
     ghost use Rattle.at_demand.specs.Known.{answer_view};
     ghost use Rattle.at_engine.specs.Engines.{rules_of, state_of, IsHeld};
     ghost use Rattle.at_store.specs.Shown.{path as path_shown};
@@ -63,16 +63,33 @@ impl<K: Keeper> Engine<K> {
     {
         match answer {
             Answer::Value(value) => Ok(Form::Shows(self.shown(value)?)),
-            Answer::Fault { kind, at } => Ok(Form::Fault {
-                kind: fault_word(kind),
-                path: self.path_to(at.node())?,
-                attribute: self.attribute_of(&at)?,
-            }),
-            Answer::Circular { at } => Ok(Form::Circular {
-                path: self.path_to(at.node())?,
-                attribute: self.attribute_of(&at)?,
-            }),
+            Answer::Fault { kind, at } => self.told_fault(kind, &at),
+            Answer::Circular { at } => self.told_circle(&at),
         }
+    }
+
+    /// The fault with the path of its node.
+    fn told_fault(&self, kind: FaultKind, at: &Inst) -> Result<Form, AllocError>
+        requires sound { IsHeld K.contents self.now }
+        ensures { (a : AnswerOf NodeOf) → AnswerLike (Names (path_shown self.now.store)) (Outcomes (Faults (fault_view kind) at.now)) a → IfOk result (IsToldAs (rules_of self.now) (state_of self.now).tree a) }
+    {
+        let path = self.path_to(at.node())?;
+        let attribute = self.attribute_of(at)?;
+        Ok(Form::Fault {
+            kind: fault_word(kind),
+            path,
+            attribute,
+        })
+    }
+
+    /// The circle with the path of its node.
+    fn told_circle(&self, at: &Inst) -> Result<Form, AllocError>
+        requires sound { IsHeld K.contents self.now }
+        ensures { (a : AnswerOf NodeOf) → AnswerLike (Names (path_shown self.now.store)) (Circle at.now) a → IfOk result (IsToldAs (rules_of self.now) (state_of self.now).tree a) }
+    {
+        let path = self.path_to(at.node())?;
+        let attribute = self.attribute_of(at)?;
+        Ok(Form::Circular { path, attribute })
     }
 
     /// The name of the instance's attribute.

@@ -1,4 +1,4 @@
-use Rattle.std.proofs.Common.{◌≡◌, ◌∙◌, sym, ap, ap₂, subst, ◌++◌, ◌∷◌, List, ℕ, take, drop, None, Some}
+use Rattle.std.proofs.Common.{◌∙◌, sym, ap, ap₂, subst, ◌++◌, ◌∷◌, List, ℕ, drop}
 use Rattle.std.proofs.lemmas.List.{drop-drop}
 use Rattle.at_engine.specs.Loop.{IsOpen}
 use Rattle.at_engine.proofs.Pieces.{open_all, open_before, split_at_newline}

@@ -1,11 +1,9 @@
-use Rattle.std.proofs.Common.{◌≡◌, ap, subst, List, ℕ, length, ◌<◌, ◌≤◌, arith, vec_len}
+use Rattle.std.proofs.Common.{◌≡◌, ap, length, ◌<◌, ◌≤◌, arith, vec_len}
 use Rattle.std.proofs.lemmas.Bool.Decides.{nat_tests}
-use Rattle.at_model.specs.Machine.{Serves}
 use Rattle.at_engine.specs.Loop.{kept}
-use Rattle.at_engine.specs.Engines.{state_of, rules_of}
+use Rattle.at_engine.specs.Engines.{rules_of}
 use Rattle.at_engine.proofs.Kept.{filled_as_kept, empty_as_kept}
 use Rattle.at_engine.proofs.KeepingBytes.{all_nothing, filled_one}
-use Rattle.at_engine.proofs.KeptLines.{serves_kept}
 use Rattle.at_engine.proofs.Remembering.{no_call}
 use Rattle.at_engine.proofs.Runnings.{finished_empty, finished_line}
 use Rattle.at_engine.proofs.stream.finish.Goals as goal

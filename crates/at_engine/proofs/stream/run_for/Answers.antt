@@ -1,5 +1,5 @@
 use Rattle.std.specs.Prelude.{IsTrue}
-use Rattle.std.proofs.Common.{◌≡◌, ◌∙◌, sym, subst, [], ◌++◌, length, take, ◌<◌, ◌≤◌, ◌+◌, length-append, arith, refl, true, false, Ok, Err}
+use Rattle.std.proofs.Common.{◌≡◌, ◌∙◌, sym, subst, [], ◌++◌, length, take, ◌<◌, ◌≤◌, ◌+◌, length-append, arith, refl, true, false}
 use Rattle.std.proofs.KnownBytes.{Consumes-kept, Consumes-nil, Consumes-trans}
 use Rattle.std.proofs.lemmas.Result.{err_from_is_err_and}
 use Rattle.at_model.specs.Rules.{Rules}

@@ -1,4 +1,4 @@
-use Rattle.std.proofs.Common.{◌≡◌, ◌∙◌, ◌+◌, ◌<◌, ◌≤◌, sym, ap, subst, List, ℕ, [], ◌∷◌, ◌++◌, length, append_assoc, length-append, arith, refl, true, false}
+use Rattle.std.proofs.Common.{◌≡◌, ◌∙◌, sym, ap, subst, List, ℕ, [], ◌∷◌, ◌++◌, length, append_assoc, length-append, arith, refl, true, false}
 use Rattle.std.proofs.lemmas.Result.{err_from_is_err_and}
 use Rattle.at_model.specs.Rules.{Rules}
 use Rattle.at_engine.specs.Taking.{Takes, Stops}

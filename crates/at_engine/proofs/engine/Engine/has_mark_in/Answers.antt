@@ -1,7 +1,5 @@
-use Rattle.std.proofs.Common.{◌≡◌, ◌∙◌, List, ap, sym, subst}
-use Rattle.std.specs.List.{list_all}
-use Rattle.at_model.specs.Machine.{is_marked, marks_in}
-use Rattle.at_protocol.specs.LineView.{place_view}
+use Rattle.std.proofs.Common.{◌∙◌, ap, sym}
+use Rattle.at_model.specs.Machine.{is_marked}
 use Rattle.at_engine.specs.Engines.{state_of}
 use Rattle.at_engine.proofs.Marking.{alone}
 use Rattle.at_engine.proofs.engine.Engine.has_mark_in.Goals as goal

@@ -1,10 +1,10 @@
-use Rattle.std.proofs.Common.{◌≡◌, ◌∙◌, List, ap, sym}
+use Rattle.std.proofs.Common.{◌∙◌, List, ap, sym}
 use Rattle.std.specs.List.{list_all}
 use Rattle.at_model.specs.Machine.{is_marked, marks_in_argument}
 use Rattle.at_protocol.specs.LineView.{argument_view, place_view}
 use Rattle.at_protocol.specs.declared.line.Argument.{Argument}
 use Rattle.at_engine.specs.Engines.{state_of}
-use Rattle.at_engine.proofs.Marking.{alone, both, neither, of_question}
+use Rattle.at_engine.proofs.Marking.{both, neither, of_question}
 use Rattle.at_engine.proofs.engine.Engine.has_marks.Goals as goal
 
 pub returns-then-not-has_mark_in : goal.returns-then-not-has_mark_in

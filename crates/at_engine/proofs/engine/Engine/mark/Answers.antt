@@ -1,4 +1,4 @@
-use Rattle.std.proofs.Common.{◌≡◌, ◌∙◌, true, false, nat_le, List, sym, ap, subst, string_bytes, is_some}
+use Rattle.std.proofs.Common.{◌∙◌, nat_le, List, sym, ap, subst, string_bytes, is_some}
 use Rattle.at_model.specs.Machine.{is_marked}
 use Rattle.at_protocol.specs.LineView.{place_view}
 use Rattle.at_store.specs.Shown.{path}

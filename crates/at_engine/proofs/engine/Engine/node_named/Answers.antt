@@ -1,7 +1,6 @@
-use Rattle.std.proofs.Common.{sym, subst}
+use Rattle.std.proofs.Common.{subst}
 use Rattle.at_model.specs.Classes.{Classes}
-use Rattle.at_model.specs.Paths.{Node, Path}
-use Rattle.at_model.specs.Trees.{Tree}
+use Rattle.at_model.specs.Paths.{Path}
 use Rattle.at_protocol.specs.LineView.{place_view}
 use Rattle.at_store.specs.Led.{Led}
 use Rattle.at_store.specs.Shown.{numbers}

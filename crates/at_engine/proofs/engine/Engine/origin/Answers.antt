@@ -1,9 +1,8 @@
-use Rattle.std.proofs.Common.{◌∙◌, ℕ, [], List, Option, Some, refl, sym, ap, subst}
+use Rattle.std.proofs.Common.{ℕ, [], List, Option, Some, refl, sym, subst}
 use Rattle.at_model.specs.Machine.{marked}
 use Rattle.at_protocol.specs.LineView.{place_view}
 use Rattle.at_protocol.specs.declared.line.Place.{Place}
 use Rattle.at_engine.specs.Engines.{state_of}
-use Rattle.at_engine.specs.Marks.{number_marked}
 use Rattle.at_engine.specs.Naming.{IsNumberOf, origin_of}
 use Rattle.at_engine.proofs.Naming.{marked_number}
 use Rattle.at_engine.proofs.engine.Engine.origin.Goals as goal

@@ -1,6 +1,5 @@
-use Rattle.std.proofs.Common.{sym, subst}
-use Rattle.at_model.specs.Classes.{Classes}
-use Rattle.at_tree.specs.Shape.{IsShaped, IsMisshaped}
+use Rattle.std.proofs.Common.{subst}
+use Rattle.at_tree.specs.Shape.{IsMisshaped}
 use Rattle.at_tree.specs.View.{term_view}
 use Rattle.at_tree.specs.TreeView.{tree_view}
 use Rattle.at_engine.proofs.Verdicts.{shaped_so, shaped_nowhere}
