@@ -1,7 +1,6 @@
 -- What was read as a grammar is named by names.
-use Rattle.std.proofs.Common.{◌≡◌, ℕ, true, List, [], ◌∷◌, map, Option, Some, None, sym, ap, subst, String, string_bytes}
+use Rattle.std.proofs.Common.{◌≡◌, ℕ, true, List, [], ◌∷◌, map, Option, Some, None, sym, ap, subst, string_bytes}
 use Rattle.std.specs.List.{All, AllByRecursion}
-use Rattle.std.specs.Global.{Global}
 use Rattle.std.proofs.lemmas.List.Elements.{All-nil, All-cons}
 use Rattle.at_model.specs.Names.{is_name}
 use Rattle.at_model.specs.Declarations.{IsDeclarationNamed, PartDeclaration}

@@ -1,5 +1,5 @@
 -- Each stage's refusal is the first fault of the files.
-use Rattle.std.proofs.Common.{ℕ, ◌+◌, length, Some, None}
+use Rattle.std.proofs.Common.{◌+◌, length, Some, None}
 use Rattle.at_model.specs.Classes.{Classes}
 use Rattle.at_model.specs.Rules.{Rules}
 use Rattle.at_start.specs.AspectFiles.{GivesRules, IsAspectFault}

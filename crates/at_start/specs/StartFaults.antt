@@ -1,5 +1,5 @@
 -- What is printed of files that make no engine.
-use Rattle.std.specs.Prelude.{ℕ, ◌-◌, ◌==◌, List, [], ◌∷◌, ◌++◌, decimal, codes, Option, Some, None, slice_get, string_bytes, if◌then◌else◌}
+use Rattle.std.specs.Prelude.{ℕ, ◌-◌, ◌==◌, List, [], ◌++◌, decimal, codes, Option, Some, None, slice_get, string_bytes, if◌then◌else◌}
 use Rattle.at_text.specs.declared.place.Place.{Place}
 use Rattle.at_start.specs.Codes.{code_text}
 use Rattle.at_start.specs.declared.files.Source.{Source}
@@ -22,11 +22,14 @@ file_name files file = if file == 0 then string_bytes files.grammar.name else na
 
 abbrev pub place_text : Option Place → List ℕ
 place_text None = []
-place_text (Some at) = codes " at " ++ (decimal at.line ++ (58 ∷ decimal at.column))
+place_text (Some at) = codes " at " ++ (decimal at.line ++ (codes ":" ++ decimal at.column))
+
+abbrev pub refused_text : List ℕ → Code → Option Place → List ℕ
+refused_text name code at = name ++ (codes ": " ++ (code_text code ++ place_text at))
 
 abbrev pub fault_text : Files → StartFault → List ℕ
-fault_text files (Refused file code at) = file_name files file ++ (codes ": " ++ (code_text code ++ (place_text at ++ 10 ∷ [])))
-fault_text files Memory = codes "memory" ++ 10 ∷ []
+fault_text files (Refused file code at) = refused_text (file_name files file) code at
+fault_text files Memory = codes "memory"
 
 -- the fault of the grammar or of an aspect file, by its number
 abbrev pub of_file : ℕ → Fault Code → StartFault

@@ -1,6 +1,6 @@
 //! The rules of aspect files.
 
-ghost use Rattle.std.specs.Prelude.{◌≡◌, None, Some, map, Ok, IfOk, IfErr};
+ghost use Rattle.std.specs.Prelude.{◌≡◌, map, Ok, IfOk, IfErr};
 ghost use Rattle.at_jrag.specs.View.{aspect_view};
 ghost use Rattle.at_model.specs.WellFormed.{AreWellFormed, IsHierarchy};
 ghost use Rattle.at_typing.specs.Building.{Builds};

@@ -1,15 +1,14 @@
 //! Why files make no server, and how that is printed.
 
-ghost use Rattle.std.specs.Prelude.{◌≡◌, ◌++◌, Some, take, length, string_bytes, OnOk, OnErr};
+ghost use Rattle.std.specs.Prelude.{◌≡◌, string_bytes, IfOk};
 ghost use Rattle.at_start.specs.declared.fault.StartFault.TheVariants.{Memory};
-ghost use Rattle.at_start.specs.StartFaults.{fault_text, place_text, file_name, of_file, of_tree};
+ghost use Rattle.at_start.specs.StartFaults.{fault_text, refused_text, file_name, of_file, of_tree};
 
 use super::files::{Files, Source};
 use crate::code::Code;
 use at_text::fault::{Failure, Fault};
 use at_text::place::Place;
-use itoa::Buffer;
-use std::alloc::{AllocError, AllocFailed};
+use std::alloc::{AllocError, AllocFailed, Global};
 
 /// Why files make no engine.
 #[derive(Debug, Drop)]
@@ -79,60 +78,36 @@ fn numbered_file(files: &Files, file: usize) -> &Source
     files.aspects.get(file - 1).unwrap_or(&files.tree)
 }
 
-/// Appends the fault as it is printed, with its newline. Where memory is wanting the output stays as
-/// it was.
-pub fn write_fault(files: &Files, fault: &StartFault, out: &mut Vec<u8>) -> Result<(), AllocError>
-    ensures ok { OnOk result (out.new.items ≡ out.old.items ++ fault_text files.now fault.now) }
-    ensures err { OnErr result (out.new.items ≡ out.old.items) }
-{
-    let length = out.len();
-    let written = append_fault(files, fault, out);
-    if written.is_err() {
-        out.truncate(length);
-    }
-    written
-}
-
-/// Appends the fault, or a front of it where memory is wanting.
-fn append_fault(files: &Files, fault: &StartFault, out: &mut Vec<u8>) -> Result<(), AllocError>
-    ensures ok { OnOk result (out.new.items ≡ out.old.items ++ fault_text files.now fault.now) }
-    ensures err { OnErr result (take (length out.old.items) out.new.items ≡ out.old.items) }
-{
-    match fault {
-        StartFault::Refused { file, code, at } => {
-            out.extend_from_slice(numbered_file(files, *file).name.as_bytes())?;
-            out.extend_from_slice(b": ")?;
-            out.extend_from_slice(code.text().as_bytes())?;
-            if let Some(at) = at {
-                append_place(*at, out)?;
+impl StartFault {
+    /// The fault as it is printed, without a newline.
+    ///
+    /// # Errors
+    ///
+    /// `AllocError` for want of memory.
+    pub fn text(&self, alloc: Global, files: &Files) -> Result<String, AllocError>
+        ensures { IfOk result (λ text. string_bytes text ≡ fault_text files.now self.now) }
+    {
+        match self {
+            StartFault::Refused { file, code, at } => {
+                refused_text(alloc, numbered_file(files, *file).name.as_str(), *code, *at)
             }
+            StartFault::Memory => String::from_str(alloc, "memory"),
         }
-        StartFault::Memory => out.extend_from_slice(b"memory")?,
     }
-    out.extend_from_slice(b"\n")
 }
 
-/// Appends ` at LINE:COLUMN`. Where memory is wanting the output stays as it was.
-fn append_place(at: Place, out: &mut Vec<u8>) -> Result<(), AllocError>
-    ensures ok { OnOk result (out.new.items ≡ out.old.items ++ place_text (Some at)) }
-    ensures err { OnErr result (out.new.items ≡ out.old.items) }
+/// The file's name, the code, and where there is one the place: `NAME: CODE at LINE:COLUMN`.
+fn refused_text(
+    alloc: Global,
+    name: &str,
+    code: Code,
+    at: Option<Place>,
+) -> Result<String, AllocError>
+    ensures { IfOk result (λ text. string_bytes text ≡ refused_text name.now code at) }
 {
-    let length = out.len();
-    let written = append_numbers(at, out);
-    if written.is_err() {
-        out.truncate(length);
+    let code = code.text();
+    match at {
+        Some(Place { line, column }) => format!(in alloc; "{name}: {code} at {line}:{column}"),
+        None => format!(in alloc; "{name}: {code}"),
     }
-    written
-}
-
-/// Appends ` at LINE:COLUMN`, or a front of it where memory is wanting.
-fn append_numbers(at: Place, out: &mut Vec<u8>) -> Result<(), AllocError>
-    ensures ok { OnOk result (out.new.items ≡ out.old.items ++ place_text (Some at)) }
-    ensures err { OnErr result (take (length out.old.items) out.new.items ≡ out.old.items) }
-{
-    let Place { line, column } = at;
-    out.extend_from_slice(b" at ")?;
-    out.extend_from_slice(Buffer::new().format(line).as_bytes())?;
-    out.extend_from_slice(b":")?;
-    out.extend_from_slice(Buffer::new().format(column).as_bytes())
 }

@@ -1,6 +1,6 @@
 //! The classes of a grammar file.
 
-ghost use Rattle.std.specs.Prelude.{◌≡◌, Some, IfOk, IfErr};
+ghost use Rattle.std.specs.Prelude.{◌≡◌, IfOk, IfErr};
 ghost use Rattle.at_model.specs.Declarations.{AreNamed};
 ghost use Rattle.at_class.specs.Grammar.{grammar_view};
 ghost use Rattle.at_start.specs.Files.{IsText};

@@ -8,26 +8,34 @@ use crate::serving::Served;
 use at_engine::RunFault;
 use std::alloc::{AllocError, AllocFailed};
 use std::io;
-use std::io::Write;
+use thiserror::Error;
 
-/// Why the program ends before all is served.
-#[derive(Drop)]
+/// Why the program ends before all is served. It is shown as its text, without a newline at the end.
+#[derive(Debug, Drop, Error)]
 pub enum Failure {
     /// The words of the command line ask for nothing that can be served, with the text that says why.
+    #[error("{text}")]
     Words { text: String },
     /// A word of the command line is no text.
+    #[error("error: a word of the command line is no UTF-8")]
     NoText,
     /// The file of that name can't be read.
+    #[error("{name}: read fault")]
     File { name: String },
     /// A file is refused, with the text that says why.
-    Refused { text: Vec<u8> },
+    #[error("{text}")]
+    Refused { text: String },
     /// The socket can't be bound.
+    #[error("socket fault")]
     Socket,
     /// Standard input or output failed.
+    #[error(transparent)]
     Run(RunFault),
     /// Connections ended by faults.
+    #[error("{0}")]
     Connections(Served),
     /// Want of memory.
+    #[error("memory")]
     Memory,
 }
 
@@ -71,31 +79,5 @@ pub fn status(failure: &Failure) -> u8
 
 /// Prints the failure on standard error.
 pub fn tell(rt: &HostRuntime, failure: &Failure) -> io::Result<()> {
-    match failure {
-        Failure::Words { text } => eprint!(rt; "{text}"),
-        Failure::NoText => rt.eprintln("error: a word of the command line is no UTF-8"),
-        Failure::File { name } => eprintln!(rt; "{name}: read fault"),
-        Failure::Refused { text } => rt.stderr().write_all(text),
-        Failure::Socket => rt.eprintln("socket fault"),
-        Failure::Run(fault) => rt.eprintln(fault.text()),
-        Failure::Connections(served) => tell_served(rt, *served),
-        Failure::Memory => rt.eprintln("memory"),
-    }
-}
-
-/// Prints a line for each kind of fault by which connections ended.
-fn tell_served(rt: &HostRuntime, served: Served) -> io::Result<()> {
-    tell_if(rt, served.read, RunFault::Read.text())?;
-    tell_if(rt, served.write, RunFault::Write.text())?;
-    tell_if(rt, served.reads, RunFault::TooManyReads.text())?;
-    tell_if(rt, served.socket, "socket fault")?;
-    tell_if(rt, served.memory, RunFault::Memory.text())
-}
-
-/// Prints the line if connections ended so.
-fn tell_if(rt: &HostRuntime, connections: u16, line: &str) -> io::Result<()> {
-    if connections > 0 {
-        rt.eprintln(line)?;
-    }
-    Ok(())
+    eprintln!(rt; "{failure}")
 }

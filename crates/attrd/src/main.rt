@@ -11,7 +11,7 @@ mod serving;
 
 use at_cache::KeepRecorded;
 use at_engine::{Engine, Watched, run};
-use at_start::{Files, MAX_FILE, Source, StartFault, start, write_fault};
+use at_start::{Files, MAX_FILE, Source, StartFault, start};
 use failure::{Failure, status, tell};
 use options::{Options, options};
 use serving::serve;
@@ -104,9 +104,8 @@ fn refused(rt: &HostRuntime, files: &Files, fault: &StartFault) -> Failure {
     if let StartFault::Memory = fault {
         return Failure::Memory;
     }
-    let mut text = Vec::new(rt.alloc());
-    match write_fault(files, fault, &mut text) {
-        Ok(()) => Failure::Refused { text },
+    match fault.text(rt.alloc(), files) {
+        Ok(text) => Failure::Refused { text },
         Err(_) => Failure::Memory,
     }
 }

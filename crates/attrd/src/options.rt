@@ -5,6 +5,7 @@ ghost use Rattle.attrd.specs.declared.options.WordsFault.TheVariants.{Memory};
 mod words;
 
 use std::alloc::{AllocError, AllocFailed};
+use thiserror::Error;
 pub use words::options;
 
 /// What the command line asks for.
@@ -21,12 +22,14 @@ pub struct Options {
     pub aspects: Vec<String>,
 }
 
-/// Why the words ask for nothing that can be served.
-#[derive(Drop)]
+/// Why the words ask for nothing that can be served. It is shown as its text, without a newline at the end.
+#[derive(Debug, Drop, Error)]
 pub enum WordsFault {
     /// What is wrong with the words, or the help that they ask for.
+    #[error("{text}")]
     Words { text: String },
     /// Want of memory.
+    #[error("memory")]
     Memory,
 }
 

@@ -5,10 +5,12 @@ ghost use Rattle.attrd.specs.Connections.{faults, counted};
 
 use at_cache::Keeper;
 use at_engine::{Engine, RunFault, Watched, run};
+use std::fmt;
 use std::os::unix::net::UnixListener;
+use thiserror::Error;
 
 /// How many connections ended, and how many of them by each fault.
-#[derive(Clone, Copy, Debug, PartialEq, Eq)]
+#[derive(Clone, Copy, Debug)]
 pub struct Served {
     /// All of them.
     pub ended: u16,
@@ -25,12 +27,35 @@ pub struct Served {
 }
 
 /// Why a connection ended before its input.
-#[derive(Clone, Copy, Debug, PartialEq, Eq)]
+#[derive(Clone, Copy, Debug, Error)]
 pub enum ConnectionFault {
     /// It wasn't accepted.
+    #[error("socket fault")]
     Socket,
     /// Its run broke off.
+    #[error(transparent)]
     Run(RunFault),
+}
+
+/// A line for each kind of fault by which connections ended, without a newline at the end.
+impl fmt::Display for Served {
+    fn fmt<W: fmt::Write>(&self, f: &mut fmt::Formatter<W>) -> fmt::Result {
+        let kinds = [
+            (self.read, ConnectionFault::Run(RunFault::Read)),
+            (self.write, ConnectionFault::Run(RunFault::Write)),
+            (self.reads, ConnectionFault::Run(RunFault::TooManyReads)),
+            (self.socket, ConnectionFault::Socket),
+            (self.memory, ConnectionFault::Run(RunFault::Memory)),
+        ];
+        let mut newline = "";
+        for (connections, fault) in kinds {
+            if connections > 0 {
+                write!(f, "{newline}{fault}")?;
+                newline = "\n";
+            }
+        }
+        Ok(())
+    }
 }
 
 impl Served {

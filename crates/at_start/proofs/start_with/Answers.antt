@@ -2,7 +2,7 @@ use Rattle.std.proofs.Common.{arith, ◌≡◌, ◌∙◌, List, ℕ, true, leng
 use Rattle.std.proofs.lemmas.Result.{err_from_is_err_and}
 use Rattle.at_model.specs.Classes.{Classes}
 use Rattle.at_model.specs.Terms.{term_of}
-use Rattle.at_model.specs.Trees.{Tree, conforms}
+use Rattle.at_model.specs.Trees.{conforms}
 use Rattle.at_model.specs.Edits.{is_within_limits}
 use Rattle.at_model.specs.Rules.{Rules}
 use Rattle.at_model.specs.Machine.{State}

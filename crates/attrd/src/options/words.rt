@@ -146,7 +146,7 @@ fn copies(alloc: Global, texts: &[&str]) -> Result<Vec<String>, AllocError>
 
 /// The fault of words that name too few files. The command has seen to it that none come here.
 fn lacking(alloc: Global) -> WordsFault {
-    match String::from_str(alloc, "error: GRAMMAR, TREE and ASPECT are required\n") {
+    match String::from_str(alloc, "error: GRAMMAR, TREE and ASPECT are required") {
         Ok(text) => WordsFault::Words { text },
         Err(_) => WordsFault::Memory,
     }
@@ -158,7 +158,17 @@ fn fault_of(alloc: Global, error: &Error) -> WordsFault {
         return WordsFault::Memory;
     }
     match format!(in alloc; "{error}") {
-        Ok(text) => WordsFault::Words { text },
+        Ok(text) => WordsFault::Words {
+            text: without_newline(text),
+        },
         Err(_) => WordsFault::Memory,
     }
+}
+
+/// The text without the newline at its end, where one stands there.
+fn without_newline(mut text: String) -> String {
+    if text.ends_with('\n') {
+        text.pop();
+    }
+    text
 }

@@ -1,9 +1,8 @@
 use Rattle.std.proofs.Common.{◌≡◌, true, subst, ℕ, List}
 use Rattle.at_model.specs.Trees.{conforms}
-use Rattle.at_tree.specs.ReadTrees.{IsReadAs, IsUnread}
+use Rattle.at_tree.specs.ReadTrees.{IsUnread}
 use Rattle.at_tree.specs.TreeView.{tree_view}
 use Rattle.at_tree.specs.declared.tree.reading.ReadFault.{ReadFault}
-use Rattle.at_tree.specs.declared.tree.reading.ReadFault.TheVariants as read
 use Rattle.at_start.specs.TreeFiles.{IsWithoutNewline, no_text}
 use Rattle.at_start.proofs.TermFiles.{is_tree_file, no_term_read, no_class_read, no_fit_read}
 use Rattle.at_start.proofs.tree.tree_of.Goals as goal
