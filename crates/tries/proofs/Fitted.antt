@@ -11,19 +11,14 @@ use Rattle.at_model.specs.Rules.{Rules, Attribute, Kind, attribute_named}
 use Rattle.at_model.specs.Run.{Value, Int, Truth, Text, Ref, Instance}
 use Rattle.at_model.specs.TypedRuns.{ClassAt, IsOfKind, IsOfItsKind, IsAllowed, AreArguments, IsWellTyped}
 use Rattle.std.proofs.lemmas.Str.{chars-nil}
-use Rattle.at_model.specs.Bodies.{ref_of, value_of}
 use Rattle.at_model.specs.Names.{is_name, is_reserved, is_word}
 use Rattle.at_model.specs.Rules as kinds
-use Rattle.at_model.specs.Trees.{Token}
-use Rattle.at_model.specs.Trees as held
 use Rattle.at_model.proofs.Options.{both}
 use Rattle.at_rules.specs.Bodies.{kind_view}
 use Rattle.at_rules.specs.declared.body.Kind.{Kind as KindCode}
 use Rattle.at_rules.specs.Upward.{result_of}
 use Rattle.at_body.specs.Values.{value_view}
 use Rattle.at_body.specs.declared.value.Value.{Value as ValueCode}
-use Rattle.tries.specs.Worlds.{RefersThere}
-use Rattle.tries.specs.declared.files.World.{World}
 
 any_text : (v : Value ℕ) → IsAllowed AnyText v
 any_text (Int n) = tt
@@ -86,19 +81,6 @@ pub its_kind : (rules : Rules) (at : ClassAt ℕ) (i : Instance ℕ) (v : Value 
 its_kind rules at i v k attribute kind same is d declared =
     let result : result_of rules i.attribute ≡ d.result = ap (λ (o : Option Attribute). elim o as (λ _. Kind) [ None ↦ kinds.Int | Some b ↦ b.result ]) declared in
     subst (λ x. IsOfKind rules.classes at v x) (kind ∙ ap (result_of rules) same ∙ result) is
-
--- a token refers to no node
-pub token_none : (t : Token) → ref_of {N = ℕ} (value_of t) ≡ None
-token_none (held.Text bytes) = refl
-token_none (held.Int n) = refl
-token_none (held.Truth b) = refl
-
-pub none_refers : (w : World) (v : Value ℕ) → ref_of v ≡ None → RefersThere w v
-none_refers w (Int n) e = tt
-none_refers w (Truth b) e = tt
-none_refers w (Text bytes) e = tt
-none_refers w (Ref None) e = tt
-none_refers w (Ref (Some n)) e = absurd cc
 
 -- a name has a character
 pub name_filled : (bytes : List ℕ) → is_name bytes ≡ true → bytes ≡ [] → ⊥

@@ -1,14 +1,10 @@
 -- Trees that are read are sound.
-use Rattle.std.proofs.Common.{◌≡◌, ℕ, ◌-◌, List, [], ◌∷◌, ◌++◌, Vec, map, sym, ap, ◌∙◌, subst}
-use Rattle.std.specs.Global.{Global}
+use Rattle.std.proofs.Common.{ℕ, ◌-◌, List, sym, subst}
 use Rattle.at_model.specs.Classes.{Classes}
 use Rattle.at_model.specs.Trees.{Tree, Cells, no_cells, cell, Cell, One, Many, Empty, Filled, Holds, Trees, no_trees, tree}
 use Rattle.at_model.specs.Trees as trees
 use Rattle.at_model.specs.Terms.{IsTerm, IsTermWithin, AreCellsWithin, IsCellWithin, AreTermsWithin, max_depth, term_of, cells_of, cell_of, terms_of}
-use Rattle.at_jrag.specs.View.{aspect_view}
-use Rattle.at_jrag.specs.declared.syntax.Aspect.{Aspect}
 use Rattle.at_tree.specs.ReadTrees.{IsReadAs}
-use Rattle.at_typing.specs.Located.{AreSpelled, IsSpelled}
 use Rattle.at_model.specs.Enduring.{AreTokens, CellsAreTokens, CellIsTokens, TreesAreTokens}
 
 mutual
@@ -37,9 +33,3 @@ written_tokens classes t h = of_term classes max_depth t h
 -- a tree that is read has such tokens
 pub read_tokens : (classes : Classes) (text : List ℕ) (b : ℕ) (t : Tree) → IsReadAs classes text b t → AreTokens t
 read_tokens classes text b t (term, is, shaped) = written_tokens classes t (subst IsTerm (sym shaped.written) is.0)
-
--- one file that spells its aspects
-pub one_spelled : (more front : List (Vec Aspect Global)) (a : Vec Aspect Global) → more ≡ front ++ a ∷ [] → front ≡ [] → IsSpelled (map aspect_view a.items) → AreSpelled more
-one_spelled more front a e none h =
-    let one : more ≡ a ∷ [] = e ∙ ap (λ (xs : List (Vec Aspect Global)). xs ++ a ∷ []) none in
-    subst (λ (xs : List (Vec Aspect Global)). AreSpelled xs) (sym one) (h, tt)

@@ -1,23 +1,32 @@
 //! Why the program ends before the lines are answered.
 
-use std::alloc::AllocError;
+use std::alloc::{AllocError, AllocFailed};
+use thiserror::Error;
 
-/// Why the program ends before the lines are answered.
-#[derive(Clone, Copy, Debug)]
+/// Why the program ends before the lines are answered. It is shown as its text; why a file is refused `attrd` says, over the
+/// same files.
+#[derive(Clone, Copy, Debug, Error)]
 pub enum Failure {
     /// The words aren't three.
+    #[error("usage: tries GRAMMAR ASPECTS TREE < LINES")]
     Words,
     /// A file, or standard input, can't be read.
+    #[error("read fault")]
     Read,
     /// The grammar is refused.
+    #[error("the grammar is refused")]
     Grammar,
     /// The aspects are refused.
+    #[error("the aspects are refused")]
     Aspects,
     /// The tree is refused.
+    #[error("the tree is refused")]
     Tree,
     /// Standard output can't be written.
+    #[error("write fault")]
     Write,
     /// Want of memory.
+    #[error("memory")]
     Memory,
 }
 
@@ -31,23 +40,16 @@ impl Failure {
             Failure::Memory => 4,
         }
     }
-
-    /// What is printed. Why a file is refused `attrd` says, over the same files.
-    pub fn text(self) -> &'static str {
-        match self {
-            Failure::Words => "usage: tries GRAMMAR ASPECTS TREE < LINES",
-            Failure::Read => "read fault",
-            Failure::Grammar => "the grammar is refused",
-            Failure::Aspects => "the aspects are refused",
-            Failure::Tree => "the tree is refused",
-            Failure::Write => "write fault",
-            Failure::Memory => "memory",
-        }
-    }
 }
 
 impl From<AllocError> for Failure {
     fn from(_error: AllocError) -> Failure {
+        Failure::Memory
+    }
+}
+
+impl<T: Drop> From<AllocFailed<T>> for Failure {
+    fn from(_error: AllocFailed<T>) -> Failure {
         Failure::Memory
     }
 }

@@ -5,25 +5,36 @@ ghost use Rattle.at_model.specs.Enduring.{AreTokens};
 ghost use Rattle.at_model.specs.WellFormed.{AreWellFormed};
 ghost use Rattle.at_tree.specs.TreeView.{tree_view};
 ghost use Rattle.at_jrag.specs.View.{aspect_view};
-ghost use Rattle.at_typing.specs.Located.{AreSpelled, IsSpelled};
+ghost use Rattle.at_typing.specs.Located.{IsSpelled};
 ghost use Rattle.tries.specs.Worlds.{IsSound};
 
 use crate::failure::Failure;
 use at_class::{ClassFault, ClassTable, are_named};
-use at_grammar::{AstFault, Grammar, parse_ast};
+use at_grammar::{AstFault, parse_ast};
 use at_jrag::{Aspect, JragFault, parse_jrag};
 use at_rules::Rules;
 use at_store::{LoadFault, Store};
 use at_tree::tree::{ReadFault, Tree, read_tree};
 use at_typing::{RuleFault, build};
 use std::alloc::Global;
+use std::slice::from_ref;
 
 /// The rules and the tree that tries are over.
-#[derive(Drop)]
 pub struct World {
     pub alloc: Global,
     pub rules: Rules,
     pub store: Store,
+}
+
+/// One call, where each exit that lets it go would else have a case for each field.
+impl Drop for World {
+    fn drop(self) {
+        let World {
+            alloc: _,
+            rules: _,
+            store: _,
+        } = self;
+    }
 }
 
 /// The world of the three files' texts.
@@ -53,8 +64,8 @@ fn rules(alloc: Global, grammar: &str, aspects: &str) -> Result<Rules, Failure>
     let classes = classes(alloc, grammar)?;
     // `len` says that the classes are a hierarchy.
     let _count = classes.len();
-    let files = aspect_files(alloc, aspects)?;
-    match build(alloc, classes, &files) {
+    let aspects = aspects_of(alloc, aspects)?;
+    match build(alloc, classes, from_ref(&aspects)) {
         Ok(rules) => Ok(rules),
         Err(RuleFault::Memory) => Err(Failure::Memory),
         Err(RuleFault::For(_)) => Err(Failure::Aspects),
@@ -62,7 +73,11 @@ fn rules(alloc: Global, grammar: &str, aspects: &str) -> Result<Rules, Failure>
 }
 
 fn classes(alloc: Global, text: &str) -> Result<ClassTable, Failure> {
-    let grammar = grammar(alloc, text)?;
+    let grammar = match parse_ast(alloc, text) {
+        Ok(grammar) => grammar,
+        Err(AstFault::Memory) => return Err(Failure::Memory),
+        Err(_) => return Err(Failure::Grammar),
+    };
     if !are_named(&grammar) {
         return Err(Failure::Grammar);
     }
@@ -70,26 +85,6 @@ fn classes(alloc: Global, text: &str) -> Result<ClassTable, Failure> {
         Ok(classes) => Ok(classes),
         Err(ClassFault::Memory) => Err(Failure::Memory),
         Err(_) => Err(Failure::Grammar),
-    }
-}
-
-fn grammar(alloc: Global, text: &str) -> Result<Grammar, Failure> {
-    match parse_ast(alloc, text) {
-        Ok(grammar) => Ok(grammar),
-        Err(AstFault::Memory) => Err(Failure::Memory),
-        Err(_) => Err(Failure::Grammar),
-    }
-}
-
-/// The aspects of the one file.
-fn aspect_files(alloc: Global, text: &str) -> Result<Vec<Vec<Aspect>>, Failure>
-    ensures { IfOk result (λ v. AreSpelled v.items) }
-{
-    let aspects = aspects_of(alloc, text)?;
-    let mut files = Vec::new(alloc);
-    match files.push(aspects) {
-        Ok(()) => Ok(files),
-        Err(_) => Err(Failure::Memory),
     }
 }
 

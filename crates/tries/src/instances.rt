@@ -1,10 +1,9 @@
 //! The instances and values that lines name. Their texts are those of a question and of a token in a session's lines,
 //! so they are read as such lines are.
 
-ghost use Rattle.std.specs.Prelude.{◌≡◌, ℕ, map, None, IfOk, IsSome, IsTrue};
+ghost use Rattle.std.specs.Prelude.{ℕ, map, IfOk, IsSome, IsTrue};
 ghost use Rattle.std.specs.List.{AllByRecursion};
 ghost use Rattle.at_model.specs.Instances.{AnyText};
-ghost use Rattle.at_model.specs.Bodies.{ref_of};
 ghost use Rattle.at_model.specs.Classes.{Classes};
 ghost use Rattle.at_model.specs.Lines.{IsCommand};
 ghost use Rattle.at_protocol.specs.LineView.{command_view};
@@ -21,8 +20,7 @@ use at_class::ClassId;
 use at_protocol::line::{Argument, Command, LineFault, Place, read_line};
 use at_rules::Kind;
 use at_store::Node;
-use at_tree::token::TokVal;
-use std::alloc::AllocError;
+use at_text::decimal::read_int;
 
 /// The instance that a place and a call name.
 ///
@@ -34,16 +32,17 @@ pub fn instance(world: &World, call: &str) -> Result<Inst, Refusal>
     requires { IsSound world.now }
     ensures { IfOk result (IsTyped world.now) }
 {
+    let command = command(world, "0 ask ", call, "")?;
     let Command::Ask {
         place,
         attribute,
         arguments,
-    } = command(world, "0 ask ", call, "")?
+    } = &*command
     else {
         return Err(Refusal::Line);
     };
-    let node = node(world, &place)?;
-    let values = values(world, &arguments)?;
+    let node = node(world, place)?;
+    let values = values(world, arguments)?;
     let class = world.store.class(node);
     let Some(attribute) = world.rules.attribute(class, attribute.as_str()) else {
         return Err(Refusal::Attribute);
@@ -66,15 +65,19 @@ pub fn value_for(world: &World, inst: &Inst, text: &str) -> Result<Value, Refusa
     Ok(value)
 }
 
-/// The value that the text names: that of a token, or else of an argument.
+/// The value that the text names: a number, a truth value, or what an argument names.
 fn value(world: &World, text: &str) -> Result<Value, Refusal>
     requires { IsSound world.now }
     ensures { IfOk result (λ v. RefersThere world.now (value_view v)) }
 {
-    if let Ok(Command::Token { value, .. }) = command(world, "0 token / v ", text, "") {
-        return Ok(token_value(&value)?);
+    if text == "true" || text == "false" {
+        return Ok(Value::Bool(text == "true"));
     }
-    let Command::Ask { arguments, .. } = command(world, "0 ask / v(", text, ")")? else {
+    if let Some(number) = read_int(text) {
+        return Ok(Value::Int(number));
+    }
+    let command = command(world, "0 ask / v(", text, ")")?;
+    let Command::Ask { arguments, .. } = &*command else {
         return Err(Refusal::Line);
     };
     match arguments.as_slice() {
@@ -83,22 +86,15 @@ fn value(world: &World, text: &str) -> Result<Value, Refusal>
     }
 }
 
-/// The value of a token, which refers to no node.
-fn token_value(token: &TokVal) -> Result<Value, AllocError>
-    ensures { IfOk result (λ v. ref_of (value_view v) ≡ None) }
-{
-    Value::of_token(token)
-}
-
-/// The command of a session's line that these texts make together.
-fn command(world: &World, front: &str, text: &str, back: &str) -> Result<Command, Refusal>
-    ensures { IfOk result (λ c. IsCommand (command_view c)) }
+/// The command of a session's line that these texts make together; in a box, which each exit lets go by one call.
+fn command(world: &World, front: &str, text: &str, back: &str) -> Result<Box<Command>, Refusal>
+    ensures { IfOk result (λ c. IsCommand (command_view c.value)) }
 {
     let mut line = String::from_str(world.alloc, front)?;
     line.push_str(text)?;
     line.push_str(back)?;
     match read_line(world.alloc, line.as_bytes()) {
-        Ok(line) => Ok(line.command),
+        Ok(line) => Ok(Box::new(world.alloc, line.command)?),
         Err(LineFault::Syntax { .. }) => Err(Refusal::Line),
         Err(LineFault::Memory { .. }) => Err(Refusal::Memory),
     }

@@ -12,7 +12,7 @@
 #![tactic(auto)]
 
 ghost use Rattle.std.specs.Prelude.{IfOk};
-ghost use Rattle.tries.specs.Worlds.{AreSound, IsSound};
+ghost use Rattle.tries.specs.Worlds.{AreSound, IsSound, IsTyped};
 
 mod failure;
 mod files;
@@ -23,7 +23,7 @@ mod refusal;
 mod rounds;
 mod texts;
 
-use at_body::{Reads, try_body};
+use at_body::{Inst, Reads, try_body};
 use failure::Failure;
 use files::{World, load};
 use instances::{instance, value_for};
@@ -42,7 +42,7 @@ fn main(rt: HostRuntime) -> ExitCode {
     match serve(&rt) {
         Ok(()) => ExitCode::SUCCESS,
         Err(failure) => {
-            let _ = rt.eprintln(failure.text());
+            let _ = eprintln!(rt; "{failure}");
             ExitCode::from(failure.status())
         }
     }
@@ -66,33 +66,35 @@ fn serve(rt: &HostRuntime) -> Result<(), Failure> {
 fn world_of_words(rt: &HostRuntime) -> Result<World, Failure>
     ensures { IfOk result IsSound }
 {
+    let texts = texts_of_words(rt)?;
+    match texts.as_slice() {
+        [grammar, aspects, tree] => load(
+            rt.alloc(),
+            grammar.as_str(),
+            aspects.as_str(),
+            tree.as_str(),
+        ),
+        _ => Err(Failure::Words),
+    }
+}
+
+/// The texts of the three files that the words name.
+fn texts_of_words(rt: &HostRuntime) -> Result<Vec<String>, Failure> {
     let Ok(mut words) = env::args(rt) else {
         return Err(Failure::Words);
     };
     let _program = words.next();
-    let grammar = file(rt, words.next())?;
-    let aspects = file(rt, words.next())?;
-    let tree = file(rt, words.next())?;
-    if words.next().is_some() {
-        return Err(Failure::Words);
+    let mut texts = Vec::new(rt.alloc());
+    for word in words {
+        if texts.len() == 3 {
+            return Err(Failure::Words);
+        }
+        match fs::read_to_string(rt, word.as_str()) {
+            Ok(text) => texts.push(text)?,
+            Err(_) => return Err(Failure::Read),
+        }
     }
-    load(
-        rt.alloc(),
-        grammar.as_str(),
-        aspects.as_str(),
-        tree.as_str(),
-    )
-}
-
-/// The text of the file that the word names.
-fn file(rt: &HostRuntime, word: Option<String>) -> Result<String, Failure> {
-    let Some(name) = word else {
-        return Err(Failure::Words);
-    };
-    match fs::read_to_string(rt, name.as_str()) {
-        Ok(text) => Ok(text),
-        Err(_) => Err(Failure::Read),
-    }
+    Ok(texts)
 }
 
 /// The answers to the lines, each with a newline; none to an empty one.
@@ -132,20 +134,19 @@ fn answer(world: &World, known: &mut Values, line: &[u8], out: &mut Vec<u8>) -> 
     let Ok(line) = std::str::from_utf8(line) else {
         return Err(Refusal::Line);
     };
-    if let Some(call) = line.strip_prefix("try ") {
-        return told(world, known, call, out);
-    }
-    if let Some(task) = line.strip_prefix("trial ") {
-        return tell_last(world, Way::Trial, task, out);
-    }
-    if let Some(task) = line.strip_prefix("plain ") {
-        return tell_last(world, Way::Plain, task, out);
-    }
-    let Some(fact) = line.strip_prefix("know ") else {
+    let Some((word, rest)) = line.split_once(' ') else {
         return Err(Refusal::Line);
     };
-    learn(world, known, fact)?;
-    Ok(out.extend_from_slice(b"known")?)
+    match word {
+        "try" => told(world, known, rest, out),
+        "know" => {
+            learn(world, known, rest)?;
+            Ok(out.extend_from_slice(b"known")?)
+        }
+        "trial" => tell_last(world, Way::Trial, rest, out),
+        "plain" => tell_last(world, Way::Plain, rest, out),
+        _ => Err(Refusal::Line),
+    }
 }
 
 /// Appends what a try of the instance comes to, and the locations that it looks at.
@@ -155,16 +156,24 @@ fn told(world: &World, known: &Values, call: &str, out: &mut Vec<u8>) -> Result<
 {
     let inst = instance(world, call)?;
     let mut reads = Reads::new(world.alloc);
-    let found = try_body(
-        world.alloc,
-        &world.rules,
-        &world.store,
-        &inst,
-        known,
-        &mut reads,
-    )?;
-    write_found(world, &found, out)?;
+    told_of(world, known, &inst, &mut reads, out)?;
     Ok(write_locations(world, reads.as_slice(), out)?)
+}
+
+/// Appends what a try of the instance comes to. The reads gain the locations that it looks at.
+fn told_of(
+    world: &World,
+    known: &Values,
+    inst: &Inst,
+    reads: &mut Reads,
+    out: &mut Vec<u8>,
+) -> Result<(), AllocError>
+    requires sound { IsSound world.now }
+    requires typed { IsTyped world.now inst.now }
+    requires known { AreSound world.now known.now }
+{
+    let found = try_body(world.alloc, &world.rules, &world.store, inst, known, reads)?;
+    write_found(world, &found, out)
 }
 
 /// Notes the value of an instance, by the text behind `know`. The last ` = ` stands in front of the value.

@@ -10,13 +10,6 @@ use at_body::{Inst, Value};
 use at_rules::{Body, Operator, Order};
 use at_store::Node;
 
-/// Where an expression stands.
-#[derive(Drop)]
-struct Place {
-    this: Node,
-    bound: Vec<Node>,
-}
-
 /// What the own equation of an instance comes to.
 ///
 /// # Errors
@@ -31,49 +24,50 @@ pub fn plain(world: &World, inst: &Inst) -> Result<Value, Refusal>
     let Some(body) = world.rules.own_body(class, inst.attribute()) else {
         return Err(Refusal::NoValue);
     };
-    let mut place = Place {
-        this,
-        bound: Vec::new(world.alloc),
-    };
-    value_of(body, world, &mut place)
+    let mut bound = Vec::new(world.alloc);
+    value_of(body, world, this, &mut bound)
 }
 
-/// The value of an expression.
-fn value_of(body: &Body, world: &World, place: &mut Place) -> Result<Value, Refusal>
+/// The value of an expression that stands at a node, below folds whose elements are bound. What a part comes to is passed
+/// on as it is, so that no exit has a value to let go.
+fn value_of(body: &Body, world: &World, this: Node, bound: &mut Vec<Node>) -> Result<Value, Refusal>
     requires { IsSound world.now }
 {
     match body {
         Body::Int(n) => Ok(Value::Int(*n)),
         Body::Truth(b) => Ok(Value::Bool(*b)),
         Body::Null => Ok(Value::Ref(None)),
-        Body::This => Ok(Value::Ref(Some(place.this))),
-        Body::Name(position) => Ok(Value::Ref(bound(place, *position))),
+        Body::This => Ok(Value::Ref(Some(this))),
+        Body::Name(position) => Ok(Value::Ref(bound_at(bound, *position))),
         Body::Negate(a) => {
-            let number = int_of(&value_of(a, world, place)?)?;
+            let number = int_of(value_of(a, world, this, bound))?;
             Ok(Value::Int(number.wrapping_neg()))
         }
-        Body::Not(a) => Ok(Value::Bool(!truth_of(&value_of(a, world, place)?)?)),
+        Body::Not(a) => Ok(Value::Bool(!truth_of(value_of(a, world, this, bound))?)),
         Body::Arithmetic(operator, a, b) => {
-            let left = int_of(&value_of(a, world, place)?)?;
-            computed(*operator, left, int_of(&value_of(b, world, place)?)?)
+            let left = int_of(value_of(a, world, this, bound))?;
+            computed(*operator, left, int_of(value_of(b, world, this, bound))?)
         }
         Body::Compare(order, a, b) => {
-            let left = int_of(&value_of(a, world, place)?)?;
-            Ok(holds(*order, left, int_of(&value_of(b, world, place)?)?))
+            let left = int_of(value_of(a, world, this, bound))?;
+            Ok(holds(*order, left, int_of(value_of(b, world, this, bound))?))
         }
-        Body::Choose(test, yes, no) => match truth_of(&value_of(test, world, place)?)? {
-            true => value_of(yes, world, place),
-            false => value_of(no, world, place),
+        Body::Choose(test, yes, no) => match truth_of(value_of(test, world, this, bound))? {
+            true => value_of(yes, world, this, bound),
+            false => value_of(no, world, this, bound),
         },
-        Body::Child(a, part) => child(world, node_of(&value_of(a, world, place)?)?, *part),
-        Body::TokenOf(a, part) => token(world, node_of(&value_of(a, world, place)?)?, *part),
+        Body::Child(a, part) => child(world, node_of(value_of(a, world, this, bound))?, *part),
+        Body::TokenOf(a, part) => {
+            let node = node_of(value_of(a, world, this, bound))?;
+            Ok(Value::of_token(world.store.token(node, *part))?)
+        }
         Body::Sum(a, part, b) => {
-            let node = node_of(&value_of(a, world, place)?)?;
+            let node = node_of(value_of(a, world, this, bound))?;
             let mut total = 0_i32;
-            for element in elements(world, node, *part)? {
-                place.bound.push(*element)?;
-                total = total.wrapping_add(int_of(&value_of(b, world, place)?)?);
-                let _ = place.bound.pop();
+            for element in world.store.children(node, *part) {
+                bound.push(*element)?;
+                total = total.wrapping_add(int_of(value_of(b, world, this, bound))?);
+                let _ = bound.pop();
             }
             Ok(Value::Int(total))
         }
@@ -82,32 +76,35 @@ fn value_of(body: &Body, world: &World, place: &mut Place) -> Result<Value, Refu
 }
 
 /// The int that the value is.
-fn int_of(value: &Value) -> Result<i32, Refusal> {
-    match value {
-        Value::Int(number) => Ok(*number),
+#[inline(always)]
+fn int_of(value: Result<Value, Refusal>) -> Result<i32, Refusal> {
+    match value? {
+        Value::Int(number) => Ok(number),
         _ => Err(Refusal::NoValue),
     }
 }
 
 /// The truth value that the value is.
-fn truth_of(value: &Value) -> Result<bool, Refusal> {
-    match value {
-        Value::Bool(truth) => Ok(*truth),
+#[inline(always)]
+fn truth_of(value: Result<Value, Refusal>) -> Result<bool, Refusal> {
+    match value? {
+        Value::Bool(truth) => Ok(truth),
         _ => Err(Refusal::NoValue),
     }
 }
 
-/// The node that the value is; none for null.
-fn node_of(value: &Value) -> Result<Option<Node>, Refusal> {
-    match value {
-        Value::Ref(node) => Ok(*node),
+/// The node that the value is.
+#[inline(always)]
+fn node_of(value: Result<Value, Refusal>) -> Result<Node, Refusal> {
+    match value? {
+        Value::Ref(Some(node)) => Ok(node),
         _ => Err(Refusal::NoValue),
     }
 }
 
 /// The node of a fold's name.
-fn bound(place: &Place, position: usize) -> Option<Node> {
-    place.bound.iter().rev().nth(position).copied()
+fn bound_at(bound: &[Node], position: usize) -> Option<Node> {
+    bound.iter().rev().nth(position).copied()
 }
 
 /// What an operator gives.
@@ -138,34 +135,11 @@ fn holds(order: Order, left: i32, right: i32) -> Value {
 }
 
 /// The child in a component.
-fn child(world: &World, node: Option<Node>, part: usize) -> Result<Value, Refusal>
+fn child(world: &World, node: Node, part: usize) -> Result<Value, Refusal>
     requires { IsSound world.now }
 {
-    let Some(node) = node else {
-        return Err(Refusal::NoValue);
-    };
     match world.store.child(node, part) {
         Some(child) => Ok(Value::Ref(Some(child))),
-        None => Err(Refusal::NoValue),
-    }
-}
-
-/// The token in a component.
-fn token(world: &World, node: Option<Node>, part: usize) -> Result<Value, Refusal>
-    requires { IsSound world.now }
-{
-    match node {
-        Some(node) => Ok(Value::of_token(world.store.token(node, part))?),
-        None => Err(Refusal::NoValue),
-    }
-}
-
-/// The children in a component.
-fn elements<'a>(world: &'a World, node: Option<Node>, part: usize) -> Result<&'a [Node], Refusal>
-    requires { IsSound world.now }
-{
-    match node {
-        Some(node) => Ok(world.store.children(node, part)),
         None => Err(Refusal::NoValue),
     }
 }

@@ -45,19 +45,19 @@ fn last(world: &World, way: Way, rounds: u32, inst: &Inst) -> Result<Value, Refu
 {
     let mut value = Value::default();
     for _ in 0..rounds {
-        value = match way {
-            Way::Trial => by_trial(world, inst)?,
-            Way::Plain => plain(world, inst)?,
-        };
+        value = once(world, way, inst)?;
     }
     Ok(value)
 }
 
-/// The value that a trial comes to by itself.
-fn by_trial(world: &World, inst: &Inst) -> Result<Value, Refusal>
+/// The value of one evaluation, where it comes to one by itself.
+fn once(world: &World, way: Way, inst: &Inst) -> Result<Value, Refusal>
     requires sound { IsSound world.now }
     requires typed { IsTyped world.now inst.now }
 {
+    if let Way::Plain = way {
+        return plain(world, inst);
+    }
     let (_, step) = Trial::start(world.alloc, &world.rules, &world.store, inst)?;
     match step {
         Step::Value(value) => Ok(value),

@@ -90,7 +90,9 @@ pub fn write_locations(world: &World, reads: &[Loc], out: &mut Vec<u8>) -> Resul
 {
     let mut texts = BTreeSet::new(world.alloc);
     for loc in reads {
-        texts.insert(location_text(world, loc)?)?;
+        let mut text = Vec::new(world.alloc);
+        write_location(world, loc, &mut text)?;
+        texts.insert(text)?;
     }
     for text in &texts {
         out.extend_from_slice(b"; ")?;
@@ -99,7 +101,8 @@ pub fn write_locations(world: &World, reads: &[Loc], out: &mut Vec<u8>) -> Resul
     Ok(())
 }
 
-fn location_text(world: &World, loc: &Loc) -> Result<Vec<u8>, AllocError>
+/// Appends the text of a location.
+fn write_location(world: &World, loc: &Loc, out: &mut Vec<u8>) -> Result<(), AllocError>
     requires { IsSound world.now }
 {
     let (word, part) = match loc {
@@ -109,13 +112,13 @@ fn location_text(world: &World, loc: &Loc) -> Result<Vec<u8>, AllocError>
         Loc::Up(_) => ("up ", None),
         Loc::Idx(_) => ("index ", None),
     };
-    let mut text = Vec::from_slice(world.alloc, word.as_bytes())?;
-    write_node(world, loc.node(), &mut text)?;
+    out.extend_from_slice(word.as_bytes())?;
+    write_node(world, loc.node(), out)?;
     if let Some(part) = part {
-        text.push(b' ')?;
-        text.extend_from_slice(part_name(world, loc.node(), part).as_bytes())?;
+        out.push(b' ')?;
+        out.extend_from_slice(part_name(world, loc.node(), part).as_bytes())?;
     }
-    Ok(text)
+    Ok(())
 }
 
 /// The name of the component of the node's class at that position; a question mark where there is none.

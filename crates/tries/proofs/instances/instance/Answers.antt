@@ -17,7 +17,7 @@ use Rattle.tries.proofs.instances.instance.Goals as goal
 pub returns : goal.returns
 returns c =
     let w = c.args.world.now in
-    let asked = subst (λ (x : Command). IsCommand (command_view x)) c.in-Ask.is c.in_ok-place.ensures in
+    let asked = subst (λ (x : Command). IsCommand (command_view x)) (sym c.deref.ensures ∙ c.in-Ask.is) c.in_ok-command.ensures in
     let is_name = subst IsName (sym c.as_str.ensures.value) asked.1 in
     let there = class_of_there w.store c.in_ok-node.node c.in_ok-node.ensures ∙ ap Some (sym c.class-class.ensures) in
     let named = sym (c.in-Some.ensures.named (name_filled c.as_str.result.now is_name.0)) in
