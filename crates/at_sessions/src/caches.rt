@@ -5,53 +5,8 @@ use at_body::{Arguments, Inst, Value};
 use at_cache::{KeepNone, KeepRecorded, KeepUntilEdit, Keeper};
 use at_rules::AttrId;
 use at_store::{Loc, Node};
-use indexmap::IndexMap;
 use std::alloc::{AllocError, Global};
 use std::test::Fail;
-
-/// Keeps with each entry a flat list of all its locations, each once.
-#[derive(Drop)]
-struct Flat {
-    alloc: Global,
-    entries: IndexMap<Inst, Vec<Loc>>,
-}
-
-impl Flat {
-    fn put(&mut self, inst: Inst, reads: &[Loc], uses: &[Inst]) -> Result<(), AllocError> {
-        let mut locations = Vec::new(self.alloc);
-        add(&mut locations, reads)?;
-        for used in uses {
-            if let Some(more) = self.entries.get(used) {
-                add(&mut locations, more.as_slice())?;
-            }
-        }
-        self.entries.insert(inst, locations)?;
-        Ok(())
-    }
-
-    fn flush(&mut self, touched: Loc) {
-        self.entries
-            .retain(|_inst, locations| !locations.contains(&touched));
-    }
-
-    fn stored(&self) -> usize {
-        let mut count: usize = 0;
-        for locations in self.entries.values() {
-            count = count.saturating_add(locations.len());
-        }
-        count
-    }
-}
-
-/// Adds those that aren't there yet.
-fn add(locations: &mut Vec<Loc>, more: &[Loc]) -> Result<(), AllocError> {
-    for location in more {
-        if !locations.contains(location) {
-            locations.push(*location)?;
-        }
-    }
-    Ok(())
-}
 
 /// The first attribute of that node.
 fn inst(alloc: Global, node: usize) -> Inst {
@@ -107,55 +62,43 @@ fn recorded(alloc: Global, graph: &[&[usize]]) -> Result<KeepRecorded, AllocErro
     Ok(keeper)
 }
 
-/// The same, kept flat.
-fn copied(alloc: Global, graph: &[&[usize]]) -> Result<Flat, AllocError> {
-    let mut keeper = Flat {
-        alloc,
-        entries: IndexMap::new(alloc),
-    };
-    for (node, uses) in graph.iter().enumerate() {
-        let uses = insts(alloc, uses)?;
-        keeper.put(inst(alloc, node), &[own(node)], uses.as_slice())?;
-    }
-    Ok(keeper)
-}
-
-/// How many entries a flush of that node's location leaves, where it leaves the same of both.
-fn left_of(alloc: Global, graph: &[&[usize]], touched: usize) -> Result<Option<usize>, AllocError> {
-    let mut linked = recorded(alloc, graph)?;
-    let mut flat = copied(alloc, graph)?;
-    linked.flush(&|location: Loc| location == own(touched));
-    flat.flush(own(touched));
+/// How many entries a flush of that node's location leaves.
+fn left_of(alloc: Global, graph: &[&[usize]], touched: usize) -> Result<usize, AllocError> {
+    let mut keeper = recorded(alloc, graph)?;
+    keeper.flush(&|location: Loc| location == own(touched));
     let mut left: usize = 0;
     for node in 0..graph.len() {
-        let key = inst(alloc, node);
-        let is_kept = linked.get(&key).is_some();
-        if is_kept != flat.entries.contains_key(&key) {
-            return Ok(None);
-        }
+        let is_kept = keeper.get(&inst(alloc, node)).is_some();
         left = left.saturating_add(usize::from(is_kept));
     }
-    Ok(Some(left))
+    Ok(left)
 }
 
-#[test]
-fn flushes_a_chain(rt: HostRuntime) -> Result<(), Fail> {
-    let chain: [&[usize]; 3] = [&[], &[0], &[1]];
-    assert_eq!(rt; recorded(rt.alloc(), &chain)?.stored(), 3);
-    assert_eq!(rt; copied(rt.alloc(), &chain)?.stored(), 6);
-    for (touched, left) in [(0, 0), (1, 1), (2, 2)] {
-        assert_eq!(rt; left_of(rt.alloc(), &chain, touched)?, Some(left));
-    }
-    Ok(())
+/// What each entry uses, and for each how many entries a flush of its location leaves.
+struct Graph {
+    uses: &'static [&'static [usize]],
+    left: &'static [usize],
 }
 
+const GRAPHS: &[Graph] = &[
+    Graph {
+        uses: &[&[], &[0], &[1]],
+        left: &[0, 1, 2],
+    },
+    Graph {
+        uses: &[&[], &[0], &[0], &[1, 2]],
+        left: &[0, 2, 2, 3],
+    },
+];
+
 #[test]
-fn flushes_a_diamond(rt: HostRuntime) -> Result<(), Fail> {
-    let diamond: [&[usize]; 4] = [&[], &[0], &[0], &[1, 2]];
-    assert_eq!(rt; recorded(rt.alloc(), &diamond)?.stored(), 4);
-    assert_eq!(rt; copied(rt.alloc(), &diamond)?.stored(), 9);
-    for (touched, left) in [(0, 0), (1, 2), (2, 2), (3, 3)] {
-        assert_eq!(rt; left_of(rt.alloc(), &diamond, touched)?, Some(left));
+fn what_uses_an_entry_goes_with_it(rt: HostRuntime) -> Result<(), Fail> {
+    for graph in GRAPHS {
+        let stored = recorded(rt.alloc(), graph.uses)?.stored();
+        assert_eq!(rt; stored, graph.uses.len());
+        for (touched, left) in graph.left.iter().enumerate() {
+            assert_eq!(rt; left_of(rt.alloc(), graph.uses, touched)?, *left);
+        }
     }
     Ok(())
 }
