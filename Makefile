@@ -10,11 +10,11 @@ PAGES := docs/MANUAL.md docs/EDGES.md docs/REFUSALS.md docs/TUTORIAL.md samples/
 run: build
 	@cd $(SAMPLE) && ../../../attrd calc.ast tree.txt calc.jrag < session
 
-# The gate: every proof from nothing, the must-fail edits, the tests, the programs; and then, on the programs that
+# The gate: every proof from nothing, the tests, the programs, the must-fail edits; and then, on the programs that
 # were proved, a session with each request for memory refused in turn, the words of the command line and real sockets, and
 # the examples of the manual, the tutorial, the samples and single tries.
 test: tools python
-	rt ci
+	@python3 tools/gate.py
 	@python3 tools/starve.py crates/starve/out/starve
 	@python3 tools/program.py crates/attrd/out/attrd
 	@python3 tools/examples.py --program crates/attrd/out/attrd --tries crates/tries/out/tries $(PAGES) docs/TRIES.md

@@ -1,0 +1,91 @@
+#!/usr/bin/env python3
+"""The gate's proofs: `rt ci`, and the wrong bodies that the prover has to refuse.
+
+    tools/gate.py
+
+Run it at the top of the repository. `rt ci` proves each crate from nothing, with its tests, builds each program by two compilers
+and runs it, in a copy of the repository that has no edits, since it would check each crate that has some once more from nothing. The edits of
+a crate are tried as soon as it is proved (`tools/refused.py`). The proved programs are left in crates/NAME/out. The last
+line tells what passed; status 1 where anything failed.
+"""
+import os
+import re
+import resource
+import shutil
+import subprocess
+import sys
+import tempfile
+import threading
+from concurrent.futures import ThreadPoolExecutor
+from pathlib import Path
+
+sys.dont_write_bytecode = True
+import refused
+
+
+def copied(room):
+    """Copies what git tracks, or would, into the folder, but for the edits."""
+    names = subprocess.run(["git", "ls-files", "-z", "--cached", "--others", "--exclude-standard"], capture_output=True, check=True)
+    for name in filter(None, os.fsdecode(names.stdout).split("\0")):
+        if Path(name).is_file() and not re.match(r"crates/\w+/must-fail/", name):
+            (room / name).parent.mkdir(parents=True, exist_ok=True)
+            shutil.copy2(name, room / name)
+
+
+def tried_in(lanes, *trial):
+    with lanes:
+        lines = refused.tried(*trial)
+    print("\n".join(line for _, line in lines), flush=True)
+    return lines
+
+
+def proved_in(room, pool, lanes):
+    """Runs `rt ci` in the folder and prints what it tells. Gives its status, and the trials of edits, begun as crates were proved."""
+    proved, trials, begun = refused.Proved(room, ""), [], set()
+
+    def begin(crate):
+        begun.add(crate)
+        for edits, texts in refused.rounds_of(crate, refused.edits_of(crate)):
+            trials.append(pool.submit(tried_in, lanes, proved, crate, edits, texts))
+
+    ran = subprocess.Popen(["rt", "ci"], cwd=room, stdout=subprocess.PIPE, stderr=subprocess.STDOUT, text=True, errors="replace")
+    for line in ran.stdout:
+        print(line, end="", flush=True)
+        proved.hear(line)
+        crate = re.match(r"rt: (\w+) proved$", line)
+        if crate:
+            begin(crate[1])
+    status = ran.wait()
+    # a kit that takes up earlier proofs may tell of them in other words
+    for crate in proved.uses if status == 0 else []:
+        if crate not in begun:
+            begin(crate)
+    return status, trials
+
+
+def main():
+    sys.stdout.reconfigure(line_buffering=True)
+    wanted = sum(len(refused.edits_of(it.name)) for it in Path("crates").iterdir())
+    # edits have half of the processors while rt ci goes on, and then all
+    processors = len(os.sched_getaffinity(0))
+    lanes = threading.Semaphore(max(1, processors // 2))
+    with tempfile.TemporaryDirectory(prefix="attrd-gate-") as room, ThreadPoolExecutor(processors) as pool:
+        room = Path(room)
+        copied(room)
+        status, trials = proved_in(room, pool, lanes)
+        lanes.release(processors - processors // 2)
+        lines = [it for trial in trials for it in trial.result()]
+        for root in Path("crates").glob("*/src/main.rt"):
+            made = Path("crates", root.parts[1], "out", root.parts[1])
+            made.parent.mkdir(exist_ok=True)
+            if (room / made).exists():
+                shutil.copy2(room / made, made)
+    spent = resource.getrusage(resource.RUSAGE_CHILDREN)
+    well = sum(is_well for is_well, _ in lines)
+    print(f"rt ci: {'passed' if status == 0 else 'FAILED'}; processor time: {(spent.ru_utime + spent.ru_stime) / 60:.0f} minutes")
+    print(f"{well} passed, {wanted - well + (status != 0)} failed")
+    return 0 if status == 0 and well == wanted else 1
+
+
+if __name__ == "__main__":
+    sys.exit(main())

@@ -1,0 +1,223 @@
+#!/usr/bin/env python3
+"""Tries wrong bodies, the edits crates/NAME/must-fail/*.edit, on the prover, which has to refuse each.
+
+    tools/refused.py [--control] [--lanes N] PRINTED [NAME...]
+
+The folder that it runs in is a repository whose libraries `rt ci` has proved and left in crates/NAME/out/rlib, and PRINTED is
+a file with what that run printed. The edits of all crates are tried, or of those named.
+
+An edit's line `refused:` names the function that has to be refused. All edits of a crate are made in one copy of it, and the
+prover checks the functions that they turn, over the contracts of what these call. Those were proved from nothing a moment ago;
+so in the copy their proofs are left open, and what the prover says of each turned function is of its own goals alone. An
+edit is refused where one of these can't be proved; that it calls what isn't proved doesn't count, and neither does a name
+that a proof file misses.
+
+With --control no edit is made, and none of the functions may be refused. `rt must-fail NAME` tries the same edits one by one,
+each over a whole check of the crate, which takes ten times as long.
+"""
+import argparse
+import re
+import shutil
+import subprocess
+import sys
+import tempfile
+from concurrent.futures import ThreadPoolExecutor
+from dataclasses import dataclass, field
+from pathlib import Path
+
+PARTS = ("src", "specs", "proofs")
+# What a proof file says where the edit took a name away, which tells nothing of the contract.
+NAME_MISSED = re.compile(r"has no field|is not in scope|has no `|is no name|operand is missing|was not admitted")
+MEMBERS = r"#\[cycle\({}\)\](?:\s*#\[[^\n]*\])*\s*(?:pub(?:\(\w+\))? )?fn (\w+)"
+HOLE = "use {module}{of}.{{statement}}\n\npub {name}_spec : {{M : Type 1}} → statement M\n{name}_spec = ?\n"
+
+
+@dataclass
+class Edit:
+    """One wrong body: the function that has to be refused, and the texts that are exchanged."""
+
+    name: str
+    refused: str = ""
+    pairs: list = field(default_factory=list)
+
+    def turns_code(self):
+        return all(path.startswith("src/") for path, _, _ in self.pairs)
+
+    def made_in(self, texts):
+        """The files' texts with the edit made, or None where an old text doesn't stand there just once."""
+        texts = dict(texts)
+        for path, old, new in self.pairs:
+            if texts[path].count(old) != 1:
+                return None
+            texts[path] = texts[path].replace(old, new)
+        return texts
+
+
+def read_edit(file):
+    edit, path, old = Edit(file.stem), "", ""
+    for line in file.read_text(encoding="utf-8").splitlines():
+        word, _, rest = line.partition(":")
+        rest = rest.removeprefix(" ")
+        if word == "refused":
+            edit.refused = rest.strip()
+        elif word == "file":
+            path = rest.strip()
+        elif word == "old":
+            old = rest
+        elif word == "new":
+            edit.pairs.append((path, old, rest))
+    return edit
+
+
+def edits_of(crate):
+    return [read_edit(it) for it in sorted(Path("crates", crate, "must-fail").glob("*.edit"))]
+
+
+def rounds_of(crate, edits):
+    """Edits that are tried together, with the files' texts: no two of one function, and one of a definition by itself, since
+    it turns all that stands on it. An edit that can't be made stands alone, with no texts."""
+    rounds = []
+    for edit in edits:
+        plain = {path: Path("crates", crate, path).read_text(encoding="utf-8") for path, _, _ in edit.pairs}
+        alone = edit.made_in(plain)
+        for tried, texts in rounds if alone and edit.refused and edit.turns_code() else []:
+            apart = texts and all(it.turns_code() and it.refused != edit.refused for it in tried)
+            made = apart and edit.made_in({**plain, **texts})
+            if made:
+                tried.append(edit)
+                texts.update(made)
+                break
+        else:
+            rounds.append(([edit], alone))
+    return rounds
+
+
+def leave_open(folder, of):
+    """Puts a hole in place of the proof in the folder, which is a function's or that of a cycle of calls."""
+    for file in ("Answers.antt", "Invariants.antt"):
+        (folder / file).unlink(missing_ok=True)
+    folder.mkdir(parents=True, exist_ok=True)
+    (folder / "Proof.antt").write_text(HOLE.format(**of), encoding="utf-8")
+
+
+def cycles_of(folder):
+    """The folders of proofs of cycles of calls, each with the names of its functions."""
+    code = "".join(it.read_text(encoding="utf-8") for it in (folder / "src").rglob("*.rt"))
+    found = [it for it in (folder / "proofs").rglob("+*") if it.is_dir()]
+    return {it: {it.name[1:], *re.findall(MEMBERS.format(it.name[1:]), code)} for it in found}
+
+
+class Proved:
+    """A repository whose libraries are proved: what its crates use, and which functions `rt ci` told as proved."""
+
+    def __init__(self, root, printed):
+        doc = subprocess.run(["rt", "doc"], capture_output=True, text=True, check=True)
+        self.root, self.kit = Path(root).absolute(), Path(doc.stdout.strip()).parent
+        lines = (self.root / "crates.txt").read_text(encoding="utf-8").splitlines()
+        named = [it.partition(":") for it in lines if it and not it.startswith("#")]
+        self.uses = {name: rest.split() for name, _, rest in named}
+        self.functions = {name: [] for name in self.uses}
+        self.hear(printed)
+
+    def hear(self, printed):
+        for crate, function in re.findall(r"^fn (\w+)::(\S+): proved$", printed, re.M):
+            self.functions.setdefault(crate, []).append(function)
+
+    def words(self, crate):
+        """The words of a check of the crate over the libraries below it."""
+        main = Path("crates", crate, "src/main.rt").exists()
+        words = [self.kit / "bin/rattle", "check", "--crate-name", crate, f"src/{'main' if main else 'lib'}.rt", "--jobs", "1"]
+        for name in ["std", *self.uses[crate]]:
+            own = self.root / "crates" / name / "out/rlib"
+            folder = own if name in self.uses else self.kit / "rlibs"
+            words += ["--extern", f"{name}={folder}/{name}.rlib", "-L", f"dependency={folder}"]
+        words += ["-L", f"dependency={self.kit}/rlibs", "--antt-project", self.kit / "rattle/logic/antt-project.json"]
+        return [*words, "--logic-built", self.kit / "logic_built", "--links", f"{crate}="]
+
+    def leave_others_open(self, room, crate, tried):
+        """Leaves open what was proved, but for the functions tried, and closures and what lets a value go, which have no folder."""
+        proofs, cycles = ["Rattle", crate, "proofs"], cycles_of(room)
+        names = {it.split("::")[-1] for it in tried}
+        for folder, members in cycles.items():
+            if not names & members:
+                module = ".".join([*proofs, *folder.relative_to(room / "proofs").parts])
+                leave_open(folder, {"module": module, "of": "", "name": folder.name})
+        in_cycles = {it for members in cycles.values() for it in members}
+        for function in self.functions[crate]:
+            *path, name = function.split("::")
+            if function not in tried and name not in in_cycles and "+" not in function and "fn" not in path:
+                module = ".".join([*proofs, *path, name])
+                leave_open(room.joinpath("proofs", *path, name), {"module": module, "of": ".Statement", "name": name})
+
+    def told(self, crate, edits, texts):
+        """What the prover says of the edits' functions in a copy of the crate with these texts."""
+        functions = [it.refused for it in edits]
+        with tempfile.TemporaryDirectory(prefix="attrd-refused-") as room:
+            room = Path(room)
+            for part in PARTS:
+                if Path("crates", crate, part).is_dir():
+                    shutil.copytree(Path("crates", crate, part), room / part)
+            for path, text in texts.items():
+                (room / path).write_text(text, encoding="utf-8")
+            if all(it.turns_code() for it in edits):
+                self.leave_others_open(room, crate, functions)
+            words = [*self.words(crate), "--allow-holes", *(word for it in functions for word in ("--only", it))]
+            how = {"stdin": subprocess.DEVNULL, "stdout": subprocess.PIPE, "stderr": subprocess.STDOUT}
+            # what rt ci proves meanwhile comes first
+            ran = subprocess.run(["nice", *words], cwd=room, text=True, errors="replace", **how)
+        return ran.stdout
+
+
+def verdict(crate, edit, said):
+    """Whether the function is refused for a goal of its own, and what was said of it."""
+    found = re.search(rf"^fn {crate}::{re.escape(edit.refused)}: (.*)$", said, re.M)
+    if not found:
+        errors = re.findall(r"^.*\berror\b.*$", said, re.M)
+        return False, f"nothing is said of {edit.refused}: {' | '.join(errors[:3])[:400]}"
+    goals = re.findall(r"`search` did not prove (`[^`]*`)", found[1])
+    if goals:
+        return True, f"{goals[0]} isn't proved"
+    # the answers of the function, or of the cycle of calls that it is in; where a definition is turned, whatever stands on it
+    path = re.escape(edit.refused.replace("::", "."))
+    own = re.findall(rf"`Rattle\.{crate}\.proofs\.((?:{path}|[^`]*\+\w+)\.\w+)\.[^`.]*`", found[1])
+    places = [re.escape(f"proofs/{it.replace('.', '/')}.antt") for it in own] if edit.turns_code() else [r"proofs/\S+"]
+    errors = [it for place in places for it in re.findall(rf"^(?:\./)?{place}:\S+: error: (.*)$", said, re.M)]
+    errors = [it for it in errors if not NAME_MISSED.search(it)]
+    if errors and found[1].startswith("not proved"):
+        return True, errors[0][:160]
+    return False, found[1][:400]
+
+
+def tried(proved, crate, edits, texts, control=False):
+    """Of each edit of a round whether all is well with it, and a line."""
+    if texts is None:
+        return [(False, f"must-fail {crate}/{it.name}: BAD EDIT: an old text doesn't stand just once in its file") for it in edits]
+    said = proved.told(crate, edits, {} if control else texts)
+    lines = []
+    for it in edits:
+        refused, why = verdict(crate, it, said)
+        lines.append((refused != control, f"must-fail {crate}/{it.name}: {'refused' if refused else 'NOT REFUSED'}: {why}"))
+    return lines
+
+
+def main():
+    words = argparse.ArgumentParser(description="Tries wrong bodies on the prover, which has to refuse each.")
+    words.add_argument("--control", action="store_true", help="make no edit: none of the functions may be refused")
+    words.add_argument("--lanes", type=int, default=1, help="how many checks run side by side (1)")
+    words.add_argument("printed", metavar="PRINTED", type=Path, help="what rt ci printed")
+    words.add_argument("crates", metavar="NAME", nargs="*")
+    given = words.parse_args()
+    proved = Proved(".", given.printed.read_text(encoding="utf-8"))
+    rounds = [(crate, *it) for crate in given.crates or proved.uses for it in rounds_of(crate, edits_of(crate))]
+    well = []
+    with ThreadPoolExecutor(given.lanes) as pool:
+        for lines in pool.map(lambda it: tried(proved, *it, given.control), rounds):
+            for is_well, line in lines:
+                print(line, flush=True)
+                well.append(is_well)
+    print(f"{sum(well)} passed, {len(well) - sum(well)} failed")
+    return 0 if all(well) else 1
+
+
+if __name__ == "__main__":
+    sys.exit(main())
