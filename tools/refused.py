@@ -8,7 +8,7 @@ a file with what that run printed. The edits of all crates are tried, or of thos
 
 An edit's line `refused:` names the function that has to be refused. All edits of a crate are made in one copy of it, and the
 prover checks the functions that they turn, over the contracts of what these call. Those were proved from nothing a moment ago;
-so in the copy their proofs are left open, and what the prover says of each turned function is of its own goals alone. An
+so in the copy their bodies and proofs are left out, and what the prover says of each turned function is of its own goals alone. An
 edit is refused where one of these can't be proved; that it calls what isn't proved doesn't count, and neither does a name
 that a proof file misses.
 
@@ -28,6 +28,7 @@ from pathlib import Path
 PARTS = ("src", "specs", "proofs")
 # What a proof file says where the edit took a name away, which tells nothing of the contract.
 NAME_MISSED = re.compile(r"has no field|is not in scope|has no `|is no name|operand is missing|was not admitted")
+FUNCTION = re.compile(r"( *)(?:pub(?:\(\w+\))? )?fn (\w+)")
 MEMBERS = r"#\[cycle\({}\)\](?:\s*#\[[^\n]*\])*\s*(?:pub(?:\(\w+\))? )?fn (\w+)"
 HOLE = "use {module}{of}.{{statement}}\n\npub {name}_spec : {{M : Type 1}} → statement M\n{name}_spec = ?\n"
 
@@ -100,6 +101,30 @@ def leave_open(folder, of):
     (folder / "Proof.antt").write_text(HOLE.format(**of), encoding="utf-8")
 
 
+def ends_header(line, begun):
+    """Whether the header of the function that began so ends with the line: the body opens there, or is empty, or there is none."""
+    opens = line.startswith((begun[0], begun[1] + ")")) and line.endswith(" {")
+    return opens or line == begun[1] + "{" or line.endswith(("{}", ";"))
+
+
+def without_bodies(code, names):
+    """A file's code, laid out by `rt fmt`, with an endless loop for the body of each function with one of these names."""
+    kept, lines = [], iter(code.split("\n"))
+    for line in lines:
+        kept.append(line)
+        begun = FUNCTION.match(line)
+        if not begun or begun[2] not in names:
+            continue
+        while not ends_header(line, begun):
+            line = next(lines)
+            kept.append(line)
+        if line.endswith("{"):
+            while line != begun[1] + "}":
+                line = next(lines)
+            kept += [begun[1] + "    loop {}", line]
+    return "\n".join(kept)
+
+
 def cycles_of(folder):
     """The folders of proofs of cycles of calls, each with the names of its functions."""
     code = "".join(it.read_text(encoding="utf-8") for it in (folder / "src").rglob("*.rt"))
@@ -135,7 +160,8 @@ class Proved:
         return [*words, "--logic-built", self.kit / "logic_built", "--links", f"{crate}="]
 
     def leave_others_open(self, room, crate, tried):
-        """Leaves open what was proved, but for the functions tried, and closures and what lets a value go, which have no folder."""
+        """Leaves open what was proved, but for the functions tried, and closures and what lets a value go, which have no folder.
+        The body of a function goes, too, unless one of its name is kept."""
         proofs, cycles = ["Rattle", crate, "proofs"], cycles_of(room)
         names = {it.split("::")[-1] for it in tried}
         for folder, members in cycles.items():
@@ -143,11 +169,16 @@ class Proved:
                 module = ".".join([*proofs, *folder.relative_to(room / "proofs").parts])
                 leave_open(folder, {"module": module, "of": "", "name": folder.name})
         in_cycles = {it for members in cycles.values() for it in members}
+        opened = set()
         for function in self.functions[crate]:
             *path, name = function.split("::")
             if function not in tried and name not in in_cycles and "+" not in function and "fn" not in path:
                 module = ".".join([*proofs, *path, name])
                 leave_open(room.joinpath("proofs", *path, name), {"module": module, "of": ".Statement", "name": name})
+                opened.add(name)
+        for file in (room / "src").rglob("*.rt"):
+            code = file.read_text(encoding="utf-8")
+            file.write_text(without_bodies(code, opened - in_cycles - names), encoding="utf-8")
 
     def told(self, crate, edits, texts):
         """What the prover says of the edits' functions in a copy of the crate with these texts."""
