@@ -13,7 +13,7 @@ edit is refused where one of these can't be proved; that it calls what isn't pro
 that a proof file misses.
 
 With --control no edit is made, and none of the functions may be refused. `rt must-fail NAME` tries the same edits one by one,
-each over a whole check of the crate, which takes ten times as long.
+each over a whole check of the crate, which takes several times as long.
 """
 import argparse
 import re
