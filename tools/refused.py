@@ -148,14 +148,23 @@ class Proved:
         for crate, function in re.findall(r"^fn (\w+)::(\S+): proved$", printed, re.M):
             self.functions.setdefault(crate, []).append(function)
 
+    def below(self, crate):
+        """The repository's libraries below the crate."""
+        own = [it for it in self.uses[crate] if it in self.uses]
+        return {*own, *(below for it in own for below in self.below(it))}
+
+    def folder_of(self, library):
+        """Where the library lies."""
+        return self.root / "crates" / library / "out/rlib" if library in self.uses else self.kit / "rlibs"
+
     def words(self, crate):
         """The words of a check of the crate over the libraries below it."""
         main = Path("crates", crate, "src/main.rt").exists()
         words = [self.kit / "bin/rattle", "check", "--crate-name", crate, f"src/{'main' if main else 'lib'}.rt", "--jobs", "1"]
         for name in ["std", *self.uses[crate]]:
-            own = self.root / "crates" / name / "out/rlib"
-            folder = own if name in self.uses else self.kit / "rlibs"
-            words += ["--extern", f"{name}={folder}/{name}.rlib", "-L", f"dependency={folder}"]
+            words += ["--extern", f"{name}={self.folder_of(name)}/{name}.rlib"]
+        for name in sorted(self.below(crate)):
+            words += ["-L", f"dependency={self.folder_of(name)}"]
         words += ["-L", f"dependency={self.kit}/rlibs", "--antt-project", self.kit / "rattle/logic/antt-project.json"]
         return [*words, "--logic-built", self.kit / "logic_built", "--links", f"{crate}="]
 
