@@ -29,8 +29,8 @@ PARTS = ("src", "specs", "proofs")
 # What a proof file says where the edit took a name away, which tells nothing of the contract.
 NAME_MISSED = re.compile(r"has no field|is not in scope|has no `|is no name|operand is missing|was not admitted")
 FUNCTION = re.compile(r"( *)(?:pub(?:\(\w+\))? )?fn (\w+)")
-MEMBERS = r"#\[cycle\({}\)\](?:\s*#\[[^\n]*\])*\s*(?:pub(?:\(\w+\))? )?fn (\w+)"
-HOLE = "use {module}{of}.{{statement}}\n\npub {name}_spec : {{M : Type 1}} → statement M\n{name}_spec = ?\n"
+CYCLE = r"#\[cycle\((?:{})\)\](?=((?:\s*(?:#\[|//)[^\n]*)*\s*(?:pub(?:\(\w+\))? )?fn (\w+)))"
+HOLE = "use {module}.Statement.{{statement}}\n\npub {name}_spec : {{M : Type 1}} → statement M\n{name}_spec = ?\n"
 
 
 @dataclass
@@ -93,12 +93,12 @@ def rounds_of(crate, edits):
     return rounds
 
 
-def leave_open(folder, of):
-    """Puts a hole in place of the proof in the folder, which is a function's or that of a cycle of calls."""
+def leave_open(folder, module, name):
+    """Puts a hole in place of the function's proof in the folder."""
     for file in ("Answers.antt", "Invariants.antt"):
         (folder / file).unlink(missing_ok=True)
     folder.mkdir(parents=True, exist_ok=True)
-    (folder / "Proof.antt").write_text(HOLE.format(**of), encoding="utf-8")
+    (folder / "Proof.antt").write_text(HOLE.format(module=module, name=name), encoding="utf-8")
 
 
 def ends_header(line, begun):
@@ -126,10 +126,10 @@ def without_bodies(code, names):
 
 
 def cycles_of(folder):
-    """The folders of proofs of cycles of calls, each with the names of its functions."""
+    """The folders of proofs of cycles of calls, each with the names of its functions; a function that calls itself alone has no mark."""
     code = "".join(it.read_text(encoding="utf-8") for it in (folder / "src").rglob("*.rt"))
     found = [it for it in (folder / "proofs").rglob("+*") if it.is_dir()]
-    return {it: {it.name[1:], *re.findall(MEMBERS.format(it.name[1:]), code)} for it in found}
+    return {it: {name for _, name in re.findall(CYCLE.format(it.name[1:]), code)} or {it.name[1:]} for it in found}
 
 
 class Proved:
@@ -169,25 +169,25 @@ class Proved:
         return [*words, "--logic-built", self.kit / "logic_built", "--links", f"{crate}="]
 
     def leave_others_open(self, room, crate, tried):
-        """Leaves open what was proved, but for the functions tried, and closures and what lets a value go, which have no folder.
-        The body of a function goes, too, unless one of its name is kept."""
-        proofs, cycles = ["Rattle", crate, "proofs"], cycles_of(room)
-        names = {it.split("::")[-1] for it in tried}
-        for folder, members in cycles.items():
-            if not names & members:
-                module = ".".join([*proofs, *folder.relative_to(room / "proofs").parts])
-                leave_open(folder, {"module": module, "of": "", "name": folder.name})
-        in_cycles = {it for members in cycles.values() for it in members}
+        """Leaves open what was proved, but for the functions tried, with the cycles of calls that they are in, and closures and
+        what lets a value go, which have no folder. The body of a function goes, too, unless one of its name is tried: then no
+        cycle is left but those."""
+        names, in_cycles, gone = {it.split("::")[-1] for it in tried}, set(), []
+        for folder, members in cycles_of(room).items():
+            if names & members:
+                in_cycles |= members
+            else:
+                gone.append(folder.name[1:])
+                shutil.rmtree(folder)
         opened = set()
         for function in self.functions[crate]:
             *path, name = function.split("::")
             if function not in tried and name not in in_cycles and "+" not in function and "fn" not in path:
-                module = ".".join([*proofs, *path, name])
-                leave_open(room.joinpath("proofs", *path, name), {"module": module, "of": ".Statement", "name": name})
+                leave_open(room.joinpath("proofs", *path, name), ".".join(["Rattle", crate, "proofs", *path, name]), name)
                 opened.add(name)
         for file in (room / "src").rglob("*.rt"):
-            code = file.read_text(encoding="utf-8")
-            file.write_text(without_bodies(code, opened - in_cycles - names), encoding="utf-8")
+            code = re.sub(CYCLE.format("|".join(gone)), "", file.read_text(encoding="utf-8"))
+            file.write_text(without_bodies(code, opened - names), encoding="utf-8")
 
     def told(self, crate, edits, texts):
         """What the prover says of the edits' functions in a copy of the crate with these texts."""
