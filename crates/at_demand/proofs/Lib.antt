@@ -17,6 +17,7 @@ pub mod Only
 pub mod Gaining
 pub mod Counting
 pub mod SparingOn
+pub mod Ascending
 pub mod StayingSpare
 pub mod Spared
 pub mod AlikeBack

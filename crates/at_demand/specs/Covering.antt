@@ -17,8 +17,8 @@ use Rattle.at_demand.specs.declared.question.Question.{Question}
 use Rattle.at_demand.specs.declared.question.Recalled.{Recalled}
 use Rattle.at_demand.specs.declared.question.Recalled.TheVariants as recalled
 use Rattle.at_demand.specs.declared.gathering.Sources.{Sources}
-use Rattle.at_demand.specs.declared.demand.Turn.{Turn}
-use Rattle.at_demand.specs.declared.demand.Turn.TheVariants as turn
+use Rattle.at_demand.specs.declared.question.Turn.{Turn}
+use Rattle.at_demand.specs.declared.question.Turn.TheVariants as turn
 use Rattle.at_demand.specs.Known.{meaning}
 use Rattle.at_demand.specs.UnderWay.{left_of, first_of}
 
@@ -68,9 +68,10 @@ abbrev pub IsCoveringIn : Rules → Contents ℕ → Question → Step → Type 
 IsCoveringIn rules look q s = IsCovering rules look q.waiting.entries q.found.entries q.inst q.frame s
 
 -- the question goes on so, or has its answer
-abbrev pub IsCoveringTurn : Rules → Contents ℕ → Turn → Type 0
-IsCoveringTurn rules look (turn.GoesOn q s) = IsCoveringIn rules look q s
-IsCoveringTurn rules look (turn.Answers a) = Unit {0}
+abbrev pub IsCoveringTurn : Rules → Contents ℕ → Question → Turn → Type 0
+IsCoveringTurn rules look q (turn.GoesOn s) = IsCoveringIn rules look q s
+IsCoveringTurn rules look q (turn.Fails kind) = Unit {0}
+IsCoveringTurn rules look q (turn.Answers a) = Unit {0}
 
 -- each entry stands for all that supports its instance
 abbrev pub AreCovered : Rules → Contents ℕ → Entries → Type 0

@@ -9,8 +9,8 @@ use Rattle.at_body.specs.declared.trial.Step.{Step}
 use Rattle.at_cache.specs.Kept.{Kept, Entries}
 use Rattle.at_demand.specs.declared.question.Find.{Find}
 use Rattle.at_demand.specs.declared.question.Question.{Question}
-use Rattle.at_demand.specs.declared.demand.Turn.{Turn}
-use Rattle.at_demand.specs.declared.demand.Turn.TheVariants as turn
+use Rattle.at_demand.specs.declared.question.Turn.{Turn}
+use Rattle.at_demand.specs.declared.question.Turn.TheVariants as turn
 use Rattle.at_demand.specs.Known.{meaning}
 use Rattle.at_demand.specs.Only.{TakesOnly, TakeOnly, AreLean}
 
@@ -67,9 +67,10 @@ pub record IsSparing (rules : Rules) (look : Contents ℕ) (entries : Entries) (
   pub spare : AreSpare rules look entries
 
 -- the question goes on so, or has its answer, and all that is worth keeping is kept
-abbrev pub IsSparingTurn : Rules → Contents ℕ → Instance ℕ → Entries → Turn → Type 0
-IsSparingTurn rules look asked entries (turn.GoesOn q s) = IsSparing rules look entries q
-IsSparingTurn rules look asked entries (turn.Answers a) = HasWorthy rules look asked entries
+abbrev pub IsSparingTurn : Rules → Contents ℕ → Instance ℕ → Entries → Question → Turn → Type 0
+IsSparingTurn rules look asked entries q (turn.GoesOn s) = IsSparing rules look entries q
+IsSparingTurn rules look asked entries q (turn.Fails kind) = HasWorthy rules look asked entries
+IsSparingTurn rules look asked entries q (turn.Answers a) = HasWorthy rules look asked entries
 
 -- the list has each instance once that `new` keeps and `old` doesn't; what `old` keeps stays
 pub record AreGained (old new : Entries) (gained : List (Instance ℕ)) : Type 0 where

@@ -8,8 +8,8 @@ use Rattle.at_body.specs.declared.trial.Trial.{Trial}
 use Rattle.at_body.specs.Typed as trial
 use Rattle.at_demand.specs.declared.question.Frame.{Frame}
 use Rattle.at_demand.specs.declared.question.Question.{Question}
-use Rattle.at_demand.specs.declared.demand.Turn.{Turn}
-use Rattle.at_demand.specs.declared.demand.Turn.TheVariants as turn
+use Rattle.at_demand.specs.declared.question.Turn.{Turn}
+use Rattle.at_demand.specs.declared.question.Turn.TheVariants as turn
 use Rattle.at_demand.specs.UnderWay.{first_of}
 
 -- each may be told a value of the kind of the next one, which is well typed, and the last one of the kind of i
@@ -27,6 +27,7 @@ abbrev pub IsTypedIn : Rules → ClassAt ℕ → Question → Step → Type 0
 IsTypedIn rules at q s = IsTyped rules at q.waiting.entries q.inst q.frame.trial s
 
 -- the question goes on so, or has its answer
-abbrev pub IsTypedTurn : Rules → ClassAt ℕ → Turn → Type 0
-IsTypedTurn rules at (turn.GoesOn q s) = IsTypedIn rules at q s
-IsTypedTurn rules at (turn.Answers a) = Unit {0}
+abbrev pub IsTypedTurn : Rules → ClassAt ℕ → Question → Turn → Type 0
+IsTypedTurn rules at q (turn.GoesOn s) = IsTypedIn rules at q s
+IsTypedTurn rules at q (turn.Fails kind) = Unit {0}
+IsTypedTurn rules at q (turn.Answers a) = Unit {0}

@@ -1,6 +1,7 @@
 -- A question under way.
 use Rattle.std.specs.Prelude.{◌≡◌, ℕ, ◌+◌, ◌*◌, ◌<◌, ◌^◌, List, [], ◌∷◌, ◌++◌, length, None}
 use Rattle.std.specs.Map.{keys_of, lookup}
+use Rattle.indexmap.specs.IndexMap.{insert_entry}
 use Rattle.at_model.specs.Run.{Value, Instance, Contents, Run, Gives, Fails, Demands, Known}
 use Rattle.at_model.specs.Follow.{Reached, Ends, Stops, Waits, Past}
 use Rattle.at_model.specs.Rules.{Rules}
@@ -14,8 +15,9 @@ use Rattle.at_cache.specs.Kept.{Entries, AreKept}
 use Rattle.at_demand.specs.declared.question.Find.{Find}
 use Rattle.at_demand.specs.declared.question.Frame.{Frame}
 use Rattle.at_demand.specs.declared.question.Question.{Question}
-use Rattle.at_demand.specs.declared.demand.Turn.{Turn}
-use Rattle.at_demand.specs.declared.demand.Turn.TheVariants as turn
+use Rattle.at_demand.specs.declared.question.Turn.{Turn}
+use Rattle.at_demand.specs.declared.question.Turn.TheVariants as turn
+use Rattle.at_demand.specs.declared.answer.Answer.TheVariants as answer
 use Rattle.at_demand.specs.Known.{meaning, kept_values, found_values, WaitingKept, FoundKept, answer_view}
 
 -- what is left of an evaluation that has come so far
@@ -73,9 +75,24 @@ pub record GoesOn (entries : Entries) (old new : Question) : Type 0 where
   pub further : progress old < progress new
   pub few : progress new < 2 ^ 66
 
-abbrev pub IsTurn : Entries → Question → Turn → Type 0
-IsTurn entries old (turn.GoesOn new s) = GoesOn entries old new
-IsTurn entries old (turn.Answers a) = Unit {0}
+abbrev pub IsTurn : Entries → (old new : Question) → Turn → Type 0
+IsTurn entries old new (turn.GoesOn s) = GoesOn entries old new
+IsTurn entries old new (turn.Fails kind) = Unit {0}
+IsTurn entries old new (turn.Answers a) = Unit {0}
+
+-- the last instance is found, and the one that waited for it is the last
+pub record IsAscended (waiting : List (Instance ℕ × Frame)) (found : List (Instance ℕ × Find)) (i : Instance ℕ) (find : Find) (new : Question) (s : Step) : Type 0 where
+  pub waits : waiting ≡ new.waiting.entries ++ (new.inst, new.frame) ∷ []
+  pub settled : new.found.entries ≡ insert_entry same_instance found i find
+  pub needs : s ≡ step.Need i
+  pub few : length new.waiting.entries < 2 ^ 64
+  pub finds : length new.found.entries < 2 ^ 64
+
+-- so it is, or none waited, and its value is the answer
+abbrev pub HasAscended : Question → Find → Question → Turn → Type 0
+HasAscended old find new (turn.GoesOn s) = IsAscended old.waiting.entries old.found.entries old.inst find new s
+HasAscended old find new (turn.Fails kind) = ⊥
+HasAscended old find new (turn.Answers a) = (old.waiting.entries ≡ []) × (a ≡ answer.Value find.value)
 
 -- The chain leads from what was asked by demands to the last instance, whose evaluation has come to this step; and what is
 -- kept and what was found holds.
@@ -91,9 +108,10 @@ abbrev pub IsTrueIn : Rules → Contents ℕ → Instance ℕ → Entries → Qu
 IsTrueIn rules look asked entries q s = IsTrue rules look asked entries q.waiting.entries q.found.entries q.inst q.frame.trial s
 
 -- the question goes on as it is, or this is its answer
-abbrev pub IsRightTurn : Rules → Contents ℕ → Instance ℕ → Entries → Turn → Type 0
-IsRightTurn rules look asked entries (turn.GoesOn q s) = IsTrueIn rules look asked entries q s
-IsRightTurn rules look asked entries (turn.Answers a) = Answers look (meaning rules) asked (answer_view a)
+abbrev pub IsRightTurn : Rules → Contents ℕ → Instance ℕ → Entries → Question → Turn → Type 0
+IsRightTurn rules look asked entries q (turn.GoesOn s) = IsTrueIn rules look asked entries q s
+IsRightTurn rules look asked entries q (turn.Fails kind) = Answers look (meaning rules) asked (answer_view (answer.Fault kind q.inst))
+IsRightTurn rules look asked entries q (turn.Answers a) = Answers look (meaning rules) asked (answer_view a)
 
 -- what an evaluation came to isn't known
 abbrev pub IsOpen : Known ℕ → Step → Type 0

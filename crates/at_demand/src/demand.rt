@@ -24,7 +24,7 @@ ghost use Rattle.at_demand.specs.Covering.{AreCovered, AreWhole, IsCoveringIn, I
 
 use crate::answer::Answer;
 use crate::gathering::Sources;
-use crate::question::{Find, Question};
+use crate::question::{Find, Question, Turn};
 use at_body::{Inst, Step, Value};
 use at_cache::Keeper;
 use at_rules::Rules;
@@ -38,13 +38,6 @@ pub struct Demand<K> {
     alloc: Global,
     keeper: K,
     work: u64,
-}
-
-// What a turn comes to: the question, with what its last instance came to by itself, or the answer.
-#[derive(Drop)]
-enum Turn<'a> {
-    GoesOn(Question<'a>, Step),
-    Answers(Answer),
 }
 
 impl<K: Keeper> Demand<K> {
@@ -112,10 +105,11 @@ impl<K: Keeper> Demand<K> {
         let begun = Question::new(self.alloc, rules, store, inst.copy(self.alloc)?)?;
         let (mut question, mut step) = begun;
         loop {
-            match self.turn(rules, store, question, step)? {
-                Turn::GoesOn(next, reached) => {
-                    question = next;
-                    step = reached;
+            match self.turn(rules, store, &mut question, step)? {
+                Turn::GoesOn(reached) => step = reached,
+                Turn::Fails(kind) => {
+                    let at = question.into_inst();
+                    return Ok(Answer::Fault { kind, at });
                 }
                 Turn::Answers(answer) => return Ok(answer),
             }
@@ -146,37 +140,37 @@ impl<K: Keeper> Demand<K> {
         &mut self,
         rules: &'a Rules,
         store: &'a Store,
-        question: Question<'a>,
+        question: &mut Question<'a>,
         step: Step,
-    ) -> Result<Turn<'a>, AllocError>
+    ) -> Result<Turn, AllocError>
         requires idle { IsIdle store.now }
         requires formed { AreWellFormed rules.now }
         requires sound { IsTreeSound rules.now.classes (tree store.now) }
-        requires right { Right (contents store.now) (meaning rules.now) (known_in (K.contents self.old.keeper) question.found.entries) }
-        requires typed { IsTypedIn rules.now (class_shown store.now) question step }
-        requires orderly { IsOrderlyIn (K.contents self.old.keeper) question }
-        ensures turn { IfOk result (IsTurn (K.contents self.new.keeper) question.entry) }
-        ensures typed { IfOk result (IsTypedTurn rules.now (class_shown store.now)) }
-        ensures answers { (asked : Instance ℕ) → IsTrueIn rules.now (contents store.now) asked (K.contents self.old.keeper) question.entry step → IfOk result (IsRightTurn rules.now (contents store.now) asked (K.contents self.new.keeper)) }
-        ensures right { (asked : Instance ℕ) → IsTrueIn rules.now (contents store.now) asked (K.contents self.old.keeper) question.entry step → Right (contents store.now) (meaning rules.now) (kept_values (K.contents self.new.keeper)) }
-        ensures covering { (asked : Instance ℕ) → IsTrueIn rules.now (contents store.now) asked (K.contents self.old.keeper) question.entry step → IsCoveringIn rules.now (contents store.now) question.entry step → IfOk result (IsCoveringTurn rules.now (contents store.now)) }
-        ensures stays { (asked : Instance ℕ) → IsThere store.now asked → IsTrueIn rules.now (contents store.now) asked (K.contents self.old.keeper) question.entry step → IsCoveringIn rules.now (contents store.now) question.entry step → AreRight rules.now store.now (K.contents self.old.keeper) → AreRight rules.now store.now (K.contents self.new.keeper) }
-        ensures worthy { (asked : Instance ℕ) (first : Entries) → IsTrueIn rules.now (contents store.now) asked (K.contents self.old.keeper) question.entry step → AddsWorthy rules.now (contents store.now) asked first (K.contents self.old.keeper) → AddsWorthy rules.now (contents store.now) asked first (K.contents self.new.keeper) }
-        ensures sparing { (asked : Instance ℕ) → IsTrue K.exact → IsTrueIn rules.now (contents store.now) asked (K.contents self.old.keeper) question.entry step → IsCoveringIn rules.now (contents store.now) question.entry step → IsSparing rules.now (contents store.now) (K.contents self.old.keeper) question.entry → IfOk result (IsSparingTurn rules.now (contents store.now) asked (K.contents self.new.keeper)) }
-        ensures spare { (asked : Instance ℕ) → IsTrue K.exact → IsTrueIn rules.now (contents store.now) asked (K.contents self.old.keeper) question.entry step → IsCoveringIn rules.now (contents store.now) question.entry step → IsSparing rules.now (contents store.now) (K.contents self.old.keeper) question.entry → AreSpare rules.now (contents store.now) (K.contents self.new.keeper) }
+        requires right { Right (contents store.now) (meaning rules.now) (known_in (K.contents self.old.keeper) question.old.found.entries) }
+        requires typed { IsTypedIn rules.now (class_shown store.now) question.old step }
+        requires orderly { IsOrderlyIn (K.contents self.old.keeper) question.old }
+        ensures turn { IfOk result (IsTurn (K.contents self.new.keeper) question.old question.new) }
+        ensures typed { IfOk result (IsTypedTurn rules.now (class_shown store.now) question.new) }
+        ensures answers { (asked : Instance ℕ) → IsTrueIn rules.now (contents store.now) asked (K.contents self.old.keeper) question.old step → IfOk result (IsRightTurn rules.now (contents store.now) asked (K.contents self.new.keeper) question.new) }
+        ensures right { (asked : Instance ℕ) → IsTrueIn rules.now (contents store.now) asked (K.contents self.old.keeper) question.old step → Right (contents store.now) (meaning rules.now) (kept_values (K.contents self.new.keeper)) }
+        ensures covering { (asked : Instance ℕ) → IsTrueIn rules.now (contents store.now) asked (K.contents self.old.keeper) question.old step → IsCoveringIn rules.now (contents store.now) question.old step → IfOk result (IsCoveringTurn rules.now (contents store.now) question.new) }
+        ensures stays { (asked : Instance ℕ) → IsThere store.now asked → IsTrueIn rules.now (contents store.now) asked (K.contents self.old.keeper) question.old step → IsCoveringIn rules.now (contents store.now) question.old step → AreRight rules.now store.now (K.contents self.old.keeper) → AreRight rules.now store.now (K.contents self.new.keeper) }
+        ensures worthy { (asked : Instance ℕ) (first : Entries) → IsTrueIn rules.now (contents store.now) asked (K.contents self.old.keeper) question.old step → AddsWorthy rules.now (contents store.now) asked first (K.contents self.old.keeper) → AddsWorthy rules.now (contents store.now) asked first (K.contents self.new.keeper) }
+        ensures sparing { (asked : Instance ℕ) → IsTrue K.exact → IsTrueIn rules.now (contents store.now) asked (K.contents self.old.keeper) question.old step → IsCoveringIn rules.now (contents store.now) question.old step → IsSparing rules.now (contents store.now) (K.contents self.old.keeper) question.old → IfOk result (IsSparingTurn rules.now (contents store.now) asked (K.contents self.new.keeper) question.new) }
+        ensures spare { (asked : Instance ℕ) → IsTrue K.exact → IsTrueIn rules.now (contents store.now) asked (K.contents self.old.keeper) question.old step → IsCoveringIn rules.now (contents store.now) question.old step → IsSparing rules.now (contents store.now) (K.contents self.old.keeper) question.old → AreSpare rules.now (contents store.now) (K.contents self.new.keeper) }
         ensures counts { IsTrue K.exact → self.old.work < 2 ^ 64 → Counts (K.contents self.old.keeper) (K.contents self.new.keeper) self.old.work self.new.work }
     {
-        let mut question = question;
-        let q = &mut question;
-        let step = q
-            .frame
-            .go_on(self.alloc, &self.keeper, &q.found, rules, store, step)?;
+        let step = question.frame.go_on(
+            self.alloc,
+            &self.keeper,
+            &question.found,
+            rules,
+            store,
+            step,
+        )?;
         match step {
             Step::Value(value) => self.settle(rules, question, value),
-            Step::Fault(kind) => Ok(Turn::Answers(Answer::Fault {
-                kind,
-                at: question.inst,
-            })),
+            Step::Fault(kind) => Ok(Turn::Fails(kind)),
             Step::Need(needed) => self.deepen(rules, store, question, needed),
         }
     }
@@ -187,27 +181,27 @@ impl<K: Keeper> Demand<K> {
         &self,
         rules: &'a Rules,
         store: &'a Store,
-        question: Question<'a>,
+        question: &mut Question<'a>,
         needed: Inst,
-    ) -> Result<Turn<'a>, AllocError>
+    ) -> Result<Turn, AllocError>
         requires idle { IsIdle store.now }
         requires formed { AreWellFormed rules.now }
         requires sound { IsTreeSound rules.now.classes (tree store.now) }
-        requires typed { IsTypedIn rules.now (class_shown store.now) question (step_code.Need needed) }
-        requires orderly { IsOrderlyIn (K.contents self.now.keeper) question }
-        requires found { lookup (same_instance needed) question.found.entries ≡ None }
+        requires typed { IsTypedIn rules.now (class_shown store.now) question.old (step_code.Need needed) }
+        requires orderly { IsOrderlyIn (K.contents self.now.keeper) question.old }
+        requires found { lookup (same_instance needed) question.old.found.entries ≡ None }
         requires kept { K.contents self.now.keeper needed ≡ None }
-        ensures turn { IfOk result (IsTurn (K.contents self.now.keeper) question.entry) }
-        ensures typed { IfOk result (IsTypedTurn rules.now (class_shown store.now)) }
-        ensures answers { (asked : Instance ℕ) → IsTrueIn rules.now (contents store.now) asked (K.contents self.now.keeper) question.entry (step_code.Need needed) → IfOk result (IsRightTurn rules.now (contents store.now) asked (K.contents self.now.keeper)) }
-        ensures covering { IsCoveringIn rules.now (contents store.now) question.entry (step_code.Need needed) → IfOk result (IsCoveringTurn rules.now (contents store.now)) }
-        ensures sparing { (asked : Instance ℕ) → IsTrueIn rules.now (contents store.now) asked (K.contents self.now.keeper) question.entry (step_code.Need needed) → IsCoveringIn rules.now (contents store.now) question.entry (step_code.Need needed) → IsSparing rules.now (contents store.now) (K.contents self.now.keeper) question.entry → IfOk result (IsSparingTurn rules.now (contents store.now) asked (K.contents self.now.keeper)) }
+        ensures turn { IfOk result (IsTurn (K.contents self.now.keeper) question.old question.new) }
+        ensures typed { IfOk result (IsTypedTurn rules.now (class_shown store.now) question.new) }
+        ensures answers { (asked : Instance ℕ) → IsTrueIn rules.now (contents store.now) asked (K.contents self.now.keeper) question.old (step_code.Need needed) → IfOk result (IsRightTurn rules.now (contents store.now) asked (K.contents self.now.keeper) question.new) }
+        ensures covering { IsCoveringIn rules.now (contents store.now) question.old (step_code.Need needed) → IfOk result (IsCoveringTurn rules.now (contents store.now) question.new) }
+        ensures sparing { (asked : Instance ℕ) → IsTrueIn rules.now (contents store.now) asked (K.contents self.now.keeper) question.old (step_code.Need needed) → IsCoveringIn rules.now (contents store.now) question.old (step_code.Need needed) → IsSparing rules.now (contents store.now) (K.contents self.now.keeper) question.old → IfOk result (IsSparingTurn rules.now (contents store.now) asked (K.contents self.now.keeper) question.new) }
     {
         if question.has(&needed) {
             return Ok(Turn::Answers(Answer::Circular { at: needed }));
         }
-        let (next, step) = question.descend(self.alloc, rules, store, needed)?;
-        Ok(Turn::GoesOn(next, step))
+        let step = question.descend(self.alloc, rules, store, needed)?;
+        Ok(Turn::GoesOn(step))
     }
 
     #[tactic(auto, using(crate::proofs::Orderly::settles, crate::proofs::Orderly::last_unkept, crate::proofs::Truth::settles_true, crate::proofs::Truth::ends, crate::proofs::Truth::right_after))]
@@ -215,43 +209,24 @@ impl<K: Keeper> Demand<K> {
     fn settle<'a>(
         &mut self,
         rules: &Rules,
-        question: Question<'a>,
+        question: &mut Question<'a>,
         value: Value,
-    ) -> Result<Turn<'a>, AllocError>
-        requires orderly { IsOrderlyIn (K.contents self.old.keeper) question }
-        ensures turn { IfOk result (IsTurn (K.contents self.new.keeper) question.entry) }
-        ensures typed { (at : ClassAt ℕ) → AreTypedWaiting rules.now at question.entry.waiting.entries question.entry.inst → IfOk result (IsTypedTurn rules.now at) }
-        ensures answers { (look : Contents ℕ) (asked : Instance ℕ) → IsTrueIn rules.now look asked (K.contents self.old.keeper) question.entry (step_code.Value value) → IfOk result (IsRightTurn rules.now look asked (K.contents self.new.keeper)) }
-        ensures right { (look : Contents ℕ) (asked : Instance ℕ) → IsTrueIn rules.now look asked (K.contents self.old.keeper) question.entry (step_code.Value value) → Right look (meaning rules.now) (kept_values (K.contents self.new.keeper)) }
-        ensures covering { (look : Contents ℕ) → IsCoveringIn rules.now look question.entry (step_code.Value value) → IfOk result (IsCoveringTurn rules.now look) }
-        ensures stays { (s : Shown) (asked : Instance ℕ) → IsIdle s → IsThere s asked → IsTrueIn rules.now (contents s) asked (K.contents self.old.keeper) question.entry (step_code.Value value) → IsCoveringIn rules.now (contents s) question.entry (step_code.Value value) → AreRight rules.now s (K.contents self.old.keeper) → AreRight rules.now s (K.contents self.new.keeper) }
-        ensures worthy { (look : Contents ℕ) (asked : Instance ℕ) (first : Entries) → IsTrueIn rules.now look asked (K.contents self.old.keeper) question.entry (step_code.Value value) → AddsWorthy rules.now look asked first (K.contents self.old.keeper) → AddsWorthy rules.now look asked first (K.contents self.new.keeper) }
-        ensures sparing { (look : Contents ℕ) (asked : Instance ℕ) → IsTrue K.exact → IsTrueIn rules.now look asked (K.contents self.old.keeper) question.entry (step_code.Value value) → IsCoveringIn rules.now look question.entry (step_code.Value value) → IsSparing rules.now look (K.contents self.old.keeper) question.entry → IfOk result (IsSparingTurn rules.now look asked (K.contents self.new.keeper)) }
-        ensures spare { (look : Contents ℕ) (asked : Instance ℕ) → IsTrue K.exact → IsTrueIn rules.now look asked (K.contents self.old.keeper) question.entry (step_code.Value value) → IsCoveringIn rules.now look question.entry (step_code.Value value) → IsSparing rules.now look (K.contents self.old.keeper) question.entry → AreSpare rules.now look (K.contents self.new.keeper) }
+    ) -> Result<Turn, AllocError>
+        requires orderly { IsOrderlyIn (K.contents self.old.keeper) question.old }
+        ensures turn { IfOk result (IsTurn (K.contents self.new.keeper) question.old question.new) }
+        ensures typed { (at : ClassAt ℕ) → AreTypedWaiting rules.now at question.old.waiting.entries question.old.inst → IfOk result (IsTypedTurn rules.now at question.new) }
+        ensures answers { (look : Contents ℕ) (asked : Instance ℕ) → IsTrueIn rules.now look asked (K.contents self.old.keeper) question.old (step_code.Value value) → IfOk result (IsRightTurn rules.now look asked (K.contents self.new.keeper) question.new) }
+        ensures right { (look : Contents ℕ) (asked : Instance ℕ) → IsTrueIn rules.now look asked (K.contents self.old.keeper) question.old (step_code.Value value) → Right look (meaning rules.now) (kept_values (K.contents self.new.keeper)) }
+        ensures covering { (look : Contents ℕ) → IsCoveringIn rules.now look question.old (step_code.Value value) → IfOk result (IsCoveringTurn rules.now look question.new) }
+        ensures stays { (s : Shown) (asked : Instance ℕ) → IsIdle s → IsThere s asked → IsTrueIn rules.now (contents s) asked (K.contents self.old.keeper) question.old (step_code.Value value) → IsCoveringIn rules.now (contents s) question.old (step_code.Value value) → AreRight rules.now s (K.contents self.old.keeper) → AreRight rules.now s (K.contents self.new.keeper) }
+        ensures worthy { (look : Contents ℕ) (asked : Instance ℕ) (first : Entries) → IsTrueIn rules.now look asked (K.contents self.old.keeper) question.old (step_code.Value value) → AddsWorthy rules.now look asked first (K.contents self.old.keeper) → AddsWorthy rules.now look asked first (K.contents self.new.keeper) }
+        ensures sparing { (look : Contents ℕ) (asked : Instance ℕ) → IsTrue K.exact → IsTrueIn rules.now look asked (K.contents self.old.keeper) question.old (step_code.Value value) → IsCoveringIn rules.now look question.old (step_code.Value value) → IsSparing rules.now look (K.contents self.old.keeper) question.old → IfOk result (IsSparingTurn rules.now look asked (K.contents self.new.keeper) question.new) }
+        ensures spare { (look : Contents ℕ) (asked : Instance ℕ) → IsTrue K.exact → IsTrueIn rules.now look asked (K.contents self.old.keeper) question.old (step_code.Value value) → IsCoveringIn rules.now look question.old (step_code.Value value) → IsSparing rules.now look (K.contents self.old.keeper) question.old → AreSpare rules.now look (K.contents self.new.keeper) }
         ensures counts { IsTrue K.exact → self.old.work < 2 ^ 64 → Counts (K.contents self.old.keeper) (K.contents self.new.keeper) self.old.work self.new.work }
     {
-        let Question {
-            mut waiting,
-            mut found,
-            inst,
-            frame,
-        } = question;
-        let find = frame.find(self.alloc, value)?;
-        self.keep(rules, &found, &inst, &find)?;
-        let Some((below, frame)) = waiting.pop() else {
-            return Ok(Turn::Answers(Answer::Value(find.value)));
-        };
-        let needed = inst.copy(self.alloc)?;
-        found.insert(inst, find)?;
-        // `len` says that they are fewer than 2^64.
-        let _counts = (found.len(), waiting.len());
-        let question = Question {
-            waiting,
-            found,
-            inst: below,
-            frame,
-        };
-        Ok(Turn::GoesOn(question, Step::Need(needed)))
+        let find = question.frame.find(self.alloc, value)?;
+        self.keep(rules, &question.found, &question.inst, &find)?;
+        question.ascend(self.alloc, find)
     }
 
     #[tactic(auto, using(crate::proofs::Orderly::put_adds))]

@@ -13,17 +13,19 @@ ghost use Rattle.at_body.specs.Same.{same_instance};
 ghost use Rattle.at_body.specs.Typed.{IsTypedStep, class_shown};
 ghost use Rattle.indexmap.specs.IndexMap.{insert_entry};
 ghost use Rattle.at_demand.specs.Known.{meaning, known_in, IsRecalled};
-ghost use Rattle.at_demand.specs.UnderWay.{chain_of, HasStepped, IsOpen};
+ghost use Rattle.at_demand.specs.UnderWay.{chain_of, HasAscended, HasStepped, IsOpen};
 ghost use Rattle.at_demand.specs.Covering.{HasPassedTo, Takes};
 ghost use Rattle.at_demand.specs.Only.{TakesOne, TakesOnly};
 ghost use Rattle.at_demand.specs.declared.question.Find.{Find as FindCode};
 
-use at_body::{Inst, Step, Trial, Value};
+use crate::answer::Answer;
+use at_body::{FaultKind, Inst, Step, Trial, Value};
 use at_cache::Keeper;
 use at_rules::Rules;
 use at_store::{Loc, Store};
 use indexmap::IndexMap;
 use std::alloc::{AllocError, Global};
+use std::mem;
 
 // The instances whose values an evaluation took: the kept ones, and the positions of the others among the finds.
 pub struct Demanded {
@@ -39,28 +41,67 @@ impl Drop for Demanded {
 }
 
 // An evaluation under way, and the instances whose values it took.
-#[derive(Drop)]
 pub struct Frame<'a> {
     pub trial: Trial<'a>,
     pub demanded: Demanded,
 }
 
+/// One call, as that of `Demanded` is.
+impl Drop for Frame<'_> {
+    fn drop(self) {
+        let Frame {
+            trial: _,
+            demanded: _,
+        } = self;
+    }
+}
+
 // The value of an instance, the locations that its own evaluation read, and the instances whose values that took.
-#[derive(Drop)]
 pub struct Find {
     pub value: Value,
     pub reads: Vec<Loc>,
     pub demanded: Demanded,
 }
 
+/// One call, as that of `Demanded` is.
+impl Drop for Find {
+    fn drop(self) {
+        let Find {
+            value: _,
+            reads: _,
+            demanded: _,
+        } = self;
+    }
+}
+
 // A question under way. `inst` is the last instance of the chain, and `frame` its evaluation; each of `waiting` waits for
 // the next, and the last one for `inst`.
-#[derive(Drop)]
 pub struct Question<'a> {
     pub waiting: IndexMap<Inst, Frame<'a>>,
     pub found: IndexMap<Inst, Find>,
     pub inst: Inst,
     pub frame: Frame<'a>,
+}
+
+/// One call, as that of `Demanded` is.
+impl Drop for Question<'_> {
+    fn drop(self) {
+        let Question {
+            waiting: _,
+            found: _,
+            inst: _,
+            frame: _,
+        } = self;
+    }
+}
+
+// What a question comes to: it goes on, where its last instance has come to this, or it has its answer, which may be the
+// fault of its last instance.
+#[derive(Drop)]
+pub enum Turn {
+    GoesOn(Step),
+    Fails(FaultKind),
+    Answers(Answer),
 }
 
 // The value of an instance, or the instance, where it isn't known.
@@ -110,40 +151,72 @@ impl<'a> Question<'a> {
 
     // Begins the evaluation of an instance that the last one needs.
     pub fn descend(
-        self,
+        &mut self,
         alloc: Global,
         rules: &'a Rules,
         store: &'a Store,
         needed: Inst,
-    ) -> Result<(Question<'a>, Step), AllocError>
+    ) -> Result<Step, AllocError>
         requires idle { IsIdle store.now }
         requires formed { AreWellFormed rules.now }
         requires sound { IsTreeSound rules.now.classes (tree store.now) }
         requires typed { IsWellTyped rules.now (class_shown store.now) AnyText needed }
-        ensures waiting { IfOk result (λ r. r.0.waiting.entries ≡ insert_entry same_instance self.entry.waiting.entries self.entry.inst self.entry.frame) }
-        ensures found { IfOk result (λ r. r.0.found.entries ≡ self.entry.found.entries) }
-        ensures inst { IfOk result (λ r. r.0.inst ≡ needed) }
-        ensures fresh { IfOk result (λ r. r.0.frame.demanded.kept.items ≡ []) }
-        ensures unfound { IfOk result (λ r. r.0.frame.demanded.finds.items ≡ []) }
-        ensures few { IfOk result (λ r. length r.0.waiting.entries < 2 ^ 64) }
-        ensures finds { IfOk result (λ r. length r.0.found.entries < 2 ^ 64) }
-        ensures stepped { IfOk result (λ r. HasStepped rules.now (contents store.now) needed r.0.frame.trial r.1) }
-        ensures passed { (finds : List (Instance ℕ × FindCode)) → IfOk result (λ r. HasPassedTo rules.now (contents store.now) finds needed r.0.frame r.1) }
-        ensures typed { IfOk result (λ r. IsTypedStep rules.now (class_shown store.now) r.1 r.0.frame.trial) }
+        ensures waiting { OnOk result (self.new.waiting.entries ≡ insert_entry same_instance self.old.waiting.entries self.old.inst self.old.frame) }
+        ensures found { OnOk result (self.new.found.entries ≡ self.old.found.entries) }
+        ensures inst { OnOk result (self.new.inst ≡ needed) }
+        ensures fresh { OnOk result (self.new.frame.demanded.kept.items ≡ []) }
+        ensures unfound { OnOk result (self.new.frame.demanded.finds.items ≡ []) }
+        ensures few { OnOk result (length self.new.waiting.entries < 2 ^ 64) }
+        ensures finds { OnOk result (length self.new.found.entries < 2 ^ 64) }
+        ensures stepped { IfOk result (HasStepped rules.now (contents store.now) needed self.new.frame.trial) }
+        ensures passed { (finds : List (Instance ℕ × FindCode)) → IfOk result (HasPassedTo rules.now (contents store.now) finds needed self.new.frame) }
+        ensures typed { IfOk result (λ s. IsTypedStep rules.now (class_shown store.now) s self.new.frame.trial) }
     {
         let (frame, step) = Frame::start(alloc, rules, store, &needed)?;
-        let mut waiting = self.waiting;
-        waiting.insert(self.inst, self.frame)?;
+        let frame = mem::replace(&mut self.frame, frame);
+        let inst = mem::replace(&mut self.inst, needed);
+        put(&mut self.waiting, inst, frame)?;
         // `len` says that they are fewer than 2^64.
-        let _counts = (waiting.len(), self.found.len());
-        let question = Question {
-            waiting,
-            found: self.found,
-            inst: needed,
-            frame,
-        };
-        Ok((question, step))
+        let _counts = (self.waiting.len(), self.found.len());
+        Ok(step)
     }
+
+    // Goes back to the one that waits for the last instance, which is found; where none waits, that was the question.
+    pub fn ascend(&mut self, alloc: Global, find: Find) -> Result<Turn, AllocError>
+        ensures { IfOk result (HasAscended self.old find self.new) }
+    {
+        let Some((below, frame)) = self.waiting.pop() else {
+            return Ok(Turn::Answers(Answer::Value(find.into_value())));
+        };
+        self.frame = frame;
+        let inst = mem::replace(&mut self.inst, below);
+        let needed = inst.copy(alloc)?;
+        put(&mut self.found, inst, find)?;
+        // `len` says that they are fewer than 2^64.
+        let _counts = (self.waiting.len(), self.found.len());
+        Ok(Turn::GoesOn(Step::Need(needed)))
+    }
+
+    // The last instance of the chain.
+    pub fn into_inst(self) -> Inst
+        ensures { result ≡ self.entry.inst }
+    {
+        let Question {
+            waiting: _,
+            found: _,
+            inst,
+            frame: _,
+        } = self;
+        inst
+    }
+}
+
+// Puts the value by the instance, or finds memory wanting.
+fn put<V: Drop>(map: &mut IndexMap<Inst, V>, inst: Inst, value: V) -> Result<(), AllocError>
+    ensures { OnOk result (map.new.entries ≡ insert_entry same_instance map.old.entries inst value) }
+{
+    map.insert(inst, value)?;
+    Ok(())
 }
 
 impl<'a> Frame<'a> {
@@ -165,10 +238,7 @@ impl<'a> Frame<'a> {
         ensures typed { IfOk result (λ r. IsTypedStep rules.now (class_shown store.now) r.1 r.0.trial) }
     {
         let (trial, step) = Trial::start(alloc, rules, store, inst)?;
-        let demanded = Demanded {
-            kept: Vec::new(alloc),
-            finds: Vec::new(alloc),
-        };
+        let demanded = Demanded::new(alloc);
         Ok((Frame { trial, demanded }, step))
     }
 
@@ -210,22 +280,46 @@ impl<'a> Frame<'a> {
     }
 
     // What it found, at its end.
-    pub fn find(self, alloc: Global, value: Value) -> Result<Find, AllocError>
+    pub fn find(&mut self, alloc: Global, value: Value) -> Result<Find, AllocError>
         ensures value { IfOk result (λ f. f.value ≡ value) }
-        ensures demanded { IfOk result (λ f. f.demanded ≡ self.entry.demanded) }
-        ensures reads { IfOk result (λ f. map loc_view f.reads.items ≡ self.entry.trial.reads) }
+        ensures demanded { IfOk result (λ f. f.demanded ≡ self.old.demanded) }
+        ensures reads { IfOk result (λ f. map loc_view f.reads.items ≡ self.old.trial.reads) }
     {
         let mut reads = Vec::new(alloc);
         reads.extend_from_slice(self.trial.reads().as_slice())?;
+        let demanded = mem::replace(&mut self.demanded, Demanded::new(alloc));
         Ok(Find {
             value,
             reads,
-            demanded: self.demanded,
+            demanded,
         })
     }
 }
 
+impl Find {
+    fn into_value(self) -> Value
+        ensures { result ≡ self.value }
+    {
+        let Find {
+            value,
+            reads: _,
+            demanded: _,
+        } = self;
+        value
+    }
+}
+
 impl Demanded {
+    fn new(alloc: Global) -> Demanded
+        ensures kept { result.kept.items ≡ [] }
+        ensures finds { result.finds.items ≡ [] }
+    {
+        Demanded {
+            kept: Vec::new(alloc),
+            finds: Vec::new(alloc),
+        }
+    }
+
     // Takes the value of an instance, where it is known.
     fn recall<K: Keeper>(
         &mut self,

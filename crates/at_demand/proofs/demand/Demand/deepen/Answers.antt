@@ -12,39 +12,39 @@ use Rattle.at_demand.proofs.demand.Demand.deepen.Goals as goal
 
 pub returns-then-has-clause-answers : goal.returns-then-has-clause-answers
 returns-then-has-clause-answers g c asked h =
-    closes c.args.rules.now (contents c.args.store.now) asked (g.K.Keeper.contents c.args.self.now.keeper) c.args.question c.args.needed c.requires.orderly h c.if-has.ensures
+    closes c.args.rules.now (contents c.args.store.now) asked (g.K.Keeper.contents c.args.self.now.keeper) c.args.question.now c.args.needed c.requires.orderly h c.if-has.ensures
 
 pub returns-clause-turn : goal.returns-clause-turn
 returns-clause-turn g c =
-    let e = c.in_ok-next.ensures in
-    deepens (g.K.Keeper.contents c.args.self.now.keeper) c.args.question c.in_ok-next.next c.args.needed c.requires.orderly c.requires.found c.requires.kept c.if-has.ensures
+    let e = c.in_ok-step.ensures in
+    deepens (g.K.Keeper.contents c.args.self.now.keeper) c.args.question.now c.descend.new.self c.args.needed c.requires.orderly c.requires.found c.requires.kept c.if-has.ensures
     e.waiting e.found e.inst e.fresh e.few e.finds
 
 pub returns-clause-answers : goal.returns-clause-answers
 returns-clause-answers g c asked h =
-    let e = c.in_ok-next.ensures in
-    deepens_true c.args.rules.now (contents c.args.store.now) asked (g.K.Keeper.contents c.args.self.now.keeper) c.args.question c.in_ok-next.next c.args.needed c.in_ok-next.step c.requires.orderly h
+    let e = c.in_ok-step.ensures in
+    deepens_true c.args.rules.now (contents c.args.store.now) asked (g.K.Keeper.contents c.args.self.now.keeper) c.args.question.now c.descend.new.self c.args.needed c.in_ok-step.step c.requires.orderly h
     e.waiting e.found e.inst e.stepped
 
 pub returns-clause-covering : goal.returns-clause-covering
 returns-clause-covering g c h =
-    let e = c.in_ok-next.ensures in
-    let q = c.args.question in
-    deepens_covering c.args.rules.now (contents c.args.store.now) (g.K.Keeper.contents c.args.self.now.keeper) q c.in_ok-next.next c.requires.orderly c.args.needed c.in_ok-next.step h e.waiting e.found e.inst (e.passed q.found.entries)
+    let e = c.in_ok-step.ensures in
+    let q = c.args.question.now in
+    deepens_covering c.args.rules.now (contents c.args.store.now) (g.K.Keeper.contents c.args.self.now.keeper) q c.descend.new.self c.requires.orderly c.args.needed c.in_ok-step.step h e.waiting e.found e.inst (e.passed q.found.entries)
 
 pub returns-then-has-clause-sparing : goal.returns-then-has-clause-sparing
 returns-then-has-clause-sparing g c asked h stands sparing =
-    circle_all c.args.rules.now (contents c.args.store.now) asked (g.K.Keeper.contents c.args.self.now.keeper) c.args.question (step.Need c.args.needed) c.requires.orderly h stands sparing.settled sparing.spare.deep c.args.needed refl c.if-has.ensures
+    circle_all c.args.rules.now (contents c.args.store.now) asked (g.K.Keeper.contents c.args.self.now.keeper) c.args.question.now (step.Need c.args.needed) c.requires.orderly h stands sparing.settled sparing.spare.deep c.args.needed refl c.if-has.ensures
 
 pub returns-clause-sparing : goal.returns-clause-sparing
 returns-clause-sparing g c asked h stands sparing =
-    let e = c.in_ok-next.ensures in
-    deepens_sparing c.args.rules.now (contents c.args.store.now) (g.K.Keeper.contents c.args.self.now.keeper) c.args.question c.in_ok-next.next sparing c.requires.orderly e.waiting e.found e.fresh e.unfound
+    let e = c.in_ok-step.ensures in
+    deepens_sparing c.args.rules.now (contents c.args.store.now) (g.K.Keeper.contents c.args.self.now.keeper) c.args.question.now c.descend.new.self sparing c.requires.orderly e.waiting e.found e.fresh e.unfound
 
 pub descend-requires-clause-typed : goal.descend-requires-clause-typed
 descend-requires-clause-typed g c = c.requires.typed.last.instance
 
 pub returns-clause-typed : goal.returns-clause-typed
 returns-clause-typed g c =
-    let e = c.in_ok-next.ensures in
-    deepens_typed c.args.rules.now (class_shown c.args.store.now) (g.K.Keeper.contents c.args.self.now.keeper) c.args.question c.in_ok-next.next c.args.needed c.in_ok-next.step c.requires.orderly c.requires.typed e.waiting e.inst e.typed
+    let e = c.in_ok-step.ensures in
+    deepens_typed c.args.rules.now (class_shown c.args.store.now) (g.K.Keeper.contents c.args.self.now.keeper) c.args.question.now c.descend.new.self c.args.needed c.in_ok-step.step c.requires.orderly c.requires.typed e.waiting e.inst e.typed

@@ -1,9 +1,12 @@
 use Rattle.std.proofs.Common.{◌<◌, ◌^◌, sym, ◌∙◌, subst}
 use Rattle.at_model.specs.Instances.{AnyText}
+use Rattle.at_model.specs.Meaning.{Answers}
 use Rattle.at_model.specs.TypedRuns.{IsWellTyped}
 use Rattle.at_store.specs.Shown.{contents}
 use Rattle.at_body.specs.Typed.{class_shown}
-use Rattle.at_demand.specs.declared.demand.Turn.{Turn}
+use Rattle.at_demand.specs.declared.answer.Answer.TheVariants as answer
+use Rattle.at_demand.specs.declared.question.Turn.{Turn}
+use Rattle.at_demand.specs.Known.{meaning, answer_view}
 use Rattle.at_demand.specs.UnderWay.{HasStepped, IsTurn, IsRightTurn}
 use Rattle.at_demand.proofs.Orderly.{begun}
 use Rattle.at_demand.specs.Typing.{IsTypedTurn}
@@ -17,8 +20,8 @@ use Rattle.at_demand.proofs.Gaining.{worthy_none}
 use Rattle.at_demand.proofs.SparingOn.{begun_sparing}
 use Rattle.at_demand.proofs.demand.Demand.evaluate.Goals as goal
 
-pub loop-next-init : goal.loop-next-init
-loop-next-init g c =
+pub loop-question-init : goal.loop-question-init
+loop-question-init g c =
     let e = c.in_ok-begun.ensures in
     let q = c.in_ok-begun.begun.0 in
     let look = contents c.args.store.now in
@@ -39,60 +42,60 @@ loop-next-init g c =
 
 pub turn-requires-clause-right : goal.turn-requires-clause-right
 turn-requires-clause-right g c =
-    let q = c.loop-next.question in
-    let h = c.loop-next.invariant.holds in
-    right_known c.args.rules.now (contents c.args.store.now) (g.K.Keeper.contents c.loop-next.self.keeper) q.found.entries h.kept h.finds
+    let q = c.loop-question.question in
+    let h = c.loop-question.invariant.holds in
+    right_known c.args.rules.now (contents c.args.store.now) (g.K.Keeper.contents c.loop-question.self.keeper) q.found.entries h.kept h.finds
 
 pub turn-requires-clause-typed : goal.turn-requires-clause-typed
-turn-requires-clause-typed g c = c.loop-next.invariant.typed
+turn-requires-clause-typed g c = c.loop-question.invariant.typed
 
 pub new-requires-clause-typed : goal.new-requires-clause-typed
 new-requires-clause-typed g c = subst (IsWellTyped c.args.rules.now (class_shown c.args.store.now) AnyText) (sym c.in_ok-copy.ensures) c.requires.typed
 
-pub returns-in_err-next-clause-right : goal.returns-in_err-next-clause-right
-returns-in_err-next-clause-right g c is right = c.turn.ensures.stays c.args.inst.now is c.loop-next.invariant.holds c.loop-next.invariant.covering (c.loop-next.invariant.stays is right)
+pub returns-in_err-reached-clause-right : goal.returns-in_err-reached-clause-right
+returns-in_err-reached-clause-right g c is right = c.turn.ensures.stays c.args.inst.now is c.loop-question.invariant.holds c.loop-question.invariant.covering (c.loop-question.invariant.stays is right)
 
-pub loop-next-preserved : goal.loop-next-preserved
-loop-next-preserved g c =
+pub loop-question-preserved : goal.loop-question-preserved
+loop-question-preserved g c =
     let entries = g.K.Keeper.contents c.turn.new.self.keeper in
-    let goes = subst (λ (t : Turn). IsTurn entries c.loop-next.question t) c.in-GoesOn.is c.in_ok-next.ensures.turn in
+    let goes = subst (λ (t : Turn). IsTurn entries c.loop-question.question c.turn.new.question t) c.in-GoesOn.is c.in_ok-reached.ensures.turn in
     record {
       orderly = goes.orderly;
-      holds = subst (λ (t : Turn). IsRightTurn c.args.rules.now (contents c.args.store.now) c.args.inst.now entries t) c.in-GoesOn.is (c.in_ok-next.ensures.answers c.args.inst.now c.loop-next.invariant.holds);
-      covering = subst (λ (t : Turn). IsCoveringTurn c.args.rules.now (contents c.args.store.now) t) c.in-GoesOn.is (c.in_ok-next.ensures.covering c.args.inst.now c.loop-next.invariant.holds c.loop-next.invariant.covering);
-      typed = subst (λ (t : Turn). IsTypedTurn c.args.rules.now (class_shown c.args.store.now) t) c.in-GoesOn.is c.in_ok-next.ensures.typed;
-      stays = λ is right. c.turn.ensures.stays c.args.inst.now is c.loop-next.invariant.holds c.loop-next.invariant.covering (c.loop-next.invariant.stays is right);
-      worthy = c.turn.ensures.worthy c.args.inst.now (g.K.Keeper.contents c.args.self.now.keeper) c.loop-next.invariant.holds c.loop-next.invariant.worthy;
-      sparing = λ exact spare. subst (λ (t : Turn). IsSparingTurn c.args.rules.now (contents c.args.store.now) c.args.inst.now entries t) c.in-GoesOn.is
-          (c.in_ok-next.ensures.sparing c.args.inst.now exact c.loop-next.invariant.holds c.loop-next.invariant.covering (c.loop-next.invariant.sparing exact spare));
-      counts = λ exact. counts_more (g.K.Keeper.contents c.args.self.now.keeper) (g.K.Keeper.contents c.loop-next.self.keeper) entries c.args.self.now.work c.loop-next.self.work c.turn.new.self.work (c.loop-next.invariant.counts exact) (c.turn.ensures.counts exact (counted_small _ _ c.args.self.now.work c.loop-next.self.work (c.loop-next.invariant.counts exact)));
+      holds = subst (λ (t : Turn). IsRightTurn c.args.rules.now (contents c.args.store.now) c.args.inst.now entries c.turn.new.question t) c.in-GoesOn.is (c.in_ok-reached.ensures.answers c.args.inst.now c.loop-question.invariant.holds);
+      covering = subst (λ (t : Turn). IsCoveringTurn c.args.rules.now (contents c.args.store.now) c.turn.new.question t) c.in-GoesOn.is (c.in_ok-reached.ensures.covering c.args.inst.now c.loop-question.invariant.holds c.loop-question.invariant.covering);
+      typed = subst (λ (t : Turn). IsTypedTurn c.args.rules.now (class_shown c.args.store.now) c.turn.new.question t) c.in-GoesOn.is c.in_ok-reached.ensures.typed;
+      stays = λ is right. c.turn.ensures.stays c.args.inst.now is c.loop-question.invariant.holds c.loop-question.invariant.covering (c.loop-question.invariant.stays is right);
+      worthy = c.turn.ensures.worthy c.args.inst.now (g.K.Keeper.contents c.args.self.now.keeper) c.loop-question.invariant.holds c.loop-question.invariant.worthy;
+      sparing = λ exact spare. subst (λ (t : Turn). IsSparingTurn c.args.rules.now (contents c.args.store.now) c.args.inst.now entries c.turn.new.question t) c.in-GoesOn.is
+          (c.in_ok-reached.ensures.sparing c.args.inst.now exact c.loop-question.invariant.holds c.loop-question.invariant.covering (c.loop-question.invariant.sparing exact spare));
+      counts = λ exact. counts_more (g.K.Keeper.contents c.args.self.now.keeper) (g.K.Keeper.contents c.loop-question.self.keeper) entries c.args.self.now.work c.loop-question.self.work c.turn.new.self.work (c.loop-question.invariant.counts exact) (c.turn.ensures.counts exact (counted_small _ _ c.args.self.now.work c.loop-question.self.work (c.loop-question.invariant.counts exact)));
     }
 
 pub returns-in-Answers-clause-answers : goal.returns-in-Answers-clause-answers
 returns-in-Answers-clause-answers g c =
     let entries = g.K.Keeper.contents c.turn.new.self.keeper in
-    subst (λ (t : Turn). IsRightTurn c.args.rules.now (contents c.args.store.now) c.args.inst.now entries t) c.in-Answers.is (c.in_ok-next.ensures.answers c.args.inst.now c.loop-next.invariant.holds)
+    subst (λ (t : Turn). IsRightTurn c.args.rules.now (contents c.args.store.now) c.args.inst.now entries c.turn.new.question t) c.in-Answers.is (c.in_ok-reached.ensures.answers c.args.inst.now c.loop-question.invariant.holds)
 
 pub returns-in-Answers-clause-right : goal.returns-in-Answers-clause-right
-returns-in-Answers-clause-right g c is right = c.turn.ensures.stays c.args.inst.now is c.loop-next.invariant.holds c.loop-next.invariant.covering (c.loop-next.invariant.stays is right)
+returns-in-Answers-clause-right g c is right = c.turn.ensures.stays c.args.inst.now is c.loop-question.invariant.holds c.loop-question.invariant.covering (c.loop-question.invariant.stays is right)
 
-pub returns-in_err-next-clause-worthy : goal.returns-in_err-next-clause-worthy
-returns-in_err-next-clause-worthy g c = c.turn.ensures.worthy c.args.inst.now (g.K.Keeper.contents c.args.self.now.keeper) c.loop-next.invariant.holds c.loop-next.invariant.worthy
+pub returns-in_err-reached-clause-worthy : goal.returns-in_err-reached-clause-worthy
+returns-in_err-reached-clause-worthy g c = c.turn.ensures.worthy c.args.inst.now (g.K.Keeper.contents c.args.self.now.keeper) c.loop-question.invariant.holds c.loop-question.invariant.worthy
 
-pub returns-in_err-next-clause-spare : goal.returns-in_err-next-clause-spare
-returns-in_err-next-clause-spare g c exact spare = c.turn.ensures.spare c.args.inst.now exact c.loop-next.invariant.holds c.loop-next.invariant.covering (c.loop-next.invariant.sparing exact spare)
+pub returns-in_err-reached-clause-spare : goal.returns-in_err-reached-clause-spare
+returns-in_err-reached-clause-spare g c exact spare = c.turn.ensures.spare c.args.inst.now exact c.loop-question.invariant.holds c.loop-question.invariant.covering (c.loop-question.invariant.sparing exact spare)
 
-pub returns-in_err-next-clause-counts : goal.returns-in_err-next-clause-counts
-returns-in_err-next-clause-counts g c exact = counts_more (g.K.Keeper.contents c.args.self.now.keeper) (g.K.Keeper.contents c.loop-next.self.keeper) (g.K.Keeper.contents c.turn.new.self.keeper) c.args.self.now.work c.loop-next.self.work c.turn.new.self.work (c.loop-next.invariant.counts exact) (c.turn.ensures.counts exact (counted_small _ _ c.args.self.now.work c.loop-next.self.work (c.loop-next.invariant.counts exact)))
+pub returns-in_err-reached-clause-counts : goal.returns-in_err-reached-clause-counts
+returns-in_err-reached-clause-counts g c exact = counts_more (g.K.Keeper.contents c.args.self.now.keeper) (g.K.Keeper.contents c.loop-question.self.keeper) (g.K.Keeper.contents c.turn.new.self.keeper) c.args.self.now.work c.loop-question.self.work c.turn.new.self.work (c.loop-question.invariant.counts exact) (c.turn.ensures.counts exact (counted_small _ _ c.args.self.now.work c.loop-question.self.work (c.loop-question.invariant.counts exact)))
 
 pub returns-in-Answers-clause-worthy : goal.returns-in-Answers-clause-worthy
-returns-in-Answers-clause-worthy g c = c.turn.ensures.worthy c.args.inst.now (g.K.Keeper.contents c.args.self.now.keeper) c.loop-next.invariant.holds c.loop-next.invariant.worthy
+returns-in-Answers-clause-worthy g c = c.turn.ensures.worthy c.args.inst.now (g.K.Keeper.contents c.args.self.now.keeper) c.loop-question.invariant.holds c.loop-question.invariant.worthy
 
 pub returns-in-Answers-clause-spare : goal.returns-in-Answers-clause-spare
-returns-in-Answers-clause-spare g c exact spare = c.turn.ensures.spare c.args.inst.now exact c.loop-next.invariant.holds c.loop-next.invariant.covering (c.loop-next.invariant.sparing exact spare)
+returns-in-Answers-clause-spare g c exact spare = c.turn.ensures.spare c.args.inst.now exact c.loop-question.invariant.holds c.loop-question.invariant.covering (c.loop-question.invariant.sparing exact spare)
 
 pub returns-in-Answers-clause-counts : goal.returns-in-Answers-clause-counts
-returns-in-Answers-clause-counts g c exact = counts_more (g.K.Keeper.contents c.args.self.now.keeper) (g.K.Keeper.contents c.loop-next.self.keeper) (g.K.Keeper.contents c.turn.new.self.keeper) c.args.self.now.work c.loop-next.self.work c.turn.new.self.work (c.loop-next.invariant.counts exact) (c.turn.ensures.counts exact (counted_small _ _ c.args.self.now.work c.loop-next.self.work (c.loop-next.invariant.counts exact)))
+returns-in-Answers-clause-counts g c exact = counts_more (g.K.Keeper.contents c.args.self.now.keeper) (g.K.Keeper.contents c.loop-question.self.keeper) (g.K.Keeper.contents c.turn.new.self.keeper) c.args.self.now.work c.loop-question.self.work c.turn.new.self.work (c.loop-question.invariant.counts exact) (c.turn.ensures.counts exact (counted_small _ _ c.args.self.now.work c.loop-question.self.work (c.loop-question.invariant.counts exact)))
 
 pub returns-in-Answers-clause-work : goal.returns-in-Answers-clause-work
 returns-in-Answers-clause-work g c exact spare =
@@ -101,10 +104,10 @@ returns-in-Answers-clause-work g c exact spare =
     let asked = c.args.inst.now in
     let old = g.K.Keeper.contents c.args.self.now.keeper in
     let new = g.K.Keeper.contents c.turn.new.self.keeper in
-    let counts = counts_more old (g.K.Keeper.contents c.loop-next.self.keeper) new c.args.self.now.work c.loop-next.self.work c.turn.new.self.work (c.loop-next.invariant.counts exact) (c.turn.ensures.counts exact (counted_small _ _ c.args.self.now.work c.loop-next.self.work (c.loop-next.invariant.counts exact))) in
-    let adds = c.turn.ensures.worthy asked old c.loop-next.invariant.holds c.loop-next.invariant.worthy in
-    let all = subst (λ (t : Turn). IsSparingTurn rules look asked new t) c.in-Answers.is
-    (c.in_ok-next.ensures.sparing asked exact c.loop-next.invariant.holds c.loop-next.invariant.covering (c.loop-next.invariant.sparing exact spare)) in
+    let counts = counts_more old (g.K.Keeper.contents c.loop-question.self.keeper) new c.args.self.now.work c.loop-question.self.work c.turn.new.self.work (c.loop-question.invariant.counts exact) (c.turn.ensures.counts exact (counted_small _ _ c.args.self.now.work c.loop-question.self.work (c.loop-question.invariant.counts exact))) in
+    let adds = c.turn.ensures.worthy asked old c.loop-question.invariant.holds c.loop-question.invariant.worthy in
+    let all = subst (λ (t : Turn). IsSparingTurn rules look asked new c.turn.new.question t) c.in-Answers.is
+    (c.in_ok-reached.ensures.sparing asked exact c.loop-question.invariant.holds c.loop-question.invariant.covering (c.loop-question.invariant.sparing exact spare)) in
     work_is rules look asked old new c.args.self.now.work c.turn.new.self.work counts adds all
 
 pub returns-in_err-copy-clause-worthy : goal.returns-in_err-copy-clause-worthy
@@ -129,5 +132,43 @@ pub returns-in-Answers-clause-all : goal.returns-in-Answers-clause-all
 returns-in-Answers-clause-all g c exact spare =
     let look = contents c.args.store.now in
     let new = g.K.Keeper.contents c.turn.new.self.keeper in
-    subst (λ (t : Turn). IsSparingTurn c.args.rules.now look c.args.inst.now new t) c.in-Answers.is
-    (c.in_ok-next.ensures.sparing c.args.inst.now exact c.loop-next.invariant.holds c.loop-next.invariant.covering (c.loop-next.invariant.sparing exact spare))
+    subst (λ (t : Turn). IsSparingTurn c.args.rules.now look c.args.inst.now new c.turn.new.question t) c.in-Answers.is
+    (c.in_ok-reached.ensures.sparing c.args.inst.now exact c.loop-question.invariant.holds c.loop-question.invariant.covering (c.loop-question.invariant.sparing exact spare))
+
+pub returns-in-Fails-clause-answers : goal.returns-in-Fails-clause-answers
+returns-in-Fails-clause-answers g c =
+    let entries = g.K.Keeper.contents c.turn.new.self.keeper in
+    let at = subst (λ (t : Turn). IsRightTurn c.args.rules.now (contents c.args.store.now) c.args.inst.now entries c.turn.new.question t) c.in-Fails.is (c.in_ok-reached.ensures.answers c.args.inst.now c.loop-question.invariant.holds) in
+    subst (λ i. Answers (contents c.args.store.now) (meaning c.args.rules.now) c.args.inst.now (answer_view (answer.Fault c.in-Fails.kind i))) (sym c.into_inst-at.ensures) at
+
+pub returns-in-Fails-clause-right : goal.returns-in-Fails-clause-right
+returns-in-Fails-clause-right g c is right = c.turn.ensures.stays c.args.inst.now is c.loop-question.invariant.holds c.loop-question.invariant.covering (c.loop-question.invariant.stays is right)
+
+pub returns-in-Fails-clause-worthy : goal.returns-in-Fails-clause-worthy
+returns-in-Fails-clause-worthy g c = c.turn.ensures.worthy c.args.inst.now (g.K.Keeper.contents c.args.self.now.keeper) c.loop-question.invariant.holds c.loop-question.invariant.worthy
+
+pub returns-in-Fails-clause-spare : goal.returns-in-Fails-clause-spare
+returns-in-Fails-clause-spare g c exact spare = c.turn.ensures.spare c.args.inst.now exact c.loop-question.invariant.holds c.loop-question.invariant.covering (c.loop-question.invariant.sparing exact spare)
+
+pub returns-in-Fails-clause-counts : goal.returns-in-Fails-clause-counts
+returns-in-Fails-clause-counts g c exact = counts_more (g.K.Keeper.contents c.args.self.now.keeper) (g.K.Keeper.contents c.loop-question.self.keeper) (g.K.Keeper.contents c.turn.new.self.keeper) c.args.self.now.work c.loop-question.self.work c.turn.new.self.work (c.loop-question.invariant.counts exact) (c.turn.ensures.counts exact (counted_small _ _ c.args.self.now.work c.loop-question.self.work (c.loop-question.invariant.counts exact)))
+
+pub returns-in-Fails-clause-work : goal.returns-in-Fails-clause-work
+returns-in-Fails-clause-work g c exact spare =
+    let rules = c.args.rules.now in
+    let look = contents c.args.store.now in
+    let asked = c.args.inst.now in
+    let old = g.K.Keeper.contents c.args.self.now.keeper in
+    let new = g.K.Keeper.contents c.turn.new.self.keeper in
+    let counts = counts_more old (g.K.Keeper.contents c.loop-question.self.keeper) new c.args.self.now.work c.loop-question.self.work c.turn.new.self.work (c.loop-question.invariant.counts exact) (c.turn.ensures.counts exact (counted_small _ _ c.args.self.now.work c.loop-question.self.work (c.loop-question.invariant.counts exact))) in
+    let adds = c.turn.ensures.worthy asked old c.loop-question.invariant.holds c.loop-question.invariant.worthy in
+    let all = subst (λ (t : Turn). IsSparingTurn rules look asked new c.turn.new.question t) c.in-Fails.is
+    (c.in_ok-reached.ensures.sparing asked exact c.loop-question.invariant.holds c.loop-question.invariant.covering (c.loop-question.invariant.sparing exact spare)) in
+    work_is rules look asked old new c.args.self.now.work c.turn.new.self.work counts adds all
+
+pub returns-in-Fails-clause-all : goal.returns-in-Fails-clause-all
+returns-in-Fails-clause-all g c exact spare =
+    let look = contents c.args.store.now in
+    let new = g.K.Keeper.contents c.turn.new.self.keeper in
+    subst (λ (t : Turn). IsSparingTurn c.args.rules.now look c.args.inst.now new c.turn.new.question t) c.in-Fails.is
+    (c.in_ok-reached.ensures.sparing c.args.inst.now exact c.loop-question.invariant.holds c.loop-question.invariant.covering (c.loop-question.invariant.sparing exact spare))

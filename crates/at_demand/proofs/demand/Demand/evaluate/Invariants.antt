@@ -9,8 +9,8 @@ use Rattle.at_demand.specs.Right.{AreRight, IsThere}
 use Rattle.at_demand.specs.Sparing.{AddsWorthy, AreSpare, Counts, IsSparing}
 use Rattle.at_demand.proofs.demand.Demand.evaluate.Given as goal
 
-abbrev pub invariant-loop-next : goal.invariant-loop-next
-invariant-loop-next g l = record {
+abbrev pub invariant-loop-question : goal.invariant-loop-question
+invariant-loop-question g l = record {
   orderly : IsOrderlyIn (g.K.Keeper.contents l.self.keeper) l.question;
   holds : IsTrueIn l.rules (contents l.store) l.inst (g.K.Keeper.contents l.self.keeper) l.question l.step;
   covering : IsCoveringIn l.rules (contents l.store) l.question l.step;
@@ -21,5 +21,5 @@ invariant-loop-next g l = record {
   counts : IsTrue g.K.Keeper.exact → Counts (g.K.Keeper.contents l.initial.self.keeper) (g.K.Keeper.contents l.self.keeper) l.initial.self.work l.self.work;
 }
 
-abbrev pub decreases-loop-next : goal.decreases-loop-next
-decreases-loop-next g l = 2 ^ 66 - progress l.question
+abbrev pub decreases-loop-question : goal.decreases-loop-question
+decreases-loop-question g l = 2 ^ 66 - progress l.question

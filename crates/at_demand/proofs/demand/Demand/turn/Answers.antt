@@ -15,7 +15,7 @@ use Rattle.at_demand.proofs.demand.Demand.turn.Goals as goal
 
 pub returns-in-Value-clause-answers : goal.returns-in-Value-clause-answers
 returns-in-Value-clause-answers g c asked h =
-    let q = c.args.question in
+    let q = c.args.question.now in
     let look = contents c.args.store.now in
     let entries = g.K.Keeper.contents c.args.self.now.keeper in
     let trial = c.go_on.new.self.trial in
@@ -26,7 +26,7 @@ returns-in-Value-clause-answers g c asked h =
 
 pub returns-in-Value-clause-right : goal.returns-in-Value-clause-right
 returns-in-Value-clause-right g c asked h =
-    let q = c.args.question in
+    let q = c.args.question.now in
     let look = contents c.args.store.now in
     let entries = g.K.Keeper.contents c.args.self.now.keeper in
     let trial = c.go_on.new.self.trial in
@@ -37,7 +37,7 @@ returns-in-Value-clause-right g c asked h =
 
 pub returns-in-Fault-clause-answers : goal.returns-in-Fault-clause-answers
 returns-in-Fault-clause-answers g c asked h =
-    let q = c.args.question in
+    let q = c.args.question.now in
     let look = contents c.args.store.now in
     let entries = g.K.Keeper.contents c.args.self.now.keeper in
     let trial = c.go_on.new.self.trial in
@@ -46,9 +46,9 @@ returns-in-Fault-clause-answers g c asked h =
     let on = steps_on c.args.rules.now look asked entries q.waiting.entries q.found.entries q.inst q.frame.trial trial c.args.step (step.Fault c.in-Fault.kind) h last in
     fails c.args.rules.now look asked entries q.waiting.entries q.found.entries q.inst trial c.in-Fault.kind on
 
-pub returns-clause-answers : goal.returns-clause-answers
-returns-clause-answers g c asked h =
-    let q = c.args.question in
+pub returns-in-Need-clause-answers : goal.returns-in-Need-clause-answers
+returns-in-Need-clause-answers g c asked h =
+    let q = c.args.question.now in
     let look = contents c.args.store.now in
     let entries = g.K.Keeper.contents c.args.self.now.keeper in
     let trial = c.go_on.new.self.trial in
@@ -59,7 +59,7 @@ returns-clause-answers g c asked h =
 
 pub returns-in-Value-clause-covering : goal.returns-in-Value-clause-covering
 returns-in-Value-clause-covering g c asked h stands =
-    let q = c.args.question in
+    let q = c.args.question.now in
     let rules = c.args.rules.now in
     let look = contents c.args.store.now in
     let entries = g.K.Keeper.contents c.args.self.now.keeper in
@@ -72,7 +72,7 @@ returns-in-Value-clause-covering g c asked h stands =
 
 pub returns-in-Value-clause-stays : goal.returns-in-Value-clause-stays
 returns-in-Value-clause-stays g c asked is h stands right =
-    let q = c.args.question in
+    let q = c.args.question.now in
     let rules = c.args.rules.now in
     let look = contents c.args.store.now in
     let entries = g.K.Keeper.contents c.args.self.now.keeper in
@@ -83,9 +83,9 @@ returns-in-Value-clause-stays g c asked is h stands right =
     let stands' = covers_on rules look q.waiting.entries q.found.entries q.inst q.frame c.go_on.new.self c.args.step (step.Value c.in-Value.value) stands passed in
     c.settle.ensures.stays c.args.store.now asked c.requires.idle is on stands' right
 
-pub returns-clause-covering : goal.returns-clause-covering
-returns-clause-covering g c asked h stands =
-    let q = c.args.question in
+pub returns-in-Need-clause-covering : goal.returns-in-Need-clause-covering
+returns-in-Need-clause-covering g c asked h stands =
+    let q = c.args.question.now in
     let rules = c.args.rules.now in
     let look = contents c.args.store.now in
     let entries = g.K.Keeper.contents c.args.self.now.keeper in
@@ -98,7 +98,7 @@ returns-clause-covering g c asked h stands =
 
 pub returns-in-Value-clause-worthy : goal.returns-in-Value-clause-worthy
 returns-in-Value-clause-worthy g c asked first h adds =
-    let q = c.args.question in
+    let q = c.args.question.now in
     let rules = c.args.rules.now in
     let look = contents c.args.store.now in
     let entries = g.K.Keeper.contents c.args.self.now.keeper in
@@ -109,7 +109,7 @@ returns-in-Value-clause-worthy g c asked first h adds =
 
 pub returns-in-Value-clause-sparing : goal.returns-in-Value-clause-sparing
 returns-in-Value-clause-sparing g c asked exact h stands sparing =
-    let q = c.args.question in
+    let q = c.args.question.now in
     let rules = c.args.rules.now in
     let look = contents c.args.store.now in
     let entries = g.K.Keeper.contents c.args.self.now.keeper in
@@ -124,7 +124,7 @@ returns-in-Value-clause-sparing g c asked exact h stands sparing =
 
 pub returns-in-Value-clause-spare : goal.returns-in-Value-clause-spare
 returns-in-Value-clause-spare g c asked exact h stands sparing =
-    let q = c.args.question in
+    let q = c.args.question.now in
     let rules = c.args.rules.now in
     let look = contents c.args.store.now in
     let entries = g.K.Keeper.contents c.args.self.now.keeper in
@@ -139,7 +139,7 @@ returns-in-Value-clause-spare g c asked exact h stands sparing =
 
 pub returns-in-Fault-clause-sparing : goal.returns-in-Fault-clause-sparing
 returns-in-Fault-clause-sparing g c asked exact h stands sparing =
-    let q = c.args.question in
+    let q = c.args.question.now in
     let rules = c.args.rules.now in
     let look = contents c.args.store.now in
     let entries = g.K.Keeper.contents c.args.self.now.keeper in
@@ -154,9 +154,9 @@ returns-in-Fault-clause-sparing g c asked exact h stands sparing =
     let orderly : IsOrderlyIn entries next = record { distinct = o.distinct; open_ones = o.open_ones; unkept = o.unkept; waiting_kept = o.waiting_kept; found_kept = o.found_kept; last_kept = c.in_ok-step.ensures.kept } in
     failed_all rules look asked entries next (step.Fault c.in-Fault.kind) orderly on stands' goes.settled goes.spare.deep c.in-Fault.kind refl
 
-pub returns-clause-sparing : goal.returns-clause-sparing
-returns-clause-sparing g c asked exact h stands sparing =
-    let q = c.args.question in
+pub returns-in-Need-clause-sparing : goal.returns-in-Need-clause-sparing
+returns-in-Need-clause-sparing g c asked exact h stands sparing =
+    let q = c.args.question.now in
     let rules = c.args.rules.now in
     let look = contents c.args.store.now in
     let entries = g.K.Keeper.contents c.args.self.now.keeper in
@@ -190,14 +190,14 @@ returns-in-Fault-clause-spare g c asked exact h stands sparing = sparing.spare
 pub returns-in-Fault-clause-counts : goal.returns-in-Fault-clause-counts
 returns-in-Fault-clause-counts g c exact small = counts_none (g.K.Keeper.contents c.args.self.now.keeper) c.args.self.now.work small
 
-pub returns-clause-worthy : goal.returns-clause-worthy
-returns-clause-worthy g c asked first h adds = adds
+pub returns-in-Need-clause-worthy : goal.returns-in-Need-clause-worthy
+returns-in-Need-clause-worthy g c asked first h adds = adds
 
-pub returns-clause-spare : goal.returns-clause-spare
-returns-clause-spare g c asked exact h stands sparing = sparing.spare
+pub returns-in-Need-clause-spare : goal.returns-in-Need-clause-spare
+returns-in-Need-clause-spare g c asked exact h stands sparing = sparing.spare
 
-pub returns-clause-counts : goal.returns-clause-counts
-returns-clause-counts g c exact small = counts_none (g.K.Keeper.contents c.args.self.now.keeper) c.args.self.now.work small
+pub returns-in-Need-clause-counts : goal.returns-in-Need-clause-counts
+returns-in-Need-clause-counts g c exact small = counts_none (g.K.Keeper.contents c.args.self.now.keeper) c.args.self.now.work small
 
 pub returns-in-Value-clause-typed : goal.returns-in-Value-clause-typed
 returns-in-Value-clause-typed g c = c.settle.ensures.typed (class_shown c.args.store.now) c.requires.typed.waits

@@ -9,9 +9,6 @@ returns-clause-value c = refl
 pub returns-clause-reads : goal.returns-clause-reads
 returns-clause-reads c = ap (map loc_view) (c.in_ok-extend_from_slice.ensures.items ∙ ap (λ l. l ++ c.as_slice.result.now) c.new-reads.ensures.items) ∙ c.as_slice.ensures ∙ c.reads.ensures
 
-pub returns-clause-demanded : goal.returns-clause-demanded
-returns-clause-demanded c = refl
-
 pub returns-in_err-extend_from_slice-clause-value : goal.returns-in_err-extend_from_slice-clause-value
 returns-in_err-extend_from_slice-clause-value c = rw ((err_from_is_err_and c.from_residual.result c.from_residual.ensures.1).1) tt
 
