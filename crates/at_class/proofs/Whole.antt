@@ -28,8 +28,9 @@ unfolding no_class
 some_declared [] h = absurd (true≢false (sym (eq-eqb 0 0 refl) ∙ h))
 some_declared (x ∷ xs) h = refl
 
-pub longer : (xs : List ClassDecl) → (length xs == 0) ≡ false → 0 < length (declarations_view xs)
-longer [] h = absurd (true≢false (sym (eq-eqb 0 0 refl) ∙ h))
+pub longer : (xs : List ClassDecl) → no_class (declarations_view xs) ≡ None → 0 < length (declarations_view xs)
+unfolding no_class
+longer [] h = absurd cc
 longer (x ∷ xs) h = omega arith
 
 names_of : (named : List ℕ → _) (xs : List ClassDecl) → map (λ (k : ModelClass). k.name) (map (class_by named) (declarations_view xs)) ≡ map (λ d. string_bytes d.name) xs

@@ -5,4 +5,5 @@ pub mod Climbs
 pub mod Taken
 pub mod Ways
 pub mod Checks
+pub mod Rules
 pub mod Table

@@ -12,12 +12,23 @@ use indexmap::IndexSet;
 use std::alloc::{AllocError, Global};
 
 /// A class as it is declared: its superclass, and the components that it adds to the inherited ones.
-#[derive(Drop)]
 pub struct Class {
     pub name: String,
     pub is_abstract: bool,
     pub parent: Option<ClassId>,
     pub own: Vec<Part>,
+}
+
+/// One call, where each exit that lets it go would else have a case for each collection.
+impl Drop for Class {
+    fn drop(self) {
+        let Class {
+            name: _,
+            is_abstract: _,
+            parent: _,
+            own: _,
+        } = self;
+    }
 }
 
 /// The kind of tokens that the word names.

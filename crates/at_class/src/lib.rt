@@ -12,6 +12,7 @@ mod found;
 mod names;
 mod naming;
 mod part;
+mod rules;
 mod table;
 mod taken;
 mod way;

@@ -1,10 +1,11 @@
 //! Names of classes: each is declared once, and what names a class names one that is declared.
-ghost use Rattle.std.specs.Prelude.{◌≡◌, map, None, Some, IfOk, IfErr, string_bytes, option_and_then, option_map};
+ghost use Rattle.std.specs.Prelude.{◌≡◌, [], None, IfErr, OnOk, string_bytes, option_and_then, option_map};
 ghost use Rattle.std.specs.List.{list_all};
 ghost use Rattle.at_model.specs.Declarations.{class_twice, is_predefined, is_known, is_parent_known, is_part_known, is_token};
 ghost use Rattle.at_class.specs.View.{named_in};
 ghost use Rattle.at_class.specs.Grammar.{declaration_view, declarations_view, part_declaration_view, form_view};
 ghost use Rattle.at_class.specs.Faults.{IsAt};
+ghost use Rattle.at_class.specs.Rules.{AreNames};
 
 use crate::fault::{ClassCode, ClassFault};
 use crate::part::ClassId;
@@ -19,15 +20,16 @@ fn is_predefined(name: &str) -> bool
     name == "ASTNode" || name == "List" || name == "Opt"
 }
 
-/// The names of the classes in their order, or the first name that stands twice.
-pub fn class_names(
+/// Puts the names of the classes into the set, which is empty, in their order. Or the first name that stands twice is refused.
+pub fn put_names(
     alloc: Global,
+    names: &mut IndexSet<String>,
     declarations: &[ClassDecl],
-) -> Result<IndexSet<String>, ClassFault>
-    ensures ok { IfOk result (λ names. (class_twice (declarations_view declarations.now) ≡ None) × (map string_bytes names.keys ≡ map (λ d. string_bytes d.name) declarations.now)) }
+) -> Result<(), ClassFault>
+    requires { names.now.keys ≡ [] }
+    ensures ok { OnOk result ((class_twice (declarations_view declarations.now) ≡ None) × AreNames names.new.keys declarations.now) }
     ensures err { IfErr result (IsAt ClassCode.ClassTwice (class_twice (declarations_view declarations.now))) }
 {
-    let mut names = IndexSet::new(alloc);
     for declaration in declarations {
         let name = String::from_str(alloc, declaration.name.as_str())?;
         let (_, is_new) = names.insert_full(name)?;
@@ -38,7 +40,7 @@ pub fn class_names(
             });
         }
     }
-    Ok(names)
+    Ok(())
 }
 
 /// The class of that name.

@@ -1,15 +1,11 @@
 //! The class table: how it is built, and what it is asked.
-use crate::checks::{
-    component_twice, over_limit, superclass_circle, unknown_class, wrong_token_kind,
-};
 use crate::class::classes_declared;
 use crate::entry::{Entry, entries_of};
-use crate::fault::{ClassCode, ClassFault, refuse};
-use crate::found::found_of_all;
-use crate::names::{class_named, class_names};
+use crate::fault::ClassFault;
+use crate::names::class_named;
 use crate::part::{ClassId, Part, position_named};
+use crate::rules::{known_names, refuse_classes};
 use at_grammar::{ClassDecl, Grammar};
-use at_text::place::Place;
 use indexmap::IndexSet;
 use std::alloc::Global;
 use std::marker::Model;
@@ -171,26 +167,9 @@ fn table_of(alloc: Global, declarations: &[ClassDecl]) -> Result<ClassTable, Cla
     ensures built { IfOk result (λ t. t ≡ classes_of (declarations_view declarations.now)) }
     ensures refused { IfErr result (IsRefusedFor (declarations_view declarations.now)) }
 {
-    if declarations.is_empty() {
-        return Err(ClassFault::Refused {
-            code: ClassCode::NoClass,
-            at: Place::START,
-        });
-    }
-    let names = class_names(alloc, declarations)?;
-    refuse(ClassCode::UnknownClass, unknown_class(&names, declarations))?;
+    let names = known_names(alloc, declarations)?;
     let classes = classes_declared(alloc, &names, declarations)?;
-    refuse(
-        ClassCode::SuperclassCircle,
-        superclass_circle(alloc, &classes, declarations)?,
-    )?;
-    refuse(ClassCode::TokenKind, wrong_token_kind(declarations))?;
-    let found = found_of_all(alloc, &classes)?;
-    refuse(
-        ClassCode::ComponentTwice,
-        component_twice(&found, declarations),
-    )?;
-    refuse(ClassCode::Limit, over_limit(&found, declarations))?;
+    refuse_classes(alloc, &classes, declarations)?;
     let entries = entries_of(alloc, &classes)?;
     Ok(ClassTable { names, entries })
 }

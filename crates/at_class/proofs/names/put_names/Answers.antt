@@ -6,8 +6,8 @@ use Rattle.std.specs.Str.{bytes_eq}
 use Rattle.at_model.specs.Declarations.{class_twice, is_predefined, first_given}
 use Rattle.at_class.specs.Grammar.{declaration_view, declarations_view, place_view}
 use Rattle.at_class.proofs.Firsts.{twice_test, twice_predefined, twice_there, twice_nowhere, names_same, names_more, first_given_here, first_given_more}
-use Rattle.at_class.proofs.names.class_names.Goals as goal
-use Rattle.at_class.proofs.names.class_names.Goals.{then-not-is_new-via-then-not-is_new, then-not-is_new-via-else-not-is_new+then-is_predefined}
+use Rattle.at_class.proofs.names.put_names.Goals as goal
+use Rattle.at_class.proofs.names.put_names.Goals.{then-not-is_new-via-then-not-is_new, then-not-is_new-via-else-not-is_new+then-is_predefined}
 
 pub returns-then-not-is_new-clause-err : goal.returns-then-not-is_new-clause-err
 unfolding class_twice

@@ -3,7 +3,7 @@ use Rattle.std.specs.Prelude.{string_bytes}
 use Rattle.at_model.specs.Declarations.{first_given}
 use Rattle.at_class.specs.Grammar.{declaration_view, declarations_view}
 use Rattle.at_class.proofs.Firsts.{twice_test}
-use Rattle.at_class.proofs.names.class_names.Given as goal
+use Rattle.at_class.proofs.names.put_names.Given as goal
 
 abbrev pub invariant-loop-declaration : goal.invariant-loop-declaration
 invariant-loop-declaration l =
