@@ -5,7 +5,7 @@ use crate::part::ClassId;
 use std::alloc::{AllocError, Global};
 
 /// What is known of a class.
-#[derive(Clone, Copy, PartialEq, Eq, Debug)]
+#[derive(Clone, Copy)]
 pub enum Mark {
     /// Nothing yet.
     Unmet,

@@ -6,7 +6,7 @@ use crate::way::Way;
 use std::alloc::{AllocError, Global};
 
 /// What is found of a class.
-#[derive(Clone, Copy, PartialEq, Eq, Debug)]
+#[derive(Clone, Copy)]
 pub struct Found {
     /// The first of its own components that is taken by one before it, or by what every tree has.
     pub twice: Option<usize>,

@@ -11,7 +11,7 @@ const TOO_MANY: usize = 33;
 
 /// A class on a way: how many names were taken before it, and how many components are wanting, with its own, before there are too
 /// many.
-#[derive(Clone, Copy, PartialEq, Eq, Debug)]
+#[derive(Clone, Copy)]
 pub struct Level {
     class: ClassId,
     names: usize,
