@@ -15,7 +15,7 @@ use super::forms::{
     Arguments, Measured, call, call_of, choice, fold, instance_of, leaf, operation, parenthesized,
     prefixed,
 };
-use super::operators::{Link, UNARY};
+use super::operators::{Link, UNARY, right_level};
 use super::{ReadFault, Reader};
 use crate::syntax::{FoldForm, Form};
 use at_text::place::Place;
@@ -81,7 +81,7 @@ impl<'a> Reader<'a> {
     {
         match link {
             Link::Operator(operator) => {
-                let right = self.binary(level + 1, budget - 1)?;
+                let right = self.binary(right_level(level), budget - 1)?;
                 Ok(operation(self.alloc, operand, operator, right)?)
             }
             Link::InstanceOf(behind) => {

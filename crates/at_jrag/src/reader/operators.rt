@@ -86,6 +86,14 @@ fn link_of(token: &Placed<'_>, level: usize) -> Option<Link>
     }
 }
 
+/// The level of what stands behind an operator of this level: operators of one level lean left.
+pub fn right_level(level: usize) -> usize
+    requires { level < 7 }
+    ensures { result ≡ level + 1 }
+{
+    level + 1
+}
+
 /// The fold that the token begins.
 fn fold_of(token: &Placed<'_>) -> Option<FoldForm>
     ensures { MatchOption result (begins_fold (placed token.now) ≡ false) (λ f. (placed token.now ≡ word (fold_text (fold_view f)) token.now.at) × (begins_fold (placed token.now) ≡ true)) }

@@ -108,7 +108,7 @@ pub linked-returns-in_ok-operation-in-Operator-clause-found : goal.linked-return
 linked-returns-in_ok-operation-in-Operator-clause-found t c = λ old rest r l.
     let s = rw c.in-Operator.is at l in
     operation_reads _ c.args.operand c.in_ok-right-in-Operator.right (operator_view c.in-Operator.operator.operator) c.in-Operator.operator.at c.args.level old rest _ _
-    r s.1.0 (s.2 ∙ ap (λ t. t ∷ left c.args.self.now.cursor.rest.now) s.1.1) c.in_ok-right-in-Operator.ensures.found (c.in_ok-operation-in-Operator).ensures.made (c.in_ok-operation-in-Operator).ensures.depth
+    r s.1.0 (s.2 ∙ ap (λ t. t ∷ left c.args.self.now.cursor.rest.now) s.1.1) (rw c.right_level.ensures at c.in_ok-right-in-Operator.ensures.found) (c.in_ok-operation-in-Operator).ensures.made (c.in_ok-operation-in-Operator).ensures.depth
 
 pub linked-returns-in_ok-instance_of-in-InstanceOf-clause-found : goal.linked-returns-in_ok-instance_of-in-InstanceOf-clause-found
 linked-returns-in_ok-instance_of-in-InstanceOf-clause-found t c = λ old rest r l.
@@ -277,7 +277,7 @@ linked-returns-in_err-right-in-Operator-clause-halts t c =
     let s = rw c.in-Operator.is at l in
     operator_stays o c.in-Operator.operator.at c.args.level c.args.budget c.args.operand.depth (reason_of c.in_err-right-in-Operator.field-0.0) start (left c.args.self.now.cursor.rest.now)
     (left c.binary.new.self.cursor.rest.now)
-    s.1.0 c.requires.operand (s.2 ∙ ap (λ t. t ∷ left c.args.self.now.cursor.rest.now) s.1.1) c.in_err-right-in-Operator.ensures.halts in
+    s.1.0 c.requires.operand (s.2 ∙ ap (λ t. t ∷ left c.args.self.now.cursor.rest.now) s.1.1) (rw c.right_level.ensures at c.in_err-right-in-Operator.ensures.halts) in
     at_error _ c.in_err-right-in-Operator.field-0.0 _ c.from_residual.ensures.1 h
 
 pub linked-returns-in_ok-operation-in-Operator-clause-goes : goal.linked-returns-in_ok-operation-in-Operator-clause-goes
@@ -285,7 +285,7 @@ linked-returns-in_ok-operation-in-Operator-clause-goes t c = λ start l.
     let s = rw c.in-Operator.is at l in
     operator_moves (operator_view c.in-Operator.operator.operator) c.in-Operator.operator.at c.args.level c.args.operand.depth c.in_ok-right-in-Operator.right.depth _ start
     (left c.args.self.now.cursor.rest.now) (left c.binary.new.self.cursor.rest.now)
-    s.1.0 (c.in_ok-operation-in-Operator).ensures.depth (s.2 ∙ ap (λ t. t ∷ left c.args.self.now.cursor.rest.now) s.1.1) c.in_ok-right-in-Operator.ensures.goes
+    s.1.0 (c.in_ok-operation-in-Operator).ensures.depth (s.2 ∙ ap (λ t. t ∷ left c.args.self.now.cursor.rest.now) s.1.1) (rw c.right_level.ensures at c.in_ok-right-in-Operator.ensures.goes)
 
 pub linked-returns-in_err-class-in-InstanceOf-clause-halts : goal.linked-returns-in_err-class-in-InstanceOf-clause-halts
 linked-returns-in_err-class-in-InstanceOf-clause-halts t c =
