@@ -175,7 +175,6 @@ impl<K: Keeper> Demand<K> {
         }
     }
 
-    #[tactic(auto, using(crate::proofs::Orderly::deepens, crate::proofs::Truth::deepens_true, crate::proofs::Truth::closes))]
     // The last instance needs another one.
     fn deepen<'a>(
         &self,
@@ -204,7 +203,6 @@ impl<K: Keeper> Demand<K> {
         Ok(Turn::GoesOn(step))
     }
 
-    #[tactic(auto, using(crate::proofs::Orderly::settles, crate::proofs::Orderly::last_unkept, crate::proofs::Truth::settles_true, crate::proofs::Truth::ends, crate::proofs::Truth::right_after))]
     // The last instance has this value.
     fn settle<'a>(
         &mut self,
@@ -229,7 +227,6 @@ impl<K: Keeper> Demand<K> {
         question.ascend(self.alloc, find)
     }
 
-    #[tactic(auto, using(crate::proofs::Orderly::put_adds))]
     // Keeps what was found of the instance, if its attribute is lazy.
     fn keep(
         &mut self,
