@@ -334,15 +334,13 @@ impl Demanded {
         ensures recalled { IfOk result (IsRecalled (known_in (K.contents keeper.now) found.now.entries) needed) }
     {
         if let Some(value) = keeper.get(&needed) {
-            let value = value.copy()?;
             self.kept.push(needed)?;
-            return Ok(Recalled::Value(value));
+            return Ok(Recalled::Value(value.copy()?));
         }
         match found.get_full(&needed) {
             Some((position, _inst, find)) => {
-                let value = find.value.copy()?;
                 self.finds.push(position)?;
-                Ok(Recalled::Value(value))
+                Ok(Recalled::Value(find.value.copy()?))
             }
             None => Ok(Recalled::Unknown(needed)),
         }

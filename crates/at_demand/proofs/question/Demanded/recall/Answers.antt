@@ -10,14 +10,14 @@ use Rattle.at_demand.proofs.Passing.{takes_kept, takes_found}
 use Rattle.at_demand.proofs.Recalling.{known_kept, known_found, unknown, kept_push}
 use Rattle.at_demand.proofs.question.Demanded.recall.Goals as goal
 
-pub returns-in_err-value : goal.returns-in_err-value
-returns-in_err-value g c =
+pub returns-in_err-push : goal.returns-in_err-push
+returns-in_err-push g c =
     let is = (err_from_is_err_and c.from_residual.result c.from_residual.ensures.1).1 in
     record { kept = rw is tt; takes = rw is tt; one = rw is tt; recalled = rw is tt }
 
-pub returns-in_err-push : goal.returns-in_err-push
-returns-in_err-push g c =
-    let is = (err_from_is_err_and c.from_residual-in_err-push.result c.from_residual-in_err-push.ensures.1).1 in
+pub returns-in_err-copy : goal.returns-in_err-copy
+returns-in_err-copy g c =
+    let is = (err_from_is_err_and c.from_residual-in_err-copy.result c.from_residual-in_err-copy.ensures.1).1 in
     record { kept = rw is tt; takes = rw is tt; one = rw is tt; recalled = rw is tt }
 
 pub returns-in-Some : goal.returns-in-Some
@@ -33,21 +33,21 @@ returns-in-Some g c =
       kept = kept_push entries old.kept.items c.push.new.self.items needed told c.requires.kept items c.in-Some.ensures;
       takes = takes_kept found old new needed items refl;
       one = inl (items, refl);
-      recalled = known_kept entries found needed (value_view c.in_ok-value.value) told c.in-Some.ensures c.in_ok-value.ensures;
+      recalled = known_kept entries found needed (value_view c.in_ok-copy.field-0) told c.in-Some.ensures c.in_ok-copy.ensures;
     }
-
-pub returns-in_err-value-in-Some-get_full : goal.returns-in_err-value-in-Some-get_full
-returns-in_err-value-in-Some-get_full g c =
-    let is = (err_from_is_err_and c.from_residual-in_err-value-in-Some-get_full.result c.from_residual-in_err-value-in-Some-get_full.ensures.1).1 in
-    record { kept = rw is tt; takes = rw is tt; one = rw is tt; recalled = rw is tt }
 
 pub returns-in_err-push-in-Some-get_full : goal.returns-in_err-push-in-Some-get_full
 returns-in_err-push-in-Some-get_full g c =
     let is = (err_from_is_err_and c.from_residual-in_err-push-in-Some-get_full.result c.from_residual-in_err-push-in-Some-get_full.ensures.1).1 in
     record { kept = rw is tt; takes = rw is tt; one = rw is tt; recalled = rw is tt }
 
-pub returns-in_ok-push-in-Some-get_full : goal.returns-in_ok-push-in-Some-get_full
-returns-in_ok-push-in-Some-get_full g c =
+pub returns-in_err-copy-in-Some-get_full : goal.returns-in_err-copy-in-Some-get_full
+returns-in_err-copy-in-Some-get_full g c =
+    let is = (err_from_is_err_and c.from_residual-in_err-copy-in-Some-get_full.result c.from_residual-in_err-copy-in-Some-get_full.ensures.1).1 in
+    record { kept = rw is tt; takes = rw is tt; one = rw is tt; recalled = rw is tt }
+
+pub returns-in_ok-copy-in-Some-get_full : goal.returns-in_ok-copy-in-Some-get_full
+returns-in_ok-copy-in-Some-get_full g c =
     let entries = g.K.Keeper.contents c.args.keeper.now in
     let old = c.args.self.now in
     let new : Demanded = record { kept = old.kept; finds = c.push-in-Some-get_full.new.self } in
@@ -61,7 +61,7 @@ returns-in_ok-push-in-Some-get_full g c =
       kept = c.requires.kept;
       takes = takes_found found old new needed got.position got.find.now there refl items;
       one = inr (got.position, got.find.now, there, refl, items);
-      recalled = known_found entries found needed (value_view c.in_ok-value-in-Some-get_full.value) got.find.now c.in_default.ensures got.ensures.value c.in_ok-value-in-Some-get_full.ensures;
+      recalled = known_found entries found needed (value_view c.in_ok-copy-in-Some-get_full.field-0) got.find.now c.in_default.ensures got.ensures.value c.in_ok-copy-in-Some-get_full.ensures;
     }
 
 pub returns-in-None : goal.returns-in-None
