@@ -14,7 +14,7 @@ use Rattle.at_demand.specs.declared.question.Find.{Find}
 use Rattle.at_demand.specs.declared.question.Frame.{Frame}
 use Rattle.at_demand.specs.declared.question.Question.{Question}
 use Rattle.at_demand.specs.Known.{kept_values, found_values, known_in, MayAdd, WaitingKept, FoundKept}
-use Rattle.at_demand.specs.UnderWay.{chain_of, IsOrderly, IsOrderlyIn, GoesOn}
+use Rattle.at_demand.specs.UnderWay.{chain_of, IsOrderly, IsOrderlyIn, GoesOn, progress}
 use Rattle.at_demand.proofs.Sameness.{same_true}
 use Rattle.at_demand.proofs.Keys.{lookup_push, lookup_other, goes_last, no_key, keys_push, length_push, among_last, among_front, among_push, distinct_push, distinct_pop}
 
@@ -150,7 +150,7 @@ few m n a b = omega (arith, a, b)
 
 pub deepens : (entries : Entries) (old new : Question) (j : Instance ℕ) → IsOrderlyIn entries old → lookup (same_instance j) old.found.entries ≡ None → entries j ≡ None → (Among j (chain_of old.waiting.entries old.inst) → ⊥) →
     new.waiting.entries ≡ insert_entry same_instance old.waiting.entries old.inst old.frame → new.found.entries ≡ old.found.entries → new.inst ≡ j → new.frame.demanded.kept.items ≡ [] →
-    length new.waiting.entries < 2 ^ 64 → length new.found.entries < 2 ^ 64 → GoesOn entries old new
+    length new.waiting.entries < 2 ^ 64 → length new.found.entries < 2 ^ 64 → GoesOn entries (progress old) new
 deepens entries old new j q found kept fresh waiting same last none a b =
     let ws = old.waiting.entries in
     let fs = old.found.entries in
@@ -163,7 +163,7 @@ deepens entries old new j q found kept fresh waiting same last none a b =
 
 pub settles : (entries more : Entries) (old new : Question) (v : Value ℕ) → IsOrderlyIn entries old → MayAdd entries more old.inst v → (b : Instance ℕ) (f : Frame) (d : Find) →
     old.waiting.entries ≡ new.waiting.entries ++ (b, f) ∷ [] → AreKept entries d.demanded.kept.items → new.found.entries ≡ insert_entry same_instance old.found.entries old.inst d → new.inst ≡ b → new.frame ≡ f →
-    length new.waiting.entries < 2 ^ 64 → length new.found.entries < 2 ^ 64 → GoesOn more old new
+    length new.waiting.entries < 2 ^ 64 → length new.found.entries < 2 ^ 64 → GoesOn more (progress old) new
 settles entries more old new v q adds b f d waiting kept found last same few_wait few_found =
     let ws = old.waiting.entries in
     let fs = old.found.entries in

@@ -70,13 +70,13 @@ abbrev pub progress : Question → ℕ
 progress q = 2 * length q.found.entries + length q.waiting.entries
 
 -- the question goes on, further than it was
-pub record GoesOn (entries : Entries) (old new : Question) : Type 0 where
+pub record GoesOn (entries : Entries) (done : ℕ) (new : Question) : Type 0 where
   pub orderly : IsOrderlyIn entries new
-  pub further : progress old < progress new
+  pub further : done < progress new
   pub few : progress new < 2 ^ 66
 
 abbrev pub IsTurn : Entries → (old new : Question) → Turn → Type 0
-IsTurn entries old new (turn.GoesOn s) = GoesOn entries old new
+IsTurn entries old new (turn.GoesOn s) = GoesOn entries (progress old) new
 IsTurn entries old new (turn.Fails kind) = Unit {0}
 IsTurn entries old new (turn.Answers a) = Unit {0}
 

@@ -133,7 +133,6 @@ impl<K: Keeper> Demand<K> {
         self.work
     }
 
-    #[tactic(auto, using(crate::proofs::Orderly::neither, crate::proofs::Truth::right_known, crate::proofs::Truth::fails))]
     // Goes on with the last instance of the chain up to its end, or to an instance that isn't known; then that one's
     // evaluation is begun.
     fn turn<'a>(

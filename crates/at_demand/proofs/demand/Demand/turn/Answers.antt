@@ -3,7 +3,9 @@ use Rattle.at_store.specs.Shown.{contents}
 use Rattle.at_body.specs.Typed.{IsTypedStep, class_shown}
 use Rattle.at_body.specs.declared.trial.Step.{Step}
 use Rattle.at_body.specs.declared.trial.Step.TheVariants as step
-use Rattle.at_demand.specs.UnderWay.{HasStepped, IsOrderlyIn}
+use Rattle.at_demand.specs.Known.{known_in}
+use Rattle.at_demand.specs.UnderWay.{HasStepped, IsOrderlyIn, IsOpen}
+use Rattle.at_demand.proofs.Orderly.{neither}
 use Rattle.at_demand.proofs.Truth.{steps_on, fails}
 use Rattle.at_demand.specs.Covering.{HasPassedTo}
 use Rattle.at_demand.specs.declared.question.Question.{Question}
@@ -212,3 +214,52 @@ go_on-requires-clause-right g c = c.requires.right
 
 pub go_on-requires-clause-typed : goal.go_on-requires-clause-typed
 go_on-requires-clause-typed g c = c.requires.typed.last
+
+pub settle-requires : goal.settle-requires
+settle-requires g c =
+    let o = c.requires.orderly in
+    record { orderly = record { distinct = o.distinct; open_ones = o.open_ones; unkept = o.unkept; waiting_kept = o.waiting_kept; found_kept = o.found_kept; last_kept = c.in_ok-step.ensures.kept } }
+
+pub deepen-requires-clause-orderly : goal.deepen-requires-clause-orderly
+deepen-requires-clause-orderly g c =
+    let o = c.requires.orderly in
+    record { distinct = o.distinct; open_ones = o.open_ones; unkept = o.unkept; waiting_kept = o.waiting_kept; found_kept = o.found_kept; last_kept = c.in_ok-step.ensures.kept }
+
+pub deepen-requires-clause-found : goal.deepen-requires-clause-found
+deepen-requires-clause-found g c =
+    let entries = g.K.Keeper.contents c.args.self.now.keeper in
+    let found = c.args.question.now.found.entries in
+    (neither entries found c.in-Need.needed (subst (λ (s : Step). IsOpen (known_in entries found) s) c.in-Need.is c.in_ok-step.ensures.unknown)).1
+
+pub deepen-requires-clause-kept : goal.deepen-requires-clause-kept
+deepen-requires-clause-kept g c =
+    let entries = g.K.Keeper.contents c.args.self.now.keeper in
+    let found = c.args.question.now.found.entries in
+    (neither entries found c.in-Need.needed (subst (λ (s : Step). IsOpen (known_in entries found) s) c.in-Need.is c.in_ok-step.ensures.unknown)).0
+
+pub returns-in-Value-clause-turn : goal.returns-in-Value-clause-turn
+returns-in-Value-clause-turn g c = c.settle.ensures.turn
+
+pub returns-in-Need-clause-turn : goal.returns-in-Need-clause-turn
+returns-in-Need-clause-turn g c = c.deepen.ensures.turn
+
+pub returns-in-Need-clause-typed : goal.returns-in-Need-clause-typed
+returns-in-Need-clause-typed g c = c.deepen.ensures.typed
+
+pub returns-in-Need-clause-right : goal.returns-in-Need-clause-right
+returns-in-Need-clause-right g c asked h = h.kept
+
+pub returns-in-Need-clause-stays : goal.returns-in-Need-clause-stays
+returns-in-Need-clause-stays g c asked is h stands right = right
+
+pub returns-in-Fault-clause-right : goal.returns-in-Fault-clause-right
+returns-in-Fault-clause-right g c asked h = h.kept
+
+pub returns-in-Fault-clause-stays : goal.returns-in-Fault-clause-stays
+returns-in-Fault-clause-stays g c asked is h stands right = right
+
+pub returns-in_err-step-clause-right : goal.returns-in_err-step-clause-right
+returns-in_err-step-clause-right g c asked h = h.kept
+
+pub returns-in_err-step-clause-stays : goal.returns-in_err-step-clause-stays
+returns-in_err-step-clause-stays g c asked is h stands right = right
