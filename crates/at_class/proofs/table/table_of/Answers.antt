@@ -1,5 +1,4 @@
 use Rattle.std.proofs.Common.{◌∙◌, ap}
-use Rattle.at_model.specs.Declarations.{classes_of}
 use Rattle.at_class.specs.View.{classes_view}
 use Rattle.at_class.specs.Grammar.{declarations_view}
 use Rattle.at_class.proofs.Named.{classes-declared}
