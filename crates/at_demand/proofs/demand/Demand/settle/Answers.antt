@@ -1,5 +1,5 @@
 use Rattle.std.proofs.Common.{sym, subst}
-use Rattle.std.proofs.lemmas.Result.{IfOk-weaker}
+use Rattle.std.proofs.lemmas.Result.{IfOk-weaker, err_from_is_err_and}
 use Rattle.at_body.specs.Values.{value_view}
 use Rattle.at_body.specs.declared.value.Value.{Value as ValueCode}
 use Rattle.at_cache.specs.Kept.{AreKept}
@@ -19,8 +19,36 @@ keep-requires-clause-absent g c =
     let q = c.args.question.now in
     last_unkept (g.K.Keeper.contents c.args.self.now.keeper) q.waiting.entries q.found.entries q.inst q.frame.demanded.kept.items c.requires.orderly
 
-pub returns-in_err-find-clause-counts : goal.returns-in_err-find-clause-counts
-returns-in_err-find-clause-counts g c exact small = counts_none (g.K.Keeper.contents c.args.self.now.keeper) c.args.self.now.work small
+pub returns-in_err-find : goal.returns-in_err-find
+returns-in_err-find g c =
+    let is = (err_from_is_err_and c.from_residual.result c.from_residual.ensures.1).1 in
+    record {
+      turn = rw is tt;
+      typed = λ at waits. rw is tt;
+      answers = λ look asked h. rw is tt;
+      right = λ look asked h. h.kept;
+      covering = λ look h. rw is tt;
+      stays = λ s asked idle there h stands right. right;
+      worthy = λ look asked first h adds. adds;
+      sparing = λ look asked exact h stands sparing. rw is tt;
+      spare = λ look asked exact h stands sparing. sparing.spare;
+      counts = λ exact small. counts_none (g.K.Keeper.contents c.args.self.now.keeper) c.args.self.now.work small;
+    }
+
+pub returns-in_err-keep-clause-turn : goal.returns-in_err-keep-clause-turn
+returns-in_err-keep-clause-turn g c = rw ((err_from_is_err_and c.from_residual-in_err-keep.result c.from_residual-in_err-keep.ensures.1).1) tt
+
+pub returns-in_err-keep-clause-typed : goal.returns-in_err-keep-clause-typed
+returns-in_err-keep-clause-typed g c at waits = rw ((err_from_is_err_and c.from_residual-in_err-keep.result c.from_residual-in_err-keep.ensures.1).1) tt
+
+pub returns-in_err-keep-clause-answers : goal.returns-in_err-keep-clause-answers
+returns-in_err-keep-clause-answers g c look asked h = rw ((err_from_is_err_and c.from_residual-in_err-keep.result c.from_residual-in_err-keep.ensures.1).1) tt
+
+pub returns-in_err-keep-clause-covering : goal.returns-in_err-keep-clause-covering
+returns-in_err-keep-clause-covering g c look h = rw ((err_from_is_err_and c.from_residual-in_err-keep.result c.from_residual-in_err-keep.ensures.1).1) tt
+
+pub returns-in_err-keep-clause-sparing : goal.returns-in_err-keep-clause-sparing
+returns-in_err-keep-clause-sparing g c look asked exact h stands sparing = rw ((err_from_is_err_and c.from_residual-in_err-keep.result c.from_residual-in_err-keep.ensures.1).1) tt
 
 pub returns-in_err-keep-clause-right : goal.returns-in_err-keep-clause-right
 returns-in_err-keep-clause-right g c look asked h =
