@@ -1,4 +1,5 @@
 use Rattle.std.proofs.Common.{◌<◌, ◌^◌, sym, subst}
+use Rattle.std.proofs.lemmas.Result.{err_from_is_err_and}
 use Rattle.at_store.specs.Shown.{contents}
 use Rattle.at_body.specs.Values.{value_view}
 use Rattle.at_demand.proofs.Orderly.{no_value}
@@ -9,14 +10,23 @@ use Rattle.at_demand.proofs.demand.Demand.answer.Goals as goal
 pub evaluate-requires-clause-unkept : goal.evaluate-requires-clause-unkept
 evaluate-requires-clause-unkept g c = no_value (g.K.Keeper.contents c.args.self.now.keeper c.args.inst.now) (sym c.in_default.ensures)
 
-pub returns-in_err-copy-clause-worthy : goal.returns-in_err-copy-clause-worthy
-returns-in_err-copy-clause-worthy g c = worthy_none c.args.rules.now (contents c.args.store.now) c.args.inst.now (g.K.Keeper.contents c.args.self.now.keeper)
+pub returns-in_err-copy : goal.returns-in_err-copy
+returns-in_err-copy g c =
+    let is = (err_from_is_err_and c.from_residual.result c.from_residual.ensures.1).1 in
+    record {
+      answers = rw is tt;
+      worthy = worthy_none c.args.rules.now (contents c.args.store.now) c.args.inst.now (g.K.Keeper.contents c.args.self.now.keeper);
+      spare = λ exact spare. spare;
+      all = λ exact spare. rw is tt;
+      counts = λ exact. counts_none (g.K.Keeper.contents c.args.self.now.keeper) c.args.self.now.work (subst (λ n. n < 2 ^ 64) c.work-work.ensures c.work-work.type_inv);
+      work = λ exact spare. rw is tt;
+      right = λ there right. right;
+    }
 
-pub returns-in_err-copy-clause-spare : goal.returns-in_err-copy-clause-spare
-returns-in_err-copy-clause-spare g c exact spare = spare
-
-pub returns-in_err-copy-clause-counts : goal.returns-in_err-copy-clause-counts
-returns-in_err-copy-clause-counts g c exact = counts_none (g.K.Keeper.contents c.args.self.now.keeper) c.args.self.now.work (subst (λ n. n < 2 ^ 64) c.work-work.ensures c.work-work.type_inv)
+pub returns : goal.returns
+returns g c =
+    let e = c.evaluate.ensures in
+    record { answers = e.answers; worthy = e.worthy; spare = e.spare; all = e.all; counts = e.counts; work = e.work; right = e.right }
 
 pub returns-in-Some-clause-worthy : goal.returns-in-Some-clause-worthy
 returns-in-Some-clause-worthy g c = worthy_none c.args.rules.now (contents c.args.store.now) c.args.inst.now (g.K.Keeper.contents c.args.self.now.keeper)

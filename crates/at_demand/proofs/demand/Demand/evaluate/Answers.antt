@@ -1,4 +1,5 @@
 use Rattle.std.proofs.Common.{◌<◌, ◌^◌, sym, ◌∙◌, subst}
+use Rattle.std.proofs.lemmas.Result.{err_from_is_err_and}
 use Rattle.at_model.specs.Instances.{AnyText}
 use Rattle.at_model.specs.Meaning.{Answers}
 use Rattle.at_model.specs.TypedRuns.{IsWellTyped}
@@ -52,8 +53,18 @@ turn-requires-clause-typed g c = c.loop-question.invariant.typed
 pub new-requires-clause-typed : goal.new-requires-clause-typed
 new-requires-clause-typed g c = subst (IsWellTyped c.args.rules.now (class_shown c.args.store.now) AnyText) (sym c.in_ok-copy.ensures) c.requires.typed
 
-pub returns-in_err-reached-clause-right : goal.returns-in_err-reached-clause-right
-returns-in_err-reached-clause-right g c is right = c.turn.ensures.stays c.args.inst.now is c.loop-question.invariant.holds c.loop-question.invariant.covering (c.loop-question.invariant.stays is right)
+pub returns-in_err-reached : goal.returns-in_err-reached
+returns-in_err-reached g c =
+    let is = (err_from_is_err_and c.from_residual-in_err-reached.result c.from_residual-in_err-reached.ensures.1).1 in
+    record {
+      answers = rw is tt;
+      worthy = c.turn.ensures.worthy c.args.inst.now (g.K.Keeper.contents c.args.self.now.keeper) c.loop-question.invariant.holds c.loop-question.invariant.worthy;
+      spare = λ exact spare. c.turn.ensures.spare c.args.inst.now exact c.loop-question.invariant.holds c.loop-question.invariant.covering (c.loop-question.invariant.sparing exact spare);
+      all = λ exact spare. rw is tt;
+      counts = λ exact. counts_more (g.K.Keeper.contents c.args.self.now.keeper) (g.K.Keeper.contents c.loop-question.self.keeper) (g.K.Keeper.contents c.turn.new.self.keeper) c.args.self.now.work c.loop-question.self.work c.turn.new.self.work (c.loop-question.invariant.counts exact) (c.turn.ensures.counts exact (counted_small _ _ c.args.self.now.work c.loop-question.self.work (c.loop-question.invariant.counts exact)));
+      work = λ exact spare. rw is tt;
+      right = λ there right. c.turn.ensures.stays c.args.inst.now there c.loop-question.invariant.holds c.loop-question.invariant.covering (c.loop-question.invariant.stays there right);
+    }
 
 pub loop-question-preserved : goal.loop-question-preserved
 loop-question-preserved g c =
@@ -79,15 +90,6 @@ returns-in-Answers-clause-answers g c =
 pub returns-in-Answers-clause-right : goal.returns-in-Answers-clause-right
 returns-in-Answers-clause-right g c is right = c.turn.ensures.stays c.args.inst.now is c.loop-question.invariant.holds c.loop-question.invariant.covering (c.loop-question.invariant.stays is right)
 
-pub returns-in_err-reached-clause-worthy : goal.returns-in_err-reached-clause-worthy
-returns-in_err-reached-clause-worthy g c = c.turn.ensures.worthy c.args.inst.now (g.K.Keeper.contents c.args.self.now.keeper) c.loop-question.invariant.holds c.loop-question.invariant.worthy
-
-pub returns-in_err-reached-clause-spare : goal.returns-in_err-reached-clause-spare
-returns-in_err-reached-clause-spare g c exact spare = c.turn.ensures.spare c.args.inst.now exact c.loop-question.invariant.holds c.loop-question.invariant.covering (c.loop-question.invariant.sparing exact spare)
-
-pub returns-in_err-reached-clause-counts : goal.returns-in_err-reached-clause-counts
-returns-in_err-reached-clause-counts g c exact = counts_more (g.K.Keeper.contents c.args.self.now.keeper) (g.K.Keeper.contents c.loop-question.self.keeper) (g.K.Keeper.contents c.turn.new.self.keeper) c.args.self.now.work c.loop-question.self.work c.turn.new.self.work (c.loop-question.invariant.counts exact) (c.turn.ensures.counts exact (counted_small _ _ c.args.self.now.work c.loop-question.self.work (c.loop-question.invariant.counts exact)))
-
 pub returns-in-Answers-clause-worthy : goal.returns-in-Answers-clause-worthy
 returns-in-Answers-clause-worthy g c = c.turn.ensures.worthy c.args.inst.now (g.K.Keeper.contents c.args.self.now.keeper) c.loop-question.invariant.holds c.loop-question.invariant.worthy
 
@@ -110,23 +112,31 @@ returns-in-Answers-clause-work g c exact spare =
     (c.in_ok-reached.ensures.sparing asked exact c.loop-question.invariant.holds c.loop-question.invariant.covering (c.loop-question.invariant.sparing exact spare)) in
     work_is rules look asked old new c.args.self.now.work c.turn.new.self.work counts adds all
 
-pub returns-in_err-copy-clause-worthy : goal.returns-in_err-copy-clause-worthy
-returns-in_err-copy-clause-worthy g c = worthy_none c.args.rules.now (contents c.args.store.now) c.args.inst.now (g.K.Keeper.contents c.args.self.now.keeper)
+pub returns-in_err-copy : goal.returns-in_err-copy
+returns-in_err-copy g c =
+    let is = (err_from_is_err_and c.from_residual.result c.from_residual.ensures.1).1 in
+    record {
+      answers = rw is tt;
+      worthy = worthy_none c.args.rules.now (contents c.args.store.now) c.args.inst.now (g.K.Keeper.contents c.args.self.now.keeper);
+      spare = λ exact spare. spare;
+      all = λ exact spare. rw is tt;
+      counts = λ exact. counts_none (g.K.Keeper.contents c.args.self.now.keeper) c.args.self.now.work (subst (λ n. n < 2 ^ 64) c.work-work.ensures c.work-work.type_inv);
+      work = λ exact spare. rw is tt;
+      right = λ there right. right;
+    }
 
-pub returns-in_err-copy-clause-spare : goal.returns-in_err-copy-clause-spare
-returns-in_err-copy-clause-spare g c exact spare = spare
-
-pub returns-in_err-copy-clause-counts : goal.returns-in_err-copy-clause-counts
-returns-in_err-copy-clause-counts g c exact = counts_none (g.K.Keeper.contents c.args.self.now.keeper) c.args.self.now.work (subst (λ n. n < 2 ^ 64) c.work-work.ensures c.work-work.type_inv)
-
-pub returns-in_err-begun-clause-worthy : goal.returns-in_err-begun-clause-worthy
-returns-in_err-begun-clause-worthy g c = worthy_none c.args.rules.now (contents c.args.store.now) c.args.inst.now (g.K.Keeper.contents c.args.self.now.keeper)
-
-pub returns-in_err-begun-clause-spare : goal.returns-in_err-begun-clause-spare
-returns-in_err-begun-clause-spare g c exact spare = spare
-
-pub returns-in_err-begun-clause-counts : goal.returns-in_err-begun-clause-counts
-returns-in_err-begun-clause-counts g c exact = counts_none (g.K.Keeper.contents c.args.self.now.keeper) c.args.self.now.work (subst (λ n. n < 2 ^ 64) c.work-work.ensures c.work-work.type_inv)
+pub returns-in_err-begun : goal.returns-in_err-begun
+returns-in_err-begun g c =
+    let is = (err_from_is_err_and c.from_residual-in_err-begun.result c.from_residual-in_err-begun.ensures.1).1 in
+    record {
+      answers = rw is tt;
+      worthy = worthy_none c.args.rules.now (contents c.args.store.now) c.args.inst.now (g.K.Keeper.contents c.args.self.now.keeper);
+      spare = λ exact spare. spare;
+      all = λ exact spare. rw is tt;
+      counts = λ exact. counts_none (g.K.Keeper.contents c.args.self.now.keeper) c.args.self.now.work (subst (λ n. n < 2 ^ 64) c.work-work.ensures c.work-work.type_inv);
+      work = λ exact spare. rw is tt;
+      right = λ there right. right;
+    }
 
 pub returns-in-Answers-clause-all : goal.returns-in-Answers-clause-all
 returns-in-Answers-clause-all g c exact spare =
