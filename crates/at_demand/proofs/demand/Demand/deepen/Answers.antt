@@ -1,4 +1,5 @@
 use Rattle.std.proofs.Common.{refl}
+use Rattle.std.proofs.lemmas.Result.{err_from_is_err_and}
 use Rattle.at_store.specs.Shown.{contents}
 use Rattle.at_body.specs.Typed.{class_shown}
 use Rattle.at_body.specs.declared.trial.Step.TheVariants as step
@@ -48,3 +49,17 @@ pub returns-clause-typed : goal.returns-clause-typed
 returns-clause-typed g c =
     let e = c.in_ok-step.ensures in
     deepens_typed c.args.rules.now (class_shown c.args.store.now) (g.K.Keeper.contents c.args.self.now.keeper) c.args.question.now c.descend.new.self c.args.needed c.in_ok-step.step c.requires.orderly c.requires.typed e.waiting e.inst e.typed
+
+pub returns-then-has-clause-turn : goal.returns-then-has-clause-turn
+returns-then-has-clause-turn g c = tt
+
+pub returns-then-has-clause-typed : goal.returns-then-has-clause-typed
+returns-then-has-clause-typed g c = tt
+
+pub returns-then-has-clause-covering : goal.returns-then-has-clause-covering
+returns-then-has-clause-covering g c h = tt
+
+pub returns-in_err-step : goal.returns-in_err-step
+returns-in_err-step g c =
+    let is = (err_from_is_err_and c.from_residual.result c.from_residual.ensures.1).1 in
+    record { turn = rw is tt; typed = rw is tt; answers = λ asked h. rw is tt; covering = λ h. rw is tt; sparing = λ asked h stands sparing. rw is tt }

@@ -1,4 +1,5 @@
 use Rattle.std.proofs.Common.{List, ◌++◌, ◌<◌, ◌≤◌, sym, ap, ◌∙◌, subst}
+use Rattle.std.proofs.lemmas.Result.{err_from_is_err_and}
 use Rattle.at_model.specs.Run.{Instance}
 use Rattle.std.proofs.Common.{ℕ}
 use Rattle.at_cache.specs.Kept.{AreKept}
@@ -31,3 +32,13 @@ returns c = record {
   gathered = visited_all c.args.found.now.entries c.args.find.now c.loop-next.sources c.loop-next.visited.keys c.loop-next.next (subst (λ n. n ≤ c.loop-next.next) c.len.ensures.len c.loop-next-test.false) c.loop-next.invariant.visited;
   only = (c.loop-next.visited.keys, c.loop-next.invariant.from);
 }
+
+pub returns-in_err-add : goal.returns-in_err-add
+returns-in_err-add c =
+    let is = (err_from_is_err_and c.from_residual.result c.from_residual.ensures.1).1 in
+    record { kept = λ entries found kept. rw is tt; gathered = rw is tt; only = rw is tt }
+
+pub returns-in_err-add_at : goal.returns-in_err-add_at
+returns-in_err-add_at c =
+    let is = (err_from_is_err_and c.from_residual-in_err-add_at.result c.from_residual-in_err-add_at.ensures.1).1 in
+    record { kept = λ entries found kept. rw is tt; gathered = rw is tt; only = rw is tt }

@@ -1,4 +1,5 @@
 use Rattle.std.proofs.Common.{ℕ, sym, subst}
+use Rattle.std.proofs.lemmas.Result.{err_from_is_err_and}
 use Rattle.at_model.specs.Run.{Instance}
 use Rattle.at_store.specs.Shown.{contents}
 use Rattle.at_body.specs.Values.{value_view}
@@ -103,3 +104,16 @@ returns-in_default g c =
       typed = c.loop-step.invariant.typed;
       unknown = open_end (known_in (g.K.Keeper.contents c.args.keeper.now) c.args.found.now.entries) c.loop-step.step c.in_default.not-Need;
     }
+
+pub loop-step-init : goal.loop-step-init
+loop-step-init g c = record { kept = c.requires.kept; stepped = λ i h. h; passed = λ i h. h; only = λ i h takes. takes; typed = c.requires.typed }
+
+pub returns-in_err-value-in-Need : goal.returns-in_err-value-in-Need
+returns-in_err-value-in-Need g c =
+    let is = (err_from_is_err_and c.from_residual.result c.from_residual.ensures.1).1 in
+    record { kept = rw is tt; stepped = λ i h. rw is tt; passed = λ i h. rw is tt; only = λ i h takes. rw is tt; typed = rw is tt; unknown = rw is tt }
+
+pub returns-in_err-step-in-Value : goal.returns-in_err-step-in-Value
+returns-in_err-step-in-Value g c =
+    let is = (err_from_is_err_and c.from_residual-in_err-step-in-Value.result c.from_residual-in_err-step-in-Value.ensures.1).1 in
+    record { kept = rw is tt; stepped = λ i h. rw is tt; passed = λ i h. rw is tt; only = λ i h takes. rw is tt; typed = rw is tt; unknown = rw is tt }
