@@ -24,33 +24,16 @@ use std::{env, fs, io};
 /// Serves what the words of the command line ask for, and ends with status 0; 1 where a file is refused, 2 where the
 /// words are, 3 where a file, the socket or a stream fails, 4 for want of memory.
 fn main(rt: HostRuntime) -> ExitCode {
-    let options = match asked(&rt) {
-        Ok(options) => options,
-        Err(failure) => return ended(&rt, &failure),
-    };
-    let mut engine = match engine_of(&rt, &options) {
-        Ok(engine) => engine,
-        Err(failure) => return ended(&rt, &failure),
-    };
-    let served = serve_asked(&rt, &options, &mut engine);
-    let work = if options.work {
-        Some(engine.work())
-    } else {
-        None
-    };
-    ended_with_work(&rt, served, work)
+    let mut work = None;
+    let served = serve_words(&rt, &mut work);
+    ended(&rt, &served, work)
 }
 
-/// Tells the failure, and gives its status. A fault of standard error itself has no other place to be told.
-fn ended(rt: &HostRuntime, failure: &Failure) -> ExitCode {
-    let _ = tell(rt, failure);
-    ExitCode::from(status(failure))
-}
-
-/// The end of what was served: its failure is told, and then the work, where that is asked for and memory didn't run out.
-fn ended_with_work(rt: &HostRuntime, served: Result<(), Failure>, work: Option<u64>) -> ExitCode {
+/// The end of what was served: its failure is told, and then the work, where there is one and memory didn't run out. A
+/// fault of standard error itself has no other place to be told.
+fn ended(rt: &HostRuntime, served: &Result<(), Failure>, work: Option<u64>) -> ExitCode {
     let mut code = 0;
-    if let Err(failure) = &served {
+    if let Err(failure) = served {
         code = status(failure);
         let _ = tell(rt, failure);
     }
@@ -62,30 +45,25 @@ fn ended_with_work(rt: &HostRuntime, served: Result<(), Failure>, work: Option<u
     ExitCode::from(code)
 }
 
-/// What the words after the program's name ask for.
-fn asked(rt: &HostRuntime) -> Result<Options, Failure> {
+/// Serves what the words of the command line ask for, and notes the engine's work, where they ask for that.
+fn serve_words(rt: &HostRuntime, work: &mut Option<u64>) -> Result<(), Failure> {
     let words = words(rt)?;
-    let mut texts = Vec::with_capacity(rt.alloc(), words.len())?;
-    for word in &words {
-        texts.push(word.as_str())?;
+    let options = options(rt.alloc(), &words)?;
+    let mut engine = engine_of(rt, &options)?;
+    let served = serve_asked(rt, &options, &mut engine);
+    if options.work {
+        *work = Some(engine.work());
     }
-    Ok(options(rt.alloc(), &texts)?)
+    served
 }
 
 /// The words after the program's name.
 fn words(rt: &HostRuntime) -> Result<Vec<String>, Failure> {
-    let args = match env::args(rt) {
-        Ok(args) => args,
-        Err(e) if e.kind() == ErrorKind::OutOfMemory => return Err(Failure::Memory),
-        Err(_) => return Err(Failure::NoText),
-    };
-    let mut words = Vec::new(rt.alloc());
-    for (i, word) in args.enumerate() {
-        if i > 0 {
-            words.push(word)?;
-        }
+    match env::args(rt) {
+        Ok(args) => Ok(args.skip(1).collect(rt.alloc())?),
+        Err(e) if e.kind() == ErrorKind::OutOfMemory => Err(Failure::Memory),
+        Err(_) => Err(Failure::NoText),
     }
-    Ok(words)
 }
 
 /// The engine of the files that are asked for.
@@ -118,8 +96,8 @@ fn serve_asked(
 ) -> Result<(), Failure>
     requires { IsReady engine.old }
 {
-    match &options.socket {
-        Some(path) => serve_socket(rt, path.as_str(), options.connections, engine),
+    match options.socket {
+        Some(path) => serve_socket(rt, path, options.connections, engine),
         None => serve_standard(rt, engine),
     }
 }
@@ -163,12 +141,12 @@ fn serve_socket(
 
 /// The files that are asked for, read in the order grammar, aspects, tree.
 fn read_files(rt: &HostRuntime, options: &Options) -> Result<Files, Failure> {
-    let grammar = read_file(rt, &options.grammar)?;
+    let grammar = read_file(rt, options.grammar)?;
     let mut aspects = Vec::new(rt.alloc());
     for name in &options.aspects {
         aspects.push(read_file(rt, name)?)?;
     }
-    let tree = read_file(rt, &options.tree)?;
+    let tree = read_file(rt, options.tree)?;
     Ok(Files {
         grammar,
         tree,

@@ -1,11 +1,12 @@
 //! The words of the command line, and how they are read.
-ghost use Rattle.std.specs.Prelude.{◌≡◌, IfOk, vec_len, length};
+ghost use Rattle.std.specs.Prelude.{IfOk};
 ghost use Rattle.attrd.specs.Options.{IsUsable, IsConnections};
 
-use super::{Options, WordsFault};
+use super::Options;
+use crate::failure::Failure;
 use clap::builder::ValueParser;
 use clap::error::ErrorKind;
-use clap::{Arg, ArgAction, ArgMatches, Command, Error, value_parser};
+use clap::{Arg, ArgMatches, Command, Error};
 use std::alloc::{AllocError, Global};
 
 /// How many connections are served where the words don't say.
@@ -38,12 +39,75 @@ A line is SESSION [at VERSION] COMMAND, SESSION a number from 0 to 999. The comm
   version                         how many edits were accepted
 A place is a path from the root (/Block/Stmt:1) or from a mark ($u/Left).";
 
+/// A word of the command line: an option, which begins with hyphens, or the name of a file.
+struct Word {
+    name: &'static str,
+    is_option: bool,
+    /// How many values it takes at most; one at least, but for a flag.
+    most: usize,
+    /// What the help calls a value.
+    value: &'static str,
+    parser: ValueParser<'static>,
+    help: &'static str,
+}
+
+const WORDS: &[Word] = &[
+    Word {
+        name: "socket",
+        is_option: true,
+        most: 1,
+        value: "PATH",
+        parser: ValueParser::NonEmptyString,
+        help: "Serves connections of a Unix socket at PATH, and not standard input",
+    },
+    Word {
+        name: "connections",
+        is_option: true,
+        most: 1,
+        value: "N",
+        parser: ValueParser::Signed(CONNECTIONS as i64, MAX_CONNECTIONS as i64),
+        help: "How many connections are served, one after the other: 1 to 1000 [default: 1]",
+    },
+    Word {
+        name: "work",
+        is_option: true,
+        most: 0,
+        value: "",
+        parser: ValueParser::Bool,
+        help: "Tells at the end how many lazy attributes were evaluated",
+    },
+    Word {
+        name: "GRAMMAR",
+        is_option: false,
+        most: 1,
+        value: "GRAMMAR",
+        parser: ValueParser::String,
+        help: "The file of the abstract grammar",
+    },
+    Word {
+        name: "TREE",
+        is_option: false,
+        most: 1,
+        value: "TREE",
+        parser: ValueParser::String,
+        help: "The file of the syntax tree",
+    },
+    Word {
+        name: "ASPECT",
+        is_option: false,
+        most: usize::MAX,
+        value: "ASPECT",
+        parser: ValueParser::String,
+        help: "The files of the aspects, one or more",
+    },
+];
+
 /// What the words after the program's name ask for.
 ///
 /// # Errors
 ///
 /// `Words` where they aren't words of the command line, or ask for help; `Memory` for want of memory.
-pub fn options<'a>(alloc: Global, words: &'a [&'a str]) -> Result<Options, WordsFault>
+pub fn options<'a>(alloc: Global, words: &'a [String]) -> Result<Options<'a>, Failure>
     ensures { IfOk result IsUsable }
 {
     match command(alloc)?.try_get_matches_from(words) {
@@ -52,74 +116,50 @@ pub fn options<'a>(alloc: Global, words: &'a [&'a str]) -> Result<Options, Words
     }
 }
 
-/// The words of the command line.
+/// The words of the command line. One is added as soon as it is made, so that no exit has several to let go.
 fn command<'a>(alloc: Global) -> Result<Command<'a>, AllocError> {
-    let command = Command::new(alloc, "attrd")
+    let mut command = Command::new(alloc, "attrd")
         .about("Serves attributes of a syntax tree, line by line, while the tree is edited.")
         .after_help(HELP)
         .no_binary_name(true);
-    with_files(alloc, with_flags(alloc, command)?)
+    for word in WORDS {
+        command = command.arg(argument(alloc, word))?;
+    }
+    Ok(command)
 }
 
-/// The command with the words that begin with hyphens.
-fn with_flags<'a>(alloc: Global, command: Command<'a>) -> Result<Command<'a>, AllocError> {
-    let socket = Arg::new(alloc, "socket")
-        .long("socket")
-        .value_name("PATH")
-        .value_parser(ValueParser::NonEmptyString)
-        .help("Serves connections of a Unix socket at PATH, and not standard input");
-    let connections = Arg::new(alloc, "connections")
-        .long("connections")
-        .value_name("N")
-        .value_parser(value_parser!(u16).range(1..=1_000))
-        .help("How many connections are served, one after the other: 1 to 1000 [default: 1]");
-    let work = Arg::new(alloc, "work")
-        .long("work")
-        .action(ArgAction::SetTrue)
-        .help("Tells at the end how many lazy attributes were evaluated");
-    command.arg(socket)?.arg(connections)?.arg(work)
-}
-
-/// The command with the words that name files.
-fn with_files<'a>(alloc: Global, command: Command<'a>) -> Result<Command<'a>, AllocError> {
-    let grammar = Arg::new(alloc, "GRAMMAR")
-        .required(true)
-        .help("The file of the abstract grammar");
-    let tree = Arg::new(alloc, "TREE")
-        .required(true)
-        .help("The file of the syntax tree");
-    let aspects = Arg::new(alloc, "ASPECT")
-        .required(true)
-        .num_args(1..)
-        .help("The files of the aspects, one or more");
-    command.arg(grammar)?.arg(tree)?.arg(aspects)
+/// The word as `clap` knows it.
+fn argument<'a>(alloc: Global, word: &Word) -> Arg<'a> {
+    let argument = Arg::new(alloc, word.name)
+        .num_args(word.most.min(1)..=word.most)
+        .value_name(word.value)
+        .value_parser(word.parser)
+        .help(word.help);
+    if word.is_option {
+        argument.long(word.name)
+    } else {
+        argument.required(true)
+    }
 }
 
 /// What the words ask for, as they were matched.
-fn options_of(alloc: Global, matches: &ArgMatches<'_>) -> Result<Options, WordsFault>
+fn options_of<'a>(alloc: Global, matches: &ArgMatches<'a>) -> Result<Options<'a>, Failure>
     ensures { IfOk result IsUsable }
 {
-    let (Some(grammar), Some(tree), Some(aspects)) = (
+    let (Some(grammar), Some(tree), Some(aspects @ [_, ..])) = (
         matches.get_str("GRAMMAR"),
         matches.get_str("TREE"),
         matches.get_strs("ASPECT"),
     ) else {
         return Err(lacking(alloc));
     };
-    if aspects.is_empty() {
-        return Err(lacking(alloc));
-    }
-    let socket = match matches.get_str("socket") {
-        Some(path) => Some(String::from_str(alloc, path)?),
-        None => None,
-    };
     Ok(Options {
-        socket,
+        socket: matches.get_str("socket"),
         connections: connections_of(matches),
         work: matches.get_flag("work"),
-        grammar: String::from_str(alloc, grammar)?,
-        tree: String::from_str(alloc, tree)?,
-        aspects: copies(alloc, aspects)?,
+        grammar,
+        tree,
+        aspects: Vec::from_slice(alloc, aspects)?,
     })
 }
 
@@ -133,35 +173,24 @@ fn connections_of(matches: &ArgMatches<'_>) -> u16
         .clamp(CONNECTIONS, MAX_CONNECTIONS)
 }
 
-/// Copies of the texts.
-fn copies(alloc: Global, texts: &[&str]) -> Result<Vec<String>, AllocError>
-    ensures { IfOk result (λ v. vec_len v ≡ length texts.now) }
-{
-    let mut copied = Vec::new(alloc);
-    for text in texts {
-        copied.push(String::from_str(alloc, text)?)?;
-    }
-    Ok(copied)
-}
-
 /// The fault of words that name too few files. The command has seen to it that none come here.
-fn lacking(alloc: Global) -> WordsFault {
+fn lacking(alloc: Global) -> Failure {
     match String::from_str(alloc, "error: GRAMMAR, TREE and ASPECT are required") {
-        Ok(text) => WordsFault::Words { text },
-        Err(_) => WordsFault::Memory,
+        Ok(text) => Failure::Words { text },
+        Err(_) => Failure::Memory,
     }
 }
 
 /// The fault of the words that were refused.
-fn fault_of(alloc: Global, error: &Error) -> WordsFault {
+fn fault_of(alloc: Global, error: &Error) -> Failure {
     if error.kind() == ErrorKind::OutOfMemory {
-        return WordsFault::Memory;
+        return Failure::Memory;
     }
     match format!(in alloc; "{error}") {
-        Ok(text) => WordsFault::Words {
+        Ok(text) => Failure::Words {
             text: without_newline(text),
         },
-        Err(_) => WordsFault::Memory,
+        Err(_) => Failure::Memory,
     }
 }
 
