@@ -62,14 +62,23 @@ fn recorded(alloc: Global, graph: &[&[usize]]) -> Result<KeepRecorded, AllocErro
     Ok(keeper)
 }
 
+/// Flushes what rests on that node's location.
+fn flush<K: Keeper>(keeper: &mut K, node: usize) {
+    keeper.flush(&|location: Loc| location == own(node));
+}
+
+/// Whether an entry of that node is kept.
+fn has<K: Keeper>(alloc: Global, keeper: &K, node: usize) -> bool {
+    keeper.get(&inst(alloc, node)).is_some()
+}
+
 /// How many entries a flush of that node's location leaves.
 fn left_of(alloc: Global, graph: &[&[usize]], touched: usize) -> Result<usize, AllocError> {
     let mut keeper = recorded(alloc, graph)?;
-    keeper.flush(&|location: Loc| location == own(touched));
+    flush(&mut keeper, touched);
     let mut left: usize = 0;
     for node in 0..graph.len() {
-        let is_kept = keeper.get(&inst(alloc, node)).is_some();
-        left = left.saturating_add(usize::from(is_kept));
+        left = left.saturating_add(usize::from(has(alloc, &keeper, node)));
     }
     Ok(left)
 }
@@ -106,47 +115,34 @@ fn what_uses_an_entry_goes_with_it(rt: HostRuntime) -> Result<(), Fail> {
 #[test]
 fn links_follow_their_entries(rt: HostRuntime) -> Result<(), Fail> {
     let alloc = rt.alloc();
-    let pairs: [&[usize]; 4] = [&[], &[0], &[], &[2]];
-    let mut keeper = recorded(alloc, &pairs)?;
-    keeper.flush(&|location: Loc| location == own(0));
+    let mut keeper = recorded(alloc, &[&[], &[0], &[], &[2]])?;
+    flush(&mut keeper, 0);
     assert_eq!(rt; keeper.stored(), 2);
     let used = insts(alloc, &[3])?;
-    put_new(
-        &mut keeper,
-        inst(alloc, 4),
-        Value::Int(7),
-        &[],
-        used.as_slice(),
-    )?;
+    put_new(&mut keeper, inst(alloc, 4), Value::Int(7), &[], &used)?;
     assert_eq!(rt; keeper.stored(), 2);
-    keeper.flush(&|location: Loc| location == own(0));
+    flush(&mut keeper, 0);
     assert!(rt; keeper.get(&inst(alloc, 4)) == Some(&Value::Int(7)));
-    keeper.flush(&|location: Loc| location == own(2));
-    assert!(rt; keeper.get(&inst(alloc, 4)).is_none());
+    flush(&mut keeper, 2);
+    assert!(rt; !has(alloc, &keeper, 4));
     assert_eq!(rt; keeper.stored(), 0);
     Ok(())
 }
 
-#[test]
-fn keeps_until_an_edit(rt: HostRuntime) -> Result<(), Fail> {
-    let alloc = rt.alloc();
-    let mut keeper = KeepUntilEdit::new(alloc);
-    put_new(&mut keeper, inst(alloc, 1), Value::Int(5), &[own(1)], &[])?;
-    assert!(rt; keeper.get(&inst(alloc, 1)) == Some(&Value::Int(5)));
-    assert!(rt; keeper.get(&inst(alloc, 2)).is_none());
-    keeper.flush(&|_location: Loc| false);
-    assert!(rt; keeper.get(&inst(alloc, 1)).is_none());
-    Ok(())
+/// Whether the keeper takes an entry, or not; whether it keeps what it took; and whether it forgets it with any flush.
+fn is_as_told<K: Keeper>(alloc: Global, mut keeper: K, takes: bool, keeps: bool) -> bool {
+    let taken = put_new(&mut keeper, inst(alloc, 1), Value::Int(5), &[own(1)], &[]).is_ok();
+    let kept = keeper.get(&inst(alloc, 1)) == Some(&Value::Int(5));
+    let is_other_kept = has(alloc, &keeper, 2);
+    flush(&mut keeper, 2);
+    taken == takes && kept == keeps && !is_other_kept && !has(alloc, &keeper, 1)
 }
 
 #[test]
-fn keeps_nothing(rt: HostRuntime) -> Result<(), Fail> {
+fn what_records_nothing_keeps_until_an_edit_at_most(rt: HostRuntime) -> Result<(), Fail> {
     let alloc = rt.alloc();
-    let mut keeper = KeepNone::new(alloc);
-    put_new(&mut keeper, inst(alloc, 1), Value::Int(5), &[own(1)], &[])?;
-    assert!(rt; keeper.get(&inst(alloc, 1)).is_none());
-    let mut refused = KeepRefused {};
-    assert!(rt; put_new(&mut refused, inst(alloc, 1), Value::Int(5), &[own(1)], &[]).is_err());
-    assert!(rt; refused.get(&inst(alloc, 1)).is_none());
+    assert!(rt; is_as_told(alloc, KeepUntilEdit::new(alloc), true, true));
+    assert!(rt; is_as_told(alloc, KeepNone::new(alloc), true, false));
+    assert!(rt; is_as_told(alloc, KeepRefused {}, false, false));
     Ok(())
 }

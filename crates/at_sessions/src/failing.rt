@@ -5,11 +5,11 @@ ghost use Rattle.at_start.specs.Starts.{IsReady};
 
 mod ends;
 
-use crate::samples::{CALC, files};
+use crate::samples::{TREE, files, over};
 use at_cache::KeepRecorded;
 use at_engine::{Engine, RunFault, Watched, run, run_for};
 use at_start::start;
-use ends::{FailingReader, FailingWriter, first_lines, newlines};
+use ends::{FailingReader, FailingWriter, first_lines};
 use std::alloc::Global;
 use std::test::Fail;
 
@@ -19,7 +19,7 @@ struct Session {
     replies: &'static str,
 }
 
-const SESSIONS: [Session; 2] = [
+const SESSIONS: &[Session] = &[
     Session {
         lines: "0 ask /Block/Stmt:1/Expr value()
 0 token /Block/Stmt:1/Expr/Right Value 5
@@ -44,6 +44,10 @@ const SESSIONS: [Session; 2] = [
 2 refused 3 mark
 ",
     },
+    Session {
+        lines: "0 version\n0 version\n",
+        replies: "0 ok 0\n0 ok 0\n",
+    },
 ];
 
 /// What a run wrote, the fault by which it ended, and whether a call of its reader or of its writer failed.
@@ -56,24 +60,12 @@ struct Heard {
 }
 
 impl Heard {
-    /// Whether a read failed, and only that, and just the first lines were answered, so many of them.
-    fn is_cut_at_a_read(&self, replies: &str, lines: usize) -> bool {
-        let only_read = self.read_failed && !self.write_failed;
-        let whole = first_lines(replies.as_bytes(), lines);
-        self.fault == Some(RunFault::Read) && only_read && self.told.as_slice() == whole
-    }
-
-    /// Whether a write failed, and only that, behind the front of the replies that has so many bytes.
-    fn is_cut_at_a_write(&self, replies: &str, bytes: usize) -> bool {
-        let only_write = self.write_failed && !self.read_failed;
-        let front = self.told.len() == bytes && replies.as_bytes().starts_with(&self.told);
-        self.fault == Some(RunFault::Write) && only_write && front
-    }
-
-    /// Whether no call failed, and this is the fault, behind all replies.
-    fn is_whole(&self, replies: &str, fault: Option<RunFault>) -> bool {
-        let none = !self.read_failed && !self.write_failed;
-        self.fault == fault && none && self.told.as_slice() == replies.as_bytes()
+    /// Whether the run ended by this fault, or none, behind these replies, and no other call failed.
+    fn has_ended(&self, told: &[u8], fault: Option<RunFault>) -> bool {
+        self.fault == fault
+            && self.told.as_slice() == told
+            && self.read_failed == (fault == Some(RunFault::Read))
+            && self.write_failed == (fault == Some(RunFault::Write))
     }
 }
 
@@ -81,7 +73,7 @@ impl Heard {
 fn calculator(alloc: Global) -> Result<Engine<KeepRecorded>, Fail>
     ensures { IfOk result IsReady }
 {
-    Ok(start(alloc, &files(alloc, &CALC)?)?)
+    Ok(start(alloc, &files(alloc, &over(TREE))?)?)
 }
 
 /// What is heard of a fresh engine where each read brings one byte, the one after so many fails, and so many are allowed.
@@ -116,12 +108,16 @@ fn written_for(alloc: Global, lines: &'static str, writes: usize) -> Result<Hear
 
 #[test]
 fn a_failed_read_leaves_whole_lines(rt: HostRuntime) -> Result<(), Fail> {
-    for session in &SESSIONS {
+    for session in SESSIONS {
         let bytes = session.lines.as_bytes();
+        let mut lines: usize = 0;
         for reads in 0..=bytes.len() {
             let heard = read_for(rt.alloc(), session.lines, reads, u64::MAX)?;
-            let lines = newlines(bytes, reads);
-            assert!(rt; heard.is_cut_at_a_read(session.replies, lines), "{reads}");
+            let told = first_lines(session.replies.as_bytes(), lines);
+            assert!(rt; heard.has_ended(told, Some(RunFault::Read)), "{reads}");
+            if bytes.get(reads) == Some(&b'\n') {
+                lines = lines.saturating_add(1);
+            }
         }
     }
     Ok(())
@@ -129,11 +125,12 @@ fn a_failed_read_leaves_whole_lines(rt: HostRuntime) -> Result<(), Fail> {
 
 #[test]
 fn a_failed_write_leaves_a_front(rt: HostRuntime) -> Result<(), Fail> {
-    for session in &SESSIONS {
-        for writes in 0..session.replies.len() {
+    for session in SESSIONS {
+        let replies = session.replies.as_bytes();
+        for writes in 0..replies.len() {
             let heard = written_for(rt.alloc(), session.lines, writes)?;
             assert!(rt;
-                heard.is_cut_at_a_write(session.replies, writes),
+                heard.has_ended(&replies[..writes], Some(RunFault::Write)),
                 "{writes}"
             );
         }
@@ -143,40 +140,28 @@ fn a_failed_write_leaves_a_front(rt: HostRuntime) -> Result<(), Fail> {
 
 #[test]
 fn without_a_failure_all_is_told(rt: HostRuntime) -> Result<(), Fail> {
-    for session in &SESSIONS {
-        let bytes = session.replies.len();
+    for session in SESSIONS {
+        let replies = session.replies.as_bytes();
         let read = read_for(rt.alloc(), session.lines, usize::MAX, u64::MAX)?;
-        assert!(rt; read.is_whole(session.replies, None));
-        let written = written_for(rt.alloc(), session.lines, bytes)?;
-        assert!(rt; written.is_whole(session.replies, None));
+        assert!(rt; read.has_ended(replies, None));
+        let written = written_for(rt.alloc(), session.lines, replies.len())?;
+        assert!(rt; written.has_ended(replies, None));
     }
     Ok(())
 }
 
-#[test]
-fn a_line_that_is_cut_is_not_served(rt: HostRuntime) -> Result<(), Fail> {
-    let heard = read_for(rt.alloc(), "0 version\n0 ver", 15, u64::MAX)?;
-    assert!(rt; heard.is_cut_at_a_read("0 ok 0\n", 1));
-    Ok(())
-}
-
-#[test]
-fn a_reply_is_cut_where_a_write_fails(rt: HostRuntime) -> Result<(), Fail> {
-    let heard = written_for(rt.alloc(), "0 version\n", 3)?;
-    assert!(rt; heard.is_cut_at_a_write("0 ok 0\n", 3));
-    Ok(())
-}
+/// How many reads a run may make for one line, the replies then, and the fault.
+const LIMITS: &[(u64, &[u8], Option<RunFault>)] = &[
+    (0, b"", Some(RunFault::TooManyReads)),
+    (10, b"0 ok 0\n", Some(RunFault::TooManyReads)),
+    (11, b"0 ok 0\n", None),
+];
 
 #[test]
 fn reads_are_counted(rt: HostRuntime) -> Result<(), Fail> {
-    let too_many = Some(RunFault::TooManyReads);
-    for (limit, replies, fault) in [
-        (0, "", too_many),
-        (10, "0 ok 0\n", too_many),
-        (11, "0 ok 0\n", None),
-    ] {
-        let heard = read_for(rt.alloc(), "0 version\n", usize::MAX, limit)?;
-        assert!(rt; heard.is_whole(replies, fault), "{limit}");
+    for (limit, told, fault) in LIMITS {
+        let heard = read_for(rt.alloc(), "0 version\n", usize::MAX, *limit)?;
+        assert!(rt; heard.has_ended(told, *fault), "{limit}");
     }
     Ok(())
 }

@@ -3,7 +3,7 @@
 mod chance;
 
 use crate::hearing::{heard, played};
-use crate::samples::{CALC, Sample, files};
+use crate::samples::{Sample, TREE, files, over};
 use at_body::{Inst, Value};
 use at_cache::Keeper;
 use at_store::Loc;
@@ -46,16 +46,15 @@ fn edits_alike(alloc: Global, sample: &Sample, lines: &str) -> Result<u128, Fail
 }
 
 const SUM: Sample<'static> = Sample {
-    grammar: "Sum ::= Left:Num Right:Num; Num ::= <Value:int>;",
-    tree: "Sum(Num(3),Num(4))",
-    aspects: &[(
-        "sums.jrag",
-        "aspect Sums {
+    grammar: b"Sum ::= Left:Num Right:Num; Num ::= <Value:int>;",
+    tree: b"Sum(Num(3),Num(4))",
+    aspects: &[
+        b"aspect Sums {
   syn lazy int Sum.total() = getLeft().twice() + getRight().twice();
   syn lazy int Num.twice() = getValue() * 2;
 }
 ",
-    )],
+    ],
 };
 
 const SUM_WORDS: Words = Words {
@@ -82,7 +81,7 @@ const SUM_WORDS: Words = Words {
 #[test]
 fn sums_are_told_alike(rt: HostRuntime) -> Result<(), Fail> {
     let alloc = rt.alloc();
-    let lines = lines(alloc, &SUM_WORDS, &mut Chance::from_seed(1968), 5_000)?;
+    let lines = lines(alloc, &SUM_WORDS, &mut Chance::from_seed(1968), 6_000)?;
     let edits = edits_alike(alloc, &SUM, &lines)?;
     assert!(rt; edits > 1_000, "{edits} edits");
     Ok(())
@@ -162,8 +161,8 @@ const CALC_WORDS: Words = Words {
 #[test]
 fn the_calculator_is_told_alike(rt: HostRuntime) -> Result<(), Fail> {
     let alloc = rt.alloc();
-    let lines = lines(alloc, &CALC_WORDS, &mut Chance::from_seed(2000), 5_000)?;
-    let edits = edits_alike(alloc, &CALC, &lines)?;
+    let lines = lines(alloc, &CALC_WORDS, &mut Chance::from_seed(2000), 6_000)?;
+    let edits = edits_alike(alloc, &over(TREE), &lines)?;
     assert!(rt; edits > 600, "{edits} edits");
     Ok(())
 }
@@ -173,7 +172,7 @@ fn without_memory_for_a_value_there_is_no_answer(rt: HostRuntime) -> Result<(), 
     let lines = "0 ask /Block/Stmt:1/Expr value()
 0 ask /Block/Stmt:1/Expr same()
 ";
-    let files = files(rt.alloc(), &CALC)?;
+    let files = files(rt.alloc(), &over(TREE))?;
     let (told, report) = heard(rt.alloc(), &files, KeepRefused {}, lines)?;
     assert_eq!(rt; std::str::from_utf8(&told)?, "0 memory\n0 = false\n");
     assert_eq!(rt; report.memory, 1);

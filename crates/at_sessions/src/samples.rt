@@ -3,22 +3,15 @@
 use at_start::{Files, Source};
 use std::alloc::{AllocError, Global};
 
-/// A grammar, a tree, and aspects, each with the name of its file.
+/// What stands in files.
 #[derive(Drop)]
 pub struct Sample<'a> {
-    pub grammar: &'a str,
-    pub tree: &'a str,
-    pub aspects: &'a [(&'a str, &'a str)],
+    pub grammar: &'a [u8],
+    pub tree: &'a [u8],
+    pub aspects: &'a [&'a [u8]],
 }
 
-/// The calculator over its tree.
-pub const CALC: Sample<'static> = Sample {
-    grammar: GRAMMAR,
-    tree: TREE,
-    aspects: PROBED,
-};
-
-pub const GRAMMAR: &str = "Program ::= Block;
+pub const GRAMMAR: &[u8] = b"Program ::= Block;
 abstract Stmt;
 Block : Stmt ::= Stmt*;
 Decl : Stmt ::= <ID> [Init:Expr];
@@ -29,7 +22,7 @@ Num : Expr ::= <Value:int>;
 Add : Expr ::= Left:Expr Right:Expr;
 ";
 
-pub const CALCULATOR: &str = "aspect Names {
+pub const CALCULATOR: &[u8] = b"aspect Names {
   inh lazy Decl Use.lookup(String n);
   inh Decl Block.lookup(String n);
   syn lazy Decl Block.local(String n) = (Decl) first (s : getStmtList()) { s.declares(n) };
@@ -48,7 +41,7 @@ aspect Values {
 }
 ";
 
-const PROBE: &str = "aspect Probe {
+const PROBE: &[u8] = b"aspect Probe {
   syn boolean Add.same() = getLeft() == getRight();
   syn boolean Add.alike() { return getLeft() == getLeft(); }
   syn int Program.circ() = circ();
@@ -71,58 +64,37 @@ aspect Doubled {
 ";
 
 /// The calculator's aspects, and some that ask it more.
-pub const PROBED: &[(&str, &str)] = &[("calc.jrag", CALCULATOR), ("probe.jrag", PROBE)];
+const PROBED: &[&[u8]] = &[CALCULATOR, PROBE];
 
+/// The tree of most sessions.
 pub const TREE: &str = "Program(Block([Decl(\"x\",Num(1)),Print(Add(Use(\"x\"),Num(2)))]))";
 
-/// The calculator over another tree.
+/// The calculator over that tree.
 pub fn over(tree: &str) -> Sample {
     Sample {
         grammar: GRAMMAR,
-        tree,
+        tree: tree.as_bytes(),
         aspects: PROBED,
     }
 }
 
+/// The files of a sample.
+pub fn files(alloc: Global, sample: &Sample) -> Result<Files, AllocError> {
+    let mut aspects = Vec::new(alloc);
+    for bytes in sample.aspects {
+        aspects.push(source(alloc, "aspects", bytes)?)?;
+    }
+    Ok(Files {
+        grammar: source(alloc, "grammar", sample.grammar)?,
+        tree: source(alloc, "tree", sample.tree)?,
+        aspects,
+    })
+}
+
 /// The file of that name.
-pub fn source(alloc: Global, name: &str, bytes: &[u8]) -> Result<Source, AllocError> {
+fn source(alloc: Global, name: &str, bytes: &[u8]) -> Result<Source, AllocError> {
     Ok(Source {
         name: String::from_str(alloc, name)?,
         bytes: Vec::from_slice(alloc, bytes)?,
     })
-}
-
-/// The files of a sample.
-pub fn files(alloc: Global, sample: &Sample) -> Result<Files, AllocError> {
-    Ok(Files {
-        grammar: source(alloc, "calc.ast", sample.grammar.as_bytes())?,
-        tree: source(alloc, "tree.txt", sample.tree.as_bytes())?,
-        aspects: sources(alloc, sample.aspects)?,
-    })
-}
-
-fn sources(alloc: Global, texts: &[(&str, &str)]) -> Result<Vec<Source>, AllocError> {
-    let mut sources = Vec::new(alloc);
-    for (name, text) in texts {
-        sources.push(source(alloc, name, text.as_bytes())?)?;
-    }
-    Ok(sources)
-}
-
-/// The text that many times.
-pub fn repeated(alloc: Global, text: &str, times: usize) -> Result<String, AllocError> {
-    let mut all = String::new(alloc);
-    for _ in 0..times {
-        all.push_str(text)?;
-    }
-    Ok(all)
-}
-
-/// These texts, one behind the other.
-pub fn joined(alloc: Global, texts: &[&str]) -> Result<String, AllocError> {
-    let mut all = String::new(alloc);
-    for text in texts {
-        all.push_str(text)?;
-    }
-    Ok(all)
 }

@@ -3,20 +3,21 @@
 mod built;
 
 use crate::hearing::played;
-use crate::samples::{CALC, files};
+use crate::samples::{TREE, files, over};
 use at_start::Files;
 use std::alloc::Global;
 use std::test::Fail;
 
 /// Lines, the replies to them, and the work that they cost, where it is told.
-struct Session {
-    name: &'static str,
-    lines: &'static str,
-    replies: &'static str,
+#[derive(Drop)]
+struct Session<'a> {
+    name: &'a str,
+    lines: &'a str,
+    replies: &'a str,
     work: Option<u64>,
 }
 
-const SESSIONS: &[Session] = &[
+const SESSIONS: &[Session<'static>] = &[
     Session {
         name: "a value is computed through names",
         lines: "0 ask /Block/Stmt:1/Expr value()
@@ -304,7 +305,7 @@ fn work_of(alloc: Global, files: &Files, session: &Session) -> Result<u64, Fail>
 #[test]
 fn sessions_have_their_replies_and_work(rt: HostRuntime) -> Result<(), Fail> {
     let alloc = rt.alloc();
-    let files = files(alloc, &CALC)?;
+    let files = files(alloc, &over(TREE))?;
     for session in SESSIONS {
         let work = work_of(alloc, &files, session)?;
         assert_eq!(rt; work, session.work.unwrap_or(work), "{}", session.name);

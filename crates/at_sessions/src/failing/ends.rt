@@ -51,15 +51,6 @@ impl Write for FailingWriter {
     }
 }
 
-/// How many of the first bytes are newlines.
-pub fn newlines(bytes: &[u8], first: usize) -> usize {
-    bytes
-        .iter()
-        .take(first)
-        .filter(|byte| **byte == b'\n')
-        .count()
-}
-
 /// The first lines of the text, so many of them.
 pub fn first_lines(text: &[u8], lines: usize) -> &[u8] {
     let mut left = lines;

@@ -82,6 +82,105 @@ const BROKEN: &[&str] = &[
     "0 ask / \u{e9}()",
 ];
 
+/// A piece of a command: one of these texts, or a word of a kind.
+enum Piece {
+    OneOf(&'static [&'static str]),
+    Place,
+    Part,
+    Value,
+    Term,
+    Attribute,
+    Edit,
+}
+
+/// Commands that edit nothing. A row that stands here more often is taken more often.
+const COMMANDS: &[&[Piece]; 9] = &[
+    &[Piece::OneOf(&[" version"])],
+    &[Piece::OneOf(&[" mark u ", " mark v "]), Piece::Place],
+    &[Piece::OneOf(&[" unmark u", " unmark v"])],
+    &[Piece::OneOf(&[" where u", " where v", " where w"])],
+    &[Piece::OneOf(&[" show "]), Piece::Place],
+    ASK,
+    ASK,
+    ASK,
+    ASK,
+];
+
+const ASK: &[Piece] = &[
+    Piece::OneOf(&[" ask "]),
+    Piece::Place,
+    SPACE,
+    Piece::Attribute,
+];
+
+/// Edits, in the same way.
+const EDITS: &[&[Piece]; 12] = &[
+    &[Piece::OneOf(&[" set "]), Piece::Place, SPACE, Piece::Term],
+    &[
+        Piece::OneOf(&[" put "]),
+        Piece::Place,
+        SPACE,
+        Piece::Part,
+        SPACE,
+        Piece::Term,
+    ],
+    DROP,
+    DROP,
+    &[
+        Piece::OneOf(&[" insert "]),
+        Piece::Place,
+        SPACE,
+        Piece::Part,
+        Piece::OneOf(&[" 0 ", " 0 ", " 1 ", " 2 ", " 7 "]),
+        Piece::Term,
+    ],
+    &[
+        Piece::OneOf(&[" token "]),
+        Piece::Place,
+        SPACE,
+        Piece::Part,
+        SPACE,
+        Piece::Value,
+    ],
+    WHOLE,
+    WHOLE,
+    WHOLE,
+    WHOLE,
+    WHOLE,
+    WHOLE,
+];
+
+const DROP: &[Piece] = &[Piece::OneOf(&[" drop "]), Piece::Place];
+
+const WHOLE: &[Piece] = &[SPACE, Piece::Edit];
+
+const SPACE: Piece = Piece::OneOf(&[" "]);
+
+impl Words {
+    /// What the piece is taken from.
+    fn of(&self, piece: &Piece) -> &'static [&'static str] {
+        match piece {
+            Piece::OneOf(texts) => *texts,
+            Piece::Place => self.places,
+            Piece::Part => self.parts,
+            Piece::Value => self.values,
+            Piece::Term => self.terms,
+            Piece::Attribute => self.attributes,
+            Piece::Edit => self.edits,
+        }
+    }
+}
+
+const SESSIONS: &[&str] = &["0", "0", "0", "1", "999"];
+
+const VERSIONS: &[&str] = &[
+    " at 0",
+    " at 1",
+    " at 2",
+    " at 3",
+    " at 18446744073709551615",
+];
+
 /// So many lines by chance, each with its end.
 pub fn lines(
     alloc: Global,
@@ -102,60 +201,23 @@ fn add_line(words: &Words, chance: &mut Chance, line: &mut String) -> Result<(),
     if chance.below(16) == 0 {
         return line.push_str(chance.among(BROKEN));
     }
-    line.push_str(chance.among(&["0", "0", "0", "1", "999"]))?;
+    line.push_str(chance.among(SESSIONS))?;
     if chance.below(8) == 0 {
-        line.push_str(" at ")?;
-        line.push_str(chance.among(&["0", "1", "2", "3", "18446744073709551615"]))?;
+        line.push_str(chance.among(VERSIONS))?;
     }
     add_command(words, chance, line)
 }
 
+/// A command, of which seven in sixteen are edits.
 fn add_command(words: &Words, chance: &mut Chance, line: &mut String) -> Result<(), AllocError> {
-    match chance.below(16) {
-        0 => line.push_str(" version"),
-        1 => add_mark(words, chance, line),
-        2 => add(line, &[" unmark ", chance.among(&["u", "v"])]),
-        3 => add(line, &[" where ", chance.among(&["u", "v", "w"])]),
-        4 => add(line, &[" show ", chance.among(words.places)]),
-        5 | 6 | 7 | 8 => add_question(words, chance, line),
-        _ => add_edit(words, chance, line),
-    }
-}
-
-fn add_mark(words: &Words, chance: &mut Chance, line: &mut String) -> Result<(), AllocError> {
-    let name = chance.among(&["u", "v"]);
-    add(line, &[" mark ", name, " ", chance.among(words.places)])
-}
-
-fn add_question(words: &Words, chance: &mut Chance, line: &mut String) -> Result<(), AllocError> {
-    let place = chance.among(words.places);
-    add(line, &[" ask ", place, " ", chance.among(words.attributes)])
-}
-
-fn add_edit(words: &Words, chance: &mut Chance, line: &mut String) -> Result<(), AllocError> {
-    let place = chance.among(words.places);
-    let part = chance.among(words.parts);
-    let term = chance.among(words.terms);
-    match chance.below(12) {
-        0 => add(line, &[" set ", place, " ", term]),
-        1 => add(line, &[" put ", place, " ", part, " ", term]),
-        2 | 3 => add(line, &[" drop ", place]),
-        4 => {
-            let index = chance.among(&["0", "0", "1", "2", "7"]);
-            add(line, &[" insert ", place, " ", part, " ", index, " ", term])
-        }
-        5 => {
-            let value = chance.among(words.values);
-            add(line, &[" token ", place, " ", part, " ", value])
-        }
-        _ => add(line, &[" ", chance.among(words.edits)]),
-    }
-}
-
-/// Adds the texts, one after the other.
-fn add(line: &mut String, texts: &[&str]) -> Result<(), AllocError> {
-    for text in texts {
-        line.push_str(text)?;
+    let kind = chance.below(16);
+    let pieces = if kind < 9 {
+        COMMANDS[kind]
+    } else {
+        EDITS[chance.below(12)]
+    };
+    for piece in pieces {
+        line.push_str(chance.among(words.of(piece)))?;
     }
     Ok(())
 }

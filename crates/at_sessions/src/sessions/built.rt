@@ -1,42 +1,100 @@
 //! Sessions over trees, and of lines, that are built; and texts that are joined with themselves, up to the limit.
 
-use crate::hearing::{is_told, recorded};
-use crate::samples::{TREE, files, joined, over, repeated};
-use at_cache::{KeepNone, KeepUntilEdit};
+use super::Session;
+use crate::hearing::recorded;
+use crate::samples::{TREE, files, over};
 use std::alloc::{AllocError, Global};
 use std::test::Fail;
 
-/// The work that the lines cost over the tree, where they get these replies.
-fn work_of(alloc: Global, tree: &str, lines: &str, replies: &str) -> Result<Option<u64>, Fail> {
-    let files = files(alloc, &over(tree))?;
-    let (told, report) = recorded(alloc, &files, lines)?;
-    Ok((told.as_slice() == replies.as_bytes()).then_some(report.work))
+/// Texts, one behind the other, each so many times.
+type Texts = &'static [(&'static str, usize)];
+
+/// Lines over a tree, the replies to them, and the work that they cost, where it is told.
+struct Built {
+    tree: Texts,
+    lines: Texts,
+    replies: Texts,
+    work: Option<u64>,
 }
 
-/// Whether the keepers that record nothing lead to these replies, too.
-fn are_alike(alloc: Global, tree: &str, lines: &str, replies: &str) -> Result<bool, Fail> {
-    let files = files(alloc, &over(tree))?;
-    let told = replies.as_bytes();
-    Ok(
-        is_told(alloc, &files, KeepNone::new(alloc), lines, told)?
-            && is_told(alloc, &files, KeepUntilEdit::new(alloc), lines, told)?,
-    )
-}
-
-/// A program that prints so many sums, each the left operand of the one around it.
-fn nested_sums(alloc: Global, sums: usize) -> Result<String, AllocError> {
-    let front = repeated(alloc, "Add(", sums)?;
-    let back = repeated(alloc, ",Num(1))", sums)?;
-    joined(
-        alloc,
-        &[
-            "Program(Block([Print(",
-            front.as_str(),
-            "Num(1)",
-            back.as_str(),
-            ")]))",
+const BUILT: &[Built] = &[
+    // questions go as deep as the tree
+    Built {
+        tree: &[
+            ("Program(Block([Print(", 1),
+            ("Add(", 508),
+            ("Num(1)", 1),
+            (",Num(1))", 508),
+            (")]))", 1),
         ],
-    )
+        lines: &[("0 ask /Block/Stmt:0/Expr value()\n", 1)],
+        replies: &[("0 = 509\n", 1)],
+        work: Some(1_017),
+    },
+    // a text has fewer than 65,536 bytes
+    Built {
+        tree: &[(TREE, 1)],
+        lines: &[NAME_FRONT, ("a", 4_095), NAME_BACK],
+        replies: &[("0 ok 1\n0 = \"", 1), ("a", 65_520), ("\"\n", 1)],
+        work: None,
+    },
+    Built {
+        tree: &[(TREE, 1)],
+        lines: &[NAME_FRONT, ("a", 4_096), NAME_BACK],
+        replies: &[("0 ok 1\n0 fault long in /Block/Stmt:1/Expr/Left.d4\n", 1)],
+        work: None,
+    },
+];
+
+/// What stands before a name for the use, and behind it: a question for sixteen times that text.
+const NAME_FRONT: (&str, usize) = ("0 token /Block/Stmt:1/Expr/Left ID \"", 1);
+
+const NAME_BACK: (&str, usize) = ("\"\n0 ask /Block/Stmt:1/Expr/Left d4()\n", 1);
+
+/// The texts, one behind the other.
+fn joined(alloc: Global, texts: &[(&str, usize)]) -> Result<String, AllocError> {
+    let mut all = String::new(alloc);
+    for (text, times) in texts {
+        add_repeated(&mut all, text, *times)?;
+    }
+    Ok(all)
+}
+
+/// Adds the text that many times.
+fn add_repeated(all: &mut String, text: &str, times: usize) -> Result<(), AllocError> {
+    for _ in 0..times {
+        all.push_str(text)?;
+    }
+    Ok(())
+}
+
+/// The work that the lines cost over the tree, where every keeper leads to these replies.
+fn work_of(alloc: Global, tree: &str, lines: &str, replies: &str) -> Result<u64, Fail> {
+    let files = files(alloc, &over(tree))?;
+    let session = Session {
+        name: "built",
+        lines,
+        replies,
+        work: None,
+    };
+    super::work_of(alloc, &files, &session)
+}
+
+/// The work of a session that is built.
+fn work_of_built(alloc: Global, built: &Built) -> Result<u64, Fail> {
+    let tree = joined(alloc, built.tree)?;
+    let lines = joined(alloc, built.lines)?;
+    let replies = joined(alloc, built.replies)?;
+    work_of(alloc, &tree, &lines, &replies)
+}
+
+#[test]
+fn what_is_built_has_its_replies_and_work(rt: HostRuntime) -> Result<(), Fail> {
+    for built in BUILT {
+        let work = work_of_built(rt.alloc(), built)?;
+        assert_eq!(rt; work, built.work.unwrap_or(work));
+    }
+    Ok(())
 }
 
 /// A block of declarations, each but the first initialized by a use of the one before.
@@ -44,28 +102,20 @@ fn chained(alloc: Global, declarations: u32) -> Result<String, AllocError> {
     let mut tree = String::from_str(alloc, "Program(Block([Decl(\"a0\",Num(1))")?;
     for k in 1..declarations {
         let j = k - 1;
-        tree.push_str(&format!(in alloc; ",Decl(\"a{k}\",Use(\"a{j}\"))")?)?;
+        write!(tree, ",Decl(\"a{k}\",Use(\"a{j}\"))")?;
     }
     tree.push_str("]))")?;
     Ok(tree)
 }
 
 #[test]
-fn questions_go_as_deep_as_the_tree(rt: HostRuntime) -> Result<(), Fail> {
-    let alloc = rt.alloc();
-    let tree = nested_sums(alloc, 508)?;
-    let line = "0 ask /Block/Stmt:0/Expr value()\n";
-    assert_eq!(rt; work_of(alloc, &tree, line, "0 = 509\n")?, Some(1017));
-    assert!(rt; are_alike(alloc, &tree, line, "0 = 509\n")?);
-    Ok(())
-}
-
-#[test]
 fn questions_follow_references(rt: HostRuntime) -> Result<(), Fail> {
     let alloc = rt.alloc();
     let tree = chained(alloc, 200)?;
-    let line = "0 ask /Block/Stmt:199 value()\n";
-    assert_eq!(rt; work_of(alloc, &tree, line, "0 = 1\n")?, Some(997));
+    let files = files(alloc, &over(&tree))?;
+    let (told, report) = recorded(alloc, &files, "0 ask /Block/Stmt:199 value()\n")?;
+    assert_eq!(rt; std::str::from_utf8(&told)?, "0 = 1\n");
+    assert_eq!(rt; report.work, 997);
     Ok(())
 }
 
@@ -73,7 +123,7 @@ fn questions_follow_references(rt: HostRuntime) -> Result<(), Fail> {
 fn marked(alloc: Global, marks: u32, others: &str) -> Result<String, AllocError> {
     let mut lines = String::new(alloc);
     for i in 0..marks {
-        lines.push_str(&format!(in alloc; "0 mark m{i} /\n")?)?;
+        write!(lines, "0 mark m{i} /\n")?;
     }
     lines.push_str(others)?;
     Ok(lines)
@@ -83,28 +133,8 @@ fn marked(alloc: Global, marks: u32, others: &str) -> Result<String, AllocError>
 fn a_session_has_100_marks_and_no_more(rt: HostRuntime) -> Result<(), Fail> {
     let alloc = rt.alloc();
     let lines = marked(alloc, 101, "1 mark m0 /\n0 unmark m0\n0 mark m100 /\n")?;
-    let made = repeated(alloc, "0 ok 0\n", 100)?;
     let others = "0 refused 12 limit\n1 ok 0\n0 ok 0\n0 ok 0\n";
-    let replies = joined(alloc, &[made.as_str(), others])?;
-    assert_eq!(rt; work_of(alloc, TREE, &lines, &replies)?, Some(0));
-    Ok(())
-}
-
-/// Lines that give the use a name of so many bytes, and ask for sixteen times that text.
-fn sixteenfold(alloc: Global, bytes: usize) -> Result<String, AllocError> {
-    let name = repeated(alloc, "a", bytes)?;
-    let front = "0 token /Block/Stmt:1/Expr/Left ID \"";
-    let back = "\"\n0 ask /Block/Stmt:1/Expr/Left d4()\n";
-    joined(alloc, &[front, name.as_str(), back])
-}
-
-#[test]
-fn a_text_has_fewer_than_65536_bytes(rt: HostRuntime) -> Result<(), Fail> {
-    let alloc = rt.alloc();
-    let text = repeated(alloc, "a", 65_520)?;
-    let replies = joined(alloc, &["0 ok 1\n0 = \"", text.as_str(), "\"\n"])?;
-    assert!(rt; are_alike(alloc, TREE, &sixteenfold(alloc, 4095)?, &replies)?);
-    let replies = "0 ok 1\n0 fault long in /Block/Stmt:1/Expr/Left.d4\n";
-    assert!(rt; are_alike(alloc, TREE, &sixteenfold(alloc, 4096)?, replies)?);
+    let replies = joined(alloc, &[("0 ok 0\n", 100), (others, 1)])?;
+    assert_eq!(rt; work_of(alloc, TREE, &lines, &replies)?, 0);
     Ok(())
 }
