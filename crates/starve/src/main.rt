@@ -11,9 +11,9 @@ mod telling;
 use at_cache::{KeepNone, KeepRecorded, KeepUntilEdit, Keeper};
 use sample::{LINES, REPLIES, engine};
 use std::alloc::Global;
-use std::env;
 use std::process::ExitCode;
-use telling::{Told, Want, answered, heard, is_told, joined};
+use std::{env, str};
+use telling::{Told, Want, answered, are_left, heard};
 
 /// How a session went.
 #[derive(Clone, Copy)]
@@ -56,34 +56,24 @@ fn told_of_all(rt: &HostRuntime) -> Result<bool, Want> {
 
 /// Whether this is a keeper's word; its verdict is printed then.
 fn told_of(rt: &HostRuntime, word: &str) -> Result<bool, Want> {
-    match word {
-        "nothing" => {
-            let verdict = with_nothing_kept(rt.alloc())?;
-            let _ = println!(rt; "nothing kept: {}", text(verdict));
-        }
-        "until-edit" => {
-            let verdict = with_kept_until_edit(rt.alloc())?;
-            let _ = println!(rt; "kept until an edit: {}", text(verdict));
-        }
-        "over-edits" => {
-            let verdict = with_kept_over_edits(rt.alloc())?;
-            let _ = println!(rt; "kept over edits: {}", text(verdict));
-        }
+    let alloc = rt.alloc();
+    let (name, verdict) = match word {
+        "nothing" => (
+            "nothing kept",
+            judged(alloc, KeepNone::new(alloc), KeepNone::new(alloc))?,
+        ),
+        "until-edit" => (
+            "kept until an edit",
+            judged(alloc, KeepUntilEdit::new(alloc), KeepUntilEdit::new(alloc))?,
+        ),
+        "over-edits" => (
+            "kept over edits",
+            judged(alloc, KeepRecorded::new(alloc), KeepRecorded::new(alloc))?,
+        ),
         _ => return Ok(false),
-    }
+    };
+    let _ = println!(rt; "{name}: {}", text(verdict));
     Ok(true)
-}
-
-fn with_nothing_kept(alloc: Global) -> Result<Verdict, Want> {
-    judged(alloc, KeepNone::new(alloc), KeepNone::new(alloc))
-}
-
-fn with_kept_until_edit(alloc: Global) -> Result<Verdict, Want> {
-    judged(alloc, KeepUntilEdit::new(alloc), KeepUntilEdit::new(alloc))
-}
-
-fn with_kept_over_edits(alloc: Global) -> Result<Verdict, Want> {
-    judged(alloc, KeepRecorded::new(alloc), KeepRecorded::new(alloc))
 }
 
 fn text(verdict: Verdict) -> &'static str {
@@ -100,8 +90,8 @@ fn judged<K: Keeper>(alloc: Global, first: K, second: K) -> Result<Verdict, Want
     requires first { KeepsAll (λ _. None) (K.contents first) }
     requires second { KeepsAll (λ _. None) (K.contents second) }
 {
-    let whole = session(alloc, first, &joined(alloc, LINES)?)?;
-    if whole.memory == 0 && is_told(REPLIES, &whole.replies) {
+    let whole = session(alloc, first, LINES)?;
+    if whole.memory == 0 && whole.replies.as_slice() == REPLIES.as_bytes() {
         return Ok(Verdict::Right);
     }
     if whole.memory == 1 && is_as_fed(alloc, second, &whole)? {
@@ -111,7 +101,7 @@ fn judged<K: Keeper>(alloc: Global, first: K, second: K) -> Result<Verdict, Want
 }
 
 /// What a fresh engine over the keeper tells to the lines.
-fn session<K: Keeper>(alloc: Global, keeper: K, lines: &[u8]) -> Result<Told, Want>
+fn session<K: Keeper>(alloc: Global, keeper: K, lines: &str) -> Result<Told, Want>
     requires { KeepsAll (λ _. None) (K.contents keeper) }
 {
     let mut engine = engine(alloc, keeper)?;
@@ -122,11 +112,14 @@ fn session<K: Keeper>(alloc: Global, keeper: K, lines: &[u8]) -> Result<Told, Wa
 fn is_as_fed<K: Keeper>(alloc: Global, keeper: K, whole: &Told) -> Result<bool, Want>
     requires { KeepsAll (λ _. None) (K.contents keeper) }
 {
-    let (lines, replies) = answered(alloc, LINES, &whole.replies)?;
+    let Ok(replies) = str::from_utf8(&whole.replies) else {
+        return Ok(false);
+    };
+    let lines = answered(alloc, LINES, replies)?;
     let others = session(alloc, keeper, &lines)?;
     Ok(
         whole.lines.saturating_sub(others.lines) == 1
             && others.memory == 0
-            && replies == others.replies,
+            && are_left(replies, &others.replies),
     )
 }

@@ -43,30 +43,28 @@ aspect Values {
 const TREE: &str = "Program(Block([Decl(\"x\",Num(1)),Print(Add(Use(\"x\"),Num(2)))]))";
 
 /// A question, each edit and a mark, and the question again.
-pub const LINES: &[&str] = &[
-    "0 ask /Block/Stmt:1/Expr value()",
-    "0 mark u /Block/Stmt:1/Expr/Left",
-    "0 insert /Block Stmt 0 Decl(\"y\",-)",
-    "0 put /Block/Stmt:0 Init Num(6)",
-    "0 drop /Block/Stmt:0",
-    "0 set /Block/Stmt:0/Init Num(4)",
-    "0 token /Block/Stmt:1/Expr/Right Value 5",
-    "0 where u",
-    "0 ask /Block/Stmt:1/Expr value()",
-];
+pub const LINES: &str = "0 ask /Block/Stmt:1/Expr value()
+0 mark u /Block/Stmt:1/Expr/Left
+0 insert /Block Stmt 0 Decl(\"y\",-)
+0 put /Block/Stmt:0 Init Num(6)
+0 drop /Block/Stmt:0
+0 set /Block/Stmt:0/Init Num(4)
+0 token /Block/Stmt:1/Expr/Right Value 5
+0 where u
+0 ask /Block/Stmt:1/Expr value()
+";
 
 /// Their replies where no memory is refused.
-pub const REPLIES: &[&str] = &[
-    "0 = 3",
-    "0 ok 0",
-    "0 ok 1",
-    "0 ok 2",
-    "0 ok 3",
-    "0 ok 4",
-    "0 ok 5",
-    "0 = /Block/Stmt:1/Expr/Left",
-    "0 = 9",
-];
+pub const REPLIES: &str = "0 = 3
+0 ok 0
+0 ok 1
+0 ok 2
+0 ok 3
+0 ok 4
+0 ok 5
+0 = /Block/Stmt:1/Expr/Left
+0 = 9
+";
 
 /// An engine of the sample over an empty keeper.
 ///
