@@ -4,7 +4,6 @@ mod built;
 
 use crate::hearing::played;
 use crate::samples::{TREE, files, over};
-use at_start::Files;
 use std::alloc::Global;
 use std::test::Fail;
 
@@ -292,9 +291,10 @@ const SESSIONS: &[Session<'static>] = &[
     },
 ];
 
-/// The work that a session costs. A failure where its replies are others, or those of another keeper are.
-fn work_of(alloc: Global, files: &Files, session: &Session) -> Result<u64, Fail> {
-    let (told, report) = played(alloc, files, session.lines)?;
+/// The work that a session costs over the tree. A failure where its replies are others, or those of another keeper are.
+fn work_of(alloc: Global, tree: &str, session: &Session) -> Result<u64, Fail> {
+    let files = files(alloc, &over(tree))?;
+    let (told, report) = played(alloc, &files, session.lines)?;
     if told.as_slice() != session.replies.as_bytes() {
         let told = std::str::from_utf8(&told)?;
         return Err(Fail::new(format_args!("{}: {told}", session.name)));
@@ -304,10 +304,8 @@ fn work_of(alloc: Global, files: &Files, session: &Session) -> Result<u64, Fail>
 
 #[test]
 fn sessions_have_their_replies_and_work(rt: HostRuntime) -> Result<(), Fail> {
-    let alloc = rt.alloc();
-    let files = files(alloc, &over(TREE))?;
     for session in SESSIONS {
-        let work = work_of(alloc, &files, session)?;
+        let work = work_of(rt.alloc(), TREE, session)?;
         assert_eq!(rt; work, session.work.unwrap_or(work), "{}", session.name);
     }
     Ok(())
