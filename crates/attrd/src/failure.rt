@@ -3,6 +3,7 @@ ghost use Rattle.std.specs.Prelude.{◌≡◌};
 ghost use Rattle.attrd.specs.Statuses.{status_of};
 ghost use Rattle.attrd.specs.declared.failure.Failure.TheVariants.{Memory};
 
+use crate::options::WordsFault;
 use crate::serving::Served;
 use at_engine::RunFault;
 use std::alloc::{AllocError, AllocFailed};
@@ -51,6 +52,15 @@ impl<T: Drop> From<AllocFailed<T>> for Failure {
 
     fn from(_e: AllocFailed<T>) -> Failure {
         Failure::Memory
+    }
+}
+
+impl From<WordsFault> for Failure {
+    fn from(fault: WordsFault) -> Failure {
+        match fault {
+            WordsFault::Words { text } => Failure::Words { text },
+            WordsFault::Memory => Failure::Memory,
+        }
     }
 }
 

@@ -47,14 +47,23 @@ fn ended(rt: &HostRuntime, served: &Result<(), Failure>, work: Option<u64>) -> E
 
 /// Serves what the words of the command line ask for, and notes the engine's work, where they ask for that.
 fn serve_words(rt: &HostRuntime, work: &mut Option<u64>) -> Result<(), Failure> {
-    let words = words(rt)?;
-    let options = options(rt.alloc(), &words)?;
+    let options = asked(rt)?;
     let mut engine = engine_of(rt, &options)?;
     let served = serve_asked(rt, &options, &mut engine);
     if options.work {
         *work = Some(engine.work());
     }
     served
+}
+
+/// What the words after the program's name ask for.
+fn asked(rt: &HostRuntime) -> Result<Options, Failure> {
+    let words = words(rt)?;
+    let mut texts = Vec::with_capacity(rt.alloc(), words.len())?;
+    for word in &words {
+        texts.push(word.as_str())?;
+    }
+    Ok(options(rt.alloc(), &texts)?)
 }
 
 /// The words after the program's name.
@@ -96,8 +105,8 @@ fn serve_asked(
 ) -> Result<(), Failure>
     requires { IsReady engine.old }
 {
-    match options.socket {
-        Some(path) => serve_socket(rt, path, options.connections, engine),
+    match &options.socket {
+        Some(path) => serve_socket(rt, path.as_str(), options.connections, engine),
         None => serve_standard(rt, engine),
     }
 }
@@ -141,12 +150,12 @@ fn serve_socket(
 
 /// The files that are asked for, read in the order grammar, aspects, tree.
 fn read_files(rt: &HostRuntime, options: &Options) -> Result<Files, Failure> {
-    let grammar = read_file(rt, options.grammar)?;
+    let grammar = read_file(rt, &options.grammar)?;
     let mut aspects = Vec::new(rt.alloc());
     for name in &options.aspects {
         aspects.push(read_file(rt, name)?)?;
     }
-    let tree = read_file(rt, options.tree)?;
+    let tree = read_file(rt, &options.tree)?;
     Ok(Files {
         grammar,
         tree,

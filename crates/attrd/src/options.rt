@@ -1,19 +1,50 @@
 //! What the words of the command line ask for.
+ghost use Rattle.std.specs.Prelude.{◌≡◌};
+ghost use Rattle.attrd.specs.declared.options.WordsFault.TheVariants.{Memory};
 
 mod words;
 
+use std::alloc::{AllocError, AllocFailed};
+use thiserror::Error;
 pub use words::options;
 
 /// What the command line asks for.
 #[derive(Drop)]
-pub struct Options<'a> {
+pub struct Options {
     /// The path of the socket that is served; standard input and output where there is none.
-    pub socket: Option<&'a str>,
+    pub socket: Option<String>,
     /// How many connections of the socket are served.
     pub connections: u16,
     /// Whether the engine's work is told at the end.
     pub work: bool,
-    pub grammar: &'a str,
-    pub tree: &'a str,
-    pub aspects: Vec<&'a str>,
+    pub grammar: String,
+    pub tree: String,
+    pub aspects: Vec<String>,
+}
+
+/// Why the words ask for nothing that can be served. It is shown as its text, without a newline at the end.
+#[derive(Debug, Drop, Error)]
+pub enum WordsFault {
+    /// What is wrong with the words, or the help that they ask for.
+    #[error("{text}")]
+    Words { text: String },
+    /// Want of memory.
+    #[error("memory")]
+    Memory,
+}
+
+impl From<AllocError> for WordsFault {
+    ghost from_gives = { λ _ e. e ≡ Memory };
+
+    fn from(_e: AllocError) -> WordsFault {
+        WordsFault::Memory
+    }
+}
+
+impl<T: Drop> From<AllocFailed<T>> for WordsFault {
+    ghost from_gives = { λ _ e. e ≡ Memory };
+
+    fn from(_e: AllocFailed<T>) -> WordsFault {
+        WordsFault::Memory
+    }
 }

@@ -1,9 +1,8 @@
 //! The words of the command line, and how they are read.
-ghost use Rattle.std.specs.Prelude.{IfOk};
+ghost use Rattle.std.specs.Prelude.{◌≡◌, IfOk, vec_len, length};
 ghost use Rattle.attrd.specs.Options.{IsUsable, IsConnections};
 
-use super::Options;
-use crate::failure::Failure;
+use super::{Options, WordsFault};
 use clap::builder::ValueParser;
 use clap::error::ErrorKind;
 use clap::{Arg, ArgMatches, Command, Error};
@@ -107,7 +106,7 @@ const WORDS: &[Word] = &[
 /// # Errors
 ///
 /// `Words` where they aren't words of the command line, or ask for help; `Memory` for want of memory.
-pub fn options<'a>(alloc: Global, words: &'a [String]) -> Result<Options<'a>, Failure>
+pub fn options<'a>(alloc: Global, words: &'a [&'a str]) -> Result<Options, WordsFault>
     ensures { IfOk result IsUsable }
 {
     match command(alloc)?.try_get_matches_from(words) {
@@ -143,23 +142,30 @@ fn argument<'a>(alloc: Global, word: &Word) -> Arg<'a> {
 }
 
 /// What the words ask for, as they were matched.
-fn options_of<'a>(alloc: Global, matches: &ArgMatches<'a>) -> Result<Options<'a>, Failure>
+fn options_of(alloc: Global, matches: &ArgMatches<'_>) -> Result<Options, WordsFault>
     ensures { IfOk result IsUsable }
 {
-    let (Some(grammar), Some(tree), Some(aspects @ [_, ..])) = (
+    let (Some(grammar), Some(tree), Some(aspects)) = (
         matches.get_str("GRAMMAR"),
         matches.get_str("TREE"),
         matches.get_strs("ASPECT"),
     ) else {
         return Err(lacking(alloc));
     };
+    if aspects.is_empty() {
+        return Err(lacking(alloc));
+    }
+    let socket = match matches.get_str("socket") {
+        Some(path) => Some(String::from_str(alloc, path)?),
+        None => None,
+    };
     Ok(Options {
-        socket: matches.get_str("socket"),
+        socket,
         connections: connections_of(matches),
         work: matches.get_flag("work"),
-        grammar,
-        tree,
-        aspects: Vec::from_slice(alloc, aspects)?,
+        grammar: String::from_str(alloc, grammar)?,
+        tree: String::from_str(alloc, tree)?,
+        aspects: copies(alloc, aspects)?,
     })
 }
 
@@ -173,24 +179,35 @@ fn connections_of(matches: &ArgMatches<'_>) -> u16
         .clamp(CONNECTIONS, MAX_CONNECTIONS)
 }
 
+/// Copies of the texts.
+fn copies(alloc: Global, texts: &[&str]) -> Result<Vec<String>, AllocError>
+    ensures { IfOk result (λ v. vec_len v ≡ length texts.now) }
+{
+    let mut copied = Vec::new(alloc);
+    for text in texts {
+        copied.push(String::from_str(alloc, text)?)?;
+    }
+    Ok(copied)
+}
+
 /// The fault of words that name too few files. The command has seen to it that none come here.
-fn lacking(alloc: Global) -> Failure {
+fn lacking(alloc: Global) -> WordsFault {
     match String::from_str(alloc, "error: GRAMMAR, TREE and ASPECT are required") {
-        Ok(text) => Failure::Words { text },
-        Err(_) => Failure::Memory,
+        Ok(text) => WordsFault::Words { text },
+        Err(_) => WordsFault::Memory,
     }
 }
 
 /// The fault of the words that were refused.
-fn fault_of(alloc: Global, error: &Error) -> Failure {
+fn fault_of(alloc: Global, error: &Error) -> WordsFault {
     if error.kind() == ErrorKind::OutOfMemory {
-        return Failure::Memory;
+        return WordsFault::Memory;
     }
     match format!(in alloc; "{error}") {
-        Ok(text) => Failure::Words {
+        Ok(text) => WordsFault::Words {
             text: without_newline(text),
         },
-        Err(_) => Failure::Memory,
+        Err(_) => WordsFault::Memory,
     }
 }
 
