@@ -48,7 +48,10 @@ def proved_in(room, pool, lanes):
         for edits, texts in refused.rounds_of(crate, refused.edits_of(crate)):
             trials.append(pool.submit(tried_in, lanes, proved, crate, edits, texts))
 
-    ran = subprocess.Popen(["rt", "ci"], cwd=room, stdout=subprocess.PIPE, stderr=subprocess.STDOUT, text=True, errors="replace")
+    # one job for each check: several jobs of one check do a part of its work twice, and other crates can use the processor
+    jobs = {"RT_JOBS": str(len(os.sched_getaffinity(0))), **os.environ}
+    how = {"stdout": subprocess.PIPE, "stderr": subprocess.STDOUT}
+    ran = subprocess.Popen(["rt", "ci"], cwd=room, env=jobs, text=True, errors="replace", **how)
     for line in ran.stdout:
         print(line, end="", flush=True)
         proved.hear(line)
