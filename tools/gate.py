@@ -41,7 +41,7 @@ def tried_in(lanes, *trial):
 
 def proved_in(room, pool, lanes):
     """Runs `rt ci` in the folder and prints what it tells. Gives its status, and the trials of edits, begun as crates were proved."""
-    proved, trials, begun = refused.Proved(room, ""), [], set()
+    proved, trials, begun = refused.Proved(room), [], set()
 
     def begin(crate):
         begun.add(crate)
@@ -54,12 +54,11 @@ def proved_in(room, pool, lanes):
     ran = subprocess.Popen(["rt", "ci"], cwd=room, env=jobs, text=True, errors="replace", **how)
     for line in ran.stdout:
         print(line, end="", flush=True)
-        proved.hear(line)
-        crate = re.match(r"rt: (\w+) proved$", line)
+        crate = re.match(r"rt: (\w+) (?:proved$|is kept: )", line)
         if crate:
             begin(crate[1])
     status = ran.wait()
-    # a kit that takes up earlier proofs may tell of them in other words
+    # should the kit tell of it in other words
     for crate in proved.uses if status == 0 else []:
         if crate not in begun:
             begin(crate)

@@ -1,21 +1,22 @@
 #!/usr/bin/env python3
 """Tries wrong bodies, the edits crates/NAME/must-fail/*.edit, on the prover, which has to refuse each.
 
-    tools/refused.py [--control] [--lanes N] PRINTED [NAME...]
+    tools/refused.py [--control] [--lanes N] [NAME...]
 
-The folder that it runs in is a repository whose libraries `rt ci` has proved and left in crates/NAME/out/rlib, and PRINTED is
-a file with what that run printed. The edits of all crates are tried, or of those named.
+The folder that it runs in is a repository whose libraries `rt ci` has proved and left in crates/NAME/out/rlib. The edits of
+all crates are tried, or of those named.
 
 An edit's line `refused:` names the function that has to be refused. All edits of a crate are made in one copy of it, and the
-prover checks the functions that they turn, over the contracts of what these call. Those were proved from nothing a moment ago;
-so in the copy their bodies and proofs are left out, and what the prover says of each turned function is of its own goals alone. An
-edit is refused where one of these can't be proved; that it calls what isn't proved doesn't count, and neither does a name
-that a proof file misses.
+prover checks the functions that they turn, over the contracts of what these call. Those were proved by `rt ci` a moment ago,
+or, of the same files, by an earlier run on this machine; so in the copy their bodies and proofs are left out, and what the
+prover says of each turned function is of its own goals alone. An edit is refused where one of these can't be proved; that it
+calls what isn't proved doesn't count, and neither does a name that a proof file misses.
 
 With --control no edit is made, and none of the functions may be refused. `rt must-fail NAME` tries the same edits one by one,
 each over a whole check of the crate, which takes several times as long.
 """
 import argparse
+import os
 import re
 import shutil
 import subprocess
@@ -29,6 +30,8 @@ PARTS = ("src", "specs", "proofs")
 # What a proof file says where the edit took a name away, which tells nothing of the contract.
 NAME_MISSED = re.compile(r"has no field|is not in scope|has no `|is no name|operand is missing|was not admitted")
 FUNCTION = re.compile(r"( *)(?:pub(?:\(\w+\))? )?fn (\w+)")
+IMPLEMENTED = re.compile(r"impl(?:<.*?>)? (?:(.+) for )?(\w+)")
+DECLARED = re.compile(r"(?:pub(?:\(\w+\))? )?(?:struct|enum) (\w+)")
 CYCLE = r"#\[cycle\((?:{})\)\](?=((?:\s*(?:#\[|//)[^\n]*)*\s*(?:pub(?:\(\w+\))? )?fn (\w+)))"
 HOLE = "use {module}.Statement.{{statement}}\n\npub {name}_spec : {{M : Type 1}} → statement M\n{name}_spec = ?\n"
 
@@ -132,21 +135,53 @@ def cycles_of(folder):
     return {it: {name for _, name in re.findall(CYCLE.format(it.name[1:]), code)} or {it.name[1:]} for it in found}
 
 
-class Proved:
-    """A repository whose libraries are proved: what its crates use, and which functions `rt ci` told as proved."""
+def files_of(folder):
+    """The files of a crate's code, each with its module's path and its lines."""
+    src, found = folder / "src", []
+    for file in src.rglob("*.rt"):
+        path = tuple(it for it in file.relative_to(src).with_suffix("").parts if it not in ("lib", "main"))
+        found.append((path, file.read_text(encoding="utf-8").splitlines()))
+    return found
 
-    def __init__(self, root, printed):
+
+def owner_of(header, path, homes):
+    """The path that the prover has for the functions of an `impl` in this module: in its type's module, by its type's name and
+    its trait's, if there is one; what lets a value go is the type's own."""
+    trait, kind = IMPLEMENTED.match(header).groups()
+    # a word of one letter is a parameter of the `impl`
+    words = [it for it in re.findall(r"\w+", re.sub(r"\w+::", "", trait or "")) if len(it) > 1 and it != "Drop"]
+    home = max(homes.get(kind, [path]), key=lambda it: len(os.path.commonprefix([it, path])))
+    return *home, kind + "".join(words)
+
+
+def functions_of(folder):
+    """The functions that a crate's author wrote, laid out by `rt fmt`, by the paths that the prover has for them."""
+    files, homes, found = files_of(folder), {}, []
+    for path, lines in files:
+        for kind in filter(None, map(DECLARED.match, lines)):
+            homes.setdefault(kind[1], []).append(path)
+    for path, lines in files:
+        owner, margin = path, 0
+        for line in lines:
+            if line.startswith("impl"):
+                owner, margin = owner_of(line, path, homes), 4
+            elif line == "}":
+                owner, margin = path, 0
+            function = FUNCTION.match(line)
+            if function and len(function[1]) == margin:
+                found.append((*owner, function[2]))
+    return found
+
+
+class Proved:
+    """A repository whose libraries are proved, and what its crates use."""
+
+    def __init__(self, root):
         doc = subprocess.run(["rt", "doc"], capture_output=True, text=True, check=True)
         self.root, self.kit = Path(root).absolute(), Path(doc.stdout.strip()).parent
         lines = (self.root / "crates.txt").read_text(encoding="utf-8").splitlines()
         named = [it.partition(":") for it in lines if it and not it.startswith("#")]
         self.uses = {name: rest.split() for name, _, rest in named}
-        self.functions = {name: [] for name in self.uses}
-        self.hear(printed)
-
-    def hear(self, printed):
-        for crate, function in re.findall(r"^fn (\w+)::(\S+): proved$", printed, re.M):
-            self.functions.setdefault(crate, []).append(function)
 
     def below(self, crate):
         """The repository's libraries below the crate."""
@@ -169,9 +204,8 @@ class Proved:
         return [*words, "--logic-built", self.kit / "logic_built", "--links", f"{crate}="]
 
     def leave_others_open(self, room, crate, tried):
-        """Leaves open what was proved, but for the functions tried, with the cycles of calls that they are in, and closures and
-        what lets a value go, which have no folder. The body of a function goes, too, unless one of its name is tried: then no
-        cycle is left but those."""
+        """Leaves open what was proved, but for the functions tried, with the cycles of calls that they are in, and what its
+        author didn't write. The body of a function goes, too, unless one of its name is tried: then no cycle is left but those."""
         names, in_cycles, gone = {it.split("::")[-1] for it in tried}, set(), []
         for folder, members in cycles_of(room).items():
             if names & members:
@@ -180,10 +214,10 @@ class Proved:
                 gone.append(folder.name[1:])
                 shutil.rmtree(folder)
         opened = set()
-        for function in self.functions[crate]:
-            *path, name = function.split("::")
-            if function not in tried and name not in in_cycles and "+" not in function and "fn" not in path:
-                leave_open(room.joinpath("proofs", *path, name), ".".join(["Rattle", crate, "proofs", *path, name]), name)
+        for path in functions_of(room):
+            name = path[-1]
+            if "::".join(path) not in tried and name not in in_cycles:
+                leave_open(room.joinpath("proofs", *path), ".".join(["Rattle", crate, "proofs", *path]), name)
                 opened.add(name)
         for file in (room / "src").rglob("*.rt"):
             code = re.sub(CYCLE.format("|".join(gone)), "", file.read_text(encoding="utf-8"))
@@ -244,10 +278,9 @@ def main():
     words = argparse.ArgumentParser(description="Tries wrong bodies on the prover, which has to refuse each.")
     words.add_argument("--control", action="store_true", help="make no edit: none of the functions may be refused")
     words.add_argument("--lanes", type=int, default=1, help="how many checks run side by side (1)")
-    words.add_argument("printed", metavar="PRINTED", type=Path, help="what rt ci printed")
     words.add_argument("crates", metavar="NAME", nargs="*")
     given = words.parse_args()
-    proved = Proved(".", given.printed.read_text(encoding="utf-8"))
+    proved = Proved(".")
     rounds = [(crate, *it) for crate in given.crates or proved.uses for it in rounds_of(crate, edits_of(crate))]
     well = []
     with ThreadPoolExecutor(given.lanes) as pool:
