@@ -10,11 +10,8 @@ use Rattle.at_model.specs.Rules.{Rules, Source, source_of, source_at, inherited_
 use Rattle.at_model.specs.Meaning.{content}
 use Rattle.at_model.specs.Alike.{AlikeAt, Names, OptionLike, neither, both, is, up}
 use Rattle.at_model.specs.TypedRuns.{ClassAt, class_at, class_numbered}
-use Rattle.at_model.proofs.WayUp.{snoc, prefixes-snoc, parent_of-snoc, parent_there, too_long}
+use Rattle.at_model.proofs.WayUp.{snoc, prefixes-snoc, parent_of-snoc, parent_there, too_long, class_there}
 use Rattle.at_body.specs.TypedStart.{OrElse, AtParent, HasEquation}
-
-class_there : (t : Tree) (m : Node) (w : Tree) → tree_at t m ≡ Some w → content t (Is m) ≡ class_of w
-class_there t m w e = ap (λ o. elim o as (λ _. ℕ) [ None ↦ 0 | Some u ↦ class_of u ]) e
 
 -- by paths ------------------------------------------------------------------------------------------------------------
 

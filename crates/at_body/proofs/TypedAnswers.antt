@@ -10,6 +10,7 @@ use Rattle.at_model.specs.TypedRuns.{ClassAt, AreArguments, IsOfKind, IsOfScopeK
 use Rattle.at_model.proofs.Chained.{chained}
 use Rattle.at_model.proofs.Everywhere.{all_any}
 use Rattle.at_model.proofs.TypedExpressions.{typed as evaluated_typed}
+use Rattle.at_model.proofs.TypedTogether.{any_text}
 use Rattle.at_rules.specs.Bodies.{body_view, operator_view, order_view}
 use Rattle.at_rules.specs.declared.body.Body.{Body}
 use Rattle.at_body.specs.declared.todo.Binary.{Binary}
@@ -24,7 +25,7 @@ use Rattle.at_body.specs.Rest.{ev, place_of, with_one, with_two}
 use Rattle.at_body.specs.ValueKinds.{AreAlike}
 use Rattle.at_body.specs.Typed.{IsOperand, AreOperands, ComesTo, IsOver, PlaceKinds, name_kinds, scope_kinds, AreBound, IsPlaceOf, IsUse, IsOperation, IsTodo, AreTodos, Stands, Takes, Enters, Uses, Operates, IsTypedNow}
 use Rattle.at_body.specs.Typed as typed
-use Rattle.at_body.proofs.TypedUses.{any_text, is_int, is_truth, is_text, is_ref}
+use Rattle.at_body.proofs.TypedUses.{is_int, is_truth, is_text, is_ref}
 
 any_literal : (bytes : List ℕ) → AnyText bytes
 any_literal bytes = tt

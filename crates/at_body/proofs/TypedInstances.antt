@@ -10,12 +10,13 @@ use Rattle.at_model.specs.Rules.{Rules, Kind, own_equation}
 use Rattle.at_model.specs.Rules as model
 use Rattle.at_model.specs.Meaning.{content}
 use Rattle.at_model.specs.Alike.{Names, neither, both, ListLike, end, more, ValueLike, int, truth, text, ref, InstanceLike}
-use Rattle.at_model.specs.TypedRuns.{ClassAt, class_at, class_numbered, IsOfKind, IsAllowed, AreArguments, IsWellTyped}
+use Rattle.at_model.specs.TypedRuns.{ClassAt, class_at, class_numbered, IsOfKind, AreArguments, IsWellTyped}
 use Rattle.at_model.specs.Instances.{AnyText}
 use Rattle.at_model.specs.WellFormed.{AreWellFormed, IsTreeSound}
 use Rattle.at_model.proofs.Complete.{has_own, has_source}
 use Rattle.at_model.proofs.Depths.{within_depth}
 use Rattle.at_model.proofs.Options.{led, mapped}
+use Rattle.at_model.proofs.TypedTogether.{any_text}
 use Rattle.at_store.specs.Memory.{class_in}
 use Rattle.at_store.specs.Shown.{IsIdle, Shown, contents, numbers, path, tree}
 use Rattle.at_store.specs.View.{memory_of}
@@ -54,13 +55,7 @@ module _ (rules : Rules) (path : ℕ → Option Node) (at : ClassAt Node) where
   arguments_on (v ∷ vs) (k ∷ ks) (h, allowed, hs) =
       let (w, like, is) = value_on v k h in
       let (ws, alike, are) = arguments_on vs ks hs in
-      (w ∷ ws, more like alike, (is, any w, are))
-    where
-      any : (w : Value Node) → IsAllowed AnyText w
-      any (Int n) = tt
-      any (Truth b) = tt
-      any (Text bytes) = tt
-      any (Ref n) = tt
+      (w ∷ ws, more like alike, (is, any_text w, are))
 
   -- it stands for one of the tree, which is well typed too
   pub instance_on : (i : Instance ℕ) → IsWellTyped rules At AnyText i → (j : Instance Node) × InstanceLike (Names path) i j × IsWellTyped rules at AnyText j

@@ -1,11 +1,10 @@
 -- What a store shows of a sound tree is of the right kinds, by numbers.
-use Rattle.std.proofs.Common.{◌≡◌, ℕ, ◌<◌, true, ◌&&◌, nat_le, List, [], map, length, Option, Some, None, refl, sym, ◌∙◌, subst, arith}
+use Rattle.std.proofs.Common.{◌≡◌, ℕ, ◌<◌, List, [], map, length, Option, Some, None, refl, sym, ◌∙◌, subst, arith}
 use Rattle.std.proofs.lemmas.List.{length-map}
 use Rattle.std.specs.Prelude.{IsSome, option_and_then}
 use Rattle.std.specs.List.{AllByRecursion}
-use Rattle.at_model.specs.Classes.{Classes, TokenKind, Token, is_sub}
+use Rattle.at_model.specs.Classes.{Classes, TokenKind, Token}
 use Rattle.at_model.specs.Classes as class
-use Rattle.at_model.specs.Trees.{Tree, nodes}
 use Rattle.at_model.specs.Trees as held
 use Rattle.at_model.specs.Paths.{Node}
 use Rattle.at_model.specs.Run.{Is, Tok, Slot, Idx, Location, Contents}
@@ -17,12 +16,10 @@ use Rattle.at_model.specs.Kinds.{kind_of_token}
 use Rattle.at_model.specs.TypedRuns.{ClassAt, Texts, class_at, class_numbered, IsNodeOf, IsOfKind, IsAllowed, AreContentsTyped}
 use Rattle.at_model.specs.Instances.{AnyText, tokens}
 use Rattle.at_model.specs.WellFormed.{AreWellFormed, IsTreeSound}
-use Rattle.at_model.proofs.Options.{led, both}
+use Rattle.at_model.proofs.Options.{led}
 use Rattle.at_model.proofs.Everywhere.{all_any}
 use Rattle.at_model.proofs.TypedContents.{contents_stand, tokens_written, slot_few}
-use Rattle.at_model.specs.Edits.{is_within_limits, tokens_short, max_nodes}
-use Rattle.at_model.specs.Terms.{max_depth}
-use Rattle.std.proofs.lemmas.Bool.Decides.{nat_tests}
+use Rattle.at_model.proofs.TypedTogether.{few_nodes}
 use Rattle.at_store.specs.Memory.{class_in}
 use Rattle.at_store.specs.Numbers.{number_at}
 use Rattle.at_store.specs.Shown.{IsIdle, Shown, contents, numbers, path, tree}
@@ -78,15 +75,6 @@ module _ (classes : Classes) (path : ℕ → Option Node) (at : ClassAt Node) (l
         let x : look (Idx n) ≡ other (Idx m) = alike (Idx n) (Idx m) (idx f) in
         subst (λ i. i < 2147483648) (sym x) (stand.early m (rw g refl));
   }
-
-less_than_ints : (m n : ℕ) → nat_le m n ≡ true → n < 2147483648 → m < 2147483648
-less_than_ints m n e h = grind (arith, nat_tests)
-
-few_nodes : (t : Tree) → is_within_limits t ≡ true → nodes t < 2147483648
-few_nodes t within =
-    let (sizes, short) = both (nat_le (nodes t) max_nodes && nat_le (held.depth t) max_depth) (tokens_short t) within in
-    let (few, deep) = both (nat_le (nodes t) max_nodes) (nat_le (held.depth t) max_depth) sizes in
-    less_than_ints (nodes t) max_nodes few (omega arith)
 
 any_value : (v : held.Token) → IsAllowed {N = Node} AnyText (value_of v)
 any_value (held.Text bytes) = tt

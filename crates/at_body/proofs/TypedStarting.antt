@@ -1,66 +1,26 @@
 -- The equation that an instance has is of the kind of its attribute, at the place where it stands.
-use Rattle.std.proofs.Common.{◌≡◌, ℕ, suc, Bool, true, false, cond, ◌&&◌, ◌||◌, nat_eq, List, [], ◌∷◌, map, Option, Some, None, refl, sym, ap, ◌∙◌, subst, arith}
+use Rattle.std.proofs.Common.{◌≡◌, ℕ, suc, Bool, true, false, ◌&&◌, nat_eq, List, [], map, Option, Some, None, refl, sym, ap, ◌∙◌, subst}
 use Rattle.std.specs.Prelude.{IsSome, IfSome, find}
 use Rattle.std.specs.Option.{option_or}
-use Rattle.std.specs.List.{slice_get, AllByRecursion, list_any}
+use Rattle.std.specs.List.{slice_get}
 use Rattle.std.specs.Str.{bytes_eq}
-use Rattle.std.proofs.lemmas.Bool.Decides.{nat_tests}
 use Rattle.at_model.specs.Classes.{chain, is_sub}
 use Rattle.at_model.specs.Run.{Contents, Is, Up}
 use Rattle.at_model.specs.Bodies.{Expr}
-use Rattle.at_model.specs.Rules.{Rules, Attribute, OwnEquation, InheritedEquation, first_answer, own_in, own_equation, part_eq, inherited_in, inherited_equation, attribute_name, is_inherited}
+use Rattle.at_model.specs.Rules.{Rules, Attribute, OwnEquation, InheritedEquation, own_in, own_equation, part_eq, inherited_in, inherited_equation, attribute_name, is_inherited}
 use Rattle.at_model.specs.Kinds.{HasKind, AreTyped, IsOwnTyped, IsInheritedTyped, is_for_list}
 use Rattle.at_model.specs.TypedRuns.{ClassAt, AreArguments}
 use Rattle.at_model.specs.Instances.{AnyText}
 use Rattle.at_model.proofs.Nodes.{both_of}
 use Rattle.at_model.proofs.Options.{mapped}
-use Rattle.at_model.proofs.Everywhere.{all_more}
+use Rattle.at_model.proofs.TypedEquations.{found_in, either_of, answered, nat_same, each_among, one_declaration}
 use Rattle.at_rules.specs.Bodies.{body_view}
 use Rattle.at_rules.specs.declared.body.Body.{Body}
 use Rattle.at_body.specs.declared.trial.Trial.{Trial}
 use Rattle.at_body.specs.Values.{value_view}
-use Rattle.at_body.specs.Typed.{PlaceKinds, AreBound, Stands, Enters}
+use Rattle.at_body.specs.Typed.{AreBound, Enters}
 use Rattle.at_body.specs.Typed as typed
 use Rattle.at_body.specs.TypedStart.{AtParent, Begins, HasEquation, OrElse}
-
-by_test : {A : Type 0} (P : A → Type 0) (p : A → Bool) (y x : A) (o : Option A) → P y → (o ≡ Some x → P x × (p x ≡ true)) → (b : Bool) → p y ≡ b → cond b (Some y) o ≡ Some x → P x × (p x ≡ true)
-by_test P p y x o h rest true is f = let g : y ≡ x = cc in (subst P g h, subst (λ z. p z ≡ true) g is)
-by_test P p y x o h rest false is f = rest f
-
--- the first that is found stands in the list and passes
-found_in : {A : Type 0} (P : A → Type 0) (p : A → Bool) (xs : List A) (x : A) → AllByRecursion P xs → find p xs ≡ Some x → P x × (p x ≡ true)
-found_in P p [] x h e = absurd (cc)
-found_in P p (y ∷ xs) x (h, hs) e = by_test P p y x (find p xs) h (found_in P p xs x hs) (p y) refl e
-
-either_of : {A : Type 0} (Q : A → Type 0) (o p : Option A) (a : A) → (o ≡ Some a → Q a) → (p ≡ Some a → Q a) → option_or o p ≡ Some a → Q a
-either_of Q None p a f g e = g e
-either_of Q (Some b) p a f g e = f e
-
--- the first answer is that of an element
-answered : {A B : Type 0} (P : A → Type 0) (f : A → Option B) (xs : List A) (b : B) → AllByRecursion P xs → first_answer f xs ≡ Some b → (a : A) × P a × (f a ≡ Some b)
-answered P f [] b h e = absurd (cc)
-answered {A} P f (x ∷ xs) b (h, hs) e = either_of (λ z. (a : A) × P a × (f a ≡ Some z)) (f x) (first_answer f xs) b (λ g. (x, h, g)) (answered P f xs b hs) e
-
-same_nat : (n : ℕ) → nat_eq n n ≡ true
-same_nat n = grind (arith, nat_tests)
-
-nat_same : (m n : ℕ) → nat_eq m n ≡ true → m ≡ n
-nat_same m n e = grind (arith, nat_tests)
-
-or_left : (a b : Bool) → a ≡ true → (a || b) ≡ true
-or_left a b e = rw e refl
-
-or_right : (a b : Bool) → b ≡ true → (a || b) ≡ true
-or_right true b e = refl
-or_right false b e = e
-
--- each is among them
-each_among : (xs : List ℕ) → AllByRecursion (λ n. list_any (nat_eq n) xs ≡ true) xs
-each_among [] = tt
-each_among (x ∷ xs) = (or_left (nat_eq x x) _ (same_nat x), all_more (λ n. list_any (nat_eq n) xs ≡ true) (λ n. list_any (nat_eq n) (x ∷ xs) ≡ true) xs (λ n h. or_right (nat_eq n x) _ h) (each_among xs))
-
-one_declaration : (d e : Attribute) (o : Option Attribute) → o ≡ Some d → o ≡ Some e → d ≡ e
-one_declaration d e o f g = let h : Some d ≡ Some e = sym f ∙ g in cc
 
 module _ (rules : Rules) (are : AreTyped rules) where
   -- the own equation of a class has the kind of its attribute, in the class where it stands

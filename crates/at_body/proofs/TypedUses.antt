@@ -4,13 +4,14 @@ use Rattle.std.specs.Prelude.{IfSome}
 use Rattle.at_model.specs.Classes.{is_sub}
 use Rattle.at_model.specs.Bodies.{no_exprs, expr, ref_of}
 use Rattle.at_model.specs.Run.{Value, Int, Truth, Text, Ref, Instance, Location}
-use Rattle.at_model.specs.Rules.{Rules, Kind, Attribute}
+use Rattle.at_model.specs.Rules.{Rules, Kind}
 use Rattle.at_model.specs.Rules as model
-use Rattle.at_model.specs.Kinds.{HasKind, HaveKinds, IsArgumentForm}
+use Rattle.at_model.specs.Kinds.{HasKind, HaveKinds}
 use Rattle.at_model.specs.Kinds as form
-use Rattle.at_model.specs.TypedRuns.{ClassAt, IsNodeOf, IsOfKind, IsAllowed, AreArguments, IsOfItsKind}
+use Rattle.at_model.specs.TypedRuns.{ClassAt, IsNodeOf, IsOfKind, AreArguments, IsOfItsKind}
 use Rattle.at_model.specs.Instances.{AnyText}
 use Rattle.at_model.proofs.Below.{AreChained, sub_sub}
+use Rattle.at_model.proofs.TypedTogether.{any_text}
 use Rattle.at_rules.specs.Bodies.{body_view, bodies_view}
 use Rattle.at_rules.specs.declared.body.Body.{Body}
 use Rattle.std.specs.Global.{Box}
@@ -23,14 +24,8 @@ use Rattle.at_body.specs.declared.trial.Trial.{Trial}
 use Rattle.at_body.specs.Values.{value_view}
 use Rattle.at_body.specs.Rest.{place_of}
 use Rattle.at_body.specs.ValueKinds.{IsInt, IsTruth, IsText, IsRef}
-use Rattle.at_body.specs.Typed.{PlaceKinds, scope_kinds, kinds_inside, AreBound, IsPlaceOf, IsFold, IsOperation, IsTodo, AreTodos, Stands, Takes, Enters, WaitsFor, Uses, Operates, Calls, GoesOver, Decides, Folds}
+use Rattle.at_body.specs.Typed.{PlaceKinds, scope_kinds, IsPlaceOf, IsTodo, AreTodos, Stands, Takes, Enters, WaitsFor, Uses, Operates, Calls}
 use Rattle.at_body.specs.Typed as typed
-
-pub any_text : (v : Value ℕ) → IsAllowed AnyText v
-any_text (Int n) = tt
-any_text (Truth b) = tt
-any_text (Text bytes) = tt
-any_text (Ref n) = tt
 
 module _ (rules : Rules) (at : ClassAt ℕ) where
   abbrev Is : Kind → Value ℕ → Type 0

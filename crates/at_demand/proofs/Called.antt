@@ -1,5 +1,5 @@
 -- What is kept by numbers, and the work, are what the model says of them by paths.
-use Rattle.std.proofs.Common.{◌≡◌, ◌⊎◌, ◌↔◌, ℕ, ◌+◌, ◌-◌, ◌^◌, ◌<◌, min, nat_eq, true, List, length, Option, Some, None, Ok, inl, inr, refl, sym, ap, ◌∙◌, subst, arith, true≢false}
+use Rattle.std.proofs.Common.{◌≡◌, ◌⊎◌, ◌↔◌, ℕ, ◌+◌, ◌-◌, ◌^◌, min, nat_eq, true, length, Option, Some, None, Ok, inl, inr, refl, sym, ap, ◌∙◌, subst, arith, true≢false}
 use Rattle.std.specs.Prelude.{IsSome}
 use Rattle.std.specs.Option.{option_map}
 use Rattle.at_model.specs.Trees.{Tree, conforms}
@@ -9,7 +9,7 @@ use Rattle.at_model.specs.Rules.{Rules, is_lazy}
 use Rattle.at_model.specs.Meaning.{HasValue, Leads, Among, content, equations}
 use Rattle.at_model.specs.Alike.{InstanceLike, Names, IsInjective, EquationsLike, AlikeAt}
 use Rattle.at_model.specs.Edits.{Edit, edited}
-use Rattle.at_model.specs.Machine.{State, Verdict, Asks, Edits}
+use Rattle.at_model.specs.Machine.{State, Asks, Edits}
 use Rattle.at_model.specs.Sparing.{AreWellKept}
 use Rattle.at_model.proofs.EquationsAlike.{evaluation-like}
 use Rattle.at_model.proofs.Nodes.{same_like, nat_eq-is, node_eq-is}
@@ -25,7 +25,7 @@ use Rattle.at_demand.specs.Right.{AreRight}
 use Rattle.at_demand.specs.Sparing.{AreSpare, IsWorthKeeping, AddsWorthy, HasWorthy, Counts}
 use Rattle.at_demand.specs.Spared.{IsUntouched, LeavesJust}
 use Rattle.at_demand.specs.Called.{KeptBy, Keeps}
-use Rattle.at_demand.proofs.AlikeBack.{value_on, leads_back}
+use Rattle.at_model.proofs.AlikeBack.{value_on, leads_back}
 use Rattle.at_demand.proofs.CalledAsked.{called_after, called_added}
 use Rattle.at_demand.proofs.CalledEdited.{called_edited}
 use Rattle.at_demand.proofs.StayingSpare.{some_kept}

@@ -1,22 +1,19 @@
 -- What a question adds to what is kept, by paths.
-use Rattle.std.proofs.Common.{◌≡◌, ◌⊎◌, ◌↔◌, ℕ, suc, true, nat_eq, List, [], ◌∷◌, length, Option, Some, inl, inr, refl, sym, ap, ◌∙◌, subst}
+use Rattle.std.proofs.Common.{◌≡◌, ◌⊎◌, ◌↔◌, ℕ, nat_eq, List, length, Option, inl, inr, refl, sym, ap, ◌∙◌, subst}
 use Rattle.at_model.specs.Trees.{Tree}
 use Rattle.at_model.specs.Paths.{Node, node_eq}
-use Rattle.at_model.specs.Run.{Value, Instance, Location, Contents}
-use Rattle.at_model.specs.Rules.{Rules, evaluation, is_lazy}
-use Rattle.at_model.specs.Meaning.{Equations, HasValue, Leads, Among, Distinct, content, equations}
+use Rattle.at_model.specs.Run.{Instance, Location, Contents}
+use Rattle.at_model.specs.Rules.{Rules, is_lazy}
+use Rattle.at_model.specs.Meaning.{Equations, Among, Distinct, content, equations}
 use Rattle.at_model.specs.Alike.{InstanceLike, Names, IsInjective, EquationsLike, AlikeAt}
 use Rattle.at_model.specs.Sparing.{IsWorthKeeping, AreAdded}
 use Rattle.at_demand.specs.Known.{meaning}
 use Rattle.at_demand.specs.Sparing.{IsWorthKeeping as IsWorth}
-use Rattle.at_model.proofs.CarryingCircles.{Agrees, instance-agrees}
+use Rattle.at_model.proofs.CarryingCircles.{instance-agrees, names_agree}
 use Rattle.at_model.proofs.EquationsAlike.{evaluation-like}
 use Rattle.at_model.proofs.Nodes.{same_like, nat_eq-is, node_eq-is}
-use Rattle.at_demand.proofs.AlikeBack.{value_on, value_back, leads_on, leads_back}
-
-names_agree : {N M : Type 0} (name : N → Option M) → IsInjective name → Agrees (Names name)
-names_agree name injective a b c d r s =
-    (λ e. let f : Some c ≡ Some d = sym r ∙ ap name e ∙ s in cc, λ e. let f : name a ≡ Some d = r ∙ ap Some e in injective a b d f s)
+use Rattle.at_model.proofs.AlikeBack.{value_on, value_back, leads_on, leads_back}
+use Rattle.at_demand.proofs.Naming.{AreNamed, name_all}
 
 -- what instances by numbers are called
 abbrev pub Called : (ℕ → Option Node) → (Instance ℕ → Type 0) → Instance Node → Type 0
@@ -67,47 +64,25 @@ module _ (rules : Rules) (look : Contents ℕ) (t : Tree) (path : ℕ → Option
           back (inl (i, old, s)) = (i, (just i).1 (inl old), s)
           back (inr worth) = let (i, s, w) = worth_back j worth in (i, (just i).1 (inr w), s)
 
-    -- the instances, called by paths
-    pub record AreCalled (is : List (Instance ℕ)) (js : List (Instance Node)) : Type 0 where
-      pub size : length js ≡ length is
-      pub of_one : (j : Instance Node) → Among j js → (i : Instance ℕ) × Among i is × Like i j
-      pub each : (i : Instance ℕ) (j : Instance Node) → Among i is → Like i j → Among j js
-      pub distinct : Distinct is → Distinct js
-
-    call_one : (i : Instance ℕ) (j : Instance Node) (is : List (Instance ℕ)) (js : List (Instance Node)) → Like i j → AreCalled is js → AreCalled (i ∷ is) (j ∷ js)
-    call_one i j is js s c = record {
-      size = ap suc c.size;
-      of_one = λ k h. elim h [ inl same ↦ (i, inl refl, subst (Like i) (sym same) s) | inr more ↦ (let (m, a, u) = c.of_one k more in (m, inr a, u)) ];
-      each = λ m k h u. elim h [ inl same ↦ inl (one_path m k j u (subst (λ x. Like x j) (sym same) s)) | inr more ↦ inr (c.each m k more u) ];
-      distinct = λ d. (λ h. (let (m, a, u) = c.of_one j h in d.0 (subst (λ x. Among x is) (one_number m i j u s) a)), c.distinct d.1);
-    }
-
-    call_all : (is : List (Instance ℕ)) → ((i : Instance ℕ) → Among i is → (j : Instance Node) × Like i j) → (js : List (Instance Node)) × AreCalled is js
-    call_all [] called = ([], record { size = refl; of_one = λ j h. absurd h; each = λ i j h s. absurd h; distinct = λ d. d })
-    call_all (i ∷ is) called =
-        let (j, s) = called i (inl refl) in
-        let (js, c) = call_all is (λ m h. called m (inr h)) in
-        (j ∷ js, call_one i j is js s c)
-
     -- as many are added by paths
     pub called_added : (Old : Instance ℕ → Type 0) → ((i : Instance ℕ) → Old i ⊎ (¬ (Old i))) → (added : List (Instance ℕ)) → Distinct added → ((i : Instance ℕ) → Among i added ↔ (IsWorth rules look q i × (¬ (Old i)))) →
         (js : List (Instance Node)) × AreAdded rules t p (Called path Old) js × (length js ≡ length added)
     called_added Old decides added distinct exactly =
         let called : (i : Instance ℕ) → Among i added → (j : Instance Node) × Like i j = λ i h. (let (w, new) = (exactly i).0 h in let (j, s, worth) = worth_on i w in (j, s)) in
-        let (js, c) = call_all added called in (
+        let (js, c) = name_all path one_path one_number added called in (
           js,
           record { distinct = c.distinct distinct; exactly = λ j. (on js c j, back js c j) },
           c.size,
         )
       where
-        on : (js : List (Instance Node)) → AreCalled added js → (j : Instance Node) → Among j js → IsWorthKeeping rules t p j × (¬ (Called path Old j))
+        on : (js : List (Instance Node)) → AreNamed path added js → (j : Instance Node) → Among j js → IsWorthKeeping rules t p j × (¬ (Called path Old j))
         on js c j h =
             let (i, a, s) = c.of_one j h in
             let (w, new) = (exactly i).0 a in
             let (k, u, worth) = worth_on i w in
             (subst (IsWorthKeeping rules t p) (one_path i k j u s) worth, λ (m, old, v). new (subst Old (one_number m i j v s) old))
 
-        back : (js : List (Instance Node)) → AreCalled added js → (j : Instance Node) → IsWorthKeeping rules t p j × (¬ (Called path Old j)) → Among j js
+        back : (js : List (Instance Node)) → AreNamed path added js → (j : Instance Node) → IsWorthKeeping rules t p j × (¬ (Called path Old j)) → Among j js
         back js c j (worth, new) =
             let (i, s, w) = worth_back j worth in
             elim (decides i) [ inl old ↦ absurd (new (i, old, s)) | inr none ↦ c.each i j ((exactly i).1 (w, none)) s ]

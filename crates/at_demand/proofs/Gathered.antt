@@ -9,6 +9,7 @@ use Rattle.at_model.specs.Run.{Value, Instance, Location, Contents}
 use Rattle.at_model.specs.Rules.{Rules}
 use Rattle.at_model.specs.Meaning.{HasValue, Among, Comes}
 use Rattle.at_model.specs.Support.{Sees, Supports}
+use Rattle.at_model.proofs.Listed.{among_map}
 use Rattle.at_store.specs.declared.node.Loc.{Loc}
 use Rattle.at_store.specs.Located.{loc_view}
 use Rattle.at_body.specs.Same.{same_instance}
@@ -69,11 +70,6 @@ module _ {A : Type 0} where
   any_among p a [] h e = absurd h
   any_among p a (x ∷ xs) (inl same) e = rw (ap p (sym same) ∙ e) refl
   any_among p a (x ∷ xs) (inr h) e = or_right (p x) (list_any p xs) (any_among p a xs h e)
-
-pub among_map : {A B : Type 0} (f : A → B) (a : A) (xs : List A) → Among a xs → Among (f a) (map f xs)
-among_map f a [] h = absurd h
-among_map f a (x ∷ xs) (inl e) = inl (ap f e)
-among_map f a (x ∷ xs) (inr h) = inr (among_map f a xs h)
 
 pub map_among : {A B : Type 0} (f : A → B) (b : B) (xs : List A) → Among b (map f xs) → (a : A) × Among a xs × (f a ≡ b)
 map_among f b [] h = absurd h

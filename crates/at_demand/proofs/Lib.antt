@@ -20,7 +20,7 @@ pub mod SparingOn
 pub mod Ascending
 pub mod StayingSpare
 pub mod Spared
-pub mod AlikeBack
+pub mod Naming
 pub mod CalledAsked
 pub mod CalledEdited
 pub mod Called

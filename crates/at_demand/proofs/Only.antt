@@ -6,11 +6,11 @@ use Rattle.std.specs.List.{list_any}
 use Rattle.std.proofs.lemmas.Option.{none-some, same_Some}
 use Rattle.indexmap.specs.IndexSet.{insert_key}
 use Rattle.std.proofs.Common.{nat_eq}
-use Rattle.at_model.specs.Run.{Value, Instance, Location, Contents, Run, Gives, Demands}
-use Rattle.at_model.specs.Follow.{Past}
+use Rattle.at_model.specs.Run.{Value, Instance, Location, Contents, Gives}
 use Rattle.at_model.specs.Rules.{Rules}
 use Rattle.at_model.specs.Meaning.{HasValue, Among, Comes, Leads}
-use Rattle.at_model.specs.Support.{Sees, Supports}
+use Rattle.at_model.specs.Support.{Supports}
+use Rattle.at_model.proofs.Listed.{among_map}
 use Rattle.at_store.specs.declared.node.Loc.{Loc}
 use Rattle.at_store.specs.Located.{loc_view}
 use Rattle.at_body.specs.Same.{same_instance}
@@ -19,7 +19,7 @@ use Rattle.at_body.specs.Rest.{resumed}
 use Rattle.at_body.specs.declared.value.Value.{Value as ValueCode}
 use Rattle.at_body.specs.declared.trial.Step.TheVariants as step
 use Rattle.at_body.specs.declared.trial.Trial.{Trial}
-use Rattle.at_cache.specs.Kept.{Kept, Entries, KeepsAll, Puts, MayPut, covered, covers_at, same_location}
+use Rattle.at_cache.specs.Kept.{Kept, Entries, KeepsAll, MayPut, covered, covers_at, same_location}
 use Rattle.at_cache.proofs.Locations.{same_location-is}
 use Rattle.at_cache.proofs.Lists.{get_push}
 use Rattle.at_demand.specs.declared.question.Demanded.{Demanded}
@@ -29,11 +29,11 @@ use Rattle.at_demand.specs.declared.gathering.Sources.{Sources}
 use Rattle.at_demand.specs.Known.{meaning}
 use Rattle.at_demand.specs.UnderWay.{HasStepped}
 use Rattle.at_demand.specs.Covering.{Extends}
-use Rattle.at_demand.specs.Only.{TakesOnly, TakeOnly, IsLean, AreLean, LeadsTo, itself, further, IsFrom, AreFrom, VisitsOnly, AddsOnly, IsNext, AddsOnlyAt}
+use Rattle.at_demand.specs.Only.{TakesOnly, TakeOnly, IsLean, AreLean, LeadsTo, itself, further, IsFrom, AreFrom, VisitsOnly, AddsOnly, AddsOnlyAt}
 use Rattle.at_demand.proofs.Sameness.{same_true}
 use Rattle.at_demand.proofs.Coming.{comes}
 use Rattle.at_demand.proofs.Seeing.{read_seen}
-use Rattle.at_demand.proofs.Gathered.{map_among, among_map, among_at, among_more, get_more}
+use Rattle.at_demand.proofs.Gathered.{map_among, get_more}
 use Rattle.at_demand.proofs.Leading.{leads_next, supports_on}
 
 get_among : {A : Type 0} (xs : List A) (n : ℕ) (a : A) → slice_get xs n ≡ Some a → Among a xs

@@ -21,7 +21,7 @@ use Rattle.at_store.proofs.Relabelled.{contents_alike}
 use Rattle.at_body.specs.Typed.{class_shown}
 use Rattle.at_body.proofs.TypedInstances.{instance_on}
 use Rattle.at_demand.specs.Known.{meaning}
-use Rattle.at_demand.proofs.AlikeBack.{value_on}
+use Rattle.at_model.proofs.AlikeBack.{value_on}
 
 pub known_typed : (rules : Rules) → AreWellFormed rules → (s : Shown) → IsIdle s → IsTreeSound rules.classes (tree s) → (i : Instance ℕ) (v : Value ℕ) →
     IsWellTyped rules (class_shown s) AnyText i → HasValue (contents s) (meaning rules) i v → IsOfItsKind rules (class_shown s) i v

@@ -12,6 +12,7 @@ use Rattle.at_model.specs.Lines.{Place, Argument, Ask}
 use Rattle.at_model.specs.Names.{IsName}
 use Rattle.at_model.specs.Machine.{State, Asks, AnswersIn, each, fit_parameters, node_named, obeyed, parameters_of, value_named}
 use Rattle.at_model.specs.Alike.{ListLike, ValueLike, InstanceLike, AlikeAt, Names}
+use Rattle.at_model.proofs.Words.{name_filled}
 use Rattle.at_protocol.specs.declared.reply.Refusal.TheVariants as refusal
 use Rattle.at_protocol.specs.declared.reply.Form.{Form as FormValue}
 use Rattle.at_protocol.specs.declared.reply.Form.TheVariants as form
@@ -30,7 +31,6 @@ use Rattle.at_engine.proofs.Following.{asks, refuses}
 use Rattle.at_engine.proofs.Typing.{formed, numbered_typed}
 use Rattle.at_engine.proofs.Naming.{tree_there}
 use Rattle.at_engine.proofs.Numbered.{shown_alike}
-use Rattle.at_engine.proofs.Valued.{name_filled}
 use Rattle.at_engine.proofs.Questions.{asked_nowhere, asked_of_nothing, asked_strangely, asked_unfitly, asked_fitly}
 
 module _ (rules : Rules) (s : State) (session : ℕ) (place : Place) (name : List ℕ) (arguments : List Argument) where

@@ -1,10 +1,10 @@
 -- What a question adds to what is kept where it isn't answered, by the paths of nodes.
-use Rattle.std.proofs.Common.{◌≡◌, ◌⊎◌, ℕ, suc, ◌+◌, ◌-◌, ◌^◌, min, List, [], ◌∷◌, length, Option, Some, None, inl, inr, refl, sym, ap, ◌∙◌, subst, true≢false}
+use Rattle.std.proofs.Common.{◌≡◌, ◌⊎◌, ℕ, ◌+◌, ◌-◌, ◌^◌, min, Option, Some, None, inl, inr, refl, sym, ap, ◌∙◌, subst, true≢false}
 use Rattle.std.specs.Prelude.{IsSome}
 use Rattle.at_model.specs.Paths.{Node}
 use Rattle.at_model.specs.Run.{Instance, Location}
 use Rattle.at_model.specs.Rules.{Rules}
-use Rattle.at_model.specs.Meaning.{Among, Distinct, content}
+use Rattle.at_model.specs.Meaning.{Among, content}
 use Rattle.at_model.specs.Alike.{InstanceLike, Names, IsInjective, AlikeAt}
 use Rattle.at_model.specs.Sparing.{IsWorthKeeping}
 use Rattle.at_store.specs.Shown.{Shown, IsIdle, contents, numbers, path, tree}
@@ -17,6 +17,7 @@ use Rattle.at_demand.specs.Sparing.{AddsWorthy, Counts}
 use Rattle.at_demand.specs.Called.{KeptBy}
 use Rattle.at_demand.proofs.CalledAsked.{one_number, one_path, worth_on}
 use Rattle.at_engine.specs.KeptOver.{Grows}
+use Rattle.at_demand.proofs.Naming.{name_all}
 
 -- kept or not
 kept_or_not : (o : Option Kept) → IsSome o ⊎ (o ≡ None)
@@ -26,33 +27,6 @@ kept_or_not (Some k) = inl refl
 not_both_kept : (o : Option Kept) → o ≡ None → IsSome o → ⊥
 not_both_kept None e some = absurd (true≢false (sym some))
 not_both_kept (Some k) e some = absurd cc
-
-module _ (path : ℕ → Option Node) where
-  abbrev Like : Instance ℕ → Instance Node → Type 0
-  Like = InstanceLike (Names path)
-
-  -- these instances, by the paths of their nodes
-  record AreNamed (is : List (Instance ℕ)) (js : List (Instance Node)) : Type 0 where
-    size : length js ≡ length is
-    of_one : (j : Instance Node) → Among j js → (i : Instance ℕ) × Among i is × Like i j
-    each : (i : Instance ℕ) (j : Instance Node) → Among i is → Like i j → Among j js
-    distinct : Distinct is → Distinct js
-
-  module _ (one_name : (i : Instance ℕ) (j k : Instance Node) → Like i j → Like i k → j ≡ k) (one_named : (i j : Instance ℕ) (k : Instance Node) → Like i k → Like j k → i ≡ j) where
-    name_one : (i : Instance ℕ) (j : Instance Node) (is : List (Instance ℕ)) (js : List (Instance Node)) → Like i j → AreNamed is js → AreNamed (i ∷ is) (j ∷ js)
-    name_one i j is js s c = record {
-      size = ap suc c.size;
-      of_one = λ k h. elim h [ inl same ↦ (i, inl refl, subst (Like i) (sym same) s) | inr more ↦ (let (m, a, u) = c.of_one k more in (m, inr a, u)) ];
-      each = λ m k h u. elim h [ inl same ↦ inl (one_name m k j u (subst (λ x. Like x j) (sym same) s)) | inr more ↦ inr (c.each m k more u) ];
-      distinct = λ d. (λ h. (let (m, a, u) = c.of_one j h in d.0 (subst (λ x. Among x is) (one_named m i j u s) a)), c.distinct d.1);
-    }
-
-    name_all : (is : List (Instance ℕ)) → ((i : Instance ℕ) → Among i is → (j : Instance Node) × Like i j) → (js : List (Instance Node)) × AreNamed is js
-    name_all [] named = ([], record { size = refl; of_one = λ j h. absurd h; each = λ i j h s. absurd h; distinct = λ d. d })
-    name_all (i ∷ is) named =
-        let (j, s) = named i (inl refl) in
-        let (js, c) = name_all is (λ m h. named m (inr h)) in
-        (j ∷ js, name_one i j is js s c)
 
 module _ (rules : Rules) (s : Shown) (idle : IsIdle s) (q : Instance ℕ) (p : Instance Node) (asked : InstanceLike (Names (path s)) q p) (old new : Entries) (w x : ℕ) (adds : AddsWorthy rules (contents s) q old new) (counts : Counts old new w x) where
   once : IsInjective (path s)

@@ -1,39 +1,26 @@
 -- What is asked is well typed, and what holds of the rules and of the tokens holds after each line.
-use Rattle.std.proofs.Common.{◌≡◌, ℕ, zero, suc, ◌<◌, Bool, true, ◌&&◌, List, [], ◌∷◌, length, get_or, Option, Some, None, refl, sym, ap, subst, arith}
-use Rattle.std.specs.Prelude.{position}
-use Rattle.std.specs.List.{slice_get}
+use Rattle.std.proofs.Common.{◌≡◌, ℕ, Bool, true, ◌&&◌, List, [], ◌∷◌, Option, Some, None, sym, ap, subst}
 use Rattle.std.specs.Str.{bytes_eq}
-use Rattle.std.proofs.lemmas.List.Quantifiers.{position-Some}
 use Rattle.at_model.specs.Classes.{Classes, is_sub}
 use Rattle.at_model.specs.Trees.{Tree, class_of}
 use Rattle.at_model.specs.Paths.{Node, tree_at}
-use Rattle.at_model.specs.Run.{Value, Int, Truth, Text, Ref, Instance}
+use Rattle.at_model.specs.Run.{Value, Instance}
 use Rattle.at_model.specs.Rules.{Rules, Attribute, Kind, attribute_named}
 use Rattle.at_model.specs.Alike.{InstanceLike, Names}
 use Rattle.at_model.specs.Replies.{Reply}
 use Rattle.at_model.specs.Machine.{State, Serves, fit_parameters, parameters_of}
 use Rattle.at_model.specs.Asking.{IsWellFormed}
 use Rattle.at_model.specs.Instances.{AnyText, IsGiven}
-use Rattle.at_model.specs.TypedRuns.{ClassAt, Texts, class_at, IsAllowed, AreArguments, IsWellTyped}
+use Rattle.at_model.specs.TypedRuns.{ClassAt, Texts, class_at, AreArguments, IsWellTyped}
 use Rattle.at_model.proofs.Options.{both}
 use Rattle.at_model.proofs.TokensKept.{tokens_served}
 use Rattle.at_model.proofs.TypedNumbers.{instance_back}
 use Rattle.at_model.proofs.TypedQuestions.{typed_of_formed}
+use Rattle.at_model.proofs.WellAsked.{element_at}
+use Rattle.at_model.proofs.TypedTogether.{any_text}
 use Rattle.at_store.specs.Shown.{Shown, path, tree}
 use Rattle.at_body.specs.Typed.{class_shown}
 use Rattle.at_engine.specs.Engines.{IsTyped}
-
-inside : {A : Type 0} (xs : List A) (i : ℕ) (d : A) → i < length xs → slice_get xs i ≡ Some (get_or xs i d)
-inside [] i d h = let none : ⊥ = omega (arith, h) in absurd none
-inside (x ∷ xs) zero d h = refl
-inside (x ∷ xs) (suc i) d h = inside xs i d (omega (arith, h))
-
--- the element at the first position at which a test passes
-element_at : {A : Type 0} (p : A → Bool) (xs : List A) (i : ℕ) → position p xs ≡ Some i → (a : A) × (slice_get xs i ≡ Some a) × (p a ≡ true)
-element_at p [] i e = absurd cc
-element_at p (x ∷ xs) i e =
-    let (small, passes, first) = position-Some p (x ∷ xs) i x e in
-    (get_or (x ∷ xs) i x, inside (x ∷ xs) i x small, passes)
 
 -- the attribute of that name at a node that is there, with values that fit
 pub formed : (rules : Rules) (t : Tree) (n : Node) (u : Tree) (name : List ℕ) (ws : List (Value Node)) (attribute : ℕ) → tree_at t n ≡ Some u → attribute_named rules (class_of u) name ≡ Some attribute →
@@ -43,13 +30,6 @@ formed rules t n u name ws attribute there named fit =
     let (same, below) = both (bytes_eq a.name name) (is_sub rules.classes (class_of u) a.class) passes in
     let parameters : parameters_of rules attribute ≡ a.parameters = ap (λ (o : Option Attribute). elim o as (λ _. List Kind) [ None ↦ [] | Some b ↦ b.parameters ]) at in
     record { node = u; there = there; declared = a; attribute = at; has = below; fit = subst (λ ks. fit_parameters rules.classes t ks ws ≡ true) parameters fit }
-
--- whichever texts the arguments may be, any may
-any_text : (v : Value ℕ) → IsAllowed AnyText v
-any_text (Int n) = tt
-any_text (Truth b) = tt
-any_text (Text bytes) = tt
-any_text (Ref n) = tt
 
 any_texts : (classes : Classes) (at : ClassAt ℕ) (Allowed : Texts) (vs : List (Value ℕ)) (ks : List Kind) → AreArguments classes at Allowed vs ks → AreArguments classes at AnyText vs ks
 any_texts classes at Allowed [] [] h = tt

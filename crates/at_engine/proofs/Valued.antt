@@ -1,8 +1,6 @@
 -- Values that arguments name.
-use Rattle.std.proofs.Common.{◌≡◌, ℕ, true, false, ◌&&◌, not, List, [], ◌∷◌, ◌++◌, map, length, Option, Some, None, option_map, sym, ap, ◌∙◌, subst}
+use Rattle.std.proofs.Common.{◌≡◌, ℕ, List, [], ◌∷◌, ◌++◌, map, length, Option, Some, None, option_map, sym, ap, ◌∙◌, subst}
 use Rattle.std.proofs.lemmas.List.{map-append}
-use Rattle.std.proofs.lemmas.Str.{chars-nil}
-use Rattle.at_model.specs.Names.{is_name, is_reserved, is_word}
 use Rattle.at_model.specs.Paths.{Node}
 use Rattle.at_model.specs.Run.{Value, Text}
 use Rattle.at_model.specs.Lines.{Argument}
@@ -55,7 +53,3 @@ module _ {A : Type 0} (items : A → List ValueCode) (path : ℕ → Option Node
 
   pub values_some : (o : Option A) (vs : A) → o ≡ Some vs → AreValuesOf path named (option_map items o) → AreValuesOf path named (Some (items vs))
   values_some o vs e h = subst (λ (x : Option A). AreValuesOf path named (option_map items x)) e h
-
--- a name has a character
-pub name_filled : (bytes : List ℕ) → is_name bytes ≡ true → bytes ≡ [] → ⊥
-name_filled bytes is e = let off : false ≡ true = ap (λ cs. is_word cs && not (is_reserved [])) (sym chars-nil) ∙ subst (λ (x : List ℕ). is_name x ≡ true) e is in absurd cc

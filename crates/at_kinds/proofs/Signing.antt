@@ -1,5 +1,5 @@
 -- Attributes that are found by the numbers of their names.
-use Rattle.std.proofs.Common.{◌≡◌, ℕ, ◌+◌, ◌-◌, ◌≤◌, min, List, [], ◌∷◌, ◌++◌, length, map, refl, ap, ap₂, sym, ◌∙◌, arith, Option, Some, None, suc, zero, true≢false, subst, Bor, String, string_bytes}
+use Rattle.std.proofs.Common.{◌≡◌, ℕ, ◌+◌, ◌-◌, List, [], ◌∷◌, ◌++◌, length, map, refl, ap, ap₂, sym, ◌∙◌, arith, Option, Some, None, suc, zero, true≢false, subst, Bor, String, string_bytes}
 use Rattle.std.specs.Prelude.{Bool, true, false, ◌&&◌, ◌||◌, cond, nat_eq, position, get_or, is_some, slice_get, option_and_then}
 use Rattle.std.specs.List.{list_any, position_from, IsDistinct, AllByRecursion}
 use Rattle.std.specs.Option.{option_or, option_copied}
@@ -20,44 +20,9 @@ use Rattle.at_rules.specs.Upward.{earlier}
 use Rattle.at_kinds.specs.Signatures.{Declared, declared_view, IsIndexed, is_class, is_below, declared_at, declared_named, first_at, first_in, noted}
 use Rattle.at_kinds.specs.declared.signatures.Signature.{Signature}
 use Rattle.at_kinds.proofs.Accessing.{position-never}
+use Rattle.at_rules.proofs.Earlier.{either, earlier_none}
 
--- the first that passes one of two tests ---------------------------------------------------------------------------------
-
-ahead : {A : Type 0} (p : A → Bool) (i m : ℕ) (xs : List A) → i ≤ m → (earlier (Some i) (position_from p m xs) ≡ Some i) × (earlier (position_from p m xs) (Some i) ≡ Some i)
-ahead p i m [] le = (refl, refl)
-ahead p i m (x ∷ xs) le = by (p x) (ahead p i (m + 1) xs (omega (arith, le)))
-  where
-    by : (b : Bool) → (earlier (Some i) (position_from p (m + 1) xs) ≡ Some i) × (earlier (position_from p (m + 1) xs) (Some i) ≡ Some i)
-        → (earlier (Some i) (cond b (Some m) (position_from p (m + 1) xs)) ≡ Some i) × (earlier (cond b (Some m) (position_from p (m + 1) xs)) (Some i) ≡ Some i)
-    by true rest =
-        let first : min i m ≡ i = omega (arith, le) in
-        let second : min m i ≡ i = omega (arith, le) in
-        (ap Some first, ap Some second)
-    by false rest = rest
-
-either_from : {A : Type 0} (p q : A → Bool) (i : ℕ) (xs : List A) → earlier (position_from p i xs) (position_from q i xs) ≡ position_from (λ x. p x || q x) i xs
-either_from p q i [] = refl
-either_from p q i (x ∷ xs) = by (p x) (q x) (either_from p q (i + 1) xs)
-  where
-    by : (a b : Bool) → earlier (position_from p (i + 1) xs) (position_from q (i + 1) xs) ≡ position_from (λ x. p x || q x) (i + 1) xs
-        → earlier (cond a (Some i) (position_from p (i + 1) xs)) (cond b (Some i) (position_from q (i + 1) xs)) ≡ cond (a || b) (Some i) (position_from (λ x. p x || q x) (i + 1) xs)
-    by true true rest = let same : min i i ≡ i = omega arith in ap Some same
-    by true false rest = (ahead q i (i + 1) xs (omega arith)).0
-    by false true rest = (ahead p i (i + 1) xs (omega arith)).1
-    by false false rest = rest
-
-either : {A : Type 0} (p q : A → Bool) (xs : List A) → earlier (position p xs) (position q xs) ≡ position (λ x. p x || q x) xs
-either p q xs = ap₂ earlier (position_from-zero p xs) (position_from-zero q xs) ∙ either_from p q 0 xs ∙ sym (position_from-zero (λ x. p x || q x) xs)
-
-pub earlier_assoc : (o p q : Option ℕ) → earlier (earlier o p) q ≡ earlier o (earlier p q)
-earlier_assoc None p q = refl
-earlier_assoc (Some i) None q = refl
-earlier_assoc (Some i) (Some j) None = refl
-earlier_assoc (Some i) (Some j) (Some k) = let same : min (min i j) k ≡ min i (min j k) = omega arith in ap Some same
-
-pub earlier_none : (o : Option ℕ) → earlier o None ≡ o
-earlier_none None = refl
-earlier_none (Some i) = refl
+-- what is left of a chain ----------------------------------------------------------------------------------------------
 
 no_chain : (classes : Classes) (n : ℕ) → chain_within n classes None ≡ []
 no_chain classes zero = refl

@@ -10,7 +10,7 @@ use Rattle.at_model.proofs.CarryingSupport.{alike_next, comes_there}
 abbrev pub Agrees : {A B : Type 0} → (A → B → Type 0) → Type 0
 Agrees {A} {B} R = (a b : A) (c d : B) → R a c → R b d → (a ≡ b) ↔ (c ≡ d)
 
-names_agree : {N M : Type 0} (name : N → Option M) → IsInjective name → Agrees (Names name)
+pub names_agree : {N M : Type 0} (name : N → Option M) → IsInjective name → Agrees (Names name)
 names_agree name injective a b c d r s =
     (λ e. let f : Some c ≡ Some d = sym r ∙ ap name e ∙ s in cc, λ e. let f : name a ≡ Some d = r ∙ ap Some e in injective a b d f s)
 

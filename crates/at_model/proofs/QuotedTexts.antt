@@ -5,7 +5,7 @@ use Rattle.std.proofs.lemmas.Bool.Decides.{nat_tests}
 use Rattle.at_model.specs.Texts.{escaped, quoted}
 
 -- what stands at the front: the closing quote, a byte as it is spelled, or neither
-data Front : Type 0 where
+pub data Front : Type 0 where
   Closing : List ℕ → Front
   Spelled : (byte : ℕ) → List ℕ → Front
   Neither : Front
@@ -17,11 +17,11 @@ abbrev behind : List ℕ → Front
 behind [] = Neither
 behind (y ∷ rest) = letter y rest
 
-abbrev front : List ℕ → Front
+abbrev pub front : List ℕ → Front
 front [] = Neither
 front (b ∷ rest) = cond (b == 34) (Closing rest) (cond (b == 92) (behind rest) (cond (b == 10) Neither (cond (b == 9) Neither (Spelled b rest))))
 
-front_escaped : (b : ℕ) (z : List ℕ) → front (escaped b ++ z) ≡ Spelled b z
+pub front_escaped : (b : ℕ) (z : List ℕ) → front (escaped b ++ z) ≡ Spelled b z
 front_escaped b z = by_tests (b == 34) (b == 92) (b == 10) (b == 9) refl refl refl refl
   where
     by_tests : (p q r s : Bool) → (b == 34) ≡ p → (b == 92) ≡ q → (b == 10) ≡ r → (b == 9) ≡ s → front (escaped b ++ z) ≡ Spelled b z
@@ -31,10 +31,10 @@ front_escaped b z = by_tests (b == 34) (b == 92) (b == 10) (b == 9) refl refl re
     by_tests false false false true e f g h = let is : b ≡ 9 = grind (arith, nat_tests) in rw is refl
     by_tests false false false false e f g h = rw (e, f, g, h) (rw (e, f, g, h) refl)
 
-front_more : (b : ℕ) (bs z : List ℕ) → front (flat_map escaped (b ∷ bs) ++ z) ≡ Spelled b (flat_map escaped bs ++ z)
+pub front_more : (b : ℕ) (bs z : List ℕ) → front (flat_map escaped (b ∷ bs) ++ z) ≡ Spelled b (flat_map escaped bs ++ z)
 front_more b bs z = rw append_assoc (front_escaped b _)
 
-same_inside : (a b x y : List ℕ) → flat_map escaped a ++ 34 ∷ x ≡ flat_map escaped b ++ 34 ∷ y → (a ≡ b) × (x ≡ y)
+pub same_inside : (a b x y : List ℕ) → flat_map escaped a ++ 34 ∷ x ≡ flat_map escaped b ++ 34 ∷ y → (a ≡ b) × (x ≡ y)
 same_inside [] [] x y e = (refl, (cc))
 same_inside [] (d ∷ ds) x y e = let f : Closing x ≡ Spelled d _ = ap front e ∙ front_more d ds (34 ∷ y) in absurd (cc)
 same_inside (c ∷ cs) [] x y e = let f : Spelled c _ ≡ Closing y = sym (front_more c cs (34 ∷ x)) ∙ ap front e in absurd (cc)

@@ -17,7 +17,7 @@ use Rattle.at_model.proofs.WayUp.{snoc, parent_of-snoc}
 use Rattle.at_model.proofs.Moving.{Way}
 use Rattle.at_model.proofs.Ways.{same_some}
 
-none_mapped : {A B : Type 0} (f : A → B) (o : Option A) → is_none (option_map f o) ≡ is_none o
+pub none_mapped : {A B : Type 0} (f : A → B) (o : Option A) → is_none (option_map f o) ≡ is_none o
 none_mapped f None = refl
 none_mapped f (Some a) = refl
 
@@ -50,7 +50,7 @@ none_moved_out past h (a ∷ p) (r ∷ rs) = by_step (step_eq a r) (none_moved_o
     by_step true e = none_mapped (λ (us : Node). r ∷ us) (moved_under p past rs) ∙ e
     by_step false e = refl
 
-set_out : (s r : Way) → is_none (past_set s r) ≡ step_eq s r
+pub set_out : (s r : Way) → is_none (past_set s r) ≡ step_eq s r
 set_out s r = by_test (step_eq s r)
   where
     by_test : (b : Bool) → is_none (if b then None else Some r) ≡ b

@@ -2,9 +2,9 @@
 use Rattle.std.proofs.Common.{◌≡◌, ℕ, zero, suc, ◌-◌, Bool, true, false, List, [], ◌∷◌, Option, Some, None, Ok, refl, sym, subst}
 use Rattle.std.specs.List.{insert, remove}
 use Rattle.at_model.specs.Classes.{Classes}
-use Rattle.at_model.specs.Trees.{Tree, Cells, Cell, Trees, One, Many, Empty, Filled, Holds, no_cells, cell, no_trees, tree, to_cells, from_cells, to_trees, from_trees, conforms, cells_conform, cell_conforms, trees_conform, depth, cells_depth, cell_depth, trees_depth}
+use Rattle.at_model.specs.Trees.{Tree, Cells, Cell, Trees, One, Many, Empty, Filled, Holds, no_cells, cell, no_trees, tree, to_cells, from_cells, to_trees, from_trees}
 use Rattle.at_model.specs.Trees as trees
-use Rattle.at_model.specs.Terms.{IsToken, IsTermWithin, AreCellsWithin, IsCellWithin, AreTermsWithin, term_of, cells_of, cell_of, terms_of, max_depth}
+use Rattle.at_model.specs.Terms.{IsToken, IsTerm, IsTermWithin, AreCellsWithin, IsCellWithin, AreTermsWithin, term_of, cells_of, cell_of, terms_of, max_depth}
 use Rattle.at_model.specs.Paths.{Node, parent_of}
 use Rattle.at_model.specs.Rules.{Rules}
 use Rattle.at_model.specs.Edits.{Edit, Set, Put, Drop, Insert, Token, changed_at, with_child, with_cell, with_node, without_child, with_one_more, left_by, edited, has_component, fits_there, is_in_range, is_free, is_removable, is_within_limits}
@@ -129,6 +129,10 @@ mutual
   of_terms : (classes : Classes) (d : ℕ) (ts : Trees) → AreTermsWithin d (terms_of classes ts) → TreesAreTokens ts
   of_terms classes d no_trees h = tt
   of_terms classes d (tree t ts) h = (of_term classes d t h.0, of_terms classes d ts h.1)
+
+-- the tokens of a tree whose term can be written can be written
+pub written_tokens : (classes : Classes) (t : Tree) → IsTerm (term_of classes t) → AreTokens t
+written_tokens classes t h = of_term classes max_depth t h
 
 brings : (classes : Classes) (s : State) (session : ℕ) (c : Command) (e : Edit) → IsEditOf classes s session c e → IsCommand c → Brings e
 brings classes s session c e (set place n new named) h = of_term classes max_depth new h.1

@@ -10,7 +10,7 @@ use Rattle.at_model.specs.Terms.{max_depth}
 use Rattle.at_model.specs.Paths.{Node, node_eq, tree_at, children_at}
 use Rattle.at_model.specs.Run.{Value, Int, Truth, Text, Ref, Instance, Is}
 use Rattle.at_model.specs.Bodies.{Expr, Scope, eval}
-use Rattle.at_model.specs.Rules.{Rules, Kind, Attribute, OwnEquation, InheritedEquation, Source, first_answer, own_in, own_equation, part_eq, inherited_in, inherited_equation, prefixes, source_at, source_of, attribute_name, is_inherited, AreComplete}
+use Rattle.at_model.specs.Rules.{Rules, Kind, Attribute, OwnEquation, InheritedEquation, first_answer, own_in, own_equation, part_eq, inherited_in, inherited_equation, prefixes, source_at, source_of, attribute_name, is_inherited, AreComplete}
 use Rattle.at_model.specs.Rules as kind
 use Rattle.at_model.specs.Meaning.{content, equations, at_source}
 use Rattle.at_model.specs.Support.{argument_classes, up_to_first, step_up, way_up}
@@ -34,23 +34,23 @@ by_test P p y x o h rest true is f = let g : y ≡ x = cc in (subst P g h, subst
 by_test P p y x o h rest false is f = rest f
 
 -- the first that is found stands in the list and passes
-found_in : {A : Type 0} (P : A → Type 0) (p : A → Bool) (xs : List A) (x : A) → AllByRecursion P xs → find p xs ≡ Some x → P x × (p x ≡ true)
+pub found_in : {A : Type 0} (P : A → Type 0) (p : A → Bool) (xs : List A) (x : A) → AllByRecursion P xs → find p xs ≡ Some x → P x × (p x ≡ true)
 found_in P p [] x h e = absurd (cc)
 found_in P p (y ∷ xs) x (h, hs) e = by_test P p y x (find p xs) h (found_in P p xs x hs) (p y) refl e
 
-either_of : {A : Type 0} (Q : A → Type 0) (o p : Option A) (a : A) → (o ≡ Some a → Q a) → (p ≡ Some a → Q a) → option_or o p ≡ Some a → Q a
+pub either_of : {A : Type 0} (Q : A → Type 0) (o p : Option A) (a : A) → (o ≡ Some a → Q a) → (p ≡ Some a → Q a) → option_or o p ≡ Some a → Q a
 either_of Q None p a f g e = g e
 either_of Q (Some b) p a f g e = f e
 
 -- the first answer is that of an element
-answered : {A B : Type 0} (P : A → Type 0) (f : A → Option B) (xs : List A) (b : B) → AllByRecursion P xs → first_answer f xs ≡ Some b → (a : A) × P a × (f a ≡ Some b)
+pub answered : {A B : Type 0} (P : A → Type 0) (f : A → Option B) (xs : List A) (b : B) → AllByRecursion P xs → first_answer f xs ≡ Some b → (a : A) × P a × (f a ≡ Some b)
 answered P f [] b h e = absurd (cc)
 answered {A} P f (x ∷ xs) b (h, hs) e = either_of (λ z. (a : A) × P a × (f a ≡ Some z)) (f x) (first_answer f xs) b (λ g. (x, h, g)) (answered P f xs b hs) e
 
 same_nat : (n : ℕ) → nat_eq n n ≡ true
 same_nat n = grind (arith, nat_tests)
 
-nat_same : (m n : ℕ) → nat_eq m n ≡ true → m ≡ n
+pub nat_same : (m n : ℕ) → nat_eq m n ≡ true → m ≡ n
 nat_same m n e = grind (arith, nat_tests)
 
 or_left : (a b : Bool) → a ≡ true → (a || b) ≡ true
@@ -61,7 +61,7 @@ or_right true b e = refl
 or_right false b e = e
 
 -- each is among them
-each_among : (xs : List ℕ) → AllByRecursion (λ n. list_any (nat_eq n) xs ≡ true) xs
+pub each_among : (xs : List ℕ) → AllByRecursion (λ n. list_any (nat_eq n) xs ≡ true) xs
 each_among [] = tt
 each_among (x ∷ xs) = (or_left (nat_eq x x) _ (same_nat x), all_more (λ n. list_any (nat_eq n) xs ≡ true) (λ n. list_any (nat_eq n) (x ∷ xs) ≡ true) xs (λ n h. or_right (nat_eq n x) _ h) (each_among xs))
 
@@ -151,7 +151,7 @@ declared_inherited rules attribute d b e f = rw (e, is_inherited) f
 declared_name : (rules : Rules) (attribute : ℕ) (d : Attribute) → slice_get rules.attributes attribute ≡ Some d → attribute_name rules attribute ≡ d.name
 declared_name rules attribute d e = rw (e, attribute_name) refl
 
-one_declaration : (d e : Attribute) (o : Option Attribute) → o ≡ Some d → o ≡ Some e → d ≡ e
+pub one_declaration : (d e : Attribute) (o : Option Attribute) → o ≡ Some d → o ≡ Some e → d ≡ e
 one_declaration d e o f g = let h : Some d ≡ Some e = sym f ∙ g in cc
 
 own_body : (rules : Rules) (e : OwnEquation) → IsOwnTyped rules e → (a : Attribute) → slice_get rules.attributes e.attribute ≡ Some a → HasKind rules (record { this = e.class; names = a.parameters; has_index = false }) e.body a.result

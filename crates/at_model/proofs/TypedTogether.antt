@@ -44,7 +44,7 @@ use Rattle.at_model.proofs.Listed.{instance_listed}
 less_than_ints : (m n : ℕ) → nat_le m n ≡ true → n < 2147483648 → m < 2147483648
 less_than_ints m n e h = grind (arith, nat_tests)
 
-few_nodes : (t : Tree) → is_within_limits t ≡ true → held.nodes t < 2147483648
+pub few_nodes : (t : Tree) → is_within_limits t ≡ true → held.nodes t < 2147483648
 few_nodes t within =
     let (sizes, short) = both (nat_le (held.nodes t) max_nodes && nat_le (held.depth t) max_depth) (tokens_short t) within in
     let (few, deep) = both (nat_le (held.nodes t) max_nodes) (nat_le (held.depth t) max_depth) sizes in
@@ -57,11 +57,11 @@ short_path t within n h = by_tree (tree_at t n) refl h
     by_tree None e h = absurd cc
     by_tree (Some u) e h = within_depth t n u within e
 
-any_allowed : (v : Value Node) → IsAllowed AnyText v
-any_allowed (run.Int n) = tt
-any_allowed (run.Truth b) = tt
-any_allowed (run.Text bytes) = tt
-any_allowed (run.Ref n) = tt
+pub any_text : {N : Type 0} (v : Value N) → IsAllowed AnyText v
+any_text (run.Int n) = tt
+any_text (run.Truth b) = tt
+any_text (run.Text bytes) = tt
+any_text (run.Ref n) = tt
 
 -- what is served ------------------------------------------------------------------------------------------------------
 
@@ -81,7 +81,7 @@ pub expression_typed : (rules : Rules) → IsHierarchy rules.classes → (t : Tr
     IsTypedRun rules (class_at t) AnyText (content t) (λ v. IsOfKind rules.classes (class_at t) v k) (eval rules.classes node_eq e scope)
 expression_typed rules hierarchy t sound s e k scope kinds stands =
     typed rules (chained rules.classes hierarchy) (class_at t) AnyText (content t)
-    (contents_stand rules.classes t AnyText (record { conform = sound.conform; fit = tokens_written t sound.tokens; said = all_any (λ v. IsAllowed {N = Node} AnyText (value_of v)) (tokens t) (λ v. any_allowed (value_of v)); few = few_nodes t sound.within }))
+    (contents_stand rules.classes t AnyText (record { conform = sound.conform; fit = tokens_written t sound.tokens; said = all_any (λ v. IsAllowed {N = Node} AnyText (value_of v)) (tokens t) (λ v. any_text (value_of v)); few = few_nodes t sound.within }))
     node_eq s e k kinds scope (all_any AnyText (literals e) (λ x. tt)) stands
 
 module _ (rules : Rules) (ok : AreWellFormed rules) (t : Tree) (sound : IsTreeSound rules.classes t) where
@@ -95,7 +95,7 @@ module _ (rules : Rules) (ok : AreWellFormed rules) (t : Tree) (sound : IsTreeSo
         conform = sound.conform;
         short = short_path t sound.within;
         said = record { own = all_any _ rules.own (λ e. all_any AnyText (literals e.body) (λ x. tt)); inherited = all_any _ rules.inherited (λ e. all_any AnyText (literals e.body) (λ x. tt)) };
-        contents = contents_stand rules.classes t AnyText (record { conform = sound.conform; fit = tokens_written t sound.tokens; said = all_any (λ v. IsAllowed {N = Node} AnyText (value_of v)) (tokens t) (λ v. any_allowed (value_of v)); few = few_nodes t sound.within });
+        contents = contents_stand rules.classes t AnyText (record { conform = sound.conform; fit = tokens_written t sound.tokens; said = all_any (λ v. IsAllowed {N = Node} AnyText (value_of v)) (tokens t) (λ v. any_text (value_of v)); few = few_nodes t sound.within });
       })
 
   module _ (vs : List (Value Node)) where

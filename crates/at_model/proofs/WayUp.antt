@@ -62,7 +62,7 @@ one_up : (rules : Rules) (t : Tree) (name : List ℕ) (vs : List (Value Node)) (
 one_up rules t name vs h n m part ls r None e l = absurd (cc)
 one_up rules t name vs h n m part ls r (Some p) e l = let f : p ≡ (m, part) = cc in rw f (refl, l)
 
-class_there : (t : Tree) (m : Node) (w : Tree) → tree_at t m ≡ Some w → content t (Is m) ≡ class_of w
+pub class_there : (t : Tree) (m : Node) (w : Tree) → tree_at t m ≡ Some w → content t (Is m) ≡ class_of w
 class_there t m w e = ap (λ o. elim o as (λ _. ℕ) [ None ↦ 0 | Some u ↦ class_of u ]) e
 
 at_snoc : (rules : Rules) (t : Tree) (name : List ℕ) (vs : List (Value Node)) (h : ℕ) (m : Node) (s : ℕ × ℕ) → Found rules t name vs h m → Found rules t name vs (suc h) (m ++ s ∷ [])

@@ -28,7 +28,7 @@ inside (x ∷ xs) zero d h = refl
 inside (x ∷ xs) (suc i) d h = inside xs i d (omega (arith, h))
 
 -- the element at the first position at which a test passes
-element_at : {A : Type 0} (p : A → Bool) (xs : List A) (i : ℕ) → position p xs ≡ Some i → (a : A) × (slice_get xs i ≡ Some a) × (p a ≡ true)
+pub element_at : {A : Type 0} (p : A → Bool) (xs : List A) (i : ℕ) → position p xs ≡ Some i → (a : A) × (slice_get xs i ≡ Some a) × (p a ≡ true)
 element_at p [] i e = absurd cc
 element_at p (x ∷ xs) i e =
     let (small, passes, first) = position-Some p (x ∷ xs) i x e in

@@ -5,7 +5,7 @@ use Rattle.std.specs.List.{list_any, list_all, AllByRecursion}
 use Rattle.std.specs.Fmt.{decimal}
 use Rattle.std.proofs.lemmas.Bool.Decides.{nat_tests}
 use Rattle.std.proofs.lemmas.Fmt.{decimal_by_steps}
-use Rattle.std.proofs.lemmas.Str.{encodes-chars}
+use Rattle.std.proofs.lemmas.Str.{chars-nil, encodes-chars}
 use lib.Utf8.{encode}
 use Rattle.std.specs.Char.{is_ascii_alphabetic, is_ascii_alphanumeric}
 use Rattle.unicode_ident.proofs.IdentLemmas.{is_xid_start-ascii, is_xid_continue-ascii}
@@ -163,3 +163,7 @@ word_inner (c ∷ cs) h = let g = all_and (starts_name c) (list_all continues_na
 
 pub name_inner : (name : List ℕ) → is_name name ≡ true → IsUtf8 name → IsInner name
 name_inner name h u = let g = all_and (is_word (chars name)) (not (is_reserved name)) h in subst IsInner (encodes-chars name u) (word_inner (chars name) g.0)
+
+-- a name has a character
+pub name_filled : (bytes : List ℕ) → is_name bytes ≡ true → bytes ≡ [] → ⊥
+name_filled bytes is e = let off : false ≡ true = ap (λ cs. is_word cs && not (is_reserved [])) (sym chars-nil) ∙ subst (λ (x : List ℕ). is_name x ≡ true) e is in absurd cc

@@ -27,7 +27,7 @@ module _ (classes : Classes) (sound : AreSound classes) where
   named c b e = class_named c (slice_get classes c) refl (both (is_concrete classes c) (is_sub classes c b) e).0
 
   mutual
-    tree_term : (d : ℕ) (t : Tree) (b : ℕ) → conforms classes t b ≡ true → depth t ≤ d → AreTokens t → IsTermWithin d (term_of classes t)
+    pub tree_term : (d : ℕ) (t : Tree) (b : ℕ) → conforms classes t b ≡ true → depth t ≤ d → AreTokens t → IsTermWithin d (term_of classes t)
     tree_term d (trees.Node c cells) b e deep k =
         let (fit, below) = both (fits classes c b) (cells_conform classes cells (parts classes c)) e in
         (omega (arith, deep), named c b fit, cells_term (d - 1) cells (parts classes c) below (omega (arith, deep)) k)

@@ -1,3 +1,4 @@
 mod Lookups
 mod Numbers
+pub mod Earlier
 mod Upward

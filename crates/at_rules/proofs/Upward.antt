@@ -1,5 +1,5 @@
 -- The attribute that is found by the number of its name is the first one of that name.
-use Rattle.std.proofs.Common.{◌≡◌, ℕ, ◌+◌, ◌-◌, ◌<◌, ◌≤◌, min, List, [], ◌∷◌, length, map, refl, ap, ap₂, sym, ◌∙◌, arith, Option, Some, None, suc, zero, String, string_bytes}
+use Rattle.std.proofs.Common.{◌≡◌, ℕ, ◌+◌, ◌-◌, ◌<◌, List, [], ◌∷◌, length, map, refl, ap, sym, ◌∙◌, arith, Option, Some, None, suc, zero, String, string_bytes}
 use Rattle.std.specs.Prelude.{Bool, true, false, ◌&&◌, ◌||◌, cond, nat_eq, nat_lt, position, get_or, IfSome}
 use Rattle.std.specs.List.{list_any, position_from, IsDistinct}
 use Rattle.std.specs.Map.{keys_of}
@@ -17,6 +17,7 @@ use Rattle.at_rules.specs.RulesView.{text_of, attribute_view, LacksText}
 use Rattle.at_rules.specs.Upward.{earlier, declares, declared_in}
 use Rattle.at_rules.proofs.Lookups.{same_either}
 use Rattle.at_rules.proofs.Numbers.{same_text, lacks_each, beyond, off}
+use Rattle.at_rules.proofs.Earlier.{either, earlier_assoc, earlier_none}
 
 none_of : {A : Type 0} (p : A → Bool) → ((x : A) → p x ≡ false) → (i : ℕ) (xs : List A) → position_from p i xs ≡ None
 none_of p fails i [] = refl
@@ -24,47 +25,6 @@ none_of p fails i (x ∷ xs) = ap (λ b. cond b (Some i) (position_from p (i + 1
 
 pub nowhere : {A : Type 0} (p : A → Bool) → ((x : A) → p x ≡ false) → (xs : List A) → position p xs ≡ None
 nowhere p fails xs = position_from-zero p xs ∙ none_of p fails 0 xs
-
-before_others : {A : Type 0} (p : A → Bool) (i m : ℕ) (xs : List A) → i ≤ m → earlier (Some i) (position_from p m xs) ≡ Some i
-before_others p i m [] le = refl
-before_others p i m (x ∷ xs) le = by (p x) (before_others p i (m + 1) xs (omega (arith, le)))
-  where
-    by : (b : Bool) → earlier (Some i) (position_from p (m + 1) xs) ≡ Some i → earlier (Some i) (cond b (Some m) (position_from p (m + 1) xs)) ≡ Some i
-    by true rest = let same : min i m ≡ i = omega (arith, le) in ap Some same
-    by false rest = rest
-
-others_behind : {A : Type 0} (p : A → Bool) (i m : ℕ) (xs : List A) → i ≤ m → earlier (position_from p m xs) (Some i) ≡ Some i
-others_behind p i m [] le = refl
-others_behind p i m (x ∷ xs) le = by (p x) (others_behind p i (m + 1) xs (omega (arith, le)))
-  where
-    by : (b : Bool) → earlier (position_from p (m + 1) xs) (Some i) ≡ Some i → earlier (cond b (Some m) (position_from p (m + 1) xs)) (Some i) ≡ Some i
-    by true rest = let same : min m i ≡ i = omega (arith, le) in ap Some same
-    by false rest = rest
-
-either_from : {A : Type 0} (p q : A → Bool) (i : ℕ) (xs : List A) → earlier (position_from p i xs) (position_from q i xs) ≡ position_from (λ x. p x || q x) i xs
-either_from p q i [] = refl
-either_from p q i (x ∷ xs) = by (p x) (q x) (either_from p q (i + 1) xs)
-  where
-    by : (a b : Bool) → earlier (position_from p (i + 1) xs) (position_from q (i + 1) xs) ≡ position_from (λ x. p x || q x) (i + 1) xs
-        → earlier (cond a (Some i) (position_from p (i + 1) xs)) (cond b (Some i) (position_from q (i + 1) xs)) ≡ cond (a || b) (Some i) (position_from (λ x. p x || q x) (i + 1) xs)
-    by true true rest = let same : min i i ≡ i = omega arith in ap Some same
-    by true false rest = before_others q i (i + 1) xs (omega arith)
-    by false true rest = others_behind p i (i + 1) xs (omega arith)
-    by false false rest = rest
-
--- the first element that passes one of two tests
-pub either : {A : Type 0} (p q : A → Bool) (xs : List A) → earlier (position p xs) (position q xs) ≡ position (λ x. p x || q x) xs
-either p q xs = ap₂ earlier (position_from-zero p xs) (position_from-zero q xs) ∙ either_from p q 0 xs ∙ sym (position_from-zero (λ x. p x || q x) xs)
-
-earlier_assoc : (o p q : Option ℕ) → earlier (earlier o p) q ≡ earlier o (earlier p q)
-earlier_assoc None p q = refl
-earlier_assoc (Some i) None q = refl
-earlier_assoc (Some i) (Some j) None = refl
-earlier_assoc (Some i) (Some j) (Some k) = let same : min (min i j) k ≡ min i (min j k) = omega arith in ap Some same
-
-earlier_none : (o : Option ℕ) → earlier o None ≡ o
-earlier_none None = refl
-earlier_none (Some i) = refl
 
 -- what is found on what is left of a chain after one step
 pub found_above : (ks : List (ℕ × ℕ)) (n : ℕ) (classes : Classes) (m i c : ℕ) (found : Option ℕ) → i < m

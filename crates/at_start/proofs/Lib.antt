@@ -4,4 +4,3 @@ mod TermFiles
 mod Ruled
 mod Started
 mod RulesTyped
-mod WrittenTokens

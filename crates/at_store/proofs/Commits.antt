@@ -4,7 +4,7 @@ use Rattle.std.specs.Prelude.{map, is_none}
 use Rattle.std.specs.List.{slice_get, insert, remove}
 use Rattle.std.proofs.lemmas.Bool.Decides.{nat_tests}
 use Rattle.std.proofs.lemmas.Option.{slice_get_past, slice_get_within}
-use Rattle.at_model.specs.Trees.{Tree, Cell, Trees, One, Many, Empty, Filled, Holds, class_of, children, to_trees, from_trees}
+use Rattle.at_model.specs.Trees.{Tree, Cell, Trees, One, Many, Empty, Filled, Holds, class_of, children, from_trees}
 use Rattle.at_model.specs.Trees as trees
 use Rattle.at_model.specs.Paths.{Node, tree_at, cell_at, children_at, step_eq, parent_of}
 use Rattle.at_model.specs.Edits.{Set, Put, Drop, Insert, Token, changed_at, with_child, with_cell, with_node, without_child, with_one_more, left_by, moved_under, past_set, past_put, past_drop, past_insert}
@@ -16,7 +16,7 @@ use Rattle.at_model.proofs.Ways.{set_way, put_way, DropWay, drop_way, InsertWay,
 use Rattle.at_model.proofs.Ways as way
 use Rattle.at_model.proofs.Untouched.{in_cell as kids, FitsAt, child-same, child-other, from_to_trees}
 use Rattle.at_model.proofs.Untouching.{inserted-fits, nothing_keeps}
-use Rattle.at_model.proofs.Surviving.{moved_out, drop_out, parent_is}
+use Rattle.at_model.proofs.Surviving.{moved_out, drop_out, parent_is, none_mapped, set_out}
 use Rattle.at_model.proofs.WithinTree.{tree_at-snoc}
 use Rattle.at_store.specs.Numbers.{path_in}
 use Rattle.at_store.specs.Memory.{Info, Kids, Token_of, List_of, Optional, kept, with_numbers, Place, Stored, Keeps, IsShallow, with_place, rewritten, placed, renumbered}
@@ -95,11 +95,6 @@ numbers_drop (suc (suc i)) (Filled t) n = refl
 numbers_drop zero (Holds v) n = refl
 numbers_drop (suc i) (Holds v) n = refl
 
--- where no step to a child leads nowhere, no node goes nowhere
-none_mapped : {A B : Type 0} (f : A → B) (o : Option A) → is_none (option_map f o) ≡ is_none o
-none_mapped f None = refl
-none_mapped f (Some a) = refl
-
 goes_on : (past : Way → Option Way) (p n : Node) (t v : Tree) → ((u : Tree) (r : Way) (y : Tree) → tree_at t p ≡ Some u → slice_get (children_at u r.0) r.1 ≡ Some y → is_none (past r) ≡ false) → tree_at t n ≡ Some v → is_none (moved_under p past n) ≡ false
 goes_on past [] [] t v h is = refl
 goes_on past [] (r ∷ rs) t v h is = let (y, child, below) = led (λ x. tree_at x rs) (slice_get (children_at t r.0) r.1) v is in none_mapped (λ (w : Way). w ∷ rs) (past r) ∙ h t r y refl child
@@ -113,13 +108,6 @@ goes_on past (a ∷ p) (r ∷ rs) t v h is = by_step (step_eq a r) refl (λ y k 
         let (y, child, below) = led (λ x. tree_at x rs) (slice_get (children_at t r.0) r.1) v is in
         let child' : slice_get (children_at t a.0) a.1 ≡ Some y = subst (λ (s : Way). slice_get (children_at t s.0) s.1 ≡ Some y) (sym (step_eq-sound a r e)) child in
         none_mapped (λ (us : Node). r ∷ us) (moved_under p past rs) ∙ more y (λ u q x found kid. h u q x (ap (option_and_then (λ z. tree_at z p)) child' ∙ found) kid) below
-
-set_out : (s r : Way) → is_none (past_set s r) ≡ step_eq s r
-set_out s r = by_test (step_eq s r)
-  where
-    by_test : (b : Bool) → is_none (if b then None else Some r) ≡ b
-    by_test true = refl
-    by_test false = refl
 
 -- a tree that waited comes in
 module _ (g : Cell → Cell) (part spot : ℕ) (past : Way → Option Way) (keeps : KeepsParts past part) (s w : Tree) (p : Node) (fits : FitsAt g part past s p) (origins : OriginsAt g part past (IsAt w spot) s p)

@@ -5,8 +5,9 @@ use Rattle.std.specs.declared.str.Chars.{Chars}
 use Rattle.std.specs.List.{flat_map}
 use Rattle.std.proofs.lemmas.Str.{char_from_byte, length-encode, len_utf8_bounds}
 use Rattle.at_model.specs.Texts.{escaped, quoted}
+use Rattle.at_model.proofs.QuotedTexts.{same_inside}
 use Rattle.at_text.specs.Quoted.{Begins, EndsIn}
-use Rattle.at_text.proofs.Spelling.{one_left, goes_on, length-spelled}
+use Rattle.at_text.proofs.Spelling.{goes_on, length-spelled}
 
 -- no opening quote
 pub none_begins : (text : List ℕ) (s t : Chars) (first : Option ℕ) → chars_rest s ≡ text → chars_steps s first t → (first ≡ Some 34 → ⊥) → (value : List ℕ) → Begins text value → ⊥
@@ -39,7 +40,7 @@ taken_len text value rest is = omega (arith, ap length is, length-append (quoted
 pub only_value : (text value rest other : List ℕ) → text ≡ quoted value ++ rest → Begins text other → value ≡ other
 only_value text value rest other is (more, e) =
     let both : 34 ∷ (flat_map escaped value ++ 34 ∷ rest) ≡ 34 ∷ (flat_map escaped other ++ 34 ∷ more) = simp append_assoc at (sym is ∙ e) in
-    (one_left value other rest more (cc)).0
+    (same_inside value other rest more (cc)).0
 
 -- each character takes some of the text
 pub less_left : (c : ℕ) (before after : List ℕ) → before ≡ flat_map escaped (encode_utf8 c) ++ after → length after < length before

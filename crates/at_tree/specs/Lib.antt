@@ -17,6 +17,5 @@ pub mod TreeView
 pub mod Separated
 pub mod Fronts
 pub mod Shape
-pub mod TreeTokens
 pub mod TreeLaws
 pub mod ReadTrees

@@ -3,7 +3,7 @@ use Rattle.std.specs.Prelude.{◌≡◌, ℕ, ◌≤◌, true}
 use Rattle.at_model.specs.Classes.{Classes}
 use Rattle.at_model.specs.Trees.{Tree, conforms, depth}
 use Rattle.at_model.specs.Terms.{IsTerm, max_depth, term_of}
-use Rattle.at_tree.specs.TreeTokens.{AreTokens}
+use Rattle.at_model.specs.Enduring.{AreTokens}
 
 -- two trees that conform under one class are the same, where they are written as the same term
 abbrev pub OneTreeForATerm : Classes → Type 0

@@ -19,9 +19,10 @@ use Rattle.at_typing.specs.declared.attributes.Attributes.{Attributes}
 use Rattle.at_typing.specs.declared.numbered.NamedClass.{NamedClass}
 use Rattle.at_typing.specs.declared.numbered.Numbered.{Numbered as NumberedValue}
 use Rattle.at_typing.proofs.ClassesBelow.{below}
-use Rattle.at_typing.proofs.Earlier.{either, earlier_assoc, earlier_none, nowhere, with_last, same_first, is_found}
+use Rattle.at_typing.proofs.Earlier.{nowhere, with_last, same_first, is_found}
 use Rattle.at_typing.proofs.EquationsBefore.{list_any-same}
 use Rattle.at_typing.proofs.Lines.{line_from, line_step, on_line}
+use Rattle.at_rules.proofs.Earlier.{either, earlier_assoc, earlier_none}
 
 -- among declarations --------------------------------------------------------------------------------------------------
 

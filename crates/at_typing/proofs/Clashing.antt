@@ -25,9 +25,9 @@ use Rattle.at_typing.specs.declared.numbered.Numbered.{Numbered as NumberedValue
 use Rattle.at_typing.proofs.AttributesFound.{drawn, switched}
 use Rattle.at_typing.proofs.ClassesBelow.{below}
 use Rattle.at_typing.proofs.EquationsBefore.{list_any-or, list_any-same, list_any-where}
-use Rattle.at_typing.proofs.FirstFaults.{list_any-map}
 use Rattle.at_typing.proofs.FirstValues.{not_noted}
 use Rattle.at_typing.proofs.Lines.{line_begins, line_from, line_step, on_line}
+use Rattle.at_class.proofs.Firsts.{list_any-map}
 
 -- truth values --------------------------------------------------------------------------------------------------------
 

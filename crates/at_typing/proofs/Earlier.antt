@@ -1,51 +1,10 @@
 -- The first element that passes one of several tests.
-use Rattle.std.proofs.Common.{◌≡◌, ℕ, ◌+◌, ◌≤◌, min, List, [], ◌∷◌, ◌++◌, length, filter, map, refl, ap, ap₂, sym, ◌∙◌, arith, Option, Some, None}
+use Rattle.std.proofs.Common.{◌≡◌, ℕ, ◌+◌, List, [], ◌∷◌, ◌++◌, length, filter, map, refl, ap, sym, ◌∙◌, arith, Some, None}
 use Rattle.std.specs.Prelude.{Bool, true, false, ◌&&◌, ◌||◌, cond, position, is_some, if◌then◌else◌, All}
 use Rattle.std.specs.List.{list_any, position_from}
 use Rattle.std.specs.Option.{option_or}
 use Rattle.std.proofs.lemmas.Iterator.Adapters.{position_from-zero}
 use Rattle.std.proofs.lemmas.List.Elements.{All-tail}
-use Rattle.at_rules.specs.Upward.{earlier}
-
-before_others : {A : Type 0} (p : A → Bool) (i m : ℕ) (xs : List A) → i ≤ m → earlier (Some i) (position_from p m xs) ≡ Some i
-before_others p i m [] le = refl
-before_others p i m (x ∷ xs) le = by (p x) (before_others p i (m + 1) xs (omega (arith, le)))
-  where
-    by : (b : Bool) → earlier (Some i) (position_from p (m + 1) xs) ≡ Some i → earlier (Some i) (cond b (Some m) (position_from p (m + 1) xs)) ≡ Some i
-    by true rest = let same : min i m ≡ i = omega (arith, le) in ap Some same
-    by false rest = rest
-
-others_behind : {A : Type 0} (p : A → Bool) (i m : ℕ) (xs : List A) → i ≤ m → earlier (position_from p m xs) (Some i) ≡ Some i
-others_behind p i m [] le = refl
-others_behind p i m (x ∷ xs) le = by (p x) (others_behind p i (m + 1) xs (omega (arith, le)))
-  where
-    by : (b : Bool) → earlier (position_from p (m + 1) xs) (Some i) ≡ Some i → earlier (cond b (Some m) (position_from p (m + 1) xs)) (Some i) ≡ Some i
-    by true rest = let same : min m i ≡ i = omega (arith, le) in ap Some same
-    by false rest = rest
-
-either_from : {A : Type 0} (p q : A → Bool) (i : ℕ) (xs : List A) → earlier (position_from p i xs) (position_from q i xs) ≡ position_from (λ x. p x || q x) i xs
-either_from p q i [] = refl
-either_from p q i (x ∷ xs) = by (p x) (q x) (either_from p q (i + 1) xs)
-  where
-    by : (a b : Bool) → earlier (position_from p (i + 1) xs) (position_from q (i + 1) xs) ≡ position_from (λ x. p x || q x) (i + 1) xs
-        → earlier (cond a (Some i) (position_from p (i + 1) xs)) (cond b (Some i) (position_from q (i + 1) xs)) ≡ cond (a || b) (Some i) (position_from (λ x. p x || q x) (i + 1) xs)
-    by true true rest = let same : min i i ≡ i = omega arith in ap Some same
-    by true false rest = before_others q i (i + 1) xs (omega arith)
-    by false true rest = others_behind p i (i + 1) xs (omega arith)
-    by false false rest = rest
-
-pub either : {A : Type 0} (p q : A → Bool) (xs : List A) → earlier (position p xs) (position q xs) ≡ position (λ x. p x || q x) xs
-either p q xs = ap₂ earlier (position_from-zero p xs) (position_from-zero q xs) ∙ either_from p q 0 xs ∙ sym (position_from-zero (λ x. p x || q x) xs)
-
-pub earlier_assoc : (o p q : Option ℕ) → earlier (earlier o p) q ≡ earlier o (earlier p q)
-earlier_assoc None p q = refl
-earlier_assoc (Some i) None q = refl
-earlier_assoc (Some i) (Some j) None = refl
-earlier_assoc (Some i) (Some j) (Some k) = let same : min (min i j) k ≡ min i (min j k) = omega arith in ap Some same
-
-pub earlier_none : (o : Option ℕ) → earlier o None ≡ o
-earlier_none None = refl
-earlier_none (Some i) = refl
 
 none_from : {A : Type 0} (i : ℕ) (xs : List A) → position_from (λ x. false) i xs ≡ None
 none_from i [] = refl

@@ -15,7 +15,7 @@ use Rattle.at_typing.specs.declared.numbered.NamedClass.{NamedClass}
 use Rattle.at_typing.specs.declared.numbered.NamedClass.TheVariants.{Known, Unknown}
 use Rattle.at_typing.specs.declared.numbered.Numbered.{Numbered as NumberedValue}
 use Rattle.at_typing.specs.contracts.numbered.NamedClassPartialEq.TheImpl.{ghosts}
-use Rattle.at_typing.proofs.FirstFaults.{list_any-map}
+use Rattle.at_class.proofs.Firsts.{list_any-map}
 
 -- the test of the code
 pub class_eq : (c b : NamedClass) → ghosts.eq c b ≡ same_class c b

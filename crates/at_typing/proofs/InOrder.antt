@@ -22,8 +22,8 @@ use Rattle.at_typing.specs.declared.numbered.Numbered.{Numbered as NumberedValue
 use Rattle.at_kinds.specs.declared.code.RuleCode.{RuleCode}
 use Rattle.at_text.specs.declared.fault.Fault.{Fault}
 use Rattle.at_text.specs.declared.fault.Fault.TheVariants as type_fault
-use Rattle.at_typing.proofs.FirstFaults.{NoneBefore, none_more, first_here, none_at_all}
 use Rattle.at_typing.proofs.Gathering.{stands_more, other_none, first_none}
+use Rattle.at_class.proofs.Firsts.{NoneBefore, none_more, first_here, none_at_all}
 
 abbrev pub views : List NumberedValue → List Located
 views xs = map numbered_view xs

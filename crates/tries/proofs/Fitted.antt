@@ -1,30 +1,22 @@
 -- Values of the kinds that are asked, and the instances that they make.
-use Rattle.std.proofs.Common.{◌≡◌, ℕ, zero, suc, ◌<◌, Bool, true, false, not, ◌&&◌, List, [], ◌∷◌, ◌++◌, map, length, get_or, Option, Some, None, refl, sym, ap, ◌∙◌, subst, arith}
-use Rattle.std.specs.Prelude.{position}
-use Rattle.std.specs.List.{slice_get, AllByRecursion}
+use Rattle.std.proofs.Common.{◌≡◌, ℕ, ◌&&◌, List, [], ◌∷◌, ◌++◌, map, length, Option, Some, None, sym, ap, ◌∙◌, subst}
+use Rattle.std.specs.List.{AllByRecursion}
 use Rattle.std.specs.Str.{bytes_eq}
-use Rattle.std.proofs.lemmas.List.Quantifiers.{position-Some}
 use Rattle.at_model.specs.Classes.{Classes, is_sub}
 use Rattle.at_model.specs.Instances.{AnyText}
 use Rattle.at_model.specs.Machine.{parameters_of}
 use Rattle.at_model.specs.Rules.{Rules, Attribute, Kind, attribute_named}
-use Rattle.at_model.specs.Run.{Value, Int, Truth, Text, Ref, Instance}
-use Rattle.at_model.specs.TypedRuns.{ClassAt, IsOfKind, IsOfItsKind, IsAllowed, AreArguments, IsWellTyped}
-use Rattle.std.proofs.lemmas.Str.{chars-nil}
-use Rattle.at_model.specs.Names.{is_name, is_reserved, is_word}
+use Rattle.at_model.specs.Run.{Value, Int, Instance}
+use Rattle.at_model.specs.TypedRuns.{ClassAt, IsOfKind, IsOfItsKind, AreArguments, IsWellTyped}
 use Rattle.at_model.specs.Rules as kinds
 use Rattle.at_model.proofs.Options.{both}
+use Rattle.at_model.proofs.WellAsked.{element_at}
+use Rattle.at_model.proofs.TypedTogether.{any_text}
 use Rattle.at_rules.specs.Bodies.{kind_view}
 use Rattle.at_rules.specs.declared.body.Kind.{Kind as KindCode}
 use Rattle.at_rules.specs.Upward.{result_of}
 use Rattle.at_body.specs.Values.{value_view}
 use Rattle.at_body.specs.declared.value.Value.{Value as ValueCode}
-
-any_text : (v : Value ℕ) → IsAllowed AnyText v
-any_text (Int n) = tt
-any_text (Truth b) = tt
-any_text (Text bytes) = tt
-any_text (Ref n) = tt
 
 module _ (classes : Classes) (at : ClassAt ℕ) where
   -- the values are arguments for the kinds
@@ -39,18 +31,6 @@ module _ (classes : Classes) (at : ClassAt ℕ) where
   pub first_fits : (ks : List KindCode) (k : KindCode) (others : List KindCode) (vs : List ValueCode) (v : ValueCode) (rest : List ValueCode) → ks ≡ k ∷ others → vs ≡ v ∷ rest → IsOfKind classes at (value_view v) (kind_view k) → Fit others rest → Fit ks vs
   first_fits ks k others vs v rest e f is fit =
       subst (λ (xs : List KindCode). Fit xs vs) (sym e) (subst (λ (xs : List ValueCode). Fit (k ∷ others) xs) (sym f) (is, any_text (value_view v), fit))
-
-inside : {A : Type 0} (xs : List A) (i : ℕ) (d : A) → i < length xs → slice_get xs i ≡ Some (get_or xs i d)
-inside [] i d h = let none : ⊥ = omega (arith, h) in absurd none
-inside (x ∷ xs) zero d h = refl
-inside (x ∷ xs) (suc i) d h = inside xs i d (omega (arith, h))
-
--- the element at the first position at which a test passes
-element_at : {A : Type 0} (p : A → Bool) (xs : List A) (i : ℕ) → position p xs ≡ Some i → (a : A) × (slice_get xs i ≡ Some a) × (p a ≡ true)
-element_at p [] i e = absurd cc
-element_at p (x ∷ xs) i e =
-    let (small, passes, first) = position-Some p (x ∷ xs) i x e in
-    (get_or (x ∷ xs) i x, inside (x ∷ xs) i x small, passes)
 
 -- an attribute that the class of a node has, with arguments for its parameters
 pub well_typed : (rules : Rules) (at : ClassAt ℕ) (n c attribute : ℕ) (name : List ℕ) (vs : List (Value ℕ)) → at n ≡ Some c → attribute_named rules c name ≡ Some attribute →
@@ -81,7 +61,3 @@ pub its_kind : (rules : Rules) (at : ClassAt ℕ) (i : Instance ℕ) (v : Value 
 its_kind rules at i v k attribute kind same is d declared =
     let result : result_of rules i.attribute ≡ d.result = ap (λ (o : Option Attribute). elim o as (λ _. Kind) [ None ↦ kinds.Int | Some b ↦ b.result ]) declared in
     subst (λ x. IsOfKind rules.classes at v x) (kind ∙ ap (result_of rules) same ∙ result) is
-
--- a name has a character
-pub name_filled : (bytes : List ℕ) → is_name bytes ≡ true → bytes ≡ [] → ⊥
-name_filled bytes is e = let off : false ≡ true = ap (λ cs. is_word cs && not (is_reserved [])) (sym chars-nil) ∙ subst (λ (x : List ℕ). is_name x ≡ true) e is in absurd cc

@@ -2,8 +2,9 @@ use Rattle.std.proofs.Common.{◌≡◌, ◌∙◌, ◌-◌, ◌+◌, ap, sym, a
 use Rattle.at_model.specs.Classes.{chain, chain_within, parent_of}
 use Rattle.at_rules.specs.Upward.{earlier}
 use Rattle.at_kinds.specs.Signatures.{first_at, first_in}
-use Rattle.at_kinds.proofs.Signing.{earlier_assoc, nothing_above, nothing_left}
+use Rattle.at_kinds.proofs.Signing.{nothing_above, nothing_left}
 use Rattle.at_kinds.proofs.signatures.first_above.Goals as goal
+use Rattle.at_rules.proofs.Earlier.{earlier_assoc}
 
 pub returns-in_default : goal.returns-in_default
 unfolding chain

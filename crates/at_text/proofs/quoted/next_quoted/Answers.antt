@@ -1,9 +1,10 @@
 use Rattle.std.proofs.Common.{◌≡◌, ◌∙◌, ap, refl, arith, lit<, ◌∷◌}
 use Rattle.std.specs.Str.Iter.{chars_rest}
 use Rattle.std.proofs.lemmas.Str.{encode_ascii}
-use Rattle.at_text.proofs.Spelling.{front, front_ends}
+use Rattle.at_text.proofs.Spelling.{front_ends}
 use Rattle.at_text.proofs.Characters.{no_escape, raw, plain}
 use Rattle.at_text.proofs.quoted.next_quoted.Goals as goal
+use Rattle.at_model.proofs.QuotedTexts.{front}
 
 pub returns-in_default-clause-form : goal.returns-in_default-clause-form
 returns-in_default-clause-form c = λ value ends.

@@ -4,8 +4,9 @@ use Rattle.at_typing.specs.EquationKeys.{key_view}
 use Rattle.at_typing.specs.Numbering.{numbered_view}
 use Rattle.at_kinds.specs.declared.code.RuleCode.TheVariants as code
 use Rattle.at_typing.proofs.EquationsBefore.{before, one_equation_more, is_had, is_missing}
-use Rattle.at_typing.proofs.FirstFaults.{first_here, none_more, none_at_all, fault_where, fault_nowhere}
+use Rattle.at_typing.proofs.FirstFaults.{fault_where, fault_nowhere}
 use Rattle.at_typing.proofs.checks.equations.equation_twice.Goals as goal
+use Rattle.at_class.proofs.Firsts.{none_more, first_here, none_at_all}
 
 pub loop-numbered-init : goal.loop-numbered-init
 loop-numbered-init c = (refl, record { own = c.new-before.ensures.own; inherited = ap (map key_view) c.new-before.ensures.inherited })

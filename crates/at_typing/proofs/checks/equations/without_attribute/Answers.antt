@@ -4,8 +4,9 @@ use Rattle.at_typing.specs.Declaring.{undeclared_at}
 use Rattle.at_typing.specs.Numbering.{numbered_view}
 use Rattle.at_kinds.specs.declared.code.RuleCode.TheVariants as code
 use Rattle.at_typing.proofs.AttributesFound.{among_all}
-use Rattle.at_typing.proofs.FirstFaults.{first_here, none_more, none_at_all, fault_where, fault_nowhere}
+use Rattle.at_typing.proofs.FirstFaults.{fault_where, fault_nowhere}
 use Rattle.at_typing.proofs.checks.equations.without_attribute.Goals as goal
+use Rattle.at_class.proofs.Firsts.{none_more, first_here, none_at_all}
 
 pub returns-then-not-is_of_attribute : goal.returns-then-not-is_of_attribute
 returns-then-not-is_of_attribute c =

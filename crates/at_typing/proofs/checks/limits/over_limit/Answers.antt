@@ -3,9 +3,9 @@ use Rattle.std.specs.Prelude.{true, false}
 use Rattle.at_typing.specs.Declaring.{attributes, limit_at, max_attributes}
 use Rattle.at_typing.specs.Numbering.{numbered_view, limit_of}
 use Rattle.at_typing.proofs.AttributesCounted.{is_full, room, attributes_more}
-use Rattle.at_typing.proofs.FirstFaults.{first_here, none_more, none_at_all}
 use Rattle.at_typing.proofs.checks.limits.over_limit.Goals as goal
 use Rattle.at_typing.proofs.checks.limits.over_limit.Goals.{then-is_attribute, else-is_attribute}
+use Rattle.at_class.proofs.Firsts.{none_more, first_here, none_at_all}
 
 pub loop-numbered-init : goal.loop-numbered-init
 unfolding max_attributes

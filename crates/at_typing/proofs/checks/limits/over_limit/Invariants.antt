@@ -1,8 +1,8 @@
 use Rattle.std.proofs.Common.{◌≡◌, ◌+◌, take, length, map}
 use Rattle.at_typing.specs.Declaring.{attributes, limit_at, max_attributes}
 use Rattle.at_typing.specs.Numbering.{numbered_view}
-use Rattle.at_typing.proofs.FirstFaults.{NoneBefore}
 use Rattle.at_typing.proofs.checks.limits.over_limit.Given as goal
+use Rattle.at_class.proofs.Firsts.{NoneBefore}
 
 abbrev pub invariant-loop-numbered : goal.invariant-loop-numbered
 invariant-loop-numbered l =

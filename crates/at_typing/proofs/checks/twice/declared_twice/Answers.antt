@@ -7,8 +7,9 @@ use Rattle.at_typing.specs.Numbering.{numbered_view}
 use Rattle.at_kinds.specs.declared.code.RuleCode.TheVariants as code
 use Rattle.at_typing.proofs.AttributesFound.{among_before}
 use Rattle.at_typing.proofs.Clashing.{fits, none_added, one_added}
-use Rattle.at_typing.proofs.FirstFaults.{first_here, none_more, none_at_all, fault_where, fault_nowhere}
+use Rattle.at_typing.proofs.FirstFaults.{fault_where, fault_nowhere}
 use Rattle.at_typing.proofs.checks.twice.declared_twice.Goals as goal
+use Rattle.at_class.proofs.Firsts.{none_more, first_here, none_at_all}
 
 pub loop-numbered-init : goal.loop-numbered-init
 loop-numbered-init c = (refl, none_added c.args.classes.now c.args.declared.now _ c.new-before.ensures.first c.new-before.ensures.declared c.new-before.ensures.above)

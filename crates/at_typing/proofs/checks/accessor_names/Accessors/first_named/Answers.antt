@@ -2,8 +2,9 @@ use Rattle.std.proofs.Common.{◌∙◌, ap, refl, sym, arith, Some}
 use Rattle.at_kinds.specs.declared.code.RuleCode.TheVariants as code
 use Rattle.at_typing.specs.Declaring.{accessor_at}
 use Rattle.at_typing.specs.Numbering.{numbered_view}
-use Rattle.at_typing.proofs.FirstFaults.{first_here, none_more, none_at_all, fault_where, fault_nowhere}
+use Rattle.at_typing.proofs.FirstFaults.{fault_where, fault_nowhere}
 use Rattle.at_typing.proofs.checks.accessor_names.Accessors.first_named.Goals as goal
+use Rattle.at_class.proofs.Firsts.{none_more, first_here, none_at_all}
 
 pub loop-numbered-init : goal.loop-numbered-init
 loop-numbered-init c classes names = refl
