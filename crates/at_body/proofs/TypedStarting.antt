@@ -11,9 +11,9 @@ use Rattle.at_model.specs.Rules.{Rules, Attribute, OwnEquation, InheritedEquatio
 use Rattle.at_model.specs.Kinds.{HasKind, AreTyped, IsOwnTyped, IsInheritedTyped, is_for_list}
 use Rattle.at_model.specs.TypedRuns.{ClassAt, AreArguments}
 use Rattle.at_model.specs.Instances.{AnyText}
-use Rattle.at_model.proofs.Nodes.{both_of}
-use Rattle.at_model.proofs.Options.{mapped}
-use Rattle.at_model.proofs.TypedEquations.{found_in, either_of, answered, nat_same, each_among, one_declaration}
+use Rattle.at_model.proofs.Options.{mapped, both}
+use Rattle.at_model.proofs.TypedEquations.{found_in, either_of, answered, each_among, one_declaration}
+use Rattle.at_model.proofs.Chained.{nat_same}
 use Rattle.at_rules.specs.Bodies.{body_view}
 use Rattle.at_rules.specs.declared.body.Body.{Body}
 use Rattle.at_body.specs.declared.trial.Trial.{Trial}
@@ -34,7 +34,7 @@ module _ (rules : Rules) (are : AreTyped rules) where
       let (b, sub, g) = answered (λ b. is_sub rules.classes c b ≡ true) (own_in rules attribute) (chain rules.classes c) body (each_among (chain rules.classes c)) h in
       let (e, f, k) = mapped (λ (e : OwnEquation). e.body) (find (λ (e : OwnEquation). nat_eq e.class b && nat_eq e.attribute attribute) rules.own) body g in
       let (p, test) = found_in (IsOwnTyped rules) (λ (e : OwnEquation). nat_eq e.class b && nat_eq e.attribute attribute) rules.own e are.own f in
-      let (x, y) = both_of (nat_eq e.class b) (nat_eq e.attribute attribute) test in
+      let (x, y) = both (nat_eq e.class b) (nat_eq e.attribute attribute) test in
       let same : e.attribute ≡ attribute = nat_same e.attribute attribute y in
       let is = one_declaration p.declaration d (slice_get rules.attributes attribute) (ap (slice_get rules.attributes) (sym same) ∙ p.attribute) at in
       let kind : HasKind rules (record { this = e.class; names = d.parameters; has_index = false }) e.body d.result = subst (λ (z : Attribute). HasKind rules (record { this = e.class; names = z.parameters; has_index = false }) e.body z.result) is p.body in
@@ -55,8 +55,8 @@ module _ (rules : Rules) (are : AreTyped rules) where
   passed_in c b attribute part d body at inh sub h =
       let (e, f, k) = mapped (λ (e : InheritedEquation). e.body) (find (λ (e : InheritedEquation). nat_eq e.class b && part_eq e.part part && bytes_eq e.name d.name) rules.inherited) body h in
       let (p, test) = found_in (IsInheritedTyped rules) (λ (e : InheritedEquation). nat_eq e.class b && part_eq e.part part && bytes_eq e.name d.name) rules.inherited e are.inherited f in
-      let (xy, z) = both_of (nat_eq e.class b && part_eq e.part part) (bytes_eq e.name d.name) test in
-      let (x, y) = both_of (nat_eq e.class b) (part_eq e.part part) xy in
+      let (xy, z) = both (nat_eq e.class b && part_eq e.part part) (bytes_eq e.name d.name) test in
+      let (x, y) = both (nat_eq e.class b) (part_eq e.part part) xy in
       record {
         class = e.class;
         has_index = is_for_list rules e;

@@ -5,6 +5,7 @@ use Rattle.std.proofs.lemmas.Option.{none-some, same_Some}
 use Rattle.std.proofs.lemmas.List.Folds.{list_any_at}
 use Rattle.std.proofs.lemmas.List.Elements.{Contains-append_left, Contains-append_right, Contains-push, Contains-push_cases}
 use Rattle.at_model.specs.Run.{Instance, Location}
+use Rattle.at_model.proofs.Options.{either_true}
 use Rattle.at_store.specs.declared.node.Loc.{Loc}
 use Rattle.at_body.specs.Values.{value_view}
 use Rattle.at_store.specs.Located.{loc_view}
@@ -38,10 +39,6 @@ module _ {X : Type 0} (test : X → Bool) where
 any_map : {X Y : Type 0} (test : Y → Bool) (f : X → Y) (xs : List X) → list_any test (map f xs) ≡ list_any (λ x. test (f x)) xs
 any_map test f [] = refl
 any_map test f (x ∷ xs) = ap (λ b. test (f x) || b) (any_map test f xs)
-
-either_true : (a b : Bool) → (a || b) ≡ true → (a ≡ true) ⊎ (b ≡ true)
-either_true true b h = inl refl
-either_true false b h = inr h
 
 left_true : (a b : Bool) → a ≡ true → (a || b) ≡ true
 left_true a b h = ap (λ x. x || b) h

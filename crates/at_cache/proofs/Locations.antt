@@ -1,7 +1,8 @@
 -- The test of locations is equality.
-use Rattle.std.proofs.Common.{◌≡◌, ℕ, zero, suc, Bool, true, false, ◌&&◌, refl, sym, ap, ◌∙◌}
+use Rattle.std.proofs.Common.{◌≡◌, ℕ, zero, suc, true, refl, sym, ap, ◌∙◌}
 use Rattle.std.proofs.lemmas.Bool.{eqb-true, eq-eqb}
 use Rattle.at_model.specs.Run.{Location, Is, Tok, Slot, Up, Idx}
+use Rattle.at_model.proofs.Options.{both}
 use Rattle.at_cache.specs.Kept.{form_of, node_at, part_at, same_location}
 
 built : ℕ → ℕ → ℕ → Location ℕ
@@ -18,10 +19,6 @@ rebuilt (Tok n part) = refl
 rebuilt (Slot n part) = refl
 rebuilt (Up n) = refl
 rebuilt (Idx n) = refl
-
-both : (a b : Bool) → (a && b) ≡ true → (a ≡ true) × (b ≡ true)
-both true b h = (refl, h)
-both false b h = cc
 
 pub same_location-is : (l m : Location ℕ) → same_location l m ≡ true → l ≡ m
 same_location-is l m h =

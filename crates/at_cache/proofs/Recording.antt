@@ -11,6 +11,7 @@ use Rattle.std.proofs.lemmas.List.Sums.{fold-append}
 use Rattle.indexmap.specs.IndexMap.{insert_entry}
 use Rattle.indexmap.proofs.MapLemmas.{Found-position, Missing-position, insert_entry-absent, absent_from_lookup}
 use Rattle.at_model.specs.Run.{Instance, Location}
+use Rattle.at_model.proofs.Options.{or_false}
 use Rattle.at_body.specs.Same.{same_instance}
 use Rattle.at_body.specs.Sameness.{instances_equiv}
 use Rattle.at_store.specs.declared.node.Loc.{Loc}
@@ -143,10 +144,6 @@ module _ (es : List (Instance ℕ × Entry)) (u : Instance ℕ) (l : Location �
   pub no_link : position (same_instance u) (keys_of es) ≡ None → covers_at (kept_in es u) l ≡ false
   no_link h = nothing_covers (all_kept es) u l (ap (position (same_instance u)) (all_kept-keys es) ∙ h)
 
-or-false : (b : Bool) → (b || false) ≡ b
-or-false true = refl
-or-false false = refl
-
 -- links to the entries of some instances, and of one instance more
 module _ (es : List (Instance ℕ × Entry)) (ps : List ℕ) (uses : List (Instance ℕ)) (i : ℕ) (u : Instance ℕ) (is : u ≡ get_or uses i u) (lt : i < length uses)
     (so : (l : Location ℕ) → list_any (λ p. covers_from (all_kept es) p l) ps ≡ list_any (λ u. covers_at (kept_in es u) l) (take i uses)) where
@@ -158,7 +155,7 @@ module _ (es : List (Instance ℕ × Entry)) (ps : List ℕ) (uses : List (Insta
   link_more after p a h l =
       ap (list_any (λ p. covers_from (all_kept es) p l)) a
       ∙ list_any-append (λ p. covers_from (all_kept es) p l) ps (p ∷ [])
-      ∙ ap (λ b. list_any (λ p. covers_from (all_kept es) p l) ps || b) (or-false (covers_from (all_kept es) p l) ∙ link_is es u l p h)
+      ∙ ap (λ b. list_any (λ p. covers_from (all_kept es) p l) ps || b) (or_false (covers_from (all_kept es) p l) ∙ link_is es u l p h)
       ∙ ap (λ b. b || covers_at (kept_in es u) l) (so l)
       ∙ sym (uses_next l)
 
@@ -166,5 +163,5 @@ module _ (es : List (Instance ℕ × Entry)) (ps : List ℕ) (uses : List (Insta
       → (l : Location ℕ) → list_any (λ p. covers_from (all_kept es) p l) after ≡ list_any (λ u. covers_at (kept_in es u) l) (take (i + 1) uses)
   no_more after a h l =
       ap (list_any (λ p. covers_from (all_kept es) p l)) a ∙ so l
-      ∙ sym (ap (λ b. list_any (λ u. covers_at (kept_in es u) l) (take i uses) || b) (no_link es u l h) ∙ or-false (list_any (λ u. covers_at (kept_in es u) l) (take i uses)))
+      ∙ sym (ap (λ b. list_any (λ u. covers_at (kept_in es u) l) (take i uses) || b) (no_link es u l h) ∙ or_false (list_any (λ u. covers_at (kept_in es u) l) (take i uses)))
       ∙ sym (uses_next l)

@@ -1,6 +1,6 @@
 -- Ways up, and what is known of the classes on them.
 use Rattle.std.proofs.Common.{◌≡◌, ℕ, zero, suc, ◌+◌, ◌<◌, ◌≤◌, ◌⊎◌, inl, inr, List, [], ◌∷◌, ◌++◌, length, length-append, refl, ap, sym, ◌∙◌, subst, arith, true≢false, eq-eqb, Option, Some, None, Bool, true, false}
-use Rattle.std.specs.Prelude.{◌||◌, ◌&&◌, nat_eq, set, replicate, unwrap_or}
+use Rattle.std.specs.Prelude.{◌||◌, nat_eq, set, replicate, unwrap_or}
 use Rattle.std.specs.List.{list_any, list_all}
 use Rattle.std.proofs.lemmas.Bool.{eqb-true, or_left, or_right}
 use Rattle.std.proofs.lemmas.List.Folds.{list_any-append}
@@ -8,6 +8,7 @@ use Rattle.std.proofs.lemmas.List.{get_or-set_same, get_or-set_other, length-set
 use Rattle.std.proofs.lemmas.Option.{slice_get_past}
 use Rattle.std.specs.Option.{option_and_then}
 use Rattle.at_model.specs.Classes.{Class, Classes, chain_within, parent_of}
+use Rattle.at_model.proofs.Options.{both, and_true, either_true}
 use Rattle.at_class.proofs.Chains.{chain_within-none}
 use Rattle.at_class.specs.declared.circles.Mark.{Mark}
 use Rattle.at_class.specs.declared.circles.Mark.TheVariants.{Unmet, OnWay, Clear, Circular}
@@ -52,23 +53,19 @@ reached classes from (x ∷ xs) c (suc k) l less =
     ap (λ o. list_any (nat_eq c) (chain_within (suc k) classes o)) l.0
     ∙ or_right (nat_eq c x) _ (reached classes (parent_of classes x) xs c k l.1 (omega (arith, less)))
 
-and_both : (a b : Bool) → a ≡ true → b ≡ true → (a && b) ≡ true
-and_both true b e f = f
-and_both false b e f = e
-
 -- all classes on a circle, and so all above them, are above themselves
 circle : (classes : Classes) (x : ℕ) (cs : List ℕ) → Leads classes (Some x) (x ∷ cs) (Some x) → length (x ∷ cs) ≤ length classes
     → (m : ℕ) (a b : List ℕ) (mid : Option ℕ) → Leads classes (Some x) a mid → Leads classes mid b (Some x) → length a + length b ≤ length classes → list_all (is_above_itself classes) (chain_within m classes mid) ≡ true
 circle classes x cs whole most zero a b mid l r le = refl
 circle classes x cs whole most (suc m) a [] mid l r le =
     ap (λ o. list_all (is_above_itself classes) (chain_within (suc m) classes o)) r
-    ∙ and_both (is_above_itself classes x) _
+    ∙ and_true (is_above_itself classes x) _
     (reached classes (parent_of classes x) cs x (length classes) whole.1 (omega (arith, most)))
     (circle classes x cs whole most m (x ∷ []) cs (parent_of classes x) (refl, refl) whole.1 (omega (arith, most)))
 circle classes x cs whole most (suc m) a (c ∷ b) mid l r le =
     ap (λ o. list_all (is_above_itself classes) (chain_within (suc m) classes o)) r.0
     ∙ (let to-c = subst (Leads classes (Some x) a) r.0 l in
-    and_both (is_above_itself classes c) _
+    and_true (is_above_itself classes c) _
     (reached classes (parent_of classes c) (b ++ a) c (length classes) (leads_join classes (parent_of classes c) (Some x) (Some c) b a r.1 to-c) (omega (arith, le, length-append b a)))
     (circle classes x cs whole most m (a ++ c ∷ []) b (parent_of classes c) (leads_on classes (Some x) a c to-c) r.1 (omega (arith, le, length-append a (c ∷ [])))))
 
@@ -275,17 +272,13 @@ climb_ends classes from marks way next k is = record {
 
 -- round ---------------------------------------------------------------------------------------------------------------
 
-or_cases : (a b : Bool) → (a || b) ≡ true → (a ≡ true) ⊎ (b ≡ true)
-or_cases true b e = inl refl
-or_cases false b e = inr e
-
 pub round_begins : (classes : Classes) (from : ℕ) (marks : List Mark) (way : List ℕ) (end : Option ℕ) → Climbed classes from marks way end → GoingRound classes from marks way end end
 round_begins classes from marks way end k = record {
   count = k.marked.count;
   met = k.marked.met;
   closed = λ c b h e. inl (k.marked.closed c h b e);
   right = k.marked.right;
-  round = λ b e. by b e (or_cases (is_settled (mark_at marks b)) _ (k.marked.met b (k.ends b e)));
+  round = λ b e. by b e (either_true (is_settled (mark_at marks b)) _ (k.marked.met b (k.ends b e)));
   ended = λ b e. inr e;
   leads = k.leads;
   begun = k.begun;
@@ -296,10 +289,6 @@ round_begins classes from marks way end k = record {
     by b e (inr h) =
         let r = rest classes (Some from) (Some b) way b (subst (Leads classes (Some from) way) e k.leads) h in
         inr (λ m. circle classes b r.0 r.1 (omega (arith, r.2, k.room)) m [] (b ∷ r.0) (Some b) refl r.1 (omega (arith, r.2, k.room)))
-
-both : (a b : Bool) → (a && b) ≡ true → (a ≡ true) × (b ≡ true)
-both true b e = (refl, e)
-both false b e = no_way e
 
 pub round_on : (classes : Classes) (from : ℕ) (marks after : List Mark) (way : List ℕ) (end next : Option ℕ) (d : ℕ) (on : Option ℕ) → GoingRound classes from marks way end next → next ≡ Some d → is_settled (mark_at marks d) ≡ false
     → after ≡ set marks d Circular → on ≡ parent_of classes d → GoingRound classes from after way end on

@@ -12,6 +12,7 @@ use Rattle.std.proofs.lemmas.List.Folds.{list_any-append}
 use Rattle.indexmap.specs.IndexSet.{insert_key}
 use Rattle.at_model.specs.Classes.{Component}
 use Rattle.at_model.specs.Declarations.{clash, is_list, is_taken, takes}
+use Rattle.at_model.proofs.Options.{both, or_false}
 use Rattle.at_class.specs.View.{part_view}
 use Rattle.at_class.specs.declared.part.Part.{Part}
 use Rattle.at_class.specs.Taken.{has_key, AreTaken, Begins, IsFirst, IsFirstBelow, is_taken_at, or_this}
@@ -19,10 +20,6 @@ use Rattle.at_class.specs.declared.taken.TakenNames.{TakenNames}
 
 no_name : {A : Type 0} → false ≡ true → A
 no_name e = absurd (true≢false (sym e))
-
-or_false : (a : Bool) → (a || false) ≡ a
-or_false true = refl
-or_false false = refl
 
 -- texts ---------------------------------------------------------------------------------------------------------------
 
@@ -40,10 +37,6 @@ bytes_eq-swap [] [] = refl
 bytes_eq-swap [] (y ∷ ys) = refl
 bytes_eq-swap (x ∷ xs) [] = refl
 bytes_eq-swap (x ∷ xs) (y ∷ ys) = ap₂ (λ a b. a && b) (nat_eq-swap x y) (bytes_eq-swap xs ys)
-
-both : (a b : Bool) → (a && b) ≡ true → (a ≡ true) × (b ≡ true)
-both true b e = (refl, e)
-both false b e = no_name e
 
 bytes_eq-is : (xs ys : List ℕ) → bytes_eq xs ys ≡ true → xs ≡ ys
 bytes_eq-is [] [] e = refl

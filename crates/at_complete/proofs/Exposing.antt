@@ -8,11 +8,12 @@ use Rattle.std.proofs.lemmas.Option.{none-some, slice_get_within}
 use Rattle.at_model.specs.Classes.{Classes, Class, Component, AreSound, class_in, is_concrete, is_sub, fits, parent_of, parts}
 use Rattle.at_model.specs.Rules.{Rules, Exposed, as_root, below, inherited_equation}
 use Rattle.at_model.specs.Bodies.{Expr}
+use Rattle.at_model.proofs.Options.{both as and_both}
 use Rattle.at_complete.specs.Walks.{has_met, Meets, Walked, Walking}
 use Rattle.at_complete.specs.Hierarchies.{is_child}
 use Rattle.at_complete.specs.Completing.{passed, is_passed, leads, leads_up, AllExposed, IsExposedBelow, HasBelow, is_met_concrete, Tells}
 use Rattle.at_complete.proofs.Climbing.{no_list, same, unlike, sub_itself, sub_above, sub_parent, child_within, parent_within, descends, ascends}
-use Rattle.at_complete.proofs.Walking.{or_cases, and_both, meets_like, meets_more, meets_none, begins, steps, stops}
+use Rattle.at_complete.proofs.Walking.{or_cases, meets_like, meets_more, meets_none, begins, steps, stops}
 
 pub is_some_of : (o : Option ℕ) (c : ℕ) → option_eq nat_eq o (Some c) ≡ true → o ≡ Some c
 is_some_of None c e = no_list e

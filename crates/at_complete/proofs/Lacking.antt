@@ -8,11 +8,12 @@ use Rattle.std.proofs.lemmas.Option.{none-some}
 use Rattle.at_model.specs.Classes.{AreSound, chain, is_concrete, is_sub, parent_of}
 use Rattle.at_model.specs.Rules.{Rules, own_equation, own_in}
 use Rattle.at_model.specs.Bodies.{Expr}
+use Rattle.at_model.proofs.Options.{both}
 use Rattle.at_complete.specs.Walks.{has_met, Meets, Walked, Walking}
 use Rattle.at_complete.specs.Hierarchies.{is_child}
 use Rattle.at_complete.specs.Completing.{LacksBelow, leads_own, passes_own, IsWithoutAbove}
 use Rattle.at_complete.proofs.Climbing.{no_list, same, sub_itself, sub_above, sub_parent, sub_split, child_within, descends, none_each, each_none}
-use Rattle.at_complete.proofs.Walking.{or_cases, and_both, meets_like, meets_none, begins, steps, taken_good, ends, ends_full}
+use Rattle.at_complete.proofs.Walking.{or_cases, meets_like, meets_none, begins, steps, taken_good, ends, ends_full}
 use Rattle.at_complete.proofs.Exposing.{is_some_of, is_some_from, fits_within, above_within}
 
 -- no class above has one
@@ -31,7 +32,7 @@ without_begins rules b attribute e c less is = (subst (λ z. is_sub rules.classe
 
 pub without_on : (rules : Rules) → AreSound rules.classes → (b attribute c d : ℕ) → IsWithoutAbove rules b attribute c → leads_own rules attribute c d ≡ true → IsWithoutAbove rules b attribute d
 without_on rules sound b attribute c d (below, without) e =
-    let (none, child) = and_both (is_none (own_in rules attribute c)) (is_child rules.classes c d) e in
+    let (none, child) = both (is_none (own_in rules attribute c)) (is_child rules.classes c d) e in
     let up = is_some_of (parent_of rules.classes d) c child in
     let above = without (none_from (own_in rules attribute c) none) in (
       sub_above rules.classes sound d c b (child_within rules.classes d c up) (sub_parent rules.classes sound d c up) below,
@@ -50,7 +51,7 @@ lacks_there rules b attribute c (below, without) own concrete = (c, and_from (is
 -- where the class or one above has an equation
 pub lacks_none_above : (rules : Rules) → AreSound rules.classes → (b attribute : ℕ) (e : Expr) → own_equation rules b attribute ≡ Some e → LacksBelow rules b attribute → ⊥
 lacks_none_above rules sound b attribute e has (c, f, none) =
-    let sub = (and_both (is_concrete rules.classes c) (is_sub rules.classes c b) f).1 in
+    let sub = (both (is_concrete rules.classes c) (is_sub rules.classes c b) f).1 in
     none-some e (sym (without_each rules attribute b (λ x s. each_without rules attribute c none x (sub_above rules.classes sound c b x (fits_within rules.classes c b f) sub s))) ∙ has)
 
 -- where the walk is over
@@ -61,7 +62,7 @@ lacks_none rules sound b attribute met w (c, f, none) = elim (or_cases (is_some 
 ]
   where
     concrete : is_concrete rules.classes c ≡ true
-    concrete = (and_both (is_concrete rules.classes c) (is_sub rules.classes c b) f).0
+    concrete = (both (is_concrete rules.classes c) (is_sub rules.classes c b) f).0
 
     own : own_in rules attribute c ≡ None
     own = each_without rules attribute c none c (sub_itself rules.classes c (fits_within rules.classes c b f))
@@ -72,7 +73,7 @@ lacks_none rules sound b attribute met w (c, f, none) = elim (or_cases (is_some 
         w.closed p d (rest above) (child_within rules.classes d p up) (and_from (is_none (own_in rules attribute p)) (is_child rules.classes p d) (ap is_none (each_without rules attribute c none p above)) (is_some_from (parent_of rules.classes d) p up))
 
     there : has_met met c ≡ true
-    there = descends rules.classes (λ d. is_sub rules.classes c d ≡ true → has_met met d ≡ true) on c b (and_both (is_concrete rules.classes c) (is_sub rules.classes c b) f).1
+    there = descends rules.classes (λ d. is_sub rules.classes c d ≡ true → has_met met d ≡ true) on c b (both (is_concrete rules.classes c) (is_sub rules.classes c b) f).1
         (λ s. w.started b (above_within rules.classes sound c b f) (same b b refl)) (sub_itself rules.classes c (fits_within rules.classes c b f))
 
 -- the walk, step by step

@@ -8,14 +8,11 @@ use Rattle.std.proofs.lemmas.List.{get_or-set_same, get_or-set_other, length-set
 use Rattle.std.proofs.lemmas.List.Folds.{list_any-append, list_any_more}
 use Rattle.at_complete.specs.Walks.{is_in, has_met, met_count, Meets, Walked, Walking}
 use Rattle.at_complete.proofs.Climbing.{no_list, same}
+use Rattle.at_model.proofs.Options.{both}
 
 pub or_cases : (a b : Bool) → (a || b) ≡ true → (a ≡ true) ⊎ ((a ≡ false) × (b ≡ true))
 or_cases true b e = inl refl
 or_cases false b e = inr (refl, e)
-
-pub and_both : (a b : Bool) → (a && b) ≡ true → (a ≡ true) × (b ≡ true)
-and_both true b e = (refl, e)
-and_both false b e = no_list e
 
 pub met_count-le : (met : List Bool) → met_count met ≤ length met
 met_count-le [] = omega arith
@@ -206,8 +203,8 @@ module _ (n : ℕ) (start : ℕ → Bool) (leads : ℕ → ℕ → Bool) (passes
   begins met pending m wide good = record {
     size = m.size ∙ wide;
     count = omega (arith, m.count, met_count-none n);
-    known = λ c e. (and_both (has_met met c) _ (sym (m.waits c) ∙ e)).0;
-    good = λ c e. let f = and_both (nat_lt c (length (replicate n false))) (start c) (sym (ap (λ b. b || (nat_lt c (length (replicate n false)) && start c)) (has_met-none n c)) ∙ sym (m.met_too c) ∙ e) in good c (omega (arith, ltb-true c _ f.0, wide)) f.1;
+    known = λ c e. (both (has_met met c) _ (sym (m.waits c) ∙ e)).0;
+    good = λ c e. let f = both (nat_lt c (length (replicate n false))) (start c) (sym (ap (λ b. b || (nat_lt c (length (replicate n false)) && start c)) (has_met-none n c)) ∙ sym (m.met_too c) ∙ e) in good c (omega (arith, ltb-true c _ f.0, wide)) f.1;
     started = λ c less e. m.met_too c ∙ or_right (has_met (replicate n false) c) _ (and_from _ (start c) (lt-ltb c (length (replicate n false)) (omega (arith, less, wide))) e);
     looked = λ c e. inl (m.waits c ∙ and_from (has_met met c) _ e (ap not (has_met-none n c)));
   }
@@ -219,11 +216,11 @@ module _ (n : ℕ) (start : ℕ → Bool) (leads : ℕ → ℕ → Bool) (passes
     count = omega (arith, w.count, m.count, length-append rest (c ∷ []));
     known = λ d e. elim (or_cases (is_in d rest) _ (sym (m.waits d) ∙ e)) [
       | inl f ↦ keeps d (w.known d (list_any-append (nat_eq d) rest (c ∷ []) ∙ or_left (is_in d rest) _ f))
-      | inr f ↦ (and_both (has_met after d) _ f.1).0
+      | inr f ↦ (both (has_met after d) _ f.1).0
     ];
     good = λ d e. elim (or_cases (has_met met d) _ (sym (m.met_too d) ∙ e)) [
       | inl f ↦ w.good d f
-      | inr f ↦ let g = and_both (nat_lt d (length met)) (leads c d) f.1 in good d here (omega (arith, ltb-true d _ g.0, w.size)) g.1
+      | inr f ↦ let g = both (nat_lt d (length met)) (leads c d) f.1 in good d here (omega (arith, ltb-true d _ g.0, w.size)) g.1
     ];
     started = λ d less e. keeps d (w.started d less e);
     looked = λ d e. elim (or_cases (has_met met d) _ (sym (m.met_too d) ∙ e)) [

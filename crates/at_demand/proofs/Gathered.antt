@@ -10,6 +10,7 @@ use Rattle.at_model.specs.Rules.{Rules}
 use Rattle.at_model.specs.Meaning.{HasValue, Among, Comes}
 use Rattle.at_model.specs.Support.{Sees, Supports}
 use Rattle.at_model.proofs.Listed.{among_map}
+use Rattle.at_model.proofs.Options.{or_right}
 use Rattle.at_store.specs.declared.node.Loc.{Loc}
 use Rattle.at_store.specs.Located.{loc_view}
 use Rattle.at_body.specs.Same.{same_instance}
@@ -26,10 +27,6 @@ use Rattle.at_demand.proofs.Supported.{supported}
 or_left : (a b : Bool) → a ≡ true → (a || b) ≡ true
 or_left true b e = refl
 or_left false b e = absurd (true≢false (sym e))
-
-or_right : (a b : Bool) → b ≡ true → (a || b) ≡ true
-or_right true b e = refl
-or_right false b e = e
 
 module _ {A : Type 0} where
   pub among_left : (a : A) (xs ys : List A) → Among a xs → Among a (xs ++ ys)

@@ -5,9 +5,10 @@ use Rattle.std.proofs.lemmas.List.{append-nil}
 use Rattle.std.proofs.lemmas.Slice.Eq.{bytes_eq-Decides}
 use Rattle.std.specs.Str.{bytes_eq}
 use lib.Chars.{codes}
-use Rattle.std.specs.Prelude.{◌&&◌, not, chars}
+use Rattle.std.specs.Prelude.{not, chars}
 use Rattle.at_model.specs.Names.{is_name, is_reserved, reserved_words}
 use Rattle.at_model.specs.Names as names
+use Rattle.at_model.proofs.Options.{and_off}
 use Rattle.at_text.specs.Reading.{first, LeftOut, Takes, Refuses, and_then, Whole, Stuck, run}
 use Rattle.at_text.specs.Symbols.{Symbol, sign, is_sign, is_word}
 use Rattle.at_text.proofs.ReadingLaws.{run-takes, run-leaves_out, many_none}
@@ -95,14 +96,10 @@ body_spelled (Some ps) more is = body_some ps _ (grammar.parts ps ++ more) more 
 
 -- ---- classes
 
-and_none : (a b : Bool) → b ≡ false → a && b ≡ false
-and_none true b e = e
-and_none false b e = refl
-
 -- no name is the word `abstract`
 pub abstract_is_no_name : is_name (codes "abstract") ≡ false
 unfolding reserved_words
-abstract_is_no_name = and_none (names.is_word (chars (codes "abstract"))) (not (is_reserved (codes "abstract"))) refl
+abstract_is_no_name = and_off (names.is_word (chars (codes "abstract"))) (not (is_reserved (codes "abstract"))) refl
 
 differs : (b : Bool) (text : List ℕ) → is_name text ≡ true → bytes_eq text (codes "abstract") ≡ b → b ≡ false
 differs false text is e = refl

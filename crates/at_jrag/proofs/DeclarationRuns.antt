@@ -6,6 +6,7 @@ use Rattle.std.specs.Str.{bytes_eq}
 use Rattle.std.proofs.lemmas.Slice.Eq.{bytes_eq-Decides}
 use lib.Chars.{codes}
 use Rattle.at_model.specs.Names.{is_name, reserved_words}
+use Rattle.at_model.proofs.Options.{and_off}
 use Rattle.at_text.specs.Reading.{first}
 use Rattle.at_text.specs.Symbols.{PlacedToken}
 use Rattle.at_text.specs.declared.place.Place.{Place}
@@ -13,7 +14,7 @@ use Rattle.at_jrag.specs.Syntax as syntax
 use Rattle.at_jrag.specs.Syntax.{Word, Param, Params, KindWord, Body, Ending, Decl, DeclForm, Aspect, Expr}
 use Rattle.at_jrag.specs.Grammar as grammar
 use Rattle.at_text.specs.Rows.{Row, sign, word, is_sign, is_word, is_name_token, next_is}
-use Rattle.at_jrag.specs.Grammar.{kind_text, IsKind, Sign, Keyword, Lazy, KindOf, ParamOf, MoreParams, Listed, Opens, Signature, Owner, Index, Getter, Declared, BodyOf, EndingOf, Behind, DeclOf, AspectOf, File, Spells, depth, nesting, ending_depth, max_nesting, NestsWithin, IsWithin}
+use Rattle.at_jrag.specs.Grammar.{kind_text, IsKind, Sign, Keyword, Lazy, KindOf, MoreParams, Listed, Opens, Signature, Owner, Index, Declared, BodyOf, EndingOf, Behind, File, Spells, depth, nesting, ending_depth, max_nesting, NestsWithin, IsWithin}
 use Rattle.at_jrag.specs.Heads.{is_int, is_getter}
 use Rattle.at_jrag.specs.Machine.{Reason, Refused, LeftOut, Answer, Takes, Skips, Refuses, LeavesOut, Whole, Stuck, run}
 use Rattle.at_jrag.specs.Wants as want
@@ -204,10 +205,6 @@ and_true false h = refl
 other_register : (p : Param) (ps : List Param) → is_int p.kind.kind ≡ false → ◌≡◌ {A = ℕ} (cond (is_getter (p ∷ ps)) 0 1) 1
 other_register p [] h = ap (λ b. cond {A = ℕ} b 0 1) h
 other_register p (q ∷ ps) h = refl
-
-pub and_off : (g b : Bool) → b ≡ false → g && b ≡ false
-and_off true b h = h
-and_off false b h = refl
 
 third_row : (a b c : Bool) (x y z w : Answer Want) → a ≡ false → b ≡ false → c ≡ true → on a x (on b y (on c z w)) ≡ z
 third_row a b c x y z w ea eb ec = ap (λ v. on v x (on b y (on c z w))) ea ∙ ap (λ v. on v y (on c z w)) eb ∙ ap (λ v. on v z w) ec

@@ -49,7 +49,7 @@ aspect_at (t ∷ ts) some h = keyword_stays want.File t ts (is_word_kind t.kind)
 pub aspect_stays : (old rest : Row) → rest ≡ old → 0 < length old → next_is (is_word (codes "aspect")) old ≡ false → Stay (want.File ∷ []) (reason_of (no_keyword rest)) old rest
 aspect_stays old rest same some h = at_same want.File no_keyword old rest same (aspect_at old some h)
 
-last_row : (a b c d : Bool) (x y z w u : Answer Want) → a ≡ false → b ≡ false → c ≡ false → d ≡ false → on a x (on b y (on c z (on d w u))) ≡ u
+pub last_row : (a b c d : Bool) (x y z w u : Answer Want) → a ≡ false → b ≡ false → c ≡ false → d ≡ false → on a x (on b y (on c z (on d w u))) ≡ u
 last_row a b c d x y z w u ea eb ec ed =
     ap (λ v. on v x (on b y (on c z (on d w u)))) ea ∙ ap (λ v. on v y (on c z (on d w u))) eb ∙ ap (λ v. on v z (on d w u)) ec ∙ ap (λ v. on v w u) ed
 

@@ -4,6 +4,7 @@ use Rattle.std.specs.Prelude.{◌&&◌, ◌||◌}
 use Rattle.std.specs.Str.{bytes_eq}
 use lib.Chars.{codes}
 use Rattle.at_model.specs.Names.{is_name, is_reserved, reserved_words}
+use Rattle.at_model.proofs.Options.{both}
 use Rattle.at_text.specs.declared.token.TokenKind.TheVariants as kind
 use Rattle.at_text.specs.declared.place.Place.{Place}
 use Rattle.at_jrag.specs.Syntax as syntax
@@ -110,10 +111,6 @@ number_front at n old rest (inl (m, small, is, e)) = ap front e
 number_front at n old rest (inr (m, digits, small, is, e)) = ap front e
 
 -- ---- parentheses
-
-both : (a b : Bool) → a && b ≡ true → (a ≡ true) × (b ≡ true)
-both true b e = (refl, e)
-both false b e = absurd cc
 
 -- a name, a `)` and what makes a cast of them
 record CastAhead (row : Row) : Type 0 where

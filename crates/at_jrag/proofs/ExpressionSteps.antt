@@ -1,11 +1,12 @@
 -- Steps of the machine within expressions.
 use Rattle.std.proofs.Common.{◌≡◌, ℕ, zero, suc, ◌-◌, List, [], ◌∷◌, ◌++◌, Bool, true, false, cond, Option, Some, None, refl, sym, ap, subst, ◌∙◌, append_assoc}
-use Rattle.std.specs.Prelude.{◌&&◌, ◌||◌, not, nat_lt, chars}
+use Rattle.std.specs.Prelude.{◌||◌, not, nat_lt, chars}
 use Rattle.std.specs.Str.{bytes_eq}
 use Rattle.std.proofs.lemmas.Slice.Eq.{bytes_eq-Decides}
 use lib.Chars.{codes}
 use Rattle.at_model.specs.Names.{is_name, is_reserved, reserved_words}
 use Rattle.at_model.specs.Names as names
+use Rattle.at_model.proofs.Options.{both, and_off}
 use Rattle.at_text.specs.Reading.{first}
 use Rattle.at_text.specs.declared.token.TokenKind.{TokenKind}
 use Rattle.at_text.specs.declared.token.TokenKind.TheVariants as kind
@@ -20,12 +21,8 @@ use Rattle.at_jrag.proofs.MachineLaws.{goes_on, run-answer, run-ends, run-takes,
 
 -- ---- names are no reserved words
 
-and_none : (a b : Bool) → b ≡ false → a && b ≡ false
-and_none true b e = e
-and_none false b e = refl
-
 pub reserved_is_no_name : (text : List ℕ) → is_reserved text ≡ true → is_name text ≡ false
-reserved_is_no_name text e = and_none (names.is_word (chars text)) (not (is_reserved text)) (ap not e)
+reserved_is_no_name text e = and_off (names.is_word (chars text)) (not (is_reserved text)) (ap not e)
 
 differs : (b : Bool) (text word : List ℕ) → is_reserved word ≡ true → is_name text ≡ true → bytes_eq text word ≡ b → b ≡ false
 differs false text word r is e = refl
@@ -145,10 +142,6 @@ enclosed_goes l g b d ws ss none =
     (λ e. or_else_goes l (Calls b) (links_from 6 b ++ behind) ws e (λ x. tails_answer 6 b behind (λ y. or_else (choice_answer b y (first ss)) (Mark (codes ")") ∷ []) (λ z. Refuses)) x (first ss)) ss
     (λ x. tails_go l 6 b behind ws (λ y. or_else (choice_answer b y (first ss)) (Mark (codes ")") ∷ []) (λ z. Refuses)) x ss
     (λ y. or_else_goes l (Choice b) (Mark (codes ")") ∷ []) ws y (λ z. Refuses) ss (λ z. mark_refuses l (codes ")") ws z ss none))))
-
-pub both : (a b : Bool) → a && b ≡ true → (a ≡ true) × (b ≡ true)
-both true b e = (refl, e)
-both false b e = absurd cc
 
 is_sign_of : (k : TokenKind) → is_sign_kind k ≡ true → k ≡ kind.Sign
 is_sign_of kind.Word e = absurd cc

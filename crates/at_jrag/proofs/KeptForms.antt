@@ -6,6 +6,7 @@ use Rattle.std.proofs.lemmas.Bool.{eqb-true}
 use Rattle.std.proofs.lemmas.Slice.Eq.{bytes_eq-Decides}
 use lib.Chars.{codes}
 use Rattle.at_model.specs.Names.{is_name, is_reserved, reserved_words}
+use Rattle.at_model.proofs.Options.{both, and_off}
 use Rattle.at_text.specs.Symbols.{PlacedToken, is_word_kind}
 use Rattle.at_text.specs.declared.place.Place.{Place}
 use Rattle.at_text.specs.Place.{first_place}
@@ -16,13 +17,12 @@ use Rattle.at_jrag.specs.Wants.{Want, Links, Choice, Parenthesized, Calls, First
 use Rattle.at_jrag.specs.Table.{table, is_constant, begins_fold}
 use Rattle.at_jrag.specs.Forms.{IsLeftOut, no_aspect, no_declaration, nta, circular, no_return, no_close, get_child}
 use Rattle.at_jrag.proofs.Completed.{move_of_both}
-use Rattle.at_jrag.proofs.ExpressionSteps.{both}
 use Rattle.at_jrag.proofs.LeftForms.{last_of, HasLast, decls_take, both_hold}
 use Rattle.at_jrag.proofs.Pushes.{Comes, Begins, either}
 use Rattle.at_jrag.proofs.Reached.{Reached, TakesIt, goes_taken, taken_goes}
 use Rattle.at_jrag.proofs.Shapes.{loose, firm, next_firm, next_ends, follows, barred, Stands, reached_shape}
 use Rattle.at_jrag.proofs.SignRows.{Is, it_is, is_not, end_text, EndsAt, passes, end_row, bar, bar_passes, bar_taken, asks, get_row, paren, paren_row, takes_int, paren_asked}
-use Rattle.at_jrag.proofs.SoundTokens.{and_off, or_case, word_is}
+use Rattle.at_jrag.proofs.SoundTokens.{or_case, word_is}
 use Rattle.at_jrag.proofs.ExpressionSteps.{sign_is}
 use Rattle.at_jrag.proofs.TokenRows.{IsKeyword, TakesWord, next_lazy, word_row}
 use Rattle.at_jrag.proofs.Walks.{never, off, goes_not, halts_not, left_not, loose_firm, IsTaker, taker}

@@ -1,7 +1,7 @@
 -- Numbers as digits.
 use Rattle.std.proofs.Common.{◌≡◌, ℕ, ℤ, FitsSigned, w32, pos, ◌<◌, ◌≤◌, ◌^◌, List, ◌∷◌, Bool, true, false, refl, sym, ap, ◌∙◌, arith, inr}
 use lib.Chars.{codes}
-use Rattle.std.specs.Prelude.{◌&&◌, nat_le, nat_lt, decimal}
+use Rattle.std.specs.Prelude.{nat_le, nat_lt, decimal}
 use Rattle.std.specs.Str.{bytes_eq}
 use Rattle.std.specs.Str.Parse.{digits_value}
 use Rattle.std.proofs.lemmas.Bool.{leb-true, ltb-true, ltb-false}
@@ -23,10 +23,7 @@ use Rattle.at_text.specs.declared.fault.Failure.TheVariants as failure
 use Rattle.at_jrag.specs.declared.JragCode.TheVariants as code
 use Rattle.at_jrag.specs.declared.reader.forms.Measured.{Measured}
 use Rattle.at_jrag.proofs.Expressions.{reads_made}
-
-both : (a b : Bool) → a && b ≡ true → (a ≡ true) × (b ≡ true)
-both true b e = (refl, e)
-both false b e = absurd cc
+use Rattle.at_model.proofs.Options.{both}
 
 -- what the digits of a number within the bound are
 pub record Within (most : ℕ) (text : List ℕ) : Type 0 where

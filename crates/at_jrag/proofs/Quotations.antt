@@ -5,6 +5,7 @@ use Rattle.std.specs.List.{flat_map}
 use Rattle.std.proofs.lemmas.Bool.{eqb-true}
 use Rattle.std.proofs.lemmas.List.Concat.{flat_map-cons}
 use Rattle.at_model.specs.Texts.{escaped, quoted}
+use Rattle.at_model.proofs.Options.{both}
 use Rattle.at_text.specs.Faults.{makes_escape}
 use Rattle.at_jrag.specs.Table.{is_quoted, ends_quoted}
 
@@ -12,10 +13,6 @@ use Rattle.at_jrag.specs.Table.{is_quoted, ends_quoted}
 pub record Spelled (bytes : List ℕ) : Type 0 where
   pub text : List ℕ
   pub is : bytes ≡ flat_map escaped text ++ 34 ∷ []
-
-both : (a b : Bool) → a && b ≡ true → (a ≡ true) × (b ≡ true)
-both true b e = (refl, e)
-both false b e = absurd cc
 
 one_more : (b : ℕ) (front bytes : List ℕ) → escaped b ≡ front → Spelled bytes → Spelled (front ++ bytes)
 one_more b front bytes e s = record {

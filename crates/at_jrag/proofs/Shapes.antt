@@ -10,6 +10,7 @@ use Rattle.at_jrag.specs.Machine.{Answer, Takes, Skips, Refuses, LeavesOut, and_
 use Rattle.at_jrag.specs.Wants.{Want, Expression, Binary, Links, Choice, Otherwise, Unary, Minus, Opened, Enclosed, Parenthesized, Calls, Called, Arguments, FirstArgument, MoreArguments, Primary, Named, FoldBody, Deeper, Join, Deepest, Counts, Name, Mark, File, Decls, Lazy, NotNta, Kind, Signed, Opening, Params, OneParam, MoreParams, NotCircular, Ending, Body, Defined, Return, Close}
 use Rattle.at_jrag.specs.Table.{table, next, is_literal, begins_fold, is_number_within, is_kind, link_rank, or_else, links_from, tails_answer, primary_answer, unary_answer, binary_answer, expression_answer, links_answer, choice_answer, calls_answer, named_answer, enclosed_rest, body_answer, more_params_answer, no_keyword}
 use Rattle.at_jrag.proofs.Reached.{Reached, start, step}
+use Rattle.at_model.proofs.Options.{or_right}
 
 -- ---- neighbours
 
@@ -177,13 +178,8 @@ unary_shapes b ws s r =
     (either (next (is_sign (codes "(")) s) ws _ _ (refl, r)
     (then_keeps (Calls b ∷ []) ws (primary_answer b s) (primary_shapes b (Calls b ∷ ws) s (refl, r.1, r)))))
 
--- behind a left operand
-pub or_true : (x y : Bool) → y ≡ true → x || y ≡ true
-or_true true y h = refl
-or_true false y h = h
-
 linked : (rank b : ℕ) (ws : List Want) → Ready ws → Ready (Links rank b ∷ ws)
-linked rank b ws r = (refl, or_true (rank == 5) (barred ws) r.1, (r.0, or_true (rank == 5) (barred ws) r.1, r.2))
+linked rank b ws r = (refl, or_right (rank == 5) (barred ws) r.1, (r.0, or_right (rank == 5) (barred ws) r.1, r.2))
 
 binary_shapes : (rank b : ℕ) (ws : List Want) (s : Option PlacedToken) → Ready ws → Kept ws (binary_answer rank b s)
 binary_shapes zero b ws s r = unary_shapes b ws s r
@@ -214,7 +210,7 @@ tails_shape : (rank b : ℕ) (us ws : List Want) (f : ℕ → Answer Want) (d : 
 tails_shape zero b us ws f d s r h = h d
 tails_shape (suc rank) b us ws f d s r h =
     tails_shape rank b (Links rank b ∷ us) ws (λ e. or_else (links_answer rank b e s) us f) d s (linked rank b (us ++ ws) r)
-    (λ e. else_keeps us ws (links_answer rank b e s) f (links_shape rank b e (us ++ ws) s r.0 (or_true (rank == 5) (barred (us ++ ws)) r.1) r.2) h)
+    (λ e. else_keeps us ws (links_answer rank b e s) f (links_shape rank b e (us ++ ws) s r.0 (or_right (rank == 5) (barred (us ++ ws)) r.1) r.2) h)
 
 enclosed_shapes : (g : Bool) (b d : ℕ) (ws : List Want) (s : Option PlacedToken) → Behind ws → Kept ws (enclosed_rest g b d s)
 enclosed_shapes g b d ws s o =

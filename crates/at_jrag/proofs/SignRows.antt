@@ -13,10 +13,10 @@ use Rattle.at_jrag.specs.Wants.{Want, Expression, Binary, Links, Choice, Unary, 
 use Rattle.at_jrag.specs.Table.{table, is_kind, link_answer, primary_answer, unary_answer, binary_answer, expression_answer}
 use Rattle.at_jrag.proofs.Shapes.{loose, firm}
 use Rattle.at_jrag.proofs.Pushes.{Comes, Begins, either, then_comes}
-use Rattle.at_jrag.proofs.SoundTokens.{and_off}
 use Rattle.at_jrag.proofs.TokenRows.{refused, no_rank}
 use Rattle.at_jrag.proofs.Walks.{never}
 use Rattle.at_jrag.proofs.Reached.{TakesIt}
+use Rattle.at_model.proofs.Options.{and_off}
 
 -- the test holds, as a type that computes
 abbrev pub Is : Bool → Type 0

@@ -5,11 +5,12 @@ use Rattle.std.specs.Str.{bytes_eq}
 use Rattle.std.proofs.lemmas.Bool.{ltb-true}
 use lib.Chars.{codes}
 use Rattle.at_model.specs.Names.{is_name}
+use Rattle.at_model.proofs.Options.{and_off}
 use Rattle.at_text.specs.Reading.{first}
 use Rattle.at_text.specs.Symbols.{PlacedToken}
 use Rattle.at_text.specs.declared.place.Place.{Place}
 use Rattle.at_jrag.specs.Syntax as syntax
-use Rattle.at_jrag.specs.Syntax.{Word, Expr, Exprs, place}
+use Rattle.at_jrag.specs.Syntax.{Word, place}
 use Rattle.at_text.specs.Rows.{Row, sign, word, is_sign, is_word, is_name_token, next_is}
 use Rattle.at_jrag.specs.Grammar.{follows_cast, Sign, deepest}
 use Rattle.at_jrag.specs.Machine.{Answer, Takes, Skips, Refuses, LeavesOut, and_then}
@@ -17,7 +18,7 @@ use Rattle.at_jrag.specs.Wants.{Want, Expression, Links, Choice, Enclosed, Paren
 use Rattle.at_jrag.specs.Table.{next, or_else, is_get_child, expects, unary_answer, expression_answer, links_answer, choice_answer, calls_answer, called_answer, named_answer, first_argument_answer, more_arguments_answer, links_from, tails_answer, enclosed_rest, enclosed_answer, opened_answer, parenthesized_answer}
 use Rattle.at_jrag.proofs.ExpressionSteps.{name_is}
 use Rattle.at_jrag.proofs.ExpressionsTaken.{next_first}
-use Rattle.at_jrag.proofs.SoundTokens.{and_off, sign_front}
+use Rattle.at_jrag.proofs.SoundTokens.{sign_front}
 use Rattle.at_jrag.proofs.SoundSays.{IsRead, HasArguments, HasMore, IsApplied, IsCalled, IsFoldBody, AllSay, Does, only_says, then_does, else_does, on_does}
 use Rattle.at_jrag.proofs.SoundExpressions.{put, moved, weaken, first_tail, sign_alone, paren_read, cast_read, unary_means, links_mean, choice_means, expression_means}
 

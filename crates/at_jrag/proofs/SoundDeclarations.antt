@@ -8,18 +8,18 @@ use Rattle.at_text.specs.Reading.{first}
 use Rattle.at_text.specs.Symbols.{PlacedToken, is_word_kind}
 use Rattle.at_text.specs.declared.place.Place.{Place}
 use Rattle.at_jrag.specs.Syntax as syntax
-use Rattle.at_jrag.specs.Syntax.{Word, Param, KindWord, Ending, Body, Decl, Aspect}
+use Rattle.at_jrag.specs.Syntax.{Word, KindWord, Ending, Body, Decl, Aspect}
 use Rattle.at_jrag.specs.Grammar as grammar
 use Rattle.at_text.specs.Rows.{Row, sign, word, is_sign, is_word, is_name_token, next_is}
-use Rattle.at_jrag.specs.Grammar.{kind_text, IsKind, Sign, Keyword, KindOf, ParamOf, Listed, Index, Signature, Owner, Getter, Declared, BodyOf, EndingOf, DeclOf, ending_depth, max_nesting, NestsWithin, IsWithin}
+use Rattle.at_jrag.specs.Grammar.{kind_text, IsKind, Sign, Keyword, KindOf, Listed, Signature, Owner, EndingOf, DeclOf, ending_depth, max_nesting, NestsWithin, IsWithin}
 use Rattle.at_jrag.specs.Machine.{Takes, Skips, Refuses, LeavesOut}
 use Rattle.at_jrag.specs.Wants as want
-use Rattle.at_jrag.specs.Wants.{Want}
 use Rattle.at_jrag.specs.Table.{next, on, expects, is_get_child, is_kind, no_keyword, declared, file_answer, decls_answer, not_nta_answer, lazy_answer, signed_answer, more_params_answer, params_answer, body_answer, ending_answer, defined_answer, alone}
-use Rattle.at_jrag.proofs.ExpressionSteps.{both, name_is}
-use Rattle.at_jrag.proofs.SoundTokens.{and_off, or_case, front_passes, sign_front, word_is, word_front}
+use Rattle.at_jrag.proofs.ExpressionSteps.{name_is}
+use Rattle.at_jrag.proofs.SoundTokens.{or_case, front_passes, sign_front, word_is, word_front}
 use Rattle.at_jrag.proofs.SoundSays.{IsRead, HasParams, HasMoreParams, IsOpened, IsSigned, IsBody, IsDefined, AllSay, Does, only_says, on_does}
 use Rattle.at_jrag.proofs.SoundExpressions.{first_tail, sign_alone, word_alone}
+use Rattle.at_model.proofs.Options.{both, and_off}
 
 -- ---- single tokens
 

@@ -13,16 +13,13 @@ use Rattle.at_jrag.specs.Grammar.{number, quotation, is_number, Spells, level, d
 use Rattle.at_jrag.specs.Syntax as syntax
 use Rattle.at_jrag.specs.Syntax.{Operator, FoldForm, Expr}
 use Rattle.at_jrag.specs.Table.{next, is_literal, is_quotation, is_quoted, is_constant, is_number_within, is_decimal_within, begins_fold, sign_rank, link_rank}
-use Rattle.at_jrag.proofs.ExpressionSteps.{both, is_word_of, sign_is}
+use Rattle.at_jrag.proofs.ExpressionSteps.{is_word_of, sign_is}
 use Rattle.at_jrag.proofs.Numbers.{within}
 use Rattle.at_jrag.proofs.Quotations.{quoted_of}
 use Rattle.at_jrag.proofs.Tokens.{of_kind}
+use Rattle.at_model.proofs.Options.{both}
 
 -- ---- tests
-
-pub and_off : (a b : Bool) → b ≡ false → a && b ≡ false
-and_off true b e = e
-and_off false b e = refl
 
 pub or_case : {Z : Type 0} (x y : Bool) → (x ≡ true → Z) → (y ≡ true → Z) → x || y ≡ true → Z
 or_case true y f g e = f refl

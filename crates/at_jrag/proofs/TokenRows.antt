@@ -10,10 +10,10 @@ use Rattle.at_jrag.specs.Grammar.{follows_cast}
 use Rattle.at_jrag.specs.Machine.{Answer, Skips, Refuses, LeavesOut, and_then}
 use Rattle.at_jrag.specs.Wants.{Want, Expression, Binary, Links, Choice, Unary, Minus, Opened, Enclosed, Parenthesized, Calls, Called, FirstArgument, MoreArguments, Primary, Named, Deeper, Join, Deepest, Counts, Name, Mark, File, Decls, Lazy, NotNta, Kind, Signed, Params, NotCircular, Defined, Return}
 use Rattle.at_jrag.specs.Table.{table, is_literal, begins_fold, is_kind, link_rank, link_answer, or_else, tails_answer, primary_answer, unary_answer, binary_answer, expression_answer, links_answer}
-use Rattle.at_jrag.proofs.Shapes.{loose, or_true}
+use Rattle.at_jrag.proofs.Shapes.{loose}
 use Rattle.at_jrag.proofs.Pushes.{Comes, either}
-use Rattle.at_jrag.proofs.SoundTokens.{and_off}
 use Rattle.at_jrag.proofs.Walks.{never}
+use Rattle.at_model.proofs.Options.{or_right, and_off}
 
 -- ---- tests that fail
 
@@ -114,7 +114,7 @@ word_at t k File d = let u = word k.text k.at in either (Worded u File) (is_word
 word_at t k Decls d =
     let u = word k.text k.at in
     either (Worded u Decls) (is_word (codes "syn") u) _ _ (λ h. inr (ap (λ b. b || is_word (codes "inh") u) h, refl))
-    (λ h. either (Worded u Decls) (is_word (codes "inh") u) _ _ (λ i. inr (or_true (is_word (codes "syn") u) (is_word (codes "inh") u) i, refl))
+    (λ h. either (Worded u Decls) (is_word (codes "inh") u) _ _ (λ i. inr (or_right (is_word (codes "syn") u) (is_word (codes "inh") u) i, refl))
     (λ h. either (Worded u Decls) (is_word (codes "eq") u) _ _ (λ i. inl i) (λ i. tt)))
 word_at t k Lazy d =
     let u = word k.text k.at in

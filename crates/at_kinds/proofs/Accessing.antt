@@ -12,6 +12,7 @@ use Rattle.at_class.proofs.Named.{position-map}
 use Rattle.at_class.specs.View.{part_view}
 use Rattle.at_class.specs.declared.part.Part.{Part}
 use Rattle.at_model.specs.Classes.{Classes, Class, Component, chain, chain_within, own_of, parts}
+use Rattle.at_model.proofs.Options.{and_false}
 
 alone : (classes : Classes) (c : ℕ) → slice_get classes c ≡ None → flat_map (own_of classes) (c ∷ []) ≡ []
 alone classes c none = flat_map-cons (own_of classes) c [] ∙ ap (λ (o : Option Class). (elim o [ None ↦ [] | Some k ↦ k.own ]) ++ []) none
@@ -27,10 +28,6 @@ pub no_parts : (classes : Classes) (c : ℕ) → length classes ≤ c → parts 
 unfolding chain
 no_parts classes c past = no_parts_within classes c (slice_get_past classes c past) (length classes)
 
-pub off : (a : Bool) → (a && false) ≡ false
-off true = refl
-off false = refl
-
 and_assoc : (a b c : Bool) → (a && (b && c)) ≡ ((a && b) && c)
 and_assoc true b c = refl
 and_assoc false b c = refl
@@ -44,7 +41,7 @@ front_same (a ∷ name) (b ∷ bs) x le = ap (λ r. nat_eq a b && r) (front_same
 pub front_longer : (name front x : List ℕ) → length name < length front → bytes_eq name (front ++ x) ≡ false
 front_longer name [] x less = absurd (omega arith)
 front_longer [] (b ∷ bs) x less = refl
-front_longer (a ∷ name) (b ∷ bs) x less = ap (λ r. nat_eq a b && r) (front_longer name bs x (omega arith)) ∙ off (nat_eq a b)
+front_longer (a ∷ name) (b ∷ bs) x less = ap (λ r. nat_eq a b && r) (front_longer name bs x (omega arith)) ∙ and_false (nat_eq a b)
 
 lengths_same : (a b : List ℕ) → bytes_eq a b ≡ true → length a ≡ length b
 lengths_same [] [] is = refl
@@ -65,7 +62,7 @@ by_length a b other = by (bytes_eq a b) refl
 
 off_end : (n : ℕ) (name end : List ℕ) → suc n + length end ≡ length name → (bytes_eq (drop (suc n) name) end && bytes_eq (take (suc n) name) []) ≡ false
 off_end n [] end le = absurd (omega arith)
-off_end n (a ∷ name) end le = off _
+off_end n (a ∷ name) end le = and_false _
 
 -- a name and an end with something before it
 pub end_same : (name end x : List ℕ) (n : ℕ) → n + length end ≡ length name → bytes_eq name (x ++ end) ≡ (bytes_eq (drop n name) end && bytes_eq (take n name) x)
@@ -76,7 +73,7 @@ end_same name end [] zero le = swap (bytes_eq name end)
     swap false = refl
 end_same name end [] (suc n) le = by_length name end (λ is. omega (arith, le, is)) ∙ sym (off_end n name end le)
 end_same name end (b ∷ x) zero le =
-    by_length name (b ∷ (x ++ end)) (λ is. omega (arith, le, is, length-append x end)) ∙ sym (off (bytes_eq name end))
+    by_length name (b ∷ (x ++ end)) (λ is. omega (arith, le, is, length-append x end)) ∙ sym (and_false (bytes_eq name end))
 end_same [] end (b ∷ x) (suc n) le = absurd (omega arith)
 end_same (a ∷ name) end (b ∷ x) (suc n) le =
     ap (λ r. nat_eq a b && r) (end_same name end x n (omega arith)) ∙ turn (nat_eq a b) (bytes_eq (drop n name) end) (bytes_eq (take n name) x)

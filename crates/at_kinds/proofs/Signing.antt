@@ -15,6 +15,7 @@ use Rattle.std.proofs.lemmas.List.Quantifiers.{position-Some}
 use Rattle.std.proofs.lemmas.Option.{none-some, slice_get-get_or}
 use Rattle.indexmap.specs.IndexSet.{insert_key}
 use Rattle.at_model.specs.Classes.{Classes, chain, chain_within}
+use Rattle.at_model.proofs.Options.{both, and_false}
 use Rattle.at_rules.specs.RulesView.{LacksText}
 use Rattle.at_rules.specs.Upward.{earlier}
 use Rattle.at_kinds.specs.Signatures.{Declared, declared_view, IsIndexed, is_class, is_below, declared_at, declared_named, first_at, first_in, noted}
@@ -38,10 +39,6 @@ nothing_left es name classes n i next found end =
 
 -- what stands by the number of a name ------------------------------------------------------------------------------------
 
-off : (a : Bool) → (a && false) ≡ false
-off true = refl
-off false = refl
-
 -- one of the classes
 abbrev among : List ℕ → Option ℕ → Bool
 among cs None = false
@@ -63,7 +60,7 @@ below_among classes c (Some b) = refl
 
 first_declared : {Z : Type 0} (names : List (String Z)) (es : List ((ℕ × ℕ) × ℕ)) (ds : List Declared) → IsIndexed names es ds → (n : ℕ) (s : String Z) → slice_get names n ≡ Some s → (cs : List ℕ)
     → first_in es n cs ≡ position (λ d. bytes_eq d.name (string_bytes s) && among cs d.class) ds
-first_declared names es ds index n s is [] = sym (position-never _ ds (λ d. ap (λ b. bytes_eq d.name (string_bytes s) && b) (among_none d.class) ∙ off _))
+first_declared names es ds index n s is [] = sym (position-never _ ds (λ d. ap (λ b. bytes_eq d.name (string_bytes s) && b) (among_none d.class) ∙ and_false _))
 first_declared names es ds index n s is (c ∷ cs) =
     ap₂ earlier (index.first c n ∙ ap (option_and_then (λ t. declared_at ds c (string_bytes t))) is) (first_declared names es ds index n s is cs)
     ∙ either (λ d. bytes_eq d.name (string_bytes s) && is_class c d.class) (λ d. bytes_eq d.name (string_bytes s) && among cs d.class) ds
@@ -177,11 +174,6 @@ first_push (e ∷ es) c n a b m = by (nat_eq b e.0.0 && nat_eq m e.0.1) (first_p
     by true rest = refl
     by false rest = rest
 
-both : (p q : Bool) → (p && q) ≡ true → (p ≡ true) × (q ≡ true)
-both true true is = (refl, refl)
-both true false is = absurd (true≢false (sym is))
-both false q is = absurd (true≢false (sym is))
-
 stays : (o : Option ℕ) (x : Option ℕ) → is_some o ≡ true → o ≡ option_or o x
 stays (Some i) x is = refl
 stays None x is = absurd (true≢false (sym is))
@@ -223,7 +215,7 @@ declared_nowhere names es ds index d n s is same none = record {
     unmoved : (c : ℕ) (text : List ℕ) → declared_at (ds ++ d ∷ []) c text ≡ declared_at ds c text
     unmoved c text =
         position_push (λ d. bytes_eq d.name text && is_class c d.class) ds d
-        ∙ ap (λ b. option_or (declared_at ds c text) (cond b (Some (length ds)) None)) (ap (λ o. bytes_eq d.name text && is_class c o) none ∙ off (bytes_eq d.name text))
+        ∙ ap (λ b. option_or (declared_at ds c text) (cond b (Some (length ds)) None)) (ap (λ o. bytes_eq d.name text && is_class c o) none ∙ and_false (bytes_eq d.name text))
         ∙ or_none (declared_at ds c text)
 
 -- of a class
@@ -252,7 +244,7 @@ declared_more names apart es ds index d n s is same c of = record {
     here b m None at = by (nat_eq m n) refl
       where
         by : (x : Bool) → nat_eq m n ≡ x → cond (nat_eq b c && nat_eq m n) (Some (length ds)) None ≡ None
-        by false e = ap (λ y. cond (nat_eq b c && y) (Some (length ds)) None) e ∙ ap (λ y. cond y (Some (length ds)) None) (off (nat_eq b c))
+        by false e = ap (λ y. cond (nat_eq b c && y) (Some (length ds)) None) e ∙ ap (λ y. cond y (Some (length ds)) None) (and_false (nat_eq b c))
         by true e = absurd (none-some s (sym at ∙ ap (slice_get names) (eqb-true m n e) ∙ is))
 
 pub indexed_as : {Z : Type 0} (names : List (String Z)) (es fs : List ((ℕ × ℕ) × ℕ)) (ds gs : List Declared) → es ≡ fs → ds ≡ gs → IsIndexed names es ds → IsIndexed names fs gs

@@ -1,5 +1,5 @@
 -- What a class above gives also holds of a class below it.
-use Rattle.std.proofs.Common.{◌≡◌, ℕ, zero, suc, Bool, true, false, ◌||◌, nat_eq, List, [], ◌∷◌, ◌++◌, reverse, Option, Some, None, refl, ap, ◌∙◌}
+use Rattle.std.proofs.Common.{◌≡◌, ℕ, zero, suc, true, nat_eq, List, [], ◌∷◌, ◌++◌, reverse, Option, Some, None, ap, ◌∙◌}
 use Rattle.std.specs.Prelude.{option_map, option_and_then}
 use Rattle.std.specs.List.{slice_get, list_any, flat_map}
 use Rattle.std.proofs.lemmas.List.{reverse-append}
@@ -7,21 +7,17 @@ use Rattle.std.proofs.lemmas.Grind.{flat_map-append}
 use Rattle.std.proofs.lemmas.List.Folds.{list_any-append}
 use Rattle.at_model.specs.Classes.{Classes, Shape, One, Many, Maybe, Token, Component, class_in, own_of, chain, parts, is_sub}
 use Rattle.at_model.specs.Kinds.{shape_of_part, single_class}
-use Rattle.at_model.proofs.Options.{mapped, led}
+use Rattle.at_model.proofs.Options.{mapped, led, or_right}
 
 -- a class that is above has its own chain as the end of that of the class
 abbrev pub AreChained : Classes → Type 0
 AreChained classes = (c b : ℕ) → is_sub classes c b ≡ true → (front : List ℕ) × (chain classes c ≡ front ++ chain classes b)
 
-or_true : (a b : Bool) → b ≡ true → (a || b) ≡ true
-or_true true b e = refl
-or_true false b e = e
-
 -- below what is below
 pub sub_sub : (classes : Classes) → AreChained classes → (c b d : ℕ) → is_sub classes c b ≡ true → is_sub classes b d ≡ true → is_sub classes c d ≡ true
 sub_sub classes lined c b d e f =
     let (front, g) = lined c b e in
-    ap (list_any (nat_eq d)) g ∙ list_any-append (nat_eq d) front (chain classes b) ∙ or_true (list_any (nat_eq d) front) _ f
+    ap (list_any (nat_eq d)) g ∙ list_any-append (nat_eq d) front (chain classes b) ∙ or_right (list_any (nat_eq d) front) _ f
 
 slice_get-front : {A : Type 0} (xs ys : List A) (i : ℕ) (x : A) → slice_get xs i ≡ Some x → slice_get (xs ++ ys) i ≡ Some x
 slice_get-front [] ys i x e = absurd (cc)

@@ -1,5 +1,5 @@
 -- Where no class is above itself, the chain of a class ends with the chain of each class above it.
-use Rattle.std.proofs.Common.{◌≡◌, ℕ, zero, suc, ◌+◌, ◌<◌, ◌≤◌, Bool, true, false, ◌||◌, nat_eq, nat_lt, List, [], ◌∷◌, ◌++◌, length, Option, Some, None, ◌⊎◌, inl, inr, refl, sym, ap, ◌∙◌, subst, arith}
+use Rattle.std.proofs.Common.{◌≡◌, ℕ, zero, suc, ◌+◌, ◌<◌, ◌≤◌, Bool, true, false, ◌||◌, nat_eq, nat_lt, List, [], ◌∷◌, ◌++◌, length, Option, Some, None, inl, inr, refl, sym, ap, ◌∙◌, subst, arith}
 use Rattle.std.specs.Prelude.{IfSome, option_and_then}
 use Rattle.std.specs.List.{list_any, IsDistinct, AllByRecursion}
 use Rattle.std.proofs.lemmas.Bool.Decides.{nat_tests}
@@ -8,6 +8,7 @@ use Rattle.std.proofs.lemmas.Option.{slice_get_past}
 use Rattle.at_model.specs.Classes.{Classes, Class, parent_of, chain_within, chain}
 use Rattle.at_model.proofs.Below.{AreChained}
 use Rattle.at_model.specs.WellFormed.{IsHierarchy}
+use Rattle.at_model.proofs.Options.{either_true}
 
 none_within : (classes : Classes) (m : ℕ) → chain_within m classes None ≡ []
 none_within classes zero = refl
@@ -55,12 +56,8 @@ all_apart c (x ∷ xs) h = by_test (nat_eq c x) refl h (all_apart c xs)
 true_or_false : (b : Bool) → b ≡ false → b ≡ true → ⊥
 true_or_false b e f = let g : false ≡ true = sym e ∙ f in absurd (cc)
 
-nat_same : (m n : ℕ) → nat_eq m n ≡ true → m ≡ n
+pub nat_same : (m n : ℕ) → nat_eq m n ≡ true → m ≡ n
 nat_same m n e = grind (arith, nat_tests)
-
-either_true : (a b : Bool) → (a || b) ≡ true → (a ≡ true) ⊎ (b ≡ true)
-either_true true b e = inl refl
-either_true false b e = inr e
 
 module _ (classes : Classes) (parents : (c : ℕ) → IfSome (parent_of classes c) (λ b. b < length classes)) (free : (c : ℕ) → c < length classes → list_any (nat_eq c) (chain_within (length classes) classes (parent_of classes c)) ≡ false) where
   distinct : (m : ℕ) (o : Option ℕ) → m ≤ suc (length classes) → IfSome o (λ b. b < length classes) → IsDistinct nat_eq (chain_within m classes o)

@@ -22,7 +22,7 @@ use Rattle.at_model.specs.Replies as code
 use Rattle.at_model.specs.Machine.{State, Marked, Verdict, Refuses, Leaves, Edits, Asks, Says, Step, after, verdict, obeyed, changed, with_component, with_tree, with_mark, code_of, is_edit, is_mark, is_marked, marked, max_marks, node_named, each, value_named, questioned, fit_parameters, parameters_of, carried_marks}
 use Rattle.at_model.specs.Effects.{IsEditOf, set, put, drop, insert, token, component_named, changes_mark, is_about_mark, is_marking, is_question}
 use Rattle.at_model.proofs.Changes.{if_both, at_option, node_all, whole}
-use Rattle.at_model.proofs.Options.{led, both, and_true}
+use Rattle.at_model.proofs.Options.{led, both, and_true, not_true}
 use Rattle.at_model.proofs.Shaped.{shaped_conforms}
 
 -- the verdict refuses, or makes an edit of the command, which is accepted
@@ -120,10 +120,6 @@ find_lost p (x ∷ xs) = at_head (p x) refl (find_lost p xs)
     at_head true is e = e
     at_head false is e = rw is e
 
-off : (b : Bool) → (b ≡ true → ⊥) → b ≡ false
-off true h = absurd (h refl)
-off false h = refl
-
 on : (b : Bool) → not b ≡ false → b ≡ true
 on true e = refl
 on false e = absurd cc
@@ -153,7 +149,7 @@ module _ (rules : Rules) (s : State) (session : ℕ) where
   one_more : (name : List ℕ) (place : Place) (n : Node) → Spares (about (Mark name place)) (Leaves (s.marks ++ record { session = session; name = name; node = n } ∷ []))
   one_more name place n other called e =
       let m : Marked = record { session = session; name = name; node = n } in
-      let no : is_mark other called m ≡ false = off (is_mark other called m) (λ is. let f : (nat_eq session other && bytes_eq name called) ≡ true = let b = same_mark other session called name m is (and_true (nat_eq session session) (bytes_eq name name) (eq-eqb session session refl) ((bytes_eq-Decides name name).1 refl)) in and_true (nat_eq session other) (bytes_eq name called) b.0 b.1 in cc) in
+      let no : is_mark other called m ≡ false = not_true (is_mark other called m) (λ is. let f : (nat_eq session other && bytes_eq name called) ≡ true = let b = same_mark other session called name m is (and_true (nat_eq session session) (bytes_eq name name) (eq-eqb session session refl) ((bytes_eq-Decides name name).1 refl)) in and_true (nat_eq session other) (bytes_eq name called) b.0 b.1 in cc) in
       ap (option_map (λ m. m.node)) (find-append (is_mark other called) s.marks (m ∷ []) ∙ at_end (find (is_mark other called) s.marks) m (is_mark other called m) no)
     where
       at_end : (o : Option Marked) (m : Marked) (b : Bool) → b ≡ false → option_or o (cond b (Some m) None) ≡ o

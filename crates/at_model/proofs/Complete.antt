@@ -9,26 +9,26 @@ use Rattle.at_model.specs.Trees as held
 use Rattle.at_model.specs.Paths.{Node, tree_at, children_at}
 use Rattle.at_model.specs.Rules.{Rules, Source, source_at, source_of, inherited_equation, Exposed, as_root, below, AreComplete, Attribute, own_equation}
 use Rattle.at_model.specs.Bodies.{Expr}
-use Rattle.at_model.proofs.Nodes.{both_of}
 use Rattle.std.specs.Cmp.Derive.{both_true}
 use Rattle.at_model.proofs.WayUp.{snoc, prefixes-snoc, parent_there, too_long}
+use Rattle.at_model.proofs.Options.{both}
 
 -- the component that a cell stands for, and that the cell conforms
 pub cell_there : (classes : Classes) (cells : Cells) (ps : List Component) (i : ℕ) (c : Cell) → cells_conform classes cells ps ≡ true → slice_get (from_cells cells) i ≡ Some c → (p : Component) × (slice_get ps i ≡ Some p) × (cell_conforms classes c p.shape ≡ true)
 cell_there classes no_cells ps i c e q = absurd (cc)
 cell_there classes (cell d cells) [] i c e q = absurd (cc)
 cell_there classes (cell d cells) (p ∷ ps) zero c e q =
-    let (x, y) = both_of (cell_conforms classes d p.shape) (cells_conform classes cells ps) e in
+    let (x, y) = both (cell_conforms classes d p.shape) (cells_conform classes cells ps) e in
     let f : d ≡ c = cc in
     (p, refl, subst (λ z. cell_conforms classes z p.shape ≡ true) f x)
 cell_there classes (cell d cells) (p ∷ ps) (suc i) c e q =
-    let (x, y) = both_of (cell_conforms classes d p.shape) (cells_conform classes cells ps) e in
+    let (x, y) = both (cell_conforms classes d p.shape) (cells_conform classes cells ps) e in
     cell_there classes cells ps i c y q
 
 tree_among : (classes : Classes) (ts : Trees) (b i : ℕ) (u : Tree) → trees_conform classes ts b ≡ true → slice_get (from_trees ts) i ≡ Some u → conforms classes u b ≡ true
 tree_among classes no_trees b i u e q = absurd (cc)
-tree_among classes (tree t ts) b zero u e q = let (x, y) = both_of (conforms classes t b) (trees_conform classes ts b) e in let f : t ≡ u = cc in subst (λ z. conforms classes z b ≡ true) f x
-tree_among classes (tree t ts) b (suc i) u e q = let (x, y) = both_of (conforms classes t b) (trees_conform classes ts b) e in tree_among classes ts b i u y q
+tree_among classes (tree t ts) b zero u e q = let (x, y) = both (conforms classes t b) (trees_conform classes ts b) e in let f : t ≡ u = cc in subst (λ z. conforms classes z b ≡ true) f x
+tree_among classes (tree t ts) b (suc i) u e q = let (x, y) = both (conforms classes t b) (trees_conform classes ts b) e in tree_among classes ts b i u y q
 
 -- a child conforms to the class of the component
 child_in : (classes : Classes) (c : Cell) (s : Shape) (i : ℕ) (u : Tree) → cell_conforms classes c s ≡ true → slice_get (children c) i ≡ Some u → (b : ℕ) × (class_in s ≡ Some b) × (conforms classes u b ≡ true)
@@ -52,7 +52,7 @@ child_of_cell classes cells ps part i u (Some c) f e q =
 pub child_conforms : (classes : Classes) (t : Tree) (a part i : ℕ) (u : Tree) → conforms classes t a ≡ true → slice_get (children_at t part) i ≡ Some u →
     (b : ℕ) × (option_and_then (λ p. class_in p.shape) (slice_get (parts classes (class_of t)) part) ≡ Some b) × (conforms classes u b ≡ true)
 child_conforms classes (Branch c cells) a part i u e q =
-    let (x, y) = both_of (fits classes c a) (cells_conform classes cells (parts classes c)) e in
+    let (x, y) = both (fits classes c a) (cells_conform classes cells (parts classes c)) e in
     child_of_cell classes cells (parts classes c) part i u (slice_get (from_cells cells) part) refl y q
 
 last_there : (m : Node) (s : ℕ × ℕ) (u w : Tree) (o : Option Tree) → ((v : Tree) → tree_at v (m ++ s ∷ []) ≡ Some u → tree_at v m ≡ Some w → slice_get (children_at w s.0) s.1 ≡ Some u) →
@@ -81,7 +81,7 @@ conforms_at classes t a (x ∷ m) u e f =
     inner classes m u (slice_get (children_at t x.0) x.1) (λ v g. let (b, h, y) = child_conforms classes t a x.0 x.1 v e g in (b, y)) (λ v b g h. conforms_at classes v b m u g h) f
 
 pub fits_there : (classes : Classes) (u : Tree) (b : ℕ) → conforms classes u b ≡ true → fits classes (class_of u) b ≡ true
-fits_there classes (Branch c cells) b e = let (x, y) = both_of (fits classes c b) (cells_conform classes cells (parts classes c)) e in x
+fits_there classes (Branch c cells) b e = let (x, y) = both (fits classes c b) (cells_conform classes cells (parts classes c)) e in x
 
 neither_of : {A : Type 0} (p q : Option A) → option_or p q ≡ None → (p ≡ None) × (q ≡ None)
 neither_of None q e = (refl, e)
@@ -123,7 +123,7 @@ decided None f = absurd (f refl)
 decided (Some a) f = (a, refl)
 
 fits_own : (classes : Classes) (c b d : ℕ) → fits classes c b ≡ true → is_sub classes c d ≡ true → fits classes c d ≡ true
-fits_own classes c b d e f = let (x, y) = both_of (is_concrete classes c) (is_sub classes c b) e in both_true x f
+fits_own classes c b d e f = let (x, y) = both (is_concrete classes c) (is_sub classes c b) e in both_true x f
 
 pub has_source : (rules : Rules) → AreComplete rules → (t : Tree) → conforms rules.classes t 0 ≡ true → (n : Node) (u : Tree) (attribute : ℕ) (a : Attribute) → tree_at t n ≡ Some u → slice_get rules.attributes attribute ≡ Some a → is_sub rules.classes (class_of u) a.class ≡ true →
     a.is_inherited ≡ true → (s : Source) × (source_of rules t a.name n ≡ Some s)
@@ -132,7 +132,7 @@ has_source rules complete t conform n u attribute a q at sub inh =
     let f = fits_own rules.classes (class_of u) b a.class (fits_there rules.classes u b c) sub in
     decided (source_of rules t a.name n) (λ none. complete.inherited (class_of u) attribute a at inh f (exposed_at rules t a.name conform (length n) n u q (omega arith) none))
 
-got : {A : Type 0} (o : Option A) → IsSome o → (a : A) × (o ≡ Some a)
+pub got : {A : Type 0} (o : Option A) → IsSome o → (a : A) × (o ≡ Some a)
 got None h = absurd (cc)
 got (Some a) h = (a, refl)
 

@@ -23,17 +23,13 @@ use Rattle.at_model.specs.Sparing.{IsWorthKeeping, IsUntouched, KeptAfter, AreAd
 use Rattle.at_model.specs.Keeping.{heard, AreWorks, NothingKept}
 use Rattle.at_model.specs.Working.{Effort, AreHeard, Works}
 use Rattle.at_model.proofs.PlainLines.{is_plain_line, spelled}
-use Rattle.at_model.proofs.Options.{led, mapped}
-use Rattle.at_model.proofs.Nodes.{both_of, node_eq-is, nat_eq-is}
+use Rattle.at_model.proofs.Options.{led, mapped, both as both_of, and_true}
+use Rattle.at_model.proofs.Nodes.{node_eq-is, nat_eq-is}
 use Rattle.at_model.proofs.Outcomes.{once}
 use Rattle.at_model.proofs.FaultPlaces.{below_right}
 use Rattle.at_model.proofs.Reached.{AreLost, reached, leads_in, in_leads, sees_in, in_sees, each_demands, either_among, front_among, back_among}
 
 -- tests that decide --------------------------------------------------------------------------------------------------
-
-and_both : (a b : Bool) → a ≡ true → b ≡ true → (a && b) ≡ true
-and_both true b e f = f
-and_both false b e f = absurd cc
 
 -- the same value
 abbrev same_value : Value Node → Value Node → Bool
@@ -97,7 +93,7 @@ values_sound (v ∷ vs) (w ∷ ws) e =
 
 values_same : (vs : List (Value Node)) → same_values vs vs ≡ true
 values_same [] = refl
-values_same (v ∷ vs) = and_both (same_value v v) (same_values vs vs) (value_same v) (values_same vs)
+values_same (v ∷ vs) = and_true (same_value v v) (same_values vs vs) (value_same v) (values_same vs)
 
 -- the same instance
 abbrev same : Instance Node → Instance Node → Bool
@@ -113,8 +109,8 @@ same_sound i j e =
     λ x. record { node = nodes x; attribute = attributes x; arguments = arguments x }
 
 same_is : (i : Instance Node) → same i i ≡ true
-same_is i = and_both (node_eq i.node i.node) (nat_eq i.attribute i.attribute && same_values i.arguments i.arguments) ((node_eq-is i.node i.node).1 refl)
-    (and_both (nat_eq i.attribute i.attribute) (same_values i.arguments i.arguments) ((nat_eq-is i.attribute i.attribute).1 refl) (values_same i.arguments))
+same_is i = and_true (node_eq i.node i.node) (nat_eq i.attribute i.attribute && same_values i.arguments i.arguments) ((node_eq-is i.node i.node).1 refl)
+    (and_true (nat_eq i.attribute i.attribute) (same_values i.arguments i.arguments) ((nat_eq-is i.attribute i.attribute).1 refl) (values_same i.arguments))
 
 -- it is one of these
 abbrev is_among : Instance Node → List (Instance Node) → Bool
@@ -302,7 +298,7 @@ module _ (rules : Rules) (height : ℕ) where
       free false is f = refl
 
       no_less : (a ≡ x) → (is_worth t x && not (is_among x ks)) ≡ true
-      no_less s = and_both (is_worth t x) (not (is_among x ks)) (subst (λ y. is_worth t y ≡ true) s w) (free (is_among x ks) refl (λ m. n (subst (λ y. Among y ks) (sym s) m)))
+      no_less s = and_true (is_worth t x) (not (is_among x ks)) (subst (λ y. is_worth t y ≡ true) s w) (free (is_among x ks) refl (λ m. n (subst (λ y. Among y ks) (sym s) m)))
 
       at_head : (b c : Bool) → (is_worth t x && not (is_among x ks)) ≡ b → same a x ≡ c → Among a (x ∷ xs) → (Among a xs → (¬ (Among a (x ∷ ks))) → Among a (added t (x ∷ ks) xs)) → (Among a xs → Among a (added t ks xs)) → Among a (cond b (x ∷ added t (x ∷ ks) xs) (added t ks xs))
       at_head true true is also m one other = inl (same_sound a x also)

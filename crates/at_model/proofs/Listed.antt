@@ -7,7 +7,7 @@ use Rattle.std.proofs.lemmas.Bool.Decides.{nat_tests}
 use Rattle.at_model.specs.Trees.{Tree, Node as Branch, Cells, no_cells, cell, Cell, One, Many, Empty, Filled, Holds, Trees, no_trees, tree, children, from_cells, from_trees, class_of}
 use Rattle.at_model.specs.Paths.{Node, tree_at, children_at}
 use Rattle.at_model.specs.Run.{Value, Int, Truth, Text, Ref, Instance}
-use Rattle.at_model.specs.Rules.{Rules, Kind, Attribute}
+use Rattle.at_model.specs.Rules.{Rules, Kind}
 use Rattle.at_model.specs.Rules as kind
 use Rattle.at_model.specs.Meaning.{Among}
 use Rattle.at_model.specs.Kinds.{AreTyped, IsParameter, IsDeclarationTyped}
@@ -39,7 +39,7 @@ at_end : (n k : ℕ) → k < suc n → (b : Bool) → nat_eq k n ≡ b → (k < 
 at_end n k h true e rest = among_right k (below n) (n ∷ []) (inl (grind (arith, nat_tests)))
 at_end n k h false e rest = let g : k < n = grind (arith, nat_tests) in among_left k (below n) (n ∷ []) (rest g)
 
-none_below : (k : ℕ) → k < 0 → ⊥
+pub none_below : (k : ℕ) → k < 0 → ⊥
 none_below k h = omega arith
 
 among_below : (n k : ℕ) → k < n → Among k (below n)

@@ -1,17 +1,14 @@
 -- When nodes are the same, and maps under which they stay so.
-use Rattle.std.proofs.Common.{◌≡◌, ◌↔◌, ℕ, Bool, true, false, ◌&&◌, nat_eq, [], ◌∷◌, Option, Some, refl, ap, sym, ◌∙◌}
+use Rattle.std.proofs.Common.{◌≡◌, ◌↔◌, ℕ, Bool, true, false, nat_eq, [], ◌∷◌, Option, Some, refl, ap, sym, ◌∙◌}
 use Rattle.std.proofs.lemmas.Bool.{eqb-true, eq-eqb}
 use Rattle.std.specs.Cmp.Derive.{both_true}
 use Rattle.at_model.specs.Paths.{Node, step_eq, node_eq}
 use Rattle.at_model.specs.Alike.{Names, IsInjective, SameLike}
-
-pub both_of : (b c : Bool) → (b && c) ≡ true → (b ≡ true) × (c ≡ true)
-both_of true c e = (refl, e)
-both_of false c e = absurd (cc)
+use Rattle.at_model.proofs.Options.{both}
 
 pub step_eq-sound : (s u : ℕ × ℕ) → step_eq s u ≡ true → s ≡ u
 step_eq-sound s u e =
-    let (p, q) = both_of (nat_eq s.0 u.0) (nat_eq s.1 u.1) e in
+    let (p, q) = both (nat_eq s.0 u.0) (nat_eq s.1 u.1) e in
     ap (λ z. (z, s.1)) (eqb-true s.0 u.0 p) ∙ ap (λ z. (u.0, z)) (eqb-true s.1 u.1 q)
 
 pub step_eq-refl : (s : ℕ × ℕ) → step_eq s s ≡ true
@@ -22,7 +19,7 @@ node_eq-sound [] [] e = refl
 node_eq-sound [] (u ∷ us) e = absurd (cc)
 node_eq-sound (s ∷ ss) [] e = absurd (cc)
 node_eq-sound (s ∷ ss) (u ∷ us) e =
-    let (p, q) = both_of (step_eq s u) (node_eq ss us) e in
+    let (p, q) = both (step_eq s u) (node_eq ss us) e in
     ap (λ z. z ∷ ss) (step_eq-sound s u p) ∙ ap (λ z. u ∷ z) (node_eq-sound ss us q)
 
 pub node_eq-refl : (a : Node) → node_eq a a ≡ true

@@ -142,7 +142,7 @@ abbrev pub command_text : Command → List ℕ
 command_text c = join_with_byte 32 (command_words c)
 
 -- the first two bytes tell the commands apart
-abbrev two : List ℕ → ℕ
+abbrev pub two : List ℕ → ℕ
 two [] = 0
 two (b ∷ []) = b
 two (b ∷ c ∷ bs) = b + 256 * c

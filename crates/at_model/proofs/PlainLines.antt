@@ -11,16 +11,8 @@ use Rattle.at_model.specs.Trees as tree
 use Rattle.at_model.specs.Terms.{Term, Cells, Cell, Terms, Node, no_cells, cell, One, Many, Empty, Holds, no_terms, term, IsInt32, IsToken, IsTermWithin, AreCellsWithin, IsCellWithin, AreTermsWithin, max_depth}
 use Rattle.at_model.specs.Paths.{Path, Step, IsIndex, IsStep, IsPath}
 use Rattle.at_model.specs.Lines.{Place, From_root, From_mark, Argument, Text, Ref, Null, Command, Ask, Set, Put, Drop, Insert, Token, Show, Mark, Unmark, Where, Version, Line, line_text, IsPlace, IsArgument, IsCommand, IsVersion, Spells, last_version, max_sessions, max_line}
-
-pub all_and : (a b : Bool) → (a && b) ≡ true → (a ≡ true) × (b ≡ true)
-all_and true true e = (refl, refl)
-all_and true false e = cc
-all_and false b e = cc
-
-pub and_true : (a b : Bool) → a ≡ true → b ≡ true → (a && b) ≡ true
-and_true true true e f = refl
-and_true true false e f = cc
-and_true false b e f = cc
+use Rattle.at_model.proofs.Options.{and_true}
+use Rattle.at_model.proofs.Words.{all_and}
 
 below : (m n : ℕ) → nat_lt m n ≡ true → m < n
 below m n h = grind (arith, nat_tests)

@@ -12,7 +12,8 @@ use Rattle.at_model.specs.Replies.{Reply, Form, Done, Shows, Refused, Memory, re
 use Rattle.at_model.specs.Replies as code
 use Rattle.at_model.specs.Machine.{State, Verdict, Refuses, Tells, Leaves, Edits, Asks, AnswersIn, Says, Handles, obeys, refuses, after, verdict, answer_form}
 use Rattle.at_model.specs.Playing.{Exchange, Plays}
-use Rattle.at_model.proofs.PlainLines.{all_and, is_plain_line, spelled}
+use Rattle.at_model.proofs.PlainLines.{is_plain_line, spelled}
+use Rattle.at_model.proofs.Words.{all_and}
 
 -- the reply to a line
 abbrev pub reply_to : Line → Form → Reply

@@ -6,12 +6,12 @@ use Rattle.std.specs.Str.{IsUtf8, bytes_eq}
 use Rattle.std.proofs.lemmas.Option.{slice_get_within}
 use Rattle.std.proofs.lemmas.Bool.Decides.{nat_tests}
 use lib.Chars.{codes}
-use Rattle.at_model.specs.Bodies.{Expr, Exprs, This, TextLiteral, IntLiteral, no_exprs, expr}
+use Rattle.at_model.specs.Bodies.{Expr, This, TextLiteral, IntLiteral, no_exprs, expr}
 use Rattle.at_model.specs.Bodies as body
 use Rattle.at_model.specs.Classes.{Classes, Class, chain, parent_of, class_in, parts, is_sub, is_concrete, fits}
 use Rattle.at_model.specs.Classes as token
 use Rattle.at_model.specs.Declarations.{above}
-use Rattle.at_model.specs.Rules.{Rules, Kind, Int, Truth, Text, Attribute, OwnEquation, InheritedEquation, own_equation, inherited_equation, PassesDown, Exposed, as_root, below, AreComplete}
+use Rattle.at_model.specs.Rules.{Rules, Kind, Int, Truth, Text, Attribute, own_equation, inherited_equation, PassesDown, Exposed, as_root, below, AreComplete}
 use Rattle.at_model.specs.Rules as kind
 use Rattle.at_model.specs.Samples.{calc, calc_classes, calc_attributes, calc_tree, sum_rules, sum_tree}
 use Rattle.at_model.specs.Kinds.{AreComparable, ScopeKinds, HasKind, HaveKinds, IsDeclarationTyped, IsOwnTyped, IsInheritedTyped, IsInheritedOf, AreInheritedAlike, AreTyped}
@@ -23,14 +23,12 @@ use Rattle.at_model.proofs.Below.{sub_sub}
 use Rattle.at_model.proofs.Chained.{chained}
 use Rattle.at_model.proofs.Taken.{taken}
 use Rattle.at_model.proofs.PlainLines.{low_utf8}
+use Rattle.at_model.proofs.Listed.{none_below}
 
 -- tests on all numbers below one
 abbrev every_below : ℕ → (ℕ → Bool) → Bool
 every_below zero p = true
 every_below (suc n) p = p n && every_below n p
-
-none_below : (k : ℕ) → k < 0 → ⊥
-none_below k h = omega arith
 
 at_top : (n : ℕ) (p : ℕ → Bool) (k : ℕ) → p n ≡ true → k < suc n → (b : Bool) → nat_eq k n ≡ b → (k < n → p k ≡ true) → p k ≡ true
 at_top n p k e h true f rest = let same : k ≡ n = grind (arith, nat_tests) in subst (λ m. p m ≡ true) (sym same) e

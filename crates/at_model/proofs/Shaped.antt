@@ -16,7 +16,7 @@ use Rattle.at_model.proofs.Options.{both, and_true, led, mapped, if_some, if_tru
 no_class : Class
 no_class = record { name = []; is_abstract = false; parent = None; own = [] }
 
-same_bytes : (xs ys : List ℕ) → bytes_eq xs ys ≡ true → xs ≡ ys
+pub same_bytes : (xs ys : List ℕ) → bytes_eq xs ys ≡ true → xs ≡ ys
 same_bytes xs ys e = (bytes_eq-Decides xs ys).0 e
 
 name_found : (classes : Classes) (name : List ℕ) (c : ℕ) → class_of_name classes name ≡ Some c → name_of classes c ≡ name

@@ -3,9 +3,9 @@ use Rattle.std.proofs.Common.{◌≡◌, ℕ, zero, suc, ◌+◌, ◌<◌, ◌�
 use Rattle.std.specs.Prelude.{IsSome, option_map, option_and_then}
 use Rattle.std.specs.List.{slice_get, AllByRecursion}
 use Rattle.std.proofs.lemmas.Option.{slice_get_within}
-use Rattle.at_model.specs.Classes.{Classes, TokenKind, Shape, Component, Token, class_in, parts, is_sub, is_concrete, fits}
+use Rattle.at_model.specs.Classes.{Classes, TokenKind, Component, Token, class_in, parts, is_sub, is_concrete, fits}
 use Rattle.at_model.specs.Classes as class
-use Rattle.at_model.specs.Trees.{Tree, Node as Branch, Cells, no_cells, cell, Cell, One, Many, Empty, Filled, Holds, Trees, no_trees, tree, children, from_cells, from_trees, class_of, cells_of, conforms, cells_conform, cell_conforms, is_of_kind, nodes}
+use Rattle.at_model.specs.Trees.{Tree, Node as Branch, Cells, no_cells, cell, Cell, One, Many, Empty, Filled, Holds, Trees, no_trees, tree, children, from_cells, from_trees, class_of, conforms, cells_conform, cell_conforms, is_of_kind, nodes}
 use Rattle.at_model.specs.Trees as held
 use Rattle.at_model.specs.Paths.{Node, tree_at, cell_at, children_at, parent_of}
 use Rattle.at_model.specs.Run.{Tok, Slot, Idx}
@@ -14,14 +14,13 @@ use Rattle.at_model.specs.Meaning.{content, child_nodes, token_in}
 use Rattle.at_model.proofs.Complete.{child_conforms, conforms_at, fits_there}
 use Rattle.at_model.proofs.WithinTree.{tree_at-snoc}
 use Rattle.at_model.proofs.WayUp.{snoc, parent_of-snoc, parent_there}
-use Rattle.at_model.proofs.Nodes.{both_of}
 use Rattle.at_model.specs.Kinds.{shape_of_part, class_of_part, kind_of_token}
 use Rattle.at_model.specs.TypedRuns.{ClassAt, Texts, class_at, IsNodeOf, IsOfKind, IsAllowed, AreContentsTyped}
 use Rattle.at_model.specs.Instances.{tokens, cells_tokens, cell_tokens, trees_tokens}
 use Rattle.at_model.specs.Terms.{IsToken}
 use Rattle.at_model.specs.Enduring.{AreTokens, CellsAreTokens, CellIsTokens, TreesAreTokens}
 use Rattle.at_model.proofs.Everywhere.{both_all, all_both}
-use Rattle.at_model.proofs.Options.{mapped, led}
+use Rattle.at_model.proofs.Options.{mapped, led, both}
 
 -- what goes down to children goes down to every node
 pub inside : (P : Tree → Type 0) → ((t u : Tree) (part i : ℕ) → slice_get (children_at t part) i ≡ Some u → P t → P u) → (t : Tree) (n : Node) (u : Tree) → P t → tree_at t n ≡ Some u → P u
@@ -149,11 +148,11 @@ cell_for classes no_cells [] i p e q = absurd (cc)
 cell_for classes no_cells (r ∷ ps) i p e q = absurd (cc)
 cell_for classes (cell d cells) [] i p e q = absurd (cc)
 cell_for classes (cell d cells) (r ∷ ps) zero p e q =
-    let (x, y) = both_of (cell_conforms classes d r.shape) (cells_conform classes cells ps) e in
+    let (x, y) = both (cell_conforms classes d r.shape) (cells_conform classes cells ps) e in
     let f : r ≡ p = cc in
     (d, refl, subst (λ (z : Component). cell_conforms classes d z.shape ≡ true) f x)
 cell_for classes (cell d cells) (r ∷ ps) (suc i) p e q =
-    let (x, y) = both_of (cell_conforms classes d r.shape) (cells_conform classes cells ps) e in
+    let (x, y) = both (cell_conforms classes d r.shape) (cells_conform classes cells ps) e in
     cell_for classes cells ps i p y q
 
 -- the token of a component of that kind
@@ -177,7 +176,7 @@ token_of_kind classes at (held.Truth b) class.Int e h = absurd (cc)
 
 token_there : (classes : Classes) (u : Tree) (b part : ℕ) (k : TokenKind) → conforms classes u b ≡ true → shape_of_part classes (class_of u) part ≡ Some (Token k) → is_of_kind (token_in (cell_at u part)) k ≡ true
 token_there classes (Branch d cells) b part k e f =
-    let (x, y) = both_of (fits classes d b) (cells_conform classes cells (parts classes d)) e in
+    let (x, y) = both (fits classes d b) (cells_conform classes cells (parts classes d)) e in
     let (p, g, h) = mapped (λ (p : Component). p.shape) (slice_get (parts classes d) part) (Token k) f in
     let (c, there, is) = cell_for classes cells (parts classes d) part p y g in
     ap (λ o. is_of_kind (token_in o) k) there ∙ kept_kind classes c k (subst (λ z. cell_conforms classes c z ≡ true) h is)
@@ -229,7 +228,7 @@ pub record IsStanding (classes : Classes) (t : Tree) (Allowed : Texts) : Type 0 
 
 module _ (classes : Classes) (t : Tree) (Allowed : Texts) (ok : IsStanding classes t Allowed) where
   fits_class : (u : Tree) (b : ℕ) → conforms classes u b ≡ true → is_sub classes (class_of u) b ≡ true
-  fits_class u b e = (both_of (is_concrete classes (class_of u)) (is_sub classes (class_of u) b) (fits_there classes u b e)).1
+  fits_class u b e = (both (is_concrete classes (class_of u)) (is_sub classes (class_of u) b) (fits_there classes u b e)).1
 
   children_stand : (n : Node) (c part b : ℕ) (u : Tree) → tree_at t n ≡ Some u → class_of u ≡ c → class_of_part classes c part ≡ Some b → AllByRecursion (λ m. IsNodeOf classes (class_at t) m b) (child_nodes n part 0 (children_at u part))
   children_stand n c part b u e f g =

@@ -23,11 +23,11 @@ use Rattle.at_model.proofs.TypedExpressions.{typed}
 use Rattle.at_model.proofs.TypedLeads.{looks_typed}
 use Rattle.at_model.proofs.TypedSteps.{less_typed}
 use Rattle.at_model.proofs.Below.{AreChained}
-use Rattle.at_model.proofs.Nodes.{both_of}
 use Rattle.std.proofs.lemmas.Bool.Decides.{nat_tests}
 use Rattle.std.proofs.Common.{arith}
-use Rattle.at_model.proofs.Options.{mapped, led}
+use Rattle.at_model.proofs.Options.{mapped, led, both, or_right}
 use Rattle.at_model.proofs.Everywhere.{all_more, all_both, all_map, all_two}
+use Rattle.at_model.proofs.Chained.{nat_same}
 
 by_test : {A : Type 0} (P : A → Type 0) (p : A → Bool) (y x : A) (o : Option A) → P y → (o ≡ Some x → P x × (p x ≡ true)) → (b : Bool) → p y ≡ b → cond b (Some y) o ≡ Some x → P x × (p x ≡ true)
 by_test P p y x o h rest true is f = let g : y ≡ x = cc in (subst P g h, subst (λ z. p z ≡ true) g is)
@@ -50,15 +50,8 @@ answered {A} P f (x ∷ xs) b (h, hs) e = either_of (λ z. (a : A) × P a × (f 
 same_nat : (n : ℕ) → nat_eq n n ≡ true
 same_nat n = grind (arith, nat_tests)
 
-pub nat_same : (m n : ℕ) → nat_eq m n ≡ true → m ≡ n
-nat_same m n e = grind (arith, nat_tests)
-
 or_left : (a b : Bool) → a ≡ true → (a || b) ≡ true
 or_left a b e = rw e refl
-
-or_right : (a b : Bool) → b ≡ true → (a || b) ≡ true
-or_right true b e = refl
-or_right false b e = e
 
 -- each is among them
 pub each_among : (xs : List ℕ) → AllByRecursion (λ n. list_any (nat_eq n) xs ≡ true) xs
@@ -72,7 +65,7 @@ own_there rules P all c attribute body h =
     let (b, sub, g) = answered (λ b. is_sub rules.classes c b ≡ true) (own_in rules attribute) (chain rules.classes c) body (each_among (chain rules.classes c)) h in
     let (e, f, k) = mapped (λ (e : OwnEquation). e.body) (find (λ (e : OwnEquation). nat_eq e.class b && nat_eq e.attribute attribute) rules.own) body g in
     let (p, test) = found_in P (λ (e : OwnEquation). nat_eq e.class b && nat_eq e.attribute attribute) rules.own e all f in
-    let (x, y) = both_of (nat_eq e.class b) (nat_eq e.attribute attribute) test in
+    let (x, y) = both (nat_eq e.class b) (nat_eq e.attribute attribute) test in
     (e, p, subst (λ z. is_sub rules.classes c z ≡ true) (sym (nat_same e.class b x)) sub, nat_same e.attribute attribute y, k)
 
 inherited_there_in : (rules : Rules) (P : InheritedEquation → Type 0) → AllByRecursion P rules.inherited → (c b : ℕ) (part : Option ℕ) (name : List ℕ) (body : Expr) → is_sub rules.classes c b ≡ true → inherited_in rules name part b ≡ Some body →
@@ -80,8 +73,8 @@ inherited_there_in : (rules : Rules) (P : InheritedEquation → Type 0) → AllB
 inherited_there_in rules P all c b part name body sub h =
     let (e, f, k) = mapped (λ (e : InheritedEquation). e.body) (find (λ (e : InheritedEquation). nat_eq e.class b && part_eq e.part part && bytes_eq e.name name) rules.inherited) body h in
     let (p, test) = found_in P (λ (e : InheritedEquation). nat_eq e.class b && part_eq e.part part && bytes_eq e.name name) rules.inherited e all f in
-    let (xy, z) = both_of (nat_eq e.class b && part_eq e.part part) (bytes_eq e.name name) test in
-    let (x, y) = both_of (nat_eq e.class b) (part_eq e.part part) xy in
+    let (xy, z) = both (nat_eq e.class b && part_eq e.part part) (bytes_eq e.name name) test in
+    let (x, y) = both (nat_eq e.class b) (part_eq e.part part) xy in
     (e, p, subst (λ z. is_sub rules.classes c z ≡ true) (sym (nat_same e.class b x)) sub, z, k)
 
 -- and so does the inherited one

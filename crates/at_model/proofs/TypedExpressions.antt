@@ -3,14 +3,14 @@ use Rattle.std.proofs.Common.{◌≡◌, ℕ, zero, suc, ◌<◌, ℤ, pos, negs
 use Rattle.std.specs.Prelude.{IsSome, IfSome, option_and_then, FitsSigned, int_rem}
 use Rattle.std.specs.List.{slice_get, AllByRecursion}
 use Rattle.std.specs.Int.{w32, cast_signed, int_wrapping_add}
-use Rattle.at_model.specs.Classes.{Classes, TokenKind, Shape, Many, Token, class_in, is_sub}
+use Rattle.at_model.specs.Classes.{TokenKind, Shape, Many, Token, class_in, is_sub}
 use Rattle.at_model.specs.Classes as class
 use Rattle.at_model.specs.Terms.{IsInt32}
 use Rattle.at_model.specs.Run.{Value, Int, Truth, Text, Ref, Is, Slot, Idx, Contents, Run, Gives, Fails, Looks, Demands, ◌>>=◌, Absent, Index, Cast, Long}
 use Rattle.at_model.specs.Bodies.{Expr, Exprs, TextLiteral, Name, Operator, Times, Over, Modulo, Plus, Minus, TokenOf, Scope, bound, int_of, truth_of, ref_of, named, node_of, node_or, child_of, element_at, element_of, count_of, has_of, token_of, demand_of, quotient, remainder, computed, joined, is_instance, cast_to, index_of, exists_in, first_in, sum_in, elements_of, eval, eval_all}
 use Rattle.at_model.specs.Rules.{Rules, Kind, Attribute}
 use Rattle.at_model.specs.Rules as kind
-use Rattle.at_model.specs.Kinds.{ScopeKinds, HasKind, HaveKinds, AreComparable, IsArgumentForm, bound_kinds, shape_of_part, class_of_part, single_class, kind_of_token}
+use Rattle.at_model.specs.Kinds.{ScopeKinds, HasKind, HaveKinds, IsArgumentForm, bound_kinds, shape_of_part, class_of_part, single_class, kind_of_token}
 use Rattle.at_model.specs.Kinds as has
 use Rattle.at_model.specs.TypedRuns.{ClassAt, Texts, IsTypedRun, IsNodeOf, IsOfKind, IsAllowed, AreArguments, IsLocationThere, AreContentsTyped, IsOfScopeKinds}
 use Rattle.at_model.specs.Instances.{literals, all_literals}
@@ -19,6 +19,7 @@ use Rattle.at_model.proofs.TypedSteps.{then_typed, less_typed, either_typed}
 use borrow.Author.Differences.{fits_in, read_fits}
 use lib.Signed.{mag_rem}
 use Rattle.at_model.proofs.Everywhere.{both_all, found}
+use Rattle.at_model.proofs.WithinTree.{some_there}
 
 -- the two ways to say that an int has 32 bits
 fits_32 : (n : ℤ) → IsInt32 n → FitsSigned w32 n
@@ -37,9 +38,6 @@ natural_fits n h = h
 
 rem_fits : (a d : ℤ) → IsInt32 a → IsInt32 (int_rem a d)
 rem_fits a d f = let g = fits_32 a f in is_32 (int_rem a d) (record { sfits = omega (arith, mag_rem a d, g.sfits) })
-
-some_there : {A : Type 0} (o : Option A) (a : A) → o ≡ Some a → IsSome o
-some_there o a e = rw e refl
 
 module _ {N : Type 0} (rules : Rules) (lined : AreChained rules.classes) (at : ClassAt N) (Allowed : Texts) (look : Contents N) (contents : AreContentsTyped rules.classes at Allowed look) (same : N → N → Bool) where
   abbrev Typed : {A : Type 0} → (A → Type 0) → Run N A → Type 0

@@ -8,16 +8,15 @@ use Rattle.at_model.specs.Trees as held
 use Rattle.at_model.specs.Paths.{Node, tree_at}
 use Rattle.at_model.specs.Run.{Value, Int, Truth, Text, Ref, Instance}
 use Rattle.at_model.specs.Bodies.{value_of}
-use Rattle.at_model.specs.Rules.{Rules, Kind, Attribute, OwnEquation, InheritedEquation, attribute_named}
+use Rattle.at_model.specs.Rules.{Rules, Kind, OwnEquation, InheritedEquation}
 use Rattle.at_model.specs.Rules as kind
 use Rattle.at_model.specs.Machine.{fit_parameters, fits_parameter}
 use Rattle.at_model.specs.Meaning.{Among}
-use Rattle.at_model.proofs.Nodes.{both_of}
 use Rattle.at_model.specs.TypedRuns.{Texts, class_at, IsNodeOf, IsOfKind, IsAllowed, AreArguments, IsWellTyped}
 use Rattle.at_model.specs.Instances.{literals, literals_of, tokens, text_in, text_of_value, IsGiven, AreLiteralsAllowed}
 use Rattle.at_model.proofs.Listed.{among_left, among_right}
 use Rattle.at_model.proofs.Everywhere.{all_more, found}
-use Rattle.at_model.proofs.Options.{mapped, and_true}
+use Rattle.at_model.proofs.Options.{mapped, and_true, both}
 use Rattle.at_model.specs.Kinds.{AreTyped, IsParameter, IsDeclarationTyped}
 use Rattle.at_model.specs.Asking.{IsWellFormed}
 
@@ -89,7 +88,7 @@ module _ (classes : Classes) (t : Tree) (Allowed : Texts) where
   fit_kinds (w ∷ ws) [] h e = absurd (cc)
   fit_kinds [] (k ∷ ks) h e = absurd (cc)
   fit_kinds (w ∷ ws) (k ∷ ks) (h, hs) e =
-      let (x, y) = both_of (fits_parameter classes t k w) (fit_parameters classes t ks ws) e in
+      let (x, y) = both (fits_parameter classes t k w) (fit_parameters classes t ks ws) e in
       (fits_kind w k x, h, fit_kinds ws ks hs y)
 
   -- and back, where the parameters are texts and nodes

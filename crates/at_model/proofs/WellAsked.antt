@@ -1,6 +1,6 @@
 -- What a line asks is well formed, and all nodes in it are there.
 use Rattle.std.proofs.Common.{◌≡◌, ℕ, zero, suc, ◌<◌, Bool, true, false, ◌&&◌, if◌then◌else◌, List, [], ◌∷◌, length, get_or, Option, Some, None, refl, ap, subst, arith, option_and_then, map}
-use Rattle.std.specs.Prelude.{IsSome, position}
+use Rattle.std.specs.Prelude.{position}
 use Rattle.std.specs.List.{slice_get, AllByRecursion}
 use Rattle.std.specs.Str.{bytes_eq}
 use Rattle.std.proofs.lemmas.List.Quantifiers.{position-Some}
@@ -21,6 +21,7 @@ use Rattle.at_model.specs.Asking.{IsWellFormed}
 use Rattle.at_model.proofs.Changes.{at_option, node_all, whole}
 use Rattle.at_model.proofs.Options.{led, both}
 use Rattle.at_model.proofs.Commanded.{tellable}
+use Rattle.at_model.proofs.WithinTree.{some_there}
 
 inside : {A : Type 0} (xs : List A) (i : ℕ) (d : A) → i < length xs → slice_get xs i ≡ Some (get_or xs i d)
 inside [] i d h = let none : ⊥ = omega (arith, h) in absurd none
@@ -73,9 +74,6 @@ module _ (rules : Rules) (s : State) where
 
   pub well_asked : (l : Line) (q : Instance Node) → verdict rules s l ≡ Asks q → IsWellFormed rules s.tree q
   well_asked l = whole AsksWell none_asked rules s l (asks_well l.session l.command (is_question l.command) refl)
-
-some_there : {A : Type 0} (o : Option A) (a : A) → o ≡ Some a → IsSome o
-some_there o a e = rw e refl
 
 node_there : (t : Tree) (n : Node) (o : Option Tree) (P : Tree → Bool) → tree_at t n ≡ o → elim o as (λ _. Bool) [ None ↦ false | Some u ↦ P u ] ≡ true → IsThere t n
 node_there t n None P is e = absurd cc

@@ -13,17 +13,14 @@ use Rattle.at_model.specs.Alike.{OptionLike, neither, both, ListLike, end, more,
 use Rattle.at_model.proofs.EquationsAlike.{evaluation-like}
 use Rattle.at_model.proofs.CarryingSupport.{carried_value, leads_there, supports_there}
 use Rattle.at_model.proofs.WayUp.{snoc, parent_of-snoc, parent_there}
+use Rattle.at_model.proofs.Complete.{got}
 
 -- the same node, which is in the tree
 abbrev pub Within : Tree → Node → Node → Type 0
 Within t a b = (a ≡ b) × IsThere t a
 
-some_there : {A : Type 0} (o : Option A) (a : A) → o ≡ Some a → IsSome o
+pub some_there : {A : Type 0} (o : Option A) (a : A) → o ≡ Some a → IsSome o
 some_there o a e = rw e refl
-
-got : {A : Type 0} (o : Option A) → IsSome o → (a : A) × (o ≡ Some a)
-got None h = absurd (cc)
-got (Some a) h = (a, refl)
 
 below : (n : Node) (s : ℕ × ℕ) (u : Tree) (o : Option Tree) → ((w : Tree) → tree_at w n ≡ Some u → tree_at w (n ++ s ∷ []) ≡ slice_get (children_at u s.0) s.1) →
     option_and_then (λ w. tree_at w n) o ≡ Some u → option_and_then (λ w. tree_at w (n ++ s ∷ [])) o ≡ slice_get (children_at u s.0) s.1

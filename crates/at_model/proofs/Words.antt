@@ -10,6 +10,7 @@ use lib.Utf8.{encode}
 use Rattle.std.specs.Char.{is_ascii_alphabetic, is_ascii_alphanumeric}
 use Rattle.unicode_ident.proofs.IdentLemmas.{is_xid_start-ascii, is_xid_continue-ascii}
 use Rattle.at_model.specs.Names.{starts_name, continues_name, is_word, is_name, is_reserved}
+use Rattle.at_model.proofs.Options.{and_true}
 
 -- lists that begin with different bytes
 pub apart_bytes : (a b : ℕ) → nat_eq a b ≡ false → a ≡ b → ⊥
@@ -54,7 +55,7 @@ abbrev pub Ends : List ℕ → Type 0
 Ends [] = ⊤
 Ends (b ∷ bs) = list_any (nat_eq b) ends ≡ true
 
-all_and : (a b : Bool) → (a && b) ≡ true → (a ≡ true) × (b ≡ true)
+pub all_and : (a b : Bool) → (a && b) ≡ true → (a ≡ true) × (b ≡ true)
 all_and true true e = (refl, refl)
 all_and true false e = cc
 all_and false b e = cc
@@ -116,11 +117,6 @@ is_digit b = nat_le 48 b && nat_le b 57
 
 digit_inner : (b : ℕ) → is_digit b ≡ true → delimits b ≡ false
 digit_inner b h = apart_from is_digit b delimiters refl h
-
-and_true : (a b : Bool) → a ≡ true → b ≡ true → (a && b) ≡ true
-and_true true true e f = refl
-and_true true false e f = cc
-and_true false b e f = cc
 
 digit : (n : ℕ) → n < 10 → is_digit (48 + n) ≡ true
 digit n h = and_true (nat_le 48 (48 + n)) (nat_le (48 + n) 57) (grind (arith, nat_tests)) (grind (arith, nat_tests))

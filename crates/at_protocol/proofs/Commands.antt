@@ -1,5 +1,5 @@
 -- Commands, by their first words, and what stands behind these.
-use Rattle.std.proofs.Common.{◌≡◌, ◌≢◌, ℕ, ◌+◌, ◌*◌, List, [], ◌∷◌, ◌++◌, drop, Some, refl, ap, sym, ◌∙◌, arith}
+use Rattle.std.proofs.Common.{◌≡◌, ◌≢◌, ℕ, ◌+◌, List, ◌∷◌, ◌++◌, drop, Some, refl, ap, sym, ◌∙◌, arith}
 use Rattle.std.specs.Prelude.{codes}
 use Rattle.std.specs.List.{join_with_byte}
 use Rattle.std.specs.Fmt.{decimal}
@@ -7,6 +7,7 @@ use Rattle.at_model.specs.Paths.{IsIndex}
 use Rattle.at_model.specs.Lines.{Place, place_text, IsPlace, Command, Ask, Set, Put, Drop, Insert, Token, Show, Mark, Unmark, Where, Version, command_words}
 use Rattle.at_model.specs.Names.{IsName}
 use Rattle.at_model.proofs.Words.{apart_bytes}
+use Rattle.at_model.proofs.OneLine.{two}
 use Rattle.at_protocol.specs.Words.{HasNoSpace, IsPlaceText, IsNameText, IsIndexText, IsTermText, IsValueText}
 use Rattle.at_protocol.specs.Calls.{IsCallText}
 use Rattle.at_protocol.specs.Commands.{IsCommandText}
@@ -28,12 +29,6 @@ name_then name text rest IsRest h e k = ((name, rest), record { word = name; is_
 
 index_then : (index : ℕ) (text rest : List ℕ) (IsRest : List ℕ → Type 0) → IsIndex (Some index) → text ≡ decimal index ++ 32 ∷ rest → IsRest rest → Then IsIndexText IsRest text
 index_then index text rest IsRest h e k = ((index, rest), record { word = decimal index; is_text = (h, refl); one = no_space_decimal index (omega (arith, h)); split = e }, k)
-
--- the first two bytes tell the commands apart
-abbrev two : List ℕ → ℕ
-two [] = 0
-two (b ∷ []) = b
-two (b ∷ c ∷ bs) = b + 256 * c
 
 abbrev text_of : Command → List ℕ
 text_of c = join_with_byte 32 (command_words c)

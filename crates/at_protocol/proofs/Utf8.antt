@@ -17,10 +17,11 @@ use Rattle.at_model.specs.Lines as line
 use Rattle.at_model.specs.Lines.{Place, From_root, From_mark, Argument, Command, Ask, Set, Put, Drop, Insert, Token, Show, Mark, Unmark, Where, Version, Line, place_text, argument_text, call_text, command_words, line_text, IsPlace, IsArgument, IsCommand, IsVersion, IsLine}
 use Rattle.at_model.specs.Names.{IsName}
 use Rattle.at_model.proofs.OneLine.{body_text, line_flat}
+use Rattle.at_model.proofs.Options.{both}
 use Rattle.at_text.proofs.Characters.{plain}
 use Rattle.at_tree.proofs.Machine.{utf8_char}
-use Rattle.at_tree.proofs.Pieces.{both, utf8_ascii}
-use Rattle.at_protocol.proofs.Values.{mag_small}
+use Rattle.at_tree.proofs.Pieces.{utf8_ascii}
+use Rattle.at_text.proofs.Decimals.{mag_small}
 
 utf8_cons : (b : ℕ) (bs : List ℕ) → b < 128 → IsUtf8 bs → IsUtf8 (b ∷ bs)
 utf8_cons b bs h u = IsUtf8-append (b ∷ []) bs (utf8_ascii b h) u

@@ -14,6 +14,7 @@ use Rattle.std.proofs.lemmas.Option.{none-some, slice_get-get_or, slice_get_past
 use Rattle.at_model.specs.Classes.{chain}
 use Rattle.at_model.specs.Bodies.{Expr}
 use Rattle.at_model.specs.Rules.{InheritedEquation, Rules, first_answer, inherited_in, inherited_equation, part_eq}
+use Rattle.at_model.proofs.Options.{and_off}
 use Rattle.at_rules.specs.declared.body.Body.{Body}
 use Rattle.at_rules.specs.declared.rules.Attribute.{Attribute as AttributeValue}
 use Rattle.at_rules.specs.Bodies.{body_view}
@@ -47,10 +48,6 @@ same_key names apart c a o p n m within other =
     ∙ ap (λ x. (nat_eq a c && x) && nat_eq n m) (same_part o p)
     ∙ ap (λ x. (nat_eq a c && part_eq p o) && x) (same_either n m ∙ sym (same_text names apart m n other within))
 
-pub off : (a b : Bool) → b ≡ false → (a && b) ≡ false
-off true b is = is
-off false b is = refl
-
 pub beyond : (n i l : ℕ) → n < l → nat_lt i l ≡ false → nat_eq n i ≡ false
 beyond n i l within out = by (nat_eq n i) refl
   where
@@ -75,7 +72,7 @@ found_by_number names apart n within o c (e ∷ es) = by (found_by_number names 
         → option_map body_view (cond ((nat_eq c e.0.0 && option_eq nat_eq o e.0.1) && nat_eq n e.0.2) (Some e.1) (lookup (λ k. (nat_eq c k.0 && option_eq nat_eq o k.1) && nat_eq n k.2) es))
         ≡ option_map (λ (e : InheritedEquation). e.body) (find (λ e. (nat_eq e.class c && part_eq e.part o) && bytes_eq e.name (text_of names n)) (map (inherited_view names) (cond b (e ∷ named names es) (named names es))))
     by rest true is = here rest _ _ (same_key names apart c e.0.0 o e.0.1 n e.0.2 within (ltb-true e.0.2 (length names) is))
-    by rest false is = ap (λ b. option_map body_view (cond b (Some e.1) (lookup (λ k. (nat_eq c k.0 && option_eq nat_eq o k.1) && nat_eq n k.2) es))) (off (nat_eq c e.0.0 && option_eq nat_eq o e.0.1) (nat_eq n e.0.2) (beyond n e.0.2 (length names) within is)) ∙ rest
+    by rest false is = ap (λ b. option_map body_view (cond b (Some e.1) (lookup (λ k. (nat_eq c k.0 && option_eq nat_eq o k.1) && nat_eq n k.2) es))) (and_off (nat_eq c e.0.0 && option_eq nat_eq o e.0.1) (nat_eq n e.0.2) (beyond n e.0.2 (length names) within is)) ∙ rest
 
 pub same_answer : {B : Type 0} (f g : ℕ → Option B) → ((c : ℕ) → f c ≡ g c) → (cs : List ℕ) → first_answer f cs ≡ first_answer g cs
 same_answer f g same [] = refl
@@ -97,7 +94,7 @@ lacks_found names text lacks o c (e ∷ es) = by (lacks_found names text lacks o
   where
     by : option_map (λ (e : InheritedEquation). e.body) (find (λ e. (nat_eq e.class c && part_eq e.part o) && bytes_eq e.name text) (map (inherited_view names) (named names es))) ≡ None → (b : Bool) → nat_lt e.0.2 (length names) ≡ b
         → option_map (λ (e : InheritedEquation). e.body) (find (λ e. (nat_eq e.class c && part_eq e.part o) && bytes_eq e.name text) (map (inherited_view names) (cond b (e ∷ named names es) (named names es)))) ≡ None
-    by rest true is = ap (λ b. option_map (λ (e : InheritedEquation). e.body) (cond b (Some (inherited_view names e)) (find (λ e. (nat_eq e.class c && part_eq e.part o) && bytes_eq e.name text) (map (inherited_view names) (named names es))))) (off (nat_eq e.0.0 c && part_eq e.0.1 o) _ (lacks_each names text lacks e.0.2 (ltb-true e.0.2 (length names) is))) ∙ rest
+    by rest true is = ap (λ b. option_map (λ (e : InheritedEquation). e.body) (cond b (Some (inherited_view names e)) (find (λ e. (nat_eq e.class c && part_eq e.part o) && bytes_eq e.name text) (map (inherited_view names) (named names es))))) (and_off (nat_eq e.0.0 c && part_eq e.0.1 o) _ (lacks_each names text lacks e.0.2 (ltb-true e.0.2 (length names) is))) ∙ rest
     by rest false is = rest
 
 no_answer_of : {B : Type 0} (f : ℕ → Option B) → ((c : ℕ) → f c ≡ None) → (cs : List ℕ) → first_answer f cs ≡ None

@@ -12,11 +12,12 @@ use Rattle.std.proofs.lemmas.List.Quantifiers.{position-Some}
 use Rattle.std.proofs.lemmas.Option.{none-some, slice_get-get_or, slice_get_past}
 use Rattle.at_class.proofs.Named.{position-map}
 use Rattle.at_model.specs.Classes.{Classes, chain_within, parent_of}
+use Rattle.at_model.proofs.Options.{and_off}
 use Rattle.at_rules.specs.declared.rules.Attribute.{Attribute as AttributeValue}
 use Rattle.at_rules.specs.RulesView.{text_of, attribute_view, LacksText}
 use Rattle.at_rules.specs.Upward.{earlier, declares, declared_in}
 use Rattle.at_rules.proofs.Lookups.{same_either}
-use Rattle.at_rules.proofs.Numbers.{same_text, lacks_each, beyond, off}
+use Rattle.at_rules.proofs.Numbers.{same_text, lacks_each, beyond}
 use Rattle.at_rules.proofs.Earlier.{either, earlier_assoc, earlier_none}
 
 none_of : {A : Type 0} (p : A → Bool) → ((x : A) → p x ≡ false) → (i : ℕ) (xs : List A) → position_from p i xs ≡ None
@@ -53,7 +54,7 @@ is_within p [] (Some i) is = absurd (none-some i (sym is))
 is_within p (x ∷ xs) (Some i) is = (position-Some p (x ∷ xs) i x (sym is)).0
 
 any_both : (a : Bool) (c : ℕ) (cs : List ℕ) → list_any (λ b. nat_eq b c && a) cs ≡ (a && list_any (nat_eq c) cs)
-any_both a c [] = sym (off a false refl)
+any_both a c [] = sym (and_off a false refl)
 any_both a c (b ∷ cs) = ap (λ x. (x && a) || list_any (λ b. nat_eq b c && a) cs) (same_either b c) ∙ ap (λ x. (nat_eq c b && a) || x) (any_both a c cs) ∙ by (nat_eq c b) a (list_any (nat_eq c) cs)
   where
     by : (x z y : Bool) → ((x && z) || (z && y)) ≡ (z && (x || y))

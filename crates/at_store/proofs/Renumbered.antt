@@ -8,8 +8,8 @@ use Rattle.std.proofs.lemmas.Option.{slice_get-map}
 use Rattle.at_model.specs.Trees.{Tree, Cell, class_of, children}
 use Rattle.at_model.specs.Paths.{Node, tree_at, cell_at, children_at, node_eq}
 use Rattle.at_model.specs.Edits.{with_cell, with_node, moved_under}
-use Rattle.at_model.proofs.Nodes.{both_of, node_eq-sound, step_eq-refl}
-use Rattle.at_model.proofs.Options.{mapped}
+use Rattle.at_model.proofs.Nodes.{node_eq-sound, step_eq-refl}
+use Rattle.at_model.proofs.Options.{mapped, both}
 use Rattle.at_model.proofs.WayUp.{snoc, parent_of-snoc}
 use Rattle.at_model.proofs.WithinTree.{tree_at-snoc}
 use Rattle.at_model.proofs.Moving.{Way, KeepsParts, moved-nil, moved-snoc}
@@ -135,7 +135,7 @@ module _ (g : Cell → Cell) (part : ℕ) (past : Way → Option Way) (IsNew : T
         where
           by_test : (b : Bool) → (node_eq p k && nat_eq part s.0) ≡ b → index_at 0 n ≡ index_at 0 m
           by_test true h =
-              let (a, b) = both_of (node_eq p k) (nat_eq part s.0) h in
+              let (a, b) = both (node_eq p k) (nat_eq part s.0) h in
               let n_is : n ≡ p ++ s ∷ [] = e ∙ ap (λ z. z ++ s ∷ []) (sym (node_eq-sound p k a)) in
               ap (index_at 0) e ∙ index_snoc 0 k s ∙ at_child s n_is (eqb-true part s.0 b)
           by_test false h =

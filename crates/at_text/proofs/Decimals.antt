@@ -1,5 +1,5 @@
 -- Numbers that are parsed are those that are spelled.
-use Rattle.std.proofs.Common.{◌≡◌, ℕ, ℤ, ◌<◌, ◌^◌, Bool, true, false, List, Result, Ok, pos, negsuc, refl, sym, ◌∙◌, arith}
+use Rattle.std.proofs.Common.{◌≡◌, ℕ, ℤ, ◌<◌, ◌^◌, Bool, true, false, List, Result, Ok, pos, negsuc, sym, ◌∙◌, arith}
 use lib.Signed.{mag}
 use mir.Val.{to_z, of_z}
 use Rattle.std.proofs.lemmas.Int.{to_z-of_z}
@@ -19,7 +19,7 @@ fits_32 : (n : ℤ) → IsInt32 n → FitsSigned w32 n
 fits_32 (pos n) h = omega arith
 fits_32 (negsuc n) h = omega arith
 
-mag_small : (n : ℤ) → IsInt32 n → mag n < 2 ^ 63
+pub mag_small : (n : ℤ) → IsInt32 n → mag n < 2 ^ 63
 mag_small (pos n) h = omega arith
 mag_small (negsuc n) h = omega arith
 

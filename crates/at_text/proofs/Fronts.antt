@@ -1,5 +1,5 @@
 -- Characters at the front of a text.
-use Rattle.std.proofs.Common.{◌≡◌, ℕ, ◌+◌, ◌<◌, List, [], ◌∷◌, ◌++◌, length, Bool, true, false, ◌&&◌, ◌||◌, not, true≢false, refl, sym, ap, subst, ◌∙◌, append_assoc, append-nil, drop, get_or, ◌==◌, eqb-true, Option, Some, None, MatchOption, ◌≢◌, length-append, arith, IsUtf8, IsCharBoundary}
+use Rattle.std.proofs.Common.{◌≡◌, ℕ, ◌+◌, ◌<◌, List, [], ◌∷◌, ◌++◌, length, Bool, true, false, ◌||◌, not, true≢false, refl, sym, ap, subst, ◌∙◌, append_assoc, append-nil, drop, get_or, ◌==◌, eqb-true, Option, Some, None, MatchOption, ◌≢◌, length-append, arith, IsUtf8, IsCharBoundary}
 use Rattle.std.specs.Str.{encode_utf8_all}
 use Rattle.std.specs.Char.{encode_utf8}
 use Rattle.std.specs.List.{AllByRecursion}
@@ -15,10 +15,6 @@ use Rattle.at_text.specs.Pieces.{NotBefore, IsLongestRun, HasNoEnd}
 -- a test doesn't answer twice
 pub clash : (b : Bool) → b ≡ true → b ≡ false → ⊥
 clash b t f = true≢false (sym t ∙ f)
-
-pub both : (a b : Bool) → (a && b) ≡ true → (a ≡ true) × (b ≡ true)
-both true b e = (refl, e)
-both false b e = absurd (clash false e refl)
 
 pub not_false : (b : Bool) → not b ≡ true → b ≡ false
 not_false true e = absurd (clash false e refl)

@@ -9,8 +9,9 @@ use Rattle.std.proofs.lemmas.Slice.Eq.{bytes_eq-Decides}
 use Rattle.unicode_ident.proofs.IdentLemmas.{is_xid_start-ascii}
 use Rattle.at_model.specs.Names.{starts_name}
 use Rattle.at_model.specs.Texts.{escaped}
+use Rattle.at_model.proofs.Options.{both}
 use Rattle.at_text.specs.Pieces.{Piece, Blank, LineComment, BlockComment, Name, Number, Quoted, Sign, spell, IsPiece, is_blank, is_sign, signs}
-use Rattle.at_text.proofs.Fronts.{clash, both, not_false}
+use Rattle.at_text.proofs.Fronts.{clash, not_false}
 
 abbrev family_by : Bool → ℕ → ℕ
 family_by starts c = cond (is_blank c) 0 (cond starts 1 (cond (is_ascii_digit c) 2 (cond (c == 34) 3 4)))

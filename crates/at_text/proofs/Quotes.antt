@@ -2,6 +2,7 @@
 use Rattle.std.proofs.Common.{◌≡◌, ℕ, List, [], ◌∷◌, ◌++◌, length, length-append, Bool, true, false, cond, ◌==◌, ◌&&◌, not, Option, Some, None, is_some, true≢false, refl, sym, ap, subst, ◌∙◌, append_assoc, append-nil, eqb-true, get_or, lit<, ◌<◌, ◌≢◌, suc, arith, encode_utf8, IsUtf8}
 use Rattle.std.specs.List.{flat_map}
 use Rattle.at_model.specs.Texts.{escaped}
+use Rattle.at_model.proofs.Options.{both}
 use Rattle.std.proofs.lemmas.Bool.Decides.{nat_tests}
 use lib.Utf8.{scalar}
 use Rattle.std.specs.Char.{IsScalar}
@@ -10,7 +11,7 @@ use Rattle.std.proofs.lemmas.Grind.{flat_map-append}
 use Rattle.std.proofs.lemmas.Str.{IsUtf8-nil, IsUtf8-append, encode_ascii, IsUtf8-encode, inside_one, char_from_byte, cons_from_encodes, length-encode, len_utf8_bounds}
 use Rattle.at_text.specs.Faults.{makes_escape, leaves_open, is_misplaced}
 use Rattle.at_text.specs.Front.{MeansNone, Means, stands_for_itself}
-use Rattle.at_text.proofs.Fronts.{clash, both, neither}
+use Rattle.at_text.proofs.Fronts.{clash, neither}
 
 -- the byte that an escape means
 abbrev meant : ℕ → List ℕ → Option (ℕ × List ℕ)

@@ -6,7 +6,8 @@ use Rattle.std.specs.List.{list_all, list_any}
 use Rattle.std.specs.Str.{bytes_eq}
 use Rattle.std.proofs.lemmas.Slice.Eq.{bytes_eq-Decides}
 use Rattle.at_model.specs.Names.{is_reserved, reserved_words}
-use Rattle.at_text.proofs.Fronts.{clash, both, not_false}
+use Rattle.at_model.proofs.Options.{both, or_false}
+use Rattle.at_text.proofs.Fronts.{clash, not_false}
 
 -- the text is one of the words
 abbrev pub is_among : List (List ℕ) → List ℕ → Bool
@@ -36,10 +37,6 @@ same_either_way a b = decide (bytes_eq a b) (bytes_eq b a) refl refl
     decide true false e f = absurd (clash (bytes_eq b a) ((bytes_eq-Decides b a).1 (sym ((bytes_eq-Decides a b).0 e))) f)
     decide false true e f = absurd (clash (bytes_eq a b) ((bytes_eq-Decides a b).1 (sym ((bytes_eq-Decides b a).0 f))) e)
     decide false false e f = refl
-
-or_false : (b : Bool) → (b || false) ≡ b
-or_false true = refl
-or_false false = refl
 
 -- the text begins before the small letters
 abbrev pub begins_early : List ℕ → Bool

@@ -4,9 +4,10 @@ use Rattle.std.specs.List.{flat_map}
 use Rattle.std.proofs.lemmas.Bool.Decides.{nat_tests}
 use Rattle.std.proofs.lemmas.Str.{encode_same, length-encode, len_utf8_bounds}
 use Rattle.at_model.specs.Texts.{escaped}
+use Rattle.at_model.proofs.Options.{both}
 use Rattle.at_text.specs.Pieces.{Piece, Blank, LineComment, BlockComment, Name, Number, Quoted, Sign, spell, IsPiece, HasNoEnd, opens_comment, is_sign, signs}
 use Rattle.at_text.specs.Faults.{leaves_open, makes_escape, is_misplaced, OpensText}
-use Rattle.at_text.proofs.Fronts.{clash, both, not_false, tail_same}
+use Rattle.at_text.proofs.Fronts.{clash, not_false, tail_same}
 use Rattle.at_text.proofs.Quotes.{unescaped, no_escape, same_body}
 use Rattle.at_text.proofs.Openings.{family, family_at, opening, plain, slash, quote}
 use Rattle.at_text.proofs.Same.{apart, behind_slash}

@@ -7,8 +7,9 @@ use Rattle.std.proofs.lemmas.Bool.Decides.{nat_tests}
 use Rattle.std.proofs.lemmas.Str.{encode_ascii}
 use lib.Utf8.{encode, low_scalar}
 use Rattle.at_model.specs.Texts.{escaped}
+use Rattle.at_model.proofs.Options.{both}
 use Rattle.at_tree.specs.Partial.{unescaped}
-use Rattle.at_tree.proofs.Pieces.{both, same, other, choose}
+use Rattle.at_tree.proofs.Pieces.{same, other, choose}
 
 -- the bytes of a character of more than one
 abbrev high : List ℕ → Bool

@@ -1,23 +1,21 @@
 -- Trees and cells that are taken from the front of a text.
 use Rattle.std.proofs.Common.{◌≡◌, ℕ, ◌+◌, ◌-◌, ◌<◌, ◌≤◌, zero, List, [], ◌∷◌, ◌++◌, length, take, get_or, map, refl, ap, sym, ◌∙◌, subst, append_assoc, arith, suc, drop, take_all, Some, None, Option}
-use Rattle.std.specs.Prelude.{Bool, true, false, ◌&&◌, ℤ, pos, negsuc, FitsSigned}
-use Rattle.std.specs.Int.{w32}
-use mir.Val.{to_z, of_z}
+use Rattle.std.specs.Prelude.{Bool, true, false, ◌&&◌}
 use lib.Seq.{drop_at, get_or-append_seam}
 use Rattle.std.specs.List.{flat_map}
 use Rattle.std.specs.Str.{bytes_eq, IsUtf8, IsCharBoundary}
 use Rattle.std.proofs.lemmas.List.{length-append, length-map, map_more, take-map}
 use Rattle.std.proofs.lemmas.List.Quantifiers.{position-Some}
 use Rattle.std.proofs.lemmas.Option.{slice_get-get_or}
-use Rattle.std.proofs.lemmas.Int.{to_z-of_z}
 use Rattle.std.proofs.lemmas.Str.{IsCharBoundary-after_ascii}
-use Rattle.std.proofs.lemmas.Slice.Eq.{bytes_eq-Decides}
 use Rattle.at_model.specs.Classes.{Classes, Class, Component, Shape, class_of_name, name_of, fits, parts}
 use Rattle.at_model.specs.Classes as class
 use Rattle.at_model.specs.Names.{IsName}
-use Rattle.at_model.specs.Terms.{IsInt32, IsTermWithin, AreCellsWithin, IsCellWithin, AreTermsWithin, term_of, cells_of, cell_of, terms_of, tree_text, cell_text, cell_texts, term_texts, with_commas}
+use Rattle.at_model.specs.Terms.{IsTermWithin, AreCellsWithin, IsCellWithin, AreTermsWithin, term_of, cells_of, cell_of, terms_of, tree_text, cell_text, cell_texts, term_texts, with_commas}
 use Rattle.at_model.specs.Texts.{escaped, quoted}
 use Rattle.at_model.specs.Trees.{Tree, Node, Cells, Cell, Many, to_cells, to_trees, conforms, cells_conform, cell_conforms, trees_conform}
+use Rattle.at_model.proofs.Options.{both as and_both}
+use Rattle.at_model.proofs.Shaped.{same_bytes}
 use Rattle.at_class.specs.View.{part_view, shape_view}
 use Rattle.at_class.specs.declared.part.Part.{Part}
 use Rattle.at_tree.specs.Separated.{separator}
@@ -25,9 +23,6 @@ use Rattle.at_tree.specs.Fronts.{IsTreeFront, IsCellFront, AreCellsFront}
 use Rattle.at_tree.proofs.TreeTexts.{with_commas-push}
 
 -- a class's name ------------------------------------------------------------------------------------------------------
-
-same_bytes : (xs ys : List ℕ) → bytes_eq xs ys ≡ true → xs ≡ ys
-same_bytes xs ys e = (bytes_eq-Decides xs ys).0 e
 
 pub name_found : (classes : Classes) (name : List ℕ) (c : ℕ) → class_of_name classes name ≡ Some c → name_of classes c ≡ name
 name_found classes name c e =
@@ -73,10 +68,6 @@ texts-push classes (x ∷ xs) c = ap (λ ys. cell_text (cell_of classes x) ∷ y
 texts-length : (classes : Classes) (cs : List Cell) → length (cell_texts (cells_of classes (to_cells cs))) ≡ length cs
 texts-length classes [] = refl
 texts-length classes (x ∷ xs) = ap suc (texts-length classes xs)
-
-and_both : (a b : Bool) → (a && b) ≡ true → (a ≡ true) × (b ≡ true)
-and_both true b h = (refl, h)
-and_both false b h = absurd (cc)
 
 conform-push : (classes : Classes) (cs : List Cell) (ps : List Component) (c : Cell) (p : Component) → cells_conform classes (to_cells cs) ps ≡ true → cell_conforms classes c p.shape ≡ true → cells_conform classes (to_cells (cs ++ c ∷ [])) (ps ++ p ∷ []) ≡ true
 conform-push classes [] [] c p h k = and_true _ _ k refl
@@ -180,10 +171,3 @@ pub behind_quote : (text value rest : List ℕ) (n : ℕ) → text ≡ quoted va
 behind_quote text value rest n e is = ap (λ y. quoted value ++ y) (ap (drop n) e ∙ drop_at (quoted value) rest n (sym is)) ∙ sym e
 
 -- numbers -------------------------------------------------------------------------------------------------------------
-
-fits_32 : (n : ℤ) → IsInt32 n → FitsSigned w32 n
-fits_32 (pos n) h = omega arith
-fits_32 (negsuc n) h = omega arith
-
-pub same_int : (n : ℤ) → IsInt32 n → to_z w32 (of_z w32 n) ≡ n
-same_int n h = to_z-of_z w32 n (fits_32 n h)

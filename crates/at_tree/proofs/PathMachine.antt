@@ -11,11 +11,12 @@ use Rattle.std.proofs.lemmas.Str.{chars-nil, IsUtf8-append}
 use Rattle.unicode_ident.proofs.IdentLemmas.{is_xid_continue-ascii}
 use Rattle.at_model.specs.Names.{starts_name, continues_name, is_word, is_name, IsName, is_reserved}
 use Rattle.at_model.specs.Paths.{Step, Path, IsStep, IsPath, step_text, index_text, path_text}
+use Rattle.at_model.proofs.Options.{both}
 use Rattle.at_tree.specs.Stops.{IsFront}
 use Rattle.at_tree.specs.Partial.{is_digit}
 use Rattle.at_tree.specs.PartialPath.{Place, Start, Slash, InPart, Colon, InIndex, Partial, at, nothing_read, plain, indexed, next_step, in_part, in_colon, in_index, step_at, step, whole_at, whole_path}
 use Rattle.at_tree.proofs.Machine.{Machine, IsTextOf, run, utf8_char}
-use Rattle.at_tree.proofs.Pieces.{both, not_true, choose, OnStep, ascii, utf8_ascii, run_byte, word_one, word_longer, longer_name, shortest_name, run_name, digit_bounds, low_digit, digit_bytes, one_digit, more_digits, run_decimal}
+use Rattle.at_tree.proofs.Pieces.{not_true, choose, OnStep, ascii, utf8_ascii, run_byte, word_one, word_longer, longer_name, shortest_name, run_name, digit_bounds, low_digit, digit_bytes, one_digit, more_digits, run_decimal}
 
 abbrev pub place_text : Place → List ℕ
 place_text Start = []

@@ -1,5 +1,5 @@
 -- Names and decimals as pieces of a text: what they may go on with, and how a reader runs over them.
-use Rattle.std.proofs.Common.{◌≡◌, ℕ, ◌+◌, ◌-◌, ◌*◌, ◌<◌, ◌≤◌, Bool, true, false, ◌&&◌, ◌==◌, cond, nat_le, not, List, [], ◌∷◌, ◌++◌, Option, Some, None, refl, ap, sym, ◌∙◌, subst, append_assoc, append-nil, lit<, arith, encode_utf8_all}
+use Rattle.std.proofs.Common.{◌≡◌, ℕ, ◌+◌, ◌-◌, ◌*◌, ◌<◌, ◌≤◌, Bool, true, false, ◌==◌, cond, nat_le, not, List, [], ◌∷◌, ◌++◌, Option, Some, None, refl, ap, sym, ◌∙◌, subst, append_assoc, append-nil, lit<, arith, encode_utf8_all}
 use Rattle.std.specs.Prelude.{chars, encode_utf8, IsUtf8, ◌/◌, ◌%◌, ◌^◌}
 use Rattle.std.specs.List.{list_all, list_any}
 use Rattle.std.specs.Str.{bytes_eq}
@@ -12,14 +12,9 @@ use Rattle.std.proofs.lemmas.Str.{encode_ascii, chars-append, chars-nil, encodes
 use lib.Utf8.{low_scalar}
 use Rattle.unicode_ident.proofs.IdentLemmas.{is_xid_start-ascii, is_xid_continue-ascii}
 use Rattle.at_model.specs.Names.{starts_name, continues_name, is_word, is_name, is_reserved, reserved_words}
+use Rattle.at_model.proofs.Options.{both}
 use Rattle.at_tree.specs.Partial.{is_digit}
 use Rattle.at_tree.proofs.Machine.{run, utf8_char, chars_char}
-
--- tests
-pub both : (a b : Bool) → (a && b) ≡ true → (a ≡ true) × (b ≡ true)
-both true true e = (refl, refl)
-both true false e = cc
-both false b e = cc
 
 pub same : (a b : ℕ) → (a == b) ≡ true → a ≡ b
 same a b e = grind (arith, nat_tests)

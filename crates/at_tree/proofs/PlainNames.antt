@@ -12,8 +12,8 @@ use Rattle.std.proofs.lemmas.Str.{chars-IsAscii, IsUtf8-from_ascii, IsCharBounda
 use Rattle.std.proofs.lemmas.Str.Ascii.{IsAscii-nil, IsAscii-cons}
 use Rattle.unicode_ident.proofs.IdentLemmas.{is_xid_start-ascii, is_xid_continue-ascii}
 use Rattle.at_model.specs.Names.{starts_name, continues_name, is_word, IsName, is_reserved}
+use Rattle.at_model.proofs.Options.{both}
 use Rattle.at_tree.specs.PlainNames.{is_name_byte, name_len, begins_name}
-use Rattle.at_tree.proofs.Pieces.{both}
 
 below_128 : (b : ℕ) → is_name_byte b ≡ true → b < 128
 below_128 b h = grind (arith, nat_tests, h)

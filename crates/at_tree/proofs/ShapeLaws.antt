@@ -1,11 +1,9 @@
 -- The tree that is found is the one tree that conforms and is written so.
-use Rattle.std.proofs.Common.{◌≡◌, ◌<◌, ◌-◌, ℕ, [], refl, ap, sym, ◌∙◌, Option, Some, None, subst}
-use Rattle.std.specs.Prelude.{Bool, true, false, ◌&&◌, length, not}
-use Rattle.std.specs.List.{slice_get}
-use Rattle.std.proofs.lemmas.Option.{slice_get-get_or, slice_get_within, same_Some, none-some}
-use Rattle.at_model.specs.Classes.{Classes, Class as ClassRecord, AreSound, name_of, is_concrete, fits, is_sub}
+use Rattle.std.proofs.Common.{◌≡◌, ◌<◌, ℕ, [], ap, sym, ◌∙◌, Some, None, subst}
+use Rattle.std.specs.Prelude.{true, false, length}
+use Rattle.std.proofs.lemmas.Option.{slice_get-get_or, same_Some, none-some}
+use Rattle.at_model.specs.Classes.{Classes, Class as ClassRecord, AreSound, name_of}
 use Rattle.at_model.specs.Names.{IsName}
-use Rattle.at_model.specs.Classes as class
 use Rattle.at_model.specs.Terms.{Term, term_of}
 use Rattle.at_model.specs.Trees.{Tree, conforms}
 use Rattle.at_tree.specs.declared.tree.shaping.ShapeFault.{ShapeFault}
@@ -13,17 +11,6 @@ use Rattle.at_tree.specs.declared.tree.shaping.ShapeFault.TheVariants.{Class, Fi
 use Rattle.at_model.specs.Shaping.{shaped, names_classes}
 use Rattle.at_model.proofs.Shaped.{shaped_conforms, conforms_shaped}
 use Rattle.at_tree.specs.Shape.{IsShaped, IsMisshaped, IsNoneAtFit}
-
-and_both : (a b : Bool) → (a && b) ≡ true → (a ≡ true) × (b ≡ true)
-and_both true b h = (refl, h)
-and_both false b h = absurd (cc)
-
--- a class that fits is there
-fits-within : (classes : Classes) (c b : ℕ) → fits classes c b ≡ true → c < length classes
-fits-within classes c b h = by (slice_get classes c) refl (and_both (is_concrete classes c) (is_sub classes c b) h).0 where
-  by : (o : Option ClassRecord) → slice_get classes c ≡ o → is_concrete classes c ≡ true → c < length classes
-  by None e concrete = absurd (cc (sym concrete ∙ ap (λ o. elim o [ None ↦ false | Some k ↦ not k.is_abstract ]) e))
-  by (Some k) e concrete = slice_get_within classes c k e
 
 pub found-is : (classes : Classes) (t : Term) (b : ℕ) (u : Tree) → shaped classes t b ≡ Some u → IsShaped classes t b u
 found-is classes t b u h = let both = shaped_conforms classes t b u h in record { conforms = both.0; written = both.1 }

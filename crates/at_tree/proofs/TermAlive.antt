@@ -10,11 +10,12 @@ use Rattle.at_model.specs.Names.{is_name}
 use Rattle.at_model.specs.Texts.{escaped}
 use Rattle.at_model.specs.Trees.{Text, Int, Truth}
 use Rattle.at_model.specs.Terms.{Term, Node, no_cells, Cell, One, Many, Empty, Holds, no_terms, term_text, cell_text, token_text, IsTerm, IsTermWithin, IsCellWithin, AreTermsWithin}
+use Rattle.at_model.proofs.Options.{both}
 use Rattle.at_tree.specs.Stops.{IsFront}
 use Rattle.at_tree.specs.View.{to_cells, to_terms}
 use Rattle.at_tree.specs.Partial.{Level, Place, Start, InWord, Dash, Digits, InText, Escape, Whole, Item, Done, Partial, integer, takes_cell, can_open, begins_truth}
 use Rattle.at_tree.proofs.Machine.{IsTextOf}
-use Rattle.at_tree.proofs.Pieces.{both, utf8_ascii, longer_name, shortest_name}
+use Rattle.at_tree.proofs.Pieces.{utf8_ascii, longer_name, shortest_name}
 use Rattle.at_tree.proofs.TermSpelled.{openings, place_text, spelled, cell_texts_of, term_texts_of}
 use Rattle.at_tree.proofs.TermSteps.{room, LevelsFit, TakesCell, PlaceFits, PartialFits, cells_fit_push, terms_fit_push, node_fits, opens, takes, integer_text, integer_fits}
 

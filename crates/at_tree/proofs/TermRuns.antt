@@ -13,10 +13,11 @@ use Rattle.at_model.specs.Names.{starts_name, continues_name, is_word, is_reserv
 use Rattle.at_model.specs.Texts.{escaped, quoted}
 use Rattle.at_model.specs.Trees.{Token, Text, Int, Truth}
 use Rattle.at_model.specs.Terms.{Term, Node, Cells, no_cells, cell, Cell, One, Many, Empty, Holds, Terms, no_terms, term, term_text, cell_texts, term_texts, cell_text, token_text, with_commas, IsTermWithin, IsCellWithin, AreCellsWithin, AreTermsWithin, IsInt32}
+use Rattle.at_model.proofs.Options.{both, or_right}
 use Rattle.at_tree.specs.View.{to_cells, to_terms}
 use Rattle.at_tree.specs.Partial.{Level, Start, InWord, Dash, Digits, InText, Escape, Whole, Partial, at, is_digit, limit, can_open, begins_truth, may_be_word, complete, in_cell, after_word, first, in_digits, in_dash, in_text, step}
 use Rattle.at_tree.proofs.Machine.{run, utf8_char, chars_char}
-use Rattle.at_tree.proofs.Pieces.{both, same, other, not_true, run_byte, run_name, low_digit, run_decimal}
+use Rattle.at_tree.proofs.Pieces.{same, other, not_true, run_byte, run_name, low_digit, run_decimal}
 use Rattle.at_tree.proofs.Escapes.{plain_text}
 use Rattle.at_tree.proofs.TermSteps.{room}
 
@@ -65,10 +66,6 @@ digit_starts_none n h =
     let a : is_ascii_alphabetic (48 + n) ≡ false = grind (arith, nat_tests) in
     let b : (48 + n == 95) ≡ false = grind (arith, nat_tests) in
     starts_none (48 + n) (omega arith) a b
-
-or_true : (a b : Bool) → b ≡ true → (a || b) ≡ true
-or_true true b e = refl
-or_true false b e = e
 
 module _ (name : List ℕ) (cells : List Cell) (fs : List Level) where
   abbrev here : List Level
@@ -120,7 +117,7 @@ module _ (name : List ℕ) (cells : List Cell) (fs : List Level) where
 
   -- true and false
   may : (word : List ℕ) → begins_truth word ≡ true → may_be_word here word ≡ true
-  may word e = or_true (can_open here) (begins_truth word) e
+  may word e = or_right (can_open here) (begins_truth word) e
 
   first_letter : (c : ℕ) → c < 128 → is_ascii_alphabetic c ≡ true → begins_truth (c ∷ []) ≡ true → first here c ≡ Some (at here (InWord (c ∷ [])))
   first_letter c h a e = rw (is_xid_start-ascii c h, a, encode_ascii c h, may (c ∷ []) e) refl

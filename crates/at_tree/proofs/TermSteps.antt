@@ -13,10 +13,11 @@ use Rattle.at_model.specs.Names.{starts_name, continues_name, is_word, is_name, 
 use Rattle.at_model.specs.Texts.{escaped}
 use Rattle.at_model.specs.Trees.{Int, Truth}
 use Rattle.at_model.specs.Terms.{Term, Node, Cells, no_cells, Cell, Empty, Holds, term_text, cell_text, token_text, IsTermWithin, IsCellWithin, AreCellsWithin, AreTermsWithin, IsInt32}
+use Rattle.at_model.proofs.Options.{both}
 use Rattle.at_tree.specs.View.{to_cells, to_terms}
 use Rattle.at_tree.specs.Partial.{Level, Place, Start, InWord, Dash, Digits, InText, Escape, Whole, Item, Done, Partial, is_empty, is_digit, limit, integer, takes_cell, can_open, truth_of, whole_in, complete, in_cell, in_item_of, in_item, may_be_word, in_word, after_truth, after_word, first_in, first_inside, first, in_digits, in_dash, in_text, unescaped, in_escape, step_at, step}
 use Rattle.at_tree.proofs.Machine.{utf8_char}
-use Rattle.at_tree.proofs.Pieces.{both, choose, OnStep, ascii, word_one, word_longer, digit_bounds, digit_bytes, one_digit, more_digits}
+use Rattle.at_tree.proofs.Pieces.{choose, OnStep, ascii, word_one, word_longer, digit_bounds, digit_bytes, one_digit, more_digits}
 use Rattle.at_tree.proofs.Escapes.{plain_text, unescaped_text}
 use Rattle.at_tree.proofs.TermSpelled.{openings, number_text, place_text, spelled, cell_texts_of, term_texts_of}
 

@@ -14,6 +14,7 @@ use Rattle.std.specs.Str.{bytes_eq}
 use Rattle.indexmap.specs.IndexSet.{insert_key}
 use Rattle.at_model.specs.Classes.{Classes, Component, parts}
 use Rattle.at_model.specs.Declarations.{first_given}
+use Rattle.at_model.proofs.Options.{or_false, not_true}
 use Rattle.at_typing.specs.AccessorNames.{same_name, any_class, any_part, any_component, any_optional, any_list, is_of_shape, HasNames, AddsNames}
 use Rattle.at_kinds.specs.Accessors.{is_optional, is_list, is_got, is_had, is_counted, is_listed, shape_of, getter, got_or, accessor_named, is_accessed}
 use Rattle.at_kinds.specs.declared.accessors.Accessor.{Accessor}
@@ -34,15 +35,7 @@ or-assoc : (a b c : Bool) → ((a || b) || c) ≡ (a || (b || c))
 or-assoc true b c = refl
 or-assoc false b c = refl
 
-or-false : (a : Bool) → (a || false) ≡ a
-or-false true = refl
-or-false false = refl
-
 -- tests of names ------------------------------------------------------------------------------------------------------
-
-off : (b : Bool) → (b ≡ true → ⊥) → b ≡ false
-off true fails = absurd (fails refl)
-off false fails = refl
 
 never : {A : Type 0} (p : A → Bool) (ks : List A) → ((k : A) → p k ≡ false) → false ≡ list_any p ks
 never p [] fails = refl
@@ -54,10 +47,10 @@ same_any p q (k ∷ ks) same = ap (λ b. b || list_any p ks) (same k) ∙ ap (λ
 
 -- the name doesn't begin so
 pub none_behind : (name front : List ℕ) (ks : List (Bor (List ℕ))) → ((rest : List ℕ) → name ≢ front ++ rest) → false ≡ list_any (λ k. bytes_eq name (front ++ k.now)) ks
-none_behind name front ks fails = never (λ (k : Bor (List ℕ)). bytes_eq name (front ++ k.now)) ks (λ k. off _ (λ h. fails k.now ((bytes_eq-Decides name (front ++ k.now)).0 h)))
+none_behind name front ks fails = never (λ (k : Bor (List ℕ)). bytes_eq name (front ++ k.now)) ks (λ k. not_true _ (λ h. fails k.now ((bytes_eq-Decides name (front ++ k.now)).0 h)))
 
 pub none_around : (name front back : List ℕ) (ks : List (Bor (List ℕ))) → ((rest : List ℕ) → name ≢ front ++ rest) → false ≡ list_any (λ k. bytes_eq name (front ++ k.now ++ back)) ks
-none_around name front back ks fails = never (λ (k : Bor (List ℕ)). bytes_eq name (front ++ k.now ++ back)) ks (λ k. off _ (λ h. fails (k.now ++ back) ((bytes_eq-Decides name (front ++ k.now ++ back)).0 h ∙ assoc front k.now back)))
+none_around name front back ks fails = never (λ (k : Bor (List ℕ)). bytes_eq name (front ++ k.now ++ back)) ks (λ k. not_true _ (λ h. fails (k.now ++ back) ((bytes_eq-Decides name (front ++ k.now ++ back)).0 h ∙ assoc front k.now back)))
 
 -- what stands behind it
 behind : (name front rest k back : List ℕ) → name ≡ front ++ rest → bytes_eq name (front ++ k ++ back) ≡ true → rest ≡ k ++ back
@@ -65,7 +58,7 @@ behind name front rest k back is h = append_cancel_left front rest (k ++ back) (
 
 -- it does, and doesn't end so
 pub none_before : (name front rest back : List ℕ) (ks : List (Bor (List ℕ))) → name ≡ front ++ rest → ((list : List ℕ) → rest ≢ list ++ back) → false ≡ list_any (λ k. bytes_eq name (front ++ k.now ++ back)) ks
-none_before name front rest back ks is fails = never (λ (k : Bor (List ℕ)). bytes_eq name (front ++ k.now ++ back)) ks (λ k. off _ (λ h. fails k.now (behind name front rest k.now back is h)))
+none_before name front rest back ks is fails = never (λ (k : Bor (List ℕ)). bytes_eq name (front ++ k.now ++ back)) ks (λ k. not_true _ (λ h. fails k.now (behind name front rest k.now back is h)))
 
 -- it does both
 pub between : (name front rest list back : List ℕ) (ks : List (Bor (List ℕ))) → name ≡ front ++ rest → rest ≡ list ++ back → list_any (λ k. bytes_eq list k.now) ks ≡ list_any (λ k. bytes_eq name (front ++ k.now ++ back)) ks
@@ -85,7 +78,7 @@ one_behind name front rest ks is = same_any (λ (k : Bor (List ℕ)). bytes_eq r
 
 absorbs : (t x a : Bool) → x ≡ t → (x || a) ≡ ((x || a) || t)
 absorbs t true a h = refl
-absorbs t false a h = rw (sym h) (sym (or-false a))
+absorbs t false a h = rw (sym h) (sym (or_false a))
 
 -- a key that is there already
 present : (test : List ℕ → Bool) (keys : List (Bor (List ℕ))) (k : Bor (List ℕ)) → list_any (same_name k) keys ≡ true → list_any (λ k. test k.now) keys ≡ (list_any (λ k. test k.now) keys || test k.now)
@@ -101,11 +94,11 @@ inserted test keys k = cases (list_any (same_name k) keys) refl
   where
     cases : (b : Bool) → list_any (same_name k) keys ≡ b → list_any (λ k. test k.now) (insert_key same_name keys k) ≡ (list_any (λ k. test k.now) keys || test k.now)
     cases true is = rw is (present test keys k is)
-    cases false is = rw is (list_any-append (λ k. test k.now) keys (k ∷ []) ∙ ap (λ b. list_any (λ k. test k.now) keys || b) (or-false (test k.now)))
+    cases false is = rw is (list_any-append (λ k. test k.now) keys (k ∷ []) ∙ ap (λ b. list_any (λ k. test k.now) keys || b) (or_false (test k.now)))
 
 inserted_where : (b : Bool) (test : List ℕ → Bool) (keys new : List (Bor (List ℕ))) (k : Bor (List ℕ)) → new ≡ cond b (insert_key same_name keys k) keys → list_any (λ k. test k.now) new ≡ (list_any (λ k. test k.now) keys || (b && test k.now))
 inserted_where true test keys new k is = ap (list_any (λ k. test k.now)) is ∙ inserted test keys k
-inserted_where false test keys new k is = ap (list_any (λ k. test k.now)) is ∙ sym (or-false _)
+inserted_where false test keys new k is = ap (list_any (λ k. test k.now)) is ∙ sym (or_false _)
 
 pub adds_one : (p : Component) (k : Bor (List ℕ)) (old new : Accessors) → k.now ≡ p.name
     → new.components.texts.keys ≡ insert_key same_name old.components.texts.keys k
@@ -113,9 +106,9 @@ pub adds_one : (p : Component) (k : Bor (List ℕ)) (old new : Accessors) → k.
     → new.lists.texts.keys ≡ cond (is_list p.shape) (insert_key same_name old.lists.texts.keys k) old.lists.texts.keys
     → AddsNames (p ∷ []) old new
 adds_one p k old new name cs os ls = record {
-  components = λ test. ap (list_any (λ k. test k.now)) cs ∙ inserted test old.components.texts.keys k ∙ ap (λ b. any_component old test || b) (ap test name ∙ sym (or-false _));
-  optionals = λ test. inserted_where (is_optional p.shape) test old.optionals.texts.keys new.optionals.texts.keys k os ∙ ap (λ b. any_optional old test || b) (ap (λ n. is_optional p.shape && test n) name ∙ sym (or-false _));
-  lists = λ test. inserted_where (is_list p.shape) test old.lists.texts.keys new.lists.texts.keys k ls ∙ ap (λ b. any_list old test || b) (ap (λ n. is_list p.shape && test n) name ∙ sym (or-false _));
+  components = λ test. ap (list_any (λ k. test k.now)) cs ∙ inserted test old.components.texts.keys k ∙ ap (λ b. any_component old test || b) (ap test name ∙ sym (or_false _));
+  optionals = λ test. inserted_where (is_optional p.shape) test old.optionals.texts.keys new.optionals.texts.keys k os ∙ ap (λ b. any_optional old test || b) (ap (λ n. is_optional p.shape && test n) name ∙ sym (or_false _));
+  lists = λ test. inserted_where (is_list p.shape) test old.lists.texts.keys new.lists.texts.keys k ls ∙ ap (λ b. any_list old test || b) (ap (λ n. is_list p.shape && test n) name ∙ sym (or_false _));
 }
 
 -- one by one ----------------------------------------------------------------------------------------------------------
@@ -131,9 +124,9 @@ shift now next f rest whole is so = ap (λ b. b || rest) is ∙ or-assoc now f r
 
 adds_next : (p : Component) (rest all : List Component) (old mid new : Accessors) → AddsLeft (p ∷ rest) all old mid → AddsNames (p ∷ []) mid new → AddsLeft rest all old new
 adds_next p rest all old mid new left adds = record {
-  components = λ test. shift (any_component mid test) _ _ _ _ (adds.components test ∙ ap (λ b. any_component mid test || b) (or-false _)) (left.components test);
-  optionals = λ test. shift (any_optional mid test) _ _ _ _ (adds.optionals test ∙ ap (λ b. any_optional mid test || b) (or-false _)) (left.optionals test);
-  lists = λ test. shift (any_list mid test) _ _ _ _ (adds.lists test ∙ ap (λ b. any_list mid test || b) (or-false _)) (left.lists test);
+  components = λ test. shift (any_component mid test) _ _ _ _ (adds.components test ∙ ap (λ b. any_component mid test || b) (or_false _)) (left.components test);
+  optionals = λ test. shift (any_optional mid test) _ _ _ _ (adds.optionals test ∙ ap (λ b. any_optional mid test || b) (or_false _)) (left.optionals test);
+  lists = λ test. shift (any_list mid test) _ _ _ _ (adds.lists test ∙ ap (λ b. any_list mid test || b) (or_false _)) (left.lists test);
 }
 
 pub adds_more : {X : Type 0} (v : X → Component) (xs : List X) (i : ℕ) (x : X) (all : List Component) (old mid new : Accessors) → i < length xs → x ≡ get_or xs i x
@@ -143,9 +136,9 @@ adds_more v xs i x all old mid new less is left adds =
 
 pub adds_end : {X : Type 0} (v : X → Component) (xs : List X) (i : ℕ) (all : List Component) (old new : Accessors) → length xs ≤ i → AddsLeft (map v (drop i xs)) all old new → AddsNames all old new
 adds_end v xs i all old new past left = record {
-  components = λ test. sym (or-false _) ∙ at_end.components test;
-  optionals = λ test. sym (or-false _) ∙ at_end.optionals test;
-  lists = λ test. sym (or-false _) ∙ at_end.lists test;
+  components = λ test. sym (or_false _) ∙ at_end.components test;
+  optionals = λ test. sym (or_false _) ∙ at_end.optionals test;
+  lists = λ test. sym (or_false _) ∙ at_end.lists test;
 }
   where
     at_end : AddsLeft [] all old new
@@ -178,9 +171,9 @@ has_more classes k a b less left adds = record {
 
 pub has_end : (classes : Classes) (k : ℕ) (a : Accessors) → length classes ≤ k → HasLeft classes k a → HasNames classes a
 has_end classes k a past left = record {
-  components = λ test. sym (or-false _) ∙ ap (λ r. any_component a test || r) (sym (from_end _ classes k past)) ∙ left.components test;
-  optionals = λ test. sym (or-false _) ∙ ap (λ r. any_optional a test || r) (sym (from_end _ classes k past)) ∙ left.optionals test;
-  lists = λ test. sym (or-false _) ∙ ap (λ r. any_list a test || r) (sym (from_end _ classes k past)) ∙ left.lists test;
+  components = λ test. sym (or_false _) ∙ ap (λ r. any_component a test || r) (sym (from_end _ classes k past)) ∙ left.components test;
+  optionals = λ test. sym (or_false _) ∙ ap (λ r. any_optional a test || r) (sym (from_end _ classes k past)) ∙ left.optionals test;
+  lists = λ test. sym (or_false _) ∙ ap (λ r. any_list a test || r) (sym (from_end _ classes k past)) ∙ left.lists test;
 }
 
 pub has_none : (classes : Classes) (a : Accessors) → a.components.texts.keys ≡ [] → a.optionals.texts.keys ≡ [] → a.lists.texts.keys ≡ [] → HasLeft classes 0 a

@@ -11,6 +11,7 @@ use Rattle.std.proofs.lemmas.List.Folds.{list_any_more}
 use Rattle.std.proofs.lemmas.Slice.Eq.{bytes_eq-Decides}
 use Rattle.indexmap.specs.IndexMap.{get}
 use Rattle.at_model.specs.Classes.{Classes}
+use Rattle.at_model.proofs.Options.{or_false}
 use Rattle.at_jrag.specs.declared.syntax.DeclForm.{DeclForm as FormValue}
 use Rattle.at_jrag.specs.Syntax.{Kind, Int, Bool', Text, Class, KindWord, Param, DeclForm}
 use Rattle.at_jrag.specs.View.{decl_form_view}
@@ -30,10 +31,6 @@ use Rattle.at_typing.proofs.Lines.{line_begins, line_from, line_step, on_line}
 use Rattle.at_class.proofs.Firsts.{list_any-map}
 
 -- truth values --------------------------------------------------------------------------------------------------------
-
-or_false : (a : Bool) → (a || false) ≡ a
-or_false true = refl
-or_false false = refl
 
 or_twice : (a : Bool) → a ≡ (a || a)
 or_twice true = refl

@@ -16,6 +16,7 @@ use Rattle.at_typing.specs.declared.numbered.NamedClass.TheVariants.{Known, Unkn
 use Rattle.at_typing.specs.declared.numbered.Numbered.{Numbered as NumberedValue}
 use Rattle.at_typing.specs.contracts.numbered.NamedClassPartialEq.TheImpl.{ghosts}
 use Rattle.at_class.proofs.Firsts.{list_any-map}
+use Rattle.at_model.proofs.Options.{and_false}
 
 -- the test of the code
 pub class_eq : (c b : NamedClass) → ghosts.eq c b ≡ same_class c b
@@ -127,19 +128,15 @@ turn true true false = refl
 turn true false true = refl
 turn true false false = refl
 
-off : (t : Bool) → (t && false) ≡ false
-off true = refl
-off false = refl
-
 inherited_there : (d : NumberedValue) (o : Option Word) (xs : List NumberedValue) → list_any (λ e. is_alike d e && is_same_getter o (getter_of e)) xs ≡ is_there (inherited_keys xs) d o
 inherited_there d None [] = refl
-inherited_there d None (e ∷ es) = ap (λ b. b || list_any (λ e. is_alike d e && is_same_getter None (getter_of e)) es) (off (is_alike d e)) ∙ inherited_there d None es
+inherited_there d None (e ∷ es) = ap (λ b. b || list_any (λ e. is_alike d e && is_same_getter None (getter_of e)) es) (and_false (is_alike d e)) ∙ inherited_there d None es
 inherited_there d (Some g) [] = refl
 inherited_there d (Some g) (e ∷ es) = by (getter_of e) (inherited_there d (Some g) es)
   where
     by : (o : Option Word) → list_any (λ e. is_alike d e && is_same_getter (Some g) (getter_of e)) es ≡ is_there (inherited_keys es) d (Some g)
         → ((is_alike d e && is_same_getter (Some g) o) || list_any (λ e. is_alike d e && is_same_getter (Some g) (getter_of e)) es) ≡ is_there (inherited_keys_with (inherited_keys es) e o) d (Some g)
-    by None rest = ap (λ b. b || list_any (λ e. is_alike d e && is_same_getter (Some g) (getter_of e)) es) (off (is_alike d e)) ∙ rest
+    by None rest = ap (λ b. b || list_any (λ e. is_alike d e && is_same_getter (Some g) (getter_of e)) es) (and_false (is_alike d e)) ∙ rest
     by (Some h) rest = ap (λ b. b || list_any (λ e. is_alike d e && is_same_getter (Some g) (getter_of e)) es) (turn (same_class d.class e.class) (nat_eq d.name e.name) (bytes_eq g.text h.text)) ∙ ap (λ b. is_inherited_key d g (e.class, h.text, e.name) || b) rest
 
 by_numbers : (d e : NumberedValue) → AreAlike d e → is_same_equation (numbered_view d) (numbered_view e) ≡ ((is_alike d e && (is_own d && is_own e)) || (is_alike d e && is_same_getter (getter_of d) (getter_of e)))
@@ -178,15 +175,15 @@ one_equation_more xs k x old new less is has adds = record {
 
 -- the answers of the two kinds are that of both
 pub had : (x y a : Bool) → a ≡ not x → a ≡ false → false ≡ not (x || y)
-had true y a is off = refl
-had false y a is off = absurd (true≢false (sym is ∙ off))
+had true y a is and_false = refl
+had false y a is and_false = absurd (true≢false (sym is ∙ and_false))
 
 pub had_if : (x y a b : Bool) → a ≡ not x → a ≡ true → b ≡ not y → b ≡ not (x || y)
 had_if x y a b is on so = so ∙ ap (λ z. not (z || y)) (sym (not_false x (sym on ∙ is)))
 
 pub is_had : (a b : Bool) → a ≡ not b → a ≡ false → b ≡ true
-is_had a true is off = refl
-is_had a false is off = sym off ∙ is
+is_had a true is and_false = refl
+is_had a false is and_false = sym and_false ∙ is
 
 pub is_missing : (a b : Bool) → a ≡ not b → a ≡ true → b ≡ false
 is_missing a b is on = not_false b (sym on ∙ is)

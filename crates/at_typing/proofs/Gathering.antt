@@ -16,6 +16,7 @@ use Rattle.indexmap.specs.IndexMap.{insert_entry}
 use Rattle.at_model.specs.Classes.{Classes, class_of_name}
 use Rattle.at_model.specs.Declarations.{first_given}
 use Rattle.at_model.specs.Rules.{Attribute, OwnEquation, InheritedEquation}
+use Rattle.at_model.proofs.Options.{and_true, or_right}
 use Rattle.at_rules.specs.RulesView.{attribute_view, own_view, inherited_view, named, text_of}
 use Rattle.at_rules.specs.declared.body.Body.{Body as BodyValue}
 use Rattle.at_rules.specs.declared.rules.Attribute.{Attribute as AttributeValue}
@@ -67,9 +68,6 @@ module _ {A B : Type 0} where
 not_both : (b : Bool) → (b ≡ true → ⊥) → b ≡ false
 not_both true not_so = absurd (not_so refl)
 not_both false not_so = refl
-
-both : (a b : Bool) → a ≡ true → b ≡ true → (a && b) ≡ true
-both a b x y = ap₂ (λ p q. p && q) x y
 
 -- a first fault is none at all -----------------------------------------------------------------------------------------
 
@@ -172,10 +170,6 @@ equal v w is = ap (bytes_eq v) (sym is) ∙ nat_list_eq_equiv.refl v
 or_left : (a b : Bool) → a ≡ true → (a || b) ≡ true
 or_left a b is = ap (λ x. x || b) is
 
-or_right : (a b : Bool) → b ≡ true → (a || b) ≡ true
-or_right true b is = refl
-or_right false b is = is
-
 same_option : (o p : Option ℕ) → option_eq nat_eq o p ≡ true → o ≡ p
 same_option None None is = refl
 same_option None (Some j) is = absurd (true≢false (sym is))
@@ -198,8 +192,8 @@ module _ (classes : Classes) (ds : List Located) (i : ℕ) (d : Located) (less :
           let classes_same = same_class_text classes (class_text d) (class_text e) b.class (of.1 ∙ ap Some class) other.1 in
           let below : is_below classes (class_text d) (class_text e) ≡ true = or_left (bytes_eq (class_text d) (class_text e)) (is_sub_or_none classes (class_of_name classes (class_text d)) (class_of_name classes (class_text e))) (equal (class_text d) (class_text e) classes_same) in
           let line : is_on_one_line classes (class_text d) (class_text e) ≡ true = or_left (is_below classes (class_text d) (class_text e)) (is_below classes (class_text e) (class_text d)) below in
-          let names : (is_attribute e.decl.form && bytes_eq (name_text d) (name_text e)) ≡ true = both (is_attribute e.decl.form) (bytes_eq (name_text d) (name_text e)) other.0 (equal (name_text d) (name_text e) (sym of.2 ∙ name ∙ other.2)) in
-          both (is_attribute e.decl.form && bytes_eq (name_text d) (name_text e)) (differs d.decl.form e.decl.form || is_on_one_line classes (class_text d) (class_text e)) names (or_right (differs d.decl.form e.decl.form) (is_on_one_line classes (class_text d) (class_text e)) line)
+          let names : (is_attribute e.decl.form && bytes_eq (name_text d) (name_text e)) ≡ true = and_true (is_attribute e.decl.form) (bytes_eq (name_text d) (name_text e)) other.0 (equal (name_text d) (name_text e) (sym of.2 ∙ name ∙ other.2)) in
+          and_true (is_attribute e.decl.form && bytes_eq (name_text d) (name_text e)) (differs d.decl.form e.decl.form || is_on_one_line classes (class_text d) (class_text e)) names (or_right (differs d.decl.form e.decl.form) (is_on_one_line classes (class_text d) (class_text e)) line)
 
   own_clashes : equation_twice ds ≡ None → (a : OwnEquation) → OfOwn classes ds d a → list_any (λ (b : OwnEquation). nat_eq a.class b.class && nat_eq a.attribute b.attribute) (filter_map (λ (m : Meaning). m.own) (meanings classes ds (take i ds))) ≡ false
   own_clashes none a of = none_meant classes ds (λ (m : Meaning). m.own) _ (is_same_equation d) too (take i ds) (no_equation ds i d less at none)
@@ -211,9 +205,9 @@ module _ (classes : Classes) (ds : List Located) (i : ℕ) (d : Located) (less :
           let attribute : a.attribute ≡ b.attribute = eqb-true a.attribute b.attribute (second_of (nat_eq a.class b.class) (nat_eq a.attribute b.attribute) same) in
           let classes_same = same_class_text classes (class_text d) (class_text e) b.class (of.1 ∙ ap Some class) other.1 in
           let names_same = same_name_text classes ds (class_text d) (class_text e) (name_text d) (name_text e) b.attribute (of.2 ∙ ap Some attribute) other.2 in
-          let words : (bytes_eq (class_text d) (class_text e) && bytes_eq (name_text d) (name_text e)) ≡ true = both (bytes_eq (class_text d) (class_text e)) (bytes_eq (name_text d) (name_text e)) (equal (class_text d) (class_text e) classes_same) (equal (name_text d) (name_text e) names_same) in
-          let owns : (is_own_equation d.decl.form && is_own_equation e.decl.form) ≡ true = both (is_own_equation d.decl.form) (is_own_equation e.decl.form) of.0 other.0 in
-          both (bytes_eq (class_text d) (class_text e) && bytes_eq (name_text d) (name_text e)) ((is_own_equation d.decl.form && is_own_equation e.decl.form) || is_same_getter (getter_in d.decl.form) (getter_in e.decl.form)) words (or_left (is_own_equation d.decl.form && is_own_equation e.decl.form) (is_same_getter (getter_in d.decl.form) (getter_in e.decl.form)) owns)
+          let words : (bytes_eq (class_text d) (class_text e) && bytes_eq (name_text d) (name_text e)) ≡ true = and_true (bytes_eq (class_text d) (class_text e)) (bytes_eq (name_text d) (name_text e)) (equal (class_text d) (class_text e) classes_same) (equal (name_text d) (name_text e) names_same) in
+          let owns : (is_own_equation d.decl.form && is_own_equation e.decl.form) ≡ true = and_true (is_own_equation d.decl.form) (is_own_equation e.decl.form) of.0 other.0 in
+          and_true (bytes_eq (class_text d) (class_text e) && bytes_eq (name_text d) (name_text e)) ((is_own_equation d.decl.form && is_own_equation e.decl.form) || is_same_getter (getter_in d.decl.form) (getter_in e.decl.form)) words (or_left (is_own_equation d.decl.form && is_own_equation e.decl.form) (is_same_getter (getter_in d.decl.form) (getter_in e.decl.form)) owns)
 
   inherited_clashes : equation_twice ds ≡ None → (a : InheritedEquation) → OfInherited classes d a → list_any (λ (b : InheritedEquation). (nat_eq a.class b.class && option_eq nat_eq a.part b.part) && bytes_eq a.name b.name) (filter_map (λ (m : Meaning). m.inherited) (meanings classes ds (take i ds))) ≡ false
   inherited_clashes none a of = none_meant classes ds (λ (m : Meaning). m.inherited) _ (is_same_equation d) too (take i ds) (no_equation ds i d less at none)
@@ -228,8 +222,8 @@ module _ (classes : Classes) (ds : List Located) (i : ℕ) (d : Located) (less :
           let classes_same = same_class_text classes (class_text d) (class_text e) b.class (of.2 ∙ ap Some class) other.2 in
           let getters_same = same_getter classes b.class of.0 other.0 b.part (ap (λ c. component_got classes c of.0) (sym class) ∙ of.3 ∙ ap Is part) other.3 in
           let getters : is_same_getter (getter_in d.decl.form) (getter_in e.decl.form) ≡ true = ap₂ is_same_getter of.1 other.1 ∙ equal of.0.text other.0.text getters_same in
-          let words : (bytes_eq (class_text d) (class_text e) && bytes_eq (name_text d) (name_text e)) ≡ true = both (bytes_eq (class_text d) (class_text e)) (bytes_eq (name_text d) (name_text e)) (equal (class_text d) (class_text e) classes_same) (equal (name_text d) (name_text e) (sym of.4 ∙ name ∙ other.4)) in
-          both (bytes_eq (class_text d) (class_text e) && bytes_eq (name_text d) (name_text e)) ((is_own_equation d.decl.form && is_own_equation e.decl.form) || is_same_getter (getter_in d.decl.form) (getter_in e.decl.form)) words (or_right (is_own_equation d.decl.form && is_own_equation e.decl.form) (is_same_getter (getter_in d.decl.form) (getter_in e.decl.form)) getters)
+          let words : (bytes_eq (class_text d) (class_text e) && bytes_eq (name_text d) (name_text e)) ≡ true = and_true (bytes_eq (class_text d) (class_text e)) (bytes_eq (name_text d) (name_text e)) (equal (class_text d) (class_text e) classes_same) (equal (name_text d) (name_text e) (sym of.4 ∙ name ∙ other.4)) in
+          and_true (bytes_eq (class_text d) (class_text e) && bytes_eq (name_text d) (name_text e)) ((is_own_equation d.decl.form && is_own_equation e.decl.form) || is_same_getter (getter_in d.decl.form) (getter_in e.decl.form)) words (or_right (is_own_equation d.decl.form && is_own_equation e.decl.form) (is_same_getter (getter_in d.decl.form) (getter_in e.decl.form)) getters)
 
 -- one declaration more ---------------------------------------------------------------------------------------------------
 
@@ -272,7 +266,7 @@ module _ (classes : Classes) (ds : List Located) (i : ℕ) (d : Located) (n : �
       (key_new same_key (attribute_view names) es (a.0, n) (λ b. nat_eq a.0 b.class && bytes_eq (name_text d) b.name) same (ap (list_any (λ b. nat_eq a.0 b.class && bytes_eq (name_text d) b.name)) is ∙ attribute_clashes classes ds i d less at none (attribute_of d a) of))
     where
       same : (e : (ℕ × ℕ) × AttributeValue) → (nat_eq a.0 e.0.0 && nat_eq n e.0.1) ≡ true → (nat_eq a.0 e.0.0 && bytes_eq (name_text d) (text_of names e.0.1)) ≡ true
-      same e is = both (nat_eq a.0 e.0.0) (bytes_eq (name_text d) (text_of names e.0.1)) (first_of (nat_eq a.0 e.0.0) (nat_eq n e.0.1) is) (equal (name_text d) (text_of names e.0.1) (sym same_text ∙ ap (text_of names) (eqb-true n e.0.1 (second_of (nat_eq a.0 e.0.0) (nat_eq n e.0.1) is))))
+      same e is = and_true (nat_eq a.0 e.0.0) (bytes_eq (name_text d) (text_of names e.0.1)) (first_of (nat_eq a.0 e.0.0) (nat_eq n e.0.1) is) (equal (name_text d) (text_of names e.0.1) (sym same_text ∙ ap (text_of names) (eqb-true n e.0.1 (second_of (nat_eq a.0 e.0.0) (nat_eq n e.0.1) is))))
 
   own_more : equation_twice ds ≡ None → (es : List ((ℕ × ℕ) × BodyValue)) → map own_view es ≡ filter_map (λ (m : Meaning). m.own) (meanings classes ds (take i ds)) → (o : Option ((ℕ × ℕ) × BodyValue)) → IfSome (option_map own_view o) (OfOwn classes ds d)
       → map own_view (with_entry same_key es o) ≡ filter_map (λ (m : Meaning). m.own) (meanings classes ds (take i ds)) ++ cons_option (option_map own_view o) []
@@ -297,7 +291,7 @@ module _ (classes : Classes) (ds : List Located) (i : ℕ) (d : Located) (n : �
       numbers x is = eqb-true n x.0.2 (second_of (nat_eq e.0.0 x.0.0 && option_eq nat_eq e.0.1 x.0.1) (nat_eq n x.0.2) is)
 
       same : (x : (ℕ × Option ℕ × ℕ) × BodyValue) → same_place (inherited_key e) x.0 ≡ true → is_inherited_there e (inherited_view names x) ≡ true
-      same x is = both (nat_eq e.0.0 x.0.0 && option_eq nat_eq e.0.1 x.0.1) (bytes_eq (name_text d) (text_of names x.0.2)) (first_of (nat_eq e.0.0 x.0.0 && option_eq nat_eq e.0.1 x.0.1) (nat_eq n x.0.2) is) (equal (name_text d) (text_of names x.0.2) (sym same_text ∙ ap (text_of names) (numbers x is)))
+      same x is = and_true (nat_eq e.0.0 x.0.0 && option_eq nat_eq e.0.1 x.0.1) (bytes_eq (name_text d) (text_of names x.0.2)) (first_of (nat_eq e.0.0 x.0.0 && option_eq nat_eq e.0.1 x.0.1) (nat_eq n x.0.2) is) (equal (name_text d) (text_of names x.0.2) (sym same_text ∙ ap (text_of names) (numbers x is)))
 
       kept : (x : (ℕ × Option ℕ × ℕ) × BodyValue) → same_place (inherited_key e) x.0 ≡ true → nat_lt x.0.2 (length names) ≡ true
       kept x is = ap (λ k. nat_lt k (length names)) (sym (numbers x is)) ∙ within

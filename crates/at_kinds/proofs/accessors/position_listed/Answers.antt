@@ -4,19 +4,20 @@ use Rattle.std.specs.Str.{bytes_eq}
 use Rattle.at_class.specs.View.{part_view, shape_view}
 use Rattle.at_class.specs.declared.part.Part.{Part}
 use Rattle.at_kinds.specs.Accessors.{is_listed, is_list}
-use Rattle.at_kinds.proofs.Accessing.{position-view, position-never, off}
+use Rattle.at_kinds.proofs.Accessing.{position-view, position-never}
 use Rattle.at_kinds.proofs.accessors.position_listed.Goals as goal
+use Rattle.at_model.proofs.Options.{and_false}
 
 pub returns-in_err-rest : goal.returns-in_err-rest
 returns-in_err-rest c =
     c.from_residual.ensures
-    ∙ sym (position-never (is_listed c.args.name.now) (map part_view c.args.parts.now) (λ p. ap (λ b. is_list p.shape && b) (ap (λ n. bytes_eq n (codes "get" ++ p.name ++ codes "List")) (sym c.as_bytes.ensures.value) ∙ c.in_err-rest.ensures (p.name ++ codes "List")) ∙ off (is_list p.shape)))
+    ∙ sym (position-never (is_listed c.args.name.now) (map part_view c.args.parts.now) (λ p. ap (λ b. is_list p.shape && b) (ap (λ n. bytes_eq n (codes "get" ++ p.name ++ codes "List")) (sym c.as_bytes.ensures.value) ∙ c.in_err-rest.ensures (p.name ++ codes "List")) ∙ and_false (is_list p.shape)))
 
 pub returns-in_err-component : goal.returns-in_err-component
 returns-in_err-component c =
     c.from_residual-in_err-component.ensures
     ∙ sym (position-never (is_listed c.args.name.now) (map part_view c.args.parts.now) (λ p.
-    ap (λ b. is_list p.shape && b) (ap (λ n. bytes_eq n (codes "get" ++ p.name ++ codes "List")) (sym c.as_bytes.ensures.value) ∙ c.in_ok-rest.ensures (p.name ++ codes "List") ∙ c.in_err-component.ensures p.name) ∙ off (is_list p.shape)))
+    ap (λ b. is_list p.shape && b) (ap (λ n. bytes_eq n (codes "get" ++ p.name ++ codes "List")) (sym c.as_bytes.ensures.value) ∙ c.in_ok-rest.ensures (p.name ++ codes "List") ∙ c.in_err-component.ensures p.name) ∙ and_false (is_list p.shape)))
 
 pub returns : goal.returns
 returns c =

@@ -1,6 +1,6 @@
 use Rattle.std.proofs.Common.{◌++◌, sym, ap, ◌∙◌}
-use Rattle.at_tree.proofs.Fronts.{same_int}
 use Rattle.at_tree.proofs.tree.front.take_int.Goals as goal
+use Rattle.at_text.proofs.Decimals.{same_int}
 
 pub returns-clause-token : goal.returns-clause-token
 returns-clause-token c = rw (same_int c.in-Some.value c.in-Some.ensures.0) c.in-Some.ensures.0
