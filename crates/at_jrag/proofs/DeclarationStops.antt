@@ -12,7 +12,7 @@ use Rattle.at_jrag.specs.Grammar as grammar
 use Rattle.at_text.specs.Rows.{Row, sign, word, is_sign, is_word, is_name_token, next_is}
 use Rattle.at_jrag.specs.Grammar.{Sign, Keyword, Lazy, KindOf, Signature, Owner, Declared, max_nesting}
 use Rattle.at_jrag.specs.Heads.{is_getter}
-use Rattle.at_jrag.specs.Machine.{Reason, Refused, LeftOut, Answer, Takes, Skips, Refuses, LeavesOut, Stuck, run}
+use Rattle.at_jrag.specs.Machine.{Reason, Refused, LeftOut, Takes, Skips, Refuses, LeavesOut, Stuck, run}
 use Rattle.at_jrag.specs.Wants as want
 use Rattle.at_jrag.specs.Wants.{Want}
 use Rattle.at_jrag.specs.Table.{table, next, on, is_kind, body_answer, declared, alone}
@@ -23,7 +23,7 @@ use Rattle.at_jrag.specs.declared.JragCode.{JragCode}
 use Rattle.at_jrag.specs.declared.JragCode.TheVariants as code
 use Rattle.at_jrag.proofs.MachineLaws.{run-takes, run-refuses}
 use Rattle.at_jrag.proofs.DeclarationRuns.{next_same, dot_row, signed_row, aspect_row, synthesized_row, inherited_row, equation_row, pass_none, lazy_pass, kind_pass, name_pass, mark_pass, return_pass, signed_pass, signature_goes, declared_then, stay_then, stay_first, stay_takes, stay_refuses, stay_leaves_out, name_missing, mark_missing}
-use Rattle.at_jrag.proofs.ParamStops.{kind_missing, signed_missing}
+use Rattle.at_jrag.proofs.ParamStops.{kind_missing, signed_missing, last_row}
 
 -- ---- where a keyword is wanted
 
@@ -48,10 +48,6 @@ aspect_at (t ∷ ts) some h = keyword_stays want.File t ts (is_word_kind t.kind)
 
 pub aspect_stays : (old rest : Row) → rest ≡ old → 0 < length old → next_is (is_word (codes "aspect")) old ≡ false → Stay (want.File ∷ []) (reason_of (no_keyword rest)) old rest
 aspect_stays old rest same some h = at_same want.File no_keyword old rest same (aspect_at old some h)
-
-pub last_row : (a b c d : Bool) (x y z w u : Answer Want) → a ≡ false → b ≡ false → c ≡ false → d ≡ false → on a x (on b y (on c z (on d w u))) ≡ u
-last_row a b c d x y z w u ea eb ec ed =
-    ap (λ v. on v x (on b y (on c z (on d w u)))) ea ∙ ap (λ v. on v y (on c z (on d w u))) eb ∙ ap (λ v. on v z (on d w u)) ec ∙ ap (λ v. on v w u) ed
 
 decl_none : (t : PlacedToken) (d : ℕ) → is_sign (codes "}") t ≡ false → is_word (codes "syn") t ≡ false → is_word (codes "inh") t ≡ false → is_word (codes "eq") t ≡ false → table want.Decls d (Some t) ≡ cond (is_word_kind t.kind) LeavesOut Refuses
 unfolding table

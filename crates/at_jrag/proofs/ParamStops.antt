@@ -26,7 +26,6 @@ use Rattle.at_jrag.specs.declared.JragCode.TheVariants as code
 use Rattle.at_jrag.proofs.MachineLaws.{run-takes}
 use Rattle.at_jrag.proofs.DeclarationRuns.{Comes, next_same, kind_cases, int_row, kind_row, kind_pass, name_pass, stay_then, stay_first, stay_takes, stay_refuses, stay_leaves_out, missing_stays, name_missing}
 use Rattle.at_model.proofs.Options.{and_off}
-use Rattle.at_jrag.proofs.DeclarationStops.{last_row}
 
 -- ---- one want after another
 
@@ -179,6 +178,10 @@ comma_stays g p e start old mid rest b r close m =
     comes_stay (want.Opening g ∷ []) (f.0 ∷ []) (reason_of e) start mid rest f.2 (more_missing f.0 e mid rest f.1 close m)
 
 -- ---- the first parameter
+
+pub last_row : (a b c d : Bool) (x y z w u : Answer Want) → a ≡ false → b ≡ false → c ≡ false → d ≡ false → on a x (on b y (on c z (on d w u))) ≡ u
+last_row a b c d x y z w u ea eb ec ed =
+    ap (λ v. on v x (on b y (on c z (on d w u)))) ea ∙ ap (λ v. on v y (on c z (on d w u))) eb ∙ ap (λ v. on v z (on d w u)) ec ∙ ap (λ v. on v w u) ed
 
 no_kind_row : (g : Bool) (d : ℕ) (s : Option PlacedToken) → next (is_sign (codes ")")) s ≡ false → next is_kind s ≡ false → table (want.Params g) d s ≡ Refuses
 unfolding table
