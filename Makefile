@@ -10,7 +10,7 @@ PAGES := docs/MANUAL.md docs/EDGES.md docs/REFUSALS.md docs/TUTORIAL.md samples/
 run: build
 	@cd $(SAMPLE) && ../../../attrd calc.ast tree.txt calc.jrag < session
 
-# The gate: every proof from nothing, the tests, the programs, the must-fail edits; and then, on the programs that
+# The gate: every proof (see tools/gate.py), the tests, the programs, the must-fail edits; and then, on the programs that
 # were proved, a session with each request for memory refused in turn, the words of the command line and real sockets, and
 # the examples of the manual, the tutorial, the samples and single tries.
 test: tools python

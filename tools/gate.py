@@ -3,10 +3,11 @@
 
     tools/gate.py
 
-Run it at the top of the repository. `rt ci` proves each crate from nothing, with its tests, builds each program by two compilers
-and runs it, in a copy of the repository that has no edits, since it would check each crate that has some once more from nothing. The edits of
-a crate are tried as soon as it is proved (`tools/refused.py`). The proved programs are left in crates/NAME/out. The last
-line tells what passed; status 1 where anything failed.
+Run it at the top of the repository. `rt ci` proves each crate from nothing, with its tests, builds each program by two
+compilers and runs it, in a copy of the repository that has no edits, since it would check each crate that has some once more
+from nothing. What an earlier run on the machine proved of the same files it takes up. The edits of a crate are tried as soon
+as it is proved (`tools/refused.py`). The proved programs are left in crates/NAME/out. The last line tells what passed; status
+1 where anything failed.
 """
 import os
 import re
