@@ -1,11 +1,11 @@
 -- What is left of an evaluation under way.
-use Rattle.std.specs.Prelude.{ℕ, ◌+◌, nat_eq, not, cond, true, false, List, [], ◌∷◌, ◌++◌, map, length, Option, Some, bytes_eq}
+use Rattle.std.specs.Prelude.{◌≡◌, ℕ, ◌+◌, nat_eq, not, cond, true, false, List, [], ◌∷◌, ◌++◌, map, length, Option, Some, bytes_eq}
 use Rattle.std.specs.Fmt.{signed_decimal}
 use Rattle.std.specs.Int.{w32, int_wrapping_add, int_wrapping_neg}
 use Rattle.at_model.specs.Classes.{Classes}
 use Rattle.at_model.specs.Bodies.{Expr, Exprs, eval, eval_all, computed, joined, is_in_order, value_eq, int_of, truth_of, text_of, ref_of, is_instance, cast_to, child_of, element_of, count_of, has_of, token_of, demand_of, elements_of, exists_in, first_in, sum_in}
-use Rattle.at_model.specs.Run.{Value, Int, Truth, Ref, Run, Gives, Fails, Demands, ◌>>=◌}
-use Rattle.at_model.specs.Follow.{Reached, Ends, Stops, Waits}
+use Rattle.at_model.specs.Run.{Value, Int, Truth, Ref, Location, Contents, Run, Gives, Fails, Demands, ◌>>=◌}
+use Rattle.at_model.specs.Follow.{Reached, Ends, Stops, Waits, follow}
 use Rattle.at_body.specs.declared.todo.Unary.{Unary}
 use Rattle.at_body.specs.declared.todo.Unary.TheVariants as unary
 use Rattle.at_body.specs.declared.todo.Binary.{Binary}
@@ -127,12 +127,21 @@ folded classes t f part e n = (elements_of part (Ref n) >>= over classes f e (pl
 abbrev pub decided : Classes → Trial → Fold → Expr → ℕ → List ℕ → Value ℕ → Run ℕ (Value ℕ)
 decided classes t f e n ns v = settled classes f e (place_of t) n ns v >>= resumed classes t
 
+-- what is left to do now
 abbrev pub rest : Classes → Now → Trial → Run ℕ (Value ℕ)
 rest classes (Enter b) t = begun classes t (body_view b.now)
 rest classes (Back v) t = resumed classes t (value_view v)
 rest classes (Fail f) t = Fails (fault_view f)
 rest classes (Ask attribute node) t = Demands (record { node = node; attribute = attribute; arguments = [] }) (resumed classes t)
 rest classes (Call call) t = demand_of call.value.attribute (Ref call.value.node) (map value_view call.value.done.items) >>= resumed classes t
+
+-- what is now left to do means the same, behind what was read, as this evaluation did behind these reads
+abbrev pub GoesOn : Contents ℕ → Classes → List (Location ℕ) → Run ℕ (Value ℕ) → Now → Trial → Type 0
+GoesOn look classes reads evaluation now t = follow look reads evaluation ≡ follow look t.reads (rest classes now t)
+
+-- nothing but the reads has changed
+abbrev pub OnlyReads : Trial → Trial → Type 0
+OnlyReads old new = new ≡ record old { reads = new.reads }
 
 -- where an evaluation has come to with that step
 abbrev pub reached : Classes → Step → Trial → Reached ℕ (Value ℕ)

@@ -3,7 +3,6 @@
 ghost use Rattle.std.specs.Prelude.{◌≡◌, ◌<◌, ◌≤◌, ◌+◌, [], ℕ, length, IfOk};
 ghost use Rattle.std.specs.Int.{w32, int_wrapping_add};
 ghost use Rattle.at_model.specs.Classes.{Classes};
-ghost use Rattle.at_model.specs.Follow.{follow};
 ghost use Rattle.at_model.specs.Bodies.{Expr, int_of};
 ghost use Rattle.at_model.specs.Run.{Gives, Slot};
 ghost use Rattle.at_model.specs.Rules.{Rules as Meant};
@@ -16,7 +15,7 @@ ghost use Rattle.at_body.specs.ValueKinds.{IsInt};
 ghost use Rattle.at_body.specs.Values.{value_view};
 ghost use Rattle.at_rules.specs.Bodies.{body_view};
 ghost use Rattle.at_body.specs.declared.todo.Fold.TheVariants.{Sum};
-ghost use Rattle.at_body.specs.Rest.{rest, weight, over, gone_over, folded, decided, load};
+ghost use Rattle.at_body.specs.Rest.{GoesOn, rest, weight, over, gone_over, folded, decided, load};
 
 use super::todo::{Fold, Now, Todo};
 use super::trial::Trial;
@@ -36,7 +35,7 @@ impl<'a> Trial<'a> {
         node: Option<Node>,
     ) -> Result<Now<'a>, AllocError>
         requires idle_store { IsIdle store.now }
-        ensures same { (classes : Classes) → IfOk result (λ now. follow (contents store.now) self.old.reads (folded classes self.old fold part (body_view body.now) node) ≡ follow (contents store.now) self.new.reads (rest classes now self.new)) }
+        ensures same { (classes : Classes) → IfOk result (λ now. GoesOn (contents store.now) classes self.old.reads (folded classes self.old fold part (body_view body.now) node) now self.new) }
         ensures less { IfOk result (λ now. weight now self.new < tests (size (body_view body.now)) most + load self.old.todo + 1) }
         ensures typed { (meant : Meant) (at : ClassAt ℕ) → IsOver meant at (contents store.now) → Folds meant at self.old fold part body.now node → IfOk result (λ now. IsTypedNow meant at now self.new) }
     {

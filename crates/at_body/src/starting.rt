@@ -12,7 +12,7 @@ ghost use Rattle.at_model.specs.Support.{argument_classes};
 ghost use Rattle.at_model.specs.Follow.{follow};
 ghost use Rattle.at_store.specs.Shown.{contents, tree, IsIdle};
 ghost use Rattle.at_body.specs.Values.{value_view};
-ghost use Rattle.at_body.specs.Rest.{rest, reached};
+ghost use Rattle.at_body.specs.Rest.{GoesOn, rest, reached};
 ghost use Rattle.at_body.specs.Starting.{own_of, by_rule};
 ghost use Rattle.at_body.specs.Typed.{IsOver, IsTypedNow, IsTypedStep, class_shown};
 ghost use Rattle.at_body.specs.TypedStart.{Begins, HasEquation};
@@ -80,7 +80,7 @@ impl<'a> Trial<'a> {
         requires formed { AreTyped rules.now }
         requires over { IsOver rules.now (class_shown store.now) (contents store.now) }
         requires typed { Begins rules.now (class_shown store.now) (contents store.now) self.old class attribute }
-        ensures same { IfOk result (λ now. follow (contents store.now) self.old.reads (by_rule rules.now self.old.this attribute (map value_view self.old.arguments.items) class) ≡ follow (contents store.now) self.new.reads (rest rules.now.classes now self.new)) }
+        ensures same { IfOk result (λ now. GoesOn (contents store.now) rules.now.classes self.old.reads (by_rule rules.now self.old.this attribute (map value_view self.old.arguments.items) class) now self.new) }
         ensures typed { IfOk result (λ now. IsTypedNow rules.now (class_shown store.now) now self.new) }
     {
         if rules.is_inherited(attribute) {
@@ -119,7 +119,7 @@ impl<'a> Trial<'a> {
         requires inherited { is_inherited rules.now attribute ≡ true }
         requires typed { (class : ℕ) × Begins rules.now (class_shown store.now) (contents store.now) self.old class attribute }
         requires above { HasEquation rules.now (class_shown store.now) (contents store.now) (attribute_name rules.now attribute) height self.old.this }
-        ensures same { IfOk result (λ now. follow (contents store.now) self.old.reads (by_inherited rules.now nat_eq (attribute_name rules.now attribute) (map value_view self.old.arguments.items) height self.old.this) ≡ follow (contents store.now) self.new.reads (rest rules.now.classes now self.new)) }
+        ensures same { IfOk result (λ now. GoesOn (contents store.now) rules.now.classes self.old.reads (by_inherited rules.now nat_eq (attribute_name rules.now attribute) (map value_view self.old.arguments.items) height self.old.this) now self.new) }
         ensures typed { IfOk result (λ now. IsTypedNow rules.now (class_shown store.now) now self.new) }
     {
         while height > 0 {

@@ -18,7 +18,7 @@ ghost use Rattle.at_body.specs.Standing.{scope};
 ghost use Rattle.at_body.specs.declared.todo.Now.TheVariants.{Ask, Call, Enter};
 ghost use Rattle.at_body.specs.declared.todo.Todo.TheVariants.{And, Choose, Elements, Or, Right, Use};
 ghost use Rattle.at_body.specs.declared.trial.Trial.{Trial};
-ghost use Rattle.at_body.specs.Rest.{ev, evaluated_for, rest, weight, place_of, onto, begun, resumed, used, called, gone_over, reached, left, load, cost};
+ghost use Rattle.at_body.specs.Rest.{GoesOn, OnlyReads, ev, evaluated_for, rest, weight, place_of, onto, begun, resumed, used, called, reached, left, load, cost};
 
 use super::inst::{Arguments, Inst};
 use super::reads::Reads;
@@ -132,7 +132,7 @@ impl<'a> Trial<'a> {
         requires idle_store { IsIdle store.now }
         requires over { IsOver rules.now (class_shown store.now) (contents store.now) }
         requires typed { Enters rules.now (class_shown store.now) self.old body.now }
-        ensures same { IfOk result (λ now. follow (contents store.now) self.old.reads (begun rules.now.classes self.old (body_view body.now)) ≡ follow (contents store.now) self.new.reads (rest rules.now.classes now self.new)) }
+        ensures same { IfOk result (λ now. GoesOn (contents store.now) rules.now.classes self.old.reads (begun rules.now.classes self.old (body_view body.now)) now self.new) }
         ensures less { IfOk result (λ now. weight now self.new < size (body_view body.now) + load self.old.todo) }
         ensures typed { IfOk result (λ now. IsTypedNow rules.now (class_shown store.now) now self.new) }
     {
@@ -155,7 +155,7 @@ impl<'a> Trial<'a> {
         requires idle_store { IsIdle store.now }
         requires over { IsOver rules.now (class_shown store.now) (contents store.now) }
         requires typed { Enters rules.now (class_shown store.now) self.old body.now }
-        ensures same { IfOk result (λ now. follow (contents store.now) self.old.reads (begun rules.now.classes self.old (body_view body.now)) ≡ follow (contents store.now) self.new.reads (rest rules.now.classes now self.new)) }
+        ensures same { IfOk result (λ now. GoesOn (contents store.now) rules.now.classes self.old.reads (begun rules.now.classes self.old (body_view body.now)) now self.new) }
         ensures less { IfOk result (λ now. weight now self.new < size (body_view body.now) + load self.old.todo) }
         ensures typed { IfOk result (λ now. IsTypedNow rules.now (class_shown store.now) now self.new) }
     {
@@ -212,7 +212,7 @@ impl<'a> Trial<'a> {
         requires idle_store { IsIdle store.now }
         requires over { IsOver rules.now (class_shown store.now) (contents store.now) }
         requires typed { Enters rules.now (class_shown store.now) (record self.old { todo = Use unary ∷ self.old.todo }) operand.now }
-        ensures same { IfOk result (λ now. follow (contents store.now) self.old.reads (evaluated_for rules.now.classes self.old (Use unary) (body_view operand.now)) ≡ follow (contents store.now) self.new.reads (rest rules.now.classes now self.new)) }
+        ensures same { IfOk result (λ now. GoesOn (contents store.now) rules.now.classes self.old.reads (evaluated_for rules.now.classes self.old (Use unary) (body_view operand.now)) now self.new) }
         ensures less { IfOk result (λ now. weight now self.new < size (body_view operand.now) + 2 + load self.old.todo) }
         ensures typed { IfOk result (λ now. IsTypedNow rules.now (class_shown store.now) now self.new) }
     {
@@ -232,7 +232,7 @@ impl<'a> Trial<'a> {
     ) -> Result<Now<'a>, AllocError>
         requires idle_store { IsIdle store.now }
         requires typed { (meant : Meant) × (at : ClassAt ℕ) × IsOver meant at (contents store.now) × Enters meant at (record self.old { todo = Right binary right ∷ self.old.todo }) left.now }
-        ensures same { (classes : Classes) → IfOk result (λ now. follow (contents store.now) self.old.reads (evaluated_for classes self.old (Right binary right.entry) (body_view left.now)) ≡ follow (contents store.now) self.new.reads (rest classes now self.new)) }
+        ensures same { (classes : Classes) → IfOk result (λ now. GoesOn (contents store.now) classes self.old.reads (evaluated_for classes self.old (Right binary right.entry) (body_view left.now)) now self.new) }
         ensures less { IfOk result (λ now. weight now self.new < size (body_view left.now) + size (body_view right.now) + 3 + load self.old.todo) }
         ensures typed { (meant : Meant) (at : ClassAt ℕ) → IsOver meant at (contents store.now) → Enters meant at (record self.old { todo = Right binary right.entry ∷ self.old.todo }) left.now → IfOk result (λ now. IsTypedNow meant at now self.new) }
     {
@@ -252,7 +252,7 @@ impl<'a> Trial<'a> {
     ) -> Result<Now<'a>, AllocError>
         requires idle_store { IsIdle store.now }
         requires typed { (meant : Meant) × (at : ClassAt ℕ) × IsOver meant at (contents store.now) × Uses meant at self.old (Right binary right) (value_view left) }
-        ensures same { (classes : Classes) → IfOk result (λ now. follow (contents store.now) self.old.reads (used classes (Right binary right.entry) self.old (value_view left)) ≡ follow (contents store.now) self.new.reads (rest classes now self.new)) }
+        ensures same { (classes : Classes) → IfOk result (λ now. GoesOn (contents store.now) classes self.old.reads (used classes (Right binary right.entry) self.old (value_view left)) now self.new) }
         ensures less { IfOk result (λ now. weight now self.new < size (body_view right.now) + 2 + load self.old.todo) }
         ensures typed { (meant : Meant) (at : ClassAt ℕ) → IsOver meant at (contents store.now) → Uses meant at self.old (Right binary right.entry) (value_view left) → IfOk result (λ now. IsTypedNow meant at now self.new) }
     {
@@ -272,7 +272,7 @@ impl<'a> Trial<'a> {
     ) -> Result<Now<'a>, AllocError>
         requires idle_store { IsIdle store.now }
         requires typed { (meant : Meant) × (at : ClassAt ℕ) × IsOver meant at (contents store.now) × Uses meant at self.old (Right binary right) (value_view left) }
-        ensures same { (classes : Classes) → IfOk result (λ now. follow (contents store.now) self.old.reads (used classes (Right binary right.entry) self.old (value_view left)) ≡ follow (contents store.now) self.new.reads (rest classes now self.new)) }
+        ensures same { (classes : Classes) → IfOk result (λ now. GoesOn (contents store.now) classes self.old.reads (used classes (Right binary right.entry) self.old (value_view left)) now self.new) }
         ensures less { IfOk result (λ now. weight now self.new < size (body_view right.now) + 2 + load self.old.todo) }
         ensures typed { (meant : Meant) (at : ClassAt ℕ) → IsOver meant at (contents store.now) → Uses meant at self.old (Right binary right.entry) (value_view left) → IfOk result (λ now. IsTypedNow meant at now self.new) }
     {
@@ -351,9 +351,9 @@ impl<'a> Trial<'a> {
     fn index(&mut self, store: &'a Store) -> Result<Now<'a>, AllocError>
         requires idle_store { IsIdle store.now }
         requires child { IsSome self.old.child }
-        ensures same { (classes : Classes) → IfOk result (λ now. follow (contents store.now) self.old.reads (onto classes self.old (index_of self.old.child)) ≡ follow (contents store.now) self.new.reads (rest classes now self.new)) }
+        ensures same { (classes : Classes) → IfOk result (λ now. GoesOn (contents store.now) classes self.old.reads (onto classes self.old (index_of self.old.child)) now self.new) }
         ensures less { IfOk result (λ now. weight now self.new ≡ load self.old.todo) }
-        ensures told { IfOk result (λ now. ComesTo (contents store.now) (index_of self.old.child) now × (self.new ≡ record self.old { reads = self.new.reads })) }
+        ensures told { IfOk result (λ now. ComesTo (contents store.now) (index_of self.old.child) now × OnlyReads self.old self.new) }
     {
         match self.child {
             Some(child) => {
@@ -376,7 +376,7 @@ impl<'a> Trial<'a> {
         requires idle_store { IsIdle store.now }
         requires over { IsOver rules.now (class_shown store.now) (contents store.now) }
         requires typed { Uses rules.now (class_shown store.now) self.old todo (value_view value) }
-        ensures same { IfOk result (λ now. follow (contents store.now) self.old.reads (used rules.now.classes todo.entry self.old (value_view value)) ≡ follow (contents store.now) self.new.reads (rest rules.now.classes now self.new)) }
+        ensures same { IfOk result (λ now. GoesOn (contents store.now) rules.now.classes self.old.reads (used rules.now.classes todo.entry self.old (value_view value)) now self.new) }
         ensures less { IfOk result (λ now. weight now self.new < cost todo.entry + load self.old.todo) }
         ensures typed { IfOk result (λ now. IsTypedNow rules.now (class_shown store.now) now self.new) }
     {

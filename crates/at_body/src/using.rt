@@ -3,7 +3,6 @@
 ghost use Rattle.std.specs.Prelude.{◌≡◌, ◌++◌, ◌+◌, ℕ, List, length, nat_le, string_bytes, IfOk};
 ghost use Rattle.std.specs.Fmt.{signed_decimal};
 ghost use Rattle.at_model.specs.Classes.{Classes};
-ghost use Rattle.at_model.specs.Follow.{follow};
 ghost use Rattle.at_model.specs.Run.{Contents, Int, Ref};
 ghost use Rattle.at_model.specs.Bodies.{max_text, int_of, text_of, computed, joined, is_in_order, element_at, child_of, element_of, count_of, has_of, token_of, is_instance, cast_to};
 ghost use Rattle.at_store.specs.Shown.{contents, IsIdle};
@@ -12,7 +11,7 @@ ghost use Rattle.at_body.specs.ValueKinds.{IsInt, IsRef};
 ghost use Rattle.at_body.specs.Values.{value_view};
 ghost use Rattle.at_rules.specs.Bodies.{operator_view, order_view};
 ghost use Rattle.at_body.specs.declared.trial.Trial.{Trial};
-ghost use Rattle.at_body.specs.Rest.{rest, weight, onto, load, with_one, with_two};
+ghost use Rattle.at_body.specs.Rest.{GoesOn, OnlyReads, rest, weight, onto, load, with_one, with_two};
 
 use super::todo::{Binary, Now, Unary};
 use super::trial::Trial;
@@ -37,9 +36,9 @@ impl<'a> Trial<'a> {
     ) -> Result<Now<'a>, AllocError>
         requires idle_store { IsIdle store.now }
         requires operand { IsOperand unary (value_view value.now) }
-        ensures same { IfOk result (λ now. follow (contents store.now) self.old.reads (onto rules.now.classes self.old (with_one rules.now.classes unary (value_view value.now))) ≡ follow (contents store.now) self.new.reads (rest rules.now.classes now self.new)) }
+        ensures same { IfOk result (λ now. GoesOn (contents store.now) rules.now.classes self.old.reads (onto rules.now.classes self.old (with_one rules.now.classes unary (value_view value.now))) now self.new) }
         ensures less { IfOk result (λ now. weight now self.new ≡ load self.old.todo) }
-        ensures told { IfOk result (λ now. ComesTo (contents store.now) (with_one rules.now.classes unary (value_view value.now)) now × (self.new ≡ record self.old { reads = self.new.reads })) }
+        ensures told { IfOk result (λ now. ComesTo (contents store.now) (with_one rules.now.classes unary (value_view value.now)) now × OnlyReads self.old self.new) }
     {
         match unary {
             Unary::Negate => Ok(Now::Back(value.negated())),
@@ -63,9 +62,9 @@ impl<'a> Trial<'a> {
     ) -> Result<Now<'a>, AllocError>
         requires idle_store { IsIdle store.now }
         requires operands { AreOperands binary (value_view left) (value_view right.now) }
-        ensures same { (classes : Classes) → IfOk result (λ now. follow (contents store.now) self.old.reads (onto classes self.old (with_two binary (value_view left) (value_view right.now))) ≡ follow (contents store.now) self.new.reads (rest classes now self.new)) }
+        ensures same { (classes : Classes) → IfOk result (λ now. GoesOn (contents store.now) classes self.old.reads (onto classes self.old (with_two binary (value_view left) (value_view right.now))) now self.new) }
         ensures less { IfOk result (λ now. weight now self.new ≡ load self.old.todo) }
-        ensures told { IfOk result (λ now. ComesTo (contents store.now) (with_two binary (value_view left) (value_view right.now)) now × (self.new ≡ record self.old { reads = self.new.reads })) }
+        ensures told { IfOk result (λ now. ComesTo (contents store.now) (with_two binary (value_view left) (value_view right.now)) now × OnlyReads self.old self.new) }
     {
         match binary {
             Binary::Arithmetic(operator) => Ok(computed(operator, left.int(), right.int())),
@@ -91,9 +90,9 @@ impl<'a> Trial<'a> {
     ) -> Result<Now<'a>, AllocError>
         requires idle_store { IsIdle store.now }
         requires operands { AreOperands binary (value_view left) (Int right.now) }
-        ensures same { (classes : Classes) → IfOk result (λ now. follow (contents store.now) self.old.reads (onto classes self.old (with_two binary (value_view left) (Int right.now))) ≡ follow (contents store.now) self.new.reads (rest classes now self.new)) }
+        ensures same { (classes : Classes) → IfOk result (λ now. GoesOn (contents store.now) classes self.old.reads (onto classes self.old (with_two binary (value_view left) (Int right.now))) now self.new) }
         ensures less { IfOk result (λ now. weight now self.new ≡ load self.old.todo) }
-        ensures told { IfOk result (λ now. ComesTo (contents store.now) (with_two binary (value_view left) (Int right.now)) now × (self.new ≡ record self.old { reads = self.new.reads })) }
+        ensures told { IfOk result (λ now. ComesTo (contents store.now) (with_two binary (value_view left) (Int right.now)) now × OnlyReads self.old self.new) }
     {
         match binary {
             Binary::Arithmetic(operator) => Ok(computed(operator, left.int(), *right)),
@@ -116,9 +115,9 @@ impl<'a> Trial<'a> {
         node: Option<Node>,
     ) -> Result<Now<'a>, AllocError>
         requires idle_store { IsIdle store.now }
-        ensures same { IfOk result (λ now. follow (contents store.now) self.old.reads (onto rules.now.classes self.old (is_instance rules.now.classes class node)) ≡ follow (contents store.now) self.new.reads (rest rules.now.classes now self.new)) }
+        ensures same { IfOk result (λ now. GoesOn (contents store.now) rules.now.classes self.old.reads (onto rules.now.classes self.old (is_instance rules.now.classes class node)) now self.new) }
         ensures less { IfOk result (λ now. weight now self.new ≡ load self.old.todo) }
-        ensures told { IfOk result (λ now. ComesTo (contents store.now) (is_instance rules.now.classes class node) now × (self.new ≡ record self.old { reads = self.new.reads })) }
+        ensures told { IfOk result (λ now. ComesTo (contents store.now) (is_instance rules.now.classes class node) now × OnlyReads self.old self.new) }
     {
         match node {
             Some(node) => {
@@ -138,9 +137,9 @@ impl<'a> Trial<'a> {
         node: Option<Node>,
     ) -> Result<Now<'a>, AllocError>
         requires idle_store { IsIdle store.now }
-        ensures same { IfOk result (λ now. follow (contents store.now) self.old.reads (onto rules.now.classes self.old (cast_to rules.now.classes class node)) ≡ follow (contents store.now) self.new.reads (rest rules.now.classes now self.new)) }
+        ensures same { IfOk result (λ now. GoesOn (contents store.now) rules.now.classes self.old.reads (onto rules.now.classes self.old (cast_to rules.now.classes class node)) now self.new) }
         ensures less { IfOk result (λ now. weight now self.new ≡ load self.old.todo) }
-        ensures told { IfOk result (λ now. ComesTo (contents store.now) (cast_to rules.now.classes class node) now × (self.new ≡ record self.old { reads = self.new.reads })) }
+        ensures told { IfOk result (λ now. ComesTo (contents store.now) (cast_to rules.now.classes class node) now × OnlyReads self.old self.new) }
     {
         match node {
             Some(node) => {
@@ -162,9 +161,9 @@ impl<'a> Trial<'a> {
         node: Option<Node>,
     ) -> Result<Now<'a>, AllocError>
         requires idle_store { IsIdle store.now }
-        ensures same { (classes : Classes) → IfOk result (λ now. follow (contents store.now) self.old.reads (onto classes self.old (child_of part (Ref node))) ≡ follow (contents store.now) self.new.reads (rest classes now self.new)) }
+        ensures same { (classes : Classes) → IfOk result (λ now. GoesOn (contents store.now) classes self.old.reads (onto classes self.old (child_of part (Ref node))) now self.new) }
         ensures less { IfOk result (λ now. weight now self.new ≡ load self.old.todo) }
-        ensures told { IfOk result (λ now. ComesTo (contents store.now) (child_of part (Ref node)) now × (self.new ≡ record self.old { reads = self.new.reads })) }
+        ensures told { IfOk result (λ now. ComesTo (contents store.now) (child_of part (Ref node)) now × OnlyReads self.old self.new) }
     {
         match node {
             Some(node) => {
@@ -186,9 +185,9 @@ impl<'a> Trial<'a> {
         node: Option<Node>,
     ) -> Result<Now<'a>, AllocError>
         requires idle_store { IsIdle store.now }
-        ensures same { (classes : Classes) → IfOk result (λ now. follow (contents store.now) self.old.reads (onto classes self.old (count_of part (Ref node))) ≡ follow (contents store.now) self.new.reads (rest classes now self.new)) }
+        ensures same { (classes : Classes) → IfOk result (λ now. GoesOn (contents store.now) classes self.old.reads (onto classes self.old (count_of part (Ref node))) now self.new) }
         ensures less { IfOk result (λ now. weight now self.new ≡ load self.old.todo) }
-        ensures told { IfOk result (λ now. ComesTo (contents store.now) (count_of part (Ref node)) now × (self.new ≡ record self.old { reads = self.new.reads })) }
+        ensures told { IfOk result (λ now. ComesTo (contents store.now) (count_of part (Ref node)) now × OnlyReads self.old self.new) }
     {
         match node {
             Some(node) => {
@@ -207,9 +206,9 @@ impl<'a> Trial<'a> {
         node: Option<Node>,
     ) -> Result<Now<'a>, AllocError>
         requires idle_store { IsIdle store.now }
-        ensures same { (classes : Classes) → IfOk result (λ now. follow (contents store.now) self.old.reads (onto classes self.old (has_of part (Ref node))) ≡ follow (contents store.now) self.new.reads (rest classes now self.new)) }
+        ensures same { (classes : Classes) → IfOk result (λ now. GoesOn (contents store.now) classes self.old.reads (onto classes self.old (has_of part (Ref node))) now self.new) }
         ensures less { IfOk result (λ now. weight now self.new ≡ load self.old.todo) }
-        ensures told { IfOk result (λ now. ComesTo (contents store.now) (has_of part (Ref node)) now × (self.new ≡ record self.old { reads = self.new.reads })) }
+        ensures told { IfOk result (λ now. ComesTo (contents store.now) (has_of part (Ref node)) now × OnlyReads self.old self.new) }
     {
         match node {
             Some(node) => {
@@ -228,9 +227,9 @@ impl<'a> Trial<'a> {
         node: Option<Node>,
     ) -> Result<Now<'a>, AllocError>
         requires idle_store { IsIdle store.now }
-        ensures same { (classes : Classes) → IfOk result (λ now. follow (contents store.now) self.old.reads (onto classes self.old (token_of part (Ref node))) ≡ follow (contents store.now) self.new.reads (rest classes now self.new)) }
+        ensures same { (classes : Classes) → IfOk result (λ now. GoesOn (contents store.now) classes self.old.reads (onto classes self.old (token_of part (Ref node))) now self.new) }
         ensures less { IfOk result (λ now. weight now self.new ≡ load self.old.todo) }
-        ensures told { IfOk result (λ now. ComesTo (contents store.now) (token_of part (Ref node)) now × (self.new ≡ record self.old { reads = self.new.reads })) }
+        ensures told { IfOk result (λ now. ComesTo (contents store.now) (token_of part (Ref node)) now × OnlyReads self.old self.new) }
     {
         match node {
             Some(node) => {
@@ -252,9 +251,9 @@ impl<'a> Trial<'a> {
         requires idle_store { IsIdle store.now }
         requires node { IsRef (value_view node.now) }
         requires index { IsInt (value_view index.now) }
-        ensures same { (classes : Classes) → IfOk result (λ now. follow (contents store.now) self.old.reads (onto classes self.old (element_of part (value_view node.now) (value_view index.now))) ≡ follow (contents store.now) self.new.reads (rest classes now self.new)) }
+        ensures same { (classes : Classes) → IfOk result (λ now. GoesOn (contents store.now) classes self.old.reads (onto classes self.old (element_of part (value_view node.now) (value_view index.now))) now self.new) }
         ensures less { IfOk result (λ now. weight now self.new ≡ load self.old.todo) }
-        ensures told { IfOk result (λ now. ComesTo (contents store.now) (element_of part (value_view node.now) (value_view index.now)) now × (self.new ≡ record self.old { reads = self.new.reads })) }
+        ensures told { IfOk result (λ now. ComesTo (contents store.now) (element_of part (value_view node.now) (value_view index.now)) now × OnlyReads self.old self.new) }
     {
         match node.node() {
             Some(node) => {
