@@ -1,3 +1,4 @@
 pub mod Statuses
+pub mod CommandLine
 pub mod Options
 pub mod Connections

@@ -1,5 +1,14 @@
 -- What the words of the command line ask for.
-use Rattle.std.specs.Prelude.{ℕ, ◌≤◌, ◌<◌, length}
+use Rattle.std.specs.Prelude.{◌≡◌, ◌⊎◌, ◌≤◌, ◌<◌, ℕ, Bool, true, false, List, length, map, Option}
+use Rattle.std.specs.Prelude.{Some, IfSome, codes, is_some, option_map}
+use Rattle.std.specs.Option.{option_map_or}
+use Rattle.std.specs.Str.{bytes_eq}
+use Rattle.std.specs.Str.Parse.{IsNumeral, digits_value, without_leading_plus}
+use Rattle.std.specs.String.{string_bytes}
+use Rattle.clap.specs.Words.{Row, Text, all_of, first_of, found_of, matches_of, one_of, rows_of}
+use Rattle.clap.specs.Words.{takes}
+use Rattle.clap.specs.declared.parser.matches.ArgMatches.{ArgMatches}
+use Rattle.attrd.specs.CommandLine.{command_line}
 use Rattle.attrd.specs.declared.options.Options.{Options}
 
 -- so many connections can be asked for
@@ -9,3 +18,53 @@ IsConnections n = (1 ≤ n) × (n ≤ 1000)
 -- it can be served: there is an aspect file, and the number of connections is in range
 abbrev pub IsUsable : Options → Type 0
 IsUsable o = (0 < length o.aspects.items) × IsConnections o.connections
+
+-- ---- the values of the words
+
+-- the number that a text spells
+abbrev pub number : Text → ℕ
+number text = digits_value 10 (without_leading_plus text)
+
+-- how many connections are asked for: one, where no text says it
+abbrev pub connections : Option Text → ℕ
+connections text = option_map_or number text 1
+
+-- whether a flag is there: its value is `true` then, and `false` else
+abbrev pub is_set : Option Text → Bool
+is_set text = option_map_or (λ t. bytes_eq t (codes "true")) text false
+
+-- the options are the values of the words, which stand in rows, one for each name
+pub record HasValues (rows : List Row) (o : Options) : Type 0 where
+  pub socket : option_map string_bytes o.socket ≡ first_of (codes "socket") rows
+  pub connections : o.connections ≡ connections (one_of (codes "connections") rows)
+  pub work : o.work ≡ is_set (one_of (codes "work") rows)
+  pub grammar : Some (string_bytes o.grammar) ≡ first_of (codes "GRAMMAR") rows
+  pub tree : Some (string_bytes o.tree) ≡ first_of (codes "TREE") rows
+  pub aspects : Some (map string_bytes o.aspects.items) ≡ all_of (codes "ASPECT") rows
+
+-- the command line takes the words, and the options are their values
+pub record Asks (words : List Text) (o : Options) : Type 0 where
+  pub taken : takes command_line words ≡ true
+  pub values : HasValues (matches_of command_line words) o
+
+-- ---- what is known of the words once they are matched
+
+-- the rows of what was matched
+abbrev pub rows_found : ArgMatches → List Row
+rows_found m = rows_of (found_of m)
+
+-- the text spells a number of connections
+abbrev pub SpellsConnections : Text → Type 0
+SpellsConnections text = IsNumeral 10 (without_leading_plus text) × IsConnections (number text)
+
+-- the text is the value of a flag
+abbrev pub IsFlag : Text → Type 0
+IsFlag text = (text ≡ codes "true") ⊎ (text ≡ codes "false")
+
+-- each file that is needed is there, and each value reads as what it is taken for
+pub record IsWhole (rows : List Row) : Type 0 where
+  pub connections : IfSome (one_of (codes "connections") rows) SpellsConnections
+  pub work : IfSome (one_of (codes "work") rows) IsFlag
+  pub grammar : is_some (first_of (codes "GRAMMAR") rows) ≡ true
+  pub tree : is_some (first_of (codes "TREE") rows) ≡ true
+  pub aspects : is_some (first_of (codes "ASPECT") rows) ≡ true

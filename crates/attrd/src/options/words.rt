@@ -1,6 +1,13 @@
 //! The words of the command line, and how they are read.
-ghost use Rattle.std.specs.Prelude.{◌≡◌, IfOk, vec_len, length};
-ghost use Rattle.attrd.specs.Options.{IsUsable, IsConnections};
+ghost use Rattle.std.specs.Prelude.{◌≡◌, IfOk, IfErr, IfSome, Some, true, false, codes, is_some, map, option_map};
+ghost use Rattle.std.specs.String.{string_bytes};
+ghost use Rattle.clap.specs.Walk.{texts};
+ghost use Rattle.clap.specs.Words.{all_of, app_of, first_of, kind_of, matches_of, one_of, rule_of, takes};
+ghost use Rattle.clap.specs.declared.error.ErrorKind.TheVariants.{OutOfMemory};
+ghost use Rattle.attrd.specs.CommandLine.{command_line, rule, with_words};
+ghost use Rattle.attrd.specs.Options.{Asks, HasValues, IsFlag, IsUsable, IsWhole, SpellsConnections};
+ghost use Rattle.attrd.specs.Options.{connections, is_set, rows_found};
+ghost use Rattle.attrd.specs.declared.options.WordsFault.TheVariants.{Memory};
 
 use super::{Options, WordsFault};
 use clap::builder::ValueParser;
@@ -101,34 +108,62 @@ const WORDS: &[Word] = &[
     },
 ];
 
-/// What the words after the program's name ask for.
+/// What the words after the program's name ask for. Nothing that the command line takes is refused.
 ///
 /// # Errors
 ///
 /// `Words` where they aren't words of the command line, or ask for help; `Memory` for want of memory.
 pub fn options<'a>(alloc: Global, words: &'a [&'a str]) -> Result<Options, WordsFault>
-    ensures { IfOk result IsUsable }
+    ensures usable { IfOk result IsUsable }
+    ensures asked { IfOk result (Asks (texts words.entry.now)) }
+    ensures refused { IfErr result (λ e. takes command_line (texts words.entry.now) ≡ true → e ≡ Memory) }
 {
-    match command(alloc)?.try_get_matches_from(words) {
-        Ok(matches) => options_of(alloc, &matches),
+    match matched(alloc, words) {
+        Ok(matches) => Ok(options_of(alloc, &matches)?),
         Err(error) => Err(fault_of(alloc, &error)),
     }
 }
 
-/// The words of the command line. One is added as soon as it is made, so that no exit has several to let go.
-fn command<'a>(alloc: Global) -> Result<Command<'a>, AllocError> {
-    let mut command = Command::new(alloc, "attrd")
+/// The words as they are matched. Each file that is needed is among them, so what follows looks for none in vain.
+fn matched<'a>(alloc: Global, words: &'a [&'a str]) -> Result<ArgMatches<'a>, Error>
+    ensures taken { IfOk result (λ _. takes command_line (texts words.entry.now) ≡ true) }
+    ensures rows { IfOk result (λ m. rows_found m ≡ matches_of command_line (texts words.entry.now)) }
+    ensures whole { IfOk result (λ m. IsWhole (rows_found m)) }
+    ensures refused { IfErr result (λ e. takes command_line (texts words.entry.now) ≡ true → kind_of e ≡ OutOfMemory) }
+{
+    let mut command = command(alloc)?;
+    command.try_get_matches_from_mut(words)
+}
+
+/// The words of the command line.
+fn command<'a>(alloc: Global) -> Result<Command<'a>, AllocError>
+    ensures { IfOk result (λ c. app_of c ≡ command_line) }
+{
+    let command = Command::new(alloc, "attrd")
         .about("Serves attributes of a syntax tree, line by line, while the tree is edited.")
         .after_help(HELP)
         .no_binary_name(true);
-    for word in WORDS {
+    with_words(alloc, command, WORDS)
+}
+
+/// The command with these words more. One is added as soon as it is made, so that no exit has several to let go.
+fn with_words<'a>(
+    alloc: Global,
+    mut command: Command<'a>,
+    words: &[Word],
+) -> Result<Command<'a>, AllocError>
+    ensures { IfOk result (λ c. app_of c ≡ with_words (app_of command.entry) (map rule words.now)) }
+{
+    for word in words {
         command = command.arg(argument(alloc, word))?;
     }
     Ok(command)
 }
 
 /// The word as `clap` knows it.
-fn argument<'a>(alloc: Global, word: &Word) -> Arg<'a> {
+fn argument<'a>(alloc: Global, word: &Word) -> Arg<'a>
+    ensures { (rule_of result ≡ rule word.now) × (result.global ≡ false) }
+{
     let argument = Arg::new(alloc, word.name)
         .num_args(word.most.min(1)..=word.most)
         .value_name(word.value)
@@ -142,46 +177,65 @@ fn argument<'a>(alloc: Global, word: &Word) -> Arg<'a> {
 }
 
 /// What the words ask for, as they were matched.
-fn options_of(alloc: Global, matches: &ArgMatches<'_>) -> Result<Options, WordsFault>
-    ensures { IfOk result IsUsable }
+fn options_of(alloc: Global, matches: &ArgMatches<'_>) -> Result<Options, AllocError>
+    requires { IsWhole (rows_found matches.now) }
+    ensures { IfOk result (HasValues (rows_found matches.now)) }
 {
-    let (Some(grammar), Some(tree), Some(aspects)) = (
-        matches.get_str("GRAMMAR"),
-        matches.get_str("TREE"),
-        matches.get_strs("ASPECT"),
-    ) else {
-        return Err(lacking(alloc));
-    };
-    if aspects.is_empty() {
-        return Err(lacking(alloc));
-    }
-    let socket = match matches.get_str("socket") {
-        Some(path) => Some(String::from_str(alloc, path)?),
-        None => None,
-    };
     Ok(Options {
-        socket,
+        socket: socket_of(alloc, matches)?,
         connections: connections_of(matches),
-        work: matches.get_flag("work"),
-        grammar: String::from_str(alloc, grammar)?,
-        tree: String::from_str(alloc, tree)?,
-        aspects: copies(alloc, aspects)?,
+        work: has_flag(matches, "work"),
+        grammar: file_of(alloc, matches, "GRAMMAR")?,
+        tree: file_of(alloc, matches, "TREE")?,
+        aspects: files_of(alloc, matches, "ASPECT")?,
     })
 }
 
-/// How many connections are asked for. The command has seen to the range: the bounds are for whoever reads this alone.
-fn connections_of(matches: &ArgMatches<'_>) -> u16
-    ensures { IsConnections result }
+/// The path of the socket that is asked for, where there is one.
+fn socket_of(alloc: Global, matches: &ArgMatches<'_>) -> Result<Option<String>, AllocError>
+    ensures { IfOk result (λ s. option_map string_bytes s ≡ first_of (codes "socket") (rows_found matches.now)) }
 {
-    matches
-        .get_one::<u16>("connections")
-        .unwrap_or(CONNECTIONS)
-        .clamp(CONNECTIONS, MAX_CONNECTIONS)
+    match matches.get_str("socket") {
+        Some(path) => Ok(Some(String::from_str(alloc, path)?)),
+        None => Ok(None),
+    }
+}
+
+/// How many connections are asked for.
+fn connections_of(matches: &ArgMatches<'_>) -> u16
+    requires { IfSome (one_of (codes "connections") (rows_found matches.now)) SpellsConnections }
+    ensures { result ≡ connections (one_of (codes "connections") (rows_found matches.now)) }
+{
+    matches.get_one::<u16>("connections").unwrap_or(CONNECTIONS)
+}
+
+/// Whether the flag is there.
+fn has_flag(matches: &ArgMatches<'_>, name: &str) -> bool
+    requires { IfSome (one_of name.now (rows_found matches.now)) IsFlag }
+    ensures { result ≡ is_set (one_of name.now (rows_found matches.now)) }
+{
+    matches.get_flag(name)
+}
+
+/// The file of that name in the command line, which the command has seen to.
+fn file_of(alloc: Global, matches: &ArgMatches<'_>, name: &str) -> Result<String, AllocError>
+    requires { is_some (first_of name.now (rows_found matches.now)) ≡ true }
+    ensures { IfOk result (λ t. Some (string_bytes t) ≡ first_of name.now (rows_found matches.now)) }
+{
+    String::from_str(alloc, matches.get_str(name).unwrap())
+}
+
+/// The files of that name in the command line, of which the command has seen to one at least.
+fn files_of(alloc: Global, matches: &ArgMatches<'_>, name: &str) -> Result<Vec<String>, AllocError>
+    requires { is_some (first_of name.now (rows_found matches.now)) ≡ true }
+    ensures { IfOk result (λ v. Some (map string_bytes v.items) ≡ all_of name.now (rows_found matches.now)) }
+{
+    copies(alloc, matches.get_strs(name).unwrap())
 }
 
 /// Copies of the texts.
 fn copies(alloc: Global, texts: &[&str]) -> Result<Vec<String>, AllocError>
-    ensures { IfOk result (λ v. vec_len v ≡ length texts.now) }
+    ensures { IfOk result (λ v. map string_bytes v.items ≡ map (λ t. t.now) texts.now) }
 {
     let mut copied = Vec::new(alloc);
     for text in texts {
@@ -190,16 +244,10 @@ fn copies(alloc: Global, texts: &[&str]) -> Result<Vec<String>, AllocError>
     Ok(copied)
 }
 
-/// The fault of words that name too few files. The command has seen to it that none come here.
-fn lacking(alloc: Global) -> WordsFault {
-    match String::from_str(alloc, "error: GRAMMAR, TREE and ASPECT are required") {
-        Ok(text) => WordsFault::Words { text },
-        Err(_) => WordsFault::Memory,
-    }
-}
-
 /// The fault of the words that were refused.
-fn fault_of(alloc: Global, error: &Error) -> WordsFault {
+fn fault_of(alloc: Global, error: &Error) -> WordsFault
+    ensures { kind_of error.now ≡ OutOfMemory → result ≡ Memory }
+{
     if error.kind() == ErrorKind::OutOfMemory {
         return WordsFault::Memory;
     }

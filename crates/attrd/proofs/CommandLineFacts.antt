@@ -1,0 +1,24 @@
+-- The command line at words that are written out.
+use Rattle.std.proofs.Common.{◌≡◌, true, false, refl, List, [], ◌∷◌, codes}
+use Rattle.clap.specs.Words.{Text, takes}
+use Rattle.clap.proofs.OnLiterals.{clap_on_literals}
+use Rattle.attrd.specs.CommandLine.{command_line}
+
+abbrev files : List Text
+files = codes "calc.ast" ∷ codes "tree.txt" ∷ codes "calc.jrag" ∷ []
+
+three_files : takes command_line files ≡ true
+unfolding clap_on_literals
+three_files = refl
+
+no_aspect : takes command_line (codes "calc.ast" ∷ codes "tree.txt" ∷ []) ≡ false
+unfolding clap_on_literals
+no_aspect = refl
+
+no_connection : takes command_line (codes "--connections" ∷ codes "0" ∷ files) ≡ false
+unfolding clap_on_literals
+no_connection = refl
+
+all_of_it : takes command_line (codes "--socket=a" ∷ codes "--connections" ∷ codes "1000" ∷ codes "--work" ∷ files) ≡ true
+unfolding clap_on_literals
+all_of_it = refl

@@ -1,0 +1,7 @@
+pub mod CommandLine
+mod CommandLineFacts
+pub mod OptionsRead
+pub mod Entries
+pub mod WholeRows
+pub mod Taken
+pub mod Parses
