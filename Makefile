@@ -1,22 +1,36 @@
-# attrd: make run, make test, make try, make build, make install, make examples, make bench, make starve, make tries.
+# attrd: `make` alone prints what there is.
 SHELL := /bin/bash
 SAMPLE := crates/attrd/data
 PREFIX ?= /usr/local
 PAGES := docs/MANUAL.md docs/EDGES.md docs/REFUSALS.md docs/TUTORIAL.md samples/calculator samples/objects samples/machines
 
-.PHONY: run test try build install examples bench starve tries tools python
+.PHONY: help run test try build install examples bench starve tries tools python
 
-# The sample session, answered by the proved program.
-run: build
-	@cd $(SAMPLE) && ../../../attrd calc.ast tree.txt calc.jrag < session
+# What there is, and how long it takes on two cores.
+help:
+	@echo "make run       answers the sample session: by the proved ./attrd where it was built, else with no proof (2 minutes)"
+	@echo "make test      the gate: every proof, wrong bodies, tests, programs, examples (90 minutes; 15 where it passed before)"
+	@echo "make build     the proved program, as ./attrd (60 minutes; one where it was built before)"
+	@echo "make try       the sample session with no proof (2 minutes)"
+	@echo "make install   ./attrd and its man page, below PREFIX (/usr/local)"
+	@echo "make examples  runs the examples of the pages by ./attrd (a minute, behind make build)"
+	@echo "make bench     measures ./attrd (15 minutes, behind make build)"
+	@echo "make starve    a session with each keeper, with each request for memory refused in turn (a minute, behind its proof)"
+	@echo "make tries     the examples of single tries of equations (a minute, behind its proof)"
+
+# The sample session, answered by the proved program where it was built, else by one that isn't proved.
+run: tools
+	@if [ -x attrd ]; then echo "answered by ./attrd, which is proved:" >&2; cd $(SAMPLE) && ../../../attrd calc.ast tree.txt calc.jrag < session; \
+	else echo "answered with no proof, in a minute or two (make build proves the program first):" >&2; $(MAKE) --no-print-directory try; fi
 
 # The gate: every proof (see tools/gate.py), the tests, the programs, the must-fail edits; and then, on the programs that
-# were proved, a session with each request for memory refused in turn, the words of the command line and real sockets, and
-# the examples of the manual, the tutorial, the samples and single tries.
+# were proved, a session with each request for memory refused in turn, the words of the command line and real sockets, the
+# tests of the clients, and the examples of the manual, the tutorial, the samples and single tries.
 test: tools python
 	@python3 tools/gate.py
 	@python3 tools/starve.py crates/starve/out/starve
 	@python3 tools/program.py crates/attrd/out/attrd
+	@python3 clients/run_tests.py crates/attrd/out/attrd
 	@python3 tools/examples.py --program crates/attrd/out/attrd --tries crates/tries/out/tries $(PAGES) docs/TRIES.md
 
 # The sample session with no proof, in a minute or two.
@@ -53,6 +67,7 @@ bench: build
 	cd crates/tries && rt run < stdin -- data/calc.ast data/calc.jrag data/tree.txt > /dev/null
 	python3 bench/bench.py
 	python3 bench/limits.py
+	python3 bench/clients.py
 
 tools:
 	@command -v rt > /dev/null || { echo "attrd is written in Rattle: install the Rattle kit, so that the command 'rt' is on the PATH."; exit 1; }

@@ -128,10 +128,79 @@ def edits(files, spent):
         print(f"{count:,} {what}: {times[0] * 1e6 / count:.2f} us each on 4,000 nodes, {times[1] * 1e6 / count:.2f} us on 61,000: ratio {times[1] / times[0]:.2f}")
 
 
+def moves_of(elements):
+    """Kinds of moves in a tree whose third statement is a block of so many elements: what they are, and 1,000 lines of them."""
+    many, behind = "/Block/Stmt:2", "/Block/Stmt:3"
+    return [("from the front of a long list to its end", f"0 move {many}/Stmt:0 to {many} Stmt {elements - 1}\n" * 1000),
+            ("from the end of a long list to the same index", f"0 move {many}/Stmt:{elements - 1} to {many} Stmt {elements - 1}\n" * 1000),
+            ("from the front of a long list to that of a short one and back, by turns",
+             f"0 move {many}/Stmt:0 to /Block Stmt 0\n0 move /Block/Stmt:0 to {behind} Stmt 0\n" * 500),
+            ("of a block with a long list, to where it stands", f"0 move {many} to /Block Stmt 2\n" * 1000)]
+
+
+def moves(put, spent):
+    """What moves cost in a list of 60,000 elements, each kind against the same in one of 30,000."""
+    sizes = (30000, 60000)
+    files = [calculator(put, 2, size) for size in sizes]
+    for (what, few), (_, many) in zip(*map(moves_of, sizes)):
+        times = [spent(of, lines) for of, lines in zip(files, (few, many))]
+        print(f"1,000 moves {what}: {times[1] * 1e3:.0f} us each with 60,000 elements, against 30,000: ratio {times[1] / times[0]:.2f}")
+
+
+def folding():
+    """Aspects over the calculator's blocks: a block sums a one for each statement, and for each statement such a sum."""
+    return ("aspect Folding {\n  syn int Block.many() = sum (s : getStmtList()) { s.one() };\n  syn int Stmt.one() = 1;\n"
+            "  syn int Block.pairs() = sum (s : getStmtList()) { s.all() };\n  inh int Stmt.all();\n"
+            "  eq Block.getStmt(int i).all() = sum (s : getStmtList()) { s.one() };\n  eq Program.getBlock().all() = 0;\n}\n")
+
+
+def questions(folder, put):
+    """What a question takes in turns, by `wait` and at the end of the input, against `ask`; and how long an edit waits beside one."""
+    aspects = put("folding.jrag", folding())
+    nothing = Path(folder) / put("nothing", "")
+    for size, count in ((1000, 90), (8000, 60), (30000, 30)):
+        files = calculator(put, size)[:2] + [aspects]
+        post = "0 post /Block many()\n"
+        inputs = [nothing, Path(folder) / put("asked", "0 ask /Block many()\n" * count),
+                  Path(folder) / put("awaited", "".join(f"{post}0 wait {k}\n" for k in range(1, count + 1))), Path(folder) / put("posted", post * count)]
+        begun, asked, awaited, posted = best_of_turns(folder, files, inputs, RUNS)
+        print(f"{count} folds over {size:,} elements: {(asked - begun) * 1000:.0f} ms by `ask`; by `wait` {(awaited - begun) / (asked - begun):.2f} times that, "
+              f"at the end of the input {(posted - begun) / (asked - begun):.2f} times")
+    files = calculator(put, 2000)[:2] + [aspects]
+    asked, *posted = (min(waited(folder, ["--slice", slice, *files], f"0 {word} /Block pairs()\n", word == "post") for _ in range(RUNS))
+                      for word, slice in (("ask", "1"), ("post", "1"), ("post", "100")))
+    print(f"an edit is answered {asked * 1000:.0f} ms behind an `ask`, and behind a `post` of the same question {posted[0] * 1000:.2f} ms "
+          f"with one turn behind each line, {posted[1] * 1000:.2f} ms with 100")
+
+
+def waited(folder, names, question, is_told):
+    """How long an edit waits for its reply that is sent behind this question, or, where that is told at once, behind its reply."""
+    pipes = {"stdin": subprocess.PIPE, "stdout": subprocess.PIPE}
+    with subprocess.Popen([str(PROGRAM), *names], cwd=folder, **pipes) as program:
+        def tell(line):
+            program.stdin.write(line.encode())
+            program.stdin.flush()
+
+        tell("0 version\n")
+        program.stdout.readline()
+        tell(question)
+        if is_told:
+            program.stdout.readline()
+        began = time.perf_counter()
+        tell("1 token /Block/Stmt:0 ID \"z\"\n")
+        while not (reply := program.stdout.readline()).startswith(b"1 "):
+            if not reply:
+                sys.exit(f"attrd told nothing of an edit behind {question}")
+        spent = time.perf_counter() - began
+        program.kill()
+    return spent
+
+
 def layers(put, spent):
     """What the store, questions and rules cost, each against a smaller tree or half as much."""
     small, large = calculator(put, 2000, 10), calculator(put, 30500, 10)
     edits((small, large), spent)
+    moves(put, spent)
 
     def halves(what, files, lines):
         times = [spent(of, text) for of, text in zip(files, lines)]
@@ -252,6 +321,7 @@ def main():
         print(f"  ratio {times[1] / times[0]:.2f}")
 
         layers(put, lambda files, lines: best(folder, files, Path(folder) / put("lines", lines)) - best(folder, files, nothing))
+        questions(folder, put)
         rules(put, lambda files: best(folder, files, nothing) - idle)
         trials(folder, put)
 

@@ -17,7 +17,8 @@ The examples of a page are its fenced blocks; the word behind the fence says wha
     $ attrd WORDS
     > a line that is sent
     its reply
-    Each line that isn't empty has one reply. Nothing may stand on standard error, and the status is 0.
+    Each line that isn't empty has one reply; behind it may stand lines with the answers to questions in turns, 'S done ..'.
+    Nothing may stand on standard error, and the status is 0.
     '$ attrd WORDS < LINES | diff - REPLIES' takes lines and replies from these files.
 
     ```fault
@@ -46,6 +47,7 @@ import tempfile
 from pathlib import Path
 
 FENCE = re.compile(r"^```(.*)$")
+DONE = re.compile(r"\d+ done ")
 TIMES = re.compile(r"‹([^‹›]*)\*(\d+)›")
 BYTE = re.compile(r"‹\\x([0-9A-F]{2})›".encode())
 PASSED_OVER = ("", "text", "ebnf", "sh")
@@ -160,6 +162,8 @@ class Page:
             elif open_lines:
                 replies.append(line)
                 open_lines = 0
+            elif replies and DONE.match(line):
+                replies.append(line)
             else:
                 raise Malformed(f"a reply stands behind no line: {line}")
         if open_lines:

@@ -1,9 +1,12 @@
 #!/usr/bin/env python3
-"""Tests of the program that no page shows: the words of its command line, and connections of a real socket.
+"""Tests of the program that no page shows: the words of its command line, real streams that fail, clients that wait for each
+reply, and connections of a real socket.
 
     tools/program.py PROGRAM
 
 The last line is 'N passed, M failed'; the status is 1 where one failed."""
+import os
+import select
 import socket
 import subprocess
 import sys
@@ -11,11 +14,15 @@ import tempfile
 import time
 from pathlib import Path
 
+sys.dont_write_bytecode = True
+import starve
+
 FILES = {
     "sum.ast": "Sum ::= Left:Num Right:Num; Num ::= <Value:int>;\n",
     "sum.txt": "Sum(Num(3),Num(4))\n",
     "sum.jrag": "aspect S { syn int Sum.total() = getLeft().getValue() + getRight().getValue() * 2; }\n",
     "more.jrag": "aspect M { syn int Sum.half() = total() / 2; }\n",
+    "lines": "0 version\n",
 }
 THREE = ["sum.ast", "sum.txt", "sum.jrag"]
 SECONDS = 60
@@ -24,11 +31,14 @@ SECONDS = 60
 REFUSED = [
     (["--connections", "0", *THREE], ["0 is not in 1..=1000"]),
     (["--connections", "1001", *THREE], ["1001 is not in 1..=1000"]),
+    (["--slice", "0", *THREE], ["0 is not in 1..=1000000"]),
+    (["--slice=1000001", *THREE], ["1000001 is not in 1..=1000000"]),
+    (["--slice=1", "--slice=1", *THREE], ["cannot be used multiple times"]),
     (["sum.ast", "sum.txt"], ["<ASPECT>"]),
     (["--work", "--work", *THREE], ["cannot be used multiple times"]),
     (["--port", *THREE], ["unexpected argument '--port'"]),
     (["--socket=", *THREE], ["a value is required for '--socket <PATH>'"]),
-    (["--help"], ["--socket <PATH>", "--connections <N>", "--work", "<GRAMMAR>", "<TREE>", "<ASPECT>", "$ attrd calc.ast", "ask PLACE", "version "]),
+    (["--help"], ["--socket <PATH>", "--connections <N>", "--slice <N>", "--work", "<GRAMMAR>", "<TREE>", "<ASPECT>", "$ attrd calc.ast", "ask PLACE", "move PLACE", "version ", "wait NUMBER"]),
 ]
 
 
@@ -122,6 +132,13 @@ def marks_are_those_of_sessions(runs):
     same("the replies", received, [b"0 ok 0\n", b"0 = /Left\n1 refused 3 mark\n"])
 
 
+def the_end_of_a_connection_answers_its_questions(runs):
+    words = [*THREE, "more.jrag"]
+    received, end = runs.served(words, [(b"0 post / half()\n", False), (b"0 wait 1\n0 post / half()\n1 version\n", False)])
+    same("the replies", received, [b"0 open 1\n0 done 1 0 = 5\n", b"0 refused 15 question\n0 open 2\n1 ok 0\n0 done 2 0 = 5\n"])
+    same("the end", end, (0, b"", b""))
+
+
 def half_a_line_is_a_line(runs):
     received, end = runs.served(THREE, [(b"0 vers", False), (b"0 version\n", False)])
     same("the replies", received, [b"0 refused 1 syntax\n", b"0 ok 0\n"])
@@ -135,17 +152,127 @@ def a_client_that_goes_away_ends_its_connection_alone(runs):
     same("the end", end, (3, b"", b"write fault\n"))
 
 
+def edits_of_one_connection_are_seen_by_the_next(runs):
+    edits = b"0 mark p /Right\n0 set /Left Num(10)\n0 token $p Value 6\n"
+    asked = b"0 ask / total()\n0 where p\n0 show /\n0 version\n"
+    received, end = runs.served(THREE, [(edits, False), (asked, False)])
+    same("the replies", received, [b"0 ok 0\n0 ok 1\n0 ok 2\n", b"0 = 22\n0 = /Right\n0 = Sum(Num(10),Num(6))\n0 ok 2\n"])
+    same("the end", end, (0, b"", b""))
+
+
+# Lines, each with the reply that comes before the next one is sent.
+BY_TURNS = [(b"0 ask / total()\n", b"0 = 11\n"), (b"1 token /Left Value 5\n", b"1 ok 1\n"), (b"\n0 ask / total()\n", b"0 = 13\n"), (b"x\n", b"? refused 1 syntax\n")]
+
+
+def a_client_that_waits_for_each_reply_has_it_by_a_pipe(runs):
+    run = runs.begin(THREE)
+    for line, reply in BY_TURNS:
+        run.stdin.write(line)
+        run.stdin.flush()
+        same("the reply", run.stdout.readline(), reply)
+    same("the end", ended(run), (0, b"", b""))
+
+
+def a_client_that_waits_for_each_reply_has_it_by_a_socket(runs):
+    path = str(runs.folder / "s")
+    run = runs.begin(["--socket", path, *THREE])
+    try:
+        with connected(path, run) as stream, stream.makefile("rb") as replies:
+            for line, reply in BY_TURNS:
+                stream.sendall(line)
+                same("the reply", replies.readline(), reply)
+        same("the end", ended(run), (0, b"", b""))
+    finally:
+        run.kill()
+
+
+def streamed(runs, source, target):
+    """Status and standard error of a run from that file to that one."""
+    given = os.open(source, os.O_RDONLY)
+    try:
+        run = subprocess.run([runs.program, *THREE], cwd=runs.folder, env={}, stdin=given, stdout=target, stderr=subprocess.PIPE, timeout=SECONDS)
+    finally:
+        os.close(given)
+    return run.returncode, run.stderr
+
+
+def a_folder_as_input_is_a_read_fault(runs):
+    same("the end", streamed(runs, runs.folder, subprocess.DEVNULL), (3, b"read fault\n"))
+
+
+def a_full_device_as_output_is_a_write_fault(runs):
+    with open("/dev/full", "wb") as full:
+        same("the end", streamed(runs, runs.folder / "lines", full), (3, b"write fault\n"))
+
+
+def an_output_that_nobody_reads_is_a_write_fault(runs):
+    reader, writer = os.pipe()
+    os.close(reader)
+    same("the end", streamed(runs, runs.folder / "lines", writer), (3, b"write fault\n"))
+    os.close(writer)
+
+
+def an_input_that_is_closed_is_a_read_fault(runs):
+    run = subprocess.run(["/bin/sh", "-c", 'exec "$0" "$@" <&-', runs.program, *THREE], cwd=runs.folder, env={}, capture_output=True, timeout=SECONDS)
+    same("the end", (run.returncode, run.stdout, run.stderr), (3, b"", b"read fault\n"))
+
+
+def no_memory_at_the_start_is_told(runs):
+    with tempfile.TemporaryDirectory() as folder:
+        environment = {**starve.refusing(folder), "REFUSE": "1"}
+        run = subprocess.run([runs.program, *THREE], cwd=runs.folder, env=environment, stdin=subprocess.DEVNULL, capture_output=True, timeout=SECONDS)
+    same("the end", (run.returncode, run.stdout, run.stderr), (4, b"", b"refused\nmemory\n"))
+
+
+def faults_of_connections_are_told_in_their_order(runs):
+    """A client that goes away before its reply is a write fault; one that goes away with its reply unread, a read fault."""
+    path, line = str(runs.folder / "s"), b"0 version\n"
+    run = runs.begin(["--socket", path, "--connections", "4", *THREE])
+    try:
+        first, hasty, careless, last = (connected(path, run) for _ in range(4))
+        hasty.sendall(line)
+        hasty.close()
+        careless.sendall(line)
+        same("what the first one receives", all_of(first), b"")
+        select.select([careless], [], [], SECONDS)
+        careless.close()
+        last.sendall(line)
+        same("what the last one receives", all_of(last), b"0 ok 0\n")
+        same("the end", ended(run), (3, b"", b"read fault\nwrite fault\n"))
+    finally:
+        run.kill()
+
+
 def options_stand_anywhere(runs):
     received, end = runs.served(["--work", *THREE, "more.jrag"], [(b"0 ask / half()\n", False)])
     same("the replies", received, [b"0 = 5\n"])
     same("the end", end, (0, b"", b"work 0\n"))
 
 
+TESTS = (
+    connections_share_one_tree,
+    edits_of_one_connection_are_seen_by_the_next,
+    marks_are_those_of_sessions,
+    the_end_of_a_connection_answers_its_questions,
+    half_a_line_is_a_line,
+    a_client_that_goes_away_ends_its_connection_alone,
+    faults_of_connections_are_told_in_their_order,
+    options_stand_anywhere,
+    a_client_that_waits_for_each_reply_has_it_by_a_pipe,
+    a_client_that_waits_for_each_reply_has_it_by_a_socket,
+    a_folder_as_input_is_a_read_fault,
+    an_input_that_is_closed_is_a_read_fault,
+    a_full_device_as_output_is_a_write_fault,
+    an_output_that_nobody_reads_is_a_write_fault,
+    no_memory_at_the_start_is_told,
+)
+
+
 def main(program):
     with tempfile.TemporaryDirectory() as folder:
         runs = Runs(program, folder)
         tests = [(" ".join(words), lambda words=words, texts=texts: words_refused(runs, words, texts)) for words, texts in REFUSED]
-        for test in (connections_share_one_tree, marks_are_those_of_sessions, half_a_line_is_a_line, a_client_that_goes_away_ends_its_connection_alone, options_stand_anywhere):
+        for test in TESTS:
             tests.append((test.__name__.replace("_", " "), lambda test=test: test(runs)))
         failed = 0
         for name, test in tests:

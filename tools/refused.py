@@ -244,6 +244,8 @@ class Proved:
 
 def verdict(crate, edit, said):
     """Whether the function is refused for a goal of its own, and what was said of it."""
+    # what goes on in the next line is set in there: a name that is missed may stand in the second one
+    said = re.sub(r"\n  +(?=\S)", " ", said)
     found = re.search(rf"^fn {crate}::{re.escape(edit.refused)}: (.*)$", said, re.M)
     if not found:
         errors = re.findall(r"^.*\berror\b.*$", said, re.M)

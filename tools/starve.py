@@ -3,7 +3,7 @@
 
     tools/starve.py PROGRAM
 
-In the session of the program `starve`, with each keeper. A round may end for want of memory before the session's first
+In each session of the program `starve`, with each keeper. A round may end for want of memory before the session's first
 line, or have one line answered `memory`; each other line must be answered right."""
 import os
 import shutil
@@ -14,6 +14,8 @@ import time
 from collections import Counter
 from pathlib import Path
 
+# The words that choose a session.
+SESSIONS = ("edits", "moves", "turns")
 # The words that choose a keeper, and the name that its verdict has.
 KEEPERS = {"nothing": "nothing kept", "until-edit": "kept until an edit", "over-edits": "kept over edits"}
 BEFORE, ANSWERED, UNSEEN, NONE = "ended before the first line", "had a line answered `memory`", "made no difference", "none refused"
@@ -28,47 +30,48 @@ def refusing(folder):
     return {"LD_PRELOAD": str(library)}
 
 
-def round_of(program, word, environment, nth):
+def round_of(program, name, word, environment, nth):
     """How the session went with the nth request refused."""
-    run = subprocess.run([program, word], env={**environment, "REFUSE": str(nth)}, capture_output=True, text=True, timeout=60)
-    right = KEEPERS[word] + ": right\n"
+    run = subprocess.run([program, name, word], env={**environment, "REFUSE": str(nth)}, capture_output=True, text=True, timeout=60)
+    verdict = f"{name}, {KEEPERS[word]}: right"
     outcomes = {
-        (0, right, ""): NONE,
-        (0, right, "refused\n"): UNSEEN,
-        (0, KEEPERS[word] + ": right, and a line answered memory\n", "refused\n"): ANSWERED,
+        (0, verdict + "\n", ""): NONE,
+        (0, verdict + "\n", "refused\n"): UNSEEN,
+        (0, verdict + ", and a line answered memory\n", "refused\n"): ANSWERED,
         (4, "", "refused\n"): BEFORE,
     }
     outcome = outcomes.get((run.returncode, run.stdout, run.stderr))
     if outcome is None:
-        sys.exit(f"{word}: with request {nth} refused, status {run.returncode}\n{run.stdout}{run.stderr}")
+        sys.exit(f"{name} {word}: with request {nth} refused, status {run.returncode}\n{run.stdout}{run.stderr}")
     return outcome
 
 
-def session(program, word, environment):
+def session(program, name, word, environment):
     """Runs the rounds of one keeper, until in one no request is refused."""
     began = time.perf_counter()
     counts = Counter()
     for nth in range(1, MOST_ROUNDS):
-        outcome = round_of(program, word, environment, nth)
+        outcome = round_of(program, name, word, environment, nth)
         if outcome == NONE:
             break
         if outcome == BEFORE and counts[ANSWERED] > 0:
-            sys.exit(f"{word}: with request {nth} refused, the program ended in its session")
+            sys.exit(f"{name} {word}: with request {nth} refused, the program ended in its session")
         counts[outcome] += 1
     else:
-        sys.exit(f"{word}: a request was refused in each of {MOST_ROUNDS} rounds")
+        sys.exit(f"{name} {word}: a request was refused in each of {MOST_ROUNDS} rounds")
     if counts[ANSWERED] == 0:
-        sys.exit(f"{word}: in no round a line was answered `memory`")
+        sys.exit(f"{name} {word}: in no round a line was answered `memory`")
     seconds = time.perf_counter() - began
     told = ", ".join(f"{counts[outcome]:,} {outcome}" for outcome in (BEFORE, UNSEEN, ANSWERED))
-    print(f"{KEEPERS[word]}: {sum(counts.values()):,} rounds in {seconds:.0f} s, all right: {told}", flush=True)
+    print(f"{name}, {KEEPERS[word]}: {sum(counts.values()):,} rounds in {seconds:.0f} s, all right: {told}", flush=True)
 
 
 def sessions(program):
     with tempfile.TemporaryDirectory() as folder:
         environment = refusing(folder)
-        for word in KEEPERS:
-            session(program, word, environment)
+        for name in SESSIONS:
+            for word in KEEPERS:
+                session(program, name, word, environment)
 
 
 def main():

@@ -7,7 +7,7 @@ use Rattle.at_model.specs.Meaning.{Among, Distinct, Comes, Walks, Leads, Circula
 use Rattle.at_model.proofs.Spreading.{led_fault}
 use Rattle.at_body.specs.Rest.{resumed}
 use Rattle.at_body.specs.declared.trial.Trial.{Trial}
-use Rattle.at_demand.specs.declared.question.Frame.{Frame}
+use Rattle.at_demand.specs.declared.evaluation.Frame.{Frame}
 use Rattle.at_demand.specs.Known.{meaning}
 use Rattle.at_demand.specs.UnderWay.{WaitsFor, AreWaiting, first_of}
 use Rattle.at_demand.proofs.Coming.{comes}

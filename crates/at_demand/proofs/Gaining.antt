@@ -16,10 +16,10 @@ use Rattle.at_body.specs.declared.trial.Step.{Step}
 use Rattle.at_body.specs.declared.trial.Step.TheVariants as step
 use Rattle.at_cache.specs.Kept.{Kept, Entries, AreKept}
 use Rattle.at_cache.proofs.Lists.{get_push, get_contains}
-use Rattle.at_demand.specs.declared.question.Demanded.{Demanded}
-use Rattle.at_demand.specs.declared.question.Find.{Find}
-use Rattle.at_demand.specs.declared.question.Frame.{Frame}
-use Rattle.at_demand.specs.declared.question.Question.{Question}
+use Rattle.at_demand.specs.declared.evaluation.Demanded.{Demanded}
+use Rattle.at_demand.specs.declared.evaluation.Find.{Find}
+use Rattle.at_demand.specs.declared.evaluation.Frame.{Frame}
+use Rattle.at_demand.specs.declared.evaluation.Evaluation.{Evaluation}
 use Rattle.at_demand.specs.Known.{meaning, WaitingKept}
 use Rattle.at_demand.specs.UnderWay.{HasStepped, AreWaiting, first_of, chain_of, IsTrueIn, IsOrderlyIn}
 use Rattle.at_demand.specs.Covering.{IsDemanded, IsTold, HavePassed, HasPassedTo, AreWhole, IsWhole, IsCoveringIn}
@@ -102,7 +102,7 @@ module _ (rules : Rules) (look : Contents ℕ) where
       ]
 
   -- the last one has a value, to which what was asked leads
-  pub worth_last : (asked : Instance ℕ) (entries : Entries) (q : Question) (v : ValueCode) → IsTrueIn rules look asked entries q (step.Value v) → IsLazy q.inst → IsWorthKeeping rules look asked q.inst
+  pub worth_last : (asked : Instance ℕ) (entries : Entries) (q : Evaluation) (v : ValueCode) → IsTrueIn rules look asked entries q (step.Value v) → IsLazy q.inst → IsWorthKeeping rules look asked q.inst
   worth_last asked entries q v h lazy = let (js, past) = h.last in record {
     reached = subst (λ x. Leads look (meaning rules) x q.inst) h.starts (leads rules look q.waiting.entries q.inst h.waits);
     lazy = lazy;
@@ -191,7 +191,7 @@ module _ (rules : Rules) (look : Contents ℕ) where
         ]
 
   -- a question has kept all that is worth it where it ends
-  module _ (asked : Instance ℕ) (entries : Entries) (q : Question) (s : Step) (orderly : IsOrderlyIn entries q) (h : IsTrueIn rules look asked entries q s) (stands : IsCoveringIn rules look q s)
+  module _ (asked : Instance ℕ) (entries : Entries) (q : Evaluation) (s : Step) (orderly : IsOrderlyIn entries q) (h : IsTrueIn rules look asked entries q s) (stands : IsCoveringIn rules look q s)
       (settled : AreSettled rules entries q.found.entries) (deep : IsDeep rules look entries entries) where
     abbrev IsOpen : Instance ℕ → Type 0
     IsOpen c = Among c (chain_of q.waiting.entries q.inst)

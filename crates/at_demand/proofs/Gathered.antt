@@ -9,7 +9,7 @@ use Rattle.at_model.specs.Run.{Value, Instance, Location, Contents}
 use Rattle.at_model.specs.Rules.{Rules}
 use Rattle.at_model.specs.Meaning.{HasValue, Among, Comes}
 use Rattle.at_model.specs.Support.{Sees, Supports}
-use Rattle.at_model.proofs.Listed.{among_map}
+use Rattle.at_model.proofs.Listed.{among_left, among_map, among_right}
 use Rattle.at_model.proofs.Options.{or_right}
 use Rattle.at_store.specs.declared.node.Loc.{Loc}
 use Rattle.at_store.specs.Located.{loc_view}
@@ -17,7 +17,7 @@ use Rattle.at_body.specs.Same.{same_instance}
 use Rattle.at_cache.specs.Kept.{Kept, Entries, AreKept, KeepsAll, MayPut, covered, covers_at, same_location}
 use Rattle.at_cache.proofs.Lists.{get_left, get_contains}
 use Rattle.at_cache.proofs.Locations.{same_location-itself}
-use Rattle.at_demand.specs.declared.question.Find.{Find}
+use Rattle.at_demand.specs.declared.evaluation.Find.{Find}
 use Rattle.at_demand.specs.declared.gathering.Sources.{Sources}
 use Rattle.at_demand.specs.Known.{meaning}
 use Rattle.at_demand.specs.Covering.{IsWhole, AreWhole, AreCovered, Extends, IsAdded, Visits, Adds, AddsAt, AreGathered}
@@ -29,15 +29,6 @@ or_left true b e = refl
 or_left false b e = absurd (true≢false (sym e))
 
 module _ {A : Type 0} where
-  pub among_left : (a : A) (xs ys : List A) → Among a xs → Among a (xs ++ ys)
-  among_left a [] ys h = absurd h
-  among_left a (x ∷ xs) ys (inl e) = inl e
-  among_left a (x ∷ xs) ys (inr h) = inr (among_left a xs ys h)
-
-  pub among_right : (a : A) (xs ys : List A) → Among a ys → Among a (xs ++ ys)
-  among_right a [] ys h = h
-  among_right a (x ∷ xs) ys h = inr (among_right a xs ys h)
-
   pub among_more : (a : A) (xs ys : List A) → Extends xs ys → Among a xs → Among a ys
   among_more a xs ys (zs, e) h = subst (Among a) (sym e) (among_left a xs zs h)
 

@@ -1,10 +1,12 @@
--- Look-ups among entries, and chains of distinct instances.
+-- Look-ups among entries.
 use Rattle.std.proofs.Common.{◌≡◌, ℕ, suc, length, Bool, true, false, List, [], ◌∷◌, ◌++◌, Option, Some, None, ◌⊎◌, inl, inr, refl, sym, ap, ◌∙◌, subst, if◌then◌else◌, cond, true≢false, is_some}
 use Rattle.std.specs.Bool.{MatchBool}
 use Rattle.std.specs.Map.{keys_of, lookup, lookup_key}
 use Rattle.indexmap.specs.IndexMap.{insert_entry}
 use Rattle.at_model.specs.Run.{Instance}
-use Rattle.at_model.specs.Meaning.{Among, Distinct}
+use Rattle.at_model.specs.Meaning.{Among}
+use Rattle.at_model.proofs.Listed.{among_left}
+use Rattle.at_model.proofs.Members.{among_last, among_push}
 use Rattle.at_body.specs.Same.{same_instance}
 use Rattle.at_demand.proofs.Sameness.{same_true, same_refl, apart}
 
@@ -75,32 +77,6 @@ module _ {X : Type 0} where
   none_of None e = refl
   none_of (Some x) e = absurd (true≢false (sym e))
 
-module _ {A : Type 0} where
-  pub among_last : (as' : List A) (a : A) → Among a (as' ++ a ∷ [])
-  among_last [] a = inl refl
-  among_last (b ∷ bs) a = inr (among_last bs a)
-
-  pub among_front : (as' : List A) (a b : A) → Among a as' → Among a (as' ++ b ∷ [])
-  among_front [] a b h = absurd h
-  among_front (c ∷ cs) a b (inl e) = inl e
-  among_front (c ∷ cs) a b (inr h) = inr (among_front cs a b h)
-
-  pub among_push : (as' : List A) (a b : A) → Among a (as' ++ b ∷ []) → Among a as' ⊎ (a ≡ b)
-  among_push [] a b (inl e) = inr e
-  among_push [] a b (inr h) = absurd h
-  among_push (c ∷ cs) a b (inl e) = inl (inl e)
-  among_push (c ∷ cs) a b (inr h) = elim (among_push cs a b h) [ inl g ↦ inl (inr g) | inr e ↦ inr e ]
-
-  pub distinct_push : (as' : List A) (a : A) → Distinct as' → (Among a as' → ⊥) → Distinct (as' ++ a ∷ [])
-  distinct_push [] a d gone = (λ h. h, tt)
-  distinct_push (b ∷ bs) a d gone = (λ h. elim (among_push bs b a h) [ inl g ↦ d.0 g | inr e ↦ gone (inl (sym e)) ], distinct_push bs a d.1 (λ h. gone (inr h)))
-
-  pub distinct_pop : (as' : List A) (a : A) → Distinct (as' ++ a ∷ []) → Distinct as' × (Among a as' → ⊥)
-  distinct_pop [] a d = (tt, λ h. h)
-  distinct_pop (b ∷ bs) a d =
-      let r = distinct_pop bs a d.1 in
-      ((λ h. d.0 (among_front bs b a h), r.0), λ h. elim h [ inl e ↦ d.0 (subst (λ x. Among x (bs ++ a ∷ [])) e (among_last bs a)) | inr g ↦ r.1 g ])
-
 -- the key that is found passes the test
 pub key_passes : {K X : Type 0} (test : K → Bool) (es : List (K × X)) (k : K) → lookup_key test es ≡ Some k → test k ≡ true
 key_passes test [] k e = absurd cc
@@ -115,7 +91,7 @@ pub is_last : (ks : List (Instance ℕ)) (i j : Instance ℕ) → same_instance 
 is_last ks i j e = subst (λ x. Among x (ks ++ i ∷ [])) (same_true i j e) (among_last ks i)
 
 pub is_before : {X : Type 0} (b : Bool) (es : List (Instance ℕ × X)) (i j : Instance ℕ) → b ≡ is_some (lookup (same_instance j) es) → same_instance i j ≡ false → MatchBool b (Among j (keys_of es ++ i ∷ [])) (Among j (keys_of es ++ i ∷ []) → ⊥)
-is_before true es i j e s = among_front (keys_of es) j i (key_there es j (sym e))
+is_before true es i j e s = among_left j (keys_of es) (i ∷ []) (key_there es j (sym e))
 is_before false es i j e s = λ h. elim (among_push (keys_of es) j i h) [
   | inl a ↦ no_key es j (none_of (lookup (same_instance j) es) e) a
   | inr f ↦ true≢false (sym (ap (same_instance i) f ∙ same_refl i) ∙ s)

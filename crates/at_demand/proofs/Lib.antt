@@ -26,3 +26,8 @@ pub mod CalledEdited
 pub mod Called
 pub mod TypedKnown
 pub mod Typing
+mod Attempted
+mod Turned
+pub mod Standing
+pub mod Few
+mod Fitting

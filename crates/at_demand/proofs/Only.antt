@@ -22,9 +22,9 @@ use Rattle.at_body.specs.declared.trial.Trial.{Trial}
 use Rattle.at_cache.specs.Kept.{Kept, Entries, KeepsAll, MayPut, covered, covers_at, same_location}
 use Rattle.at_cache.proofs.Locations.{same_location-is}
 use Rattle.at_cache.proofs.Lists.{get_push}
-use Rattle.at_demand.specs.declared.question.Demanded.{Demanded}
-use Rattle.at_demand.specs.declared.question.Find.{Find}
-use Rattle.at_demand.specs.declared.question.Frame.{Frame}
+use Rattle.at_demand.specs.declared.evaluation.Demanded.{Demanded}
+use Rattle.at_demand.specs.declared.evaluation.Find.{Find}
+use Rattle.at_demand.specs.declared.evaluation.Frame.{Frame}
 use Rattle.at_demand.specs.declared.gathering.Sources.{Sources}
 use Rattle.at_demand.specs.Known.{meaning}
 use Rattle.at_demand.specs.UnderWay.{HasStepped}

@@ -7,16 +7,18 @@ use Rattle.std.specs.Map.{keys_of, lookup}
 use Rattle.indexmap.specs.IndexMap.{insert_entry}
 use Rattle.at_model.specs.Run.{Value, Instance, Location}
 use Rattle.at_model.specs.Meaning.{Among, Distinct}
+use Rattle.at_model.proofs.Listed.{among_left}
+use Rattle.at_model.proofs.Members.{among_last, among_push, distinct_push, distinct_pop}
 use Rattle.at_body.specs.Same.{same_instance}
 use Rattle.at_body.specs.Values.{value_view}
 use Rattle.at_cache.specs.Kept.{Kept, Entries, AreKept, KeepsAll, MayPut}
-use Rattle.at_demand.specs.declared.question.Find.{Find}
-use Rattle.at_demand.specs.declared.question.Frame.{Frame}
-use Rattle.at_demand.specs.declared.question.Question.{Question}
+use Rattle.at_demand.specs.declared.evaluation.Find.{Find}
+use Rattle.at_demand.specs.declared.evaluation.Frame.{Frame}
+use Rattle.at_demand.specs.declared.evaluation.Evaluation.{Evaluation}
 use Rattle.at_demand.specs.Known.{kept_values, found_values, known_in, MayAdd, WaitingKept, FoundKept}
 use Rattle.at_demand.specs.UnderWay.{chain_of, IsOrderly, IsOrderlyIn, GoesOn, progress}
 use Rattle.at_demand.proofs.Sameness.{same_true}
-use Rattle.at_demand.proofs.Keys.{lookup_push, lookup_other, goes_last, no_key, keys_push, length_push, among_last, among_front, among_push, distinct_push, distinct_pop}
+use Rattle.at_demand.proofs.Keys.{lookup_push, lookup_other, goes_last, no_key, keys_push, length_push}
 
 pub some_value : (o : Option Kept) (v : Value ℕ) → option_map (λ (k : Kept). k.value) o ≡ Some v → IsSome o
 some_value None v e = absurd cc
@@ -101,8 +103,8 @@ module _ (entries : Entries) (ws : List (Instance ℕ × Frame)) (fs : List (Ins
     pub settled : IsOrderly new rest (fs ++ (i, d) ∷ []) b f.demanded.kept.items
     settled = record {
       distinct = subst Distinct keys last_apart.0;
-      open_ones = λ k h. lookup_other fs i k d (apart_from k h) (q.open_ones k (among_front (keys_of ws) k i (inside k h)));
-      unkept = λ k h. open_still entries new i v adds k (λ e. apart_from k h (sym e)) (q.unkept k (among_front (keys_of ws) k i (inside k h)));
+      open_ones = λ k h. lookup_other fs i k d (apart_from k h) (q.open_ones k (among_left k (keys_of ws) (i ∷ []) (inside k h)));
+      unkept = λ k h. open_still entries new i v adds k (λ e. apart_from k h (sym e)) (q.unkept k (among_left k (keys_of ws) (i ∷ []) (inside k h)));
       waiting_kept = waiting_still entries new i v adds rest waiting.0;
       found_kept = finds;
       last_kept = kept_still entries new i v adds f.demanded.kept.items waiting.1;
@@ -148,7 +150,7 @@ further_found m n m' n' a b = omega (arith, a, b)
 few : (m n : ℕ) → m < 2 ^ 64 → n < 2 ^ 64 → 2 * m + n < 2 ^ 66
 few m n a b = omega (arith, a, b)
 
-pub deepens : (entries : Entries) (old new : Question) (j : Instance ℕ) → IsOrderlyIn entries old → lookup (same_instance j) old.found.entries ≡ None → entries j ≡ None → (Among j (chain_of old.waiting.entries old.inst) → ⊥) →
+pub deepens : (entries : Entries) (old new : Evaluation) (j : Instance ℕ) → IsOrderlyIn entries old → lookup (same_instance j) old.found.entries ≡ None → entries j ≡ None → (Among j (chain_of old.waiting.entries old.inst) → ⊥) →
     new.waiting.entries ≡ insert_entry same_instance old.waiting.entries old.inst old.frame → new.found.entries ≡ old.found.entries → new.inst ≡ j → new.frame.demanded.kept.items ≡ [] →
     length new.waiting.entries < 2 ^ 64 → length new.found.entries < 2 ^ 64 → GoesOn entries (progress old) new
 deepens entries old new j q found kept fresh waiting same last none a b =
@@ -161,7 +163,7 @@ deepens entries old new j q found kept fresh waiting same last none a b =
       few = few (length new.found.entries) (length new.waiting.entries) b a;
     }
 
-pub settles : (entries more : Entries) (old new : Question) (v : Value ℕ) → IsOrderlyIn entries old → MayAdd entries more old.inst v → (b : Instance ℕ) (f : Frame) (d : Find) →
+pub settles : (entries more : Entries) (old new : Evaluation) (v : Value ℕ) → IsOrderlyIn entries old → MayAdd entries more old.inst v → (b : Instance ℕ) (f : Frame) (d : Find) →
     old.waiting.entries ≡ new.waiting.entries ++ (b, f) ∷ [] → AreKept entries d.demanded.kept.items → new.found.entries ≡ insert_entry same_instance old.found.entries old.inst d → new.inst ≡ b → new.frame ≡ f →
     length new.waiting.entries < 2 ^ 64 → length new.found.entries < 2 ^ 64 → GoesOn more (progress old) new
 settles entries more old new v q adds b f d waiting kept found last same few_wait few_found =

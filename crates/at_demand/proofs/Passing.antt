@@ -5,6 +5,7 @@ use Rattle.at_model.specs.Run.{Value, Instance, Location, Contents, Run, Gives, 
 use Rattle.at_model.specs.Follow.{follow, Past, here, looked, told}
 use Rattle.at_model.specs.Rules.{Rules, evaluation}
 use Rattle.at_model.specs.Meaning.{Among, HasValue}
+use Rattle.at_model.proofs.Listed.{among_left, among_right}
 use Rattle.at_store.specs.Located.{loc_view}
 use Rattle.at_body.specs.Same.{same_instance}
 use Rattle.at_body.specs.Values.{value_view}
@@ -14,10 +15,10 @@ use Rattle.at_body.specs.declared.trial.Step.{Step}
 use Rattle.at_body.specs.declared.trial.Step.TheVariants as step
 use Rattle.at_cache.specs.Kept.{Entries}
 use Rattle.at_cache.proofs.Lists.{get_push}
-use Rattle.at_demand.specs.declared.question.Demanded.{Demanded}
-use Rattle.at_demand.specs.declared.question.Find.{Find}
-use Rattle.at_demand.specs.declared.question.Frame.{Frame}
-use Rattle.at_demand.specs.declared.question.Question.{Question}
+use Rattle.at_demand.specs.declared.evaluation.Demanded.{Demanded}
+use Rattle.at_demand.specs.declared.evaluation.Find.{Find}
+use Rattle.at_demand.specs.declared.evaluation.Frame.{Frame}
+use Rattle.at_demand.specs.declared.evaluation.Evaluation.{Evaluation}
 use Rattle.at_demand.specs.Known.{meaning}
 use Rattle.at_demand.specs.UnderWay.{first_of, IsOrderlyIn}
 use Rattle.at_demand.specs.Covering.{IsDemanded, IsTold, HasPassed, HasPassedTo, HavePassed, IsWhole, AreWhole, IsCovering, IsCoveringIn, Extends}
@@ -25,7 +26,7 @@ use Rattle.at_demand.proofs.Coming.{begins, goes_on}
 use Rattle.at_demand.proofs.Seeing.{sees_read, comes_told}
 use Rattle.at_demand.proofs.Chains.{first_push}
 use Rattle.at_demand.proofs.Orderly.{waits_last, found_last}
-use Rattle.at_demand.proofs.Gathered.{among_left, among_right, get_more}
+use Rattle.at_demand.proofs.Gathered.{get_more}
 
 pub past_more : {N A : Type 0} (tree : Contents N) (has more : Instance N → Value N → Type 0) → ((j : Instance N) (v : Value N) → has j v → more j v) → (r s : Run N A) (js : List (Instance N)) (ls : List (Location N)) → Past tree has r js ls s → Past tree more r js ls s
 past_more tree has more wide r s js ls (here _) = here r
@@ -90,7 +91,7 @@ module _ (rules : Rules) (look : Contents ℕ) where
   whole_more : (found more : List (Instance ℕ × Find)) (i : Instance ℕ) (d : Find) → Extends found more → IsWhole rules look found i d → IsWhole rules look more i d
   whole_more found more i d grows w = record { reads = w.reads; demands = λ j c. demanded_more found more d.demanded j grows (w.demands j c) }
 
-  whole_push : (found : List (Instance ℕ × Find)) (i : Instance ℕ) (d : Find) → AreWhole rules look found → IsWhole rules look found i d → AreWhole rules look (found ++ (i, d) ∷ [])
+  pub whole_push : (found : List (Instance ℕ × Find)) (i : Instance ℕ) (d : Find) → AreWhole rules look found → IsWhole rules look found i d → AreWhole rules look (found ++ (i, d) ∷ [])
   whole_push found i d all one p j g is = elim (get_push found (i, d) p (j, g) is) [
     | inl e ↦ whole_more found (found ++ (i, d) ∷ []) j g ((i, d) ∷ [], refl) (all p j g e)
     | inr e ↦ subst (λ (x : Instance ℕ × Find). IsWhole rules look (found ++ (i, d) ∷ []) x.0 x.1) e.1 (whole_more found (found ++ (i, d) ∷ []) i d ((i, d) ∷ [], refl) one)
@@ -125,7 +126,7 @@ module _ (rules : Rules) (look : Contents ℕ) where
   pub covers_on : (ws : List (Instance ℕ × Frame)) (fs : List (Instance ℕ × Find)) (i : Instance ℕ) (f g : Frame) (s r : Step) → IsCovering rules look ws fs i f s → HasPassedTo rules look fs i g r → IsCovering rules look ws fs i g r
   covers_on ws fs i f g s r h passed = record { waits = h.waits; last = passed; finds = h.finds }
 
-  module _ (entries : Entries) (old new : Question) (q : IsOrderlyIn entries old) where
+  module _ (entries : Entries) (old new : Evaluation) (q : IsOrderlyIn entries old) where
     -- the last one needs an instance that isn't under way
     pub deepens_covering : (j : Instance ℕ) (s : Step) → IsCoveringIn rules look old (step.Need j) → new.waiting.entries ≡ insert_entry same_instance old.waiting.entries old.inst old.frame → new.found.entries ≡ old.found.entries → new.inst ≡ j →
         HasPassedTo rules look old.found.entries j new.frame s → IsCoveringIn rules look new s

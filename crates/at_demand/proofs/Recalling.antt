@@ -7,7 +7,7 @@ use Rattle.at_model.specs.Run.{Value, Instance}
 use Rattle.at_body.specs.Same.{same_instance}
 use Rattle.at_body.specs.Values.{value_view}
 use Rattle.at_cache.specs.Kept.{Entries, AreKept}
-use Rattle.at_demand.specs.declared.question.Find.{Find}
+use Rattle.at_demand.specs.declared.evaluation.Find.{Find}
 use Rattle.at_demand.specs.Known.{kept_values, found_values, known_in}
 use Rattle.at_demand.proofs.Orderly.{some_value}
 

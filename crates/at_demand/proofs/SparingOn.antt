@@ -11,10 +11,10 @@ use Rattle.at_body.specs.declared.value.Value.{Value as ValueCode}
 use Rattle.at_body.specs.declared.trial.Step.{Step}
 use Rattle.at_body.specs.declared.trial.Step.TheVariants as step
 use Rattle.at_cache.specs.Kept.{Kept, Entries, AreKept, KeepsAll, MayPut}
-use Rattle.at_demand.specs.declared.question.Demanded.{Demanded}
-use Rattle.at_demand.specs.declared.question.Find.{Find}
-use Rattle.at_demand.specs.declared.question.Frame.{Frame}
-use Rattle.at_demand.specs.declared.question.Question.{Question}
+use Rattle.at_demand.specs.declared.evaluation.Demanded.{Demanded}
+use Rattle.at_demand.specs.declared.evaluation.Find.{Find}
+use Rattle.at_demand.specs.declared.evaluation.Frame.{Frame}
+use Rattle.at_demand.specs.declared.evaluation.Evaluation.{Evaluation}
 use Rattle.at_demand.specs.Known.{meaning}
 use Rattle.at_demand.specs.UnderWay.{first_of, IsTrueIn, IsOrderlyIn}
 use Rattle.at_demand.specs.Covering.{AreWhole, IsWhole, IsCoveringIn, Extends}
@@ -52,7 +52,7 @@ told_lazy rules said is attribute at e same h = ap (is_lazy rules) (sym same) �
 
 module _ (rules : Rules) (look : Contents ℕ) where
   -- a question as it begins
-  pub begun_sparing : (entries : Entries) (q : Question) → q.waiting.entries ≡ [] → q.found.entries ≡ [] → q.frame.demanded.kept.items ≡ [] → q.frame.demanded.finds.items ≡ [] → AreSpare rules look entries → IsSparing rules look entries q
+  pub begun_sparing : (entries : Entries) (q : Evaluation) → q.waiting.entries ≡ [] → q.found.entries ≡ [] → q.frame.demanded.kept.items ≡ [] → q.frame.demanded.finds.items ≡ [] → AreSpare rules look entries → IsSparing rules look entries q
   begun_sparing entries q alone nothing kept finds spare = record {
     waits = subst (λ ws. TakeOnly rules look q.found.entries ws) (sym alone) tt;
     last = takes_none rules look q.found.entries q.inst q.frame.demanded kept finds;
@@ -64,7 +64,7 @@ module _ (rules : Rules) (look : Contents ℕ) where
       none_there : (p : ℕ) (j : Instance ℕ) (g : Find) → slice_get {X = Instance ℕ × Find} [] p ≡ Some (j, g) → ⊥
       none_there p j g e = absurd cc
 
-  module _ (entries : Entries) (old new : Question) (sparing : IsSparing rules look entries old) where
+  module _ (entries : Entries) (old new : Evaluation) (sparing : IsSparing rules look entries old) where
     -- the last one has come further
     pub sparing_on : new.waiting ≡ old.waiting → new.found ≡ old.found → new.inst ≡ old.inst → TakesOnly rules look old.found.entries old.inst new.frame.demanded → IsSparing rules look entries new
     sparing_on waiting found same takes = record {
@@ -89,7 +89,7 @@ module _ (rules : Rules) (look : Contents ℕ) where
         }
 
   -- the last one has a value
-  module _ (asked : Instance ℕ) (entries more : Entries) (old : Question) (v : ValueCode) (d : Find) (q : IsOrderlyIn entries old) (h : IsTrueIn rules look asked entries old (step.Value v)) (stands : IsCoveringIn rules look old (step.Value v))
+  module _ (asked : Instance ℕ) (entries more : Entries) (old : Evaluation) (v : ValueCode) (d : Find) (q : IsOrderlyIn entries old) (h : IsTrueIn rules look asked entries old (step.Value v)) (stands : IsCoveringIn rules look old (step.Value v))
       (sparing : IsSparing rules look entries old) (reads : map loc_view d.reads.items ≡ old.frame.trial.reads) (demanded : d.demanded ≡ old.frame.demanded) (grows : MayAddLazy rules entries more old.inst) where
     -- the find is whole and lean
     pub last_lean : IsLean rules look old.found.entries old.inst d
@@ -115,7 +115,7 @@ module _ (rules : Rules) (look : Contents ℕ) where
         let same : old.inst ≡ asked = sym (ap (λ ws. first_of ws old.inst) alone) ∙ h.starts in
         all_below rules look entries more old.inst grows old.found.entries d stands.finds last_whole sparing.settled last_took sparing.spare.deep kept i (subst (λ x. Leads look (meaning rules) x i) (sym same) w.reached) w.lazy
 
-    pub settles_sparing : (new : Question) (b : Instance ℕ) (f : Frame) → (is_lazy rules old.inst.attribute ≡ true → IsSome (more old.inst)) → AreOnly rules look more →
+    pub settles_sparing : (new : Evaluation) (b : Instance ℕ) (f : Frame) → (is_lazy rules old.inst.attribute ≡ true → IsSome (more old.inst)) → AreOnly rules look more →
         old.waiting.entries ≡ new.waiting.entries ++ (b, f) ∷ [] → new.found.entries ≡ insert_entry same_instance old.found.entries old.inst d → new.inst ≡ b → new.frame ≡ f → IsSparing rules look more new
     settles_sparing new b f kept only waiting found last same =
         let fs = old.found.entries in

@@ -17,8 +17,8 @@ use Rattle.at_body.specs.Values.{value_view}
 use Rattle.at_body.specs.declared.value.Value.{Value as ValueCode}
 use Rattle.at_body.specs.declared.trial.Step.TheVariants as step
 use Rattle.at_cache.specs.Kept.{Entries}
-use Rattle.at_demand.specs.declared.question.Find.{Find}
-use Rattle.at_demand.specs.declared.question.Question.{Question}
+use Rattle.at_demand.specs.declared.evaluation.Find.{Find}
+use Rattle.at_demand.specs.declared.evaluation.Evaluation.{Evaluation}
 use Rattle.at_demand.specs.Known.{meaning, MayAdd}
 use Rattle.at_demand.specs.UnderWay.{IsTrueIn}
 use Rattle.at_demand.specs.Covering.{AreCovered, AreWhole, IsWhole, IsCoveringIn}
@@ -36,7 +36,7 @@ module _ (rules : Rules) (s : Shown) (idle : IsIdle s) where
       (m, there)
 
   -- so what is kept stays right
-  pub stays_right : (asked : Instance ℕ) (entries more : Entries) (q : Question) (v : ValueCode) → IsThere s asked → IsTrueIn rules (contents s) asked entries q (step.Value v) → MayAdd entries more q.inst (value_view v) →
+  pub stays_right : (asked : Instance ℕ) (entries more : Entries) (q : Evaluation) (v : ValueCode) → IsThere s asked → IsTrueIn rules (contents s) asked entries q (step.Value v) → MayAdd entries more q.inst (value_view v) →
       (AreCovered rules (contents s) entries → AreCovered rules (contents s) more) → AreRight rules s entries → AreRight rules s more
   stays_right asked entries more q v is h adds covers right = record {
     values = right_after rules (contents s) asked entries more q v h adds;
@@ -48,7 +48,7 @@ module _ (rules : Rules) (s : Shown) (idle : IsIdle s) where
   }
 
   -- the last one has a value, which is found with all that it rests on
-  pub settles_right : (asked : Instance ℕ) (entries more : Entries) (q : Question) (v : ValueCode) (d : Find) → d.value ≡ v → map loc_view d.reads.items ≡ q.frame.trial.reads → d.demanded ≡ q.frame.demanded → MayAdd entries more q.inst (value_view d.value) →
+  pub settles_right : (asked : Instance ℕ) (entries more : Entries) (q : Evaluation) (v : ValueCode) (d : Find) → d.value ≡ v → map loc_view d.reads.items ≡ q.frame.trial.reads → d.demanded ≡ q.frame.demanded → MayAdd entries more q.inst (value_view d.value) →
       ((look : Contents ℕ) → AreWhole rules look q.found.entries → IsWhole rules look q.found.entries q.inst d → AreCovered rules look entries → AreCovered rules look more) →
       IsThere s asked → IsTrueIn rules (contents s) asked entries q (step.Value v) → IsCoveringIn rules (contents s) q (step.Value v) → AreRight rules s entries → AreRight rules s more
   settles_right asked entries more q v d value reads demanded adds covers is h stands right =

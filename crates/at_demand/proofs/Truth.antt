@@ -16,9 +16,9 @@ use Rattle.at_body.specs.declared.trial.Step.{Step}
 use Rattle.at_body.specs.declared.trial.Step.TheVariants as step
 use Rattle.at_body.specs.declared.trial.Trial.{Trial}
 use Rattle.at_cache.specs.Kept.{Entries}
-use Rattle.at_demand.specs.declared.question.Find.{Find}
-use Rattle.at_demand.specs.declared.question.Frame.{Frame}
-use Rattle.at_demand.specs.declared.question.Question.{Question}
+use Rattle.at_demand.specs.declared.evaluation.Find.{Find}
+use Rattle.at_demand.specs.declared.evaluation.Frame.{Frame}
+use Rattle.at_demand.specs.declared.evaluation.Evaluation.{Evaluation}
 use Rattle.at_demand.specs.Known.{meaning, kept_values, found_values, known_in, MayAdd}
 use Rattle.at_demand.specs.UnderWay.{HasStepped, AreWaiting, first_of, chain_of, IsOrderlyIn, IsTrue, IsTrueIn, IsOpen}
 use Rattle.at_demand.proofs.Keys.{lookup_push}
@@ -75,7 +75,7 @@ module _ (rules : Rules) (look : Contents ℕ) where
     steps_on ws fs i t u s r h stepped = record { starts = h.starts; waits = h.waits; last = stepped; kept = h.kept; finds = h.finds }
 
     -- the last one needs an instance that isn't under way
-    pub deepens_true : (old new : Question) (j : Instance ℕ) (s : Step) → IsOrderlyIn entries old → IsTrueIn rules look asked entries old (step.Need j) →
+    pub deepens_true : (old new : Evaluation) (j : Instance ℕ) (s : Step) → IsOrderlyIn entries old → IsTrueIn rules look asked entries old (step.Need j) →
         new.waiting.entries ≡ insert_entry same_instance old.waiting.entries old.inst old.frame → new.found.entries ≡ old.found.entries → new.inst ≡ j → HasStepped rules look j new.frame.trial s → IsTrueIn rules look asked entries new s
     deepens_true old new j s q h waiting same last stepped =
         let ws = old.waiting.entries in
@@ -93,7 +93,7 @@ module _ (rules : Rules) (look : Contents ℕ) where
         subst (λ x. IsTrue rules look asked entries new.waiting.entries new.found.entries x new.frame.trial s) (sym last) found
 
     -- or one that is
-    pub closes : (old : Question) (j : Instance ℕ) → IsOrderlyIn entries old → IsTrueIn rules look asked entries old (step.Need j) → Among j (chain_of old.waiting.entries old.inst) → Circular look (meaning rules) asked j
+    pub closes : (old : Evaluation) (j : Instance ℕ) → IsOrderlyIn entries old → IsTrueIn rules look asked entries old (step.Need j) → Among j (chain_of old.waiting.entries old.inst) → Circular look (meaning rules) asked j
     closes old j q h among = circle rules look old.waiting.entries old.inst j asked old.frame h.waits h.last h.starts q.distinct among
 
     -- the last one has a fault
@@ -101,7 +101,7 @@ module _ (rules : Rules) (look : Contents ℕ) where
     fails ws fs i t f h = let (js, past) = h.last in fault_up rules look ws i asked (fault_view f) h.waits h.starts (has_fault look (meaning rules) i (fault_view f) js t.reads past)
 
     -- the last one has a value
-    module _ (more : Entries) (old : Question) (v : ValueCode) (h : IsTrueIn rules look asked entries old (step.Value v)) where
+    module _ (more : Entries) (old : Evaluation) (v : ValueCode) (h : IsTrueIn rules look asked entries old (step.Value v)) where
       holds : HasValue look (meaning rules) old.inst (value_view v)
       holds = value_of old.inst old.frame.trial v h.last
 
@@ -111,7 +111,7 @@ module _ (rules : Rules) (look : Contents ℕ) where
       pub ends : old.waiting.entries ≡ [] → HasValue look (meaning rules) asked (value_view v)
       ends none = subst (λ x. HasValue look (meaning rules) x (value_view v)) (sym (ap (λ ws. first_of ws old.inst) none) ∙ h.starts) holds
 
-      pub settles_true : (new : Question) (needed b : Instance ℕ) (f : Frame) (d : Find) → IsOrderlyIn entries old → MayAdd entries more old.inst (value_view v) → d.value ≡ v → old.waiting.entries ≡ new.waiting.entries ++ (b, f) ∷ [] →
+      pub settles_true : (new : Evaluation) (needed b : Instance ℕ) (f : Frame) (d : Find) → IsOrderlyIn entries old → MayAdd entries more old.inst (value_view v) → d.value ≡ v → old.waiting.entries ≡ new.waiting.entries ++ (b, f) ∷ [] →
           new.found.entries ≡ insert_entry same_instance old.found.entries old.inst d → new.inst ≡ b → new.frame ≡ f → needed ≡ old.inst → IsTrueIn rules look asked more new (step.Need needed)
       settles_true new needed b f d q adds value waiting found last same is =
           let rest = new.waiting.entries in

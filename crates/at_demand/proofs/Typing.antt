@@ -14,8 +14,8 @@ use Rattle.at_body.specs.declared.trial.Step.TheVariants as step
 use Rattle.at_body.specs.declared.trial.Trial.{Trial}
 use Rattle.at_body.proofs.TypedUses.{told}
 use Rattle.at_cache.specs.Kept.{Entries}
-use Rattle.at_demand.specs.declared.question.Frame.{Frame}
-use Rattle.at_demand.specs.declared.question.Question.{Question}
+use Rattle.at_demand.specs.declared.evaluation.Frame.{Frame}
+use Rattle.at_demand.specs.declared.evaluation.Evaluation.{Evaluation}
 use Rattle.at_demand.specs.Known.{meaning}
 use Rattle.at_demand.specs.UnderWay.{IsOrderlyIn}
 use Rattle.at_demand.specs.Typing.{AreTypedWaiting, IsTyped, IsTypedIn}
@@ -35,11 +35,11 @@ module _ (rules : Rules) (at : ClassAt ℕ) where
       ((subst (λ x. trial.WaitsFor rules at e.1.trial x) (first_push es i j f) all.0, r.0), r.1)
 
   -- a question as it begins
-  pub begun_typed : (q : Question) (s : Step) → q.waiting.entries ≡ [] → trial.IsTypedStep rules at s q.frame.trial → IsTypedIn rules at q s
+  pub begun_typed : (q : Evaluation) (s : Step) → q.waiting.entries ≡ [] → trial.IsTypedStep rules at s q.frame.trial → IsTypedIn rules at q s
   begun_typed q s alone last = record { waits = subst (λ x. AreTypedWaiting rules at x q.inst) (sym alone) tt; last = last }
 
   -- the last one needs an instance that isn't under way
-  pub deepens_typed : (entries : Entries) (old new : Question) (j : Instance ℕ) (s : Step) → IsOrderlyIn entries old → IsTypedIn rules at old (step.Need j) →
+  pub deepens_typed : (entries : Entries) (old new : Evaluation) (j : Instance ℕ) (s : Step) → IsOrderlyIn entries old → IsTypedIn rules at old (step.Need j) →
       new.waiting.entries ≡ insert_entry same_instance old.waiting.entries old.inst old.frame → new.inst ≡ j → trial.IsTypedStep rules at s new.frame.trial → IsTypedIn rules at new s
   deepens_typed entries old new j s q h waiting last typed =
       let ws = old.waiting.entries in
@@ -49,7 +49,7 @@ module _ (rules : Rules) (at : ClassAt ℕ) where
       record { waits = subst (λ x. AreTypedWaiting rules at new.waiting.entries x) (sym last) here; last = typed }
 
   -- the last one has a value
-  pub settles_typed : (old new : Question) (needed b : Instance ℕ) (f : Frame) → AreTypedWaiting rules at old.waiting.entries old.inst →
+  pub settles_typed : (old new : Evaluation) (needed b : Instance ℕ) (f : Frame) → AreTypedWaiting rules at old.waiting.entries old.inst →
       old.waiting.entries ≡ new.waiting.entries ++ (b, f) ∷ [] → new.inst ≡ b → new.frame ≡ f → needed ≡ old.inst → IsTypedIn rules at new (step.Need needed)
   settles_typed old new needed b f h waiting last same is =
       let rest = new.waiting.entries in

@@ -10,15 +10,15 @@ use Rattle.at_store.specs.Located.{loc_view}
 use Rattle.at_body.specs.Rest.{reached, resumed}
 use Rattle.at_body.specs.declared.trial.Step.{Step}
 use Rattle.at_cache.specs.Kept.{Kept, Entries}
-use Rattle.at_demand.specs.declared.question.Demanded.{Demanded}
-use Rattle.at_demand.specs.declared.question.Find.{Find}
-use Rattle.at_demand.specs.declared.question.Frame.{Frame}
-use Rattle.at_demand.specs.declared.question.Question.{Question}
-use Rattle.at_demand.specs.declared.question.Recalled.{Recalled}
-use Rattle.at_demand.specs.declared.question.Recalled.TheVariants as recalled
+use Rattle.at_demand.specs.declared.evaluation.Demanded.{Demanded}
+use Rattle.at_demand.specs.declared.evaluation.Find.{Find}
+use Rattle.at_demand.specs.declared.evaluation.Frame.{Frame}
+use Rattle.at_demand.specs.declared.evaluation.Evaluation.{Evaluation}
+use Rattle.at_demand.specs.declared.evaluation.Recalled.{Recalled}
+use Rattle.at_demand.specs.declared.evaluation.Recalled.TheVariants as recalled
 use Rattle.at_demand.specs.declared.gathering.Sources.{Sources}
-use Rattle.at_demand.specs.declared.question.Turn.{Turn}
-use Rattle.at_demand.specs.declared.question.Turn.TheVariants as turn
+use Rattle.at_demand.specs.declared.evaluation.Advance.{Advance}
+use Rattle.at_demand.specs.declared.evaluation.Advance.TheVariants as advance
 use Rattle.at_demand.specs.Known.{meaning}
 use Rattle.at_demand.specs.UnderWay.{left_of, first_of}
 
@@ -64,14 +64,14 @@ pub record IsCovering (rules : Rules) (look : Contents ℕ) (waiting : List (Ins
   pub finds : AreWhole rules look found
 
 -- so it is of a question
-abbrev pub IsCoveringIn : Rules → Contents ℕ → Question → Step → Type 0
+abbrev pub IsCoveringIn : Rules → Contents ℕ → Evaluation → Step → Type 0
 IsCoveringIn rules look q s = IsCovering rules look q.waiting.entries q.found.entries q.inst q.frame s
 
 -- the question goes on so, or has its answer
-abbrev pub IsCoveringTurn : Rules → Contents ℕ → Question → Turn → Type 0
-IsCoveringTurn rules look q (turn.GoesOn s) = IsCoveringIn rules look q s
-IsCoveringTurn rules look q (turn.Fails kind) = Unit {0}
-IsCoveringTurn rules look q (turn.Answers a) = Unit {0}
+abbrev pub IsCoveringAdvance : Rules → Contents ℕ → Evaluation → Advance → Type 0
+IsCoveringAdvance rules look q (advance.GoesOn s) = IsCoveringIn rules look q s
+IsCoveringAdvance rules look q (advance.Fails kind) = Unit {0}
+IsCoveringAdvance rules look q (advance.Answers a) = Unit {0}
 
 -- each entry stands for all that supports its instance
 abbrev pub AreCovered : Rules → Contents ℕ → Entries → Type 0

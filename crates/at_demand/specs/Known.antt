@@ -8,10 +8,10 @@ use Rattle.at_model.specs.Meaning.{Equations, Answer, Outcomes, Circle, Finds, F
 use Rattle.at_body.specs.Same.{same_instance}
 use Rattle.at_body.specs.Values.{value_view, fault_view}
 use Rattle.at_cache.specs.Kept.{Entries, AreKept}
-use Rattle.at_demand.specs.declared.question.Find.{Find}
-use Rattle.at_demand.specs.declared.question.Frame.{Frame}
-use Rattle.at_demand.specs.declared.question.Recalled.{Recalled}
-use Rattle.at_demand.specs.declared.question.Recalled.TheVariants as recalled
+use Rattle.at_demand.specs.declared.evaluation.Find.{Find}
+use Rattle.at_demand.specs.declared.evaluation.Frame.{Frame}
+use Rattle.at_demand.specs.declared.evaluation.Recalled.{Recalled}
+use Rattle.at_demand.specs.declared.evaluation.Recalled.TheVariants as recalled
 use Rattle.at_demand.specs.declared.answer.Answer.{Answer as AnswerCode}
 use Rattle.at_demand.specs.declared.answer.Answer.TheVariants as code
 

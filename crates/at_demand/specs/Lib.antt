@@ -8,3 +8,7 @@ pub mod Only
 pub mod Sparing
 pub mod Spared
 pub mod Called
+pub mod Turns
+pub mod ChainSteps
+pub mod Attempts
+pub mod KeptTrials

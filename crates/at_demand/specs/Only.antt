@@ -6,11 +6,11 @@ use Rattle.at_model.specs.Meaning.{HasValue, Among, Comes}
 use Rattle.at_model.specs.Support.{Sees}
 use Rattle.at_store.specs.declared.node.Loc.{Loc}
 use Rattle.at_store.specs.Located.{loc_view}
-use Rattle.at_demand.specs.declared.question.Demanded.{Demanded}
-use Rattle.at_demand.specs.declared.question.Find.{Find}
-use Rattle.at_demand.specs.declared.question.Frame.{Frame}
-use Rattle.at_demand.specs.declared.question.Recalled.{Recalled}
-use Rattle.at_demand.specs.declared.question.Recalled.TheVariants as recalled
+use Rattle.at_demand.specs.declared.evaluation.Demanded.{Demanded}
+use Rattle.at_demand.specs.declared.evaluation.Find.{Find}
+use Rattle.at_demand.specs.declared.evaluation.Frame.{Frame}
+use Rattle.at_demand.specs.declared.evaluation.Recalled.{Recalled}
+use Rattle.at_demand.specs.declared.evaluation.Recalled.TheVariants as recalled
 use Rattle.at_demand.specs.declared.gathering.Sources.{Sources}
 use Rattle.at_demand.specs.Known.{meaning}
 

@@ -7,10 +7,10 @@ use Rattle.at_model.specs.Meaning.{HasValue, Leads, Among, Distinct}
 use Rattle.at_model.specs.Support.{Supports}
 use Rattle.at_body.specs.declared.trial.Step.{Step}
 use Rattle.at_cache.specs.Kept.{Kept, Entries}
-use Rattle.at_demand.specs.declared.question.Find.{Find}
-use Rattle.at_demand.specs.declared.question.Question.{Question}
-use Rattle.at_demand.specs.declared.question.Turn.{Turn}
-use Rattle.at_demand.specs.declared.question.Turn.TheVariants as turn
+use Rattle.at_demand.specs.declared.evaluation.Find.{Find}
+use Rattle.at_demand.specs.declared.evaluation.Evaluation.{Evaluation}
+use Rattle.at_demand.specs.declared.evaluation.Advance.{Advance}
+use Rattle.at_demand.specs.declared.evaluation.Advance.TheVariants as advance
 use Rattle.at_demand.specs.Known.{meaning}
 use Rattle.at_demand.specs.Only.{TakesOnly, TakeOnly, AreLean}
 
@@ -59,7 +59,7 @@ AreSettled rules entries found = (p : ℕ) (i : Instance ℕ) (f : Find) → sli
 
 -- Nothing else stands with the evaluations under way and with the finds than what they see and come to; what is kept is spare,
 -- and all that was found is kept where it is lazy.
-pub record IsSparing (rules : Rules) (look : Contents ℕ) (entries : Entries) (q : Question) : Type 0 where
+pub record IsSparing (rules : Rules) (look : Contents ℕ) (entries : Entries) (q : Evaluation) : Type 0 where
   pub waits : TakeOnly rules look q.found.entries q.waiting.entries
   pub last : TakesOnly rules look q.found.entries q.inst q.frame.demanded
   pub finds : AreLean rules look q.found.entries
@@ -67,10 +67,10 @@ pub record IsSparing (rules : Rules) (look : Contents ℕ) (entries : Entries) (
   pub spare : AreSpare rules look entries
 
 -- the question goes on so, or has its answer, and all that is worth keeping is kept
-abbrev pub IsSparingTurn : Rules → Contents ℕ → Instance ℕ → Entries → Question → Turn → Type 0
-IsSparingTurn rules look asked entries q (turn.GoesOn s) = IsSparing rules look entries q
-IsSparingTurn rules look asked entries q (turn.Fails kind) = HasWorthy rules look asked entries
-IsSparingTurn rules look asked entries q (turn.Answers a) = HasWorthy rules look asked entries
+abbrev pub IsSparingAdvance : Rules → Contents ℕ → Instance ℕ → Entries → Evaluation → Advance → Type 0
+IsSparingAdvance rules look asked entries q (advance.GoesOn s) = IsSparing rules look entries q
+IsSparingAdvance rules look asked entries q (advance.Fails kind) = HasWorthy rules look asked entries
+IsSparingAdvance rules look asked entries q (advance.Answers a) = HasWorthy rules look asked entries
 
 -- the list has each instance once that `new` keeps and `old` doesn't; what `old` keeps stays
 pub record AreGained (old new : Entries) (gained : List (Instance ℕ)) : Type 0 where

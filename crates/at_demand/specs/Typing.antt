@@ -6,10 +6,10 @@ use Rattle.at_model.specs.TypedRuns.{ClassAt}
 use Rattle.at_body.specs.declared.trial.Step.{Step}
 use Rattle.at_body.specs.declared.trial.Trial.{Trial}
 use Rattle.at_body.specs.Typed as trial
-use Rattle.at_demand.specs.declared.question.Frame.{Frame}
-use Rattle.at_demand.specs.declared.question.Question.{Question}
-use Rattle.at_demand.specs.declared.question.Turn.{Turn}
-use Rattle.at_demand.specs.declared.question.Turn.TheVariants as turn
+use Rattle.at_demand.specs.declared.evaluation.Frame.{Frame}
+use Rattle.at_demand.specs.declared.evaluation.Evaluation.{Evaluation}
+use Rattle.at_demand.specs.declared.evaluation.Advance.{Advance}
+use Rattle.at_demand.specs.declared.evaluation.Advance.TheVariants as advance
 use Rattle.at_demand.specs.UnderWay.{first_of}
 
 -- each may be told a value of the kind of the next one, which is well typed, and the last one of the kind of i
@@ -23,11 +23,11 @@ pub record IsTyped (rules : Rules) (at : ClassAt ℕ) (waiting : List (Instance 
   pub last : trial.IsTypedStep rules at s t
 
 -- so it is of a question
-abbrev pub IsTypedIn : Rules → ClassAt ℕ → Question → Step → Type 0
+abbrev pub IsTypedIn : Rules → ClassAt ℕ → Evaluation → Step → Type 0
 IsTypedIn rules at q s = IsTyped rules at q.waiting.entries q.inst q.frame.trial s
 
 -- the question goes on so, or has its answer
-abbrev pub IsTypedTurn : Rules → ClassAt ℕ → Question → Turn → Type 0
-IsTypedTurn rules at q (turn.GoesOn s) = IsTypedIn rules at q s
-IsTypedTurn rules at q (turn.Fails kind) = Unit {0}
-IsTypedTurn rules at q (turn.Answers a) = Unit {0}
+abbrev pub IsTypedAdvance : Rules → ClassAt ℕ → Evaluation → Advance → Type 0
+IsTypedAdvance rules at q (advance.GoesOn s) = IsTypedIn rules at q s
+IsTypedAdvance rules at q (advance.Fails kind) = Unit {0}
+IsTypedAdvance rules at q (advance.Answers a) = Unit {0}

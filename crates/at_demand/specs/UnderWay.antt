@@ -12,11 +12,11 @@ use Rattle.at_body.specs.declared.trial.Step.{Step}
 use Rattle.at_body.specs.declared.trial.Step.TheVariants as step
 use Rattle.at_body.specs.declared.trial.Trial.{Trial}
 use Rattle.at_cache.specs.Kept.{Entries, AreKept}
-use Rattle.at_demand.specs.declared.question.Find.{Find}
-use Rattle.at_demand.specs.declared.question.Frame.{Frame}
-use Rattle.at_demand.specs.declared.question.Question.{Question}
-use Rattle.at_demand.specs.declared.question.Turn.{Turn}
-use Rattle.at_demand.specs.declared.question.Turn.TheVariants as turn
+use Rattle.at_demand.specs.declared.evaluation.Find.{Find}
+use Rattle.at_demand.specs.declared.evaluation.Frame.{Frame}
+use Rattle.at_demand.specs.declared.evaluation.Evaluation.{Evaluation}
+use Rattle.at_demand.specs.declared.evaluation.Advance.{Advance}
+use Rattle.at_demand.specs.declared.evaluation.Advance.TheVariants as advance
 use Rattle.at_demand.specs.declared.answer.Answer.TheVariants as answer
 use Rattle.at_demand.specs.Known.{meaning, kept_values, found_values, WaitingKept, FoundKept, answer_view}
 
@@ -62,26 +62,26 @@ pub record IsOrderly (entries : Entries) (waiting : List (Instance ℕ × Frame)
   pub last_kept : AreKept entries kept
 
 -- so it is of a question
-abbrev pub IsOrderlyIn : Entries → Question → Type 0
+abbrev pub IsOrderlyIn : Entries → Evaluation → Type 0
 IsOrderlyIn entries q = IsOrderly entries q.waiting.entries q.found.entries q.inst q.frame.demanded.kept.items
 
 -- how far a question has come: an instance counts once when it waits, and twice when it is found
-abbrev pub progress : Question → ℕ
+abbrev pub progress : Evaluation → ℕ
 progress q = 2 * length q.found.entries + length q.waiting.entries
 
 -- the question goes on, further than it was
-pub record GoesOn (entries : Entries) (done : ℕ) (new : Question) : Type 0 where
+pub record GoesOn (entries : Entries) (done : ℕ) (new : Evaluation) : Type 0 where
   pub orderly : IsOrderlyIn entries new
   pub further : done < progress new
   pub few : progress new < 2 ^ 66
 
-abbrev pub IsTurn : Entries → (old new : Question) → Turn → Type 0
-IsTurn entries old new (turn.GoesOn s) = GoesOn entries (progress old) new
-IsTurn entries old new (turn.Fails kind) = Unit {0}
-IsTurn entries old new (turn.Answers a) = Unit {0}
+abbrev pub IsAdvance : Entries → (old new : Evaluation) → Advance → Type 0
+IsAdvance entries old new (advance.GoesOn s) = GoesOn entries (progress old) new
+IsAdvance entries old new (advance.Fails kind) = Unit {0}
+IsAdvance entries old new (advance.Answers a) = Unit {0}
 
 -- the last instance is found, and the one that waited for it is the last
-pub record IsAscended (waiting : List (Instance ℕ × Frame)) (found : List (Instance ℕ × Find)) (i : Instance ℕ) (find : Find) (new : Question) (s : Step) : Type 0 where
+pub record IsAscended (waiting : List (Instance ℕ × Frame)) (found : List (Instance ℕ × Find)) (i : Instance ℕ) (find : Find) (new : Evaluation) (s : Step) : Type 0 where
   pub waits : waiting ≡ new.waiting.entries ++ (new.inst, new.frame) ∷ []
   pub settled : new.found.entries ≡ insert_entry same_instance found i find
   pub needs : s ≡ step.Need i
@@ -89,10 +89,10 @@ pub record IsAscended (waiting : List (Instance ℕ × Frame)) (found : List (In
   pub finds : length new.found.entries < 2 ^ 64
 
 -- so it is, or none waited, and its value is the answer
-abbrev pub HasAscended : Question → Find → Question → Turn → Type 0
-HasAscended old find new (turn.GoesOn s) = IsAscended old.waiting.entries old.found.entries old.inst find new s
-HasAscended old find new (turn.Fails kind) = ⊥
-HasAscended old find new (turn.Answers a) = (old.waiting.entries ≡ []) × (a ≡ answer.Value find.value)
+abbrev pub HasAscended : Evaluation → Find → Evaluation → Advance → Type 0
+HasAscended old find new (advance.GoesOn s) = IsAscended old.waiting.entries old.found.entries old.inst find new s
+HasAscended old find new (advance.Fails kind) = ⊥
+HasAscended old find new (advance.Answers a) = (old.waiting.entries ≡ []) × (a ≡ answer.Value find.value)
 
 -- The chain leads from what was asked by demands to the last instance, whose evaluation has come to this step; and what is
 -- kept and what was found holds.
@@ -104,14 +104,14 @@ pub record IsTrue (rules : Rules) (look : Contents ℕ) (asked : Instance ℕ) (
   pub finds : Right look (meaning rules) (found_values found)
 
 -- so it is of a question
-abbrev pub IsTrueIn : Rules → Contents ℕ → Instance ℕ → Entries → Question → Step → Type 0
+abbrev pub IsTrueIn : Rules → Contents ℕ → Instance ℕ → Entries → Evaluation → Step → Type 0
 IsTrueIn rules look asked entries q s = IsTrue rules look asked entries q.waiting.entries q.found.entries q.inst q.frame.trial s
 
 -- the question goes on as it is, or this is its answer
-abbrev pub IsRightTurn : Rules → Contents ℕ → Instance ℕ → Entries → Question → Turn → Type 0
-IsRightTurn rules look asked entries q (turn.GoesOn s) = IsTrueIn rules look asked entries q s
-IsRightTurn rules look asked entries q (turn.Fails kind) = Answers look (meaning rules) asked (answer_view (answer.Fault kind q.inst))
-IsRightTurn rules look asked entries q (turn.Answers a) = Answers look (meaning rules) asked (answer_view a)
+abbrev pub IsRightAdvance : Rules → Contents ℕ → Instance ℕ → Entries → Evaluation → Advance → Type 0
+IsRightAdvance rules look asked entries q (advance.GoesOn s) = IsTrueIn rules look asked entries q s
+IsRightAdvance rules look asked entries q (advance.Fails kind) = Answers look (meaning rules) asked (answer_view (answer.Fault kind q.inst))
+IsRightAdvance rules look asked entries q (advance.Answers a) = Answers look (meaning rules) asked (answer_view a)
 
 -- what an evaluation came to isn't known
 abbrev pub IsOpen : Known ℕ → Step → Type 0

@@ -15,16 +15,18 @@ ghost use Rattle.at_body.specs.Values.{value_view};
 ghost use Rattle.at_cache.specs.Kept.{AreKept, Entries, Answers as Says, LeavesUntouched, LosesTouched};
 ghost use Rattle.at_demand.specs.Known.{meaning, kept_values, known_in, answer_view, MayAdd, FoundKept};
 ghost use Rattle.at_demand.specs.Right.{AreRight, IsThere};
-ghost use Rattle.at_demand.specs.UnderWay.{IsOrderlyIn, IsTrueIn, IsTurn, IsRightTurn};
-ghost use Rattle.at_demand.specs.Typing.{AreTypedWaiting, IsTypedIn, IsTypedTurn};
+ghost use Rattle.at_demand.specs.UnderWay.{IsOrderlyIn, IsTrueIn, IsAdvance, IsRightAdvance};
+ghost use Rattle.at_demand.specs.Typing.{AreTypedWaiting, IsTypedIn, IsTypedAdvance};
 ghost use Rattle.at_model.specs.Rules.{is_lazy};
 ghost use Rattle.at_demand.specs.Only.{AreLean, IsLean};
-ghost use Rattle.at_demand.specs.Sparing.{AddsWorthy, AreOnly, AreSpare, Counts, HasWorthy, IsSparing, IsSparingTurn, IsWork, MayAddLazy};
-ghost use Rattle.at_demand.specs.Covering.{AreCovered, AreWhole, IsCoveringIn, IsCoveringTurn, IsWhole};
+ghost use Rattle.at_demand.specs.Sparing.{AddsWorthy, AreOnly, AreSpare, Counts, HasWorthy, IsSparing, IsSparingAdvance, IsWork, MayAddLazy};
+ghost use Rattle.at_demand.specs.Covering.{AreCovered, AreWhole, IsCoveringIn, IsCoveringAdvance, IsWhole};
+
+mod turning;
 
 use crate::answer::Answer;
+use crate::evaluation::{Advance, Evaluation, Find};
 use crate::gathering::Sources;
-use crate::question::{Find, Question, Turn};
 use at_body::{Inst, Step, Value};
 use at_cache::Keeper;
 use at_rules::Rules;
@@ -102,16 +104,16 @@ impl<K: Keeper> Demand<K> {
     {
         // The call says that it is less than 2^64.
         let _work = self.work();
-        let begun = Question::new(self.alloc, rules, store, inst.copy(self.alloc)?)?;
-        let (mut question, mut step) = begun;
+        let begun = Evaluation::new(self.alloc, rules, store, inst.copy(self.alloc)?)?;
+        let (mut evaluation, mut step) = begun;
         loop {
-            match self.turn(rules, store, &mut question, step)? {
-                Turn::GoesOn(reached) => step = reached,
-                Turn::Fails(kind) => {
-                    let at = question.into_inst();
+            match self.advance(rules, store, &mut evaluation, step)? {
+                Advance::GoesOn(reached) => step = reached,
+                Advance::Fails(kind) => {
+                    let at = evaluation.into_inst();
                     return Ok(Answer::Fault { kind, at });
                 }
-                Turn::Answers(answer) => return Ok(answer),
+                Advance::Answers(answer) => return Ok(answer),
             }
         }
     }
@@ -135,42 +137,42 @@ impl<K: Keeper> Demand<K> {
 
     // Goes on with the last instance of the chain up to its end, or to an instance that isn't known; then that one's
     // evaluation is begun.
-    fn turn<'a>(
+    fn advance<'a>(
         &mut self,
         rules: &'a Rules,
         store: &'a Store,
-        question: &mut Question<'a>,
+        evaluation: &mut Evaluation<'a>,
         step: Step,
-    ) -> Result<Turn, AllocError>
+    ) -> Result<Advance, AllocError>
         requires idle { IsIdle store.now }
         requires formed { AreWellFormed rules.now }
         requires sound { IsTreeSound rules.now.classes (tree store.now) }
-        requires right { Right (contents store.now) (meaning rules.now) (known_in (K.contents self.old.keeper) question.old.found.entries) }
-        requires typed { IsTypedIn rules.now (class_shown store.now) question.old step }
-        requires orderly { IsOrderlyIn (K.contents self.old.keeper) question.old }
-        ensures turn { IfOk result (IsTurn (K.contents self.new.keeper) question.old question.new) }
-        ensures typed { IfOk result (IsTypedTurn rules.now (class_shown store.now) question.new) }
-        ensures answers { (asked : Instance ℕ) → IsTrueIn rules.now (contents store.now) asked (K.contents self.old.keeper) question.old step → IfOk result (IsRightTurn rules.now (contents store.now) asked (K.contents self.new.keeper) question.new) }
-        ensures right { (asked : Instance ℕ) → IsTrueIn rules.now (contents store.now) asked (K.contents self.old.keeper) question.old step → Right (contents store.now) (meaning rules.now) (kept_values (K.contents self.new.keeper)) }
-        ensures covering { (asked : Instance ℕ) → IsTrueIn rules.now (contents store.now) asked (K.contents self.old.keeper) question.old step → IsCoveringIn rules.now (contents store.now) question.old step → IfOk result (IsCoveringTurn rules.now (contents store.now) question.new) }
-        ensures stays { (asked : Instance ℕ) → IsThere store.now asked → IsTrueIn rules.now (contents store.now) asked (K.contents self.old.keeper) question.old step → IsCoveringIn rules.now (contents store.now) question.old step → AreRight rules.now store.now (K.contents self.old.keeper) → AreRight rules.now store.now (K.contents self.new.keeper) }
-        ensures worthy { (asked : Instance ℕ) (first : Entries) → IsTrueIn rules.now (contents store.now) asked (K.contents self.old.keeper) question.old step → AddsWorthy rules.now (contents store.now) asked first (K.contents self.old.keeper) → AddsWorthy rules.now (contents store.now) asked first (K.contents self.new.keeper) }
-        ensures sparing { (asked : Instance ℕ) → IsTrue K.exact → IsTrueIn rules.now (contents store.now) asked (K.contents self.old.keeper) question.old step → IsCoveringIn rules.now (contents store.now) question.old step → IsSparing rules.now (contents store.now) (K.contents self.old.keeper) question.old → IfOk result (IsSparingTurn rules.now (contents store.now) asked (K.contents self.new.keeper) question.new) }
-        ensures spare { (asked : Instance ℕ) → IsTrue K.exact → IsTrueIn rules.now (contents store.now) asked (K.contents self.old.keeper) question.old step → IsCoveringIn rules.now (contents store.now) question.old step → IsSparing rules.now (contents store.now) (K.contents self.old.keeper) question.old → AreSpare rules.now (contents store.now) (K.contents self.new.keeper) }
+        requires right { Right (contents store.now) (meaning rules.now) (known_in (K.contents self.old.keeper) evaluation.old.found.entries) }
+        requires typed { IsTypedIn rules.now (class_shown store.now) evaluation.old step }
+        requires orderly { IsOrderlyIn (K.contents self.old.keeper) evaluation.old }
+        ensures advance { IfOk result (IsAdvance (K.contents self.new.keeper) evaluation.old evaluation.new) }
+        ensures typed { IfOk result (IsTypedAdvance rules.now (class_shown store.now) evaluation.new) }
+        ensures answers { (asked : Instance ℕ) → IsTrueIn rules.now (contents store.now) asked (K.contents self.old.keeper) evaluation.old step → IfOk result (IsRightAdvance rules.now (contents store.now) asked (K.contents self.new.keeper) evaluation.new) }
+        ensures right { (asked : Instance ℕ) → IsTrueIn rules.now (contents store.now) asked (K.contents self.old.keeper) evaluation.old step → Right (contents store.now) (meaning rules.now) (kept_values (K.contents self.new.keeper)) }
+        ensures covering { (asked : Instance ℕ) → IsTrueIn rules.now (contents store.now) asked (K.contents self.old.keeper) evaluation.old step → IsCoveringIn rules.now (contents store.now) evaluation.old step → IfOk result (IsCoveringAdvance rules.now (contents store.now) evaluation.new) }
+        ensures stays { (asked : Instance ℕ) → IsThere store.now asked → IsTrueIn rules.now (contents store.now) asked (K.contents self.old.keeper) evaluation.old step → IsCoveringIn rules.now (contents store.now) evaluation.old step → AreRight rules.now store.now (K.contents self.old.keeper) → AreRight rules.now store.now (K.contents self.new.keeper) }
+        ensures worthy { (asked : Instance ℕ) (first : Entries) → IsTrueIn rules.now (contents store.now) asked (K.contents self.old.keeper) evaluation.old step → AddsWorthy rules.now (contents store.now) asked first (K.contents self.old.keeper) → AddsWorthy rules.now (contents store.now) asked first (K.contents self.new.keeper) }
+        ensures sparing { (asked : Instance ℕ) → IsTrue K.exact → IsTrueIn rules.now (contents store.now) asked (K.contents self.old.keeper) evaluation.old step → IsCoveringIn rules.now (contents store.now) evaluation.old step → IsSparing rules.now (contents store.now) (K.contents self.old.keeper) evaluation.old → IfOk result (IsSparingAdvance rules.now (contents store.now) asked (K.contents self.new.keeper) evaluation.new) }
+        ensures spare { (asked : Instance ℕ) → IsTrue K.exact → IsTrueIn rules.now (contents store.now) asked (K.contents self.old.keeper) evaluation.old step → IsCoveringIn rules.now (contents store.now) evaluation.old step → IsSparing rules.now (contents store.now) (K.contents self.old.keeper) evaluation.old → AreSpare rules.now (contents store.now) (K.contents self.new.keeper) }
         ensures counts { IsTrue K.exact → self.old.work < 2 ^ 64 → Counts (K.contents self.old.keeper) (K.contents self.new.keeper) self.old.work self.new.work }
     {
-        let step = question.frame.go_on(
+        let step = evaluation.frame.go_on(
             self.alloc,
             &self.keeper,
-            &question.found,
+            &evaluation.found,
             rules,
             store,
             step,
         )?;
         match step {
-            Step::Value(value) => self.settle(rules, question, value),
-            Step::Fault(kind) => Ok(Turn::Fails(kind)),
-            Step::Need(needed) => self.deepen(rules, store, question, needed),
+            Step::Value(value) => self.settle(rules, evaluation, value),
+            Step::Fault(kind) => Ok(Advance::Fails(kind)),
+            Step::Need(needed) => self.deepen(rules, store, evaluation, needed),
         }
     }
 
@@ -179,51 +181,51 @@ impl<K: Keeper> Demand<K> {
         &self,
         rules: &'a Rules,
         store: &'a Store,
-        question: &mut Question<'a>,
+        evaluation: &mut Evaluation<'a>,
         needed: Inst,
-    ) -> Result<Turn, AllocError>
+    ) -> Result<Advance, AllocError>
         requires idle { IsIdle store.now }
         requires formed { AreWellFormed rules.now }
         requires sound { IsTreeSound rules.now.classes (tree store.now) }
-        requires typed { IsTypedIn rules.now (class_shown store.now) question.old (step_code.Need needed) }
-        requires orderly { IsOrderlyIn (K.contents self.now.keeper) question.old }
-        requires found { lookup (same_instance needed) question.old.found.entries ≡ None }
+        requires typed { IsTypedIn rules.now (class_shown store.now) evaluation.old (step_code.Need needed) }
+        requires orderly { IsOrderlyIn (K.contents self.now.keeper) evaluation.old }
+        requires found { lookup (same_instance needed) evaluation.old.found.entries ≡ None }
         requires kept { K.contents self.now.keeper needed ≡ None }
-        ensures turn { IfOk result (IsTurn (K.contents self.now.keeper) question.old question.new) }
-        ensures typed { IfOk result (IsTypedTurn rules.now (class_shown store.now) question.new) }
-        ensures answers { (asked : Instance ℕ) → IsTrueIn rules.now (contents store.now) asked (K.contents self.now.keeper) question.old (step_code.Need needed) → IfOk result (IsRightTurn rules.now (contents store.now) asked (K.contents self.now.keeper) question.new) }
-        ensures covering { IsCoveringIn rules.now (contents store.now) question.old (step_code.Need needed) → IfOk result (IsCoveringTurn rules.now (contents store.now) question.new) }
-        ensures sparing { (asked : Instance ℕ) → IsTrueIn rules.now (contents store.now) asked (K.contents self.now.keeper) question.old (step_code.Need needed) → IsCoveringIn rules.now (contents store.now) question.old (step_code.Need needed) → IsSparing rules.now (contents store.now) (K.contents self.now.keeper) question.old → IfOk result (IsSparingTurn rules.now (contents store.now) asked (K.contents self.now.keeper) question.new) }
+        ensures advance { IfOk result (IsAdvance (K.contents self.now.keeper) evaluation.old evaluation.new) }
+        ensures typed { IfOk result (IsTypedAdvance rules.now (class_shown store.now) evaluation.new) }
+        ensures answers { (asked : Instance ℕ) → IsTrueIn rules.now (contents store.now) asked (K.contents self.now.keeper) evaluation.old (step_code.Need needed) → IfOk result (IsRightAdvance rules.now (contents store.now) asked (K.contents self.now.keeper) evaluation.new) }
+        ensures covering { IsCoveringIn rules.now (contents store.now) evaluation.old (step_code.Need needed) → IfOk result (IsCoveringAdvance rules.now (contents store.now) evaluation.new) }
+        ensures sparing { (asked : Instance ℕ) → IsTrueIn rules.now (contents store.now) asked (K.contents self.now.keeper) evaluation.old (step_code.Need needed) → IsCoveringIn rules.now (contents store.now) evaluation.old (step_code.Need needed) → IsSparing rules.now (contents store.now) (K.contents self.now.keeper) evaluation.old → IfOk result (IsSparingAdvance rules.now (contents store.now) asked (K.contents self.now.keeper) evaluation.new) }
     {
-        if question.has(&needed) {
-            return Ok(Turn::Answers(Answer::Circular { at: needed }));
+        if evaluation.has(&needed) {
+            return Ok(Advance::Answers(Answer::Circular { at: needed }));
         }
-        let step = question.descend(self.alloc, rules, store, needed)?;
-        Ok(Turn::GoesOn(step))
+        let step = evaluation.descend(self.alloc, rules, store, needed)?;
+        Ok(Advance::GoesOn(step))
     }
 
     // The last instance has this value.
     fn settle<'a>(
         &mut self,
         rules: &Rules,
-        question: &mut Question<'a>,
+        evaluation: &mut Evaluation<'a>,
         value: Value,
-    ) -> Result<Turn, AllocError>
-        requires orderly { IsOrderlyIn (K.contents self.old.keeper) question.old }
-        ensures turn { IfOk result (IsTurn (K.contents self.new.keeper) question.old question.new) }
-        ensures typed { (at : ClassAt ℕ) → AreTypedWaiting rules.now at question.old.waiting.entries question.old.inst → IfOk result (IsTypedTurn rules.now at question.new) }
-        ensures answers { (look : Contents ℕ) (asked : Instance ℕ) → IsTrueIn rules.now look asked (K.contents self.old.keeper) question.old (step_code.Value value) → IfOk result (IsRightTurn rules.now look asked (K.contents self.new.keeper) question.new) }
-        ensures right { (look : Contents ℕ) (asked : Instance ℕ) → IsTrueIn rules.now look asked (K.contents self.old.keeper) question.old (step_code.Value value) → Right look (meaning rules.now) (kept_values (K.contents self.new.keeper)) }
-        ensures covering { (look : Contents ℕ) → IsCoveringIn rules.now look question.old (step_code.Value value) → IfOk result (IsCoveringTurn rules.now look question.new) }
-        ensures stays { (s : Shown) (asked : Instance ℕ) → IsIdle s → IsThere s asked → IsTrueIn rules.now (contents s) asked (K.contents self.old.keeper) question.old (step_code.Value value) → IsCoveringIn rules.now (contents s) question.old (step_code.Value value) → AreRight rules.now s (K.contents self.old.keeper) → AreRight rules.now s (K.contents self.new.keeper) }
-        ensures worthy { (look : Contents ℕ) (asked : Instance ℕ) (first : Entries) → IsTrueIn rules.now look asked (K.contents self.old.keeper) question.old (step_code.Value value) → AddsWorthy rules.now look asked first (K.contents self.old.keeper) → AddsWorthy rules.now look asked first (K.contents self.new.keeper) }
-        ensures sparing { (look : Contents ℕ) (asked : Instance ℕ) → IsTrue K.exact → IsTrueIn rules.now look asked (K.contents self.old.keeper) question.old (step_code.Value value) → IsCoveringIn rules.now look question.old (step_code.Value value) → IsSparing rules.now look (K.contents self.old.keeper) question.old → IfOk result (IsSparingTurn rules.now look asked (K.contents self.new.keeper) question.new) }
-        ensures spare { (look : Contents ℕ) (asked : Instance ℕ) → IsTrue K.exact → IsTrueIn rules.now look asked (K.contents self.old.keeper) question.old (step_code.Value value) → IsCoveringIn rules.now look question.old (step_code.Value value) → IsSparing rules.now look (K.contents self.old.keeper) question.old → AreSpare rules.now look (K.contents self.new.keeper) }
+    ) -> Result<Advance, AllocError>
+        requires orderly { IsOrderlyIn (K.contents self.old.keeper) evaluation.old }
+        ensures advance { IfOk result (IsAdvance (K.contents self.new.keeper) evaluation.old evaluation.new) }
+        ensures typed { (at : ClassAt ℕ) → AreTypedWaiting rules.now at evaluation.old.waiting.entries evaluation.old.inst → IfOk result (IsTypedAdvance rules.now at evaluation.new) }
+        ensures answers { (look : Contents ℕ) (asked : Instance ℕ) → IsTrueIn rules.now look asked (K.contents self.old.keeper) evaluation.old (step_code.Value value) → IfOk result (IsRightAdvance rules.now look asked (K.contents self.new.keeper) evaluation.new) }
+        ensures right { (look : Contents ℕ) (asked : Instance ℕ) → IsTrueIn rules.now look asked (K.contents self.old.keeper) evaluation.old (step_code.Value value) → Right look (meaning rules.now) (kept_values (K.contents self.new.keeper)) }
+        ensures covering { (look : Contents ℕ) → IsCoveringIn rules.now look evaluation.old (step_code.Value value) → IfOk result (IsCoveringAdvance rules.now look evaluation.new) }
+        ensures stays { (s : Shown) (asked : Instance ℕ) → IsIdle s → IsThere s asked → IsTrueIn rules.now (contents s) asked (K.contents self.old.keeper) evaluation.old (step_code.Value value) → IsCoveringIn rules.now (contents s) evaluation.old (step_code.Value value) → AreRight rules.now s (K.contents self.old.keeper) → AreRight rules.now s (K.contents self.new.keeper) }
+        ensures worthy { (look : Contents ℕ) (asked : Instance ℕ) (first : Entries) → IsTrueIn rules.now look asked (K.contents self.old.keeper) evaluation.old (step_code.Value value) → AddsWorthy rules.now look asked first (K.contents self.old.keeper) → AddsWorthy rules.now look asked first (K.contents self.new.keeper) }
+        ensures sparing { (look : Contents ℕ) (asked : Instance ℕ) → IsTrue K.exact → IsTrueIn rules.now look asked (K.contents self.old.keeper) evaluation.old (step_code.Value value) → IsCoveringIn rules.now look evaluation.old (step_code.Value value) → IsSparing rules.now look (K.contents self.old.keeper) evaluation.old → IfOk result (IsSparingAdvance rules.now look asked (K.contents self.new.keeper) evaluation.new) }
+        ensures spare { (look : Contents ℕ) (asked : Instance ℕ) → IsTrue K.exact → IsTrueIn rules.now look asked (K.contents self.old.keeper) evaluation.old (step_code.Value value) → IsCoveringIn rules.now look evaluation.old (step_code.Value value) → IsSparing rules.now look (K.contents self.old.keeper) evaluation.old → AreSpare rules.now look (K.contents self.new.keeper) }
         ensures counts { IsTrue K.exact → self.old.work < 2 ^ 64 → Counts (K.contents self.old.keeper) (K.contents self.new.keeper) self.old.work self.new.work }
     {
-        let find = question.frame.find(self.alloc, value)?;
-        self.keep(rules, &question.found, &question.inst, &find)?;
-        question.ascend(self.alloc, find)
+        let find = evaluation.frame.find(self.alloc, value)?;
+        self.keep(rules, &evaluation.found, &evaluation.inst, &find)?;
+        evaluation.ascend(self.alloc, find)
     }
 
     // Keeps what was found of the instance, if its attribute is lazy.

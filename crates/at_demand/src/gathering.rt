@@ -6,7 +6,7 @@ ghost use Rattle.at_demand.specs.Known.{FoundKept};
 ghost use Rattle.at_demand.specs.Covering.{Adds, AddsAt, AreGathered, Visits};
 ghost use Rattle.at_demand.specs.Only.{AddsOnly, AddsOnlyAt, AreFrom, VisitsOnly};
 
-use crate::question::{Demanded, Find};
+use crate::evaluation::{Demanded, Find};
 use at_body::Inst;
 use at_store::Loc;
 use indexmap::{IndexMap, IndexSet};

@@ -1,348 +1,141 @@
-//! A question under way: a chain of instances, each of which waits for the next, and what was found.
+//! Questions that are given turns. Between turns a question holds nothing of rules or tree.
 
-ghost use Rattle.std.specs.Prelude.{◌≡◌, ◌<◌, ◌^◌, List, [], length, map, IfOk, OnOk, MatchBool, ℕ};
-ghost use Rattle.at_model.specs.Run.{Instance};
-ghost use Rattle.at_model.specs.Instances.{AnyText};
-ghost use Rattle.at_model.specs.Meaning.{Among, Right};
-ghost use Rattle.at_model.specs.TypedRuns.{IsWellTyped};
-ghost use Rattle.at_model.specs.WellFormed.{AreWellFormed, IsTreeSound};
-ghost use Rattle.at_store.specs.Located.{loc_view};
-ghost use Rattle.at_store.specs.Shown.{IsIdle, contents, tree};
-ghost use Rattle.at_cache.specs.Kept.{AreKept};
-ghost use Rattle.at_body.specs.Same.{same_instance};
-ghost use Rattle.at_body.specs.Typed.{IsTypedStep, class_shown};
+ghost use Rattle.std.specs.Prelude.{◌≡◌, ◌++◌, ◌∷◌, [], get_or, IfOk, OnOk, MatchBool};
+ghost use Rattle.std.specs.Map.{keys_of};
 ghost use Rattle.indexmap.specs.IndexMap.{insert_entry};
-ghost use Rattle.at_demand.specs.Known.{meaning, known_in, IsRecalled};
-ghost use Rattle.at_demand.specs.UnderWay.{chain_of, HasAscended, HasStepped, IsOpen};
-ghost use Rattle.at_demand.specs.Covering.{HasPassedTo, Takes};
-ghost use Rattle.at_demand.specs.Only.{TakesOne, TakesOnly};
-ghost use Rattle.at_demand.specs.declared.question.Find.{Find as FindCode};
+ghost use Rattle.at_model.specs.Meaning.{Among};
+ghost use Rattle.at_model.specs.Turning.{turns_of};
+ghost use Rattle.at_body.specs.Same.{same_instance};
+ghost use Rattle.at_demand.specs.Turns.{under_way};
+ghost use Rattle.at_demand.specs.ChainSteps.{HasRisen, HasSettled, HasPassedOn, HasDeepened};
 
 use crate::answer::Answer;
-use at_body::{FaultKind, Inst, Step, Trial, Value};
-use at_cache::Keeper;
-use at_rules::Rules;
-use at_store::{Loc, Store};
+use crate::evaluation::{Find, put};
+use at_body::{Inst, Value};
 use indexmap::IndexMap;
 use std::alloc::{AllocError, Global};
 use std::mem;
 
-// The instances whose values an evaluation took: the kept ones, and the positions of the others among the finds.
-pub struct Demanded {
-    pub kept: Vec<Inst>,
-    pub finds: Vec<usize>,
+/// A question that is given turns: a chain of instances, each of which demanded the next, and the values that were found.
+// The last one of the chain is `inst`, and the others wait. `passed` are those that others came to keep while they were under way.
+pub struct Question {
+    pub(crate) waiting: IndexMap<Inst, ()>,
+    pub(crate) found: IndexMap<Inst, Find>,
+    pub(crate) passed: IndexMap<Inst, Value>,
+    pub(crate) inst: Inst,
 }
 
 /// One call, where each exit that lets it go would else have a case for each field.
-impl Drop for Demanded {
-    fn drop(self) {
-        let Demanded { kept: _, finds: _ } = self;
-    }
-}
-
-// An evaluation under way, and the instances whose values it took.
-pub struct Frame<'a> {
-    pub trial: Trial<'a>,
-    pub demanded: Demanded,
-}
-
-/// One call, as that of `Demanded` is.
-impl Drop for Frame<'_> {
-    fn drop(self) {
-        let Frame {
-            trial: _,
-            demanded: _,
-        } = self;
-    }
-}
-
-// The value of an instance, the locations that its own evaluation read, and the instances whose values that took.
-pub struct Find {
-    pub value: Value,
-    pub reads: Vec<Loc>,
-    pub demanded: Demanded,
-}
-
-/// One call, as that of `Demanded` is.
-impl Drop for Find {
-    fn drop(self) {
-        let Find {
-            value: _,
-            reads: _,
-            demanded: _,
-        } = self;
-    }
-}
-
-// A question under way. `inst` is the last instance of the chain, and `frame` its evaluation; each of `waiting` waits for
-// the next, and the last one for `inst`.
-pub struct Question<'a> {
-    pub waiting: IndexMap<Inst, Frame<'a>>,
-    pub found: IndexMap<Inst, Find>,
-    pub inst: Inst,
-    pub frame: Frame<'a>,
-}
-
-/// One call, as that of `Demanded` is.
-impl Drop for Question<'_> {
+impl Drop for Question {
     fn drop(self) {
         let Question {
             waiting: _,
             found: _,
+            passed: _,
             inst: _,
-            frame: _,
         } = self;
     }
 }
 
-// What a question comes to: it goes on, where its last instance has come to this, or it has its answer, which may be the
-// fault of its last instance.
-#[derive(Drop)]
-pub enum Turn {
-    GoesOn(Step),
-    Fails(FaultKind),
-    Answers(Answer),
-}
-
-// The value of an instance, or the instance, where it isn't known.
-#[derive(Drop)]
-pub enum Recalled {
-    Value(Value),
-    Unknown(Inst),
-}
-
-impl<'a> Question<'a> {
-    // The question for an instance, and what its evaluation came to by itself.
-    pub fn new(
-        alloc: Global,
-        rules: &'a Rules,
-        store: &'a Store,
-        inst: Inst,
-    ) -> Result<(Question<'a>, Step), AllocError>
-        requires idle { IsIdle store.now }
-        requires formed { AreWellFormed rules.now }
-        requires sound { IsTreeSound rules.now.classes (tree store.now) }
-        requires typed { IsWellTyped rules.now (class_shown store.now) AnyText inst }
-        ensures alone { IfOk result (λ r. r.0.waiting.entries ≡ []) }
-        ensures nothing { IfOk result (λ r. r.0.found.entries ≡ []) }
-        ensures inst { IfOk result (λ r. r.0.inst ≡ inst) }
-        ensures fresh { IfOk result (λ r. r.0.frame.demanded.kept.items ≡ []) }
-        ensures unfound { IfOk result (λ r. r.0.frame.demanded.finds.items ≡ []) }
-        ensures stepped { IfOk result (λ r. HasStepped rules.now (contents store.now) inst r.0.frame.trial r.1) }
-        ensures passed { (finds : List (Instance ℕ × FindCode)) → IfOk result (λ r. HasPassedTo rules.now (contents store.now) finds inst r.0.frame r.1) }
-        ensures typed { IfOk result (λ r. IsTypedStep rules.now (class_shown store.now) r.1 r.0.frame.trial) }
+impl Question {
+    // The question for an instance.
+    pub(crate) fn new(alloc: Global, inst: Inst) -> Question
+        ensures waiting { result.waiting.entries ≡ [] }
+        ensures found { result.found.entries ≡ [] }
+        ensures passed { result.passed.entries ≡ [] }
+        ensures inst { result.inst ≡ inst }
     {
-        let (frame, step) = Frame::start(alloc, rules, store, &inst)?;
-        let question = Question {
+        Question {
             waiting: IndexMap::new(alloc),
             found: IndexMap::new(alloc),
+            passed: IndexMap::new(alloc),
             inst,
-            frame,
-        };
-        Ok((question, step))
+        }
+    }
+
+    /// How many turns it was given since it was posted, where none of them answered it.
+    pub fn turns(&self) -> u128
+        ensures { result ≡ turns_of (under_way self.now) }
+    {
+        let found = self.found.len() as u128;
+        let passed = self.passed.len() as u128;
+        let waiting = self.waiting.len() as u128;
+        2 * (found + passed) + waiting
+    }
+
+    // The first of the chain: what was asked.
+    pub(crate) fn asked(&self) -> &Inst
+        ensures { result.now ≡ get_or (keys_of self.now.waiting.entries) 0 self.now.inst }
+    {
+        match self.waiting.first() {
+            Some((inst, _unit)) => inst,
+            None => &self.inst,
+        }
+    }
+
+    // The last instance is found: the one that waits for it is the last; where none waits, that was the question.
+    pub(crate) fn settle(&mut self, find: Find) -> Result<Option<Answer>, AllocError>
+        ensures { IfOk result (HasSettled self.old find self.new) }
+    {
+        match self.rise() {
+            None => Ok(Some(Answer::Value(find.into_value()))),
+            Some(inst) => {
+                put(&mut self.found, inst, find)?;
+                Ok(None)
+            }
+        }
+    }
+
+    // The last instance is kept with this value: it goes off the chain so, too.
+    pub(crate) fn pass(&mut self, value: Value) -> Result<Option<Answer>, AllocError>
+        ensures { IfOk result (HasPassedOn self.old value self.new) }
+    {
+        match self.rise() {
+            None => Ok(Some(Answer::Value(value))),
+            Some(inst) => {
+                put(&mut self.passed, inst, value)?;
+                Ok(None)
+            }
+        }
+    }
+
+    // The last instance needs this one, which isn't known: it is the last, or the chain has it already.
+    pub(crate) fn deepen(&mut self, needed: Inst) -> Result<Option<Answer>, AllocError>
+        ensures { IfOk result (HasDeepened self.old needed self.new) }
+    {
+        if self.has(&needed) {
+            return Ok(Some(Answer::Circular { at: needed }));
+        }
+        self.descend(needed)?;
+        Ok(None)
     }
 
     // Whether the instance is under way.
-    pub fn has(&self, inst: &Inst) -> bool
-        ensures { MatchBool result (Among inst.now (chain_of self.now.waiting.entries self.now.inst)) (Among inst.now (chain_of self.now.waiting.entries self.now.inst) → ⊥) }
+    fn has(&self, inst: &Inst) -> bool
+        ensures { MatchBool result (Among inst.now (keys_of self.now.waiting.entries ++ self.now.inst ∷ [])) (Among inst.now (keys_of self.now.waiting.entries ++ self.now.inst ∷ []) → ⊥) }
     {
         self.inst == *inst || self.waiting.contains_key(inst)
     }
 
-    // Begins the evaluation of an instance that the last one needs.
-    pub fn descend(
-        &mut self,
-        alloc: Global,
-        rules: &'a Rules,
-        store: &'a Store,
-        needed: Inst,
-    ) -> Result<Step, AllocError>
-        requires idle { IsIdle store.now }
-        requires formed { AreWellFormed rules.now }
-        requires sound { IsTreeSound rules.now.classes (tree store.now) }
-        requires typed { IsWellTyped rules.now (class_shown store.now) AnyText needed }
-        ensures waiting { OnOk result (self.new.waiting.entries ≡ insert_entry same_instance self.old.waiting.entries self.old.inst self.old.frame) }
-        ensures found { OnOk result (self.new.found.entries ≡ self.old.found.entries) }
+    // One instance more in the chain.
+    fn descend(&mut self, needed: Inst) -> Result<(), AllocError>
+        ensures waiting { OnOk result (self.new.waiting.entries ≡ insert_entry same_instance self.old.waiting.entries self.old.inst tt) }
         ensures inst { OnOk result (self.new.inst ≡ needed) }
-        ensures fresh { OnOk result (self.new.frame.demanded.kept.items ≡ []) }
-        ensures unfound { OnOk result (self.new.frame.demanded.finds.items ≡ []) }
-        ensures few { OnOk result (length self.new.waiting.entries < 2 ^ 64) }
-        ensures finds { OnOk result (length self.new.found.entries < 2 ^ 64) }
-        ensures stepped { IfOk result (HasStepped rules.now (contents store.now) needed self.new.frame.trial) }
-        ensures passed { (finds : List (Instance ℕ × FindCode)) → IfOk result (HasPassedTo rules.now (contents store.now) finds needed self.new.frame) }
-        ensures typed { IfOk result (λ s. IsTypedStep rules.now (class_shown store.now) s self.new.frame.trial) }
+        ensures found { self.new.found.entries ≡ self.old.found.entries }
+        ensures passed { self.new.passed.entries ≡ self.old.passed.entries }
     {
-        let (frame, step) = Frame::start(alloc, rules, store, &needed)?;
-        let frame = mem::replace(&mut self.frame, frame);
         let inst = mem::replace(&mut self.inst, needed);
-        put(&mut self.waiting, inst, frame)?;
-        // `len` says that they are fewer than 2^64.
-        let _counts = (self.waiting.len(), self.found.len());
-        Ok(step)
+        self.waiting.insert(inst, ())?;
+        Ok(())
     }
 
-    // Goes back to the one that waits for the last instance, which is found; where none waits, that was the question.
-    pub fn ascend(&mut self, alloc: Global, find: Find) -> Result<Turn, AllocError>
-        ensures { IfOk result (HasAscended self.old find self.new) }
+    // Takes the last instance off the chain, where another one waits for it.
+    fn rise(&mut self) -> Option<Inst>
+        ensures { HasRisen self.old self.new result }
     {
-        let Some((below, frame)) = self.waiting.pop() else {
-            return Ok(Turn::Answers(Answer::Value(find.into_value())));
+        let Some((below, _unit)) = self.waiting.pop() else {
+            return None;
         };
-        self.frame = frame;
-        let inst = mem::replace(&mut self.inst, below);
-        let needed = inst.copy(alloc)?;
-        put(&mut self.found, inst, find)?;
-        // `len` says that they are fewer than 2^64.
-        let _counts = (self.waiting.len(), self.found.len());
-        Ok(Turn::GoesOn(Step::Need(needed)))
-    }
-
-    // The last instance of the chain.
-    pub fn into_inst(self) -> Inst
-        ensures { result ≡ self.entry.inst }
-    {
-        let Question {
-            waiting: _,
-            found: _,
-            inst,
-            frame: _,
-        } = self;
-        inst
-    }
-}
-
-// Puts the value by the instance, or finds memory wanting.
-fn put<V: Drop>(map: &mut IndexMap<Inst, V>, inst: Inst, value: V) -> Result<(), AllocError>
-    ensures { OnOk result (map.new.entries ≡ insert_entry same_instance map.old.entries inst value) }
-{
-    map.insert(inst, value)?;
-    Ok(())
-}
-
-impl<'a> Frame<'a> {
-    // Begins the evaluation of an instance.
-    pub fn start(
-        alloc: Global,
-        rules: &'a Rules,
-        store: &'a Store,
-        inst: &Inst,
-    ) -> Result<(Frame<'a>, Step), AllocError>
-        requires idle { IsIdle store.now }
-        requires formed { AreWellFormed rules.now }
-        requires sound { IsTreeSound rules.now.classes (tree store.now) }
-        requires typed { IsWellTyped rules.now (class_shown store.now) AnyText inst.now }
-        ensures fresh { IfOk result (λ r. r.0.demanded.kept.items ≡ []) }
-        ensures unfound { IfOk result (λ r. r.0.demanded.finds.items ≡ []) }
-        ensures stepped { IfOk result (λ r. HasStepped rules.now (contents store.now) inst.now r.0.trial r.1) }
-        ensures passed { (finds : List (Instance ℕ × FindCode)) → IfOk result (λ r. HasPassedTo rules.now (contents store.now) finds inst.now r.0 r.1) }
-        ensures typed { IfOk result (λ r. IsTypedStep rules.now (class_shown store.now) r.1 r.0.trial) }
-    {
-        let (trial, step) = Trial::start(alloc, rules, store, inst)?;
-        let demanded = Demanded::new(alloc);
-        Ok((Frame { trial, demanded }, step))
-    }
-
-    // Goes on with each value that is known, up to the end or to an instance that isn't.
-    pub fn go_on<K: Keeper>(
-        &mut self,
-        alloc: Global,
-        keeper: &K,
-        found: &IndexMap<Inst, Find>,
-        rules: &'a Rules,
-        store: &'a Store,
-        step: Step,
-    ) -> Result<Step, AllocError>
-        requires idle { IsIdle store.now }
-        requires formed { AreWellFormed rules.now }
-        requires sound { IsTreeSound rules.now.classes (tree store.now) }
-        requires right { Right (contents store.now) (meaning rules.now) (known_in (K.contents keeper.now) found.now.entries) }
-        requires typed { IsTypedStep rules.now (class_shown store.now) step self.old.trial }
-        requires kept { AreKept (K.contents keeper.now) self.old.demanded.kept.items }
-        ensures kept { OnOk result (AreKept (K.contents keeper.now) self.new.demanded.kept.items) }
-        ensures stepped { (i : Instance ℕ) → HasStepped rules.now (contents store.now) i self.old.trial step → IfOk result (HasStepped rules.now (contents store.now) i self.new.trial) }
-        ensures passed { (i : Instance ℕ) → HasPassedTo rules.now (contents store.now) found.now.entries i self.old step → IfOk result (HasPassedTo rules.now (contents store.now) found.now.entries i self.new) }
-        ensures only { (i : Instance ℕ) → HasStepped rules.now (contents store.now) i self.old.trial step → TakesOnly rules.now (contents store.now) found.now.entries i self.old.demanded → IfOk result (λ r. TakesOnly rules.now (contents store.now) found.now.entries i self.new.demanded) }
-        ensures typed { IfOk result (λ r. IsTypedStep rules.now (class_shown store.now) r self.new.trial) }
-        ensures unknown { IfOk result (IsOpen (known_in (K.contents keeper.now) found.now.entries)) }
-    {
-        let mut step = step;
-        loop {
-            match step {
-                Step::Need(needed) => match self.demanded.recall(keeper, found, needed)? {
-                    Recalled::Value(value) => {
-                        step = self.trial.resume(alloc, rules, store, value)?;
-                    }
-                    Recalled::Unknown(needed) => return Ok(Step::Need(needed)),
-                },
-                ended => return Ok(ended),
-            }
-        }
-    }
-
-    // What it found, at its end.
-    pub fn find(&mut self, alloc: Global, value: Value) -> Result<Find, AllocError>
-        ensures value { IfOk result (λ f. f.value ≡ value) }
-        ensures demanded { IfOk result (λ f. f.demanded ≡ self.old.demanded) }
-        ensures reads { IfOk result (λ f. map loc_view f.reads.items ≡ self.old.trial.reads) }
-    {
-        let mut reads = Vec::new(alloc);
-        reads.extend_from_slice(self.trial.reads().as_slice())?;
-        let demanded = mem::replace(&mut self.demanded, Demanded::new(alloc));
-        Ok(Find {
-            value,
-            reads,
-            demanded,
-        })
-    }
-}
-
-impl Find {
-    fn into_value(self) -> Value
-        ensures { result ≡ self.value }
-    {
-        let Find {
-            value,
-            reads: _,
-            demanded: _,
-        } = self;
-        value
-    }
-}
-
-impl Demanded {
-    fn new(alloc: Global) -> Demanded
-        ensures kept { result.kept.items ≡ [] }
-        ensures finds { result.finds.items ≡ [] }
-    {
-        Demanded {
-            kept: Vec::new(alloc),
-            finds: Vec::new(alloc),
-        }
-    }
-
-    // Takes the value of an instance, where it is known.
-    fn recall<K: Keeper>(
-        &mut self,
-        keeper: &K,
-        found: &IndexMap<Inst, Find>,
-        needed: Inst,
-    ) -> Result<Recalled, AllocError>
-        requires kept { AreKept (K.contents keeper.now) self.old.kept.items }
-        ensures kept { OnOk result (AreKept (K.contents keeper.now) self.new.kept.items) }
-        ensures takes { IfOk result (Takes found.now.entries self.old self.new needed) }
-        ensures one { IfOk result (TakesOne found.now.entries self.old self.new needed) }
-        ensures recalled { IfOk result (IsRecalled (known_in (K.contents keeper.now) found.now.entries) needed) }
-    {
-        if let Some(value) = keeper.get(&needed) {
-            self.kept.push(needed)?;
-            return Ok(Recalled::Value(value.copy()?));
-        }
-        match found.get_full(&needed) {
-            Some((position, _inst, find)) => {
-                self.finds.push(position)?;
-                Ok(Recalled::Value(find.value.copy()?))
-            }
-            None => Ok(Recalled::Unknown(needed)),
-        }
+        Some(mem::replace(&mut self.inst, below))
     }
 }

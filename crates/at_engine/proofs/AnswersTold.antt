@@ -1,6 +1,5 @@
 -- What is told of answers, of values, faults and circles.
-use Rattle.std.proofs.Common.{◌≡◌, ℕ, ℤ, Bool, Option, Some, None, Result, IfOk, refl, sym, ap, ◌∙◌}
-use Rattle.std.proofs.Common.{string_bytes}
+use Rattle.std.proofs.Common.{◌≡◌, ℕ, ℤ, Bool, Option, Some, None, Result, IfOk, refl, sym, ap, ◌∙◌, string_bytes}
 use Rattle.std.specs.Prelude.{String}
 use Rattle.std.specs.Global.{Global}
 use Rattle.at_model.specs.Trees.{Tree}

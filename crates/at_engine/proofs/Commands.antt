@@ -1,6 +1,7 @@
 -- What each command is told, and what it leaves.
-use Rattle.std.proofs.Common.{◌≡◌, ℕ, true, false, not, nat_eq, nat_le, List, [], ◌∷◌, ◌++◌, count_by, filter, Option, Some, None, option_and_then, refl, sym, ap, ◌∙◌, subst, Ok, Err, inl, inr}
+use Rattle.std.proofs.Common.{◌≡◌, ℕ, ◌+◌, Bool, if◌then◌else◌, true, false, not, nat_eq, nat_le, List, [], ◌∷◌, ◌++◌, count_by, filter, Option, Some, None, option_and_then, refl, sym, ap, ◌∙◌, subst, Ok, Err, inl, inr}
 use Rattle.std.specs.Prelude.{Vec}
+use Rattle.std.specs.List.{list_any}
 use Rattle.std.specs.Global.{Global}
 use Rattle.at_model.specs.Classes.{Shape, TokenKind}
 use Rattle.at_model.specs.Trees.{Tree, Token as TokenOf}
@@ -10,8 +11,8 @@ use Rattle.at_model.specs.Rules.{Rules}
 use Rattle.at_model.specs.Shaping.{shaped}
 use Rattle.at_model.specs.Edits.{class_asked, list_class, optional_class, token_kind, shape_at}
 use Rattle.at_model.specs.Edits as edit
-use Rattle.at_model.specs.Lines.{Place, Set, Put, Drop, Insert, Token, Show, Mark, Unmark, Where, Version}
-use Rattle.at_model.specs.Machine.{State, Marked, Verdict, Refuses, Tells, Leaves, changed, with_tree, with_component, with_mark, marked, is_mark, is_marked, max_marks, node_named, obeyed, path_to}
+use Rattle.at_model.specs.Lines.{Argument, Place, Set, Put, Drop, Insert, Token, Move, Show, Mark, Unmark, Where, Version, Post, Wait, last_post}
+use Rattle.at_model.specs.Machine.{State, Marked, Posted, Verdict, Refuses, Tells, Leaves, Posts, Waits, after, at_node, is_posted, marks_named, marks_used, max_posted, changed, with_tree, with_component, with_mark, marked, is_mark, is_marked, max_marks, node_named, obeyed, path_to}
 use Rattle.at_model.specs.Replies.{At, Written}
 use Rattle.at_model.specs.Replies as code
 use Rattle.at_tree.specs.PathView.{path_view}
@@ -31,13 +32,14 @@ use Rattle.at_store.specs.Checking.{IsRefused}
 use Rattle.at_store.specs.Shown.{Shown}
 use Rattle.at_store.specs.declared.edit.Refusal.{Refusal as EditRefusal}
 use Rattle.at_store.specs.declared.edit.Refusal.TheVariants as reason
-use Rattle.at_engine.specs.Following.{Follows}
+use Rattle.at_engine.specs.Following.{Follows, IsAtOnce}
 use Rattle.at_engine.specs.Holding.{state_in}
 use Rattle.at_engine.specs.Telling.{Obeys, IsComponentOf, IsToldFor, IsToldOf, IsTreeFor}
 use Rattle.at_engine.specs.declared.marks.Mark.{Mark as MarkValue}
+use Rattle.at_engine.specs.declared.posts.Posts.{Posts as PostsValue}
 use Rattle.at_engine.specs.declared.engine.editing.Obstacle.{Obstacle}
 use Rattle.at_engine.specs.declared.engine.editing.Obstacle.TheVariants as obstacle
-use Rattle.at_engine.proofs.Following.{as_verdict, refuses, tells, leaves}
+use Rattle.at_engine.proofs.Following.{as_verdict, refuses, tells, leaves, posts}
 use Rattle.at_engine.proofs.Storing.{state_stays}
 use Rattle.at_engine.proofs.Verdicts.{at_the_node, at_no_node, at_no_component, at_other_shape, at_component, at_no_class, at_misfit, at_tree, at_refusal, at_taken, at_full, at_mark}
 
@@ -83,6 +85,45 @@ module _ (rules : Rules) (s : State) (session : ℕ) where
   where_found name n p e same writable = tells rules s (obeyed rules s session (Where name)) (shown.Node p) (At (path_to rules.classes s.tree n))
       (ap (λ (o : Option Node). elim o as (λ _. Verdict) [ None ↦ Refuses code.Mark | Some n ↦ Tells (At (path_to rules.classes s.tree n)) ]) e) (ap At (sym same)) writable
 
+-- a question that is posted, or for which nobody can wait
+module _ (rules : Rules) (s : State) (session : ℕ) (place : Place) (attribute : List ℕ) (arguments : List Argument) where
+  abbrev post_of : Verdict → Bool → Bool → Verdict
+  post_of v full last = if full then Refuses code.Limit else (if last then Refuses code.Limit else v)
+
+  abbrev pub posted_next : Posted
+  posted_next = record {
+    number = s.posts + 1;
+    session = session;
+    place = place;
+    attribute = attribute;
+    arguments = arguments;
+    marks = marks_named s.marks session (marks_used (Post place attribute arguments));
+    turns = 0;
+  }
+
+  abbrev full : Bool
+  full = nat_le max_posted (count_by (λ q. nat_eq session q.session) s.posted)
+
+  pub post_full : full ≡ true → Obeys rules s session (Post place attribute arguments) (form.Refused refusal.Limit) s
+  post_full e = refuses rules s (obeyed rules s session (Post place attribute arguments)) refusal.Limit (ap (λ b. post_of (Posts posted_next) b (nat_eq s.posts last_post)) e)
+
+  pub post_last : full ≡ false → nat_eq s.posts last_post ≡ true → Obeys rules s session (Post place attribute arguments) (form.Refused refusal.Limit) s
+  post_last e f = refuses rules s (obeyed rules s session (Post place attribute arguments)) refusal.Limit (ap (λ b. post_of (Posts posted_next) b (nat_eq s.posts last_post)) e ∙ ap (post_of (Posts posted_next) false) f)
+
+  pub post_made : full ≡ false → nat_eq s.posts last_post ≡ false → (new : State) → new ≡ after s (Posts posted_next) → Obeys rules s session (Post place attribute arguments) (form.Open (s.posts + 1)) new
+  post_made e f new same = posts rules s (obeyed rules s session (Post place attribute arguments)) posted_next new (ap (λ b. post_of (Posts posted_next) b (nat_eq s.posts last_post)) e ∙ ap (post_of (Posts posted_next) false) f) same
+
+module _ (rules : Rules) (s : State) (session number : ℕ) where
+  abbrev wait_of : Bool → Verdict
+  wait_of b = if b then Waits number else Refuses code.Question
+
+  by_wait : (b : Bool) → IsAtOnce (wait_of b) → wait_of b ≡ Refuses code.Question
+  by_wait true h = absurd h
+  by_wait false h = refl
+
+  pub wait_refused : IsAtOnce (obeyed rules s session (Wait number)) → Obeys rules s session (Wait number) (form.Refused refusal.Question) s
+  wait_refused h = refuses rules s (obeyed rules s session (Wait number)) refusal.Question (by_wait (list_any (is_posted session number) s.posted) h)
+
 -- what is told where there is no tree for a term
 pub misshaped : (rules : Rules) (t : Term) (b : ℕ) (asked : Option ℕ) (g : Tree → Verdict) (s : State) (o : Obstacle) (value : FormValue) → asked ≡ Some b → IsTreeFor rules.classes t b (Err o) → IsToldOf o value → Follows rules s (with_tree rules.classes t asked g) value s
 misshaped rules t b asked g s (obstacle.Refused refusal.Class) value a h told = subst (λ (f : FormValue). Follows rules s (with_tree rules.classes t asked g) f s) (sym told) (refuses rules s (with_tree rules.classes t asked g) refusal.Class (at_no_class rules.classes t asked g h))
@@ -95,24 +136,27 @@ misshaped rules t b asked g s (obstacle.Refused refusal.Component) value a h tol
 misshaped rules t b asked g s (obstacle.Refused refusal.Index) value a h told = absurd h
 misshaped rules t b asked g s (obstacle.Refused refusal.Taken) value a h told = absurd h
 misshaped rules t b asked g s (obstacle.Refused refusal.Fixed) value a h told = absurd h
+misshaped rules t b asked g s (obstacle.Refused refusal.Inside) value a h told = absurd h
 misshaped rules t b asked g s (obstacle.Refused refusal.Limit) value a h told = absurd h
 misshaped rules t b asked g s (obstacle.Refused refusal.Attribute) value a h told = absurd h
 misshaped rules t b asked g s (obstacle.Refused refusal.Arguments) value a h told = absurd h
+misshaped rules t b asked g s (obstacle.Refused refusal.Question) value a h told = absurd h
 misshaped rules t b asked g s obstacle.Memory value a h told = absurd told
 
 -- what is told of an edit that the store refuses
 by_reason : (rules : Rules) (s new : State) (e : edit.Edit) (m : edit.Refusal) (r : Refusal) (value : FormValue) → edit.edited rules.classes s.tree e ≡ Err m → new ≡ s → value ≡ form.Refused r → changed rules.classes s e ≡ Refuses (code_view r) → Follows rules s (changed rules.classes s e) value new
 by_reason rules s new e m r value h stays told is = subst (λ (f : FormValue). Follows rules s (changed rules.classes s e) f new) (sym told) (subst (λ (x : State). Follows rules s (changed rules.classes s e) (form.Refused r) x) (sym stays) (refuses rules s (changed rules.classes s e) r is))
 
-pub edit_refused : (rules : Rules) (old : Shown) (version : ℕ) (ms : List MarkValue) (e : edit.Edit) (new : Shown) (r : EditRefusal) (value : FormValue) → IsRefused rules.classes old e new r → IsToldFor r value
-    → Follows rules (state_in old version ms) (changed rules.classes (state_in old version ms) e) value (state_in new version ms)
-edit_refused rules old version ms e new reason.Component value h told = elim h.reason [ inl f ↦ absurd cc | inr f ↦ by_reason rules (state_in old version ms) _ e edit.Component refusal.Component value f (state_stays old new version ms h.numbers_stay h.tree_stays) told (at_refusal rules.classes (state_in old version ms) e edit.Component f) ]
-edit_refused rules old version ms e new reason.Fit value h told = elim h.reason [ inl f ↦ absurd cc | inr f ↦ by_reason rules (state_in old version ms) _ e edit.Fit refusal.Fit value f (state_stays old new version ms h.numbers_stay h.tree_stays) told (at_refusal rules.classes (state_in old version ms) e edit.Fit f) ]
-edit_refused rules old version ms e new reason.Index value h told = elim h.reason [ inl f ↦ absurd cc | inr f ↦ by_reason rules (state_in old version ms) _ e edit.Index refusal.Index value f (state_stays old new version ms h.numbers_stay h.tree_stays) told (at_refusal rules.classes (state_in old version ms) e edit.Index f) ]
-edit_refused rules old version ms e new reason.Taken value h told = elim h.reason [ inl f ↦ absurd cc | inr f ↦ by_reason rules (state_in old version ms) _ e edit.Taken refusal.Taken value f (state_stays old new version ms h.numbers_stay h.tree_stays) told (at_refusal rules.classes (state_in old version ms) e edit.Taken f) ]
-edit_refused rules old version ms e new reason.Fixed value h told = elim h.reason [ inl f ↦ absurd cc | inr f ↦ by_reason rules (state_in old version ms) _ e edit.Fixed refusal.Fixed value f (state_stays old new version ms h.numbers_stay h.tree_stays) told (at_refusal rules.classes (state_in old version ms) e edit.Fixed f) ]
-edit_refused rules old version ms e new reason.Limit value h told = elim h.reason [ inl f ↦ absurd cc | inr f ↦ by_reason rules (state_in old version ms) _ e edit.Limit refusal.Limit value f (state_stays old new version ms h.numbers_stay h.tree_stays) told (at_refusal rules.classes (state_in old version ms) e edit.Limit f) ]
-edit_refused rules old version ms e new reason.Memory value h told = absurd told
+pub edit_refused : (rules : Rules) (old : Shown) (version : ℕ) (ms : List MarkValue) (ps : PostsValue) (e : edit.Edit) (new : Shown) (r : EditRefusal) (value : FormValue) → IsRefused rules.classes old e new r → IsToldFor r value
+    → Follows rules (state_in old version ms ps) (changed rules.classes (state_in old version ms ps) e) value (state_in new version ms ps)
+edit_refused rules old version ms ps e new reason.Component value h told = elim h.reason [ inl f ↦ absurd cc | inr f ↦ by_reason rules (state_in old version ms ps) _ e edit.Component refusal.Component value f (state_stays old new version ms ps h.numbers_stay h.tree_stays) told (at_refusal rules.classes (state_in old version ms ps) e edit.Component f) ]
+edit_refused rules old version ms ps e new reason.Fit value h told = elim h.reason [ inl f ↦ absurd cc | inr f ↦ by_reason rules (state_in old version ms ps) _ e edit.Fit refusal.Fit value f (state_stays old new version ms ps h.numbers_stay h.tree_stays) told (at_refusal rules.classes (state_in old version ms ps) e edit.Fit f) ]
+edit_refused rules old version ms ps e new reason.Index value h told = elim h.reason [ inl f ↦ absurd cc | inr f ↦ by_reason rules (state_in old version ms ps) _ e edit.Index refusal.Index value f (state_stays old new version ms ps h.numbers_stay h.tree_stays) told (at_refusal rules.classes (state_in old version ms ps) e edit.Index f) ]
+edit_refused rules old version ms ps e new reason.Taken value h told = elim h.reason [ inl f ↦ absurd cc | inr f ↦ by_reason rules (state_in old version ms ps) _ e edit.Taken refusal.Taken value f (state_stays old new version ms ps h.numbers_stay h.tree_stays) told (at_refusal rules.classes (state_in old version ms ps) e edit.Taken f) ]
+edit_refused rules old version ms ps e new reason.Fixed value h told = elim h.reason [ inl f ↦ absurd cc | inr f ↦ by_reason rules (state_in old version ms ps) _ e edit.Fixed refusal.Fixed value f (state_stays old new version ms ps h.numbers_stay h.tree_stays) told (at_refusal rules.classes (state_in old version ms ps) e edit.Fixed f) ]
+edit_refused rules old version ms ps e new reason.Inside value h told = elim h.reason [ inl f ↦ absurd cc | inr f ↦ by_reason rules (state_in old version ms ps) _ e edit.Inside refusal.Inside value f (state_stays old new version ms ps h.numbers_stay h.tree_stays) told (at_refusal rules.classes (state_in old version ms ps) e edit.Inside f) ]
+edit_refused rules old version ms ps e new reason.Limit value h told = elim h.reason [ inl f ↦ absurd cc | inr f ↦ by_reason rules (state_in old version ms ps) _ e edit.Limit refusal.Limit value f (state_stays old new version ms ps h.numbers_stay h.tree_stays) told (at_refusal rules.classes (state_in old version ms ps) e edit.Limit f) ]
+edit_refused rules old version ms ps e new reason.Memory value h told = absurd told
 
 -- edits at the node that a place names
 module _ (rules : Rules) (s : State) (session : ℕ) (place : Place) where
@@ -154,6 +198,31 @@ module _ (rules : Rules) (s : State) (session : ℕ) (place : Place) where
 
     pub token_as : (part : List ℕ) (v : TokenOf) → Follows rules s (with_component rules.classes s.tree n part token_kind (λ p kind. changed rules.classes s (edit.Token n p v))) value new → Obeys rules s session (Token place part v) value new
     token_as part v f = as_verdict rules s _ _ value new (at_the_node rules.classes s session place (λ n. with_component rules.classes s.tree n part token_kind (λ p kind. changed rules.classes s (edit.Token n p v))) n named) f
+
+-- a move, of which two places say where
+module _ (rules : Rules) (s : State) (session : ℕ) (place to : Place) (part : List ℕ) (index : ℕ) where
+  abbrev placed_in : Node → Node → Verdict
+  placed_in n m = with_component rules.classes s.tree m part list_class (λ p b. changed rules.classes s (edit.Move n m p index))
+
+  abbrev placed_from : Node → Verdict
+  placed_from n = at_node rules.classes s session to (placed_in n)
+
+  pub move_nowhere : node_named rules.classes s session place ≡ None → Obeys rules s session (Move place to part index) (form.Refused refusal.Path) s
+  move_nowhere e = refuses rules s (obeyed rules s session (Move place to part index)) refusal.Path (at_no_node rules.classes s session place placed_from e)
+
+  module _ (n : Node) (named : node_named rules.classes s session place ≡ Some n) where
+    pub move_to_nowhere : node_named rules.classes s session to ≡ None → Obeys rules s session (Move place to part index) (form.Refused refusal.Path) s
+    move_to_nowhere e = refuses rules s (obeyed rules s session (Move place to part index)) refusal.Path (at_the_node rules.classes s session place placed_from n named ∙ at_no_node rules.classes s session to (placed_in n) e)
+
+    module _ (m : Node) (target : node_named rules.classes s session to ≡ Some m) where
+      move_in : obeyed rules s session (Move place to part index) ≡ with_component rules.classes s.tree m part list_class (λ p b. changed rules.classes s (edit.Move n m p index))
+      move_in = at_the_node rules.classes s session place placed_from n named ∙ at_the_node rules.classes s session to (placed_in n) m target
+
+      pub move_as : (value : FormValue) (new : State) → Follows rules s (with_component rules.classes s.tree m part list_class (λ p b. changed rules.classes s (edit.Move n m p index))) value new → Obeys rules s session (Move place to part index) value new
+      move_as value new f = as_verdict rules s _ _ value new move_in f
+
+      pub move_is : (p : ℕ) (shape : PartShape) (b : ℕ) → IsComponentOf rules.classes s.tree m part (Some (p, shape)) → list_class (shape_view shape) ≡ Some b → obeyed rules s session (Move place to part index) ≡ changed rules.classes s (edit.Move n m p index)
+      move_is p shape b there e = move_in ∙ at_component rules.classes s.tree m part list_class (λ p b. changed rules.classes s (edit.Move n m p index)) p b there.0 (ap (option_and_then list_class) there.1 ∙ e)
 
 -- at a component that is there, or isn't
 module _ {A : Type 0} (rules : Rules) (s : State) (n : Node) (name : List ℕ) (wanted : Shape → Option A) (g : ℕ → A → Verdict) where

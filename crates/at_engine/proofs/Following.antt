@@ -6,8 +6,8 @@ use Rattle.at_model.specs.Run.{Instance}
 use Rattle.at_model.specs.Rules.{Rules}
 use Rattle.at_model.specs.Meaning.{Answer}
 use Rattle.at_model.specs.Edits.{Edit}
-use Rattle.at_model.specs.Machine.{State, Marked, Verdict, Refuses, Tells, Leaves, Edits, Asks, AnswersIn, after, answer_form}
-use Rattle.at_model.specs.Replies.{Done, Shows, Refused, Shown}
+use Rattle.at_model.specs.Machine.{State, Marked, Verdict, Posted, Refuses, Tells, Leaves, Edits, Asks, Posts, AnswersIn, after, answer_form}
+use Rattle.at_model.specs.Replies.{Done, Opened, Shows, Refused, Shown}
 use Rattle.at_protocol.specs.ReplyView.{IsShown, code_view}
 use Rattle.at_protocol.specs.Writable.{IsShownWritable}
 use Rattle.at_protocol.specs.declared.reply.Refusal.{Refusal}
@@ -35,3 +35,6 @@ module _ (rules : Rules) where
 
   pub asks : (s : State) (v : Verdict) (q : Instance Node) (a : Answer Node) (f : FormValue) → v ≡ Asks q → AnswersIn rules s.tree q a → IsToldAs rules s.tree a f → Follows rules s v f s
   asks s v q a f e answers told = as_verdict s v (Asks q) f s e (record { form = answer_form rules s.tree a; is_form = told.is_form; says = (a, answers, refl); state = refl; writable = told.writable; kept = λ long. refl })
+
+  pub posts : (s : State) (v : Verdict) (q : Posted) (new : State) → v ≡ Posts q → new ≡ after s (Posts q) → Follows rules s v (form.Open q.number) new
+  posts s v q new is state = as_verdict s v (Posts q) (form.Open q.number) new is (record { form = Opened q.number; is_form = refl; says = refl; state = state; writable = tt; kept = λ long. absurd (long tt) })

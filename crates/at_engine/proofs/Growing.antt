@@ -5,7 +5,7 @@ use Rattle.at_model.specs.Paths.{Node}
 use Rattle.at_model.specs.Run.{Instance}
 use Rattle.at_model.specs.Rules.{Rules}
 use Rattle.at_model.specs.Edits.{Edit as EditOf}
-use Rattle.at_model.specs.Machine.{State, Verdict, Refuses, Tells, Leaves, Edits, Asks}
+use Rattle.at_model.specs.Machine.{State, Verdict, Refuses, Tells, Leaves, Edits, Asks, Posts, Waits}
 use Rattle.at_model.specs.Sparing.{KeptAfter, IsWork}
 use Rattle.at_engine.specs.KeptOver.{Grows, IsWorthFor}
 
@@ -40,6 +40,8 @@ pub kept_grows : (rules : Rules) (s : State) (v : Verdict) (before after : Insta
 kept_grows rules s (Refuses refusal) before after w x more none kept work grows = unworked _ before after w x more kept work grows
 kept_grows rules s (Tells shown) before after w x more none kept work grows = unworked _ before after w x more kept work grows
 kept_grows rules s (Leaves marks) before after w x more none kept work grows = unworked _ before after w x more kept work grows
+kept_grows rules s (Posts q) before after w x more none kept work grows = unworked _ before after w x more kept work grows
+kept_grows rules s (Waits number) before after w x more none kept work grows = unworked _ before after w x more kept work grows
 kept_grows rules s (Edits e t) before after w x more none kept work grows = absurd (none e t refl)
 kept_grows rules s (Asks q) before after w x more none kept (added, a, size) grows = record {
   stays = λ j h. (kept j).1 (inl h);

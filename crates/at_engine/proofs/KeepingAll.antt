@@ -3,7 +3,7 @@ use Rattle.std.proofs.Common.{◌≡◌, ◌↔◌, ℕ, ◌+◌, ◌-◌, ◌^�
 use Rattle.at_model.specs.Paths.{Node}
 use Rattle.at_model.specs.Run.{Instance}
 use Rattle.at_model.specs.Rules.{Rules}
-use Rattle.at_model.specs.Machine.{State, Verdict, Refuses, Tells, Leaves, Edits, Asks, after}
+use Rattle.at_model.specs.Machine.{State, Verdict, Refuses, Tells, Leaves, Edits, Asks, Posts, Waits, after}
 use Rattle.at_model.specs.Sparing.{KeptAfter, IsWork}
 use Rattle.at_engine.specs.KeptOver.{HasVerdict, HaveVerdicts, after_all, KeptAfterAll, IsWorkOfAll, KeepsLines}
 
@@ -15,6 +15,8 @@ same_after : (rules : Rules) (s : State) (v : Verdict) (Old New : Instance Node 
 same_after rules s (Refuses refusal) Old New same j = same j
 same_after rules s (Tells shown) Old New same j = same j
 same_after rules s (Leaves marks) Old New same j = same j
+same_after rules s (Posts q) Old New same j = same j
+same_after rules s (Waits number) Old New same j = same j
 same_after rules s (Edits e t) Old New same j = (
   λ (i, kept, untouched, like). (i, (same i).0 kept, untouched, like),
   λ (i, kept, untouched, like). (i, (same i).1 kept, untouched, like),
@@ -28,6 +30,8 @@ same_work : (rules : Rules) (s : State) (v : Verdict) (Old New : Instance Node �
 same_work rules s (Refuses refusal) Old New work same w = w
 same_work rules s (Tells shown) Old New work same w = w
 same_work rules s (Leaves marks) Old New work same w = w
+same_work rules s (Posts q) Old New work same w = w
+same_work rules s (Waits number) Old New work same w = w
 same_work rules s (Edits e t) Old New work same w = w
 same_work rules s (Asks q) Old New work same (added, a, size) = (
   added,

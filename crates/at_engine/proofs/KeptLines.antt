@@ -1,5 +1,5 @@
 -- A line is served as what is kept of it is: a line that is too long says no more than its session.
-use Rattle.std.proofs.Common.{◌≡◌, ℕ, zero, suc, ◌+◌, ◌-◌, ◌≤◌, ◌<◌, ◌⊎◌, List, [], ◌∷◌, ◌++◌, length, take, drop, sym, ap, ◌∙◌, arith, inl, inr, Bool, true, false, append_assoc, length-append, subst, Option, Some, None, decimal}
+use Rattle.std.proofs.Common.{◌≡◌, ℕ, zero, suc, ◌+◌, ◌-◌, ◌≤◌, ◌<◌, ◌⊎◌, List, [], ◌∷◌, ◌++◌, length, take, drop, sym, ap, ◌∙◌, arith, inl, inr, Bool, false, append_assoc, length-append, subst, Option, Some, None, decimal}
 use Rattle.std.proofs.lemmas.List.{take-append-drop}
 use Rattle.std.proofs.Math.Seq.{take-append-add}
 use Rattle.std.proofs.lemmas.Fmt.{length-decimal-le_succ}
@@ -7,7 +7,8 @@ use Rattle.std.proofs.lemmas.Bool.{cases_lt}
 use Rattle.at_model.specs.Rules.{Rules}
 use Rattle.at_model.specs.Lines.{Line, Spells, BeginsWith, IsSpaceOrEnd, IsSessionOf}
 use Rattle.at_model.specs.Replies.{Reply}
-use Rattle.at_model.specs.Machine.{State, Handles, obeys, refuses, Serves}
+use Rattle.at_model.specs.Effects.{is_post}
+use Rattle.at_model.specs.Machine.{State, Handles, obeys, waits, refuses, Serves, handles, runs_out}
 use Rattle.at_engine.specs.Loop.{kept}
 use Rattle.at_engine.proofs.Kept.{kept-short, length-kept}
 
@@ -54,22 +55,26 @@ session_kept line None long none = λ session b. none session (long_begun 65536 
 too_long : (line : List ℕ) → 65536 ≤ length line → (l : Line) → Spells line l → ⊥
 too_long line long l s = omega (arith, long, s.short)
 
-handles_kept : (rules : Rules) (old new : State) (line : List ℕ) (reply : Reply) → 65536 ≤ length line
-    → Handles rules old (kept line) new reply → Handles rules old line new reply
-handles_kept rules old new line reply long (obeys l s step) = absurd (omega (arith, length-kept line long, s.short))
-handles_kept rules old new line reply long (refuses none session state form) = refuses (too_long line long) (session_kept line reply.session long session) state form
+handles_kept : (rules : Rules) (old new : State) (line : List ℕ) (said : Bool × Reply) → 65536 ≤ length line → Handles rules old (kept line) new said → Handles rules old line new said
+handles_kept rules old new line _ long (obeys l s step) = absurd (omega (arith, length-kept line long, s.short))
+handles_kept rules old new line said long (waits l number s is answered) = absurd (omega (arith, length-kept line long, s.short))
+handles_kept rules old _ line _ long (refuses {session = session} none is) = refuses (too_long line long) (session_kept line session long is)
 
-long_serves : (rules : Rules) (wants : Bool) (old new : State) (line : List ℕ) (reply : Reply) → 65536 ≤ length line
-    → Serves rules wants old (kept line) new reply → Serves rules wants old line new reply
-long_serves rules false old new line reply long s = handles_kept rules old new line reply long s
-long_serves rules true old new line reply long s = (session_kept line reply.session long s.0, s.1, s.2)
+long_serves : (rules : Rules) (old new : State) (line : List ℕ) (said : Bool × Reply) → 65536 ≤ length line → Serves rules old (kept line) new said → Serves rules old line new said
+long_serves rules old new line said long (handles h) = handles (handles_kept rules old new line said long h)
+long_serves rules old _ line _ long (runs_out {session = session} is) = runs_out (session_kept line session long is)
 
-serves_by_length : (rules : Rules) (wants : Bool) (old new : State) (line : List ℕ) (reply : Reply) → (length line < 65536) ⊎ (65536 ≤ length line)
-    → Serves rules wants old (kept line) new reply → Serves rules wants old line new reply
-serves_by_length rules wants old new line reply (inl h) s =
-    let short : length line ≤ 65536 = omega arith in subst (λ (l : List ℕ). Serves rules wants old l new reply) (kept-short line short) s
-serves_by_length rules wants old new line reply (inr h) s = long_serves rules wants old new line reply h s
+pub serves_kept : (rules : Rules) (old new : State) (line : List ℕ) (said : Bool × Reply) → Serves rules old (kept line) new said → Serves rules old line new said
+serves_kept rules old new line said s = by (cases_lt (length line) 65536)
+  where
+    by : (length line < 65536) ⊎ (65536 ≤ length line) → Serves rules old line new said
+    by (inl below) = let short : length line ≤ 65536 = omega arith in subst (λ (l : List ℕ). Serves rules old l new said) (kept-short line short) s
+    by (inr long) = long_serves rules old new line said long s
 
-pub serves_kept : (rules : Rules) (wants : Bool) (old new : State) (line : List ℕ) (reply : Reply)
-    → Serves rules wants old (kept line) new reply → Serves rules wants old line new reply
-serves_kept rules wants old new line reply s = serves_by_length rules wants old new line reply (cases_lt (length line) 65536) s
+-- where a line posts no question, what is kept of it posts none
+pub posts_kept : (line : List ℕ) → ((l : Line) → Spells line l → is_post l.command ≡ false) → (l : Line) → Spells (kept line) l → is_post l.command ≡ false
+posts_kept line none l s = by (cases_lt (length line) 65536)
+  where
+    by : (length line < 65536) ⊎ (65536 ≤ length line) → is_post l.command ≡ false
+    by (inl below) = let short : length line ≤ 65536 = omega arith in none l (subst (λ (b : List ℕ). Spells b l) (kept-short line short) s)
+    by (inr long) = absurd (omega (arith, length-kept line long, s.short))

@@ -20,6 +20,7 @@ pub mod Pieces
 pub mod Progressing
 pub mod Remembering
 pub mod Takings
+pub mod Giving
 pub mod Runnings
 pub mod Telling
 pub mod Sessions
@@ -32,3 +33,17 @@ pub mod Gained
 pub mod Keeping
 pub mod KeepingBytes
 pub mod Typing
+pub mod Positions
+pub mod Numberings
+pub mod Wordings
+pub mod Turnings
+pub mod Openings
+pub mod Copying
+pub mod Trying
+pub mod Opened
+pub mod Beginning
+pub mod Finishing
+pub mod Reading
+pub mod Bounding
+pub mod Awaiting
+pub mod Settling

@@ -1,19 +1,19 @@
 -- Numbers of nodes that are named.
-use Rattle.std.proofs.Common.{◌≡◌, ℕ, Bool, true, false, cond, List, [], ◌∷◌, ◌++◌, Option, Some, None, is_some, option_and_then, option_map, refl, sym, ap, ◌∙◌, subst}
-use Rattle.std.specs.List.{slice_get, find}
+use Rattle.std.proofs.Common.{◌≡◌, ℕ, Bool, true, false, ◌&&◌, cond, List, [], ◌∷◌, ◌++◌, Option, Some, None, is_some, option_and_then, option_map, refl, sym, ap, ◌∙◌, subst}
+use Rattle.std.specs.List.{slice_get, find, list_all}
 use Rattle.std.specs.Option.{unwrap_or}
 use Rattle.at_model.specs.Classes.{Classes, parts, class_in}
 use Rattle.at_model.specs.Trees.{Tree, class_of, conforms}
 use Rattle.at_model.specs.Paths.{Node, Path, Step, node_at, path_of, tree_at, children_at, step_of, index_in}
 use Rattle.at_model.specs.Run.{Is}
 use Rattle.at_model.specs.Lines.{Place, From_root, From_mark}
-use Rattle.at_model.specs.Machine.{State, Marked, node_below, node_named, path_to, marked}
+use Rattle.at_model.specs.Machine.{State, node_below, node_named, path_to, is_marked, marked}
 use Rattle.at_model.proofs.Options.{led}
 use Rattle.at_model.proofs.Complete.{child_conforms}
 use Rattle.at_store.specs.Led.{Led}
 use Rattle.at_store.specs.Shown.{Shown, contents, numbers, path, tree}
 use Rattle.at_store.proofs.Reading.{shown_there}
-use Rattle.at_engine.specs.Marks.{AreThere, is_named, marks_view, number_marked}
+use Rattle.at_engine.specs.Marks.{AreThere, has_mark, is_named, marks_view, number_marked}
 use Rattle.at_engine.specs.Naming.{IsNumberOf, origin_of, steps_of}
 use Rattle.at_engine.specs.declared.marks.Mark.{Mark}
 use Rattle.at_engine.proofs.Marked.{marked_found, path_there}
@@ -38,14 +38,13 @@ below_led : (classes : Classes) (s : Shown) (n : Node) (u : Tree) (steps : Path)
 below_led classes s n u steps None at' h = ap (option_and_then (λ v. option_map (λ ss. n ++ ss) (node_at classes v steps))) at' ∙ ap (option_map (λ ss. n ++ ss)) h
 below_led classes s n u steps (Some k) at' h = (n ++ h.0, ap (option_and_then (λ v. option_map (λ ss. n ++ ss) (node_at classes v steps))) at' ∙ ap (option_map (λ ss. n ++ ss)) h.1, h.2)
 
-pub named_led : (classes : Classes) (s : Shown) (version : ℕ) (marks : List Marked) (session : ℕ) (place : Place) (k : ℕ) (r : Option ℕ)
-    → IsNumberOf s (origin_of (record { tree = tree s; version = version; marks = marks }) session place) (Some k)
+pub named_led : (classes : Classes) (s : Shown) (st : State) → st.tree ≡ tree s → (session : ℕ) (place : Place) (k : ℕ) (r : Option ℕ)
+    → IsNumberOf s (origin_of st session place) (Some k)
     → ((n : Node) (u : Tree) → path s k ≡ Some n → tree_at (tree s) n ≡ Some u → Led (numbers s) classes n u (steps_of place) r)
-    → IsNumberOf s (node_named classes (record { tree = tree s; version = version; marks = marks }) session place) r
-named_led classes s version marks session place k r (n, origin, p) led_to =
+    → IsNumberOf s (node_named classes st session place) r
+named_led classes s st same session place k r (n, origin, p) led_to =
     let (u, at') = tree_there s k n p in
-    let st : State = record { tree = tree s; version = version; marks = marks } in
-    subst (λ (o : Option Node). IsNumberOf s o r) (sym (named_is classes st session place ∙ ap (option_and_then (node_below classes (tree s) (steps_of place))) origin)) (below_led classes s n u (steps_of place) r at' (led_to n u p at'))
+    subst (λ (o : Option Node). IsNumberOf s o r) (sym (named_is classes st session place ∙ ap (λ (t : Tree). option_and_then (node_below classes t (steps_of place)) (origin_of st session place)) same ∙ ap (option_and_then (node_below classes (tree s) (steps_of place))) origin)) (below_led classes s n u (steps_of place) r at' (led_to n u p at'))
 
 -- the number of a mark is that of its node
 by_number : (s : Shown) (look : Option ℕ) (o : Option Node) → o ≡ option_and_then (path s) look → ((k : ℕ) → look ≡ Some k → is_some (path s k) ≡ true) → IsNumberOf s o look
@@ -91,3 +90,8 @@ path_written classes t b (way ∷ ways) u ok found =
 
 pub path_to_is : (classes : Classes) (t : Tree) (n : Node) (p : Path) → path_of classes t n ≡ Some p → path_to classes t n ≡ p
 path_to_is classes t n p e = ap (λ (o : Option Path). unwrap_or o []) e
+
+-- the session has just the marks that it has in the state
+pub all_marked : (s : Shown) (session : ℕ) (ms : List Mark) → AreThere (path s) ms → (names : List (List ℕ)) → list_all (has_mark ms session) names ≡ list_all (is_marked (marks_view (path s) ms) session) names
+all_marked s session ms h [] = refl
+all_marked s session ms h (name ∷ names) = ap (λ b. b && list_all (has_mark ms session) names) (marked_as s session name ms h) ∙ ap (λ b. is_marked (marks_view (path s) ms) session name && b) (all_marked s session ms h names)

@@ -1,5 +1,5 @@
 -- Bytes cut at newlines, piece by piece.
-use Rattle.std.proofs.Common.{◌≡◌, ℕ, suc, ◌+◌, ◌<◌, ◌≤◌, Bool, true, false, cond, nat_eq, List, [], ◌∷◌, ◌++◌, length, get_or, take, drop, filter, None, Some, refl, sym, ap, ◌∙◌, append_assoc, append-nil, subst, arith}
+use Rattle.std.proofs.Common.{◌≡◌, ℕ, suc, ◌+◌, ◌<◌, ◌≤◌, Bool, true, false, cond, nat_eq, List, [], ◌∷◌, ◌++◌, length, get_or, take, drop, filter, None, Some, refl, sym, ap, ◌∙◌, append_assoc, append-nil, arith}
 use Rattle.std.specs.List.{position_or_len}
 use Rattle.std.proofs.lemmas.Bool.Decides.{nat_tests}
 use Rattle.std.proofs.lemmas.Grind.{common_steps}
@@ -7,9 +7,6 @@ use Rattle.std.proofs.lemmas.List.{get_or-take, length-take, take-append-drop, t
 use Rattle.std.proofs.lemmas.List.Quantifiers.{position-Some}
 use Rattle.std.proofs.lemmas.List.Sums.{fails_before_first}
 use Rattle.at_model.specs.Lines.{pieces, onto_first}
-use Rattle.at_model.specs.Rules.{Rules}
-use Rattle.at_model.specs.Replies.{reply_text}
-use Rattle.at_model.specs.Machine.{State, Runs}
 use Rattle.at_engine.specs.Loop.{Splits, IsOpen, newline_at}
 
 -- the first piece goes on these bytes
@@ -111,13 +108,3 @@ filter-append test (x ∷ xs) ys = elim (test x) as (λ t. cond t (x ∷ filter 
   | true ↦ ap (λ l. x ∷ l) (filter-append test xs ys)
   | false ↦ filter-append test xs ys
 ]
-
--- one run and then another
-pub runs-append : (rules : Rules) (old mid new : State) (ls ms : List (List ℕ)) (ks js : List Bool) (text more : List ℕ)
-    → Runs rules old ls ks text mid → Runs rules mid ms js more new → Runs rules old (ls ++ ms) (ks ++ js) (text ++ more) new
-runs-append rules old mid new [] ms [] js text more r s =
-    subst (λ (o : List ℕ). Runs rules old ms js (o ++ more) new) (sym r.0) (subst (λ (a : State). Runs rules a ms js more new) r.1 s)
-runs-append rules old mid new [] ms (k ∷ ks) js text more r s = absurd r
-runs-append rules old mid new (l ∷ ls) ms [] js text more r s = absurd r
-runs-append rules old mid new (l ∷ ls) ms (k ∷ ks) js text more (a, reply, rest, served, e, runs) s =
-    (a, reply, rest ++ more, served, ap (λ o. o ++ more) e ∙ append_assoc (reply_text reply) rest more, runs-append rules a mid new ls ms ks js rest more runs s)

@@ -1,18 +1,16 @@
 -- What is told of a line is a reply to it.
-use Rattle.std.proofs.Common.{◌≡◌, ℕ, true, false, List, Option, Some, refl}
+use Rattle.std.proofs.Common.{◌≡◌, ℕ, true, false, List, Option, None, refl}
 use Rattle.std.specs.List.{list_all}
 use Rattle.at_model.specs.Rules.{Rules}
 use Rattle.at_model.specs.Lines.{Spells, IsSessionOf, Line}
-use Rattle.at_model.specs.Machine.{State, is_stale, is_marked, marks_used, obeyed, verdict, obeys}
+use Rattle.at_model.specs.Machine.{State, is_stale, is_marked, marks_used, obeyed, verdict}
 use Rattle.at_model.specs.Machine as machine
 use Rattle.at_model.specs.Replies.{Refused}
 use Rattle.at_model.specs.Replies as code
-use Rattle.at_protocol.specs.LineView.{line_view}
-use Rattle.at_protocol.specs.declared.line.Line.{Line as LineValue}
 use Rattle.at_protocol.specs.declared.reply.Refusal.TheVariants as refusal
 use Rattle.at_protocol.specs.declared.reply.Form.{Form as FormValue}
 use Rattle.at_protocol.specs.declared.reply.Form.TheVariants as form
-use Rattle.at_engine.specs.Telling.{Obeys, Meets, Told}
+use Rattle.at_engine.specs.Telling.{IsTold, Obeys, Meets}
 use Rattle.at_engine.proofs.Following.{as_verdict, refuses}
 use Rattle.at_engine.proofs.Verdicts.{at_stale, at_unmarked, at_obeyed}
 
@@ -26,22 +24,12 @@ module _ (rules : Rules) (s : State) (l : Line) where
   pub meets_obeyed : is_stale l.expected s.version ≡ false → list_all (is_marked s.marks l.session) (marks_used l.command) ≡ true → (value : FormValue) (new : State) → Obeys rules s l.session l.command value new → Meets rules s l value new
   meets_obeyed e f value new o = as_verdict rules s (verdict rules s l) (obeyed rules s l.session l.command) value new (at_obeyed rules s l e f) o
 
--- what a line is told is a reply to it
-pub told : (rules : Rules) (old : State) (bytes : List ℕ) (l : LineValue) (new : State) (f : FormValue) → Spells bytes (line_view l) → Meets rules old (line_view l) f new → Told rules old bytes new (Some l.session) f
-told rules old bytes l new f spells m = record {
-  writable = m.writable;
-  form = m.form;
-  is_form = m.is_form;
-  handles = obeys (line_view l) spells (record { session = refl; state = m.state; says = m.says });
-  kept = m.kept;
-}
-
 -- bytes that are no line are refused
-pub told_unread : (rules : Rules) (s : State) (bytes : List ℕ) (session : Option ℕ) → ((l : Line) → Spells bytes l → ⊥) → IsSessionOf bytes session → Told rules s bytes s session (form.Refused refusal.Syntax)
+pub told_unread : (rules : Rules) (s : State) (bytes : List ℕ) (session : Option ℕ) → ((l : Line) → Spells bytes l → ⊥) → IsSessionOf bytes session → IsTold rules s bytes s session None (form.Refused refusal.Syntax)
 told_unread rules s bytes session none is = record {
   writable = tt;
   form = Refused code.Syntax;
   is_form = refl;
-  handles = machine.refuses none is refl refl;
-  kept = λ long. refl;
+  serves = machine.handles (machine.refuses none is);
+  unsaid = λ long. machine.runs_out is;
 }

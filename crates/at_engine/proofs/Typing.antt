@@ -50,11 +50,7 @@ numbered_typed rules s i j like well =
       arguments = any_texts rules.classes (class_shown s) (IsGiven rules (tree s) j.arguments) i.arguments w.declaration.parameters w.arguments;
     }
 
--- after a line that was served, and where the state is as it was
-pub typed_served : (rules later : Rules) (wants : Bool) (old new : State) (line : List ℕ) (reply : Reply) → IsTyped rules old → later ≡ rules → Serves rules wants old line new reply → IsTyped later new
-typed_served rules later wants old new line reply typed same serves =
-    subst (λ r. IsTyped r new) (sym same) (record { formed = typed.formed; tokens = tokens_served rules wants old line new reply typed.tokens serves })
-
-pub typed_still : (rules later : Rules) (old new : State) → IsTyped rules old → later ≡ rules → new ≡ old → IsTyped later new
-typed_still rules later old new typed same state =
-    subst (λ r. IsTyped r new) (sym same) (subst (λ s. IsTyped rules s) (sym state) typed)
+-- after a line that was served
+pub typed_served : (rules later : Rules) (said : Bool × Reply) (old new : State) (line : List ℕ) → IsTyped rules old → later ≡ rules → Serves rules old line new said → IsTyped later new
+typed_served rules later said old new line typed same serves =
+    subst (λ r. IsTyped r new) (sym same) (record { formed = typed.formed; tokens = tokens_served rules old line new said typed.tokens serves })

@@ -1,20 +1,22 @@
 -- What an engine does to what is kept, and to the work, by the paths of nodes.
-use Rattle.std.specs.Prelude.{◌≡◌, ℕ, Bool, true, false, List, [], ◌∷◌, ◌++◌, filter, Option, Result, Ok, Err}
-use Rattle.std.specs.Io.KnownBytes.{Consumes}
+use Rattle.std.specs.Prelude.{◌≡◌, ℕ, Bool, true, false, List, [], ◌∷◌, ◌++◌, Option, Some, None, Result, Ok, Err}
+use Rattle.std.specs.List.{AllByRecursion}
 use Rattle.at_model.specs.Paths.{Node}
-use Rattle.at_model.specs.Run.{Instance}
-use Rattle.at_model.specs.Lines.{is_filled, lines}
+use Rattle.at_model.specs.Rules.{Rules}
+use Rattle.at_model.specs.Run.{Contents, Instance}
 use Rattle.at_model.specs.Machine.{Verdict, Serves, after}
 use Rattle.at_model.specs.Replies.{Reply, reply_text}
 use Rattle.at_store.specs.Shown.{contents}
 use Rattle.at_cache.specs.Kept.{Entries}
 use Rattle.at_demand.specs.Sparing.{AreSpare}
 use Rattle.at_demand.specs.Called.{KeptBy, Keeps}
+use Rattle.at_demand.specs.Turns.{IsSparingTurns}
+use Rattle.at_demand.specs.declared.question.Question.{Question}
 use Rattle.at_engine.specs.Engines.{rules_of, state_of}
-use Rattle.at_engine.specs.KeptOver.{Grows, HasVerdict, IsWorthFor, IsWorthIn, KeepsLines}
-use Rattle.at_engine.specs.Loop.{IsOpen, Splits, kept}
+use Rattle.at_engine.specs.Following.{IsAtOnce}
+use Rattle.at_engine.specs.KeptOver.{AreWaiting, Grows, HasVerdict, IsWorthFor, IsWorthIn}
 use Rattle.at_engine.specs.declared.engine.Engine.{Engine}
-use Rattle.at_engine.specs.declared.stream.desk.Desk.{Desk}
+use Rattle.at_engine.specs.declared.posts.Posted.{Posted}
 
 -- the kept instances, with the path of each node
 abbrev pub kept_of : {K : Type 0} → (entries : K → Entries) → Engine K → Instance Node → Type 0
@@ -24,9 +26,18 @@ kept_of entries e = KeptBy e.store (entries e.demand.keeper)
 abbrev pub work_of : {K : Type 0} → Engine K → ℕ
 work_of e = e.demand.work
 
--- what is kept is spare
+-- nothing else stands with what was done for the question than what its evaluations come to
+abbrev pub IsSparingOn : Rules → Contents ℕ → Entries → Option Question → Type 0
+IsSparingOn rules look entries None = Unit {0}
+IsSparingOn rules look entries (Some q) = IsSparingTurns rules look entries q
+
+-- what is kept is spare, and so is what was done for open questions
+pub record IsSpareWith (rules : Rules) (look : Contents ℕ) (entries : Entries) (posted : List Posted) : Type 0 where
+  pub kept : AreSpare rules look entries
+  pub posted' : AllByRecursion (λ p. IsSparingOn rules look entries p.question) posted
+
 abbrev pub IsSpare : {K : Type 0} → (entries : K → Entries) → Engine K → Type 0
-IsSpare entries e = AreSpare e.rules (contents e.store) (entries e.demand.keeper)
+IsSpare entries e = IsSpareWith e.rules (contents e.store) (entries e.demand.keeper) e.posts.items.items
 
 -- just what the verdict leaves and adds is kept, and the work grows by its work
 abbrev pub KeepsOver : {K : Type 0} → (entries : K → Entries) → Verdict → (old new : Engine K) → Type 0
@@ -41,6 +52,10 @@ abbrev pub Spares : {K T E : Type 0} → (entries : K → Entries) → Verdict �
 Spares entries v (Ok x) old new = IsSpare entries new × KeepsOver entries v old new
 Spares entries v (Err e) old new = IsSpare entries new × GrowsOver entries v old new
 
+-- so it is where the verdict waits for no turns; else what is kept is spare
+abbrev pub SparesVerdict : {K T E : Type 0} → (entries : K → Entries) → Verdict → Result T E → (old new : Engine K) → Type 0
+SparesVerdict entries v r old new = IsSpare entries new × (IsAtOnce v → Spares entries v r old new)
+
 -- the bytes come to a verdict, and just what that leaves and adds is kept
 pub record KeepsLine {K : Type 0} (entries : K → Entries) (bytes : List ℕ) (old new : Engine K) : Type 0 where
   pub becomes : Verdict
@@ -52,38 +67,22 @@ pub record KeepsLine {K : Type 0} (entries : K → Entries) (bytes : List ℕ) (
 abbrev pub GrowsLine : {K : Type 0} → (entries : K → Entries) → List ℕ → (old new : Engine K) → Type 0
 GrowsLine entries bytes old new = Grows (IsWorthIn (rules_of old) (state_of old) bytes) (kept_of entries old) (kept_of entries new) (work_of old) (work_of new)
 
--- so `Spares` is of the bytes of a line
+-- the bytes wait for no question that is open
+abbrev pub AreAtOnce : {K : Type 0} → Engine K → List ℕ → Type 0
+AreAtOnce e bytes = AreWaiting (rules_of e) (state_of e) bytes → ⊥
+
+-- so `SparesVerdict` is of the bytes of a line
 abbrev pub SparesLine : {K T E : Type 0} → (entries : K → Entries) → List ℕ → Result T E → (old new : Engine K) → Type 0
-SparesLine entries bytes (Ok x) old new = IsSpare entries new × KeepsLine entries bytes old new
-SparesLine entries bytes (Err e) old new = IsSpare entries new × GrowsLine entries bytes old new
+SparesLine entries bytes (Ok x) old new = IsSpare entries new × (AreAtOnce old bytes → KeepsLine entries bytes old new)
+SparesLine entries bytes (Err e) old new = IsSpare entries new × (AreAtOnce old bytes → GrowsLine entries bytes old new)
 
 -- the same, where the line may be named as one for which memory ran out
 abbrev pub KeepsServed : {K : Type 0} → (entries : K → Entries) → (out_of_memory : Bool) → List ℕ → (old new : Engine K) → Type 0
-KeepsServed entries false bytes old new = KeepsLine entries bytes old new
-KeepsServed entries true bytes old new = GrowsLine entries bytes old new
+KeepsServed entries false bytes old new = AreAtOnce old bytes → KeepsLine entries bytes old new
+KeepsServed entries true bytes old new = AreAtOnce old bytes → GrowsLine entries bytes old new
 
 -- An empty line changes nothing. Any other one is a step of the machine whose reply is appended, and just what it leaves and
--- adds is kept, or some of that where its reply is `memory`.
+-- adds is kept, or some of that where its reply is `memory`, unless it waits for turns.
 abbrev pub KeepsStep : {K : Type 0} → (entries : K → Entries) → List ℕ → (old new : Engine K) → (before after : List ℕ) → Type 0
 KeepsStep entries [] old new before after = (new ≡ old) × (after ≡ before)
-KeepsStep entries (b ∷ bs) old new before after = (wants : Bool) × (reply : Reply) × Serves (rules_of old) wants (state_of old) (b ∷ bs) (state_of new) reply × (after ≡ before ++ reply_text reply) × KeepsServed entries wants (b ∷ bs) old new
-
--- just what lines leave and add, one after the other, is kept
-abbrev pub KeepsAll : {K : Type 0} → (entries : K → Entries) → List (List ℕ) → (old new : Engine K) → Type 0
-KeepsAll entries served old new = KeepsLines (rules_of old) (state_of old) served (state_of new) (kept_of entries old) (kept_of entries new) (work_of old) (work_of new)
-
--- From the old engine, with the front of a line before them, the bytes lead to the new one and to the front of the next line,
--- and just what their lines leave and add is kept, where none was answered `memory`.
-pub record KeepsBytes {K : Type 0} (entries : K → Entries) (front bytes : List ℕ) (old new : Engine K) (desk next : Desk) : Type 0 where
-  pub fulls : List (List ℕ)
-  pub rest : List ℕ
-  pub splits : Splits (front ++ bytes) fulls rest
-  pub open' : IsOpen rest
-  pub line : next.line.items ≡ kept rest
-  pub keeps : next.memory ≡ desk.memory → KeepsAll entries (filter is_filled fulls) old new
-
--- so it is of the lines of the bytes that the reader gave
-pub record KeepsRun {K : Type 0} (entries : K → Entries) (old new : Engine K) (readable left : Option (List ℕ)) : Type 0 where
-  pub input : List ℕ
-  pub read : Consumes readable left input
-  pub keeps : KeepsAll entries (lines input) old new
+KeepsStep entries (b ∷ bs) old new before after = (wants : Bool) × (reply : Reply) × Serves (rules_of old) (state_of old) (b ∷ bs) (state_of new) (wants, reply) × (after ≡ before ++ reply_text reply) × KeepsServed entries wants (b ∷ bs) old new

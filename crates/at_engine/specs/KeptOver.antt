@@ -1,11 +1,13 @@
 -- What lines do to what is kept, and to the work: verdicts one after the other, and lines that memory didn't suffice for.
-use Rattle.std.specs.Prelude.{◌≡◌, ◌↔◌, ℕ, ◌+◌, ◌-◌, ◌^◌, ◌<◌, min, List, [], ◌∷◌, length}
+use Rattle.std.specs.Prelude.{◌≡◌, ◌↔◌, ℕ, ◌+◌, ◌-◌, ◌^◌, ◌<◌, min, false, List, [], ◌∷◌, length}
+use Rattle.std.specs.List.{AllByRecursion}
+use Rattle.at_model.specs.Effects.{is_post}
 use Rattle.at_model.specs.Paths.{Node}
 use Rattle.at_model.specs.Run.{Instance}
 use Rattle.at_model.specs.Rules.{Rules}
 use Rattle.at_model.specs.Meaning.{Among, Distinct}
 use Rattle.at_model.specs.Lines.{Line, Spells}
-use Rattle.at_model.specs.Machine.{State, Verdict, Refuses, Tells, Leaves, Edits, Asks, after, verdict}
+use Rattle.at_model.specs.Machine.{State, Verdict, Refuses, Tells, Leaves, Edits, Asks, Posts, Waits, after, verdict}
 use Rattle.at_model.specs.Replies as code
 use Rattle.at_model.specs.Sparing.{IsWorthKeeping, KeptAfter, IsWork}
 
@@ -26,6 +28,8 @@ IsWorthFor rules s (Tells shown) j = ⊥
 IsWorthFor rules s (Leaves marks) j = ⊥
 IsWorthFor rules s (Edits e t) j = ⊥
 IsWorthFor rules s (Asks q) j = IsWorthKeeping rules s.tree q j
+IsWorthFor rules s (Posts q) j = ⊥
+IsWorthFor rules s (Waits number) j = ⊥
 
 -- so is that of the line that the bytes spell
 abbrev pub IsWorthIn : Rules → State → List ℕ → Instance Node → Type 0
@@ -35,6 +39,14 @@ IsWorthIn rules s bytes j = (l : Line) × Spells bytes l × IsWorthFor rules s (
 pub data HasVerdict (rules : Rules) (s : State) (bytes : List ℕ) (v : Verdict) : Type 0 where
   obeys : (l : Line) → Spells bytes l → v ≡ verdict rules s l → HasVerdict rules s bytes v
   refuses : ((l : Line) → Spells bytes l → ⊥) → v ≡ Refuses code.Syntax → HasVerdict rules s bytes v
+
+-- the bytes wait for the answer to an open question
+abbrev pub AreWaiting : Rules → State → List ℕ → Type 0
+AreWaiting rules s bytes = (number : ℕ) × HasVerdict rules s bytes (Waits number)
+
+-- none of the lines posts a question
+abbrev pub NonePosts : List (List ℕ) → Type 0
+NonePosts served = AllByRecursion (λ line. (l : Line) → Spells line l → is_post l.command ≡ false) served
 
 -- what becomes of lines, one after the other
 abbrev pub HaveVerdicts : Rules → State → List (List ℕ) → List Verdict → Type 0

@@ -2,12 +2,16 @@ pub mod Fitting
 pub mod Collected
 pub mod Answered
 pub mod Marks
+pub mod Posted
 pub mod Holding
 pub mod Serving
 pub mod Following
 pub mod Naming
 pub mod Engines
 pub mod Telling
+pub mod Turned
+pub mod Turning
+pub mod Asking
 pub mod Ends
 pub mod Loop
 pub mod Taking
@@ -15,3 +19,4 @@ pub mod Running
 pub mod RunFaults
 pub mod KeptOver
 pub mod Keeping
+pub mod KeepingRuns

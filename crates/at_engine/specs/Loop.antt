@@ -2,6 +2,7 @@
 use Rattle.std.specs.Prelude.{◌≡◌, ℕ, ◌≤◌, ◌==◌, Bool, List, [], ◌∷◌, ◌++◌, length, take, filter, Option, position}
 use Rattle.at_model.specs.Lines.{pieces, is_filled}
 use Rattle.at_model.specs.Rules.{Rules}
+use Rattle.at_model.specs.Replies.{Reply}
 use Rattle.at_model.specs.Machine.{State, Runs}
 
 -- of a line that is too long only the front is kept, so much that it is still too long
@@ -20,11 +21,11 @@ IsOpen front = Splits front [] front
 abbrev pub newline_at : List ℕ → Option ℕ
 newline_at bytes = position (λ b. b == 10) bytes
 
--- From old, with the front of a line before them, the bytes are answered by this text, their lines named so, and they
--- lead to new and to the front of the next line.
-pub record Progress (rules : Rules) (old : State) (front bytes : List ℕ) (named : List Bool) (text : List ℕ) (new : State) (rest : List ℕ) : Type 0 where
+-- From old, with the front of a line before them, the bytes are answered so, so many turns follow each line, and they lead to new
+-- and to the front of the next line.
+pub record Progress (rules : Rules) (slice : ℕ) (old : State) (front bytes : List ℕ) (told : List (Bool × Reply)) (new : State) (rest : List ℕ) : Type 0 where
   pub fulls : List (List ℕ)
   pub splits : Splits (front ++ bytes) fulls rest
   pub open' : IsOpen rest
-  pub runs : Runs rules old (filter is_filled fulls) named text new
-  pub few : length named ≤ length bytes
+  pub runs : Runs rules slice old (filter is_filled fulls) told new
+  pub few : length (filter is_filled fulls) ≤ length bytes

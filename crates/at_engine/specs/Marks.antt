@@ -1,8 +1,8 @@
 -- Marks as they are held, and what they stand for.
-use Rattle.std.specs.Prelude.{◌≡◌, ℕ, Bool, true, ◌&&◌, nat_eq, List, Option, option_map, is_some, find, filter_map, string_bytes, bytes_eq}
+use Rattle.std.specs.Prelude.{◌≡◌, ℕ, Bool, true, ◌&&◌, nat_eq, List, ◌++◌, Option, option_map, is_some, find, filter_map, string_bytes, bytes_eq}
 use Rattle.std.specs.List.{AllByRecursion}
 use Rattle.at_model.specs.Paths.{Node}
-use Rattle.at_model.specs.Machine.{Marked}
+use Rattle.at_model.specs.Machine.{Marked, marks_named}
 use Rattle.at_engine.specs.declared.marks.Mark.{Mark}
 
 -- it is the session's mark of that name
@@ -24,3 +24,12 @@ marks_view look marks = filter_map (λ m. option_map (mark_at m) (look m.node)) 
 -- the node of each mark is there
 abbrev pub AreThere : (ℕ → Option Node) → List Mark → Type 0
 AreThere look marks = AllByRecursion (λ m. is_some (look m.node) ≡ true) marks
+
+-- the session has a mark of that name
+abbrev pub has_mark : List Mark → ℕ → List ℕ → Bool
+has_mark marks session name = is_some (number_marked marks session name)
+
+-- behind the old copies stand those of the session's marks of these names
+pub record Copies (session : ℕ) (names : List (List ℕ)) (marks old new : List Mark) : Type 0 where
+  pub named : (look : ℕ → Option Node) → AreThere look marks → marks_view look new ≡ marks_view look old ++ marks_named (marks_view look marks) session names
+  pub there : (look : ℕ → Option Node) → AreThere look marks → AreThere look old → AreThere look new

@@ -4,38 +4,36 @@ use Rattle.std.specs.Io.KnownBytes.{Appends, Consumes, IsAtEnd}
 use Rattle.at_model.specs.Lines.{lines, pieces, is_filled}
 use Rattle.at_model.specs.Rules.{Rules}
 use Rattle.at_model.specs.Replies.{Reply, reply_text}
-use Rattle.at_model.specs.Machine.{State, Runs, Serves, Outputs}
+use Rattle.at_model.specs.Machine.{State, Given, Runs, Outputs, text_of}
 use Rattle.at_engine.specs.declared.stream.desk.Report.{Report}
 use Rattle.at_engine.specs.declared.stream.desk.RunFault.{RunFault}
 use Rattle.at_engine.specs.declared.stream.desk.RunFault.TheVariants.{Read, Write, TooManyReads, Memory}
 use Rattle.at_engine.specs.Ends.{Remembers}
 use Rattle.at_engine.specs.Loop.{Progress}
-use Rattle.at_engine.specs.Taking.{wants}
+use Rattle.at_engine.specs.Taking.{EndsIn, wants}
 
--- The reader came to its end. What was written is the output of the bytes that it gave, with these lines named as
--- answered `memory`, and the engine is in the state that they leave.
-pub record Ended (rules : Rules) (old new : State) (readable left before after : Option (List ℕ)) (report : Report) : Type 0 where
+-- The reader came to its end. What was written is the output of the bytes that it gave, with so many turns behind each line and
+-- then turns until no question is open; and the engine is in the state that they leave.
+pub record Ended (rules : Rules) (slice : ℕ) (old new : State) (readable left before after : Option (List ℕ)) (report : Report) : Type 0 where
   pub input : List ℕ
-  pub named : List Bool
-  pub text : List ℕ
+  pub told : List (Bool × Reply)
   pub read : Consumes readable left input
   pub ended : IsAtEnd left
-  pub outputs : Outputs rules old input named text new
-  pub written : Appends before after text
+  pub outputs : Outputs rules slice old input told new
+  pub written : Appends before after (text_of told)
   pub counted : report.lines ≡ length (lines input)
   pub accepted : report.accepted ≡ new.version - old.version
-  pub memory : report.memory ≡ wants named
+  pub memory : report.memory ≡ wants told
 
 -- The run broke off between two reads. What was written is the whole output of the lines that were complete, and the
 -- engine is in the state that they leave.
-pub record BrokeOff (rules : Rules) (old new : State) (readable left before after : Option (List ℕ)) (reads : ℕ) : Type 0 where
+pub record BrokeOff (rules : Rules) (slice : ℕ) (old new : State) (readable left before after : Option (List ℕ)) (reads : ℕ) : Type 0 where
   pub input : List ℕ
-  pub named : List Bool
-  pub text : List ℕ
+  pub told : List (Bool × Reply)
   pub rest : List ℕ
   pub read : Consumes readable left input
-  pub progress : Progress rules old [] input named text new rest
-  pub written : Appends before after text
+  pub progress : Progress rules slice old [] input told new rest
+  pub written : Appends before after (text_of told)
   pub enough : reads ≤ length input
 
 -- The lines are whole ones of the input: each stands before a newline, or they are all and the reader came to its end.
@@ -43,25 +41,26 @@ pub data AreWhole (input : List ℕ) (left : Option (List ℕ)) (served : List (
   before_newlines : (fulls : List (List ℕ)) (next : List ℕ) (others : List (List ℕ)) → pieces input ≡ fulls ++ next ∷ others → served ≡ filter is_filled fulls → AreWhole input left served
   up_to_end : IsAtEnd left → served ≡ lines input → AreWhole input left served
 
--- The reply to a line could not be written whole. What was written is the whole output of the lines before it, and some
--- front of its reply, or all of that where the flush failed. The engine is in the state after its line.
-pub record CutOff (rules : Rules) (old new : State) (readable left before after : Option (List ℕ)) : Type 0 where
+-- what was told before the last, and what was told last: behind one of the lines, or, at the end of the reader, by the turns
+-- behind all lines
+pub data StopsIn (rules : Rules) (slice : ℕ) (old : State) (input : List ℕ) (left : Option (List ℕ)) (new : State) : List (Bool × Reply) → Bool × Reply → Type 0 where
+  behind_line : {mid : State} {said : Bool × Reply} (front told : List (Bool × Reply)) (earlier : List (List ℕ)) (last : List ℕ) → AreWhole input left (earlier ++ last ∷ []) → Runs rules slice old earlier front mid →
+      EndsIn rules slice mid last new told said → StopsIn rules slice old input left new (front ++ told) said
+  at_the_end : {mid : State} {said : Bool × Reply} (front told : List (Bool × Reply)) (turns : ℕ) → IsAtEnd left → Runs rules slice old (lines input) front mid →
+      Given rules turns mid (told ++ said ∷ []) new → StopsIn rules slice old input left new (front ++ told) said
+
+-- A reply or an answer could not be written whole. What was written is all that was told before it, and some front of it, or all
+-- of it where the flush failed. The engine is in the state after its line or its turn.
+pub record CutOff (rules : Rules) (slice : ℕ) (old new : State) (readable left before after : Option (List ℕ)) : Type 0 where
   pub input : List ℕ
   pub read : Consumes readable left input
-  pub earlier : List (List ℕ)
-  pub last : List ℕ
-  pub whole : AreWhole input left (earlier ++ last ∷ [])
-  pub named : List Bool
-  pub text : List ℕ
-  pub mid : State
-  pub runs : Runs rules old earlier named text mid
-  pub is_memory : Bool
-  pub reply : Reply
-  pub serves : Serves rules is_memory mid last new reply
+  pub told : List (Bool × Reply)
+  pub said : Bool × Reply
+  pub stops : StopsIn rules slice old input left new told said
   pub done : List ℕ
   pub undone : List ℕ
-  pub split : reply_text reply ≡ done ++ undone
-  pub written : Appends before after (text ++ done)
+  pub split : reply_text said.1 ≡ done ++ undone
+  pub written : Appends before after (text_of told ++ done)
 
 -- nothing was read or written
 pub record NeverBegan (old new : State) (readable left before after : Option (List ℕ)) : Type 0 where
@@ -69,16 +68,16 @@ pub record NeverBegan (old new : State) (readable left before after : Option (Li
   pub read : left ≡ readable
   pub written : after ≡ before
 
-abbrev pub Failed : (most_reads : ℕ) → RunFault → Rules → State → State → Option (List ℕ) → Option (List ℕ) → Option (List ℕ) → Option (List ℕ) → Type 0
-Failed most_reads Read rules old new readable left before after = BrokeOff rules old new readable left before after 0
-Failed most_reads TooManyReads rules old new readable left before after = BrokeOff rules old new readable left before after most_reads
-Failed most_reads Write rules old new readable left before after = CutOff rules old new readable left before after
-Failed most_reads Memory rules old new readable left before after = NeverBegan old new readable left before after
+abbrev pub Failed : (most_reads : ℕ) → RunFault → Rules → ℕ → State → State → Option (List ℕ) → Option (List ℕ) → Option (List ℕ) → Option (List ℕ) → Type 0
+Failed most_reads Read rules slice old new readable left before after = BrokeOff rules slice old new readable left before after 0
+Failed most_reads TooManyReads rules slice old new readable left before after = BrokeOff rules slice old new readable left before after most_reads
+Failed most_reads Write rules slice old new readable left before after = CutOff rules slice old new readable left before after
+Failed most_reads Memory rules slice old new readable left before after = NeverBegan old new readable left before after
 
 -- what a run of at most so many reads has done, by what it answers
-abbrev pub Ran : (most_reads : ℕ) → Result Report RunFault → Rules → State → State → Option (List ℕ) → Option (List ℕ) → Option (List ℕ) → Option (List ℕ) → Type 0
-Ran most_reads (Ok report) rules old new readable left before after = Ended rules old new readable left before after report
-Ran most_reads (Err fault) rules old new readable left before after = Failed most_reads fault rules old new readable left before after
+abbrev pub Ran : (most_reads : ℕ) → Result Report RunFault → Rules → (slice : ℕ) → State → State → Option (List ℕ) → Option (List ℕ) → Option (List ℕ) → Option (List ℕ) → Type 0
+Ran most_reads (Ok report) rules slice old new readable left before after = Ended rules slice old new readable left before after report
+Ran most_reads (Err fault) rules slice old new readable left before after = Failed most_reads fault rules slice old new readable left before after
 
 -- how many reads `run` may take
 abbrev pub max_reads : ℕ

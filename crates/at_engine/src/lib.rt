@@ -3,6 +3,7 @@
 
 mod engine;
 mod marks;
+mod posts;
 mod stream;
 
 pub use engine::Engine;

@@ -4,6 +4,8 @@ ghost use Rattle.std.specs.Prelude.{◌≡◌, ◌++◌, ◌∷◌, [], ℕ, not
 ghost use Rattle.at_store.specs.Shown.{IsIdle, path};
 ghost use Rattle.at_engine.specs.Marks.{is_named, number_marked};
 
+mod using;
+
 use at_store::{Node, Store};
 use std::alloc::{AllocError, Global};
 

@@ -1,14 +1,14 @@
 //! The loop over lines: bytes come in pieces of any size, each line is served whole, and its reply is written before the
 //! next line is looked at.
-ghost use Rattle.std.specs.Prelude.{◌≡◌, ◌++◌, ◌∷◌, ◌≤◌, ◌<◌, ◌+◌, ◌^◌, Bool, ℕ, List, [], filter, vec_len, vec_capacity, length, is_err, IfOk, IsTrue, MatchOption, OnOk};
+ghost use Rattle.std.specs.Prelude.{◌≡◌, ◌∷◌, ◌++◌, ◌≤◌, ◌<◌, ◌+◌, ◌*◌, ◌^◌, ℕ, List, [], filter, vec_len, length, is_err, IfOk, IsTrue, MatchOption, OnOk};
 ghost use Rattle.at_model.specs.Lines.{is_filled};
-ghost use Rattle.at_model.specs.Machine.{Serves};
-ghost use Rattle.at_model.specs.Replies.{Reply, reply_text};
-ghost use Rattle.at_engine.specs.Engines.{state_of, rules_of, IsSound};
+ghost use Rattle.at_engine.specs.Engines.{state_of, rules_of, slice_of, IsSound};
 ghost use Rattle.at_engine.specs.Ends.{Remembers};
 ghost use Rattle.at_engine.specs.Loop.{kept, newline_at, IsOpen};
-ghost use Rattle.at_engine.specs.Keeping.{IsSpare, KeepsAll, KeepsBytes, KeepsLine, KeepsRun, work_of};
-ghost use Rattle.at_engine.specs.Taking.{Counts, Written, TakesOrStops, Finishes};
+ghost use Rattle.at_engine.specs.Keeping.{IsSpare, KeepsLine, work_of};
+ghost use Rattle.at_engine.specs.KeepingRuns.{KeepsAll, KeepsBytes, KeepsRun};
+ghost use Rattle.at_engine.specs.KeptOver.{NonePosts};
+ghost use Rattle.at_engine.specs.Taking.{countable, Drains, Finishes, GivesTurns, LeavesTurns, ServedOrHalts, SettlesOne, TakesOrStops, Written};
 ghost use Rattle.at_engine.specs.Running.{Ran, TellsFailures, max_reads};
 
 mod desk;
@@ -44,7 +44,7 @@ fn write_whole<W: Output>(writer: &mut W, bytes: &[u8]) -> Result<(), RunFault>
     }
 }
 
-/// Serves the line that was read, and writes its reply.
+/// Serves the line that was read, writes its reply, and gives the turns that follow it.
 fn serve<K: Keeper, W: Output>(
     engine: &mut Engine<K>,
     desk: &mut Desk,
@@ -52,24 +52,138 @@ fn serve<K: Keeper, W: Output>(
 ) -> Result<(), RunFault>
     requires sound { IsSound K.contents engine.old }
     requires line { 0 < vec_len desk.old.line }
-    requires count { desk.old.lines + 1 < 2 ^ 128 }
-    ensures served { (wants : Bool) × (reply : Reply)
-        × Serves (rules_of engine.old) wants (state_of engine.old) desk.old.line.items (state_of engine.new) reply
-        × Counts desk.old desk.new (wants ∷ []) × Written result (W.contents writer.old) (W.contents writer.new) (reply_text reply) }
+    requires few { countable desk.old (state_of engine.old) + 3 < 2 ^ 128 }
+    ensures served { ServedOrHalts result (rules_of engine.old) (slice_of engine.old) (state_of engine.old) desk.old.line.items (state_of engine.new) desk.old desk.new (W.contents writer.old) (W.contents writer.new) }
     ensures failed { Remembers (W.failed writer.old) (W.failed writer.new) (is_err result) }
-    ensures keeps { IsTrue K.exact → IsSpare K.contents engine.old → desk.new.memory ≡ desk.old.memory → KeepsLine K.contents desk.old.line.items engine.old engine.new }
+    ensures keeps { IsTrue K.exact → IsSpare K.contents engine.old → OnOk result ((state_of engine.old).posted ≡ [] → NonePosts (desk.old.line.items ∷ []) → desk.new.memory ≡ desk.old.memory → KeepsLine K.contents desk.old.line.items engine.old engine.new) }
     ensures spare { IsTrue K.exact → IsSpare K.contents engine.old → IsSpare K.contents engine.new }
     ensures rules { rules_of engine.new ≡ rules_of engine.old }
+    ensures slice { slice_of engine.new ≡ slice_of engine.old }
     ensures line { desk.new.line.items ≡ desk.old.line.items }
-    ensures grows { desk.new.lines ≤ desk.old.lines + 1 }
+    ensures grows { countable desk.new (state_of engine.new) ≤ countable desk.old (state_of engine.old) + 3 }
     ensures sound { IsSound K.contents engine.new }
 {
     desk.reply.clear();
     match engine.serve(desk.line.as_slice(), &mut desk.reply) {
         Ok(wants) => {
             desk.count(wants);
-            write_whole(writer, desk.reply.as_slice())
+            write_whole(writer, desk.reply.as_slice())?;
+            give_turns(engine, desk, writer)
         }
+        Err(_) => unreachable!(),
+    }
+}
+
+/// Gives the turns that follow a line, or fewer where no question is open. Each answer is written before the next turn.
+fn give_turns<K: Keeper, W: Output>(
+    engine: &mut Engine<K>,
+    desk: &mut Desk,
+    writer: &mut W,
+) -> Result<(), RunFault>
+    requires sound { IsSound K.contents engine.old }
+    requires few { countable desk.old (state_of engine.old) < 2 ^ 128 }
+    ensures gives { GivesTurns result (rules_of engine.old) (slice_of engine.old) (state_of engine.old) (state_of engine.new) desk.old desk.new (W.contents writer.old) (W.contents writer.new) }
+    ensures failed { Remembers (W.failed writer.old) (W.failed writer.new) (is_err result) }
+    ensures none { (state_of engine.old).posted ≡ [] → engine.new ≡ engine.old }
+    ensures spare { IsTrue K.exact → IsSpare K.contents engine.old → IsSpare K.contents engine.new }
+    ensures rules { rules_of engine.new ≡ rules_of engine.old }
+    ensures slice { slice_of engine.new ≡ slice_of engine.old }
+    ensures line { desk.new.line.items ≡ desk.old.line.items }
+    ensures grows { countable desk.new (state_of engine.new) ≤ countable desk.old (state_of engine.old) }
+    ensures sound { IsSound K.contents engine.new }
+{
+    let mut left = u64::from(engine.slice());
+    while left > 0 {
+        left = give_some(engine, desk, writer, left)?;
+    }
+    Ok(())
+}
+
+/// Gives turns up to the first answer, which is written: how many of the turns are left. Where no question is answered by
+/// them, none is left.
+fn give_some<K: Keeper, W: Output>(
+    engine: &mut Engine<K>,
+    desk: &mut Desk,
+    writer: &mut W,
+    limit: u64,
+) -> Result<u64, RunFault>
+    requires sound { IsSound K.contents engine.old }
+    requires some { 0 < limit }
+    requires few { countable desk.old (state_of engine.old) < 2 ^ 128 }
+    ensures gives { LeavesTurns result (rules_of engine.old) limit (state_of engine.old) (state_of engine.new) desk.old desk.new (W.contents writer.old) (W.contents writer.new) }
+    ensures failed { Remembers (W.failed writer.old) (W.failed writer.new) (is_err result) }
+    ensures none { (state_of engine.old).posted ≡ [] → engine.new ≡ engine.old }
+    ensures spare { IsTrue K.exact → IsSpare K.contents engine.old → IsSpare K.contents engine.new }
+    ensures rules { rules_of engine.new ≡ rules_of engine.old }
+    ensures slice { slice_of engine.new ≡ slice_of engine.old }
+    ensures line { desk.new.line.items ≡ desk.old.line.items }
+    ensures grows { countable desk.new (state_of engine.new) ≤ countable desk.old (state_of engine.old) }
+    ensures sound { IsSound K.contents engine.new }
+{
+    desk.reply.clear();
+    match engine.give(limit, &mut desk.reply) {
+        Ok(spent) => match spent.told {
+            Some(wants) => {
+                desk.count_answer(wants);
+                write_whole(writer, desk.reply.as_slice())?;
+                Ok(limit - spent.turns)
+            }
+            None => Ok(0),
+        },
+        Err(_) => unreachable!(),
+    }
+}
+
+/// Gives turns until no question is open. Each answer is written before the next turn.
+fn drain<K: Keeper, W: Output>(
+    engine: &mut Engine<K>,
+    desk: &mut Desk,
+    writer: &mut W,
+) -> Result<(), RunFault>
+    requires sound { IsSound K.contents engine.old }
+    requires few { countable desk.old (state_of engine.old) < 2 ^ 128 }
+    ensures drains { Drains result (rules_of engine.old) (state_of engine.old) (state_of engine.new) desk.old desk.new (W.contents writer.old) (W.contents writer.new) }
+    ensures failed { Remembers (W.failed writer.old) (W.failed writer.new) (is_err result) }
+    ensures none { (state_of engine.old).posted ≡ [] → engine.new ≡ engine.old }
+    ensures spare { IsTrue K.exact → IsSpare K.contents engine.old → IsSpare K.contents engine.new }
+    ensures rules { rules_of engine.new ≡ rules_of engine.old }
+    ensures slice { slice_of engine.new ≡ slice_of engine.old }
+    ensures sound { IsSound K.contents engine.new }
+{
+    let mut is_open = true;
+    while is_open {
+        is_open = settle_one(engine, desk, writer)?;
+    }
+    Ok(())
+}
+
+/// Gives turns until a question is answered, and writes its answer; whether a question was open.
+fn settle_one<K: Keeper, W: Output>(
+    engine: &mut Engine<K>,
+    desk: &mut Desk,
+    writer: &mut W,
+) -> Result<bool, RunFault>
+    requires sound { IsSound K.contents engine.old }
+    requires few { countable desk.old (state_of engine.old) < 2 ^ 128 }
+    ensures settles { SettlesOne result (rules_of engine.old) (state_of engine.old) (state_of engine.new) desk.old desk.new (W.contents writer.old) (W.contents writer.new) }
+    ensures failed { Remembers (W.failed writer.old) (W.failed writer.new) (is_err result) }
+    ensures none { (state_of engine.old).posted ≡ [] → engine.new ≡ engine.old }
+    ensures spare { IsTrue K.exact → IsSpare K.contents engine.old → IsSpare K.contents engine.new }
+    ensures rules { rules_of engine.new ≡ rules_of engine.old }
+    ensures slice { slice_of engine.new ≡ slice_of engine.old }
+    ensures grows { countable desk.new (state_of engine.new) ≤ countable desk.old (state_of engine.old) }
+    ensures sound { IsSound K.contents engine.new }
+{
+    desk.reply.clear();
+    match engine.settle_first(&mut desk.reply) {
+        Ok(told) => match told {
+            Some(wants) => {
+                desk.count_answer(wants);
+                write_whole(writer, desk.reply.as_slice())?;
+                Ok(true)
+            }
+            None => Ok(false),
+        },
         Err(_) => unreachable!(),
     }
 }
@@ -81,13 +195,14 @@ fn take_newline<K: Keeper, W: Output>(
     writer: &mut W,
 ) -> Result<(), RunFault>
     requires sound { IsSound K.contents engine.old }
-    requires few { desk.old.lines + 1 < 2 ^ 128 }
-    ensures taken { (front : List ℕ) → IsOpen front → desk.old.line.items ≡ kept front → TakesOrStops result (rules_of engine.old) (state_of engine.old) front (10 ∷ []) (state_of engine.new) desk.old desk.new (W.contents writer.old) (W.contents writer.new) }
+    requires few { countable desk.old (state_of engine.old) + 3 < 2 ^ 128 }
+    ensures taken { (front : List ℕ) → IsOpen front → desk.old.line.items ≡ kept front → TakesOrStops result (rules_of engine.old) (slice_of engine.old) (state_of engine.old) front (10 ∷ []) (state_of engine.new) desk.old desk.new (W.contents writer.old) (W.contents writer.new) }
     ensures failed { Remembers (W.failed writer.old) (W.failed writer.new) (is_err result) }
     ensures keeps { IsTrue K.exact → IsSpare K.contents engine.old → (front : List ℕ) → IsOpen front → desk.old.line.items ≡ kept front → OnOk result (KeepsBytes K.contents front (10 ∷ []) engine.old engine.new desk.old desk.new) }
     ensures spare { IsTrue K.exact → IsSpare K.contents engine.old → IsSpare K.contents engine.new }
     ensures rules { rules_of engine.new ≡ rules_of engine.old }
-    ensures grows { desk.new.lines ≤ desk.old.lines + 1 }
+    ensures slice { slice_of engine.new ≡ slice_of engine.old }
+    ensures grows { countable desk.new (state_of engine.new) ≤ countable desk.old (state_of engine.old) + 3 }
     ensures sound { IsSound K.contents engine.new }
 {
     if !desk.line.is_empty() {
@@ -105,13 +220,14 @@ fn take_piece<K: Keeper, W: Output>(
     writer: &mut W,
 ) -> Result<(), RunFault>
     requires sound { IsSound K.contents engine.old }
-    requires few { desk.old.lines + length piece.now + 1 < 2 ^ 128 }
-    ensures taken { (front : List ℕ) → IsOpen front → desk.old.line.items ≡ kept front → TakesOrStops result (rules_of engine.old) (state_of engine.old) front piece.now (state_of engine.new) desk.old desk.new (W.contents writer.old) (W.contents writer.new) }
+    requires few { countable desk.old (state_of engine.old) + 3 * length piece.now < 2 ^ 128 }
+    ensures taken { (front : List ℕ) → IsOpen front → desk.old.line.items ≡ kept front → TakesOrStops result (rules_of engine.old) (slice_of engine.old) (state_of engine.old) front piece.now (state_of engine.new) desk.old desk.new (W.contents writer.old) (W.contents writer.new) }
     ensures failed { Remembers (W.failed writer.old) (W.failed writer.new) (is_err result) }
     ensures keeps { IsTrue K.exact → IsSpare K.contents engine.old → (front : List ℕ) → IsOpen front → desk.old.line.items ≡ kept front → OnOk result (KeepsBytes K.contents front piece.now engine.old engine.new desk.old desk.new) }
     ensures spare { IsTrue K.exact → IsSpare K.contents engine.old → IsSpare K.contents engine.new }
     ensures rules { rules_of engine.new ≡ rules_of engine.old }
-    ensures grows { desk.new.lines ≤ desk.old.lines + length piece.now }
+    ensures slice { slice_of engine.new ≡ slice_of engine.old }
+    ensures grows { countable desk.new (state_of engine.new) ≤ countable desk.old (state_of engine.old) + 3 * length piece.now }
     ensures sound { IsSound K.contents engine.new }
 {
     let mut rest = piece;
@@ -140,29 +256,33 @@ fn newline_in(bytes: &[u8]) -> Option<usize>
     bytes.iter().position(|byte| *byte == b'\n')
 }
 
-/// Serves the last line, which no newline ends, unless it is empty.
+/// Serves the last line, which no newline ends, unless it is empty, and gives turns until no question is open.
 fn finish<K: Keeper, W: Output>(
     engine: &mut Engine<K>,
     desk: &mut Desk,
     writer: &mut W,
 ) -> Result<(), RunFault>
     requires sound { IsSound K.contents engine.old }
-    requires few { desk.old.lines + 1 < 2 ^ 128 }
-    ensures finished { (front : List ℕ) → desk.old.line.items ≡ kept front → Finishes result (rules_of engine.old) (state_of engine.old) front (state_of engine.new) desk.old desk.new (W.contents writer.old) (W.contents writer.new) }
+    requires few { countable desk.old (state_of engine.old) + 3 < 2 ^ 128 }
+    ensures finished { (front : List ℕ) → desk.old.line.items ≡ kept front → Finishes result (rules_of engine.old) (slice_of engine.old) (state_of engine.old) front (state_of engine.new) desk.old desk.new (W.contents writer.old) (W.contents writer.new) }
     ensures failed { Remembers (W.failed writer.old) (W.failed writer.new) (is_err result) }
-    ensures keeps { IsTrue K.exact → IsSpare K.contents engine.old → (front : List ℕ) → desk.old.line.items ≡ kept front → desk.new.memory ≡ desk.old.memory → KeepsAll K.contents (filter is_filled (front ∷ [])) engine.old engine.new }
+    ensures keeps { IsTrue K.exact → IsSpare K.contents engine.old → (front : List ℕ) → desk.old.line.items ≡ kept front → OnOk result ((state_of engine.old).posted ≡ [] → NonePosts (filter is_filled (front ∷ [])) → desk.new.memory ≡ desk.old.memory → KeepsAll K.contents (filter is_filled (front ∷ [])) engine.old engine.new) }
     ensures spare { IsTrue K.exact → IsSpare K.contents engine.old → IsSpare K.contents engine.new }
     ensures rules { rules_of engine.new ≡ rules_of engine.old }
+    ensures slice { slice_of engine.new ≡ slice_of engine.old }
     ensures sound { IsSound K.contents engine.new }
 {
     if desk.line.is_empty() {
-        return Ok(());
+        return drain(engine, desk, writer);
     }
-    serve(engine, desk, writer)
+    serve(engine, desk, writer)?;
+    drain(engine, desk, writer)
 }
 
 /// Serves the lines that the reader gives, each whole, and writes the reply to each before the next one is looked at. A
-/// last line needs no newline; an empty line has no reply.
+/// last line needs no newline; an empty line has no reply. Behind each reply the engine's slice of turns is given to open
+/// questions, and at the end of the input turns are given until no question is open; each answer is written before the next
+/// turn. Where the run ends by a fault, questions may stay open.
 ///
 /// # Errors
 ///
@@ -174,12 +294,13 @@ pub fn run<K: Keeper, R: Input, W: Output>(
     writer: &mut W,
 ) -> Result<Report, RunFault>
     requires sound { IsSound K.contents engine.old }
-    ensures ran { Ran max_reads result (rules_of engine.old) (state_of engine.old) (state_of engine.new) (R.remaining reader.old) (R.remaining reader.new) (W.contents writer.old) (W.contents writer.new) }
+    ensures ran { Ran max_reads result (rules_of engine.old) (slice_of engine.old) (state_of engine.old) (state_of engine.new) (R.remaining reader.old) (R.remaining reader.new) (W.contents writer.old) (W.contents writer.new) }
     ensures failed { TellsFailures result (R.failed reader.old) (R.failed reader.new) (W.failed writer.old) (W.failed writer.new) }
     ensures keeps { IsTrue K.exact → IsSpare K.contents engine.old → IfOk result (λ report. report.memory ≡ 0 → KeepsRun K.contents engine.old engine.new (R.remaining reader.old) (R.remaining reader.new)) }
     ensures work { IfOk result (λ report. report.work ≡ work_of engine.new) }
     ensures spare { IsTrue K.exact → IsSpare K.contents engine.old → IsSpare K.contents engine.new }
     ensures rules { rules_of engine.new ≡ rules_of engine.old }
+    ensures slice { slice_of engine.new ≡ slice_of engine.old }
     ensures sound { IsSound K.contents engine.new }
 {
     run_for(engine, reader, writer, READS)
@@ -197,12 +318,13 @@ pub fn run_for<K: Keeper, R: Input, W: Output>(
     limit: u64,
 ) -> Result<Report, RunFault>
     requires sound { IsSound K.contents engine.old }
-    ensures ran { Ran limit result (rules_of engine.old) (state_of engine.old) (state_of engine.new) (R.remaining reader.old) (R.remaining reader.new) (W.contents writer.old) (W.contents writer.new) }
+    ensures ran { Ran limit result (rules_of engine.old) (slice_of engine.old) (state_of engine.old) (state_of engine.new) (R.remaining reader.old) (R.remaining reader.new) (W.contents writer.old) (W.contents writer.new) }
     ensures failed { TellsFailures result (R.failed reader.old) (R.failed reader.new) (W.failed writer.old) (W.failed writer.new) }
     ensures keeps { IsTrue K.exact → IsSpare K.contents engine.old → IfOk result (λ report. report.memory ≡ 0 → KeepsRun K.contents engine.old engine.new (R.remaining reader.old) (R.remaining reader.new)) }
     ensures work { IfOk result (λ report. report.work ≡ work_of engine.new) }
     ensures spare { IsTrue K.exact → IsSpare K.contents engine.old → IsSpare K.contents engine.new }
     ensures rules { rules_of engine.new ≡ rules_of engine.old }
+    ensures slice { slice_of engine.new ≡ slice_of engine.old }
     ensures sound { IsSound K.contents engine.new }
 {
     let version = engine.version();

@@ -1,6 +1,6 @@
 -- An edit that is accepted is that of its command, and which marks the other commands change.
-use Rattle.std.proofs.Common.{◌≡◌, ℕ, Bool, true, false, ◌&&◌, not, nat_eq, nat_le, cond, if◌then◌else◌, List, [], ◌∷◌, ◌++◌, map, Option, Some, None, Result, Ok, Err, refl, sym, ap, ◌∙◌, subst, filter, option_and_then}
-use Rattle.std.specs.List.{find, count_by}
+use Rattle.std.proofs.Common.{◌≡◌, ℕ, ◌+◌, Bool, true, false, ◌&&◌, not, nat_eq, nat_le, cond, if◌then◌else◌, List, [], ◌∷◌, ◌++◌, map, Option, Some, None, Result, Ok, Err, refl, sym, ap, ◌∙◌, subst, filter, option_and_then}
+use Rattle.std.specs.List.{find, count_by, list_any}
 use Rattle.std.specs.Option.{option_map, option_or}
 use Rattle.std.specs.Prelude.{is_some}
 use Rattle.std.specs.Str.{bytes_eq}
@@ -16,12 +16,12 @@ use Rattle.at_model.specs.Rules.{Rules, attribute_named}
 use Rattle.at_model.specs.Edits.{Edit, edited, class_asked, shape_at, list_class, optional_class, token_kind}
 use Rattle.at_model.specs.Edits as edit
 use Rattle.at_model.specs.Shaping.{shaped, names_classes}
-use Rattle.at_model.specs.Lines.{Line, Place, Command, Ask, Set, Put, Drop, Insert, Token, Show, Mark, Unmark, Where, Version, last_version}
-use Rattle.at_model.specs.Replies.{Reply, Form, Done, Code}
+use Rattle.at_model.specs.Lines.{Line, Place, Argument, Command, Ask, Set, Put, Drop, Insert, Token, Move, Show, Mark, Unmark, Where, Version, Post, Wait, last_version}
+use Rattle.at_model.specs.Replies.{Reply, Form, Done, Opened, Code}
 use Rattle.at_model.specs.Replies as code
-use Rattle.at_model.specs.Machine.{State, Marked, Verdict, Refuses, Leaves, Edits, Asks, Says, Step, after, verdict, obeyed, changed, with_component, with_tree, with_mark, code_of, is_edit, is_mark, is_marked, marked, max_marks, node_named, each, value_named, questioned, fit_parameters, parameters_of, carried_marks}
-use Rattle.at_model.specs.Effects.{IsEditOf, set, put, drop, insert, token, component_named, changes_mark, is_about_mark, is_marking, is_question}
-use Rattle.at_model.proofs.Changes.{if_both, at_option, node_all, whole}
+use Rattle.at_model.specs.Machine.{State, Marked, Posted, Verdict, Refuses, Leaves, Edits, Asks, Says, Step, after, verdict, obeyed, changed, with_component, with_tree, with_mark, code_of, is_edit, is_mark, is_marked, marked, max_marks, node_named, each, value_named, questioned, fit_parameters, parameters_of, carried_marks, carried_posted, is_posted}
+use Rattle.at_model.specs.Effects.{IsEditOf, set, put, drop, insert, token, move, component_named, changes_mark, is_about_mark, is_marking, is_question, is_post}
+use Rattle.at_model.proofs.Changes.{if_both, at_option, node_all, post_all, new_post, whole}
 use Rattle.at_model.proofs.Options.{led, both, and_true, not_true}
 use Rattle.at_model.proofs.Shaped.{shaped_conforms}
 
@@ -82,19 +82,25 @@ module _ (rules : Rules) (s : State) (session : ℕ) where
   edit_of (Drop place) e = node_is (Drop place) place _ (λ n named. changes (Drop place) (edit.Drop n) (drop place n named))
   edit_of (Insert place part index t) e = node_is (Insert place part index t) place _ (λ n named. component_is (Insert place part index t) n part list_class _ (λ p b has. tree_is (Insert place part index t) t (Some b) _ (λ u is. insert_is place part n p index u t is named has)))
   edit_of (Token place part v) e = node_is (Token place part v) place _ (λ n named. component_is (Token place part v) n part token_kind _ (λ p kind has. changes (Token place part v) (edit.Token n p v) (token place part n p v named has)))
+  edit_of (Move place to part index) e =
+      node_is (Move place to part index) place _ (λ n named.
+      node_is (Move place to part index) to _ (λ m also.
+      component_is (Move place to part index) m part list_class _ (λ p b has. changes (Move place to part index) (edit.Move n m p index) (move place to part n m p index named also has))))
   edit_of (Show place) e = absurd cc
   edit_of (Mark name place) e = absurd cc
   edit_of (Unmark name) e = absurd cc
   edit_of (Where name) e = absurd cc
   edit_of Version e = absurd cc
+  edit_of (Post place attribute arguments) e = absurd cc
+  edit_of (Wait number) e = absurd cc
 
 -- the edit of an accepted line
 abbrev pub EditOf : Rules → State → Line → State → Type 0
-EditOf rules old l new = (e : Edit) × IsEditOf rules.classes old l.session l.command e × (edited rules.classes old.tree e ≡ Ok new.tree) × (new.marks ≡ carried_marks e old.marks)
+EditOf rules old l new = (e : Edit) × IsEditOf rules.classes old l.session l.command e × (edited rules.classes old.tree e ≡ Ok new.tree) × (new.marks ≡ carried_marks e old.marks) × (new.posted ≡ map (carried_posted e) old.posted)
 
 edit_after : (rules : Rules) (old : State) (l : Line) (v : Verdict) → IsChangeOf rules.classes old l.session l.command v → (form : Form) (version : ℕ) → Says rules old v form → form ≡ Done version → EditOf rules old l (after old v)
 edit_after rules old l v (refused c) form version says is = absurd cc
-edit_after rules old l v (accepted e t asked done) form version says is = (e, asked, done, refl)
+edit_after rules old l v (accepted e t asked done) form version says is = (e, asked, done, refl, refl)
 
 pub accepted_of : (rules : Rules) (old : State) (l : Line) (new : State) (reply : Reply) (version : ℕ) → is_edit l.command ≡ true → Step rules old l new reply → reply.form ≡ Done version → EditOf rules old l new
 accepted_of rules old l new reply version is h form =
@@ -170,11 +176,14 @@ module _ (rules : Rules) (s : State) (session : ℕ) where
   spares (Drop place) e = absurd cc
   spares (Insert place part index t) e = absurd cc
   spares (Token place part v) e = absurd cc
+  spares (Move place to part index) e = absurd cc
   spares (Show place) e = node_all (Spares (about (Show place))) (unchanged (Show place)) rules.classes s session place _ (λ n. at_option (Spares (about (Show place))) (unchanged (Show place)) (tree_at s.tree n) code.Path _ (λ u other name f. refl))
   spares (Mark name place) e = node_all (Spares (about (Mark name place))) (unchanged (Mark name place)) rules.classes s session place _ (λ n. if_both (Spares (about (Mark name place))) (is_marked s.marks session name) _ _ (unchanged (Mark name place) code.Taken) (if_both (Spares (about (Mark name place))) (nat_le max_marks (count_by (λ m. nat_eq session m.session) s.marks)) _ _ (unchanged (Mark name place) code.Limit) (one_more name place n)))
   spares (Unmark name) e = one_less name
   spares (Where name) e = at_option (Spares (about (Where name))) (unchanged (Where name)) (marked s.marks session name) code.Mark _ (λ n other called f. refl)
   spares Version e = λ other name f. refl
+  spares (Post place attribute arguments) e = post_all (Spares (about (Post place attribute arguments))) (unchanged (Post place attribute arguments)) s session place attribute arguments (λ other name f. refl)
+  spares (Wait number) e = if_both (Spares (about (Wait number))) (list_any (is_posted session number) s.posted) _ _ (λ other name f. refl) (unchanged (Wait number) code.Question)
 
   -- the verdict leaves the state
   abbrev pub Same : Verdict → Type 0
@@ -183,18 +192,21 @@ module _ (rules : Rules) (s : State) (session : ℕ) where
   stays : (code : Code) → Same (Refuses code)
   stays code = refl
 
-  pub same : (c : Command) → is_edit c ≡ false → is_marking c ≡ false → Same (obeyed rules s session c)
-  same (Ask place attribute arguments) e f = node_all Same stays rules.classes s session place _ (λ n. at_option Same stays (each (map (value_named rules.classes s session) arguments)) code.Path _ (λ vs. at_option Same stays (option_and_then (λ u. attribute_named rules (class_of u) attribute) (tree_at s.tree n)) code.Attribute _ (λ a. if_both Same (fit_parameters rules.classes s.tree (parameters_of rules a) vs) _ _ refl refl)))
-  same (Set place t) e f = absurd cc
-  same (Put place part t) e f = absurd cc
-  same (Drop place) e f = absurd cc
-  same (Insert place part index t) e f = absurd cc
-  same (Token place part v) e f = absurd cc
-  same (Show place) e f = node_all Same stays rules.classes s session place _ (λ n. at_option Same stays (tree_at s.tree n) code.Path _ (λ u. refl))
-  same (Mark name place) e f = absurd cc
-  same (Unmark name) e f = absurd cc
-  same (Where name) e f = at_option Same stays (marked s.marks session name) code.Mark _ (λ n. refl)
-  same Version e f = refl
+  pub same : (c : Command) → is_edit c ≡ false → is_marking c ≡ false → is_post c ≡ false → Same (obeyed rules s session c)
+  same (Ask place attribute arguments) e f g = node_all Same stays rules.classes s session place _ (λ n. at_option Same stays (each (map (value_named rules.classes s session) arguments)) code.Path _ (λ vs. at_option Same stays (option_and_then (λ u. attribute_named rules (class_of u) attribute) (tree_at s.tree n)) code.Attribute _ (λ a. if_both Same (fit_parameters rules.classes s.tree (parameters_of rules a) vs) _ _ refl refl)))
+  same (Set place t) e f g = absurd cc
+  same (Put place part t) e f g = absurd cc
+  same (Drop place) e f g = absurd cc
+  same (Insert place part index t) e f g = absurd cc
+  same (Token place part v) e f g = absurd cc
+  same (Move place to part index) e f g = absurd cc
+  same (Show place) e f g = node_all Same stays rules.classes s session place _ (λ n. at_option Same stays (tree_at s.tree n) code.Path _ (λ u. refl))
+  same (Mark name place) e f g = absurd cc
+  same (Unmark name) e f g = absurd cc
+  same (Where name) e f g = at_option Same stays (marked s.marks session name) code.Mark _ (λ n. refl)
+  same Version e f g = refl
+  same (Post place attribute arguments) e f g = absurd cc
+  same (Wait number) e f g = if_both Same (list_any (is_posted session number) s.posted) _ _ refl refl
 
   -- the verdict asks no question
   abbrev pub Tellable : Verdict → Type 0
@@ -214,11 +226,14 @@ module _ (rules : Rules) (s : State) (session : ℕ) where
   tellable (Drop place) e = of_edit _ (Drop place) (edit_of rules s session (Drop place) refl)
   tellable (Insert place part index t) e = of_edit _ (Insert place part index t) (edit_of rules s session (Insert place part index t) refl)
   tellable (Token place part v) e = of_edit _ (Token place part v) (edit_of rules s session (Token place part v) refl)
+  tellable (Move place to part index) e = of_edit _ (Move place to part index) (edit_of rules s session (Move place to part index) refl)
   tellable (Show place) e = node_all Tellable untold rules.classes s session place _ (λ n. at_option Tellable untold (tree_at s.tree n) code.Path _ (λ u q f. cc))
   tellable (Mark name place) e = node_all Tellable untold rules.classes s session place _ (λ n. if_both Tellable (is_marked s.marks session name) _ _ (untold code.Taken) (if_both Tellable (nat_le max_marks (count_by (λ m. nat_eq session m.session) s.marks)) _ _ (untold code.Limit) (λ q f. cc)))
   tellable (Unmark name) e = λ q f. cc
   tellable (Where name) e = at_option Tellable untold (marked s.marks session name) code.Mark _ (λ n q f. cc)
   tellable Version e = λ q f. cc
+  tellable (Post place attribute arguments) e = post_all Tellable untold s session place attribute arguments (λ q f. cc)
+  tellable (Wait number) e = if_both Tellable (list_any (is_posted session number) s.posted) _ _ (λ q f. cc) (untold code.Question)
 
 pub spared_step : (rules : Rules) (old : State) (l : Line) (new : State) (reply : Reply) → is_edit l.command ≡ false → Step rules old l new reply →
     (other : ℕ) (name : List ℕ) → is_about_mark l other name ≡ false → marked new.marks other name ≡ marked old.marks other name
@@ -226,8 +241,58 @@ spared_step rules old l new reply is h other name e =
     let P : State → Type 0 = λ x. marked x.marks other name ≡ marked old.marks other name in
     subst P (sym h.state) (whole (Spares rules old l.session (about rules old l.session l.command)) (unchanged rules old l.session l.command) rules old l (spares rules old l.session l.command is) other name e)
 
-pub same_step : (rules : Rules) (old : State) (l : Line) (new : State) (reply : Reply) → is_edit l.command ≡ false → is_marking l.command ≡ false → Step rules old l new reply → new ≡ old
-same_step rules old l new reply e f h = h.state ∙ whole (Same rules old l.session) (stays rules old l.session) rules old l (same rules old l.session l.command e f)
+pub same_step : (rules : Rules) (old : State) (l : Line) (new : State) (reply : Reply) → is_edit l.command ≡ false → is_marking l.command ≡ false → is_post l.command ≡ false → Step rules old l new reply → new ≡ old
+same_step rules old l new reply e f g h = h.state ∙ whole (Same rules old l.session) (stays rules old l.session) rules old l (same rules old l.session l.command e f g)
+
+-- the verdict on what is neither an edit nor posts leaves the open questions
+module _ (rules : Rules) (s : State) (session : ℕ) where
+  abbrev LeavesPosted : Verdict → Type 0
+  LeavesPosted v = (after s v).posted ≡ s.posted
+
+  refused_leaves : (code : Code) → LeavesPosted (Refuses code)
+  refused_leaves code = refl
+
+  marking_leaves : (c : Command) → is_marking c ≡ true → LeavesPosted (obeyed rules s session c)
+  marking_leaves (Mark name place) e = node_all LeavesPosted refused_leaves rules.classes s session place _ (λ n. if_both LeavesPosted (is_marked s.marks session name) _ _ refl (if_both LeavesPosted (nat_le max_marks (count_by (λ m. nat_eq session m.session) s.marks)) _ _ refl refl))
+  marking_leaves (Unmark name) e = refl
+  marking_leaves c e = absurd cc
+
+  pub leaves_posted : (c : Command) → is_edit c ≡ false → is_post c ≡ false → LeavesPosted (obeyed rules s session c)
+  leaves_posted c e f = by_marking (is_marking c) refl
+    where
+      by_marking : (b : Bool) → is_marking c ≡ b → LeavesPosted (obeyed rules s session c)
+      by_marking true is = marking_leaves c is
+      by_marking false is = ap (λ (x : State). x.posted) (same rules s session c e is f)
+
+none_carried : (e : Edit) (qs : List Posted) → qs ≡ [] → map (carried_posted e) qs ≡ []
+none_carried e [] is = refl
+none_carried e (q ∷ qs) is = absurd cc
+
+none_changed : (rules : Rules) (s : State) (l : Line) (v : Verdict) → s.posted ≡ [] → IsChangeOf rules.classes s l.session l.command v → (after s v).posted ≡ []
+none_changed rules s l v none (refused code) = none
+none_changed rules s l v none (accepted e t asked is) = none_carried e s.posted none
+
+-- where none is open, none is behind a line that posts none
+pub none_after : (rules : Rules) (s : State) (l : Line) → s.posted ≡ [] → is_post l.command ≡ false → (after s (verdict rules s l)).posted ≡ []
+none_after rules s l none f = by_edit (is_edit l.command) refl
+  where
+    by_edit : (b : Bool) → is_edit l.command ≡ b → (after s (verdict rules s l)).posted ≡ []
+    by_edit true is = none_changed rules s l (verdict rules s l) none (whole (IsChangeOf rules.classes s l.session l.command) refused rules s l (edit_of rules s l.session l.command is))
+    by_edit false is = whole (λ v. (after s v).posted ≡ s.posted) (λ code. refl) rules s l (leaves_posted rules s l.session l.command is f) ∙ none
+
+-- a question that is posted is one more that is open
+abbrev pub OpensAs : State → Posted → Verdict → Type 0
+OpensAs s q v = (form : Form) (number : ℕ) → (rules : Rules) → Says rules s v form → form ≡ Opened number → (number ≡ q.number) × (after s v ≡ record s { posts = q.number; posted = s.posted ++ q ∷ [] })
+
+pub posted_step : (rules : Rules) (old : State) (l : Line) (new : State) (reply : Reply) (number : ℕ) (place : Place) (attribute : List ℕ) (arguments : List Argument) → l.command ≡ Post place attribute arguments → Step rules old l new reply → reply.form ≡ Opened number →
+    (number ≡ old.posts + 1) × (new ≡ record old { posts = old.posts + 1; posted = old.posted ++ new_post old l.session place attribute arguments ∷ [] })
+posted_step rules old l new reply number place attribute arguments is h form =
+    let q = new_post old l.session place attribute arguments in
+    let Q : Command → Type 0 = λ c. OpensAs old q (obeyed rules old l.session c) in
+    let opens : OpensAs old q (verdict rules old l) = whole (OpensAs old q) (λ code f n r says e. absurd cc) rules old l
+    (subst Q (sym is) (post_all (OpensAs old q) (λ code f n r says e. absurd cc) old l.session place attribute arguments (λ f n r says e. (let same : Opened q.number ≡ Opened n = sym says ∙ e in cc, refl)))) in
+    let (number_is, state) = opens reply.form number rules h.says form in
+    (number_is, h.state ∙ state)
 
 pub tellable_line : (rules : Rules) (old : State) (l : Line) (q : Instance Node) → is_question l.command ≡ false → verdict rules old l ≡ Asks q → ⊥
 tellable_line rules old l q e = whole (Tellable rules old l.session) (untold rules old l.session) rules old l (tellable rules old l.session l.command e) q

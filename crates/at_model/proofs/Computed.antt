@@ -18,7 +18,7 @@ use Rattle.at_model.specs.Alike.{neither, both, ListLike, end, more, ValueLike, 
 use Rattle.at_model.specs.Edits.{Edit, carried}
 use Rattle.at_model.specs.Touches.{touches}
 use Rattle.at_model.specs.Lines.{Line, Spells, line_text}
-use Rattle.at_model.specs.Machine.{State, Verdict, Refuses, Tells, Leaves, Edits, Asks, after}
+use Rattle.at_model.specs.Machine.{State, Verdict, Refuses, Tells, Leaves, Edits, Asks, Posts, Waits, after}
 use Rattle.at_model.specs.Sparing.{IsWorthKeeping, IsUntouched, KeptAfter, AreAdded, IsWork}
 use Rattle.at_model.specs.Keeping.{heard, AreWorks, NothingKept}
 use Rattle.at_model.specs.Working.{Effort, AreHeard, Works}
@@ -450,6 +450,8 @@ module _ (rules : Rules) (height : ℕ) where
   after_verdict s (Refuses refusal) ks = Some (ks, 0)
   after_verdict s (Tells shown) ks = Some (ks, 0)
   after_verdict s (Leaves marks) ks = Some (ks, 0)
+  after_verdict s (Posts q) ks = Some (ks, 0)
+  after_verdict s (Waits number) ks = Some (ks, 0)
   after_verdict s (Edits e t) ks = option_map (λ js. (js, 0)) (spared s.tree e ks)
   after_verdict s (Asks q) ks = option_and_then (λ rs. cond (list_all (is_told s.tree) rs) (Some (ks ++ added s.tree ks rs, length (added s.tree ks rs))) None) (reach s.tree q)
 
@@ -461,6 +463,8 @@ module _ (rules : Rules) (height : ℕ) where
   is_after s (Refuses refusal) Kept ks p just e = let equal : (ks, 0) ≡ p = some_is _ _ e in subst (IsAfter s (Refuses refusal) Kept) equal (refl, just)
   is_after s (Tells shown) Kept ks p just e = let equal : (ks, 0) ≡ p = some_is _ _ e in subst (IsAfter s (Tells shown) Kept) equal (refl, just)
   is_after s (Leaves marks) Kept ks p just e = let equal : (ks, 0) ≡ p = some_is _ _ e in subst (IsAfter s (Leaves marks) Kept) equal (refl, just)
+  is_after s (Posts q) Kept ks p just e = let equal : (ks, 0) ≡ p = some_is _ _ e in subst (IsAfter s (Posts q) Kept) equal (refl, just)
+  is_after s (Waits number) Kept ks p just e = let equal : (ks, 0) ≡ p = some_is _ _ e in subst (IsAfter s (Waits number) Kept) equal (refl, just)
   is_after s (Edits e t) Kept ks p just h =
       let (js, is, equal) = mapped (λ (js : List (Instance Node)). (js, 0)) (spared s.tree e ks) p h in
       subst (IsAfter s (Edits e t) Kept) equal (

@@ -7,9 +7,10 @@ use Rattle.at_model.specs.Run.{Instance}
 use Rattle.at_model.specs.Rules.{Rules}
 use Rattle.at_model.specs.Meaning.{Among, Distinct}
 use Rattle.at_model.specs.Lines.{Line}
-use Rattle.at_model.specs.Machine.{State, Verdict, Refuses, Tells, Leaves, Edits, Asks, after, IsSound}
+use Rattle.at_model.specs.Machine.{State, Verdict, Refuses, Tells, Leaves, Edits, Asks, Posts, Waits, after, IsSound}
 use Rattle.at_model.specs.Sparing.{KeptAfter, AreWellKept, IsWork}
 use Rattle.at_model.specs.Keeping.{heard, state_after, KeptOver, AreWorks, IsTotalWork, NothingKept, max_work}
+use Rattle.at_model.proofs.Members.{no_more}
 use Rattle.at_model.proofs.Sound.{sound_line}
 use Rattle.at_model.proofs.WellKept.{kept_well}
 
@@ -32,22 +33,6 @@ well_over rules s (l ∷ ls) Kept sound well = well_over rules (after s (heard r
 pub well_from_nothing : (rules : Rules) (s : State) (ls : List (Option Line)) → IsSound rules.classes s → AreWellKept rules (state_after rules s ls).tree (KeptOver rules s ls NothingKept)
 well_from_nothing rules s ls sound = well_over rules s ls NothingKept sound (record { lazy = λ i none. absurd none; valued = λ i none. absurd none; deep = λ i j none leads is. none })
 
--- a list without one of its elements
-without : {A : Type 0} (x : A) (ys : List A) → Among x ys → (zs : List A) × (length ys ≡ suc (length zs)) × ((a : A) → Among a ys → (a ≡ x) ⊎ Among a zs)
-without x [] h = absurd h
-without x (y ∷ ys) (inl same) = (ys, refl, λ a g. elim g [ inl e ↦ inl (e ∙ sym same) | inr m ↦ inr m ])
-without x (y ∷ ys) (inr h) =
-    let (zs, size, others) = without x ys h in
-    (y ∷ zs, ap suc size, λ a g. elim g [ inl e ↦ inr (inl e) | inr m ↦ elim (others a m) [ inl e ↦ inl e | inr k ↦ inr (inr k) ] ])
-
--- distinct elements of a list are no more than it has
-no_more : {A : Type 0} (xs ys : List A) → Distinct xs → ((a : A) → Among a xs → Among a ys) → length xs ≤ length ys
-no_more [] ys d h = omega arith
-no_more (x ∷ xs) ys d h =
-    let (zs, size, others) = without x ys (h x (inl refl)) in
-    let fewer = no_more xs zs d.1 (λ a m. elim (others a (h a (inr m))) [ inl e ↦ absurd (d.0 (subst (λ z. Among z xs) e m)) | inr k ↦ k ]) in
-    omega (arith, size, fewer)
-
 as_many : {A : Type 0} (xs ys : List A) → Distinct xs → Distinct ys → ((a : A) → Among a xs → Among a ys) → ((a : A) → Among a ys → Among a xs) → length xs ≡ length ys
 as_many xs ys d e f g = let a = no_more xs ys d f in let b = no_more ys xs e g in omega (arith, a, b)
 
@@ -56,6 +41,8 @@ one_work rules s (Refuses refusal) Kept w u h k = h ∙ sym k
 one_work rules s (Tells shown) Kept w u h k = h ∙ sym k
 one_work rules s (Leaves marks) Kept w u h k = h ∙ sym k
 one_work rules s (Edits e t) Kept w u h k = h ∙ sym k
+one_work rules s (Posts q) Kept w u h k = h ∙ sym k
+one_work rules s (Waits number) Kept w u h k = h ∙ sym k
 one_work rules s (Asks q) Kept w u (xs, these, e) (ys, those, f) =
     e ∙ as_many xs ys these.distinct those.distinct (λ a m. (those.exactly a).1 ((these.exactly a).0 m)) (λ a m. (these.exactly a).1 ((those.exactly a).0 m)) ∙ sym f
 

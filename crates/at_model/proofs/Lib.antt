@@ -9,6 +9,7 @@ pub mod Nodes
 pub mod WayUp
 pub mod Complete
 pub mod Steps
+pub mod Machines
 pub mod Changes
 pub mod Cutting
 pub mod Runs
@@ -25,6 +26,9 @@ pub mod Ways
 pub mod Untouched
 pub mod Untouching
 pub mod Carried
+pub mod Moves
+pub mod Moved
+pub mod Edited
 pub mod Surviving
 pub mod Sound
 pub mod WellKept
@@ -66,3 +70,5 @@ pub mod TypedNumbers
 pub mod TypedTogether
 pub mod Taken
 pub mod SampleRules
+pub mod Members
+pub mod Bounded

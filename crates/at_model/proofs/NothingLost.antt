@@ -12,7 +12,7 @@ use Rattle.at_model.specs.Machine.{State, Verdict, Edits, after, verdict, IsSoun
 use Rattle.at_model.specs.Sparing.{KeptAfter, IsUntouched}
 use Rattle.at_model.specs.Keeping.{heard, state_after, KeptOver, NothingKept}
 use Rattle.at_model.proofs.Changes.{whole}
-use Rattle.at_model.proofs.Sound.{Safe, refused, told, asked, left, edits, safe}
+use Rattle.at_model.proofs.Sound.{Safe, refused, told, asked, left, edits, posts, waited, safe}
 use Rattle.at_model.proofs.WithinTree.{demands_stay}
 use Rattle.at_model.proofs.WellAsked.{well_asked, well_there}
 use Rattle.at_model.proofs.CarriedInstances.{instance_carried, instance_there}
@@ -27,6 +27,8 @@ module _ (rules : Rules) (s : State) (Kept : Instance Node → Type 0) (sound : 
   there_by l v is (refused c) = there
   there_by l v is (told shown) = there
   there_by l v is (left marks lead) = there
+  there_by l v is (posts q lead) = there
+  there_by l v is (waited number) = there
   there_by l v is (asked q) = λ i h. elim h [
     | inl kept ↦ there i kept
     | inr worth ↦ demands_stay rules s.tree q i (well_there rules s.tree q (well_asked rules s l q is)) worth.reached
@@ -50,6 +52,8 @@ made_by rules s e t v (refused c) is = absurd cc
 made_by rules s e t v (told shown) is = absurd cc
 made_by rules s e t v (left marks lead) is = absurd cc
 made_by rules s e t v (asked q) is = absurd cc
+made_by rules s e t v (posts q lead) is = absurd cc
+made_by rules s e t v (waited number) is = absurd cc
 made_by rules s e t v (edits by u made) is = let same : by ≡ e = cc in let also : u ≡ t = cc in subst (λ x. edited rules.classes s.tree e ≡ Ok x) also (subst (λ x. edited rules.classes s.tree x ≡ Ok u) same made)
 
 made_heard : (rules : Rules) (s : State) (l : Option Line) (e : Edit) (t : Tree) → IsSound rules.classes s → heard rules s l ≡ Edits e t → edited rules.classes s.tree e ≡ Ok t

@@ -8,7 +8,7 @@ use lib.Chars.{codes}
 use Rattle.at_model.specs.Names.{is_name, is_word, is_reserved}
 use Rattle.at_model.specs.Terms.{max_depth, with_commas}
 use Rattle.at_model.specs.Paths.{Path, Step, path_text, step_text, index_text, IsPath, IsIndex}
-use Rattle.at_model.specs.Lines.{Place, From_root, From_mark, Argument, Text, Ref, Null, Command, Ask, Set, Put, Drop, Insert, Token, Show, Mark, Unmark, Where, Version, Line, place_text, argument_text, call_text, command_words, expected_words, line_text, IsPlace, IsArgument, IsCommand, IsVersion, IsLine}
+use Rattle.at_model.specs.Lines.{Place, From_root, From_mark, Argument, Text, Ref, Null, Command, Ask, Set, Put, Drop, Insert, Token, Move, Show, Mark, Unmark, Where, Version, Post, Wait, Line, place_text, argument_text, call_text, command_words, expected_words, line_text, IsPlace, IsArgument, IsCommand, IsVersion, IsLine}
 use Rattle.at_model.proofs.Words.{apart, apart_bytes, Ends, Stops, same_word, stops, ends_not, ends_wordless, name_inner}
 use Rattle.at_model.proofs.QuotedTexts.{same_quoted}
 use Rattle.at_model.proofs.OneTerm.{tail, same_decimal, same_token, same_term}
@@ -176,6 +176,12 @@ same_command (Token p a v) (Token q b w) hc hd e =
     let parts = same_word a b _ _ (name_inner a hc.1.0 hc.1.1) (name_inner b hd.1.0 hd.1.1) refl refl (ap tail places.1) in
     let tokens = same_token v w [] [] hc.2 hd.2 tt tt (onto_end (ap tail parts.1)) in
     λ i. Token (places.0 i) (parts.0 i) (tokens.0 i)
+same_command (Move p x a i) (Move q y b j) hc hd e =
+    let places = same_place p q _ _ hc.0 hd.0 refl refl (ap (drop 5) e) in
+    let others = same_place x y _ _ hc.1 hd.1 refl refl (ap (drop 4) places.1) in
+    let parts = same_word a b _ _ (name_inner a hc.2.0 hc.2.1) (name_inner b hd.2.0 hd.2.1) refl refl (ap tail others.1) in
+    let indexes = same_decimal i j [] [] (omega (arith, hc.3)) (omega (arith, hd.3)) tt tt (onto_end (ap tail parts.1)) in
+    λ k. Move (places.0 k) (others.0 k) (parts.0 k) (indexes.0 k)
 same_command (Show p) (Show q) hc hd e = ap Show (same_place p q [] [] hc hd tt tt (onto_end (ap (drop 5) e))).0
 same_command (Mark a p) (Mark b q) hc hd e =
     let names = same_word a b _ _ (name_inner a hc.0.0 hc.0.1) (name_inner b hd.0.0 hd.0.1) refl refl (ap (drop 5) e) in
@@ -184,6 +190,11 @@ same_command (Mark a p) (Mark b q) hc hd e =
 same_command (Unmark a) (Unmark b) hc hd e = ap Unmark (ap (drop 7) e)
 same_command (Where a) (Where b) hc hd e = ap Where (ap (drop 6) e)
 same_command Version Version hc hd e = refl
+same_command (Post p a as') (Post q b bs) hc hd e =
+    let places = same_place p q _ _ hc.0 hd.0 refl refl (ap (drop 5) e) in
+    let calls = same_call a b as' bs hc.1.0 hc.1.1 hd.1.0 hd.1.1 hc.2 hd.2 (ap tail places.1) in
+    λ i. Post (places.0 i) (calls.0 i) (calls.1 i)
+same_command (Wait m) (Wait n) hc hd e = ap Wait (same_decimal m n [] [] (omega (arith, hc.1)) (omega (arith, hd.1)) tt tt (onto_end (ap (drop 5) e))).0
 same_command c d hc hd e = absurd (apart_bytes (two (command_text c)) (two (command_text d)) refl (ap two e))
 
 -- lines
@@ -201,11 +212,14 @@ words_filled (Put p a t) = filled _ _
 words_filled (Drop p) = filled _ _
 words_filled (Insert p a i t) = filled _ _
 words_filled (Token p a v) = filled _ _
+words_filled (Move p x a i) = filled _ _
 words_filled (Show p) = filled _ _
 words_filled (Mark a p) = filled _ _
 words_filled (Unmark a) = filled _ _
 words_filled (Where a) = filled _ _
 words_filled Version = filled _ _
+words_filled (Post p a as') = filled _ _
+words_filled (Wait n) = filled _ _
 
 join_filled : (x : List ℕ) (ws : List (List ℕ)) → IsFilled ws → join_with_byte 32 (x ∷ ws) ≡ x ++ (32 ∷ join_with_byte 32 ws)
 join_filled x ws (filled w rest) = refl
@@ -222,11 +236,14 @@ no_at (Put p a t) y e = apart 112 97 _ _ refl e
 no_at (Drop p) y e = apart 100 97 _ _ refl e
 no_at (Insert p a i t) y e = apart 105 97 _ _ refl e
 no_at (Token p a v) y e = apart 116 97 _ _ refl e
+no_at (Move p x a i) y e = apart 109 97 _ _ refl e
 no_at (Show p) y e = apart 115 97 _ _ refl e
 no_at (Mark a p) y e = apart 109 97 _ _ refl e
 no_at (Unmark a) y e = apart 117 97 _ _ refl e
 no_at (Where a) y e = apart 119 97 _ _ refl e
 no_at Version y e = apart 118 97 _ _ refl e
+no_at (Post p a as') y e = apart 112 97 _ _ refl e
+no_at (Wait n) y e = apart 119 97 _ _ refl e
 
 same_body : (o p : Option ℕ) (c d : Command) → IsVersion o → IsVersion p → IsCommand c → IsCommand d → body_text o c ≡ body_text p d → (o ≡ p) × (c ≡ d)
 unfolding body_text

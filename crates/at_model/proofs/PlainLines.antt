@@ -10,7 +10,7 @@ use Rattle.at_model.specs.Names.{starts_name, continues_name, is_word, is_reserv
 use Rattle.at_model.specs.Trees as tree
 use Rattle.at_model.specs.Terms.{Term, Cells, Cell, Terms, Node, no_cells, cell, One, Many, Empty, Holds, no_terms, term, IsInt32, IsToken, IsTermWithin, AreCellsWithin, IsCellWithin, AreTermsWithin, max_depth}
 use Rattle.at_model.specs.Paths.{Path, Step, IsIndex, IsStep, IsPath}
-use Rattle.at_model.specs.Lines.{Place, From_root, From_mark, Argument, Text, Ref, Null, Command, Ask, Set, Put, Drop, Insert, Token, Show, Mark, Unmark, Where, Version, Line, line_text, IsPlace, IsArgument, IsCommand, IsVersion, Spells, last_version, max_sessions, max_line}
+use Rattle.at_model.specs.Lines.{Place, From_root, From_mark, Argument, Text, Ref, Null, Command, Ask, Set, Put, Drop, Insert, Token, Move, Show, Mark, Unmark, Where, Version, Post, Wait, Line, line_text, IsPlace, IsArgument, IsCommand, IsVersion, Spells, last_version, last_post, max_sessions, max_line}
 use Rattle.at_model.proofs.Options.{and_true}
 use Rattle.at_model.proofs.Words.{all_and}
 
@@ -175,11 +175,14 @@ is_plain_command (Put p part t) = is_plain_place p && (is_plain_name part && is_
 is_plain_command (Drop p) = is_plain_place p
 is_plain_command (Insert p part i t) = is_plain_place p && (is_plain_name part && (is_plain_index (Some i) && is_plain_term max_depth t))
 is_plain_command (Token p part v) = is_plain_place p && (is_plain_name part && is_plain_token v)
+is_plain_command (Move p to part i) = is_plain_place p && (is_plain_place to && (is_plain_name part && is_plain_index (Some i)))
 is_plain_command (Show p) = is_plain_place p
 is_plain_command (Mark name p) = is_plain_name name && is_plain_place p
 is_plain_command (Unmark name) = is_plain_name name
 is_plain_command (Where name) = is_plain_name name
 is_plain_command Version = true
+is_plain_command (Post p name as') = is_plain_place p && (is_plain_name name && list_all is_plain_argument as')
+is_plain_command (Wait n) = nat_lt 0 n && nat_le n last_post
 
 command : (c : Command) → is_plain_command c ≡ true → IsCommand c
 command (Ask p name as') h = let g = all_and (is_plain_place p) (is_plain_name name && list_all is_plain_argument as') h in let f = all_and (is_plain_name name) (list_all is_plain_argument as') g.1 in (place p g.0, named name f.0, each is_plain_argument IsArgument argument as' f.1)
@@ -192,11 +195,18 @@ command (Insert p part i t) h =
     let e = all_and (is_plain_index (Some i)) (is_plain_term max_depth t) f.1 in
     (place p g.0, named part f.0, index (Some i) e.0, plain_term max_depth t e.1)
 command (Token p part v) h = let g = all_and (is_plain_place p) (is_plain_name part && is_plain_token v) h in let f = all_and (is_plain_name part) (is_plain_token v) g.1 in (place p g.0, named part f.0, token v f.1)
+command (Move p to part i) h =
+    let g = all_and (is_plain_place p) (is_plain_place to && (is_plain_name part && is_plain_index (Some i))) h in
+    let f = all_and (is_plain_place to) (is_plain_name part && is_plain_index (Some i)) g.1 in
+    let e = all_and (is_plain_name part) (is_plain_index (Some i)) f.1 in
+    (place p g.0, place to f.0, named part e.0, index (Some i) e.1)
 command (Show p) h = place p h
 command (Mark name p) h = let g = all_and (is_plain_name name) (is_plain_place p) h in (named name g.0, place p g.1)
 command (Unmark name) h = named name h
 command (Where name) h = named name h
 command Version h = tt
+command (Post p name as') h = let g = all_and (is_plain_place p) (is_plain_name name && list_all is_plain_argument as') h in let f = all_and (is_plain_name name) (list_all is_plain_argument as') g.1 in (place p g.0, named name f.0, each is_plain_argument IsArgument argument as' f.1)
+command (Wait n) h = let g = all_and (nat_lt 0 n) (nat_le n last_post) h in (below 0 n g.0, at_most n last_post g.1)
 
 abbrev pub is_plain_version : Option ℕ → Bool
 is_plain_version None = true

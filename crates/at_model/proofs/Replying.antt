@@ -1,15 +1,17 @@
--- Every line has a reply, but a question that has no answer.
-use Rattle.std.proofs.Common.{◌≡◌, ℕ, zero, suc, ◌+◌, ◌<◌, ◌≤◌, Bool, true, false, nat_eq, cond, List, [], ◌∷◌, ◌++◌, Option, Some, None, ◌⊎◌, inl, inr, refl, sym, ap, ◌∙◌, subst, arith}
+-- Every line has a reply, but a question that has no answer, and so has every open question at a turn.
+use Rattle.std.proofs.Common.{◌≡◌, ℕ, zero, suc, ◌+◌, ◌<◌, ◌≤◌, Bool, true, false, nat_eq, cond, map, option_and_then, List, [], ◌∷◌, ◌++◌, Option, Some, None, ◌⊎◌, inl, inr, refl, sym, ap, ◌∙◌, subst, arith}
 use Rattle.std.specs.Prelude.{decimal}
 use Rattle.std.proofs.lemmas.Bool.{eqb-true, eqb-false, eq-eqb}
-use Rattle.at_model.specs.Paths.{Node}
+use Rattle.at_model.specs.Trees.{class_of}
+use Rattle.at_model.specs.Paths.{Node, tree_at}
 use Rattle.at_model.specs.Run.{Instance}
-use Rattle.at_model.specs.Rules.{Rules}
+use Rattle.at_model.specs.Rules.{Rules, attribute_named}
 use Rattle.at_model.specs.Meaning.{Answer}
-use Rattle.at_model.specs.Lines.{Line, Spells, BeginsWith, IsSpaceOrEnd, IsSessionOf, max_sessions}
-use Rattle.at_model.specs.Replies.{Reply, Form, Shows, Done, Refused, Memory}
+use Rattle.at_model.specs.Lines.{Line, Place, Argument, Ask, Spells, BeginsWith, IsSpaceOrEnd, IsSessionOf, max_sessions}
+use Rattle.at_model.specs.Replies.{Reply, Form, Code, Shows, Done, Opened, Refused, Memory}
 use Rattle.at_model.specs.Replies as code
-use Rattle.at_model.specs.Machine.{State, Verdict, Refuses, Tells, Leaves, Edits, Asks, AnswersIn, Says, Handles, obeys, refuses, Serves, after, verdict, answer_form}
+use Rattle.at_model.specs.Machine.{State, Posted, Verdict, Refuses, Tells, Leaves, Edits, Asks, Posts, Waits, AnswersIn, AnswersPosted, Says, Handles, obeys, waits, refuses, Serves, runs_out, Turns, answers, last, numbered, without, done_reply, seen_by, line_of, after, verdict, obeyed, answer_form, each, value_named, fit_parameters, parameters_of}
+use Rattle.at_model.proofs.Changes.{if_both, at_option, node_all, whole, waited_for}
 
 -- what stands behind the front
 strip : List ℕ → List ℕ → Option (List ℕ)
@@ -82,26 +84,61 @@ session_read bytes = elim (sessions_below bytes max_sessions (omega arith)) [
   | inr none ↦ (None, λ session b. none session b.exists b)
 ]
 
--- each verdict is told, a question where it has an answer
-says_something : (rules : Rules) (s : State) (v : Verdict) → ((q : Instance Node) → v ≡ Asks q → (a : Answer Node) × AnswersIn rules s.tree q a) → (form : Form) × Says rules s v form
-says_something rules s (Refuses refusal) h = (Refused refusal, refl)
-says_something rules s (Tells shown) h = (Shows shown, refl)
-says_something rules s (Leaves marks) h = (Done s.version, refl)
-says_something rules s (Edits e t) h = (Done (s.version + 1), refl)
-says_something rules s (Asks q) h = let (a, answered) = h q refl in (answer_form rules s.tree a, (a, answered, refl))
+-- what the verdict asks has an answer
+abbrev pub IsAnswered : Rules → State → Verdict → Type 0
+IsAnswered rules s v = (q : Instance Node) → v ≡ Asks q → (a : Answer Node) × AnswersIn rules s.tree q a
 
-pub reply_to_line : (rules : Rules) (old : State) (bytes : List ℕ) (l : Line) → Spells bytes l → ((q : Instance Node) → verdict rules old l ≡ Asks q → (a : Answer Node) × AnswersIn rules old.tree q a) →
-    (reply : Reply) × Handles rules old bytes (after old (verdict rules old l)) reply
-reply_to_line rules old bytes l spells answered =
-    let (form, says) = says_something rules old (verdict rules old l) answered in
-    (record { session = Some l.session; form = form }, obeys l spells (record { session = refl; state = refl; says = says }))
+-- each verdict is told, a question where it has an answer, but that a line waits
+says_something : (rules : Rules) (s : State) (v : Verdict) → IsAnswered rules s v → ((number : ℕ) → v ≡ Waits number → ⊥) → (form : Form) × Says rules s v form
+says_something rules s (Refuses refusal) h none = (Refused refusal, refl)
+says_something rules s (Tells shown) h none = (Shows shown, refl)
+says_something rules s (Leaves marks) h none = (Done s.version, refl)
+says_something rules s (Edits e t) h none = (Done (s.version + 1), refl)
+says_something rules s (Asks q) h none = let (a, answered) = h q refl in (answer_form rules s.tree a, (a, answered, refl))
+says_something rules s (Posts q) h none = (Opened q.number, refl)
+says_something rules s (Waits number) h none = absurd (none number refl)
 
-pub reply_to_no_line : (rules : Rules) (old : State) (bytes : List ℕ) → ((l : Line) → Spells bytes l → ⊥) → (reply : Reply) × Handles rules old bytes old reply
+pub reply_to_line : (rules : Rules) (old : State) (bytes : List ℕ) (l : Line) → Spells bytes l → IsAnswered rules old (verdict rules old l) → ((number : ℕ) → verdict rules old l ≡ Waits number → ⊥) →
+    (reply : Reply) × Handles rules old bytes (after old (verdict rules old l)) (false, reply)
+reply_to_line rules old bytes l spells answered none =
+    let (form, says) = says_something rules old (verdict rules old l) answered none in
+    (record { session = Some l.session; done = None; form = form }, obeys l spells (record { session = refl; done = refl; state = refl; says = says }))
+
+-- what asks never waits
+asking_waits_not : (rules : Rules) (s : State) (session : ℕ) (place : Place) (attribute : List ℕ) (arguments : List Argument) (number : ℕ) → obeyed rules s session (Ask place attribute arguments) ≡ Waits number → ⊥
+asking_waits_not rules s session place attribute arguments number =
+    let P : Verdict → Type 0 = λ v. v ≡ Waits number → ⊥ in
+    let refused : (c : Code) → P (Refuses c) = λ c e. cc in
+    node_all P refused rules.classes s session place _ (λ n. at_option P refused (each (map (value_named rules.classes s session) arguments)) code.Path _ (λ vs.
+    at_option P refused (option_and_then (λ u. attribute_named rules (class_of u) attribute) (tree_at s.tree n)) code.Attribute _ (λ a.
+    if_both P (fit_parameters rules.classes s.tree (parameters_of rules a) vs) _ _ (λ e. cc) (refused code.Arguments))))
+
+-- what the open question asks has an answer
+abbrev pub IsPostedAnswered : Rules → State → Posted → Type 0
+IsPostedAnswered rules s q = IsAnswered rules s (verdict rules (seen_by q s) (line_of q))
+
+pub answer_of_posted : (rules : Rules) (s : State) (q : Posted) → IsPostedAnswered rules s q → (form : Form) × AnswersPosted rules s q form
+answer_of_posted rules s q answered =
+    let v = verdict rules (seen_by q s) (line_of q) in
+    let P : Verdict → Type 0 = λ v. (number : ℕ) → v ≡ Waits number → ⊥ in
+    says_something rules (seen_by q s) v answered (whole P (λ c number e. cc) rules (seen_by q s) (line_of q) (asking_waits_not rules (seen_by q s) q.session q.place q.attribute q.arguments))
+
+pub turn_answers : (rules : Rules) (s : State) (number : ℕ) (q : Posted) → numbered s number ≡ Some q → IsPostedAnswered rules s q → (form : Form) × Turns rules s number (without number s) (Some (false, done_reply s q form))
+turn_answers rules s number q is answered = let (form, says) = answer_of_posted rules s q answered in (form, answers q form is says)
+
+pub reply_to_waiting : (rules : Rules) (old : State) (bytes : List ℕ) (l : Line) (number : ℕ) → Spells bytes l → verdict rules old l ≡ Waits number →
+    ((q : Posted) → numbered old number ≡ Some q → IsPostedAnswered rules old q) → (reply : Reply) × Handles rules old bytes (without number old) (false, reply)
+reply_to_waiting rules old bytes l number spells is answered =
+    let (q, found) = waited_for rules old l number is in
+    let (form, turn) = turn_answers rules old number q found (answered q found) in
+    (done_reply old q form, waits l number spells is (last turn))
+
+pub reply_to_no_line : (rules : Rules) (old : State) (bytes : List ℕ) → ((l : Line) → Spells bytes l → ⊥) → (reply : Reply) × Handles rules old bytes old (false, reply)
 reply_to_no_line rules old bytes none =
     let (session, read) = session_read bytes in
-    (record { session = session; form = Refused code.Syntax }, refuses none read refl refl)
+    (record { session = session; done = None; form = Refused code.Syntax }, refuses none read)
 
-pub reply_without_memory : (rules : Rules) (old : State) (bytes : List ℕ) → (reply : Reply) × Serves rules true old bytes old reply
+pub reply_without_memory : (rules : Rules) (old : State) (bytes : List ℕ) → (reply : Reply) × Serves rules old bytes old (true, reply)
 reply_without_memory rules old bytes =
     let (session, read) = session_read bytes in
-    (record { session = session; form = Memory }, (read, refl, refl))
+    (record { session = session; done = None; form = Memory }, runs_out read)

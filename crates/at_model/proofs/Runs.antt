@@ -1,34 +1,44 @@
--- Runs of lines: one line more at the end, and one text and one state for all.
-use Rattle.std.proofs.Common.{◌≡◌, ℕ, Bool, List, [], ◌∷◌, ◌++◌, refl, sym, ap, ◌∙◌, subst, append_assoc}
+-- Runs of lines and rows of turns: one after the other, and one more line at the end.
+use Rattle.std.proofs.Common.{◌≡◌, ℕ, ◌+◌, Bool, List, [], ◌∷◌, ◌++◌, refl, sym, ap, ◌∙◌, subst, append_assoc, arith}
 use Rattle.at_model.specs.Rules.{Rules}
 use Rattle.at_model.specs.Replies.{Reply, reply_text}
-use Rattle.at_model.specs.Machine.{State, Serves, Runs}
+use Rattle.at_model.specs.Machine.{State, Serves, Given, spent, none_open, silent, telling, Runs, end, next, text_of}
+use Rattle.at_model.proofs.Machines.{none_given}
 
-append_nil : {A : Type 0} (xs : List A) → xs ++ [] ≡ xs
+pub append_nil : {A : Type 0} (xs : List A) → xs ++ [] ≡ xs
 append_nil [] = refl
 append_nil (x ∷ xs) = ap (λ ys. x ∷ ys) (append_nil xs)
 
-pub one_more : (rules : Rules) (old mid new : State) (ls : List (List ℕ)) (named : List Bool) (text line : List ℕ) (b : Bool) (reply : Reply) →
-    Runs rules old ls named text mid → Serves rules b mid line new reply → Runs rules old (ls ++ line ∷ []) (named ++ b ∷ []) (text ++ reply_text reply) new
-one_more rules old mid new [] [] text line b reply (e, f) h =
-    let P : State → Type 0 = λ x. Serves rules b x line new reply in
-    (new, reply, [], subst P f h, ap (λ t. t ++ reply_text reply) e ∙ sym (append_nil (reply_text reply)), (refl, refl))
-one_more rules old mid new [] (c ∷ named) text line b reply h k = absurd h
-one_more rules old mid new (l ∷ ls) [] text line b reply h k = absurd h
-one_more rules old mid new (l ∷ ls) (c ∷ named) text line b reply (next, told, more, serves, e, runs) h =
-    (next, told, more ++ reply_text reply, serves, ap (λ t. t ++ reply_text reply) e ∙ append_assoc (reply_text told) more (reply_text reply), one_more rules next mid new ls named more line b reply runs h)
+-- the text of two rows
+pub text_append : (told more : List (Bool × Reply)) → text_of (told ++ more) ≡ text_of told ++ text_of more
+text_append [] more = refl
+text_append (x ∷ told) more = ap (λ z. reply_text x.1 ++ z) (text_append told more) ∙ sym (append_assoc (reply_text x.1) (text_of told) (text_of more))
 
--- each line has one reply
-abbrev pub ServesOnce : Rules → Type 0
-ServesOnce rules = (b : Bool) (old : State) (line : List ℕ) (new other : State) (reply told : Reply) → Serves rules b old line new reply → Serves rules b old line other told → (new ≡ other) × (reply ≡ told)
+-- turns behind turns
+none_more : (rules : Rules) (m n : ℕ) (s : State) (more : List (Bool × Reply)) (new : State) → s.posted ≡ [] → Given rules n s more new → Given rules (m + n) s more new
+none_more rules m n s more new none given =
+    let (nothing, same) = none_given rules n s more new none given in
+    subst (λ told. Given rules (m + n) s told new) (sym nothing) (subst (λ x. Given rules (m + n) s [] x) (sym same) (none_open (m + n) s none))
 
-pub runs_once : (rules : Rules) → ServesOnce rules → (old : State) (ls : List (List ℕ)) (named : List Bool) (text told : List ℕ) (new other : State) →
-    Runs rules old ls named text new → Runs rules old ls named told other → (text ≡ told) × (new ≡ other)
-runs_once rules single old [] [] text told new other (e, f) (g, h) = (e ∙ sym g, f ∙ sym h)
-runs_once rules single old [] (c ∷ named) text told new other h k = absurd h
-runs_once rules single old (l ∷ ls) [] text told new other h k = absurd h
-runs_once rules single old (l ∷ ls) (c ∷ named) text told new other (mid, reply, more, serves, e, runs) (mid', reply', more', serves', e', runs') =
-    let both = single c old l mid mid' reply reply' serves serves' in
-    let P : State → Type 0 = λ x. Runs rules x ls named more' other in
-    let rest = runs_once rules single mid ls named more more' new other runs (subst P (sym both.0) runs') in
-    (e ∙ ap (λ r. reply_text r ++ more) both.1 ∙ ap (λ m. reply_text reply' ++ m) rest.0 ∙ sym e', rest.1)
+as_many : (rules : Rules) (m n : ℕ) (s : State) (told : List (Bool × Reply)) (new : State) → m ≡ n → Given rules m s told new → Given rules n s told new
+as_many rules m n s told new e given = subst (λ k. Given rules k s told new) e given
+
+pub given_on : (rules : Rules) (m n : ℕ) (s mid new : State) (told more : List (Bool × Reply)) → Given rules m s told mid → Given rules n mid more new → Given rules (m + n) s (told ++ more) new
+given_on rules _ n _ mid new _ more (spent s) given = as_many rules n (0 + n) s more new (omega arith) given
+given_on rules _ n _ mid new _ more (none_open m s none) given = none_more rules m n s more new none given
+given_on rules _ n _ mid new _ more (silent {limit = m} {s = s} {mid = first} {told = told} q is turn rest) given =
+    as_many rules ((m + n) + 1) ((m + 1) + n) s (told ++ more) new (omega arith) (silent q is turn (given_on rules m n first mid new told more rest given))
+given_on rules _ n _ mid new _ more (telling {limit = m} {s = s} {mid = first} {said = said} {told = told} q is turn rest) given =
+    as_many rules ((m + n) + 1) ((m + 1) + n) s (said ∷ (told ++ more)) new (omega arith) (telling q is turn (given_on rules m n first mid new told more rest given))
+
+-- lines behind lines
+pub runs_on : (rules : Rules) (slice : ℕ) (old mid new : State) (ls ms : List (List ℕ)) (told more : List (Bool × Reply)) →
+    Runs rules slice old ls told mid → Runs rules slice mid ms more new → Runs rules slice old (ls ++ ms) (told ++ more) new
+runs_on rules slice _ mid new _ ms _ more (end s) rest = rest
+runs_on rules slice old mid new _ ms _ behind (next {mid = first} {turned = turned} {line = line} {rest = ls} {said = said} {told = told} {more = more} serves given runs) rest =
+    subst (λ whole. Runs rules slice old (line ∷ (ls ++ ms)) (said ∷ whole) new) (sym (append_assoc told more behind)) (next serves given (runs_on rules slice turned mid new ls ms more behind runs rest))
+
+pub one_more : (rules : Rules) (slice : ℕ) (old mid after new : State) (ls : List (List ℕ)) (told : List (Bool × Reply)) (line : List ℕ) (said : Bool × Reply) (more : List (Bool × Reply)) →
+    Runs rules slice old ls told mid → Serves rules mid line after said → Given rules slice after more new → Runs rules slice old (ls ++ line ∷ []) (told ++ said ∷ more) new
+one_more rules slice old mid after new ls told line said more runs serves given =
+    runs_on rules slice old mid new ls (line ∷ []) told (said ∷ more) runs (subst (λ whole. Runs rules slice mid (line ∷ []) (said ∷ whole) new) (append_nil more) (next serves given (end new)))

@@ -56,3 +56,8 @@ root_circle = (
   (inl refl, inl refl),
   inr (inl refl),
 )
+
+-- circ comes to itself
+pub self_circle : Replies calc_tree (of_node root 9) (Circle (of_node root 9))
+unfolding chain
+self_circle = ([], (λ none. none, tt), inl refl, inl refl)

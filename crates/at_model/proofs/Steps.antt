@@ -7,7 +7,7 @@ use Rattle.at_model.specs.Rules.{Rules}
 use Rattle.at_model.specs.Meaning.{Answer, Outcomes, Circle, content, equations}
 use Rattle.at_model.specs.Lines.{Line}
 use Rattle.at_model.specs.Replies.{Reply, Form, Refused, Code}
-use Rattle.at_model.specs.Machine.{State, Verdict, Refuses, Tells, Leaves, Edits, Asks, AnswersIn, Says, after, Step, answer_form, verdict}
+use Rattle.at_model.specs.Machine.{State, Verdict, Refuses, Tells, Leaves, Edits, Asks, Posts, Waits, AnswersIn, Says, after, Step, answer_form, verdict}
 use Rattle.at_model.proofs.Outcomes.{once, not_both, closes_at_one}
 
 -- each instance has at most one answer
@@ -20,20 +20,23 @@ answers_once rules t q (Outcomes o) (Circle j) h k = absurd (not_both (content t
 answers_once rules t q (Circle j) (Outcomes o) h k = absurd (not_both (content t) (equations rules) q j o k h)
 answers_once rules t q (Circle i) (Circle j) h k = ap Circle (closes_at_one (content t) (equations rules) q i j h k)
 
-says_once : (rules : Rules) → AnswersOnce rules → (old : State) (v : Verdict) (form told : Form) →
+pub says_once : (rules : Rules) → AnswersOnce rules → (old : State) (v : Verdict) (form told : Form) →
     Says rules old v form → Says rules old v told → form ≡ told
 says_once rules single old (Refuses refusal) form told h k = h ∙ sym k
 says_once rules single old (Tells shown) form told h k = h ∙ sym k
 says_once rules single old (Leaves marks) form told h k = h ∙ sym k
 says_once rules single old (Edits e t) form told h k = h ∙ sym k
 says_once rules single old (Asks q) form told (a, p, f) (b, r, g) = f ∙ ap (answer_form rules old.tree) (single old.tree q a b p r) ∙ sym g
+says_once rules single old (Posts q) form told h k = h ∙ sym k
+says_once rules single old (Waits number) form told h k = absurd h
 
 pub steps_once : (rules : Rules) → AnswersOnce rules → (old : State) (l : Line) (new other : State) (reply told : Reply) →
     Step rules old l new reply → Step rules old l other told → (new ≡ other) × (reply ≡ told)
 steps_once rules single old l new other reply told h k =
     let session : reply.session ≡ told.session = h.session ∙ sym k.session in
+    let done : reply.done ≡ told.done = h.done ∙ sym k.done in
     let form = says_once rules single old (verdict rules old l) reply.form told.form h.says k.says in
-    (h.state ∙ sym k.state, λ i. record { session = session i; form = form i })
+    (h.state ∙ sym k.state, λ i. record { session = session i; done = done i; form = form i })
 
 -- what is told that it is refused has left the state
 refused_after : (rules : Rules) (old : State) (v : Verdict) (form : Form) (refusal : Code) →
@@ -43,6 +46,8 @@ refused_after rules old (Tells shown) form refusal h e = refl
 refused_after rules old (Leaves marks) form refusal h e = absurd cc
 refused_after rules old (Edits by t) form refusal h e = absurd cc
 refused_after rules old (Asks q) form refusal h e = refl
+refused_after rules old (Posts q) form refusal h e = absurd cc
+refused_after rules old (Waits number) form refusal h e = refl
 
 pub refused_step : (rules : Rules) (old : State) (l : Line) (new : State) (reply : Reply) (refusal : Code) →
     Step rules old l new reply → reply.form ≡ Refused refusal → new ≡ old

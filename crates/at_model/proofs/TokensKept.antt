@@ -1,20 +1,21 @@
 -- The tokens of a tree stay ones that can be written over every line, and a tree that conforms is then written as a term.
 use Rattle.std.proofs.Common.{◌≡◌, ℕ, zero, suc, ◌-◌, Bool, true, false, List, [], ◌∷◌, Option, Some, None, Ok, refl, sym, subst}
-use Rattle.std.specs.List.{insert, remove}
+use Rattle.std.specs.List.{slice_get, insert, remove}
 use Rattle.at_model.specs.Classes.{Classes}
-use Rattle.at_model.specs.Trees.{Tree, Cells, Cell, Trees, One, Many, Empty, Filled, Holds, no_cells, cell, no_trees, tree, to_cells, from_cells, to_trees, from_trees}
+use Rattle.at_model.specs.Trees.{Tree, Cells, Cell, Trees, One, Many, Empty, Filled, Holds, no_cells, cell, no_trees, tree, to_cells, from_cells, to_trees, from_trees, children}
 use Rattle.at_model.specs.Trees as trees
 use Rattle.at_model.specs.Terms.{IsToken, IsTerm, IsTermWithin, AreCellsWithin, IsCellWithin, AreTermsWithin, term_of, cells_of, cell_of, terms_of, max_depth}
-use Rattle.at_model.specs.Paths.{Node, parent_of}
+use Rattle.at_model.specs.Paths.{Node, tree_at, children_at, parent_of}
 use Rattle.at_model.specs.Rules.{Rules}
-use Rattle.at_model.specs.Edits.{Edit, Set, Put, Drop, Insert, Token, changed_at, with_child, with_cell, with_node, without_child, with_one_more, left_by, edited, has_component, fits_there, is_in_range, is_free, is_removable, is_within_limits}
-use Rattle.at_model.specs.Edits as edit
+use Rattle.at_model.specs.Edits.{Edit, Set, Put, Drop, Insert, Token, Move, changed_at, with_child, with_cell, with_node, without_child, with_one_more, taken_out, past_taking, put_in, left_by, edited}
 use Rattle.at_model.specs.Lines.{Line, Command, IsCommand}
 use Rattle.at_model.specs.Replies.{Reply}
-use Rattle.at_model.specs.Machine.{State, Verdict, Step, Handles, obeys, refuses, Serves, after, verdict, is_edit}
-use Rattle.at_model.specs.Effects.{IsEditOf, set, put, drop, insert as inserted, token}
+use Rattle.at_model.specs.Machine.{State, Verdict, Step, Handles, obeys, waits, refuses, Serves, handles, runs_out, after, verdict, is_edit}
+use Rattle.at_model.specs.Effects.{IsEditOf, set, put, drop, insert as inserted, token, move}
 use Rattle.at_model.specs.Enduring.{AreTokens, CellsAreTokens, CellIsTokens, TreesAreTokens}
-use Rattle.at_model.proofs.Conforming.{passed}
+use Rattle.at_model.proofs.Options.{led}
+use Rattle.at_model.proofs.Conforming.{accepted as is_accepted}
+use Rattle.at_model.proofs.Machines.{waited}
 use Rattle.at_model.proofs.Changes.{whole, other_step}
 use Rattle.at_model.proofs.Commanded.{IsChangeOf, refused, accepted, edit_of}
 
@@ -87,10 +88,40 @@ Brings (Put n part new) = AreTokens new
 Brings (Drop n) = Unit {0}
 Brings (Insert n part index new) = AreTokens new
 Brings (Token n part v) = IsToken v
+Brings (Move n to part index) = Unit {0}
 
 dropped : (t : Tree) (o : Option (Node × (ℕ × ℕ))) → AreTokens t → AreTokens (elim o [ None ↦ t | Some p ↦ with_node (with_cell (without_child p.1.1) p.1.0) t p.0 ])
 dropped t None k = k
 dropped t (Some p) k = node_changed (with_cell (without_child p.1.1) p.1.0) (cell_changed (without_child p.1.1) (child_removed p.1.1) p.1.0) t p.0 k
+
+-- what stands at a node of a tree whose tokens can be written
+in_trees : (ts : Trees) (i : ℕ) (u : Tree) → TreesAreTokens ts → slice_get (from_trees ts) i ≡ Some u → AreTokens u
+in_trees no_trees i u k e = absurd cc
+in_trees (tree t ts) zero u k e = let same : t ≡ u = cc in subst AreTokens same k.0
+in_trees (tree t ts) (suc i) u k e = in_trees ts i u k.1 e
+
+in_cell : (c : Cell) (i : ℕ) (u : Tree) → CellIsTokens c → slice_get (children c) i ≡ Some u → AreTokens u
+in_cell (One t) zero u k e = let same : t ≡ u = cc in subst AreTokens same k
+in_cell (One t) (suc i) u k e = absurd cc
+in_cell (Many ts) i u k e = in_trees ts i u k e
+in_cell Empty i u k e = absurd cc
+in_cell (Filled t) zero u k e = let same : t ≡ u = cc in subst AreTokens same k
+in_cell (Filled t) (suc i) u k e = absurd cc
+in_cell (Holds v) i u k e = absurd cc
+
+in_cells : (cs : Cells) (part i : ℕ) (u : Tree) → CellsAreTokens cs → slice_get (elim (slice_get (from_cells cs) part) as (λ _. List Tree) [ None ↦ [] | Some c ↦ children c ]) i ≡ Some u → AreTokens u
+in_cells no_cells part i u k e = absurd cc
+in_cells (cell c cs) zero i u k e = in_cell c i u k.0 e
+in_cells (cell c cs) (suc part) i u k e = in_cells cs part i u k.1 e
+
+below : (t : Tree) (n : Node) (u : Tree) → AreTokens t → tree_at t n ≡ Some u → AreTokens u
+below t [] u k e = let same : t ≡ u = cc in subst AreTokens same k
+below (trees.Node c cells) (s ∷ ss) u k e = let (v, child, under) = led (λ x. tree_at x ss) (slice_get (children_at (trees.Node c cells) s.0) s.1) u e in below v ss u (in_cells cells s.0 s.1 v k child) under
+
+moved : (t : Tree) (node : Node) (part index : ℕ) (o : Option Tree) (r : Option Node) → tree_at t node ≡ o → AreTokens t → AreTokens (elim o [ None ↦ t | Some u ↦ elim r [ None ↦ t | Some q ↦ put_in (taken_out t node) q part index u ] ])
+moved t node part index None r is k = k
+moved t node part index (Some u) None is k = k
+moved t node part index (Some u) (Some q) is k = node_changed (with_cell (with_one_more u index) part) (cell_changed (with_one_more u index) (child_inserted u (below t node u k is) index) part) (taken_out t node) q (dropped t (parent_of node) k)
 
 left : (t : Tree) (e : Edit) → Brings e → AreTokens t → AreTokens (left_by t e)
 left t (Set n new) h k = node_changed (λ u. new) (λ u g. h) t n k
@@ -98,16 +129,10 @@ left t (Put n part new) h k = node_changed (with_cell (λ c. Filled new) part) (
 left t (Drop n) h k = dropped t (parent_of n) k
 left t (Insert n part index new) h k = node_changed (with_cell (with_one_more new index) part) (cell_changed (with_one_more new index) (child_inserted new h index) part) t n k
 left t (Token n part v) h k = node_changed (with_cell (λ c. Holds v) part) (cell_changed (λ c. Holds v) (λ c g. h) part) t n k
+left t (Move n to part index) h k = moved t n part index (tree_at t n) (past_taking n to) refl k
 
 is_left : (classes : Classes) (t u : Tree) (e : Edit) → edited classes t e ≡ Ok u → left_by t e ≡ u
-is_left classes t u e is =
-    let component = passed classes (has_component classes t e) edit.Component _ u is in
-    let fit = passed classes (fits_there classes t e) edit.Fit _ u component.1 in
-    let index = passed classes (is_in_range t e) edit.Index _ u fit.1 in
-    let free = passed classes (is_free t e) edit.Taken _ u index.1 in
-    let removable = passed classes (is_removable classes t e) edit.Fixed _ u free.1 in
-    let limits = passed classes (is_within_limits (left_by t e)) edit.Limit _ u removable.1 in
-    cc
+is_left classes t u e is = (is_accepted classes t e u is).left
 
 -- lines ---------------------------------------------------------------------------------------------------------------
 
@@ -140,6 +165,7 @@ brings classes s session c e (put place name n part new named has) h = of_term c
 brings classes s session c e (drop place n named) h = tt
 brings classes s session c e (inserted place name n part index new named has) h = of_term classes max_depth new h.3
 brings classes s session c e (token place name n part v named has) h = h.2
+brings classes s session c e (move place to name n m part index named also has) h = tt
 
 tokens_after : (rules : Rules) (s : State) (l : Line) (v : Verdict) → IsCommand l.command → IsChangeOf rules.classes s l.session l.command v → AreTokens s.tree → AreTokens (after s v).tree
 tokens_after rules s l v h (refused c) k = k
@@ -151,10 +177,13 @@ tokens_step rules old l new reply true is h step k =
     subst P (sym step.state) (tokens_after rules old l (verdict rules old l) h (whole (IsChangeOf rules.classes old l.session l.command) refused rules old l (edit_of rules old l.session l.command is)) k)
 tokens_step rules old l new reply false is h step k = let same = other_step rules old l new reply is step in subst AreTokens (sym same.0) k
 
-tokens_handled : (rules : Rules) (old : State) (bytes : List ℕ) (new : State) (reply : Reply) → AreTokens old.tree → Handles rules old bytes new reply → AreTokens new.tree
-tokens_handled rules old bytes new reply k (obeys l spells step) = tokens_step rules old l new reply (is_edit l.command) refl spells.is_line.command step k
-tokens_handled rules old bytes new reply k (refuses none session same form) = let P : State → Type 0 = λ x. AreTokens x.tree in subst P (sym same) k
+tokens_handled : (rules : Rules) (old : State) (bytes : List ℕ) (new : State) (said : Bool × Reply) → AreTokens old.tree → Handles rules old bytes new said → AreTokens new.tree
+tokens_handled rules old bytes new _ k (obeys l {reply = reply} spells step) = tokens_step rules old l new reply (is_edit l.command) refl spells.is_line.command step k
+tokens_handled rules old bytes new said k (waits l number spells is answered) =
+    let w = waited rules number old new said answered in
+    let P : State → Type 0 = λ x. AreTokens x.tree in subst P (sym w.state) k
+tokens_handled rules old bytes _ _ k (refuses none session) = k
 
-pub tokens_served : (rules : Rules) (b : Bool) (old : State) (bytes : List ℕ) (new : State) (reply : Reply) → AreTokens old.tree → Serves rules b old bytes new reply → AreTokens new.tree
-tokens_served rules false old bytes new reply k h = tokens_handled rules old bytes new reply k h
-tokens_served rules true old bytes new reply k h = let P : State → Type 0 = λ x. AreTokens x.tree in subst P (sym h.1) k
+pub tokens_served : (rules : Rules) (old : State) (bytes : List ℕ) (new : State) (said : Bool × Reply) → AreTokens old.tree → Serves rules old bytes new said → AreTokens new.tree
+tokens_served rules old bytes new said k (handles h) = tokens_handled rules old bytes new said k h
+tokens_served rules old bytes _ _ k (runs_out session) = k

@@ -5,13 +5,12 @@ use Rattle.std.specs.List.{slice_get}
 use Rattle.std.proofs.lemmas.Bool.Decides.{nat_tests}
 use Rattle.at_model.specs.Trees.{Tree, Cells, Cell, Trees, Node as branch, no_cells, cell, One, Many, Empty, Filled, Holds, no_trees, tree, class_of, to_cells, from_cells, to_trees, from_trees, children}
 use Rattle.at_model.specs.Trees as trees
-use Rattle.at_model.specs.Paths.{Node, cell_at, children_at, tree_at, step_eq, node_eq, parent_of}
+use Rattle.at_model.specs.Paths.{Node, cell_at, children_at, tree_at, step_eq, node_eq, is_within, parent_of}
 use Rattle.at_model.specs.Run.{Location, Is, Tok, Slot, Up, Idx}
 use Rattle.at_model.specs.Meaning.{token_in, child_nodes, content}
 use Rattle.at_model.specs.Alike.{OptionLike, ListLike, LocationLike, ContentLike, Names}
 use Rattle.at_model.specs.Alike as alike
 use Rattle.at_model.specs.Edits.{changed_at, with_child, with_cell, with_node, moved_under}
-use Rattle.at_model.specs.Touches.{is_within}
 use Rattle.at_model.proofs.Options.{mapped}
 use Rattle.at_model.proofs.Nodes.{step_eq-sound}
 use Rattle.at_model.proofs.WayUp.{snoc, parent_of-snoc}
@@ -75,7 +74,7 @@ child-other f zero (suc j) (Filled t) h = refl
 child-other f (suc i) j (Filled t) h = refl
 child-other f i j (Holds v) h = refl
 
-child-length : (f : Tree → Tree) (i : ℕ) (c : Cell) → length (children (with_child f i c)) ≡ length (children c)
+pub child-length : (f : Tree → Tree) (i : ℕ) (c : Cell) → length (children (with_child f i c)) ≡ length (children c)
 child-length f zero (One t) = refl
 child-length f (suc i) (One t) = refl
 child-length f i (Many ts) = ap length (from_to_trees (changed_at f (from_trees ts) i)) ∙ length-changed f (from_trees ts) i
@@ -131,9 +130,25 @@ map-id : {A : Type 0} (o : Option A) → option_map (λ (x : A). x) o ≡ o
 map-id None = refl
 map-id (Some a) = refl
 
-then-map : {A B : Type 0} (h : A → A) (f : A → Option B) (k : A → Option B) (r : B → B) (o : Option A) → ((v : A) → o ≡ Some v → f (h v) ≡ option_map r (k v)) → option_and_then f (option_map h o) ≡ option_map r (option_and_then k o)
+pub then-map : {A B : Type 0} (h : A → A) (f : A → Option B) (k : A → Option B) (r : B → B) (o : Option A) → ((v : A) → o ≡ Some v → f (h v) ≡ option_map r (k v)) → option_and_then f (option_map h o) ≡ option_map r (option_and_then k o)
 then-map h f k r None e = refl
 then-map h f k r (Some v) e = e v refl
+
+-- the tree at a longer path
+pub tree_at-append : (t : Tree) (a b : Node) → tree_at t (a ++ b) ≡ option_and_then (λ u. tree_at u b) (tree_at t a)
+tree_at-append t [] b = refl
+tree_at-append t (s ∷ a) b = each_child (slice_get (children_at t s.0) s.1) (λ u. tree_at-append u a b)
+  where
+    each_child : (o : Option Tree) → ((u : Tree) → tree_at u (a ++ b) ≡ option_and_then (λ v. tree_at v b) (tree_at u a)) → option_and_then (λ u. tree_at u (a ++ b)) o ≡ option_and_then (λ v. tree_at v b) (option_and_then (λ u. tree_at u a) o)
+    each_child None h = refl
+    each_child (Some u) h = h u
+
+-- the changed tree stands where it stood
+pub changed_there : (f : Tree → Tree) (t : Tree) (p : Node) → tree_at (with_node f t p) p ≡ option_map f (tree_at t p)
+changed_there f t [] = refl
+changed_there f t (s ∷ ss) =
+    ap (option_and_then (λ x. tree_at x ss)) (step-same (λ x. with_node f x ss) s t) ∙
+    then-map (λ x. with_node f x ss) (λ x. tree_at x ss) (λ x. tree_at x ss) f (slice_get (children_at t s.0) s.1) (λ v child. changed_there f v ss)
 
 module _ (g : Cell → Cell) (part : ℕ) (past : Way → Option Way) where
   -- what stands at a node, after the change of the cell below the other node
@@ -231,7 +246,7 @@ module _ (g : Cell → Cell) (part : ℕ) (past : Way → Option Way) where
           by_step true h deeper = deeper h
           by_step false h deeper = refl
 
-    local_class : (p n : Node) (v : Tree) → class_of (local p n v) ≡ class_of v
+    pub local_class : (p n : Node) (v : Tree) → class_of (local p n v) ≡ class_of v
     local_class [] [] v = class-same g part v
     local_class (a ∷ p) [] v = class-same (with_child (λ x. with_node (with_cell g part) x p) a.1) a.0 v
     local_class [] (s ∷ ss) v = refl

@@ -16,10 +16,10 @@ use Rattle.at_model.proofs.EquationsAlike.{equations-like}
 use Rattle.at_model.proofs.Carrying.{carried as carried_outcome}
 use Rattle.at_model.proofs.CarryingSupport.{leads_here}
 use Rattle.at_model.proofs.Spreading.{led_valued}
-use Rattle.at_model.proofs.Ways.{carried_apart}
-use Rattle.at_model.proofs.Untouching.{edited_alike}
+use Rattle.at_model.proofs.Edited.{carried_apart}
+use Rattle.at_model.proofs.Edited.{edited_alike}
 use Rattle.at_model.proofs.Changes.{whole}
-use Rattle.at_model.proofs.Sound.{Safe, refused, told, asked, left, edits, safe}
+use Rattle.at_model.proofs.Sound.{Safe, refused, told, asked, left, edits, posts, waited, safe}
 
 walks-append : {N : Type 0} (look : Contents N) (equation : Equations N) (i j k : Instance N) (is js : List (Instance N)) → Walks look equation i is j → Walks look equation j js k → Walks look equation i (is ++ j ∷ js) k
 walks-append look equation i j k [] js h g = (h, g)
@@ -89,6 +89,8 @@ module _ (rules : Rules) (s : State) (Kept : Instance Node → Type 0) (well : A
   well_after sound v (told shown) = well
   well_after sound v (asked q) = well_asked q
   well_after sound v (left marks lead) = well
+  well_after sound v (posts q lead) = well
+  well_after sound v (waited number) = well
   well_after sound v (edits e u made) = well_edited sound.tree_conforms e u made
 
 pub kept_well : (rules : Rules) (s : State) (l : Line) (Kept : Instance Node → Type 0) → IsSound rules.classes s → AreWellKept rules s.tree Kept → AreWellKept rules (after s (verdict rules s l)).tree (KeptAfter rules s (verdict rules s l) Kept)

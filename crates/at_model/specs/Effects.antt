@@ -1,5 +1,6 @@
 -- What a command may change: the edit that it asks for, and the mark that it makes or forgets.
 use Rattle.std.specs.Prelude.{◌≡◌, ℕ, Bool, true, false, ◌&&◌, nat_eq, List, Option, Some, option_and_then}
+use Rattle.std.specs.List.{AllByRecursion}
 use Rattle.std.specs.Str.{bytes_eq}
 use Rattle.at_model.specs.Classes.{Classes}
 use Rattle.at_model.specs.Trees.{Tree, class_of}
@@ -8,7 +9,7 @@ use Rattle.at_model.specs.Terms.{term_of}
 use Rattle.at_model.specs.Paths.{Node, tree_at, part_named}
 use Rattle.at_model.specs.Edits.{Edit}
 use Rattle.at_model.specs.Edits as edit
-use Rattle.at_model.specs.Lines.{Line, Place, Command, Ask, Set, Put, Drop, Insert, Token, Mark, Unmark}
+use Rattle.at_model.specs.Lines.{Line, Place, Command, Ask, Set, Put, Drop, Insert, Token, Move, Mark, Unmark, Post, Spells, lines}
 use Rattle.at_model.specs.Machine.{State, node_named}
 
 -- the component of that name of a node
@@ -31,6 +32,9 @@ pub data IsEditOf (classes : Classes) (s : State) (session : ℕ) : Command → 
   token : (place : Place) (name : List ℕ) (n : Node) (part : ℕ) (v : tree.Token) →
       node_named classes s session place ≡ Some n → component_named classes s.tree n name ≡ Some part →
       IsEditOf classes s session (Token place name v) (edit.Token n part v)
+  move : (place to : Place) (name : List ℕ) (n m : Node) (part index : ℕ) → node_named classes s session place ≡ Some n →
+      node_named classes s session to ≡ Some m → component_named classes s.tree m name ≡ Some part →
+      IsEditOf classes s session (Move place to name index) (edit.Move n m part index)
 
 -- the command makes or forgets the mark of that name
 abbrev pub changes_mark : Command → List ℕ → Bool
@@ -52,3 +56,12 @@ is_marking command = false
 abbrev pub is_question : Command → Bool
 is_question (Ask place attribute arguments) = true
 is_question command = false
+
+-- the command posts a question
+abbrev pub is_post : Command → Bool
+is_post (Post place attribute arguments) = true
+is_post command = false
+
+-- no line of the bytes posts a question
+abbrev pub PostNothing : List ℕ → Type 0
+PostNothing bytes = AllByRecursion (λ line. (l : Line) → Spells line l → is_post l.command ≡ false) (lines bytes)

@@ -11,6 +11,7 @@ pub mod Bodies
 pub mod Rules
 pub mod Meaning
 pub mod Support
+pub mod Turning
 pub mod Alike
 pub mod Samples
 pub mod Edits
@@ -19,6 +20,7 @@ pub mod Shaping
 pub mod Lines
 pub mod Replies
 pub mod Machine
+pub mod Waited
 pub mod Effects
 pub mod Asking
 pub mod Enduring

@@ -28,11 +28,14 @@ pub data Command : Type 0 where
   Drop : Place → Command
   Insert : Place → (part : List ℕ) → (index : ℕ) → Term → Command
   Token : Place → (part : List ℕ) → tree.Token → Command
+  Move : Place → (to : Place) → (part : List ℕ) → (index : ℕ) → Command
   Show : Place → Command
   Mark : (name : List ℕ) → Place → Command
   Unmark : (name : List ℕ) → Command
   Where : (name : List ℕ) → Command
   Version : Command
+  Post : Place → (attribute : List ℕ) → List Argument → Command
+  Wait : (number : ℕ) → Command
 
 -- whose line it is, the version that it expects, where it names one, and the command
 pub record Line : Type 0 where
@@ -63,11 +66,14 @@ command_words (Put place part t) = codes "put" ∷ place_text place ∷ part ∷
 command_words (Drop place) = codes "drop" ∷ place_text place ∷ []
 command_words (Insert place part index t) = codes "insert" ∷ place_text place ∷ part ∷ decimal index ∷ term_text t ∷ []
 command_words (Token place part v) = codes "token" ∷ place_text place ∷ part ∷ token_text v ∷ []
+command_words (Move place to part index) = codes "move" ∷ place_text place ∷ codes "to" ∷ place_text to ∷ part ∷ decimal index ∷ []
 command_words (Show place) = codes "show" ∷ place_text place ∷ []
 command_words (Mark name place) = codes "mark" ∷ name ∷ place_text place ∷ []
 command_words (Unmark name) = codes "unmark" ∷ name ∷ []
 command_words (Where name) = codes "where" ∷ name ∷ []
 command_words Version = codes "version" ∷ []
+command_words (Post place attribute arguments) = codes "post" ∷ place_text place ∷ call_text attribute arguments ∷ []
+command_words (Wait number) = codes "wait" ∷ decimal number ∷ []
 
 -- the words that name the version expected, where one is
 abbrev pub expected_words : Option ℕ → List (List ℕ)
@@ -81,6 +87,10 @@ line_text l = join_with_byte 32 (decimal l.session ∷ (expected_words l.expecte
 -- the greatest version: the greatest number of 64 bits
 abbrev pub last_version : ℕ
 last_version = 18446744073709551615
+
+-- the greatest number of a question
+abbrev pub last_post : ℕ
+last_post = 18446744073709551615
 
 -- the sessions are those below
 abbrev pub max_sessions : ℕ
@@ -109,11 +119,14 @@ IsCommand (Put place part t) = IsPlace place × IsName part × IsTerm t
 IsCommand (Drop place) = IsPlace place
 IsCommand (Insert place part index t) = IsPlace place × IsName part × IsIndex (Some index) × IsTerm t
 IsCommand (Token place part v) = IsPlace place × IsName part × IsToken v
+IsCommand (Move place to part index) = IsPlace place × IsPlace to × IsName part × IsIndex (Some index)
 IsCommand (Show place) = IsPlace place
 IsCommand (Mark name place) = IsName name × IsPlace place
 IsCommand (Unmark name) = IsName name
 IsCommand (Where name) = IsName name
 IsCommand Version = ⊤
+IsCommand (Post place attribute arguments) = IsPlace place × IsName attribute × AllByRecursion IsArgument arguments
+IsCommand (Wait number) = (0 < number) × (number ≤ last_post)
 
 -- the version is one that there can be
 abbrev pub IsVersion : Option ℕ → Type 0

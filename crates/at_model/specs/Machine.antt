@@ -1,6 +1,6 @@
 -- The machine without caches: what each line of each session is told, and in what state it leaves the machine.
 use Rattle.std.specs.Prelude.{◌≡◌, ℕ, ◌+◌, Bool, true, false, ◌&&◌, not, nat_eq, nat_le, if◌then◌else◌, List, [], ◌∷◌, ◌++◌, map, filter, count_by, Option, Some, None, option_map, option_and_then, unwrap_or, is_some, IsSome, Ok, Err, find, filter_map}
-use Rattle.std.specs.List.{AllByRecursion, slice_get, flat_map, list_all}
+use Rattle.std.specs.List.{AllByRecursion, slice_get, flat_map, list_all, list_any}
 use Rattle.std.specs.Str.{bytes_eq}
 use Rattle.at_model.specs.Classes.{Classes, Shape, is_sub}
 use Rattle.at_model.specs.Trees.{Tree, class_of, conforms}
@@ -15,8 +15,8 @@ use Rattle.at_model.specs.Meaning.{Answer, Outcomes, Finds, Faults, Circle, Answ
 use Rattle.at_model.specs.Edits.{Edit, edited, is_within_limits, shape_at, class_asked, list_class, optional_class, token_kind, carried}
 use Rattle.at_model.specs.Edits as edit
 use Rattle.at_model.specs.Shaping.{names_classes, shaped}
-use Rattle.at_model.specs.Lines.{Line, Place, From_root, From_mark, Argument, Text, Ref, Null, Command, Ask, Set, Put, Drop, Insert, Token, Show, Mark, Unmark, Where, Version, last_version, Spells, lines, IsSessionOf}
-use Rattle.at_model.specs.Replies.{Reply, Form, Done, Shows, Fails, Circular, Refused, Memory, Code, Shown, Plain, At, Nothing, Written, reply_text}
+use Rattle.at_model.specs.Lines.{Line, Place, From_root, From_mark, Argument, Text, Ref, Null, Command, Ask, Set, Put, Drop, Insert, Token, Move, Show, Mark, Unmark, Where, Version, Post, Wait, last_version, last_post, Spells, lines, IsSessionOf}
+use Rattle.at_model.specs.Replies.{Reply, Posting, Form, Done, Opened, Shows, Fails, Circular, Refused, Memory, Code, Shown, Plain, At, Nothing, Written, reply_text}
 use Rattle.at_model.specs.Replies as code
 
 -- a session's name for a node
@@ -25,11 +25,25 @@ pub record Marked : Type 0 where
   pub name : List ℕ
   pub node : Node
 
--- the tree, how many edits were accepted, and the marks of all sessions
+-- A question that is open: its number, whose it is, its words, the marks in these as they were when it was posted (as far as
+-- their nodes are still there), and how many turns it was given since then, or since the last edit that was accepted.
+pub record Posted : Type 0 where
+  pub number : ℕ
+  pub session : ℕ
+  pub place : Place
+  pub attribute : List ℕ
+  pub arguments : List Argument
+  pub marks : List Marked
+  pub turns : ℕ
+
+-- the tree, how many edits were accepted, the marks of all sessions, how many questions were posted, and those of them that are
+-- open, in the order of their numbers
 pub record State : Type 0 where
   pub tree : Tree
   pub version : ℕ
   pub marks : List Marked
+  pub posts : ℕ
+  pub posted : List Posted
 
 -- how many marks a session may have
 abbrev pub max_marks : ℕ
@@ -38,6 +52,11 @@ max_marks = 100
 -- it is the session's mark of that name
 abbrev pub is_mark : ℕ → List ℕ → Marked → Bool
 is_mark session name m = nat_eq session m.session && bytes_eq name m.name
+
+-- the first one, where there is one
+abbrev pub first_of : {A : Type 0} → List A → Option A
+first_of [] = None
+first_of (a ∷ as') = Some a
 
 -- the node that the session has marked by the name
 abbrev pub marked : List Marked → ℕ → List ℕ → Option Node
@@ -50,6 +69,22 @@ is_marked marks session name = is_some (marked marks session name)
 -- marks follow their nodes, and one whose node is gone is gone
 abbrev pub carried_marks : Edit → List Marked → List Marked
 carried_marks e marks = filter_map (λ m. option_map (λ n. record m { node = n }) (carried e m.node)) marks
+
+-- an edit drops what was done for a question; its marks follow their nodes, as all do
+abbrev pub carried_posted : Edit → Posted → Posted
+carried_posted e q = record q { marks = carried_marks e q.marks; turns = 0 }
+
+-- how many questions a session may have open
+abbrev pub max_posted : ℕ
+max_posted = 100
+
+-- it is that session's question of that number
+abbrev pub is_posted : ℕ → ℕ → Posted → Bool
+is_posted session number q = nat_eq session q.session && nat_eq number q.number
+
+-- the session's marks of these names, where they are there
+abbrev pub marks_named : List Marked → ℕ → List (List ℕ) → List Marked
+marks_named marks session names = filter_map (λ name. find (is_mark session name) marks) names
 
 -- the mark that a place uses
 abbrev pub marks_in : Place → List (List ℕ)
@@ -70,11 +105,14 @@ marks_used (Put place part t) = marks_in place
 marks_used (Drop place) = marks_in place
 marks_used (Insert place part index t) = marks_in place
 marks_used (Token place part v) = marks_in place
+marks_used (Move place to part index) = marks_in place ++ marks_in to
 marks_used (Show place) = marks_in place
 marks_used (Mark name place) = marks_in place
 marks_used (Unmark name) = name ∷ []
 marks_used (Where name) = name ∷ []
 marks_used Version = []
+marks_used (Post place attribute arguments) = marks_in place ++ flat_map marks_in_argument arguments
+marks_used (Wait number) = []
 
 -- the node below that one to which the steps lead
 abbrev pub node_below : Classes → Tree → Path → Node → Option Node
@@ -114,22 +152,27 @@ fit_parameters classes t (k ∷ ks) (v ∷ vs) = fits_parameter classes t k v &&
 abbrev pub parameters_of : Rules → ℕ → List Kind
 parameters_of rules attribute = elim (slice_get rules.attributes attribute) [ None ↦ [] | Some a ↦ a.parameters ]
 
--- What becomes of a line: it is refused, is told something, leaves other marks, makes that tree by an edit, or asks for
--- the value of an instance.
+-- What becomes of a line: it is refused, is told something, leaves other marks, makes that tree by an edit, asks for the value
+-- of an instance, posts a question, or waits for the answer to one.
 pub data Verdict : Type 0 where
   Refuses : Code → Verdict
   Tells : Shown → Verdict
   Leaves : (marks : List Marked) → Verdict
   Edits : Edit → Tree → Verdict
   Asks : Instance Node → Verdict
+  Posts : Posted → Verdict
+  Waits : (number : ℕ) → Verdict
 
--- the state after the verdict: an edit makes the next version, and the marks follow their nodes
+-- The state after the verdict: an edit makes the next version, and the marks follow their nodes. Of a line that waits, it is the
+-- state before the turns that follow.
 abbrev pub after : State → Verdict → State
 after s (Refuses refusal) = s
 after s (Tells shown) = s
 after s (Leaves marks) = record s { marks = marks }
-after s (Edits e t) = record { tree = t; version = s.version + 1; marks = carried_marks e s.marks }
+after s (Edits e t) = record { tree = t; version = s.version + 1; marks = carried_marks e s.marks; posts = s.posts; posted = map (carried_posted e) s.posted }
 after s (Asks q) = s
+after s (Posts q) = record s { posts = q.number; posted = s.posted ++ q ∷ [] }
+after s (Waits number) = s
 
 -- the code by which a line with a refused edit is answered
 abbrev pub code_of : edit.Refusal → Code
@@ -138,6 +181,7 @@ code_of edit.Fit = code.Fit
 code_of edit.Index = code.Index
 code_of edit.Taken = code.Taken
 code_of edit.Fixed = code.Fixed
+code_of edit.Inside = code.Inside
 code_of edit.Limit = code.Limit
 
 -- the edit and the tree that it leaves, or its refusal; there is no version after the last
@@ -183,6 +227,21 @@ with_mark s session name n =
     else (if nat_le max_marks (count_by (λ m. nat_eq session m.session) s.marks) then Refuses code.Limit
     else Leaves (s.marks ++ record { session = session; name = name; node = n } ∷ []))
 
+-- one more question of the session, where it has not too many and there is a number for it; its words are looked at later
+abbrev pub with_post : State → ℕ → Place → List ℕ → List Argument → Verdict
+with_post s session place attribute arguments =
+    if nat_le max_posted (count_by (λ q. nat_eq session q.session) s.posted) then Refuses code.Limit
+    else (if nat_eq s.posts last_post then Refuses code.Limit
+    else Posts (record {
+      number = s.posts + 1;
+      session = session;
+      place = place;
+      attribute = attribute;
+      arguments = arguments;
+      marks = marks_named s.marks session (marks_used (Post place attribute arguments));
+      turns = 0;
+    }))
+
 -- What becomes of the command of a session, when the marks that it uses are there. What it names is looked at in the order of
 -- its words: the node, the component, the classes in the term, whether the term fits; then the edit, for its first reason.
 abbrev pub obeyed : Rules → State → ℕ → Command → Verdict
@@ -204,6 +263,10 @@ obeyed rules s session (Insert place part index t) =
 obeyed rules s session (Token place part v) =
     at_node rules.classes s session place (λ n.
     with_component rules.classes s.tree n part token_kind (λ p kind. changed rules.classes s (edit.Token n p v)))
+obeyed rules s session (Move place to part index) =
+    at_node rules.classes s session place (λ n.
+    at_node rules.classes s session to (λ m.
+    with_component rules.classes s.tree m part list_class (λ p b. changed rules.classes s (edit.Move n m p index))))
 obeyed rules s session (Show place) =
     at_node rules.classes s session place (λ n.
     elim (tree_at s.tree n) [ None ↦ Refuses code.Path | Some u ↦ Tells (Written (term_of rules.classes u)) ])
@@ -211,6 +274,8 @@ obeyed rules s session (Mark name place) = at_node rules.classes s session place
 obeyed rules s session (Unmark name) = Leaves (filter (λ m. not (is_mark session name m)) s.marks)
 obeyed rules s session (Where name) = elim (marked s.marks session name) [ None ↦ Refuses code.Mark | Some n ↦ Tells (At (path_to rules.classes s.tree n)) ]
 obeyed rules s session Version = Leaves s.marks
+obeyed rules s session (Post place attribute arguments) = with_post s session place attribute arguments
+obeyed rules s session (Wait number) = if list_any (is_posted session number) s.posted then Waits number else Refuses code.Question
 
 -- a version is expected and it is not this one
 abbrev pub is_stale : Option ℕ → ℕ → Bool
@@ -242,42 +307,114 @@ answer_form rules t (Circle i) = Circular (path_to rules.classes t i.node) (attr
 abbrev pub AnswersIn : Rules → Tree → Instance Node → Answer Node → Type 0
 AnswersIn rules t q a = Answers (content t) (equations rules) q a
 
--- what the session is told by the verdict
+-- what the session is told by the verdict; a line that waits is told the answer to its question alone
 abbrev pub Says : Rules → State → Verdict → Form → Type 0
 Says rules s (Refuses refusal) form = form ≡ Refused refusal
 Says rules s (Tells shown) form = form ≡ Shows shown
 Says rules s (Leaves marks) form = form ≡ Done s.version
 Says rules s (Edits e t) form = form ≡ Done (s.version + 1)
 Says rules s (Asks q) form = (a : Answer Node) × AnswersIn rules s.tree q a × (form ≡ answer_form rules s.tree a)
+Says rules s (Posts q) form = form ≡ Opened q.number
+Says rules s (Waits number) form = ⊥
 
 -- one step: the line takes the old state to the new one, and gets the reply
 pub record Step (rules : Rules) (old : State) (l : Line) (new : State) (reply : Reply) : Type 0 where
   pub session : reply.session ≡ Some l.session
+  pub done : reply.done ≡ None
   pub state : new ≡ after old (verdict rules old l)
   pub says : Says rules old (verdict rules old l) reply.form
 
--- The step of the bytes of a line. What is no line is refused, and the state stays.
-pub data Handles (rules : Rules) (old : State) (bytes : List ℕ) (new : State) (reply : Reply) : Type 0 where
-  obeys : (l : Line) → Spells bytes l → Step rules old l new reply → Handles rules old bytes new reply
-  refuses : ((l : Line) → Spells bytes l → ⊥) → IsSessionOf bytes reply.session → new ≡ old → reply.form ≡ Refused code.Syntax → Handles rules old bytes new reply
+-- the state as a question that was posted sees it: with the marks that it has
+abbrev pub seen_by : Posted → State → State
+seen_by q s = record s { marks = q.marks }
 
--- The same, where the line may be named as one for which memory ran out: then the state stays.
-abbrev pub Serves : Rules → (out_of_memory : Bool) → State → List ℕ → State → Reply → Type 0
-Serves rules false old bytes new reply = Handles rules old bytes new reply
-Serves rules true old bytes new reply = IsSessionOf bytes reply.session × (new ≡ old) × (reply.form ≡ Memory)
+-- the line that asks at once what the question asks
+abbrev pub line_of : Posted → Line
+line_of q = record { session = q.session; expected = None; command = Ask q.place q.attribute q.arguments }
 
--- the lines take the old state to the new one, one after the other, and their replies are this text; each is named or not
-abbrev pub Runs : Rules → State → List (List ℕ) → (out_of_memory : List Bool) → List ℕ → State → Type 0
-Runs rules old [] [] text new = (text ≡ []) × (new ≡ old)
-Runs rules old [] (b ∷ bs) text new = ⊥
-Runs rules old (line ∷ rest) [] text new = ⊥
-Runs rules old (line ∷ rest) (b ∷ bs) text new =
-    (mid : State) × (reply : Reply) × (more : List ℕ)
-    × Serves rules b old line mid reply × (text ≡ reply_text reply ++ more) × Runs rules mid rest bs more new
+-- what the question is answered: what its words would be told if they were asked now, with the marks that it has
+abbrev pub AnswersPosted : Rules → State → Posted → Form → Type 0
+AnswersPosted rules s q form = Says rules (seen_by q s) (verdict rules (seen_by q s) (line_of q)) form
 
--- what the machine writes for these bytes, and the state in which they leave it
-abbrev pub Outputs : Rules → State → List ℕ → (out_of_memory : List Bool) → List ℕ → State → Type 0
-Outputs rules old bytes named text new = Runs rules old (lines bytes) named text new
+-- the question of that number, where it is open
+abbrev pub numbered : State → ℕ → Option Posted
+numbered s number = find (λ q. nat_eq number q.number) s.posted
+
+-- it is no longer open
+abbrev pub without : ℕ → State → State
+without number s = record s { posted = filter (λ q. not (nat_eq number q.number)) s.posted }
+
+-- a turn more is counted of the question of that number
+abbrev pub counted : ℕ → Posted → Posted
+counted number q = if nat_eq number q.number then record q { turns = q.turns + 1 } else q
+
+-- it was given one turn more
+abbrev pub given_one : ℕ → State → State
+given_one number s = record s { posted = map (counted number) s.posted }
+
+-- what is told of it
+abbrev pub done_reply : State → Posted → Form → Reply
+done_reply s q form = record { session = Some q.session; done = Some (record { number = q.number; version = s.version }); form = form }
+
+-- One turn of an open question: it stays open, or is answered and open no longer; where memory runs out, that is its answer.
+pub data Turns (rules : Rules) (old : State) (number : ℕ) : State → Option (Bool × Reply) → Type 0 where
+  stays : (q : Posted) → numbered old number ≡ Some q → Turns rules old number (given_one number old) None
+  answers : (q : Posted) (form : Form) → numbered old number ≡ Some q → AnswersPosted rules old q form →
+      Turns rules old number (without number old) (Some (false, done_reply old q form))
+  runs_out : (q : Posted) → numbered old number ≡ Some q → Turns rules old number (without number old) (Some (true, done_reply old q Memory))
+
+-- turns of the one question, until it is answered
+pub data Answered (rules : Rules) (number : ℕ) : State → State → Bool × Reply → Type 0 where
+  last : {old new : State} {said : Bool × Reply} → Turns rules old number new (Some said) → Answered rules number old new said
+  more : {old mid new : State} {said : Bool × Reply} → Turns rules old number mid None → Answered rules number mid new said → Answered rules number old new said
+
+-- The step of the bytes of a line. What is no line is refused, and the state stays. A line that waits is followed by turns of its
+-- question alone, until that is answered.
+pub data Handles (rules : Rules) (old : State) (bytes : List ℕ) : State → Bool × Reply → Type 0 where
+  obeys : (l : Line) {new : State} {reply : Reply} → Spells bytes l → Step rules old l new reply → Handles rules old bytes new (false, reply)
+  waits : (l : Line) (number : ℕ) {new : State} {said : Bool × Reply} → Spells bytes l → verdict rules old l ≡ Waits number →
+      Answered rules number old new said → Handles rules old bytes new said
+  refuses : {session : Option ℕ} → ((l : Line) → Spells bytes l → ⊥) → IsSessionOf bytes session →
+      Handles rules old bytes old (false, record { session = session; done = None; form = Refused code.Syntax })
+
+-- The same, where memory may run out: then the state stays.
+pub data Serves (rules : Rules) (old : State) (bytes : List ℕ) : State → Bool × Reply → Type 0 where
+  handles : {new : State} {said : Bool × Reply} → Handles rules old bytes new said → Serves rules old bytes new said
+  runs_out : {session : Option ℕ} → IsSessionOf bytes session →
+      Serves rules old bytes old (true, record { session = session; done = None; form = Memory })
+
+-- Turns of whichever open question has the least number, so many, and what is told by them. They are fewer only where none is open.
+pub data Given (rules : Rules) : ℕ → State → List (Bool × Reply) → State → Type 0 where
+  spent : (s : State) → Given rules 0 s [] s
+  none_open : (limit : ℕ) (s : State) → s.posted ≡ [] → Given rules limit s [] s
+  silent : {limit : ℕ} {s mid new : State} {told : List (Bool × Reply)} (q : Posted) → first_of s.posted ≡ Some q →
+      Turns rules s q.number mid None → Given rules limit mid told new → Given rules (limit + 1) s told new
+  telling : {limit : ℕ} {s mid new : State} {said : Bool × Reply} {told : List (Bool × Reply)} (q : Posted) → first_of s.posted ≡ Some q →
+      Turns rules s q.number mid (Some said) → Given rules limit mid told new → Given rules (limit + 1) s (said ∷ told) new
+
+-- The lines take the old state to the new one, one after the other, each followed by so many turns; and this is told, each with
+-- whether it is for want of memory.
+pub data Runs (rules : Rules) (slice : ℕ) : State → List (List ℕ) → List (Bool × Reply) → State → Type 0 where
+  end : (s : State) → Runs rules slice s [] [] s
+  next : {old mid turned new : State} {line : List ℕ} {rest : List (List ℕ)} {said : Bool × Reply} {told more : List (Bool × Reply)} →
+      Serves rules old line mid said → Given rules slice mid told turned → Runs rules slice turned rest more new →
+      Runs rules slice old (line ∷ rest) (said ∷ (told ++ more)) new
+
+-- the text of what is told
+abbrev pub text_of : List (Bool × Reply) → List ℕ
+text_of told = flat_map (λ (x : Bool × Reply). reply_text x.1) told
+
+-- What the machine tells for these bytes, and the state in which they leave it: behind the last line turns are given until no
+-- question is open.
+pub record Outputs (rules : Rules) (slice : ℕ) (old : State) (bytes : List ℕ) (told : List (Bool × Reply)) (new : State) : Type 0 where
+  pub mid : State
+  pub front : List (Bool × Reply)
+  pub runs : Runs rules slice old (lines bytes) front mid
+  pub turns : ℕ
+  pub back : List (Bool × Reply)
+  pub drained : Given rules turns mid back new
+  pub none_open : new.posted ≡ []
+  pub whole : told ≡ front ++ back
 
 -- the command is an edit of the tree
 abbrev pub is_edit : Command → Bool
@@ -286,6 +423,7 @@ is_edit (Put place part t) = true
 is_edit (Drop place) = true
 is_edit (Insert place part index t) = true
 is_edit (Token place part v) = true
+is_edit (Move place to part index) = true
 is_edit command = false
 
 -- the new state is the old one after an edit that is accepted: of the next version, its marks carried
@@ -294,9 +432,11 @@ pub record IsEdited (classes : Classes) (old new : State) : Type 0 where
   pub tree : edited classes old.tree by ≡ Ok new.tree
   pub version : new.version ≡ old.version + 1
   pub marks : new.marks ≡ carried_marks by old.marks
+  pub posted : new.posted ≡ map (carried_posted by) old.posted
 
 -- the tree conforms to the start class and is within the limits, and each mark leads to a node of it
 pub record IsSound (classes : Classes) (s : State) : Type 0 where
   pub tree_conforms : conforms classes s.tree 0 ≡ true
   pub tree_within : is_within_limits s.tree ≡ true
   pub marks_lead : AllByRecursion (λ m. IsSome (tree_at s.tree m.node)) s.marks
+  pub posted_lead : AllByRecursion (λ q. AllByRecursion (λ m. IsSome (tree_at s.tree m.node)) q.marks) s.posted

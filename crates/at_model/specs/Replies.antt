@@ -30,9 +30,11 @@ pub data Code : Type 0 where
   Index : Code
   Taken : Code
   Fixed : Code
+  Inside : Code
   Limit : Code
   Attribute : Code
   Arguments : Code
+  Question : Code
 
 -- the number of the code, its name, and what else there is to tell
 abbrev pub code_words : Code → List (List ℕ)
@@ -46,9 +48,11 @@ code_words Fit = decimal 7 ∷ codes "fit" ∷ []
 code_words Index = decimal 8 ∷ codes "index" ∷ []
 code_words Taken = decimal 9 ∷ codes "taken" ∷ []
 code_words Fixed = decimal 10 ∷ codes "fixed" ∷ []
+code_words Inside = decimal 11 ∷ codes "inside" ∷ []
 code_words Limit = decimal 12 ∷ codes "limit" ∷ []
 code_words Attribute = decimal 13 ∷ codes "attribute" ∷ []
 code_words Arguments = decimal 14 ∷ codes "arguments" ∷ []
+code_words Question = decimal 15 ∷ codes "question" ∷ []
 
 -- what is told of a value: a number, a truth value or a text, a node by its path, no node, a tree by its term
 pub data Shown : Type 0 where
@@ -64,7 +68,7 @@ shown_text (At path) = path_text path
 shown_text Nothing = codes "null"
 shown_text (Written t) = term_text t
 
--- what a session is told: its command is done and this is the version, a value, a fault or a circle and where it is, a refusal, or that memory ran out
+-- what a session is told: its command is done and this is the version, a value, a fault or a circle and where it is, a refusal, that memory ran out, or the number under which its question is open
 pub data Form : Type 0 where
   Done : (version : ℕ) → Form
   Shows : Shown → Form
@@ -72,6 +76,7 @@ pub data Form : Type 0 where
   Circular : paths.Path → (attribute : List ℕ) → Form
   Refused : Code → Form
   Memory : Form
+  Opened : (number : ℕ) → Form
 
 -- the attribute of a node
 abbrev pub instance_text : paths.Path → List ℕ → List ℕ
@@ -85,11 +90,23 @@ form_words (Fails kind path attribute) = codes "fault" ∷ fault_text kind ∷ c
 form_words (Circular path attribute) = codes "circular" ∷ instance_text path attribute ∷ []
 form_words (Refused code) = codes "refused" ∷ code_words code
 form_words Memory = codes "memory" ∷ []
+form_words (Opened number) = codes "open" ∷ decimal number ∷ []
 
--- the session answered, where one could be read, and what it is told
+-- the number of a question that was posted, and the version of the tree on which it is answered
+pub record Posting : Type 0 where
+  pub number : ℕ
+  pub version : ℕ
+
+-- the session answered, where one could be read, the question that was posted, where this is its answer, and what is told
 pub record Reply : Type 0 where
   pub session : Option ℕ
+  pub done : Option Posting
   pub form : Form
+
+-- the words in front of the answer to a question that was posted
+abbrev pub done_words : Option Posting → List (List ℕ)
+done_words None = []
+done_words (Some p) = codes "done" ∷ decimal p.number ∷ decimal p.version ∷ []
 
 -- the number of the session, or a question mark
 abbrev pub session_text : Option ℕ → List ℕ
@@ -98,4 +115,4 @@ session_text (Some session) = decimal session
 
 -- one space between words, a newline at the end
 abbrev pub reply_text : Reply → List ℕ
-reply_text r = join_with_byte 32 (session_text r.session ∷ form_words r.form) ++ 10 ∷ []
+reply_text r = join_with_byte 32 (session_text r.session ∷ (done_words r.done ++ form_words r.form)) ++ 10 ∷ []

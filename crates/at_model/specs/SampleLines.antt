@@ -1,5 +1,5 @@
 -- Paths, terms, states and lines over the sample tree.
-use Rattle.std.specs.Prelude.{ℕ, zero, suc, ℤ, pos, [], ◌∷◌, Some, None}
+use Rattle.std.specs.Prelude.{ℕ, zero, suc, ℤ, pos, List, [], ◌∷◌, Some, None}
 use lib.Chars.{codes}
 use Prim.Native.String.{String}
 use Rattle.at_model.specs.Trees.{Tree}
@@ -9,7 +9,7 @@ use Rattle.at_model.specs.Terms as term
 use Rattle.at_model.specs.Paths.{Path, Step, Node}
 use Rattle.at_model.specs.Lines.{Line, Command}
 use Rattle.at_model.specs.Machine.{State, Marked}
-use Rattle.at_model.specs.Samples.{decl, num, calc_tree, sum_tree}
+use Rattle.at_model.specs.Samples.{decl, num, inner, print_sum, calc_tree, sum_tree}
 
 -- Decl("x",Num(1))
 abbrev pub decl_x : Tree
@@ -18,6 +18,10 @@ decl_x = decl (codes "x") (tree.Filled (num (pos 1)))
 -- Decl("y",-)
 abbrev pub decl_y : Tree
 decl_y = decl (codes "y") tree.Empty
+
+-- the statements of tree.txt, and an empty block behind them
+abbrev pub three_statements : List Tree
+three_statements = decl_x ∷ print_sum ∷ inner [] ∷ []
 
 -- a step to a plain child or an optional
 abbrev pub plain_step : String → Step
@@ -34,6 +38,10 @@ block_path = plain_step "Block" ∷ []
 -- /Block/Stmt:i
 abbrev pub statement_path : ℕ → Path
 statement_path i = plain_step "Block" ∷ list_step "Stmt" i ∷ []
+
+-- /Block/Stmt:1/Expr
+abbrev pub printed_path : Path
+printed_path = plain_step "Block" ∷ list_step "Stmt" 1 ∷ plain_step "Expr" ∷ []
 
 -- /Block/Stmt:1/Expr/Left
 abbrev pub left_path : Path
@@ -54,11 +62,11 @@ nested (suc n) = term.Node (codes "Block") (term.cell (term.Many (term.term (nes
 
 -- the machine as it is opened with the sample
 abbrev pub opened : State
-opened = record { tree = calc_tree; version = 0; marks = [] }
+opened = record { tree = calc_tree; version = 0; marks = []; posts = 0; posted = [] }
 
 -- and with the other sample
 abbrev pub sum_opened : State
-sum_opened = record { tree = sum_tree; version = 0; marks = [] }
+sum_opened = record { tree = sum_tree; version = 0; marks = []; posts = 0; posted = [] }
 
 -- a session's mark
 abbrev pub mark : ℕ → String → Node → Marked

@@ -4,10 +4,10 @@ use lib.Chars.{codes}
 use Rattle.at_model.specs.Bodies.{Same, Child, This, Name}
 use Rattle.at_model.specs.Rules.{Rules}
 use Rattle.at_model.specs.Rules as kind
-use Rattle.at_model.specs.Lines.{last_version}
-use Rattle.at_model.specs.Machine.{State, Marked}
+use Rattle.at_model.specs.Lines.{Command, From_root, Post, last_version}
+use Rattle.at_model.specs.Machine.{State, Marked, Posted}
 use Rattle.at_model.specs.Samples.{calc, synthesized, own}
-use Rattle.at_model.specs.SampleLines.{opened, mark}
+use Rattle.at_model.specs.SampleLines.{opened, mark, printed_path}
 use Rattle.at_model.specs.Playing.{Exchange}
 
 -- the machine with the sample, after as many edits as there can be
@@ -31,6 +31,23 @@ marking (suc n) = marking n ++ record { line = codes "0 mark m" ++ decimal n ++ 
 -- marks of two sessions, two of them of one name
 abbrev pub some_marks : List Marked
 some_marks = mark 0 "u" [] ∷ mark 1 "u" [] ∷ mark 0 "v" [] ∷ mark 1 "w" [] ∷ []
+
+-- post /Block/Stmt:1/Expr value()
+abbrev pub posting : Command
+posting = Post (From_root printed_path) (codes "value") []
+
+-- the question that session 0 posts by it, under that number
+abbrev pub value_posted : ℕ → Posted
+value_posted number = record { number = number; session = 0; place = From_root printed_path; attribute = codes "value"; arguments = []; marks = []; turns = 0 }
+
+-- so many of these that are open
+abbrev pub open_questions : ℕ → List Posted
+open_questions zero = []
+open_questions (suc n) = open_questions n ++ value_posted (suc n) ∷ []
+
+-- the machine with the sample, and so many questions that are open
+abbrev pub with_questions : ℕ → State
+with_questions n = record opened { posts = n; posted = open_questions n }
 
 -- calc.jrag with syn boolean Add.begins(Expr e) = getLeft() == e;
 abbrev pub calc_with_argument : Rules

@@ -9,7 +9,7 @@ use Rattle.at_model.specs.Support.{Supports}
 use Rattle.at_model.specs.Alike.{InstanceLike, Names}
 use Rattle.at_model.specs.Edits.{Edit, carried}
 use Rattle.at_model.specs.Touches.{touches}
-use Rattle.at_model.specs.Machine.{State, Verdict, Refuses, Tells, Leaves, Edits, Asks}
+use Rattle.at_model.specs.Machine.{State, Verdict, Refuses, Tells, Leaves, Edits, Asks, Posts, Waits}
 
 -- the question leads to the instance, which is lazy and has a value
 pub record IsWorthKeeping (rules : Rules) (t : Tree) (q i : Instance Node) : Type 0 where
@@ -24,12 +24,15 @@ IsUntouched rules t e i = (l : Location Node) → Supports (content t) (equation
 
 -- The instances that are kept after a line, where those of `Kept` were kept before: a question adds what is worth keeping;
 -- of an edit remains what it doesn't touch, under the paths to which the nodes are carried. With each stands what supports it.
+-- A line that waits is meant without the turns that follow it.
 abbrev pub KeptAfter : Rules → State → Verdict → (Instance Node → Type 0) → Instance Node → Type 0
 KeptAfter rules s (Refuses refusal) Kept j = Kept j
 KeptAfter rules s (Tells shown) Kept j = Kept j
 KeptAfter rules s (Leaves marks) Kept j = Kept j
 KeptAfter rules s (Edits e t) Kept j = (i : Instance Node) × Kept i × IsUntouched rules s.tree e i × InstanceLike (Names (carried e)) i j
 KeptAfter rules s (Asks q) Kept j = Kept j ⊎ IsWorthKeeping rules s.tree q j
+KeptAfter rules s (Posts q) Kept j = Kept j
+KeptAfter rules s (Waits number) Kept j = Kept j
 
 -- what is kept is lazy and has a value, and with each instance all lazy instances to which it leads are kept
 pub record AreWellKept (rules : Rules) (t : Tree) (Kept : Instance Node → Type 0) : Type 0 where
@@ -49,3 +52,5 @@ IsWork rules s (Tells shown) Kept work = work ≡ 0
 IsWork rules s (Leaves marks) Kept work = work ≡ 0
 IsWork rules s (Edits e t) Kept work = work ≡ 0
 IsWork rules s (Asks q) Kept work = (added : List (Instance Node)) × AreAdded rules s.tree q Kept added × (work ≡ length added)
+IsWork rules s (Posts q) Kept work = work ≡ 0
+IsWork rules s (Waits number) Kept work = work ≡ 0

@@ -46,7 +46,8 @@ ghost use Rattle.at_model.specs.Replies.{
   reply_text,
 };
 ghost use Rattle.at_model.specs.Replies as code;
-ghost use Rattle.at_model.specs.Machine.{State, Verdict, Refuses, Leaves, Tells, Edits, Asks, Outputs, after, verdict};
+ghost use Rattle.at_model.specs.Machine.{State, Verdict, Refuses, Leaves, Tells, Edits, Asks, after, verdict};
+ghost use Rattle.at_model.specs.Playing.{Writes};
 ghost use Rattle.at_model.specs.Samples.{
   calc,
   calc_classes,
@@ -88,14 +89,14 @@ pub fn an_insert_moves_what_is_behind()
     ensures second { carried (edit.Insert block 0 0 decl_y) (statement 1) ≡ Some (statement 2) }
     ensures above { carried (edit.Insert block 0 0 decl_y) block ≡ Some block }
     ensures state { after (record opened { marks = mark 1 "u" (statement 1) ∷ [] }) (verdict calc (record opened { marks = mark 1 "u" (statement 1) ∷ [] }) (says (Insert (From_root block_path) (codes "Stmt") 0 decl_y_term)))
-        ≡ record { tree = program (decl_y ∷ decl_x ∷ print_sum ∷ []); version = 1; marks = mark 1 "u" (statement 2) ∷ [] } }
+        ≡ record opened { tree = program (decl_y ∷ decl_x ∷ print_sum ∷ []); version = 1; marks = mark 1 "u" (statement 2) ∷ [] } }
 {}
 
 /// A mark is asked where its node is now, and only by the session that made it.
 pub fn a_mark_is_asked_where_it_is()
-    ensures own { verdict calc (record { tree = program (decl_y ∷ decl_x ∷ print_sum ∷ []); version = 1; marks = mark 1 "u" (statement 2) ∷ [] }) (record { session = 1; expected = None; command = Where (codes "u") })
+    ensures own { verdict calc (record opened { tree = program (decl_y ∷ decl_x ∷ print_sum ∷ []); version = 1; marks = mark 1 "u" (statement 2) ∷ [] }) (record { session = 1; expected = None; command = Where (codes "u") })
         ≡ Tells (At (statement_path 2)) }
-    ensures other { verdict calc (record { tree = program (decl_y ∷ decl_x ∷ print_sum ∷ []); version = 1; marks = mark 1 "u" (statement 2) ∷ [] }) (record { session = 2; expected = None; command = Where (codes "u") })
+    ensures other { verdict calc (record opened { tree = program (decl_y ∷ decl_x ∷ print_sum ∷ []); version = 1; marks = mark 1 "u" (statement 2) ∷ [] }) (record { session = 2; expected = None; command = Where (codes "u") })
         ≡ Refuses code.Mark }
 {}
 
@@ -116,7 +117,7 @@ pub fn a_drop_moves_what_is_behind()
     ensures behind { carried (edit.Drop (statement 0)) (statement 1) ≡ Some (statement 0) }
     ensures before { carried (edit.Drop (statement 1)) (statement 0) ≡ Some (statement 0) }
     ensures state { after (record opened { marks = mark 1 "u" (statement 1) ∷ mark 1 "v" (init_of 0) ∷ [] }) (verdict calc (record opened { marks = mark 1 "u" (statement 1) ∷ mark 1 "v" (init_of 0) ∷ [] }) (says (Drop (From_root (statement_path 0)))))
-        ≡ record { tree = program (print_sum ∷ []); version = 1; marks = mark 1 "u" (statement 0) ∷ [] } }
+        ≡ record opened { tree = program (print_sum ∷ []); version = 1; marks = mark 1 "u" (statement 0) ∷ [] } }
 {}
 
 /// An optional is emptied, and filled again; a filled one is taken.
@@ -180,21 +181,21 @@ pub fn a_line_as_text()
 
 /// The texts of replies.
 pub fn replies_as_text()
-    ensures done { reply_text (record { session = Some 0; form = Done 1 }) ≡ codes "0 ok 1\n" }
-    ensures value { reply_text (record { session = Some 0; form = Shows (Plain (tree.Int (pos 3))) }) ≡ codes "0 = 3\n" }
-    ensures term { reply_text (record { session = Some 1; form = Shows (Written (num_term (pos 5))) }) ≡ codes "1 = Num(5)\n" }
-    ensures fault { reply_text (record { session = Some 0; form = Fails run.Null left_path (codes "value") }) ≡ codes "0 fault null in /Block/Stmt:1/Expr/Left.value\n" }
-    ensures circle { reply_text (record { session = Some 0; form = Circular [] (codes "circ") }) ≡ codes "0 circular /.circ\n" }
-    ensures stale { reply_text (record { session = Some 1; form = Refused (code.Stale 1) }) ≡ codes "1 refused 2 stale 1\n" }
-    ensures syntax { reply_text (record { session = None; form = Refused code.Syntax }) ≡ codes "? refused 1 syntax\n" }
-    ensures memory { reply_text (record { session = Some 12; form = Memory }) ≡ codes "12 memory\n" }
+    ensures done { reply_text (record { session = Some 0; done = None; form = Done 1 }) ≡ codes "0 ok 1\n" }
+    ensures value { reply_text (record { session = Some 0; done = None; form = Shows (Plain (tree.Int (pos 3))) }) ≡ codes "0 = 3\n" }
+    ensures term { reply_text (record { session = Some 1; done = None; form = Shows (Written (num_term (pos 5))) }) ≡ codes "1 = Num(5)\n" }
+    ensures fault { reply_text (record { session = Some 0; done = None; form = Fails run.Null left_path (codes "value") }) ≡ codes "0 fault null in /Block/Stmt:1/Expr/Left.value\n" }
+    ensures circle { reply_text (record { session = Some 0; done = None; form = Circular [] (codes "circ") }) ≡ codes "0 circular /.circ\n" }
+    ensures stale { reply_text (record { session = Some 1; done = None; form = Refused (code.Stale 1) }) ≡ codes "1 refused 2 stale 1\n" }
+    ensures syntax { reply_text (record { session = None; done = None; form = Refused code.Syntax }) ≡ codes "? refused 1 syntax\n" }
+    ensures memory { reply_text (record { session = Some 12; done = None; form = Memory }) ≡ codes "12 memory\n" }
 {}
 
 /// The bytes of lines, what is written for them, and the state that they leave.
 pub fn outputs_of_bytes()
-    ensures version { Outputs calc opened (codes "\n0 version") (false ∷ []) (codes "0 ok 0\n") opened }
-    ensures refused { Outputs calc opened (codes "x version") (false ∷ []) (codes "? refused 1 syntax\n") opened }
-    ensures memory { Outputs calc opened (codes "7 version") (true ∷ []) (codes "7 memory\n") opened }
+    ensures version { Writes calc 1 opened (codes "\n0 version") (false ∷ []) (codes "0 ok 0\n") opened }
+    ensures refused { Writes calc 1 opened (codes "x version") (false ∷ []) (codes "? refused 1 syntax\n") opened }
+    ensures memory { Writes calc 1 opened (codes "7 version") (true ∷ []) (codes "7 memory\n") opened }
 {}
 
 /// Empty lines are none, and a last line needs no newline.

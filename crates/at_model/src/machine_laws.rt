@@ -1,12 +1,13 @@
 //! Laws of the machine: each is the contract of a function that does nothing.
 
-ghost use Rattle.std.specs.Prelude.{◌≡◌, ◌≢◌, ℕ, ◌+◌, Bool, true, false, List, [], ◌∷◌, ◌++◌, Option, Some, Ok, All, filter, is_none};
+ghost use Rattle.std.specs.Prelude.{◌≡◌, ◌≢◌, ℕ, ◌+◌, Bool, true, false, List, [], ◌∷◌, ◌++◌, Option, Some, None, Ok, All, filter, is_none, map};
+ghost use Rattle.std.specs.List.{list_any};
 ghost use Rattle.at_model.specs.Classes.{Classes};
 ghost use Rattle.at_model.specs.Trees.{Tree, class_of, conforms};
 ghost use Rattle.at_model.specs.Rules.{Rules};
-ghost use Rattle.at_model.specs.Edits.{Edit, carried, changed_at_node, edited, is_within_limits};
-ghost use Rattle.at_model.specs.Touches.{is_within, touches};
-ghost use Rattle.at_model.specs.Paths.{ArePartsApart, Node, Path, node_at, path_of, tree_at};
+ghost use Rattle.at_model.specs.Edits.{Edit, carried, changed_nodes, edited, is_within_limits};
+ghost use Rattle.at_model.specs.Touches.{touches};
+ghost use Rattle.at_model.specs.Paths.{ArePartsApart, Node, Path, is_within, node_at, path_of, tree_at};
 ghost use Rattle.at_model.specs.Run.{Instance, Is, Location};
 ghost use Rattle.at_model.specs.Meaning.{Holds, Outcome, content, equations};
 ghost use Rattle.at_model.specs.Support.{Supports};
@@ -15,8 +16,9 @@ ghost use Rattle.at_model.specs.Alike.{AlikeAt, InstanceLike, IsInjective, Locat
 ghost use Rattle.at_model.specs.Terms.{Term, IsTerm, term_of, term_text};
 ghost use Rattle.at_model.specs.Shaping.{AreNamedApart, names_classes, shaped};
 ghost use Rattle.at_model.specs.Lines.{Line, IsLine, IsSessionOf, line_text, lines, is_filled};
-ghost use Rattle.at_model.specs.Replies.{Reply, Code, Done, Refused, reply_text};
-ghost use Rattle.at_model.specs.Machine.{State, Step, Handles, Serves, Runs, Outputs, IsEdited, IsSound, after, verdict, is_edit};
+ghost use Rattle.at_model.specs.Replies.{Reply, Code, Done, Refused};
+ghost use Rattle.at_model.specs.Machine.{State, Step, Handles, Serves, Turns, Given, Runs, Outputs, IsEdited, IsSound, after, text_of, verdict, is_edit};
+ghost use Rattle.at_model.specs.Effects.{PostNothing};
 
 /// Where each component is the first one of its name in its class, each node of a tree that conforms has
 /// a path, which leads back to it.
@@ -52,28 +54,36 @@ pub fn one_session()
     ensures { (bytes : List ℕ) (a b : Option ℕ) → IsSessionOf bytes a → IsSessionOf bytes b → a ≡ b }
 {}
 
-/// The bytes of a line have at most one reply, and leave one state.
+/// The bytes of a line have at most one reply, and leave one state, given whether memory ran out. Of a line that waits it is so
+/// however many turns its question is given.
 pub fn one_reply()
-    ensures { (rules : Rules) (old : State) (bytes : List ℕ) (new other : State) (reply told : Reply)
-        → Handles rules old bytes new reply → Handles rules old bytes other told → (new ≡ other) × (reply ≡ told) }
+    ensures { (rules : Rules) (old : State) (bytes : List ℕ) (new other : State) (b : Bool) (reply told : Reply)
+        → Handles rules old bytes new (b, reply) → Handles rules old bytes other (b, told) → (new ≡ other) × (reply ≡ told) }
 {}
 
-/// Where it is said which lines found no memory, bytes have at most one output and leave at most one state.
+/// Where no question is open, no line posts one, and it is said which lines found no memory, bytes have at most one output and leave
+/// at most one state, however many turns may follow each line.
 pub fn one_output()
-    ensures { (rules : Rules) (old : State) (bytes : List ℕ) (named : List Bool) (text told : List ℕ) (new other : State)
-        → Outputs rules old bytes named text new → Outputs rules old bytes named told other → (text ≡ told) × (new ≡ other) }
+    ensures { (rules : Rules) (slice other_slice : ℕ) (old : State) (bytes : List ℕ) (told also : List (Bool × Reply)) (new other : State)
+        → old.posted ≡ [] → PostNothing bytes → Outputs rules slice old bytes told new → Outputs rules other_slice old bytes also other
+        → map (λ (x : Bool × Reply). x.0) told ≡ map (λ (x : Bool × Reply). x.0) also → (text_of told ≡ text_of also) × (new ≡ other) }
 {}
 
-/// A refused line leaves tree, version and marks.
+/// A refused line leaves tree, version, marks and open questions. The answer to a question that was posted may be a refusal, too.
 pub fn a_refused_line_changes_nothing()
-    ensures { (rules : Rules) (old : State) (bytes : List ℕ) (new : State) (reply : Reply) (refusal : Code)
-        → Handles rules old bytes new reply → reply.form ≡ Refused refusal → new ≡ old }
+    ensures { (rules : Rules) (old : State) (bytes : List ℕ) (new : State) (b : Bool) (reply : Reply) (refusal : Code)
+        → Handles rules old bytes new (b, reply) → reply.done ≡ None → reply.form ≡ Refused refusal → new ≡ old }
 {}
 
-/// Where the tree conforms, is within the limits and holds the nodes of all marks, it is so after each line.
+/// Where the tree conforms, is within the limits and holds the nodes of all marks, those of open questions among them, it is so after
+/// each line and each turn.
 pub fn a_sound_state_stays_sound()
-    ensures { (rules : Rules) (b : Bool) (old : State) (line : List ℕ) (new : State) (reply : Reply)
-        → IsSound rules.classes old → Serves rules b old line new reply → IsSound rules.classes new }
+    ensures line { (rules : Rules) (old : State) (line : List ℕ) (new : State) (said : Bool × Reply)
+        → IsSound rules.classes old → Serves rules old line new said → IsSound rules.classes new }
+    ensures turn { (rules : Rules) (old : State) (number : ℕ) (new : State) (said : Option (Bool × Reply))
+        → IsSound rules.classes old → Turns rules old number new said → IsSound rules.classes new }
+    ensures turns { (rules : Rules) (limit : ℕ) (old : State) (told : List (Bool × Reply)) (new : State)
+        → IsSound rules.classes old → Given rules limit old told new → IsSound rules.classes new }
 {}
 
 /// An edit that is accepted leaves the tree that it makes, the next version, and the marks where their
@@ -105,7 +115,7 @@ pub fn a_carried_node_is_there()
         → (w : Tree) × (tree_at u m ≡ Some w) × (class_of w ≡ class_of v) }
     ensures same { (classes : Classes) (t u : Tree) (e : Edit) → conforms classes t 0 ≡ true → edited classes t e ≡ Ok u
         → (n m : Node) (v : Tree) → carried e n ≡ Some m → tree_at t n ≡ Some v
-        → ((p : Node) → changed_at_node e ≡ Some p → is_within n p ≡ false) → tree_at u m ≡ Some v }
+        → list_any (is_within n) (changed_nodes e) ≡ false → tree_at u m ≡ Some v }
 {}
 
 /// An edit that is accepted touches that a node is there exactly where the node goes nowhere.
@@ -152,9 +162,18 @@ pub fn lines_of_one_part()
     ensures { (a : List ℕ) → All (λ b. b ≢ 10) a → lines a ≡ filter is_filled (a ∷ []) }
 {}
 
-/// A run goes on by one more line.
+/// A run goes on by one more line and the turns behind it, and by another run.
 pub fn one_more_line()
-    ensures { (rules : Rules) (old mid new : State) (ls : List (List ℕ)) (named : List Bool) (text line : List ℕ) (b : Bool) (reply : Reply)
-        → Runs rules old ls named text mid → Serves rules b mid line new reply
-        → Runs rules old (ls ++ line ∷ []) (named ++ b ∷ []) (text ++ reply_text reply) new }
+    ensures line { (rules : Rules) (slice : ℕ) (old mid after new : State) (ls : List (List ℕ)) (told more : List (Bool × Reply)) (line : List ℕ) (said : Bool × Reply)
+        → Runs rules slice old ls told mid → Serves rules mid line after said → Given rules slice after more new
+        → Runs rules slice old (ls ++ line ∷ []) (told ++ said ∷ more) new }
+    ensures lines { (rules : Rules) (slice : ℕ) (old mid new : State) (ls rest : List (List ℕ)) (told more : List (Bool × Reply))
+        → Runs rules slice old ls told mid → Runs rules slice mid rest more new → Runs rules slice old (ls ++ rest) (told ++ more) new }
+{}
+
+/// Turns go on by more turns, and their text by the text of these.
+pub fn more_turns()
+    ensures turns { (rules : Rules) (limit rest : ℕ) (old mid new : State) (told more : List (Bool × Reply))
+        → Given rules limit old told mid → Given rules rest mid more new → Given rules (limit + rest) old (told ++ more) new }
+    ensures text { (told more : List (Bool × Reply)) → text_of (told ++ more) ≡ text_of told ++ text_of more }
 {}

@@ -1,14 +1,14 @@
 -- Commands, by their first words, and what stands behind these.
-use Rattle.std.proofs.Common.{◌≡◌, ◌≢◌, ℕ, ◌+◌, List, ◌∷◌, ◌++◌, drop, Some, refl, ap, sym, ◌∙◌, arith}
+use Rattle.std.proofs.Common.{◌≡◌, ◌≢◌, ℕ, List, ◌∷◌, ◌++◌, drop, Some, refl, ap, sym, ◌∙◌, arith}
 use Rattle.std.specs.Prelude.{codes}
 use Rattle.std.specs.List.{join_with_byte}
 use Rattle.std.specs.Fmt.{decimal}
 use Rattle.at_model.specs.Paths.{IsIndex}
-use Rattle.at_model.specs.Lines.{Place, place_text, IsPlace, Command, Ask, Set, Put, Drop, Insert, Token, Show, Mark, Unmark, Where, Version, command_words}
+use Rattle.at_model.specs.Lines.{Place, place_text, IsPlace, Command, Ask, Set, Put, Drop, Insert, Token, Move, Show, Mark, Unmark, Where, Version, Post, Wait, command_words}
 use Rattle.at_model.specs.Names.{IsName}
 use Rattle.at_model.proofs.Words.{apart_bytes}
 use Rattle.at_model.proofs.OneLine.{two}
-use Rattle.at_protocol.specs.Words.{HasNoSpace, IsPlaceText, IsNameText, IsIndexText, IsTermText, IsValueText}
+use Rattle.at_protocol.specs.Words.{HasNoSpace, IsPlaceText, IsToText, IsNameText, IsIndexText, IsQuestionNumber, IsTermText, IsValueText}
 use Rattle.at_protocol.specs.Calls.{IsCallText}
 use Rattle.at_protocol.specs.Commands.{IsCommandText}
 use Rattle.at_protocol.proofs.Answering.{Is, Then}
@@ -85,12 +85,41 @@ set_token text (Token place part v) h =
     place_then place text _ NamedValue h.is_command.0 (ap (drop 6) h.is_text) (name_then part _ _ (Is IsValueText) h.is_command.1 refl (v, (h.is_command.2, refl)))
 set_token text c h = absurd (apart_bytes (two (codes "token" ++ 32 ∷ text)) (two (text_of c)) refl (ap two h.is_text))
 
+abbrev pub NamedIndex : List ℕ → Type 0
+NamedIndex = Then IsNameText (Is IsIndexText)
+
+abbrev pub PlacedIndex : List ℕ → Type 0
+PlacedIndex = Then IsPlaceText NamedIndex
+
+abbrev pub ToPlace : List ℕ → Type 0
+ToPlace = Then IsToText PlacedIndex
+
+abbrev pub BehindMove : List ℕ → Type 0
+BehindMove = Then IsPlaceText ToPlace
+
+to_then : (text rest : List ℕ) (IsRest : List ℕ → Type 0) → text ≡ codes "to" ++ 32 ∷ rest → IsRest rest → Then IsToText IsRest text
+to_then text rest IsRest e k = ((tt, rest), record { word = codes "to"; is_text = refl; one = no_space_test (codes "to") refl; split = e }, k)
+
+pub moved : (text : List ℕ) (c : Command) → Behind (codes "move") text c → BehindMove text
+moved text (Move place to part index) h =
+    place_then place text _ ToPlace h.is_command.0 (ap (drop 5) h.is_text)
+    (to_then _ _ PlacedIndex refl (place_then to _ _ NamedIndex h.is_command.1 refl (name_then part _ _ (Is IsIndexText) h.is_command.2 refl (index, (h.is_command.3, refl)))))
+moved text c h = absurd (apart_bytes (two (codes "move" ++ 32 ∷ text)) (two (text_of c)) refl (ap two h.is_text))
+
 abbrev pub BehindMark : List ℕ → Type 0
 BehindMark = Then IsNameText (Is IsPlaceText)
 
 pub marked : (text : List ℕ) (c : Command) → Behind (codes "mark") text c → BehindMark text
 marked text (Mark name place) h = name_then name text _ (Is IsPlaceText) h.is_command.0 (ap (drop 5) h.is_text) (place, (h.is_command.1, refl))
 marked text c h = absurd (apart_bytes (two (codes "mark" ++ 32 ∷ text)) (two (text_of c)) refl (ap two h.is_text))
+
+pub posted : (text : List ℕ) (c : Command) → Behind (codes "post") text c → BehindAsk text
+posted text (Post place attribute arguments) h = place_then place text _ (Is IsCallText) h.is_command.0 (ap (drop 5) h.is_text) ((attribute, arguments), (h.is_command.1, h.is_command.2, refl))
+posted text c h = absurd (apart_bytes (two (codes "post" ++ 32 ∷ text)) (two (text_of c)) refl (ap two h.is_text))
+
+pub waited : (text : List ℕ) (c : Command) → Behind (codes "wait") text c → Is IsQuestionNumber text
+waited text (Wait number) h = (number, (h.is_command.0, h.is_command.1, sym (ap (drop 5) h.is_text)))
+waited text c h = absurd (apart_bytes (two (codes "wait" ++ 32 ∷ text)) (two (text_of c)) refl (ap two h.is_text))
 
 -- no command is one word but `version`
 pub no_word : (word : List ℕ) (c : Command) → HasNoSpace word → word ≢ codes "version" → IsCommandText word c → ⊥
@@ -100,11 +129,14 @@ no_word word (Put p a t) s v h = space_inside (codes "put") _ word (sym h.is_tex
 no_word word (Drop p) s v h = space_inside (codes "drop") _ word (sym h.is_text) (no_space_test (codes "drop") refl) s
 no_word word (Insert p a i t) s v h = space_inside (codes "insert") _ word (sym h.is_text) (no_space_test (codes "insert") refl) s
 no_word word (Token p a w) s v h = space_inside (codes "token") _ word (sym h.is_text) (no_space_test (codes "token") refl) s
+no_word word (Move p x a i) s v h = space_inside (codes "move") _ word (sym h.is_text) (no_space_test (codes "move") refl) s
 no_word word (Show p) s v h = space_inside (codes "show") _ word (sym h.is_text) (no_space_test (codes "show") refl) s
 no_word word (Mark a p) s v h = space_inside (codes "mark") _ word (sym h.is_text) (no_space_test (codes "mark") refl) s
 no_word word (Unmark a) s v h = space_inside (codes "unmark") _ word (sym h.is_text) (no_space_test (codes "unmark") refl) s
 no_word word (Where a) s v h = space_inside (codes "where") _ word (sym h.is_text) (no_space_test (codes "where") refl) s
 no_word word Version s v h = v h.is_text
+no_word word (Post p a as') s v h = space_inside (codes "post") _ word (sym h.is_text) (no_space_test (codes "post") refl) s
+no_word word (Wait n) s v h = space_inside (codes "wait") _ word (sym h.is_text) (no_space_test (codes "wait") refl) s
 
 -- none of these words is the first
 pub record IsNone (word : List ℕ) : Type 0 where
@@ -114,10 +146,13 @@ pub record IsNone (word : List ℕ) : Type 0 where
   pub drop_ : word ≢ codes "drop"
   pub insert : word ≢ codes "insert"
   pub token : word ≢ codes "token"
+  pub move : word ≢ codes "move"
   pub show : word ≢ codes "show"
   pub mark : word ≢ codes "mark"
   pub unmark : word ≢ codes "unmark"
   pub where_ : word ≢ codes "where"
+  pub post : word ≢ codes "post"
+  pub wait : word ≢ codes "wait"
 
 same_word : (word name rest text : List ℕ) → word ++ 32 ∷ rest ≡ name ++ 32 ∷ text → HasNoSpace word → HasNoSpace name → word ≡ name
 same_word word name rest text e p q = (one_front word name (32 ∷ rest) (32 ∷ text) e p q refl refl).0
@@ -129,8 +164,11 @@ no_command word rest (Put p a t) s n h = n.put_ (same_word word (codes "put") re
 no_command word rest (Drop p) s n h = n.drop_ (same_word word (codes "drop") rest _ h.is_text s (no_space_test (codes "drop") refl))
 no_command word rest (Insert p a i t) s n h = n.insert (same_word word (codes "insert") rest _ h.is_text s (no_space_test (codes "insert") refl))
 no_command word rest (Token p a w) s n h = n.token (same_word word (codes "token") rest _ h.is_text s (no_space_test (codes "token") refl))
+no_command word rest (Move p x a i) s n h = n.move (same_word word (codes "move") rest _ h.is_text s (no_space_test (codes "move") refl))
 no_command word rest (Show p) s n h = n.show (same_word word (codes "show") rest _ h.is_text s (no_space_test (codes "show") refl))
 no_command word rest (Mark a p) s n h = n.mark (same_word word (codes "mark") rest _ h.is_text s (no_space_test (codes "mark") refl))
 no_command word rest (Unmark a) s n h = n.unmark (same_word word (codes "unmark") rest _ h.is_text s (no_space_test (codes "unmark") refl))
 no_command word rest (Where a) s n h = n.where_ (same_word word (codes "where") rest _ h.is_text s (no_space_test (codes "where") refl))
 no_command word rest Version s n h = space_inside word rest (codes "version") h.is_text s (no_space_test (codes "version") refl)
+no_command word rest (Post p a as') s n h = n.post (same_word word (codes "post") rest _ h.is_text s (no_space_test (codes "post") refl))
+no_command word rest (Wait q) s n h = n.wait (same_word word (codes "wait") rest _ h.is_text s (no_space_test (codes "wait") refl))

@@ -10,3 +10,4 @@ pub mod Lines
 pub mod Sessions
 pub mod Numbers
 pub mod Places
+pub mod Replies

@@ -14,7 +14,7 @@ use Rattle.at_model.specs.Trees.{Text, Int, Truth}
 use Rattle.at_model.specs.Terms.{Term, Node, Cells, no_cells, cell, Cell, One, Many, Empty, Holds, Terms, no_terms, term, with_commas, term_text, cell_texts, cell_text, term_texts, token_text, max_depth, IsToken, IsTermWithin, AreCellsWithin, IsCellWithin, AreTermsWithin}
 use Rattle.at_model.specs.Paths.{Path, Step, IsPath, IsStep, IsIndex, step_text, index_text, path_text}
 use Rattle.at_model.specs.Lines as line
-use Rattle.at_model.specs.Lines.{Place, From_root, From_mark, Argument, Command, Ask, Set, Put, Drop, Insert, Token, Show, Mark, Unmark, Where, Version, Line, place_text, argument_text, call_text, command_words, line_text, IsPlace, IsArgument, IsCommand, IsVersion, IsLine}
+use Rattle.at_model.specs.Lines.{Place, From_root, From_mark, Argument, Command, Ask, Set, Put, Drop, Insert, Token, Move, Show, Mark, Unmark, Where, Version, Post, Wait, Line, place_text, argument_text, call_text, command_words, line_text, IsPlace, IsArgument, IsCommand, IsVersion, IsLine}
 use Rattle.at_model.specs.Names.{IsName}
 use Rattle.at_model.proofs.OneLine.{body_text, line_flat}
 use Rattle.at_model.proofs.Options.{both}
@@ -137,11 +137,15 @@ utf8_command (Drop place) h = utf8_words (codes "drop") _ (utf8_codes (codes "dr
 utf8_command (Insert place part index t) h =
     utf8_words (codes "insert") _ (utf8_codes (codes "insert") refl) (utf8_words (place_text place) _ (utf8_place place h.0) (utf8_words part _ h.1.1 (utf8_words (decimal index) _ (utf8_decimal index (omega (arith, h.2))) (utf8_term max_depth t h.3))))
 utf8_command (Token place part v) h = utf8_words (codes "token") _ (utf8_codes (codes "token") refl) (utf8_words (place_text place) _ (utf8_place place h.0) (utf8_words part _ h.1.1 (utf8_value v h.2)))
+utf8_command (Move place to part index) h =
+    utf8_words (codes "move") _ (utf8_codes (codes "move") refl) (utf8_words (place_text place) _ (utf8_place place h.0) (utf8_words (codes "to") _ (utf8_codes (codes "to") refl) (utf8_words (place_text to) _ (utf8_place to h.1) (utf8_words part _ h.2.1 (utf8_decimal index (omega (arith, h.3)))))))
 utf8_command (Show place) h = utf8_words (codes "show") _ (utf8_codes (codes "show") refl) (utf8_place place h)
 utf8_command (Mark name place) h = utf8_words (codes "mark") _ (utf8_codes (codes "mark") refl) (utf8_words name _ h.0.1 (utf8_place place h.1))
 utf8_command (Unmark name) h = utf8_words (codes "unmark") _ (utf8_codes (codes "unmark") refl) h.1
 utf8_command (Where name) h = utf8_words (codes "where") _ (utf8_codes (codes "where") refl) h.1
 utf8_command Version h = utf8_codes (codes "version") refl
+utf8_command (Post place attribute arguments) h = utf8_words (codes "post") _ (utf8_codes (codes "post") refl) (utf8_words (place_text place) _ (utf8_place place h.0) (utf8_call attribute arguments h.1 h.2))
+utf8_command (Wait number) h = utf8_words (codes "wait") _ (utf8_codes (codes "wait") refl) (utf8_decimal number (omega (arith, h.1)))
 
 utf8_body : (expected : Option ℕ) (c : Command) → IsVersion expected → IsCommand c → IsUtf8 (body_text expected c)
 unfolding body_text

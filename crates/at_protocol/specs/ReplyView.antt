@@ -1,12 +1,12 @@
 -- What a reply stands for, and its bytes.
-use Rattle.std.specs.Prelude.{◌≡◌, ◌∷◌, ◌++◌, [], ℕ, List, codes, string_bytes}
+use Rattle.std.specs.Prelude.{◌≡◌, ◌∷◌, ◌++◌, [], ℕ, List, Option, Some, None, option_map, codes, string_bytes}
 use Rattle.std.specs.List.{join_with_byte}
 use Rattle.std.specs.Fmt.{decimal}
 use Rattle.at_model.specs.Terms.{Term, term_text, token_text}
 use Rattle.at_model.specs.Paths.{path_text}
 use Rattle.at_model.specs.Run.{FaultKind}
 use Rattle.at_model.specs.Run as run
-use Rattle.at_model.specs.Replies.{Reply, Form, Done, Shows, Fails, Circular, Refused, Memory, Shown, Plain, At, Nothing, Written, Code, code_words, fault_text, instance_text, session_text}
+use Rattle.at_model.specs.Replies.{Reply, Posting, Form, Done, Opened, Shows, Fails, Circular, Refused, Memory, Shown, Plain, At, Nothing, Written, Code, code_words, done_words, fault_text, instance_text, session_text}
 use Rattle.at_model.specs.Replies as code
 use Rattle.at_tree.specs.PathView.{path_view}
 use Rattle.at_tree.specs.Token.{token_view}
@@ -18,6 +18,7 @@ use Rattle.at_protocol.specs.declared.reply.Shown.{Shown as ShownValue}
 use Rattle.at_protocol.specs.declared.reply.Shown.TheVariants as shown
 use Rattle.at_protocol.specs.declared.reply.Form.{Form as FormValue}
 use Rattle.at_protocol.specs.declared.reply.Form.TheVariants as form
+use Rattle.at_protocol.specs.declared.reply.Posting.{Posting as PostingValue}
 use Rattle.at_protocol.specs.declared.reply.Reply.{Reply as ReplyValue}
 
 abbrev pub code_view : Refusal → Code
@@ -31,9 +32,11 @@ code_view refusal.Fit = code.Fit
 code_view refusal.Index = code.Index
 code_view refusal.Taken = code.Taken
 code_view refusal.Fixed = code.Fixed
+code_view refusal.Inside = code.Inside
 code_view refusal.Limit = code.Limit
 code_view refusal.Attribute = code.Attribute
 code_view refusal.Arguments = code.Arguments
+code_view refusal.Question = code.Question
 
 abbrev pub fault_view : FaultWord → FaultKind
 fault_view word.Null = run.Null
@@ -57,9 +60,14 @@ IsForm (form.Fault kind path attribute) f = f ≡ Fails (fault_view kind) (path_
 IsForm (form.Circular path attribute) f = f ≡ Circular (path_view path) (string_bytes attribute)
 IsForm (form.Refused r) f = f ≡ Refused (code_view r)
 IsForm form.Memory f = f ≡ Memory
+IsForm (form.Open number) f = f ≡ Opened number
+
+abbrev pub posting_view : PostingValue → Posting
+posting_view p = record { number = p.number; version = p.version }
 
 pub record IsReply (value : ReplyValue) (r : Reply) : Type 0 where
   pub session : value.session ≡ r.session
+  pub done : option_map posting_view value.done ≡ r.done
   pub form : IsForm value.form r.form
 
 -- the bytes of what is shown; those of a term are what they are
@@ -77,11 +85,17 @@ words_of (form.Fault kind path attribute) = codes "fault" ∷ fault_text (fault_
 words_of (form.Circular path attribute) = codes "circular" ∷ instance_text (path_view path) (string_bytes attribute) ∷ []
 words_of (form.Refused r) = codes "refused" ∷ code_words (code_view r)
 words_of form.Memory = codes "memory" ∷ []
+words_of (form.Open number) = codes "open" ∷ decimal number ∷ []
 
--- what stands behind the session
+-- the question that was posted, where the reply is its answer, with a space in front
+abbrev pub done_bytes : Option PostingValue → List ℕ
+done_bytes None = []
+done_bytes (Some p) = 32 ∷ join_with_byte 32 (done_words (Some (posting_view p)))
+
+-- what is told, with a space in front
 abbrev pub form_bytes : FormValue → List ℕ
 form_bytes f = 32 ∷ join_with_byte 32 (words_of f)
 
 -- the whole line, with its newline
 abbrev pub reply_bytes : ReplyValue → List ℕ
-reply_bytes r = session_text r.session ++ (form_bytes r.form ++ 10 ∷ [])
+reply_bytes r = session_text r.session ++ (done_bytes r.done ++ (form_bytes r.form ++ 10 ∷ []))

@@ -7,7 +7,7 @@ use Rattle.at_model.specs.Texts.{quoted}
 use Rattle.at_model.specs.Trees as tree
 use Rattle.at_model.specs.Terms.{Term, term_text, token_text, IsTerm, IsToken}
 use Rattle.at_model.specs.Paths.{Path, path_text, step_text, IsPath, IsIndex}
-use Rattle.at_model.specs.Lines.{Place, place_text, IsPlace, last_version}
+use Rattle.at_model.specs.Lines.{Place, place_text, IsPlace, last_version, last_post}
 use Rattle.at_model.specs.Names.{IsName}
 use Rattle.at_text.specs.declared.fault.Failure.{Failure}
 use Rattle.at_text.specs.declared.fault.Failure.TheVariants.{For, Memory}
@@ -36,6 +36,13 @@ IsNameText text name = IsName name × (name ≡ text)
 
 abbrev pub IsIndexText : List ℕ → ℕ → Type 0
 IsIndexText text index = IsIndex (Some index) × (decimal index ≡ text)
+
+-- the number of a question
+abbrev pub IsQuestionNumber : List ℕ → ℕ → Type 0
+IsQuestionNumber text number = (0 < number) × (number ≤ last_post) × (decimal number ≡ text)
+
+abbrev pub IsToText : List ℕ → ⊤ → Type 0
+IsToText text u = codes "to" ≡ text
 
 abbrev pub IsPathText : List ℕ → Path → Type 0
 IsPathText text path = IsPath path × (path_text path ≡ text)

@@ -89,6 +89,13 @@ pub enum Command {
         part: String,
         value: TokVal,
     },
+    /// `move PLACE to PLACE PART INDEX`: the element of a list comes into a list of the other node.
+    Move {
+        place: Place,
+        to: Place,
+        part: String,
+        index: u32,
+    },
     /// `show PLACE`: the node's term.
     Show {
         place: Place,
@@ -108,6 +115,16 @@ pub enum Command {
     },
     /// `version`: how many edits were accepted.
     Version,
+    /// `post PLACE ATTRIBUTE(ARGUMENTS)`: a question that is answered in turns.
+    Post {
+        place: Place,
+        attribute: String,
+        arguments: Vec<Argument>,
+    },
+    /// `wait NUMBER`: the answer to the question of that number, which is 1 at least.
+    Wait {
+        number: u64,
+    },
 }
 
 /// Why no line was read, with the session that could be.

@@ -1,5 +1,5 @@
 //! Replies, each a line.
-ghost use Rattle.std.specs.Prelude.{◌≡◌, ◌≤◌, ◌<◌, ◌+◌, ◌++◌, ◌∷◌, [], OnOk, OnErr, IsOk, length, take, codes, vec_len, vec_capacity};
+ghost use Rattle.std.specs.Prelude.{◌≡◌, ◌≤◌, ◌<◌, ◌+◌, ◌++◌, ◌∷◌, [], Some, OnOk, OnErr, IsOk, length, take, codes, vec_len, vec_capacity};
 ghost use Rattle.std.specs.List.{join_with_byte};
 ghost use Rattle.std.specs.Vec.{VecUnchanged};
 ghost use Rattle.at_model.specs.Terms.{token_text};
@@ -7,8 +7,8 @@ ghost use Rattle.at_model.specs.Paths.{IsPath};
 ghost use Rattle.at_model.specs.Replies.{Reply as ModelReply, code_words, fault_text, instance_text, session_text, reply_text};
 ghost use Rattle.at_tree.specs.PathView.{path_view};
 ghost use Rattle.at_tree.specs.Token.{token_view};
-ghost use Rattle.at_protocol.specs.ReplyView.{code_view, fault_view, shown_bytes, form_bytes, reply_bytes, IsReply};
-ghost use Rattle.at_protocol.specs.Writable.{IsShownWritable, IsWritable, IsTokenShort, IsShownShort, IsShort};
+ghost use Rattle.at_protocol.specs.ReplyView.{code_view, fault_view, shown_bytes, done_bytes, form_bytes, reply_bytes, IsReply};
+ghost use Rattle.at_protocol.specs.Writable.{IsShownWritable, IsWritable, IsTokenShort, IsShownShort, IsFormShort, form_room, done_room, IsShort};
 ghost use Rattle.at_text.specs.Quoted.{Extends};
 
 use at_text::quoted::write_quoted;
@@ -21,7 +21,16 @@ use std::alloc::AllocError;
 #[derive(Drop)]
 pub struct Reply {
     pub session: Option<u16>,
+    /// The question that was posted, where this is its answer.
+    pub done: Option<Posting>,
     pub form: Form,
+}
+
+/// Which question is answered, and on which tree: `done NUMBER VERSION`.
+#[derive(Clone, Copy)]
+pub struct Posting {
+    pub number: u64,
+    pub version: u64,
 }
 
 /// What a session is told.
@@ -48,6 +57,10 @@ pub enum Form {
     Refused(Refusal),
     /// `memory`: memory ran out.
     Memory,
+    /// `open NUMBER`: the question is open under this number.
+    Open {
+        number: u64,
+    },
 }
 
 /// A value.
@@ -101,14 +114,18 @@ pub enum Refusal {
     Index,
     /// The optional component is filled, or the session has that mark.
     Taken,
-    /// The node is the root or a plain child, and can't go.
+    /// The node is the root or a plain child, and can't go, or no element of a list, and can't be moved.
     Fixed,
+    /// The node would come to itself or below it.
+    Inside,
     /// A limit would be passed.
     Limit,
     /// The node's class has no such attribute.
     Attribute,
     /// The number or the kinds of the arguments don't fit.
     Arguments,
+    /// The session has no open question of that number.
+    Question,
 }
 
 impl FaultWord {
@@ -144,9 +161,11 @@ impl Refusal {
             Refusal::Index => "8 index",
             Refusal::Taken => "9 taken",
             Refusal::Fixed => "10 fixed",
+            Refusal::Inside => "11 inside",
             Refusal::Limit => "12 limit",
             Refusal::Attribute => "13 attribute",
             Refusal::Arguments => "14 arguments",
+            Refusal::Question => "15 question",
         }
     }
 }
@@ -277,8 +296,8 @@ fn append_form(form: &Form, out: &mut Vec<u8>) -> Result<(), AllocError>
     ensures ok { OnOk result (out.new.items ≡ out.old.items ++ form_bytes form.now) }
     ensures kept { Extends out.old.items out.new.items }
     ensures grows { vec_capacity out.old ≤ vec_capacity out.new }
-    ensures full { IsShort form.now → OnErr result (vec_capacity out.old < vec_len out.old + 42) }
-    ensures short { IsShort form.now → OnOk result (vec_len out.new ≤ vec_len out.old + 42) }
+    ensures full { IsFormShort form.now → OnErr result (vec_capacity out.old < vec_len out.old + form_room form.now) }
+    ensures short { IsFormShort form.now → OnOk result (vec_len out.new ≤ vec_len out.old + form_room form.now) }
 {
     match form {
         Form::Ok { version } => append_both(
@@ -297,6 +316,39 @@ fn append_form(form: &Form, out: &mut Vec<u8>) -> Result<(), AllocError>
         }
         Form::Refused(refusal) => append_refusal(*refusal, out),
         Form::Memory => out.extend_from_slice(b" memory"),
+        Form::Open { number } => append_both(
+            b" open ",
+            Buffer::new().format(*number).as_bytes(),
+            out,
+        ),
+    }
+}
+
+/// Appends ` done `, the question's number and the version, or a part of them where memory is
+/// wanting.
+fn append_posting(posting: Posting, out: &mut Vec<u8>) -> Result<(), AllocError>
+    ensures ok { OnOk result (out.new.items ≡ out.old.items ++ done_bytes (Some posting)) }
+    ensures kept { Extends out.old.items out.new.items }
+    ensures grows { vec_capacity out.old ≤ vec_capacity out.new }
+    ensures full { OnErr result (vec_capacity out.old < vec_len out.old + 47) }
+    ensures short { OnOk result (vec_len out.new ≤ vec_len out.old + 47) }
+{
+    let Posting { number, version } = posting;
+    append_both(b" done ", Buffer::new().format(number).as_bytes(), out)?;
+    append_both(b" ", Buffer::new().format(version).as_bytes(), out)
+}
+
+/// Appends the question that was posted, where there is one, or a part of it where memory is wanting.
+fn append_done(done: Option<Posting>, out: &mut Vec<u8>) -> Result<(), AllocError>
+    ensures ok { OnOk result (out.new.items ≡ out.old.items ++ done_bytes done) }
+    ensures kept { Extends out.old.items out.new.items }
+    ensures grows { vec_capacity out.old ≤ vec_capacity out.new }
+    ensures full { OnErr result (vec_capacity out.old < vec_len out.old + done_room done) }
+    ensures short { OnOk result (vec_len out.new ≤ vec_len out.old + done_room done) }
+{
+    match done {
+        Some(posting) => append_posting(posting, out),
+        None => Ok(()),
     }
 }
 
@@ -306,16 +358,17 @@ fn append_reply(reply: &Reply, out: &mut Vec<u8>) -> Result<(), AllocError>
     ensures ok { OnOk result (out.new.items ≡ out.old.items ++ reply_bytes reply.now) }
     ensures kept { Extends out.old.items out.new.items }
     ensures grows { vec_capacity out.old ≤ vec_capacity out.new }
-    ensures full { IsShort reply.now.form → OnErr result (vec_capacity out.old < vec_len out.old + 48) }
+    ensures full { IsShort reply.now → OnErr result (vec_capacity out.old < vec_len out.old + 64) }
 {
     append_session(reply.session, out)?;
+    append_done(reply.done, out)?;
     append_form(&reply.form, out)?;
     out.extend_from_slice(b"\n")
 }
 
 /// Appends the reply with its newline, where `write_path` takes the path in it, if there is one.
-/// Where memory is wanting the output stays as it was; a reply that shows no path, no text and no
-/// term needs room for 48 bytes at most.
+/// Where memory is wanting the output stays as it was. A reply that shows no path, no text and no
+/// term needs room for 64 bytes at most; so does `memory` as the answer to a question that was posted.
 pub fn write_reply(reply: &Reply, out: &mut Vec<u8>) -> Result<(), AllocError>
     requires { IsWritable reply.now.form }
     // The bytes of a term are appended as they are.
@@ -324,7 +377,7 @@ pub fn write_reply(reply: &Reply, out: &mut Vec<u8>) -> Result<(), AllocError>
     ensures ok { OnOk result ((r : ModelReply) → IsReply reply.now r → out.new.items ≡ out.old.items ++ reply_text r) }
     ensures err { OnErr result (VecUnchanged out.old out.new) }
     ensures grows { vec_capacity out.old ≤ vec_capacity out.new }
-    ensures room { IsShort reply.now.form → vec_len out.old + 48 ≤ vec_capacity out.old → IsOk result }
+    ensures room { IsShort reply.now → vec_len out.old + 64 ≤ vec_capacity out.old → IsOk result }
 {
     let length = out.len();
     let written = append_reply(reply, out);

@@ -1,14 +1,9 @@
 //! Sessions whose reader or writer fails, at each call in turn, and sessions with few reads.
 
-ghost use Rattle.std.specs.Prelude.{IfOk};
-ghost use Rattle.at_start.specs.Starts.{IsReady};
-
 mod ends;
 
-use crate::samples::{TREE, files, over};
-use at_cache::KeepRecorded;
-use at_engine::{Engine, RunFault, Watched, run, run_for};
-use at_start::start;
+use crate::hearing::calculator;
+use at_engine::{RunFault, Watched, run, run_for};
 use ends::{FailingReader, FailingWriter, first_lines};
 use std::alloc::Global;
 use std::test::Fail;
@@ -48,7 +43,28 @@ const SESSIONS: &[Session] = &[
         lines: "0 version\n0 version\n",
         replies: "0 ok 0\n0 ok 0\n",
     },
+    Session {
+        lines: "0 post /Block/Stmt:1/Expr value()
+0 wait 1
+",
+        replies: "0 open 1
+0 done 1 0 = 3
+",
+    },
+    Session {
+        lines: POSTS,
+        replies: "0 open 1
+1 open 2
+0 done 1 0 = 3
+1 done 2 0 = 2
+",
+    },
 ];
+
+/// Two questions, which are answered at the end of the input.
+const POSTS: &str = "0 post /Block/Stmt:1/Expr value()
+1 post /Block/Stmt:1/Expr/Right value()
+";
 
 /// What a run wrote, the fault by which it ended, and whether a call of its reader or of its writer failed.
 #[derive(Drop)]
@@ -67,13 +83,6 @@ impl Heard {
             && self.read_failed == (fault == Some(RunFault::Read))
             && self.write_failed == (fault == Some(RunFault::Write))
     }
-}
-
-/// The calculator's engine.
-fn calculator(alloc: Global) -> Result<Engine<KeepRecorded>, Fail>
-    ensures { IfOk result IsReady }
-{
-    Ok(start(alloc, &files(alloc, &over(TREE))?)?)
 }
 
 /// What is heard of a fresh engine where each read brings one byte, the one after so many fails, and so many are allowed.
@@ -162,6 +171,48 @@ fn reads_are_counted(rt: HostRuntime) -> Result<(), Fail> {
     for (limit, told, fault) in LIMITS {
         let heard = read_for(rt.alloc(), "0 version\n", usize::MAX, *limit)?;
         assert!(rt; heard.has_ended(told, *fault), "{limit}");
+    }
+    Ok(())
+}
+
+/// How many reads of one byte and writes of one byte succeed, and what the next run over the same engine tells, which has no
+/// lines: the answers that the first one didn't begin to write.
+const BROKEN: &[(usize, usize, &str)] = &[
+    (0, usize::MAX, ""),
+    (33, usize::MAX, ""),
+    (34, usize::MAX, "0 done 1 0 = 3\n"),
+    (73, usize::MAX, "0 done 1 0 = 3\n"),
+    (74, usize::MAX, "0 done 1 0 = 3\n1 done 2 0 = 2\n"),
+    (usize::MAX, 0, "0 done 1 0 = 3\n"),
+    (usize::MAX, 8, "0 done 1 0 = 3\n"),
+    (usize::MAX, 9, "0 done 1 0 = 3\n1 done 2 0 = 2\n"),
+    (usize::MAX, 17, "0 done 1 0 = 3\n1 done 2 0 = 2\n"),
+    (usize::MAX, 18, "1 done 2 0 = 2\n"),
+    (usize::MAX, 32, "1 done 2 0 = 2\n"),
+    (usize::MAX, 33, ""),
+    (usize::MAX, 47, ""),
+    (usize::MAX, usize::MAX, ""),
+];
+
+/// What the second run tells.
+fn told_then(alloc: Global, reads: usize, writes: usize) -> Result<Vec<u8>, Fail> {
+    let mut engine = calculator(alloc)?;
+    let bytes = POSTS.as_bytes();
+    let mut reader = Watched::new(FailingReader { bytes, reads });
+    let told = Vec::new(alloc);
+    let mut writer = Watched::new(FailingWriter { told, writes });
+    let _ = run(&mut engine, &mut reader, &mut writer);
+    let mut nothing: &[u8] = b"";
+    let mut then = Vec::new(alloc);
+    run(&mut engine, &mut nothing, &mut then)?;
+    Ok(then)
+}
+
+#[test]
+fn the_next_run_goes_on_with_open_questions(rt: HostRuntime) -> Result<(), Fail> {
+    for (reads, writes, then) in BROKEN {
+        let told = told_then(rt.alloc(), *reads, *writes)?;
+        assert!(rt; told.as_slice() == then.as_bytes(), "{reads} {writes}");
     }
     Ok(())
 }

@@ -1,24 +1,39 @@
 //! What engines write for lines.
 
-ghost use Rattle.std.specs.Prelude.{None};
+ghost use Rattle.std.specs.Prelude.{None, IfOk};
 ghost use Rattle.at_cache.specs.Kept.{KeepsAll};
+ghost use Rattle.at_start.specs.Starts.{IsReady};
 
+use crate::samples::{TREE, files, over};
 use at_cache::{KeepNone, KeepRecorded, KeepUntilEdit, Keeper};
-use at_engine::{Report, run};
-use at_start::{Files, start_with};
+use at_engine::{Engine, Report, run};
+use at_start::{Files, start, start_with};
 use std::alloc::Global;
 use std::test::Fail;
 
-/// What a fresh engine over an empty keeper writes for the lines, and what its run reports.
+/// How many turns follow each line, where nothing else is said.
+pub const ONE_TURN: u32 = 1;
+
+/// The calculator's engine.
+pub fn calculator(alloc: Global) -> Result<Engine<KeepRecorded>, Fail>
+    ensures { IfOk result IsReady }
+{
+    Ok(start(alloc, &files(alloc, &over(TREE))?)?)
+}
+
+/// What a fresh engine over an empty keeper writes for the lines, each of which so many turns follow, and what its run
+/// reports.
 pub fn heard<K: Keeper>(
     alloc: Global,
     files: &Files,
     keeper: K,
+    slice: u32,
     lines: &str,
 ) -> Result<(Vec<u8>, Report), Fail>
     requires { KeepsAll (λ _. None) (K.contents keeper) }
 {
     let mut engine = start_with(alloc, files, keeper)?;
+    engine.set_slice(slice);
     let mut reader = lines.as_bytes();
     let mut out = Vec::new(alloc);
     let report = run(&mut engine, &mut reader, &mut out)?;
@@ -26,8 +41,13 @@ pub fn heard<K: Keeper>(
 }
 
 /// The same with what is kept over edits, where memory doesn't run out.
-pub fn recorded(alloc: Global, files: &Files, lines: &str) -> Result<(Vec<u8>, Report), Fail> {
-    let (told, report) = heard(alloc, files, KeepRecorded::new(alloc), lines)?;
+pub fn recorded(
+    alloc: Global,
+    files: &Files,
+    slice: u32,
+    lines: &str,
+) -> Result<(Vec<u8>, Report), Fail> {
+    let (told, report) = heard(alloc, files, KeepRecorded::new(alloc), slice, lines)?;
     if report.memory > 0 {
         return Err(Fail::new("memory ran out"));
     }
@@ -35,12 +55,17 @@ pub fn recorded(alloc: Global, files: &Files, lines: &str) -> Result<(Vec<u8>, R
 }
 
 /// The same, where the keepers that record nothing lead to the same replies.
-pub fn played(alloc: Global, files: &Files, lines: &str) -> Result<(Vec<u8>, Report), Fail> {
-    let (told, report) = recorded(alloc, files, lines)?;
-    if !is_told(alloc, files, KeepNone::new(alloc), lines, &told)? {
+pub fn played(
+    alloc: Global,
+    files: &Files,
+    slice: u32,
+    lines: &str,
+) -> Result<(Vec<u8>, Report), Fail> {
+    let (told, report) = recorded(alloc, files, slice, lines)?;
+    if !is_told(alloc, files, KeepNone::new(alloc), slice, lines, &told)? {
         return Err(Fail::new("that nothing is kept is heard"));
     }
-    if !is_told(alloc, files, KeepUntilEdit::new(alloc), lines, &told)? {
+    if !is_told(alloc, files, KeepUntilEdit::new(alloc), slice, lines, &told)? {
         return Err(Fail::new("what is kept until an edit is heard"));
     }
     Ok((told, report))
@@ -51,11 +76,12 @@ pub fn is_told<K: Keeper>(
     alloc: Global,
     files: &Files,
     keeper: K,
+    slice: u32,
     lines: &str,
     told: &[u8],
 ) -> Result<bool, Fail>
     requires { KeepsAll (λ _. None) (K.contents keeper) }
 {
-    let (out, _) = heard(alloc, files, keeper, lines)?;
+    let (out, _) = heard(alloc, files, keeper, slice, lines)?;
     Ok(out.as_slice() == told)
 }

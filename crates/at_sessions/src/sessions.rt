@@ -1,8 +1,8 @@
 //! Whole sessions over the calculator sample, with the work that they cost.
 
-mod built;
+pub mod built;
 
-use crate::hearing::played;
+use crate::hearing::{ONE_TURN, played};
 use crate::samples::{TREE, files, over};
 use std::alloc::Global;
 use std::test::Fail;
@@ -289,12 +289,197 @@ const SESSIONS: &[Session<'static>] = &[
 ",
         work: Some(11),
     },
+    Session {
+        name: "a moved statement is found and asked at its new place",
+        lines: "0 insert /Block Stmt 2 Block([])
+0 mark p /Block/Stmt:1
+0 ask /Block/Stmt:1/Expr value()
+0 move /Block/Stmt:1 to /Block/Stmt:2 Stmt 0
+0 where p
+0 ask /Block/Stmt:1/Stmt:0/Expr value()
+0 move /Block/Stmt:1 to /Block/Stmt:1 Stmt 0
+",
+        replies: "0 ok 1
+0 ok 1
+0 = 3
+0 ok 2
+0 = /Block/Stmt:1/Stmt:0
+0 = 3
+0 refused 11 inside
+",
+        work: Some(14),
+    },
+    Session {
+        name: "refused moves leave the tree",
+        lines: "0 move /Block/Stmt:0 to /Block Init 0
+0 move / to / Stmt 0
+0 move / to /Block Stmt 0
+0 move /Block/Stmt:0 to /Block Stmt 2
+0 move /Block to /Block Stmt 0
+0 move /Block/Stmt:2 to /Block Stmt 0
+0 move /Block/Stmt:0 to /Block/Stmt:2 Stmt 0
+0 move u$ to /Block Stmt 0
+0 move $u to /Block Stmt 0
+0 move /Block/Stmt:0 to $u Stmt 0
+0 move /Block/Stmt:0 to /Block Stmt
+0 move /Block/Stmt:0 at /Block Stmt 0
+0 move /Block/Stmt:0 to /Block Stmt 00
+0 show /
+",
+        replies: "0 refused 5 component
+0 refused 5 component
+0 refused 7 fit
+0 refused 8 index
+0 refused 10 fixed
+0 refused 4 path
+0 refused 4 path
+0 refused 1 syntax
+0 refused 3 mark
+0 refused 3 mark
+0 refused 1 syntax
+0 refused 1 syntax
+0 refused 1 syntax
+0 = Program(Block([Decl(\"x\",Num(1)),Print(Add(Use(\"x\"),Num(2)))]))
+",
+        work: Some(0),
+    },
+    Session {
+        name: "a move within a list",
+        lines: "0 move /Block/Stmt:1 to /Block Stmt 0
+0 show /
+0 move /Block/Stmt:1 to /Block Stmt 1
+0 show /
+",
+        replies: "0 ok 1
+0 = Program(Block([Print(Add(Use(\"x\"),Num(2))),Decl(\"x\",Num(1))]))
+0 ok 2
+0 = Program(Block([Print(Add(Use(\"x\"),Num(2))),Decl(\"x\",Num(1))]))
+",
+        work: Some(0),
+    },
+    Session {
+        name: "a moved block keeps what is answered within it",
+        lines: "0 insert /Block Stmt 2 Block([Decl(\"y\",Num(4)),Print(Use(\"y\"))])
+0 insert /Block Stmt 3 Block([])
+0 ask /Block/Stmt:2/Stmt:1/Expr value()
+0 move /Block/Stmt:2 to /Block/Stmt:3 Stmt 0
+0 ask /Block/Stmt:2/Stmt:0/Stmt:1/Expr value()
+",
+        replies: "0 ok 1
+0 ok 2
+0 = 4
+0 ok 3
+0 = 4
+",
+        work: Some(6),
+    },
+    Session {
+        name: "a moved block loses what was answered above it",
+        lines: "0 insert /Block Stmt 2 Block([Decl(\"y\",Num(4)),Print(Add(Use(\"y\"),Use(\"x\")))])
+0 insert /Block Stmt 3 Block([])
+0 ask /Block/Stmt:2/Stmt:1/Expr value()
+0 move /Block/Stmt:2 to /Block/Stmt:3 Stmt 0
+0 ask /Block/Stmt:2/Stmt:0/Stmt:1/Expr value()
+",
+        replies: "0 ok 1
+0 ok 2
+0 = 5
+0 ok 3
+0 = 5
+",
+        work: Some(20),
+    },
+    Session {
+        name: "a move to where the node stands forgets what rests on its list",
+        lines: "0 ask /Block/Stmt:1/Expr value()
+0 move /Block/Stmt:1 to /Block Stmt 1
+0 ask /Block/Stmt:1/Expr value()
+0 move /Block/Stmt:0 to /Block Init 0
+0 move /Block to /Block Stmt 0
+0 ask /Block/Stmt:1/Expr value()
+",
+        replies: "0 = 3
+0 ok 1
+0 = 3
+0 refused 5 component
+0 refused 10 fixed
+0 = 3
+",
+        work: Some(13),
+    },
+    Session {
+        name: "a question in turns is waited for by its session",
+        lines: "0 post /Block/Stmt:1/Expr value()
+1 wait 1
+0 wait 1
+",
+        replies: "0 open 1
+1 refused 15 question
+0 done 1 0 = 3
+",
+        work: None,
+    },
+    Session {
+        name: "a question in turns is answered on the tree as it is",
+        lines: "0 post /Block/Stmt:1/Expr value()
+1 token /Block/Stmt:1/Expr/Right Value 5
+0 wait 1
+",
+        replies: "0 open 1
+1 ok 1
+0 done 1 1 = 6
+",
+        work: None,
+    },
+    Session {
+        name: "the place of a question in turns is gone",
+        lines: "0 post /Block/Stmt:1/Expr value()
+0 drop /Block/Stmt:0
+",
+        replies: "0 open 1
+0 ok 1
+0 done 1 1 refused 4 path
+",
+        work: None,
+    },
+    Session {
+        name: "a circle in turns",
+        lines: "0 post / circ()
+",
+        replies: "0 open 1
+0 done 1 0 circular /.circ
+",
+        work: None,
+    },
+    Session {
+        name: "the mark of a question in turns is gone",
+        lines: "0 mark u /Block/Stmt:1/Expr/Left
+0 post $u decl()
+0 drop /Block/Stmt:1
+",
+        replies: "0 ok 0
+0 open 1
+0 ok 1
+0 done 1 1 refused 3 mark
+",
+        work: None,
+    },
+    Session {
+        name: "no question in turns",
+        lines: "0 post $v decl()
+0 wait 7
+",
+        replies: "0 refused 3 mark
+0 refused 15 question
+",
+        work: None,
+    },
 ];
 
 /// The work that a session costs over the tree. A failure where its replies are others, or those of another keeper are.
 fn work_of(alloc: Global, tree: &str, session: &Session) -> Result<u64, Fail> {
     let files = files(alloc, &over(tree))?;
-    let (told, report) = played(alloc, &files, session.lines)?;
+    let (told, report) = played(alloc, &files, ONE_TURN, session.lines)?;
     if told.as_slice() != session.replies.as_bytes() {
         let told = std::str::from_utf8(&told)?;
         return Err(Fail::new(format_args!("{}: {told}", session.name)));

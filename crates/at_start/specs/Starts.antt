@@ -22,9 +22,9 @@ use Rattle.at_start.specs.declared.fault.StartFault.TheVariants.{Refused, Memory
 abbrev pub aspect_bytes : List Source → List (List ℕ)
 aspect_bytes = map (λ s. s.bytes.items)
 
--- the state at the start: that tree, at version 0 and with no marks
+-- the state at the start: that tree, at version 0, with no marks and no open questions
 abbrev pub opening : Tree → State
-opening t = record { tree = t; version = 0; marks = [] }
+opening t = record { tree = t; version = 0; marks = []; posts = 0; posted = [] }
 
 -- the engine can serve lines: it is sound, and what it keeps is right
 abbrev pub IsReady : Engine KeepRecorded → Type 0

@@ -14,16 +14,15 @@ use Rattle.at_model.proofs.Conforming.{set_in_parent}
 use Rattle.at_model.proofs.Moving.{Way, KeepsParts}
 use Rattle.at_model.proofs.Ways.{set_way, put_way, DropWay, drop_way, InsertWay, insert_way, set_keeps, put_keeps, drop_keeps, insert_keeps}
 use Rattle.at_model.proofs.Ways as way
-use Rattle.at_model.proofs.Untouched.{in_cell as kids, FitsAt, child-same, child-other, from_to_trees}
+use Rattle.at_model.proofs.Untouched.{tree_at-append, in_cell as kids, FitsAt, child-same, child-other, from_to_trees}
 use Rattle.at_model.proofs.Untouching.{inserted-fits, nothing_keeps}
 use Rattle.at_model.proofs.Surviving.{moved_out, drop_out, parent_is, none_mapped, set_out}
 use Rattle.at_model.proofs.WithinTree.{tree_at-snoc}
 use Rattle.at_store.specs.Numbers.{path_in}
-use Rattle.at_store.specs.Memory.{Info, Kids, Token_of, List_of, Optional, kept, with_numbers, Place, Stored, Keeps, IsShallow, with_place, rewritten, placed, renumbered}
+use Rattle.at_store.specs.Memory.{Info, Kids, Token_of, List_of, Optional, kept, with_numbers, Place, Stored, Keeps, IsShallow, top as root_place, with_place, rewritten, placed, renumbered}
 use Rattle.at_store.proofs.Found.{number_found}
 use Rattle.at_store.proofs.Origins.{OriginsOf, OriginsAt, AreNew}
 use Rattle.at_store.proofs.Edited.{IsAt, IsNone, one_new, none_new, insert_origins, set_origins, put_origins, drop_origins, drop_fits, token_origins}
-use Rattle.at_store.proofs.Stored.{tree_at-append}
 use Rattle.at_store.proofs.Within.{stands_within}
 use Rattle.at_store.proofs.Renumbered.{not_eq}
 use Rattle.at_store.proofs.Changed.{from_place, from_cond, stored_there, later_new, keeps_after}
@@ -84,7 +83,7 @@ kept_drop (suc zero) (Filled t) n = refl
 kept_drop (suc (suc i)) (Filled t) n = refl
 kept_drop i (Holds v) n = refl
 
-numbers_drop : (i : ℕ) (c : Cell) → ((t : Tree) → c ≡ One t → ⊥) → map class_of (children (without_child i c)) ≡ remove (map class_of (children c)) i
+pub numbers_drop : (i : ℕ) (c : Cell) → ((t : Tree) → c ≡ One t → ⊥) → map class_of (children (without_child i c)) ≡ remove (map class_of (children c)) i
 numbers_drop i (One t) n = absurd (n t refl)
 numbers_drop i (Many ts) n = ap (map class_of) (from_to_trees (remove (from_trees ts) i)) ∙ remove_map (from_trees ts) i
 numbers_drop zero Empty n = refl
@@ -137,7 +136,7 @@ module _ (g : Cell → Cell) (part spot : ℕ) (past : Way → Option Way) (keep
   gone_news x j (e, f) m v is = gone_new m v (subst (λ z. tree_at z m ≡ Some v) e is)
 
   in_place : Stored later place w
-  in_place = stored_there memory later w place h.waits.1.0 h.waits.0
+  in_place = stored_there memory later w root_place place h.waits.1.0 h.waits.0
       (later_new g part past (IsAt w spot) keeps s p fits origins news u c found here from behind behind_is before fronts memory later (Some w) h gone (placed (class_of w) place) changes place_old place_some gone_old gone_news w spot (refl, refl))
 
   brought : (x : Tree) (j : ℕ) → IsAt w spot x j → Stored later (Some (class_of u, part), j) x × (slice_get (children (g c)) j ≡ Some x)

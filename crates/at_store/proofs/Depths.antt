@@ -12,13 +12,12 @@ use Rattle.at_model.proofs.Conforming.{root_alone, set_in_parent}
 use Rattle.at_model.proofs.Moving.{Way, KeepsParts}
 use Rattle.at_model.proofs.Ways.{set_keeps, put_keeps, drop_keeps, insert_keeps}
 use Rattle.at_model.proofs.Surviving.{parent_is}
-use Rattle.at_model.proofs.Untouched.{in_cell as kids, cell-same, from_to_trees}
+use Rattle.at_model.proofs.Untouched.{tree_at-append, changed_there, in_cell as kids, cell-same, from_to_trees}
 use Rattle.at_model.proofs.Untouching.{nothing_keeps}
 use Rattle.at_store.specs.Memory.{IsShallow}
 use Rattle.at_store.proofs.Found.{below_cells, below}
 use Rattle.at_store.proofs.Origins.{OriginsOf, OriginsAt, From, old, new, origin}
 use Rattle.at_store.proofs.Edited.{IsAt, IsNone, insert_origins, set_origins, put_origins, drop_origins, token_origins}
-use Rattle.at_store.proofs.Stored.{tree_at-append, changed_there}
 use Rattle.at_store.proofs.Counts.{of_cell}
 use Rattle.at_store.proofs.Commits.{one_there, one_cell}
 
@@ -132,7 +131,7 @@ pub deep : (h level : ℕ) (t : Tree) → ((n : Node) (u : Tree) → tree_at t n
 deep h level t low = let (n, u, is, e) = deepest t in let f : level + length n < h = low n u is in let g : suc (length n) ≡ depth t = e in omega arith
 
 -- nodes that are moved stay at their level
-moved_length : (past : Way → Option Way) (p n m : Node) → moved_under p past n ≡ Some m → length m ≡ length n
+pub moved_length : (past : Way → Option Way) (p n m : Node) → moved_under p past n ≡ Some m → length m ≡ length n
 moved_length past [] [] m e = let f : [] ≡ m = cc in ap length (sym f)
 moved_length past [] (s ∷ ss) m e = let (u, is, f) = mapped (λ (w : Way). w ∷ ss) (past s) m e in ap length (sym f)
 moved_length past (a ∷ p) [] m e = let f : [] ≡ m = cc in ap length (sym f)
@@ -157,7 +156,7 @@ shallow_after h g part past IsNew keeps t p origins low news m w is = by_origin 
         omega arith
 
 -- what stands below the changed cell
-there_after : (g : Cell → Cell) (part spot : ℕ) (t x u : Tree) (c : Cell) (p n : Node) → tree_at t p ≡ Some u → cell_at u part ≡ Some c → slice_get (children (g c)) spot ≡ Some x → tree_at (with_node (with_cell g part) t p) (p ++ (part, spot) ∷ n) ≡ tree_at x n
+pub there_after : (g : Cell → Cell) (part spot : ℕ) (t x u : Tree) (c : Cell) (p n : Node) → tree_at t p ≡ Some u → cell_at u part ≡ Some c → slice_get (children (g c)) spot ≡ Some x → tree_at (with_node (with_cell g part) t p) (p ++ (part, spot) ∷ n) ≡ tree_at x n
 there_after g part spot t x u c p n found here child =
     tree_at-append (with_node (with_cell g part) t p) p ((part, spot) ∷ n) ∙ ap (option_and_then (λ v. tree_at v ((part, spot) ∷ n))) (changed_there (with_cell g part) t p ∙ ap (option_map (with_cell g part)) found) ∙
     ap (option_and_then (λ v. tree_at v n)) (ap (λ o. slice_get (kids o) spot) (cell-same g part u ∙ ap (option_map g) here) ∙ child)

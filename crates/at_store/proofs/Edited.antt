@@ -1,5 +1,5 @@
 -- Where numbers stand after an edit.
-use Rattle.std.proofs.Common.{◌≡◌, ℕ, zero, suc, ◌+◌, ◌-◌, ◌<◌, ◌≤◌, Bool, true, false, ◌&&◌, nat_eq, nat_lt, nat_le, List, [], ◌∷◌, length, Option, Some, None, Ok, ◌⊎◌, inl, inr, refl, sym, ap, ◌∙◌, subst, arith, option_and_then, option_map, is_some}
+use Rattle.std.proofs.Common.{◌≡◌, ℕ, zero, suc, ◌+◌, ◌-◌, ◌<◌, ◌≤◌, Bool, true, false, ◌&&◌, nat_eq, nat_lt, nat_le, List, [], ◌∷◌, length, Option, Some, None, ◌⊎◌, inl, inr, refl, sym, ap, ◌∙◌, subst, arith, option_and_then, option_map, is_some}
 use Rattle.std.specs.Prelude.{map}
 use Rattle.std.specs.List.{slice_get, insert, remove}
 use Rattle.std.proofs.lemmas.Bool.{eq-eqb}
@@ -8,16 +8,15 @@ use Rattle.at_model.specs.Classes.{Classes}
 use Rattle.at_model.specs.Trees.{Tree, Cell, Trees, One, Many, Empty, Filled, Holds, class_of, children, to_trees, from_trees, conforms, cell_conforms}
 use Rattle.at_model.specs.Trees as trees
 use Rattle.at_model.specs.Paths.{Node, tree_at, cell_at, parent_of}
-use Rattle.at_model.specs.Edits.{Edit, Set, Put, Drop, Insert, Token, shape_at, plain_class, list_class, token_kind, has_component, fits_there, is_in_range, is_free, is_plain, is_removable, is_within_limits, children_of, with_child, with_cell, with_node, without_child, with_one_more, left_by, edited, moved_under, past_set, past_put, past_drop, past_insert, carried}
-use Rattle.at_model.specs.Edits as edit
-use Rattle.at_model.proofs.Conforming.{set_in_parent, passed, root_alone}
+use Rattle.at_model.specs.Edits.{Edit, Insert, Token, shape_at, plain_class, list_class, token_kind, has_component, is_in_range, children_of, with_child, with_cell, with_node, without_child, with_one_more, left_by, moved_under, past_set, past_put, past_drop, past_insert, carried}
+use Rattle.at_model.proofs.Conforming.{set_in_parent, root_alone}
 use Rattle.at_model.proofs.Options.{mapped}
 use Rattle.at_model.proofs.Moving.{Way, KeepsParts}
 use Rattle.at_model.proofs.Ways.{set_way, put_way, DropWay, drop_way, insert_way, set_keeps, put_keeps, drop_keeps, insert_keeps}
 use Rattle.at_model.proofs.Ways as way
 use Rattle.at_model.proofs.Untouched.{FitsAt, child-same, child-other, from_to_trees, by_nat}
-use Rattle.at_model.proofs.Untouching.{shape_there, component_there, counted, list_cell, token_cell, plain_cell, selected, inserted-fits, removed-before, removed-behind, nothing_keeps, moved_nowhere, not_false}
-use Rattle.at_store.specs.Numbers.{relabel, relabel_cell, relabel_edit, path_in, IsApart, IsFreshTree, IsFresh, path_in_new}
+use Rattle.at_model.proofs.Untouching.{shape_there, component_there, counted, list_cell, token_cell, plain_cell, selected, inserted-fits, removed-before, removed-behind, nothing_keeps}
+use Rattle.at_store.specs.Numbers.{relabel, relabel_cell, path_in, IsApart, IsFreshTree, path_in_new}
 use Rattle.at_store.proofs.Found.{named}
 use Rattle.at_store.proofs.Relabelled.{relabelled-tree_at, relabelled-cell_at, relabelled-trees}
 use Rattle.at_store.proofs.Origins.{OriginsOf, OriginsAt, AreNew, apart_after, number_after}
@@ -29,7 +28,7 @@ IsAt new spot x j = (x ≡ new) × (j ≡ spot)
 abbrev pub IsNone : Tree → ℕ → Type 0
 IsNone x j = ⊥
 
-some_none : {A : Type 0} (o : Option A) (a : A) → o ≡ Some a → o ≡ None → ⊥
+pub some_none : {A : Type 0} (o : Option A) (a : A) → o ≡ Some a → o ≡ None → ⊥
 some_none o a e f = let g : Some a ≡ None = sym e ∙ f in cc
 
 pub one_new : (g : Cell → Cell) (part spot : ℕ) (past : Way → Option Way) (keeps : KeepsParts past part) (t new : Tree) → IsApart t → IsFreshTree t new → AreNew g part past (IsAt new spot) keeps t
@@ -188,7 +187,7 @@ no_children f (Filled t) e = absurd cc
 no_children f (Holds v) e = refl
 
 module _ (classes : Classes) (f : ℕ → ℕ) (s : Tree) (ok : conforms classes (relabel f s) 0 ≡ true) (apart : IsApart s) where
-  there : (n : Node) (u : Tree) → tree_at s n ≡ Some u → tree_at (relabel f s) n ≡ Some (relabel f u)
+  pub there : (n : Node) (u : Tree) → tree_at s n ≡ Some u → tree_at (relabel f s) n ≡ Some (relabel f u)
   there n u is = relabelled-tree_at f s n ∙ ap (option_map (relabel f)) is
 
   cell_of : (u : Tree) (part : ℕ) (c : Cell) → cell_at u part ≡ Some c → cell_at (relabel f u) part ≡ Some (relabel_cell f c)
@@ -199,7 +198,7 @@ module _ (classes : Classes) (f : ℕ → ℕ) (s : Tree) (ok : conforms classes
     pub apart_then : IsApart (left_by s e)
     pub goes : (k : ℕ) → path_in_new k e ≡ None → path_in k (left_by s e) ≡ option_and_then (carried e) (path_in k s)
 
-  insert_cell : (node : Node) (part index : ℕ) (new : Tree) → has_component classes (relabel f s) (Insert node part index new) ≡ true → is_in_range (relabel f s) (Insert node part index new) ≡ true →
+  pub insert_cell : (node : Node) (part index : ℕ) (new : Tree) → has_component classes (relabel f s) (Insert node part index new) ≡ true → is_in_range (relabel f s) (Insert node part index new) ≡ true →
       (u : Tree) (c : Cell) → tree_at s node ≡ Some u → cell_at u part ≡ Some c → (ts : Trees) × (c ≡ Many ts) × (index ≤ length (from_trees ts))
   insert_cell node part index new has range u c is here =
       let (shape, some, conf) = component_there classes (relabel f s) ok list_class node part (relabel f u) (relabel_cell f c) has (there node u is) (cell_of u part c here) in
@@ -209,7 +208,7 @@ module _ (classes : Classes) (f : ℕ → ℕ) (s : Tree) (ok : conforms classes
       let bound : index ≤ length (children_of (relabel f s) node part) = grind (arith, nat_tests) in
       (ts, is', omega arith)
 
-  insert_after : (node : Node) (part index : ℕ) (new : Tree) → has_component classes (relabel f s) (Insert node part index new) ≡ true → is_in_range (relabel f s) (Insert node part index new) ≡ true → IsFreshTree s new → IsAfter (Insert node part index new)
+  pub insert_after : (node : Node) (part index : ℕ) (new : Tree) → has_component classes (relabel f s) (Insert node part index new) ≡ true → is_in_range (relabel f s) (Insert node part index new) ≡ true → IsFreshTree s new → IsAfter (Insert node part index new)
   insert_after node part index new has range fresh =
       let cells = insert_cell node part index new has range in
       let g = with_one_more new index in
@@ -229,10 +228,10 @@ module _ (classes : Classes) (f : ℕ → ℕ) (s : Tree) (ok : conforms classes
       plain_cell classes (relabel f t) shape (selected plain_class (shape_at classes (relabel f s) p.0 p.1.0) false shape sees plain) (subst (λ (x : Cell). cell_conforms classes (relabel_cell f x) shape ≡ true) one conf)
 
   -- after the change of a cell
-  abbrev Goes : (Node → Option Node) → Tree → (ℕ → Option Node) → Type 0
+  abbrev pub Goes : (Node → Option Node) → Tree → (ℕ → Option Node) → Type 0
   Goes carry t new = IsApart t × ((k : ℕ) → new k ≡ None → path_in k t ≡ option_and_then carry (path_in k s))
 
-  drop_goes : (p : Node × Way) → is_some (option_and_then plain_class (shape_at classes (relabel f s) p.0 p.1.0)) ≡ false → Goes (moved_under p.0 (past_drop p.1)) (with_node (with_cell (without_child p.1.1) p.1.0) s p.0) (λ k. None)
+  pub drop_goes : (p : Node × Way) → is_some (option_and_then plain_class (shape_at classes (relabel f s) p.0 p.1.0)) ≡ false → Goes (moved_under p.0 (past_drop p.1)) (with_node (with_cell (without_child p.1.1) p.1.0) s p.0) (λ k. None)
   drop_goes p plain =
       let g = without_child p.1.1 in
       let keeps = drop_keeps p.1 in
@@ -241,7 +240,7 @@ module _ (classes : Classes) (f : ℕ → ℕ) (s : Tree) (ok : conforms classes
       let news = none_new g p.1.0 (past_drop p.1) keeps s in
       (apart_after g p.1.0 (past_drop p.1) IsNone keeps s p.0 apart fits origins news, λ k none. number_after g p.1.0 (past_drop p.1) IsNone keeps s p.0 apart fits origins news k (λ x j h. absurd h))
 
-  drop_after : (node : Node) (o : Option (Node × Way)) → elim o [ None ↦ true | Some p ↦ is_some (option_and_then plain_class (shape_at classes (relabel f s) p.0 p.1.0)) ] ≡ false →
+  pub drop_after : (node : Node) (o : Option (Node × Way)) → elim o [ None ↦ true | Some p ↦ is_some (option_and_then plain_class (shape_at classes (relabel f s) p.0 p.1.0)) ] ≡ false →
       Goes (λ n. elim o [ None ↦ None | Some p ↦ moved_under p.0 (past_drop p.1) n ]) (elim o [ None ↦ s | Some p ↦ with_node (with_cell (without_child p.1.1) p.1.0) s p.0 ]) (λ k. None)
   drop_after node None plain = absurd cc
   drop_after node (Some p) plain = drop_goes p plain
@@ -260,7 +259,7 @@ module _ (classes : Classes) (f : ℕ → ℕ) (s : Tree) (ok : conforms classes
       let news = one_new g p.1.0 p.1.1 (past_set p.1) keeps s new apart fresh in
       (apart_after g p.1.0 (past_set p.1) (IsAt new p.1.1) keeps s p.0 apart (set_fits new p) origins news, λ k none. number_after g p.1.0 (past_set p.1) (IsAt new p.1.1) keeps s p.0 apart (set_fits new p) origins news k (λ x j h. ap (path_in k) h.0 ∙ none))
 
-  set_after : (node : Node) (new : Tree) (o : Option (Node × Way)) → parent_of node ≡ o → IsFreshTree s new →
+  pub set_after : (node : Node) (new : Tree) (o : Option (Node × Way)) → parent_of node ≡ o → IsFreshTree s new →
       Goes (λ n. elim o [ None ↦ None | Some p ↦ moved_under p.0 (past_set p.1) n ]) (with_node (λ u. new) s node) (λ k. path_in k new)
   set_after node new None is fresh =
       let e : new ≡ with_node (λ u. new) s node = ap (with_node (λ u. new) s) (sym (root_alone node is)) in
@@ -271,7 +270,7 @@ module _ (classes : Classes) (f : ℕ → ℕ) (s : Tree) (ok : conforms classes
       nowhere (Some n) = refl
   set_after node new (Some p) is fresh = subst (λ x. Goes (moved_under p.0 (past_set p.1)) x (λ k. path_in k new)) (sym (set_in_parent classes new node p is s)) (set_goes new p fresh)
 
-  put_after : (node : Node) (part : ℕ) (new : Tree) → IsFreshTree s new → Goes (moved_under node (past_put part)) (with_node (with_cell (λ c. Filled new) part) s node) (λ k. path_in k new)
+  pub put_after : (node : Node) (part : ℕ) (new : Tree) → IsFreshTree s new → Goes (moved_under node (past_put part)) (with_node (with_cell (λ c. Filled new) part) s node) (λ k. path_in k new)
   put_after node part new fresh =
       let g : Cell → Cell = λ c. Filled new in
       let keeps = put_keeps part in
@@ -280,7 +279,7 @@ module _ (classes : Classes) (f : ℕ → ℕ) (s : Tree) (ok : conforms classes
       let news = one_new g part 0 (past_put part) keeps s new apart fresh in
       (apart_after g part (past_put part) (IsAt new 0) keeps s node apart fits origins news, λ k none. number_after g part (past_put part) (IsAt new 0) keeps s node apart fits origins news k (λ x j h. ap (path_in k) h.0 ∙ none))
 
-  token_after : (node : Node) (part : ℕ) (v : trees.Token) → has_component classes (relabel f s) (Token node part v) ≡ true → Goes (moved_under node (λ (w : Way). Some w)) (with_node (with_cell (λ c. Holds v) part) s node) (λ k. None)
+  pub token_after : (node : Node) (part : ℕ) (v : trees.Token) → has_component classes (relabel f s) (Token node part v) ≡ true → Goes (moved_under node (λ (w : Way). Some w)) (with_node (with_cell (λ c. Holds v) part) s node) (λ k. None)
   token_after node part v has =
       let g : Cell → Cell = λ c. Holds v in
       let past : Way → Option Way = λ w. Some w in
@@ -291,21 +290,3 @@ module _ (classes : Classes) (f : ℕ → ℕ) (s : Tree) (ok : conforms classes
       let origins : OriginsAt g part past IsNone s node = λ u c is here. token_origins part v c in
       let news = none_new g part past keeps s in
       (apart_after g part past IsNone keeps s node apart fits origins news, λ k none. number_after g part past IsNone keeps s node apart fits origins news k (λ x j h. absurd h))
-
-  left_after : (e : Edit) → has_component classes (relabel f s) (relabel_edit f e) ≡ true → is_in_range (relabel f s) (relabel_edit f e) ≡ true → is_removable classes (relabel f s) (relabel_edit f e) ≡ true → IsFresh s e → Goes (carried e) (left_by s e) (λ k. path_in_new k e)
-  left_after (Set node new) has range removable fresh = set_after node new (parent_of node) refl fresh
-  left_after (Put node part new) has range removable fresh = put_after node part new fresh
-  left_after (Drop node) has range removable fresh = drop_after node (parent_of node) (not_false (is_plain classes (relabel f s) node) removable)
-  left_after (Insert node part index new) has range removable fresh = let a = insert_after node part index new has range fresh in (a.apart_then, a.goes)
-  left_after (Token node part v) has range removable fresh =
-      let same : moved_under node (λ (w : Way). Some w) ≡ carried (Token node part v) = λ i n. moved_nowhere node n i in
-      subst (λ (carry : Node → Option Node). Goes carry (left_by s (Token node part v)) (λ k. None)) same (token_after node part v has)
-
-  pub edited_after : (e : Edit) (t : Tree) → edited classes (relabel f s) (relabel_edit f e) ≡ Ok t → IsFresh s e → Goes (carried e) (left_by s e) (λ k. path_in_new k e)
-  edited_after e t is fresh =
-      let component = passed classes (has_component classes (relabel f s) (relabel_edit f e)) edit.Component _ t is in
-      let fit = passed classes (fits_there classes (relabel f s) (relabel_edit f e)) edit.Fit _ t component.1 in
-      let index = passed classes (is_in_range (relabel f s) (relabel_edit f e)) edit.Index _ t fit.1 in
-      let free = passed classes (is_free (relabel f s) (relabel_edit f e)) edit.Taken _ t index.1 in
-      let removable = passed classes (is_removable classes (relabel f s) (relabel_edit f e)) edit.Fixed _ t free.1 in
-      left_after e component.0 index.0 removable.0 fresh

@@ -13,11 +13,11 @@ use Rattle.at_model.proofs.Options.{mapped, both}
 use Rattle.at_model.proofs.WayUp.{snoc, parent_of-snoc}
 use Rattle.at_model.proofs.WithinTree.{tree_at-snoc}
 use Rattle.at_model.proofs.Moving.{Way, KeepsParts, moved-nil, moved-snoc}
-use Rattle.at_model.proofs.Untouched.{in_cell as kids, cell-same, FitsAt, cell_there}
+use Rattle.at_model.proofs.Untouched.{tree_at-append, changed_there, in_cell as kids, cell-same, FitsAt, cell_there}
 use Rattle.at_store.specs.Numbers.{IsApart}
 use Rattle.at_store.specs.Memory.{Info, with_index, renumbered}
 use Rattle.at_store.proofs.Origins.{OriginsAt, AreNew, apart_after}
-use Rattle.at_store.proofs.Stored.{tree_at-append, changed_there, index_at}
+use Rattle.at_store.proofs.Stored.{index_at}
 
 pub not_eq : (a b : ℕ) → (a ≡ b → ⊥) → nat_eq a b ≡ false
 not_eq a b h = by_test (nat_eq a b) refl
@@ -26,7 +26,8 @@ not_eq a b h = by_test (nat_eq a b) refl
     by_test true e = absurd (h (eqb-true a b e))
     by_test false e = refl
 
-renumbered_absent : (ns : List ℕ) (i k : ℕ) (o : Option Info) → ((j : ℕ) → slice_get ns j ≡ Some k → ⊥) → renumbered ns i k o ≡ o
+-- what is kept of a number that is none of these is not renumbered
+pub renumbered_absent : (ns : List ℕ) (i k : ℕ) (o : Option Info) → ((j : ℕ) → slice_get ns j ≡ Some k → ⊥) → renumbered ns i k o ≡ o
 renumbered_absent [] i k o h = refl
 renumbered_absent (n ∷ ns) i k o h =
     let e : nat_eq k n ≡ false = not_eq k n (λ e. h 0 (ap Some (sym e))) in

@@ -11,7 +11,7 @@ use Rattle.at_model.proofs.Conforming.{root_alone, set_in_parent}
 use Rattle.at_model.proofs.Moving.{Way}
 use Rattle.at_model.proofs.Options.{led}
 use Rattle.at_model.proofs.Surviving.{parent_is}
-use Rattle.at_model.proofs.Untouched.{in_cell as kids}
+use Rattle.at_model.proofs.Untouched.{tree_at-append, in_cell as kids}
 use Rattle.at_tree.specs.Token.{token_view}
 use Rattle.at_store.specs.Numbers.{path_in}
 use Rattle.at_store.specs.Memory.{Info, IsFreed, IsReplaced, IsShallow, Keeps, Kept, Place, index_in, kept, kept_of, place_at, placed, relinked, replaced, rewritten, top, up_in, with_kept, with_kids, with_numbers, with_place}
@@ -27,7 +27,6 @@ use Rattle.at_store.proofs.Looked.{kept_at}
 use Rattle.at_store.proofs.Marked.{gone_unmarked}
 use Rattle.at_store.proofs.Removed.{freed_below, place_below}
 use Rattle.at_store.proofs.Slots.{class_placed, class_rewritten}
-use Rattle.at_store.proofs.Stored.{tree_at-append}
 use Rattle.at_store.proofs.Taken.{one_changed}
 
 cell_got : (o : Option Cell) (i : ℕ) (x : Tree) → slice_get (kids o) i ≡ Some x → (c : Cell) × (o ≡ Some c)

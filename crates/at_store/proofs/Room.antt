@@ -30,7 +30,7 @@ same_le a b c there back = by_tests (nat_le a c) (nat_le b c) refl refl
     by_tests true false e g = let h : b ≤ c = there (leb-true a c e) in let k : c < b = grind (arith, nat_tests) in absurd (omega arith)
     by_tests false true e g = let h : a ≤ c = back (leb-true b c g) in let k : c < a = grind (arith, nat_tests) in absurd (omega arith)
 
-true_le : (a c : ℕ) → a ≤ c → nat_le a c ≡ true
+pub true_le : (a c : ℕ) → a ≤ c → nat_le a c ≡ true
 true_le a c h = grind (arith, nat_tests)
 
 same_room : (l x : Tree) (others level : ℕ) → nodes l ≡ others + nodes x → (depth l ≤ max_depth → level + depth x ≤ max_depth) × (level + depth x ≤ max_depth → depth l ≤ max_depth) → tokens_short l ≡ tokens_short x →

@@ -8,30 +8,12 @@ use Rattle.at_model.specs.Edits.{changed_at, with_child, with_cell, with_node, m
 use Rattle.at_model.proofs.Nodes.{step_eq-sound, step_eq-refl, node_eq-sound, node_eq-refl}
 use Rattle.at_model.proofs.WayUp.{snoc, parent_of-snoc, parent_there}
 use Rattle.at_model.proofs.Moving.{Way, KeepsParts, moved-nil, moved-snoc}
-use Rattle.at_model.proofs.Untouched.{in_cell as kids, cell-same, step-same, class-same, from_to_cells, from_to_trees, FitsAt, local, tree_moved}
+use Rattle.at_model.proofs.Untouched.{in_cell as kids, tree_at-append, changed_there, cell-same, step-same, class-same, from_to_cells, from_to_trees, FitsAt, local, tree_moved}
 use Rattle.at_store.specs.Numbers.{number_at, IsApart}
 use Rattle.at_store.specs.Memory.{Info, Kept, kept, kept_of, Place, top, place_at, IsKept, Stored, with_kept, with_index}
 use Rattle.at_store.proofs.Origins.{OriginsAt, From, origin, AreNew, same_number}
 use Rattle.at_store.proofs.Origins as from
 use Rattle.at_store.specs.Memory as memory
-
--- the tree at a longer path
-pub tree_at-append : (t : Tree) (p r : Node) → tree_at t (p ++ r) ≡ option_and_then (λ u. tree_at u r) (tree_at t p)
-tree_at-append t [] r = refl
-tree_at-append t (s ∷ ss) r = onward (slice_get (children_at t s.0) s.1) (λ u. tree_at-append u ss r)
-  where
-    onward : (o : Option Tree) → ((u : Tree) → tree_at u (ss ++ r) ≡ option_and_then (λ v. tree_at v r) (tree_at u ss)) → option_and_then (λ u. tree_at u (ss ++ r)) o ≡ option_and_then (λ v. tree_at v r) (option_and_then (λ u. tree_at u ss) o)
-    onward None h = refl
-    onward (Some u) h = h u
-
--- the changed tree stands where it stood
-pub changed_there : (F : Tree → Tree) (t : Tree) (p : Node) → tree_at (with_node F t p) p ≡ option_map F (tree_at t p)
-changed_there F t [] = refl
-changed_there F t (a ∷ p) = ap (option_and_then (λ u. tree_at u p)) (step-same (λ v. with_node F v p) a t) ∙ onward (slice_get (children_at t a.0) a.1) (λ u. changed_there F u p)
-  where
-    onward : (o : Option Tree) → ((u : Tree) → tree_at (with_node F u p) p ≡ option_map F (tree_at u p)) → option_and_then (λ u. tree_at u p) (option_map (λ v. with_node F v p) o) ≡ option_map F (option_and_then (λ u. tree_at u p) o)
-    onward None h = refl
-    onward (Some u) h = h u
 
 -- what is kept of a cell with another child of the same number
 kept_list : (h : Tree → Tree) → ((u : Tree) → class_of (h u) ≡ class_of u) → (ts : List Tree) (i : ℕ) → map class_of (changed_at h ts i) ≡ map class_of ts
@@ -70,7 +52,7 @@ module _ (g : Cell → Cell) (part : ℕ) (past : Way → Option Way) where
   kept_above h i (branch k cells) same = ap (map kept) (from_to_cells (changed_at h (from_cells cells) i)) ∙ kept_same h same (from_cells cells) i
 
   -- of a node where no cell changes the same is kept
-  kept_local : (p n : Node) (v : Tree) → (n ≡ p → ⊥) → kept_of (local g part past p n v) ≡ kept_of v
+  pub kept_local : (p n : Node) (v : Tree) → (n ≡ p → ⊥) → kept_of (local g part past p n v) ≡ kept_of v
   kept_local [] [] v h = absurd (h refl)
   kept_local (a ∷ p) [] v h = kept_above (with_child (λ u. with_node (with_cell g part) u p) a.1) a.0 v (kept_child (λ u. with_node (with_cell g part) u p) (λ u. class_kept u p) a.1)
   kept_local [] (s ∷ ss) v h = refl

@@ -1,20 +1,19 @@
 -- Which numbers stand below a node.
 use Rattle.std.proofs.Common.{◌≡◌, Bool, true, false, ◌&&◌, [], ◌∷◌, ◌++◌, Option, Some, None, refl, sym, ap, ◌∙◌, option_and_then, is_some}
 use Rattle.at_model.specs.Trees.{Tree, class_of}
-use Rattle.at_model.specs.Paths.{Node, tree_at, step_eq}
-use Rattle.at_model.specs.Touches.{is_within}
+use Rattle.at_model.specs.Paths.{Node, tree_at, step_eq, is_within}
 use Rattle.at_model.proofs.Options.{both}
 use Rattle.at_model.proofs.Nodes.{step_eq-sound, step_eq-refl}
+use Rattle.at_model.proofs.Untouched.{tree_at-append}
 use Rattle.at_store.specs.Numbers.{path_in, IsApart}
 use Rattle.at_store.proofs.Found.{number_found, met}
-use Rattle.at_store.proofs.Stored.{tree_at-append}
 
 -- a number stands in the tree below a node exactly where its own node does
-within_longer : (a r : Node) → is_within a (a ++ r) ≡ true
+pub within_longer : (a r : Node) → is_within a (a ++ r) ≡ true
 within_longer [] r = refl
 within_longer (s ∷ ss) r = ap (λ b. b && is_within ss (ss ++ r)) (step_eq-refl s) ∙ within_longer ss r
 
-within_rest : (a n : Node) → is_within a n ≡ true → (r : Node) × (n ≡ a ++ r)
+pub within_rest : (a n : Node) → is_within a n ≡ true → (r : Node) × (n ≡ a ++ r)
 within_rest [] n e = (n, refl)
 within_rest (s ∷ ss) [] e = absurd cc
 within_rest (s ∷ ss) (u ∷ us) e =

@@ -1,5 +1,5 @@
 //! Why an edit is refused.
-ghost use Rattle.std.specs.Prelude.{◌≡◌, None, Some, option_and_then, option_map};
+ghost use Rattle.std.specs.Prelude.{◌≡◌, ◌-◌, None, Some, cond, length, option_and_then, option_map};
 ghost use Rattle.std.specs.List.{slice_get};
 ghost use Rattle.at_model.specs.Classes.{class_in as tree_class, parts};
 ghost use Rattle.at_model.specs.Edits.{edited, fits_class, fits_kind, left_by, list_class, optional_class, plain_class, token_kind};
@@ -9,17 +9,18 @@ ghost use Rattle.at_class.specs.View.{shape_view, token_kind_view};
 ghost use Rattle.at_tree.specs.Token.{token_view};
 ghost use Rattle.at_tree.specs.TreeView.{tree_view};
 ghost use Rattle.slab.specs.Slab.{slab_len};
-ghost use Rattle.at_store.specs.Memory.{Keeps, class_in, up_in};
+ghost use Rattle.at_store.specs.Memory.{Keeps, class_in, kids_in, up_in};
 ghost use Rattle.at_store.specs.Numbers.{path_in, relabel};
-ghost use Rattle.at_store.specs.Refusing.{IsMisfitOf, IsRefusalOf, IsSettled, edit_at, node_of};
-ghost use Rattle.at_store.specs.Told.{class_told, fits_told, free_told, has_told, level_told, plain_told, range_told, removable_told, room, shape_told, within_told};
+ghost use Rattle.at_store.specs.Refusing.{IsMisfitOf, IsRefusalOf, IsSettled, edit_at, node_of, target_of};
+ghost use Rattle.at_store.specs.Told.{child_told, class_told, element_told, fits_as_told, fits_told, free_told, has_told, inside_told, level_told, outside_told, plain_told, range_told, removable_told, room, shape_told, within_told};
 ghost use Rattle.at_store.specs.View.{memory_of};
 
 use crate::edit::{Edit, Refusal};
 use crate::entry::{Entry, class_at, is_there, kids_at, up_at};
 use crate::limits::{MAX_NODES, has_long_token, is_long};
-use crate::marks::size_at;
+use crate::marks::{is_low, size_at};
 use crate::node::Node;
+use crate::touching::is_below;
 use crate::walks::part_of;
 use at_class::{ClassId, ClassTable, PartShape, TokenKind};
 use at_tree::reader::MAX_DEPTH;
@@ -200,6 +201,19 @@ fn fits_kind(value: &TokVal, asked: Option<TokenKind>) -> bool
     }
 }
 
+/// Whether the class of the node fits the class, and one is asked.
+fn fits_as(slab: &Slab<Entry>, classes: &ClassTable, node: Node, asked: Option<ClassId>) -> bool
+    ensures { result ≡ fits_as_told classes.now (memory_of slab.now node) asked }
+{
+    let Some(class) = asked else {
+        return false;
+    };
+    match slab.get(node.index()) {
+        Some(entry) => classes.fits(entry.class, class),
+        None => false,
+    }
+}
+
 fn has_component(slab: &Slab<Entry>, classes: &ClassTable, edit: &Edit) -> bool
     ensures { result ≡ has_told classes.now (memory_of slab.now) edit.now }
 {
@@ -207,6 +221,7 @@ fn has_component(slab: &Slab<Entry>, classes: &ClassTable, edit: &Edit) -> bool
         Edit::Put { node, part, .. } => { optional_class_at(slab, classes, *node, *part).is_some() }
         Edit::Insert { node, part, .. } => { list_class_at(slab, classes, *node, *part).is_some() }
         Edit::Token { node, part, .. } => { token_kind_at(slab, classes, *node, *part).is_some() }
+        Edit::Move { to, part, .. } => list_class_at(slab, classes, *to, *part).is_some(),
         Edit::Set { .. } | Edit::Drop { .. } => true,
     }
 }
@@ -233,7 +248,26 @@ fn fits_there(slab: &Slab<Entry>, classes: &ClassTable, edit: &Edit) -> bool
         Edit::Token { node, part, value } => {
             fits_kind(value, token_kind_at(slab, classes, *node, *part))
         }
+        Edit::Move { node, to, part, .. } => {
+            fits_as(
+                slab,
+                classes,
+                *node,
+                list_class_at(slab, classes, *to, *part),
+            )
+        }
     }
+}
+
+/// How many children a component has beside a node.
+fn others_in(slab: &Slab<Entry>, node: Node, part: usize, child: Node) -> usize
+    ensures { result ≡ length (kids_in (memory_of slab.now node) part) - cond (child_told (memory_of slab.now) node part child) 1 0 }
+{
+    let all = kids_at(slab, node, part).len();
+    if is_below(slab, child, node, part) {
+        return all.saturating_sub(1);
+    }
+    all
 }
 
 fn is_in_range(slab: &Slab<Entry>, edit: &Edit) -> bool
@@ -246,6 +280,12 @@ fn is_in_range(slab: &Slab<Entry>, edit: &Edit) -> bool
             index,
             ..
         } => *index <= kids_at(slab, *node, *part).len(),
+        Edit::Move {
+            node,
+            to,
+            part,
+            index,
+        } => *index <= others_in(slab, *to, *part, *node),
         _ => true,
     }
 }
@@ -269,11 +309,47 @@ fn is_plain(slab: &Slab<Entry>, classes: &ClassTable, node: Node) -> bool
     }
 }
 
+/// Whether the node is an element of a list.
+fn is_element(slab: &Slab<Entry>, classes: &ClassTable, node: Node) -> bool
+    ensures { result ≡ element_told classes.now (memory_of slab.now) (up_in (memory_of slab.now node)) }
+{
+    match up_at(slab, node) {
+        None => false,
+        Some((parent, part)) => list_class_at(slab, classes, parent, part).is_some(),
+    }
+}
+
+/// Whether the second node is the first or stands below it, by at most so many levels.
+fn is_inside(slab: &Slab<Entry>, node: Node, number: Node, most: usize) -> bool
+    ensures { result ≡ inside_told (memory_of slab.now) most node number }
+{
+    if number == node {
+        return true;
+    }
+    if most == 0 {
+        return false;
+    }
+    match up_at(slab, number) {
+        None => false,
+        Some(place) => is_inside(slab, node, place.0, most - 1),
+    }
+}
+
+fn is_outside(slab: &Slab<Entry>, edit: &Edit) -> bool
+    ensures { result ≡ outside_told (memory_of slab.now) edit.now }
+{
+    match edit {
+        Edit::Move { node, to, .. } => !is_inside(slab, *node, *to, MAX_DEPTH),
+        _ => true,
+    }
+}
+
 fn is_removable(slab: &Slab<Entry>, classes: &ClassTable, edit: &Edit) -> bool
     ensures { result ≡ removable_told classes.now (memory_of slab.now) edit.now }
 {
     match edit {
         Edit::Drop { node } => !is_plain(slab, classes, *node),
+        Edit::Move { node, .. } => is_element(slab, classes, *node),
         _ => true,
     }
 }
@@ -315,13 +391,17 @@ fn is_within_limits(slab: &Slab<Entry>, edit: &Edit) -> bool
         }
         Edit::Drop { .. } => true,
         Edit::Token { value, .. } => !is_long(value),
+        Edit::Move { node, to, .. } => {
+            let level = level_at(slab, *to, MAX_DEPTH).saturating_add(1);
+            is_low(slab, *node, MAX_DEPTH.saturating_sub(level))
+        }
     }
 }
 
 /// The first reason for which the edit is refused, want of memory and the limits aside.
 fn misfit(slab: &Slab<Entry>, classes: &ClassTable, edit: &Edit) -> Option<Refusal>
-    ensures { (s : Numbered) (n : Place) → Keeps (memory_of slab.now) s None → path_in (node_of edit.now) s ≡ Some n
-        → IsMisfitOf classes.now (relabel (class_in (memory_of slab.now)) s) (edit_at n edit.now) result }
+    ensures { (s : Numbered) (n m : Place) → Keeps (memory_of slab.now) s None → path_in (node_of edit.now) s ≡ Some n → path_in (target_of edit.now) s ≡ Some m
+        → IsMisfitOf classes.now (relabel (class_in (memory_of slab.now)) s) (edit_at n m edit.now) result }
 {
     if !has_component(slab, classes, edit) {
         return Some(Refusal::Component);
@@ -338,13 +418,16 @@ fn misfit(slab: &Slab<Entry>, classes: &ClassTable, edit: &Edit) -> Option<Refus
     if !is_removable(slab, classes, edit) {
         return Some(Refusal::Fixed);
     }
+    if !is_outside(slab, edit) {
+        return Some(Refusal::Inside);
+    }
     None
 }
 
 /// The first reason for which the edit is refused, want of memory aside.
 pub(crate) fn refusal(slab: &Slab<Entry>, classes: &ClassTable, edit: &Edit) -> Option<Refusal>
-    ensures { (s : Numbered) (n : Place) → IsSettled classes.now slab.now s → path_in (node_of edit.now) s ≡ Some n
-        → IsRefusalOf (edited classes.now (relabel (class_in (memory_of slab.now)) s) (edit_at n edit.now)) (left_by (relabel (class_in (memory_of slab.now)) s) (edit_at n edit.now)) result }
+    ensures { (s : Numbered) (n m : Place) → IsSettled classes.now slab.now s → path_in (node_of edit.now) s ≡ Some n → path_in (target_of edit.now) s ≡ Some m
+        → IsRefusalOf (edited classes.now (relabel (class_in (memory_of slab.now)) s) (edit_at n m edit.now)) (left_by (relabel (class_in (memory_of slab.now)) s) (edit_at n m edit.now)) result }
 {
     if let Some(reason) = misfit(slab, classes, edit) {
         return Some(reason);

@@ -18,15 +18,17 @@ ghost use Rattle.at_store.specs.Marking.{IsUnmarking};
 ghost use Rattle.at_store.specs.Located.{loc_view};
 ghost use Rattle.at_model.specs.Alike.{LocationLike, Names};
 ghost use Rattle.at_model.specs.Touches.{touches};
-ghost use Rattle.at_store.specs.Preparing.{Does, DoesDrop, DoesInsert, DoesPut, DoesSet, DoesToken, IsCancelled, IsCommitted, IsGivenUp, IsPrepared};
+ghost use Rattle.at_store.specs.Preparing.{Does, DoesDrop, DoesInsert, DoesMove, DoesPut, DoesSet, DoesToken, IsCancelled, IsCommitted, IsGivenUp, IsPrepared};
 ghost use Rattle.at_store.specs.Shown.{IsIdle, Shown, contents, numbers, path, tree};
 ghost use Rattle.at_store.specs.Shown.{tree as shown};
-ghost use Rattle.at_store.specs.Memory.{kids_in};
+ghost use Rattle.at_store.specs.Memory.{index_in, kids_in, without_gap};
+ghost use Rattle.at_store.specs.Told.{child_told};
 ghost use Rattle.at_store.specs.Waiting.{IsBrought, IsLeaving, IsStoreAsBefore, IsUnbrought};
 ghost use Rattle.at_store.specs.Checking.{IsAsked, IsRefused, Prepares};
 ghost use Rattle.at_store.specs.Refusing.{edit_at};
+ghost use Rattle.at_store.specs.declared.edit.Edit.TheVariants as asked;
 
-use crate::changes::{place, replace, set_token, take_away};
+use crate::changes::{lift, place, replace, set_token, take_away};
 use crate::edit::{Edit, LoadFault, Prepared, Ready, Refusal};
 use crate::entry::{
     Children, Entry, Form, class_at, index_at, is_there, kid_at, kids_at, token_at, up_at,
@@ -36,7 +38,7 @@ use crate::marks::mark;
 use crate::node::{Loc, Node};
 use crate::plant::{free, plant};
 use crate::refusals::refusal;
-use crate::touching::touches;
+use crate::touching::{is_below, touches};
 use crate::walks::{steps_to, tree_at, walk};
 use crate::writing::write_tree;
 use at_class::{ClassId, ClassTable};
@@ -84,6 +86,28 @@ fn with_one_more(
     let mut all = Children::from_slice(alloc, kids)?;
     if index <= all.len() {
         all.insert(index, new)?;
+    }
+    Ok(all)
+}
+
+/// A list without the child at a position, where one is named, and with one more child at another.
+fn with_moved(
+    alloc: Global,
+    kids: &[Node],
+    gap: Option<usize>,
+    index: usize,
+    node: Node,
+) -> Result<Children, AllocError>
+    ensures { IfOk result (λ all. index ≤ length (without_gap gap kids.now) → all.items ≡ insert (without_gap gap kids.now) index node) }
+{
+    let mut all = Children::from_slice(alloc, kids)?;
+    if let Some(at) = gap {
+        if at < all.len() {
+            all.remove(at);
+        }
+    }
+    if index <= all.len() {
+        all.insert(index, node)?;
     }
     Ok(all)
 }
@@ -247,8 +271,8 @@ impl Store {
         classes: &ClassTable,
         edit: Edit,
     ) -> Result<Ready, Refusal>
-        ensures refused { IfErr result (λ r. (n : Place) → IsAsked classes.now self.old edit n → IsRefused classes.now self.old (edit_at n edit) self.new r) }
-        ensures ready { IfOk result (λ r. (n : Place) → IsAsked classes.now self.old edit n → IsPrepared classes.now self.old (edit_at n edit) (Does r.prepared) self.new) }
+        ensures refused { IfErr result (λ r. (n m : Place) → IsAsked classes.now self.old edit n m → IsRefused classes.now self.old (edit_at n m edit) self.new r) }
+        ensures ready { IfOk result (λ r. (n m : Place) → IsAsked classes.now self.old edit n m → IsPrepared classes.now self.old (edit_at n m edit) (Does r.prepared) self.new) }
     {
         if let Some(reason) = refusal(&self.slab, classes, &edit) {
             return Err(reason);
@@ -286,18 +310,75 @@ impl Store {
                 part,
                 index,
                 tree,
-            } => {
-                let (new, kids) = self.bring_child(alloc, node, part, index, tree)?;
-                Ok(Prepared::Insert {
-                    node,
-                    part,
-                    index,
-                    new,
-                    kids,
-                })
-            }
+            } => self.prepare_insert(alloc, node, part, index, tree),
             Edit::Token { node, part, value } => Ok(Prepared::Token { node, part, value }),
+            Edit::Move {
+                node,
+                to,
+                part,
+                index,
+            } => self.prepare_move(alloc, node, to, part, index),
         }
+    }
+
+    /// The tree waits from now on; the list into which it comes is made, with it.
+    fn prepare_insert(
+        &mut self,
+        alloc: Global,
+        node: Node,
+        part: usize,
+        index: usize,
+        tree: Tree,
+    ) -> Result<Prepared, AllocError>
+        ensures prepared { IfOk result (Prepares self.old (asked.Insert node part index tree) self.new) }
+        ensures kept { OnErr result (self.old.waiting ≡ None → IsStoreAsBefore self.old self.new) }
+        ensures marks { OnErr result (MarksNoMore self.old.slab self.new.slab) }
+    {
+        let (new, kids) = self.bring_child(alloc, node, part, index, tree)?;
+        Ok(Prepared::Insert {
+            node,
+            part,
+            index,
+            new,
+            kids,
+        })
+    }
+
+    /// The list into which the node comes is made, with it.
+    fn prepare_move(
+        &self,
+        alloc: Global,
+        node: Node,
+        to: Node,
+        part: usize,
+        index: usize,
+    ) -> Result<Prepared, AllocError>
+        ensures { IfOk result (Prepares self.now (asked.Move node to part index) self.now) }
+    {
+        let kids = with_moved(
+            alloc,
+            kids_at(&self.slab, to, part),
+            self.gap(node, to, part),
+            index,
+            node,
+        )?;
+        Ok(Prepared::Move {
+            node,
+            to,
+            part,
+            index,
+            kids,
+        })
+    }
+
+    /// The position of the child in that component of the node, where it stands there.
+    fn gap(&self, child: Node, node: Node, part: usize) -> Option<usize>
+        ensures { result ≡ cond (child_told (memory_of self.now.slab) node part child) (Some (index_in (memory_of self.now.slab child))) None }
+    {
+        if is_below(&self.slab, child, node, part) {
+            return Some(index_at(&self.slab, child));
+        }
+        None
     }
 
     /// The tree waits from now on.
@@ -427,7 +508,23 @@ impl Store {
                 kids,
             } => self.commit_insert(node, part, index, new, kids),
             Prepared::Token { node, part, value } => self.commit_token(node, part, value),
+            Prepared::Move {
+                node,
+                to,
+                part,
+                index,
+                kids,
+            } => self.commit_move(node, to, part, index, kids),
         }
+    }
+
+    fn commit_move(&mut self, node: Node, to: Node, part: usize, index: usize, kids: Children)
+        ensures { (classes : Classes) (old : Shown) (e : EditOf) → IsPrepared classes old e (DoesMove node to part index kids.items) self.old → IsCommitted old e self.new }
+    {
+        self.waiting = None;
+        self.leaving = None;
+        lift(&mut self.slab, node);
+        place(&mut self.slab, to, part, index, node, Form::List, kids);
     }
 
     fn commit_drop(&mut self, node: Node)

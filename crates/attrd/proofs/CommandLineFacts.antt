@@ -19,6 +19,10 @@ no_connection : takes command_line (codes "--connections" ∷ codes "0" ∷ file
 unfolding clap_on_literals
 no_connection = refl
 
-all_of_it : takes command_line (codes "--socket=a" ∷ codes "--connections" ∷ codes "1000" ∷ codes "--work" ∷ files) ≡ true
+too_many_turns : takes command_line (codes "--slice" ∷ codes "1000001" ∷ files) ≡ false
+unfolding clap_on_literals
+too_many_turns = refl
+
+all_of_it : takes command_line (codes "--socket=a" ∷ codes "--connections" ∷ codes "1000" ∷ codes "--slice=1000000" ∷ codes "--work" ∷ files) ≡ true
 unfolding clap_on_literals
 all_of_it = refl

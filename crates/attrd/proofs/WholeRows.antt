@@ -9,9 +9,9 @@ use Rattle.std.proofs.lemmas.Int.{ints}
 use Rattle.std.proofs.lemmas.Option.{IfSome_then}
 use Rattle.std.proofs.lemmas.Slice.Eq.{bytes_eq-Decides}
 use Rattle.clap.specs.Lexer.{without_minus}
-use Rattle.clap.specs.Facts.{parser_of_value}
+use Rattle.clap.specs.Facts.{ValuesPass, groups_of, parser_of_value}
 use Rattle.clap.specs.Values.{IsSignedIn}
-use Rattle.clap.specs.Words.{Accepts, App, BuildsOrBreaks, BuildsTo, HasMatchesOf, IsParsed, IsParsedFrom, Rule, Shape, Text, app_of, built, found_of, has_subcommand, is_broken, is_buildable, kind_of, one_text, parser_of, read_as, reading_of, rows_of, shape_of}
+use Rattle.clap.specs.Words.{Accepts, App, BuildsOrBreaks, BuildsTo, HasMatchesOf, IsParsed, IsParsedFrom, Rule, Shape, Text, app_of, built, found_of, has_subcommand, is_broken, is_buildable, kind_of, one_of, one_text, parser_of, read_as, reading_of, rows_of, shape_of}
 use Rattle.clap.specs.declared.builder.command.Command.{Command}
 use Rattle.clap.specs.declared.builder.command.Command.TheViews.{out-Command}
 use Rattle.clap.specs.declared.builder.value_parser.Reading.{Reading}
@@ -20,23 +20,24 @@ use Rattle.clap.specs.declared.builder.value_parser.ValueParser.TheVariants as p
 use Rattle.clap.specs.declared.error.Error.{Error}
 use Rattle.clap.specs.declared.error.ErrorKind.TheVariants.{OutOfMemory}
 use Rattle.clap.specs.declared.parser.matches.ArgMatches.{ArgMatches}
+use Rattle.clap.specs.declared.parser.matches.Found.{Found}
 use Rattle.clap.proofs.SimpleLemmas.{plain_fields}
 use Rattle.clap.proofs.WalkLemmas.{both, one_text-rows}
 use Rattle.attrd.specs.CommandLine.{command_line}
-use Rattle.attrd.specs.Options.{IsFlag, IsWhole, SpellsConnections}
+use Rattle.attrd.specs.Options.{IsFlag, IsWhole, SpellsUpTo, max_connections, max_slice}
 use Rattle.attrd.proofs.Entries.{IsValue, each_of, needs_value, plain_command, required_there, requires, rule_passes, value_of, value_there}
 
 -- ---- how a value reads
 
-abbrev is_range : ValueParser → Bool
-is_range (parser.Signed (pos low) (pos high)) = (low == 1) && (high == 1000)
-is_range _ = false
+abbrev is_range : ℕ → ValueParser → Bool
+is_range most (parser.Signed (pos low) (pos high)) = (low == 1) && (high == most)
+is_range most _ = false
 
-range_is : (p : ValueParser) → is_range p ≡ true → p ≡ parser.Signed (pos 1) (pos 1000)
-range_is (parser.Signed (pos low) (pos high)) e =
-    let ends = both (low == 1) (high == 1000) e in
-    ap₂ (λ (a b : ℕ). parser.Signed (pos a) (pos b)) (eqb-true low 1 ends.0) (eqb-true high 1000 ends.1)
-range_is _ e = absurd (true≢false (sym e))
+range_is : (most : ℕ) (p : ValueParser) → is_range most p ≡ true → p ≡ parser.Signed (pos 1) (pos most)
+range_is most (parser.Signed (pos low) (pos high)) e =
+    let ends = both (low == 1) (high == most) e in
+    ap₂ (λ (a b : ℕ). parser.Signed (pos a) (pos b)) (eqb-true low 1 ends.0) (eqb-true high most ends.1)
+range_is most _ e = absurd (true≢false (sym e))
 
 without_minus-cond : (t : Text) → without_minus t ≡ cond (starts_with_minus t) (drop 1 t) t
 without_minus-cond [] = refl
@@ -46,10 +47,10 @@ without_minus-cond (x ∷ xs) = go (x == 45)
     go true = refl
     go false = refl
 
-signed_spells : (t : Text) → IsSignedIn (pos 1) (pos 1000) t → SpellsConnections (without_minus t)
-signed_spells t passed = subst SpellsConnections (sym (without_minus-cond t)) (go (starts_with_minus t) refl)
+signed_spells : (most : ℕ) (t : Text) → IsSignedIn (pos 1) (pos most) t → SpellsUpTo most (without_minus t)
+signed_spells most t passed = subst (SpellsUpTo most) (sym (without_minus-cond t)) (go (starts_with_minus t) refl)
   where
-    go : (b : Bool) → starts_with_minus t ≡ b → SpellsConnections (cond (starts_with_minus t) (drop 1 t) t)
+    go : (b : Bool) → starts_with_minus t ≡ b → SpellsUpTo most (cond (starts_with_minus t) (drop 1 t) t)
     go true minus =
         let low = rw minus at passed.2 in
         absurd (omega (arith, ints))
@@ -77,8 +78,8 @@ value_reads c id t test q only each v =
       v.2 ∙ ap (λ (h : Reading). read_as h v.1) (sym v.4.4.1 ∙ ap reading_of reads),
     )
 
-spells : (t : Text) → Reads (parser.Signed (pos 1) (pos 1000)) t → SpellsConnections t
-spells t v = subst SpellsConnections (sym v.3) (signed_spells v.1 v.2)
+spells : (most : ℕ) (t : Text) → Reads (parser.Signed (pos 1) (pos most)) t → SpellsUpTo most t
+spells most t v = subst (SpellsUpTo most) (sym v.3) (signed_spells most v.1 v.2)
 
 abbrev is_bool : ValueParser → Bool
 is_bool parser.Bool = true
@@ -101,17 +102,24 @@ flags t v = subst IsFlag (sym v.3) (flag_text v.1 _ _ refl refl v.2)
 -- what is asked of it
 pub record IsFit (s : Shape) : Type 0 where
   pub plain : s.is_plain ≡ true
-  pub connections : each_of (codes "connections") (λ r. is_range (parser_of_value r.parser)) s.rules ≡ true
+  pub connections : each_of (codes "connections") (λ r. is_range max_connections (parser_of_value r.parser)) s.rules ≡ true
+  pub slice : each_of (codes "slice") (λ r. is_range max_slice (parser_of_value r.parser)) s.rules ≡ true
   pub work : each_of (codes "work") (λ r. is_bool (parser_of_value r.parser)) s.rules ≡ true
   pub grammar : each_of (codes "GRAMMAR") needs_value s.rules ≡ true
   pub tree : each_of (codes "TREE") needs_value s.rules ≡ true
   pub aspects : each_of (codes "ASPECT") needs_value s.rules ≡ true
 
 fit_before : IsFit command_line.top
-fit_before = record { plain = refl; connections = refl; work = refl; grammar = refl; tree = refl; aspects = refl }
+fit_before = record { plain = refl; connections = refl; slice = refl; work = refl; grammar = refl; tree = refl; aspects = refl }
 
 fit_built : IsFit (built command_line).top
-fit_built = record { plain = refl; connections = refl; work = refl; grammar = refl; tree = refl; aspects = refl }
+fit_built = record { plain = refl; connections = refl; slice = refl; work = refl; grammar = refl; tree = refl; aspects = refl }
+
+-- a number that is there is spelled within its range
+number_there : (c : Command) (f : Found) (id : Text) (most : ℕ) → ValuesPass c f → groups_of c ≡ [] → (id ≡ [] → ⊥)
+    → each_of id (λ r. is_range most (parser_of_value r.parser)) (shape_of c).rules ≡ true → IfSome (one_of id (rows_of f)) (SpellsUpTo most)
+number_there c f id most values none named each = subst (λ (o : Option Text). IfSome o (SpellsUpTo most)) (one_text-rows f id)
+    (IfSome_then (one_text f id) (value_of c f id values none named) (λ t v. spells most t (value_reads c id t (is_range most) _ (range_is most) each v)))
 
 pub whole_rows : (old new : Command) (m : ArgMatches) → app_of old ≡ command_line → IsFit (shape_of new) → BuildsTo old new
     → ((out-Command new).has_globals ≡ false → IsParsed new (found_of m) (has_subcommand m)) → IsWhole (rows_of (found_of m))
@@ -126,8 +134,8 @@ whole_rows old new m same fit builds parses =
     let none = (plain_fields new fit.plain).groups in
     let values = (parses (plain_fields new fit.plain).globals).values in
     record {
-      connections = subst (λ (o : Option Text). IfSome o SpellsConnections) (one_text-rows f (codes "connections"))
-          (IfSome_then (one_text f (codes "connections")) (value_of new f (codes "connections") values none (λ e. cc)) (λ t v. spells t (value_reads new (codes "connections") t is_range _ range_is fit.connections v)));
+      connections = number_there new f (codes "connections") max_connections values none (λ e. cc) fit.connections;
+      slice = number_there new f (codes "slice") max_slice values none (λ e. cc) fit.slice;
       work = subst (λ (o : Option Text). IfSome o IsFlag) (one_text-rows f (codes "work"))
           (IfSome_then (one_text f (codes "work")) (value_of new f (codes "work") values none (λ e. cc)) (λ t v. flags t (value_reads new (codes "work") t is_bool _ bool_is fit.work v)));
       grammar = value_there new f (codes "GRAMMAR") values none (λ e. cc) fit.grammar (there (codes "GRAMMAR") refl);

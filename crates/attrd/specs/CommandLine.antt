@@ -39,6 +39,7 @@ with_words a words = record a { top = record a.top { rules = a.top.rules ++ word
 abbrev pub listed : List Rule
 listed = option (codes "socket") parser.NonEmptyString
     ∷ option (codes "connections") (parser.Signed (pos 1) (pos 1000))
+    ∷ option (codes "slice") (parser.Signed (pos 1) (pos 1000000))
     ∷ flag (codes "work")
     ∷ files (codes "GRAMMAR") 1
     ∷ files (codes "TREE") 1

@@ -11,13 +11,21 @@ use Rattle.clap.specs.declared.parser.matches.ArgMatches.{ArgMatches}
 use Rattle.attrd.specs.CommandLine.{command_line}
 use Rattle.attrd.specs.declared.options.Options.{Options}
 
--- so many connections can be asked for
-abbrev pub IsConnections : ℕ → Type 0
-IsConnections n = (1 ≤ n) × (n ≤ 1000)
+-- the most connections that can be asked for
+abbrev pub max_connections : ℕ
+max_connections = 1000
 
--- it can be served: there is an aspect file, and the number of connections is in range
+-- the most turns behind a line that can be asked for
+abbrev pub max_slice : ℕ
+max_slice = 1000000
+
+-- one at least, and so many at most
+abbrev pub IsUpTo : ℕ → ℕ → Type 0
+IsUpTo most n = (1 ≤ n) × (n ≤ most)
+
+-- it can be served: there is an aspect file, and the numbers of connections and of turns are in range
 abbrev pub IsUsable : Options → Type 0
-IsUsable o = (0 < length o.aspects.items) × IsConnections o.connections
+IsUsable o = (0 < length o.aspects.items) × IsUpTo max_connections o.connections × IsUpTo max_slice o.slice
 
 -- ---- the values of the words
 
@@ -25,9 +33,9 @@ IsUsable o = (0 < length o.aspects.items) × IsConnections o.connections
 abbrev pub number : Text → ℕ
 number text = digits_value 10 (without_leading_plus text)
 
--- how many connections are asked for: one, where no text says it
-abbrev pub connections : Option Text → ℕ
-connections text = option_map_or number text 1
+-- the number that is asked for: one, where no text says it
+abbrev pub number_asked : Option Text → ℕ
+number_asked text = option_map_or number text 1
 
 -- whether a flag is there: its value is `true` then, and `false` else
 abbrev pub is_set : Option Text → Bool
@@ -36,7 +44,8 @@ is_set text = option_map_or (λ t. bytes_eq t (codes "true")) text false
 -- the options are the values of the words, which stand in rows, one for each name
 pub record HasValues (rows : List Row) (o : Options) : Type 0 where
   pub socket : option_map string_bytes o.socket ≡ first_of (codes "socket") rows
-  pub connections : o.connections ≡ connections (one_of (codes "connections") rows)
+  pub connections : o.connections ≡ number_asked (one_of (codes "connections") rows)
+  pub slice : o.slice ≡ number_asked (one_of (codes "slice") rows)
   pub work : o.work ≡ is_set (one_of (codes "work") rows)
   pub grammar : Some (string_bytes o.grammar) ≡ first_of (codes "GRAMMAR") rows
   pub tree : Some (string_bytes o.tree) ≡ first_of (codes "TREE") rows
@@ -53,9 +62,9 @@ pub record Asks (words : List Text) (o : Options) : Type 0 where
 abbrev pub rows_found : ArgMatches → List Row
 rows_found m = rows_of (found_of m)
 
--- the text spells a number of connections
-abbrev pub SpellsConnections : Text → Type 0
-SpellsConnections text = IsNumeral 10 (without_leading_plus text) × IsConnections (number text)
+-- the text spells such a number
+abbrev pub SpellsUpTo : ℕ → Text → Type 0
+SpellsUpTo most text = IsNumeral 10 (without_leading_plus text) × IsUpTo most (number text)
 
 -- the text is the value of a flag
 abbrev pub IsFlag : Text → Type 0
@@ -63,7 +72,8 @@ IsFlag text = (text ≡ codes "true") ⊎ (text ≡ codes "false")
 
 -- each file that is needed is there, and each value reads as what it is taken for
 pub record IsWhole (rows : List Row) : Type 0 where
-  pub connections : IfSome (one_of (codes "connections") rows) SpellsConnections
+  pub connections : IfSome (one_of (codes "connections") rows) (SpellsUpTo max_connections)
+  pub slice : IfSome (one_of (codes "slice") rows) (SpellsUpTo max_slice)
   pub work : IfSome (one_of (codes "work") rows) IsFlag
   pub grammar : is_some (first_of (codes "GRAMMAR") rows) ≡ true
   pub tree : is_some (first_of (codes "TREE") rows) ≡ true

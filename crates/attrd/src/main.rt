@@ -49,6 +49,7 @@ fn ended(rt: &HostRuntime, served: &Result<(), Failure>, work: Option<u64>) -> E
 fn serve_words(rt: &HostRuntime, work: &mut Option<u64>) -> Result<(), Failure> {
     let options = asked(rt)?;
     let mut engine = engine_of(rt, &options)?;
+    engine.set_slice(options.slice);
     let served = serve_asked(rt, &options, &mut engine);
     if options.work {
         *work = Some(engine.work());

@@ -15,6 +15,8 @@ pub struct Options {
     pub socket: Option<String>,
     /// How many connections of the socket are served.
     pub connections: u16,
+    /// How many turns are given to open questions behind each line.
+    pub slice: u32,
     /// Whether the engine's work is told at the end.
     pub work: bool,
     pub grammar: String,

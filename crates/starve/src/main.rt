@@ -1,15 +1,17 @@
-//! starve: a session over the calculator sample with each keeper, and whether its replies are right where a request for
-//! memory is refused in its midst. `tools/starve.py` runs it once for each request, and has that one refused.
+//! starve: sessions over the calculator sample with each keeper, and whether their replies are right where a request for
+//! memory is refused in their midst. `tools/starve.py` runs each once for each request, and has that one refused.
 #![tactic(auto)]
 
 ghost use Rattle.std.specs.Prelude.{None};
 ghost use Rattle.at_cache.specs.Kept.{KeepsAll};
 
+mod driving;
 mod sample;
 mod telling;
 
 use at_cache::{KeepNone, KeepRecorded, KeepUntilEdit, Keeper};
-use sample::{LINES, REPLIES, engine};
+use driving::{Driven, drive};
+use sample::{EDITS, MOVES, Script, TURNS, Way, engine};
 use std::alloc::Global;
 use std::process::ExitCode;
 use std::{env, str};
@@ -18,16 +20,16 @@ use telling::{Told, Want, answered, are_left, heard};
 /// How a session went.
 #[derive(Clone, Copy)]
 enum Verdict {
-    /// No line was answered `memory`, and the replies are the sample's.
+    /// No line and no question was answered `memory`, and the replies are the session's.
     Right,
-    /// One line was answered `memory`, and the others as by an engine that is given only these.
+    /// One line or question was answered `memory`, and the others as by an engine that is given only these.
     RightButMemory,
     Wrong,
 }
 
-/// Prints how the session goes with each keeper, or with the one that the word after the program's name chooses. Ends
-/// with status 2 where there is no such keeper, and with 4 where memory is refused outside of a session's lines; nothing is
-/// told of the keeper then.
+/// Prints how each session goes with each keeper, or the session with the keeper that the two words after the program's
+/// name choose. Ends with status 2 where there is no such session or keeper, and with 4 where memory is refused outside of a
+/// session's lines; nothing is told of the keeper then.
 fn main(rt: HostRuntime) -> ExitCode {
     match told(&rt) {
         Ok(true) => ExitCode::SUCCESS,
@@ -36,43 +38,73 @@ fn main(rt: HostRuntime) -> ExitCode {
     }
 }
 
-/// Whether the words choose keepers, of which the verdicts are printed then.
+/// Whether the words choose sessions and keepers, of which the verdicts are printed then.
 fn told(rt: &HostRuntime) -> Result<bool, Want> {
     let Ok(mut words) = env::args(rt) else {
         return Err(Want);
     };
-    match words.nth(1) {
-        Some(word) => told_of(rt, word.as_str()),
-        None => told_of_all(rt),
+    let Some(name) = words.nth(1) else {
+        return told_of_all(rt);
+    };
+    match words.next() {
+        Some(word) => told_by_name(rt, name.as_str(), word.as_str()),
+        None => Ok(false),
     }
 }
 
-/// Prints each keeper's verdict.
+/// Prints each keeper's verdict in each session.
 fn told_of_all(rt: &HostRuntime) -> Result<bool, Want> {
-    let _ = told_of(rt, "nothing")?;
-    let _ = told_of(rt, "until-edit")?;
-    told_of(rt, "over-edits")
+    let _ = told_of_each(rt, EDITS)?;
+    let _ = told_of_each(rt, MOVES)?;
+    told_of_each(rt, TURNS)
+}
+
+/// Prints each keeper's verdict.
+fn told_of_each(rt: &HostRuntime, script: &Script) -> Result<bool, Want> {
+    let _ = told_of(rt, script, "nothing")?;
+    let _ = told_of(rt, script, "until-edit")?;
+    told_of(rt, script, "over-edits")
+}
+
+/// Whether there is a session of that name, and the word is a keeper's; its verdict is printed then.
+fn told_by_name(rt: &HostRuntime, name: &str, word: &str) -> Result<bool, Want> {
+    match name {
+        "edits" => told_of(rt, EDITS, word),
+        "moves" => told_of(rt, MOVES, word),
+        "turns" => told_of(rt, TURNS, word),
+        _ => Ok(false),
+    }
 }
 
 /// Whether this is a keeper's word; its verdict is printed then.
-fn told_of(rt: &HostRuntime, word: &str) -> Result<bool, Want> {
+fn told_of(rt: &HostRuntime, script: &Script, word: &str) -> Result<bool, Want> {
     let alloc = rt.alloc();
     let (name, verdict) = match word {
         "nothing" => (
             "nothing kept",
-            judged(alloc, KeepNone::new(alloc), KeepNone::new(alloc))?,
+            judged(alloc, script, KeepNone::new(alloc), KeepNone::new(alloc))?,
         ),
         "until-edit" => (
             "kept until an edit",
-            judged(alloc, KeepUntilEdit::new(alloc), KeepUntilEdit::new(alloc))?,
+            judged(
+                alloc,
+                script,
+                KeepUntilEdit::new(alloc),
+                KeepUntilEdit::new(alloc),
+            )?,
         ),
         "over-edits" => (
             "kept over edits",
-            judged(alloc, KeepRecorded::new(alloc), KeepRecorded::new(alloc))?,
+            judged(
+                alloc,
+                script,
+                KeepRecorded::new(alloc),
+                KeepRecorded::new(alloc),
+            )?,
         ),
         _ => return Ok(false),
     };
-    let _ = println!(rt; "{name}: {}", text(verdict));
+    let _ = println!(rt; "{}, {name}: {}", script.name, text(verdict));
     Ok(true)
 }
 
@@ -84,20 +116,70 @@ fn text(verdict: Verdict) -> &'static str {
     }
 }
 
-/// How a session goes with the first keeper. Where a line is answered `memory`, an engine over the second is asked what the
-/// others' replies are; no request is refused any more then.
-fn judged<K: Keeper>(alloc: Global, first: K, second: K) -> Result<Verdict, Want>
+/// How a session goes with the first keeper. Where a line or a question is answered `memory`, an engine over the second is
+/// asked what the others' replies are; no request is refused any more then.
+fn judged<K: Keeper>(alloc: Global, script: &Script, first: K, second: K) -> Result<Verdict, Want>
     requires first { KeepsAll (λ _. None) (K.contents first) }
     requires second { KeepsAll (λ _. None) (K.contents second) }
 {
-    let whole = session(alloc, first, LINES)?;
-    if whole.memory == 0 && whole.replies.as_slice() == REPLIES.as_bytes() {
+    match script.way {
+        Way::Run => judged_run(alloc, script, first, second),
+        Way::Calls => judged_calls(alloc, script, first, second),
+    }
+}
+
+/// The same of a session by a run.
+fn judged_run<K: Keeper>(
+    alloc: Global,
+    script: &Script,
+    first: K,
+    second: K,
+) -> Result<Verdict, Want>
+    requires first { KeepsAll (λ _. None) (K.contents first) }
+    requires second { KeepsAll (λ _. None) (K.contents second) }
+{
+    let whole = session(alloc, first, script.lines)?;
+    if whole.memory == 0 && whole.replies.as_slice() == script.replies.as_bytes() {
         return Ok(Verdict::Right);
     }
-    if whole.memory == 1 && is_as_fed(alloc, second, &whole)? {
+    if whole.memory == 1 && is_as_fed(alloc, second, script.lines, &whole)? {
         return Ok(Verdict::RightButMemory);
     }
     Ok(Verdict::Wrong)
+}
+
+/// The same of a session by calls.
+fn judged_calls<K: Keeper>(
+    alloc: Global,
+    script: &Script,
+    first: K,
+    second: K,
+) -> Result<Verdict, Want>
+    requires first { KeepsAll (λ _. None) (K.contents first) }
+    requires second { KeepsAll (λ _. None) (K.contents second) }
+{
+    let mut engine = engine(alloc, first)?;
+    let whole = drive(alloc, &mut engine, script.lines)?;
+    if whole.memory == 0 && whole.replies.as_str() == script.replies {
+        return Ok(Verdict::Right);
+    }
+    if whole.memory == 1 && is_told_again(alloc, second, &whole)? {
+        return Ok(Verdict::RightButMemory);
+    }
+    Ok(Verdict::Wrong)
+}
+
+/// Whether an engine over the keeper tells the same to the lines, where it is given no turns between them.
+fn is_told_again<K: Keeper>(alloc: Global, keeper: K, whole: &Driven) -> Result<bool, Want>
+    requires { KeepsAll (λ _. None) (K.contents keeper) }
+{
+    let mut engine = engine(alloc, keeper)?;
+    engine.set_slice(0);
+    let again = heard(alloc, &mut engine, &whole.lines)?;
+    match str::from_utf8(&again.replies) {
+        Ok(replies) => Ok(again.memory == 0 && whole.is_told_again(replies)),
+        Err(_) => Ok(false),
+    }
 }
 
 /// What a fresh engine over the keeper tells to the lines.
@@ -108,15 +190,15 @@ fn session<K: Keeper>(alloc: Global, keeper: K, lines: &str) -> Result<Told, Wan
     heard(alloc, &mut engine, lines)
 }
 
-/// Whether one line was answered `memory`, and an engine over the keeper tells the same to the others.
-fn is_as_fed<K: Keeper>(alloc: Global, keeper: K, whole: &Told) -> Result<bool, Want>
+/// Whether one of the lines was answered `memory`, and an engine over the keeper tells the same to the others.
+fn is_as_fed<K: Keeper>(alloc: Global, keeper: K, lines: &str, whole: &Told) -> Result<bool, Want>
     requires { KeepsAll (λ _. None) (K.contents keeper) }
 {
     let Ok(replies) = str::from_utf8(&whole.replies) else {
         return Ok(false);
     };
-    let lines = answered(alloc, LINES, replies)?;
-    let others = session(alloc, keeper, &lines)?;
+    let fed = answered(alloc, lines, replies)?;
+    let others = session(alloc, keeper, &fed)?;
     Ok(
         whole.lines.saturating_sub(others.lines) == 1
             && others.memory == 0

@@ -1,4 +1,4 @@
-//! The calculator sample, a session over it, and the engine that serves it.
+//! The calculator sample, sessions over it, and the engine that serves them.
 
 ghost use Rattle.std.specs.Prelude.{None, IfOk};
 ghost use Rattle.at_cache.specs.Kept.{KeepsAll};
@@ -42,8 +42,27 @@ aspect Values {
 
 const TREE: &str = "Program(Block([Decl(\"x\",Num(1)),Print(Add(Use(\"x\"),Num(2)))]))";
 
-/// A question, each edit and a mark, and the question again.
-pub const LINES: &str = "0 ask /Block/Stmt:1/Expr value()
+/// How an engine is given a session.
+pub enum Way {
+    /// By a run over all lines.
+    Run,
+    /// By a call for each line and each turn, with a fresh output.
+    Calls,
+}
+
+/// A session: its lines, and their replies where no memory is refused.
+pub struct Script {
+    pub name: &'static str,
+    pub way: Way,
+    pub lines: &'static str,
+    pub replies: &'static str,
+}
+
+/// A question, each edit but a move, and a mark, and the question again.
+pub const EDITS: &Script = &Script {
+    name: "edits",
+    way: Way::Run,
+    lines: "0 ask /Block/Stmt:1/Expr value()
 0 mark u /Block/Stmt:1/Expr/Left
 0 insert /Block Stmt 0 Decl(\"y\",-)
 0 put /Block/Stmt:0 Init Num(6)
@@ -52,10 +71,8 @@ pub const LINES: &str = "0 ask /Block/Stmt:1/Expr value()
 0 token /Block/Stmt:1/Expr/Right Value 5
 0 where u
 0 ask /Block/Stmt:1/Expr value()
-";
-
-/// Their replies where no memory is refused.
-pub const REPLIES: &str = "0 = 3
+",
+    replies: "0 = 3
 0 ok 0
 0 ok 1
 0 ok 2
@@ -64,7 +81,72 @@ pub const REPLIES: &str = "0 = 3
 0 ok 5
 0 = /Block/Stmt:1/Expr/Left
 0 = 9
-";
+",
+};
+
+/// A marked statement is moved into another list, out of it, and within a list, with questions before and after it.
+pub const MOVES: &Script = &Script {
+    name: "moves",
+    way: Way::Run,
+    lines: "0 ask /Block/Stmt:1/Expr value()
+0 mark u /Block/Stmt:1/Expr/Left
+0 insert /Block Stmt 2 Block([])
+0 move /Block/Stmt:1 to /Block/Stmt:2 Stmt 0
+0 where u
+0 ask /Block/Stmt:1/Stmt:0/Expr value()
+0 move /Block/Stmt:1/Stmt:0 to /Block Stmt 0
+0 move /Block/Stmt:0 to /Block Stmt 2
+0 where u
+0 ask /Block/Stmt:2/Expr value()
+",
+    replies: "0 = 3
+0 ok 0
+0 ok 1
+0 ok 2
+0 = /Block/Stmt:1/Stmt:0/Expr/Left
+0 = 3
+0 ok 3
+0 ok 4
+0 = /Block/Stmt:2/Expr/Left
+0 = 3
+",
+};
+
+/// Questions in turns: one that is waited for, one whose place is gone, one whose mark is gone, and one that is answered at the
+/// end. With each keeper they are answered by the same turns.
+pub const TURNS: &Script = &Script {
+    name: "turns",
+    way: Way::Calls,
+    lines: "0 post /Block/Stmt:1/Expr value()
+0 mark u /Block/Stmt:1/Expr/Left
+0 post $u decl()
+0 wait 2
+0 insert /Block Stmt 0 Decl(\"y\",-)
+0 post $u decl()
+0 drop /Block/Stmt:2
+0 where u
+0 post /Block/Stmt:1 value()
+0 post /Block local(\"x\")
+0 wait 4
+0 token /Block/Stmt:1/Init Value 5
+",
+    replies: "0 open 1
+0 ok 0
+0 open 2
+0 done 2 0 = /Block/Stmt:0
+0 ok 1
+0 done 1 1 refused 4 path
+0 open 3
+0 ok 2
+0 done 3 2 refused 3 mark
+0 refused 3 mark
+0 open 4
+0 open 5
+0 done 4 2 = 1
+0 ok 3
+0 done 5 3 = /Block/Stmt:1
+",
+};
 
 /// An engine of the sample over an empty keeper.
 ///

@@ -5,14 +5,21 @@ ghost use Rattle.at_engine.specs.Fitting.{is_text};
 ghost use Rattle.at_body.specs.Values.{value_view};
 
 use super::Engine;
+use crate::marks::Marks;
 use at_body::{Arguments, Inst, Value};
 use at_cache::Keeper;
 use at_class::ClassId;
 use at_protocol::line::{Argument, Place};
 use at_protocol::reply::{Form, Refusal};
 use at_rules::{AttrId, Kind};
-use at_store::Node;
 use std::alloc::AllocError;
+
+/// What the words of a question come to: the instance for which they ask, or why they are refused.
+#[derive(Drop)]
+pub enum Asked {
+    Instance(Inst),
+    Refused(Refusal),
+}
 
 /// Whether the value is a text.
 fn is_text(value: &Value) -> bool
@@ -41,8 +48,10 @@ impl<K: Keeper> Engine<K> {
     ghost use Rattle.at_body.specs.Typed.{class_shown};
     ghost use Rattle.at_body.specs.Values.{value_view};
     ghost use Rattle.at_demand.specs.Right.{IsThere};
-    ghost use Rattle.at_engine.specs.Engines.{rules_of, state_of, IsHeld, IsTyped};
-    ghost use Rattle.at_engine.specs.Answered.{question, AreValuesOf, IsValueOf};
+    ghost use Rattle.at_engine.specs.Engines.{rules_of, slice_of, state_by, state_of, IsHeld, IsTyped};
+    ghost use Rattle.at_engine.specs.Answered.{AreValuesOf, IsValueOf};
+    ghost use Rattle.at_engine.specs.Asking.{IsAskedBy};
+    ghost use Rattle.at_engine.specs.Marks.{AreThere};
     ghost use Rattle.at_engine.specs.Fitting.{fits_number, fit_numbers, is_of_class};
     ghost use Rattle.at_engine.specs.Keeping.{IsSpare, Spares};
     ghost use Rattle.at_engine.specs.Telling.{IsToldAs, Obeys};
@@ -62,59 +71,77 @@ impl<K: Keeper> Engine<K> {
         ensures kept { state_of self.new ≡ state_of self.old }
         ensures spares { IsTrue K.exact → IsSpare K.contents self.old → Spares K.contents (obeyed (rules_of self.old) (state_of self.old) session (Ask (place_view place.now) attribute.now (arguments_view arguments.now))) result self.old self.new }
         ensures rules { rules_of self.new ≡ rules_of self.old }
+        ensures slice { slice_of self.new ≡ slice_of self.old }
         ensures sound { IsHeld K.contents self.new }
     {
-        let Some(node) = self.node_named(session, place) else {
-            return Ok(Form::Refused(Refusal::Path));
-        };
-        let Some(values) = self.values_named(session, arguments)? else {
-            return Ok(Form::Refused(Refusal::Path));
-        };
-        let Some(attribute) = self.rules.attribute(self.store.class(node), attribute) else {
-            return Ok(Form::Refused(Refusal::Attribute));
-        };
-        if !self.fit_parameters(attribute, values.as_slice()) {
-            return Ok(Form::Refused(Refusal::Arguments));
+        match self.asked(&self.marks, session, place, attribute, arguments)? {
+            Asked::Instance(inst) => self.answer(&inst),
+            Asked::Refused(refusal) => Ok(Form::Refused(refusal)),
         }
-        self.answer(node, attribute, values)
     }
 
     /// The answer to the question for an instance.
-    fn answer(
-        &mut self,
-        node: Node,
-        attribute: AttrId,
-        values: Arguments,
-    ) -> Result<Form, AllocError>
+    fn answer(&mut self, inst: &Inst) -> Result<Form, AllocError>
         requires sound { IsHeld K.contents self.old }
         requires typed { IsTyped (rules_of self.old) (state_of self.old) }
-        requires there { IsThere self.old.store (question node attribute values.items) }
-        requires well_typed { IsWellTyped (rules_of self.old) (class_shown self.old.store) AnyText (question node attribute values.items) }
-        ensures answered { (q : Instance NodeOf) → InstanceLike (Names (path_shown self.old.store)) (question node attribute values.items) q
+        requires there { IsThere self.old.store inst.now }
+        requires well_typed { IsWellTyped (rules_of self.old) (class_shown self.old.store) AnyText inst.now }
+        ensures answered { (q : Instance NodeOf) → InstanceLike (Names (path_shown self.old.store)) inst.now q
             → IfOk result (λ f. (a : AnswerOf NodeOf) × AnswersIn (rules_of self.old) (state_of self.old).tree q a × IsToldAs (rules_of self.old) (state_of self.old).tree a f) }
         ensures kept { state_of self.new ≡ state_of self.old }
-        ensures spares { (q : Instance NodeOf) → InstanceLike (Names (path_shown self.old.store)) (question node attribute values.items) q → IsTrue K.exact → IsSpare K.contents self.old → Spares K.contents (Asks q) result self.old self.new }
+        ensures spares { (q : Instance NodeOf) → InstanceLike (Names (path_shown self.old.store)) inst.now q → IsTrue K.exact → IsSpare K.contents self.old → Spares K.contents (Asks q) result self.old self.new }
         ensures rules { rules_of self.new ≡ rules_of self.old }
+        ensures slice { slice_of self.new ≡ slice_of self.old }
         ensures sound { IsHeld K.contents self.new }
     {
-        let inst = Inst::new(node, attribute, values);
-        let answer = self.demand.answer(&self.rules, &self.store, &inst)?;
+        let answer = self.demand.answer(&self.rules, &self.store, inst)?;
         self.told(answer)
+    }
+
+    /// The instance for which the words of a question ask, by these marks, or why they are refused.
+    pub(super) fn asked(
+        &self,
+        marks: &Marks,
+        session: u16,
+        place: &Place,
+        attribute: &str,
+        arguments: &[Argument],
+    ) -> Result<Asked, AllocError>
+        requires sound { IsHeld K.contents self.now }
+        requires there { AreThere (path_shown self.now.store) marks.now.items.items }
+        requires named { IsName attribute.now }
+        ensures { IfOk result (IsAskedBy (rules_of self.now) self.now.store (obeyed (rules_of self.now) (state_by self.now marks.now) session (Ask (place_view place.now) attribute.now (arguments_view arguments.now)))) }
+    {
+        let Some(node) = self.node_by(marks, session, place) else {
+            return Ok(Asked::Refused(Refusal::Path));
+        };
+        let Some(values) = self.values_named(marks, session, arguments)? else {
+            return Ok(Asked::Refused(Refusal::Path));
+        };
+        let Some(attribute) = self.rules.attribute(self.store.class(node), attribute) else {
+            return Ok(Asked::Refused(Refusal::Attribute));
+        };
+        if !self.fit_parameters(attribute, values.as_slice()) {
+            return Ok(Asked::Refused(Refusal::Arguments));
+        }
+        Ok(Asked::Instance(Inst::new(node, attribute, values)))
     }
 
     /// The values that the arguments name; none where a place of theirs leads to no node.
     fn values_named(
         &self,
+        marks: &Marks,
         session: u16,
         arguments: &[Argument],
     ) -> Result<Option<Arguments>, AllocError>
         requires sound { IsHeld K.contents self.now }
-        ensures { IfOk result (λ o. AreValuesOf (path_shown self.now.store) (each (map (value_named (rules_of self.now).classes (state_of self.now) session) (arguments_view arguments.now))) (option_map (λ vs. vs.items) o)) }
+        requires there { AreThere (path_shown self.now.store) marks.now.items.items }
+        ensures { IfOk result (λ o. AreValuesOf (path_shown self.now.store) (each (map (value_named (rules_of self.now).classes (state_by self.now marks.now) session) (arguments_view arguments.now))) (option_map (λ vs. vs.items) o)) }
     {
         let mut values = Arguments::new(self.alloc);
         let mut rest = arguments;
         while let Some((argument, others)) = rest.split_first() {
-            let Some(value) = self.value_named(session, argument)? else {
+            let Some(value) = self.value_named(marks, session, argument)? else {
                 return Ok(None);
             };
             values.push(value)?;
@@ -124,16 +151,22 @@ impl<K: Keeper> Engine<K> {
     }
 
     /// The value that the argument names; none where its place leads to no node.
-    fn value_named(&self, session: u16, argument: &Argument) -> Result<Option<Value>, AllocError>
+    fn value_named(
+        &self,
+        marks: &Marks,
+        session: u16,
+        argument: &Argument,
+    ) -> Result<Option<Value>, AllocError>
         requires sound { IsHeld K.contents self.now }
-        ensures { IfOk result (IsValueOf (path_shown self.now.store) (value_named (rules_of self.now).classes (state_of self.now) session (argument_view argument.now))) }
+        requires there { AreThere (path_shown self.now.store) marks.now.items.items }
+        ensures { IfOk result (IsValueOf (path_shown self.now.store) (value_named (rules_of self.now).classes (state_by self.now marks.now) session (argument_view argument.now))) }
     {
         match argument {
             Argument::Text(text) => {
                 let text = String::from_str(self.alloc, text.as_str())?;
                 Ok(Some(Value::Text(text)))
             }
-            Argument::Node(place) => match self.node_named(session, place) {
+            Argument::Node(place) => match self.node_by(marks, session, place) {
                 Some(node) => Ok(Some(Value::Ref(Some(node)))),
                 None => Ok(None),
             },

@@ -2,7 +2,7 @@
 
 ghost use Rattle.std.specs.Prelude.{◌≡◌, IfOk, IsTrue, OnErr, Some, is_some, true};
 ghost use Rattle.at_model.specs.Edits.{class_asked, list_class, optional_class, token_kind};
-ghost use Rattle.at_model.specs.Lines.{Drop, Insert, Put, Set, Token};
+ghost use Rattle.at_model.specs.Lines.{Drop, Insert, Move, Put, Set, Token};
 ghost use Rattle.at_model.specs.Machine.{changed, obeyed};
 ghost use Rattle.at_model.specs.Paths.{Node as NodeOf};
 ghost use Rattle.at_model.specs.Classes.{class_in};
@@ -10,9 +10,9 @@ ghost use Rattle.at_class.specs.View.{shape_view};
 ghost use Rattle.at_tree.specs.Token.{token_view};
 ghost use Rattle.at_tree.specs.View.{term_view};
 ghost use Rattle.at_protocol.specs.LineView.{place_view};
-ghost use Rattle.at_store.specs.Refusing.{edit_at, node_of};
+ghost use Rattle.at_store.specs.Refusing.{edit_at, node_of, target_of};
 ghost use Rattle.at_store.specs.Shown.{path as path_shown};
-ghost use Rattle.at_engine.specs.Engines.{rules_of, state_of, IsHeld};
+ghost use Rattle.at_engine.specs.Engines.{rules_of, slice_of, state_of, IsHeld};
 ghost use Rattle.at_engine.specs.Following.{Follows};
 ghost use Rattle.at_engine.specs.Keeping.{IsSpare, Spares};
 ghost use Rattle.at_engine.specs.Telling.{IsComponentOf, IsToldFor, IsToldOf, IsTreeFor, Obeys};
@@ -55,6 +55,7 @@ fn refused(refusal: EditRefusal) -> Result<Form, AllocError>
         EditRefusal::Index => Ok(Form::Refused(Refusal::Index)),
         EditRefusal::Taken => Ok(Form::Refused(Refusal::Taken)),
         EditRefusal::Fixed => Ok(Form::Refused(Refusal::Fixed)),
+        EditRefusal::Inside => Ok(Form::Refused(Refusal::Inside)),
         EditRefusal::Limit => Ok(Form::Refused(Refusal::Limit)),
         EditRefusal::Memory => Err(AllocError),
     }
@@ -115,6 +116,7 @@ impl<K: Keeper> Engine<K> {
         ensures err { OnErr result (state_of self.new ≡ state_of self.old) }
         ensures spares { IsTrue K.exact → IsSpare K.contents self.old → Spares K.contents (obeyed (rules_of self.old) (state_of self.old) session (Set (place_view place.now) (term_view term.now))) result self.old self.new }
         ensures rules { rules_of self.new ≡ rules_of self.old }
+        ensures slice { slice_of self.new ≡ slice_of self.old }
         ensures sound { IsHeld K.contents self.new }
     {
         let Some(node) = self.node_named(session, place) else {
@@ -142,6 +144,7 @@ impl<K: Keeper> Engine<K> {
         ensures err { OnErr result (state_of self.new ≡ state_of self.old) }
         ensures spares { IsTrue K.exact → IsSpare K.contents self.old → Spares K.contents (obeyed (rules_of self.old) (state_of self.old) session (Put (place_view place.now) part.now (term_view term.now))) result self.old self.new }
         ensures rules { rules_of self.new ≡ rules_of self.old }
+        ensures slice { slice_of self.new ≡ slice_of self.old }
         ensures sound { IsHeld K.contents self.new }
     {
         let Some(node) = self.node_named(session, place) else {
@@ -167,6 +170,7 @@ impl<K: Keeper> Engine<K> {
         ensures err { OnErr result (state_of self.new ≡ state_of self.old) }
         ensures spares { IsTrue K.exact → IsSpare K.contents self.old → Spares K.contents (obeyed (rules_of self.old) (state_of self.old) session (Drop (place_view place.now))) result self.old self.new }
         ensures rules { rules_of self.new ≡ rules_of self.old }
+        ensures slice { slice_of self.new ≡ slice_of self.old }
         ensures sound { IsHeld K.contents self.new }
     {
         match self.node_named(session, place) {
@@ -189,6 +193,7 @@ impl<K: Keeper> Engine<K> {
         ensures err { OnErr result (state_of self.new ≡ state_of self.old) }
         ensures spares { IsTrue K.exact → IsSpare K.contents self.old → Spares K.contents (obeyed (rules_of self.old) (state_of self.old) session (Insert (place_view place.now) part.now index (term_view term.now))) result self.old self.new }
         ensures rules { rules_of self.new ≡ rules_of self.old }
+        ensures slice { slice_of self.new ≡ slice_of self.old }
         ensures sound { IsHeld K.contents self.new }
     {
         let Some(node) = self.node_named(session, place) else {
@@ -226,6 +231,7 @@ impl<K: Keeper> Engine<K> {
         ensures err { OnErr result (state_of self.new ≡ state_of self.old) }
         ensures spares { IsTrue K.exact → IsSpare K.contents self.old → Spares K.contents (obeyed (rules_of self.old) (state_of self.old) session (Token (place_view place.now) part.now (token_view value))) result self.old self.new }
         ensures rules { rules_of self.new ≡ rules_of self.old }
+        ensures slice { slice_of self.new ≡ slice_of self.old }
         ensures sound { IsHeld K.contents self.new }
     {
         let Some(node) = self.node_named(session, place) else {
@@ -239,6 +245,45 @@ impl<K: Keeper> Engine<K> {
         }
         let part = found.0;
         self.edit(Edit::Token { node, part, value })
+    }
+
+    /// Takes the node out of its list, and places it in a list at the index.
+    pub(super) fn move_node(
+        &mut self,
+        session: u16,
+        place: &Place,
+        to: &Place,
+        part: &str,
+        index: u32,
+    ) -> Result<Form, AllocError>
+        requires sound { IsHeld K.contents self.old }
+        ensures obeys { IfOk result (λ f. Obeys (rules_of self.old) (state_of self.old) session (Move (place_view place.now) (place_view to.now) part.now index) f (state_of self.new)) }
+        ensures err { OnErr result (state_of self.new ≡ state_of self.old) }
+        ensures spares { IsTrue K.exact → IsSpare K.contents self.old → Spares K.contents (obeyed (rules_of self.old) (state_of self.old) session (Move (place_view place.now) (place_view to.now) part.now index)) result self.old self.new }
+        ensures rules { rules_of self.new ≡ rules_of self.old }
+        ensures slice { slice_of self.new ≡ slice_of self.old }
+        ensures sound { IsHeld K.contents self.new }
+    {
+        let Some(node) = self.node_named(session, place) else {
+            return Ok(Form::Refused(Refusal::Path));
+        };
+        let Some(target) = self.node_named(session, to) else {
+            return Ok(Form::Refused(Refusal::Path));
+        };
+        let Some(found) = self.component(target, part) else {
+            return Ok(Form::Refused(Refusal::Component));
+        };
+        if list_class(found.1).is_none() {
+            return Ok(Form::Refused(Refusal::Component));
+        }
+        let part = found.0;
+        let index = index as usize;
+        self.edit(Edit::Move {
+            node,
+            to: target,
+            part,
+            index,
+        })
     }
 
     /// The position and the shape of the node's component of that name.
@@ -279,16 +324,18 @@ impl<K: Keeper> Engine<K> {
     }
 
     /// Does the edit, unless it is refused: there is no version after the last. What it touches is no longer
-    /// kept then, and the marks of nodes that go are gone.
+    /// kept then, nothing is done any more for open questions, and the marks of nodes that go are gone.
     fn edit(&mut self, edit: Edit) -> Result<Form, AllocError>
         requires sound { IsHeld K.contents self.old }
         requires there { is_some (path_shown self.old.store (node_of edit)) ≡ true }
-        ensures follows { (n : NodeOf) → path_shown self.old.store (node_of edit) ≡ Some n
-            → IfOk result (λ f. Follows (rules_of self.old) (state_of self.old) (changed (rules_of self.old).classes (state_of self.old) (edit_at n edit)) f (state_of self.new)) }
+        requires target { is_some (path_shown self.old.store (target_of edit)) ≡ true }
+        ensures follows { (n m : NodeOf) → path_shown self.old.store (node_of edit) ≡ Some n → path_shown self.old.store (target_of edit) ≡ Some m
+            → IfOk result (λ f. Follows (rules_of self.old) (state_of self.old) (changed (rules_of self.old).classes (state_of self.old) (edit_at n m edit)) f (state_of self.new)) }
         ensures err { OnErr result (state_of self.new ≡ state_of self.old) }
-        ensures spares { (n : NodeOf) → path_shown self.old.store (node_of edit) ≡ Some n → IsTrue K.exact → IsSpare K.contents self.old
-            → Spares K.contents (changed (rules_of self.old).classes (state_of self.old) (edit_at n edit)) result self.old self.new }
+        ensures spares { (n m : NodeOf) → path_shown self.old.store (node_of edit) ≡ Some n → path_shown self.old.store (target_of edit) ≡ Some m → IsTrue K.exact → IsSpare K.contents self.old
+            → Spares K.contents (changed (rules_of self.old).classes (state_of self.old) (edit_at n m edit)) result self.old self.new }
         ensures rules { rules_of self.new ≡ rules_of self.old }
+        ensures slice { slice_of self.new ≡ slice_of self.old }
         ensures sound { IsHeld K.contents self.new }
     {
         let Engine {
@@ -298,6 +345,8 @@ impl<K: Keeper> Engine<K> {
             demand,
             marks,
             version,
+            posts,
+            slice: _,
         } = self;
         let ready = match store.check(*alloc, rules.classes(), edit) {
             Ok(ready) => ready,
@@ -310,6 +359,7 @@ impl<K: Keeper> Engine<K> {
         demand.after_edit(&|loc| store.touches(&ready, loc));
         store.commit(ready);
         marks.keep_live(store);
+        posts.begin_anew(store);
         *version += 1;
         Ok(Form::Ok { version: *version })
     }

@@ -16,7 +16,7 @@ pub struct Report {
     pub lines: u128,
     /// How many of them were accepted edits.
     pub accepted: u128,
-    /// How many of them were answered `memory`.
+    /// How many lines and questions were answered `memory`.
     pub memory: u128,
     /// The engine's work at the end.
     pub work: u64,
@@ -62,7 +62,6 @@ pub struct Desk {
     ghost line_room: { MAX_LINE < vec_capacity line },
     ghost line_short: { vec_len line ≤ MAX_LINE + 1 },
     ghost reply_room: { REPLY_ROOM ≤ vec_capacity reply },
-    ghost memory_few: { memory ≤ lines },
 }
 
 /// One call, where each exit that lets it go would else have a case for each field.
@@ -110,13 +109,25 @@ impl Desk {
 
     /// One more line was answered; whether for want of memory.
     pub fn count(&mut self, wants: bool)
-        requires { self.old.lines + 1 < 2 ^ 128 }
+        requires lines { self.old.lines + 1 < 2 ^ 128 }
+        requires memory { self.old.memory + 1 < 2 ^ 128 }
         ensures lines { self.new.lines ≡ self.old.lines + 1 }
         ensures memory { self.new.memory ≡ self.old.memory + (if wants then 1 else 0) }
         ensures line { self.new.line.items ≡ self.old.line.items }
         ensures reply { self.new.reply.items ≡ self.old.reply.items }
     {
         self.lines += 1;
+        self.count_answer(wants);
+    }
+
+    /// A line or a question was answered; whether for want of memory.
+    pub fn count_answer(&mut self, wants: bool)
+        requires { self.old.memory + 1 < 2 ^ 128 }
+        ensures memory { self.new.memory ≡ self.old.memory + (if wants then 1 else 0) }
+        ensures lines { self.new.lines ≡ self.old.lines }
+        ensures line { self.new.line.items ≡ self.old.line.items }
+        ensures reply { self.new.reply.items ≡ self.old.reply.items }
+    {
         if wants {
             self.memory += 1;
         }

@@ -6,9 +6,12 @@ ghost use Rattle.at_protocol.specs.Commands.{IsCommandText};
 
 use super::Command;
 use super::arguments::read_call;
-use super::first::{index_first, name_first, place_first};
+use super::first::{index_first, name_first, place_first, to_first};
 use super::places::read_place;
-use super::words::{Misfit, Unread, cut, read_name, read_term_text, read_value};
+use super::words::{
+    Misfit, Unread, cut, read_last_index, read_name, read_question_number, read_term_text,
+    read_value,
+};
 use std::alloc::Global;
 
 /// The command that the text spells.
@@ -27,9 +30,12 @@ pub(super) fn read_command(alloc: Global, text: &str) -> Result<Command, Unread>
         "put" => read_put(alloc, rest),
         "drop" => read_drop(alloc, rest),
         "insert" => read_insert(alloc, rest),
+        "move" => read_move(alloc, rest),
         "mark" => read_mark(alloc, rest),
         "unmark" => read_unmark(alloc, rest),
         "where" => read_where(alloc, rest),
+        "post" => read_post(alloc, rest),
+        "wait" => read_wait(rest),
         _ => Err(Unread::For(Misfit::Form)),
     }
 }
@@ -100,6 +106,23 @@ fn read_token(alloc: Global, text: &str) -> Result<Command, Unread>
     Ok(Command::Token { place, part, value })
 }
 
+/// `PLACE to PLACE PART INDEX` behind `move`
+fn read_move(alloc: Global, text: &str) -> Result<Command, Unread>
+    ensures { Answers command_view (IsCommandText (codes "move" ++ 32 ∷ text.now)) result }
+{
+    let (place, rest) = place_first(alloc, text)?;
+    let rest = to_first(rest)?;
+    let (to, rest) = place_first(alloc, rest)?;
+    let (part, rest) = name_first(alloc, rest)?;
+    let index = read_last_index(rest)?;
+    Ok(Command::Move {
+        place,
+        to,
+        part,
+        index,
+    })
+}
+
 /// `PLACE` behind `show`
 fn read_show(alloc: Global, text: &str) -> Result<Command, Unread>
     ensures { Answers command_view (IsCommandText (codes "show" ++ 32 ∷ text.now)) result }
@@ -131,4 +154,25 @@ fn read_where(alloc: Global, text: &str) -> Result<Command, Unread>
 {
     let name = read_name(alloc, text)?;
     Ok(Command::Where { name })
+}
+
+/// `PLACE ATTRIBUTE(ARGUMENTS)` behind `post`
+fn read_post(alloc: Global, text: &str) -> Result<Command, Unread>
+    ensures { Answers command_view (IsCommandText (codes "post" ++ 32 ∷ text.now)) result }
+{
+    let (place, call) = place_first(alloc, text)?;
+    let (attribute, arguments) = read_call(alloc, call)?;
+    Ok(Command::Post {
+        place,
+        attribute,
+        arguments,
+    })
+}
+
+/// `NUMBER` behind `wait`
+fn read_wait(text: &str) -> Result<Command, Unread>
+    ensures { Answers command_view (IsCommandText (codes "wait" ++ 32 ∷ text.now)) result }
+{
+    let number = read_question_number(text)?;
+    Ok(Command::Wait { number })
 }

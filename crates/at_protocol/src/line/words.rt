@@ -9,7 +9,7 @@ ghost use Rattle.at_tree.specs.Token.{token_view};
 ghost use Rattle.at_tree.specs.View.{term_view};
 ghost use Rattle.at_text.specs.declared.fault.Failure.TheVariants.{For};
 ghost use Rattle.at_protocol.specs.declared.line.words.Misfit.TheVariants.{Form};
-ghost use Rattle.at_protocol.specs.Words.{HasNo, HasNoSpace, Answers, IsNameText, IsQuotedText, IsTermText, IsValueText};
+ghost use Rattle.at_protocol.specs.Words.{HasNo, HasNoSpace, Answers, IsIndexText, IsNameText, IsQuestionNumber, IsQuotedText, IsTermText, IsValueText};
 
 use at_text::decimal::{read_int, read_number};
 use at_text::fault::Failure;
@@ -27,6 +27,9 @@ const MAX_SESSIONS: u64 = 1000;
 
 /// The indexes are those below: they have at most nine digits.
 const MAX_INDEXES: u64 = 1_000_000_000;
+
+/// The first question that is posted has this number.
+const FIRST_QUESTION: u64 = 1;
 
 /// Words are of another form than what is wanted.
 #[derive(Clone, Copy, Debug)]
@@ -126,6 +129,30 @@ pub(super) fn read_index(word: &str) -> Option<u32>
         Some(index as u32)
     } else {
         None
+    }
+}
+
+/// The index whose decimal the text is.
+pub(super) fn read_last_index(text: &str) -> Result<u32, Unread>
+    ensures { Answers (λ index. index) (IsIndexText text.now) result }
+{
+    match read_index(text) {
+        Some(index) => Ok(index),
+        None => Err(Unread::For(Misfit::Form)),
+    }
+}
+
+/// The number of a question, whose decimal the text is.
+pub(super) fn read_question_number(text: &str) -> Result<u64, Unread>
+    ensures { Answers (λ number. number) (IsQuestionNumber text.now) result }
+{
+    let Some(number) = read_number(text) else {
+        return Err(Unread::For(Misfit::Form));
+    };
+    if number >= FIRST_QUESTION {
+        Ok(number)
+    } else {
+        Err(Unread::For(Misfit::Form))
     }
 }
 

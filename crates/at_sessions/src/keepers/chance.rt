@@ -45,6 +45,8 @@ pub struct Words {
     pub attributes: &'static [&'static str],
     /// Whole edits.
     pub edits: &'static [&'static str],
+    /// Whole questions, each a place and an attribute.
+    pub questions: &'static [&'static str],
 }
 
 /// Texts that are no lines.
@@ -73,6 +75,8 @@ const BROKEN: &[&str] = &[
     "0 set / Num(1))",
     "0 set / \"Num\"",
     "0 insert / Stmt -1 Num(1)",
+    "0 move / to / Stmt",
+    "0 move / / Stmt 0",
     "0 at version",
     "0 at -1 version",
     "0 mark 1 /",
@@ -91,6 +95,7 @@ enum Piece {
     Term,
     Attribute,
     Edit,
+    Question,
 }
 
 /// Commands that edit nothing. A row that stands here more often is taken more often.
@@ -113,8 +118,23 @@ const ASK: &[Piece] = &[
     Piece::Attribute,
 ];
 
+/// Posts, in the same way.
+const POSTS: &[&[Piece]; 4] = &[
+    &[
+        Piece::OneOf(&[" post "]),
+        Piece::Place,
+        SPACE,
+        Piece::Attribute,
+    ],
+    POST,
+    POST,
+    POST,
+];
+
+const POST: &[Piece] = &[Piece::OneOf(&[" post "]), Piece::Question];
+
 /// Edits, in the same way.
-const EDITS: &[&[Piece]; 12] = &[
+const EDITS: &[&[Piece]; 14] = &[
     &[Piece::OneOf(&[" set "]), Piece::Place, SPACE, Piece::Term],
     &[
         Piece::OneOf(&[" put "]),
@@ -142,12 +162,24 @@ const EDITS: &[&[Piece]; 12] = &[
         SPACE,
         Piece::Value,
     ],
+    MOVE,
+    MOVE,
     WHOLE,
     WHOLE,
     WHOLE,
     WHOLE,
     WHOLE,
     WHOLE,
+];
+
+const MOVE: &[Piece] = &[
+    Piece::OneOf(&[" move "]),
+    Piece::Place,
+    Piece::OneOf(&[" to "]),
+    Piece::Place,
+    SPACE,
+    Piece::Part,
+    Piece::OneOf(&[" 0", " 0", " 1", " 2", " 7"]),
 ];
 
 const DROP: &[Piece] = &[Piece::OneOf(&[" drop "]), Piece::Place];
@@ -167,6 +199,7 @@ impl Words {
             Piece::Term => self.terms,
             Piece::Attribute => self.attributes,
             Piece::Edit => self.edits,
+            Piece::Question => self.questions,
         }
     }
 }
@@ -196,6 +229,37 @@ pub fn lines(
     Ok(lines)
 }
 
+/// So many lines by chance, each with its end, of which one in eight posts a question, and another one waits for one.
+pub fn lines_with_questions(
+    alloc: Global,
+    words: &Words,
+    chance: &mut Chance,
+    count: u32,
+) -> Result<String, AllocError> {
+    let mut lines = String::new(alloc);
+    let mut posts: usize = 1;
+    for _ in 0..count {
+        match chance.below(8) {
+            0 => {
+                lines.push_str(chance.among(SESSIONS))?;
+                let pieces = POSTS[chance.below(4)];
+                add_pieces(words, chance, pieces, &mut lines)?;
+                posts = posts.saturating_add(1);
+            }
+            1 => {
+                let session = chance.among(SESSIONS);
+                // some posts are refused, and take no number
+                let last = posts.saturating_sub(posts / 8);
+                let number = last.saturating_sub(chance.below(24));
+                write!(lines, "{session} wait {number}")?;
+            }
+            _ => add_line(words, chance, &mut lines)?,
+        }
+        lines.push('\n')?;
+    }
+    Ok(lines)
+}
+
 /// A line, of which one in sixteen is broken, and one in eight expects a version.
 fn add_line(words: &Words, chance: &mut Chance, line: &mut String) -> Result<(), AllocError> {
     if chance.below(16) == 0 {
@@ -214,8 +278,17 @@ fn add_command(words: &Words, chance: &mut Chance, line: &mut String) -> Result<
     let pieces = if kind < 9 {
         COMMANDS[kind]
     } else {
-        EDITS[chance.below(12)]
+        EDITS[chance.below(14)]
     };
+    add_pieces(words, chance, pieces, line)
+}
+
+fn add_pieces(
+    words: &Words,
+    chance: &mut Chance,
+    pieces: &[Piece],
+    line: &mut String,
+) -> Result<(), AllocError> {
     for piece in pieces {
         line.push_str(chance.among(words.of(piece)))?;
     }

@@ -1,7 +1,7 @@
 //! Sessions over trees, and of lines, that are built; and texts that are joined with themselves, up to the limit.
 
 use super::Session;
-use crate::hearing::recorded;
+use crate::hearing::{ONE_TURN, recorded};
 use crate::samples::{TREE, files, over};
 use std::alloc::{AllocError, Global};
 use std::test::Fail;
@@ -44,6 +44,27 @@ const BUILT: &[Built] = &[
         replies: &[("0 ok 1\n0 fault long in /Block/Stmt:1/Expr/Left.d4\n", 1)],
         work: None,
     },
+    // a move may not make the tree deeper than it may be
+    Built {
+        tree: &[(TREE, 1)],
+        lines: &[
+            ("0 insert /Block Stmt 0 ", 1),
+            ("Block([", 510),
+            ("])", 510),
+            ("\n0 move /Block/Stmt:1 to /Block", 1),
+            ("/Stmt:0", 510),
+            (" Stmt 0\n0 move /Block/Stmt:1 to /Block", 1),
+            ("/Stmt:0", 509),
+            (" Stmt 1\n0 move /Block/Stmt:1 to /Block", 1),
+            ("/Stmt:0", 508),
+            (" Stmt 1\n0 ask /Block/Stmt:1/Expr value()\n", 1),
+        ],
+        replies: &[(
+            "0 ok 1\n0 refused 12 limit\n0 refused 12 limit\n0 ok 2\n0 fault null in /Block/Stmt:1/Expr/Left.value\n",
+            1,
+        )],
+        work: None,
+    },
 ];
 
 /// What stands before a name for the use, and behind it: a question for sixteen times that text.
@@ -52,7 +73,7 @@ const NAME_FRONT: (&str, usize) = ("0 token /Block/Stmt:1/Expr/Left ID \"", 1);
 const NAME_BACK: (&str, usize) = ("\"\n0 ask /Block/Stmt:1/Expr/Left d4()\n", 1);
 
 /// The texts, one behind the other.
-fn joined(alloc: Global, texts: &[(&str, usize)]) -> Result<String, AllocError> {
+pub fn joined(alloc: Global, texts: &[(&str, usize)]) -> Result<String, AllocError> {
     let mut all = String::new(alloc);
     for (text, times) in texts {
         add_repeated(&mut all, text, *times)?;
@@ -115,7 +136,7 @@ fn recorded_work(
     replies: &str,
 ) -> Result<Option<u64>, Fail> {
     let files = files(alloc, &over(tree))?;
-    let (told, report) = recorded(alloc, &files, lines)?;
+    let (told, report) = recorded(alloc, &files, ONE_TURN, lines)?;
     Ok((told.as_slice() == replies.as_bytes()).then_some(report.work))
 }
 

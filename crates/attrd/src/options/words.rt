@@ -5,8 +5,8 @@ ghost use Rattle.clap.specs.Walk.{texts};
 ghost use Rattle.clap.specs.Words.{all_of, app_of, first_of, kind_of, matches_of, one_of, rule_of, takes};
 ghost use Rattle.clap.specs.declared.error.ErrorKind.TheVariants.{OutOfMemory};
 ghost use Rattle.attrd.specs.CommandLine.{command_line, rule, with_words};
-ghost use Rattle.attrd.specs.Options.{Asks, HasValues, IsFlag, IsUsable, IsWhole, SpellsConnections};
-ghost use Rattle.attrd.specs.Options.{connections, is_set, rows_found};
+ghost use Rattle.attrd.specs.Options.{Asks, HasValues, IsFlag, IsUsable, IsWhole, SpellsUpTo};
+ghost use Rattle.attrd.specs.Options.{is_set, max_connections, max_slice, number_asked, rows_found};
 ghost use Rattle.attrd.specs.declared.options.WordsFault.TheVariants.{Memory};
 
 use super::{Options, WordsFault};
@@ -20,6 +20,12 @@ const CONNECTIONS: u16 = 1;
 
 /// The most connections that can be asked for.
 const MAX_CONNECTIONS: u16 = 1_000;
+
+/// How many turns are given behind each line where the words don't say.
+const SLICE: u32 = 1;
+
+/// The most turns behind a line that can be asked for.
+const MAX_SLICE: u32 = 1_000_000;
 
 /// What stands below the words in the help: a session, and the commands.
 const HELP: &str = "A session:
@@ -38,11 +44,14 @@ A line is SESSION [at VERSION] COMMAND, SESSION a number from 0 to 999. The comm
   drop PLACE                      removes a list element, or empties an optional
   insert PLACE PART INDEX TERM    one more element in a list
   token PLACE PART VALUE          another value for a token
+  move PLACE to PLACE PART INDEX  puts a list element into another list, or elsewhere in its own
   show PLACE                      the term of the node
   mark NAME PLACE                 names a node for the session
   unmark NAME                     forgets the name
   where NAME                      where the named node is now
   version                         how many edits were accepted
+  post PLACE ATTRIBUTE(ARGUMENTS) opens a question, which is answered in turns
+  wait NUMBER                     the answer to the session's question of that number
 A place is a path from the root (/Block/Stmt:1) or from a mark ($u/Left).";
 
 /// A word of the command line: an option, which begins with hyphens, or the name of a file.
@@ -73,6 +82,14 @@ const WORDS: &[Word] = &[
         value: "N",
         parser: ValueParser::Signed(CONNECTIONS as i64, MAX_CONNECTIONS as i64),
         help: "How many connections are served, one after the other: 1 to 1000 [default: 1]",
+    },
+    Word {
+        name: "slice",
+        is_option: true,
+        most: 1,
+        value: "N",
+        parser: ValueParser::Signed(SLICE as i64, MAX_SLICE as i64),
+        help: "How many turns open questions are given behind each line: 1 to 1000000 [default: 1]",
     },
     Word {
         name: "work",
@@ -184,6 +201,7 @@ fn options_of(alloc: Global, matches: &ArgMatches<'_>) -> Result<Options, AllocE
     Ok(Options {
         socket: socket_of(alloc, matches)?,
         connections: connections_of(matches),
+        slice: slice_of(matches),
         work: has_flag(matches, "work"),
         grammar: file_of(alloc, matches, "GRAMMAR")?,
         tree: file_of(alloc, matches, "TREE")?,
@@ -203,10 +221,18 @@ fn socket_of(alloc: Global, matches: &ArgMatches<'_>) -> Result<Option<String>, 
 
 /// How many connections are asked for.
 fn connections_of(matches: &ArgMatches<'_>) -> u16
-    requires { IfSome (one_of (codes "connections") (rows_found matches.now)) SpellsConnections }
-    ensures { result ≡ connections (one_of (codes "connections") (rows_found matches.now)) }
+    requires { IfSome (one_of (codes "connections") (rows_found matches.now)) (SpellsUpTo max_connections) }
+    ensures { result ≡ number_asked (one_of (codes "connections") (rows_found matches.now)) }
 {
     matches.get_one::<u16>("connections").unwrap_or(CONNECTIONS)
+}
+
+/// How many turns behind a line are asked for.
+fn slice_of(matches: &ArgMatches<'_>) -> u32
+    requires { IfSome (one_of (codes "slice") (rows_found matches.now)) (SpellsUpTo max_slice) }
+    ensures { result ≡ number_asked (one_of (codes "slice") (rows_found matches.now)) }
+{
+    matches.get_one::<u32>("slice").unwrap_or(SLICE)
 }
 
 /// Whether the flag is there.

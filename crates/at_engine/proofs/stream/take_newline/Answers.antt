@@ -1,9 +1,10 @@
 use Rattle.std.proofs.Common.{◌≡◌, ◌∙◌, ap, [], length, ◌<◌, ◌≤◌, arith, refl, vec_len}
 use Rattle.std.proofs.lemmas.Result.{err_from_is_err_and}
 use Rattle.std.proofs.lemmas.Bool.Decides.{nat_tests}
+use Rattle.at_engine.specs.Engines.{rules_of, slice_of}
 use Rattle.at_engine.specs.Loop.{kept}
 use Rattle.at_engine.proofs.Kept.{filled_as_kept, empty_as_kept, kept-nil}
-use Rattle.at_engine.proofs.KeepingBytes.{keeps_empty, keeps_line}
+use Rattle.at_engine.proofs.KeepingBytes.{keeps_empty, keeps_line, none_after_line}
 use Rattle.at_engine.proofs.Remembering.{no_call}
 use Rattle.at_engine.proofs.Takings.{took_empty, took_line, stopped_at_line}
 use Rattle.at_engine.proofs.stream.take_newline.Goals as goal
@@ -14,27 +15,28 @@ returns-in_err-serve-clause-taken g c front o e =
     let s = c.in_err-serve.ensures.served in
     let some : 0 < vec_len c.args.desk.now.line = grind (arith, nat_tests) in
     let long : 0 < length (kept front) = omega (arith, some, c.args.desk.now.line.ok.0, ap length e) in
-    rw (p.1, p.2) (s.4.0, stopped_at_line _ _ _ front s.0 s.1 c.args.desk.now _ _ s.4.1 s.4.2 o (filled_as_kept front long) e s.2 s.4.3 s.4.4)
+    rw (p.1, p.2) (s.0, stopped_at_line (rules_of c.args.engine.now) (slice_of c.args.engine.now) _ _ front c.args.desk.now.line.items _ _ o (filled_as_kept front long) e s.1)
 
 pub returns-in_ok-serve-clause-taken : goal.returns-in_ok-serve-clause-taken
 returns-in_ok-serve-clause-taken g c front o e =
     let s = c.in_ok-serve.ensures.served in
     let some : 0 < vec_len c.args.desk.now.line = grind (arith, nat_tests) in
     let long : 0 < length (kept front) = omega (arith, some, c.args.desk.now.line.ok.0, ap length e) in
-    (took_line _ _ _ front s.0 s.1 _ _ _ _ o (filled_as_kept front long) e s.2 c.clear.ensures.items (record { lines = s.3.lines; memory = s.3.memory }) s.4)
+    took_line (rules_of c.args.engine.now) (slice_of c.args.engine.now) _ _ front c.args.desk.now _ _ _ _ o (filled_as_kept front long) e s c.clear.ensures.items refl refl
 
 pub returns-else-not-is_empty-clause-taken : goal.returns-else-not-is_empty-clause-taken
 returns-else-not-is_empty-clause-taken g c front o e =
     let none : vec_len c.args.desk.now.line ≡ 0 = grind (arith, nat_tests) in
     let short : length (kept front) ≤ 0 = omega (arith, none, c.args.desk.now.line.ok.0, ap length e) in
     let line : c.args.desk.now.line.items ≡ [] = e ∙ ap kept (empty_as_kept front short) ∙ kept-nil in
-    rw (empty_as_kept front short) (took_empty _ _ _ _ _ line refl refl)
+    rw (empty_as_kept front short) (took_empty _ _ _ _ _ _ line refl refl)
 
 pub returns-in_ok-serve-clause-keeps : goal.returns-in_ok-serve-clause-keeps
 returns-in_ok-serve-clause-keeps g c exact spare front o e =
     let some : 0 < vec_len c.args.desk.now.line = grind (arith, nat_tests) in
     let long : 0 < length (kept front) = omega (arith, some, c.args.desk.now.line.ok.0, ap length e) in
-    (keeps_line g.K.Keeper.contents c.args.engine.now c.serve.new.engine front c.args.desk.now _ o (filled_as_kept front long) e c.clear.ensures.items (c.in_ok-serve.ensures.keeps exact spare))
+    keeps_line g.K.Keeper.contents c.args.engine.now c.serve.new.engine front c.args.desk.now _ o (filled_as_kept front long) e c.clear.ensures.items (c.in_ok-serve.ensures.keeps exact spare)
+    (λ none no_post. none_after_line _ _ _ _ _ _ _ _ _ none no_post c.in_ok-serve.ensures.served)
 
 pub returns-else-not-is_empty-clause-keeps : goal.returns-else-not-is_empty-clause-keeps
 returns-else-not-is_empty-clause-keeps g c exact spare front o e =

@@ -1,10 +1,11 @@
 use Rattle.std.specs.Prelude.{IsTrue, false}
-use Rattle.std.proofs.Common.{◌≡◌, ◌+◌, ◌≤◌, ◌++◌, List, ℕ, length}
+use Rattle.std.proofs.Common.{◌≡◌, ◌+◌, ◌*◌, ◌≤◌, ◌++◌, List, ℕ, length}
 use Rattle.at_engine.specs.Ends.{Remembers}
 use Rattle.at_engine.specs.Loop.{IsOpen, kept}
-use Rattle.at_engine.specs.Taking.{Takes}
-use Rattle.at_engine.specs.Keeping.{IsSpare, KeepsBytes}
-use Rattle.at_engine.specs.Engines.{state_of, rules_of, IsSound}
+use Rattle.at_engine.specs.Taking.{Takes, countable}
+use Rattle.at_engine.specs.Keeping.{IsSpare}
+use Rattle.at_engine.specs.KeepingRuns.{KeepsBytes}
+use Rattle.at_engine.specs.Engines.{state_of, rules_of, slice_of, IsSound}
 use Rattle.at_engine.proofs.stream.take_piece.Given as goal
 
 -- the bytes so far were taken
@@ -14,14 +15,15 @@ invariant-loop-line g l =
     (done : List ℕ) × record {
       split : l.piece ≡ done ++ l.rest;
       taken : (front : List ℕ) → IsOpen front → l.fn.desk.line.items ≡ kept front
-          → Takes (rules_of l.fn.engine) (state_of l.fn.engine) front done (state_of l.engine) l.fn.desk l.desk (contents l.fn.writer) (contents l.writer);
+          → Takes (rules_of l.fn.engine) (slice_of l.fn.engine) (state_of l.fn.engine) front done (state_of l.engine) l.fn.desk l.desk (contents l.fn.writer) (contents l.writer);
       keeps : IsTrue g.K.Keeper.exact → IsSpare g.K.Keeper.contents l.fn.engine → (front : List ℕ) → IsOpen front → l.fn.desk.line.items ≡ kept front
           → KeepsBytes g.K.Keeper.contents front done l.fn.engine l.engine l.fn.desk l.desk;
       failed : Remembers (g.W.Output.failed l.fn.writer) (g.W.Output.failed l.writer) false;
       spare : IsTrue g.K.Keeper.exact → IsSpare g.K.Keeper.contents l.fn.engine → IsSpare g.K.Keeper.contents l.engine;
       rules : rules_of l.engine ≡ rules_of l.fn.engine;
+      slice : slice_of l.engine ≡ slice_of l.fn.engine;
       sound : IsSound g.K.Keeper.contents l.engine;
-      grows : l.desk.lines ≤ l.fn.desk.lines + length done;
+      grows : countable l.desk (state_of l.engine) ≤ countable l.fn.desk (state_of l.fn.engine) + 3 * length done;
     }
 
 abbrev pub decreases-loop-line : goal.decreases-loop-line

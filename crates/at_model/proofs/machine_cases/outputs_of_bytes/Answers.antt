@@ -1,14 +1,17 @@
 -- `version` is a line; no line and no session begins with a letter.
-use Rattle.std.proofs.Common.{◌≡◌, ℕ, ◌^◌, ◌<◌, List, [], ◌∷◌, ◌++◌, length, Some, None, refl, sym, ap, ◌∙◌, subst, arith}
+use Rattle.std.proofs.Common.{◌≡◌, ℕ, ◌^◌, ◌<◌, Bool, true, false, List, [], ◌∷◌, ◌++◌, length, Some, None, refl, sym, ap, ◌∙◌, subst, arith}
 use Rattle.std.specs.Fmt.{decimal, digits}
 use Rattle.std.specs.Char.{digit_value}
 use Rattle.std.specs.Str.Parse.{AllDigits}
 use Rattle.std.proofs.lemmas.Fmt.{decimal_is_IsNumeral}
 use lib.Chars.{codes}
-use Rattle.at_model.specs.Lines.{Spells, Version}
-use Rattle.at_model.specs.Replies.{Done, Refused, Memory}
+use Rattle.at_model.specs.Lines.{Spells, Version, lines}
+use Rattle.at_model.specs.Replies.{Reply, Done, Refused, Memory, reply_text}
 use Rattle.at_model.specs.Replies as code
-use Rattle.at_model.specs.Machine.{obeys, refuses}
+use Rattle.at_model.specs.Samples.{calc}
+use Rattle.at_model.specs.Machine.{obeys, refuses, Serves, handles, runs_out, Runs, end, next, spent, none_open}
+use Rattle.at_model.specs.Playing.{Writes}
+use Rattle.at_model.proofs.Runs.{append_nil}
 use Rattle.at_model.specs.SampleLines.{opened, says}
 use Rattle.at_model.proofs.OneLine.{line_flat}
 use Rattle.at_model.proofs.machine_cases.outputs_of_bytes.Goals as goal
@@ -30,14 +33,32 @@ version_spelled : Spells (codes "0 version") (says Version)
 unfolding digits
 version_spelled = record { is_line = record { session = omega arith; expected = tt; command = tt }; text = refl; short = omega arith }
 
+-- one line from the sample, after which none is open
+one_line : (bytes line : List ℕ) (said : Bool × Reply) → lines bytes ≡ line ∷ [] → Serves calc opened line opened said → Writes calc 1 opened bytes (said.0 ∷ []) (reply_text said.1) opened
+one_line bytes line said is serves = record {
+  told = said ∷ [];
+  outputs = record {
+    mid = opened;
+    front = said ∷ [];
+    runs = subst (λ ls. Runs calc 1 opened ls (said ∷ []) opened) (sym is) (next serves (none_open 1 opened refl) (end opened));
+    turns = 0;
+    back = [];
+    drained = spent opened;
+    none_open = refl;
+    whole = refl;
+  };
+  names = refl;
+  text_is = append_nil (reply_text said.1);
+}
+
 pub returns-clause-version : goal.returns-clause-version
 unfolding digits
-returns-clause-version c = (opened, record { session = Some 0; form = Done 0 }, [], obeys (says Version) version_spelled (record { session = refl; state = refl; says = refl }), refl, (refl, refl))
+returns-clause-version c = one_line _ (codes "0 version") (false, record { session = Some 0; done = None; form = Done 0 }) refl (handles (obeys (says Version) version_spelled (record { session = refl; done = refl; state = refl; says = refl })))
 
 pub returns-clause-refused : goal.returns-clause-refused
 unfolding digits
-returns-clause-refused c = (opened, record { session = None; form = Refused code.Syntax }, [], refuses (λ l s. no_letter l.session _ _ s.is_line.session (s.text ∙ line_flat l.session l.expected l.command)) (λ n h. no_letter n h.rest _ h.exists h.front) refl refl, refl, (refl, refl))
+returns-clause-refused c = one_line _ (codes "x version") (false, record { session = None; done = None; form = Refused code.Syntax }) refl (handles (refuses (λ l s. no_letter l.session _ _ s.is_line.session (s.text ∙ line_flat l.session l.expected l.command)) (λ n h. no_letter n h.rest _ h.exists h.front)))
 
 pub returns-clause-memory : goal.returns-clause-memory
 unfolding digits
-returns-clause-memory c = (opened, record { session = Some 7; form = Memory }, [], (record { exists = omega arith; rest = codes " version"; front = refl; behind = refl }, refl, refl), refl, (refl, refl))
+returns-clause-memory c = one_line _ (codes "7 version") (true, record { session = Some 7; done = None; form = Memory }) refl (runs_out (record { exists = omega arith; rest = codes " version"; front = refl; behind = refl }))

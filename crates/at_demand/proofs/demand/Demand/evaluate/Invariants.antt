@@ -9,17 +9,17 @@ use Rattle.at_demand.specs.Right.{AreRight, IsThere}
 use Rattle.at_demand.specs.Sparing.{AddsWorthy, AreSpare, Counts, IsSparing}
 use Rattle.at_demand.proofs.demand.Demand.evaluate.Given as goal
 
-abbrev pub invariant-loop-question : goal.invariant-loop-question
-invariant-loop-question g l = record {
-  orderly : IsOrderlyIn (g.K.Keeper.contents l.self.keeper) l.question;
-  holds : IsTrueIn l.rules (contents l.store) l.inst (g.K.Keeper.contents l.self.keeper) l.question l.step;
-  covering : IsCoveringIn l.rules (contents l.store) l.question l.step;
-  typed : IsTypedIn l.rules (class_shown l.store) l.question l.step;
+abbrev pub invariant-loop-evaluation : goal.invariant-loop-evaluation
+invariant-loop-evaluation g l = record {
+  orderly : IsOrderlyIn (g.K.Keeper.contents l.self.keeper) l.evaluation;
+  holds : IsTrueIn l.rules (contents l.store) l.inst (g.K.Keeper.contents l.self.keeper) l.evaluation l.step;
+  covering : IsCoveringIn l.rules (contents l.store) l.evaluation l.step;
+  typed : IsTypedIn l.rules (class_shown l.store) l.evaluation l.step;
   stays : IsThere l.store l.inst → AreRight l.rules l.store (g.K.Keeper.contents l.initial.self.keeper) → AreRight l.rules l.store (g.K.Keeper.contents l.self.keeper);
   worthy : AddsWorthy l.rules (contents l.store) l.inst (g.K.Keeper.contents l.initial.self.keeper) (g.K.Keeper.contents l.self.keeper);
-  sparing : IsTrue g.K.Keeper.exact → AreSpare l.rules (contents l.store) (g.K.Keeper.contents l.initial.self.keeper) → IsSparing l.rules (contents l.store) (g.K.Keeper.contents l.self.keeper) l.question;
+  sparing : IsTrue g.K.Keeper.exact → AreSpare l.rules (contents l.store) (g.K.Keeper.contents l.initial.self.keeper) → IsSparing l.rules (contents l.store) (g.K.Keeper.contents l.self.keeper) l.evaluation;
   counts : IsTrue g.K.Keeper.exact → Counts (g.K.Keeper.contents l.initial.self.keeper) (g.K.Keeper.contents l.self.keeper) l.initial.self.work l.self.work;
 }
 
-abbrev pub decreases-loop-question : goal.decreases-loop-question
-decreases-loop-question g l = 2 ^ 66 - progress l.question
+abbrev pub decreases-loop-evaluation : goal.decreases-loop-evaluation
+decreases-loop-evaluation g l = 2 ^ 66 - progress l.evaluation

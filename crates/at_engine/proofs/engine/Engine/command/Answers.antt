@@ -1,16 +1,18 @@
 use Rattle.std.proofs.Common.{ℕ, List, IfOk, ap, string_bytes, sym, subst}
-use Rattle.at_model.specs.Lines.{Ask, IsCommand, Mark, Show, Unmark, Version, Where}
+use Rattle.at_model.specs.Lines.{Ask, IsCommand, Mark, Post, Show, Unmark, Version, Wait, Where}
 use Rattle.at_model.specs.Names.{IsName}
 use Rattle.at_protocol.specs.LineView.{arguments_view, command_view, place_view}
 use Rattle.at_protocol.specs.declared.line.Argument.{Argument}
 use Rattle.at_protocol.specs.declared.line.Command.{Command}
 use Rattle.at_engine.specs.Engines.{rules_of, state_of}
 use Rattle.at_engine.specs.Telling.{Obeys}
-use Rattle.at_engine.proofs.Commands.{versioned}
+use Rattle.at_engine.specs.Following.{IsAtOnce}
+use Rattle.at_engine.specs.declared.posts.Posts.{Posts}
+use Rattle.at_engine.proofs.Commands.{versioned, wait_refused}
 use Rattle.at_model.specs.Machine.{obeyed}
 use Rattle.at_store.specs.Shown.{numbers, tree}
 use Rattle.at_engine.specs.Keeping.{Spares}
-use Rattle.at_engine.proofs.Keeping.{if_any, mark_quiet, quiet_done, quiet_spares, show_quiet, stays_done, stays_spare, where_quiet}
+use Rattle.at_engine.proofs.Keeping.{if_any, mark_quiet, post_quiet, quiet_done, quiet_spares, show_quiet, spare_stays, stays_done, stays_spare, wait_quiet, where_quiet}
 use Rattle.at_engine.proofs.engine.Engine.command.Goals as goal
 
 pub ask-requires-clause-named : goal.ask-requires-clause-named
@@ -39,6 +41,9 @@ returns-in-Insert-clause-obeys g c = rw (c.in-Insert.is, ← c.as_str-in-Insert.
 
 pub returns-in-Token-clause-obeys : goal.returns-in-Token-clause-obeys
 returns-in-Token-clause-obeys g c = rw (c.in-Token.is, ← c.as_str-in-Token.ensures.value) c.token.ensures.obeys
+
+pub returns-in-Move-clause-obeys : goal.returns-in-Move-clause-obeys
+returns-in-Move-clause-obeys g c = rw (c.in-Move.is, ← c.as_str-in-Move.ensures.value) c.move_node.ensures.obeys
 
 pub returns-in-Mark-clause-obeys : goal.returns-in-Mark-clause-obeys
 returns-in-Mark-clause-obeys g c = rw (c.in-Mark.is) c.mark.ensures.obeys
@@ -79,19 +84,24 @@ returns-in-Insert-clause-spares g c exact spare = rw (c.in-Insert.is, ← c.as_s
 pub returns-in-Token-clause-spares : goal.returns-in-Token-clause-spares
 returns-in-Token-clause-spares g c exact spare = rw (c.in-Token.is, ← c.as_str-in-Token.ensures.value) (c.token.ensures.spares exact spare)
 
+pub returns-in-Move-clause-spares : goal.returns-in-Move-clause-spares
+returns-in-Move-clause-spares g c exact spare = rw (c.in-Move.is, ← c.as_str-in-Move.ensures.value) (c.move_node.ensures.spares exact spare)
+
 pub returns-in-Mark-clause-spares : goal.returns-in-Mark-clause-spares
 returns-in-Mark-clause-spares g c exact spare =
     let e = c.args.self.now in
     let name = string_bytes c.in-Mark.name in
     let place = place_view c.in-Mark.place in
     let store = c.mark.ensures.store in
-    rw c.in-Mark.is (quiet_spares g.K.Keeper.contents e c.mark.new.self (ap numbers store) (ap tree store) c.mark.ensures.rules c.mark.ensures.demand c.mark.result (obeyed (rules_of e) (state_of e) c.args.session (Mark name place)) (if_any c.mark.result _ (mark_quiet (rules_of e) (state_of e) c.args.session name place)) spare)
+    rw c.in-Mark.is (quiet_spares g.K.Keeper.contents e c.mark.new.self (ap numbers store) (ap tree store) c.mark.ensures.rules c.mark.ensures.demand c.mark.result (obeyed (rules_of e) (state_of e) c.args.session (Mark name place)) (if_any c.mark.result _ (mark_quiet (rules_of e) (state_of e) c.args.session name place))
+    (spare_stays g.K.Keeper.contents e c.mark.new.self (ap numbers store) (ap tree store) c.mark.ensures.rules c.mark.ensures.demand (ap (λ (x : Posts). x.items.items) c.mark.ensures.posts) spare))
 
 pub returns-in-Unmark-clause-spares : goal.returns-in-Unmark-clause-spares
 returns-in-Unmark-clause-spares g c exact spare =
     let e = c.args.self.now in
     let store = c.unmark.ensures.store in
-    rw c.in-Unmark.is (quiet_done g.K.Keeper.contents e c.unmark.new.self (ap numbers store) (ap tree store) c.unmark.ensures.rules c.unmark.ensures.demand (obeyed (rules_of e) (state_of e) c.args.session (Unmark (string_bytes c.in-Unmark.name))) tt spare)
+    rw c.in-Unmark.is (quiet_done g.K.Keeper.contents e c.unmark.new.self (ap numbers store) (ap tree store) c.unmark.ensures.rules c.unmark.ensures.demand (obeyed (rules_of e) (state_of e) c.args.session (Unmark (string_bytes c.in-Unmark.name))) tt
+    (spare_stays g.K.Keeper.contents e c.unmark.new.self (ap numbers store) (ap tree store) c.unmark.ensures.rules c.unmark.ensures.demand (ap (λ (x : Posts). x.items.items) c.unmark.ensures.posts) spare))
 
 pub returns-in-Show-clause-spares : goal.returns-in-Show-clause-spares
 returns-in-Show-clause-spares g c exact spare =
@@ -111,3 +121,28 @@ pub returns-in-Version-clause-spares : goal.returns-in-Version-clause-spares
 returns-in-Version-clause-spares g c exact spare =
     let e = c.args.self.now in
     rw c.in-Version.is (stays_done g.K.Keeper.contents e (obeyed (rules_of e) (state_of e) c.args.session Version) spare tt)
+
+pub returns-in-Post-clause-obeys : goal.returns-in-Post-clause-obeys
+returns-in-Post-clause-obeys g c = rw c.in-Post.is c.post.ensures.obeys
+
+pub returns-in-Post-clause-spares : goal.returns-in-Post-clause-spares
+returns-in-Post-clause-spares g c exact spare =
+    let e = c.args.self.now in
+    let p = c.in-Post in
+    let store = c.post.ensures.store in
+    rw c.in-Post.is (quiet_spares g.K.Keeper.contents e c.post.new.self (ap numbers store) (ap tree store) c.post.ensures.rules c.post.ensures.demand c.post.result (obeyed (rules_of e) (state_of e) c.args.session (Post (place_view p.place) (string_bytes p.attribute) (arguments_view p.arguments.items)))
+    (if_any c.post.result _ (post_quiet (rules_of e) (state_of e) c.args.session (place_view p.place) (string_bytes p.attribute) (arguments_view p.arguments.items))) (c.post.ensures.spare exact spare))
+
+pub post-requires-clause-named : goal.post-requires-clause-named
+post-requires-clause-named g c = (subst (λ (x : Command). IsCommand (command_view x)) c.in-Post.is c.requires.is_command).1
+
+pub returns-in-Wait-clause-obeys : goal.returns-in-Wait-clause-obeys
+returns-in-Wait-clause-obeys g c =
+    let e = c.args.self.now in
+    let once = subst (λ (x : Command). IsAtOnce (obeyed (rules_of e) (state_of e) c.args.session (command_view x))) c.in-Wait.is c.requires.at_once in
+    rw c.in-Wait.is (wait_refused (rules_of e) (state_of e) c.args.session c.in-Wait.number once)
+
+pub returns-in-Wait-clause-spares : goal.returns-in-Wait-clause-spares
+returns-in-Wait-clause-spares g c exact spare =
+    let e = c.args.self.now in
+    rw c.in-Wait.is (stays_done g.K.Keeper.contents e (obeyed (rules_of e) (state_of e) c.args.session (Wait c.in-Wait.number)) spare (wait_quiet (rules_of e) (state_of e) c.args.session c.in-Wait.number))

@@ -2,21 +2,22 @@ use Rattle.std.proofs.Common.{Some, ap, is_some, refl, sym}
 use Rattle.std.proofs.lemmas.Result.{IfOk-weaker}
 use Rattle.at_model.specs.Edits as edit
 use Rattle.at_model.specs.Edits.{list_class}
-use Rattle.at_model.specs.Machine.{changed, with_tree}
+use Rattle.at_model.specs.Machine.{changed, with_tree, obeyed}
 use Rattle.at_tree.specs.View.{term_view}
 use Rattle.at_protocol.specs.LineView.{place_view}
 use Rattle.at_engine.specs.Engines.{rules_of, state_of}
-use Rattle.at_engine.proofs.Commands.{misshaped, no_component, other_shape, insert_as, insert_nowhere, right_shape, with_shaped}
+use Rattle.at_engine.proofs.Commands.{misshaped, no_component, other_shape, insert_as, insert_nowhere, right_shape, with_shaped, insert_tree}
 use Rattle.at_model.specs.Lines.{Insert}
-use Rattle.at_model.specs.Machine.{obeyed}
 use Rattle.at_protocol.specs.declared.reply.Refusal.TheVariants as refusal
 use Rattle.at_tree.specs.TreeView.{tree_view}
-use Rattle.at_engine.proofs.Commands.{insert_tree}
 use Rattle.at_engine.proofs.Keeping.{any_obstacle_quiet, refused_spares, stays_spare, turned_spares}
 use Rattle.at_engine.proofs.engine.Engine.insert.Goals as goal
 
 pub edit-requires-clause-there : goal.edit-requires-clause-there
 edit-requires-clause-there g c = ap is_some c.in-Some.ensures.2
+
+pub edit-requires-clause-target : goal.edit-requires-clause-target
+edit-requires-clause-target g c = edit-requires-clause-there g c
 
 pub returns-in_default-clause-obeys : goal.returns-in_default-clause-obeys
 returns-in_default-clause-obeys g c =
@@ -54,7 +55,7 @@ returns-in-Ok-clause-obeys g c =
     let i = c.in-Some-component.found.0 in
     IfOk-weaker c.edit.result _ _ (λ f is. insert_as (rules_of e) s c.args.session (place_view c.args.place.now) n named f new t c.args.part.now c.args.index
     (right_shape (rules_of e) s n c.args.part.now list_class (λ i b. with_tree k t (Some b) (λ u. changed k s (edit.Insert n i c.args.index u))) i c.in-Some-component.found.1 c.in-Some-list_class.class f new (c.in-Some-component.ensures n p) (sym c.in-Some-list_class.ensures)
-    (with_shaped (rules_of e) t c.in-Some-list_class.class c.in-Ok.tree (λ u. changed k s (edit.Insert n i c.args.index u)) s f new c.in-Ok.ensures is))) (c.edit.ensures.follows n p)
+    (with_shaped (rules_of e) t c.in-Some-list_class.class c.in-Ok.tree (λ u. changed k s (edit.Insert n i c.args.index u)) s f new c.in-Ok.ensures is))) (c.edit.ensures.follows n n p p)
 
 pub returns-in-Err-clause-obeys : goal.returns-in-Err-clause-obeys
 returns-in-Err-clause-obeys g c =
@@ -100,4 +101,4 @@ returns-in-Ok-clause-spares g c exact spare =
     let (n, named, p) = c.in-Some.ensures in
     let i = c.in-Some-component.found.0 in
     turned_spares g.K.Keeper.contents e c.edit.new.self (obeyed (rules_of e) s c.args.session (Insert (place_view c.args.place.now) c.args.part.now c.args.index (term_view c.args.term.now))) (changed k s (edit.Insert n i c.args.index (tree_view c.in-Ok.tree))) c.edit.result
-    (insert_tree (rules_of e) s c.args.session (place_view c.args.place.now) n named c.args.part.now i c.in-Some-component.found.1 (c.in-Some-component.ensures n p) c.args.index (term_view c.args.term.now) c.in-Some-list_class.class c.in-Ok.tree (sym c.in-Some-list_class.ensures) c.in-Ok.ensures) (c.edit.ensures.spares n p exact spare)
+    (insert_tree (rules_of e) s c.args.session (place_view c.args.place.now) n named c.args.part.now i c.in-Some-component.found.1 (c.in-Some-component.ensures n p) c.args.index (term_view c.args.term.now) c.in-Some-list_class.class c.in-Ok.tree (sym c.in-Some-list_class.ensures) c.in-Ok.ensures) (c.edit.ensures.spares n n p p exact spare)

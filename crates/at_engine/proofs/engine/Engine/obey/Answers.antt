@@ -1,29 +1,65 @@
+use Rattle.std.proofs.Common.{◌∙◌, Result, Ok, sym, subst}
+use Rattle.std.specs.declared.alloc.AllocError.{AllocError}
+use Rattle.std.proofs.lemmas.Option.{slice_get_within}
 use Rattle.std.proofs.lemmas.Result.{IfOk-weaker}
 use Rattle.at_model.specs.Machine.{obeyed, verdict}
 use Rattle.at_protocol.specs.LineView.{line_view}
+use Rattle.at_protocol.specs.declared.reply.Form.{Form}
+use Rattle.at_protocol.specs.declared.reply.Form.TheVariants as form
+use Rattle.at_store.specs.Shown.{path}
 use Rattle.at_engine.specs.Engines.{rules_of, state_of}
+use Rattle.at_engine.specs.Keeping.{SparesVerdict}
+use Rattle.at_engine.specs.Posted.{posted_view}
+use Rattle.at_engine.specs.Telling.{by_turns}
+use Rattle.at_engine.proofs.Attempting.{heard_at_once}
 use Rattle.at_engine.proofs.Following.{as_verdict}
-use Rattle.at_engine.proofs.Keeping.{refused_spares, turned_spares}
+use Rattle.at_engine.proofs.Keeping.{at_once_spares, refused_spares, turned_spares, waited_spares}
 use Rattle.at_engine.proofs.engine.Engine.obey.Goals as goal
 
-pub returns-in-Some-clause-meets : goal.returns-in-Some-clause-meets
-returns-in-Some-clause-meets g c = rw c.turned_away.ensures c.in-Some.ensures
+pub returns-in-Some-clause-hears : goal.returns-in-Some-clause-hears
+returns-in-Some-clause-hears g c =
+    let e = c.args.self.now in
+    let is = c.at_once.ensures.form ∙ c.turned_away.ensures in
+    heard_at_once (rules_of e) (state_of e) (state_of e) (line_view c.args.line) c.at_once.result (Ok (form.Refused c.in-Some.refusal)) c.at_once.ensures.session c.at_once.ensures.done is c.in-Some.ensures tt
 
 pub returns-in-Some-clause-spares : goal.returns-in-Some-clause-spares
 returns-in-Some-clause-spares g c exact spare =
     let e = c.args.self.now in
-    rw c.turned_away.ensures (refused_spares g.K.Keeper.contents e (verdict (rules_of e) (state_of e) (line_view c.args.line)) spare c.in-Some.refusal c.in-Some.ensures)
+    let k = g.K.Keeper.contents in
+    let v = verdict (rules_of e) (state_of e) (line_view c.args.line) in
+    let is = c.at_once.ensures.form ∙ c.turned_away.ensures in
+    let all : SparesVerdict {T = Form} {E = AllocError} k v (Ok (form.Refused c.in-Some.refusal)) e e = at_once_spares {E = AllocError} k e e v (Ok (form.Refused c.in-Some.refusal)) (refused_spares k e v spare c.in-Some.refusal c.in-Some.ensures) in
+    subst (λ (x : Result Form AllocError). SparesVerdict k v x e e) (sym is) all
 
-pub returns-in-None-clause-meets : goal.returns-in-None-clause-meets
-returns-in-None-clause-meets g c =
+pub wait-requires-clause-within : goal.wait-requires-clause-within
+wait-requires-clause-within g c = slice_get_within c.args.self.now.posts.items.items c.in-Some-awaited.position c.in-Some-awaited.ensures.question c.in-Some-awaited.ensures.there
+
+pub returns-in-Some-awaited-clause-hears : goal.returns-in-Some-awaited-clause-hears
+returns-in-Some-awaited-clause-hears g c =
+    let e = c.args.self.now in
+    let q = c.in-Some-awaited.ensures.question in
+    by_turns (posted_view (path e.store) q) (c.in_default.ensures ∙ c.in-Some-awaited.ensures.waits) (c.wait.ensures.closed q c.in-Some-awaited.ensures.there)
+
+pub returns-in-Some-awaited-clause-spares : goal.returns-in-Some-awaited-clause-spares
+returns-in-Some-awaited-clause-spares g c exact spare =
+    let e = c.args.self.now in
+    let v = verdict (rules_of e) (state_of e) (line_view c.args.line) in
+    waited_spares g.K.Keeper.contents e c.wait.new.self v c.wait.result.form c.in-Some-awaited.ensures.question.number (c.in_default.ensures ∙ c.in-Some-awaited.ensures.waits) (c.wait.ensures.spare exact spare)
+
+pub returns-in-None-clause-hears : goal.returns-in-None-clause-hears
+returns-in-None-clause-hears g c =
     let e = c.args.self.now in
     let l = line_view c.args.line in
     let v = verdict (rules_of e) (state_of e) l in
     let o = obeyed (rules_of e) (state_of e) l.session l.command in
-    IfOk-weaker c.command.result _ _ (λ f told. as_verdict (rules_of e) (state_of e) v o f (state_of c.command.new.self) c.in-None.ensures told) c.command.ensures.obeys
+    heard_at_once (rules_of e) (state_of e) (state_of c.command.new.self) l c.at_once-in-None.result c.command.result c.at_once-in-None.ensures.session c.at_once-in-None.ensures.done c.at_once-in-None.ensures.form
+    (IfOk-weaker c.command.result _ _ (λ f told. as_verdict (rules_of e) (state_of e) v o f (state_of c.command.new.self) c.in_default.ensures told) c.command.ensures.obeys) c.command.ensures.err
 
 pub returns-in-None-clause-spares : goal.returns-in-None-clause-spares
 returns-in-None-clause-spares g c exact spare =
     let e = c.args.self.now in
+    let k = g.K.Keeper.contents in
     let l = line_view c.args.line in
-    turned_spares g.K.Keeper.contents e c.command.new.self (verdict (rules_of e) (state_of e) l) (obeyed (rules_of e) (state_of e) l.session l.command) c.command.result c.in-None.ensures (c.command.ensures.spares exact spare)
+    let v = verdict (rules_of e) (state_of e) l in
+    let all = at_once_spares k e c.command.new.self v c.command.result (turned_spares k e c.command.new.self v (obeyed (rules_of e) (state_of e) l.session l.command) c.command.result c.in_default.ensures (c.command.ensures.spares exact spare)) in
+    subst (λ (x : Result Form AllocError). SparesVerdict k v x e c.command.new.self) (sym c.at_once-in-None.ensures.form) all

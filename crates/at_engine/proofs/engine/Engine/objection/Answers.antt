@@ -1,6 +1,8 @@
 use Rattle.std.proofs.Common.{◌∙◌, sym}
-use Rattle.at_protocol.specs.LineView.{line_view}
+use Rattle.at_model.specs.Machine.{marks_used}
+use Rattle.at_protocol.specs.LineView.{command_view, line_view}
 use Rattle.at_engine.specs.Engines.{rules_of, state_of}
+use Rattle.at_engine.proofs.Naming.{all_marked}
 use Rattle.at_engine.proofs.Telling.{meets_stale, meets_unmarked}
 use Rattle.at_engine.proofs.Verdicts.{at_obeyed}
 use Rattle.at_engine.proofs.engine.Engine.objection.Goals as goal
@@ -10,12 +12,16 @@ returns-then-is_stale g c =
     let e = c.args.self.now in
     meets_stale (rules_of e) (state_of e) (line_view c.args.line.now) (sym c.is_stale.ensures ∙ c.if-is_stale.true)
 
-pub returns-then-not-has_marks : goal.returns-then-not-has_marks
-returns-then-not-has_marks g c =
+pub returns-then-not-has_used : goal.returns-then-not-has_used
+returns-then-not-has_used g c =
     let e = c.args.self.now in
-    meets_unmarked (rules_of e) (state_of e) (line_view c.args.line.now) (sym c.is_stale.ensures ∙ c.if-is_stale.false) (sym c.has_marks.ensures ∙ c.if-not-has_marks.true)
+    let l = c.args.line.now in
+    let used = sym (all_marked e.store l.session e.marks.items.items c.requires.sound.marked (marks_used (command_view l.command))) ∙ sym c.has_used.ensures ∙ c.if-not-has_used.true in
+    meets_unmarked (rules_of e) (state_of e) (line_view l) (sym c.is_stale.ensures ∙ c.if-is_stale.false) used
 
 pub returns : goal.returns
 returns g c =
     let e = c.args.self.now in
-    at_obeyed (rules_of e) (state_of e) (line_view c.args.line.now) (sym c.is_stale.ensures ∙ c.if-is_stale.false) (sym c.has_marks.ensures ∙ c.if-not-has_marks.false)
+    let l = c.args.line.now in
+    let used = sym (all_marked e.store l.session e.marks.items.items c.requires.sound.marked (marks_used (command_view l.command))) ∙ sym c.has_used.ensures ∙ c.if-not-has_used.false in
+    at_obeyed (rules_of e) (state_of e) (line_view l) (sym c.is_stale.ensures ∙ c.if-is_stale.false) used

@@ -1,65 +1,46 @@
-use Rattle.std.proofs.Common.{◌++◌, ◌∙◌, ◌+◌, ◌≤◌, ap, arith, false, length, refl, vec_len}
-use Rattle.at_model.specs.Replies.{Reply as ModelReply, Memory, reply_text}
-use Rattle.std.specs.Prelude.{vec_capacity}
+use Rattle.std.proofs.Common.{◌∙◌, ◌++◌, ap, refl}
+use Rattle.at_model.specs.Replies.{reply_text}
 use Rattle.at_engine.specs.Engines.{rules_of, state_of}
-use Rattle.at_engine.proofs.Attempting.{not_both}
-use Rattle.at_engine.proofs.Typing.{typed_served, typed_still}
+use Rattle.at_engine.proofs.Attempting.{answered, said_form, stays_unless, writable_so}
+use Rattle.at_engine.proofs.Keeping.{kept_served, spare_line}
+use Rattle.at_engine.proofs.Typing.{typed_served}
 use Rattle.at_engine.proofs.engine.Engine.serve.Goals as goal
 
-pub returns-in_ok-write_reply-in-Err-clause-served : goal.returns-in_ok-write_reply-in-Err-clause-served
-returns-in_ok-write_reply-in-Err-clause-served g c =
-    let reply : ModelReply = record { session = c.in-Err.session; form = Memory } in
-    let kept = c.in-Err.ensures.memory in
-    let written = c.in_ok-write_reply-in-Err.ensures.ok reply (record { session = refl; form = refl }) in
-    (reply, (kept.0, kept.2, refl), written ∙ ap (λ xs. xs ++ reply_text reply) (kept.1 ∙ c.reserve.ensures.items))
+pub outcome-told-requires-clause-sound : goal.outcome-told-requires-clause-sound
+outcome-told-requires-clause-sound g c = c.requires.sound.held
 
-pub returns-in_ok-write_reply-in-Err-clause-keeps : goal.returns-in_ok-write_reply-in-Err-clause-keeps
-returns-in_ok-write_reply-in-Err-clause-keeps g c exact spare = (c.in-Err.ensures.spares exact spare).1
+pub outcome-told-requires-clause-typed : goal.outcome-told-requires-clause-typed
+outcome-told-requires-clause-typed g c = c.requires.sound.typed
 
-pub returns-in_ok-write_reply-in-Err-clause-spare : goal.returns-in_ok-write_reply-in-Err-clause-spare
-returns-in_ok-write_reply-in-Err-clause-spare g c exact spare = (c.in-Err.ensures.spares exact spare).0
+pub say-requires-clause-writable : goal.say-requires-clause-writable
+say-requires-clause-writable g c =
+    let e = c.args.self.now in
+    let t = c.outcome-told.result in
+    writable_so (rules_of e) (state_of e) (state_of c.outcome-told.new.self) c.args.line.now t.session t.done t.form c.outcome-told.ensures.gets
 
-pub returns-in-Ok-clause-keeps : goal.returns-in-Ok-clause-keeps
-returns-in-Ok-clause-keeps g c exact spare = (c.in-Ok.ensures.spares exact spare).1
+pub returns-clause-served : goal.returns-clause-served
+returns-clause-served g c =
+    let e = c.args.self.now in
+    let t = c.outcome-told.result in
+    let a = answered (rules_of e) (state_of e) (state_of c.outcome-told.new.self) c.args.line.now c.reserve.new.self.items c.say.new.out.items t t.form refl c.say.result c.outcome-told.ensures.gets c.say.ensures.said in
+    (a.0, a.1, a.2 ∙ ap (λ xs. xs ++ reply_text a.0) c.reserve.ensures.items)
 
-pub returns-in-Ok-clause-spare : goal.returns-in-Ok-clause-spare
-returns-in-Ok-clause-spare g c exact spare = (c.in-Ok.ensures.spares exact spare).0
+pub returns-clause-keeps : goal.returns-clause-keeps
+returns-clause-keeps g c exact spare =
+    let e = c.args.self.now in
+    let t = c.outcome-told.result in
+    let s = returns-clause-served g c in
+    kept_served g.K.Keeper.contents e c.outcome-told.new.self c.args.line.now t.form c.say.result (c.outcome-told.ensures.spares exact spare) (said_form t c.say.result c.reserve.new.self.items c.say.new.out.items c.say.ensures.said)
+    (λ same none. stays_unless (rules_of e) (state_of e) (state_of c.outcome-told.new.self) c.args.line.now (c.say.result, s.0) same s.1 none)
 
-pub returns-in_err-write_reply-in-Err-clause-same : goal.returns-in_err-write_reply-in-Err-clause-same
-returns-in_err-write_reply-in-Err-clause-same g c =
-    let before = c.reserve.new.self in
-    let after = c.attempt.new.out in
-    let items = ap length c.in-Err.ensures.memory.1 in
-    let room : vec_len after + 48 ≤ vec_capacity after = omega (arith, items, before.ok.0, after.ok.0, c.in_ok-reserve.ensures.ok, c.in-Err.ensures.room) in
-    absurd (not_both (c.in_err-write_reply-in-Err.ensures.room tt room))
+pub returns-clause-spare : goal.returns-clause-spare
+returns-clause-spare g c exact spare = spare_line g.K.Keeper.contents c.args.self.now c.outcome-told.new.self c.args.line.now c.outcome-told.result.form (c.outcome-told.ensures.spares exact spare)
 
-pub attempt-requires-clause-sound : goal.attempt-requires-clause-sound
-attempt-requires-clause-sound g c = c.requires.sound.held
-
-pub attempt-requires-clause-typed : goal.attempt-requires-clause-typed
-attempt-requires-clause-typed g c = c.requires.sound.typed
-
-pub returns-in-Ok-clause-sound : goal.returns-in-Ok-clause-sound
-returns-in-Ok-clause-sound g c =
-    let old = c.args.self.now in
-    let served = c.in-Ok.ensures.served in
+pub returns-clause-sound : goal.returns-clause-sound
+returns-clause-sound g c =
+    let e = c.args.self.now in
+    let s = returns-clause-served g c in
     record {
-      held = c.attempt.ensures.sound;
-      typed = typed_served (rules_of old) (rules_of c.attempt.new.self) false (state_of old) (state_of c.attempt.new.self) c.args.line.now served.0 c.requires.sound.typed c.attempt.ensures.rules served.1;
-    }
-
-pub returns-in_ok-write_reply-in-Err-clause-sound : goal.returns-in_ok-write_reply-in-Err-clause-sound
-returns-in_ok-write_reply-in-Err-clause-sound g c =
-    let old = c.args.self.now in
-    record {
-      held = c.attempt.ensures.sound;
-      typed = typed_still (rules_of old) (rules_of c.attempt.new.self) (state_of old) (state_of c.attempt.new.self) c.requires.sound.typed c.attempt.ensures.rules c.in-Err.ensures.memory.2;
-    }
-
-pub returns-in_err-write_reply-in-Err-clause-sound : goal.returns-in_err-write_reply-in-Err-clause-sound
-returns-in_err-write_reply-in-Err-clause-sound g c =
-    let old = c.args.self.now in
-    record {
-      held = c.attempt.ensures.sound;
-      typed = typed_still (rules_of old) (rules_of c.attempt.new.self) (state_of old) (state_of c.attempt.new.self) c.requires.sound.typed c.attempt.ensures.rules c.in-Err.ensures.memory.2;
+      held = c.outcome-told.ensures.sound;
+      typed = typed_served (rules_of e) (rules_of c.outcome-told.new.self) (c.say.result, s.0) (state_of e) (state_of c.outcome-told.new.self) c.args.line.now c.requires.sound.typed c.outcome-told.ensures.rules s.1;
     }

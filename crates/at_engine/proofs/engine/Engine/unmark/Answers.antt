@@ -19,4 +19,4 @@ returns-clause-obeys g c =
 pub returns-clause-sound : goal.returns-clause-sound
 returns-clause-sound g c =
     let e = c.args.self.now in
-    sound_marks (rules_of e) e.store e.marks.items.items _ _ (subst (AreThere (path e.store)) (sym c.forget.ensures) (there_filtered (path e.store) (λ (m : Mark). not (is_named c.args.session c.args.name.now m)) e.marks.items.items c.requires.sound.marked)) c.requires.sound
+    sound_marks (rules_of e) e.store e.marks.items.items _ e.posts _ (subst (AreThere (path e.store)) (sym c.forget.ensures) (there_filtered (path e.store) (λ (m : Mark). not (is_named c.args.session c.args.name.now m)) e.marks.items.items c.requires.sound.marked)) c.requires.sound

@@ -5,14 +5,14 @@ use Rattle.at_body.specs.Values.{value_view}
 use Rattle.at_protocol.specs.LineView.{arguments_view}
 use Rattle.at_store.specs.Shown.{path}
 use Rattle.at_engine.specs.Collected.{Collected}
-use Rattle.at_engine.specs.Engines.{rules_of, state_of}
+use Rattle.at_engine.specs.Engines.{rules_of, state_by}
 use Rattle.at_engine.proofs.engine.Engine.values_named.Given as goal
 
 -- the values of the arguments before the rest are collected
 abbrev pub invariant-loop-argument : goal.invariant-loop-argument
 invariant-loop-argument g l =
     let e = l.fn.self in
-    let named = value_named (rules_of e).classes (state_of e) l.session in
+    let named = value_named (rules_of e).classes (state_by e l.marks) l.session in
     Collected (ValueLike (Names (path e.store))) (map named (arguments_view l.fn.arguments)) (map value_view l.values.items) (map named (arguments_view l.rest))
 
 abbrev pub decreases-loop-argument : goal.decreases-loop-argument

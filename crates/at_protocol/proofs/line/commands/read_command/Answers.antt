@@ -12,4 +12,4 @@ pub returns-in_default : goal.returns-in_default
 returns-in_default c = λ command h.
     let cut = c.in_ok-word.ensures in
     let d = c.in_default in
-    no_command _ _ command cut.1 (record { ask = d.not-ask; set_ = d.not-set; put_ = d.not-put; drop_ = d.not-drop; insert = d.not-insert; token = d.not-token; show = d.not-show; mark = d.not-mark; unmark = d.not-unmark; where_ = d.not-where₀ }) (behind _ _ _ command cut.0 h)
+    no_command _ _ command cut.1 (record { ask = d.not-ask; set_ = d.not-set; put_ = d.not-put; drop_ = d.not-drop; insert = d.not-insert; token = d.not-token; move = d.not-move; show = d.not-show; mark = d.not-mark; unmark = d.not-unmark; where_ = d.not-where₀; post = d.not-post; wait = d.not-wait }) (behind _ _ _ command cut.0 h)

@@ -9,11 +9,17 @@ ten = decimal_step 10 (lit≤ tt) (lit< tt) ∙ ap (λ t. t ++ 48 ∷ []) (decim
 fourteen : decimal 14 ≡ 49 ∷ 52 ∷ []
 fourteen = decimal_step 14 (lit≤ tt) (lit< tt) ∙ ap (λ t. t ++ 52 ∷ []) (decimal_digit 1 (lit< tt))
 
+eleven : decimal 11 ≡ 49 ∷ 49 ∷ []
+eleven = decimal_step 11 (lit≤ tt) (lit< tt) ∙ ap (λ t. t ++ 49 ∷ []) (decimal_digit 1 (lit< tt))
+
 twelve : decimal 12 ≡ 49 ∷ 50 ∷ []
 twelve = decimal_step 12 (lit≤ tt) (lit< tt) ∙ ap (λ t. t ++ 50 ∷ []) (decimal_digit 1 (lit< tt))
 
 thirteen : decimal 13 ≡ 49 ∷ 51 ∷ []
 thirteen = decimal_step 13 (lit≤ tt) (lit< tt) ∙ ap (λ t. t ++ 51 ∷ []) (decimal_digit 1 (lit< tt))
+
+fifteen : decimal 15 ≡ 49 ∷ 53 ∷ []
+fifteen = decimal_step 15 (lit≤ tt) (lit< tt) ∙ ap (λ t. t ++ 53 ∷ []) (decimal_digit 1 (lit< tt))
 
 pub returns-in-Syntax-clause-words : goal.returns-in-Syntax-clause-words
 returns-in-Syntax-clause-words c = rw (c.in-Syntax.is, decimal_digit 1 (lit< tt)) refl
@@ -51,5 +57,11 @@ returns-in-Taken-clause-words c = rw (c.in-Taken.is, decimal_digit 9 (lit< tt)) 
 pub returns-in-Fixed-clause-words : goal.returns-in-Fixed-clause-words
 returns-in-Fixed-clause-words c = rw (c.in-Fixed.is, ten) refl
 
+pub returns-in-Inside-clause-words : goal.returns-in-Inside-clause-words
+returns-in-Inside-clause-words c = rw (c.in-Inside.is, eleven) refl
+
 pub returns-in-Arguments-clause-words : goal.returns-in-Arguments-clause-words
 returns-in-Arguments-clause-words c = rw (c.in-Arguments.is, fourteen) refl
+
+pub returns-in-Question-clause-words : goal.returns-in-Question-clause-words
+returns-in-Question-clause-words c = rw (c.in-Question.is, fifteen) refl

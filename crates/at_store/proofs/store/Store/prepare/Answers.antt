@@ -1,9 +1,10 @@
 use Rattle.std.proofs.Common.{sym, subst}
+use Rattle.std.specs.Prelude.{IfOk}
 use Rattle.at_tree.specs.TreeView.{tree_view}
 use Rattle.at_store.specs.Checking.{Prepares}
 use Rattle.at_store.specs.declared.edit.Edit.{Edit}
 use Rattle.at_store.specs.declared.edit.Prepared.TheVariants as plan
-use Rattle.at_store.proofs.Checked.{brings, drop_prepared, insert_prepared, put_prepared, set_prepared, token_prepared}
+use Rattle.at_store.proofs.Checked.{brings, drop_prepared, put_prepared, set_prepared, token_prepared}
 use Rattle.at_store.proofs.store.Store.prepare.Goals as goal
 
 pub returns-in-Drop-clause-prepared : goal.returns-in-Drop-clause-prepared
@@ -37,12 +38,13 @@ returns-in_ok-new-in-Put-clause-prepared c =
     subst (λ (e : Edit). Prepares old e new (plan.Put c.in-Put.node c.in-Put.part root kids)) (sym c.in-Put.is)
     (put_prepared old new c.in-Put.node c.in-Put.part root c.in-Put.tree kids (brings old new (tree_view c.in-Put.tree) root c.in_ok-new-in-Put.ensures.brought) leaving c.bring_child.ensures.marks c.in_ok-new-in-Put.ensures.list)
 
-pub returns-in_ok-new-in-Insert-clause-prepared : goal.returns-in_ok-new-in-Insert-clause-prepared
-returns-in_ok-new-in-Insert-clause-prepared c =
+pub returns-in-Insert-clause-prepared : goal.returns-in-Insert-clause-prepared
+returns-in-Insert-clause-prepared c =
     let old = c.args.self.now in
-    let new = c.bring_child-in-Insert.new.self in
-    let root = c.in_ok-new-in-Insert.new in
-    let kids = c.in_ok-new-in-Insert.kids in
-    let (planted, waits, (root_stays, leaving, absent)) = c.in_ok-new-in-Insert.ensures.brought in
-    subst (λ (e : Edit). Prepares old e new (plan.Insert c.in-Insert.node c.in-Insert.part c.in-Insert.index root kids)) (sym c.in-Insert.is)
-    (insert_prepared old new c.in-Insert.node c.in-Insert.part c.in-Insert.index root c.in-Insert.tree kids (brings old new (tree_view c.in-Insert.tree) root c.in_ok-new-in-Insert.ensures.brought) leaving c.bring_child-in-Insert.ensures.marks c.in_ok-new-in-Insert.ensures.list)
+    let new = c.prepare_insert.new.self in
+    subst (λ (e : Edit). IfOk c.prepare_insert.result (Prepares old e new)) (sym c.in-Insert.is) c.prepare_insert.ensures.prepared
+
+pub returns-in-Move-clause-prepared : goal.returns-in-Move-clause-prepared
+returns-in-Move-clause-prepared c =
+    let old = c.args.self.now in
+    subst (λ (e : Edit). IfOk c.prepare_move.result (Prepares old e old)) (sym c.in-Move.is) c.prepare_move.ensures

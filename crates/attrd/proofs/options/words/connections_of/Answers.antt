@@ -1,8 +1,9 @@
-use Rattle.std.proofs.Common.{◌∙◌, codes}
+use Rattle.std.proofs.Common.{◌∙◌, codes, lit<}
 use Rattle.std.specs.Str.Parse.{ExplainsUnsignedError, HasUnsignedDigitsIfOk, ParsesUnsigned}
 use Rattle.clap.specs.Words.{found_of, one_of, rows_of}
 use Rattle.clap.proofs.WalkLemmas.{one_text-rows}
-use Rattle.attrd.proofs.OptionsRead.{connections_read}
+use Rattle.attrd.specs.Options.{max_connections}
+use Rattle.attrd.proofs.OptionsRead.{asked_read}
 use Rattle.attrd.proofs.options.words.connections_of.Goals as goal
 
 pub returns : goal.returns
@@ -10,6 +11,6 @@ returns c =
     let found = found_of c.args.matches.now in
     let same = one_text-rows found (codes "connections") in
     c.unwrap_or.ensures
-    ∙ connections_read _ (λ bs r. ParsesUnsigned 16 10 bs r × ExplainsUnsignedError 10 bs r × HasUnsignedDigitsIfOk bs r) (λ u x g. g.0)
+    ∙ asked_read 16 max_connections (lit< tt) _ (λ bs r. ParsesUnsigned 16 10 bs r × ExplainsUnsignedError 10 bs r × HasUnsignedDigitsIfOk bs r) (λ u x g. g.0)
     (one_of (codes "connections") (rows_of found)) c.get_one.result
     (λ none. c.get_one.ensures.none (same ∙ none)) (λ text some. c.get_one.ensures.value text (same ∙ some)) c.requires

@@ -1,0 +1,25 @@
+use Rattle.std.proofs.Common.{ℕ, ap, ◌∙◌}
+use Rattle.std.proofs.lemmas.Result.{err_from_is_err_and}
+use Rattle.indexmap.specs.IndexMap.{insert_entry}
+use Rattle.at_model.specs.Run.{Instance}
+use Rattle.at_body.specs.Same.{same_instance}
+use Rattle.at_body.specs.declared.value.Value.{Value as ValueCode}
+use Rattle.at_demand.specs.declared.answer.Answer.TheVariants as answer
+use Rattle.at_demand.proofs.question.Question.settle.Goals as goal
+
+pub returns-in-None : goal.returns-in-None
+returns-in-None c =
+    let (alone, same, found, passed) = c.in-None.ensures in
+    record { alone = alone; same = same; found = found; passed = passed; is = ap (λ (v : ValueCode). answer.Value v) c.into_value.ensures }
+
+pub returns-in_ok-put-in-Some : goal.returns-in_ok-put-in-Some
+returns-in_ok-put-in-Some c =
+    let r = c.in-Some.ensures in
+    record {
+      waits = r.waits;
+      found = c.in_ok-put-in-Some.ensures ∙ ap (λ fs. insert_entry same_instance fs c.in-Some.inst c.args.find) r.found ∙ ap (λ (i : Instance ℕ). insert_entry same_instance c.args.self.now.found.entries i c.args.find) r.taken;
+      passed = r.passed;
+    }
+
+pub returns-in_err-put-in-Some : goal.returns-in_err-put-in-Some
+returns-in_err-put-in-Some c = rw ((err_from_is_err_and c.from_residual.result c.from_residual.ensures.1).1) tt

@@ -1,0 +1,64 @@
+-- What one try of an instance comes to.
+use Rattle.std.specs.Prelude.{◌≡◌, ℕ, List, [], ◌∷◌, ◌++◌, None}
+use Rattle.std.specs.Map.{lookup}
+use Rattle.at_model.specs.Run.{Instance, Contents}
+use Rattle.at_model.specs.Rules.{Rules}
+use Rattle.at_model.specs.Instances.{AnyText}
+use Rattle.at_model.specs.Meaning.{HasValue, Holds, Faults, Comes}
+use Rattle.at_model.specs.TypedRuns.{ClassAt, IsWellTyped}
+use Rattle.at_body.specs.Same.{same_instance}
+use Rattle.at_body.specs.Typed.{IsTypedStep}
+use Rattle.at_body.specs.Values.{value_view, fault_view}
+use Rattle.at_body.specs.declared.trial.Step.{Step}
+use Rattle.at_body.specs.declared.trial.Step.TheVariants as step
+use Rattle.at_cache.specs.Kept.{Entries, AreKept}
+use Rattle.at_demand.specs.declared.evaluation.Find.{Find}
+use Rattle.at_demand.specs.declared.evaluation.Frame.{Frame}
+use Rattle.at_demand.specs.declared.trials.Attempt.{Attempt}
+use Rattle.at_demand.specs.declared.trials.Attempt.TheVariants as attempt
+use Rattle.at_demand.specs.Known.{meaning}
+use Rattle.at_demand.specs.UnderWay.{HasStepped}
+use Rattle.at_demand.specs.Covering.{HasPassedTo, IsWhole}
+use Rattle.at_demand.specs.Only.{IsLean, TakesOnly}
+use Rattle.at_demand.specs.Sparing.{AreSettled}
+
+-- The trial of an instance has come to this step, past values that hold; what it looked at and took is what its evaluation sees and
+-- comes to, all values are of their kinds, and what it took of what is kept is kept.
+pub record HasComeTo (rules : Rules) (at : ClassAt ℕ) (look : Contents ℕ) (entries : Entries) (found : List (Instance ℕ × Find)) (i : Instance ℕ) (f : Frame) (s : Step) : Type 0 where
+  pub stepped : HasStepped rules look i f.trial s
+  pub passed : HasPassedTo rules look found i f s
+  pub takes : TakesOnly rules look found i f.demanded
+  pub typed : IsTypedStep rules at s f.trial
+  pub kept : AreKept entries f.demanded.kept.items
+
+-- where it needs another instance, its trial waits for that
+abbrev pub Awaits : Rules → ClassAt ℕ → Contents ℕ → Entries → List (Instance ℕ × Find) → Instance ℕ → Frame → Attempt → Type 0
+Awaits rules at look entries found i f (attempt.Found d) = Unit {0}
+Awaits rules at look entries found i f (attempt.Fails kind) = Unit {0}
+Awaits rules at look entries found i f (attempt.Needs j) = HasComeTo rules at look entries found i f (step.Need j)
+
+-- the value of an instance was found, with all that it rests on and nothing else
+pub record HasFound (rules : Rules) (look : Contents ℕ) (entries : Entries) (found : List (Instance ℕ × Find)) (i : Instance ℕ) (f : Find) : Type 0 where
+  pub value : HasValue look (meaning rules) i (value_view f.value)
+  pub whole : IsWhole rules look found i f
+  pub lean : IsLean rules look found i f
+  pub kept : AreKept entries f.demanded.kept.items
+
+-- it needs another instance, which is well typed, and neither kept nor found
+pub record HasNeeded (rules : Rules) (at : ClassAt ℕ) (look : Contents ℕ) (entries : Entries) (found : List (Instance ℕ × Find)) (i j : Instance ℕ) : Type 0 where
+  pub comes : Comes look (meaning rules) i j
+  pub unkept : entries j ≡ None
+  pub unfound : lookup (same_instance j) found ≡ None
+  pub typed : IsWellTyped rules at AnyText j
+
+-- what one try of an instance has come to
+abbrev pub HasTried : Rules → ClassAt ℕ → Contents ℕ → Entries → List (Instance ℕ × Find) → Instance ℕ → Attempt → Type 0
+HasTried rules at look entries found i (attempt.Found f) = HasFound rules look entries found i f
+HasTried rules at look entries found i (attempt.Fails kind) = Holds look (meaning rules) i (Faults (fault_view kind) i)
+HasTried rules at look entries found i (attempt.Needs j) = HasNeeded rules at look entries found i j
+
+-- what was found of lazy attributes is kept, with the value of this one, where it was found
+abbrev pub SettlesOn : Rules → Entries → List (Instance ℕ × Find) → Instance ℕ → Attempt → Type 0
+SettlesOn rules entries found i (attempt.Found f) = AreSettled rules entries (found ++ (i, f) ∷ [])
+SettlesOn rules entries found i (attempt.Fails kind) = AreSettled rules entries found
+SettlesOn rules entries found i (attempt.Needs j) = AreSettled rules entries found

@@ -1,0 +1,239 @@
+//! Turns of a question: each tries one equation, once.
+
+ghost use Rattle.std.specs.Prelude.{◌≡◌, ◌<◌, ◌^◌, ℕ, IfOk, IfSome, IsTrue, None};
+ghost use Rattle.std.specs.Option.{option_map};
+ghost use Rattle.at_model.specs.Run.{Contents};
+ghost use Rattle.at_model.specs.Instances.{AnyText};
+ghost use Rattle.at_model.specs.Meaning.{Answers as HasAnswer, Right};
+ghost use Rattle.at_model.specs.Rules.{Rules};
+ghost use Rattle.at_model.specs.TypedRuns.{IsWellTyped};
+ghost use Rattle.at_model.specs.Turning.{Turned, asked, posted};
+ghost use Rattle.at_model.specs.WellFormed.{AreWellFormed, IsTreeSound};
+ghost use Rattle.at_store.specs.Shown.{IsIdle, Shown, contents, tree};
+ghost use Rattle.at_body.specs.Typed.{class_shown};
+ghost use Rattle.at_cache.specs.Kept.{Entries};
+ghost use Rattle.at_demand.specs.Known.{meaning, kept_values, known_in, answer_view, FoundKept};
+ghost use Rattle.at_demand.specs.Right.{AreRight, IsThere};
+ghost use Rattle.at_demand.specs.Covering.{AreWhole};
+ghost use Rattle.at_demand.specs.Only.{AreLean};
+ghost use Rattle.at_demand.specs.Sparing.{AddsWorthy, AreSettled, AreSpare, Counts, MayAddLazy};
+ghost use Rattle.at_demand.specs.Turns.{HasGiven, IsStanding, IsSparingTurns, under_way};
+ghost use Rattle.at_demand.specs.Attempts.{HasComeTo, HasTried, SettlesOn, Awaits};
+ghost use Rattle.at_demand.specs.KeptTrials.{Fit, FitAfter};
+
+use super::Demand;
+use crate::answer::Answer;
+use crate::evaluation::{Find, Frame};
+use crate::question::Question;
+use crate::trials::{Attempt, Trials};
+use at_body::{Inst, Step};
+use at_cache::Keeper;
+use at_rules::Rules;
+use at_store::Store;
+use indexmap::IndexMap;
+use std::alloc::AllocError;
+
+impl<K: Keeper> Demand<K> {
+    /// The question for an instance, as it is before its first turn. It takes no memory as yet, so there is no error.
+    pub fn post(&self, inst: Inst) -> Result<Question, AllocError>
+        ensures posted { IfOk result (λ q. under_way q ≡ posted inst) }
+        ensures standing { (entries : Entries) (rules : Rules) (s : Shown) → IsWellTyped rules (class_shown s) AnyText inst → IfOk result (IsStanding rules s entries) }
+        ensures sparing { (entries : Entries) (rules : Rules) (look : Contents ℕ) → IfOk result (IsSparingTurns rules look entries) }
+    {
+        Ok(Question::new(self.alloc, inst))
+    }
+
+    /// One turn of a question that was posted on the tree as it is: its answer, or none, where its chain has one instance more
+    /// or its last instance was found. At most one equation is tried, once, and at most the value of the last instance comes to
+    /// what is kept. An error where memory is wanting; then the question is of no use any more.
+    pub fn turn(
+        &mut self,
+        rules: &Rules,
+        store: &Store,
+        question: &mut Question,
+    ) -> Result<Option<Answer>, AllocError>
+        requires idle { IsIdle store.now }
+        requires formed { AreWellFormed rules.now }
+        requires sound { IsTreeSound rules.now.classes (tree store.now) }
+        requires right { Right (contents store.now) (meaning rules.now) (kept_values (K.contents self.old.keeper)) }
+        requires standing { IsStanding rules.now store.now (K.contents self.old.keeper) question.old }
+        ensures turned { IfOk result (λ o. Turned (contents store.now) (meaning rules.now) (kept_values (K.contents self.old.keeper)) (under_way question.old) (under_way question.new) (option_map answer_view o)) }
+        ensures answers { IfOk result (λ o. IfSome o (λ a. HasAnswer (contents store.now) (meaning rules.now) (asked (under_way question.old)) (answer_view a))) }
+        ensures standing { IfOk result (λ o. IsStanding rules.now store.now (K.contents self.new.keeper) question.new) }
+        ensures right { Right (contents store.now) (meaning rules.now) (kept_values (K.contents self.new.keeper)) }
+        ensures stays { IsThere store.now (asked (under_way question.old)) → AreRight rules.now store.now (K.contents self.old.keeper) → AreRight rules.now store.now (K.contents self.new.keeper) }
+        ensures last { MayAddLazy rules.now (K.contents self.old.keeper) (K.contents self.new.keeper) question.old.inst }
+        ensures worthy { AddsWorthy rules.now (contents store.now) (asked (under_way question.old)) (K.contents self.old.keeper) (K.contents self.new.keeper) }
+        ensures sparing { IsTrue K.exact → AreSpare rules.now (contents store.now) (K.contents self.old.keeper) → IsSparingTurns rules.now (contents store.now) (K.contents self.old.keeper) question.old → IfOk result (λ o. IsSparingTurns rules.now (contents store.now) (K.contents self.new.keeper) question.new) }
+        ensures spare { IsTrue K.exact → AreSpare rules.now (contents store.now) (K.contents self.old.keeper) → IsSparingTurns rules.now (contents store.now) (K.contents self.old.keeper) question.old → AreSpare rules.now (contents store.now) (K.contents self.new.keeper) }
+        ensures counts { IsTrue K.exact → Counts (K.contents self.old.keeper) (K.contents self.new.keeper) self.old.work self.new.work }
+    {
+        // The call says that it is less than 2^64.
+        let _work = self.work();
+        let mut trials = Trials::new(self.alloc);
+        self.turn_with(rules, store, question, &mut trials)
+    }
+
+    /// So many turns of a question that was posted on the tree as it is, or fewer where one of them answers it: how many they
+    /// were, from 0 up to the limit, and its answer, if there is one. A trial that was begun is gone on with, and not begun anew.
+    /// An error where memory is wanting; then the question is of no use any more.
+    pub fn turns(
+        &mut self,
+        rules: &Rules,
+        store: &Store,
+        question: &mut Question,
+        limit: u64,
+    ) -> Result<(u64, Option<Answer>), AllocError>
+        requires idle { IsIdle store.now }
+        requires formed { AreWellFormed rules.now }
+        requires sound { IsTreeSound rules.now.classes (tree store.now) }
+        requires right { Right (contents store.now) (meaning rules.now) (kept_values (K.contents self.old.keeper)) }
+        requires standing { IsStanding rules.now store.now (K.contents self.old.keeper) question.old }
+        ensures given { IfOk result (λ r. HasGiven (contents store.now) (meaning rules.now) limit r.0 (under_way question.old) (under_way question.new) (option_map answer_view r.1)) }
+        ensures standing { IfOk result (λ r. IsStanding rules.now store.now (K.contents self.new.keeper) question.new) }
+        ensures right { Right (contents store.now) (meaning rules.now) (kept_values (K.contents self.new.keeper)) }
+        ensures worthy { AddsWorthy rules.now (contents store.now) (asked (under_way question.old)) (K.contents self.old.keeper) (K.contents self.new.keeper) }
+        ensures stays { IsThere store.now (asked (under_way question.old)) → AreRight rules.now store.now (K.contents self.old.keeper) → AreRight rules.now store.now (K.contents self.new.keeper) }
+        ensures spare { IsTrue K.exact → AreSpare rules.now (contents store.now) (K.contents self.old.keeper) → IsSparingTurns rules.now (contents store.now) (K.contents self.old.keeper) question.old → AreSpare rules.now (contents store.now) (K.contents self.new.keeper) }
+        ensures sparing { IsTrue K.exact → AreSpare rules.now (contents store.now) (K.contents self.old.keeper) → IsSparingTurns rules.now (contents store.now) (K.contents self.old.keeper) question.old → IfOk result (λ r. IsSparingTurns rules.now (contents store.now) (K.contents self.new.keeper) question.new) }
+        ensures counts { IsTrue K.exact → Counts (K.contents self.old.keeper) (K.contents self.new.keeper) self.old.work self.new.work }
+    {
+        // The call says that it is less than 2^64.
+        let _work = self.work();
+        let mut trials = Trials::new(self.alloc);
+        let mut given = 0;
+        while given < limit {
+            let told = self.turn_with(rules, store, question, &mut trials)?;
+            given += 1;
+            if let Some(answer) = told {
+                return Ok((given, Some(answer)));
+            }
+        }
+        Ok((given, None))
+    }
+
+    // A turn, which goes on with the trial of the last instance where it is there, and leaves those of the others.
+    fn turn_with<'a>(
+        &mut self,
+        rules: &'a Rules,
+        store: &'a Store,
+        question: &mut Question,
+        trials: &mut Trials<'a>,
+    ) -> Result<Option<Answer>, AllocError>
+        requires idle { IsIdle store.now }
+        requires formed { AreWellFormed rules.now }
+        requires sound { IsTreeSound rules.now.classes (tree store.now) }
+        requires right { Right (contents store.now) (meaning rules.now) (kept_values (K.contents self.old.keeper)) }
+        requires standing { IsStanding rules.now store.now (K.contents self.old.keeper) question.old }
+        requires fit { Fit rules.now store.now (K.contents self.old.keeper) question.old trials.old }
+        ensures turned { IfOk result (λ o. Turned (contents store.now) (meaning rules.now) (kept_values (K.contents self.old.keeper)) (under_way question.old) (under_way question.new) (option_map answer_view o)) }
+        ensures standing { IfOk result (λ o. IsStanding rules.now store.now (K.contents self.new.keeper) question.new) }
+        ensures fit { IfOk result (FitAfter rules.now store.now (K.contents self.new.keeper) question.new trials.new) }
+        ensures right { Right (contents store.now) (meaning rules.now) (kept_values (K.contents self.new.keeper)) }
+        ensures stays { IsThere store.now (asked (under_way question.old)) → AreRight rules.now store.now (K.contents self.old.keeper) → AreRight rules.now store.now (K.contents self.new.keeper) }
+        ensures last { MayAddLazy rules.now (K.contents self.old.keeper) (K.contents self.new.keeper) question.old.inst }
+        ensures worthy { AddsWorthy rules.now (contents store.now) (asked (under_way question.old)) (K.contents self.old.keeper) (K.contents self.new.keeper) }
+        ensures sparing { IsTrue K.exact → AreSpare rules.now (contents store.now) (K.contents self.old.keeper) → IsSparingTurns rules.now (contents store.now) (K.contents self.old.keeper) question.old → IfOk result (λ o. IsSparingTurns rules.now (contents store.now) (K.contents self.new.keeper) question.new) }
+        ensures spare { IsTrue K.exact → AreSpare rules.now (contents store.now) (K.contents self.old.keeper) → IsSparingTurns rules.now (contents store.now) (K.contents self.old.keeper) question.old → AreSpare rules.now (contents store.now) (K.contents self.new.keeper) }
+        ensures counts { IsTrue K.exact → self.old.work < 2 ^ 64 → Counts (K.contents self.old.keeper) (K.contents self.new.keeper) self.old.work self.new.work }
+    {
+        if let Some(value) = self.keeper.get(question.asked()) {
+            return Ok(Some(Answer::Value(value.copy()?)));
+        }
+        if let Some(value) = self.keeper.get(&question.inst) {
+            trials.forget();
+            return question.pass(value.copy()?);
+        }
+        let begun = self.trial_of(rules, store, question, trials)?;
+        let (mut frame, step) = begun;
+        match self.go_on(
+            rules,
+            store,
+            &question.found,
+            &question.inst,
+            &mut frame,
+            step,
+        )? {
+            Attempt::Found(find) => {
+                trials.awaited = Some(question.inst.copy(self.alloc)?);
+                question.settle(find)
+            }
+            Attempt::Fails(kind) => {
+                let at = question.inst.copy(self.alloc)?;
+                Ok(Some(Answer::Fault { kind, at }))
+            }
+            Attempt::Needs(needed) => {
+                trials.push(frame)?;
+                question.deepen(needed)
+            }
+        }
+    }
+
+    // The trial of the last instance, begun anew where it isn't there.
+    fn trial_of<'a>(
+        &self,
+        rules: &'a Rules,
+        store: &'a Store,
+        question: &Question,
+        trials: &mut Trials<'a>,
+    ) -> Result<(Frame<'a>, Step), AllocError>
+        requires idle { IsIdle store.now }
+        requires formed { AreWellFormed rules.now }
+        requires sound { IsTreeSound rules.now.classes (tree store.now) }
+        requires typed { IsWellTyped rules.now (class_shown store.now) AnyText question.now.inst }
+        requires fit { Fit rules.now store.now (K.contents self.now.keeper) question.now trials.old }
+        ensures standing { IfOk result (λ r. HasComeTo rules.now (class_shown store.now) (contents store.now) (K.contents self.now.keeper) question.now.found.entries question.now.inst r.0 r.1) }
+        ensures none { trials.new.awaited ≡ None }
+        ensures fit { Fit rules.now store.now (K.contents self.now.keeper) question.now trials.new }
+    {
+        match trials.last() {
+            Some((frame, needed)) => Ok((frame, Step::Need(needed))),
+            None => {
+                let begun = Frame::start(self.alloc, rules, store, &question.inst)?;
+                Ok(begun)
+            }
+        }
+    }
+
+    // Goes on with the trial of an instance that isn't kept, up to its end or to an instance that isn't known, and keeps its
+    // value where it is lazy.
+    fn go_on<'a>(
+        &mut self,
+        rules: &'a Rules,
+        store: &'a Store,
+        found: &IndexMap<Inst, Find>,
+        inst: &Inst,
+        frame: &mut Frame<'a>,
+        step: Step,
+    ) -> Result<Attempt, AllocError>
+        requires idle { IsIdle store.now }
+        requires formed { AreWellFormed rules.now }
+        requires sound { IsTreeSound rules.now.classes (tree store.now) }
+        requires standing { HasComeTo rules.now (class_shown store.now) (contents store.now) (K.contents self.old.keeper) found.now.entries inst.now frame.old step }
+        requires right { Right (contents store.now) (meaning rules.now) (known_in (K.contents self.old.keeper) found.now.entries) }
+        requires kept_right { Right (contents store.now) (meaning rules.now) (kept_values (K.contents self.old.keeper)) }
+        requires kept { FoundKept (K.contents self.old.keeper) found.now.entries }
+        requires absent { K.contents self.old.keeper inst.now ≡ None }
+        requires whole { AreWhole rules.now (contents store.now) found.now.entries }
+        ensures tried { IfOk result (HasTried rules.now (class_shown store.now) (contents store.now) (K.contents self.old.keeper) found.now.entries inst.now) }
+        ensures right { Right (contents store.now) (meaning rules.now) (kept_values (K.contents self.new.keeper)) }
+        ensures stays { IsThere store.now inst.now → AreRight rules.now store.now (K.contents self.old.keeper) → AreRight rules.now store.now (K.contents self.new.keeper) }
+        ensures lazy { MayAddLazy rules.now (K.contents self.old.keeper) (K.contents self.new.keeper) inst.now }
+        ensures worthy { AddsWorthy rules.now (contents store.now) inst.now (K.contents self.old.keeper) (K.contents self.new.keeper) }
+        ensures spare { IsTrue K.exact → AreSpare rules.now (contents store.now) (K.contents self.old.keeper) → AreLean rules.now (contents store.now) found.now.entries → AreSettled rules.now (K.contents self.old.keeper) found.now.entries → AreSpare rules.now (contents store.now) (K.contents self.new.keeper) }
+        ensures settles { IsTrue K.exact → AreSpare rules.now (contents store.now) (K.contents self.old.keeper) → AreSettled rules.now (K.contents self.old.keeper) found.now.entries → IfOk result (SettlesOn rules.now (K.contents self.new.keeper) found.now.entries inst.now) }
+        ensures counts { IsTrue K.exact → self.old.work < 2 ^ 64 → Counts (K.contents self.old.keeper) (K.contents self.new.keeper) self.old.work self.new.work }
+        ensures waits { IfOk result (Awaits rules.now (class_shown store.now) (contents store.now) (K.contents self.old.keeper) found.now.entries inst.now frame.new) }
+    {
+        let step = frame.go_on(self.alloc, &self.keeper, found, rules, store, step)?;
+        match step {
+            Step::Value(value) => {
+                let find = frame.find(self.alloc, value)?;
+                self.keep(rules, found, inst, &find)?;
+                Ok(Attempt::Found(find))
+            }
+            Step::Fault(kind) => Ok(Attempt::Fails(kind)),
+            Step::Need(needed) => Ok(Attempt::Needs(needed)),
+        }
+    }
+}

@@ -1,0 +1,15 @@
+use Rattle.std.proofs.Common.{IfOk, subst, sym}
+use Rattle.at_protocol.specs.Writable.{IsWritable}
+use Rattle.at_engine.specs.Telling.{IsSaid}
+use Rattle.at_engine.specs.declared.engine.saying.Told.{Told}
+use Rattle.at_engine.proofs.Positions.{there_at}
+use Rattle.at_engine.proofs.engine.Engine.tell.Goals as goal
+
+pub say-requires-clause-writable : goal.say-requires-clause-writable
+say-requires-clause-writable g c =
+    let (p, there) = there_at c.args.self.now.posts.items.items c.args.position c.requires.within in
+    subst (λ (t : Told). IfOk t.form IsWritable) (sym (c.close.ensures.told p there)) c.requires.writable
+
+pub returns-clause-said : goal.returns-clause-said
+returns-clause-said g c p there =
+    subst (λ (t : Told). IsSaid t c.say.result c.args.out.now.items c.say.new.out.items) (c.close.ensures.told p there) c.say.ensures.said

@@ -1,0 +1,26 @@
+-- What the words of a question ask for.
+use Rattle.std.specs.Prelude.{◌≡◌, ℕ}
+use Rattle.at_model.specs.Alike.{InstanceLike, Names}
+use Rattle.at_model.specs.Instances.{AnyText}
+use Rattle.at_model.specs.Paths.{Node}
+use Rattle.at_model.specs.Rules.{Rules}
+use Rattle.at_model.specs.Run.{Instance}
+use Rattle.at_model.specs.TypedRuns.{IsWellTyped}
+use Rattle.at_model.specs.Machine.{Verdict, Asks, Refuses}
+use Rattle.at_protocol.specs.ReplyView.{code_view}
+use Rattle.at_store.specs.Shown.{Shown, path}
+use Rattle.at_body.specs.Typed.{class_shown}
+use Rattle.at_engine.specs.declared.engine.asking.Asked.{Asked}
+use Rattle.at_engine.specs.declared.engine.asking.Asked.TheVariants as asked
+
+-- the number's instance is the one that is asked for, and well typed
+pub record IsInstanceOf (rules : Rules) (s : Shown) (v : Verdict) (i : Instance ℕ) : Type 0 where
+  pub named : Instance Node
+  pub asks : v ≡ Asks named
+  pub like : InstanceLike (Names (path s)) i named
+  pub typed : IsWellTyped rules (class_shown s) AnyText i
+
+-- the verdict asks for the instance, or refuses so
+abbrev pub IsAskedBy : Rules → Shown → Verdict → Asked → Type 0
+IsAskedBy rules s v (asked.Instance i) = IsInstanceOf rules s v i
+IsAskedBy rules s v (asked.Refused r) = v ≡ Refuses (code_view r)

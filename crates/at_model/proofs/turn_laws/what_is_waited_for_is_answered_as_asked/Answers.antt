@@ -1,0 +1,5 @@
+use Rattle.at_model.proofs.Machines.{waited}
+use Rattle.at_model.proofs.turn_laws.what_is_waited_for_is_answered_as_asked.Goals as goal
+
+pub returns : goal.returns
+returns c = λ rules number old new said answered. waited rules number old new said answered

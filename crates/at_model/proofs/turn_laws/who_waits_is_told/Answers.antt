@@ -1,0 +1,5 @@
+use Rattle.at_model.proofs.Orderly.{told_waiting}
+use Rattle.at_model.proofs.turn_laws.who_waits_is_told.Goals as goal
+
+pub returns : goal.returns
+returns c = told_waiting

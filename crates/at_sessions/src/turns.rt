@@ -1,0 +1,301 @@
+//! Questions in turns: lines and turns one by one, and how many lines are told before an answer.
+
+ghost use Rattle.std.specs.Prelude.{IfOk};
+ghost use Rattle.at_start.specs.Starts.{IsReady};
+
+use crate::hearing::{calculator, played};
+use crate::samples::{TREE, files, over};
+use crate::sessions::built::joined;
+use at_cache::KeepRecorded;
+use at_engine::Engine;
+use std::alloc::{AllocError, Global};
+use std::test::Fail;
+
+/// What is done with an engine, and what comes of it.
+enum Step {
+    /// A line is given: what is appended.
+    Line(&'static str, &'static str),
+    /// A turn is given: whether a question is open, and what is appended.
+    Turn(bool, &'static str),
+    /// So many questions of session 0 are posted: they are told the numbers from 1 on.
+    Posts(u32),
+    /// How many turns the open question of that number was given.
+    Given(u64, Option<u128>),
+}
+
+/// Steps on a fresh engine.
+struct Script {
+    name: &'static str,
+    steps: &'static [Step],
+}
+
+const SCRIPTS: &[Script] = &[
+    Script {
+        name: "a question is waited for by its session",
+        steps: &[
+            POST,
+            Step::Given(1, Some(0)),
+            Step::Given(2, None),
+            Step::Line("", ""),
+            Step::Line("1 wait 1", "1 refused 15 question\n"),
+            Step::Turn(true, ""),
+            Step::Given(1, Some(1)),
+            Step::Line("0 wait 1", "0 done 1 0 = 3\n"),
+            Step::Given(1, None),
+            Step::Turn(false, ""),
+            Step::Line("0 wait 1", "0 refused 15 question\n"),
+        ],
+    },
+    Script {
+        name: "an edit begins the count anew, a refused one doesn't",
+        steps: &[
+            POST,
+            Step::Turn(true, ""),
+            Step::Turn(true, ""),
+            Step::Turn(true, ""),
+            Step::Line("1 drop /Block", "1 refused 10 fixed\n"),
+            Step::Given(1, Some(3)),
+            Step::Line("1 token /Block/Stmt:1/Expr/Right Value 5", "1 ok 1\n"),
+            Step::Given(1, Some(0)),
+            Step::Turn(true, ""),
+            Step::Given(1, Some(1)),
+            Step::Line("0 wait 1", "0 done 1 1 = 6\n"),
+        ],
+    },
+    Script {
+        name: "what a question asks for is gone",
+        steps: &[
+            POST,
+            Step::Line("0 drop /Block/Stmt:0", "0 ok 1\n"),
+            Step::Turn(true, "0 done 1 1 refused 4 path\n"),
+            Step::Turn(false, ""),
+        ],
+    },
+    Script {
+        name: "a circle",
+        steps: &[
+            Step::Line("0 post / circ()", "0 open 1\n"),
+            Step::Given(1, Some(0)),
+            Step::Turn(true, "0 done 1 0 circular /.circ\n"),
+            Step::Given(1, None),
+        ],
+    },
+    Script {
+        name: "words that a turn refuses",
+        steps: &[
+            Step::Line("1 post / nosuch()", "1 open 1\n"),
+            Step::Line("1 post /Block local(null)", "1 open 2\n"),
+            Step::Turn(true, "1 done 1 0 refused 13 attribute\n"),
+            Step::Line("1 wait 2", "1 done 2 0 refused 14 arguments\n"),
+        ],
+    },
+    Script {
+        name: "a mark whose node is gone",
+        steps: &[
+            MARK,
+            Step::Line("0 post $u decl()", "0 open 1\n"),
+            Step::Line("0 drop /Block/Stmt:1", "0 ok 1\n"),
+            Step::Turn(true, "0 done 1 1 refused 3 mark\n"),
+        ],
+    },
+    Script {
+        name: "a mark that names another node behind the post",
+        steps: &[
+            MARK,
+            Step::Line("0 post $u decl()", "0 open 1\n"),
+            Step::Line("0 unmark u", "0 ok 0\n"),
+            Step::Line("0 post $u decl()", "0 refused 3 mark\n"),
+            Step::Line("0 mark u /Block", "0 ok 0\n"),
+            Step::Line("0 post $u decl()", "0 open 2\n"),
+            Step::Line("0 wait 2", "0 done 2 0 refused 13 attribute\n"),
+            Step::Line("1 insert /Block Stmt 0 Decl(\"y\",-)", "1 ok 1\n"),
+            Step::Line("0 wait 1", "0 done 1 1 = /Block/Stmt:1\n"),
+        ],
+    },
+    Script {
+        name: "a mark and a number that aren't there",
+        steps: &[
+            Step::Line("0 post $v decl()", "0 refused 3 mark\n"),
+            Step::Line("0 wait 7", "0 refused 15 question\n"),
+            Step::Line("0 wait 0", "0 refused 1 syntax\n"),
+            Step::Line("0 wait 01", "0 refused 1 syntax\n"),
+            Step::Line("0 wait 18446744073709551615", "0 refused 15 question\n"),
+            POST,
+        ],
+    },
+    Script {
+        name: "a version is expected of the post alone",
+        steps: &[
+            Step::Line(
+                "0 at 1 post /Block/Stmt:0/Init value()",
+                "0 refused 2 stale 0\n",
+            ),
+            Step::Line("0 at 0 post /Block/Stmt:0/Init value()", "0 open 1\n"),
+            Step::Line("0 token /Block/Stmt:0/Init Value 8", "0 ok 1\n"),
+            Step::Line("0 at 0 wait 1", "0 refused 2 stale 1\n"),
+            Step::Turn(true, "0 done 1 1 = 8\n"),
+        ],
+    },
+    Script {
+        name: "what is kept is answered by the first turn",
+        steps: &[
+            Step::Line("0 ask /Block/Stmt:1/Expr value()", "0 = 3\n"),
+            POST,
+            Step::Turn(true, "0 done 1 0 = 3\n"),
+        ],
+    },
+    Script {
+        name: "what is kept meanwhile is taken off by a turn",
+        steps: &[
+            POST,
+            Step::Turn(true, ""),
+            Step::Line("1 ask /Block/Stmt:1/Expr/Left value()", "1 = 1\n"),
+            Step::Turn(true, ""),
+            Step::Given(1, Some(2)),
+            Step::Turn(true, ""),
+            Step::Turn(true, ""),
+            Step::Given(1, Some(4)),
+            Step::Turn(true, "0 done 1 0 = 3\n"),
+        ],
+    },
+    Script {
+        name: "the question with the least number gets the turn",
+        steps: &[
+            POST,
+            Step::Line("1 post /Block/Stmt:1/Expr/Right value()", "1 open 2\n"),
+            Step::Line("2 post /Block/Stmt:0/Init value()", "2 open 3\n"),
+            Step::Turn(true, ""),
+            Step::Given(1, Some(1)),
+            Step::Given(2, Some(0)),
+            Step::Line("1 wait 2", "1 done 2 0 = 2\n"),
+            Step::Given(1, Some(1)),
+            Step::Line("0 wait 1", "0 done 1 0 = 3\n"),
+            Step::Turn(true, "2 done 3 0 = 1\n"),
+        ],
+    },
+    Script {
+        name: "a session has 100 open questions and no more",
+        steps: &[
+            Step::Posts(100),
+            Step::Line("0 post / circ()", "0 refused 12 limit\n"),
+            Step::Line("1 post / circ()", "1 open 101\n"),
+            Step::Line("0 wait 100", "0 done 100 0 circular /.circ\n"),
+            Step::Line("0 post / circ()", "0 open 102\n"),
+            Step::Line("0 post / circ()", "0 refused 12 limit\n"),
+            Step::Turn(true, "0 done 1 0 circular /.circ\n"),
+            Step::Line("0 post / circ()", "0 open 103\n"),
+        ],
+    },
+];
+
+/// The value of the sum is posted, which needs 17 turns: it comes to eight other instances, each of which a turn adds and
+/// another one takes off.
+const POST: Step = Step::Line("0 post /Block/Stmt:1/Expr value()", "0 open 1\n");
+
+/// The use of `x` is marked.
+const MARK: Step = Step::Line("0 mark u /Block/Stmt:1/Expr/Left", "0 ok 0\n");
+
+/// Whether the step is taken as it says; what has to be appended is noted.
+fn is_taken(
+    engine: &mut Engine<KeepRecorded>,
+    step: &Step,
+    out: &mut Vec<u8>,
+    told: &mut String,
+) -> Result<bool, AllocError>
+    requires { IsReady engine.old }
+    ensures { IsReady engine.new }
+{
+    match step {
+        Step::Line(line, reply) => {
+            engine.line(line.as_bytes(), out)?;
+            told.push_str(reply)?;
+            Ok(true)
+        }
+        Step::Turn(is_open, reply) => {
+            told.push_str(reply)?;
+            Ok(engine.turn(out)? == *is_open)
+        }
+        Step::Posts(posts) => {
+            post(engine, *posts, out, told)?;
+            Ok(true)
+        }
+        Step::Given(number, turns) => Ok(engine.turns(*number) == *turns),
+    }
+}
+
+/// Posts so many questions of session 0.
+fn post(
+    engine: &mut Engine<KeepRecorded>,
+    posts: u32,
+    out: &mut Vec<u8>,
+    told: &mut String,
+) -> Result<(), AllocError>
+    requires { IsReady engine.old }
+    ensures { IsReady engine.new }
+{
+    for i in 1..=posts {
+        engine.line(b"0 post / circ()", out)?;
+        write!(told, "0 open {i}\n")?;
+    }
+    Ok(())
+}
+
+/// The first step that a fresh engine doesn't take as it says, where there is one. All that is appended stands in one output.
+fn first_wrong(alloc: Global, steps: &[Step]) -> Result<Option<usize>, Fail> {
+    let mut engine = calculator(alloc)?;
+    let mut out = Vec::new(alloc);
+    let mut told = String::new(alloc);
+    for (at, step) in steps.iter().enumerate() {
+        let is_taken = is_taken(&mut engine, step, &mut out, &mut told)?;
+        if !is_taken || out.as_slice() != told.as_bytes() {
+            return Ok(Some(at));
+        }
+    }
+    Ok(None)
+}
+
+#[test]
+fn lines_and_turns_are_taken_one_by_one(rt: HostRuntime) -> Result<(), Fail> {
+    for script in SCRIPTS {
+        let wrong = first_wrong(rt.alloc(), script.steps)?;
+        assert_eq!(rt; wrong, None, "{}", script.name);
+    }
+    Ok(())
+}
+
+/// How many turns follow each line, and how many of 20 lines behind the post are told before the answer. It needs 17 turns;
+/// at the end of the input the question is answered in any case.
+const SLICES: &[(u32, usize)] = &[
+    (0, 20),
+    (1, 16),
+    (2, 8),
+    (7, 2),
+    (16, 1),
+    (17, 0),
+    (1_000, 0),
+];
+
+/// Whether so many lines are told before the answer, where so many turns follow each line.
+fn are_before(alloc: Global, slice: u32, before: usize) -> Result<bool, Fail> {
+    let post = "0 post /Block/Stmt:1/Expr value()\n";
+    let lines = joined(alloc, &[(post, 1), ("0 version\n", 20)])?;
+    let replies = joined(
+        alloc,
+        &[
+            ("0 open 1\n", 1),
+            ("0 ok 0\n", before),
+            ("0 done 1 0 = 3\n", 1),
+            ("0 ok 0\n", 20_usize.saturating_sub(before)),
+        ],
+    )?;
+    let (told, _) = played(alloc, &files(alloc, &over(TREE))?, slice, &lines)?;
+    Ok(told.as_slice() == replies.as_bytes())
+}
+
+#[test]
+fn so_many_turns_follow_each_line(rt: HostRuntime) -> Result<(), Fail> {
+    for (slice, before) in SLICES {
+        assert!(rt; are_before(rt.alloc(), *slice, *before)?, "{slice}");
+    }
+    Ok(())
+}
