@@ -1,0 +1,1 @@
+"""A language server for the tutorial's language, over `attrd`."""

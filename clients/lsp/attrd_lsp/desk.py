@@ -1,0 +1,200 @@
+"""The tree of one document in a program of its own, and the questions that are asked of it.
+
+Questions go in steps that are short, so that an edit waits for none of them: `Task.step` sends some and takes what is
+answered. Where the program goes on with questions in turns, the questions of a check are posted. Then a step that sends no
+more questions sends lines that tick, since the program gives turns behind lines alone."""
+from __future__ import annotations
+
+import time
+from pathlib import Path
+from typing import Callable, Dict, Generic, List, Mapping, Optional, Tuple, TypeVar
+
+import attrd
+from attrd import commands
+from attrd.replies import Circular, Code, Done, Fault, Memory, Opened, RefusedReply, Value
+
+from .inquiry import Answer, Inquiry, Question
+from .language import Language
+
+T = TypeVar("T")
+Taker = Callable[[Question, Done], None]
+
+SESSION = 0
+# The program's status where it doesn't take its words, such as `--slice` before it had questions in turns.
+WORDS_REFUSED = 2
+# How many turns the program gives behind each line: a fraction of a millisecond.
+SLICE = 100
+# How long a step should take, in seconds.
+SHORTEST, LONGEST = 0.003, 0.010
+# How many questions a task sends in its first step, how many ticks it sends first, and how many lines at most.
+QUESTIONS, TICKS, MOST = 16, 2, 1024
+# How many questions are open at a time; the program takes 100 in a session.
+OPEN = 90
+
+
+class Pace:
+    """How many lines a step sends: fewer where steps have become long, more where they have become short."""
+
+    def __init__(self, count: int) -> None:
+        self.count = count
+
+    def follow(self, began: float) -> None:
+        """Goes by the time that the step took which began then, by `time.perf_counter`."""
+        spent = time.perf_counter() - began
+        if spent > LONGEST:
+            self.count = max(1, self.count // 2)
+        elif spent < SHORTEST:
+            self.count = min(MOST, self.count * 2)
+
+
+class Desk:
+    """A program over the tree of one document. `posts` tells whether it knows questions in turns."""
+
+    def __init__(self, server: attrd.Server, grammar: attrd.Grammar, tree: attrd.Node, posts: bool) -> None:
+        self.server, self.grammar, self.tree, self.posts = server, grammar, tree, posts
+        self.session = server.session(SESSION)
+        self.open: Dict[Question, List[Taker]] = {}
+
+    @property
+    def version(self) -> int:
+        """The version of the tree."""
+        return self.server.version or 0
+
+    def show(self, tree: attrd.Node) -> None:
+        """Makes this the program's tree, by few edits. Raises AttrdError; which tree the program has isn't known then."""
+        edits = attrd.difference(self.grammar, self.tree, tree)
+        sent = [self.session.send(it.command()) for it in edits]
+        for pending in sent:
+            pending.accepted()
+        self.tree = tree
+
+    def ask(self, questions: List[Question]) -> List[Answer]:
+        """The answers of these questions, each evaluated to its end. Raises AttrdError."""
+        sent = [self.session.send(commands.ask(it.path, it.attribute)) for it in questions]
+        return [answer_of(it.reply()) for it in sent]
+
+    def post(self, questions: List[Question], take: Taker) -> List[Question]:
+        """Posts these questions, but those that are open already; `take` has the answers as they come.
+
+        Those that couldn't be posted are returned. Raises AttrdError."""
+        new = [it for it in questions if it not in self.open]
+        for question in questions:
+            self.open.setdefault(question, []).append(take)
+        sent = [(it, self.session.send(commands.post(it.path, it.attribute))) for it in new]
+        self.tick(1)
+        return [question for question, pending in sent if not self.is_posted(question, pending.reply())]
+
+    def is_posted(self, question: Question, reply: attrd.Reply) -> bool:
+        """Whether the reply is that the question was posted; else it isn't open."""
+        if isinstance(reply, Opened):
+            self.server.on_done(reply.number, lambda done: self.answered(question, done))
+            return True
+        self.open.pop(question, None)
+        if isinstance(reply, RefusedReply) and reply.code is Code.SYNTAX:
+            self.posts = False
+        return False
+
+    def answered(self, question: Question, done: Done) -> None:
+        """An open question was answered."""
+        for take in self.open.pop(question, []):
+            take(question, done)
+
+    def tick(self, count: int) -> None:
+        """Sends so many lines that do nothing but have turns behind them, and waits for the reply to the last one.
+
+        What was answered before that is here then. Raises AttrdError."""
+        sent = [self.session.send(commands.version()) for _ in range(count)]
+        sent[-1].version()
+
+    def close(self) -> None:
+        """Ends the program."""
+        self.server.close()
+
+
+def answer_of(reply: attrd.Reply) -> Answer:
+    """The reply to a question. Raises ProtocolFault where it is none."""
+    if isinstance(reply, (Value, Fault, Circular, Memory, RefusedReply)):
+        return reply
+    raise attrd.ProtocolFault(f"{reply} is no answer")
+
+
+def open_desk(program: str, language: Language, tree: attrd.Node, texts: Mapping[Path, str]) -> Desk:
+    """A program over this tree, with questions in turns where it has them. Raises StartFault, TermFault and AttrdError."""
+    server, posts = started(program, language, tree, texts)
+    grammar = attrd.Grammar.read(language.text(language.grammar, texts))
+    grammar.check(tree)
+    return Desk(server, grammar, tree, posts)
+
+
+def started(program: str, language: Language, tree: attrd.Node, texts: Mapping[Path, str]) -> Tuple[attrd.Server, bool]:
+    """The program, and whether it has questions in turns: else it doesn't take the option for them. Raises as `open_desk`."""
+    try:
+        return language.start(program, tree, ["--slice", str(SLICE)], texts), True
+    except attrd.StartFault as fault:
+        if fault.status != WORDS_REFUSED:
+            raise
+    return language.start(program, tree, [], texts), False
+
+
+class Task(Generic[T]):
+    """An inquiry under way at a desk. `result` is what it found, when `is_over`."""
+
+    def __init__(self, inquiry: Inquiry[T], desk: Desk, in_turns: bool) -> None:
+        self.inquiry, self.desk, self.in_turns = inquiry, desk, in_turns
+        self.version = desk.version
+        self.result: Optional[T] = None
+        self.is_over = False
+        self.questions: List[Question] = []
+        self.unsent: List[Question] = []
+        self.answers: Dict[Question, Answer] = {}
+        self.pace = Pace(QUESTIONS)
+        self.go_on(None)
+
+    def step(self) -> None:
+        """One short step. Raises AttrdError, and what the inquiry raises."""
+        began = time.perf_counter()
+        if not (self.in_turns and self.desk.posts):
+            self.ask_some()
+            self.pace.follow(began)
+        elif self.unsent and len(self.desk.open) < OPEN:
+            self.post_some()
+            self.pace.follow(began)
+        else:
+            self.desk.tick(self.ticks.count)
+            self.ticks.follow(began)
+        if len(self.answers) == self.wanted:
+            self.go_on([self.answers[it] for it in self.questions])
+
+    def ask_some(self) -> None:
+        """Asks some of the questions that are left."""
+        asked, self.unsent = self.unsent[: self.pace.count], self.unsent[self.pace.count :]
+        self.answers.update(zip(asked, self.desk.ask(asked)))
+
+    def post_some(self) -> None:
+        """Posts some of the questions that are left."""
+        count = min(self.pace.count, OPEN - len(self.desk.open))
+        posted, self.unsent = self.unsent[:count], self.unsent[count:]
+        self.unsent += self.desk.post(posted, self.take)
+
+    def take(self, question: Question, done: Done) -> None:
+        """The answer of a posted question. One for an older version is dropped, and the question is asked again."""
+        if done.version == self.version:
+            self.answers[question] = answer_of(done.answer)
+        else:
+            self.unsent.append(question)
+
+    def go_on(self, answers: Optional[List[Answer]]) -> None:
+        """Has the inquiry go on with the answers, to its next questions or its end. None begins it."""
+        try:
+            self.questions = next(self.inquiry) if answers is None else self.inquiry.send(answers)
+            while not self.questions:
+                self.questions = self.inquiry.send([])
+        except StopIteration as end:
+            self.result, self.is_over = end.value, True
+            self.questions = []
+        self.unsent, self.answers = list(dict.fromkeys(self.questions)), {}
+        self.wanted, self.version, self.ticks = len(self.unsent), self.desk.version, Pace(TICKS)
+
+    def close(self) -> None:
+        """Ends the inquiry; what it had tried on the tree is undone. Raises AttrdError."""
+        self.inquiry.close()

@@ -1,0 +1,46 @@
+"""The editor's end of the conversation: what is written to it."""
+from __future__ import annotations
+
+from typing import Any, BinaryIO, Dict, List, Optional
+
+from .rpc import Failure, Message, write_message
+
+# The protocol's numbers for kinds of messages.
+ERROR, WARNING = 1, 2
+
+
+class EditorGone(Exception):
+    """The editor takes no more messages."""
+
+
+class Editor:
+    """Writes answers, diagnostics and messages. Each method raises EditorGone where the editor has ended."""
+
+    def __init__(self, stream: BinaryIO) -> None:
+        self.stream = stream
+
+    def write(self, message: Message) -> None:
+        """Writes a message."""
+        try:
+            write_message(self.stream, message)
+        except (OSError, ValueError) as fault:
+            raise EditorGone(str(fault)) from fault
+
+    def answer(self, number: Any, result: Any) -> None:
+        """Answers a request."""
+        self.write({"id": number, "result": result})
+
+    def fail(self, number: Any, failure: Failure) -> None:
+        """Tells that a request can't be answered."""
+        self.write({"id": number, "error": {"code": failure.code, "message": failure.text}})
+
+    def publish(self, uri: str, version: Optional[int], diagnostics: List[Dict[str, Any]]) -> None:
+        """Has these diagnostics shown for a file, in the place of all others."""
+        params: Dict[str, Any] = {"uri": uri, "diagnostics": diagnostics}
+        if version is not None:
+            params["version"] = version
+        self.write({"method": "textDocument/publishDiagnostics", "params": params})
+
+    def show(self, kind: int, text: str) -> None:
+        """Has a message shown."""
+        self.write({"method": "window/showMessage", "params": {"type": kind, "message": text}})

@@ -1,0 +1,149 @@
+"""The language server: messages of the editor in, one after the other.
+
+It takes all messages that are there, and then goes on with one short step of what is under way. So an edit waits for one
+step at most."""
+from __future__ import annotations
+
+import sys
+import traceback
+from typing import Any, Callable, Dict, Optional
+
+from .editor import ERROR, Editor
+from .rpc import (
+    INTERNAL_ERROR,
+    INVALID_REQUEST,
+    METHOD_NOT_FOUND,
+    NOT_INITIALIZED,
+    PARSE_ERROR,
+    Ended,
+    Failure,
+    Inbox,
+    Malformed,
+    Message,
+    Unreadable,
+)
+from .workspace import Workspace
+
+CAPABILITIES = {
+    "textDocumentSync": {"openClose": True, "change": 2},
+    "hoverProvider": True,
+    "definitionProvider": True,
+    "referencesProvider": True,
+    "renameProvider": {"prepareProvider": True},
+    "documentSymbolProvider": True,
+}
+
+
+class LanguageServer:
+    """Serves one editor."""
+
+    def __init__(self, inbox: Inbox, editor: Editor, workspace: Workspace) -> None:
+        self.inbox, self.editor, self.workspace = inbox, editor, workspace
+        self.is_initialized = False
+        self.is_shut_down = False
+        self.status: Optional[int] = None
+        self.notifications: Dict[str, Callable[[Any], None]] = {
+            "textDocument/didOpen": workspace.open,
+            "textDocument/didChange": workspace.change,
+            "textDocument/didClose": workspace.close,
+            "$/cancelRequest": workspace.cancel,
+            "exit": self.exit,
+        }
+        self.requests: Dict[str, Callable[[Any, Any], None]] = {
+            "initialize": self.initialize,
+            "shutdown": self.shut_down,
+            "textDocument/hover": workspace.hover,
+            "textDocument/definition": workspace.definition,
+            "textDocument/references": workspace.references,
+            "textDocument/prepareRename": workspace.prepare_rename,
+            "textDocument/rename": workspace.rename,
+            "textDocument/documentSymbol": workspace.symbols,
+        }
+
+    def serve(self) -> int:
+        """Serves until the editor ends; the exit status, 0 where it said so before. Raises EditorGone."""
+        try:
+            while self.status is None:
+                self.go_on()
+        finally:
+            self.workspace.close_all()
+        return self.status
+
+    def go_on(self) -> None:
+        """Takes a message, or where none is there goes on with what is under way."""
+        try:
+            message = self.inbox.next(not self.workspace.is_busy)
+        except Ended:
+            self.exit(None)
+        except Malformed as fault:
+            print(f"attrd_lsp: {fault}", file=sys.stderr)
+            self.status = 1
+        except Unreadable as fault:
+            self.editor.fail(None, Failure(PARSE_ERROR, str(fault)))
+        else:
+            if message is None:
+                self.guarded(None, self.workspace.step)
+            else:
+                self.take(message)
+
+    def take(self, message: Message) -> None:
+        """Takes a message. Answers of the editor aren't looked at: nothing is asked of it."""
+        method = message.get("method")
+        if isinstance(method, str):
+            self.dispatch(method, message)
+        elif "result" not in message and "error" not in message:
+            self.editor.fail(message.get("id"), Failure(INVALID_REQUEST, "the message has no method"))
+
+    def dispatch(self, method: str, message: Message) -> None:
+        """Does what a request or notification wants."""
+        params = message.get("params")
+        if "id" not in message:
+            handle = self.notifications.get(method)
+            if handle is not None and (self.is_initialized or method == "exit"):
+                self.guarded(None, lambda: handle(params))
+            return
+        number = message["id"]
+        self.guarded(message, lambda: self.request(method, number, params))
+
+    def request(self, method: str, number: Any, params: Any) -> None:
+        """Has a request answered. Raises Failure where it can't be."""
+        if self.is_shut_down:
+            raise Failure(INVALID_REQUEST, "the server was shut down")
+        if not self.is_initialized and method != "initialize":
+            raise Failure(NOT_INITIALIZED, "the server isn't initialized")
+        if method not in self.requests:
+            raise Failure(METHOD_NOT_FOUND, f"there is no {method} here")
+        self.requests[method](number, params)
+
+    def guarded(self, request: Optional[Message], handle: Callable[[], None]) -> None:
+        """Does this; a failure is the answer to the request, or is shown where there is none."""
+        try:
+            handle()
+        except Failure as fault:
+            self.tell(request, fault)
+        except (ArithmeticError, AssertionError, AttributeError, LookupError, RecursionError, TypeError, ValueError) as fault:
+            traceback.print_exc()
+            failure = Failure(INTERNAL_ERROR, f"a fault of the language server itself: {type(fault).__name__}: {fault}")
+            self.workspace.stop(failure)
+            self.tell(request, failure)
+
+    def tell(self, request: Optional[Message], failure: Failure) -> None:
+        """Tells the editor of a failure."""
+        if request is None:
+            self.editor.show(ERROR, failure.text)
+        else:
+            self.editor.fail(request["id"], failure)
+
+    def initialize(self, number: Any, params: Any) -> None:
+        """The editor begins; it is told what this server can do."""
+        self.is_initialized = True
+        self.editor.answer(number, {"capabilities": CAPABILITIES, "serverInfo": {"name": "attrd_lsp"}})
+
+    def shut_down(self, number: Any, params: Any) -> None:
+        """The editor is about to end."""
+        self.is_shut_down = True
+        self.editor.answer(number, None)
+
+    def exit(self, params: Any) -> None:
+        """The editor ends."""
+        self.status = 0 if self.is_shut_down else 1

@@ -1,0 +1,157 @@
+"""Neovim, with its own client and the lines of the page, over the language server and the program."""
+from __future__ import annotations
+
+import re
+import tempfile
+import unittest
+from pathlib import Path
+from typing import List
+
+from lsp_support import CLASS_NODES, CLONE, LSP, SMALL, large_program, program
+from neovim import EditorFault, Neovim
+
+DIAGNOSTICS = "return vim.tbl_map(function(it) return (it.lnum + 1) .. ':' .. (it.col + 1) .. ' ' .. it.message end, vim.diagnostic.get(0))"
+READY = "local it = vim.lsp.buf_get_clients(0)[1] return it ~= nil and it.initialized == true"
+# Begins to note how often diagnostics came.
+WATCH = "seen = 0 vim.api.nvim_create_autocmd('DiagnosticChanged', { callback = function() seen = seen + 1 end })"
+
+# How long a large file may take on a machine that is busy, in seconds.
+PATIENCE = 300.0
+
+
+def page_lines() -> str:
+    """The lines for Neovim, as the page shows them."""
+    page = (LSP / "README.md").read_text("utf-8")
+    return re.findall(r"^```lua\n(.*?)^```$", page, re.M | re.S)[0]
+
+
+class Folder:
+    """A home with the lines of the page, a clone whose program is the one under test, and a file."""
+
+    def __init__(self, text: str) -> None:
+        self.temporary = tempfile.TemporaryDirectory(prefix="attrd-lsp-")
+        self.folder = Path(self.temporary.name)
+        clone = self.folder / "clone"
+        clone.mkdir()
+        (clone / "attrd").symlink_to(Path(program()).resolve())
+        (clone / "clients").symlink_to(CLONE / "clients")
+        self.init, self.file = self.folder / "init.lua", self.folder / "circle.small"
+        self.init.write_text(page_lines(), "utf-8")
+        self.file.write_text(text, "utf-8")
+        self.environment = {"ATTRD_CLONE": str(clone), "HOME": str(self.folder), "XDG_STATE_HOME": str(self.folder)}
+
+    def open(self) -> Neovim:
+        """The file in an editor, whose client has begun."""
+        editor = Neovim(self.init, self.file, self.environment)
+        try:
+            editor.lua(WATCH)
+            editor.until(READY, seconds=PATIENCE)
+        except EditorFault:
+            editor.close()
+            raise
+        return editor
+
+
+class OnSmallFile(unittest.TestCase):
+    """The tutorial's program in one editor, as it was before each test."""
+
+    @classmethod
+    def setUpClass(cls) -> None:
+        folder = Folder(SMALL)
+        cls.addClassCleanup(folder.temporary.cleanup)
+        cls.editor = folder.open()
+        cls.addClassCleanup(cls.editor.close)
+        cls.editor.until("return seen > 0")
+
+    def setUp(self) -> None:
+        self.editor.lua("vim.cmd('cclose | lclose | only') vim.fn.setqflist({}) vim.cmd('messages clear')")
+        self.editor.lua("vim.api.nvim_buf_set_lines(0, 0, -1, true, ...)", SMALL.splitlines())
+        self.diagnostics([])
+
+    def diagnostics(self, wanted: List[str]) -> None:
+        """Waits for exactly these diagnostics."""
+        self.editor.until(f"{DIAGNOSTICS.replace('return', 'local told =', 1)} return vim.deep_equal(told, ...)", wanted)
+
+    def test_a_character_that_is_typed_brings_a_diagnostic_and_its_loss_takes_it(self) -> None:
+        self.assertEqual(self.editor.lua(DIAGNOSTICS), [])
+        self.editor.keys("7G0fxaq<Esc>")
+        self.diagnostics(["7:11 no declaration of xq"])
+        self.editor.keys("x")
+        self.diagnostics([])
+        self.assertEqual("\n".join(self.editor.lines()) + "\n", SMALL)
+
+    def test_a_text_that_is_no_program_keeps_the_tree_and_says_so(self) -> None:
+        self.editor.keys("7G0fxx")
+        held = "5:7 Circle can't be parsed: what is told of it goes by its last text that could be"
+        self.diagnostics(["7:12 expected an expression, found '+'", held])
+        self.editor.keys("fr")
+        self.editor.keys("gd")
+        self.editor.until("return vim.api.nvim_win_get_cursor(0)[1] == 6")
+        self.editor.keys("u")
+        self.diagnostics([])
+
+    def test_the_cursor_goes_to_a_definition(self) -> None:
+        self.editor.keys("7G0fx")
+        self.editor.keys("gd")
+        self.editor.until("return vim.api.nvim_win_get_cursor(0)[1] == 2")
+        self.assertEqual(self.editor.cursor(), (2, 6))
+
+    def test_a_field_is_renamed_where_it_is_declared_and_used(self) -> None:
+        self.editor.keys("2G0fx")
+        self.editor.lua("vim.lsp.buf.rename('across')")
+        self.editor.until("return vim.api.nvim_buf_get_lines(0, 6, 7, true)[1] == '  { end = across + r; show end; }'")
+        renamed = SMALL.replace("int x", "int across").replace("x < 10", "across < 10").replace("x + r", "across + r")
+        self.assertEqual("\n".join(self.editor.lines()) + "\n", renamed)
+        self.diagnostics([])
+
+    def test_a_name_that_would_change_a_meaning_is_refused(self) -> None:
+        self.editor.keys("2G0fx")
+        self.editor.lua("vim.lsp.buf.rename('r')")
+        self.editor.until("return vim.fn.execute('messages'):find(\"'x' in line 7 would mean something else\", 1, true) ~= nil")
+        self.assertEqual("\n".join(self.editor.lines()) + "\n", SMALL)
+
+    def test_the_kind_of_a_name_is_shown(self) -> None:
+        self.editor.keys("3G0fn")
+        self.editor.keys("K")
+        shown = "for _, it in ipairs(vim.api.nvim_list_wins()) do if vim.api.nvim_win_get_config(it).relative ~= '' then"
+        lines = f"{shown} return vim.api.nvim_buf_get_lines(vim.api.nvim_win_get_buf(it), 0, -1, true) end end"
+        self.assertEqual(self.editor.until(lines), ["near: boolean"])
+
+    def test_the_uses_of_a_name_are_listed(self) -> None:
+        self.editor.keys("2G0fx")
+        self.editor.keys("gr")
+        listed = self.editor.until("local found = vim.fn.getqflist() return #found == 3 and found")
+        self.assertEqual([(it["lnum"], it["col"]) for it in listed], [(2, 7), (3, 12), (7, 11)])
+
+    def test_the_symbols_are_listed(self) -> None:
+        self.editor.keys("gO")
+        first = "local here, all = vim.fn.getloclist(0), vim.fn.getqflist() return #here > 0 and here or #all > 0 and all"
+        listed = self.editor.until(first)
+        wanted = ["[Class] Point", "[Field] x", "[Field] y", "[Variable] near", "[Class] Circle", "[Field] r", "[Variable] end"]
+        self.assertEqual([it["text"] for it in listed], wanted)
+
+
+class OnLargeFile(unittest.TestCase):
+    """A program of 50,000 nodes in the editor."""
+
+    def test_typing_and_jumping(self) -> None:
+        folder = Folder(large_program(50_000))
+        self.addCleanup(folder.temporary.cleanup)
+        editor = folder.open()
+        self.addCleanup(editor.close)
+        editor.until("return seen > 0", seconds=PATIENCE)
+        self.assertEqual(editor.lua(DIAGNOSTICS), [])
+        last = len(editor.lines())
+        editor.keys("Gkkk0f+i+ q ")
+        editor.until("return #vim.diagnostic.get(0) == 1", seconds=PATIENCE)
+        self.assertIn("no declaration of q", editor.lua(DIAGNOSTICS)[0])
+        editor.keys("<Esc>u")
+        editor.until("return #vim.diagnostic.get(0) == 0", seconds=PATIENCE)
+        editor.keys("0fm")
+        editor.keys("gd")
+        editor.until(f"return vim.api.nvim_win_get_cursor(0)[1] < {last - 8}", seconds=PATIENCE)
+        self.assertIn(f" me{50_000 // CLASS_NODES - 1};", editor.lines()[editor.cursor()[0] - 1])
+
+
+if __name__ == "__main__":
+    unittest.main()

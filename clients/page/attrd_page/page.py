@@ -1,0 +1,137 @@
+"""What all windows share: the hub, the tree that is known, and the count of the work."""
+from __future__ import annotations
+
+import asyncio
+from pathlib import Path as FilePath
+from typing import Any, Callable, Dict, List, Optional, Sequence, Set
+
+from attrd import Grammar, ProtocolFault, write_term
+from attrd.declarations import Attribute, attributes_of
+from attrd.grammar import read_file
+from attrd.terms import read_term
+
+from . import work
+from .hub import Hub, Member
+from .mirror import Astray, Change, Mirror
+from .views import Json
+from .window import Window
+
+
+class Page:
+    """The windows over one hub. `names` are those of the files."""
+
+    def __init__(self, hub: Hub, files: Sequence[str], program: Optional[str]) -> None:
+        """`files` are the grammar, the tree and the aspects; `program` counts the work, if it is there. Raises AttrdError."""
+        self.hub, self.files, self.program = hub, list(files), program
+        self.grammar = Grammar.load(files[0])
+        self.attributes: List[Attribute] = [
+            it for name in files[2:] for it in attributes_of(read_file(name).decode("utf-8", "replace"))]
+        self.names = [FilePath(it).name for it in files]
+        self.mirror: Mirror
+        self.windows: Set[Window] = set()
+        self._count = 0
+        self._member = hub.member()
+        self._is_astray = True
+        self._counting: Optional[asyncio.Task[None]] = None
+        self._next_copy: Optional[work.Copy] = None
+        hub.watchers.append(self._watch)
+        hub.on_members = self._tell_clients
+
+    async def begin(self) -> None:
+        """Asks for the tree. Raises ServerLost."""
+        self._resync()
+        await self._member.reply("version")
+
+    def _resync(self) -> None:
+        """Asks for the whole tree. The reply is taken at its place among the replies, so no edit is missed or counted twice."""
+        self._is_astray = True
+        self._member.send(0, b"show /", self._take)
+
+    def _take(self, form: bytes) -> None:
+        if not form.startswith(b"= "):
+            raise ProtocolFault(f"{form[:100]!r} is no reply to show /")
+        tree = read_term(form[2:].decode("utf-8"))
+        self._is_astray = False
+        if hasattr(self, "mirror"):
+            self.mirror.reset(tree)
+        else:
+            self.mirror = Mirror(self.grammar, tree)
+        for window in list(self.windows):
+            window.tree_is_new()
+
+    def window(self, tell: Callable[[Json], None]) -> Window:
+        """A window that has just been opened."""
+        self._count += 1
+        window = Window(self, self._count, tell)
+        self.windows.add(window)
+        window.greet()
+        self._tell_clients()
+        return window
+
+    def close(self, window: Window) -> None:
+        """A window is closed."""
+        self.windows.discard(window)
+        window.leave()
+
+    @property
+    def clients(self) -> int:
+        """How many clients share the server: windows, and whoever came over the hub's socket."""
+        return len(self.hub.members) - 1
+
+    def _tell_clients(self) -> None:
+        self._tell_all({"kind": "clients", "clients": self.clients})
+
+    def _tell_all(self, message: Json) -> None:
+        for window in list(self.windows):
+            window.tell(message)
+
+    def _watch(self, member: Optional[Member], session: int, command: bytes, version: int) -> None:
+        if self._is_astray:
+            return
+        copy = self._copy(version)
+        try:
+            change = self.mirror.follow(session, command.decode("utf-8"))
+        except Astray:
+            self._resync()
+            return
+        if change is None:
+            return
+        items = {it.number for it in change.items}
+        above = {it.above.number for it in change.items if it.above is not None}
+        for window in list(self.windows):
+            window.edited(items | above, change.became, self._edited(window, member, version, change))
+        if copy is not None:
+            self._count_work(work.Copy(version, copy.term, copy.marks, copy.questions, change.line))
+
+    def _edited(self, window: Window, member: Optional[Member], version: int, change: Change) -> Json:
+        by = next((it.number for it in self.windows if it.member is member), None)
+        who = "this window" if by == window.number else f"window {by}" if by is not None else "another client"
+        return {"kind": "edited", "version": version, "line": change.line[:200], "by": who}
+
+    def _copy(self, version: int) -> Optional[work.Copy]:
+        """What there is before an edit, where its work is to be counted."""
+        probes = [(window.member, it) for window in self.windows for it in window.probes.probes.values()]
+        if self.program is None or not probes or len(self.mirror.items) > work.NODES:
+            return None
+        marks: List[str] = []
+        questions: List[str] = []
+        for member, probe in probes:
+            session = member.session(probe.session)
+            items = [self.mirror.marks.get((session, it)) for it in probe.names]
+            if all(it is not None and it.number in self.mirror.items for it in items):
+                marks += [f"{session} mark {name} {self.mirror.path(it)}" for name, it in zip(probe.names, items) if it is not None]
+                questions.append(f"{session} {probe.question}")
+        return work.Copy(version, write_term(self.mirror.term(self.mirror.root)), marks, questions, "")
+
+    def _count_work(self, copy: work.Copy) -> None:
+        """Counts on a copy, one edit at a time. Of edits that come meanwhile the last one is counted."""
+        self._next_copy = copy
+        if self._counting is None or self._counting.done():
+            self._counting = asyncio.ensure_future(self._counts())
+
+    async def _counts(self) -> None:
+        while self._next_copy is not None and self.program is not None:
+            copy, self._next_copy = self._next_copy, None
+            found = await work.count(self.program, self.files[0], self.files[2:], copy)
+            if found is not None:
+                self._tell_all({"kind": "work", "version": copy.version, "evaluated": found, "probes": len(copy.questions)})

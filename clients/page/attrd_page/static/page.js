@@ -1,0 +1,457 @@
+"use strict";
+// A window of the page: it shows what the hub tells of the tree and of its probes, and sends what the user does.
+
+const by = (id) => document.getElementById(id);
+const nodes = new Map();      // number of a node -> the rows below it, of those that were opened once
+const rows = new Map();       // number of a node -> its row
+const probes = new Map();     // number of a probe -> its card
+const open = new Set();
+const state = {rootNode: null, focus: 0, at: 0, detail: null, detailText: "", roundVersion: -1, isTermOpen: false, socket: null};
+
+function make(name, properties = {}, ...children) {
+  const element = document.createElement(name);
+  for (const [key, value] of Object.entries(properties)) {
+    if (key.startsWith("on")) element.addEventListener(key.slice(2), value);
+    else if (key in element && key !== "list") element[key] = value;
+    else element.setAttribute(key, value);
+  }
+  element.append(...children.filter((it) => it !== null));
+  return element;
+}
+
+function send(message) {
+  if (state.socket.readyState === WebSocket.OPEN) state.socket.send(JSON.stringify(message));
+}
+
+function say(text) { by("live").textContent = text; }
+
+function fault(text) { by("fault").textContent = text ? `Refused: ${text}` : ""; }
+
+const milliseconds = (value) => `${value < 10 ? value.toFixed(1) : Math.round(value)} ms`;
+const named = (node) => node.label ? `${node.class} ${node.label}` : node.class;
+
+// The tree.
+
+function shownRows() {
+  const found = [];
+  const walk = (node, step, depth, above, place, size) => {
+    const isOpen = !node.leaf && open.has(node.id) && nodes.has(node.id);
+    found.push({node, step, depth, above, place, size, isOpen});
+    if (!isOpen) return;
+    const parts = nodes.get(node.id).parts;
+    const count = parts.reduce((sum, it) => sum + (it.list ? it.count : 1), 0);
+    let at = 0;
+    for (const part of parts) {
+      if (part.child) walk(part.child, part.name, depth + 1, node.id, ++at, count);
+      for (const [index, it] of (part.list || []).entries()) walk(it, `${part.name}:${index}`, depth + 1, node.id, ++at, count);
+      if (part.list && part.list.length < part.count) {
+        found.push({more: part.count - part.list.length, id: node.id, key: `more ${node.id} ${part.name}`, depth: depth + 1});
+        at += part.count - part.list.length;
+      }
+    }
+  };
+  if (state.rootNode) walk(state.rootNode, "/", 1, 0, 1, 1);
+  return found;
+}
+
+function newRow(key) {
+  const row = make("li", {className: "row"});
+  rows.set(key, row);
+  return row;
+}
+
+function fillRow(row, it) {
+  const sign = it.node.leaf ? "" : it.isOpen ? "▾" : "▸";
+  row.dataset.id = it.node.id;
+  row.setAttribute("role", "treeitem");
+  row.setAttribute("aria-level", it.depth);
+  row.setAttribute("aria-posinset", it.place);
+  row.setAttribute("aria-setsize", it.size);
+  row.setAttribute("aria-selected", it.node.id === state.focus);
+  if (it.node.leaf) row.removeAttribute("aria-expanded");
+  else row.setAttribute("aria-expanded", it.isOpen);
+  row.tabIndex = it.node.id === state.focus ? 0 : -1;
+  row.style.setProperty("--depth", it.depth - 1);
+  const text = `${sign}|${it.step}|${named(it.node)}`;
+  if (row.dataset.text === text) return;
+  row.dataset.text = text;
+  row.replaceChildren(
+    make("span", {className: "sign", "aria-hidden": "true"}, sign), make("span", {className: "step"}, it.step),
+    make("span", {className: "class"}, it.node.class), make("span", {className: "label"}, it.node.label));
+}
+
+function fillMore(row, it) {
+  row.setAttribute("role", "none");
+  row.style.setProperty("--depth", it.depth - 1);
+  if (row.dataset.text === String(it.more)) return;
+  row.dataset.text = String(it.more);
+  row.replaceChildren(make("button", {type: "button", onclick: () => send({do: "more", id: it.id})}, `${it.more} more`));
+}
+
+function drawTree() {
+  const shown = shownRows();
+  const nodesShown = shown.filter((it) => it.node);
+  const at = nodesShown.findIndex((it) => it.node.id === state.focus);
+  const isGone = at < 0 && nodesShown.length > 0;
+  if (isGone) state.focus = nodesShown[Math.min(state.at, nodesShown.length - 1)].node.id;
+  else state.at = at;
+  const keys = new Set();
+  let before = null;
+  for (const it of shown) {
+    const key = it.node ? it.node.id : it.key;
+    keys.add(key);
+    const row = rows.get(key) || newRow(key);
+    if (it.node) fillRow(row, it);
+    else fillMore(row, it);
+    const next = before ? before.nextSibling : by("tree").firstChild;
+    const hadFocus = row === document.activeElement;
+    if (row !== next) by("tree").insertBefore(row, next);
+    if (hadFocus) row.focus();
+    before = row;
+  }
+  for (const [key, row] of rows) if (!keys.has(key)) { row.remove(); rows.delete(key); }
+  return isGone;
+}
+
+// A node that was replaced stays open and selected in its new form.
+function follow(became) {
+  if (!became) return;
+  const [old, now] = became;
+  if (open.has(old)) open.add(now);
+  if (state.focus !== old) return;
+  const hadFocus = rows.get(old) === document.activeElement;
+  state.focus = now;
+  drawTree();
+  if (hadFocus) rows.get(now)?.focus();
+}
+
+function take(list) { for (const it of list) nodes.set(it.id, it); }
+
+function focusRow(id, isMoved) {
+  state.focus = id;
+  drawTree();
+  const row = rows.get(id);
+  if (row && isMoved) row.focus();
+  if (row) row.scrollIntoView({block: "nearest"});
+  fault("");
+  send({do: "select", id});
+}
+
+function setOpen(id, isOpen) {
+  if (isOpen) open.add(id);
+  else open.delete(id);
+  send({do: isOpen ? "open" : "close", id});
+  drawTree();
+}
+
+function reveal(node) {
+  if (node.id !== null) send({do: "reveal", id: node.id});
+  else send({do: "reveal", path: node.path});
+}
+
+function treeKey(event) {
+  const shown = shownRows().filter((it) => it.node);
+  const at = shown.findIndex((it) => it.node.id === state.focus);
+  const it = shown[at];
+  if (!it || event.ctrlKey || event.metaKey) return;
+  const go = (index) => focusRow(shown[Math.max(0, Math.min(shown.length - 1, index))].node.id, true);
+  const acts = {
+    ArrowDown: () => event.altKey ? moveInList(1) : go(at + 1),
+    ArrowUp: () => event.altKey ? moveInList(-1) : go(at - 1),
+    ArrowRight: () => it.node.leaf ? null : it.isOpen ? go(at + 1) : setOpen(it.node.id, true),
+    ArrowLeft: () => it.isOpen ? setOpen(it.node.id, false) : it.above ? focusRow(it.above, true) : null,
+    Home: () => go(0),
+    End: () => go(shown.length - 1),
+    Enter: () => it.node.leaf ? null : setOpen(it.node.id, !it.isOpen),
+    " ": () => it.node.leaf ? null : setOpen(it.node.id, !it.isOpen),
+    e: () => focusIn("#node input, #node textarea, #node select"),
+    p: () => focusIn("#node .attribute button"),
+  };
+  const act = acts[event.key];
+  if (!act) return;
+  event.preventDefault();
+  act();
+}
+
+function focusIn(selector) {
+  const found = document.querySelector(selector);
+  if (found) found.focus();
+}
+
+function treeClick(event) {
+  const row = event.target.closest("[role=treeitem]");
+  if (!row) return;
+  const id = Number(row.dataset.id);
+  if (event.target.closest(".sign") && row.hasAttribute("aria-expanded")) setOpen(id, !open.has(id));
+  focusRow(id, true);
+}
+
+// The selected node.
+
+function moveInList(step) {
+  const detail = state.detail;
+  if (!detail || detail.id !== state.focus || detail.index === null) return;
+  const index = detail.index + step;
+  if (index < 0 || index >= detail.count) return;
+  send({do: "edit", edit: "move", id: detail.above, part: detail.part, moved: detail.id, index});
+}
+
+function drawDetail(detail) {
+  const text = JSON.stringify(detail);
+  if (text === state.detailText) return;
+  state.detailText = text;
+  const kept = keptFields(detail);
+  state.detail = detail;
+  if (!detail) {
+    by("node").replaceChildren(make("p", {className: "empty"}, "Select a node in the tree."));
+    return;
+  }
+  by("node").replaceChildren(
+    make("p", {className: "where"}, make("strong", {}, detail.class), " at ", make("code", {id: "path"}, detail.path)),
+    ...detail.cells.filter((it) => it.shape === "token").map((it) => tokenForm(detail, it)),
+    ...detail.cells.filter((it) => it.shape === "list" || (it.shape === "optional" && !it.filled)).map((it) => newForm(detail, it)),
+    ...buttons(detail), termForm(detail), attributeList(detail));
+  const details = by("node").querySelector("details");
+  if (details) details.open = state.isTermOpen;
+  for (const {key, value, hasFocus, range} of kept) {
+    const field = by("node").querySelector(`[data-field="${key}"]`);
+    if (!field) continue;
+    if (value !== null) field.value = value;
+    if (hasFocus) field.focus();
+    if (hasFocus && range) field.setSelectionRange(...range);
+  }
+}
+
+// What is being typed stays where the node is told anew.
+function keptFields(detail) {
+  if (!detail || !state.detail || detail.id !== state.detail.id) return [];
+  return [...by("node").querySelectorAll("[data-field]")].map((it) => {
+    const isTyped = it.dataset.told !== undefined && it.value !== it.dataset.told;
+    const range = typeof it.selectionStart === "number" ? [it.selectionStart, it.selectionEnd] : null;
+    return {key: it.dataset.field, value: isTyped ? it.value : null, hasFocus: it === document.activeElement, range};
+  });
+}
+
+function form(action, ...children) {
+  return make("form", {className: "line", onsubmit: (event) => { event.preventDefault(); fault(""); action(); }}, ...children);
+}
+
+function labelled(text, control) { return make("label", {}, make("span", {}, text), control); }
+
+function tokenForm(detail, cell) {
+  const field = `token ${cell.name}`;
+  const control = cell.kind === "boolean"
+    ? make("select", {}, ...["true", "false"].map((it) => make("option", {selected: it === cell.value}, it)))
+    : make("input", {type: "text", value: cell.value, spellcheck: false, autocomplete: "off", inputMode: cell.kind === "int" ? "numeric" : "text"});
+  control.dataset.field = field;
+  control.dataset.told = cell.value;
+  return form(() => send({do: "edit", edit: "token", id: detail.id, part: cell.name, value: control.value}),
+    labelled(`${cell.name} (${cell.kind})`, control), make("button", {type: "submit"}, "Change"));
+}
+
+function newForm(detail, cell) {
+  const term = make("input", {type: "text", value: cell.choices.length ? cell.choices[0].term : "", spellcheck: false, autocomplete: "off"});
+  const choice = make("select", {onchange: () => { term.value = cell.choices[choice.selectedIndex].term; }},
+    ...cell.choices.map((it) => make("option", {}, it.class)));
+  const index = cell.shape === "list" ? make("input", {type: "number", min: 0, max: cell.count, value: cell.count, className: "short"}) : null;
+  for (const [it, name] of [[term, "term"], [choice, "choice"], [index, "index"]]) {
+    if (it) { it.dataset.field = `${name} ${cell.name}`; it.dataset.told = it.value; }
+  }
+  const act = () => cell.shape === "list"
+    ? send({do: "edit", edit: "insert", id: detail.id, part: cell.name, index: Number(index.value), term: term.value})
+    : send({do: "edit", edit: "put", id: detail.id, part: cell.name, term: term.value});
+  return form(act, labelled(`${cell.name} (${cell.shape === "list" ? `list of ${cell.count}` : "empty"})`, choice),
+    labelled("term", term), index ? labelled("at", index) : null,
+    make("button", {type: "submit"}, cell.shape === "list" ? "Insert" : "Fill"));
+}
+
+function buttons(detail) {
+  const found = [];
+  const add = (text, action, isOff) => found.push(make("button", {type: "button", disabled: isOff, "data-field": text, onclick: () => { fault(""); action(); }}, text));
+  if (detail.canDrop) add("Remove", () => send({do: "edit", edit: "drop", id: detail.id}), false);
+  if (detail.index !== null) {
+    add("Move up", () => moveInList(-1), detail.index === 0);
+    add("Move down", () => moveInList(1), detail.index === detail.count - 1);
+  }
+  return found.length ? [make("p", {className: "buttons"}, ...found)] : [];
+}
+
+function termForm(detail) {
+  const term = make("textarea", {value: detail.term || "", rows: 3, spellcheck: false});
+  term.dataset.field = "term";
+  term.dataset.told = detail.term || "";
+  return make("details", {ontoggle: (event) => { state.isTermOpen = event.target.open; }},
+    make("summary", {"data-field": "summary"}, "Its term"),
+    detail.term === null ? make("p", {className: "empty"}, "The term is long, and isn't shown.") : null,
+    form(() => send({do: "edit", edit: "set", id: detail.id, term: term.value}), labelled("term", term), make("button", {type: "submit"}, "Replace")));
+}
+
+function attributeList(detail) {
+  if (!detail.attributes.length) return make("p", {className: "empty"}, "Its class has no attributes.");
+  return make("div", {className: "attributes"}, make("h3", {}, "Attributes"), ...detail.attributes.map((it) => attributeForm(detail, it)));
+}
+
+function attributeForm(detail, it) {
+  const fields = it.parameters.map((kind, at) => make("input", {
+    type: "text", placeholder: kind === "String" ? "text" : "path, or null", "aria-label": `${it.name}, argument ${at + 1} (${kind})`,
+    spellcheck: false, autocomplete: "off", "data-field": `argument ${it.name} ${at}`, "data-told": ""}));
+  const told = [it.kind, it.inherited ? "inherited" : "", it.lazy ? "lazy" : ""].filter((word) => word).join(", ");
+  const act = () => send({do: "probe", id: detail.id, attribute: it.name, arguments: fields.map((field) => field.value)});
+  const line = form(act, make("button", {type: "submit", "data-field": `probe ${it.name}`, "aria-label": `Probe ${it.name}`}, "Probe"),
+    make("code", {}, `${it.name}(${it.parameters.join(", ")})`), make("span", {className: "kind"}, told), ...fields);
+  line.className = "attribute";
+  return line;
+}
+
+// Probes.
+
+function link(node) {
+  return make("button", {type: "button", className: "link", "data-path": node.path, title: node.path, onclick: () => reveal(node)},
+    make("span", {className: "class"}, node.class), node.label ? make("span", {className: "label"}, ` ${node.label}`) : null,
+    make("code", {}, node.path));
+}
+
+const SIGNS = {value: "=", node: "→", fault: "!", circular: "↻", gone: "×", refused: "!"};
+
+function answerOf(it) {
+  const sign = make("span", {className: "sign", "aria-hidden": "true"}, SIGNS[it.kind]);
+  if (it.kind === "node") return [sign, link(it.link)];
+  const told = [sign, make("span", {className: "text"}, it.value)];
+  return it.link ? [...told, make("span", {className: "in"}, ` in ${it.in}() of `), link(it.link)] : told;
+}
+
+function drawProbe(it) {
+  let card = probes.get(it.probe);
+  const isNew = !card;
+  if (isNew) {
+    card = make("li", {className: "probe", tabIndex: -1});
+    probes.set(it.probe, card);
+    by("probes").append(card);
+  }
+  const had = card.contains(document.activeElement) ? document.activeElement.className : null;
+  card.dataset.kind = it.kind;
+  card.dataset.probe = it.probe;
+  const isChanged = Object.hasOwn(it, "before");
+  const name = `${it.attribute}${it.node ? ` of ${named(it.node)}` : ""}`;
+  card.replaceChildren(
+    make("div", {className: "head"}, make("code", {className: "attribute-name"}, it.attribute), " of ",
+      it.node && it.kind !== "gone" ? link(it.node) : make("span", {className: "label"}, it.node ? named(it.node) : "a node"),
+      make("button", {type: "button", className: "close", "aria-label": `Remove the probe ${name}`, onclick: () => removeProbe(it.probe)}, "Remove")),
+    make("div", {className: "answer"}, ...answerOf(it)),
+    make("p", {className: "change"}, isChanged ? `changed, was ${it.before}` : ""));
+  card.classList.toggle("changed", isChanged);
+  if (had !== null) (card.querySelector(`.${had.split(" ")[0]}`) || card).focus();
+  by("no-probes").hidden = true;
+  return isNew ? `new probe: ${name}: ${it.value}` : isChanged ? `${name} is now ${it.value}, was ${it.before}` : "";
+}
+
+function removeProbe(number) {
+  const card = probes.get(number);
+  const next = card && (card.nextElementSibling || card.previousElementSibling);
+  send({do: "unprobe", probe: number});
+  if (next && !next.hidden && next.querySelector(".close")) next.querySelector(".close").focus();
+  else focusIn("#tree [tabindex='0']");
+}
+
+function drawRound(told) {
+  const shown = new Set(told.probes.map((it) => it.probe));
+  if (told.version !== state.roundVersion) {
+    for (const [number, card] of probes) {
+      if (shown.has(number)) continue;
+      card.classList.remove("changed");
+      card.querySelector(".change").textContent = "";
+    }
+  }
+  state.roundVersion = told.version;
+  const said = told.probes.map(drawProbe).filter((it) => it);
+  if (said.length) say(said.length > 4 ? `${said.length} probes changed` : said.join(". "));
+  const changed = told.probes.filter((it) => Object.hasOwn(it, "before")).length;
+  by("round").textContent = told.asked ? `${told.asked} asked at version ${told.version}, in ${milliseconds(told.milliseconds)}` : "";
+  const entry = by("edits").querySelector(`[data-version="${told.version}"] .round`);
+  if (entry && told.asked) entry.textContent = `${changed} of ${told.asked} probes changed, ${milliseconds(told.milliseconds)}`;
+}
+
+// Edits.
+
+const KEPT_EDITS = 100;
+
+function drawEdit(told) {
+  const entry = make("li", {value: told.version}, make("code", {}, told.line), make("span", {className: "by"}, `by ${told.by}`),
+    make("span", {className: "round"}), make("span", {className: "work"}));
+  entry.dataset.version = told.version;
+  by("edits").prepend(entry);
+  while (by("edits").children.length > KEPT_EDITS) by("edits").lastChild.remove();
+  by("no-edits").hidden = true;
+  by("version").textContent = `version ${told.version}`;
+  if (told.by !== "this window") say(`edited by ${told.by}: version ${told.version}`);
+}
+
+function drawWork(told) {
+  const entry = by("edits").querySelector(`[data-version="${told.version}"] .work`);
+  if (!entry) return;
+  entry.textContent = `work ${told.evaluated}`;
+  entry.title = `${told.evaluated} values of lazy attributes were evaluated anew for ${told.probes} probes, counted on a copy`;
+}
+
+// Messages of the hub.
+
+const takes = {
+  hello(told) {
+    nodes.clear();
+    open.clear();
+    take(told.nodes);
+    for (const it of told.nodes) open.add(it.id);
+    state.rootNode = told.rootNode;
+    state.focus = state.focus || told.root;
+    by("files").textContent = told.files.join("  ");
+    document.title = `Probes: ${told.files[1]}`;
+    by("version").textContent = `version ${told.version}`;
+    drawTree();
+    send({do: "select", id: state.focus});
+  },
+  nodes(told) {
+    take(told.nodes);
+    for (const id of told.above || []) open.add(id);
+    drawTree();
+    if (told.reveal) focusRow(told.reveal, true);
+  },
+  edited(told) {
+    const isHere = by("tree").contains(document.activeElement) || by("node").contains(document.activeElement);
+    take(told.nodes);
+    state.rootNode = told.rootNode;
+    follow(told.became);
+    if (drawTree()) focusRow(state.focus, isHere);
+    drawEdit(told);
+  },
+  detail(told) { drawDetail(told.detail); },
+  probes(told) { drawRound(told); },
+  unprobed(told) {
+    const card = probes.get(told.probe);
+    if (card) card.remove();
+    probes.delete(told.probe);
+    by("no-probes").hidden = probes.size > 0;
+  },
+  accepted() { fault(""); },
+  refused(told) { fault(told.text); },
+  work(told) { drawWork(told); },
+  clients(told) { by("clients").textContent = told.clients === 1 ? "1 client" : `${told.clients} clients`; },
+  lost(told) { lose(told.text); },
+};
+
+function lose(text) {
+  by("lost").hidden = false;
+  if (!by("lost").textContent) by("lost").textContent = `${text}. Start the page again.`;
+}
+
+function begin() {
+  by("tree").addEventListener("keydown", treeKey);
+  by("tree").addEventListener("click", treeClick);
+  state.socket = new WebSocket(`${location.href.replace(/^http/, "ws").replace(/[?#].*/, "")}socket`);
+  state.socket.addEventListener("message", (event) => {
+    const told = JSON.parse(event.data);
+    takes[told.kind](told);
+  });
+  state.socket.addEventListener("close", () => lose("The page's program has ended"));
+}
+
+begin();

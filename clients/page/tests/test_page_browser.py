@@ -1,0 +1,167 @@
+"""The page in Chromium: probes that follow their nodes, windows that see each other's edits, keys alone."""
+from __future__ import annotations
+
+import json
+import time
+import unittest
+from typing import Any
+
+from browser import ALT, Browser, Tab
+from page_support import Served
+
+# From an edit of another client to the value that a window shows.
+BOUND_SECONDS = 5.0
+
+
+class Windows(unittest.TestCase):
+    browser: Browser
+
+    @classmethod
+    def setUpClass(cls) -> None:
+        cls.browser = Browser()
+
+    @classmethod
+    def tearDownClass(cls) -> None:
+        cls.browser.close()
+
+    def setUp(self) -> None:
+        self.served = Served()
+        self.addCleanup(self.served.close)
+        self.client = self.served.client()
+        self.addCleanup(self.client.close)
+
+    def window(self) -> Tab:
+        tab = self.browser.window(self.served.address)
+        self.addCleanup(tab.close)
+        tab.until("document.querySelectorAll('[role=treeitem]').length > 10 && document.getElementById('path')", "the tree")
+        return tab
+
+    def select(self, tab: Tab, path: str) -> None:
+        """Selects a node, as a link to it does."""
+        tab.value(f"send({{do: 'reveal', path: {json.dumps(path)}}})")
+        tab.until(f"document.getElementById('path')?.textContent === {json.dumps(path)}", f"{path} is selected")
+
+    def probe(self, tab: Tab, path: str, attribute: str) -> str:
+        """A new probe; the selector of its card."""
+        self.select(tab, path)
+        count: Any = tab.value("probes.size")
+        tab.value(f"document.querySelector('[data-field=\"probe {attribute}\"]').click()")
+        tab.until(f"probes.size === {count + 1}", "the probe")
+        return f"[data-probe='{count + 1}']"
+
+    def shows(self, tab: Tab, selector: str, *texts: str) -> None:
+        """Waits until all these texts stand in an element."""
+        quoted = json.dumps(texts)
+        text = f"document.querySelector({json.dumps(selector)})?.innerText.replace(/\\s+/g, ' ')"
+        tab.until(f"{quoted}.every((it) => {text}?.includes(it))", f"{texts} in {selector}")
+
+    def test_a_probe_follows_its_node(self) -> None:
+        tab = self.window()
+        card = self.probe(tab, "/Kind:2/Block/Stmt:0/Init/Left", "decl")
+        self.shows(tab, card, "decl()", "/Kind:2/Block/Stmt:0/Init/Left", 'Decl "x"', "/Kind:2/Field:0")
+        self.client.ask('0 insert /Kind:2/Block Stmt 0 Show(Num(1))')
+        self.client.ask('0 insert / Kind 0 Basic("text")')
+        self.shows(tab, card, "/Kind:3/Block/Stmt:1/Init/Left", "/Kind:3/Field:0")
+        self.assertNotIn("changed", tab.text(card))
+        self.client.ask("0 drop /Kind:3/Block/Stmt:1")
+        self.shows(tab, card, "its node is gone")
+
+    def test_a_value_changes_in_time(self) -> None:
+        tab = self.window()
+        card = self.probe(tab, "/", "errors")
+        self.shows(tab, card, "0")
+        start = time.monotonic()
+        self.client.ask('0 token /Kind:2/Block/Stmt:0/Init/Left ID "q"')
+        self.shows(tab, card, "1", "changed, was 0")
+        self.assertLess(time.monotonic() - start, BOUND_SECONDS)
+        tab.until("/errors.. of Program is now 1, was 0/.test(document.getElementById('live').textContent)", "what is said")
+        self.shows(tab, "#edits li", "1 of 1 probes changed", "by another client", "work ")
+
+    def test_a_second_window_sees_the_edit(self) -> None:
+        one, two = self.window(), self.window()
+        card = self.probe(two, "/", "errors")
+        self.shows(two, card, "0")
+        self.select(one, "/Kind:2/Block/Stmt:0/Init/Left")
+        one.value("document.querySelector('[data-field=\"token ID\"]').value = 'q'")
+        one.value("document.querySelector('[data-field=\"token ID\"]').form.requestSubmit()")
+        self.shows(two, "#edits li", 'ID "q"', "by window")
+        self.shows(two, card, "changed, was 0")
+        self.shows(two, "#tree", 'Name "q"')
+        self.shows(one, "#edits li", "by this window")
+        self.shows(two, "#clients", "3 clients")
+
+    def test_faults_and_circles_are_told_in_words(self) -> None:
+        tab = self.window()
+        circle = self.probe(tab, "/", "around")
+        self.shows(tab, circle, "circular", "in around() of", "Program")
+        text = self.probe(tab, "/", "firstName")
+        self.shows(tab, text, "fault null", "in firstName() of", "Program")
+
+    def test_keys_alone(self) -> None:
+        tab = self.window()
+        for _ in range(3):
+            tab.key("Tab")
+        tab.until("document.activeElement.getAttribute('role') === 'treeitem'", "the tree has the focus")
+        for _ in range(3):
+            tab.key("ArrowDown")
+        tab.until("document.getElementById('path')?.textContent === '/Kind:2'", "the class is selected")
+        tab.key("p")
+        tab.until("document.activeElement.dataset.field?.startsWith('probe ')", "an attribute has the focus")
+        tab.key("Enter")
+        self.shows(tab, "[data-probe='1']", "error()", '""')
+        tab.value("document.querySelector('#tree [tabindex=\"0\"]').focus()")
+        tab.key("ArrowUp", ALT)
+        self.shows(tab, "#edits li", "move /Kind:2 to / Kind 1")
+        tab.until("document.getElementById('path')?.textContent === '/Kind:1'", "the node is where it was moved")
+        tab.until("document.activeElement.dataset.id === String(state.focus)", "the focus went with its node")
+        tab.key("e")
+        tab.until("document.activeElement.dataset.field === 'token ID'", "the name has the focus")
+        tab.value("document.activeElement.select()")
+        tab.type("Dot")
+        tab.key("Enter")
+        self.shows(tab, "#edits li", 'token /Kind:1 ID "Dot"')
+        tab.value("document.querySelector('.close').focus()")
+        tab.key("Enter")
+        tab.until("probes.size === 0 && document.activeElement.getAttribute('role') === 'treeitem'", "the probe is removed")
+
+    def test_links_and_edits(self) -> None:
+        tab = self.window()
+        card = self.probe(tab, "/Kind:2/Block/Stmt:0/Init/Left", "decl")
+        tab.value(f"document.querySelector({json.dumps(card + ' .answer .link')}).click()")
+        tab.until("document.getElementById('path')?.textContent === '/Kind:2/Field:0'", "the link's node is selected")
+        self.assertEqual(tab.value("document.activeElement.dataset.id"), tab.value("String(state.focus)"))
+        tab.value("[...document.querySelectorAll('#node button')].find((it) => it.textContent === 'Remove').click()")
+        self.shows(tab, card, "null", "changed, was node Decl")
+        self.select(tab, "/Kind:2/Block")
+        tab.value("document.querySelector('[data-field=\"term\"]').value = 'Block([Show(Nix())])'")
+        tab.value("document.querySelector('[data-field=\"term\"]').form.requestSubmit()")
+        self.shows(tab, "#fault", "Refused", "there is no class Nix")
+
+    def test_nothing_comes_from_elsewhere(self) -> None:
+        tab = self.window()
+        names = tab.value("performance.getEntriesByType('resource').map((it) => it.name)")
+        self.assertGreaterEqual(len(names), 2)
+        for name in names:
+            self.assertTrue(name.startswith(self.served.address) or name.startswith("data:"), name)
+        self.assertTrue(tab.value("[...document.querySelectorAll('input, select, textarea')].every((it) => it.labels.length || it.ariaLabel)"))
+        self.assertTrue(tab.value("[...document.querySelectorAll('button')].every((it) => it.textContent.trim() || it.ariaLabel)"))
+
+    def test_a_window_that_is_closed_leaves_no_marks(self) -> None:
+        tab = self.browser.window(self.served.address)
+        tab.until("document.getElementById('path')", "the tree")
+        self.probe(tab, "/", "errors")
+        watcher = self.window()
+        self.shows(watcher, "#clients", "3 clients")
+        tab.close()
+        self.shows(watcher, "#clients", "2 clients")
+        for session in range(6):
+            self.assertEqual(self.client.ask(f"{session} where p1"), f"{session} refused 3 mark")
+
+    def test_the_end_of_the_server_is_told(self) -> None:
+        tab = self.window()
+        self.served.process.terminate()
+        self.shows(tab, "#lost", "has ended", "Start the page again")
+
+
+if __name__ == "__main__":
+    unittest.main()

@@ -1,0 +1,182 @@
+"""The page without a browser: who is answered, frames, windows, probes, the count of the work."""
+from __future__ import annotations
+
+import asyncio
+import json
+import socket
+import unittest
+from typing import Any, Dict, List, Optional
+
+from page_support import CLONE, Served, Wire, program
+
+from attrd_page.websocket import TEXT, FrameFault, Inbox, frame
+from attrd_page.work import Copy, count
+
+
+class Frames(unittest.TestCase):
+    def test_each_length(self) -> None:
+        for length in (0, 1, 125, 126, 127, 65_535, 65_536, 70_001):
+            for is_client in (False, True):
+                inbox = Inbox(wants_mask=is_client)
+                data = bytes(it % 251 for it in range(length))
+                sent = frame(TEXT, data, is_client) + frame(TEXT, b"next", is_client)
+                found = [message for at in range(0, len(sent), 1009) for message in inbox.feed(sent[at:at + 1009])]
+                self.assertEqual(found, [(TEXT, data), (TEXT, b"next")])
+
+    def test_a_message_in_pieces(self) -> None:
+        inbox = Inbox(wants_mask=False)
+        self.assertEqual(inbox.feed(b"\x01\x02ab" + b"\x89\x01p" + b"\x80\x01c"), [(9, b"p"), (1, b"abc")])
+
+    def test_faults(self) -> None:
+        for data in (b"\xc1\x00", b"\x80\x00", b"\x01\x01a\x01\x01b", frame(TEXT, b"", True), b"\x81\x7f" + b"\xff" * 8):
+            with self.assertRaises(FrameFault, msg=data):
+                Inbox(wants_mask=False).feed(data)
+
+
+class Page(Wire):
+    """A window without a browser."""
+
+    def __init__(self, served: Served, origin: Optional[str] = None) -> None:
+        path = served.address.split(str(served.port), 1)[1]
+        super().__init__("127.0.0.1", served.port, f"{path}socket", origin)
+
+    def do(self, **message: Any) -> None:
+        self.send(json.dumps(message))
+
+    def told(self, kind: str) -> Dict[str, Any]:
+        """The next message of this kind; others before it are passed over."""
+        while True:
+            message: Dict[str, Any] = json.loads(self.next())
+            if message["kind"] == kind:
+                return message
+
+    def probe(self, path: str, attribute: str, *arguments: str) -> Dict[str, Any]:
+        """A new probe of a node, as it is shown first."""
+        self.do(do="reveal", path=path)
+        number = self.told("detail")["detail"]["id"]
+        self.do(do="probe", id=number, attribute=attribute, arguments=list(arguments))
+        return self.changed()[0]
+
+    def changed(self) -> List[Dict[str, Any]]:
+        """The probes of the next round in which one changed."""
+        while True:
+            probes: List[Dict[str, Any]] = self.told("probes")["probes"]
+            if probes:
+                return probes
+
+    def number(self, path: str) -> int:
+        self.do(do="reveal", path=path)
+        number: int = self.told("detail")["detail"]["id"]
+        return number
+
+
+class Web(unittest.TestCase):
+    def setUp(self) -> None:
+        self.served = Served()
+        self.addCleanup(self.served.close)
+
+    def page(self, origin: Optional[str] = None) -> Page:
+        page = Page(self.served, origin)
+        self.addCleanup(page.close)
+        return page
+
+    def status(self, target: str, host: Optional[str] = None, method: str = "GET") -> int:
+        with socket.create_connection(("127.0.0.1", self.served.port), timeout=120) as stream:
+            host = host or f"127.0.0.1:{self.served.port}"
+            stream.sendall(f"{method} {target} HTTP/1.1\r\nHost: {host}\r\n\r\n".encode())
+            self.head = b""
+            while True:
+                data = stream.recv(1 << 16)
+                if not data:
+                    return int(self.head.split(b" ")[1])
+                self.head += data
+
+    def test_who_is_answered(self) -> None:
+        path = self.served.address.split(str(self.served.port), 1)[1]
+        self.assertEqual(self.status(path), 200)
+        self.assertIn(b"script-src 'self'", self.head)
+        for name in ("page.css", "page.js"):
+            self.assertEqual(self.status(path + name), 200)
+        for target in ("/", "/page.js", "/wrong/", f"{path[:-2]}/", "//"):
+            self.assertEqual(self.status(target), 403, target)
+        self.assertEqual(self.status(path, host=f"elsewhere.example:{self.served.port}"), 403)
+        self.assertEqual(self.status(path + "../page.py"), 404)
+        self.assertEqual(self.status(path, method="POST"), 405)
+        self.assertEqual(self.status(path + "socket"), 400)
+        self.assertFalse(self.page(origin="http://elsewhere.example").is_open)
+        self.assertTrue(self.page(origin=f"http://127.0.0.1:{self.served.port}").is_open)
+
+    def test_it_listens_at_home_alone(self) -> None:
+        with open("/proc/net/tcp", encoding="ascii") as table:
+            ends = [line.split()[1] for line in table if line.split()[3] == "0A"]
+        self.assertEqual([it for it in ends if it.endswith(f":{self.served.port:04X}")], [f"0100007F:{self.served.port:04X}"])
+
+    def test_messages_that_cannot_be_read(self) -> None:
+        page = self.page()
+        for text in ("{", "[]", "1", '{"do":"nix"}', '{"do":"open"}', '{"do":"open","id":[]}', '{"do":"edit","edit":"set","id":1,"term":"X("}',
+                     '{"do":"probe","id":1,"attribute":"kindNamed","arguments":[]}', '{"do":"reveal","path":"/Nix"}', "[" * 5000):
+            page.send(text)
+            self.assertTrue(page.told("refused")["text"], text)
+
+    def test_answers(self) -> None:
+        page = self.page()
+        self.assertEqual(page.probe("/", "errors")["value"], "0")
+        found = page.probe("/Kind:2/Block/Stmt:0/Init/Left", "decl")
+        self.assertEqual((found["kind"], found["link"]["path"], found["link"]["label"]), ("node", "/Kind:2/Field:0", '"x"'))
+        found = page.probe("/", "around")
+        self.assertEqual((found["kind"], found["link"]["path"], found["in"]), ("circular", "/", "around"))
+        self.assertEqual(page.probe("/", "kindNamed", 'a"b')["attribute"], 'kindNamed("a\\"b")')
+        argument = page.probe("/", "oneOf", "/Kind:1")
+        self.assertEqual((argument["attribute"], argument["value"]), ("oneOf(/Kind:1)", "1"))
+        page.do(do="edit", edit="insert", id=page.number("/"), part="Kind", index=0, term='Basic("text")')
+        self.assertIn("oneOf(/Kind:2)", [it["attribute"] for it in page.changed()])
+        page.do(do="edit", edit="drop", id=page.number("/Kind:2"))
+        self.assertIn("a node among its arguments is gone", [it["value"] for it in page.changed()])
+
+    def test_an_edit_goes_to_its_node(self) -> None:
+        """A window that has not seen the last edit names the node by its number, and no other node is meant."""
+        page, client = self.page(), self.served.client()
+        number = page.number("/Kind:1")
+        client.send(*[f'0 insert / Kind 0 Basic("k{it}")' for it in range(20)])
+        page.do(do="edit", edit="token", id=number, part="ID", value="renamed")
+        self.assertTrue(page.told("accepted"))
+        self.assertTrue(all(" ok " in client.reply() for _ in range(20)))
+        self.assertEqual(client.ask("0 show /Kind:21"), '0 = Basic("renamed")')
+        client.close()
+
+    def test_the_reason_of_a_refusal(self) -> None:
+        page = self.page()
+        page.do(do="edit", edit="set", id=page.number("/Kind:2/Block"), term='Block([Show(Num("x"))])')
+        self.assertIn('/Stmt:0/Expr/Value: "x" stands where a token of kind int is wanted', page.told("refused")["text"])
+        page.do(do="edit", edit="token", id=page.number("/Kind:2/Block/Stmt:0/Init/Right"), part="Value", value="1x")
+        self.assertIn("is no number", page.told("refused")["text"])
+
+    def test_more_probes_than_a_session_has_marks(self) -> None:
+        page = self.page()
+        number = page.number("/Kind:2")
+        for _ in range(130):
+            page.do(do="probe", id=number, attribute="errors", arguments=[])
+        seen: Dict[int, str] = {}
+        while len(seen) < 130:
+            seen.update({it["probe"]: it["value"] for it in page.changed()})
+        self.assertEqual(set(seen.values()), {"0"})
+        page.do(do="edit", edit="token", id=page.number("/Kind:2/Block/Stmt:0/Init/Left"), part="ID", value="q")
+        changed: Dict[int, str] = {}
+        while len(changed) < 130:
+            changed.update({it["probe"]: it["value"] for it in page.changed()})
+        self.assertEqual(set(changed.values()), {"1"})
+
+
+class Work(unittest.TestCase):
+    def test_the_work_of_an_edit(self) -> None:
+        """The number in a sum is another one: its value and the sum's are found again, and no other."""
+        folder = CLONE / "samples" / "calculator"
+        term = (folder / "tree.txt").read_text("utf-8")
+        question = "0 ask $p value()"
+        copy = Copy(1, term, ["0 mark p /Block/Stmt:1/Expr"], [question], "token /Block/Stmt:1/Expr/Right Value 5")
+        found = asyncio.run(count(program(), str(folder / "calc.ast"), [str(folder / "calc.jrag")], copy))
+        self.assertEqual(found, 2)
+
+
+if __name__ == "__main__":
+    unittest.main()

@@ -1,0 +1,18 @@
+"""A client of `attrd`, the attribute tree server."""
+from .connection import Connection, Pending, accepted
+from .costs import Costs
+from .diagnostics import Check, Diagnostic, Diagnostics, diagnostics
+from .difference import difference
+from .document import Document, Update
+from .edits import Drop, Edit, Insert, Move, Put, SetNode, SetToken, applied
+from .errors import (AspectFault, AttrdError, ConnectionClosed, GrammarFault, LineFault, NoValue, OutOfMemory, ProtocolFault, Refused,
+                     ReplyTimeout, ServerLost, ServerRestarted, StartFault, SyntaxFault, TermFault, TreeDiffers,
+                     UnknownName)
+from .explain import Explanation, explain
+from .grammar import ClassOf, Grammar, Part, Shape
+from .measuring import measured
+from .paths import FromMark, Path, Step
+from .replies import (Answer, AskValue, Circular, Code, Done, Fault, FaultKind, Memory, Ok, Opened, RefusedReply, Reply, Value)
+from .server import Server, Text, connect, start
+from .session import Mark, Question, Session
+from .terms import Node, read_term, write_term

@@ -1,0 +1,47 @@
+"""`python -m attrd GRAMMAR TREE ASPECT..`: a prompt."""
+from __future__ import annotations
+
+import argparse
+import sys
+from typing import List, Optional
+
+from .errors import AttrdError, StartFault
+from .explain import explain
+from .prompt import Prompt
+
+
+def options(words: Optional[List[str]] = None) -> argparse.Namespace:
+    """The words of the command line. Ends the process with status 2 where they are wrong."""
+    reader = argparse.ArgumentParser(prog="python -m attrd", description="A prompt for attrd: lines as the manual has them, with "
+                                     "history (arrow keys) and completion (tab) of commands, paths, parts and attributes.")
+    reader.add_argument("grammar", metavar="GRAMMAR")
+    reader.add_argument("tree", metavar="TREE")
+    reader.add_argument("aspects", metavar="ASPECT", nargs="+")
+    reader.add_argument("--program", default="attrd", help="the program (attrd on the PATH, where none is given)")
+    reader.add_argument("--faults", metavar="ATTRIBUTE", action="append", default=[],
+                        help="an attribute that tells a fault of its node; then the command 'faults' finds all of them")
+    return reader.parse_args(words)
+
+
+def main(words: Optional[List[str]] = None) -> int:
+    """Runs the prompt until its input ends; the status: 0, 1 where a file is refused, 3 where the server is lost."""
+    given = options(words)
+    files = [given.grammar, given.tree, *given.aspects]
+    try:
+        with Prompt.start(given.grammar, given.tree, given.aspects, given.program, given.faults) as prompt:
+            return prompt.run()
+    except StartFault as fault:
+        try:
+            print(explain(fault, files), file=sys.stderr)
+        except AttrdError:
+            print(fault, file=sys.stderr)
+        return fault.status or 3
+    except AttrdError as fault:
+        print(fault, file=sys.stderr)
+        return 3
+    except KeyboardInterrupt:
+        return 0
+
+
+if __name__ == "__main__":
+    sys.exit(main())

@@ -1,0 +1,36 @@
+"""Which attributes aspects declare: enough of `.jrag` to name them, and no check of it."""
+from __future__ import annotations
+
+import re
+from dataclasses import dataclass
+from typing import List, Tuple
+
+from .errors import text_of
+
+_PASSED_OVER = re.compile(r'//[^\n]*|/\*.*?\*/|"(?:[^"\\\n]|\\.)*"', re.S)
+_DECLARED = re.compile(r"\b(syn|inh)\s+(?:(lazy)\s+)?(\w+)\s+(\w+)\s*\.\s*(\w+)\s*\(([^()]*)\)")
+
+
+@dataclass(frozen=True)
+class Attribute:
+    """A declared attribute: `kind` is int, boolean, String or a class; `parameters` are the kinds of its parameters."""
+
+    of: str
+    name: str
+    kind: str
+    parameters: Tuple[str, ...]
+    is_inherited: bool
+    is_lazy: bool
+
+
+def attributes_of(text: str) -> List[Attribute]:
+    """The attributes that an aspect file declares, in its order. What can't be read as a declaration is passed over.
+
+    Raises AttrdError where it is no text.
+    """
+    plain = _PASSED_OVER.sub(lambda it: '""' if it[0].startswith('"') else " ", text_of("an aspect", text))
+    found = []
+    for form, lazy, kind, of, name, parameters in _DECLARED.findall(plain):
+        kinds = tuple(it.split()[0] for it in parameters.split(",") if it.strip())
+        found.append(Attribute(of, name, kind, kinds, form == "inh", bool(lazy)))
+    return found

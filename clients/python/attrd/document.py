@@ -1,0 +1,103 @@
+"""A tree on the server that is known here, and follows what it is to be."""
+from __future__ import annotations
+
+import time
+from dataclasses import dataclass
+from typing import List, Optional, Tuple
+
+from .connection import encoded_line
+from .costs import Costs
+from .difference import difference
+from .edits import Edit, applied
+from .errors import OutOfMemory, Refused, TreeDiffers
+from .grammar import Grammar
+from .paths import Path
+from .replies import Code
+from .session import Session
+from .terms import Node, write_term
+
+
+@dataclass(frozen=True)
+class Update:
+    """What an update sent: its edits, in their order, and the version behind them."""
+
+    edits: Tuple[Edit, ...]
+    version: int
+
+
+class Document:
+    """The server's tree, as its own edits made it. Each edit asks for the version that is known: none goes to another tree."""
+
+    def __init__(self, session: Session, grammar: Grammar, costs: Optional[Costs] = None) -> None:
+        """Reads the server's tree. Where no costs are given, `costs` follow what the edits take on this server.
+
+        Raises as `Session.show`, and TermFault where the grammar isn't the server's.
+        """
+        self.session, self.grammar = session, grammar
+        self.costs, self._learns = costs or Costs(), costs is None
+        self.tree, self.version = self._read()
+
+    def _read(self) -> Tuple[Node, int]:
+        while True:
+            version = self.session.version()
+            try:
+                tree = self.session.show("/", at=version)
+            except Refused as refusal:
+                if refusal.code != Code.STALE:
+                    raise
+                continue
+            self.grammar.check(tree)
+            return tree, version
+
+    def update(self, new: Node) -> Update:
+        """Makes the server's tree this one, by few edits: all of them are sent before the first reply is waited for.
+
+        Raises TermFault before anything is sent, where the tree doesn't fit; Refused with Code.STALE where another session has
+        edited the tree (then `refresh` and try again); OutOfMemory (then it may be tried again); what else `Session` raises.
+        `tree` and `version` are what is known afterwards, also then: the edits up to the first refused one.
+        """
+        self.grammar.check(new)
+        return self.send(difference(self.grammar, self.tree, new, self.costs), new)
+
+    def send(self, edits: List[Edit], new: Node) -> Update:
+        """Sends edits that make the tree this one. Raises as `update`, and LineFault before anything is sent."""
+        texts = [edit.command() for edit in edits]
+        for text in texts:
+            encoded_line(f"{self.session.number} at {self.version + len(texts)} {text}")
+        begun, since = self.version, time.perf_counter()
+        lines = [self.session.send(text, at=begun + number) for number, text in enumerate(texts)]
+        try:
+            for line in lines:
+                self.version = line.version()
+        except (Refused, OutOfMemory):
+            self.tree = applied(self.grammar, self.tree, edits[:self.version - begun])
+            raise
+        self.tree = new
+        if self._learns and lines:
+            self.costs = self.costs.after(edits, lines[-1].received - since)
+        return Update(tuple(edits), self.version)
+
+    def refresh(self) -> None:
+        """Takes the server's tree as it is now, whoever has edited it. Raises as the constructor."""
+        self.tree, self.version = self._read()
+
+    def verify(self) -> None:
+        """Compares the tree that is known with the server's. Raises TreeDiffers with the first place; nothing is changed."""
+        tree, _ = self._read()
+        if tree != self.tree:
+            raise TreeDiffers(*first_difference(self.grammar, self.tree, tree))
+
+
+def first_difference(grammar: Grammar, known: Node, shown: Node) -> Tuple[str, str, str]:
+    """The path to the first node that differs by itself, and its two terms."""
+    path = Path()
+    while known.name == shown.name:
+        ours, theirs = list(grammar.children(known)), list(grammar.children(shown))
+        if [step for step, _ in ours] != [step for step, _ in theirs]:
+            break
+        below = next(((step, x, y) for (step, x), (_, y) in zip(ours, theirs) if x != y), None)
+        if below is None:
+            break
+        step, known, shown = below
+        path = path.child(step.part, step.index)
+    return str(path), write_term(known), write_term(shown)

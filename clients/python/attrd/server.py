@@ -1,0 +1,117 @@
+"""Starts the program, or connects to one."""
+from __future__ import annotations
+
+import os
+import re
+import shutil
+import subprocess
+import tempfile
+from dataclasses import dataclass
+from pathlib import Path as FilePath
+from typing import List, Optional, Union
+
+from .channel import Program, open_socket
+from .connection import Connection
+from .errors import AttrdError, ServerLost, ServerRestarted, StartFault, text_of
+from .terms import Node, write_term
+
+_REFUSED = re.compile(r"(?P<file>.*): (?P<code>[GJF][0-9]+) (?P<name>.*?)(?: at (?P<line>[0-9]+):(?P<column>[0-9]+))?\Z")
+
+
+@dataclass(frozen=True)
+class Text:
+    """A file that isn't there: its text, under a name that messages tell."""
+
+    name: str
+    text: str
+
+
+Source = Union[str, "os.PathLike[str]", Text]
+
+
+class Server(Connection):
+    """A program that was started here; its connection is this object. `files` are its files, as it was given them."""
+
+    files: List[str]
+
+
+def _path(file: Union[str, "os.PathLike[str]"]) -> str:
+    if isinstance(file, (str, os.PathLike)):
+        return os.fspath(file)
+    raise AttrdError(f"a file is a path or a Text, and not {type(file).__name__}")
+
+
+def _put(folder: FilePath, source: Source) -> str:
+    if not isinstance(source, Text):
+        return _path(source)
+    file = folder / (FilePath(text_of("the name of a file", source.name)).name or "unnamed")
+    if file.exists():
+        raise AttrdError(f"two files have the name {source.name}")
+    try:
+        file.write_bytes(text_of(source.name, source.text).encode("utf-8"))
+    except UnicodeEncodeError:
+        raise AttrdError(f"{source.name}: half of a surrogate pair, which UTF-8 can't spell") from None
+    except (OSError, ValueError) as fault:
+        raise AttrdError(f"{source.name}: it can't be written: {getattr(fault, 'strerror', None) or fault}") from None
+    return str(file)
+
+
+def start(grammar: Source, tree: Union[Source, Node], *aspects: Source, program: Union[str, "os.PathLike[str]"] = "attrd",
+          options: Optional[List[str]] = None) -> Server:
+    """Starts the program with pipes, and waits until it answers.
+
+    Files may be given by path or as a `Text`, the tree also as a Node. Raises StartFault where a file is refused or can't be read,
+    or the program ends in another way; AttrdError where it can't be started.
+    """
+    folder = FilePath(tempfile.mkdtemp(prefix="attrd-"))
+    try:
+        source = Text("tree.txt", write_term(tree)) if isinstance(tree, Node) else tree
+        files = [_put(folder, it) for it in (grammar, source, *aspects)]
+        server = Server(_run([_path(program), *(options or []), "--", *files]))
+        server.files = files
+        server.on_close(lambda: shutil.rmtree(folder, ignore_errors=True))
+    except BaseException:
+        shutil.rmtree(folder, ignore_errors=True)
+        raise
+    try:
+        server.send(0, "version").version()
+    except ServerLost as lost:
+        server.close()
+        raise start_fault(lost.status, lost.message) from None
+    return server
+
+
+def _run(words: List[str]) -> Program:
+    errors = tempfile.TemporaryFile()
+    try:
+        process = subprocess.Popen(words, stdin=subprocess.PIPE, stdout=subprocess.PIPE, stderr=errors)
+    except (OSError, ValueError, UnicodeError) as fault:
+        errors.close()
+        raise AttrdError(f"{words[0]}: it can't be started: {getattr(fault, 'strerror', None) or fault}") from None
+    return Program(process, errors)
+
+
+def start_fault(status: Optional[int], message: str) -> StartFault:
+    """The fault that a program's standard error tells, with its parts where a file was refused."""
+    for line in message.splitlines():
+        found = _REFUSED.match(line)
+        if found:
+            place = [None if it is None else int(it) for it in (found["line"], found["column"])]
+            return StartFault(status, message, found["file"], found["code"], found["name"], *place)
+    return StartFault(status, message)
+
+
+def connect(path: Union[str, "os.PathLike[str]"], seconds: float = 0.0, known: Optional[int] = None) -> Connection:
+    """A connection to the socket at this path, which is waited for so long.
+
+    The server serves one connection after the other: replies come when those before this one have ended. `known` is the last
+    version of an earlier connection: then the first reply is waited for. Raises AttrdError where no connection can be made, and
+    ServerRestarted where the tree has a version below `known`.
+    """
+    connection = Connection(open_socket(path, seconds))
+    if known is not None:
+        version = connection.send(0, "version").version()
+        if version < known:
+            connection.close()
+            raise ServerRestarted(f"the server is another one: its version is {version}, and {known} was known")
+    return connection

@@ -1,0 +1,62 @@
+"""Whatever comes in, no exception of the standard library goes out."""
+import unittest
+
+import attrd
+from attrd import commands
+from support import CALCULATOR, PROGRAM, ServerTest, calculator_grammar
+
+ODD = [None, True, -1, 2 ** 70, 1.5, "", "\ud800", "\0", "a b", b"x", [], [None], {}, object(), attrd.Path(), attrd.Node("Nix"),
+       attrd.Node("Num", "\ud800"), attrd.Node("Num", 2 ** 40), attrd.Node("\ud800"), attrd.Node("Num", 1, 2, 3)]
+
+
+class BadInput(ServerTest):
+    def named(self, call, *arguments, **named):
+        try:
+            return call(*arguments, **named)
+        except attrd.AttrdError:
+            return None
+        except Exception as fault:  # the test itself is about these
+            self.fail(f"{call} {arguments} {named}: {fault!r}")
+
+    def test_trees_and_grammars(self):
+        grammar = calculator_grammar()
+        for odd in ODD:
+            for call in (attrd.read_term, attrd.Path.read, attrd.FromMark.read, attrd.Grammar.read, attrd.Grammar.load, attrd.Node, grammar.check,
+                         grammar.make, grammar.smallest, grammar.parts, grammar.ancestors, grammar.concrete_below):
+                self.named(call, odd)
+            self.named(attrd.Node, "A", odd)
+            self.named(grammar.check, attrd.Node("Num", 1), odd)
+            self.named(grammar.make, "Num", odd)
+            self.named(grammar.make, "Decl", ID=odd)
+            self.named(attrd.diagnostics, grammar, [odd], ["a"])
+            self.named(attrd.diagnostics, grammar, ["aspect A { syn int Program.a() = 1; }"], [odd])
+
+    def test_sessions(self):
+        session, version = self.session, self.session.version()
+        for odd in ODD:
+            for call in (session.show, session.drop, session.where, session.mark, self.server.session, session.send):
+                self.named(call, odd)
+            self.named(session.ask, "/Block", odd)
+            self.named(session.ask, "/Block", "local", odd)
+            self.named(session.set, "/Block", odd)
+            self.named(session.put, "/Block", odd, odd)
+            self.named(session.insert, "/Block", "Stmt", odd, odd)
+            self.named(session.insert, "/Block", "Stmt", 9, odd)
+            self.named(session.token, "/Block/Stmt:0", "ID", odd if not isinstance(odd, str) else 5)
+            self.named(session.move, "/Block/Stmt:0", odd, "Stmt", odd)
+            self.named(session.version, at=odd)
+            self.named(session.mark, "/", odd)
+            self.named(commands.wait, odd)
+        self.assertEqual(session.version(), version)
+
+    def test_documents_and_starts(self):
+        document = attrd.Document(self.session, calculator_grammar())
+        for odd in ODD:
+            self.named(document.update, odd)
+            self.named(attrd.connect, odd)
+            self.named(attrd.start, odd, odd, odd, program="/nosuch")
+            self.named(attrd.start, CALCULATOR / "calc.ast", odd, CALCULATOR / "calc.jrag", program=PROGRAM)
+            self.named(attrd.start, CALCULATOR / "calc.ast", CALCULATOR / "tree.txt", CALCULATOR / "calc.jrag", program=odd)
+            self.named(attrd.explain, attrd.StartFault(1, "x"), [odd])
+            self.named(attrd.explain, odd, [odd])
+        document.verify()
