@@ -1,5 +1,5 @@
 -- The test of locations is equality.
-use Rattle.std.proofs.Common.{◌≡◌, ℕ, zero, suc, true, refl, sym, ap, ◌∙◌}
+use Rattle.std.proofs.Common.{◌≡◌, ◌⊎◌, inl, inr, ℕ, zero, suc, Bool, true, false, true≢false, refl, sym, ap, ◌∙◌}
 use Rattle.std.proofs.lemmas.Bool.{eqb-true, eq-eqb}
 use Rattle.at_model.specs.Run.{Location, Is, Tok, Slot, Up, Idx}
 use Rattle.at_model.proofs.Options.{both}
@@ -32,3 +32,10 @@ same_location-is l m h =
 
 pub same_location-itself : (l : Location ℕ) → same_location l l ≡ true
 same_location-itself l = let a = eq-eqb (form_of l) _ refl in let b = eq-eqb (node_at l) _ refl in let c = eq-eqb (part_at l) _ refl in rw (a, b, c) refl
+
+pub cases_location : (l m : Location ℕ) → (l ≡ m) ⊎ (l ≡ m → ⊥)
+cases_location l m = by (same_location l m) refl
+  where
+    by : (b : Bool) → same_location l m ≡ b → (l ≡ m) ⊎ (l ≡ m → ⊥)
+    by true h = inl (same_location-is l m h)
+    by false h = inr (λ same. true≢false (sym (ap (same_location l) (sym same) ∙ same_location-itself l) ∙ h))

@@ -5,6 +5,8 @@ use Rattle.at_model.specs.Run.{Value, Instance, Location, Is, Tok, Slot, Up, Idx
 use Rattle.at_store.specs.declared.node.Loc.{Loc}
 use Rattle.at_body.specs.Same.{same_instance}
 use Rattle.at_store.specs.Located.{loc_view}
+use Rattle.at_store.specs.Places.{named}
+use Rattle.at_store.specs.declared.places.Places.{Places}
 
 -- the form of a location, its node, and its component or 0
 abbrev pub form_of : Location ℕ → ℕ
@@ -74,6 +76,10 @@ AreKept entries uses = (u : Instance ℕ) → Contains uses u → IsSome (entrie
 -- a closure may give the answer for the location
 abbrev pub Answers : (post : Loc → Bool → Type 0) → Location ℕ → Bool → Type 0
 Answers post l b = (x : Loc) × (loc_view x ≡ l) × post x b
+
+-- of what isn't named the closure answers `false`
+abbrev pub AreNamed : Places → (post : Loc → Bool → Type 0) → Type 0
+AreNamed places post = (x : Loc) → named places (loc_view x) ≡ false → post x false
 
 -- an entry of `new` is one of `old`, and each location that it stands for has the answer `false`
 abbrev pub LeavesUntouched : (says : Location ℕ → Bool → Type 0) (old new : Entries) → Type 0

@@ -1,4 +1,9 @@
 pub mod Kept
 pub mod UntilEdit
+pub mod Readers
+pub mod Placed
+pub mod Info
 pub mod Recorded
 pub mod Flushing
+pub mod Putting
+pub mod Slots

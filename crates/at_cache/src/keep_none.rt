@@ -4,7 +4,7 @@ ghost use Rattle.std.specs.Prelude.{None, false};
 
 use crate::keeper::Keeper;
 use at_body::{Inst, Value};
-use at_store::Loc;
+use at_store::{Loc, Places};
 use std::alloc::{AllocError, Global};
 
 /// Keeps nothing.
@@ -38,4 +38,8 @@ impl Keeper for KeepNone {
     }
 
     fn flush<F: Fn(Loc) -> bool>(&mut self, _touched: &F) {}
+
+    fn flush_at<F: Fn(Loc) -> bool>(&mut self, _places: &Places<'_>, touched: &F) {
+        self.flush(touched);
+    }
 }

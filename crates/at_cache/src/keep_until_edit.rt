@@ -6,7 +6,7 @@ ghost use Rattle.at_cache.specs.UntilEdit.{values_kept};
 
 use crate::keeper::Keeper;
 use at_body::{Inst, Value};
-use at_store::Loc;
+use at_store::{Loc, Places};
 use indexmap::IndexMap;
 use std::alloc::{AllocError, Global};
 
@@ -49,5 +49,9 @@ impl Keeper for KeepUntilEdit {
 
     fn flush<F: Fn(Loc) -> bool>(&mut self, _touched: &F) {
         self.values.clear();
+    }
+
+    fn flush_at<F: Fn(Loc) -> bool>(&mut self, _places: &Places<'_>, touched: &F) {
+        self.flush(touched);
     }
 }

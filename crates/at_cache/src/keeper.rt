@@ -5,10 +5,10 @@ ghost use Rattle.std.specs.Option.{option_map};
 ghost use Rattle.at_model.specs.Run.{Instance};
 ghost use Rattle.at_body.specs.Values.{value_view};
 ghost use Rattle.at_store.specs.Located.{loc_view};
-ghost use Rattle.at_cache.specs.Kept.{Kept, KeepsAll, MayPut, AreKept, Answers, LeavesUntouched, LosesTouched};
+ghost use Rattle.at_cache.specs.Kept.{AreNamed, Kept, KeepsAll, MayPut, AreKept, Answers, LeavesUntouched, LosesTouched};
 
 use at_body::{Inst, Value};
-use at_store::Loc;
+use at_store::{Loc, Places};
 use std::alloc::AllocError;
 
 /// Keeps values of instances, each with the locations that it stands for.
@@ -40,6 +40,13 @@ pub trait Keeper: Drop {
     /// Forgets each entry that stands for a touched location.
     fn flush<F: Fn(Loc) -> bool>(&mut self, touched: &F)
         requires { F.IsAlwaysCallable touched.now }
+        ensures leaves { LeavesUntouched (Answers (F.post touched.now)) (contents self.old) (contents self.new) }
+        ensures loses { IsTrue exact → LosesTouched (Answers (F.post touched.now)) (contents self.old) (contents self.new) };
+
+    /// Forgets each entry that stands for a touched location. The places name all that is touched.
+    fn flush_at<F: Fn(Loc) -> bool>(&mut self, places: &Places<'_>, touched: &F)
+        requires callable { F.IsAlwaysCallable touched.now }
+        requires named { AreNamed places.now (F.post touched.now) }
         ensures leaves { LeavesUntouched (Answers (F.post touched.now)) (contents self.old) (contents self.new) }
         ensures loses { IsTrue exact → LosesTouched (Answers (F.post touched.now)) (contents self.old) (contents self.new) };
 }

@@ -12,7 +12,7 @@ ghost use Rattle.at_store.specs.Shown.{IsIdle, Shown, contents, tree};
 ghost use Rattle.at_body.specs.Same.{same_instance};
 ghost use Rattle.at_body.specs.Typed.{class_shown};
 ghost use Rattle.at_body.specs.Values.{value_view};
-ghost use Rattle.at_cache.specs.Kept.{AreKept, Entries, Answers as Says, LeavesUntouched, LosesTouched};
+ghost use Rattle.at_cache.specs.Kept.{AreKept, AreNamed, Entries, Answers as Says, LeavesUntouched, LosesTouched};
 ghost use Rattle.at_demand.specs.Known.{meaning, kept_values, known_in, answer_view, MayAdd, FoundKept};
 ghost use Rattle.at_demand.specs.Right.{AreRight, IsThere};
 ghost use Rattle.at_demand.specs.UnderWay.{IsOrderlyIn, IsTrueIn, IsAdvance, IsRightAdvance};
@@ -30,7 +30,7 @@ use crate::gathering::Sources;
 use at_body::{Inst, Step, Value};
 use at_cache::Keeper;
 use at_rules::Rules;
-use at_store::{Loc, Store};
+use at_store::{Loc, Places, Store};
 use indexmap::IndexMap;
 use std::alloc::{AllocError, Global};
 
@@ -126,6 +126,17 @@ impl<K: Keeper> Demand<K> {
         ensures work { self.new.work ≡ self.old.work }
     {
         self.keeper.flush(touched);
+    }
+
+    /// The same, where the places name all that the edit touches.
+    pub fn after_edit_at<F: Fn(Loc) -> bool>(&mut self, places: &Places<'_>, touched: &F)
+        requires callable { F.IsAlwaysCallable touched.now }
+        requires named { AreNamed places.now (F.post touched.now) }
+        ensures leaves { LeavesUntouched (Says (F.post touched.now)) (K.contents self.old.keeper) (K.contents self.new.keeper) }
+        ensures loses { IsTrue K.exact → LosesTouched (Says (F.post touched.now)) (K.contents self.old.keeper) (K.contents self.new.keeper) }
+        ensures work { self.new.work ≡ self.old.work }
+    {
+        self.keeper.flush_at(places, touched);
     }
 
     /// How many times a question found a value of a lazy attribute that wasn't kept. It stays at the greatest number.

@@ -28,7 +28,7 @@ opening t = record { tree = t; version = 0; marks = []; posts = 0; posted = [] }
 
 -- the engine can serve lines: it is sound, and what it keeps is right
 abbrev pub IsReady : Engine KeepRecorded → Type 0
-IsReady e = IsSound (λ k. kept_in k.entries.entries) e
+IsReady e = IsSound (λ k. kept_in k.entries k.puts) e
 
 -- the files give these rules, and the engine that they make is in this state
 pub record Starts (files : Files) (rules : Rules) (state : State) : Type 0 where

@@ -36,7 +36,7 @@ use tree::tree_of;
 pub fn start(alloc: Global, files: &Files) -> Result<Engine<KeepRecorded>, StartFault>
     ensures started { IfOk result (λ e. Starts files.now (rules_of e) (state_of e)) }
     ensures ready { IfOk result IsReady }
-    ensures spare { IfOk result (IsSpare (λ k. kept_in k.entries.entries)) }
+    ensures spare { IfOk result (IsSpare (λ k. kept_in k.entries k.puts)) }
     ensures work { IfOk result (λ e. work_of e ≡ 0) }
     ensures refused { IfErr result (IsStartFault files.now) }
 {

@@ -1,7 +1,16 @@
 use Rattle.std.proofs.Common.{inr}
-use Rattle.at_cache.proofs.Recording.{put_adds}
+use Rattle.std.proofs.lemmas.Result.{on_ok_weaker}
+use Rattle.at_cache.proofs.Shown.{absent_entry}
 use Rattle.at_cache.proofs.keep_recorded.KeepRecordedKeeper.put.Goals as goal
 
+pub enter_with-requires : goal.enter_with-requires
+enter_with-requires c = record { absent = absent_entry c.args.self.now.entries c.args.self.now.puts c.args.inst c.requires.absent }
+
+pub invariant_of-self : goal.invariant_of-self
+invariant_of-self c = record { indexed = c.enter_with.ensures.indexed c.args.self.now.indexed }
+
 pub returns-clause-puts : goal.returns-clause-puts
-returns-clause-puts c =
-    inr (put_adds _ _ c.args.inst _ c.args.reads.now c.args.uses.now c.requires.absent c.in_ok-insert.ensures.entries c.in_ok-reads.ensures.items c.in_ok-links.ensures)
+returns-clause-puts c = on_ok_weaker c.enter_with.result inr (c.enter_with.ensures.puts c.args.self.now.indexed)
+
+pub returns-clause-err : goal.returns-clause-err
+returns-clause-err c = c.enter_with.ensures.err c.args.self.now.indexed

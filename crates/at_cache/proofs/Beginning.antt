@@ -1,0 +1,118 @@
+-- Where a flush begins.
+use Rattle.std.proofs.Common.{◌≡◌, ◌⊎◌, inl, inr, ℕ, ◌+◌, get_or, List, [], ◌∷◌, ◌++◌, Bool, true, false, cond, Some, Contains, Vec, take, slice_get, if◌then◌else◌, length, ◌<◌, ◌≤◌, refl, sym, ap, ◌∙◌, subst, arith, append-nil}
+use Rattle.std.proofs.lemmas.Bool.{cases_eq, cases_lt}
+use Rattle.std.proofs.lemmas.List.{take_more}
+use Rattle.std.proofs.lemmas.List.Concat.{flat_map-append}
+use Rattle.std.proofs.lemmas.List.Elements.{Contains-append_cases, Contains-append_left, Contains-append_right}
+use Rattle.at_model.specs.Run.{Location}
+use Rattle.at_cache.specs.declared.edge.Edge.{Edge}
+use Rattle.at_cache.specs.declared.facet.Facet.{Facet}
+use Rattle.at_cache.specs.declared.facet.Facet.TheVariants as facet
+use Rattle.at_cache.specs.declared.facet.Readers.{Readers}
+use Rattle.at_cache.specs.Flushing.{Begins}
+use Rattle.at_cache.specs.Kept.{node_at, same_location}
+use Rattle.at_cache.specs.Readers.{edges_among, edges_at, facet_at}
+use Rattle.at_cache.proofs.Locations.{same_location-is, same_location-itself}
+use Rattle.at_cache.proofs.Listed.{edges_are, no_edges, same_list}
+use Rattle.at_cache.proofs.Moving.{take_past, take_within}
+use Rattle.at_cache.proofs.Taking.{none_in}
+
+module _ {says : Location ℕ → Bool → Type 0} where
+  -- nothing is asked yet
+  pub begins_none : Begins says (λ l. []) []
+  begins_none = record { from = λ x c. absurd (none_in x c); all = λ l. inr (λ x c. c) }
+
+  -- one list after another is asked
+  pub begins_both : {lists more both : Location ℕ → List Edge} {start edges : List Edge} → ((l : Location ℕ) → both l ≡ lists l ++ more l) → Begins says lists start → Begins says more edges → Begins says both (start ++ edges)
+  begins_both {lists} {more} {both} {start} {edges} is a b = record {
+    from = λ x c. elim (Contains-append_cases start edges x c) [
+      | inl d ↦ let (l, said, e) = a.from x d in (l, said, subst (λ es. Contains es x) (sym (is l)) (Contains-append_left (lists l) (more l) x e))
+      | inr d ↦ let (l, said, e) = b.from x d in (l, said, subst (λ es. Contains es x) (sym (is l)) (Contains-append_right (lists l) (more l) x e))
+    ];
+    all = λ l. elim (a.all l) [
+      | inl said ↦ inl said
+      | inr left ↦ elim (b.all l) [
+        | inl said ↦ inl said
+        | inr right ↦ inr (λ x c. elim (Contains-append_cases (lists l) (more l) x (subst (λ es. Contains es x) (is l) c)) [
+          | inl d ↦ Contains-append_left start edges x (left x d)
+          | inr d ↦ Contains-append_right start edges x (right x d)
+        ])
+      ]
+    ];
+  }
+
+module _ (n : ℕ) where
+  -- the edges of one facet
+  abbrev pub edges_of : Readers → Location ℕ → List Edge
+  edges_of r l = if same_location l (facet_at n r.facet) then r.edges.items else []
+
+  pub among_more : (rs : List Readers) (r : Readers) (l : Location ℕ) → edges_among n (rs ++ r ∷ []) l ≡ edges_among n rs l ++ edges_of r l
+  among_more rs r l = flat_map-append (λ r. edges_of r l) rs (r ∷ []) ∙ ap (λ es. edges_among n rs l ++ es) (append-nil (edges_of r l))
+
+  node_of_facet : (f : Facet) → node_at (facet_at n f) ≡ n
+  node_of_facet facet.Is = refl
+  node_of_facet (facet.Tok part) = refl
+  node_of_facet (facet.Slot part) = refl
+  node_of_facet facet.Up = refl
+  node_of_facet facet.Idx = refl
+
+  pub among_others : (rs : List Readers) (l : Location ℕ) → (node_at l ≡ n → ⊥) → edges_among n rs l ≡ []
+  among_others [] l differs = refl
+  among_others (r ∷ rs) l differs = ap (λ es. es ++ edges_among n rs l) (by (same_location l (facet_at n r.facet)) refl) ∙ among_others rs l differs
+    where
+      by : (b : Bool) → same_location l (facet_at n r.facet) ≡ b → cond b r.edges.items [] ≡ []
+      by true h = absurd (differs (ap node_at (same_location-is l (facet_at n r.facet) h) ∙ node_of_facet r.facet))
+      by false h = refl
+
+  module _ {says : Location ℕ → Bool → Type 0} (r : Readers) where
+    pub begins_touched : says (facet_at n r.facet) true → Begins says (edges_of r) r.edges.items
+    begins_touched said = record {
+      from = λ x c. (facet_at n r.facet, said, subst (λ b. Contains (cond b r.edges.items []) x) (sym (same_location-itself (facet_at n r.facet))) c);
+      all = λ l. inr (λ x c. by (same_location l (facet_at n r.facet)) x c);
+    }
+      where
+        by : (b : Bool) (x : Edge) → Contains (cond b r.edges.items []) x → Contains r.edges.items x
+        by true x c = c
+        by false x c = absurd (none_in x c)
+
+    pub begins_untouched : says (facet_at n r.facet) false → Begins says (edges_of r) []
+    begins_untouched said = record { from = λ x c. absurd (none_in x c); all = λ l. by l (same_location l (facet_at n r.facet)) refl }
+      where
+        by : (l : Location ℕ) (b : Bool) → same_location l (facet_at n r.facet) ≡ b → says l false ⊎ ((x : Edge) → Contains (cond b r.edges.items []) x → Contains [] x)
+        by l true h = inl (subst (λ k. says k false) (sym (same_location-is l (facet_at n r.facet) h)) said)
+        by l false h = inr (λ x c. c)
+
+module _ {A : Type 0} (readers : List (Vec Readers A)) (n : ℕ) (v : Vec Readers A) (there : slice_get readers n ≡ Some v) where
+  pub at_more : (l : Location ℕ) → edges_at (take (n + 1) readers) l ≡ edges_at (take n readers) l ++ edges_among n v.items l
+  at_more l = elim (cases_eq (node_at l) n) [
+    | inl at_n ↦
+        edges_are (take (n + 1) readers) l v (ap (slice_get (take (n + 1) readers)) at_n ∙ take_within (n + 1) readers n (omega arith) ∙ there)
+        ∙ ap (λ k. edges_among k v.items l) at_n
+        ∙ ap (λ es. es ++ edges_among n v.items l) (sym (no_edges (take n readers) l (ap (slice_get (take n readers)) at_n ∙ take_past n readers n (omega arith))))
+    | inr differs ↦
+        same_list (take (n + 1) readers) (take n readers) l (elim (cases_lt (node_at l) n) [
+          | inl less ↦ take_within (n + 1) readers (node_at l) (omega (arith, less)) ∙ sym (take_within n readers (node_at l) less)
+          | inr more ↦ let past : n + 1 ≤ node_at l = omega (arith, more, differs) in take_past (n + 1) readers (node_at l) past ∙ sym (take_past n readers (node_at l) more)
+        ])
+        ∙ sym (append-nil (edges_at (take n readers) l))
+        ∙ ap (λ es. edges_at (take n readers) l ++ es) (sym (among_others n v.items l differs))
+  ]
+
+-- before the first node
+pub at_start : {A : Type 0} (says : Location ℕ → Bool → Type 0) (readers : List (Vec Readers A)) → Begins says (edges_at (take 0 readers)) []
+at_start says readers = record { from = λ x c. absurd (none_in x c); all = λ l. inr (λ x c. c) }
+
+-- one facet more is asked
+module _ {says : Location ℕ → Bool → Type 0} (n : ℕ) (rs : List Readers) (i : ℕ) (r : Readers) (is : r ≡ get_or rs i r) (less : i < length rs) {edges : List Edge} (begins : Begins says (edges_among n (take i rs)) edges) where
+  on_more : (lists : List Edge) → Begins says (edges_among n (take i rs ++ r ∷ [])) lists → Begins says (edges_among n (take (i + 1) rs)) lists
+  on_more lists b = subst (λ (ss : List Readers). Begins says (edges_among n ss) lists) (ap (λ (s : Readers). take i rs ++ s ∷ []) is ∙ sym (take_more rs i r less)) b
+
+  pub begins_next_touched : says (facet_at n r.facet) true → Begins says (edges_among n (take (i + 1) rs)) (edges ++ r.edges.items)
+  begins_next_touched said = on_more (edges ++ r.edges.items) (begins_both (among_more n (take i rs) r) begins (begins_touched n r said))
+
+  pub begins_next_untouched : says (facet_at n r.facet) false → Begins says (edges_among n (take (i + 1) rs)) edges
+  begins_next_untouched said = on_more edges (subst (Begins says (edges_among n (take i rs ++ r ∷ []))) (append-nil edges) (begins_both (among_more n (take i rs) r) begins (begins_untouched n r said)))
+
+-- one node more
+pub begins_node : {A : Type 0} {says : Location ℕ → Bool → Type 0} (readers : List (Vec Readers A)) (n : ℕ) (v : Vec Readers A) {start edges : List Edge} → slice_get readers n ≡ Some v → Begins says (edges_at (take n readers)) start → Begins says (edges_among n v.items) edges → Begins says (edges_at (take (n + 1) readers)) (start ++ edges)
+begins_node readers n v there a b = begins_both (at_more readers n v there) a b

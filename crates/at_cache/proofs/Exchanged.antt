@@ -1,0 +1,151 @@
+-- The edges of one location are taken out, and put back with one more.
+use Rattle.std.proofs.Common.{◌≡◌, inl, inr, ℕ, zero, suc, List, [], ◌∷◌, ◌++◌, Bool, true, false, cond, Some, Vec, Contains, length, option_map, ◌<◌, slice_get, slice_set, refl, sym, ap, ◌∙◌, subst}
+use Rattle.std.proofs.lemmas.Bool.{cases_eq}
+use Rattle.std.proofs.lemmas.Option.{none-some, same_Some}
+use Rattle.std.proofs.lemmas.List.Elements.{Contains-append_cases, Contains-append_left, Contains-append_right}
+use Rattle.smallvec.specs.SmallVec.{SmallVec}
+use Rattle.at_model.specs.Run.{Location}
+use Rattle.at_cache.specs.declared.edge.Edge.{Edge}
+use Rattle.at_cache.specs.declared.facet.Facet.{Facet}
+use Rattle.at_cache.specs.declared.facet.Readers.{Readers}
+use Rattle.at_cache.specs.Info.{Memory}
+use Rattle.at_cache.specs.Kept.{node_at, same_location}
+use Rattle.at_cache.specs.Putting.{Lists}
+use Rattle.at_cache.specs.Readers.{edges_among, edges_at, facet_at}
+use Rattle.at_cache.specs.Slots.{HasChanged, with_edges}
+use Rattle.at_cache.proofs.Beginning.{edges_of}
+use Rattle.at_cache.proofs.Listed.{edges_are, same_list}
+use Rattle.at_cache.proofs.Listing.{lists_same}
+use Rattle.at_cache.proofs.Locations.{same_location-is, same_location-itself}
+use Rattle.at_cache.proofs.Moving.{within}
+
+module _ {X : Type 0} where
+  pub get_same : (xs : List X) (k : ℕ) (v w : X) → slice_get xs k ≡ Some w → slice_get (slice_set xs k v) k ≡ Some v
+  get_same [] k v w h = absurd (none-some w h)
+  get_same (x ∷ xs) zero v w h = refl
+  get_same (x ∷ xs) (suc k) v w h = get_same xs k v w h
+
+  pub get_other : (xs : List X) (k l : ℕ) (v : X) → (l ≡ k → ⊥) → slice_get (slice_set xs k v) l ≡ slice_get xs l
+  get_other [] k l v differs = refl
+  get_other (x ∷ xs) zero zero v differs = absurd (differs refl)
+  get_other (x ∷ xs) zero (suc l) v differs = refl
+  get_other (x ∷ xs) (suc k) zero v differs = refl
+  get_other (x ∷ xs) (suc k) (suc l) v differs = get_other xs k l v (λ same. differs (ap suc same))
+
+  set_twice : (xs : List X) (k : ℕ) (v w : X) → slice_set (slice_set xs k v) k w ≡ slice_set xs k w
+  set_twice [] k v w = refl
+  set_twice (x ∷ xs) zero v w = refl
+  set_twice (x ∷ xs) (suc k) v w = ap (λ ys. x ∷ ys) (set_twice xs k v w)
+
+module _ {m : Memory} {x : Edge} where
+  lists_before : (front : List Edge) {a b : List Edge} → Lists m x a b → Lists m x (front ++ a) (front ++ b)
+  lists_before front {a} {b} h = record {
+    keeps = λ y c e there same. elim (Contains-append_cases front a y c) [ inl d ↦ Contains-append_left front b y d | inr d ↦ Contains-append_right front b y (h.keeps y d e there same) ];
+    only = λ y c. elim (Contains-append_cases front b y c) [
+      | inl d ↦ inl (Contains-append_left front a y d)
+      | inr d ↦ elim (h.only y d) [ inl e ↦ inl (Contains-append_right front a y e) | inr same ↦ inr same ]
+    ];
+  }
+
+  lists_behind : (rest : List Edge) {a b : List Edge} → Lists m x a b → Lists m x (a ++ rest) (b ++ rest)
+  lists_behind rest {a} {b} h = record {
+    keeps = λ y c e there same. elim (Contains-append_cases a rest y c) [ inl d ↦ Contains-append_left b rest y (h.keeps y d e there same) | inr d ↦ Contains-append_right b rest y d ];
+    only = λ y c. elim (Contains-append_cases b rest y c) [
+      | inl d ↦ elim (h.only y d) [ inl e ↦ inl (Contains-append_left a rest y e) | inr same ↦ inr same ]
+      | inr d ↦ inl (Contains-append_right a rest y d)
+    ];
+  }
+
+  lists_if : (b : Bool) {old new : List Edge} → Lists m x old new → Lists m x (cond b old []) (cond b new [])
+  lists_if true h = h
+  lists_if false h = lists_same refl
+
+  -- one facet has other edges
+  pub among_set : (n : ℕ) (l : Location ℕ) (rs : List Readers) (p : ℕ) (r : Readers) → slice_get rs p ≡ Some r → (es : SmallVec Edge) → Lists m x r.edges.items es.items → Lists m x (edges_among n rs l) (edges_among n (slice_set rs p (with_edges es r)) l)
+  among_set n l [] p r h es lists = absurd (none-some r h)
+  among_set n l (y ∷ ys) zero r h es lists =
+      subst (λ z. Lists m x (edges_of n z l ++ edges_among n ys l) (edges_of n (with_edges es r) l ++ edges_among n ys l)) (sym (same_Some y r h))
+      (lists_behind (edges_among n ys l) (lists_if (same_location l (facet_at n r.facet)) lists))
+  among_set n l (y ∷ ys) (suc p) r h es lists = lists_before (edges_of n y l) (among_set n l ys p r h es lists)
+
+among_same : (n : ℕ) (l : Location ℕ) (rs : List Readers) (p : ℕ) (r : Readers) → slice_get rs p ≡ Some r → (es : SmallVec Edge) → (l ≡ facet_at n r.facet → ⊥) → edges_among n (slice_set rs p (with_edges es r)) l ≡ edges_among n rs l
+among_same n l [] p r h es differs = refl
+among_same n l (y ∷ ys) zero r h es differs = ap (λ edges. edges ++ edges_among n ys l) (off (same_location l (facet_at n r.facet)) refl ∙ ap (λ z. edges_of n z l) (sym (same_Some y r h)))
+  where
+    off : (b : Bool) → same_location l (facet_at n r.facet) ≡ b → cond b es.items [] ≡ cond b r.edges.items []
+    off true h = absurd (differs (same_location-is l (facet_at n r.facet) h))
+    off false h = refl
+among_same n l (y ∷ ys) (suc p) r h es differs = ap (λ edges. edges_of n y l ++ edges) (among_same n l ys p r h es differs)
+
+among_has : (n : ℕ) (rs : List Readers) (p : ℕ) (r : Readers) → slice_get rs p ≡ Some r → (es : SmallVec Edge) (x : Edge) → Contains es.items x → Contains (edges_among n (slice_set rs p (with_edges es r)) (facet_at n r.facet)) x
+among_has n [] p r h es x c = absurd (none-some r h)
+among_has n (y ∷ ys) zero r h es x c = Contains-append_left (edges_of n (with_edges es r) (facet_at n r.facet)) (edges_among n ys (facet_at n r.facet)) x (subst (λ b. Contains (cond b es.items []) x) (sym (same_location-itself (facet_at n r.facet))) c)
+among_has n (y ∷ ys) (suc p) r h es x c = Contains-append_right (edges_of n y (facet_at n r.facet)) (edges_among n (slice_set ys p (with_edges es r)) (facet_at n r.facet)) x (among_has n ys p r h es x c)
+
+-- the edges at a place are exchanged twice
+between : (made mid : List Readers) (p : ℕ) (e : SmallVec Edge) → HasChanged (with_edges e) p made mid → (r : Readers) → slice_get made p ≡ Some r → slice_get mid p ≡ Some (with_edges e r)
+between made mid p e first r at = ap (λ xs. slice_get xs p) (first r at) ∙ get_same made p (with_edges e r) r at
+
+pub still_within : (made mid : List Readers) (p : ℕ) {facet : Facet} (e : SmallVec Edge) → (r : Readers) × (slice_get made p ≡ Some r) × (r.facet ≡ facet) → HasChanged (with_edges e) p made mid → p < length mid
+still_within made mid p e (r, at, is) first = within mid p (with_edges e r) (between made mid p e first r at)
+
+module _ (old made mid new : List Readers) (p : ℕ) (facet : Facet) (e w v : SmallVec Edge) (same : (n : ℕ) (l : Location ℕ) → edges_among n made l ≡ edges_among n old l)
+    (there : (r : Readers) × (slice_get made p ≡ Some r) × (r.facet ≡ facet)) (first : HasChanged (with_edges e) p made mid) (had : option_map (λ (r : Readers). r.edges) (slice_get made p) ≡ Some w) (second : HasChanged (with_edges v) p mid new) where
+  changed : (r : Readers) × (slice_get made p ≡ Some r) × (r.facet ≡ facet) × (r.edges ≡ w) × (new ≡ slice_set made p (with_edges v r))
+  changed =
+      let (r, at, is) = there in (
+        r,
+        at,
+        is,
+        same_Some r.edges w (sym (ap (option_map (λ (r : Readers). r.edges)) at) ∙ had),
+        second (with_edges e r) (between made mid p e first r at) ∙ ap (λ xs. slice_set xs p (with_edges v r)) (first r at) ∙ set_twice made p (with_edges e r) (with_edges v r),
+      )
+
+  pub among_exchanged : {m : Memory} {x : Edge} → Lists m x w.items v.items → (n : ℕ) (l : Location ℕ) → Lists m x (edges_among n old l) (edges_among n new l)
+  among_exchanged {m} {x} lists n l =
+      let (r, at, is, was, set) = changed in
+      subst (λ es. Lists m x es (edges_among n new l)) (same n l)
+      (subst (λ rs. Lists m x (edges_among n made l) (edges_among n rs l)) (sym set)
+      (among_set n l made p r at v (subst (λ (z : SmallVec Edge). Lists m x z.items v.items) (sym was) lists)))
+
+  pub among_stays : (n : ℕ) (l : Location ℕ) → (l ≡ facet_at n facet → ⊥) → edges_among n new l ≡ edges_among n old l
+  among_stays n l differs =
+      let (r, at, is, was, set) = changed in
+      ap (λ rs. edges_among n rs l) set ∙ among_same n l made p r at v (λ h. differs (h ∙ ap (facet_at n) is)) ∙ same n l
+
+  pub among_gained : (x : Edge) (n : ℕ) → Contains v.items x → Contains (edges_among n new (facet_at n facet)) x
+  among_gained x n c =
+      let (r, at, is, was, set) = changed in
+      subst (λ f. Contains (edges_among n new (facet_at n f)) x) is (subst (λ rs. Contains (edges_among n rs (facet_at n r.facet)) x) (sym set) (among_has n made p r at v x c))
+
+-- the list of a node is exchanged twice
+module _ {A : Type 0} (old made mid new : List (Vec Readers A)) (k : ℕ) (e v : Vec Readers A) {was : Vec Readers A} (same : (l : Location ℕ) → edges_at made l ≡ edges_at old l) (there : slice_get made k ≡ Some was) (is : mid ≡ slice_set made k e) (so : new ≡ slice_set mid k v) where
+  now : slice_get new k ≡ Some v
+  now = ap (λ xs. slice_get xs k) so ∙ get_same mid k v e (ap (λ xs. slice_get xs k) is ∙ get_same made k e was there)
+
+  off : (n : ℕ) → (n ≡ k → ⊥) → slice_get new n ≡ slice_get made n
+  off n differs = ap (λ xs. slice_get xs n) so ∙ get_other mid k n v differs ∙ ap (λ xs. slice_get xs n) is ∙ get_other made k n e differs
+
+  before : (l : Location ℕ) → node_at l ≡ k → edges_at old l ≡ edges_among k was.items l
+  before l at_k = sym (same l) ∙ edges_are made l was (ap (slice_get made) at_k ∙ there) ∙ ap (λ n. edges_among n was.items l) at_k
+
+  after : (l : Location ℕ) → node_at l ≡ k → edges_at new l ≡ edges_among k v.items l
+  after l at_k = edges_are new l v (ap (slice_get new) at_k ∙ now) ∙ ap (λ n. edges_among n v.items l) at_k
+
+  others : (l : Location ℕ) → (node_at l ≡ k → ⊥) → edges_at new l ≡ edges_at old l
+  others l differs = same_list new made l (off (node_at l) differs) ∙ same l
+
+  pub list_exchanged : {m : Memory} {x : Edge} → ((n : ℕ) (l : Location ℕ) → Lists m x (edges_among n was.items l) (edges_among n v.items l)) → (l : Location ℕ) → Lists m x (edges_at old l) (edges_at new l)
+  list_exchanged {m} {x} lists l = elim (cases_eq (node_at l) k) [
+    | inl at_k ↦ subst (λ es. Lists m x es (edges_at new l)) (sym (before l at_k)) (subst (Lists m x (edges_among k was.items l)) (sym (after l at_k)) (lists k l))
+    | inr differs ↦ lists_same (others l differs)
+  ]
+
+  pub list_gained : (x : Edge) (l : Location ℕ) → node_at l ≡ k → Contains (edges_among k v.items l) x → Contains (edges_at new l) x
+  list_gained x l at_k c = subst (λ es. Contains es x) (sym (after l at_k)) c
+
+  pub list_stays : (f : Location ℕ) → ((l : Location ℕ) → (l ≡ f → ⊥) → edges_among k v.items l ≡ edges_among k was.items l) → (l : Location ℕ) → (l ≡ f → ⊥) → edges_at new l ≡ edges_at old l
+  list_stays f stays l differs = elim (cases_eq (node_at l) k) [
+    | inl at_k ↦ after l at_k ∙ stays l differs ∙ sym (before l at_k)
+    | inr other ↦ others l other
+  ]

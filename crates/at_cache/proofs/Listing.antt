@@ -1,0 +1,225 @@
+-- Lists of edges that lose those that tell of no entry, and gain one.
+use Rattle.std.proofs.Common.{◌≡◌, ◌⊎◌, inl, inr, ℕ, List, [], ◌∷◌, ◌++◌, Bool, true, false, Option, None, Some, cond, nat_eq, Contains, filter, option_map, if◌then◌else◌, refl, sym, ap, ◌∙◌, subst, zero, suc, map, take, ◌+◌, IsSome, is_some, ◌<◌, length, get_or, swap_remove, IsPermutation}
+use Rattle.std.proofs.lemmas.List.Sorted.{Contains-permutation, IsPermutation-swap_remove, IsPermutation-sym}
+use Rattle.std.proofs.lemmas.List.{get_or_default, take_more, map-append}
+use Rattle.std.proofs.lemmas.Bool.{cases_eq, eq-eqb, ne_eqb}
+use Rattle.std.proofs.lemmas.List.Elements.{Contains-append_left, Contains-push, Contains-push_cases}
+use Rattle.slab.proofs.SlabLemmas.{Contains-cons, Contains-cons_cases}
+use Rattle.at_cache.specs.declared.edge.Edge.{Edge}
+use Rattle.at_cache.specs.Info.{Info}
+use Rattle.std.proofs.lemmas.Option.{none-some}
+use Rattle.at_cache.specs.Info.{Memory}
+use Rattle.at_cache.specs.Putting.{AreListed, Keeps, Lists, Reads, Uses, is_current, reused, users_at, with_users}
+use Rattle.at_cache.proofs.Dooming.{head_of}
+use Rattle.at_cache.proofs.Taking.{none_in}
+
+module _ {X : Type 0} (p : X → Bool) where
+  pub filtered_has : (xs : List X) (x : X) → Contains xs x → p x ≡ true → Contains (filter p xs) x
+  filtered_has [] x c h = absurd (none_in x c)
+  filtered_has (y ∷ ys) x c h = by (p y) refl (Contains-cons_cases y x ys c) (λ d. filtered_has ys x d h)
+    where
+      by : (b : Bool) → p y ≡ b → (y ≡ x) ⊎ Contains ys x → (Contains ys x → Contains (filter p ys) x) → Contains (cond b (y ∷ filter p ys) (filter p ys)) x
+      by true e (inl same) on = subst (λ z. Contains (z ∷ filter p ys) x) (sym same) (head_of x (filter p ys))
+      by true e (inr d) on = Contains-cons y x (filter p ys) (on d)
+      by false e (inl same) on = absurd (let t = ap p same in cc)
+      by false e (inr d) on = on d
+
+  pub filtered_from : (xs : List X) (x : X) → Contains (filter p xs) x → Contains xs x
+  filtered_from [] x c = absurd (none_in x c)
+  filtered_from (y ∷ ys) x c = by (p y) c (λ d. filtered_from ys x d)
+    where
+      by : (b : Bool) → Contains (cond b (y ∷ filter p ys) (filter p ys)) x → (Contains (filter p ys) x → Contains ys x) → Contains (y ∷ ys) x
+      by true d on = elim (Contains-cons_cases y x (filter p ys) d) [ inl same ↦ subst (λ z. Contains (z ∷ ys) x) (sym same) (head_of x ys) | inr e ↦ Contains-cons y x ys (on e) ]
+      by false d on = Contains-cons y x ys (on d)
+
+pub current : (m : Memory) (y : Edge) (e : Info) → m y.slot ≡ Some e → e.stamp ≡ y.stamp → is_current m y ≡ true
+current m y e there same = ap (λ (o : Option Info). elim o as (λ _. Bool) [ None ↦ false | Some e ↦ nat_eq e.stamp y.stamp ]) there ∙ eq-eqb e.stamp y.stamp same
+
+pub purged : (m : Memory) (old new : List Edge) → new ≡ filter (is_current m) old → Keeps m old new
+purged m old new is = record {
+  keeps = λ y c e there same. subst (λ ys. Contains ys y) (sym is) (filtered_has (is_current m) old y c (current m y e there same));
+  from = λ y c. filtered_from (is_current m) old y (subst (λ ys. Contains ys y) is c);
+}
+
+pub kept_all : (m : Memory) (old new : List Edge) → new ≡ old → Keeps m old new
+kept_all m old new is = record { keeps = λ y c e there same. subst (λ ys. Contains ys y) (sym is) c; from = λ y c. subst (λ ys. Contains ys y) is c }
+
+pub kept_on : {m : Memory} {old mid new : List Edge} → Keeps m old mid → new ≡ mid → Keeps m old new
+kept_on {m} {old} k is = subst (Keeps m old) (sym is) k
+
+pub listed_none : {m : Memory} {x : Edge} {old new : List Edge} → Keeps m old new → Lists m x old new
+listed_none k = record { keeps = k.keeps; only = λ y c. inl (k.from y c) }
+
+pub listed_one : {m : Memory} {x : Edge} {old mid new : List Edge} → Keeps m old mid → new ≡ mid ++ x ∷ [] → Lists m x old new
+listed_one {m} {x} {old} {mid} {new} k is = record {
+  keeps = λ y c e there same. subst (λ ys. Contains ys y) (sym is) (Contains-append_left mid (x ∷ []) y (k.keeps y c e there same));
+  only = λ y c. elim (Contains-push_cases mid x y (subst (λ ys. Contains ys y) is c)) [ inl d ↦ inl (k.from y d) | inr same ↦ inr (sym same) ];
+}
+
+-- other users of one entry
+pub reused_here : (s : ℕ) (us : List Edge) (m : Memory) → reused s us m s ≡ option_map (with_users us) (m s)
+reused_here s us m = ap (λ b. if b then option_map (with_users us) (m s) else m s) (eq-eqb s s refl)
+
+pub reused_there : (s : ℕ) (us : List Edge) (m : Memory) (k : ℕ) → (k ≡ s → ⊥) → reused s us m k ≡ m k
+reused_there s us m k differs = ap (λ b. if b then option_map (with_users us) (m k) else m k) (ne_eqb k s differs)
+
+over : (us vs : List Edge) (o : Option Info) → option_map (with_users us) (option_map (with_users vs) o) ≡ option_map (with_users us) o
+over us vs None = refl
+over us vs (Some e) = refl
+
+pub reused_twice : (s : ℕ) (us vs : List Edge) (m mid : Memory) → ((k : ℕ) → mid k ≡ reused s vs m k) → (k : ℕ) → reused s us mid k ≡ reused s us m k
+reused_twice s us vs m mid is k = elim (cases_eq k s) [
+  | inl same ↦ ap (reused s us mid) same ∙ reused_here s us mid ∙ ap (option_map (with_users us)) (is s ∙ reused_here s vs m) ∙ over us vs (m s) ∙ sym (reused_here s us m) ∙ ap (reused s us m) (sym same)
+  | inr differs ↦ reused_there s us mid k differs ∙ is k ∙ reused_there s vs m k differs ∙ sym (reused_there s us m k differs)
+]
+
+-- the same entries are there
+pub reused_from : (s : ℕ) (us : List Edge) (m mid : Memory) → ((k : ℕ) → mid k ≡ reused s us m k) → (k : ℕ) (e : Info) → m k ≡ Some e → (f : Info) × (mid k ≡ Some f) × (f.stamp ≡ e.stamp)
+reused_from s us m mid is k e there = elim (cases_eq k s) [
+  | inl same ↦ (with_users us e, ap mid same ∙ is s ∙ reused_here s us m ∙ ap (option_map (with_users us)) (ap m (sym same) ∙ there), refl)
+  | inr differs ↦ (e, is k ∙ reused_there s us m k differs ∙ there, refl)
+]
+
+pub lists_reused : {x : Edge} {old was new : List Edge} (s : ℕ) (us : List Edge) (m mid : Memory) → ((k : ℕ) → mid k ≡ reused s us m k) → was ≡ old → Lists mid x was new → Lists m x old new
+lists_reused {x} {old} {was} {new} s us m mid is same l = subst (λ es. Lists m x es new) same (record {
+  keeps = λ y c e there stamp. let (f, found, alike) = reused_from s us m mid is y.slot e there in l.keeps y c f found (alike ∙ stamp);
+  only = l.only;
+})
+
+pub lists_same : {m : Memory} {x : Edge} {old new : List Edge} → new ≡ old → Lists m x old new
+lists_same is = listed_none (kept_all _ _ _ is)
+
+-- no location yet
+pub reads_none : {L : Type 0} (m : Memory) (x : Edge) (lists : L → List Edge) → Reads m x [] lists lists
+reads_none {L} m x lists = record { keeps = λ l y c e there same. c; only = λ l y c. inl c }
+
+more_in : {L : Type 0} (ls : List L) (l k : L) → Contains ls k → Contains (ls ++ l ∷ []) k
+more_in {L} ls l k c = Contains-append_left ls (l ∷ []) k c
+
+pub in_take : {L : Type 0} (n : ℕ) (xs : List L) (x : L) → Contains (take n xs) x → Contains xs x
+in_take zero xs x c = absurd (none_in x c)
+in_take (suc n) [] x c = c
+in_take (suc n) (y ∷ ys) x c = elim (Contains-cons_cases y x (take n ys) c) [ inl same ↦ subst (λ z. Contains (z ∷ ys) x) (sym same) (head_of x ys) | inr d ↦ Contains-cons y x ys (in_take n ys x d) ]
+
+pub reads_all : {L : Type 0} {m : Memory} {x : Edge} {old new : L → List Edge} (n : ℕ) (ls : List L) → Reads m x (take n ls) old new → Reads m x ls old new
+reads_all {L} {m} {x} {old} {new} n ls r = record { keeps = r.keeps; only = λ k y c. elim (r.only k y c) [ inl d ↦ inl d | inr (is, d) ↦ inr (is, in_take n ls k d) ] }
+
+-- the first ones, and one more
+pub map_more : {X Y : Type 0} (f : X → Y) (xs : List X) (i : ℕ) (x : X) → x ≡ get_or xs i x → i < length xs → map f (take (i + 1) xs) ≡ map f (take i xs) ++ f x ∷ []
+map_more f xs i x is less = ap (map f) (take_more xs i x less) ∙ map-append f (take i xs) (get_or xs i x ∷ []) ∙ ap (λ y. map f (take i xs) ++ f y ∷ []) (sym is)
+
+map_in : {X Y : Type 0} (f : X → Y) (n : ℕ) (xs : List X) (y : Y) → Contains (map f (take n xs)) y → Contains (map f xs) y
+map_in f zero xs y c = absurd (none_in y c)
+map_in f (suc n) [] y c = c
+map_in f (suc n) (x ∷ xs) y c = elim (Contains-cons_cases (f x) y (map f (take n xs)) c) [ inl same ↦ subst (λ z. Contains (z ∷ map f xs) y) (sym same) (head_of y (map f xs)) | inr d ↦ Contains-cons (f x) y (map f xs) (map_in f n xs y d) ]
+
+pub reads_within : {X L : Type 0} (f : X → L) {m : Memory} {x : Edge} {old new : L → List Edge} (n : ℕ) (ls : List X) → Reads m x (map f (take n ls)) old new → Reads m x (map f ls) old new
+reads_within f {m} {x} {old} {new} n ls r = record { keeps = r.keeps; only = λ k y c. elim (r.only k y c) [ inl d ↦ inl d | inr (is, d) ↦ inr (is, map_in f n ls k d) ] }
+
+module _ {L : Type 0} (cases : (k l : L) → (k ≡ l) ⊎ (k ≡ l → ⊥)) {m : Memory} {x : Edge} where
+  -- one location more
+  pub reads_more : {old mid new : L → List Edge} {ls : List L} (l : L) → Reads m x ls old mid → ((k : L) → Lists m x (mid k) (new k)) → ((k : L) → (k ≡ l → ⊥) → new k ≡ mid k) → Reads m x (ls ++ l ∷ []) old new
+  reads_more {old} {mid} {new} {ls} l r lists others = record {
+    keeps = λ k y c e there same. (lists k).keeps y (r.keeps k y c e there same) e there same;
+    only = λ k y c. elim (cases k l) [
+      | inl at_l ↦ elim ((lists k).only y c) [
+        | inl d ↦ before k y (r.only k y d)
+        | inr is ↦ inr (is, subst (Contains (ls ++ l ∷ [])) (sym at_l) (Contains-push ls l))
+      ]
+      | inr differs ↦ before k y (r.only k y (subst (λ es. Contains es y) (others k differs) c))
+    ];
+  }
+    where
+      before : (k : L) (y : Edge) → Contains (old k) y ⊎ ((y ≡ x) × Contains ls k) → Contains (old k) y ⊎ ((y ≡ x) × Contains (ls ++ l ∷ []) k)
+      before k y (inl c) = inl c
+      before k y (inr (is, c)) = inr (is, more_in ls l k c)
+
+pub listed_more : {L : Type 0} (cases : (k l : L) → (k ≡ l) ⊎ (k ≡ l → ⊥)) {x : Edge} {mid new : L → List Edge} (ls : List L) (l : L) → AreListed x ls mid → Contains (new l) x → ((k : L) → (k ≡ l → ⊥) → new k ≡ mid k) → AreListed x (ls ++ l ∷ []) new
+listed_more {L} cases {x} {mid} {new} ls l a has others k c = elim (cases k l) [
+  | inl at_l ↦ subst (λ n. Contains (new n) x) (sym at_l) has
+  | inr differs ↦ elim (Contains-push_cases ls l k c) [
+    | inl d ↦ subst (λ es. Contains es x) (sym (others k differs)) (a k d)
+    | inr same ↦ absurd (differs (sym same))
+  ]
+]
+
+-- no slot yet
+pub uses_none : (x : Edge) (m : Memory) → Uses x [] m m
+uses_none x m = record { there = λ k e h. (e, h, refl); free = λ k h. h; users = reads_none m x (users_at m) }
+
+pub uses_all : {x : Edge} {old new : Memory} (n : ℕ) (ss : List ℕ) → Uses x (take n ss) old new → Uses x ss old new
+uses_all n ss u = record { there = u.there; free = u.free; users = reads_all n ss u.users }
+
+pub users_of : (m : Memory) (k : ℕ) (e : Info) → m k ≡ Some e → users_at m k ≡ e.users
+users_of m k e h = ap (λ (o : Option Info). elim o as (λ _. List Edge) [ None ↦ [] | Some e ↦ e.users ]) h
+
+same_users : (m n : Memory) (k : ℕ) → n k ≡ m k → users_at n k ≡ users_at m k
+same_users m n k h = ap (λ (o : Option Info). elim o as (λ _. List Edge) [ None ↦ [] | Some e ↦ e.users ]) h
+
+pub from_kept : (m : Memory) (k : ℕ) → IsSome (m k) → (e : Info) × (m k ≡ Some e)
+from_kept m k some = by (m k) some
+  where
+    by : (o : Option Info) → IsSome o → (e : Info) × (o ≡ Some e)
+    by None h = absurd (cc)
+    by (Some e) h = (e, refl)
+
+-- one slot more
+module _ {x : Edge} {old mid new : Memory} {ss : List ℕ} (s : ℕ) (u : Uses x ss old mid) (users : List Edge) (some : IsSome (mid s)) (written : (k : ℕ) → new k ≡ reused s users mid k) (lists : Lists mid x (users_at mid s) users) where
+  other : (k : ℕ) → (k ≡ s → ⊥) → new k ≡ mid k
+  other k differs = written k ∙ reused_there s users mid k differs
+
+  here : (e : Info) → mid s ≡ Some e → new s ≡ Some (with_users users e)
+  here e h = written s ∙ reused_here s users mid ∙ ap (option_map (with_users users)) h
+
+  pub users_here : users_at new s ≡ users
+  users_here = let (e, h) = from_kept mid s some in users_of new s (with_users users e) (here e h)
+
+  pub users_other : (k : ℕ) → (k ≡ s → ⊥) → users_at new k ≡ users_at mid k
+  users_other k differs = same_users mid new k (other k differs)
+
+  listed_from : (k : ℕ) → Lists old x (users_at mid k) (users_at new k)
+  listed_from k = elim (cases_eq k s) [
+    | inl at_s ↦ subst (λ n. Lists old x (users_at mid n) (users_at new n)) (sym at_s) (subst (Lists old x (users_at mid s)) (sym users_here) (record {
+      keeps = λ y c e there same. let (f, found, is) = u.there y.slot e there in lists.keeps y c f found (ap (λ (i : Info). i.stamp) is ∙ same);
+      only = lists.only;
+    }))
+    | inr differs ↦ lists_same (users_other k differs)
+  ]
+
+  pub uses_more : Uses x (ss ++ s ∷ []) old new
+  uses_more = record {
+    there = λ k e h. let (f, found, is) = u.there k e h in elim (cases_eq k s) [
+      | inl at_s ↦ (with_users users f, ap new at_s ∙ here f (ap mid (sym at_s) ∙ found), ap (with_users users) is)
+      | inr differs ↦ (f, other k differs ∙ found, is)
+    ];
+    free = λ k h. elim (cases_eq k s) [
+      | inl at_s ↦ let (e, there) = from_kept mid s some in absurd (none-some e (sym (u.free s (ap old (sym at_s) ∙ h)) ∙ there))
+      | inr differs ↦ other k differs ∙ u.free k h
+    ];
+    users = reads_more cases_eq s u.users listed_from users_other;
+  }
+
+pub still_kept : {x : Edge} {old new : Memory} {ss : List ℕ} → Uses x ss old new → (k : ℕ) → IsSome (old k) → IsSome (new k)
+still_kept {old = old} {new = new} u k some = let (e, h) = from_kept old k some in let (f, found, is) = u.there k e h in ap is_some found
+
+pub still_there : (s : ℕ) (us : List Edge) (m mid : Memory) → IsSome (m s) → ((k : ℕ) → mid k ≡ reused s us m k) → IsSome (mid s)
+still_there s us m mid some is = let (e, there) = from_kept m s some in let (f, found, same) = reused_from s us m mid is s e there in ap is_some found
+
+-- an edge that tells of no entry is let go
+pub keeps_itself : (m : Memory) (old : List Edge) → Keeps m old old
+keeps_itself m old = kept_all m old old refl
+
+pub purge_one : {m : Memory} {old mid new : List Edge} (i : ℕ) (x : Edge) → Keeps m old mid → i < length mid → x ≡ get_or mid i x → is_current m x ≡ false → new ≡ swap_remove mid i x → Keeps m old new
+purge_one {m} {old} {mid} {new} i x k inside is stale swapped =
+    let shuffled : IsPermutation mid (x ∷ new) = subst (λ ys. IsPermutation mid (x ∷ ys)) (sym swapped) (IsPermutation-swap_remove mid i x inside is) in
+    record {
+      keeps = λ y c e there same. elim (Contains-cons_cases x y new (Contains-permutation mid (x ∷ new) y shuffled (k.keeps y c e there same))) [
+        | inl alike ↦ absurd (let fresh = ap (is_current m) alike ∙ current m y e there same in cc)
+        | inr rest ↦ rest
+      ];
+      from = λ y c. k.from y (Contains-permutation (x ∷ new) mid y (IsPermutation-sym mid (x ∷ new) shuffled) (Contains-cons x y new c));
+    }
+
+-- an edge that was read by its place
+pub current_read : (m : Memory) (read edges : List Edge) (i : ℕ) (x : Edge) → read ≡ edges → i < length edges → x ≡ get_or edges i x → (d : Edge) → is_current m x ≡ is_current m (get_or read i d)
+current_read m read edges i x same less is d = ap (is_current m) (is ∙ get_or_default edges i x d less ∙ ap (λ (es : List Edge). get_or es i d) (sym same))

@@ -1,0 +1,23 @@
+-- What is told of the entry in a slot.
+use Rattle.std.proofs.Common.{◌≡◌, ℕ, Bool, false, ◌&&◌, not, nat_eq, Option, None, Some, option_map, ap}
+use Rattle.at_model.specs.Run.{Instance}
+use Rattle.at_cache.specs.declared.edge.Edge.{Edge}
+use Rattle.at_cache.specs.declared.entry.Entry.{Entry}
+use Rattle.at_cache.specs.Info.{info}
+use Rattle.at_cache.specs.Flushing.{is_fresh}
+
+module _ (x : Edge) where
+  current_of : Option (Instance ℕ × Entry) → Bool
+  current_of o = elim (option_map info o) as (λ _. Bool) [ None ↦ false | Some e ↦ nat_eq e.stamp x.stamp ]
+
+  pub current_some : (o : Option (Instance ℕ × Entry)) (e : Instance ℕ × Entry) → Some e ≡ o → nat_eq e.1.stamp x.stamp ≡ (elim (option_map info o) as (λ _. Bool) [ None ↦ false | Some e ↦ nat_eq e.stamp x.stamp ])
+  current_some o e h = ap (λ (o : Option (Instance ℕ × Entry)). elim (option_map info o) as (λ _. Bool) [ None ↦ false | Some e ↦ nat_eq e.stamp x.stamp ]) h
+
+  pub current_none : (o : Option (Instance ℕ × Entry)) → None ≡ o → false ≡ (elim (option_map info o) as (λ _. Bool) [ None ↦ false | Some e ↦ nat_eq e.stamp x.stamp ])
+  current_none o h = ap (λ (o : Option (Instance ℕ × Entry)). elim (option_map info o) as (λ _. Bool) [ None ↦ false | Some e ↦ nat_eq e.stamp x.stamp ]) h
+
+  pub fresh_some : (o : Option (Instance ℕ × Entry)) (e : Instance ℕ × Entry) → Some e ≡ o → (nat_eq e.1.stamp x.stamp && not e.1.going) ≡ is_fresh x (option_map info o)
+  fresh_some o e h = ap (λ (o : Option (Instance ℕ × Entry)). is_fresh x (option_map info o)) h
+
+  pub fresh_none : (o : Option (Instance ℕ × Entry)) → None ≡ o → false ≡ is_fresh x (option_map info o)
+  fresh_none o h = ap (λ (o : Option (Instance ℕ × Entry)). is_fresh x (option_map info o)) h

@@ -1,0 +1,12 @@
+use Rattle.std.proofs.Common.{map, take}
+use Rattle.at_store.specs.Located.{loc_view}
+use Rattle.at_cache.specs.Info.{memory_of}
+use Rattle.at_cache.specs.Readers.{edges_at}
+use Rattle.at_cache.specs.Putting.{AreListed, Reads}
+use Rattle.at_cache.proofs.linking.add_readers.Given as goal
+
+abbrev pub invariant-loop-location : goal.invariant-loop-location
+invariant-loop-location l = record {
+  reads : Reads (memory_of l.entries) l.edge (map loc_view (take l.location-index l.locations)) (edges_at l.initial.readers.items) (edges_at l.readers.items);
+  listed : AreListed l.edge (map loc_view (take l.location-index l.locations)) (edges_at l.readers.items);
+}

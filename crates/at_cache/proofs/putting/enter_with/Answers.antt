@@ -1,0 +1,57 @@
+use Rattle.std.proofs.Common.{◌∙◌, ap, map, sym, subst, refl, rules}
+use Rattle.at_body.specs.Values.{value_view}
+use Rattle.at_store.specs.Located.{loc_view}
+use Rattle.at_cache.specs.Info.{memory_of}
+use Rattle.at_cache.specs.Putting.{AreTaken, fresh_entry}
+use Rattle.at_cache.specs.Recorded.{AreOf}
+use Rattle.at_cache.proofs.Done.{kept_on, put_done, stale}
+use Rattle.at_cache.proofs.Listing.{reads_none, uses_none}
+use Rattle.at_cache.proofs.putting.enter_with.Goals as goal
+
+pub returns-in_err-entry-clause-indexed : goal.returns-in_err-entry-clause-indexed
+returns-in_err-entry-clause-indexed c i = stale c.args.entries.now c.args.entries.now {x = record { slot = 0; stamp = c.args.stamp }} _ i refl (reads_none _ _ _) (uses_none _ _)
+
+pub returns-in_err-entry-clause-err : goal.returns-in_err-entry-clause-err
+returns-in_err-entry-clause-err c i = let k = kept_on c.args.entries.now c.args.entries.now {x = record { slot = 0; stamp = c.args.stamp }} _ i refl (reads_none _ _ _) (uses_none _ _) in search rules
+
+pub returns-in_err-add_readers-clause-indexed : goal.returns-in_err-add_readers-clause-indexed
+returns-in_err-add_readers-clause-indexed c i = stale c.args.entries.now c.args.entries.now _ i refl c.add_readers.ensures.reads (uses_none _ _)
+
+pub returns-in_err-add_readers-clause-err : goal.returns-in_err-add_readers-clause-err
+returns-in_err-add_readers-clause-err c i = let k = kept_on c.args.entries.now c.args.entries.now _ i refl c.add_readers.ensures.reads (uses_none _ _) in search rules
+
+pub returns-in_err-add_users-clause-indexed : goal.returns-in_err-add_users-clause-indexed
+returns-in_err-add_users-clause-indexed c i = stale c.args.entries.now c.add_users.new.entries _ i refl c.add_readers.ensures.reads c.add_users.ensures.uses
+
+pub returns-in_err-add_users-clause-err : goal.returns-in_err-add_users-clause-err
+returns-in_err-add_users-clause-err c i = let k = kept_on c.args.entries.now c.add_users.new.entries _ i refl c.add_readers.ensures.reads c.add_users.ensures.uses in search rules
+
+pub returns-clause-indexed : goal.returns-clause-indexed
+returns-clause-indexed c i =
+    let m = memory_of c.args.entries.now in
+    let links = c.as_slice.ensures.value in
+    let is = c.in_ok-entry.ensures.entry c.args.inst ∙ ap (λ ls. fresh_entry c.args.inst (value_view c.args.value) (map loc_view c.args.reads.now) ls c.args.stamp) (sym links) in
+    (put_done c.args.entries.now c.add_users.new.entries _ i refl c.add_readers.ensures.reads c.add_users.ensures.uses c.enter.new.self c.args.inst (value_view c.args.value) c.args.uses.now c.in_ok-entry.entry.slot _ c.enter.result refl is c.enter.ensures.enters c.enter.ensures.err
+    (rw c.in_ok-add_readers.was at c.add_readers.ensures.listed) (rw c.in_ok-add_users.was at c.add_users.ensures.listed) (subst (AreTaken m) (sym links) c.in_ok-entry.ensures.taken) (subst (AreOf c.args.entries.now c.args.uses.now) (sym links) c.in_ok-entry.ensures.covers)).0
+
+pub returns-clause-puts : goal.returns-clause-puts
+returns-clause-puts c i =
+    let m = memory_of c.args.entries.now in
+    let links = c.as_slice.ensures.value in
+    let is = c.in_ok-entry.ensures.entry c.args.inst ∙ ap (λ ls. fresh_entry c.args.inst (value_view c.args.value) (map loc_view c.args.reads.now) ls c.args.stamp) (sym links) in
+    (put_done c.args.entries.now c.add_users.new.entries _ i refl c.add_readers.ensures.reads c.add_users.ensures.uses c.enter.new.self c.args.inst (value_view c.args.value) c.args.uses.now c.in_ok-entry.entry.slot _ c.enter.result refl is c.enter.ensures.enters c.enter.ensures.err
+    (rw c.in_ok-add_readers.was at c.add_readers.ensures.listed) (rw c.in_ok-add_users.was at c.add_users.ensures.listed) (subst (AreTaken m) (sym links) c.in_ok-entry.ensures.taken) (subst (AreOf c.args.entries.now c.args.uses.now) (sym links) c.in_ok-entry.ensures.covers)).1
+
+pub returns-clause-err : goal.returns-clause-err
+returns-clause-err c i =
+    let m = memory_of c.args.entries.now in
+    let links = c.as_slice.ensures.value in
+    let is = c.in_ok-entry.ensures.entry c.args.inst ∙ ap (λ ls. fresh_entry c.args.inst (value_view c.args.value) (map loc_view c.args.reads.now) ls c.args.stamp) (sym links) in
+    (put_done c.args.entries.now c.add_users.new.entries _ i refl c.add_readers.ensures.reads c.add_users.ensures.uses c.enter.new.self c.args.inst (value_view c.args.value) c.args.uses.now c.in_ok-entry.entry.slot _ c.enter.result refl is c.enter.ensures.enters c.enter.ensures.err
+    (rw c.in_ok-add_readers.was at c.add_readers.ensures.listed) (rw c.in_ok-add_users.was at c.add_users.ensures.listed) (subst (AreTaken m) (sym links) c.in_ok-entry.ensures.taken) (subst (AreOf c.args.entries.now c.args.uses.now) (sym links) c.in_ok-entry.ensures.covers)).2
+
+pub enter-requires : goal.enter-requires
+enter-requires c = record { absent = c.add_users.ensures.absent c.args.inst c.requires.absent; slot = c.in_ok-entry.ensures.slot ∙ sym c.add_users.ensures.key }
+
+pub add_users-requires : goal.add_users-requires
+add_users-requires c = record { there = subst (AreTaken (memory_of c.args.entries.now)) (sym c.as_slice.ensures.value) c.in_ok-entry.ensures.taken }

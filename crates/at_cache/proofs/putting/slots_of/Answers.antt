@@ -1,0 +1,35 @@
+use Rattle.std.proofs.Common.{◌∙◌, [], arith, ap, sym, refl, subst, take_all}
+use Rattle.at_cache.specs.Info.{memory_of}
+use Rattle.at_cache.specs.Putting.{AreTaken}
+use Rattle.at_cache.specs.Recorded.{AreOf}
+use Rattle.at_cache.proofs.Done.{of_more, of_none, taken_more}
+use Rattle.at_cache.proofs.putting.slots_of.Goals as goal
+use Rattle.at_cache.proofs.putting.slots_of.Goals.{in-Some+in_ok-push, in_default}
+
+pub loop-used-init : goal.loop-used-init
+loop-used-init c = record {
+  taken = subst (AreTaken (memory_of c.args.entries.now)) (sym c.new-slots.ensures.items) (λ s d. absurd (omega (arith, d.1)));
+  covers = subst (AreOf c.args.entries.now []) (sym c.new-slots.ensures.items) (λ puts l. refl);
+}
+
+pub loop-used-preserved : goal.loop-used-preserved
+loop-used-preserved c =
+    let t = c.args.entries.now in
+    elim c.match-get.branch [
+      | in-Some+in_ok-push w ↦
+          let found = sym w.in-Some.ensures.value in
+          let pushed = ap (λ v. v.items) w.slots-is ∙ w.in_ok-push.ensures.items in
+          record {
+            taken = taken_more t _ w.in-Some.entry.now _ _ found pushed c.loop-used.invariant.taken;
+            covers = of_more t c.args.uses.now _ _ c.used-item.is c.loop-used-test.true _ c.loop-used.invariant.covers w.in-Some.entry.now _ found pushed;
+          }
+      | in_default w ↦
+          let same = ap (λ v. v.items) w.slots-is in
+          record {
+            taken = subst (AreTaken (memory_of t)) (sym same) c.loop-used.invariant.taken;
+            covers = of_none t c.args.uses.now _ _ c.used-item.is c.loop-used-test.true _ c.loop-used.invariant.covers _ (sym w.in_default.ensures.value) same;
+          }
+    ]
+
+pub returns-clause-covers : goal.returns-clause-covers
+returns-clause-covers c = subst (λ us. AreOf c.args.entries.now us c.loop-used.slots.items) (take_all c.loop-used.used-index c.args.uses.now c.loop-used-test.false) c.loop-used.invariant.covers

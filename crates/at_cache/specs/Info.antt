@@ -1,0 +1,36 @@
+-- What is kept, by slots.
+use Rattle.std.specs.Prelude.{ℕ, List, Bool, Option, map, option_map}
+use Rattle.slab.specs.Slab.{get}
+use Rattle.indexmap.specs.IndexMap.{index_map_len}
+use Rattle.at_model.specs.Run.{Value, Instance, Location}
+use Rattle.at_body.specs.Values.{value_view}
+use Rattle.at_store.specs.Located.{loc_view}
+use Rattle.at_cache.specs.declared.edge.Edge.{Edge}
+use Rattle.at_cache.specs.declared.entry.Entry.{Entry}
+use Rattle.at_cache.specs.declared.table.Table.{Table}
+use Rattle.at_cache.specs.Placed.{at}
+
+-- an entry: its instance and value, its direct reads, the slots of those that it used, the number of its `put`, the edges to
+-- those that used it, whether it goes, and which one goes next
+pub record Info : Type 0 where
+  pub instance : Instance ℕ
+  pub value : Value ℕ
+  pub reads : List (Location ℕ)
+  pub links : List ℕ
+  pub stamp : ℕ
+  pub users : List Edge
+  pub going : Bool
+  pub next : Option ℕ
+
+abbrev pub info : Instance ℕ × Entry → Info
+info e = record { instance = e.0; value = value_view e.1.value; reads = map loc_view e.1.reads.items; links = e.1.links.items; stamp = e.1.stamp; users = e.1.users.items; going = e.1.going; next = e.1.next }
+
+-- the entry in each slot
+abbrev pub Memory : Type 0
+Memory = ℕ → Option Info
+
+abbrev pub memory_of : Table → Memory
+memory_of t k = option_map info (at t.entries.entries (get t.places) k)
+
+abbrev pub table_len : Table → ℕ
+table_len t = index_map_len t.entries

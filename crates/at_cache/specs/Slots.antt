@@ -1,0 +1,25 @@
+-- What a write does to one entry of a map.
+use Rattle.std.specs.Prelude.{◌≡◌, ℕ, List, Option, Some, true, slice_get, slice_set}
+use Rattle.indexmap.specs.Layout.{set_value_at}
+use Rattle.smallvec.specs.SmallVec.{SmallVec}
+use Rattle.at_model.specs.Run.{Instance}
+use Rattle.at_cache.specs.declared.edge.Edge.{Edge}
+use Rattle.at_cache.specs.declared.entry.Entry.{Entry}
+use Rattle.at_cache.specs.declared.facet.Readers.{Readers}
+
+abbrev pub with_mark : Option ℕ → Entry → Entry
+with_mark first e = record e { going = true; next = first }
+
+abbrev pub with_list : SmallVec Edge → Entry → Entry
+with_list users e = record e { users = users }
+
+-- the entry at the place is changed so
+abbrev pub HasWritten : (Entry → Entry) → ℕ → (old new : List (Instance ℕ × Entry)) → Type 0
+HasWritten f p old new = (e : Instance ℕ × Entry) → slice_get old p ≡ Some e → new ≡ set_value_at old p (f e.1)
+
+abbrev pub with_edges : SmallVec Edge → Readers → Readers
+with_edges edges r = record r { edges = edges }
+
+-- what stands at the place is changed so
+abbrev pub HasChanged : (Readers → Readers) → ℕ → (old new : List Readers) → Type 0
+HasChanged f p old new = (r : Readers) → slice_get old p ≡ Some r → new ≡ slice_set old p (f r)

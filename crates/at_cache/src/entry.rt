@@ -1,0 +1,36 @@
+//! Entries.
+
+use crate::edge::Edges;
+use at_body::Value;
+use at_store::Loc;
+
+/// A value with the locations that its evaluation read, the slots of the entries that it used, and edges to those that used it.
+pub struct Entry {
+    pub value: Value,
+    pub reads: Vec<Loc>,
+    pub links: Vec<usize>,
+    pub slot: usize,
+    /// The number of its `put`.
+    pub stamp: u64,
+    pub users: Edges,
+    /// Whether the flush under way takes the entry out.
+    pub going: bool,
+    /// The slot of the next one that it takes out.
+    pub next: Option<usize>,
+}
+
+/// One call, where each exit that lets it go would else have a case for each field.
+impl Drop for Entry {
+    fn drop(self) {
+        let Entry {
+            value: _,
+            reads: _,
+            links: _,
+            slot: _,
+            stamp: _,
+            users: _,
+            going: _,
+            next: _,
+        } = self;
+    }
+}

@@ -1,0 +1,54 @@
+//! What is looked at of nodes, and by which entries.
+
+ghost use Rattle.std.specs.Prelude.{◌≡◌};
+ghost use Rattle.at_store.specs.Located.{loc_view};
+ghost use Rattle.at_cache.specs.Kept.{node_at};
+ghost use Rattle.at_cache.specs.Readers.{facet_at};
+
+use crate::edge::Edges;
+use at_store::{Loc, Node};
+
+/// What one can look at of a node: a location without its node.
+#[derive(Clone, Copy, PartialEq, Eq)]
+pub enum Facet {
+    Is,
+    Tok(usize),
+    Slot(usize),
+    Up,
+    Idx,
+}
+
+/// A facet of a node, and the edges to the entries that read it.
+#[derive(Drop)]
+pub struct Readers {
+    pub facet: Facet,
+    pub edges: Edges,
+}
+
+impl Facet {
+    /// The location without its node.
+    pub fn of(location: Loc) -> Facet
+        ensures { facet_at (node_at (loc_view location)) result ≡ loc_view location }
+    {
+        match location {
+            Loc::Is(_) => Facet::Is,
+            Loc::Tok(_, part) => Facet::Tok(part),
+            Loc::Slot(_, part) => Facet::Slot(part),
+            Loc::Up(_) => Facet::Up,
+            Loc::Idx(_) => Facet::Idx,
+        }
+    }
+
+    /// The location of that node.
+    pub fn at(self, node: Node) -> Loc
+        ensures { loc_view result ≡ facet_at node self }
+    {
+        match self {
+            Facet::Is => Loc::Is(node),
+            Facet::Tok(part) => Loc::Tok(node, part),
+            Facet::Slot(part) => Loc::Slot(node, part),
+            Facet::Up => Loc::Up(node),
+            Facet::Idx => Loc::Idx(node),
+        }
+    }
+}

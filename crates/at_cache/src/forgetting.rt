@@ -1,0 +1,115 @@
+//! What stands for a touched location is taken out.
+
+ghost use Rattle.std.specs.Prelude.{◌≡◌, ◌<◌, ◌⊎◌, ℕ, List, [], ◌++◌, Option, None, Some, IsTrue, true};
+ghost use Rattle.at_model.specs.Run.{Location};
+ghost use Rattle.at_cache.specs.declared.edge.Edge.{Edge};
+ghost use Rattle.at_cache.specs.Info.{Memory, memory_of, table_len};
+ghost use Rattle.at_cache.specs.Flushing.{Begins, IsIdle, Work, dooms, first_after};
+ghost use Rattle.at_cache.specs.Readers.{edges_among, edges_at};
+ghost use Rattle.at_cache.specs.Recorded.{IsIndexed, kept_in};
+ghost use Rattle.at_cache.specs.Kept.{Answers, LeavesUntouched, LosesTouched};
+
+use crate::edge::Edge;
+use crate::facet::Readers;
+use crate::table::Table;
+use at_store::{Loc, Node};
+
+// The entry that the edge tells of, if it is there, goes too: the first one that goes from now on.
+fn doom(entries: &mut Table, first: Option<usize>, edge: &Edge) -> Option<usize>
+    ensures written { (k : ℕ) → memory_of entries.new k ≡ dooms edge.now first (memory_of entries.old) k }
+    ensures first { result ≡ first_after edge.now first (memory_of entries.old) }
+    ensures len { table_len entries.new ≡ table_len entries.old }
+{
+    if entries.is_fresh(edge) {
+        entries.set_going(edge.slot, first);
+        Some(edge.slot)
+    } else {
+        first
+    }
+}
+
+// So do those that all these edges tell of.
+fn doom_all(entries: &mut Table, first: Option<usize>, edges: &[Edge]) -> Option<usize>
+    ensures works { (old : Memory) (start : List Edge) → Work old start edges.now first (memory_of entries.old) → Work old start [] result (memory_of entries.new) }
+    ensures len { table_len entries.new ≡ table_len entries.old }
+{
+    let mut first = first;
+    for edge in edges {
+        first = doom(entries, first, edge);
+    }
+    first
+}
+
+// What reads a touched location of the node goes: the first one that goes.
+fn begin_at<F: Fn(Loc) -> bool>(
+    entries: &mut Table,
+    first: Option<usize>,
+    node: Node,
+    readers: &[Readers],
+    touched: &F,
+) -> Option<usize>
+    requires { F.IsAlwaysCallable touched.now }
+    ensures { (old : Memory) (start : List Edge) → Work old start [] first (memory_of entries.old) → (more : List Edge) × Work old (start ++ more) [] result (memory_of entries.new) × Begins (Answers (F.post touched.now)) (edges_among node readers.now) more }
+{
+    let mut first = first;
+    for reader in readers {
+        if touched(reader.facet.at(node)) {
+            first = doom_all(entries, first, reader.edges.as_slice());
+        }
+    }
+    first
+}
+
+// What reads a touched location goes: the first one that goes.
+fn begin<F: Fn(Loc) -> bool>(
+    entries: &mut Table,
+    readers: &[Vec<Readers>],
+    touched: &F,
+) -> Option<usize>
+    requires { F.IsAlwaysCallable touched.now }
+    ensures { IsIdle (memory_of entries.old) → (start : List Edge) × Work (memory_of entries.old) start [] result (memory_of entries.new) × Begins (Answers (F.post touched.now)) (edges_at readers.now) start }
+{
+    let mut first = None;
+    for number in 0..readers.len() {
+        first = begin_at(
+            entries,
+            first,
+            Node::new(number),
+            readers[number].as_slice(),
+            touched,
+        );
+    }
+    first
+}
+
+// The first entry that goes is taken out, and those that used it go, too.
+fn forget(entries: &mut Table, slot: usize) -> Option<usize>
+    ensures works { (old : Memory) (start : List Edge) → Work old start [] (Some slot) (memory_of entries.old) → Work old start [] result (memory_of entries.new) }
+    ensures fewer { (table_len entries.new < table_len entries.old) ⊎ ((result ≡ None) × (table_len entries.new ≡ table_len entries.old)) }
+{
+    match entries.remove(slot) {
+        Some(entry) => doom_all(entries, entry.next, entry.users.as_slice()),
+        None => None,
+    }
+}
+
+// All that go are taken out.
+fn forget_all(entries: &mut Table, first: Option<usize>)
+    ensures works { (old : Memory) (start : List Edge) → Work old start [] first (memory_of entries.old) → Work old start [] None (memory_of entries.new) }
+{
+    let mut first = first;
+    while let Some(slot) = first {
+        first = forget(entries, slot);
+    }
+}
+
+/// All that stands for a touched location is taken out.
+pub fn take_out<F: Fn(Loc) -> bool>(entries: &mut Table, readers: &[Vec<Readers>], touched: &F)
+    requires { F.IsAlwaysCallable touched.now }
+    ensures indexed { (puts : ℕ) → IsIndexed (edges_at readers.now) puts (memory_of entries.old) → IsIndexed (edges_at readers.now) puts (memory_of entries.new) }
+    ensures leaves { (puts : ℕ) → IsIndexed (edges_at readers.now) puts (memory_of entries.old) → LeavesUntouched (Answers (F.post touched.now)) (kept_in entries.old puts) (kept_in entries.new puts) }
+    ensures loses { (puts : ℕ) → IsIndexed (edges_at readers.now) puts (memory_of entries.old) → LosesTouched (Answers (F.post touched.now)) (kept_in entries.old puts) (kept_in entries.new puts) }
+{
+    let first = begin(entries, readers, touched);
+    forget_all(entries, first);
+}

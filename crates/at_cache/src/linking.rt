@@ -1,0 +1,211 @@
+//! One edge more of what an entry rests on.
+
+ghost use Rattle.std.specs.Prelude.{◌≡◌, ◌≢◌, ◌<◌, ℕ, List, Option, None, Some, IsSome, Contains, IfOk, IfSome, OnOk, length, map, option_map, slice_get, slice_set};
+ghost use Rattle.std.specs.Map.{lookup};
+ghost use Rattle.at_model.specs.Run.{Instance, Location};
+ghost use Rattle.at_body.specs.Same.{same_instance};
+ghost use Rattle.at_store.specs.Located.{loc_view};
+ghost use Rattle.at_cache.specs.declared.edge.Edge.{Edge};
+ghost use Rattle.at_cache.specs.declared.facet.Readers.{Readers};
+ghost use Rattle.at_cache.specs.Info.{memory_of};
+ghost use Rattle.at_cache.specs.Putting.{AreListed, AreTaken, Keeps, Lists, Reads, Uses, reused, users_at};
+ghost use Rattle.at_cache.specs.Readers.{edges_among, edges_at, facet_at};
+ghost use Rattle.at_cache.specs.Slots.{HasChanged, with_edges};
+
+use crate::edge::{Edge, Edges};
+use crate::facet::{Facet, Readers};
+use crate::table::Table;
+use at_store::Loc;
+use std::alloc::{AllocError, Global};
+use std::mem;
+
+// Only the edges that tell of an entry stay.
+fn purge(entries: &Table, edges: &mut Edges)
+    ensures { Keeps (memory_of entries.now) edges.old.items edges.new.items }
+{
+    let mut index = 0;
+    while index < edges.len() {
+        let edge = edges.as_slice()[index];
+        if entries.is_current(&edge) {
+            index += 1;
+        } else {
+            edges.swap_remove(index);
+        }
+    }
+}
+
+// Makes room for one more edge: a list that is full loses the edges that tell of no entry first, and gets more room only where
+// half of it or less is left then.
+fn make_room(entries: &Table, edges: &mut Edges) -> Result<(), AllocError>
+    ensures { Keeps (memory_of entries.now) edges.old.items edges.new.items }
+{
+    if edges.len() < edges.capacity() {
+        return Ok(());
+    }
+    purge(entries, edges);
+    let count = edges.len();
+    if count >= edges.capacity() / 2 {
+        edges.reserve(count)?;
+    }
+    Ok(())
+}
+
+// One more edge of a list.
+fn add_edge(entries: &Table, edges: &mut Edges, edge: Edge) -> Result<(), AllocError>
+    ensures lists { Lists (memory_of entries.now) edge edges.old.items edges.new.items }
+    ensures has { OnOk result (Contains edges.new.items edge) }
+{
+    make_room(entries, edges)?;
+    edges.push(edge)?;
+    Ok(())
+}
+
+// Where the facet stands among those of a node, if it does.
+fn position_of(readers: &[Readers], facet: Facet) -> Option<usize>
+    ensures { IfSome result (λ k. (r : Readers) × (slice_get readers.now k ≡ Some r) × (r.facet ≡ facet)) }
+{
+    for index in 0..readers.len() {
+        if readers[index].facet == facet {
+            return Some(index);
+        }
+    }
+    None
+}
+
+// Where the facet stands among those of a node; it comes behind them where it isn't there yet.
+fn place_for(alloc: Global, readers: &mut Vec<Readers>, facet: Facet) -> Result<usize, AllocError>
+    ensures same { (n : ℕ) (l : Location ℕ) → edges_among n readers.new.items l ≡ edges_among n readers.old.items l }
+    ensures there { IfOk result (λ k. (r : Readers) × (slice_get readers.new.items k ≡ Some r) × (r.facet ≡ facet)) }
+{
+    if let Some(place) = position_of(readers.as_slice(), facet) {
+        return Ok(place);
+    }
+    let place = readers.len();
+    readers.push(Readers {
+        facet,
+        edges: Edges::new(alloc),
+    })?;
+    Ok(place)
+}
+
+// The edges of what stands at that place, which has these then.
+fn exchange_edges(readers: &mut Vec<Readers>, place: usize, edges: Edges) -> Edges
+    requires there { place < length readers.old.items }
+    ensures written { HasChanged (with_edges edges) place readers.old.items readers.new.items }
+    ensures was { option_map (λ r. r.edges) (slice_get readers.old.items place) ≡ Some result }
+{
+    let found = &mut readers[place];
+    mem::replace(&mut found.edges, edges)
+}
+
+// One more edge of a facet, among those of a node.
+fn add_among(
+    alloc: Global,
+    entries: &Table,
+    readers: &mut Vec<Readers>,
+    facet: Facet,
+    edge: Edge,
+) -> Result<(), AllocError>
+    ensures lists { (n : ℕ) (l : Location ℕ) → Lists (memory_of entries.now) edge (edges_among n readers.old.items l) (edges_among n readers.new.items l) }
+    ensures has { (n : ℕ) → OnOk result (Contains (edges_among n readers.new.items (facet_at n facet)) edge) }
+    ensures others { (n : ℕ) (l : Location ℕ) → l ≢ facet_at n facet → edges_among n readers.new.items l ≡ edges_among n readers.old.items l }
+{
+    let place = place_for(alloc, readers, facet)?;
+    let mut edges = exchange_edges(readers, place, Edges::new(alloc));
+    let result = add_edge(entries, &mut edges, edge);
+    exchange_edges(readers, place, edges);
+    result
+}
+
+// A list for the node of that number, where there is none yet.
+fn make_list(
+    alloc: Global,
+    readers: &mut Vec<Vec<Readers>>,
+    number: usize,
+) -> Result<(), AllocError>
+    ensures same { (l : Location ℕ) → edges_at readers.new.items l ≡ edges_at readers.old.items l }
+    ensures there { OnOk result (number < length readers.new.items) }
+{
+    while readers.len() <= number {
+        readers.push(Vec::new(alloc))?;
+    }
+    Ok(())
+}
+
+// The list of the node of that number, which has this one then.
+fn exchange_list(readers: &mut Vec<Vec<Readers>>, number: usize, list: Vec<Readers>) -> Vec<Readers>
+    requires there { number < length readers.old.items }
+    ensures written { readers.new.items ≡ slice_set readers.old.items number list }
+    ensures was { slice_get readers.old.items number ≡ Some result }
+{
+    mem::replace(&mut readers[number], list)
+}
+
+// One more edge of a location.
+fn add_reader(
+    alloc: Global,
+    entries: &Table,
+    readers: &mut Vec<Vec<Readers>>,
+    location: Loc,
+    edge: Edge,
+) -> Result<(), AllocError>
+    ensures lists { (l : Location ℕ) → Lists (memory_of entries.now) edge (edges_at readers.old.items l) (edges_at readers.new.items l) }
+    ensures has { OnOk result (Contains (edges_at readers.new.items (loc_view location)) edge) }
+    ensures others { (l : Location ℕ) → l ≢ loc_view location → edges_at readers.new.items l ≡ edges_at readers.old.items l }
+{
+    let number = location.node().index();
+    make_list(alloc, readers, number)?;
+    let mut list = exchange_list(readers, number, Vec::new(alloc));
+    let result = add_among(alloc, entries, &mut list, Facet::of(location), edge);
+    exchange_list(readers, number, list);
+    result
+}
+
+// One more edge to an entry that used this one.
+fn add_user(alloc: Global, entries: &mut Table, slot: usize, edge: Edge) -> Result<(), AllocError>
+    requires there { IsSome (memory_of entries.old slot) }
+    ensures lists { (users : List Edge) × ((k : ℕ) → memory_of entries.new k ≡ reused slot users (memory_of entries.old) k) × Lists (memory_of entries.old) edge (users_at (memory_of entries.old) slot) users × OnOk result (Contains users edge) }
+    ensures key { entries.new.places.vacant_key ≡ entries.old.places.vacant_key }
+    ensures absent { (i : Instance ℕ) → lookup (same_instance i) entries.old.entries.entries ≡ None → lookup (same_instance i) entries.new.entries.entries ≡ None }
+{
+    let mut users = entries.exchange_users(slot, Edges::new(alloc));
+    let result = add_edge(entries, &mut users, edge);
+    entries.exchange_users(slot, users);
+    result
+}
+
+/// One more edge of each of these locations.
+pub fn add_readers(
+    alloc: Global,
+    entries: &Table,
+    readers: &mut Vec<Vec<Readers>>,
+    locations: &[Loc],
+    edge: Edge,
+) -> Result<(), AllocError>
+    ensures reads { Reads (memory_of entries.now) edge (map loc_view locations.now) (edges_at readers.old.items) (edges_at readers.new.items) }
+    ensures listed { OnOk result (AreListed edge (map loc_view locations.now) (edges_at readers.new.items)) }
+{
+    for location in locations {
+        add_reader(alloc, entries, readers, *location, edge)?;
+    }
+    Ok(())
+}
+
+/// One more edge to each of these entries that used this one.
+pub fn add_users(
+    alloc: Global,
+    entries: &mut Table,
+    slots: &[usize],
+    edge: Edge,
+) -> Result<(), AllocError>
+    requires there { AreTaken (memory_of entries.old) slots.now }
+    ensures uses { Uses edge slots.now (memory_of entries.old) (memory_of entries.new) }
+    ensures listed { OnOk result (AreListed edge slots.now (users_at (memory_of entries.new))) }
+    ensures key { entries.new.places.vacant_key ≡ entries.old.places.vacant_key }
+    ensures absent { (i : Instance ℕ) → lookup (same_instance i) entries.old.entries.entries ≡ None → lookup (same_instance i) entries.new.entries.entries ≡ None }
+{
+    for slot in slots {
+        add_user(alloc, entries, *slot, edge)?;
+    }
+    Ok(())
+}

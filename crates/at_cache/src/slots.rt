@@ -1,0 +1,194 @@
+//! What is done to entries by their slots.
+
+ghost use Rattle.std.specs.Prelude.{◌≡◌, ◌<◌, ◌+◌, ◌&&◌, ◌++◌, ◌∷◌, [], not, ℕ, Option, None, Some, IsSome, option_map, nat_eq, if◌then◌else◌, slice_get, OnSome, OnErr, OnOk, IfNone, IfSome, MatchBool, is_some, ◌≢◌};
+ghost use Rattle.std.specs.Map.{lookup};
+ghost use Rattle.at_model.specs.Run.{Instance};
+ghost use Rattle.at_body.specs.Same.{same_instance};
+ghost use Rattle.slab.specs.Slab.{get};
+ghost use Rattle.indexmap.specs.IndexMap.{IsUnique, index_map_len};
+ghost use Rattle.at_cache.specs.Info.{Memory, info, memory_of, table_len};
+ghost use Rattle.at_cache.specs.Placed.{IsMoved, IsPlaced, at};
+ghost use Rattle.at_cache.specs.Flushing.{doomed, is_fresh};
+ghost use Rattle.at_cache.specs.Putting.{Enters, is_current, reused, users_at};
+ghost use Rattle.at_cache.specs.Slots.{HasWritten, with_list, with_mark};
+
+use crate::edge::{Edge, Edges};
+use crate::entry::Entry;
+use crate::table::Table;
+use at_body::Inst;
+use indexmap::IndexMap;
+use slab::Slab;
+use std::alloc::AllocError;
+use std::mem;
+
+// The mark of the entry at that place.
+fn write_mark(entries: &mut IndexMap<Inst, Entry>, place: usize, first: Option<usize>)
+    requires { place < index_map_len entries.old }
+    ensures { HasWritten (with_mark first) place entries.old.entries entries.new.entries }
+{
+    let (_, entry) = entries.pair_mut(place);
+    entry.going = true;
+    entry.next = first;
+}
+
+// The users of the entry at that place, which has these then.
+fn write_users(entries: &mut IndexMap<Inst, Entry>, place: usize, users: Edges) -> Edges
+    requires { place < index_map_len entries.old }
+    ensures written { HasWritten (with_list users) place entries.old.entries entries.new.entries }
+    ensures was { option_map (λ e. e.1.users.items) (slice_get entries.old.entries place) ≡ Some result.items }
+{
+    let (_, entry) = entries.pair_mut(place);
+    mem::replace(&mut entry.users, users)
+}
+
+impl Table {
+    /// The entry in the slot.
+    fn pair(&self, slot: usize) -> Option<(&Inst, &Entry)>
+        ensures { option_map (λ e. (e.0.now, e.1.now)) result ≡ at self.now.entries.entries (get self.now.places) slot }
+    {
+        let place = self.places.get(slot)?;
+        self.entries.get_index(*place)
+    }
+
+    /// Whether the entry that the edge tells of is there, and isn't going yet.
+    pub fn is_fresh(&self, edge: &Edge) -> bool
+        ensures { result ≡ is_fresh edge.now (memory_of self.now edge.now.slot) }
+    {
+        match self.pair(edge.slot) {
+            Some((_, entry)) => entry.is_fresh(edge),
+            None => false,
+        }
+    }
+
+    /// Whether the edge tells of an entry that is there.
+    pub fn is_current(&self, edge: &Edge) -> bool
+        ensures { result ≡ is_current (memory_of self.now) edge.now }
+    {
+        match self.pair(edge.slot) {
+            Some((_, entry)) => entry.stamp == edge.stamp,
+            None => false,
+        }
+    }
+
+    /// The entry in the slot goes, before these.
+    pub fn set_going(&mut self, slot: usize, first: Option<usize>)
+        requires there { IsSome (memory_of self.old slot) }
+        ensures written { (k : ℕ) → memory_of self.new k ≡ (if nat_eq k slot then option_map (doomed first) (memory_of self.old k) else memory_of self.old k) }
+        ensures len { table_len self.new ≡ table_len self.old }
+    {
+        if let Some(place) = self.places.get(slot) {
+            write_mark(&mut self.entries, *place, first);
+        }
+    }
+
+    /// The edges to those that used the entry in the slot, which has these then.
+    pub fn exchange_users(&mut self, slot: usize, users: Edges) -> Edges
+        requires there { IsSome (memory_of self.old slot) }
+        ensures written { (k : ℕ) → memory_of self.new k ≡ reused slot users.items (memory_of self.old) k }
+        ensures was { result.items ≡ users_at (memory_of self.old) slot }
+        ensures key { self.new.places.vacant_key ≡ self.old.places.vacant_key }
+        ensures absent { (i : Instance ℕ) → lookup (same_instance i) self.old.entries.entries ≡ None → lookup (same_instance i) self.new.entries.entries ≡ None }
+    {
+        match self.places.get(slot) {
+            Some(place) => write_users(&mut self.entries, *place, users),
+            None => users,
+        }
+    }
+
+    /// The slot that the next entry gets.
+    pub fn next(&self) -> usize
+        ensures key { result ≡ self.now.places.vacant_key }
+        ensures free { memory_of self.now result ≡ None }
+    {
+        self.places.vacant_key()
+    }
+
+    /// Takes out what is in the slot.
+    pub fn remove(&mut self, slot: usize) -> Option<Entry>
+        ensures value { IfSome result (λ e. (i : Instance ℕ) × (memory_of self.old slot ≡ Some (info (i, e)))) }
+        ensures none { IfNone result ((memory_of self.old slot ≡ None) × (table_len self.new ≡ table_len self.old)) }
+        ensures gone { OnSome result (memory_of self.new slot ≡ None) }
+        ensures others { OnSome result ((k : ℕ) → k ≢ slot → memory_of self.new k ≡ memory_of self.old k) }
+        ensures len { OnSome result (table_len self.new + 1 ≡ table_len self.old) }
+    {
+        let Table { entries, places } = self;
+        take(entries, places, slot)
+    }
+
+    /// The entry of an instance that has none comes into the next slot.
+    pub fn enter(&mut self, instance: Inst, entry: Entry) -> Result<(), AllocError>
+        requires absent { lookup (same_instance instance) self.old.entries.entries ≡ None }
+        requires slot { entry.slot ≡ self.old.places.vacant_key }
+        ensures enters { OnOk result (Enters (memory_of self.old) entry.slot (info (instance, entry)) (memory_of self.new)) }
+        ensures err { OnErr result ((k : ℕ) → memory_of self.new k ≡ memory_of self.old k) }
+    {
+        let Table { entries, places } = self;
+        let slot = places.insert(entries.len())?;
+        if append(entries, instance, entry) {
+            return Ok(());
+        }
+        places.try_remove(slot);
+        Err(AllocError)
+    }
+}
+
+// The slot of what stands at the place, if anything does.
+fn slot_at(entries: &IndexMap<Inst, Entry>, place: usize) -> Option<usize>
+    ensures { result ≡ option_map (λ e. e.1.slot) (slice_get entries.now.entries place) }
+{
+    match entries.get_index(place) {
+        Some((_, entry)) => Some(entry.slot),
+        None => None,
+    }
+}
+
+// The slot is where that place is, if it is taken.
+fn set_place(slots: &mut Slab<usize>, slot: usize, place: usize)
+    ensures { (k : ℕ) → get slots.new k ≡ (if nat_eq k slot then option_map (λ q. place) (get slots.old k) else get slots.old k) }
+{
+    if let Some(at) = slots.get_mut(slot) {
+        *at = place;
+    }
+}
+
+// What stands at the place has come there.
+fn note(entries: &IndexMap<Inst, Entry>, slots: &mut Slab<usize>, place: usize)
+    ensures { IsMoved (option_map (λ e. e.1.slot) (slice_get entries.now.entries place)) place (get slots.old) (get slots.new) }
+{
+    if let Some(slot) = slot_at(entries, place) {
+        set_place(slots, slot, place);
+    }
+}
+
+// Takes out what is in the slot. All others keep their slots.
+fn take(entries: &mut IndexMap<Inst, Entry>, slots: &mut Slab<usize>, slot: usize) -> Option<Entry>
+    ensures placed { IsPlaced entries.old.entries (get slots.old) → IsPlaced entries.new.entries (get slots.new) }
+    ensures removed { IsPlaced entries.old.entries (get slots.old) → result ≡ option_map (λ e. e.1) (at entries.old.entries (get slots.old) slot) }
+    ensures others { IsPlaced entries.old.entries (get slots.old) → (k : ℕ) → at entries.new.entries (get slots.new) k ≡ (if nat_eq k slot then None else at entries.old.entries (get slots.old) k) }
+    ensures len { IsPlaced entries.old.entries (get slots.old) → index_map_len entries.new + (if is_some result then 1 else 0) ≡ index_map_len entries.old }
+{
+    let place = slots.try_remove(slot)?;
+    let (_instance, entry) = entries.swap_remove_index(place)?;
+    note(entries, slots, place);
+    Some(entry)
+}
+
+// The entry of an instance that has none comes behind the others, if there is room.
+fn append(entries: &mut IndexMap<Inst, Entry>, instance: Inst, entry: Entry) -> bool
+    requires { lookup (same_instance instance) entries.old.entries ≡ None }
+    ensures unique { IsUnique same_instance entries.new }
+    ensures entries { MatchBool result (entries.new.entries ≡ entries.old.entries ++ (instance, entry) ∷ []) (entries.new.entries ≡ entries.old.entries) }
+{
+    match entries.insert(instance, entry) {
+        Ok(_) => true,
+        Err(_) => false,
+    }
+}
+
+impl Entry {
+    fn is_fresh(&self, edge: &Edge) -> bool
+        ensures { result ≡ (nat_eq self.now.stamp edge.now.stamp && not self.now.going) }
+    {
+        self.stamp == edge.stamp && !self.going
+    }
+}
