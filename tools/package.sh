@@ -18,12 +18,27 @@ licences() {
   echo "attrd $version: the program, its pages and its samples. Its repository names no licence: ask its authors before you hand it on."
   echo
   echo "Built into the program are these libraries, ported to Rattle, under the licences that follow: ${LIBRARIES[*]}."
+  echo "So are the Rattle kit's own libraries (core, std, os), with which no licence comes."
   for library in "${LIBRARIES[@]}"; do
     for file in "$kit/rattle/$library"/LICENSE*; do
       printf '\n---- %s: %s\n\n' "$library" "$(basename "$file")"
       cat "$file"
     done
   done
+}
+
+# Prints which packages of Debian have the libraries that the program asks for; a library of another one is refused.
+depends() {
+  local glibc library others=""
+  glibc=$(LC_ALL=C grep -a -o 'GLIBC_[0-9][0-9.]*' "$program" | sed 's/GLIBC_//' | sort -V | tail -n 1)
+  for library in $(LD_TRACE_LOADED_OBJECTS=1 "$program" | sed 's/^[[:space:]]*//; s/ .*//'); do
+    case $(basename "$library") in
+      linux-vdso.so.* | ld-linux* | libc.so.* | libm.so.*) ;;
+      libgcc_s.so.*) others=", libgcc-s1" ;;
+      *) echo "$program asks for $library, which the package can't name" >&2; return 1 ;;
+    esac
+  done
+  echo "libc6 (>= $glibc)$others"
 }
 
 # Prints the Debian package's control file.
@@ -34,7 +49,7 @@ Version: $version
 Architecture: $(dpkg --print-architecture)
 Maintainer: attrd <attrd@localhost>
 Installed-Size: $(du -ks "$root" | cut -f 1)
-Depends: libc6 (>= $1)
+Depends: $1
 Section: devel
 Priority: optional
 Description: attribute tree server in the JastAdd profile
@@ -56,11 +71,6 @@ lay_out() {
   chmod -R u=rwX,go=rX "$root"
 }
 
-# The newest version of the C library that the program asks for.
-newest_glibc() {
-  LC_ALL=C grep -a -o 'GLIBC_[0-9][0-9.]*' "$program" | sed 's/GLIBC_//' | sort -V | tail -n 1
-}
-
 if [ $# -ne 2 ] || [ ! -x "$1" ]; then
   echo "tools/package.sh PROGRAM FOLDER" >&2
   exit 2
@@ -80,8 +90,9 @@ if ! command -v dpkg-deb > /dev/null; then
   echo "no dpkg-deb here: the Debian package isn't made" >&2
   exit 0
 fi
+needed=$(depends)
 mkdir "$root/DEBIAN"
-control "$(newest_glibc)" > "$root/DEBIAN/control"
+control "$needed" > "$root/DEBIAN/control"
 package=$folder/attrd_${version}_$(dpkg --print-architecture).deb
 dpkg-deb --root-owner-group --build "$root" "$package" > /dev/null
 echo "$package"
