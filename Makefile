@@ -16,7 +16,7 @@ help:
 	@echo "  make package       ./attrd as a tarball and a Debian package, in dist/ (seconds, behind make build)"
 	@echo "to change it:"
 	@echo "  make warm          proves the libraries once, so that the next two take minutes (60 minutes)"
-	@echo "  make check C=at_demand [F=question]"
+	@echo "  make check C=at_demand [F=demand::Demand::answer]"
 	@echo "                     proves a crate again, or in it one function or module (1 to 10 minutes, behind make warm)"
 	@echo "  make edits C=at_demand"
 	@echo "                     tries the crate's wrong bodies, which the prover has to refuse (1 to 5 minutes, behind make check)"
@@ -67,9 +67,10 @@ package: tools
 warm: tools
 	@cd crates/at_start && rt lib
 
-# Proves the crate C, or its function or module F alone, over what is proved of the crates below it.
+# Proves the crate C, or its function or module F alone, over what is proved of the crates below it. A must-fail edit's line
+# `refused:` is for tools/refused.py, and the kit says of each that it doesn't read it.
 check: tools crate
-	@cd crates/$(C) && rt check --jobs 1 $(if $(F),--only $(F))
+	@set -o pipefail; cd crates/$(C) && rt check --jobs 1 $(if $(F),--only $(F)) 2>&1 | { grep --line-buffered -v 'has a line that is not read' || true; }
 
 # Tries the wrong bodies of the crate C, crates/C/must-fail, each of which the prover has to refuse, over the proved crates below it.
 edits: tools python crate
