@@ -4,8 +4,9 @@
     tools/counts.py [--hold] [--list] [NAME...]
 
 A line of numbers for each crate, or for those that are named. --list names what is too long, each as FILE:LINE. With --hold the
-status is 1 where a bound doesn't hold: no line of a clause over 160 characters, no contract over 1,000 in at_demand and
-at_engine, and at most one in ten clauses of at_engine a repeat."""
+status is 1 where a bound doesn't hold: no line of a clause or a definition over 160 characters, no contract over 1,000 in
+at_demand and at_engine, at most one in ten clauses of at_engine a repeat, no function over 40 lines, at most 30 files of
+lemmas in one folder, and none with the name of a file of specs."""
 import argparse
 import re
 import sys
@@ -13,9 +14,11 @@ from collections import Counter
 from dataclasses import dataclass
 from pathlib import Path
 
-LINE, CONTRACT, REPEATS = 160, 1_000, 0.1
+LINE, CONTRACT, REPEATS, FUNCTION_LINES, FILES = 160, 1_000, 0.1, 40, 30
 SHORT_CONTRACTS, FEW_REPEATS = ("at_demand", "at_engine"), ("at_engine",)
 FUNCTION = re.compile(r"^ *(?:pub(?:\(\w+\))? )?(?:const )?fn (\w+)")
+# What stands in a folder of proofs beside lemmas.
+NOT_LEMMAS = ("Lib.antt", "Answers.antt", "Invariants.antt", "Proof.antt")
 CLAUSE = re.compile(r"^ *(requires|ensures)(?: \*)?(?: \w+)? \{")
 
 
@@ -55,6 +58,22 @@ def clauses_of(file):
     return found
 
 
+def long_functions(file):
+    """The functions of a file, laid out by `rt fmt`, with more lines between their braces than one may have."""
+    found, margin, name, opened = [], None, "", None
+    for number, line in enumerate(file.read_text(encoding="utf-8").splitlines(), 1):
+        named = FUNCTION.match(line)
+        if named:
+            margin, name, opened = line[: len(line) - len(line.lstrip())], f"{file}:{number}: {named[1]}", None
+        if margin is not None and opened is None and (named or line.startswith((margin + "{", margin + ")"))) and line.endswith("{"):
+            opened = number
+        elif opened and line == margin + "}":
+            if number - opened - 1 > FUNCTION_LINES:
+                found.append(f"{name} ({number - opened - 1} lines)")
+            margin = opened = None
+    return found
+
+
 @dataclass
 class Counts:
     """What is counted of a crate, and the places of what is too long."""
@@ -64,6 +83,15 @@ class Counts:
     long_clauses: list
     long_contracts: list
     long_lines: list
+    long_functions: list
+    crowded: list
+    same_names: list
+
+
+def crowded_in(folder):
+    """The folders with more files of lemmas than one may have."""
+    folders = Counter(it.parent for it in folder.rglob("*.antt") if it.name[0].isupper() and it.name not in NOT_LEMMAS)
+    return [f"{it} ({count} files)" for it, count in folders.items() if count > FILES]
 
 
 def counts_of(crate):
@@ -78,19 +106,47 @@ def counts_of(crate):
     long_lines = [f"{file}:{n}" for file, lines in specs for n, it in enumerate(lines, 1) if len(it) > LINE and not it.startswith("use ")]
     long_clauses = [it.place for it in clauses if max(map(len, it.lines)) > LINE]
     long_contracts = [f"{name} ({length:,})" for name, length in contracts.items() if length > CONTRACT]
-    return Counts(len(clauses), len(clauses) - len(said), long_clauses, long_contracts, long_lines)
+    functions = [it for file in sorted((folder / "src").rglob("*.rt")) for it in long_functions(file)]
+    names = {it.name for it in (folder / "specs").glob("*.antt")} - set(NOT_LEMMAS)
+    same_names = [str(it) for it in sorted((folder / "proofs").rglob("*.antt")) if it.name in names]
+    return Counts(len(clauses), len(clauses) - len(said), long_clauses, long_contracts, long_lines, functions, crowded_in(folder / "proofs"), same_names)
 
 
 def holds(crate, counts):
     """Whether the crate is within its bounds."""
     contracts = crate not in SHORT_CONTRACTS or not counts.long_contracts
     repeats = crate not in FEW_REPEATS or counts.repeats <= REPEATS * counts.clauses
-    return not counts.long_clauses and not counts.long_lines and contracts and repeats
+    long = counts.long_clauses or counts.long_lines or counts.long_functions
+    return not long and not counts.crowded and not counts.same_names and contracts and repeats
 
 
-def told(name, clauses, repeats, long_clauses, long_contracts, long_lines):
+# The columns: what is counted, in two lines, and the field that lists it.
+COLUMNS = [
+    ("clauses", f"over {LINE}", "long_clauses"),
+    ("contracts", f"over {CONTRACT:,}", "long_contracts"),
+    ("lines of", "specs", "long_lines"),
+    ("functions", f"over {FUNCTION_LINES}", "long_functions"),
+    ("folders", f"over {FILES}", "crowded"),
+    ("lemma files", "as specs", "same_names"),
+]
+
+
+def told(name, clauses, repeats, lengths):
     share = f"{100 * repeats / clauses:.0f}" if clauses else "-"
-    print(f"{name:14} {clauses:8,} {repeats:8,} {share:>6} {long_clauses:10,} {long_contracts:10,} {long_lines:10,}")
+    print(f"{name:12} {clauses:7,} {repeats:7,} {share:>6}" + "".join(f" {it:11,}" for it in lengths))
+
+
+def told_of_all(counts, listing):
+    print(f"{'crate':12} {'clauses':>7} {'repeats':>7} {'in 100':>6}" + "".join(f" {first:>11}" for first, _, _ in COLUMNS))
+    print(" " * 35 + "".join(f" {second:>11}" for _, second, _ in COLUMNS))
+    for name, it in counts.items():
+        lists = [getattr(it, field) for _, _, field in COLUMNS]
+        told(name, it.clauses, it.repeats, map(len, lists))
+        for place in sum(lists, []) if listing else []:
+            print(f"    {place}")
+    if len(counts) > 1:
+        sums = [sum(len(getattr(it, field)) for it in counts.values()) for _, _, field in COLUMNS]
+        told("all", sum(it.clauses for it in counts.values()), sum(it.repeats for it in counts.values()), sums)
 
 
 def main():
@@ -101,15 +157,7 @@ def main():
     given = words.parse_args()
     names = given.crates or sorted(it.name for it in Path("crates").iterdir() if (it / "src").is_dir())
     counts = {name: counts_of(name) for name in names}
-    print(f"{'crate':14} {'clauses':>8} {'repeats':>8} {'in 100':>6} {'clauses':>10} {'contracts':>10} {'lines of':>10}")
-    print(f"{'':14} {'':8} {'':8} {'':6} {f'over {LINE}':>10} {f'over {CONTRACT:,}':>10} {'specs':>10}")
-    for name, it in counts.items():
-        told(name, it.clauses, it.repeats, len(it.long_clauses), len(it.long_contracts), len(it.long_lines))
-        for place in [*it.long_clauses, *it.long_contracts, *it.long_lines] if given.list else []:
-            print(f"    {place}")
-    if len(counts) > 1:
-        all_of = counts.values()
-        told("all", sum(it.clauses for it in all_of), sum(it.repeats for it in all_of), *(sum(len(getattr(it, kind)) for it in all_of) for kind in ("long_clauses", "long_contracts", "long_lines")))
+    told_of_all(counts, given.list)
     over = [name for name, it in counts.items() if not holds(name, it)]
     print(f"within their bounds: {len(counts) - len(over)} of {len(counts)}" + (f"; not yet: {', '.join(over)}" if over else ""))
     return 1 if over and given.hold else 0
