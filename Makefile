@@ -63,9 +63,10 @@ package: tools
 	@test -x attrd || { echo "there is no ./attrd yet: make build first"; exit 1; }
 	@tools/package.sh ./attrd dist
 
-# Proves the libraries, each once; what was proved before is taken up.
+# Proves the libraries, each once, as a check of the program does before it begins: with no function named it ends there. What
+# was proved before is taken up.
 warm: tools
-	@cd crates/at_start && rt lib
+	@cd crates/attrd && rt check --only=
 
 # Proves the crate C, or its function or module F alone, over what is proved of the crates below it. A must-fail edit's line
 # `refused:` is for tools/refused.py, and the kit says of each that it doesn't read it.
