@@ -4,19 +4,29 @@ SAMPLE := crates/attrd/data
 PREFIX ?= /usr/local
 PAGES := docs/MANUAL.md docs/EDGES.md docs/REFUSALS.md docs/TUTORIAL.md samples/calculator samples/objects samples/machines
 
-.PHONY: help run test try build install examples bench starve tries tools python
+.PHONY: help run try build install package warm check edits counts test examples starve tries bench tools python crate
 
 # What there is, and how long it takes on two cores.
 help:
-	@echo "make run       answers the sample session: by the proved ./attrd where it was built, else with no proof (2 minutes)"
-	@echo "make test      the gate: every proof, wrong bodies, tests, programs, examples (90 minutes; 15 where it passed before)"
-	@echo "make build     the proved program, as ./attrd (60 minutes; one where it was built before)"
-	@echo "make try       the sample session with no proof (2 minutes)"
-	@echo "make install   ./attrd and its man page, below PREFIX (/usr/local)"
-	@echo "make examples  runs the examples of the pages by ./attrd (a minute, behind make build)"
-	@echo "make bench     measures ./attrd (15 minutes, behind make build)"
-	@echo "make starve    a session with each keeper, with each request for memory refused in turn (a minute, behind its proof)"
-	@echo "make tries     the examples of single tries of equations (a minute, behind its proof)"
+	@echo "to use it:"
+	@echo "  make run           answers the sample session: by the proved ./attrd where it was built, else with no proof (2 minutes)"
+	@echo "  make try           the sample session with no proof (2 minutes)"
+	@echo "  make build         the proved program, as ./attrd (60 minutes; one where it was built before)"
+	@echo "  make install       ./attrd and its man page, below PREFIX, /usr/local if none is given (a second, behind make build)"
+	@echo "  make package       ./attrd as a tarball and a Debian package, in dist/ (seconds, behind make build)"
+	@echo "to change it:"
+	@echo "  make warm          proves the libraries once, so that the next two take minutes (60 minutes)"
+	@echo "  make check C=at_demand [F=demand::Demand::answer]"
+	@echo "                     proves a crate again, or in it one function or module (1 to 10 minutes, behind make warm)"
+	@echo "  make edits C=at_demand"
+	@echo "                     tries the crate's wrong bodies, which the prover has to refuse (1 to 5 minutes, behind make check)"
+	@echo "  make counts        long clauses, contracts and repeats (seconds)"
+	@echo "to test it:"
+	@echo "  make test          the gate: every proof, wrong bodies, tests, programs, examples (90 minutes; 15 where it passed before)"
+	@echo "  make examples      runs the examples of the pages by ./attrd (a minute, behind make build)"
+	@echo "  make starve        a session with each keeper, with each request for memory refused in turn (a minute, behind its proof)"
+	@echo "  make tries         the examples of single tries of equations (a minute, behind its proof)"
+	@echo "  make bench         measures ./attrd (15 minutes, behind make build)"
 
 # The sample session, answered by the proved program where it was built, else by one that isn't proved.
 run: tools
@@ -47,6 +57,33 @@ install:
 	install -d $(DESTDIR)$(PREFIX)/bin $(DESTDIR)$(PREFIX)/share/man/man1
 	install -m 755 attrd $(DESTDIR)$(PREFIX)/bin/attrd
 	install -m 644 docs/attrd.1 $(DESTDIR)$(PREFIX)/share/man/man1/attrd.1
+
+# The program that was built, with its man page, licences, samples and systemd unit, as a tarball and a Debian package.
+package: tools
+	@test -x attrd || { echo "there is no ./attrd yet: make build first"; exit 1; }
+	@tools/package.sh ./attrd dist
+
+# Proves the libraries, each once, as a check of the program does before it begins: with no function named it ends there. What
+# was proved before is taken up.
+warm: tools
+	@cd crates/attrd && rt check --only=
+
+# Proves the crate C, or its function or module F alone, over what is proved of the crates below it. A must-fail edit's line
+# `refused:` is for tools/refused.py, and the kit says of each that it doesn't read it.
+check: tools crate
+	@set -o pipefail; cd crates/$(C) && rt check --jobs 1 $(if $(F),--only $(F)) 2>&1 | { grep --line-buffered -v 'has a line that is not read' || true; }
+
+# Tries the wrong bodies of the crate C, crates/C/must-fail, each of which the prover has to refuse, over the proved crates below it.
+edits: tools python crate
+	@python3 tools/refused.py $(C)
+
+# How many clauses and contracts are longer than they should be, and how many clauses repeat others.
+counts: python
+	@python3 tools/counts.py
+
+crate:
+	@test -n "$(C)" || { echo "name a crate, as in: make check C=at_demand"; exit 1; }
+	@test -d "crates/$(C)" || { echo "there is no crate $(C); crates.txt has them all"; exit 1; }
 
 # The examples of the manual, the tutorial and the samples, run by the proved program.
 examples: build python

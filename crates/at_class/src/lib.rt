@@ -1,4 +1,13 @@
 //! The classes of an abstract grammar: their numbers, superclasses and components, or the grammar's first fault.
+//!
+//! **Its specs:** `View` is what a table stands for in `at_model`, `Grammar` what a grammar that was read declares,
+//! `Faults` which fault a refusal says; `Rules` and `Checks` say each rule as its check looks at it, `Climbs`,
+//! `Ways` and `Taken` what is known on the way, `Table` what a table holds.
+//!
+//! **Where to begin:** `ClassTable::build` in `table.rt`; `checks.rt` has the rules in the order of their codes.
+//!
+//! **What it keeps true:** the classes of a table are a hierarchy, names and components are apart, look-ups equal
+//! the definitions and take no memory.
 #![tactic(auto)]
 
 mod chain;

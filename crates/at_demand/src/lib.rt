@@ -1,4 +1,17 @@
 //! Questions: the answer that the equations give for an instance, by demands, each of an instance at most once.
+//!
+//! **Its specs**, in order: `Known` is what is known meanwhile, `UnderWay` how far a question has come, `Typing` of
+//! which kinds the values are; `Right` says when what is kept is right, `Covering` how the locations of an entry
+//! come together, `Only` that nothing else does; `Sparing` what an exact keeper has and how much comes, `Touched`
+//! and `Spared` what an edit leaves, `Called` the same by paths. Of questions in turns, `Turns` shows one in the
+//! words of `at_model`, `Attempts` is what one try comes to, `ChainSteps` what that does to the chain, `KeptTrials`
+//! the trials that stay while turns follow each other.
+//!
+//! **Where to begin:** `Demand::answer` in `demand.rt`, over `evaluation.rt`; a question that is given turns is
+//! `question.rt` and `demand/turning.rt`. It holds nothing of rules or tree between turns.
+//!
+//! **What it keeps true:** what is kept is right, and, with an exact keeper, spare; `laws.rt` and `turning_laws.rt`
+//! say that it stays so over questions and edits.
 #![tactic(auto)]
 
 mod answer;

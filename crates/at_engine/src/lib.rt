@@ -1,4 +1,17 @@
 //! The engine: it holds a tree, its rules and marks, answers questions line by line, and takes edits.
+//!
+//! **Its specs.** Of the loop, from above: `Running` (what a run has done), `Loop` and `Taking` (pieces of any
+//! size), `Serving` (one call), `Ends` and `RunFaults` (streams that fail). Of a line: `Holding` and `Engines`
+//! (which state of the machine an engine holds, and when it is sound), `Following` and `Telling` (what a verdict
+//! leads to, in the program's words). By numbers for nodes: `Naming`, `Marks`, `Asking`, `Answered`, `Fitting`,
+//! `Collected`. Open questions: `Posted`, `Turning`, `Turned`. What is kept: `Keeping`, `KeptOver`, `KeepingRuns`.
+//!
+//! **Where to begin:** `engine.rt` serves one line, `engine/` has its commands; `stream.rt` serves all, between an
+//! `Input` and an `Output`.
+//!
+//! **What it keeps true:** `IsSound`: no edit waits, the tree conforms, the nodes of marks are there, what is kept
+//! is right, open questions stand on the tree, rules are well formed, tokens can be written. `new` gives it, and
+//! each line and turn keeps it.
 #![tactic(auto)]
 
 mod engine;

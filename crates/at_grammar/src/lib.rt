@@ -1,4 +1,12 @@
 //! Abstract grammars (.ast, JastAdd2 reference manual), read from their text.
+//!
+//! **Its specs:** `Grammar` says which tokens spell each form, `Meaning` what a grammar as written means, `Faults`
+//! where a text is refused. `Table` and `Forms` are the reader's decisions, which no public clause names.
+//!
+//! **Where to begin:** `parse_ast`, below, and `reader.rt`, a recursive descent.
+//!
+//! **What it keeps true:** what is read is what the text spells, places included; a fault stands at the first token
+//! with which no grammar goes on.
 #![tactic(auto)]
 
 ghost use Rattle.std.specs.Prelude.{◌≡◌, List, map, IfOk, IfErr, MatchResult, ◌⊎◌};

@@ -1,4 +1,20 @@
 //! Aspects (.jrag, JastAdd2 reference manual), read from their text.
+//!
+//! **Its specs:** `Syntax` is what is written, with its places, and `View` relates the types to it; `Grammar` says
+//! which tokens spell each form and how deep it nests; `Forms` which forms are left out; `Faults` the fault of a
+//! text. That reading stops at the first fault is shown by a machine with a stack of wants (`Machine`, `Wants`,
+//! `Table`); `Runs`, `Heads` and `Read` say where each method of the reader leaves it.
+//!
+//! **Where to begin:** `parse_jrag`, below, and `reader.rt`.
+//!
+//! **Its proofs** go over the table alone: each file is taken whole (`DeclarationRuns`), what is taken whole is a
+//! file (`Sound`), what was taken before a stop can be completed (`Completed`); `FirstFaults` puts these together.
+//! Which forms are left out is shown over the stacks that the machine comes to (`Reached`, `Shapes`, `LeftForms`,
+//! `KeptForms`). That tokens spell one file is `Unambiguous`; of expressions it is shown from the strongest level
+//! down (`OneExpression`, `ExpressionLinks`, `ExpressionFronts`).
+//!
+//! **What it keeps true:** a text that spells aspects is read as these, and every fault is the first of the
+//! language.
 #![tactic(auto)]
 
 ghost use Rattle.std.specs.Prelude.{◌≡◌, ◌⊎◌, ◌≤◌, ◌-◌, ℕ, [], List, length, map, take, drop, IfOk, IfErr, MatchResult};

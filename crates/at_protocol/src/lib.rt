@@ -1,4 +1,12 @@
 //! Lines of sessions, read, and replies, written: one text for each.
+//!
+//! **Its specs:** `LineView` and `ReplyView` are what lines and replies stand for, `Commands`, `Calls` and `Words`
+//! the texts of their parts; `Faults` says what is answered of bytes that are no line, `Writable` which replies can
+//! be written, and which need little room; `Laws` what bytes say of the line that they spell.
+//!
+//! **Where to begin:** `line/commands.rt` reads the commands, `reply.rt` writes replies.
+//!
+//! **What it keeps true:** bytes spell one line or none; a reply that finds no room leaves the output as it was.
 #![tactic(auto)]
 
 pub mod laws;

@@ -1,4 +1,14 @@
 //! The engine that files make: grammar, aspects and tree, looked at in this order, or the first fault.
+//!
+//! **Its specs:** `Starts` is what files make, with a page for each kind of file (`GrammarFiles`, `AspectFiles`,
+//! `TreeFiles`) over their bytes (`Files`); `StartFaults` and `Codes` are what is printed of a file that is
+//! refused.
+//!
+//! **Where to begin:** `start`, below; `grammar.rt`, `aspects.rt` and `tree.rt` have what each kind of file gives,
+//! `fault.rt` why there is no engine.
+//!
+//! **What it keeps true:** an engine that is made is sound, keeps nothing yet, and has just the classes, rules and
+//! tree of the files.
 #![tactic(auto)]
 
 ghost use Rattle.std.specs.Prelude.{◌≡◌, None, IfOk, IfErr};

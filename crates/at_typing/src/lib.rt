@@ -1,5 +1,16 @@
-//! What the declarations of aspects mean (JastAdd2 reference manual, "Aspects"): the rules that they make over
-//! a class table, or the first fault that they have.
+//! What the declarations of aspects mean (JastAdd2 reference manual, "Aspects"): the rules that they make over a
+//! class table, or the first fault that they have.
+//!
+//! **Its specs:** `Building` is what `build` answers; `Declaring` has the faults of several declarations together,
+//! `Meanings` and `Ruling` what each means by itself, `Completing` where a missing equation is told; `Located` and
+//! `Numbering` list and number the declarations; `AccessorNames`, `AttributeKeys`, `EquationKeys`, `Twice` and
+//! `Bound` are what the checks keep.
+//!
+//! **Where to begin:** `building.rt`. `numbered.rt` numbers the declarations' classes and names, `attributes.rt`
+//! finds attributes, `checks.rt` has the faults of declarations together, `meaning.rt` what each means.
+//!
+//! **What it keeps true:** rules that are made are complete and well formed, so evaluation never meets a value of
+//! another kind and never a missing equation.
 #![tactic(auto)]
 
 mod attributes;

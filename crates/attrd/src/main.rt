@@ -1,5 +1,14 @@
-//! attrd: an attribute tree server in the JastAdd profile. It reads a grammar, a tree and aspects, and
-//! answers lines of standard input on standard output, or those of the connections of a socket.
+//! attrd: an attribute tree server in the JastAdd profile. It reads a grammar, a tree and aspects, and answers
+//! lines of standard input on standard output, or those of the connections of a socket.
+//!
+//! **Its specs:** `CommandLine` is which words are taken, `Options` what they ask for, `Keepers` the keeper for
+//! that, `Connections` how connections of a socket ended, `Statuses` with which status the program ends.
+//!
+//! **Where to begin:** `main`, below; `options/words.rt` reads the words, `socket.rt` has the socket and its file,
+//! `serving.rt` serves its connections, `failure.rt` has what is printed.
+//!
+//! **What it keeps true:** the engine that `start` made stays ready over all connections. What is answered is
+//! `at_engine`'s `run` alone.
 #![tactic(auto)]
 
 ghost use Rattle.std.specs.Prelude.{IfOk};
