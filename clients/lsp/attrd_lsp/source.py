@@ -156,8 +156,8 @@ def read_source(text: str, old: Source) -> Source:
     last = last_good(texts, old)
     taken = [last.get(number, it) if it.faults else it for number, it in enumerate(read)]
     numbers = [number for number, it in enumerate(taken) if it.phrase is not None]
-    chosen = ([them[number] for number in numbers] for them in (starts, texts))
-    return Source(*chosen, [taken[it] for it in numbers], tuple(faults), pieces)
+    chosen = [starts[it] for it in numbers], [texts[it] for it in numbers], [taken[it] for it in numbers]
+    return Source(*chosen, tuple(faults), pieces)
 
 
 def class_starts(text: str) -> List[int]:

@@ -7,7 +7,8 @@ import os
 import signal
 import sys
 import webbrowser
-from typing import List, Optional
+from contextlib import suppress
+from typing import Any, List, Optional
 
 from attrd import AttrdError, StartFault, explain
 
@@ -63,7 +64,7 @@ async def serve(given: argparse.Namespace) -> int:
             print(f"attrd: {told.strip()}", flush=True)
 
 
-async def _serve_page(given: argparse.Namespace, hub: Hub, page: Page, replies: asyncio.Future[None]) -> int:
+async def _serve_page(given: argparse.Namespace, hub: Hub, page: Page, replies: asyncio.Future[Any]) -> int:
     web = Web(page)
     await web.begin(given.port)
     front = await listen(hub, given.listen) if given.listen else None
@@ -73,7 +74,7 @@ async def _serve_page(given: argparse.Namespace, hub: Hub, page: Page, replies: 
     print(f"page: {web.address}", flush=True)
     if not given.no_browser:
         asyncio.get_running_loop().run_in_executor(None, webbrowser.open, web.address)
-    stopped = asyncio.ensure_future(stop.wait())
+    stopped: asyncio.Future[Any] = asyncio.ensure_future(stop.wait())
     try:
         await asyncio.wait([stopped, replies], return_when=asyncio.FIRST_COMPLETED)
         if replies.done():
@@ -84,7 +85,8 @@ async def _serve_page(given: argparse.Namespace, hub: Hub, page: Page, replies: 
         await web.close()
         if front is not None:
             front.close()
-            os.unlink(given.listen)
+            with suppress(OSError):
+                os.unlink(given.listen)
 
 
 def main(words: Optional[List[str]] = None) -> int:
