@@ -53,6 +53,14 @@ class OnTheTutorialsProgram(unittest.TestCase):
         self.document.change("end = x", "Circle end = x")
         self.assertEqual(self.document.settled(), ["7:12 wants Circle, gets int"])
 
+    def test_an_edit_brings_errors_to_classes_whose_text_stays(self):
+        self.document.change("x < 10", "q < 10")
+        self.assertEqual(self.document.settled(), ["3:12 no declaration of q"])
+        self.document.change("int x", "int z")
+        self.assertEqual(self.document.settled(), ["3:12 no declaration of q", "7:11 no declaration of x"])
+        self.document.change("q < 10", "z < 10")
+        self.assertEqual(self.document.settled(), ["7:11 no declaration of x"])
+
     def test_a_name_that_depends_on_itself(self):
         self.document.change("show end;", "a = a; show end;")
         self.assertEqual(self.document.settled(), ["7:18 `kind` depends on itself"])
