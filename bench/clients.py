@@ -85,6 +85,7 @@ class Bench:
         self.server = attrd.start(attrd.Text("small.ast", files["small.ast"]), self.tree, *[attrd.Text(it, files[it]) for it in ASPECTS],
                                   self.checks.aspect, program=executable)
         self.document = Document(self.server.session(), self.grammar)
+        self.found = []
 
     def processor(self):
         """The server's processor time so far, in milliseconds."""
@@ -104,8 +105,8 @@ class Bench:
         """From a new tree to all diagnostics: what the difference, the edits and the questions took, and how many there were."""
         differing, edits = self.timed(lambda: attrd.difference(self.grammar, self.document.tree, new, self.document.costs))
         sending, _ = self.timed(lambda: self.document.send(edits, new))
-        asking, found = self.timed(lambda: self.checks.find(self.document))
-        return Stroke(differing, sending, asking, len(edits), len(found))
+        asking, self.found = self.timed(lambda: self.checks.find(self.document, self.found))
+        return Stroke(differing, sending, asking, len(edits), len(self.found))
 
     def naive(self, new):
         """The same by `set /`, or None where its line is too long."""
