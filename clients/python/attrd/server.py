@@ -106,7 +106,8 @@ def connect(path: Union[str, "os.PathLike[str]"], seconds: float = 0.0, known: O
 
     The server serves one connection after the other: replies come when those before this one have ended. `known` is the last
     version of an earlier connection: then the first reply is waited for. Raises AttrdError where no connection can be made, and
-    ServerRestarted where the tree has a version below `known`.
+    ServerRestarted where the tree has a version below `known`. Another server that has had as many edits since isn't told apart
+    by that; but nothing of an earlier connection is sent to it, and `Document` reads the tree that is there.
     """
     connection = Connection(open_socket(path, seconds))
     if known is not None:
