@@ -233,6 +233,23 @@ class OnTheLanguage(unittest.TestCase):
         self.assertEqual(client.close(), 2)
 
 
+class OnOptions(unittest.TestCase):
+    """Options that a program may have or not."""
+
+    def words(self, *words):
+        """The options with which a program is started that knows `--keep`."""
+        with tempfile.TemporaryDirectory(prefix="attrd-lsp-") as folder:
+            noted = Path(folder) / "words"
+            keeping = str(Path(__file__).resolve().parent / "keeping.py")
+            with Client(*words, attrd=keeping, environment={"ATTRD": program(), "WORDS": str(noted)}) as client:
+                self.assertEqual(Editing(client, SMALL).settled(), [])
+            return noted.read_text()
+
+    def test_a_program_that_runs_long_keeps_no_more_than_is_said(self):
+        self.assertEqual(self.words(), "--slice 100 --keep 400000")
+        self.assertEqual(self.words("--keep", "7"), "--slice 100 --keep 7")
+
+
 class OnFaults(unittest.TestCase):
     """Servers that end, programs that aren't there, and editors that don't keep to the protocol."""
 

@@ -10,7 +10,7 @@ import webbrowser
 from contextlib import suppress
 from typing import Any, List, Optional
 
-from attrd import AttrdError, StartFault, explain
+from attrd import KEPT, AttrdError, StartFault, explain, known_options, lasting_options
 
 from .front import listen
 from .hub import Hub
@@ -27,6 +27,8 @@ def options(words: Optional[List[str]] = None) -> argparse.Namespace:
     reader.add_argument("tree", metavar="TREE")
     reader.add_argument("aspects", metavar="ASPECT", nargs="+")
     reader.add_argument("--program", default="attrd", help="the program (attrd on the PATH, where none is given)")
+    reader.add_argument("--keep", metavar="N", type=int, default=KEPT,
+                        help="how many values the program keeps at most, if it has the option (%(default)s where none is given)")
     reader.add_argument("--connect", metavar="SOCKET", help="takes the program that runs at this socket already, over these files")
     reader.add_argument("--listen", metavar="SOCKET", help="has other clients speak the server's protocol at this socket, all at once")
     reader.add_argument("--port", type=int, default=0, help="the page's port at 127.0.0.1 (a random one, where none is given)")
@@ -38,7 +40,8 @@ async def upstream(given: argparse.Namespace) -> Upstream:
     """The stream to the server. Raises AttrdError."""
     if given.connect:
         return await connect(given.connect)
-    return await start_program(given.program, [given.grammar, given.tree, *given.aspects], ["--work"])
+    options = ["--work", *lasting_options(known_options(given.program), given.keep)]
+    return await start_program(given.program, [given.grammar, given.tree, *given.aspects], options)
 
 
 async def serve(given: argparse.Namespace) -> int:

@@ -8,13 +8,17 @@ import subprocess
 import tempfile
 from dataclasses import dataclass
 from pathlib import Path as FilePath
-from typing import List, Optional, Union
+from typing import FrozenSet, List, Optional, Union
 
 from .channel import Program, open_socket
 from .connection import Connection
 from .errors import AttrdError, ServerLost, ServerRestarted, StartFault, text_of
 from .terms import Node, write_term
 
+# How many values a program that runs long keeps, by `--keep`: six for each node of the largest tree.
+KEPT = 400_000
+HELP_SECONDS = 30.0
+_OPTION = re.compile(r"--[a-z]+")
 _REFUSED = re.compile(r"(?P<file>.*): (?P<code>[GJF][0-9]+) (?P<name>.*?)(?: at (?P<line>[0-9]+):(?P<column>[0-9]+))?\Z")
 
 
@@ -79,6 +83,21 @@ def start(grammar: Source, tree: Union[Source, Node], *aspects: Source, program:
         server.close()
         raise start_fault(lost.status, lost.message) from None
     return server
+
+
+def known_options(program: Union[str, "os.PathLike[str]"]) -> FrozenSet[str]:
+    """The options that the program's `--help` names, as `--slice`. Raises AttrdError where it can't be started."""
+    words = [_path(program), "--help"]
+    try:
+        told = subprocess.run(words, stdin=subprocess.DEVNULL, stdout=subprocess.PIPE, stderr=subprocess.STDOUT, timeout=HELP_SECONDS, check=False)
+    except (OSError, ValueError, UnicodeError, subprocess.TimeoutExpired) as fault:
+        raise AttrdError(f"{words[0]}: it can't be started: {getattr(fault, 'strerror', None) or fault}") from None
+    return frozenset(_OPTION.findall(told.stdout.decode("utf-8", "replace")))
+
+
+def lasting_options(known: FrozenSet[str], values: int = KEPT) -> List[str]:
+    """The option by which a program that runs long keeps at most about so many values, where it knows one."""
+    return ["--keep", str(values)] if "--keep" in known else []
 
 
 def _run(words: List[str]) -> Program:

@@ -228,6 +228,16 @@ class Starts(unittest.TestCase):
             self.assertTrue(all(FilePath(it).exists() for it in server.files))
         self.assertFalse(any(FilePath(it).exists() for it in server.files))
 
+    def test_options_that_a_program_knows(self):
+        known = attrd.known_options(PROGRAM)
+        self.assertLessEqual({"--socket", "--connections", "--slice", "--work", "--help"}, known)
+        self.assertEqual(attrd.lasting_options(frozenset(["--keep"]), 7), ["--keep", "7"])
+        self.assertEqual(attrd.lasting_options(frozenset(["--work"])), [])
+        for program in ("/nosuch/attrd", "nul\0l", 5):
+            self.assertRaises(attrd.AttrdError, attrd.known_options, program)
+        with calculator(options=attrd.lasting_options(known)) as server:
+            self.assertEqual(server.session().value("/Block/Stmt:1/Expr", "value"), 3)
+
     def test_options(self):
         server = calculator(options=["--work"])
         self.assertEqual(server.session().value("/Block/Stmt:1/Expr", "value"), 3)
