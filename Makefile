@@ -105,6 +105,8 @@ bench: build
 	python3 bench/bench.py
 	python3 bench/limits.py
 	python3 bench/clients.py
+	python3 bench/editor.py
+	python3 bench/hub.py
 
 tools:
 	@command -v rt > /dev/null || { echo "attrd is written in Rattle: install the Rattle kit, so that the command 'rt' is on the PATH."; exit 1; }

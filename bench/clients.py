@@ -3,9 +3,9 @@
 
     python3 bench/clients.py [PROGRAM] [NODES ..]
 
-PROGRAM is ./attrd where none is given, NODES are 1,000, 5,000 and 50,000. Times are medians in milliseconds. They are processor
-times, the client's and the server's, which wait for each other; beside them stands what the clock showed, which a machine that does
-other work makes longer.
+PROGRAM is ./attrd where none is given, NODES are 1,000, 5,000 and 50,000. Times are medians. They are processor times, the client's
+and the server's, which wait for each other; beside them stands what the clock showed, which a machine that does other work makes
+longer. It takes two minutes.
 """
 import re
 import statistics
@@ -14,7 +14,8 @@ import time
 from pathlib import Path
 from typing import NamedTuple
 
-ROOT = Path(__file__).resolve().parent.parent
+from figures import ROOT, ms, numbers_in, program_in, ratio, row, table
+
 sys.path.insert(0, str(ROOT / "clients" / "python"))
 
 import attrd  # noqa: E402
@@ -85,6 +86,7 @@ class Bench:
         self.server = attrd.start(attrd.Text("small.ast", files["small.ast"]), self.tree, *[attrd.Text(it, files[it]) for it in ASPECTS],
                                   self.checks.aspect, program=executable)
         self.document = Document(self.server.session(), self.grammar)
+        self.found = []
 
     def processor(self):
         """The server's processor time so far, in milliseconds."""
@@ -104,8 +106,8 @@ class Bench:
         """From a new tree to all diagnostics: what the difference, the edits and the questions took, and how many there were."""
         differing, edits = self.timed(lambda: attrd.difference(self.grammar, self.document.tree, new, self.document.costs))
         sending, _ = self.timed(lambda: self.document.send(edits, new))
-        asking, found = self.timed(lambda: self.checks.find(self.document))
-        return Stroke(differing, sending, asking, len(edits), len(found))
+        asking, self.found = self.timed(lambda: self.checks.find(self.document, self.found))
+        return Stroke(differing, sending, asking, len(edits), len(self.found))
 
     def naive(self, new):
         """The same by `set /`, or None where its line is too long."""
@@ -147,58 +149,73 @@ def middle(numbers):
     return statistics.median(numbers)
 
 
-def keystrokes(executable, files, nodes):
-    for faults in (False, True):
-        bench = Bench(executable, files, nodes, faults)
-        first, found = bench.timed(lambda: bench.checks.find(bench.document))
-        at = len(bench.tree.cells[0]) // 2
+def keystrokes(executable, files, sizes):
+    """From a changed number to all diagnostics, in programs of these sizes, without faults and with one in each 20th class."""
+    table("Nodes", "Faults", "First diagnostics", "A keystroke, to all diagnostics", "Difference", "Edits", "Questions",
+          "The server's share", "By the clock", "Against the smallest tree", "`set /` in its place", "Against the keystroke")
+    units = {}
+    for nodes in sizes:
+        for faults in (False, True):
+            bench = Bench(executable, files, nodes, faults)
+            first, bench.found = bench.timed(lambda: bench.checks.find(bench.document))
+            count = len(bench.found)
+            rows = [bench.stroke(numbered(bench, it)) for it in range(STROKES)]
+            whole = middle([it.sum(lambda spent: spent.both) for it in rows])
+            server = middle([it.sum(lambda spent: spent.server) for it in rows])
+            parts = [middle([getattr(it, part).both for it in rows]) for part in ("differing", "sending", "asking")]
+            naive = bench.naive(numbered(bench, 99))
+            row(f"{bench.tree.size:,}", count, ms(first.both), ms(whole), *map(ms, parts), f"{server / whole:.0%}",
+                ms(middle([it.sum(lambda spent: spent.clock) for it in rows])), ratio(whole, units.setdefault(faults, whole)),
+                "refused: its line is too long" if naive is None else ms(naive), ratio(naive, whole))
+            bench.server.close()
 
-        def numbered(number):
-            return changed_class(bench.document.tree, at, lambda kind: with_statements(kind, lambda s: CHANGES["a number"](s, number)))
-        rows = [bench.stroke(numbered(it)) for it in range(STROKES)]
-        columns = [middle([it.differing.both for it in rows]), middle([it.sending.both for it in rows]), middle([it.asking.both for it in rows]),
-                   middle([it.sum(lambda spent: spent.both) for it in rows]), middle([it.sum(lambda spent: spent.server) for it in rows]),
-                   middle([it.sum(lambda spent: spent.clock) for it in rows])]
-        naive = bench.naive(numbered(99))
-        shown = "line too long" if naive is None else f"{naive:.1f}"
-        print(f"{bench.tree.size:7,} {len(found):6} {first.both:9.1f}   " + " ".join(f"{it:9.2f}" for it in columns) + f"   {shown}", flush=True)
-        bench.server.close()
+
+def numbered(bench, number):
+    """The program with another number in the class in its middle."""
+    at = len(bench.tree.cells[0]) // 2
+    return changed_class(bench.document.tree, at, lambda kind: with_statements(kind, lambda s: CHANGES["a number"](s, number)))
 
 
 def edits_of_changes(executable, files):
-    bench = Bench(executable, files, 5000)
+    """The edits that each kind of change comes to, and what it takes to all diagnostics."""
+    table("Change, at 5,000 nodes", "Edits", "To all diagnostics", "Against another number")
+    bench, unit = Bench(executable, files, 5000), None
     bench.checks.find(bench.document)
     for what, change in CHANGES.items():
         rows = []
         for it in range(5):
             rows.append(bench.stroke(changed_class(bench.tree, 50, lambda kind: with_statements(kind, lambda s: change(s, it + 200)))))
             bench.stroke(bench.tree)
-        print(f"{what:30} {rows[0].edits:5} {middle([it.sum(lambda spent: spent.both) for it in rows]):8.2f}", flush=True)
+        spent = middle([it.sum(lambda spent: spent.both) for it in rows])
+        unit = unit or spent
+        row(what, rows[0].edits, ms(spent), ratio(spent, unit))
     bench.server.close()
 
 
 def lines(executable, files):
+    """A kept question again and again, waited for each time and not; and what edits of each kind cost."""
+    table("A line, a kept question", "The client", "The server", "By the clock", "Both against a round trip")
     bench = Bench(executable, files, 5000)
-    session, count = bench.document.session, 2000
+    session, unit = bench.document.session, None
     session.ask("/", "errors")
-    spent, _ = bench.timed(lambda: [session.ask("/", "errors") for _ in range(count)])
-    print(f"a round trip: the client {spent.client / count * 1e3:.0f} us, the server {spent.server / count * 1e3:.0f} us, by the clock {spent.clock / count * 1e3:.0f} us")
-    spent, _ = bench.timed(lambda: [it.reply() for it in session.send_all(["ask / errors()"] * 50_000)])
-    print(f"a pipelined line: the client {spent.client / 50:.1f} us, the server {spent.server / 50:.1f} us, by the clock {spent.clock / 50:.1f} us", flush=True)
+    kinds = {"a round trip": (2_000, lambda count: [session.ask("/", "errors") for _ in range(count)]),
+             "without waiting": (50_000, lambda count: [it.reply() for it in session.send_all(["ask / errors()"] * count)])}
+    for what, (count, work) in kinds.items():
+        spent, _ = bench.timed(lambda: work(count))
+        unit = unit or spent.both / count
+        row(what, *(f"{it / count * 1e3:.1f} us" for it in spent), ratio(spent.both / count, unit))
+    table("An edit, at 5,000 nodes", "The server", "Against a token")
     costs = attrd.measured(session, bench.grammar, bench.tree, [f"ask / {bench.checks.count}()"], clock=lambda: bench.processor() / 1e3)
-    print("costs in us: " + ", ".join(f"{field} {value * 1e6:.1f}" for field, value in vars(costs).items()))
+    for what, seconds in vars(costs).items():
+        row("each node of a new term" if what == "node" else what, f"{seconds * 1e6:.1f} us", ratio(seconds, costs.token))
     bench.server.close()
 
 
 def main(words):
-    executable = words[0] if words else str(ROOT / "attrd")
-    files = tutorial()
-    print("  nodes faults first find  difference     edits questions       all  server's   by clock   set /", flush=True)
-    for nodes in map(int, words[1:] or (1000, 5000, 50_000)):
-        keystrokes(executable, files, nodes)
-    print("\nchange, at 5,000 nodes         edits       ms")
+    executable = program_in(words, __doc__)
+    sizes, files = numbers_in(words[1:], (1000, 5000, 50_000), __doc__), tutorial()
+    keystrokes(executable, files, sizes)
     edits_of_changes(executable, files)
-    print()
     lines(executable, files)
 
 

@@ -1,23 +1,32 @@
 #!/usr/bin/env python3
-"""The language server in Neovim: from a change of the text to the diagnostics, and what else an editor asks.
+"""The language server in Neovim: from a change of the text to the diagnostics, what else an editor asks, and how long an edit waits
+beside a question of a second.
 
-    python3 bench/editor.py PROGRAM [NODES ..]
+    python3 bench/editor.py [PROGRAM] [NODES ..]
 
-Each time is the median of some runs in this one run, in milliseconds; NODES are 1,000, 5,000 and 50,000 where none is given."""
+Each time is the median of some runs, by the clock. PROGRAM is ./attrd and NODES are 1,000, 5,000 and 50,000 where none is given. It
+takes two minutes."""
 import os
+import shutil
 import statistics
-import subprocess
 import sys
+import tempfile
 import time
 from pathlib import Path
 
-TESTS = Path(__file__).resolve().parent.parent / "clients" / "lsp" / "tests"
-sys.path.insert(0, str(TESTS))
+from figures import ROOT, ms, numbers_in, program_in, ratio, row, table
+
+sys.path.insert(0, str(ROOT / "clients" / "lsp" / "tests"))
 
 RUNS = 15
 SIZES = (1_000, 5_000, 50_000)
-# How often an edit is measured beside a check, and how long after the start of that.
+# How often an edit is measured beside the first check of a file, and how much processor time that has taken by then, in seconds.
 BESIDE, AFTER = 5, 0.2
+# A program whose help names no option for turns: so the language server asks, and posts nothing.
+ASKING = """#!/bin/sh
+case "$1" in --help) "$ATTRD_ASKED" --help 2>&1 | grep -v -e --slice; exit ;; esac
+exec "$ATTRD_ASKED" "$@"
+"""
 # Changes the text and waits for the diagnostics that come of it; the time from one to the other.
 CHANGE = """
 local line, from, to, text = ...
@@ -40,35 +49,57 @@ error(method .. ' has no answer')
 """
 
 
-def median(times):
-    """The median in milliseconds, as it is printed."""
-    return f"{statistics.median(times):8.1f}"
+# Changes the text beside what is under way, and asks about it; the times to the answers of the server and of the program behind it,
+# and whether the check is still under way then.
+BESIDE_CHECK = """
+local line, from, to, text, uses = ...
+local place = { textDocument = vim.lsp.util.make_text_document_params(), position = { line = line, character = uses } }
+local began = vim.loop.hrtime()
+vim.api.nvim_buf_set_text(0, line, from, line, to, { text })
+vim.lsp.buf_request_sync(0, 'textDocument/prepareRename', place, 60000)
+local taken = vim.loop.hrtime() - began
+vim.lsp.buf_request_sync(0, 'textDocument/hover', place, 60000)
+return { taken / 1e6, (vim.loop.hrtime() - began) / 1e6, seen == 0 }
+"""
 
 
-def in_neovim(nodes):
-    """The times of one file in Neovim, by what was measured."""
+def opened(nodes, program=None):
+    """A file of so many nodes in Neovim, and the folder that it stands in."""
     from lsp_support import large_program
     from test_lsp_neovim import Folder
 
-    began = time.monotonic()
     folder = Folder(large_program(nodes))
-    editor = folder.open()
+    if program is not None:
+        link = folder.folder / "clone" / "attrd"
+        link.unlink()
+        link.symlink_to(program)
+    return folder, folder.open()
+
+
+def in_neovim(nodes):
+    """The times of one file in Neovim, in milliseconds, by what was measured."""
+    began = time.monotonic()
+    folder, editor = opened(nodes)
     try:
         editor.until("return seen > 0", seconds=300)
-        opened = (time.monotonic() - began) * 1000
-        return {"opened": f"{opened:8.0f}", **changes(editor), **requests(editor)}
+        first = (time.monotonic() - began) * 1000
+        return {"the file is opened, to its first diagnostics": first, **changes(editor), **requests(editor)}
     finally:
         editor.close()
         folder.temporary.cleanup()
 
 
+def place_in(lines):
+    """The line and column in the middle of a file at which a use begins."""
+    line = len(lines) // 2
+    while "t4 = " not in lines[line]:
+        line += 1
+    return line, lines[line].index("t4 = ") + len("t4 = ")
+
+
 def changes(editor):
     """From a change to its diagnostics: an error that comes, and one that goes."""
-    lines = editor.lines()
-    line = len(lines) // 2
-    while " = t4" not in lines[line] and "t4 = " not in lines[line]:
-        line += 1
-    column = lines[line].index("t4 = ") + len("t4 = ")
+    line, column = place_in(editor.lines())
     come, gone = [], []
     for _ in range(RUNS):
         spent, count = editor.lua(CHANGE, line, column, column, "q")
@@ -77,7 +108,7 @@ def changes(editor):
         spent, count = editor.lua(CHANGE, line, column, column + 1, "")
         assert count == 0, count
         gone.append(spent)
-    return {"error comes": median(come), "error goes": median(gone)}
+    return {"a key that brings an error": statistics.median(come), "a key that takes it away": statistics.median(gone)}
 
 
 def requests(editor):
@@ -91,50 +122,80 @@ def requests(editor):
         "references": ("textDocument/references", {"context": {"includeDeclaration": True}}),
         "rename": ("textDocument/rename", {"newName": "another"}),
     }
-    return {it: median([editor.lua(REQUEST, method, *place, more) for _ in range(RUNS)]) for it, (method, more) in kinds.items()}
+    return {it: statistics.median([editor.lua(REQUEST, method, *place, more) for _ in range(RUNS)]) for it, (method, more) in kinds.items()}
 
 
-def beside_a_check(nodes):
-    """How long an edit takes while the first check of a file goes on: to the answer to a question about the text behind it."""
-    from lsp_support import Client, Editing, large_program
+def spent_by_program(editor):
+    """The processor time of the program behind the language server of an editor, in seconds; 0 before it has begun."""
+    for folder in Path("/proc").glob("[0-9]*"):
+        try:
+            if b"/tree.txt\0" in (folder / "cmdline").read_bytes() and parent(parent(int(folder.name))) == editor.process.pid:
+                return int((folder / "schedstat").read_text().split()[0]) / 1e9
+        except (OSError, ValueError):
+            continue
+    return 0.0
 
-    times = []
+
+def parent(process):
+    """The process that began this one."""
+    return int(Path(f"/proc/{process}/stat").read_text().rpartition(")")[2].split()[1])
+
+
+def beside_a_check(nodes, program):
+    """An edit in the middle of the first check of a file: until it is taken, and until a question about it is answered, in milliseconds;
+    and how often the check was under way still."""
+    found = []
     for _ in range(BESIDE):
-        with Client() as client:
-            text = large_program(nodes)
-            document = Editing(client, text)
-            client.ask("textDocument/hover", document.at("C0"))
-            time.sleep(AFTER)
-            if client.notes:
-                return None
-            edit = document.changed("s = me0.a0 + 1", "s = me0.b0 + 1")
-            hover = client.begun("textDocument/hover", document.at("a0"))
-            began = time.monotonic()
-            client.write(edit, hover)
-            client.answer(hover["id"])
-            times.append((time.monotonic() - began) * 1000)
-    return times
+        folder, editor = opened(nodes, program)
+        try:
+            line, column = place_in(editor.lines())
+            while spent_by_program(editor) < AFTER:
+                time.sleep(0.005)
+            found.append(editor.lua(BESIDE_CHECK, line, column, column + 1, "b", column))
+        finally:
+            editor.close()
+            folder.temporary.cleanup()
+    taken, answered, is_alive = zip(*found)
+    return taken, answered, sum(is_alive)
 
 
-def has_turns(program):
-    """Whether the program has questions in turns."""
-    return b"--slice" in subprocess.run([program, "--help"], capture_output=True, check=False).stderr
+def length_of_check(nodes):
+    """The processor time that the first check of a file takes the program, in milliseconds."""
+    folder, editor = opened(nodes)
+    try:
+        editor.until("return seen > 0", seconds=300)
+        return spent_by_program(editor) * 1000
+    finally:
+        editor.close()
+        folder.temporary.cleanup()
+
+
+def beside(nodes, program):
+    """An edit beside the first check of a file, whose questions are posted, and beside one whose questions are asked."""
+    table(f"An edit beside the first check of {nodes:,} nodes ({ms(length_of_check(nodes))} of processor time)", "It is taken after",
+          "At most", "A question about it is answered after", "At most", "The check was under way still")
+    with tempfile.TemporaryDirectory(prefix="attrd-editor-") as folder:
+        asking = Path(folder) / "attrd"
+        asking.write_text(ASKING)
+        asking.chmod(0o755)
+        for what, it in (("its questions are posted", program), ("they are asked, without turns", str(asking))):
+            taken, answered, alive = beside_a_check(nodes, it)
+            times = [ms(of(times)) for times in (taken, answered) for of in (statistics.median, max)]
+            row(what, *times, f"{alive} of {BESIDE} times")
 
 
 def main(words):
-    if not words or not os.access(words[0], os.X_OK):
-        sys.exit(__doc__)
-    os.environ["ATTRD"] = str(Path(words[0]).resolve())
-    sizes = [int(it) for it in words[1:]] or SIZES
-    for nodes in sizes:
-        for what, spent in in_neovim(nodes).items():
-            print(f"{nodes:7} nodes  {what:12} {spent} ms", flush=True)
-    times = beside_a_check(max(sizes))
-    if times is None:
-        print(f"beside a check: it is over within {AFTER} s, so nothing is measured")
-    else:
-        turns = "in turns" if has_turns(os.environ["ATTRD"]) else "without turns"
-        print(f"{max(sizes):7} nodes  an edit and a question beside the first check, {turns}: {median(times)} ms, at most {max(times):.1f}")
+    program = program_in(words, __doc__)
+    os.environ["ATTRD"] = os.environ["ATTRD_ASKED"] = program
+    sizes = numbers_in(words[1:], SIZES, __doc__)
+    if shutil.which("nvim") is None:
+        sys.exit("there is no nvim: the package neovim is missing (tools/editors.sh installs it)")
+    found = {nodes: in_neovim(nodes) for nodes in sizes}
+    table("In Neovim, by the clock", *(f"{it:,} nodes" for it in sizes), "The largest against the smallest")
+    for what in found[sizes[0]]:
+        times = [found[it][what] for it in sizes]
+        row(what, *map(ms, times), ratio(times[-1], times[0]))
+    beside(max(sizes), program)
 
 
 if __name__ == "__main__":

@@ -6,8 +6,9 @@ more questions sends lines that tick, since the program gives turns behind lines
 from __future__ import annotations
 
 import time
+from dataclasses import dataclass
 from pathlib import Path
-from typing import Callable, Dict, Generic, List, Mapping, Optional, Tuple, TypeVar
+from typing import Callable, Dict, Generic, List, Mapping, Optional, TypeVar
 
 import attrd
 from attrd import commands
@@ -20,8 +21,6 @@ T = TypeVar("T")
 Taker = Callable[[Question, Done], None]
 
 SESSION = 0
-# The program's status where it doesn't take its words, such as `--slice` before it had questions in turns.
-WORDS_REFUSED = 2
 # How many turns the program gives behind each line: a fraction of a millisecond.
 SLICE = 100
 # How long a step should take, in seconds.
@@ -118,22 +117,22 @@ def answer_of(reply: attrd.Reply) -> Answer:
     raise attrd.ProtocolFault(f"{reply} is no answer")
 
 
-def open_desk(program: str, language: Language, tree: attrd.Node, texts: Mapping[Path, str]) -> Desk:
-    """A program over this tree, with questions in turns where it has them. Raises StartFault, TermFault and AttrdError."""
-    server, posts = started(program, language, tree, texts)
-    grammar = attrd.Grammar.read(language.text(language.grammar, texts))
-    grammar.check(tree)
-    return Desk(server, grammar, tree, posts)
+@dataclass(frozen=True)
+class Program:
+    """The program attrd: its file, and how many values it keeps at most, where it has an option for that."""
 
+    file: str
+    kept: int = attrd.KEPT
 
-def started(program: str, language: Language, tree: attrd.Node, texts: Mapping[Path, str]) -> Tuple[attrd.Server, bool]:
-    """The program, and whether it has questions in turns: else it doesn't take the option for them. Raises as `open_desk`."""
-    try:
-        return language.start(program, tree, ["--slice", str(SLICE)], texts), True
-    except attrd.StartFault as fault:
-        if fault.status != WORDS_REFUSED:
-            raise
-    return language.start(program, tree, [], texts), False
+    def open(self, language: Language, tree: attrd.Node, texts: Mapping[Path, str]) -> Desk:
+        """A desk over this tree, with questions in turns where the program has them. Raises StartFault, TermFault and AttrdError."""
+        known = attrd.known_options(self.file)
+        posts = "--slice" in known
+        options = [*(["--slice", str(SLICE)] if posts else []), *attrd.lasting_options(known, self.kept)]
+        server = language.start(self.file, tree, options, texts)
+        grammar = attrd.Grammar.read(language.text(language.grammar, texts))
+        grammar.check(tree)
+        return Desk(server, grammar, tree, posts)
 
 
 class Task(Generic[T]):

@@ -7,7 +7,7 @@ from __future__ import annotations
 from collections import deque
 from contextlib import suppress
 from dataclasses import dataclass
-from typing import Any, Callable, Deque, List, Optional
+from typing import Any, Callable, Deque, FrozenSet, List, Optional, Set
 
 from attrd import AttrdError, Code, Node, Refused, ServerLost, StartFault
 
@@ -45,6 +45,7 @@ class Document:
         self.text = Text.of(text)
         self.source = read_source(text, Source())
         self.problems: List[Problem] = []
+        self.faultless: FrozenSet[str] = frozenset()
         self.trouble: Optional[str] = None
         self.desk: Optional[Desk] = None
         self.check: Optional[Task[List[Problem]]] = None
@@ -143,7 +144,7 @@ class Document:
         """A step of the check for problems; at its end they are told."""
         try:
             if self.check is None or self.check.desk is not desk or self.check.version != desk.version:
-                self.check = Task(find_problems(self.source), desk, True)
+                self.check = Task(find_problems(self.source, self.likely()), desk, True)
             if not self.check.is_over:
                 self.check.step()
             if self.check.is_over:
@@ -151,9 +152,15 @@ class Document:
         except NoAnswer as fault:
             self.checked([], str(fault))
 
+    def likely(self) -> Set[int]:
+        """The numbers of the classes in which problems may stand: those that had some, or have another text, at the last check."""
+        return {number for number, text in enumerate(self.source.texts) if text not in self.faultless}
+
     def checked(self, problems: List[Problem], trouble: Optional[str]) -> None:
         """The check is over, with these problems, or couldn't be made for that reason."""
         self.problems, self.trouble = problems, trouble
+        wrong = {self.source.class_at(it.span.start) for it in problems}
+        self.faultless = frozenset(text for number, text in enumerate(self.source.texts) if number not in wrong)
         self.check, self.wants_check, self.losses = None, False, 0
         self.publish(self)
 

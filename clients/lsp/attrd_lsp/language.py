@@ -1,7 +1,6 @@
 """The grammar and the aspects of a language, as files in a folder."""
 from __future__ import annotations
 
-import re
 from dataclasses import dataclass
 from pathlib import Path
 from typing import List, Mapping, Optional, Tuple, Union
@@ -51,7 +50,7 @@ class Language:
         """A program over this tree; a file that is open in the editor has the text that stands there.
 
         Raises StartFault and AttrdError as `attrd.start` does; the file of a StartFault is one of `files`, or the tree's."""
-        given = [attrd.Text(it.name, texts[it]) if it in texts else it for it in self.files]
+        given: List[Given] = [attrd.Text(it.name, texts[it]) if it in texts else it for it in self.files]
         try:
             return attrd.start(given[0], tree, *given[1:], program=program, options=options)
         except attrd.StartFault as fault:

@@ -8,7 +8,7 @@ from typing import Dict, Optional
 import attrd
 from attrd.explain import SENTENCES
 
-from .desk import Desk, open_desk
+from .desk import Desk, Program
 from .editor import Editor
 from .language import Language
 from .outline import ERROR, diagnostic
@@ -21,7 +21,7 @@ WORD = re.compile(r"\w+|.")
 class LanguageFiles:
     """Starts programs for the language, with the texts that stand in the editor, and shows there why a file is refused."""
 
-    def __init__(self, program: str, language: Language, editor: Editor) -> None:
+    def __init__(self, program: Program, language: Language, editor: Editor) -> None:
         self.program, self.language, self.editor = program, language, editor
         self.texts: Dict[Path, Text] = {}
         self.uris: Dict[Path, str] = {}
@@ -30,7 +30,7 @@ class LanguageFiles:
     def start(self, tree: attrd.Node) -> Desk:
         """A program over the tree. Raises StartFault, which is shown at its place, and AttrdError."""
         try:
-            desk = open_desk(self.program, self.language, tree, {path: it.text for path, it in self.texts.items()})
+            desk = self.program.open(self.language, tree, {path: it.text for path, it in self.texts.items()})
         except attrd.StartFault as fault:
             self.show(fault)
             raise

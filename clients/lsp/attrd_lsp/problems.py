@@ -1,10 +1,11 @@
 """The problems of a document: what the tutorial's attributes `errors` and `error` tell.
 
-`errors` of the root is the number of errors. Where it isn't 0, or isn't known because something below depends on itself,
-the nodes below are asked, and so on down, level by level; `error` of a node is its own text."""
+`error` of a node is its own text, and `errors` the number of such texts at the node and below it. Where that of the root isn't 0,
+or isn't known because something below depends on itself, the nodes below are asked, and so on down, level by level. What is found
+is counted: where it makes up the number of a node, nothing else is asked below that."""
 from __future__ import annotations
 
-from typing import List, NamedTuple, Optional
+from typing import Collection, List, NamedTuple, Optional, Tuple
 
 from attrd.replies import Circular, Fault, Memory, RefusedReply, Value
 
@@ -23,26 +24,47 @@ class Problem(NamedTuple):
     span: Span
 
 
-def find_problems(source: Source) -> Inquiry[List[Problem]]:
-    """The problems of the document, in the order of its text. Raises NoAnswer where they can't be asked for."""
+# A node with errors at it or below it, and their number as it was answered.
+Wrong = Tuple[Spot, Answer]
+
+
+def find_problems(source: Source, likely: Collection[int]) -> Inquiry[List[Problem]]:
+    """The problems of the document, in the order of its text. Raises NoAnswer where they can't be asked for.
+
+    The classes of the numbers in `likely` are asked first: where they have all errors, no other class is asked."""
     (count,) = yield [Question("/", "errors")]
     if isinstance(count, (RefusedReply, Memory)):
         raise NoAnswer(why_not(count))
-    level = [] if is_none(count) else [source.located(number, "") for number in range(len(source.taken))]
+    wrong = [] if number_in(count) == 0 else (yield from wrong_classes(source, count, likely))
     found: List[Problem] = []
-    while level:
-        counts = yield [Question(it.path, "errors") for it in level]
-        wrong = [(it, answer) for it, answer in zip(level, counts) if not is_none(answer)]
-        errors = yield [Question(it.path, "error") for it, _ in wrong]
+    while wrong:
+        errors = yield [Question(spot.path, "error") for spot, _ in wrong]
         told = [problem(spot, error) for (spot, _), error in zip(wrong, errors)]
         found += [it for it in told if it is not None]
-        level = [below for spot, _ in wrong for below in counted_below(source, spot)]
+        left = [spot for (spot, count), own in zip(wrong, told) if number_in(count) != (0 if own is None else 1)]
+        wrong = yield from wrong_among([below for spot in left for below in counted_below(source, spot)])
     return sorted(set(found), key=lambda it: it.span)
 
 
-def is_none(count: Answer) -> bool:
-    """Whether the answer is that there are no errors."""
-    return isinstance(count, Value) and count.text == "0"
+def wrong_classes(source: Source, count: Answer, likely: Collection[int]) -> Inquiry[List[Wrong]]:
+    """The classes that have errors, where all have so many."""
+    wrong = yield from wrong_among([source.located(number, "") for number in sorted(likely)])
+    numbers = [number_in(it) for _, it in wrong]
+    if None in numbers or sum(it or 0 for it in numbers) != number_in(count):
+        others = [source.located(number, "") for number in range(len(source.taken)) if number not in likely]
+        wrong += yield from wrong_among(others)
+    return wrong
+
+
+def wrong_among(spots: List[Spot]) -> Inquiry[List[Wrong]]:
+    """Those of the nodes that have errors, or of which that isn't known."""
+    counts = yield [Question(it.path, "errors") for it in spots]
+    return [(it, count) for it, count in zip(spots, counts) if number_in(count) != 0]
+
+
+def number_in(count: Answer) -> Optional[int]:
+    """How many errors the answer tells, and None where it tells no number."""
+    return int(count.text) if isinstance(count, Value) and count.text.isdigit() else None
 
 
 def counted_below(source: Source, spot: Spot) -> List[Spot]:

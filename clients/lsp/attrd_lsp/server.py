@@ -98,9 +98,8 @@ class LanguageServer:
         """Does what a request or notification wants."""
         params = message.get("params")
         if "id" not in message:
-            handle = self.notifications.get(method)
-            if handle is not None and (self.is_initialized or method == "exit"):
-                self.guarded(None, lambda: handle(params))
+            if method in self.notifications and (self.is_initialized or method == "exit"):
+                self.guarded(None, lambda: self.notifications[method](params))
             return
         number = message["id"]
         self.guarded(message, lambda: self.request(method, number, params))

@@ -16,7 +16,7 @@ from .syntax import Fault, Phrase, read_class, read_front
 
 # The kinds that are there before all classes; they stand in no text.
 BASIC_KINDS = ("int", "boolean")
-CLASS = re.compile(r"class\b")
+CLASS = re.compile(r"class(?<!\wclass)\b")
 CLASS_NAME = re.compile(r"class\s+([^\W\d]\w*)")
 
 
@@ -106,9 +106,13 @@ class Source:
         there = 0 <= number < len(self.taken) and below in self.taken[number].phrases
         return self.located(number, below) if there else None
 
+    def class_at(self, offset: int) -> int:
+        """The number of the class that begins there or before, and -1 where none does."""
+        return bisect.bisect_right(self.starts, offset) - 1
+
     def at(self, offset: int) -> Optional[Spot]:
         """The innermost phrase at that offset of the document."""
-        number = bisect.bisect_right(self.starts, offset) - 1
+        number = self.class_at(offset)
         if number < 0 or not self.located(number, "").span.holds(offset):
             return None
         below = ""
@@ -146,7 +150,7 @@ def class_number(step: str) -> int:
 def read_source(text: str, old: Source) -> Source:
     """The document with that text, which was `old` before."""
     starts = class_starts(text)
-    texts = [text[start:end] for start, end in zip(starts, [*starts[1:], len(text)])]
+    texts = shared([text[start:end] for start, end in zip(starts, [*starts[1:], len(text)])], old.texts)
     pieces = {it: old.pieces.get(it) or Piece.of(it) for it in texts}
     read = [pieces[it] for it in texts]
     faults = read_front(text[: starts[0]] if starts else text)
@@ -156,19 +160,20 @@ def read_source(text: str, old: Source) -> Source:
     last = last_good(texts, old)
     taken = [last.get(number, it) if it.faults else it for number, it in enumerate(read)]
     numbers = [number for number, it in enumerate(taken) if it.phrase is not None]
-    chosen = ([them[number] for number in numbers] for them in (starts, texts))
-    return Source(*chosen, [taken[it] for it in numbers], tuple(faults), pieces)
+    chosen = [starts[it] for it in numbers], [texts[it] for it in numbers], [taken[it] for it in numbers]
+    return Source(*chosen, tuple(faults), pieces)
+
+
+def shared(texts: List[str], old: List[str]) -> List[str]:
+    """The same texts; those at the front and at the back that were there before are the old ones, whose hashes are known."""
+    front, back = alike_ends(texts, old)
+    return [*old[:front], *texts[front : len(texts) - back], *old[len(old) - back :]]
 
 
 def class_starts(text: str) -> List[int]:
     """Where the classes of the text begin: at each word `class` that stands in no comment."""
-    found = [it.start() for it in CLASS.finditer(text) if it.start() == 0 or not is_in_word(text[it.start() - 1])]
+    found = [it.start() for it in CLASS.finditer(text)]
     return [it for it in found if not is_in_comment(text, it)] if "//" in text else found
-
-
-def is_in_word(character: str) -> bool:
-    """Whether the character may stand in a word."""
-    return character == "_" or character.isalnum()
 
 
 def is_in_comment(text: str, offset: int) -> bool:
@@ -182,8 +187,7 @@ def last_good(texts: List[str], old: Source) -> Dict[int, Piece]:
 
     What is alike at the front and at the back goes together; between, classes go together one by one where they are
     equally many, and else by their names."""
-    front = alike(texts, old.texts)
-    back = min(alike(texts[::-1], old.texts[::-1]), min(len(texts), len(old.texts)) - front)
+    front, back = alike_ends(texts, old.texts)
     found = dict(enumerate(old.taken[:front]))
     found.update({len(texts) - it: old.taken[len(old.taken) - it] for it in range(1, back + 1)})
     numbers = range(front, len(texts) - back)
@@ -194,6 +198,12 @@ def last_good(texts: List[str], old: Source) -> Dict[int, Piece]:
         by_name = {class_name(old.texts[it]): old.taken[it] for it in reversed(between)}
         found.update({it: by_name[class_name(texts[it])] for it in numbers if class_name(texts[it]) in by_name})
     return {number: it for number, it in found.items() if not it.faults}
+
+
+def alike_ends(one: List[str], other: List[str]) -> Tuple[int, int]:
+    """How many texts the two lists begin with alike, and how many of the others they end with alike."""
+    front = alike(one, other)
+    return front, min(alike(one[::-1], other[::-1]), min(len(one), len(other)) - front)
 
 
 def alike(one: List[str], other: List[str]) -> int:

@@ -53,6 +53,14 @@ class OnTheTutorialsProgram(unittest.TestCase):
         self.document.change("end = x", "Circle end = x")
         self.assertEqual(self.document.settled(), ["7:12 wants Circle, gets int"])
 
+    def test_an_edit_brings_errors_to_classes_whose_text_stays(self):
+        self.document.change("x < 10", "q < 10")
+        self.assertEqual(self.document.settled(), ["3:12 no declaration of q"])
+        self.document.change("int x", "int z")
+        self.assertEqual(self.document.settled(), ["3:12 no declaration of q", "7:11 no declaration of x"])
+        self.document.change("q < 10", "z < 10")
+        self.assertEqual(self.document.settled(), ["7:11 no declaration of x"])
+
     def test_a_name_that_depends_on_itself(self):
         self.document.change("show end;", "a = a; show end;")
         self.assertEqual(self.document.settled(), ["7:18 `kind` depends on itself"])
@@ -223,6 +231,23 @@ class OnTheLanguage(unittest.TestCase):
             client.ask("initialize", {})
         self.assertIn("a language is one .ast file and one .jrag file or more", client.told())
         self.assertEqual(client.close(), 2)
+
+
+class OnOptions(unittest.TestCase):
+    """Options that a program may have or not."""
+
+    def words(self, *words):
+        """The options with which a program is started that knows `--keep`."""
+        with tempfile.TemporaryDirectory(prefix="attrd-lsp-") as folder:
+            noted = Path(folder) / "words"
+            keeping = str(Path(__file__).resolve().parent / "keeping.py")
+            with Client(*words, attrd=keeping, environment={"ATTRD": program(), "WORDS": str(noted)}) as client:
+                self.assertEqual(Editing(client, SMALL).settled(), [])
+            return noted.read_text()
+
+    def test_a_program_that_runs_long_keeps_no_more_than_is_said(self):
+        self.assertEqual(self.words(), "--slice 100 --keep 400000")
+        self.assertEqual(self.words("--keep", "7"), "--slice 100 --keep 7")
 
 
 class OnFaults(unittest.TestCase):

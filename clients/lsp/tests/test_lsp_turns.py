@@ -61,6 +61,16 @@ class InTurns(unittest.TestCase):
         self.assertEqual(self.noted("post /")[0], "post / errors()")
         self.assertEqual(self.noted("ask"), [])
 
+    def test_of_many_classes_those_that_may_have_errors_are_asked(self):
+        document = Editing(self.client(1, 0), "".join(f"class C{it} {{ int a{it}; {{ show a{it}; }} }}\n" for it in range(40)))
+        self.assertEqual(document.settled(), [])
+        document.change("show a30", "show q")
+        self.assertEqual(document.settled(), ["31:29 no declaration of q"])
+        self.assertEqual(self.noted("post /Kind:[0-9]+ errors"), ["post /Kind:32 errors()"])
+        document.change("show a20", "show r")
+        self.assertEqual(document.settled(), ["21:29 no declaration of r", "31:29 no declaration of q"])
+        self.assertEqual(self.noted("post /Kind:[0-9]+ errors")[1:], ["post /Kind:22 errors()", "post /Kind:32 errors()"])
+
     def test_an_edit_waits_for_no_question_and_the_question_isnt_posted_again(self):
         client = self.client(2000, 0.0005)
         document = Editing(client, SMALL)

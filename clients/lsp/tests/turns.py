@@ -89,7 +89,7 @@ class Turns:
 def main(words: List[str]) -> int:
     """Serves standard input; the exit status of the program behind."""
     if words[:1] != ["--slice"]:
-        return 2
+        return subprocess.call([os.environ["ATTRD"], *words])
     behind = subprocess.Popen([os.environ["ATTRD"], *words[2:]], stdin=subprocess.PIPE, stdout=subprocess.PIPE)
     turns = Turns(behind, int(words[1]), sys.stdout.buffer)
     noted = open(os.environ["LINES"], "a") if "LINES" in os.environ else None

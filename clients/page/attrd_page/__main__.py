@@ -7,9 +7,10 @@ import os
 import signal
 import sys
 import webbrowser
-from typing import List, Optional
+from contextlib import suppress
+from typing import Any, List, Optional
 
-from attrd import AttrdError, StartFault, explain
+from attrd import KEPT, AttrdError, StartFault, explain, known_options, lasting_options
 
 from .front import listen
 from .hub import Hub
@@ -26,6 +27,8 @@ def options(words: Optional[List[str]] = None) -> argparse.Namespace:
     reader.add_argument("tree", metavar="TREE")
     reader.add_argument("aspects", metavar="ASPECT", nargs="+")
     reader.add_argument("--program", default="attrd", help="the program (attrd on the PATH, where none is given)")
+    reader.add_argument("--keep", metavar="N", type=int, default=KEPT,
+                        help="how many values the program keeps at most, if it has the option (%(default)s where none is given)")
     reader.add_argument("--connect", metavar="SOCKET", help="takes the program that runs at this socket already, over these files")
     reader.add_argument("--listen", metavar="SOCKET", help="has other clients speak the server's protocol at this socket, all at once")
     reader.add_argument("--port", type=int, default=0, help="the page's port at 127.0.0.1 (a random one, where none is given)")
@@ -37,7 +40,8 @@ async def upstream(given: argparse.Namespace) -> Upstream:
     """The stream to the server. Raises AttrdError."""
     if given.connect:
         return await connect(given.connect)
-    return await start_program(given.program, [given.grammar, given.tree, *given.aspects], ["--work"])
+    options = ["--work", *lasting_options(known_options(given.program), given.keep)]
+    return await start_program(given.program, [given.grammar, given.tree, *given.aspects], options)
 
 
 async def serve(given: argparse.Namespace) -> int:
@@ -63,7 +67,7 @@ async def serve(given: argparse.Namespace) -> int:
             print(f"attrd: {told.strip()}", flush=True)
 
 
-async def _serve_page(given: argparse.Namespace, hub: Hub, page: Page, replies: asyncio.Future[None]) -> int:
+async def _serve_page(given: argparse.Namespace, hub: Hub, page: Page, replies: asyncio.Future[Any]) -> int:
     web = Web(page)
     await web.begin(given.port)
     front = await listen(hub, given.listen) if given.listen else None
@@ -73,7 +77,7 @@ async def _serve_page(given: argparse.Namespace, hub: Hub, page: Page, replies: 
     print(f"page: {web.address}", flush=True)
     if not given.no_browser:
         asyncio.get_running_loop().run_in_executor(None, webbrowser.open, web.address)
-    stopped = asyncio.ensure_future(stop.wait())
+    stopped: asyncio.Future[Any] = asyncio.ensure_future(stop.wait())
     try:
         await asyncio.wait([stopped, replies], return_when=asyncio.FIRST_COMPLETED)
         if replies.done():
@@ -84,7 +88,8 @@ async def _serve_page(given: argparse.Namespace, hub: Hub, page: Page, replies: 
         await web.close()
         if front is not None:
             front.close()
-            os.unlink(given.listen)
+            with suppress(OSError):
+                os.unlink(given.listen)
 
 
 def main(words: Optional[List[str]] = None) -> int:

@@ -69,11 +69,12 @@ def choices(grammar: Grammar, kind: str) -> List[Json]:
 def _smallest(grammar: Grammar, name: str) -> Optional[str]:
     """A short term of the class itself: of its cells those are given that have to be."""
     cells: List[Any] = []
-    empty = {"String": "x", "int": 0, "boolean": True}
+    tokens: Json = {"String": "x", "int": 0, "boolean": True}
+    empty: Dict[Shape, Any] = {Shape.LIST: (), Shape.OPTIONAL: None}
     try:
         for part in grammar.parts(name):
             child = grammar.smallest(part.kind) if part.shape is Shape.CHILD else None
-            cells.append(child if child is not None else {Shape.LIST: (), Shape.OPTIONAL: None}.get(part.shape, empty.get(part.kind)))
+            cells.append(child if child is not None else empty.get(part.shape, tokens.get(part.kind)))
         return write_term(grammar.make(name, *cells))
     except TermFault:
         return None

@@ -57,7 +57,7 @@ class Inbox:
     def feed(self, data: bytes) -> List[Tuple[int, bytes]]:
         """The messages that are whole now: their kind and content. Raises FrameFault."""
         self._read += data
-        found = []
+        found: List[Tuple[int, bytes]] = []
         while True:
             taken = self._frame()
             if taken is None:

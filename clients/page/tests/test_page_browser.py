@@ -76,6 +76,7 @@ class Windows(unittest.TestCase):
         self.assertLess(time.monotonic() - start, BOUND_SECONDS)
         tab.until("/errors.. of Program is now 1, was 0/.test(document.getElementById('live').textContent)", "what is said")
         self.shows(tab, "#edits li", "1 of 1 probes changed", "by another client", "work ")
+        self.shows(tab, "#counted:not([hidden])", "counted on a copy")
 
     def test_a_second_window_sees_the_edit(self) -> None:
         one, two = self.window(), self.window()

@@ -3,9 +3,13 @@ from __future__ import annotations
 
 import asyncio
 import json
+import os
 import socket
+import tempfile
 import unittest
+from pathlib import Path
 from typing import Any, Dict, List, Optional
+from unittest import mock
 
 from page_support import CLONE, Served, Wire, program
 
@@ -165,6 +169,17 @@ class Web(unittest.TestCase):
         while len(changed) < 130:
             changed.update({it["probe"]: it["value"] for it in page.changed()})
         self.assertEqual(set(changed.values()), {"1"})
+
+
+class Options(unittest.TestCase):
+    def test_a_program_that_runs_long_keeps_no_more_than_is_said(self) -> None:
+        keeping = str(CLONE / "clients" / "lsp" / "tests" / "keeping.py")
+        with tempfile.TemporaryDirectory(prefix="attrd-page-test-") as folder:
+            noted = Path(folder) / "words"
+            with mock.patch.dict(os.environ, {"ATTRD": program(), "WORDS": str(noted)}):
+                for words, wanted in (((), "--work --keep 400000"), (("--keep", "7"), "--work --keep 7")):
+                    Served("--program", keeping, *words).close()
+                    self.assertEqual(noted.read_text(), wanted)
 
 
 class Work(unittest.TestCase):

@@ -13,6 +13,17 @@ from .grammar import ClassOf, Grammar, Part, Shape
 from .measuring import measured
 from .paths import FromMark, Path, Step
 from .replies import (Answer, AskValue, Circular, Code, Done, Fault, FaultKind, Memory, Ok, Opened, RefusedReply, Reply, Value)
-from .server import Server, Text, connect, start
+from .server import KEPT, Server, Text, connect, known_options, lasting_options, start
 from .session import Mark, Question, Session
 from .terms import Node, read_term, write_term
+
+__all__ = [
+    "Answer", "AskValue", "AspectFault", "AttrdError", "Check", "Circular", "ClassOf", "Code", "Connection",
+    "ConnectionClosed", "Costs", "Diagnostic", "Diagnostics", "Document", "Done", "Drop", "Edit", "Explanation", "Fault",
+    "FaultKind", "FromMark", "Grammar", "GrammarFault", "Insert", "KEPT", "LineFault", "Mark", "Memory", "Move", "NoValue",
+    "Node", "Ok", "Opened", "OutOfMemory", "Part", "Path", "Pending", "ProtocolFault", "Put", "Question", "Refused",
+    "RefusedReply", "Reply", "ReplyTimeout", "Server", "ServerLost", "ServerRestarted", "Session", "SetNode", "SetToken",
+    "Shape", "StartFault", "Step", "SyntaxFault", "TermFault", "Text", "TreeDiffers", "UnknownName", "Update", "Value",
+    "accepted", "applied", "connect", "diagnostics", "difference", "explain", "known_options", "lasting_options",
+    "measured", "read_term", "start", "write_term",
+]

@@ -158,8 +158,10 @@ class Connection:
         self._closing.append(call)
 
     def flush(self) -> None:
-        """Hands all lines to the server, without waiting for replies. Raises ServerLost."""
+        """Hands all lines to the server, without waiting for replies. Raises ServerLost, and ConnectionClosed."""
         self.settle(lambda: not self._out)
+        if self._lost is not None:
+            raise self._lost
 
     def poll(self) -> None:
         """Takes what the server has written by now, without waiting. Raises ServerLost where the stream has ended."""

@@ -1,8 +1,8 @@
 """Finds all faults of a tree: an aspect that counts them, and a search that goes down where the count isn't 0."""
 from __future__ import annotations
 
-from dataclasses import dataclass
-from typing import Iterable, List, Optional, Sequence, Set, Tuple
+from dataclasses import dataclass, field
+from typing import Dict, Iterable, List, Optional, Sequence, Set, Tuple
 
 from . import commands
 from .connection import Pending
@@ -10,7 +10,7 @@ from .declarations import Attribute, attributes_of
 from .document import Document
 from .errors import AspectFault, ProtocolFault
 from .grammar import ClassOf, Grammar, Part, Shape
-from .paths import Path
+from .paths import Path, Step
 from .replies import Answer, Circular, Fault, Value
 from .server import Text
 from .terms import Node
@@ -90,27 +90,76 @@ class Diagnostics:
         """How many faults the tree has: one question. Raises as `Session.ask`."""
         return document.session.ask("/", self.count, at=document.version)
 
-    def find(self, document: Document) -> List[Diagnostic]:
+    def find(self, document: Document, before: Iterable[Diagnostic] = ()) -> List[Diagnostic]:
         """All faults of the tree that the document knows, in the order of the tree.
 
         It goes down, a level after the other, where the count of a node isn't 0, or where it has none: a fault or a circle below
-        takes the counts above it away. Raises Refused with Code.STALE where another session has edited the tree, and what
-        `Session.ask` raises.
+        takes the counts above it away. Where what was found makes up the count of a node, nothing else is asked below it; so it
+        takes fewer questions with `before`, the faults that were found last: their places are looked at first. Raises Refused with
+        Code.STALE where another session has edited the tree, and what `Session.ask` raises.
         """
+        likely = _steps_to(it.path for it in before)
         found: List[Diagnostic] = []
-        level = [(Path(), document.tree)]
-        asked = [self._ask(document, Path(), self.count)]
+        level = [self._asked(document, Path(), document.tree)]
         while level:
-            wrong = [it for it, line in zip(level, asked) if not _is_zero(_answer(line))]
-            own = [(path, it, self._ask(document, path, it.name)) for path, node in wrong for it in self._of_class[node.name]]
-            level = [(path.child(*step), node) for path, above in wrong for step, node in self.grammar.children(above)]
-            asked = [self._ask(document, path, self.count) for path, _ in level]
-            for path, check, line in own:
-                found.extend(_told(path, check, _answer(line)))
+            wrong = [it for it in level if it.number != 0]
+            for it in wrong:
+                it.own = [(check, self._ask(document, it.path, check.name)) for check in self._of_class[it.node.name]]
+                self._ask_below(document, it, likely.get(it.path, set()), True)
+            for it in wrong:
+                if not it.is_accounted:
+                    self._ask_below(document, it, likely.get(it.path, set()), False)
+                found.extend(it.told)
+            level = [below for it in wrong for below in it.below]
         return sorted(found, key=lambda it: _place(self.grammar, document.tree, it.path))
 
     def _ask(self, document: Document, path: Path, attribute: str) -> Pending:
         return document.session.send(commands.ask(path, attribute), at=document.version)
+
+    def _asked(self, document: Document, path: Path, node: Node) -> "_Counted":
+        return _Counted(path, node, self._ask(document, path, self.count))
+
+    def _ask_below(self, document: Document, it: "_Counted", likely: Set[Step], is_likely: bool) -> None:
+        """Asks the counts of those nodes below to which the likely steps lead, or else of all others."""
+        if likely or not is_likely:
+            below = [(step, node) for step, node in self.grammar.children(it.node) if (step in likely) is is_likely]
+            it.below += [self._asked(document, it.path.child(*step), node) for step, node in below]
+
+
+@dataclass
+class _Counted:
+    """A node whose count was asked; and where it isn't 0, what was asked of the node itself, and of nodes below."""
+
+    path: Path
+    node: Node
+    line: Pending
+    own: List[Tuple[Check, Pending]] = field(default_factory=list)
+    below: List["_Counted"] = field(default_factory=list)
+
+    @property
+    def number(self) -> Optional[int]:
+        """How many faults there are, or None where the count has no value. Waits for the answer, and raises as that does."""
+        answer = _answer(self.line)
+        return int(answer.text) if isinstance(answer, Value) else None
+
+    @property
+    def told(self) -> List[Diagnostic]:
+        """The faults of the node itself."""
+        return [fault for check, line in self.own for fault in _told(self.path, check, _answer(line))]
+
+    @property
+    def is_accounted(self) -> bool:
+        """Whether those and the faults below that are known are all that there are."""
+        return self.number is not None and self.number == len(self.told) + sum(it.number or 0 for it in self.below)
+
+
+def _steps_to(paths: Iterable[Path]) -> Dict[Path, Set[Step]]:
+    """For each node on the way to these the steps that lead on."""
+    found: Dict[Path, Set[Step]] = {}
+    for path in paths:
+        for at, step in enumerate(path.steps):
+            found.setdefault(Path(path.steps[:at]), set()).add(step)
+    return found
 
 
 def diagnostics(grammar: Grammar, aspects: Iterable[str], names: Iterable[str]) -> Diagnostics:
@@ -157,10 +206,6 @@ def _answer(line: Pending) -> Answer:
     if isinstance(reply, (Value, Fault, Circular)):
         return reply
     raise ProtocolFault(f"{reply} is no answer")
-
-
-def _is_zero(answer: Answer) -> bool:
-    return isinstance(answer, Value) and answer.text == "0"
 
 
 def _told(path: Path, check: Check, answer: Answer) -> List[Diagnostic]:

@@ -2,13 +2,15 @@
 from __future__ import annotations
 
 from dataclasses import dataclass
-from typing import Any, Callable, Iterable, List, Tuple, Union
+from typing import Any, Callable, Iterable, List, Tuple, TypeVar, Union
 
 from . import commands
 from .errors import TermFault
 from .grammar import Grammar
 from .paths import Path, Step
 from .terms import Node, Token
+
+T = TypeVar("T")
 
 
 @dataclass(frozen=True)
@@ -100,18 +102,18 @@ def applied(grammar: Grammar, tree: Node, edits: Iterable[Edit]) -> Node:
 
 def _apply(grammar: Grammar, tree: Node, edit: Edit) -> Node:
     if isinstance(edit, SetNode):
-        return _changed(grammar, tree, edit.path, lambda _: edit.term)
+        return _changed(grammar, tree, edit.path, _always(edit.term))
     if isinstance(edit, Put):
-        return _with_cell(grammar, tree, edit.path, edit.part, lambda cell: edit.term if cell is None else _miss(edit))
+        return _put(grammar, tree, edit)
     if isinstance(edit, SetToken):
-        return _with_cell(grammar, tree, edit.path, edit.part, lambda _: edit.value)
+        return _with_cell(grammar, tree, edit.path, edit.part, _always(edit.value))
     if isinstance(edit, Insert):
         return _inserted(grammar, tree, edit.path, edit.part, edit.index, edit.term)
     if isinstance(edit, Drop):
         return _dropped(grammar, tree, edit.path)
     node = grammar.node_at(tree, edit.path)
     if node is None or edit.path.steps[-1].index is None:
-        return _miss(edit)
+        raise _miss(edit)
     without = _dropped(grammar, tree, edit.path)
     return _inserted(grammar, without, _behind(edit.path, edit.target), edit.part, edit.index, node)
 
@@ -128,8 +130,13 @@ def _behind(dropped: Path, path: Path) -> Path:
     return Path(path.steps[:at] + (Step(step.part, step.index - 1),) + path.steps[at + 1:])
 
 
-def _miss(edit: Any) -> Any:
-    raise TermFault(str(edit.path), f"the edit doesn't apply: {edit.command()[:100]}")
+def _miss(edit: Edit) -> TermFault:
+    return TermFault(str(edit.path), f"the edit doesn't apply: {edit.command()[:100]}")
+
+
+def _always(cell: T) -> Callable[[Any], T]:
+    """The change that makes this of whatever was there."""
+    return lambda _: cell
 
 
 def _changed(grammar: Grammar, tree: Node, path: Path, change: Callable[[Node], Node]) -> Node:
@@ -157,6 +164,14 @@ def _with_cell(grammar: Grammar, tree: Node, path: Path, part: str, change: Call
             raise TermFault(str(path), f"{node.name} has no component {part}")
         return Node(node.name, *node.cells[:at], change(node.cells[at]), *node.cells[at + 1:])
     return _changed(grammar, tree, path, make)
+
+
+def _put(grammar: Grammar, tree: Node, edit: Put) -> Node:
+    def into(cell: Any) -> Node:
+        if cell is not None:
+            raise _miss(edit)
+        return edit.term
+    return _with_cell(grammar, tree, edit.path, edit.part, into)
 
 
 def _inserted(grammar: Grammar, tree: Node, path: Path, part: str, index: int, term: Node) -> Node:

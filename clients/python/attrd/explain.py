@@ -96,16 +96,17 @@ def explain(fault: Union[StartFault, GrammarFault], files: Sequence[Union[str, "
     """
     names = [str(it) for it in files]
     file = names[0] if isinstance(fault, GrammarFault) and names else getattr(fault, "file", None)
-    if file is None or getattr(fault, "code", None) not in SENTENCES:
+    code: Optional[str] = getattr(fault, "code", None)
+    if file is None or code is None or code not in SENTENCES:
         raise AttrdError(f"this is no fault of a file: {fault}")
     text = read_file(file).decode("utf-8", "replace")
-    if fault.code.startswith("F"):
+    if code.startswith("F"):
         return _of_tree(fault, file, text, names[0] if names else None)
-    sentence, hint = SENTENCES[fault.code]
+    sentence, hint = SENTENCES[code]
     line, column = fault.line or 1, fault.column or 1
     lines = text.split("\n")
     source = lines[line - 1] if line <= len(lines) else ""
-    return Explanation(file, fault.code, fault.name or "", sentence, hint, line, column, source)
+    return Explanation(file, code, fault.name or "", sentence, hint, line, column, source)
 
 
 def _of_tree(fault: Union[StartFault, GrammarFault], file: str, text: str, grammar: Optional[str]) -> Explanation:

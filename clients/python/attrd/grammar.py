@@ -53,7 +53,7 @@ class ClassOf:
         return None if at is None else self.parts[at]
 
 
-_KINDS = {"String": str, "int": int, "boolean": bool}
+_KINDS: Dict[str, type] = {"String": str, "int": int, "boolean": bool}
 
 
 class Grammar:
@@ -282,7 +282,8 @@ def _told(cell: Any) -> str:
 
 def token_fault(part: Part, value: Any) -> Optional[str]:
     """Why the value can't be this token's, or None."""
-    if type(value) is not _KINDS[part.kind]:
+    kind: object = type(value)
+    if kind is not _KINDS[part.kind]:
         return f"{_told(value)} stands where a token of kind {part.kind} is wanted"
     if part.kind == "int" and not LEAST_INT <= value <= GREATEST_INT:
         return f"{value} is outside of 32 bits"

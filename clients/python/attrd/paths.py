@@ -15,7 +15,7 @@ class Step(NamedTuple):
     """A component's name, with an index where it is a list."""
 
     part: str
-    index: Optional[int] = None
+    index: Optional[int] = None  # type: ignore[assignment]
 
     def __str__(self) -> str:
         return self.part if self.index is None else f"{self.part}:{self.index}"

@@ -8,13 +8,17 @@ import subprocess
 import tempfile
 from dataclasses import dataclass
 from pathlib import Path as FilePath
-from typing import List, Optional, Union
+from typing import FrozenSet, List, Optional, Union
 
 from .channel import Program, open_socket
 from .connection import Connection
 from .errors import AttrdError, ServerLost, ServerRestarted, StartFault, text_of
 from .terms import Node, write_term
 
+# How many values a program that runs long keeps, by `--keep`: six for each node of the largest tree.
+KEPT = 400_000
+HELP_SECONDS = 30.0
+_OPTION = re.compile(r"--[a-z]+")
 _REFUSED = re.compile(r"(?P<file>.*): (?P<code>[GJF][0-9]+) (?P<name>.*?)(?: at (?P<line>[0-9]+):(?P<column>[0-9]+))?\Z")
 
 
@@ -81,6 +85,21 @@ def start(grammar: Source, tree: Union[Source, Node], *aspects: Source, program:
     return server
 
 
+def known_options(program: Union[str, "os.PathLike[str]"]) -> FrozenSet[str]:
+    """The options that the program's `--help` names, as `--slice`. Raises AttrdError where it can't be started."""
+    words = [_path(program), "--help"]
+    try:
+        told = subprocess.run(words, stdin=subprocess.DEVNULL, stdout=subprocess.PIPE, stderr=subprocess.STDOUT, timeout=HELP_SECONDS, check=False)
+    except (OSError, ValueError, UnicodeError, subprocess.TimeoutExpired) as fault:
+        raise AttrdError(f"{words[0]}: it can't be started: {getattr(fault, 'strerror', None) or fault}") from None
+    return frozenset(_OPTION.findall(told.stdout.decode("utf-8", "replace")))
+
+
+def lasting_options(known: FrozenSet[str], values: int = KEPT) -> List[str]:
+    """The option by which a program that runs long keeps at most about so many values, where it knows one."""
+    return ["--keep", str(values)] if "--keep" in known else []
+
+
 def _run(words: List[str]) -> Program:
     errors = tempfile.TemporaryFile()
     try:
@@ -106,7 +125,8 @@ def connect(path: Union[str, "os.PathLike[str]"], seconds: float = 0.0, known: O
 
     The server serves one connection after the other: replies come when those before this one have ended. `known` is the last
     version of an earlier connection: then the first reply is waited for. Raises AttrdError where no connection can be made, and
-    ServerRestarted where the tree has a version below `known`.
+    ServerRestarted where the tree has a version below `known`. Another server that has had as many edits since isn't told apart
+    by that; but nothing of an earlier connection is sent to it, and `Document` reads the tree that is there.
     """
     connection = Connection(open_socket(path, seconds))
     if known is not None:

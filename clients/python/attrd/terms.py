@@ -26,6 +26,7 @@ class Node:
     size: int
     depth: int
     length: int
+    _hash: int
 
     def __init__(self, name: str, *cells: Any) -> None:
         size, depth, length, taken = 1, 0, utf8_bytes(text_of("the name of a class", name)) + 2 + max(0, len(cells) - 1), []
@@ -113,14 +114,14 @@ def _token_bytes(cell: Any) -> int:
 
 
 def _same(one: Node, other: Node) -> bool:
-    left = [(one, other)]
+    left: List[Any] = [(one, other)]
     while left:
         a, b = left.pop()
         if a is b:
             continue
         if a._hash != b._hash or a.name != b.name or len(a.cells) != len(b.cells):
             return False
-        for x, y in zip(a.cells, b.cells):
+        for x, y in zip(a.cells, b.cells):  # type: Any, Any
             if type(x) is not type(y):
                 return False
             if type(x) is Node:
@@ -156,7 +157,7 @@ def write_term(node: Node) -> str:
         parts.append("(")
         left.append(")")
         cells: List[Any] = []
-        for number, cell in enumerate(top.cells):
+        for number, cell in enumerate(top.cells):  # type: int, Any
             if number:
                 cells.append(",")
             if type(cell) is Node:

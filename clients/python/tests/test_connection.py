@@ -11,7 +11,7 @@ from pathlib import Path as FilePath
 
 import attrd
 from attrd import Circular, Code, Fault, FaultKind, Node, Path, Value, commands
-from support import CALCULATOR, PROGRAM, ServerTest, calculator
+from support import CALCULATOR, PROGRAM, ServerTest, calculator, calculator_grammar
 
 
 class Commands(ServerTest):
@@ -228,6 +228,16 @@ class Starts(unittest.TestCase):
             self.assertTrue(all(FilePath(it).exists() for it in server.files))
         self.assertFalse(any(FilePath(it).exists() for it in server.files))
 
+    def test_options_that_a_program_knows(self):
+        known = attrd.known_options(PROGRAM)
+        self.assertLessEqual({"--socket", "--connections", "--slice", "--work", "--help"}, known)
+        self.assertEqual(attrd.lasting_options(frozenset(["--keep"]), 7), ["--keep", "7"])
+        self.assertEqual(attrd.lasting_options(frozenset(["--work"])), [])
+        for program in ("/nosuch/attrd", "nul\0l", 5):
+            self.assertRaises(attrd.AttrdError, attrd.known_options, program)
+        with calculator(options=attrd.lasting_options(known)) as server:
+            self.assertEqual(server.session().value("/Block/Stmt:1/Expr", "value"), 3)
+
     def test_options(self):
         server = calculator(options=["--work"])
         self.assertEqual(server.session().value("/Block/Stmt:1/Expr", "value"), 3)
@@ -274,6 +284,47 @@ class Sockets(unittest.TestCase):
         self.serve(5)
         with self.assertRaises(attrd.ServerRestarted):
             attrd.connect(self.path, seconds=60, known=connection.version)
+
+    def lose(self, process, connection):
+        """Has an edit accepted and two more sent that aren't answered, and kills the server; the fault that these lines have."""
+        session = connection.session()
+        self.assertEqual(session.token("/Block/Stmt:1/Expr/Right", "Value", 5), 1)
+        os.kill(process.pid, signal.SIGSTOP)
+        lines = session.send_all(["drop /Block/Stmt:0", "drop /Block/Stmt:0"])
+        connection.flush()
+        process.kill()
+        with self.assertRaises(attrd.ServerLost) as caught:
+            lines[0].reply()
+        self.assertRaises(attrd.ServerLost, lines[1].reply)
+        self.assertRaises(attrd.ServerLost, session.version)
+        return caught.exception
+
+    def test_a_lost_server_is_told_apart_from_one_that_was_started_anew(self):
+        process = self.serve(5)
+        connection = attrd.connect(self.path, seconds=60)
+        lost = self.lose(process, connection)
+        self.assertEqual((type(lost), lost.unanswered, connection.version), (attrd.ServerLost, 2, 1))
+        with self.assertRaises(attrd.AttrdError) as caught:
+            attrd.connect(self.path, known=1)
+        self.assertNotIsInstance(caught.exception, attrd.ServerLost)
+        os.remove(self.path)
+        self.serve(5)
+        with self.assertRaises(attrd.ServerRestarted) as caught:
+            attrd.connect(self.path, seconds=60, known=1)
+        self.assertIn("its version is 0, and 1 was known", str(caught.exception))
+        self.assertRaises(attrd.ServerLost, connection.session().version)
+        self.assertRaises(attrd.ServerLost, connection.flush)
+
+    def test_nothing_is_sent_twice(self):
+        process = self.serve(5)
+        connection = attrd.connect(self.path, seconds=60)
+        self.lose(process, connection)
+        os.remove(self.path)
+        self.serve(5)
+        with attrd.connect(self.path, seconds=60) as again:
+            document = attrd.Document(again.session(), calculator_grammar())
+            self.assertEqual(document.version, 0)
+            self.assertEqual(document.tree, attrd.read_term((CALCULATOR / "tree.txt").read_text().strip()))
 
     def test_no_server(self):
         self.assertRaises(attrd.AttrdError, attrd.connect, self.path)

@@ -46,6 +46,34 @@ class Tutorial(unittest.TestCase):
                                         ("/Kind:3/Block/Stmt:1", "error has no value: circular /Kind:3/Block/Stmt:1.kind"),
                                         ("/Kind:3/Block/Stmt:2/Expr", "no declaration of nix")])
 
+    def asked(self, before):
+        """How many lines it takes to find the faults, and their messages."""
+        sent, session = [], self.document.session
+        send = session.send
+        session.send = lambda command, at=None: sent.append(command) or send(command, at)
+        try:
+            found = self.diagnostics.find(self.document, before)
+        finally:
+            session.send = send
+        return len(sent), [it.message for it in found]
+
+    def test_faults_that_are_known_are_looked_at_first(self):
+        self.change('Show(Name("end"))', 'Show(Name("nix")),Show(Num(1)),Show(Num(2)),Show(Num(3))')
+        before = self.diagnostics.find(self.document)
+        all_lines, told = self.asked([])
+        self.assertEqual((told, self.asked(before)), (["no declaration of nix"], (9, told)))
+        self.assertLess(9, all_lines)
+
+    def test_faults_that_are_known_hide_no_other(self):
+        self.change('Show(Name("end"))', 'Show(Name("nix"))')
+        before = self.diagnostics.find(self.document)
+        self.change('Show(Name("near"))', 'Show(Name("far"))')
+        self.assertEqual(self.asked(before)[1], ["no declaration of far", "no declaration of nix"])
+        self.change('Show(Name("nix"))', 'Decl("a",-,Name("a"))')
+        self.assertEqual(self.asked(before)[1], self.asked([])[1])
+        self.change('Decl("a",-,Name("a"))', 'Show(Num(1))')
+        self.assertEqual(self.asked(before)[1], ["no declaration of far"])
+
     def test_another_session_was_faster(self):
         self.document.session.connection.session().drop("/Kind:3")
         with self.assertRaises(attrd.Refused) as caught:

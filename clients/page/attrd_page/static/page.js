@@ -390,6 +390,7 @@ function drawWork(told) {
   const entry = by("edits").querySelector(`[data-version="${told.version}"] .work`);
   if (!entry) return;
   entry.textContent = `work ${told.evaluated}`;
+  by("counted").hidden = false;
   entry.title = `${told.evaluated} values of lazy attributes were evaluated anew for ${told.probes} probes, counted on a copy`;
 }
 

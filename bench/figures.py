@@ -1,0 +1,43 @@
+"""What the benchmarks of the clients share: the program, and tables as docs/PERFORMANCE.md has them."""
+import os
+import sys
+from pathlib import Path
+
+ROOT = Path(__file__).resolve().parent.parent
+
+
+def program_in(words, usage):
+    """The program that the first word names, ./attrd where there is none. Ends the process where there is no such program."""
+    program = Path(words[0]) if words else ROOT / "attrd"
+    if not os.access(program, os.X_OK) or program.is_dir():
+        sys.exit(f"{usage}\n{program}: there is no such program (make build leaves it as ./attrd)")
+    return str(program.resolve())
+
+
+def numbers_in(words, otherwise, usage):
+    """The sizes that these words name, or the others where there are none. Ends the process where one is no number."""
+    if not all(it.isdigit() and int(it) for it in words):
+        sys.exit(usage)
+    return [int(it) for it in words] or list(otherwise)
+
+
+def table(*heads):
+    """Prints the head of a table."""
+    print()
+    row(*heads)
+    row(*("---" for _ in heads))
+
+
+def row(*cells):
+    """Prints a row of a table."""
+    print("| " + " | ".join(str(it) for it in cells) + " |", flush=True)
+
+
+def ms(number):
+    """A time in milliseconds, with three digits or more."""
+    return f"{number:.0f} ms" if number >= 100 else f"{number:.1f} ms" if number >= 10 else f"{number:.2f} ms"
+
+
+def ratio(number, unit):
+    """How often the one goes into the other; empty where that isn't known."""
+    return f"{number / unit:.2f}" if number is not None and unit else ""
