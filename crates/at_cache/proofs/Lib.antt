@@ -17,3 +17,5 @@ pub mod Entered
 pub mod Testing
 pub mod Shown
 pub mod Done
+pub mod Naming
+pub mod Noted

@@ -1,23 +1,33 @@
 //! Nodes of which an entry reads the index.
 
-ghost use Rattle.std.specs.Prelude.{◌≡◌, ℕ, List, IsTrue, OnOk, Contains, nat_eq, true};
+ghost use Rattle.std.specs.Prelude.{◌≡◌, ℕ, IsTrue, OnOk, Contains, nat_eq, true};
 ghost use Rattle.std.specs.List.{list_any};
 ghost use Rattle.at_model.specs.Run.{Idx};
 ghost use Rattle.at_store.specs.Located.{loc_view};
 ghost use Rattle.at_cache.specs.declared.edge.Edge.{Edge};
 ghost use Rattle.at_cache.specs.Asking.{AreNoted};
-ghost use Rattle.at_cache.specs.Readers.{edges_among, edges_at};
+ghost use Rattle.at_cache.specs.Readers.{edges_among, edges_at, facet_at};
 
 use crate::facet::Readers;
 use at_store::{Loc, Node};
 use std::alloc::AllocError;
+
+// Whether an entry was found from the facet, which is the index.
+fn is_read_index(reader: &Readers) -> bool
+    ensures { IsTrue result → (x : Edge) × Contains reader.now.edges.items x × ((n : ℕ) → facet_at n reader.now.facet ≡ Idx n) }
+{
+    if !reader.facet.is_index() {
+        return false;
+    }
+    !reader.edges.is_empty()
+}
 
 // Whether an entry was found from the index of the node with these readers.
 fn is_index_read(readers: &[Readers]) -> bool
     ensures { IsTrue result → (n : ℕ) → (x : Edge) × Contains (edges_among n readers.now (Idx n)) x }
 {
     for reader in readers {
-        if reader.facet.is_index() && !reader.edges.is_empty() {
+        if is_read_index(reader) {
             return true;
         }
     }
