@@ -19,7 +19,8 @@ loop-location-preserved c =
     let new = edges_at c.add_reader.new.readers.items in
     record {
       reads = subst (λ ls. Reads (memory_of c.args.entries.now) c.args.edge ls (edges_at c.args.readers.now.items) new) on (reads_more cases_location _ l.invariant.reads c.add_reader.ensures.lists c.add_reader.ensures.others);
-      noted = λ n. let was = l.invariant.noted n in noted_on _ (c.note.ensures.stay was) (rw c.in_ok-note.was at c.note.ensures.noted was) c.add_reader.ensures.others;
+      noted = λ n. let was = l.invariant.noted n in
+          noted_on (edges_at l.readers.items) new c.note.new.index_read.items _ ((rw c.as_slice.ensures.value at c.note.ensures.stay) was) ((rw c.as_slice.ensures.value at c.in_ok-note.ensures.noted) was) c.add_reader.ensures.others;
       listed = subst (λ ls. AreListed c.args.edge ls new) on (listed_more cases_location _ _ l.invariant.listed (rw c.in_ok-add_reader.was at c.add_reader.ensures.has) c.add_reader.ensures.others);
     }
 
@@ -44,10 +45,12 @@ returns-in_err-note-clause-reads c =
     reads_within loc_view l.location-index c.args.locations.now l.invariant.reads
 
 pub returns-in_err-note-clause-noted : goal.returns-in_err-note-clause-noted
-returns-in_err-note-clause-noted c n = ?
+returns-in_err-note-clause-noted c n = (rw c.as_slice.ensures.value at c.note.ensures.stay) (c.loop-location.invariant.noted n)
 
 pub returns-in_err-add_reader-clause-noted : goal.returns-in_err-add_reader-clause-noted
-returns-in_err-add_reader-clause-noted c n = ?
+returns-in_err-add_reader-clause-noted c n =
+    let was = c.loop-location.invariant.noted n in
+    noted_on (edges_at c.loop-location.readers.items) (edges_at c.add_reader.new.readers.items) c.note.new.index_read.items _ ((rw c.as_slice.ensures.value at c.note.ensures.stay) was) ((rw c.as_slice.ensures.value at c.in_ok-note.ensures.noted) was) c.add_reader.ensures.others
 
 pub returns-clause-noted : goal.returns-clause-noted
 returns-clause-noted c n = c.loop-location.invariant.noted n
