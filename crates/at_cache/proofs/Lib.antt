@@ -19,3 +19,4 @@ pub mod Shown
 pub mod Done
 pub mod Naming
 pub mod Noted
+pub mod Forgotten

@@ -8,3 +8,4 @@ pub mod Flushing
 pub mod Putting
 pub mod Slots
 pub mod Asking
+pub mod Bound

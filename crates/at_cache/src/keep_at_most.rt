@@ -2,7 +2,8 @@
 
 ghost use Rattle.std.specs.Prelude.{◌≡◌, ◌-◌, ◌^◌, min, None, false};
 ghost use Rattle.at_cache.specs.Info.{table_len};
-ghost use Rattle.at_cache.specs.Kept.{KeepsAll};
+ghost use Rattle.at_cache.specs.Bound.{ForgetsOver};
+ghost use Rattle.at_cache.specs.Kept.{Answers, AreNamed, KeepsAll, LeavesUntouched};
 ghost use Rattle.at_cache.specs.Recorded.{kept_in, reads_held};
 
 use crate::keep_recorded::KeepRecorded;
@@ -76,7 +77,11 @@ impl Keeper for KeepAtMost {
         self.keeper.put(inst, value, reads, uses)
     }
 
-    fn flush<F: Fn(Loc) -> bool>(&mut self, touched: &F) {
+    fn flush<F: Fn(Loc) -> bool>(&mut self, touched: &F)
+        requires { F.IsAlwaysCallable touched.now }
+        ensures leaves { LeavesUntouched (Answers (F.post touched.now)) (kept_in self.old.keeper.entries self.old.keeper.puts) (kept_in self.new.keeper.entries self.new.keeper.puts) }
+        ensures over { ForgetsOver self.old.most (table_len self.old.keeper.entries) (Answers (F.post touched.now)) (kept_in self.old.keeper.entries self.old.keeper.puts) (kept_in self.new.keeper.entries self.new.keeper.puts) }
+    {
         if self.keeper.len() > self.most {
             self.keeper = KeepRecorded::new(self.alloc);
         } else {
@@ -84,7 +89,12 @@ impl Keeper for KeepAtMost {
         }
     }
 
-    fn flush_at<F: Fn(Loc) -> bool>(&mut self, places: &Places<'_>, touched: &F) {
+    fn flush_at<F: Fn(Loc) -> bool>(&mut self, places: &Places<'_>, touched: &F)
+        requires callable { F.IsAlwaysCallable touched.now }
+        requires named { AreNamed places.now (F.post touched.now) }
+        ensures leaves { LeavesUntouched (Answers (F.post touched.now)) (kept_in self.old.keeper.entries self.old.keeper.puts) (kept_in self.new.keeper.entries self.new.keeper.puts) }
+        ensures over { ForgetsOver self.old.most (table_len self.old.keeper.entries) (Answers (F.post touched.now)) (kept_in self.old.keeper.entries self.old.keeper.puts) (kept_in self.new.keeper.entries self.new.keeper.puts) }
+    {
         if self.keeper.len() > self.most {
             self.keeper = KeepRecorded::new(self.alloc);
         } else {
