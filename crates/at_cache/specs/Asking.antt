@@ -33,7 +33,8 @@ pub record Asked (says : Location ℕ → Bool → Type 0) (seen : Location ℕ 
   pub all : (l : Location ℕ) → seen l ≡ true → says l false ⊎ ((x : Edge) → Contains (lists l) x → Contains start x)
 
 -- The flush goes on with what reads a location that is seen and touched.
-abbrev pub GoesOn : (says : Location ℕ → Bool → Type 0) (seen : Location ℕ → Bool) (lists : Location ℕ → List Edge) (first : Option ℕ) (m : Memory) (later : Option ℕ) (n : Memory) → Type 0
+abbrev pub GoesOn : (says : Location ℕ → Bool → Type 0) (seen : Location ℕ → Bool) (lists : Location ℕ → List Edge)
+    → (first : Option ℕ) (m : Memory) (later : Option ℕ) (n : Memory) → Type 0
 GoesOn says seen lists first m later n = (old : Memory) (start : List Edge) → Work old start [] first m
     → (more : List Edge) × Work old (start ++ more) [] later n × Asked says seen lists more
 

@@ -2,9 +2,9 @@
 
 ghost use Rattle.std.specs.Prelude.{◌≡◌, ◌-◌, ◌^◌, min, None, false};
 ghost use Rattle.at_cache.specs.Info.{table_len};
-ghost use Rattle.at_cache.specs.Bound.{ForgetsOver};
+ghost use Rattle.at_cache.specs.Bound.{ForgetsOver, kept_by};
 ghost use Rattle.at_cache.specs.Kept.{Answers, AreNamed, KeepsAll, LeavesUntouched};
-ghost use Rattle.at_cache.specs.Recorded.{kept_in, reads_held};
+ghost use Rattle.at_cache.specs.Recorded.{reads_held};
 
 use crate::keep_recorded::KeepRecorded;
 use crate::keeper::Keeper;
@@ -34,7 +34,8 @@ impl Drop for KeepAtMost {
 impl KeepAtMost {
     /// A keeper that keeps nothing yet, and no more than `most` entries through an edit.
     pub fn new(alloc: Global, most: usize) -> KeepAtMost
-        ensures { KeepsAll (λ _. None) (kept_in result.keeper.entries result.keeper.puts) }
+        ensures nothing { KeepsAll (λ _. None) (kept_by result) }
+        ensures bound { result.most ≡ most }
     {
         KeepAtMost {
             alloc,
@@ -59,7 +60,7 @@ impl KeepAtMost {
 }
 
 impl Keeper for KeepAtMost {
-    ghost contents = { λ k. kept_in k.keeper.entries k.keeper.puts };
+    ghost contents = { kept_by };
 
     ghost exact = { false };
 
@@ -79,8 +80,8 @@ impl Keeper for KeepAtMost {
 
     fn flush<F: Fn(Loc) -> bool>(&mut self, touched: &F)
         requires { F.IsAlwaysCallable touched.now }
-        ensures leaves { LeavesUntouched (Answers (F.post touched.now)) (kept_in self.old.keeper.entries self.old.keeper.puts) (kept_in self.new.keeper.entries self.new.keeper.puts) }
-        ensures over { ForgetsOver self.old.most (table_len self.old.keeper.entries) (Answers (F.post touched.now)) (kept_in self.old.keeper.entries self.old.keeper.puts) (kept_in self.new.keeper.entries self.new.keeper.puts) }
+        ensures leaves { LeavesUntouched (Answers (F.post touched.now)) (kept_by self.old) (kept_by self.new) }
+        ensures over { ForgetsOver (Answers (F.post touched.now)) self.old self.new }
     {
         if self.keeper.len() > self.most {
             self.keeper = KeepRecorded::new(self.alloc);
@@ -92,8 +93,8 @@ impl Keeper for KeepAtMost {
     fn flush_at<F: Fn(Loc) -> bool>(&mut self, places: &Places<'_>, touched: &F)
         requires callable { F.IsAlwaysCallable touched.now }
         requires named { AreNamed places.now (F.post touched.now) }
-        ensures leaves { LeavesUntouched (Answers (F.post touched.now)) (kept_in self.old.keeper.entries self.old.keeper.puts) (kept_in self.new.keeper.entries self.new.keeper.puts) }
-        ensures over { ForgetsOver self.old.most (table_len self.old.keeper.entries) (Answers (F.post touched.now)) (kept_in self.old.keeper.entries self.old.keeper.puts) (kept_in self.new.keeper.entries self.new.keeper.puts) }
+        ensures leaves { LeavesUntouched (Answers (F.post touched.now)) (kept_by self.old) (kept_by self.new) }
+        ensures over { ForgetsOver (Answers (F.post touched.now)) self.old self.new }
     {
         if self.keeper.len() > self.most {
             self.keeper = KeepRecorded::new(self.alloc);
