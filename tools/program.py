@@ -1,6 +1,6 @@
 #!/usr/bin/env python3
 """Tests of the program that no page shows: the words of its command line, real streams that fail, clients that wait for each
-reply, and connections of a real socket.
+reply, connections of a real socket and what becomes of its file, and what is kept with a bound.
 
     tools/program.py PROGRAM
 
@@ -22,10 +22,14 @@ FILES = {
     "sum.txt": "Sum(Num(3),Num(4))\n",
     "sum.jrag": "aspect S { syn int Sum.total() = getLeft().getValue() + getRight().getValue() * 2; }\n",
     "more.jrag": "aspect M { syn int Sum.half() = total() / 2; }\n",
+    "lazy.jrag": "aspect L { syn lazy int Num.twice() = getValue() * 2; }\n",
     "lines": "0 version\n",
 }
 THREE = ["sum.ast", "sum.txt", "sum.jrag"]
 SECONDS = 60
+# How long nothing has to come where nothing may.
+QUIET_SECONDS = 0.3
+VERSION = Path(__file__).resolve().parent.parent / "VERSION"
 
 # Words that ask for nothing that can be served, and what their text says.
 REFUSED = [
@@ -34,11 +38,15 @@ REFUSED = [
     (["--slice", "0", *THREE], ["0 is not in 1..=1000000"]),
     (["--slice=1000001", *THREE], ["1000001 is not in 1..=1000000"]),
     (["--slice=1", "--slice=1", *THREE], ["cannot be used multiple times"]),
+    (["--keep", "0", *THREE], ["0 is not in 1..=1000000000"]),
+    (["--keep=1000000001", *THREE], ["1000000001 is not in 1..=1000000000"]),
+    (["--keep=many", *THREE], ["invalid value 'many' for '--keep <N>'"]),
+    (["--keep=1", "--keep=1", *THREE], ["cannot be used multiple times"]),
     (["sum.ast", "sum.txt"], ["<ASPECT>"]),
     (["--work", "--work", *THREE], ["cannot be used multiple times"]),
     (["--port", *THREE], ["unexpected argument '--port'"]),
     (["--socket=", *THREE], ["a value is required for '--socket <PATH>'"]),
-    (["--help"], ["--socket <PATH>", "--connections <N>", "--slice <N>", "--work", "<GRAMMAR>", "<TREE>", "<ASPECT>", "$ attrd calc.ast", "ask PLACE", "move PLACE", "version ", "wait NUMBER"]),
+    (["--help"], ["--socket <PATH>", "--connections <N>", "--slice <N>", "--keep <N>", "--work", "--version", "<GRAMMAR>", "<TREE>", "<ASPECT>", "$ attrd calc.ast", "ask PLACE", "move PLACE", "version ", "wait NUMBER"]),
 ]
 
 
@@ -243,6 +251,196 @@ def faults_of_connections_are_told_in_their_order(runs):
         run.kill()
 
 
+def refused_socket(runs, path):
+    """A start at that path, which ends by a fault."""
+    same("the end", ended(runs.begin(["--socket", str(path), *THREE])), (3, b"", b"socket fault\n"))
+
+
+def served_by(run, path, line, reply):
+    """One connection, on which the line is answered so."""
+    with connected(path, run) as stream, stream.makefile("rb") as replies:
+        stream.sendall(line)
+        same("the reply", replies.readline(), reply)
+
+
+def a_socket_on_which_nobody_answers_is_taken_over(runs):
+    path = str(runs.folder / "s")
+    killed = runs.begin(["--socket", path, *THREE])
+    connected(path, killed).close()
+    killed.kill()
+    killed.wait(SECONDS)
+    if not Path(path).is_socket():
+        raise Differs("the program that was killed has left no file")
+    received, end = runs.served(THREE, [(b"0 version\n", False)])
+    same("the replies", received, [b"0 ok 0\n"])
+    same("the end", end, (0, b"", b""))
+
+
+def a_socket_that_is_answered_stays(runs):
+    """The start that is refused has had a connection of its own, the first one."""
+    path = str(runs.folder / "s")
+    run = runs.begin(["--socket", path, "--connections", "2", *THREE])
+    try:
+        until(run, lambda: is_listened_on(path))
+        refused_socket(runs, path)
+        served_by(run, path, b"0 version\n", b"0 ok 0\n")
+        same("the end", ended(run), (0, b"", b""))
+    finally:
+        run.kill()
+    if Path(path).exists():
+        raise Differs("the socket's file is still there")
+
+
+def until(run, test):
+    """Waits until that holds of the run."""
+    end = time.monotonic() + SECONDS
+    while not test():
+        if time.monotonic() > end or run.poll() is not None:
+            raise Differs("there is no socket")
+        time.sleep(0.01)
+
+
+def is_listened_on(path):
+    """Whether a socket with that path is listened on, as the system tells without a connection."""
+    rows = [line.split() for line in Path("/proc/net/unix").read_text().splitlines()]
+    return any(row[-1] == path and row[3] == "00010000" for row in rows)
+
+
+def another_file_stays(runs):
+    left = socket.socket(socket.AF_UNIX)
+    left.bind(str(runs.folder / "left"))
+    left.close()
+    (runs.folder / "link").symlink_to("left")
+    (runs.folder / "folder").mkdir()
+    for name in ("sum.txt", "link", "folder"):
+        refused_socket(runs, runs.folder / name)
+    same("the file", (runs.folder / "sum.txt").read_text(), FILES["sum.txt"])
+    for is_there in (runs.folder / "left").is_socket(), (runs.folder / "link").is_symlink(), (runs.folder / "folder").is_dir():
+        same("whether it is there", is_there, True)
+
+
+def a_file_that_cannot_be_made_is_a_socket_fault(runs):
+    for path in ("nosuch/s", "sum.txt/s", "/proc/s", "s" * 108):
+        refused_socket(runs, path)
+
+
+def the_end_leaves_the_file_of_another_server(runs):
+    path = str(runs.folder / "s")
+    words = ["--socket", path, *THREE]
+    old = runs.begin(words)
+    try:
+        stream = connected(path, old)
+        os.remove(path)
+        new = runs.begin(words)
+        try:
+            until(new, Path(path).exists)
+            same("what the old one's client receives", all_of(stream), b"")
+            same("the old one's end", ended(old), (0, b"", b""))
+            served_by(new, path, b"0 version\n", b"0 ok 0\n")
+            same("the new one's end", ended(new), (0, b"", b""))
+        finally:
+            new.kill()
+    finally:
+        old.kill()
+    if Path(path).exists():
+        raise Differs("the new server's file is still there")
+
+
+def the_end_leaves_a_file_that_is_no_socket(runs):
+    path = runs.folder / "s"
+    run = runs.begin(["--socket", str(path), *THREE])
+    try:
+        stream = connected(str(path), run)
+        path.unlink()
+        path.write_text("mine")
+        same("what the client receives", all_of(stream), b"")
+        same("the end", ended(run), (0, b"", b""))
+        same("the file", path.read_text(), "mine")
+    finally:
+        run.kill()
+        path.unlink(missing_ok=True)
+
+
+def the_file_has_the_permissions_that_the_mask_leaves(runs):
+    path = str(runs.folder / "s")
+    for mask, wanted in ("077", 0o700), ("000", 0o777):
+        words = ["-c", f'umask {mask}; exec "$0" "$@"', runs.program, "--socket", path, *THREE]
+        run = subprocess.Popen(["/bin/sh", *words], cwd=runs.folder, env={})
+        try:
+            stream = connected(path, run)
+            same("the permissions", Path(path).stat().st_mode & 0o777, wanted)
+            all_of(stream)
+            same("the status", run.wait(SECONDS), 0)
+        finally:
+            run.kill()
+
+
+def a_client_beyond_the_last_connection_is_turned_away(runs):
+    path = str(runs.folder / "s")
+    run = runs.begin(["--socket", path, *THREE])
+    try:
+        first, second = connected(path, run), connected(path, run)
+        second.sendall(b"0 version\n")
+        same("what the first one receives", all_of(first), b"")
+        same("the end", ended(run), (0, b"", b""))
+        try:
+            got = second.recv(10)
+        except ConnectionResetError:
+            got = b""
+        same("what the second one receives", got, b"")
+        second.close()
+    finally:
+        run.kill()
+
+
+def an_idle_stream_gives_no_turns(runs):
+    run = runs.begin([*THREE, "more.jrag"])
+    try:
+        for line, reply in (b"0 post / half()\n", b"0 open 1\n"), (b"0 version\n", b"0 ok 0\n"):
+            run.stdin.write(line)
+            run.stdin.flush()
+            same("the reply", run.stdout.readline(), reply)
+            same("whether more comes", select.select([run.stdout], [], [], QUIET_SECONDS)[0], [])
+        same("the end", ended(run), (0, b"0 done 1 0 = 5\n", b""))
+    finally:
+        run.kill()
+
+
+def an_input_that_does_not_block_is_a_read_fault(runs):
+    reader, writer = os.pipe()
+    os.set_blocking(reader, False)
+    run = subprocess.run([runs.program, *THREE], cwd=runs.folder, env={}, stdin=reader, capture_output=True, timeout=SECONDS)
+    os.close(reader)
+    os.close(writer)
+    same("the end", (run.returncode, run.stdout, run.stderr), (3, b"", b"read fault\n"))
+
+
+def the_version_is_that_of_its_file(runs):
+    wanted = f"attrd {VERSION.read_text()}".encode()
+    for word in "--version", "-V":
+        same("the end", ended(runs.begin([word])), (2, b"", wanted))
+
+
+# Two values are kept when an edit comes that touches the first one, and then the second is asked for anew.
+KEPT_BY_TURNS = b"0 ask /Left twice()\n0 ask /Right twice()\n0 token /Left Value 5\n0 ask /Right twice()\n"
+
+
+def an_edit_that_finds_more_than_the_bound_forgets_all(runs):
+    """The bound, and how many values were evaluated then."""
+    for bound, work in ([], 2), (["--keep", "2"], 2), (["--keep=1000000000"], 2), (["--keep", "1"], 3):
+        run = runs.begin([*bound, "--work", *THREE, "lazy.jrag"])
+        out, err = run.communicate(KEPT_BY_TURNS, timeout=SECONDS)
+        same("the replies", out, b"0 = 6\n0 = 8\n0 ok 1\n0 = 8\n")
+        same("the end", (run.returncode, err), (0, f"work {work}\n".encode()))
+
+
+def a_bound_holds_over_connections(runs):
+    lines = KEPT_BY_TURNS.splitlines(keepends=True)
+    received, end = runs.served(["--keep=1", "--work", *THREE, "lazy.jrag"], [(b"".join(lines[:2]), False), (b"".join(lines[2:]), False)])
+    same("the replies", received, [b"0 = 6\n0 = 8\n", b"0 ok 1\n0 = 8\n"])
+    same("the end", end, (0, b"", b"work 3\n"))
+
+
 def options_stand_anywhere(runs):
     received, end = runs.served(["--work", *THREE, "more.jrag"], [(b"0 ask / half()\n", False)])
     same("the replies", received, [b"0 = 5\n"])
@@ -258,6 +456,19 @@ TESTS = (
     a_client_that_goes_away_ends_its_connection_alone,
     faults_of_connections_are_told_in_their_order,
     options_stand_anywhere,
+    a_socket_on_which_nobody_answers_is_taken_over,
+    a_socket_that_is_answered_stays,
+    another_file_stays,
+    a_file_that_cannot_be_made_is_a_socket_fault,
+    the_end_leaves_the_file_of_another_server,
+    the_end_leaves_a_file_that_is_no_socket,
+    the_file_has_the_permissions_that_the_mask_leaves,
+    a_client_beyond_the_last_connection_is_turned_away,
+    an_idle_stream_gives_no_turns,
+    an_input_that_does_not_block_is_a_read_fault,
+    the_version_is_that_of_its_file,
+    an_edit_that_finds_more_than_the_bound_forgets_all,
+    a_bound_holds_over_connections,
     a_client_that_waits_for_each_reply_has_it_by_a_pipe,
     a_client_that_waits_for_each_reply_has_it_by_a_socket,
     a_folder_as_input_is_a_read_fault,

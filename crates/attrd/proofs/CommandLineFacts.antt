@@ -23,6 +23,15 @@ too_many_turns : takes command_line (codes "--slice" ∷ codes "1000001" ∷ fil
 unfolding clap_on_literals
 too_many_turns = refl
 
-all_of_it : takes command_line (codes "--socket=a" ∷ codes "--connections" ∷ codes "1000" ∷ codes "--slice=1000000" ∷ codes "--work" ∷ files) ≡ true
+no_value_kept : takes command_line (codes "--keep=0" ∷ files) ≡ false
+unfolding clap_on_literals
+no_value_kept = refl
+
+only_the_version : takes command_line (codes "--version" ∷ files) ≡ false
+unfolding clap_on_literals
+only_the_version = refl
+
+all_of_it : takes command_line (codes "--socket=a" ∷ codes "--connections" ∷ codes "1000" ∷ codes "--slice=1000000" ∷ codes "--keep"
+    ∷ codes "1000000000" ∷ codes "--work" ∷ files) ≡ true
 unfolding clap_on_literals
 all_of_it = refl

@@ -20,11 +20,22 @@ number_read : (bits most : ℕ) → most < 2 ^ bits → (E : Type 0) (G : List �
 number_read bits most small E G only text None read spells = absurd (only text (Err read.0) read.1 (spells.0, omega (arith, small, spells.1)))
 number_read bits most small E G only text (Some v) read spells = ap Some (only text (Ok v) read).1
 
+-- and where there is a text that spells one, and only there
+pub given_read : (bits most : ℕ) → most < 2 ^ bits → (E : Type 0) (G : List ℕ → Result ℕ E → Type 0) → ((u : List ℕ) (x : Result ℕ E) → G u x → ParsesUnsigned bits 10 u x)
+    → (o : Option Text) (r : Option ℕ) → (o ≡ None → r ≡ None) → ((text : Text) → o ≡ Some text → ReadsOne G text r)
+    → IfSome o (SpellsUpTo most) → r ≡ option_map number o
+given_read bits most small E G only None r none some spells = none refl
+given_read bits most small E G only (Some text) r none some spells = number_read bits most small E G only text r (some text refl) spells
+
 pub asked_read : (bits most : ℕ) → most < 2 ^ bits → (E : Type 0) (G : List ℕ → Result ℕ E → Type 0) → ((u : List ℕ) (x : Result ℕ E) → G u x → ParsesUnsigned bits 10 u x)
     → (o : Option Text) (r : Option ℕ) → (o ≡ None → r ≡ None) → ((text : Text) → o ≡ Some text → ReadsOne G text r)
     → IfSome o (SpellsUpTo most) → unwrap_or r 1 ≡ number_asked o
-asked_read bits most small E G only None r none some spells = ap (λ x. unwrap_or x 1) (none refl)
-asked_read bits most small E G only (Some text) r none some spells = ap (λ x. unwrap_or x 1) (number_read bits most small E G only text r (some text refl) spells)
+asked_read bits most small E G only o r none some spells =
+    ap (λ x. unwrap_or x 1) (given_read bits most small E G only o r none some spells) ∙ or_one o
+  where
+    or_one : (o : Option Text) → unwrap_or (option_map number o) 1 ≡ number_asked o
+    or_one None = refl
+    or_one (Some text) = refl
 
 pub flag_read : (o : Option Text) (b : Bool) → (o ≡ None → b ≡ false) → (o ≡ Some (codes "true") → b ≡ true)
     → (o ≡ Some (codes "false") → b ≡ false) → IfSome o IsFlag → b ≡ is_set o

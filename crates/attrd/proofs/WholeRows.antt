@@ -24,7 +24,7 @@ use Rattle.clap.specs.declared.parser.matches.Found.{Found}
 use Rattle.clap.proofs.SimpleLemmas.{plain_fields}
 use Rattle.clap.proofs.WalkLemmas.{both, one_text-rows}
 use Rattle.attrd.specs.CommandLine.{command_line}
-use Rattle.attrd.specs.Options.{IsFlag, IsWhole, SpellsUpTo, max_connections, max_slice}
+use Rattle.attrd.specs.Options.{IsFlag, IsWhole, SpellsUpTo, max_connections, max_keep, max_slice}
 use Rattle.attrd.proofs.Entries.{IsValue, each_of, needs_value, plain_command, required_there, requires, rule_passes, value_of, value_there}
 
 -- ---- how a value reads
@@ -104,16 +104,17 @@ pub record IsFit (s : Shape) : Type 0 where
   pub plain : s.is_plain ≡ true
   pub connections : each_of (codes "connections") (λ r. is_range max_connections (parser_of_value r.parser)) s.rules ≡ true
   pub slice : each_of (codes "slice") (λ r. is_range max_slice (parser_of_value r.parser)) s.rules ≡ true
+  pub keep : each_of (codes "keep") (λ r. is_range max_keep (parser_of_value r.parser)) s.rules ≡ true
   pub work : each_of (codes "work") (λ r. is_bool (parser_of_value r.parser)) s.rules ≡ true
   pub grammar : each_of (codes "GRAMMAR") needs_value s.rules ≡ true
   pub tree : each_of (codes "TREE") needs_value s.rules ≡ true
   pub aspects : each_of (codes "ASPECT") needs_value s.rules ≡ true
 
 fit_before : IsFit command_line.top
-fit_before = record { plain = refl; connections = refl; slice = refl; work = refl; grammar = refl; tree = refl; aspects = refl }
+fit_before = record { plain = refl; connections = refl; slice = refl; keep = refl; work = refl; grammar = refl; tree = refl; aspects = refl }
 
 fit_built : IsFit (built command_line).top
-fit_built = record { plain = refl; connections = refl; slice = refl; work = refl; grammar = refl; tree = refl; aspects = refl }
+fit_built = record { plain = refl; connections = refl; slice = refl; keep = refl; work = refl; grammar = refl; tree = refl; aspects = refl }
 
 -- a number that is there is spelled within its range
 number_there : (c : Command) (f : Found) (id : Text) (most : ℕ) → ValuesPass c f → groups_of c ≡ [] → (id ≡ [] → ⊥)
@@ -136,6 +137,7 @@ whole_rows old new m same fit builds parses =
     record {
       connections = number_there new f (codes "connections") max_connections values none (λ e. cc) fit.connections;
       slice = number_there new f (codes "slice") max_slice values none (λ e. cc) fit.slice;
+      keep = number_there new f (codes "keep") max_keep values none (λ e. cc) fit.keep;
       work = subst (λ (o : Option Text). IfSome o IsFlag) (one_text-rows f (codes "work"))
           (IfSome_then (one_text f (codes "work")) (value_of new f (codes "work") values none (λ e. cc)) (λ t v. flags t (value_reads new (codes "work") t is_bool _ bool_is fit.work v)));
       grammar = value_there new f (codes "GRAMMAR") values none (λ e. cc) fit.grammar (there (codes "GRAMMAR") refl);

@@ -31,6 +31,10 @@ files id most = record (word id 1 most parser.String) { required = true }
 abbrev pub unnamed : App → App
 unnamed a = record a { top = record a.top { no_binary_name = true } }
 
+-- a command that tells its version
+abbrev pub versioned : App → App
+versioned a = record a { top = record a.top { has_version = true } }
+
 -- a command with these words more
 abbrev pub with_words : App → List Rule → App
 with_words a words = record a { top = record a.top { rules = a.top.rules ++ words } }
@@ -40,6 +44,7 @@ abbrev pub listed : List Rule
 listed = option (codes "socket") parser.NonEmptyString
     ∷ option (codes "connections") (parser.Signed (pos 1) (pos 1000))
     ∷ option (codes "slice") (parser.Signed (pos 1) (pos 1000000))
+    ∷ option (codes "keep") (parser.Signed (pos 1) (pos 1000000000))
     ∷ flag (codes "work")
     ∷ files (codes "GRAMMAR") 1
     ∷ files (codes "TREE") 1
@@ -48,7 +53,7 @@ listed = option (codes "socket") parser.NonEmptyString
 
 -- the command line, behind the program's name
 abbrev pub command_line : App
-command_line = with_words (unnamed (new_app (codes "attrd"))) listed
+command_line = with_words (unnamed (versioned (new_app (codes "attrd")))) listed
 
 -- what a row of the code's table is
 abbrev pub rule : Word → Rule

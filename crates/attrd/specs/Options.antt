@@ -19,13 +19,18 @@ max_connections = 1000
 abbrev pub max_slice : ℕ
 max_slice = 1000000
 
+-- the greatest number of values to be kept that can be asked for
+abbrev pub max_keep : ℕ
+max_keep = 1000000000
+
 -- one at least, and so many at most
 abbrev pub IsUpTo : ℕ → ℕ → Type 0
 IsUpTo most n = (1 ≤ n) × (n ≤ most)
 
--- it can be served: there is an aspect file, and the numbers of connections and of turns are in range
+-- it can be served: there is an aspect file, and the numbers of connections, of turns and of values to be kept are in range
 abbrev pub IsUsable : Options → Type 0
 IsUsable o = (0 < length o.aspects.items) × IsUpTo max_connections o.connections × IsUpTo max_slice o.slice
+    × IfSome o.keep (IsUpTo max_keep)
 
 -- ---- the values of the words
 
@@ -46,6 +51,7 @@ pub record HasValues (rows : List Row) (o : Options) : Type 0 where
   pub socket : option_map string_bytes o.socket ≡ first_of (codes "socket") rows
   pub connections : o.connections ≡ number_asked (one_of (codes "connections") rows)
   pub slice : o.slice ≡ number_asked (one_of (codes "slice") rows)
+  pub keep : o.keep ≡ option_map number (one_of (codes "keep") rows)
   pub work : o.work ≡ is_set (one_of (codes "work") rows)
   pub grammar : Some (string_bytes o.grammar) ≡ first_of (codes "GRAMMAR") rows
   pub tree : Some (string_bytes o.tree) ≡ first_of (codes "TREE") rows
@@ -74,6 +80,7 @@ IsFlag text = (text ≡ codes "true") ⊎ (text ≡ codes "false")
 pub record IsWhole (rows : List Row) : Type 0 where
   pub connections : IfSome (one_of (codes "connections") rows) (SpellsUpTo max_connections)
   pub slice : IfSome (one_of (codes "slice") rows) (SpellsUpTo max_slice)
+  pub keep : IfSome (one_of (codes "keep") rows) (SpellsUpTo max_keep)
   pub work : IfSome (one_of (codes "work") rows) IsFlag
   pub grammar : is_some (first_of (codes "GRAMMAR") rows) ≡ true
   pub tree : is_some (first_of (codes "TREE") rows) ≡ true

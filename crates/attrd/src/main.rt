@@ -11,24 +11,28 @@
 //! `at_engine`'s `run` alone.
 #![tactic(auto)]
 
-ghost use Rattle.std.specs.Prelude.{IfOk};
-ghost use Rattle.at_start.specs.Starts.{IsReady};
+ghost use Rattle.std.specs.Prelude.{◌≡◌, None, IfOk, IfSome, option_map};
+ghost use Rattle.at_cache.specs.Kept.{KeepsAll};
+ghost use Rattle.at_engine.specs.Engines.{IsSound};
+ghost use Rattle.attrd.specs.Keepers.{IsEmpty, most_of};
 
 mod failure;
 mod options;
 mod serving;
+mod socket;
 
-use at_cache::KeepRecorded;
+use at_cache::{KeepAtMost, KeepRecorded, Keeper};
 use at_engine::{Engine, Watched, run};
-use at_start::{Files, MAX_FILE, Source, StartFault, start};
+use at_start::{Files, MAX_FILE, Source, StartFault, start_with};
 use failure::{Failure, status, tell};
 use options::{Options, options};
 use serving::serve;
+use socket::Socket;
+use std::alloc::Global;
 use std::fs::File;
 use std::io::{ErrorKind, Read};
-use std::os::unix::net::UnixListener;
 use std::process::ExitCode;
-use std::{env, fs, io};
+use std::{env, io};
 
 /// Serves what the words of the command line ask for, and ends with status 0; 1 where a file is refused, 2 where the
 /// words are, 3 where a file, the socket or a stream fails, 4 for want of memory.
@@ -57,9 +61,35 @@ fn ended(rt: &HostRuntime, served: &Result<(), Failure>, work: Option<u64>) -> E
 /// Serves what the words of the command line ask for, and notes the engine's work, where they ask for that.
 fn serve_words(rt: &HostRuntime, work: &mut Option<u64>) -> Result<(), Failure> {
     let options = asked(rt)?;
-    let mut engine = engine_of(rt, &options)?;
+    match bounded(rt.alloc(), &options) {
+        Some(keeper) => serve_over(rt, &options, keeper, work),
+        None => serve_over(rt, &options, KeepRecorded::new(rt.alloc()), work),
+    }
+}
+
+/// An empty keeper with the bound that is asked for, where there is one.
+fn bounded(alloc: Global, options: &Options) -> Option<KeepAtMost>
+    ensures bound { option_map most_of result ≡ options.now.keep }
+    ensures empty { IfSome result IsEmpty }
+{
+    match options.keep {
+        Some(most) => Some(KeepAtMost::new(alloc, most as usize)),
+        None => None,
+    }
+}
+
+/// Serves what is asked for over an empty keeper, and notes the engine's work, where that is asked for, too.
+fn serve_over<K: Keeper>(
+    rt: &HostRuntime,
+    options: &Options,
+    keeper: K,
+    work: &mut Option<u64>,
+) -> Result<(), Failure>
+    requires { KeepsAll (λ _. None) (K.contents keeper) }
+{
+    let mut engine = engine_of(rt, options, keeper)?;
     engine.set_slice(options.slice);
-    let served = serve_asked(rt, &options, &mut engine);
+    let served = serve_asked(rt, options, &mut engine);
     if options.work {
         *work = Some(engine.work());
     }
@@ -85,12 +115,17 @@ fn words(rt: &HostRuntime) -> Result<Vec<String>, Failure> {
     }
 }
 
-/// The engine of the files that are asked for.
-fn engine_of(rt: &HostRuntime, options: &Options) -> Result<Engine<KeepRecorded>, Failure>
-    ensures { IfOk result IsReady }
+/// The engine of the files that are asked for, over an empty keeper.
+fn engine_of<K: Keeper>(
+    rt: &HostRuntime,
+    options: &Options,
+    keeper: K,
+) -> Result<Engine<K>, Failure>
+    requires { KeepsAll (λ _. None) (K.contents keeper) }
+    ensures { IfOk result (IsSound K.contents) }
 {
     let files = read_files(rt, options)?;
-    match start(rt.alloc(), &files) {
+    match start_with(rt.alloc(), &files, keeper) {
         Ok(engine) => Ok(engine),
         Err(fault) => Err(refused(rt, &files, &fault)),
     }
@@ -108,12 +143,12 @@ fn refused(rt: &HostRuntime, files: &Files, fault: &StartFault) -> Failure {
 }
 
 /// Serves standard input, or the connections of the socket that is asked for.
-fn serve_asked(
+fn serve_asked<K: Keeper>(
     rt: &HostRuntime,
     options: &Options,
-    engine: &mut Engine<KeepRecorded>,
+    engine: &mut Engine<K>,
 ) -> Result<(), Failure>
-    requires { IsReady engine.old }
+    requires { IsSound K.contents engine.old }
 {
     match &options.socket {
         Some(path) => serve_socket(rt, path.as_str(), options.connections, engine),
@@ -122,8 +157,8 @@ fn serve_asked(
 }
 
 /// Serves standard input, and replies on standard output.
-fn serve_standard(rt: &HostRuntime, engine: &mut Engine<KeepRecorded>) -> Result<(), Failure>
-    requires { IsReady engine.old }
+fn serve_standard<K: Keeper>(rt: &HostRuntime, engine: &mut Engine<K>) -> Result<(), Failure>
+    requires { IsSound K.contents engine.old }
 {
     let mut reader = Watched::new(rt.reader());
     let mut writer = Watched::new(io::writer(rt));
@@ -133,24 +168,23 @@ fn serve_standard(rt: &HostRuntime, engine: &mut Engine<KeepRecorded>) -> Result
     }
 }
 
-/// Binds the socket, serves so many of its connections, and removes its file. A file that is there already stays, and
-/// nothing is served.
-fn serve_socket(
+/// Serves so many connections of the socket, which has a file as long as that takes. Where the socket can't be made, nothing
+/// is served.
+fn serve_socket<K: Keeper>(
     rt: &HostRuntime,
     path: &str,
     connections: u16,
-    engine: &mut Engine<KeepRecorded>,
+    engine: &mut Engine<K>,
 ) -> Result<(), Failure>
-    requires { IsReady engine.old }
+    requires { IsSound K.contents engine.old }
 {
-    let listener = match UnixListener::bind(rt, path) {
-        Ok(listener) => listener,
+    let socket = match Socket::bind(rt, path) {
+        Ok(socket) => socket,
         Err(e) if e.kind() == ErrorKind::OutOfMemory => return Err(Failure::Memory),
         Err(_) => return Err(Failure::Socket),
     };
-    let served = serve(engine, &listener, connections);
-    // Whoever took the file away meanwhile did what was to be done.
-    let _ = fs::remove_file(rt, path);
+    let served = serve(engine, &socket.listener, connections);
+    socket.remove_file(rt, path);
     if served.is_faultless() {
         Ok(())
     } else {

@@ -17,6 +17,8 @@ pub struct Options {
     pub connections: u16,
     /// How many turns are given to open questions behind each line.
     pub slice: u32,
+    /// How many values an edit may find kept without that all are forgotten; any number where there is none.
+    pub keep: Option<u32>,
     /// Whether the engine's work is told at the end.
     pub work: bool,
     pub grammar: String,
@@ -27,7 +29,7 @@ pub struct Options {
 /// Why the words ask for nothing that can be served. It is shown as its text, without a newline at the end.
 #[derive(Debug, Drop, Error)]
 pub enum WordsFault {
-    /// What is wrong with the words, or the help that they ask for.
+    /// What is wrong with the words, or the help or the version that they ask for.
     #[error("{text}")]
     Words { text: String },
     /// Want of memory.

@@ -6,7 +6,7 @@ ghost use Rattle.clap.specs.Words.{all_of, app_of, first_of, kind_of, matches_of
 ghost use Rattle.clap.specs.declared.error.ErrorKind.TheVariants.{OutOfMemory};
 ghost use Rattle.attrd.specs.CommandLine.{command_line, rule, with_words};
 ghost use Rattle.attrd.specs.Options.{Asks, HasValues, IsFlag, IsUsable, IsWhole, SpellsUpTo};
-ghost use Rattle.attrd.specs.Options.{is_set, max_connections, max_slice, number_asked, rows_found};
+ghost use Rattle.attrd.specs.Options.{is_set, max_connections, max_keep, max_slice, number, number_asked, rows_found};
 ghost use Rattle.attrd.specs.declared.options.WordsFault.TheVariants.{Memory};
 
 use super::{Options, WordsFault};
@@ -26,6 +26,12 @@ const SLICE: u32 = 1;
 
 /// The most turns behind a line that can be asked for.
 const MAX_SLICE: u32 = 1_000_000;
+
+/// The greatest number of values to be kept that can be asked for.
+const MAX_KEEP: u32 = 1_000_000_000;
+
+/// The program's version, which the file `VERSION` holds, too.
+const VERSION: &str = "0.17";
 
 /// What stands below the words in the help: a session, and the commands.
 const HELP: &str = "A session:
@@ -92,6 +98,14 @@ const WORDS: &[Word] = &[
         help: "How many turns open questions are given behind each line: 1 to 1000000 [default: 1]",
     },
     Word {
+        name: "keep",
+        is_option: true,
+        most: 1,
+        value: "N",
+        parser: ValueParser::Signed(1, MAX_KEEP as i64),
+        help: "Forgets all kept values at an edit that finds more than N: 1 to 1000000000 [default: no bound]",
+    },
+    Word {
         name: "work",
         is_option: true,
         most: 0,
@@ -129,7 +143,7 @@ const WORDS: &[Word] = &[
 ///
 /// # Errors
 ///
-/// `Words` where they aren't words of the command line, or ask for help; `Memory` for want of memory.
+/// `Words` where they aren't words of the command line, or ask for help or the version; `Memory` for want of memory.
 pub fn options<'a>(alloc: Global, words: &'a [&'a str]) -> Result<Options, WordsFault>
     ensures usable { IfOk result IsUsable }
     ensures asked { IfOk result (Asks (texts words.entry.now)) }
@@ -159,6 +173,7 @@ fn command<'a>(alloc: Global) -> Result<Command<'a>, AllocError>
     let command = Command::new(alloc, "attrd")
         .about("Serves attributes of a syntax tree, line by line, while the tree is edited.")
         .after_help(HELP)
+        .version(VERSION)
         .no_binary_name(true);
     with_words(alloc, command, WORDS)
 }
@@ -202,6 +217,7 @@ fn options_of(alloc: Global, matches: &ArgMatches<'_>) -> Result<Options, AllocE
         socket: socket_of(alloc, matches)?,
         connections: connections_of(matches),
         slice: slice_of(matches),
+        keep: keep_of(matches),
         work: has_flag(matches, "work"),
         grammar: file_of(alloc, matches, "GRAMMAR")?,
         tree: file_of(alloc, matches, "TREE")?,
@@ -233,6 +249,14 @@ fn slice_of(matches: &ArgMatches<'_>) -> u32
     ensures { result ≡ number_asked (one_of (codes "slice") (rows_found matches.now)) }
 {
     matches.get_one::<u32>("slice").unwrap_or(SLICE)
+}
+
+/// How many values are to be kept at most, where that is asked for.
+fn keep_of(matches: &ArgMatches<'_>) -> Option<u32>
+    requires { IfSome (one_of (codes "keep") (rows_found matches.now)) (SpellsUpTo max_keep) }
+    ensures { result ≡ option_map number (one_of (codes "keep") (rows_found matches.now)) }
+{
+    matches.get_one::<u32>("keep")
 }
 
 /// Whether the flag is there.
