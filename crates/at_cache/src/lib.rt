@@ -3,7 +3,7 @@
 //! **Its specs:** `Kept` has the laws that every keeper meets. Of the recording one, `Info` is what is kept by
 //! slots, `Readers` who read which location, `Recorded` what an entry stands for and how it is found (`IsIndexed`),
 //! `Placed` where entries stand, `Putting` one more, `Flushing` a flush under way and `Asking` where one begins,
-//! `Slots` single writes.
+//! `Slots` single writes. `UntilEdit` is the keeper that forgets all at an edit.
 //!
 //! **Where to begin:** the trait in `keeper.rt`, then `keep_recorded.rt`: `table.rt` holds the entries,
 //! `linking.rt` the edges; `putting.rt` is `put`, `forgetting.rt` a flush, `places.rt` one by places.

@@ -4,7 +4,7 @@
 //! **Its specs:** `Building` is what `build` answers; `Declaring` has the faults of several declarations together,
 //! `Meanings` and `Ruling` what each means by itself, `Completing` where a missing equation is told; `Located` and
 //! `Numbering` list and number the declarations; `AccessorNames`, `AttributeKeys`, `EquationKeys`, `Twice` and
-//! `Bound` are what the checks keep.
+//! `Bound` are what the checks keep, `Seen` what their values stand for.
 //!
 //! **Where to begin:** `building.rt`. `numbered.rt` numbers the declarations' classes and names, `attributes.rt`
 //! finds attributes, `checks.rt` has the faults of declarations together, `meaning.rt` what each means.
