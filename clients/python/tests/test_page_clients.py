@@ -1,0 +1,53 @@
+"""docs/CLIENTS.md: its Python runs as it stands there, over the files that it names."""
+import contextlib
+import io
+import os
+import re
+import shutil
+import tempfile
+import unittest
+from pathlib import Path as FilePath
+
+from support import PROGRAM, ROOT, page_files
+
+PAGE = (ROOT / "docs" / "CLIENTS.md").read_text(encoding="utf-8")
+COMMENT = re.compile(r"(.*?)(?:^|  +)# (.*)")
+
+
+def told(block):
+    """What the comments of a block say is printed: those behind a `print`, and those in lines of their own."""
+    found = [COMMENT.fullmatch(it) for it in block.splitlines()]
+    return [it[2] for it in found if it and ("print(" in it[1] or not it[1].strip())]
+
+
+class Page(unittest.TestCase):
+    def setUp(self):
+        folder = tempfile.TemporaryDirectory()
+        self.addCleanup(folder.cleanup)
+        self.addCleanup(os.chdir, os.getcwd())
+        os.chdir(folder.name)
+        for file in (ROOT / "clients" / "lsp" / "attrd_lsp" / "data").iterdir():
+            shutil.copy(file, file.name)
+        os.symlink(os.path.abspath(PROGRAM), "attrd")
+        tree = re.search(r"^cat > tree.txt << 'END'\n(.*?)^END$", PAGE, re.M | re.S)[1]
+        FilePath("tree.txt").write_text(tree, encoding="utf-8")
+
+    def test_its_files_are_those_of_the_tutorial(self):
+        for name, text in page_files("TUTORIAL.md").items():
+            self.assertEqual(FilePath(name).read_text(encoding="utf-8"), text, name)
+
+    def test_its_python(self):
+        names = {}
+        try:
+            for block in re.findall(r"^```python\n(.*?)^```$", PAGE, re.M | re.S):
+                printed = io.StringIO()
+                with contextlib.redirect_stdout(printed):
+                    exec(compile(block, "docs/CLIENTS.md", "exec"), names)
+                self.assertEqual(printed.getvalue().splitlines(), told(block))
+        finally:
+            names["session"].connection.close()
+            names["server"].close()
+
+
+if __name__ == "__main__":
+    unittest.main()
