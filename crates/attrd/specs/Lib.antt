@@ -2,4 +2,3 @@ pub mod Statuses
 pub mod CommandLine
 pub mod Options
 pub mod Connections
-pub mod Keepers

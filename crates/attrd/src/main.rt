@@ -12,9 +12,9 @@
 #![tactic(auto)]
 
 ghost use Rattle.std.specs.Prelude.{◌≡◌, None, IfOk, IfSome, option_map};
+ghost use Rattle.at_cache.specs.Bound.{kept_by};
 ghost use Rattle.at_cache.specs.Kept.{KeepsAll};
 ghost use Rattle.at_engine.specs.Engines.{IsSound};
-ghost use Rattle.attrd.specs.Keepers.{IsEmpty, most_of};
 
 mod failure;
 mod options;
@@ -61,16 +61,17 @@ fn ended(rt: &HostRuntime, served: &Result<(), Failure>, work: Option<u64>) -> E
 /// Serves what the words of the command line ask for, and notes the engine's work, where they ask for that.
 fn serve_words(rt: &HostRuntime, work: &mut Option<u64>) -> Result<(), Failure> {
     let options = asked(rt)?;
+    let files = read_files(rt, &options)?;
     match bounded(rt.alloc(), &options) {
-        Some(keeper) => serve_over(rt, &options, keeper, work),
-        None => serve_over(rt, &options, KeepRecorded::new(rt.alloc()), work),
+        Some(keeper) => serve_over(rt, &options, &files, keeper, work),
+        None => serve_over(rt, &options, &files, KeepRecorded::new(rt.alloc()), work),
     }
 }
 
 /// An empty keeper with the bound that is asked for, where there is one.
 fn bounded(alloc: Global, options: &Options) -> Option<KeepAtMost>
-    ensures bound { option_map most_of result ≡ options.now.keep }
-    ensures empty { IfSome result IsEmpty }
+    ensures bound { option_map (λ k. k.most) result ≡ options.now.keep }
+    ensures empty { IfSome result (λ k. KeepsAll (λ _. None) (kept_by k)) }
 {
     match options.keep {
         Some(most) => Some(KeepAtMost::new(alloc, most as usize)),
@@ -82,12 +83,13 @@ fn bounded(alloc: Global, options: &Options) -> Option<KeepAtMost>
 fn serve_over<K: Keeper>(
     rt: &HostRuntime,
     options: &Options,
+    files: &Files,
     keeper: K,
     work: &mut Option<u64>,
 ) -> Result<(), Failure>
     requires { KeepsAll (λ _. None) (K.contents keeper) }
 {
-    let mut engine = engine_of(rt, options, keeper)?;
+    let mut engine = engine_of(rt, files, keeper)?;
     engine.set_slice(options.slice);
     let served = serve_asked(rt, options, &mut engine);
     if options.work {
@@ -115,19 +117,14 @@ fn words(rt: &HostRuntime) -> Result<Vec<String>, Failure> {
     }
 }
 
-/// The engine of the files that are asked for, over an empty keeper.
-fn engine_of<K: Keeper>(
-    rt: &HostRuntime,
-    options: &Options,
-    keeper: K,
-) -> Result<Engine<K>, Failure>
+/// The engine that the files make over an empty keeper.
+fn engine_of<K: Keeper>(rt: &HostRuntime, files: &Files, keeper: K) -> Result<Engine<K>, Failure>
     requires { KeepsAll (λ _. None) (K.contents keeper) }
     ensures { IfOk result (IsSound K.contents) }
 {
-    let files = read_files(rt, options)?;
-    match start_with(rt.alloc(), &files, keeper) {
+    match start_with(rt.alloc(), files, keeper) {
         Ok(engine) => Ok(engine),
-        Err(fault) => Err(refused(rt, &files, &fault)),
+        Err(fault) => Err(refused(rt, files, &fault)),
     }
 }
 

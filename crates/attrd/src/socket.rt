@@ -1,11 +1,10 @@
 //! The socket and its file, which is made at the start and removed at the end.
 
-use std::fs;
 use std::fs::Metadata;
-use std::io;
 use std::io::ErrorKind;
 use std::os::unix::fs::{FileTypeExt, MetadataExt};
 use std::os::unix::net::{UnixListener, UnixStream};
+use std::{fs, io};
 
 /// A socket that is listened on, and its file.
 #[derive(Drop)]
