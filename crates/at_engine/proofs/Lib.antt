@@ -7,6 +7,8 @@ pub mod AnswersTold
 pub mod Numbered
 pub mod Asked
 pub mod Marked
+pub mod Tallies
+pub mod Keys
 pub mod Following
 pub mod Verdicts
 pub mod Naming

@@ -1,7 +1,6 @@
-use Rattle.std.proofs.Common.{rules, is_some}
-use Rattle.std.proofs.lemmas.Fn.{filter_same}
-use Rattle.at_store.specs.Shown.{path}
+use Rattle.std.proofs.Common.{subst, sym}
+use Rattle.at_engine.specs.Tallied.{AreTallied}
 use Rattle.at_engine.proofs.marks.Marks.keep_live.Goals as goal
 
-pub returns : goal.returns
-returns c = filter_same _ (λ m. is_some (path c.args.store.now m.node)) _ (λ m b f' k. search rules) _ _ c.retain.ensures.filtered
+pub invariant_of-self : goal.invariant_of-self
+invariant_of-self c = record { tallied = subst (λ l. AreTallied l c.discount_all_gone.new.sessions c.discount_all_gone.new.nodes) (sym c.keep.ensures) (c.discount_all_gone.ensures c.args.self.now.tallied) }
