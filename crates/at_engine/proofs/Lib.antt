@@ -9,6 +9,7 @@ pub mod Asked
 pub mod Marked
 pub mod Tallies
 pub mod Keys
+pub mod Leaving
 pub mod Following
 pub mod Verdicts
 pub mod Naming

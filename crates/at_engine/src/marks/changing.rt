@@ -4,7 +4,7 @@ ghost use Rattle.std.specs.Prelude.{◌≡◌, ◌+◌, ◌++◌, ◌∷◌, [],
 ghost use Rattle.std.specs.List.{list_any};
 ghost use Rattle.std.specs.Cow.{cow_str_bytes};
 ghost use Rattle.at_store.specs.Shown.{IsIdle, path};
-ghost use Rattle.at_engine.specs.Marks.{has_mark, has_node, is_named, listed, mark_of, Mark};
+ghost use Rattle.at_engine.specs.Marks.{AreThere, has_mark, has_node, is_named, listed, mark_of, Mark};
 ghost use Rattle.at_engine.specs.Tallied.{AreTallied, IsOf, IsPlaceOf, IsTaken, kept_up_to};
 
 use super::tally::Tally;
@@ -121,8 +121,19 @@ impl Marks {
         }
     }
 
+    /// Forgets the marks of nodes that are gone. No mark is looked at where none is of such a node.
+    pub fn keep_live(&mut self, any_gone: bool, store: &Store)
+        requires idle { IsIdle store.now }
+        requires there { any_gone ≡ false → AreThere (path store.now) (listed self.old.items.entries) }
+        ensures { listed self.new.items.entries ≡ filter (λ m. is_some (path store.now m.node)) (listed self.old.items.entries) }
+    {
+        if any_gone {
+            self.forget_gone(store);
+        }
+    }
+
     /// Forgets the marks of nodes that are gone.
-    pub fn keep_live(&mut self, store: &Store)
+    fn forget_gone(&mut self, store: &Store)
         requires { IsIdle store.now }
         ensures { listed self.new.items.entries ≡ filter (λ m. is_some (path store.now m.node)) (listed self.old.items.entries) }
     {

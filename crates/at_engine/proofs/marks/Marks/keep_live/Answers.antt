@@ -1,6 +1,8 @@
-use Rattle.std.proofs.Common.{subst, sym}
-use Rattle.at_engine.specs.Tallied.{AreTallied}
+use Rattle.std.proofs.Common.{sym}
+use Rattle.at_store.specs.Shown.{path}
+use Rattle.at_engine.specs.Marks.{listed}
+use Rattle.at_engine.proofs.Leaving.{all_live}
 use Rattle.at_engine.proofs.marks.Marks.keep_live.Goals as goal
 
-pub invariant_of-self : goal.invariant_of-self
-invariant_of-self c = record { tallied = subst (λ l. AreTallied l c.discount_all_gone.new.sessions c.discount_all_gone.new.nodes) (sym c.keep.ensures) (c.discount_all_gone.ensures c.args.self.now.tallied) }
+pub returns-in_default : goal.returns-in_default
+returns-in_default c = sym (all_live (path c.args.store.now) (listed c.args.self.now.items.entries) (c.requires.there c.if-any_gone.false))
