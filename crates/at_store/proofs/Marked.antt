@@ -40,10 +40,10 @@ root_marked before later node b written place x same stored =
     ]
 
 -- the numbers below a node that stands there
-kids_there : (memory : ℕ → Option Info) (place : Place) (x : Tree) (node part : ℕ) → class_of x ≡ node → Stored memory place x → kids_in (memory node) part ≡ numbers_in (slice_get (kept_of x) part)
+pub kids_there : (memory : ℕ → Option Info) (place : Place) (x : Tree) (node part : ℕ) → class_of x ≡ node → Stored memory place x → kids_in (memory node) part ≡ numbers_in (slice_get (kept_of x) part)
 kids_there memory place x node part same stored = ap (λ j. kids_in (memory j) part) (sym same) ∙ ap (λ o. kids_in o part) (stored [] x refl).is
 
-child_shallow : (levels : ℕ) (x y : Tree) (w : Way) → slice_get (children_at x w.0) w.1 ≡ Some y → IsShallow (suc levels) x → IsShallow levels y
+pub child_shallow : (levels : ℕ) (x y : Tree) (w : Way) → slice_get (children_at x w.0) w.1 ≡ Some y → IsShallow (suc levels) x → IsShallow levels y
 child_shallow levels x y w child h n v is = let less : suc (length n) < suc levels = h (w ∷ n) v (ap (option_and_then (λ z. tree_at z n)) child ∙ is) in omega (arith, less)
 
 -- one more child is marked

@@ -3,6 +3,9 @@ use Rattle.std.specs.Prelude.{◌≡◌, ℕ, List, Bool, true, false, ◌||◌,
 use Rattle.std.specs.List.{list_any}
 use Rattle.at_model.specs.Run.{Location, Idx}
 use Rattle.at_model.specs.Touches.{node_of}
+use Rattle.at_store.specs.Marked.{told}
+use Rattle.at_store.specs.Memory.{Info, kids_in, up_in}
+use Rattle.at_store.specs.Touching.{at_parent, is_index_of, is_slot_of}
 use Rattle.at_store.specs.View.{leaves_in}
 use Rattle.at_store.specs.Shown.{Shown}
 use Rattle.at_store.specs.declared.edit.Ready.{Ready}
@@ -26,6 +29,26 @@ names_around (Some c) l = nat_eq c.node (node_of l) || is_index_among c.children
 -- the places name the location
 abbrev pub named : Places → Location ℕ → Bool
 named p l = list_any (nat_eq (node_of l)) p.leaving.now || is_node p.moved (node_of l) || names_around p.target l || names_around p.source l
+
+-- a node that stands in a component stands among the children there
+abbrev pub IsChild : (ℕ → Option Info) → ℕ → Type 0
+IsChild memory k = (a part : ℕ) → up_in (memory k) ≡ Some (a, part) → list_any (nat_eq k) (kids_in (memory a) part) ≡ true
+
+-- What isn't named touches neither what stands in the component nor the indexes there: of a component, and of the one in which a
+-- node stands, where there is one.
+abbrev pub IsSpared : (ℕ → Option Info) → (node part : ℕ) → Location ℕ → Type 0
+IsSpared memory node part l = (is_slot_of nat_eq node part l ≡ false) × (is_index_of nat_eq (told memory) node part l ≡ false)
+
+abbrev pub NamesComponent : (ℕ → Option Info) → (node part : ℕ) → Changing → Type 0
+NamesComponent memory node part c = (l : Location ℕ) → IsChild memory (node_of l) → names_around (Some c) l ≡ false → IsSpared memory node part l
+
+abbrev pub NamesAround : (ℕ → Option Info) → (node : ℕ) → Option Changing → Type 0
+NamesAround memory node o = (l : Location ℕ) → IsChild memory (node_of l) → names_around o l ≡ false
+    → (at_parent (λ p. is_slot_of nat_eq p.0 p.1 l) (up_in (memory node)) ≡ false) × (at_parent (λ p. is_index_of nat_eq (told memory) p.0 p.1 l) (up_in (memory node)) ≡ false)
+
+-- the same where no index changes
+abbrev pub NamesParent : (ℕ → Option Info) → (node : ℕ) → Option Changing → Type 0
+NamesParent memory node o = (l : Location ℕ) → names_around o l ≡ false → at_parent (λ p. is_slot_of nat_eq p.0 p.1 l) (up_in (memory node)) ≡ false
 
 -- each node that leaves is listed
 abbrev pub IsListed : Ready → Shown → Type 0

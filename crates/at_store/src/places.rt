@@ -1,6 +1,18 @@
 //! Where a prepared edit touches something.
+ghost use Rattle.std.specs.Prelude.{◌≡◌, ℕ, Bool, false, true, nat_eq};
+ghost use Rattle.std.specs.List.{list_any};
+ghost use Rattle.at_model.specs.Run.{Location};
+ghost use Rattle.at_model.specs.Touches.{node_of};
+ghost use Rattle.at_store.specs.Marked.{change_in, told};
+ghost use Rattle.at_store.specs.Memory.{kids_in};
+ghost use Rattle.at_store.specs.Places.{IsChild, NamesAround, NamesComponent, NamesParent, named};
+ghost use Rattle.at_store.specs.Touching.{touches_by};
+ghost use Rattle.at_store.specs.View.{memory_of};
 
+use crate::edit::Prepared;
+use crate::entry::{Entry, kids_at, up_at};
 use crate::node::Node;
+use slab::Slab;
 
 /// A node of which one component changes, and the children there whose index may change.
 #[derive(Clone, Copy, Debug)]
@@ -19,4 +31,94 @@ pub struct Places<'a> {
     pub target: Option<Changing<'a>>,
     /// Where something is taken away or replaced.
     pub source: Option<Changing<'a>>,
+}
+
+/// A component that changes: its children may get another index.
+fn component(slab: &Slab<Entry>, node: Node, part: usize) -> Changing
+    ensures { NamesComponent (memory_of slab.now) node part result }
+{
+    Changing {
+        node,
+        children: kids_at(slab, node, part),
+    }
+}
+
+/// The component in which a node stands: what stands beside it may get another index.
+fn around(slab: &Slab<Entry>, node: Node) -> Option<Changing>
+    ensures { NamesAround (memory_of slab.now) node result }
+{
+    match up_at(slab, node) {
+        Some(place) => Some(component(slab, place.0, place.1)),
+        None => None,
+    }
+}
+
+/// The component in which a node stands, where nothing gets another index.
+fn parent(slab: &Slab<Entry>, node: Node) -> Option<Changing>
+    ensures { NamesParent (memory_of slab.now) node result }
+{
+    match up_at(slab, node) {
+        Some(place) => Some(alone(place.0)),
+        None => None,
+    }
+}
+
+/// A component that changes, where nothing gets another index.
+fn alone<'a>(node: Node) -> Changing<'a>
+    ensures { result.node ≡ node }
+{
+    Changing {
+        node,
+        children: &[],
+    }
+}
+
+/// Where an edit touches something. What leaves is listed.
+pub(crate) fn places_of<'a>(
+    slab: &'a Slab<Entry>,
+    prepared: &Prepared,
+    leaving: &'a [Node],
+) -> Places<'a>
+    ensures { (leaves : ℕ → Bool) → ((k : ℕ) → leaves k ≡ true → list_any (nat_eq k) leaving.now ≡ true)
+        → (l : Location ℕ) → IsChild (memory_of slab.now) (node_of l) → named result l ≡ false
+        → touches_by nat_eq (told (memory_of slab.now)) leaves (change_in prepared.now) l ≡ false }
+{
+    match prepared {
+        Prepared::Set { node, .. } => Places {
+            leaving,
+            moved: None,
+            target: None,
+            source: parent(slab, *node),
+        },
+        Prepared::Put { node, .. } => Places {
+            leaving,
+            moved: None,
+            target: Some(alone(*node)),
+            source: None,
+        },
+        Prepared::Drop { node } => Places {
+            leaving,
+            moved: None,
+            target: None,
+            source: around(slab, *node),
+        },
+        Prepared::Insert { node, part, .. } => Places {
+            leaving,
+            moved: None,
+            target: Some(component(slab, *node, *part)),
+            source: None,
+        },
+        Prepared::Token { node, .. } => Places {
+            leaving,
+            moved: None,
+            target: Some(alone(*node)),
+            source: None,
+        },
+        Prepared::Move { node, to, part, .. } => Places {
+            leaving,
+            moved: Some(*node),
+            target: Some(component(slab, *to, *part)),
+            source: around(slab, *node),
+        },
+    }
 }
