@@ -1,5 +1,5 @@
 -- Where a flush begins.
-use Rattle.std.proofs.Common.{◌≡◌, ◌⊎◌, inl, inr, ℕ, ◌+◌, get_or, List, [], ◌∷◌, ◌++◌, Bool, true, false, cond, Some, Contains, Vec, take, slice_get, if◌then◌else◌, length, ◌<◌, ◌≤◌, refl, sym, ap, ◌∙◌, subst, arith, append-nil}
+use Rattle.std.proofs.Common.{◌≡◌, ◌⊎◌, inl, inr, ℕ, ◌+◌, get_or, List, [], ◌∷◌, ◌++◌, Bool, true, false, true≢false, cond, Some, Contains, Vec, take, slice_get, if◌then◌else◌, length, ◌<◌, ◌≤◌, refl, sym, ap, ◌∙◌, subst, arith, append-nil}
 use Rattle.std.proofs.lemmas.Bool.{cases_eq, cases_lt}
 use Rattle.std.proofs.lemmas.List.{take_more}
 use Rattle.std.proofs.lemmas.List.Concat.{flat_map-append}
@@ -9,6 +9,8 @@ use Rattle.at_cache.specs.declared.edge.Edge.{Edge}
 use Rattle.at_cache.specs.declared.facet.Facet.{Facet}
 use Rattle.at_cache.specs.declared.facet.Facet.TheVariants as facet
 use Rattle.at_cache.specs.declared.facet.Readers.{Readers}
+use Rattle.at_cache.specs.declared.scope.Scope.TheVariants as scope
+use Rattle.at_cache.specs.Asking.{Asked, looks_at}
 use Rattle.at_cache.specs.Flushing.{Begins}
 use Rattle.at_cache.specs.Kept.{node_at, same_location}
 use Rattle.at_cache.specs.Readers.{edges_among, edges_at, facet_at}
@@ -17,21 +19,21 @@ use Rattle.at_cache.proofs.Listed.{edges_are, no_edges, same_list}
 use Rattle.at_cache.proofs.Moving.{take_past, take_within}
 use Rattle.at_cache.proofs.Taking.{none_in}
 
-module _ {says : Location ℕ → Bool → Type 0} where
+module _ {says : Location ℕ → Bool → Type 0} {seen : Location ℕ → Bool} where
   -- nothing is asked yet
-  pub begins_none : Begins says (λ l. []) []
-  begins_none = record { from = λ x c. absurd (none_in x c); all = λ l. inr (λ x c. c) }
+  pub asked_none : Asked says seen (λ l. []) []
+  asked_none = record { from = λ x c. absurd (none_in x c); all = λ l s. inr (λ x c. c) }
 
   -- one list after another is asked
-  pub begins_both : {lists more both : Location ℕ → List Edge} {start edges : List Edge} → ((l : Location ℕ) → both l ≡ lists l ++ more l) → Begins says lists start → Begins says more edges → Begins says both (start ++ edges)
-  begins_both {lists} {more} {both} {start} {edges} is a b = record {
+  pub asked_both : {lists more both : Location ℕ → List Edge} {start edges : List Edge} → ((l : Location ℕ) → both l ≡ lists l ++ more l) → Asked says seen lists start → Asked says seen more edges → Asked says seen both (start ++ edges)
+  asked_both {lists} {more} {both} {start} {edges} is a b = record {
     from = λ x c. elim (Contains-append_cases start edges x c) [
       | inl d ↦ let (l, said, e) = a.from x d in (l, said, subst (λ es. Contains es x) (sym (is l)) (Contains-append_left (lists l) (more l) x e))
       | inr d ↦ let (l, said, e) = b.from x d in (l, said, subst (λ es. Contains es x) (sym (is l)) (Contains-append_right (lists l) (more l) x e))
     ];
-    all = λ l. elim (a.all l) [
+    all = λ l s. elim (a.all l s) [
       | inl said ↦ inl said
-      | inr left ↦ elim (b.all l) [
+      | inr left ↦ elim (b.all l s) [
         | inl said ↦ inl said
         | inr right ↦ inr (λ x c. elim (Contains-append_cases (lists l) (more l) x (subst (λ es. Contains es x) (is l) c)) [
           | inl d ↦ Contains-append_left start edges x (left x d)
@@ -64,23 +66,23 @@ module _ (n : ℕ) where
       by true h = absurd (differs (ap node_at (same_location-is l (facet_at n r.facet) h) ∙ node_of_facet r.facet))
       by false h = refl
 
-  module _ {says : Location ℕ → Bool → Type 0} (r : Readers) where
-    pub begins_touched : says (facet_at n r.facet) true → Begins says (edges_of r) r.edges.items
-    begins_touched said = record {
+  module _ {says : Location ℕ → Bool → Type 0} {seen : Location ℕ → Bool} (r : Readers) where
+    pub asked_touched : says (facet_at n r.facet) true → Asked says seen (edges_of r) r.edges.items
+    asked_touched said = record {
       from = λ x c. (facet_at n r.facet, said, subst (λ b. Contains (cond b r.edges.items []) x) (sym (same_location-itself (facet_at n r.facet))) c);
-      all = λ l. inr (λ x c. by (same_location l (facet_at n r.facet)) x c);
+      all = λ l s. inr (λ x c. by (same_location l (facet_at n r.facet)) x c);
     }
       where
         by : (b : Bool) (x : Edge) → Contains (cond b r.edges.items []) x → Contains r.edges.items x
         by true x c = c
         by false x c = absurd (none_in x c)
 
-    pub begins_untouched : says (facet_at n r.facet) false → Begins says (edges_of r) []
-    begins_untouched said = record { from = λ x c. absurd (none_in x c); all = λ l. by l (same_location l (facet_at n r.facet)) refl }
+    pub asked_untouched : (seen (facet_at n r.facet) ≡ true → says (facet_at n r.facet) false) → Asked says seen (edges_of r) []
+    asked_untouched said = record { from = λ x c. absurd (none_in x c); all = λ l s. by l s (same_location l (facet_at n r.facet)) refl }
       where
-        by : (l : Location ℕ) (b : Bool) → same_location l (facet_at n r.facet) ≡ b → says l false ⊎ ((x : Edge) → Contains (cond b r.edges.items []) x → Contains [] x)
-        by l true h = inl (subst (λ k. says k false) (sym (same_location-is l (facet_at n r.facet) h)) said)
-        by l false h = inr (λ x c. c)
+        by : (l : Location ℕ) → seen l ≡ true → (b : Bool) → same_location l (facet_at n r.facet) ≡ b → says l false ⊎ ((x : Edge) → Contains (cond b r.edges.items []) x → Contains [] x)
+        by l s true h = let same = same_location-is l (facet_at n r.facet) h in inl (subst (λ k. says k false) (sym same) (said (ap seen (sym same) ∙ s)))
+        by l s false h = inr (λ x c. c)
 
 module _ {A : Type 0} (readers : List (Vec Readers A)) (n : ℕ) (v : Vec Readers A) (there : slice_get readers n ≡ Some v) where
   pub at_more : (l : Location ℕ) → edges_at (take (n + 1) readers) l ≡ edges_at (take n readers) l ++ edges_among n v.items l
@@ -98,21 +100,33 @@ module _ {A : Type 0} (readers : List (Vec Readers A)) (n : ℕ) (v : Vec Reader
         ∙ ap (λ es. edges_at (take n readers) l ++ es) (sym (among_others n v.items l differs))
   ]
 
+-- one facet more is asked
+module _ {says : Location ℕ → Bool → Type 0} {seen : Location ℕ → Bool} (n : ℕ) (rs : List Readers) (i : ℕ) (r : Readers) (is : r ≡ get_or rs i r) (less : i < length rs) {edges : List Edge} (asked : Asked says seen (edges_among n (take i rs)) edges) where
+  on_more : (lists : List Edge) → Asked says seen (edges_among n (take i rs ++ r ∷ [])) lists → Asked says seen (edges_among n (take (i + 1) rs)) lists
+  on_more lists b = subst (λ (ss : List Readers). Asked says seen (edges_among n ss) lists) (ap (λ (s : Readers). take i rs ++ s ∷ []) is ∙ sym (take_more rs i r less)) b
+
+  pub asked_next_touched : says (facet_at n r.facet) true → Asked says seen (edges_among n (take (i + 1) rs)) (edges ++ r.edges.items)
+  asked_next_touched said = on_more (edges ++ r.edges.items) (asked_both (among_more n (take i rs) r) asked (asked_touched n r said))
+
+  pub asked_next_untouched : (seen (facet_at n r.facet) ≡ true → says (facet_at n r.facet) false) → Asked says seen (edges_among n (take (i + 1) rs)) edges
+  asked_next_untouched said = on_more edges (subst (Asked says seen (edges_among n (take i rs ++ r ∷ []))) (append-nil edges) (asked_both (among_more n (take i rs) r) asked (asked_untouched n r said)))
+
 -- before the first node
 pub at_start : {A : Type 0} (says : Location ℕ → Bool → Type 0) (readers : List (Vec Readers A)) → Begins says (edges_at (take 0 readers)) []
 at_start says readers = record { from = λ x c. absurd (none_in x c); all = λ l. inr (λ x c. c) }
 
--- one facet more is asked
-module _ {says : Location ℕ → Bool → Type 0} (n : ℕ) (rs : List Readers) (i : ℕ) (r : Readers) (is : r ≡ get_or rs i r) (less : i < length rs) {edges : List Edge} (begins : Begins says (edges_among n (take i rs)) edges) where
-  on_more : (lists : List Edge) → Begins says (edges_among n (take i rs ++ r ∷ [])) lists → Begins says (edges_among n (take (i + 1) rs)) lists
-  on_more lists b = subst (λ (ss : List Readers). Begins says (edges_among n ss) lists) (ap (λ (s : Readers). take i rs ++ s ∷ []) is ∙ sym (take_more rs i r less)) b
+module _ {says : Location ℕ → Bool → Type 0} {seen : Location ℕ → Bool} {lists : Location ℕ → List Edge} {start : List Edge} where
+  -- what isn't seen has the answer `false`
+  pub begins_by : Asked says seen lists start → ((l : Location ℕ) → seen l ≡ false → says l false) → Begins says lists start
+  begins_by a others = record { from = a.from; all = λ l. by l (seen l) refl }
+    where
+      by : (l : Location ℕ) (b : Bool) → seen l ≡ b → says l false ⊎ ((x : Edge) → Contains (lists l) x → Contains start x)
+      by l true s = a.all l s
+      by l false s = inl (others l s)
 
-  pub begins_next_touched : says (facet_at n r.facet) true → Begins says (edges_among n (take (i + 1) rs)) (edges ++ r.edges.items)
-  begins_next_touched said = on_more (edges ++ r.edges.items) (begins_both (among_more n (take i rs) r) begins (begins_touched n r said))
-
-  pub begins_next_untouched : says (facet_at n r.facet) false → Begins says (edges_among n (take (i + 1) rs)) edges
-  begins_next_untouched said = on_more edges (subst (Begins says (edges_among n (take i rs ++ r ∷ []))) (append-nil edges) (begins_both (among_more n (take i rs) r) begins (begins_untouched n r said)))
+  pub asked_by : Begins says lists start → Asked says seen lists start
+  asked_by b = record { from = b.from; all = λ l s. b.all l }
 
 -- one node more
-pub begins_node : {A : Type 0} {says : Location ℕ → Bool → Type 0} (readers : List (Vec Readers A)) (n : ℕ) (v : Vec Readers A) {start edges : List Edge} → slice_get readers n ≡ Some v → Begins says (edges_at (take n readers)) start → Begins says (edges_among n v.items) edges → Begins says (edges_at (take (n + 1) readers)) (start ++ edges)
-begins_node readers n v there a b = begins_both (at_more readers n v there) a b
+pub begins_node : {A : Type 0} {says : Location ℕ → Bool → Type 0} (readers : List (Vec Readers A)) (n : ℕ) (v : Vec Readers A) {start edges : List Edge} → slice_get readers n ≡ Some v → Begins says (edges_at (take n readers)) start → Asked says (looks_at scope.All) (edges_among n v.items) edges → Begins says (edges_at (take (n + 1) readers)) (start ++ edges)
+begins_node readers n v there a b = begins_by (asked_both {seen = looks_at scope.All} (at_more readers n v there) (asked_by a) b) (λ l h. absurd (true≢false h))

@@ -17,14 +17,14 @@ use Rattle.at_cache.proofs.Locations.{same_location-is, same_location-itself}
 use Rattle.at_cache.proofs.Dooming.{head_of}
 use Rattle.at_cache.proofs.Taking.{none_in}
 
-either : (a b : Bool) → (a || b) ≡ true → (a ≡ true) ⊎ (b ≡ true)
+pub either : (a b : Bool) → (a || b) ≡ true → (a ≡ true) ⊎ (b ≡ true)
 either true b h = inl refl
 either false b h = inr h
 
-on_left : (a b : Bool) → a ≡ true → (a || b) ≡ true
+pub on_left : (a b : Bool) → a ≡ true → (a || b) ≡ true
 on_left a b h = ap (λ c. c || b) h
 
-on_right : (a b : Bool) → b ≡ true → (a || b) ≡ true
+pub on_right : (a b : Bool) → b ≡ true → (a || b) ≡ true
 on_right true b h = refl
 on_right false b h = h
 

@@ -17,3 +17,6 @@ pub mod Entered
 pub mod Testing
 pub mod Shown
 pub mod Done
+pub mod Naming
+pub mod Noted
+pub mod Forgotten

@@ -13,17 +13,17 @@ use Rattle.at_cache.specs.Kept.{same_location}
 use Rattle.at_cache.proofs.Locations.{same_location-is, same_location-itself}
 use Rattle.at_cache.proofs.Ending.{any_of, some_of}
 
-both : (a b : Bool) → (a && b) ≡ true → (a ≡ true) × (b ≡ true)
+pub both : (a b : Bool) → (a && b) ≡ true → (a ≡ true) × (b ≡ true)
 both true b h = (refl, h)
 both false b h = absurd (cc)
 
-and : (a b : Bool) → a ≡ true → b ≡ true → (a && b) ≡ true
+pub and : (a b : Bool) → a ≡ true → b ≡ true → (a && b) ≡ true
 and a b h k = ap (λ c. c && b) h ∙ k
 
-has : (xs : List Edge) (x : Edge) → Contains xs x → list_any (same_edge x) xs ≡ true
+pub has : (xs : List Edge) (x : Edge) → Contains xs x → list_any (same_edge x) xs ≡ true
 has xs x c = any_of (same_edge x) xs x c (and _ _ (eq-eqb x.slot x.slot refl) (eq-eqb x.stamp x.stamp refl))
 
-is_in : (xs : List Edge) (x : Edge) → list_any (same_edge x) xs ≡ true → Contains xs x
+pub is_in : (xs : List Edge) (x : Edge) → list_any (same_edge x) xs ≡ true → Contains xs x
 is_in xs x h =
     let (y, c, is) = some_of (same_edge x) xs h in
     let (slots, stamps) = both _ _ is in

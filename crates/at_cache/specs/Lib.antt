@@ -7,3 +7,5 @@ pub mod Recorded
 pub mod Flushing
 pub mod Putting
 pub mod Slots
+pub mod Asking
+pub mod Bound

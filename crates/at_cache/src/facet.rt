@@ -1,7 +1,8 @@
 //! What is looked at of nodes, and by which entries.
 
-ghost use Rattle.std.specs.Prelude.{◌≡◌};
+ghost use Rattle.std.specs.Prelude.{◌≡◌, ℕ};
 ghost use Rattle.at_store.specs.Located.{loc_view};
+ghost use Rattle.at_cache.specs.Asking.{is_index};
 ghost use Rattle.at_cache.specs.Kept.{node_at};
 ghost use Rattle.at_cache.specs.Readers.{facet_at};
 
@@ -49,6 +50,19 @@ impl Facet {
             Facet::Slot(part) => Loc::Slot(node, part),
             Facet::Up => Loc::Up(node),
             Facet::Idx => Loc::Idx(node),
+        }
+    }
+
+    /// Whether it is the index.
+    pub fn is_index(self) -> bool
+        ensures { (n : ℕ) → result ≡ is_index (facet_at n self) }
+    {
+        match self {
+            Facet::Is => false,
+            Facet::Tok(_) => false,
+            Facet::Slot(_) => false,
+            Facet::Up => false,
+            Facet::Idx => true,
         }
     }
 }

@@ -1,16 +1,18 @@
 //! What stands for a touched location is taken out.
 
-ghost use Rattle.std.specs.Prelude.{◌≡◌, ◌<◌, ◌⊎◌, ℕ, List, [], ◌++◌, Option, None, Some, IsTrue, true};
+ghost use Rattle.std.specs.Prelude.{◌≡◌, ◌<◌, ◌⊎◌, ℕ, List, [], ◌++◌, Option, None, Some, MatchBool, true, false};
 ghost use Rattle.at_model.specs.Run.{Location};
 ghost use Rattle.at_cache.specs.declared.edge.Edge.{Edge};
 ghost use Rattle.at_cache.specs.Info.{Memory, memory_of, table_len};
 ghost use Rattle.at_cache.specs.Flushing.{Begins, IsIdle, Work, dooms, first_after};
-ghost use Rattle.at_cache.specs.Readers.{edges_among, edges_at};
+ghost use Rattle.at_cache.specs.Asking.{GoesOn, looks_at};
+ghost use Rattle.at_cache.specs.Readers.{edges_among, edges_at, facet_at};
 ghost use Rattle.at_cache.specs.Recorded.{IsIndexed, kept_in};
 ghost use Rattle.at_cache.specs.Kept.{Answers, LeavesUntouched, LosesTouched};
 
 use crate::edge::Edge;
-use crate::facet::Readers;
+use crate::facet::{Facet, Readers};
+use crate::scope::Scope;
 use crate::table::Table;
 use at_store::{Loc, Node};
 
@@ -40,20 +42,32 @@ fn doom_all(entries: &mut Table, first: Option<usize>, edges: &[Edge]) -> Option
     first
 }
 
-// What reads a touched location of the node goes: the first one that goes.
-fn begin_at<F: Fn(Loc) -> bool>(
+// Whether the facet of the node is in the scope, and touched.
+fn is_touched<F: Fn(Loc) -> bool>(node: Node, facet: Facet, scope: Scope, touched: &F) -> bool
+    requires { F.IsAlwaysCallable touched.now }
+    ensures { MatchBool result (Answers (F.post touched.now) (facet_at node facet) true) (looks_at scope (facet_at node facet) ≡ true → Answers (F.post touched.now) (facet_at node facet) false) }
+{
+    if !scope.has(facet) {
+        return false;
+    }
+    touched(facet.at(node))
+}
+
+/// What reads a touched location in the scope of the node goes: the first one that goes.
+pub fn begin_at<F: Fn(Loc) -> bool>(
     entries: &mut Table,
     first: Option<usize>,
     node: Node,
     readers: &[Readers],
+    scope: Scope,
     touched: &F,
 ) -> Option<usize>
     requires { F.IsAlwaysCallable touched.now }
-    ensures { (old : Memory) (start : List Edge) → Work old start [] first (memory_of entries.old) → (more : List Edge) × Work old (start ++ more) [] result (memory_of entries.new) × Begins (Answers (F.post touched.now)) (edges_among node readers.now) more }
+    ensures { GoesOn (Answers (F.post touched.now)) (looks_at scope) (edges_among node readers.now) first (memory_of entries.old) result (memory_of entries.new) }
 {
     let mut first = first;
     for reader in readers {
-        if touched(reader.facet.at(node)) {
+        if is_touched(node, reader.facet, scope, touched) {
             first = doom_all(entries, first, reader.edges.as_slice());
         }
     }
@@ -76,6 +90,7 @@ fn begin<F: Fn(Loc) -> bool>(
             first,
             Node::new(number),
             readers[number].as_slice(),
+            Scope::All,
             touched,
         );
     }
@@ -93,8 +108,8 @@ fn forget(entries: &mut Table, slot: usize) -> Option<usize>
     }
 }
 
-// All that go are taken out.
-fn forget_all(entries: &mut Table, first: Option<usize>)
+/// All that go are taken out.
+pub fn forget_all(entries: &mut Table, first: Option<usize>)
     ensures works { (old : Memory) (start : List Edge) → Work old start [] first (memory_of entries.old) → Work old start [] None (memory_of entries.new) }
 {
     let mut first = first;

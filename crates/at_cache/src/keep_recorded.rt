@@ -1,7 +1,8 @@
 //! The keeper that forgets at an edit what the edit touches.
 
 ghost use Rattle.std.specs.Prelude.{◌≡◌, ◌-◌, ◌^◌, ℕ, min, None, true};
-ghost use Rattle.at_cache.specs.Info.{memory_of};
+ghost use Rattle.at_cache.specs.Asking.{AreNoted};
+ghost use Rattle.at_cache.specs.Info.{memory_of, table_len};
 ghost use Rattle.at_cache.specs.Kept.{KeepsAll};
 ghost use Rattle.at_cache.specs.Readers.{edges_at};
 ghost use Rattle.at_cache.specs.Recorded.{IsIndexed, kept_in, reads_held};
@@ -9,10 +10,11 @@ ghost use Rattle.at_cache.specs.Recorded.{IsIndexed, kept_in, reads_held};
 use crate::facet::Readers;
 use crate::forgetting::take_out;
 use crate::keeper::Keeper;
+use crate::places::take_out_at;
 use crate::putting::enter_with;
 use crate::table::Table;
 use at_body::{Inst, Value};
-use at_store::Loc;
+use at_store::{Loc, Node, Places};
 use indexmap::IndexMap;
 use slab::Slab;
 use std::alloc::{AllocError, Global};
@@ -23,9 +25,12 @@ pub struct KeepRecorded {
     entries: Table,
     // By the numbers of nodes.
     readers: Vec<Vec<Readers>>,
+    // The nodes of which the index was ever read.
+    index_read: Vec<Node>,
     // How often `put` was called.
     puts: u64,
     ghost indexed: { IsIndexed (edges_at readers.items) puts (memory_of entries) },
+    ghost noted: { AreNoted (edges_at readers.items) index_read.items },
 }
 
 /// One call, where each exit that lets it go would else have a case for each field.
@@ -35,6 +40,7 @@ impl Drop for KeepRecorded {
             alloc: _,
             entries: _,
             readers: _,
+            index_read: _,
             puts: _,
         } = self;
     }
@@ -52,8 +58,16 @@ impl KeepRecorded {
                 places: Slab::new(alloc),
             },
             readers: Vec::new(alloc),
+            index_read: Vec::new(alloc),
             puts: 0,
         }
+    }
+
+    /// How many entries are kept.
+    pub fn len(&self) -> usize
+        ensures { result ≡ table_len self.now.entries }
+    {
+        self.entries.entries.len()
     }
 
     /// How many direct reads the entries hold, or the greatest `usize` if there are more.
@@ -94,6 +108,7 @@ impl Keeper for KeepRecorded {
             self.alloc,
             &mut self.entries,
             &mut self.readers,
+            &mut self.index_read,
             stamp,
             inst,
             value,
@@ -104,5 +119,15 @@ impl Keeper for KeepRecorded {
 
     fn flush<F: Fn(Loc) -> bool>(&mut self, touched: &F) {
         take_out(&mut self.entries, self.readers.as_slice(), touched);
+    }
+
+    fn flush_at<F: Fn(Loc) -> bool>(&mut self, places: &Places<'_>, touched: &F) {
+        take_out_at(
+            &mut self.entries,
+            self.readers.as_slice(),
+            self.index_read.as_slice(),
+            places,
+            touched,
+        );
     }
 }

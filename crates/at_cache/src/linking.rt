@@ -7,6 +7,7 @@ ghost use Rattle.at_body.specs.Same.{same_instance};
 ghost use Rattle.at_store.specs.Located.{loc_view};
 ghost use Rattle.at_cache.specs.declared.edge.Edge.{Edge};
 ghost use Rattle.at_cache.specs.declared.facet.Readers.{Readers};
+ghost use Rattle.at_cache.specs.Asking.{AreNoted};
 ghost use Rattle.at_cache.specs.Info.{memory_of};
 ghost use Rattle.at_cache.specs.Putting.{AreListed, AreTaken, Keeps, Lists, Reads, Uses, reused, users_at};
 ghost use Rattle.at_cache.specs.Readers.{edges_among, edges_at, facet_at};
@@ -14,8 +15,9 @@ ghost use Rattle.at_cache.specs.Slots.{HasChanged, with_edges};
 
 use crate::edge::{Edge, Edges};
 use crate::facet::{Facet, Readers};
+use crate::noting::note;
 use crate::table::Table;
-use at_store::Loc;
+use at_store::{Loc, Node};
 use std::alloc::{AllocError, Global};
 use std::mem;
 
@@ -174,18 +176,21 @@ fn add_user(alloc: Global, entries: &mut Table, slot: usize, edge: Edge) -> Resu
     result
 }
 
-/// One more edge of each of these locations.
+/// One more edge of each of these locations. The nodes whose index is among them are noted.
 pub fn add_readers(
     alloc: Global,
     entries: &Table,
     readers: &mut Vec<Vec<Readers>>,
+    index_read: &mut Vec<Node>,
     locations: &[Loc],
     edge: Edge,
 ) -> Result<(), AllocError>
     ensures reads { Reads (memory_of entries.now) edge (map loc_view locations.now) (edges_at readers.old.items) (edges_at readers.new.items) }
     ensures listed { OnOk result (AreListed edge (map loc_view locations.now) (edges_at readers.new.items)) }
+    ensures noted { AreNoted (edges_at readers.old.items) index_read.old.items → AreNoted (edges_at readers.new.items) index_read.new.items }
 {
     for location in locations {
+        note(readers.as_slice(), index_read, *location)?;
         add_reader(alloc, entries, readers, *location, edge)?;
     }
     Ok(())

@@ -6,6 +6,7 @@ ghost use Rattle.at_model.specs.Run.{Instance};
 ghost use Rattle.at_body.specs.Same.{same_instance};
 ghost use Rattle.at_body.specs.Values.{value_view};
 ghost use Rattle.at_store.specs.Located.{loc_view};
+ghost use Rattle.at_cache.specs.Asking.{AreNoted};
 ghost use Rattle.at_cache.specs.Info.{info, memory_of};
 ghost use Rattle.at_cache.specs.Kept.{KeepsAll, Puts};
 ghost use Rattle.at_cache.specs.Putting.{AreTaken, fresh_entry};
@@ -18,7 +19,7 @@ use crate::facet::Readers;
 use crate::linking::{add_readers, add_users};
 use crate::table::Table;
 use at_body::{Inst, Value};
-use at_store::Loc;
+use at_store::{Loc, Node};
 use std::alloc::{AllocError, Global};
 
 // The slots of these instances.
@@ -68,6 +69,7 @@ pub fn enter_with(
     alloc: Global,
     entries: &mut Table,
     readers: &mut Vec<Vec<Readers>>,
+    index_read: &mut Vec<Node>,
     stamp: u64,
     inst: Inst,
     value: Value,
@@ -76,6 +78,7 @@ pub fn enter_with(
 ) -> Result<(), AllocError>
     requires absent { lookup (same_instance inst) entries.old.entries.entries ≡ None }
     ensures indexed { IsIndexed (edges_at readers.old.items) stamp (memory_of entries.old) → IsIndexed (edges_at readers.new.items) (stamp + 1) (memory_of entries.new) }
+    ensures noted { AreNoted (edges_at readers.old.items) index_read.old.items → AreNoted (edges_at readers.new.items) index_read.new.items }
     ensures puts { IsIndexed (edges_at readers.old.items) stamp (memory_of entries.old) → OnOk result (Puts true (kept_in entries.old stamp) inst (value_view value) (map loc_view reads.now) uses.now (kept_in entries.new (stamp + 1))) }
     ensures err { IsIndexed (edges_at readers.old.items) stamp (memory_of entries.old) → OnErr result (KeepsAll (kept_in entries.old stamp) (kept_in entries.new (stamp + 1))) }
 {
@@ -84,7 +87,7 @@ pub fn enter_with(
         slot: entry.slot,
         stamp,
     };
-    add_readers(alloc, entries, readers, reads, edge)?;
+    add_readers(alloc, entries, readers, index_read, reads, edge)?;
     add_users(alloc, entries, entry.links.as_slice(), edge)?;
     entries.enter(inst, entry)
 }

@@ -2,6 +2,8 @@ use Rattle.std.proofs.Common.{◌∙◌, ◌++◌, List, [], Some, Vec, ap, subs
 use Rattle.std.specs.Global.{Global}
 use Rattle.at_cache.specs.declared.facet.Readers.{Readers}
 use Rattle.at_cache.specs.Kept.{Answers}
+use Rattle.at_cache.specs.declared.scope.Scope.TheVariants as scope
+use Rattle.at_cache.specs.Asking.{Asked, looks_at}
 use Rattle.at_cache.specs.Flushing.{Begins}
 use Rattle.at_cache.specs.Readers.{edges_among, edges_at}
 use Rattle.at_cache.proofs.Beginning.{at_start, begins_node}
@@ -19,10 +21,10 @@ loop-number-preserved g c idle =
     let (start, work, begins) = c.loop-number.invariant idle in
     let (edges, done, asked) = c.begin_at-first.ensures _ start work in
     let there = got c.args.readers.now c.loop-number.number v c.loop-number-test.true ∙ ap Some (sym c.index-readers-number.is) in
-    let here = subst (λ n. Begins says (edges_among n c.as_slice.result.now) edges) c.new.ensures asked in (
+    let here = subst (λ n. Asked says (looks_at scope.All) (edges_among n c.as_slice.result.now) edges) c.new.ensures asked in (
       start ++ edges,
       done,
-      begins_node c.args.readers.now c.loop-number.number v there begins (subst (λ rs. Begins says (edges_among c.loop-number.number rs) edges) c.as_slice.ensures.value here),
+      begins_node c.args.readers.now c.loop-number.number v there begins (subst (λ rs. Asked says (looks_at scope.All) (edges_among c.loop-number.number rs) edges) c.as_slice.ensures.value here),
     )
 
 pub returns : goal.returns

@@ -2,35 +2,36 @@ use Rattle.std.proofs.Common.{◌++◌, [], List, append-nil, append_assoc, sym,
 use Rattle.at_cache.specs.declared.facet.Readers.{Readers}
 use Rattle.at_cache.specs.Info.{memory_of}
 use Rattle.at_cache.specs.Kept.{Answers}
-use Rattle.at_cache.specs.Flushing.{Begins, Work}
+use Rattle.at_cache.specs.Asking.{Asked, looks_at}
+use Rattle.at_cache.specs.Flushing.{Work}
 use Rattle.at_cache.specs.Readers.{edges_among}
-use Rattle.at_cache.proofs.Beginning.{begins_next_touched, begins_next_untouched, begins_none}
+use Rattle.at_cache.proofs.Beginning.{asked_next_touched, asked_next_untouched, asked_none}
 use Rattle.at_cache.proofs.Taking.{more}
 use Rattle.at_cache.proofs.forgetting.begin_at.Goals as goal
-use Rattle.at_cache.proofs.forgetting.begin_at.Goals.{then-touched, else-touched}
+use Rattle.at_cache.proofs.forgetting.begin_at.Goals.{then-is_touched, else-is_touched}
 
 pub loop-reader-init : goal.loop-reader-init
-loop-reader-init g c old start w = ([], subst (λ es. Work old es [] c.args.first (memory_of c.args.entries.now)) (sym (append-nil start)) w, begins_none)
+loop-reader-init g c old start w = ([], subst (λ es. Work old es [] c.args.first (memory_of c.args.entries.now)) (sym (append-nil start)) w, asked_none)
 
 pub loop-reader-preserved : goal.loop-reader-preserved
 loop-reader-preserved g c old start w =
     let r = c.reader-item.result in
-    let (edges, work, begins) = c.loop-reader.invariant old start w in
-    elim c.if-touched.branch [
-      | then-touched t ↦
+    let (edges, work, asked) = c.loop-reader.invariant old start w in
+    elim c.if-is_touched.branch [
+      | then-is_touched t ↦
           let done = subst (λ es. Work old ((start ++ edges) ++ es) [] t.doom_all-first.result (memory_of t.doom_all-first.new.entries)) t.as_slice.ensures (t.doom_all-first.ensures.works old _ (more t.as_slice.result.now work)) in (
             edges ++ r.edges.items,
             rw (t.entries-is, t.first-is) (subst (λ es. Work old es [] t.doom_all-first.result (memory_of t.doom_all-first.new.entries)) (append_assoc start edges r.edges.items) done),
-            begins_next_touched c.args.node c.args.readers.now c.loop-reader.reader-index r c.reader-item.is c.loop-reader-test.true begins (c.at.result, c.at.ensures, t.if-touched.ensures),
+            asked_next_touched c.args.node c.args.readers.now c.loop-reader.reader-index r c.reader-item.is c.loop-reader-test.true asked t.if-is_touched.ensures,
           )
-      | else-touched t ↦ (
+      | else-is_touched t ↦ (
         edges,
         rw (t.entries-is, t.first-is) work,
-        begins_next_untouched c.args.node c.args.readers.now c.loop-reader.reader-index r c.reader-item.is c.loop-reader-test.true begins (c.at.result, c.at.ensures, t.if-touched.ensures),
+        asked_next_untouched c.args.node c.args.readers.now c.loop-reader.reader-index r c.reader-item.is c.loop-reader-test.true asked t.if-is_touched.ensures,
       )
     ]
 
 pub returns : goal.returns
 returns g c old start w =
-    let (edges, work, begins) = c.loop-reader.invariant old start w in
-    (edges, work, subst (λ (rs : List Readers). Begins (Answers (goal.F-post g c.args.touched.now)) (edges_among c.args.node rs) edges) (take_all c.loop-reader.reader-index c.args.readers.now c.loop-reader-test.false) begins)
+    let (edges, work, asked) = c.loop-reader.invariant old start w in
+    (edges, work, subst (λ (rs : List Readers). Asked (Answers (goal.F-post g c.args.touched.now)) (looks_at c.args.scope) (edges_among c.args.node rs) edges) (take_all c.loop-reader.reader-index c.args.readers.now c.loop-reader-test.false) asked)

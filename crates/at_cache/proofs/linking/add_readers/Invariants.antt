@@ -1,5 +1,6 @@
 use Rattle.std.proofs.Common.{map, take}
 use Rattle.at_store.specs.Located.{loc_view}
+use Rattle.at_cache.specs.Asking.{AreNoted}
 use Rattle.at_cache.specs.Info.{memory_of}
 use Rattle.at_cache.specs.Readers.{edges_at}
 use Rattle.at_cache.specs.Putting.{AreListed, Reads}
@@ -8,5 +9,6 @@ use Rattle.at_cache.proofs.linking.add_readers.Given as goal
 abbrev pub invariant-loop-location : goal.invariant-loop-location
 invariant-loop-location l = record {
   reads : Reads (memory_of l.entries) l.edge (map loc_view (take l.location-index l.locations)) (edges_at l.initial.readers.items) (edges_at l.readers.items);
+  noted : AreNoted (edges_at l.initial.readers.items) l.initial.index_read.items → AreNoted (edges_at l.readers.items) l.index_read.items;
   listed : AreListed l.edge (map loc_view (take l.location-index l.locations)) (edges_at l.readers.items);
 }

@@ -55,3 +55,15 @@ enter-requires c = record { absent = c.add_users.ensures.absent c.args.inst c.re
 
 pub add_users-requires : goal.add_users-requires
 add_users-requires c = record { there = subst (AreTaken (memory_of c.args.entries.now)) (sym c.as_slice.ensures.value) c.in_ok-entry.ensures.taken }
+
+pub returns-in_err-entry-clause-noted : goal.returns-in_err-entry-clause-noted
+returns-in_err-entry-clause-noted c n = n
+
+pub returns-in_err-add_readers-clause-noted : goal.returns-in_err-add_readers-clause-noted
+returns-in_err-add_readers-clause-noted c = c.add_readers.ensures.noted
+
+pub returns-in_err-add_users-clause-noted : goal.returns-in_err-add_users-clause-noted
+returns-in_err-add_users-clause-noted c = c.add_readers.ensures.noted
+
+pub returns-clause-noted : goal.returns-clause-noted
+returns-clause-noted c = c.add_readers.ensures.noted

@@ -1,7 +1,7 @@
 use Rattle.at_cache.proofs.keep_recorded.KeepRecordedKeeper.flush.Goals as goal
 
 pub invariant_of-self : goal.invariant_of-self
-invariant_of-self g c = record { indexed = rw c.as_slice.ensures.value at (c.take_out.ensures.indexed c.args.self.now.puts (rw c.as_slice.ensures.value c.args.self.now.indexed)) }
+invariant_of-self g c = record { indexed = rw c.as_slice.ensures.value at (c.take_out.ensures.indexed c.args.self.now.puts (rw c.as_slice.ensures.value c.args.self.now.indexed)); noted = c.args.self.now.noted }
 
 pub returns-clause-leaves : goal.returns-clause-leaves
 returns-clause-leaves g c = c.take_out.ensures.leaves c.args.self.now.puts (rw c.as_slice.ensures.value c.args.self.now.indexed)

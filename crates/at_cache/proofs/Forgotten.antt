@@ -1,0 +1,21 @@
+-- A keeper with a bound.
+use Rattle.std.proofs.Common.{◌≡◌, ◌<◌, ◌≤◌, inl, inr, ℕ, List, Bool, true, false, true≢false, None, Some, sym, ◌∙◌, arith}
+use Rattle.std.proofs.lemmas.Option.{none-some}
+use Rattle.at_model.specs.Run.{Instance, Location, Value}
+use Rattle.at_cache.specs.Kept.{Entries, KeepsAll, LeavesUntouched, LosesTouched, MayPut}
+
+-- a keeper that isn't exact may do what an exact one does
+pub put_at_most : {old new : Entries} {i : Instance ℕ} {v : Value ℕ} {reads : List (Location ℕ)} {uses : List (Instance ℕ)} → MayPut true old i v reads uses new → MayPut false old i v reads uses new
+put_at_most (inl h) = absurd (true≢false h.0)
+put_at_most (inr p) = inr (record { entry = p.entry; value = p.value; covers = p.covers; only = λ t. absurd (true≢false (sym t)); adds = p.adds })
+
+module _ (says : Location ℕ → Bool → Type 0) (old new : Entries) where
+  -- nothing is left
+  pub leaves_none : KeepsAll (λ i. None) new → LeavesUntouched says old new
+  leaves_none none i k h = absurd (none-some k (sym (none i) ∙ h))
+
+  pub forgets_over : (most count : ℕ) → most < count → KeepsAll (λ i. None) new → (count ≤ most → LosesTouched says old new) × (most < count → KeepsAll (λ i. None) new)
+  forgets_over most count more none = (λ less. absurd (omega (arith, less, more)), λ h. none)
+
+  pub forgets_within : (most count : ℕ) → count ≤ most → LosesTouched says old new → (count ≤ most → LosesTouched says old new) × (most < count → KeepsAll (λ i. None) new)
+  forgets_within most count less loses = (λ h. loses, λ more. absurd (omega (arith, less, more)))

@@ -1,0 +1,206 @@
+-- A flush begins at the nodes that places name.
+use Rattle.std.proofs.Common.{◌≡◌, ◌⊎◌, inl, inr, ℕ, ◌+◌, ◌<◌, List, [], ◌∷◌, ◌++◌, ◌||◌, ◌&&◌, Bool, true, false, true≢false, Option, None, Some, Contains, Vec, take, slice_get, get_or, length, nat_eq, nat_lt, refl, sym, ap, ◌∙◌, subst, append-nil, append_assoc, eqb-true}
+use Rattle.std.specs.Bool.{MatchBool}
+use Rattle.std.specs.List.{list_any}
+use Rattle.std.proofs.lemmas.Bool.{cases_eq, eq-eqb, ltb-false, ltb-true}
+use Rattle.std.proofs.lemmas.Option.{slice_get_past}
+use Rattle.std.proofs.lemmas.List.{take_more}
+use Rattle.std.proofs.lemmas.List.Elements.{Contains-append_cases, Contains-append_left, Contains-append_right}
+use Rattle.at_model.specs.Run.{Location, Is, Tok, Slot, Up, Idx}
+use Rattle.at_model.specs.Touches.{node_of}
+use Rattle.at_store.specs.declared.node.Loc.{Loc}
+use Rattle.at_store.specs.declared.node.Loc.TheVariants as loc
+use Rattle.at_store.specs.declared.places.Changing.{Changing}
+use Rattle.at_store.specs.declared.places.Places.{Places}
+use Rattle.at_store.specs.Located.{loc_view}
+use Rattle.at_store.specs.Places.{is_index_among, is_node, named, names_around}
+use Rattle.at_cache.specs.declared.edge.Edge.{Edge}
+use Rattle.at_cache.specs.declared.facet.Readers.{Readers}
+use Rattle.at_cache.specs.declared.scope.Scope.{Scope}
+use Rattle.at_cache.specs.declared.scope.Scope.TheVariants as scope
+use Rattle.at_cache.specs.Asking.{AreNoted, Asked, GoesOn, is_index, looks_at, sees}
+use Rattle.at_cache.specs.Flushing.{Begins, IsIdle, Work}
+use Rattle.at_cache.specs.Info.{Memory}
+use Rattle.at_cache.specs.Kept.{Answers, AreNamed, node_at}
+use Rattle.at_cache.specs.Readers.{edges_among, edges_at}
+use Rattle.at_cache.proofs.Beginning.{among_others, begins_by}
+use Rattle.at_cache.proofs.Ending.{any_of, either, some_of}
+use Rattle.at_cache.proofs.Listed.{edges_are, no_edges}
+use Rattle.at_cache.proofs.Moving.{got}
+use Rattle.at_cache.proofs.Taking.{begun, none_in}
+use Rattle.at_cache.proofs.Testing.{and, both, has}
+
+-- what a list has at a number
+pub node_there : {X : Type 0} (xs : List X) (i node : ℕ) (x : X) → i ≡ node → true ≡ nat_lt i (length xs) → x ≡ get_or xs i x → slice_get xs node ≡ Some x
+node_there xs i node x is less here = ap (slice_get xs) (sym is) ∙ got xs i x (ltb-true i (length xs) (sym less)) ∙ ap Some (sym here)
+
+pub node_past : {X : Type 0} (xs : List X) (i node : ℕ) → i ≡ node → false ≡ nat_lt i (length xs) → slice_get xs node ≡ None
+node_past xs i node is past = ap (slice_get xs) (sym is) ∙ slice_get_past xs i (ltb-false i (length xs) (sym past))
+
+any_push : (p : ℕ → Bool) (node : ℕ) (ns : List ℕ) → list_any p (ns ++ node ∷ []) ≡ true → (list_any p ns || p node) ≡ true
+any_push p node [] h = elim (either (p node) false h) [ inl e ↦ e | inr e ↦ absurd (true≢false (sym e)) ]
+any_push p node (n ∷ ns) h = by (p n) h (any_push p node ns)
+  where
+    by : (b : Bool) → (b || list_any p (ns ++ node ∷ [])) ≡ true → (list_any p (ns ++ node ∷ []) ≡ true → (list_any p ns || p node) ≡ true) → ((b || list_any p ns) || p node) ≡ true
+    by true e on = refl
+    by false e on = on e
+
+-- what the closure answered
+pub told : (post : Loc → Bool → Type 0) {l : Location ℕ} (looked : Type 0) (x : Loc) (b : Bool) → loc_view x ≡ l → post x b → MatchBool b (Answers post l true) (looked → Answers post l false)
+told post looked x true is p = (x, is, p)
+told post looked x false is p = λ h. (x, is, p)
+
+module _ {says : Location ℕ → Bool → Type 0} {lists : Location ℕ → List Edge} where
+  -- nothing is seen of which there is an edge
+  pub goes_nowhere : {seen : Location ℕ → Bool} (first : Option ℕ) (m : Memory) → ((l : Location ℕ) → seen l ≡ true → (x : Edge) → Contains (lists l) x → ⊥) → GoesOn says seen lists first m first m
+  goes_nowhere first m none old start w = (
+    [],
+    subst (λ es. Work old es [] first m) (sym (append-nil start)) w,
+    record { from = λ x c. absurd (none_in x c); all = λ l s. inr (λ x c. absurd (none l s x c)) },
+  )
+
+  -- first the one is seen and then the other
+  pub goes_further : {seen also : Location ℕ → Bool} {first mid last : Option ℕ} {m n o : Memory} → GoesOn says seen lists first m mid n → GoesOn says also lists mid n last o → GoesOn says (λ l. seen l || also l) lists first m last o
+  goes_further {seen} {also} {last = last} {o = o} a b old start w =
+      let (more, done, asked) = a old start w in
+      let (rest, ended, then_asked) = b old (start ++ more) done in (
+        more ++ rest,
+        subst (λ es. Work old es [] last o) (append_assoc start more rest) ended,
+        record {
+          from = λ x c. elim (Contains-append_cases more rest x c) [ inl d ↦ asked.from x d | inr d ↦ then_asked.from x d ];
+          all = λ l s. elim (either (seen l) (also l) s) [
+            | inl h ↦ elim (asked.all l h) [ inl said ↦ inl said | inr all ↦ inr (λ x c. Contains-append_left more rest x (all x c)) ]
+            | inr h ↦ elim (then_asked.all l h) [ inl said ↦ inl said | inr all ↦ inr (λ x c. Contains-append_right more rest x (all x c)) ]
+          ];
+        },
+      )
+
+  -- of what else is seen there is no edge
+  pub goes_as : {seen also : Location ℕ → Bool} {first later : Option ℕ} {m n : Memory} → ((l : Location ℕ) → also l ≡ true → (seen l ≡ true) ⊎ ((x : Edge) → Contains (lists l) x → ⊥)) → GoesOn says seen lists first m later n → GoesOn says also lists first m later n
+  goes_as within a old start w =
+      let (more, done, asked) = a old start w in (
+        more,
+        done,
+        record {
+          from = asked.from;
+          all = λ l s. elim (within l s) [ inl h ↦ asked.all l h | inr none ↦ inr (λ x c. absurd (none x c)) ];
+        },
+      )
+
+  -- one node more
+  pub goes_next : (nodes : List ℕ) (i : ℕ) (node : ℕ) (s : Scope) → node ≡ get_or nodes i node → i < length nodes → {first mid last : Option ℕ} {m n o : Memory}
+      → GoesOn says (λ l. list_any (λ n. sees s n l) (take i nodes)) lists first m mid n → GoesOn says (sees s node) lists mid n last o
+      → GoesOn says (λ l. list_any (λ n. sees s n l) (take (i + 1) nodes)) lists first m last o
+  goes_next nodes i node s is less a b = goes_as (λ l h. inl (any_push (λ n. sees s n l) node (take i nodes) (subst (λ ns. list_any (λ n. sees s n l) ns ≡ true) (take_more nodes i node less ∙ ap (λ n. take i nodes ++ n ∷ []) (sym is)) h))) (goes_further a b)
+
+seen_at : (node : ℕ) (s : Scope) (l : Location ℕ) → sees s node l ≡ true → node_at l ≡ node
+seen_at node s l h = sym (eqb-true node (node_at l) (both _ _ h).0)
+
+module _ {A : Type 0} {says : Location ℕ → Bool → Type 0} (readers : List (Vec Readers A)) (node : ℕ) (s : Scope) where
+  -- the readers of the node, among those of all
+  pub goes_at : (v : Vec Readers A) → slice_get readers node ≡ Some v → {first later : Option ℕ} {m n : Memory} → GoesOn says (looks_at s) (edges_among node v.items) first m later n → GoesOn says (sees s node) (edges_at readers) first m later n
+  goes_at v there a old start w =
+      let (more, done, asked) = a old start w in (
+        more,
+        done,
+        record {
+          from = λ x c. let (l, said, d) = asked.from x c in (l, said, subst (λ es. Contains es x) (sym (edges_here l (of_node l x d))) d);
+          all = λ l h. elim (asked.all l (both _ _ h).1) [
+            | inl said ↦ inl said
+            | inr all ↦ inr (λ x c. all x (subst (λ es. Contains es x) (edges_here l (seen_at node s l h)) c))
+          ];
+        },
+      )
+    where
+      of_node : (l : Location ℕ) (x : Edge) → Contains (edges_among node v.items l) x → node_at l ≡ node
+      of_node l x d = elim (cases_eq (node_at l) node) [ inl same ↦ same | inr differs ↦ absurd (none_in x (subst (λ es. Contains es x) (among_others node v.items l differs) d)) ]
+
+      edges_here : (l : Location ℕ) → node_at l ≡ node → edges_at readers l ≡ edges_among node v.items l
+      edges_here l same = edges_are readers l v (ap (slice_get readers) same ∙ there) ∙ ap (λ k. edges_among k v.items l) same
+
+  pub goes_past : slice_get readers node ≡ None → (first : Option ℕ) (m : Memory) → GoesOn says (sees s node) (edges_at readers) first m first m
+  goes_past none first m = goes_nowhere first m (λ l h x c. none_in x (subst (λ es. Contains es x) (no_edges readers l (ap (slice_get readers) (seen_at node s l h) ∙ none)) c))
+
+seen_index : (nodes : List ℕ) (n : ℕ) → list_any (nat_eq n) nodes ≡ true → list_any (λ k. sees scope.Index k (Idx n)) nodes ≡ true
+seen_index nodes n h =
+    let (k, c, is) = some_of (nat_eq n) nodes h in
+    any_of (λ k. sees scope.Index k (Idx n)) nodes k c (and _ _ (eq-eqb k n (sym (eqb-true n k is))) refl)
+
+seen_node : (node : ℕ) (l : Location ℕ) → nat_eq node (node_of l) ≡ true → sees scope.All node l ≡ true
+seen_node node l h = and _ _ (ap (nat_eq node) (by l) ∙ h) refl
+  where
+    by : (l : Location ℕ) → node_at l ≡ node_of l
+    by (Is n) = refl
+    by (Tok n part) = refl
+    by (Slot n part) = refl
+    by (Up n) = refl
+    by (Idx n) = refl
+
+seen_nodes : (nodes : List ℕ) (l : Location ℕ) → list_any (nat_eq (node_of l)) nodes ≡ true → list_any (λ n. sees scope.All n l) nodes ≡ true
+seen_nodes nodes l h =
+    let (k, c, is) = some_of (nat_eq (node_of l)) nodes h in
+    any_of (λ n. sees scope.All n l) nodes k c (seen_node k l (eq-eqb k (node_of l) (sym (eqb-true (node_of l) k is))))
+
+module _ {says : Location ℕ → Bool → Type 0} {lists : Location ℕ → List Edge} {first later : Option ℕ} {m n : Memory} where
+  -- the children are looked at
+  pub goes_to_children : (children : List ℕ) → GoesOn says (λ l. list_any (λ k. sees scope.Index k l) children) lists first m later n → GoesOn says (is_index_among children) lists first m later n
+  goes_to_children children = goes_as by
+    where
+      by : (l : Location ℕ) → is_index_among children l ≡ true → (list_any (λ k. sees scope.Index k l) children ≡ true) ⊎ ((x : Edge) → Contains (lists l) x → ⊥)
+      by (Is n) h = absurd (true≢false (sym h))
+      by (Tok n part) h = absurd (true≢false (sym h))
+      by (Slot n part) h = absurd (true≢false (sym h))
+      by (Up n) h = absurd (true≢false (sym h))
+      by (Idx n) h = inl (seen_index children n h)
+
+  -- the nodes are looked at of which the index was read
+  pub goes_to_noted : (nodes children : List ℕ) → AreNoted lists nodes → GoesOn says (λ l. list_any (λ k. sees scope.Index k l) nodes) lists first m later n → GoesOn says (is_index_among children) lists first m later n
+  goes_to_noted nodes children noted = goes_as by
+    where
+      listed : (n : ℕ) (b : Bool) → list_any (nat_eq n) nodes ≡ b → (list_any (λ k. sees scope.Index k (Idx n)) nodes ≡ true) ⊎ ((x : Edge) → Contains (lists (Idx n)) x → ⊥)
+      listed n true h = inl (seen_index nodes n h)
+      listed n false h = inr (λ x c. true≢false (sym (noted n x (has (lists (Idx n)) x c)) ∙ h))
+
+      by : (l : Location ℕ) → is_index_among children l ≡ true → (list_any (λ k. sees scope.Index k l) nodes ≡ true) ⊎ ((x : Edge) → Contains (lists l) x → ⊥)
+      by (Is n) h = absurd (true≢false (sym h))
+      by (Tok n part) h = absurd (true≢false (sym h))
+      by (Slot n part) h = absurd (true≢false (sym h))
+      by (Up n) h = absurd (true≢false (sym h))
+      by (Idx n) h = listed n (list_any (nat_eq n) nodes) refl
+
+  -- one node is looked at, if there is one
+  pub goes_to_node : (moved : Option ℕ) (node : ℕ) → moved ≡ Some node → GoesOn says (sees scope.All node) lists first m later n → GoesOn says (λ l. is_node moved (node_of l)) lists first m later n
+  goes_to_node moved node is = goes_as (λ l h. inl (seen_node node l (subst (λ o. is_node o (node_of l) ≡ true) is h)))
+
+  pub goes_to_nodes : (nodes : List ℕ) → GoesOn says (λ l. list_any (λ k. sees scope.All k l) nodes) lists first m later n → GoesOn says (λ l. list_any (nat_eq (node_of l)) nodes) lists first m later n
+  goes_to_nodes nodes = goes_as (λ l h. inl (seen_nodes nodes l h))
+
+module _ {says : Location ℕ → Bool → Type 0} {lists : Location ℕ → List Edge} where
+  pub goes_to_none : (moved : Option ℕ) → moved ≡ None → (first : Option ℕ) (m : Memory) → GoesOn says (λ l. is_node moved (node_of l)) lists first m first m
+  goes_to_none moved is first m = goes_nowhere first m (λ l h. absurd (true≢false (sym h ∙ ap (λ o. is_node o (node_of l)) is)))
+
+  -- a node and its children
+  pub goes_around : (changing : Option Changing) (c : Changing) → changing ≡ Some c → {first mid last : Option ℕ} {m n o : Memory}
+      → GoesOn says (sees scope.All c.node) lists first m mid n → GoesOn says (is_index_among c.children.now) lists mid n last o → GoesOn says (names_around changing) lists first m last o
+  goes_around changing c is a b = goes_as (λ l h. inl (subst (λ o. names_around o l ≡ true) is h)) (goes_further (goes_to_node (Some c.node) c.node refl a) b)
+
+  pub goes_around_none : (changing : Option Changing) → changing ≡ None → (first : Option ℕ) (m : Memory) → GoesOn says (names_around changing) lists first m first m
+  goes_around_none changing is first m = goes_nowhere first m (λ l h. absurd (true≢false (sym h ∙ ap (λ o. names_around o l) is)))
+
+  -- all that is named
+  pub goes_to_named : (p : Places) {f0 f1 f2 f3 f4 : Option ℕ} {m0 m1 m2 m3 m4 : Memory}
+      → GoesOn says (λ l. list_any (λ k. sees scope.All k l) p.leaving.now) lists f0 m0 f1 m1 → GoesOn says (λ l. is_node p.moved (node_of l)) lists f1 m1 f2 m2
+      → GoesOn says (names_around p.target) lists f2 m2 f3 m3 → GoesOn says (names_around p.source) lists f3 m3 f4 m4 → GoesOn says (named p) lists f0 m0 f4 m4
+  goes_to_named p a b c d = goes_further (goes_further (goes_further (goes_to_nodes p.leaving.now a) b) c) d
+
+-- what isn't named has the answer `false`
+pub begins_named : {post : Loc → Bool → Type 0} {lists : Location ℕ → List Edge} {later : Option ℕ} {m n : Memory} (p : Places) → AreNamed p post → GoesOn (Answers post) (named p) lists None m later n → IsIdle m
+    → (start : List Edge) × Work m start [] later n × Begins (Answers post) lists start
+begins_named {post = post} {m = m} p answers a idle = let (start, done, asked) = a m [] (begun m idle) in (start, done, begins_by asked by)
+  where
+    by : (l : Location ℕ) → named p l ≡ false → Answers post l false
+    by (Is n) h = (loc.Is n, refl, answers (loc.Is n) h)
+    by (Tok n part) h = (loc.Tok n part, refl, answers (loc.Tok n part) h)
+    by (Slot n part) h = (loc.Slot n part, refl, answers (loc.Slot n part) h)
+    by (Up n) h = (loc.Up n, refl, answers (loc.Up n) h)
+    by (Idx n) h = (loc.Idx n, refl, answers (loc.Idx n) h)

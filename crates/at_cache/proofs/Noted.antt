@@ -1,0 +1,88 @@
+-- The nodes of which an entry read the index.
+use Rattle.std.proofs.Common.{◌≡◌, ◌⊎◌, inl, inr, ℕ, ◌<◌, List, [], ◌∷◌, ◌++◌, Bool, true, false, true≢false, Some, Contains, Vec, IsTrue, not, cond, nat_eq, length, get_or, slice_get, refl, sym, ap, ◌∙◌, subst}
+use Rattle.std.specs.List.{list_any}
+use Rattle.std.proofs.lemmas.Bool.{eq-eqb}
+use Rattle.std.proofs.lemmas.List.Elements.{Contains-append_left, Contains-append_right}
+use Rattle.slab.proofs.SlabLemmas.{Contains-cons_cases}
+use Rattle.at_model.specs.Run.{Location, Is, Tok, Slot, Up, Idx}
+use Rattle.at_store.specs.declared.node.Loc.{Loc}
+use Rattle.at_store.specs.declared.node.Loc.TheVariants as loc
+use Rattle.at_store.specs.Located.{loc_view}
+use Rattle.at_cache.specs.declared.edge.Edge.{Edge}
+use Rattle.at_cache.specs.declared.facet.Facet.{Facet}
+use Rattle.at_cache.specs.declared.facet.Facet.TheVariants as facet
+use Rattle.at_cache.specs.declared.facet.Readers.{Readers}
+use Rattle.at_cache.specs.Asking.{AreNoted, is_index}
+use Rattle.at_cache.specs.Kept.{node_at, same_location}
+use Rattle.at_cache.specs.Readers.{edges_among, edges_at, facet_at}
+use Rattle.at_cache.specs.Recorded.{is_listed}
+use Rattle.at_cache.proofs.Beginning.{edges_of}
+use Rattle.at_cache.proofs.Dooming.{head_of}
+use Rattle.at_cache.proofs.Listed.{edges_are}
+use Rattle.at_cache.proofs.Ending.{any_of, either, on_left, on_right}
+use Rattle.at_cache.proofs.Locations.{cases_location, same_location-itself}
+use Rattle.at_cache.proofs.Taking.{none_in}
+use Rattle.at_cache.proofs.Testing.{has}
+
+pub first_edge : (es : List Edge) → nat_eq (length es) 0 ≡ false → (x : Edge) × Contains es x
+first_edge [] h = absurd (true≢false h)
+first_edge (x ∷ xs) h = (x, head_of x xs)
+
+pub index_at : (f : Facet) → is_index (facet_at 0 f) ≡ true → (n : ℕ) → facet_at n f ≡ Idx n
+index_at facet.Is h n = absurd (true≢false (sym h))
+index_at (facet.Tok part) h n = absurd (true≢false (sym h))
+index_at (facet.Slot part) h n = absurd (true≢false (sym h))
+index_at facet.Up h n = absurd (true≢false (sym h))
+index_at facet.Idx h n = refl
+
+-- an edge of one facet is one of the location
+pub among_has : (n : ℕ) (rs : List Readers) (r : Readers) (x : Edge) → Contains rs r → Contains r.edges.items x → Contains (edges_among n rs (facet_at n r.facet)) x
+among_has n [] r x c d = absurd (none_in r c)
+among_has n (s ∷ rs) r x c d = elim (Contains-cons_cases s r rs c) [
+  | inl same ↦ Contains-append_left (edges_of n s l) (edges_among n rs l) x (subst (λ (t : Readers). Contains (edges_of n t l) x) (sym same) (subst (λ b. Contains (cond b r.edges.items []) x) (sym (same_location-itself l)) d))
+  | inr rest ↦ Contains-append_right (edges_of n s l) (edges_among n rs l) x (among_has n rs r x rest d)
+]
+  where
+    l : Location ℕ
+    l = facet_at n r.facet
+
+any_before : (p : ℕ → Bool) (ns more : List ℕ) → list_any p ns ≡ true → list_any p (ns ++ more) ≡ true
+any_before p [] more h = absurd (true≢false (sym h))
+any_before p (n ∷ ns) more h = elim (either (p n) (list_any p ns) h) [
+  | inl here ↦ on_left (p n) (list_any p (ns ++ more)) here
+  | inr there ↦ on_right (p n) (list_any p (ns ++ more)) (any_before p ns more there)
+]
+
+-- one node more is noted
+pub noted_more : (lists : Location ℕ → List Edge) (old new : List ℕ) (node : ℕ) → new ≡ old ++ node ∷ [] → AreNoted lists old → AreNoted lists new
+noted_more lists old new node is noted n x h = subst (λ ns. list_any (nat_eq n) ns ≡ true) (sym is) (any_before (nat_eq n) old (node ∷ []) (noted n x h))
+
+pub node_noted : (old new : List ℕ) (node : ℕ) → new ≡ old ++ node ∷ [] → list_any (nat_eq node) new ≡ true
+node_noted old new node is = any_of (nat_eq node) new node (subst (λ ns. Contains ns node) (sym is) (Contains-append_right old (node ∷ []) node (head_of node []))) (eq-eqb node node refl)
+
+pub noted_there : (lists : Location ℕ → List Edge) (nodes : List ℕ) (node : ℕ) → (x : Edge) × Contains (lists (Idx node)) x → AreNoted lists nodes → list_any (nat_eq node) nodes ≡ true
+noted_there lists nodes node (x, c) noted = noted node x (has (lists (Idx node)) x c)
+
+-- a location comes that is noted, if it is an index
+pub noted_on : (lists new : Location ℕ → List Edge) (nodes : List ℕ) (l : Location ℕ) → AreNoted lists nodes → ((n : ℕ) → l ≡ Idx n → list_any (nat_eq n) nodes ≡ true)
+    → ((k : Location ℕ) → (k ≡ l → ⊥) → new k ≡ lists k) → AreNoted new nodes
+noted_on lists new nodes l noted its others n x h = elim (cases_location (Idx n) l) [
+  | inl same ↦ its n (sym same)
+  | inr differs ↦ noted n x (subst (λ es. is_listed x es ≡ true) (others (Idx n) differs) h)
+]
+
+-- an edge of the index of the node, where it stands among all
+pub edge_there : {A : Type 0} (readers : List (Vec Readers A)) (node : ℕ) (v : Vec Readers A) → slice_get readers node ≡ Some v → (x : Edge) × Contains (edges_among node v.items (Idx node)) x → (x : Edge) × Contains (edges_at readers (Idx node)) x
+edge_there readers node v there (x, c) = (x, subst (λ es. Contains es x) (sym (edges_are readers (Idx node) v there)) c)
+
+-- the index of a reader
+pub reader_index : (r : Readers) (empty : Bool) → true ≡ is_index (facet_at 0 r.facet) → empty ≡ nat_eq (length r.edges.items) 0 → IsTrue (not empty) → (x : Edge) × Contains r.edges.items x × ((n : ℕ) → facet_at n r.facet ≡ Idx n)
+reader_index r true index is h = absurd (true≢false (sym h))
+reader_index r false index is h = let (x, c) = first_edge r.edges.items (sym is) in (x, c, index_at r.facet (sym index))
+
+-- one reader of the node is such
+pub index_among : (rs : List Readers) (i : ℕ) (r : Readers) → r ≡ get_or rs i r → i < length rs → (x : Edge) × Contains r.edges.items x × ((n : ℕ) → facet_at n r.facet ≡ Idx n) → (n : ℕ) → (x : Edge) × Contains (edges_among n rs (Idx n)) x
+index_among rs i r is less (x, c, index) n = (x, subst (λ l. Contains (edges_among n rs l) x) (index n) (among_has n rs r x (i, less, sym is) c))
+
+pub index_is : (x : Loc) (node n : ℕ) (ns : List ℕ) → x ≡ loc.Idx node → loc_view x ≡ Idx n → list_any (nat_eq node) ns ≡ true → list_any (nat_eq n) ns ≡ true
+index_is x node n ns is h listed = subst (λ k. list_any (nat_eq k) ns ≡ true) (ap node_at (sym (ap loc_view is) ∙ h)) listed

@@ -1,0 +1,105 @@
+//! The keeper that holds no more than a number of entries from one edit to the next.
+
+ghost use Rattle.std.specs.Prelude.{◌≡◌, ◌-◌, ◌^◌, min, None, false};
+ghost use Rattle.at_cache.specs.Info.{table_len};
+ghost use Rattle.at_cache.specs.Bound.{ForgetsOver, kept_by};
+ghost use Rattle.at_cache.specs.Kept.{Answers, AreNamed, KeepsAll, LeavesUntouched};
+ghost use Rattle.at_cache.specs.Recorded.{reads_held};
+
+use crate::keep_recorded::KeepRecorded;
+use crate::keeper::Keeper;
+use at_body::{Inst, Value};
+use at_store::{Loc, Places};
+use std::alloc::{AllocError, Global};
+
+/// Keeps what a `KeepRecorded` keeps, but forgets all at an edit that finds more entries than a number, with the memory that
+/// they took. One wants it where a session is long: values that are asked no more, and that no edit touches, else stay for ever.
+pub struct KeepAtMost {
+    alloc: Global,
+    most: usize,
+    keeper: KeepRecorded,
+}
+
+/// One call, where each exit that lets it go would else have a case for each field.
+impl Drop for KeepAtMost {
+    fn drop(self) {
+        let KeepAtMost {
+            alloc: _,
+            most: _,
+            keeper: _,
+        } = self;
+    }
+}
+
+impl KeepAtMost {
+    /// A keeper that keeps nothing yet, and no more than `most` entries through an edit.
+    pub fn new(alloc: Global, most: usize) -> KeepAtMost
+        ensures nothing { KeepsAll (λ _. None) (kept_by result) }
+        ensures bound { result.most ≡ most }
+    {
+        KeepAtMost {
+            alloc,
+            most,
+            keeper: KeepRecorded::new(alloc),
+        }
+    }
+
+    /// How many entries are kept.
+    pub fn len(&self) -> usize
+        ensures { result ≡ table_len self.now.keeper.entries }
+    {
+        self.keeper.len()
+    }
+
+    /// How many direct reads the entries hold, or the greatest `usize` if there are more.
+    pub fn stored(&self) -> usize
+        ensures { result ≡ min (reads_held self.now.keeper.entries.entries.entries) (2 ^ 64 - 1) }
+    {
+        self.keeper.stored()
+    }
+}
+
+impl Keeper for KeepAtMost {
+    ghost contents = { kept_by };
+
+    ghost exact = { false };
+
+    fn get(&self, inst: &Inst) -> Option<&Value> {
+        self.keeper.get(inst)
+    }
+
+    fn put(
+        &mut self,
+        inst: Inst,
+        value: Value,
+        reads: &[Loc],
+        uses: &[Inst],
+    ) -> Result<(), AllocError> {
+        self.keeper.put(inst, value, reads, uses)
+    }
+
+    fn flush<F: Fn(Loc) -> bool>(&mut self, touched: &F)
+        requires { F.IsAlwaysCallable touched.now }
+        ensures leaves { LeavesUntouched (Answers (F.post touched.now)) (kept_by self.old) (kept_by self.new) }
+        ensures over { ForgetsOver (Answers (F.post touched.now)) self.old self.new }
+    {
+        if self.keeper.len() > self.most {
+            self.keeper = KeepRecorded::new(self.alloc);
+        } else {
+            self.keeper.flush(touched);
+        }
+    }
+
+    fn flush_at<F: Fn(Loc) -> bool>(&mut self, places: &Places<'_>, touched: &F)
+        requires callable { F.IsAlwaysCallable touched.now }
+        requires named { AreNamed places.now (F.post touched.now) }
+        ensures leaves { LeavesUntouched (Answers (F.post touched.now)) (kept_by self.old) (kept_by self.new) }
+        ensures over { ForgetsOver (Answers (F.post touched.now)) self.old self.new }
+    {
+        if self.keeper.len() > self.most {
+            self.keeper = KeepRecorded::new(self.alloc);
+        } else {
+            self.keeper.flush_at(places, touched);
+        }
+    }
+}

@@ -1,0 +1,160 @@
+//! What stands for a touched location is taken out, where places name all that is touched.
+
+ghost use Rattle.std.specs.Prelude.{ℕ, None};
+ghost use Rattle.std.specs.List.{list_any};
+ghost use Rattle.at_model.specs.Touches.{node_of};
+ghost use Rattle.at_store.specs.Places.{is_index_among, is_node, named, names_around};
+ghost use Rattle.at_cache.specs.Asking.{AreNoted, GoesOn, sees};
+ghost use Rattle.at_cache.specs.Info.{memory_of};
+ghost use Rattle.at_cache.specs.Kept.{Answers, AreNamed, LeavesUntouched, LosesTouched};
+ghost use Rattle.at_cache.specs.Readers.{edges_at};
+ghost use Rattle.at_cache.specs.Recorded.{IsIndexed, kept_in};
+
+use crate::facet::Readers;
+use crate::forgetting::{begin_at, forget_all};
+use crate::scope::Scope;
+use crate::table::Table;
+use at_store::{Changing, Loc, Node, Places};
+
+// What reads a touched location in the scope of the node goes: the first one that goes.
+fn begin_node<F: Fn(Loc) -> bool>(
+    entries: &mut Table,
+    first: Option<usize>,
+    readers: &[Vec<Readers>],
+    node: Node,
+    scope: Scope,
+    touched: &F,
+) -> Option<usize>
+    requires { F.IsAlwaysCallable touched.now }
+    ensures { GoesOn (Answers (F.post touched.now)) (sees scope node) (edges_at readers.now) first (memory_of entries.old) result (memory_of entries.new) }
+{
+    match readers.get(node.index()) {
+        Some(list) => begin_at(entries, first, node, list.as_slice(), scope, touched),
+        None => first,
+    }
+}
+
+// So does what reads one in that scope of any of the nodes.
+fn begin_nodes<F: Fn(Loc) -> bool>(
+    entries: &mut Table,
+    first: Option<usize>,
+    readers: &[Vec<Readers>],
+    nodes: &[Node],
+    scope: Scope,
+    touched: &F,
+) -> Option<usize>
+    requires { F.IsAlwaysCallable touched.now }
+    ensures { GoesOn (Answers (F.post touched.now)) (λ l. list_any (λ n. sees scope n l) nodes.now) (edges_at readers.now) first (memory_of entries.old) result (memory_of entries.new) }
+{
+    let mut first = first;
+    for node in nodes {
+        first = begin_node(entries, first, readers, *node, scope, touched);
+    }
+    first
+}
+
+// What reads the touched index of one of the children goes. Of those and the nodes whose index was ever read the fewer are
+// looked at.
+fn begin_children<F: Fn(Loc) -> bool>(
+    entries: &mut Table,
+    first: Option<usize>,
+    readers: &[Vec<Readers>],
+    index_read: &[Node],
+    children: &[Node],
+    touched: &F,
+) -> Option<usize>
+    requires callable { F.IsAlwaysCallable touched.now }
+    requires noted { AreNoted (edges_at readers.now) index_read.now }
+    ensures goes_on { GoesOn (Answers (F.post touched.now)) (is_index_among children.now) (edges_at readers.now) first (memory_of entries.old) result (memory_of entries.new) }
+{
+    let fewer = if index_read.len() < children.len() {
+        index_read
+    } else {
+        children
+    };
+    begin_nodes(entries, first, readers, fewer, Scope::Index, touched)
+}
+
+// What reads a touched location of the node goes, or the touched index of one of its children there.
+fn begin_around<F: Fn(Loc) -> bool>(
+    entries: &mut Table,
+    first: Option<usize>,
+    readers: &[Vec<Readers>],
+    index_read: &[Node],
+    changing: &Option<Changing<'_>>,
+    touched: &F,
+) -> Option<usize>
+    requires callable { F.IsAlwaysCallable touched.now }
+    requires noted { AreNoted (edges_at readers.now) index_read.now }
+    ensures goes_on { GoesOn (Answers (F.post touched.now)) (names_around changing.now) (edges_at readers.now) first (memory_of entries.old) result (memory_of entries.new) }
+{
+    match changing {
+        Some(changing) => {
+            let at = begin_node(
+                entries,
+                first,
+                readers,
+                changing.node,
+                Scope::All,
+                touched,
+            );
+            begin_children(entries, at, readers, index_read, changing.children, touched)
+        }
+        None => first,
+    }
+}
+
+// What reads a touched location of the node goes, if there is one.
+fn begin_moved<F: Fn(Loc) -> bool>(
+    entries: &mut Table,
+    first: Option<usize>,
+    readers: &[Vec<Readers>],
+    moved: Option<Node>,
+    touched: &F,
+) -> Option<usize>
+    requires { F.IsAlwaysCallable touched.now }
+    ensures { GoesOn (Answers (F.post touched.now)) (λ l. is_node moved (node_of l)) (edges_at readers.now) first (memory_of entries.old) result (memory_of entries.new) }
+{
+    match moved {
+        Some(node) => begin_node(entries, first, readers, node, Scope::All, touched),
+        None => first,
+    }
+}
+
+// What reads a touched location that the places name goes: the first one that goes.
+fn begin_named<F: Fn(Loc) -> bool>(
+    entries: &mut Table,
+    readers: &[Vec<Readers>],
+    index_read: &[Node],
+    places: &Places<'_>,
+    touched: &F,
+) -> Option<usize>
+    requires callable { F.IsAlwaysCallable touched.now }
+    requires noted { AreNoted (edges_at readers.now) index_read.now }
+    ensures goes_on { GoesOn (Answers (F.post touched.now)) (named places.now) (edges_at readers.now) None (memory_of entries.old) result (memory_of entries.new) }
+{
+    let left = begin_nodes(entries, None, readers, places.leaving, Scope::All, touched);
+    let moved = begin_moved(entries, left, readers, places.moved, touched);
+    let come = begin_around(entries, moved, readers, index_read, &places.target, touched);
+    begin_around(entries, come, readers, index_read, &places.source, touched)
+}
+
+/// All that stands for a touched location is taken out, where the places name all that is touched. The nodes are those of
+/// which an entry read the index.
+pub fn take_out_at<F: Fn(Loc) -> bool>(
+    entries: &mut Table,
+    readers: &[Vec<Readers>],
+    index_read: &[Node],
+    places: &Places<'_>,
+    touched: &F,
+)
+    requires callable { F.IsAlwaysCallable touched.now }
+    requires named { AreNamed places.now (F.post touched.now) }
+    requires noted { AreNoted (edges_at readers.now) index_read.now }
+    ensures indexed { (puts : ℕ) → IsIndexed (edges_at readers.now) puts (memory_of entries.old) → IsIndexed (edges_at readers.now) puts (memory_of entries.new) }
+    ensures leaves { (puts : ℕ) → IsIndexed (edges_at readers.now) puts (memory_of entries.old) → LeavesUntouched (Answers (F.post touched.now)) (kept_in entries.old puts) (kept_in entries.new puts) }
+    ensures loses { (puts : ℕ) → IsIndexed (edges_at readers.now) puts (memory_of entries.old) → LosesTouched (Answers (F.post touched.now)) (kept_in entries.old puts) (kept_in entries.new puts) }
+{
+    let first = begin_named(entries, readers, index_read, places, touched);
+    forget_all(entries, first);
+}
