@@ -39,6 +39,33 @@ pub struct Key<'a> {
     name: CowStr<'a>,
 }
 
+impl<'a> Key<'a> {
+    ghost use Rattle.std.specs.Prelude.{◌≡◌, string_bytes};
+    ghost use Rattle.std.specs.Cow.{cow_str_bytes};
+
+    /// The key of the session's mark of that name, to look it up.
+    fn lent(session: u16, name: &'a str) -> Key<'a>
+        ensures session { result.session ≡ session }
+        ensures name { cow_str_bytes result.name ≡ name.now }
+    {
+        Key {
+            session,
+            name: CowStr::Borrowed(name),
+        }
+    }
+
+    /// The key of a mark that is kept.
+    fn owned(session: u16, name: String) -> Key<'a>
+        ensures session { result.session ≡ session }
+        ensures name { cow_str_bytes result.name ≡ string_bytes name }
+    {
+        Key {
+            session,
+            name: CowStr::Owned(name),
+        }
+    }
+}
+
 /// The marks of all sessions, in the order in which they were made.
 pub struct Marks {
     items: IndexMap<Key<'static>, Node>,
@@ -56,5 +83,14 @@ impl Drop for Marks {
             sessions: _,
             nodes: _,
         } = self;
+    }
+}
+
+impl Lookup for Marks {
+    ghost marks = { λ m. listed m.items.entries };
+
+    fn get(&self, session: u16, name: &str) -> Option<Node> {
+        let node = self.items.get(&Key::lent(session, name))?;
+        Some(*node)
     }
 }

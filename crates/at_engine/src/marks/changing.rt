@@ -8,44 +8,10 @@ ghost use Rattle.at_engine.specs.Marks.{AreThere, has_mark, has_node, is_named, 
 ghost use Rattle.at_engine.specs.Tallied.{AreTallied, IsOf, IsPlaceOf, IsTaken, kept_up_to};
 
 use super::tally::Tally;
-use super::{Key, Lookup, MAX_MARKS, Marks};
+use super::{Key, MAX_MARKS, Marks};
 use at_store::{Node, Store};
 use indexmap::IndexMap;
 use std::alloc::{AllocError, Global};
-use std::borrow::CowStr;
-
-impl<'a> Key<'a> {
-    /// The key of the session's mark of that name, to look it up.
-    fn lent(session: u16, name: &'a str) -> Key<'a>
-        ensures session { result.session ≡ session }
-        ensures name { cow_str_bytes result.name ≡ name.now }
-    {
-        Key {
-            session,
-            name: CowStr::Borrowed(name),
-        }
-    }
-
-    /// The key of a mark that is kept.
-    fn owned(session: u16, name: String) -> Key<'a>
-        ensures session { result.session ≡ session }
-        ensures name { cow_str_bytes result.name ≡ string_bytes name }
-    {
-        Key {
-            session,
-            name: CowStr::Owned(name),
-        }
-    }
-}
-
-impl Lookup for Marks {
-    ghost marks = { λ m. listed m.items.entries };
-
-    fn get(&self, session: u16, name: &str) -> Option<Node> {
-        let node = self.items.get(&Key::lent(session, name))?;
-        Some(*node)
-    }
-}
 
 impl Marks {
     /// No marks.
