@@ -1,6 +1,6 @@
 -- What leaves is listed child by child, in the order of its steps.
 use Rattle.std.proofs.Common.{◌≡◌, ℕ, suc, Bool, true, false, ◌||◌, cond, nat_eq, List, [], ◌∷◌, ◌++◌, Option, Some, None, Contains, refl, sym, ap, ◌∙◌, eqb-true, is_some, option_and_then}
-use Rattle.std.specs.List.{list_any, slice_get}
+use Rattle.std.specs.List.{slice_get}
 use Rattle.std.proofs.lemmas.List.Folds.{list_any-append}
 use Rattle.std.proofs.lemmas.Map.Views.{Contains-from_any}
 use Rattle.at_model.specs.Classes.{Classes}
@@ -13,8 +13,8 @@ use Rattle.at_store.specs.Memory.{Info, IsShallow, IsSpreadTo, Place, Stored, cl
 use Rattle.at_store.specs.Numbers.{IsApart, path_in, relabel_edit}
 use Rattle.at_store.specs.Preparing.{Does, IsPrepared, stands_in}
 use Rattle.at_store.specs.Refusing.{edit_at, node_of}
-use Rattle.at_store.specs.Shown.{IsIdle, Shown, numbers, path}
-use Rattle.at_store.specs.Touching.{change_of, gone, removed}
+use Rattle.at_store.specs.Shown.{Shown, numbers}
+use Rattle.at_store.specs.Touching.{change_of, removed}
 use Rattle.at_store.specs.View.{leaves_in, memory_of}
 use Rattle.at_store.specs.declared.edit.Edit.{Edit}
 use Rattle.at_store.specs.declared.edit.Edit.TheVariants as edit

@@ -1,5 +1,5 @@
 -- What isn't named by the places of an edit isn't touched.
-use Rattle.std.proofs.Common.{◌≡◌, ℕ, zero, suc, Bool, true, false, ◌&&◌, ◌||◌, nat_eq, List, [], ◌∷◌, ◌++◌, Option, Some, None, Contains, get_or, refl, sym, ap, ◌∙◌, subst, eqb-true, option_map}
+use Rattle.std.proofs.Common.{◌≡◌, ℕ, zero, suc, Bool, true, false, ◌&&◌, ◌||◌, nat_eq, List, [], ◌∷◌, Option, Some, None, Contains, get_or, refl, sym, ap, ◌∙◌, subst, eqb-true, option_map}
 use Rattle.std.specs.Prelude.{map}
 use Rattle.std.specs.List.{list_any, slice_get}
 use Rattle.std.proofs.lemmas.Bool.{eq-eqb}
@@ -11,9 +11,9 @@ use Rattle.at_model.specs.Touches.{node_of}
 use Rattle.at_model.specs.Trees.{Tree, cells_of, class_of, from_cells}
 use Rattle.at_model.proofs.Surviving.{parent_is}
 use Rattle.at_store.specs.Marked.{told}
-use Rattle.at_store.specs.Memory.{Info, Place, Stored, kept, kids_in, numbers_in, place_at, top, up_in}
+use Rattle.at_store.specs.Memory.{Info, Place, Stored, kids_in, numbers_in, place_at, top, up_in}
 use Rattle.at_store.specs.Numbers.{path_in}
-use Rattle.at_store.specs.Places.{IsChild, IsSpared, NamesAround, NamesComponent, NamesParent, is_index_among, is_node, names_around}
+use Rattle.at_store.specs.Places.{IsChild, NamesAround, NamesComponent, NamesParent, is_index_among, is_node, names_around}
 use Rattle.at_store.specs.Touching.{Change, at_parent, is_index_of, is_slot_of, is_token_of, is_up_of, touches_by}
 use Rattle.at_store.specs.Touching as change
 use Rattle.at_store.specs.declared.places.Changing.{Changing}

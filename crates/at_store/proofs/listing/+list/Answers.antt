@@ -1,7 +1,7 @@
 use Rattle.std.proofs.Common.{◌≡◌, ℕ, suc, ◌+◌, ◌-◌, ◌≤◌, true, length, [], ◌∷◌, ◌++◌, None, Some, refl, sym, ap, ◌∙◌, subst, arith}
 use Rattle.std.specs.List.{slice_get}
 use Rattle.at_store.specs.Leaving.{is_listed}
-use Rattle.at_store.specs.Memory.{IsShallow, IsSpreadTo, cells_in, kids_in}
+use Rattle.at_store.specs.Memory.{IsShallow, IsSpreadTo, kids_in}
 use Rattle.at_store.specs.View.{kept_view, memory_of}
 use Rattle.at_store.proofs.Listed.{child_listed, root_listed}
 use Rattle.at_store.proofs.Marked.{part_marked, whole_marked}

@@ -1,4 +1,4 @@
-use Rattle.std.proofs.Common.{ℕ, List, [], Option, sym, ◌∙◌, subst}
+use Rattle.std.proofs.Common.{ℕ, List, Option, sym, ◌∙◌, subst}
 use Rattle.at_store.specs.Leaving.{AreAllBelow, AreListedBelow}
 use Rattle.at_store.specs.View.{memory_of}
 use Rattle.at_store.proofs.listing.leaving.Goals.{in-Some+in_ok-list, in_default}
