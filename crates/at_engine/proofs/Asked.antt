@@ -15,13 +15,13 @@ use Rattle.at_model.proofs.Words.{name_filled}
 use Rattle.at_body.specs.Values.{value_view}
 use Rattle.at_body.specs.declared.value.Value.{Value as ValueCode}
 use Rattle.at_store.specs.Shown.{IsIdle, Shown, contents, path}
+use Rattle.at_engine.specs.Marks.{Mark}
 use Rattle.at_engine.specs.Answered.{question, AreValuesOf}
 use Rattle.at_engine.specs.Fitting.{fit_numbers}
 use Rattle.at_engine.specs.Holding.{state_in}
 use Rattle.at_engine.specs.Naming.{IsNumberOf}
 use Rattle.at_engine.specs.Asking.{IsInstanceOf}
 use Rattle.at_engine.proofs.FittingAlike.{class_at, fit_like}
-use Rattle.at_engine.specs.declared.marks.Mark.{Mark}
 use Rattle.at_engine.specs.declared.posts.Posts.{Posts}
 use Rattle.at_engine.proofs.Typing.{formed, numbered_typed}
 use Rattle.at_engine.proofs.Naming.{tree_there}

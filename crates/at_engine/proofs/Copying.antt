@@ -8,8 +8,7 @@ use Rattle.at_model.specs.Machine.{Marked, is_mark, marks_in_argument, marks_nam
 use Rattle.at_model.proofs.Shaped.{same_bytes}
 use Rattle.at_protocol.specs.LineView.{argument_view, arguments_view}
 use Rattle.at_protocol.specs.declared.line.Argument.{Argument}
-use Rattle.at_engine.specs.Marks.{AreThere, Copies, is_named, mark_at, marks_view, number_marked}
-use Rattle.at_engine.specs.declared.marks.Mark.{Mark}
+use Rattle.at_engine.specs.Marks.{Mark, AreThere, Copies, is_named, mark_at, marks_view, number_marked}
 use Rattle.at_engine.proofs.Marked.{path_there, pushed, there_pushed}
 
 module _ (look : ℕ → Option Node) (session : ℕ) (name : List ℕ) where
@@ -21,9 +20,9 @@ module _ (look : ℕ → Option Node) (session : ℕ) (name : List ℕ) where
 
   is_copy : (m : Mark) (n : Node) → is_named session name m ≡ true → mark_at m n ≡ copy_at n
   is_copy m n e =
-      let (a, b) = and_parts (nat_eq session m.session) (bytes_eq name (string_bytes m.name)) e in
+      let (a, b) = and_parts (nat_eq session m.session) (bytes_eq name m.name) e in
       let s : m.session ≡ session = sym (eqb-true session m.session a) in
-      let t : string_bytes m.name ≡ name = sym (same_bytes name (string_bytes m.name) b) in
+      let t : m.name ≡ name = sym (same_bytes name m.name b) in
       λ i. record { session = s i; name = t i; node = n }
 
   first_copy : (m : Mark) (ms : List Mark) (n : Node) (b : Bool) → look m.node ≡ Some n → is_named session name m ≡ b
@@ -65,7 +64,7 @@ module _ (session : ℕ) (name : List ℕ) (marks old new : List Mark) where
   }
 
   -- there is one
-  pub copied_one : (k : ℕ) (m : Mark) → number_marked marks session name ≡ Some k → m.session ≡ session → string_bytes m.name ≡ name → m.node ≡ k → new ≡ old ++ m ∷ [] → Copies session (name ∷ []) marks old new
+  pub copied_one : (k : ℕ) (m : Mark) → number_marked marks session name ≡ Some k → m.session ≡ session → m.name ≡ name → m.node ≡ k → new ≡ old ++ m ∷ [] → Copies session (name ∷ []) marks old new
   copied_one k m is s t n more = record {
     named = λ look h.
         let (p, e) = path_there (look k) (number_there look session name marks h k is) in

@@ -19,7 +19,7 @@ use Rattle.at_demand.specs.Sparing.{MayAddLazy}
 use Rattle.at_demand.specs.Turns.{under_way}
 use Rattle.at_demand.specs.declared.demand.Demand.{Demand}
 use Rattle.at_demand.specs.declared.question.Question.{Question}
-use Rattle.at_engine.specs.Engines.{rules_of, state_of, IsHeld, IsTyped}
+use Rattle.at_engine.specs.Engines.{marks_of, rules_of, state_of, IsHeld, IsTyped}
 use Rattle.at_engine.specs.Holding.{state_in}
 use Rattle.at_engine.specs.Posted.{came_to, posted_view, turns_given}
 use Rattle.at_engine.specs.Serving.{Settles, Spends}
@@ -79,15 +79,15 @@ module _ {K : Type 0} (kept : K → Entries) (e : Engine K) (sound : IsHeld kept
   module _ (n : Engine K) (tells : n ≡ record m { posts = record n.posts { count = m.posts.count } }) (items : n.posts.items.items ≡ remove m.posts.items.items position) where
     pub state_gone : state_of n ≡ without p.number (state_of e)
     state_gone =
-        ap (λ (x : Engine K). state_in x.store x.version x.marks.items.items n.posts) tells ∙ ap (λ (x : Engine K). state_in x.store x.version x.marks.items.items n.posts) rest
-        ∙ gone (rules_of e) e.store e.version e.marks.items.items e.posts position p there sound.numbered n.posts
+        ap (λ (x : Engine K). state_in x.store x.version (marks_of x) n.posts) tells ∙ ap (λ (x : Engine K). state_in x.store x.version (marks_of x) n.posts) rest
+        ∙ gone (rules_of e) e.store e.version (marks_of e) e.posts position p there sound.numbered n.posts
         (items ∙ ap (λ (l : List Posted). remove l position) opens.items ∙ removed_anew e.posts.items.items position (record p { question = o }))
         (ap (λ (x : Engine K). x.posts.count) tells ∙ opens.count)
 
     pub closed_so : (r : Result Form AllocError) → IfOk r (IsAnswerTo (rules_of e) (state_of e) (posted_view (path e.store) p)) → (told : Told) → told ≡ told_of p m.version r → IsClosed (rules_of e) (state_of e) (posted_view (path e.store) p) (state_of n) told
     closed_so r answer told is =
         subst (IsClosed (rules_of e) (state_of e) (posted_view (path e.store) p) (state_of n)) (sym (is ∙ ap (λ (v : ℕ). told_of p v r) (ap (λ (x : Engine K). x.version) rest)))
-        (closed (rules_of e) e.store e.version e.marks.items.items e.posts position p there sound.numbered r (state_of n) state_gone answer)
+        (closed (rules_of e) e.store e.version (marks_of e) e.posts position p there sound.numbered r (state_of n) state_gone answer)
 
 module _ {K : Type 0} (kept : K → Entries) (e : Engine K) (sound : IsHeld kept e) (p : Posted) (others : List Posted) (least : e.posts.items.items ≡ p ∷ others) where
   abbrev view : Posted → PostedOf
@@ -113,8 +113,8 @@ module _ {K : Type 0} (kept : K → Entries) (e : Engine K) (sound : IsHeld kept
 
   -- the state in which the question has come farther
   module _ (m : Engine K) (rest : m ≡ record e { demand = m.demand; posts = m.posts }) where
-    state_mid : state_of m ≡ state_in e.store e.version e.marks.items.items m.posts
-    state_mid = ap (λ (x : Engine K). state_in x.store x.version x.marks.items.items m.posts) rest
+    state_mid : state_of m ≡ state_in e.store e.version (marks_of e) m.posts
+    state_mid = ap (λ (x : Engine K). state_in x.store x.version (marks_of x) m.posts) rest
 
     state_at : (o : Option Question) (t : ℕ) → Reopens 0 e.posts m.posts p o → turns_given o ≡ t → state_of m ≡ at_turn t
     state_at o t r is =
@@ -148,11 +148,11 @@ module _ {K : Type 0} (kept : K → Entries) (e : Engine K) (sound : IsHeld kept
 
       module _ (wants : Bool) (before after : List ℕ) where
         pub told_so : (f : Form) (x : IsAnswerTo (rules_of e) (state_of e) (view p) f) → IsSaid (told_of p m.version (Ok f)) wants before after → TurnTold (rules_of e) (state_of e) (view p) (state_of n) wants x.form before after
-        told_so f x said = told_ok (rules_of e) e.store e.version e.marks.items.items e.posts 0 p first_stands sound.numbered (state_of n) gone_end before after f x wants
+        told_so f x said = told_ok (rules_of e) e.store e.version (marks_of e) e.posts 0 p first_stands sound.numbered (state_of n) gone_end before after f x wants
             (subst (λ (v : ℕ). IsSaid (told_of p v (Ok f)) wants before after) version_mid said)
 
         pub failed_so : (e' : AllocError) → IsSaid (told_of p m.version (Err e')) wants before after → (wants ≡ true) × TurnTold (rules_of e) (state_of e) (view p) (state_of n) wants Memory before after
-        failed_so e' said = told_err (rules_of e) e.store e.version e.marks.items.items e.posts 0 p first_stands sound.numbered (state_of n) gone_end before after e' wants
+        failed_so e' said = told_err (rules_of e) e.store e.version (marks_of e) e.posts 0 p first_stands sound.numbered (state_of n) gone_end before after e' wants
             (subst (λ (v : ℕ). IsSaid (told_of p v (Err e')) wants before after) version_mid said)
 
       -- what one turn has done

@@ -88,10 +88,6 @@ one_want : (b : Bool) → (if b then 1 else 0) ≤ 1
 one_want true = omega arith
 one_want false = omega arith
 
-few_wants : (told : List (Bool × Reply)) → wants told ≤ length told
-few_wants [] = omega arith
-few_wants (x ∷ told) = omega (arith, one_want x.0, few_wants told)
-
 -- where no question is open and the line posts none, none is open behind it
 none_handled : (rules : Rules) (old : State) (line : List ℕ) (new : State) (said : Bool × Reply) → old.posted ≡ [] → ((l : Line) → Spells line l → is_post l.command ≡ false) → Handles rules old line new said → new.posted ≡ []
 none_handled rules old line new _ none no_post (obeys l s step) = ap (λ (x : State). x.posted) step.state ∙ none_after rules old l none (no_post l s)
@@ -216,10 +212,6 @@ module _ (rules : Rules) where
     split = h.split;
     written = written_behind before between after g.told h.told h.done g.written h.written;
   }
-
-  -- so much can be counted as before, at most
-  pub counts_given : (limit : ℕ) (old new : State) (desk next : Desk) (before after : Option (List ℕ)) → Gives rules limit old new desk next before after → countable next new ≤ countable desk old
-  counts_given limit old new desk next before after g = omega (arith, g.counts.lines', g.counts.memory, few_wants g.told, fewer_given rules limit old g.told new g.given)
 
   pub counts_one : (turns : ℕ) (old new : State) (said : Bool × Reply) → Given rules turns old (said ∷ []) new → (if said.0 then 1 else 0) + length new.posted ≤ length old.posted
   counts_one turns old new said given = omega (arith, one_want said.0, fewer_given rules turns old (said ∷ []) new given)

@@ -7,6 +7,9 @@ pub mod AnswersTold
 pub mod Numbered
 pub mod Asked
 pub mod Marked
+pub mod Tallies
+pub mod Keys
+pub mod Leaving
 pub mod Following
 pub mod Verdicts
 pub mod Naming

@@ -5,8 +5,7 @@ use Rattle.std.proofs.lemmas.List.Sums.{length-filter}
 use Rattle.at_model.specs.Paths.{Node}
 use Rattle.at_model.specs.Edits.{Edit, carried}
 use Rattle.at_model.specs.Machine.{Marked, is_mark, marked, carried_marks}
-use Rattle.at_engine.specs.Marks.{is_named, number_marked, mark_at, marks_view, AreThere}
-use Rattle.at_engine.specs.declared.marks.Mark.{Mark}
+use Rattle.at_engine.specs.Marks.{Mark, is_named, number_marked, mark_at, marks_view, AreThere}
 
 -- what is there has a path
 pub path_there : (o : Option Node) → is_some o ≡ true → (n : Node) × (o ≡ Some n)

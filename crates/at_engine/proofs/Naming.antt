@@ -13,9 +13,8 @@ use Rattle.at_model.proofs.Complete.{child_conforms}
 use Rattle.at_store.specs.Led.{Led}
 use Rattle.at_store.specs.Shown.{Shown, contents, numbers, path, tree}
 use Rattle.at_store.proofs.Reading.{shown_there}
-use Rattle.at_engine.specs.Marks.{AreThere, has_mark, is_named, marks_view, number_marked}
+use Rattle.at_engine.specs.Marks.{Mark, AreThere, has_mark, is_named, marks_view, number_marked}
 use Rattle.at_engine.specs.Naming.{IsNumberOf, origin_of, steps_of}
-use Rattle.at_engine.specs.declared.marks.Mark.{Mark}
 use Rattle.at_engine.proofs.Marked.{marked_found, path_there}
 
 -- the tree at a number that is there

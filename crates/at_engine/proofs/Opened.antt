@@ -15,11 +15,10 @@ use Rattle.at_model.specs.Machine.{Posted as PostedOf, Verdict, Refuses, Posts a
 use Rattle.at_protocol.specs.LineView.{arguments_view, place_view}
 use Rattle.at_store.specs.Shown.{Shown, path}
 use Rattle.at_engine.specs.Holding.{state_in}
-use Rattle.at_engine.specs.Marks.{AreThere, Copies}
+use Rattle.at_engine.specs.Marks.{Mark, AreThere, Copies}
 use Rattle.at_engine.specs.Posted.{is_numbered, posted_view, turns_given}
 use Rattle.at_engine.specs.Following.{IsAtOnce}
 use Rattle.at_engine.specs.Turning.{IsAwaited}
-use Rattle.at_engine.specs.declared.marks.Mark.{Mark}
 use Rattle.at_engine.specs.declared.posts.Posted.{Posted}
 use Rattle.at_engine.specs.declared.posts.Posts.{Posts}
 use Rattle.at_engine.proofs.Commands.{posted_next}

@@ -19,11 +19,10 @@ use Rattle.at_demand.specs.declared.question.Question.{Question}
 use Rattle.at_demand.proofs.Standing.{spares_as, stands_grown}
 use Rattle.at_engine.specs.Holding.{HasBegun, IsPostedOn, IsSoundWith, state_in}
 use Rattle.at_engine.specs.Keeping.{IsSpareWith, IsSparingOn}
-use Rattle.at_engine.specs.Marks.{marks_view}
+use Rattle.at_engine.specs.Marks.{Mark, marks_view}
 use Rattle.at_engine.specs.Posted.{posted_view}
 use Rattle.at_engine.specs.Telling.{IsAnswerTo, IsClosed, IsSaid}
 use Rattle.at_engine.specs.Turning.{Reopens, StandsAt, told_of}
-use Rattle.at_engine.specs.declared.marks.Mark.{Mark}
 use Rattle.at_engine.specs.declared.posts.Posted.{Posted}
 use Rattle.at_engine.specs.declared.posts.Posts.{Posts}
 use Rattle.at_engine.proofs.Numberings.{found_there, left_there, numbered_put, numbered_without}

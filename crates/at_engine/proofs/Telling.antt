@@ -11,8 +11,8 @@ use Rattle.at_protocol.specs.declared.reply.Refusal.TheVariants as refusal
 use Rattle.at_protocol.specs.declared.reply.Form.{Form as FormValue}
 use Rattle.at_protocol.specs.declared.reply.Form.TheVariants as form
 use Rattle.at_engine.specs.Telling.{IsTold, Obeys, Meets}
-use Rattle.at_engine.proofs.Following.{as_verdict, refuses}
-use Rattle.at_engine.proofs.Verdicts.{at_stale, at_unmarked, at_obeyed}
+use Rattle.at_engine.proofs.Following.{refuses}
+use Rattle.at_engine.proofs.Verdicts.{at_stale, at_unmarked}
 
 module _ (rules : Rules) (s : State) (l : Line) where
   pub meets_stale : is_stale l.expected s.version ≡ true → Meets rules s l (form.Refused (refusal.Stale s.version)) s
@@ -20,9 +20,6 @@ module _ (rules : Rules) (s : State) (l : Line) where
 
   pub meets_unmarked : is_stale l.expected s.version ≡ false → list_all (is_marked s.marks l.session) (marks_used l.command) ≡ false → Meets rules s l (form.Refused refusal.Mark) s
   meets_unmarked e f = refuses rules s (verdict rules s l) refusal.Mark (at_unmarked rules s l e f)
-
-  pub meets_obeyed : is_stale l.expected s.version ≡ false → list_all (is_marked s.marks l.session) (marks_used l.command) ≡ true → (value : FormValue) (new : State) → Obeys rules s l.session l.command value new → Meets rules s l value new
-  meets_obeyed e f value new o = as_verdict rules s (verdict rules s l) (obeyed rules s l.session l.command) value new (at_obeyed rules s l e f) o
 
 -- bytes that are no line are refused
 pub told_unread : (rules : Rules) (s : State) (bytes : List ℕ) (session : Option ℕ) → ((l : Line) → Spells bytes l → ⊥) → IsSessionOf bytes session → IsTold rules s bytes s session None (form.Refused refusal.Syntax)

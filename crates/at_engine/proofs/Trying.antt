@@ -20,7 +20,7 @@ use Rattle.at_demand.specs.Right.{AreRight, IsThere}
 use Rattle.at_demand.specs.Sparing.{AreSpare, MayAddLazy}
 use Rattle.at_demand.specs.Turns.{HasGiven, IsSparingTurns, IsStanding, under_way}
 use Rattle.at_demand.specs.declared.question.Question.{Question}
-use Rattle.at_engine.specs.Engines.{rules_of, state_of, IsHeld}
+use Rattle.at_engine.specs.Engines.{marks_of, rules_of, state_of, IsHeld}
 use Rattle.at_engine.specs.Holding.{HasBegun, IsBegunFor, IsPostedOn, IsSoundWith, words_verdict}
 use Rattle.at_engine.specs.Keeping.{IsSpare, IsSpareWith, IsSparingOn}
 use Rattle.at_engine.specs.Posted.{came_to, posted_view, turns_given}
@@ -48,11 +48,11 @@ module _ {K : Type 0} (kept : K → Entries) (e : Engine K) (sound : IsHeld kept
   pub there_still : StandsAt t.items.items position bare
   there_still = subst (λ (l : List Posted). slice_get l position ≡ Some bare) (sym items) (get_set e.posts.items.items position p bare there)
 
-  pub sound_taken : IsSoundWith (rules_of e) e.store e.marks.items.items t entries
-  sound_taken = sound_reopened (rules_of e) e.store entries entries (λ i some. refl) e.marks.items.items e.posts sound position p there None t taken sound.right tt
+  pub sound_taken : IsSoundWith (rules_of e) e.store (marks_of e) t entries
+  sound_taken = sound_reopened (rules_of e) e.store entries entries (λ i some. refl) (marks_of e) e.posts sound position p there None t taken sound.right tt
 
   pub spare_taken : IsSpare kept e → IsSpareWith (rules_of e) (contents e.store) entries t.items.items
-  spare_taken spare = spare_reopened (rules_of e) e.store entries entries (λ i some. refl) e.marks.items.items e.posts sound position p there None t taken spare.kept tt spare
+  spare_taken spare = spare_reopened (rules_of e) e.store entries entries (λ i some. refl) (marks_of e) e.posts sound position p there None t taken spare.kept tt spare
 
   begun_bare : (o : Option Question) → HasBegun (rules_of e) e.store entries p o → HasBegun (rules_of e) e.store entries bare o
   begun_bare None h = tt
@@ -120,19 +120,19 @@ module _ {K : Type 0} (kept : K → Entries) (e : Engine K) (sound : IsHeld kept
 
   -- more is kept
   module _ (more : Entries) (grown : (i : Instance ℕ) → IsSome (entries i) → more i ≡ entries i) where
-    pub sound_more : AreRight (rules_of e) e.store more → IsSoundWith (rules_of e) e.store e.marks.items.items t more
-    sound_more right = sound_grown (rules_of e) e.store entries more grown e.marks.items.items t sound_taken right
+    pub sound_more : AreRight (rules_of e) e.store more → IsSoundWith (rules_of e) e.store (marks_of e) t more
+    sound_more right = sound_grown (rules_of e) e.store entries more grown (marks_of e) t sound_taken right
 
     pub spare_more : AreSpare (rules_of e) (contents e.store) more → IsSpare kept e → IsSpareWith (rules_of e) (contents e.store) more t.items.items
-    spare_more all spare = spare_grown (rules_of e) e.store entries more grown e.marks.items.items t sound_taken all (spare_taken spare)
+    spare_more all spare = spare_grown (rules_of e) e.store entries more grown (marks_of e) t sound_taken all (spare_taken spare)
 
     -- and the question has come farther
     module _ (q : Question) (k : Posts) (still : k.count ≡ t.count) (put : k.items.items ≡ slice_set t.items.items position (record bare { question = Some q })) where
-      pub sound_put : AreRight (rules_of e) e.store more → IsBegunFor (rules_of e) e.store more bare q → IsSoundWith (rules_of e) e.store e.marks.items.items k more
-      sound_put right begun = sound_reopened (rules_of e) e.store entries more grown e.marks.items.items t sound_taken position bare there_still (Some q) k (record { count = still; items = put }) right begun
+      pub sound_put : AreRight (rules_of e) e.store more → IsBegunFor (rules_of e) e.store more bare q → IsSoundWith (rules_of e) e.store (marks_of e) k more
+      sound_put right begun = sound_reopened (rules_of e) e.store entries more grown (marks_of e) t sound_taken position bare there_still (Some q) k (record { count = still; items = put }) right begun
 
       pub spare_put : AreSpare (rules_of e) (contents e.store) more → IsSparingTurns (rules_of e) (contents e.store) more q → IsSpare kept e → IsSpareWith (rules_of e) (contents e.store) more k.items.items
-      spare_put all sparing spare = spare_reopened (rules_of e) e.store entries more grown e.marks.items.items t sound_taken position bare there_still (Some q) k (record { count = still; items = put }) all sparing (spare_taken spare)
+      spare_put all sparing spare = spare_reopened (rules_of e) e.store entries more grown (marks_of e) t sound_taken position bare there_still (Some q) k (record { count = still; items = put }) all sparing (spare_taken spare)
 
       pub reopened : Reopens position e.posts k p (Some q)
       reopened = record {

@@ -1,5 +1,5 @@
 -- What an engine serves.
-use Rattle.std.specs.Prelude.{ℕ}
+use Rattle.std.specs.Prelude.{ℕ, List}
 use Rattle.at_model.specs.Rules.{Rules}
 use Rattle.at_model.specs.Enduring.{AreTokens}
 use Rattle.at_model.specs.Machine.{State}
@@ -7,7 +7,7 @@ use Rattle.at_model.specs.WellFormed.{AreWellFormed}
 use Rattle.at_cache.specs.Kept.{Entries}
 use Rattle.at_engine.specs.Holding.{state_in, IsSoundWith}
 use Rattle.at_engine.specs.declared.engine.Engine.{Engine}
-use Rattle.at_engine.specs.declared.marks.Marks.{Marks}
+use Rattle.at_engine.specs.Marks.{Mark, listed}
 
 abbrev pub rules_of : {K : Type 0} → Engine K → Rules
 rules_of e = e.rules
@@ -16,16 +16,20 @@ rules_of e = e.rules
 abbrev pub slice_of : {K : Type 0} → Engine K → ℕ
 slice_of e = e.slice
 
+-- the marks of all sessions, in the order in which they were made
+abbrev pub marks_of : {K : Type 0} → Engine K → List Mark
+marks_of e = listed e.marks.items.entries
+
 -- the state with these marks
-abbrev pub state_by : {K : Type 0} → Engine K → Marks → State
-state_by e marks = state_in e.store e.version marks.items.items e.posts
+abbrev pub state_by : {K : Type 0} → Engine K → List Mark → State
+state_by e marks = state_in e.store e.version marks e.posts
 
 abbrev pub state_of : {K : Type 0} → Engine K → State
-state_of e = state_by e e.marks
+state_of e = state_by e (marks_of e)
 
 -- no edit waits, the tree, the marks and the open questions are sound, and what the keeper keeps is right
 abbrev pub IsHeld : {K : Type 0} → (contents : K → Entries) → Engine K → Type 0
-IsHeld contents e = IsSoundWith e.rules e.store e.marks.items.items e.posts (contents e.demand.keeper)
+IsHeld contents e = IsSoundWith e.rules e.store (marks_of e) e.posts (contents e.demand.keeper)
 
 -- The rules are well formed, and each token of the tree can be written, so that evaluations keep to the kinds.
 pub record IsTyped (rules : Rules) (s : State) : Type 0 where

@@ -16,9 +16,8 @@ use Rattle.at_cache.specs.Kept.{Entries}
 use Rattle.at_demand.specs.Right.{AreRight}
 use Rattle.at_demand.specs.Turns.{IsStanding, under_way}
 use Rattle.at_demand.specs.declared.question.Question.{Question}
-use Rattle.at_engine.specs.Marks.{marks_view, AreThere}
+use Rattle.at_engine.specs.Marks.{Mark, marks_view, AreThere}
 use Rattle.at_engine.specs.Posted.{posted_view}
-use Rattle.at_engine.specs.declared.marks.Mark.{Mark}
 use Rattle.at_engine.specs.declared.posts.Posted.{Posted}
 use Rattle.at_engine.specs.declared.posts.Posts.{Posts}
 

@@ -2,6 +2,8 @@ pub mod Fitting
 pub mod Collected
 pub mod Answered
 pub mod Marks
+pub mod Tally
+pub mod Tallied
 pub mod Posted
 pub mod Holding
 pub mod Serving

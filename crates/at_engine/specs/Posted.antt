@@ -12,8 +12,7 @@ use Rattle.at_model.specs.Turning.{UnderWay, posted, turns_of}
 use Rattle.at_protocol.specs.LineView.{arguments_view, place_view}
 use Rattle.at_demand.specs.Turns.{under_way}
 use Rattle.at_demand.specs.declared.question.Question.{Question}
-use Rattle.at_engine.specs.Marks.{marks_view}
-use Rattle.at_engine.specs.declared.marks.Mark.{Mark}
+use Rattle.at_engine.specs.Marks.{Mark, marks_view}
 use Rattle.at_engine.specs.declared.posts.Posted.{Posted}
 
 -- it is the session's question of that number

@@ -7,7 +7,7 @@ ghost use Rattle.at_model.specs.Lines.{last_post};
 ghost use Rattle.at_store.specs.Shown.{IsIdle, path};
 ghost use Rattle.at_engine.specs.Posted.{is_numbered, turns_given, IsBegunAnew, IsRenewed};
 
-use crate::marks::Marks;
+use crate::marks::Noted;
 use at_demand::Question;
 use at_protocol::line::{Argument, Place};
 use at_store::Store;
@@ -24,7 +24,7 @@ pub struct Posted {
     pub(crate) place: Place,
     pub(crate) attribute: String,
     pub(crate) arguments: Vec<Argument>,
-    pub(crate) marks: Marks,
+    pub(crate) marks: Noted,
     pub(crate) question: Option<Question>,
 }
 

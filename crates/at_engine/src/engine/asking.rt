@@ -5,7 +5,7 @@ ghost use Rattle.at_engine.specs.Fitting.{is_text};
 ghost use Rattle.at_body.specs.Values.{value_view};
 
 use super::Engine;
-use crate::marks::Marks;
+use crate::marks::Lookup;
 use at_body::{Arguments, Inst, Value};
 use at_cache::Keeper;
 use at_class::ClassId;
@@ -99,18 +99,18 @@ impl<K: Keeper> Engine<K> {
     }
 
     /// The instance for which the words of a question ask, by these marks, or why they are refused.
-    pub(super) fn asked(
+    pub(super) fn asked<M: Lookup>(
         &self,
-        marks: &Marks,
+        marks: &M,
         session: u16,
         place: &Place,
         attribute: &str,
         arguments: &[Argument],
     ) -> Result<Asked, AllocError>
         requires sound { IsHeld K.contents self.now }
-        requires there { AreThere (path_shown self.now.store) marks.now.items.items }
+        requires there { AreThere (path_shown self.now.store) (M.marks marks.now) }
         requires named { IsName attribute.now }
-        ensures { IfOk result (IsAskedBy (rules_of self.now) self.now.store (obeyed (rules_of self.now) (state_by self.now marks.now) session (Ask (place_view place.now) attribute.now (arguments_view arguments.now)))) }
+        ensures { IfOk result (IsAskedBy (rules_of self.now) self.now.store (obeyed (rules_of self.now) (state_by self.now (M.marks marks.now)) session (Ask (place_view place.now) attribute.now (arguments_view arguments.now)))) }
     {
         let Some(node) = self.node_by(marks, session, place) else {
             return Ok(Asked::Refused(Refusal::Path));
@@ -128,15 +128,15 @@ impl<K: Keeper> Engine<K> {
     }
 
     /// The values that the arguments name; none where a place of theirs leads to no node.
-    fn values_named(
+    fn values_named<M: Lookup>(
         &self,
-        marks: &Marks,
+        marks: &M,
         session: u16,
         arguments: &[Argument],
     ) -> Result<Option<Arguments>, AllocError>
         requires sound { IsHeld K.contents self.now }
-        requires there { AreThere (path_shown self.now.store) marks.now.items.items }
-        ensures { IfOk result (λ o. AreValuesOf (path_shown self.now.store) (each (map (value_named (rules_of self.now).classes (state_by self.now marks.now) session) (arguments_view arguments.now))) (option_map (λ vs. vs.items) o)) }
+        requires there { AreThere (path_shown self.now.store) (M.marks marks.now) }
+        ensures { IfOk result (λ o. AreValuesOf (path_shown self.now.store) (each (map (value_named (rules_of self.now).classes (state_by self.now (M.marks marks.now)) session) (arguments_view arguments.now))) (option_map (λ vs. vs.items) o)) }
     {
         let mut values = Arguments::new(self.alloc);
         let mut rest = arguments;
@@ -151,15 +151,15 @@ impl<K: Keeper> Engine<K> {
     }
 
     /// The value that the argument names; none where its place leads to no node.
-    fn value_named(
+    fn value_named<M: Lookup>(
         &self,
-        marks: &Marks,
+        marks: &M,
         session: u16,
         argument: &Argument,
     ) -> Result<Option<Value>, AllocError>
         requires sound { IsHeld K.contents self.now }
-        requires there { AreThere (path_shown self.now.store) marks.now.items.items }
-        ensures { IfOk result (IsValueOf (path_shown self.now.store) (value_named (rules_of self.now).classes (state_by self.now marks.now) session (argument_view argument.now))) }
+        requires there { AreThere (path_shown self.now.store) (M.marks marks.now) }
+        ensures { IfOk result (IsValueOf (path_shown self.now.store) (value_named (rules_of self.now).classes (state_by self.now (M.marks marks.now)) session (argument_view argument.now))) }
     {
         match argument {
             Argument::Text(text) => {

@@ -14,6 +14,7 @@ ghost use Rattle.at_engine.specs.Turning.{IsAskedOf};
 use super::asking::Asked;
 use super::saying::{Told, say};
 use super::{Engine, REPLY_ROOM};
+use crate::marks::has_asked;
 use at_cache::Keeper;
 use at_demand::{Answer, Demand, Question};
 use at_protocol::line::Line;
@@ -320,10 +321,7 @@ impl<K: Keeper> Engine<K> {
             return Ok(Begun::Refused(Refusal::Question));
         };
         let arguments = posted.arguments.as_slice();
-        if !posted
-            .marks
-            .has_asked(posted.session, &posted.place, arguments)
-        {
+        if !has_asked(&posted.marks, posted.session, &posted.place, arguments) {
             return Ok(Begun::Refused(Refusal::Mark));
         }
         let asked = self.asked(

@@ -2,7 +2,7 @@ use Rattle.std.proofs.lemmas.Result.{IfOk-weaker, err_from_is_err_and}
 use Rattle.at_model.specs.Machine.{Asks}
 use Rattle.at_demand.specs.Known.{answer_view}
 use Rattle.at_demand.proofs.Called.{keeps_asked}
-use Rattle.at_engine.specs.Engines.{rules_of, state_of}
+use Rattle.at_engine.specs.Engines.{marks_of, rules_of, state_of}
 use Rattle.at_engine.proofs.Gained.{grows_asked}
 use Rattle.at_engine.proofs.Keeping.{either_spares, err_spares}
 use Rattle.at_engine.proofs.Numbered.{answer_named}
@@ -24,7 +24,7 @@ returns-clause-spares g c q like exact spare =
     let old = g.K.Keeper.contents e.demand.keeper in
     let new = g.K.Keeper.contents c.answer.new.self.keeper in
     either_spares g.K.Keeper.contents e (record e { demand = c.answer.new.self }) (Asks q) c.told.result
-    (spare_grown (rules_of e) e.store old new a.worthy.stays e.marks.items.items e.posts c.requires.sound (a.spare exact spare.kept) spare)
+    (spare_grown (rules_of e) e.store old new a.worthy.stays (marks_of e) e.posts c.requires.sound (a.spare exact spare.kept) spare)
     (keeps_asked (rules_of e) e.store c.requires.sound.idle c.args.inst.now q like old new e.demand.work c.answer.new.self.work a.worthy (c.in_ok-answer.ensures.all exact spare.kept) (a.counts exact) (state_of e) refl)
     (grows_asked (rules_of e) e.store c.requires.sound.idle c.args.inst.now q like old new e.demand.work c.answer.new.self.work a.worthy (a.counts exact))
 
@@ -36,7 +36,7 @@ returns-in_err-answer-clause-spares g c q like exact spare =
     let new = g.K.Keeper.contents c.answer.new.self.keeper in
     let p = err_from_is_err_and c.from_residual.result c.from_residual.ensures.1 in
     err_spares g.K.Keeper.contents e (record e { demand = c.answer.new.self }) (Asks q) c.from_residual.result p.0 p.1 (
-      spare_grown (rules_of e) e.store old new a.worthy.stays e.marks.items.items e.posts c.requires.sound (a.spare exact spare.kept) spare,
+      spare_grown (rules_of e) e.store old new a.worthy.stays (marks_of e) e.posts c.requires.sound (a.spare exact spare.kept) spare,
       grows_asked (rules_of e) e.store c.requires.sound.idle c.args.inst.now q like old new e.demand.work c.answer.new.self.work a.worthy (a.counts exact),
     )
 
@@ -53,16 +53,16 @@ pub told-requires : goal.told-requires
 told-requires g c =
     let e = c.args.self.now in
     let a = c.answer.ensures in
-    record { sound = sound_grown (rules_of e) e.store (g.K.Keeper.contents e.demand.keeper) (g.K.Keeper.contents c.answer.new.self.keeper) a.worthy.stays e.marks.items.items e.posts c.requires.sound (a.right c.requires.there c.requires.sound.right) }
+    record { sound = sound_grown (rules_of e) e.store (g.K.Keeper.contents e.demand.keeper) (g.K.Keeper.contents c.answer.new.self.keeper) a.worthy.stays (marks_of e) e.posts c.requires.sound (a.right c.requires.there c.requires.sound.right) }
 
 pub returns-clause-sound : goal.returns-clause-sound
 returns-clause-sound g c =
     let e = c.args.self.now in
     let a = c.answer.ensures in
-    sound_grown (rules_of e) e.store (g.K.Keeper.contents e.demand.keeper) (g.K.Keeper.contents c.answer.new.self.keeper) a.worthy.stays e.marks.items.items e.posts c.requires.sound (a.right c.requires.there c.requires.sound.right)
+    sound_grown (rules_of e) e.store (g.K.Keeper.contents e.demand.keeper) (g.K.Keeper.contents c.answer.new.self.keeper) a.worthy.stays (marks_of e) e.posts c.requires.sound (a.right c.requires.there c.requires.sound.right)
 
 pub returns-in_err-answer-clause-sound : goal.returns-in_err-answer-clause-sound
 returns-in_err-answer-clause-sound g c =
     let e = c.args.self.now in
     let a = c.answer.ensures in
-    sound_grown (rules_of e) e.store (g.K.Keeper.contents e.demand.keeper) (g.K.Keeper.contents c.answer.new.self.keeper) a.worthy.stays e.marks.items.items e.posts c.requires.sound (a.right c.requires.there c.requires.sound.right)
+    sound_grown (rules_of e) e.store (g.K.Keeper.contents e.demand.keeper) (g.K.Keeper.contents c.answer.new.self.keeper) a.worthy.stays (marks_of e) e.posts c.requires.sound (a.right c.requires.there c.requires.sound.right)

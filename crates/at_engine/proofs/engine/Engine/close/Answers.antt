@@ -1,4 +1,5 @@
 use Rattle.std.proofs.Common.{ap}
+use Rattle.at_engine.specs.Engines.{marks_of}
 use Rattle.at_engine.specs.Turning.{told_of}
 use Rattle.at_engine.specs.declared.posts.Posted.{Posted}
 use Rattle.at_engine.proofs.Openings.{sound_gone, spare_gone}
@@ -13,12 +14,12 @@ returns-clause-told g c p there =
 pub returns-clause-spare : goal.returns-clause-spare
 returns-clause-spare g c exact spare =
     let e = c.args.self.now in
-    spare_gone e.rules e.store e.marks.items.items e.posts c.remove-posted.new.self _ c.args.position c.requires.within c.remove-posted.ensures.items spare
+    spare_gone e.rules e.store (marks_of e) e.posts c.remove-posted.new.self _ c.args.position c.requires.within c.remove-posted.ensures.items spare
 
 pub returns-clause-sound : goal.returns-clause-sound
 returns-clause-sound g c =
     let e = c.args.self.now in
-    sound_gone e.rules e.store e.marks.items.items e.posts c.remove-posted.new.self _ c.args.position c.requires.within c.remove-posted.ensures.items c.remove-posted.ensures.count c.requires.sound
+    sound_gone e.rules e.store (marks_of e) e.posts c.remove-posted.new.self _ c.args.position c.requires.within c.remove-posted.ensures.items c.remove-posted.ensures.count c.requires.sound
 
 pub returns-clause-rest : goal.returns-clause-rest
 returns-clause-rest g c = λ i. record c.args.self.now { posts = record c.remove-posted.new.self { count = c.remove-posted.ensures.count i } }

@@ -2,9 +2,8 @@ use Rattle.std.proofs.Common.{◌∙◌, nat_le, List, sym, ap, subst, string_by
 use Rattle.at_model.specs.Machine.{is_marked}
 use Rattle.at_protocol.specs.LineView.{place_view}
 use Rattle.at_store.specs.Shown.{path}
-use Rattle.at_engine.specs.Engines.{rules_of, state_of}
-use Rattle.at_engine.specs.Marks.{AreThere, marks_view}
-use Rattle.at_engine.specs.declared.marks.Mark.{Mark}
+use Rattle.at_engine.specs.Engines.{marks_of, rules_of, state_of}
+use Rattle.at_engine.specs.Marks.{Mark, AreThere, has_mark, marks_view}
 use Rattle.at_engine.proofs.Commands.{mark_nowhere, mark_taken, mark_full, mark_made}
 use Rattle.at_engine.proofs.Marked.{counted, pushed, there_pushed}
 use Rattle.at_engine.proofs.Naming.{marked_as}
@@ -16,20 +15,24 @@ returns-in_default-clause-obeys g c =
     let e = c.args.self.now in
     mark_nowhere (rules_of e) (state_of e) c.args.session (place_view c.args.place.now) (string_bytes c.args.name) c.in_default.ensures
 
-pub returns-then-has-clause-obeys : goal.returns-then-has-clause-obeys
-returns-then-has-clause-obeys g c =
+pub returns-then-has_mark-clause-obeys : goal.returns-then-has_mark-clause-obeys
+returns-then-has_mark-clause-obeys g c =
     let e = c.args.self.now in
     let (n, named, p) = c.in-Some.ensures in
-    let taken = ap (is_marked (state_of e).marks c.args.session) (sym c.as_str.ensures.value) ∙ sym (marked_as e.store c.args.session c.as_str.result.now e.marks.items.items c.requires.sound.marked) ∙ sym c.has.ensures ∙ c.if-has.true in
+    let taken = ap (is_marked (state_of e).marks c.args.session) (sym c.as_str.ensures.value) ∙ sym (marked_as e.store c.args.session c.as_str.result.now (marks_of e) c.requires.sound.marked) ∙ sym c.has_mark.ensures ∙ c.if-has_mark.true in
     mark_taken (rules_of e) (state_of e) c.args.session (place_view c.args.place.now) (string_bytes c.args.name) n named taken
 
 pub returns-then-is_full-clause-obeys : goal.returns-then-is_full-clause-obeys
 returns-then-is_full-clause-obeys g c =
     let e = c.args.self.now in
     let (n, named, p) = c.in-Some.ensures in
-    let free = ap (is_marked (state_of e).marks c.args.session) (sym c.as_str.ensures.value) ∙ sym (marked_as e.store c.args.session c.as_str.result.now e.marks.items.items c.requires.sound.marked) ∙ sym c.has.ensures ∙ c.if-has.false in
-    let full = ap (nat_le 100) (counted (path e.store) c.args.session e.marks.items.items c.requires.sound.marked) ∙ sym c.is_full.ensures ∙ c.if-is_full.true in
+    let free = ap (is_marked (state_of e).marks c.args.session) (sym c.as_str.ensures.value) ∙ sym (marked_as e.store c.args.session c.as_str.result.now (marks_of e) c.requires.sound.marked) ∙ sym c.has_mark.ensures ∙ c.if-has_mark.false in
+    let full = ap (nat_le 100) (counted (path e.store) c.args.session (marks_of e) c.requires.sound.marked) ∙ sym c.is_full.ensures ∙ c.if-is_full.true in
     mark_full (rules_of e) (state_of e) c.args.session (place_view c.args.place.now) (string_bytes c.args.name) n named free full
+
+-- the session has no mark of that name yet
+pub push-requires : goal.push-requires
+push-requires g c = ap (has_mark (marks_of c.args.self.now) c.args.session) (sym c.as_str.ensures.value) ∙ sym c.has_mark.ensures ∙ c.if-has_mark.false
 
 pub returns-in_err-push-clause-err : goal.returns-in_err-push-clause-err
 returns-in_err-push-clause-err g c =
@@ -39,21 +42,21 @@ returns-in_err-push-clause-err g c =
 pub returns-in_err-push-clause-sound : goal.returns-in_err-push-clause-sound
 returns-in_err-push-clause-sound g c =
     let e = c.args.self.now in
-    sound_marks (rules_of e) e.store e.marks.items.items _ e.posts _ (subst (AreThere (path e.store)) (sym c.in_err-push.ensures.err) c.requires.sound.marked) c.requires.sound
+    sound_marks (rules_of e) e.store (marks_of e) _ e.posts _ (subst (AreThere (path e.store)) (sym c.in_err-push.ensures.err) c.requires.sound.marked) c.requires.sound
 
 pub returns-clause-obeys : goal.returns-clause-obeys
 returns-clause-obeys g c =
     let e = c.args.self.now in
     let (n, named, p) = c.in-Some.ensures in
-    let free = ap (is_marked (state_of e).marks c.args.session) (sym c.as_str.ensures.value) ∙ sym (marked_as e.store c.args.session c.as_str.result.now e.marks.items.items c.requires.sound.marked) ∙ sym c.has.ensures ∙ c.if-has.false in
-    let few = ap (nat_le 100) (counted (path e.store) c.args.session e.marks.items.items c.requires.sound.marked) ∙ sym c.is_full.ensures ∙ c.if-is_full.false in
-    let m : Mark = record { session = c.args.session; name = c.args.name; node = c.in-Some.node } in
-    let more = ap (marks_view (path e.store)) c.in_ok-push.ensures.more ∙ pushed (path e.store) e.marks.items.items m n p in
+    let free = ap (is_marked (state_of e).marks c.args.session) (sym c.as_str.ensures.value) ∙ sym (marked_as e.store c.args.session c.as_str.result.now (marks_of e) c.requires.sound.marked) ∙ sym c.has_mark.ensures ∙ c.if-has_mark.false in
+    let few = ap (nat_le 100) (counted (path e.store) c.args.session (marks_of e) c.requires.sound.marked) ∙ sym c.is_full.ensures ∙ c.if-is_full.false in
+    let m : Mark = record { session = c.args.session; name = string_bytes c.args.name; node = c.in-Some.node } in
+    let more = ap (marks_view (path e.store)) c.in_ok-push.ensures.more ∙ pushed (path e.store) (marks_of e) m n p in
     rw c.done.ensures (mark_made (rules_of e) (state_of e) c.args.session (place_view c.args.place.now) (string_bytes c.args.name) n named free few _ more)
 
 pub returns-clause-sound : goal.returns-clause-sound
 returns-clause-sound g c =
     let e = c.args.self.now in
     let (n, named, p) = c.in-Some.ensures in
-    let m : Mark = record { session = c.args.session; name = c.args.name; node = c.in-Some.node } in
-    sound_marks (rules_of e) e.store e.marks.items.items _ e.posts _ (subst (AreThere (path e.store)) (sym c.in_ok-push.ensures.more) (there_pushed (path e.store) e.marks.items.items m (ap is_some p) c.requires.sound.marked)) c.requires.sound
+    let m : Mark = record { session = c.args.session; name = string_bytes c.args.name; node = c.in-Some.node } in
+    sound_marks (rules_of e) e.store (marks_of e) _ e.posts _ (subst (AreThere (path e.store)) (sym c.in_ok-push.ensures.more) (there_pushed (path e.store) (marks_of e) m (ap is_some p) c.requires.sound.marked)) c.requires.sound

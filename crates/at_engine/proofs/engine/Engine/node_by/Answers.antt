@@ -12,12 +12,12 @@ use Rattle.at_engine.proofs.engine.Engine.node_by.Goals as goal
 pub returns-in_err-from : goal.returns-in_err-from
 returns-in_err-from g c =
     let e = c.args.self.now in
-    rw c.from_residual.ensures (named_nowhere (rules_of e).classes (state_by e c.args.marks.now) c.args.session (place_view c.args.place.now) c.in_err-from.ensures)
+    rw c.from_residual.ensures (named_nowhere (rules_of e).classes (state_by e (g.M.Lookup.marks c.args.marks.now)) c.args.session (place_view c.args.place.now) c.in_err-from.ensures)
 
 pub returns : goal.returns
 returns g c =
     let e = c.args.self.now in
     let place = place_view c.args.place.now in
     let nodes = numbers e.store in
-    named_led (rules_of e).classes e.store (state_by e c.args.marks.now) refl c.args.session place c.in_ok-from.from c.resolve.result c.in_ok-from.ensures
+    named_led (rules_of e).classes e.store (state_by e (g.M.Lookup.marks c.args.marks.now)) refl c.args.session place c.in_ok-from.from c.resolve.result c.in_ok-from.ensures
     (λ n u p at'. subst (λ (x : Classes). Led nodes x n u (steps_of place) c.resolve.result) c.classes.ensures (subst (λ (ss : Path). Led nodes c.classes.result.now n u ss c.resolve.result) c.steps_of.ensures (c.resolve.ensures n u p at')))

@@ -7,7 +7,7 @@ use Rattle.at_protocol.specs.LineView.{arguments_view, place_view}
 use Rattle.at_protocol.specs.declared.line.Argument.{Argument}
 use Rattle.at_protocol.specs.declared.reply.Form.TheVariants as form
 use Rattle.at_store.specs.Shown.{contents, path}
-use Rattle.at_engine.specs.Engines.{rules_of, state_of}
+use Rattle.at_engine.specs.Engines.{marks_of, rules_of, state_of}
 use Rattle.at_engine.specs.Keeping.{IsSparingOn}
 use Rattle.at_engine.specs.Marks.{Copies}
 use Rattle.at_engine.specs.Telling.{Obeys}
@@ -37,8 +37,8 @@ returns-clause-obeys g c =
     let name = string_bytes c.args.attribute in
     let arguments = arguments_view c.args.arguments.items in
     let new = c.push.new.self in
-    let copies = subst (λ (l : List Argument). Copies c.args.session (marks_in place ++ flat_map marks_in_argument (arguments_view l)) e.marks.items.items [] c.in_ok-marks.marks.items.items) c.as_slice.ensures.value c.in_ok-marks.ensures in
-    let is = state_pushed (rules_of e) e.store e.version e.marks.items.items e.posts new
+    let copies = subst (λ (l : List Argument). Copies c.args.session (marks_in place ++ flat_map marks_in_argument (arguments_view l)) (marks_of e) [] c.in_ok-marks.marks.items.items) c.as_slice.ensures.value c.in_ok-marks.ensures in
+    let is = state_pushed (rules_of e) e.store e.version (marks_of e) e.posts new
     (record { number = c.in-Some.number; session = c.args.session; place = c.args.place; attribute = c.args.attribute; arguments = c.args.arguments; marks = c.in_ok-marks.marks; question = None })
     c.requires.sound.marked c.in_ok-push.ensures.items c.in_ok-push.ensures.count c.in-Some.ensures.0 copies refl in
     let made = post_made (rules_of e) (state_of e) c.args.session place name arguments
@@ -60,8 +60,8 @@ returns-clause-spare g c exact spare =
 pub returns-clause-sound : goal.returns-clause-sound
 returns-clause-sound g c =
     let e = c.args.self.now in
-    let copies = subst (λ (l : List Argument). Copies c.args.session (marks_in (place_view c.args.place) ++ flat_map marks_in_argument (arguments_view l)) e.marks.items.items [] c.in_ok-marks.marks.items.items) c.as_slice.ensures.value c.in_ok-marks.ensures in
-    sound_push (rules_of e) e.store e.marks.items.items e.posts c.push.new.self
+    let copies = subst (λ (l : List Argument). Copies c.args.session (marks_in (place_view c.args.place) ++ flat_map marks_in_argument (arguments_view l)) (marks_of e) [] c.in_ok-marks.marks.items.items) c.as_slice.ensures.value c.in_ok-marks.ensures in
+    sound_push (rules_of e) e.store (marks_of e) e.posts c.push.new.self
     (record { number = c.in-Some.number; session = c.args.session; place = c.args.place; attribute = c.args.attribute; arguments = c.args.arguments; marks = c.in_ok-marks.marks; question = None })
     (g.K.Keeper.contents e.demand.keeper) c.in_ok-push.ensures.items c.in_ok-push.ensures.count c.in-Some.ensures.0
     (record { named = c.requires.named; marked = copies.there (path e.store) c.requires.sound.marked tt; begun = tt }) c.requires.sound

@@ -1,9 +1,8 @@
 use Rattle.std.proofs.Common.{◌∙◌, not, sym, ap, refl, subst}
 use Rattle.at_model.specs.Machine.{Marked, is_mark}
 use Rattle.at_store.specs.Shown.{path}
-use Rattle.at_engine.specs.Engines.{rules_of, state_of}
-use Rattle.at_engine.specs.Marks.{AreThere, is_named, marks_view}
-use Rattle.at_engine.specs.declared.marks.Mark.{Mark}
+use Rattle.at_engine.specs.Engines.{marks_of, rules_of, state_of}
+use Rattle.at_engine.specs.Marks.{Mark, AreThere, is_named, marks_view}
 use Rattle.at_engine.proofs.Commands.{unmarked}
 use Rattle.at_engine.proofs.Marked.{filtered, there_filtered}
 use Rattle.at_engine.proofs.Storing.{sound_marks}
@@ -13,10 +12,10 @@ pub returns-clause-obeys : goal.returns-clause-obeys
 returns-clause-obeys g c =
     let e = c.args.self.now in
     let left = ap (marks_view (path e.store)) c.forget.ensures
-    ∙ sym (filtered (path e.store) (λ (m : Marked). not (is_mark c.args.session c.args.name.now m)) (λ (m : Mark). not (is_named c.args.session c.args.name.now m)) (λ m n. refl) e.marks.items.items) in
+    ∙ sym (filtered (path e.store) (λ (m : Marked). not (is_mark c.args.session c.args.name.now m)) (λ (m : Mark). not (is_named c.args.session c.args.name.now m)) (λ m n. refl) (marks_of e)) in
     rw c.done.ensures (unmarked (rules_of e) (state_of e) c.args.session c.args.name.now _ left)
 
 pub returns-clause-sound : goal.returns-clause-sound
 returns-clause-sound g c =
     let e = c.args.self.now in
-    sound_marks (rules_of e) e.store e.marks.items.items _ e.posts _ (subst (AreThere (path e.store)) (sym c.forget.ensures) (there_filtered (path e.store) (λ (m : Mark). not (is_named c.args.session c.args.name.now m)) e.marks.items.items c.requires.sound.marked)) c.requires.sound
+    sound_marks (rules_of e) e.store (marks_of e) _ e.posts _ (subst (AreThere (path e.store)) (sym c.forget.ensures) (there_filtered (path e.store) (λ (m : Mark). not (is_named c.args.session c.args.name.now m)) (marks_of e) c.requires.sound.marked)) c.requires.sound

@@ -9,25 +9,25 @@ use Rattle.at_engine.proofs.engine.Engine.values_named.Goals as goal
 pub loop-argument-init : goal.loop-argument-init
 loop-argument-init g c =
     let e = c.args.self.now in
-    let named = value_named (rules_of e).classes (state_by e c.args.marks.now) c.args.session in
+    let named = value_named (rules_of e).classes (state_by e (g.M.Lookup.marks c.args.marks.now)) c.args.session in
     so_first (path e.store) named (map named (arguments_view c.args.arguments.now)) c.new-values.result.items c.args.arguments.now c.new-values.ensures.items refl
 
 pub loop-argument-preserved : goal.loop-argument-preserved
 loop-argument-preserved g c =
     let e = c.args.self.now in
-    let named = value_named (rules_of e).classes (state_by e c.args.marks.now) c.args.session in
+    let named = value_named (rules_of e).classes (state_by e (g.M.Lookup.marks c.args.marks.now)) c.args.session in
     so_more (path e.store) named (map named (arguments_view c.args.arguments.now)) c.loop-argument.values.items c.loop-argument.rest.now c.loop-argument.invariant c.in-Some.argument.now c.in-Some.others.now c.in-Some.ensures.cases.0
     c.in_ok-value.field-0 c.in-Some-2.value c.in-Some-2.is c.in_ok-value.ensures c.push.new.self.items c.in_ok-push.ensures.ok
 
 pub returns-in_default-2 : goal.returns-in_default-2
 returns-in_default-2 g c =
     let e = c.args.self.now in
-    let named = value_named (rules_of e).classes (state_by e c.args.marks.now) c.args.session in
+    let named = value_named (rules_of e).classes (state_by e (g.M.Lookup.marks c.args.marks.now)) c.args.session in
     so_stop (path e.store) named (map named (arguments_view c.args.arguments.now)) c.loop-argument.values.items c.loop-argument.rest.now c.loop-argument.invariant c.in-Some.argument.now c.in-Some.others.now c.in-Some.ensures.cases.0
     c.in_ok-value.field-0 c.in_default-2.is c.in_ok-value.ensures
 
 pub returns : goal.returns
 returns g c =
     let e = c.args.self.now in
-    let named = value_named (rules_of e).classes (state_by e c.args.marks.now) c.args.session in
+    let named = value_named (rules_of e).classes (state_by e (g.M.Lookup.marks c.args.marks.now)) c.args.session in
     so_all (path e.store) named (map named (arguments_view c.args.arguments.now)) c.loop-argument.values.items c.loop-argument.rest.now c.loop-argument.invariant c.in_default.ensures.cases

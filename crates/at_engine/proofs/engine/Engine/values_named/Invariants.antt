@@ -12,7 +12,7 @@ use Rattle.at_engine.proofs.engine.Engine.values_named.Given as goal
 abbrev pub invariant-loop-argument : goal.invariant-loop-argument
 invariant-loop-argument g l =
     let e = l.fn.self in
-    let named = value_named (rules_of e).classes (state_by e l.marks) l.session in
+    let named = value_named (rules_of e).classes (state_by e (g.M.Lookup.marks l.marks)) l.session in
     Collected (ValueLike (Names (path e.store))) (map named (arguments_view l.fn.arguments)) (map value_view l.values.items) (map named (arguments_view l.rest))
 
 abbrev pub decreases-loop-argument : goal.decreases-loop-argument

@@ -2,19 +2,20 @@ use Rattle.std.proofs.Common.{◌++◌, refl}
 use Rattle.std.specs.List.{flat_map}
 use Rattle.at_model.specs.Machine.{marks_in, marks_in_argument}
 use Rattle.at_protocol.specs.LineView.{arguments_view, place_view}
+use Rattle.at_engine.specs.Marks.{listed}
 use Rattle.at_engine.proofs.Copying.{copied_all, copied_first, copied_more}
 use Rattle.at_engine.proofs.marks.Marks.asked.Goals as goal
 
 pub loop-argument-init : goal.loop-argument-init
 loop-argument-init c =
-    copied_first c.args.session (marks_in (place_view c.args.place.now) ++ flat_map marks_in_argument (arguments_view c.args.arguments.now)) c.args.self.now.items.items (marks_in (place_view c.args.place.now)) c.new-copies.result.items.items c.copy_in.new.copies.items.items c.args.arguments.now
+    copied_first c.args.session (marks_in (place_view c.args.place.now) ++ flat_map marks_in_argument (arguments_view c.args.arguments.now)) (listed c.args.self.now.items.entries) (marks_in (place_view c.args.place.now)) c.new-copies.result.items.items c.copy_in.new.copies.items.items c.args.arguments.now
     c.new-copies.ensures c.in_ok-copy_in.ensures refl
 
 pub loop-argument-preserved : goal.loop-argument-preserved
 loop-argument-preserved c =
-    copied_more c.args.session (marks_in (place_view c.args.place.now) ++ flat_map marks_in_argument (arguments_view c.args.arguments.now)) c.args.self.now.items.items c.loop-argument.copies.items.items c.copy_in_argument.new.copies.items.items c.loop-argument.rest.now c.in-Some.argument.now c.in-Some.others.now
+    copied_more c.args.session (marks_in (place_view c.args.place.now) ++ flat_map marks_in_argument (arguments_view c.args.arguments.now)) (listed c.args.self.now.items.entries) c.loop-argument.copies.items.items c.copy_in_argument.new.copies.items.items c.loop-argument.rest.now c.in-Some.argument.now c.in-Some.others.now
     c.in-Some.ensures.cases.0 c.loop-argument.invariant c.in_ok-copy_in_argument.ensures
 
 pub returns : goal.returns
 returns c =
-    copied_all c.args.session (marks_in (place_view c.args.place.now) ++ flat_map marks_in_argument (arguments_view c.args.arguments.now)) c.args.self.now.items.items c.loop-argument.copies.items.items c.loop-argument.rest.now c.in_default.ensures.cases c.loop-argument.invariant
+    copied_all c.args.session (marks_in (place_view c.args.place.now) ++ flat_map marks_in_argument (arguments_view c.args.arguments.now)) (listed c.args.self.now.items.entries) c.loop-argument.copies.items.items c.loop-argument.rest.now c.in_default.ensures.cases c.loop-argument.invariant

@@ -1,7 +1,8 @@
-use Rattle.std.proofs.Common.{rules, is_some}
-use Rattle.std.proofs.lemmas.Fn.{filter_same}
+use Rattle.std.proofs.Common.{sym}
 use Rattle.at_store.specs.Shown.{path}
+use Rattle.at_engine.specs.Marks.{listed}
+use Rattle.at_engine.proofs.Leaving.{all_live}
 use Rattle.at_engine.proofs.marks.Marks.keep_live.Goals as goal
 
-pub returns : goal.returns
-returns c = filter_same _ (λ m. is_some (path c.args.store.now m.node)) _ (λ m b f' k. search rules) _ _ c.retain.ensures.filtered
+pub returns-in_default : goal.returns-in_default
+returns-in_default c = sym (all_live (path c.args.store.now) (listed c.args.self.now.items.entries) (c.requires.there c.if-any_gone.false))

@@ -5,35 +5,35 @@ use Rattle.at_model.specs.Machine.{marks_in, marks_in_argument}
 use Rattle.at_protocol.specs.LineView.{arguments_view, place_view}
 use Rattle.at_protocol.specs.declared.line.Argument.{Argument}
 use Rattle.at_engine.specs.Marks.{has_mark}
-use Rattle.at_engine.proofs.marks.Marks.has_used.Goals as goal
+use Rattle.at_engine.proofs.marks.using.has_used.Goals as goal
 
 pub returns-in-Ask : goal.returns-in-Ask
-returns-in-Ask c =
-    let p = has_mark c.args.self.now.items.items c.args.session in
+returns-in-Ask g c =
+    let p = has_mark (g.M.Lookup.marks c.args.marks.now) c.args.session in
     rw c.in-Ask.is (c.has_asked.ensures ∙ ap (λ (l : List Argument). list_all p (marks_in (place_view c.in-Ask.place) ++ flat_map marks_in_argument (arguments_view l))) c.deref.ensures.value)
 
 pub returns-in-Post : goal.returns-in-Post
-returns-in-Post c =
-    let p = has_mark c.args.self.now.items.items c.args.session in
+returns-in-Post g c =
+    let p = has_mark (g.M.Lookup.marks c.args.marks.now) c.args.session in
     rw c.in-Post.is (c.has_asked-in-Post.ensures ∙ ap (λ (l : List Argument). list_all p (marks_in (place_view c.in-Post.place) ++ flat_map marks_in_argument (arguments_view l))) c.deref-in-Post.ensures.value)
 
 pub returns-in-Set : goal.returns-in-Set
-returns-in-Set c = rw c.in-Set.is c.has_in.ensures
+returns-in-Set g c = rw c.in-Set.is c.has_in.ensures
 
 pub returns-in-Put : goal.returns-in-Put
-returns-in-Put c = rw c.in-Put.is c.has_in-in-Put.ensures
+returns-in-Put g c = rw c.in-Put.is c.has_in-in-Put.ensures
 
 pub returns-in-Drop : goal.returns-in-Drop
-returns-in-Drop c = rw c.in-Drop.is c.has_in-in-Drop.ensures
+returns-in-Drop g c = rw c.in-Drop.is c.has_in-in-Drop.ensures
 
 pub returns-in-Insert : goal.returns-in-Insert
-returns-in-Insert c = rw c.in-Insert.is c.has_in-in-Insert.ensures
+returns-in-Insert g c = rw c.in-Insert.is c.has_in-in-Insert.ensures
 
 pub returns-in-Token : goal.returns-in-Token
-returns-in-Token c = rw c.in-Token.is c.has_in-in-Token.ensures
+returns-in-Token g c = rw c.in-Token.is c.has_in-in-Token.ensures
 
 pub returns-in-Show : goal.returns-in-Show
-returns-in-Show c = rw c.in-Show.is c.has_in-in-Show.ensures
+returns-in-Show g c = rw c.in-Show.is c.has_in-in-Show.ensures
 
 pub returns-in-Mark : goal.returns-in-Mark
-returns-in-Mark c = rw c.in-Mark.is c.has_in-in-Mark.ensures
+returns-in-Mark g c = rw c.in-Mark.is c.has_in-in-Mark.ensures

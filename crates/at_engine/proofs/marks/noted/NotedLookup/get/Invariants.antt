@@ -1,7 +1,7 @@
 use Rattle.std.proofs.Common.{◌≡◌, drop}
 use Rattle.std.specs.List.{find}
 use Rattle.at_engine.specs.Marks.{is_named}
-use Rattle.at_engine.proofs.marks.Marks.get.Given as goal
+use Rattle.at_engine.proofs.marks.noted.NotedLookup.get.Given as goal
 
 -- none of the marks before is it
 abbrev pub invariant-loop-mark : goal.invariant-loop-mark

@@ -1,9 +1,0 @@
-use Rattle.std.proofs.Common.{◌∙◌, ap, sym}
-use Rattle.at_engine.specs.Marks.{has_mark}
-use Rattle.at_engine.proofs.Marking.{alone}
-use Rattle.at_engine.proofs.marks.Marks.has_in.Goals as goal
-
-pub returns-in-FromMark : goal.returns-in-FromMark
-returns-in-FromMark c =
-    let p = has_mark c.args.self.now.items.items c.args.session in
-    rw c.in-FromMark.is (c.has.ensures ∙ ap p c.as_str.ensures.value ∙ sym (alone p _))
