@@ -1,5 +1,5 @@
 //! Tests of whole sessions: over the calculator, with each keeper, with readers and writers that fail, with
-//! questions in turns, of files that are refused, and of what no session shows; and of keepers by themselves.
+//! questions in turns, of files that are refused, and of what no session shows; and of keepers by themselves, beside plain models.
 #![tactic(auto)]
 
 #[cfg(test)]
@@ -18,5 +18,7 @@ mod refusals;
 mod samples;
 #[cfg(test)]
 mod sessions;
+#[cfg(test)]
+mod trees;
 #[cfg(test)]
 mod turns;
