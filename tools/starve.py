@@ -17,7 +17,7 @@ from pathlib import Path
 # The words that choose a session.
 SESSIONS = ("edits", "moves", "turns")
 # The words that choose a keeper, and the name that its verdict has.
-KEEPERS = {"nothing": "nothing kept", "until-edit": "kept until an edit", "over-edits": "kept over edits"}
+KEEPERS = {"nothing": "nothing kept", "until-edit": "kept until an edit", "over-edits": "kept over edits", "few": "few kept over edits"}
 BEFORE, ANSWERED, UNSEEN, NONE = "ended before the first line", "had a line answered `memory`", "made no difference", "none refused"
 MOST_ROUNDS = 100_000
 

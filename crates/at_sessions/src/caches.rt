@@ -1,14 +1,12 @@
 //! What keepers keep of instances that are put by themselves, and what they forget.
 
-mod listed;
-
 use crate::keepers::KeepRefused;
 use crate::keepers::chance::Chance;
+use crate::keepers::compared::KeepCompared;
 use at_body::{Arguments, Inst, Value};
 use at_cache::{KeepNone, KeepRecorded, KeepUntilEdit, Keeper};
 use at_rules::AttrId;
 use at_store::{Loc, Node};
-use listed::List;
 use std::alloc::{AllocError, Global};
 use std::test::Fail;
 
@@ -133,13 +131,6 @@ fn links_follow_their_entries(rt: HostRuntime) -> Result<(), Fail> {
     Ok(())
 }
 
-/// A keeper, and the list that it is compared with.
-#[derive(Drop)]
-struct Compared {
-    keeper: KeepRecorded,
-    list: List,
-}
-
 const NODES: usize = 9;
 
 /// A location of one of the nodes.
@@ -155,75 +146,57 @@ fn location(chance: &mut Chance) -> Loc {
     }
 }
 
-impl Compared {
-    /// Puts an entry of a node that has none, with reads and uses by chance.
-    fn put(&mut self, alloc: Global, chance: &mut Chance) -> Result<(), AllocError> {
-        let node = chance.below(NODES);
-        if self.list.has(node) {
-            return Ok(());
-        }
-        let mut reads = Vec::new(alloc);
-        for _ in 0..chance.below(3) + 1 {
-            reads.push(location(chance))?;
-        }
-        let uses = self.used(alloc, chance)?;
-        put_new(
-            &mut self.keeper,
-            inst(alloc, node),
-            Value::Int(node as i32),
-            reads.as_slice(),
-            insts(alloc, uses.as_slice())?.as_slice(),
-        )?;
-        self.list.put(node, reads.as_slice(), uses.as_slice())
+/// Puts an entry of a node, where it has none, with reads and uses by chance.
+fn put_by_chance(
+    alloc: Global,
+    keeper: &mut KeepCompared,
+    chance: &mut Chance,
+) -> Result<(), AllocError> {
+    let node = chance.below(NODES);
+    let mut reads = Vec::new(alloc);
+    for _ in 0..chance.below(3) + 1 {
+        reads.push(location(chance))?;
     }
+    let uses = used(alloc, keeper, chance)?;
+    put_new(
+        keeper,
+        inst(alloc, node),
+        Value::Int(node as i32),
+        reads.as_slice(),
+        uses.as_slice(),
+    )
+}
 
-    /// Some of the nodes that have an entry.
-    fn used(&self, alloc: Global, chance: &mut Chance) -> Result<Vec<usize>, AllocError> {
-        let mut uses = Vec::new(alloc);
-        for node in 0..NODES {
-            if chance.below(3) == 0 && self.list.has(node) {
-                uses.push(node)?;
-            }
+/// The instances of some of the nodes that have an entry.
+fn used(
+    alloc: Global,
+    keeper: &KeepCompared,
+    chance: &mut Chance,
+) -> Result<Vec<Inst>, AllocError> {
+    let mut uses = Vec::new(alloc);
+    for node in 0..NODES {
+        if chance.below(3) == 0 && has(alloc, keeper, node) {
+            uses.push(inst(alloc, node))?;
         }
-        Ok(uses)
     }
-
-    /// Flushes a location by chance: how many entries the list forgets.
-    fn flush(&mut self, chance: &mut Chance) -> Result<usize, AllocError> {
-        let touched = location(chance);
-        self.keeper.flush(&|location: Loc| location == touched);
-        self.list.flush(touched)
-    }
-
-    /// Whether both have entries of the same nodes.
-    fn is_alike(&self, alloc: Global) -> bool {
-        for node in 0..NODES {
-            let kept = self.keeper.get(&inst(alloc, node)) == Some(&Value::Int(node as i32));
-            if kept != self.list.has(node) {
-                return false;
-            }
-        }
-        true
-    }
+    Ok(uses)
 }
 
 #[test]
-fn the_index_forgets_what_a_list_forgets(rt: HostRuntime) -> Result<(), Fail> {
+fn the_index_forgets_what_plain_models_forget(rt: HostRuntime) -> Result<(), Fail> {
     let alloc = rt.alloc();
     let mut chance = Chance::from_seed(1975);
-    let mut compared = Compared {
-        keeper: KeepRecorded::new(alloc),
-        list: List::new(alloc),
-    };
-    let mut gone: usize = 0;
+    let mut keeper = KeepCompared::new(alloc, usize::MAX);
     for _ in 0..6_000 {
-        compared.put(alloc, &mut chance)?;
+        put_by_chance(alloc, &mut keeper, &mut chance)?;
         if chance.below(4) == 0 {
-            gone = gone.saturating_add(compared.flush(&mut chance)?);
+            let touched = location(&mut chance);
+            keeper.flush(&|location: Loc| location == touched);
         }
-        assert!(rt; compared.is_alike(alloc));
+        assert!(rt; !keeper.differs());
     }
-    assert!(rt; gone > 1_000, "{gone} entries are gone");
+    let gone = keeper.gone();
+    assert!(rt; gone > 800, "{gone} entries are gone");
     Ok(())
 }
 

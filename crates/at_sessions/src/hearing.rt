@@ -5,7 +5,7 @@ ghost use Rattle.at_cache.specs.Kept.{KeepsAll};
 ghost use Rattle.at_start.specs.Starts.{IsReady};
 
 use crate::samples::{TREE, files, over};
-use at_cache::{KeepNone, KeepRecorded, KeepUntilEdit, Keeper};
+use at_cache::{KeepAtMost, KeepNone, KeepRecorded, KeepUntilEdit, Keeper};
 use at_engine::{Engine, Report, run};
 use at_start::{Files, start, start_with};
 use std::alloc::Global;
@@ -54,7 +54,10 @@ pub fn recorded(
     Ok((told, report))
 }
 
-/// The same, where the keepers that record nothing lead to the same replies.
+/// More entries than a question for a sum leaves, and fewer than those of a session.
+const FEW: usize = 3;
+
+/// The same, where the other keepers lead to the same replies.
 pub fn played(
     alloc: Global,
     files: &Files,
@@ -67,6 +70,9 @@ pub fn played(
     }
     if !is_told(alloc, files, KeepUntilEdit::new(alloc), slice, lines, &told)? {
         return Err(Fail::new("what is kept until an edit is heard"));
+    }
+    if !is_told(alloc, files, KeepAtMost::new(alloc, FEW), slice, lines, &told)? {
+        return Err(Fail::new("that few entries are kept is heard"));
     }
     Ok((told, report))
 }

@@ -1,5 +1,5 @@
 //! Tests of whole sessions: over the calculator, with each keeper, with readers and writers that fail, with
-//! questions in turns, of files that are refused, and of what no session shows; and of keepers by themselves.
+//! questions in turns, of files that are refused, and of what no session shows; and of keepers by themselves, beside plain models.
 //!
 //! **Where to begin:** `sessions.rt` has lines, replies and work as rows of a table. A test that a page can show
 //! stands on a page (docs/TESTING.md).
@@ -21,5 +21,7 @@ mod refusals;
 mod samples;
 #[cfg(test)]
 mod sessions;
+#[cfg(test)]
+mod trees;
 #[cfg(test)]
 mod turns;

@@ -25,6 +25,7 @@ const ROWS: &[(&[u8], &[u8], &[&[u8]], &str)] = &[
     (b"A;", b"", &[b""], "tree: F1 syntax"),
     (b"A;", b"B()", &[b""], "tree: F6 class"),
     (b"A;", b"A()\n", &[b""], ""),
+    (b"A ::= ;", b"A()", &[b""], ""),
     (b"A;", b"A()\n\n", &[b""], "tree: F1 syntax"),
     // all aspects are read before any is judged
     (

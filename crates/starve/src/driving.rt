@@ -2,7 +2,7 @@
 
 ghost use Rattle.at_engine.specs.Engines.{IsSound};
 
-use crate::telling::Want;
+use crate::telling::Stop;
 use at_cache::Keeper;
 use at_engine::Engine;
 use std::alloc::{AllocError, Global};
@@ -32,7 +32,7 @@ pub struct Driven {
 /// # Errors
 ///
 /// Where that room is refused, or room in an output more than once.
-pub fn drive<K: Keeper>(alloc: Global, engine: &mut Engine<K>, lines: &str) -> Result<Driven, Want>
+pub fn drive<K: Keeper>(alloc: Global, engine: &mut Engine<K>, lines: &str) -> Result<Driven, Stop>
     requires { IsSound K.contents engine.old }
 {
     let mut driven = Driven {
@@ -54,7 +54,7 @@ fn serve<K: Keeper>(
     engine: &mut Engine<K>,
     line: &str,
     driven: &mut Driven,
-) -> Result<(), Want>
+) -> Result<(), Stop>
     requires { IsSound K.contents engine.old }
     ensures { IsSound K.contents engine.new }
 {
@@ -107,7 +107,7 @@ fn turn<K: Keeper>(
     engine: &mut Engine<K>,
     limit: u32,
     driven: &mut Driven,
-) -> Result<(), Want>
+) -> Result<(), Stop>
     requires { IsSound K.contents engine.old }
     ensures { IsSound K.contents engine.new }
 {
@@ -124,7 +124,7 @@ fn turn_once<K: Keeper>(
     alloc: Global,
     engine: &mut Engine<K>,
     driven: &mut Driven,
-) -> Result<bool, Want>
+) -> Result<bool, Stop>
     requires { IsSound K.contents engine.old }
     ensures { IsSound K.contents engine.new }
 {

@@ -9,13 +9,13 @@ mod driving;
 mod sample;
 mod telling;
 
-use at_cache::{KeepNone, KeepRecorded, KeepUntilEdit, Keeper};
+use at_cache::{KeepAtMost, KeepNone, KeepRecorded, KeepUntilEdit, Keeper};
 use driving::{Driven, drive};
 use sample::{EDITS, MOVES, Script, TURNS, Way, engine};
 use std::alloc::Global;
 use std::process::ExitCode;
 use std::{env, str};
-use telling::{Told, Want, answered, are_left, heard};
+use telling::{Stop, Told, answered, are_left, heard};
 
 /// How a session went.
 #[derive(Clone, Copy)]
@@ -28,20 +28,21 @@ enum Verdict {
 }
 
 /// Prints how each session goes with each keeper, or the session with the keeper that the two words after the program's
-/// name choose. Ends with status 2 where there is no such session or keeper, and with 4 where memory is refused outside of a
-/// session's lines; nothing is told of the keeper then.
+/// name choose. Ends with status 2 where there is no such session or keeper, with 4 where memory is refused outside of a session's
+/// lines, and with 5 where a run ends by another fault; nothing is told of the keeper then.
 fn main(rt: HostRuntime) -> ExitCode {
     match told(&rt) {
         Ok(true) => ExitCode::SUCCESS,
         Ok(false) => ExitCode::from(2),
-        Err(Want) => ExitCode::from(4),
+        Err(Stop::Memory) => ExitCode::from(4),
+        Err(Stop::Fault) => ExitCode::from(5),
     }
 }
 
 /// Whether the words choose sessions and keepers, of which the verdicts are printed then.
-fn told(rt: &HostRuntime) -> Result<bool, Want> {
+fn told(rt: &HostRuntime) -> Result<bool, Stop> {
     let Ok(mut words) = env::args(rt) else {
-        return Err(Want);
+        return Err(Stop::Memory);
     };
     let Some(name) = words.nth(1) else {
         return told_of_all(rt);
@@ -53,21 +54,22 @@ fn told(rt: &HostRuntime) -> Result<bool, Want> {
 }
 
 /// Prints each keeper's verdict in each session.
-fn told_of_all(rt: &HostRuntime) -> Result<bool, Want> {
+fn told_of_all(rt: &HostRuntime) -> Result<bool, Stop> {
     let _ = told_of_each(rt, EDITS)?;
     let _ = told_of_each(rt, MOVES)?;
     told_of_each(rt, TURNS)
 }
 
 /// Prints each keeper's verdict.
-fn told_of_each(rt: &HostRuntime, script: &Script) -> Result<bool, Want> {
+fn told_of_each(rt: &HostRuntime, script: &Script) -> Result<bool, Stop> {
     let _ = told_of(rt, script, "nothing")?;
     let _ = told_of(rt, script, "until-edit")?;
-    told_of(rt, script, "over-edits")
+    let _ = told_of(rt, script, "over-edits")?;
+    told_of(rt, script, "few")
 }
 
 /// Whether there is a session of that name, and the word is a keeper's; its verdict is printed then.
-fn told_by_name(rt: &HostRuntime, name: &str, word: &str) -> Result<bool, Want> {
+fn told_by_name(rt: &HostRuntime, name: &str, word: &str) -> Result<bool, Stop> {
     match name {
         "edits" => told_of(rt, EDITS, word),
         "moves" => told_of(rt, MOVES, word),
@@ -76,36 +78,53 @@ fn told_by_name(rt: &HostRuntime, name: &str, word: &str) -> Result<bool, Want> 
     }
 }
 
+/// How many entries the keeper with a bound may have from one edit to the next.
+const FEW: usize = 3;
+
 /// Whether this is a keeper's word; its verdict is printed then.
-fn told_of(rt: &HostRuntime, script: &Script, word: &str) -> Result<bool, Want> {
-    let alloc = rt.alloc();
-    let (name, verdict) = match word {
-        "nothing" => (
-            "nothing kept",
-            judged(alloc, script, KeepNone::new(alloc), KeepNone::new(alloc))?,
-        ),
-        "until-edit" => (
-            "kept until an edit",
-            judged(
-                alloc,
-                script,
-                KeepUntilEdit::new(alloc),
-                KeepUntilEdit::new(alloc),
-            )?,
-        ),
-        "over-edits" => (
-            "kept over edits",
-            judged(
-                alloc,
-                script,
-                KeepRecorded::new(alloc),
-                KeepRecorded::new(alloc),
-            )?,
-        ),
-        _ => return Ok(false),
+fn told_of(rt: &HostRuntime, script: &Script, word: &str) -> Result<bool, Stop> {
+    let Some(name) = name_of(word) else {
+        return Ok(false);
     };
+    let verdict = judged_with(rt.alloc(), script, word)?;
     let _ = println!(rt; "{}, {name}: {}", script.name, text(verdict));
     Ok(true)
+}
+
+/// What the keeper of the word does, where there is one.
+fn name_of(word: &str) -> Option<&'static str> {
+    match word {
+        "nothing" => Some("nothing kept"),
+        "until-edit" => Some("kept until an edit"),
+        "over-edits" => Some("kept over edits"),
+        "few" => Some("few kept over edits"),
+        _ => None,
+    }
+}
+
+/// How the session goes with the keeper of the word, or with one that keeps nothing.
+fn judged_with(alloc: Global, script: &Script, word: &str) -> Result<Verdict, Stop> {
+    match word {
+        "until-edit" => judged(
+            alloc,
+            script,
+            KeepUntilEdit::new(alloc),
+            KeepUntilEdit::new(alloc),
+        ),
+        "over-edits" => judged(
+            alloc,
+            script,
+            KeepRecorded::new(alloc),
+            KeepRecorded::new(alloc),
+        ),
+        "few" => judged(
+            alloc,
+            script,
+            KeepAtMost::new(alloc, FEW),
+            KeepAtMost::new(alloc, FEW),
+        ),
+        _ => judged(alloc, script, KeepNone::new(alloc), KeepNone::new(alloc)),
+    }
 }
 
 fn text(verdict: Verdict) -> &'static str {
@@ -118,7 +137,7 @@ fn text(verdict: Verdict) -> &'static str {
 
 /// How a session goes with the first keeper. Where a line or a question is answered `memory`, an engine over the second is
 /// asked what the others' replies are; no request is refused any more then.
-fn judged<K: Keeper>(alloc: Global, script: &Script, first: K, second: K) -> Result<Verdict, Want>
+fn judged<K: Keeper>(alloc: Global, script: &Script, first: K, second: K) -> Result<Verdict, Stop>
     requires first { KeepsAll (λ _. None) (K.contents first) }
     requires second { KeepsAll (λ _. None) (K.contents second) }
 {
@@ -134,7 +153,7 @@ fn judged_run<K: Keeper>(
     script: &Script,
     first: K,
     second: K,
-) -> Result<Verdict, Want>
+) -> Result<Verdict, Stop>
     requires first { KeepsAll (λ _. None) (K.contents first) }
     requires second { KeepsAll (λ _. None) (K.contents second) }
 {
@@ -154,7 +173,7 @@ fn judged_calls<K: Keeper>(
     script: &Script,
     first: K,
     second: K,
-) -> Result<Verdict, Want>
+) -> Result<Verdict, Stop>
     requires first { KeepsAll (λ _. None) (K.contents first) }
     requires second { KeepsAll (λ _. None) (K.contents second) }
 {
@@ -170,7 +189,7 @@ fn judged_calls<K: Keeper>(
 }
 
 /// Whether an engine over the keeper tells the same to the lines, where it is given no turns between them.
-fn is_told_again<K: Keeper>(alloc: Global, keeper: K, whole: &Driven) -> Result<bool, Want>
+fn is_told_again<K: Keeper>(alloc: Global, keeper: K, whole: &Driven) -> Result<bool, Stop>
     requires { KeepsAll (λ _. None) (K.contents keeper) }
 {
     let mut engine = engine(alloc, keeper)?;
@@ -183,7 +202,7 @@ fn is_told_again<K: Keeper>(alloc: Global, keeper: K, whole: &Driven) -> Result<
 }
 
 /// What a fresh engine over the keeper tells to the lines.
-fn session<K: Keeper>(alloc: Global, keeper: K, lines: &str) -> Result<Told, Want>
+fn session<K: Keeper>(alloc: Global, keeper: K, lines: &str) -> Result<Told, Stop>
     requires { KeepsAll (λ _. None) (K.contents keeper) }
 {
     let mut engine = engine(alloc, keeper)?;
@@ -191,7 +210,7 @@ fn session<K: Keeper>(alloc: Global, keeper: K, lines: &str) -> Result<Told, Wan
 }
 
 /// Whether one of the lines was answered `memory`, and an engine over the keeper tells the same to the others.
-fn is_as_fed<K: Keeper>(alloc: Global, keeper: K, lines: &str, whole: &Told) -> Result<bool, Want>
+fn is_as_fed<K: Keeper>(alloc: Global, keeper: K, lines: &str, whole: &Told) -> Result<bool, Stop>
     requires { KeepsAll (λ _. None) (K.contents keeper) }
 {
     let Ok(replies) = str::from_utf8(&whole.replies) else {

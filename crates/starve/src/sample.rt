@@ -4,10 +4,10 @@ ghost use Rattle.std.specs.Prelude.{None, IfOk};
 ghost use Rattle.at_cache.specs.Kept.{KeepsAll};
 ghost use Rattle.at_engine.specs.Engines.{IsSound};
 
-use crate::telling::Want;
+use crate::telling::Stop;
 use at_cache::Keeper;
 use at_engine::Engine;
-use at_start::{Files, Source, start_with};
+use at_start::{Files, Source, StartFault, start_with};
 use std::alloc::{AllocError, Global};
 
 const GRAMMAR: &str = "Program ::= Block;
@@ -152,15 +152,16 @@ pub const TURNS: &Script = &Script {
 ///
 /// # Errors
 ///
-/// For want of memory.
-pub fn engine<K: Keeper>(alloc: Global, keeper: K) -> Result<Engine<K>, Want>
+/// For want of memory, or where the files are refused.
+pub fn engine<K: Keeper>(alloc: Global, keeper: K) -> Result<Engine<K>, Stop>
     requires { KeepsAll (λ _. None) (K.contents keeper) }
     ensures sound { IfOk result (IsSound K.contents) }
 {
     let files = files(alloc)?;
     match start_with(alloc, &files, keeper) {
         Ok(engine) => Ok(engine),
-        Err(_) => Err(Want),
+        Err(StartFault::Memory) => Err(Stop::Memory),
+        Err(_) => Err(Stop::Fault),
     }
 }
 

@@ -3,19 +3,24 @@
 ghost use Rattle.at_engine.specs.Engines.{IsSound};
 
 use at_cache::Keeper;
-use at_engine::{Engine, run};
+use at_engine::{Engine, RunFault, run};
 use std::alloc::{AllocError, Global};
 
 /// The reply to a line of the sample for which memory is wanting.
 const MEMORY: &str = "0 memory\n";
 
-/// Memory was refused outside of a session's lines.
+/// Why nothing is told of a session.
 #[derive(Drop)]
-pub struct Want;
+pub enum Stop {
+    /// Memory was refused outside of its lines.
+    Memory,
+    /// Its run ended by a fault that isn't want of memory.
+    Fault,
+}
 
-impl From<AllocError> for Want {
-    fn from(_error: AllocError) -> Want {
-        Want
+impl From<AllocError> for Stop {
+    fn from(_error: AllocError) -> Stop {
+        Stop::Memory
     }
 }
 
@@ -31,8 +36,8 @@ pub struct Told {
 ///
 /// # Errors
 ///
-/// Where room for the replies, or a buffer, is refused.
-pub fn heard<K: Keeper>(alloc: Global, engine: &mut Engine<K>, lines: &str) -> Result<Told, Want>
+/// Where room for the replies, or a buffer, is refused, and where the run ends by another fault.
+pub fn heard<K: Keeper>(alloc: Global, engine: &mut Engine<K>, lines: &str) -> Result<Told, Stop>
     requires { IsSound K.contents engine.old }
 {
     let mut reader = lines.as_bytes();
@@ -43,7 +48,8 @@ pub fn heard<K: Keeper>(alloc: Global, engine: &mut Engine<K>, lines: &str) -> R
             lines: report.lines,
             memory: report.memory,
         }),
-        Err(_) => Err(Want),
+        Err(RunFault::Memory) => Err(Stop::Memory),
+        Err(_) => Err(Stop::Fault),
     }
 }
 

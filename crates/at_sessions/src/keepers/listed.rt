@@ -1,13 +1,13 @@
-//! What a recording keeper keeps, in the plainest form: entries in the order of their `put`, and a flush that goes once over all.
+//! What a recording keeper keeps, in the order of `put`, with links to earlier entries: a flush is one pass from the front.
 
 use at_store::Loc;
 use std::alloc::{AllocError, Global};
 use std::mem;
 
-/// The entry of a node: the locations that it reads, and the nodes whose entries it uses.
+/// An entry with its number: the locations that it reads, and the numbers of the entries that it uses.
 #[derive(Drop)]
 struct Listed {
-    node: usize,
+    number: usize,
     reads: Vec<Loc>,
     uses: Vec<usize>,
 }
@@ -20,10 +20,14 @@ pub struct List {
 }
 
 impl Listed {
-    /// Whether it reads the location, or uses an entry of one of these nodes.
-    fn rests_on(&self, touched: Loc, gone: &[usize]) -> bool {
-        if self.reads.as_slice().contains(&touched) {
-            return true;
+    /// Whether it reads a touched location, or uses an entry of one of these numbers.
+    fn rests_on<F: Fn(Loc) -> bool>(&self, touched: &F, gone: &[usize]) -> bool
+        requires { F.IsAlwaysCallable touched.now }
+    {
+        for read in &self.reads {
+            if touched(*read) {
+                return true;
+            }
         }
         for used in &self.uses {
             if gone.contains(used) {
@@ -43,10 +47,10 @@ impl List {
         }
     }
 
-    /// Whether an entry of the node is kept.
-    pub fn has(&self, node: usize) -> bool {
+    /// Whether the entry of that number is kept.
+    pub fn has(&self, number: usize) -> bool {
         for entry in &self.entries {
-            if entry.node == node {
+            if entry.number == number {
                 return true;
             }
         }
@@ -54,21 +58,27 @@ impl List {
     }
 
     /// Keeps an entry more.
-    pub fn put(&mut self, node: usize, reads: &[Loc], uses: &[usize]) -> Result<(), AllocError> {
+    pub fn put(&mut self, number: usize, reads: &[Loc], uses: &[usize]) -> Result<(), AllocError> {
         let reads = Vec::from_slice(self.alloc, reads)?;
         let uses = Vec::from_slice(self.alloc, uses)?;
-        self.entries.push(Listed { node, reads, uses })?;
+        self.entries.push(Listed {
+            number,
+            reads,
+            uses,
+        })?;
         Ok(())
     }
 
-    /// Forgets what rests on the location: how many entries. Where memory is wanting, nothing is left.
-    pub fn flush(&mut self, touched: Loc) -> Result<usize, AllocError> {
+    /// Forgets what rests on a touched location: how many entries. Where memory is wanting, nothing is left.
+    pub fn flush<F: Fn(Loc) -> bool>(&mut self, touched: &F) -> Result<usize, AllocError>
+        requires { F.IsAlwaysCallable touched.now }
+    {
         let mut gone = Vec::new(self.alloc);
         let mut rest = Vec::new(self.alloc);
         let entries = mem::replace(&mut self.entries, Vec::new(self.alloc));
         for entry in entries {
             if entry.rests_on(touched, gone.as_slice()) {
-                gone.push(entry.node)?;
+                gone.push(entry.number)?;
             } else {
                 rest.push(entry)?;
             }

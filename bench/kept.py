@@ -1,0 +1,243 @@
+#!/usr/bin/env python3
+"""What an edit costs where all attributes of all nodes are kept, on trees of 1,000, 10,000 and 60,000 nodes.
+
+    python3 bench/kept.py [PROGRAM [TURNS]]
+
+PROGRAM is ./attrd where none is given. A time is processor time, the least of many batches by turns, and is told as a multiple of a
+`version` line of the same run. Each batch begins with everything kept. Where `javac` is there, a Java program that flushes everything
+at an edit does the same edits in the same run. The run ends with status 1 where a bound doesn't hold.
+"""
+import os
+import subprocess
+import sys
+import tempfile
+from pathlib import Path
+from typing import NamedTuple
+
+from full_flush import FullFlush
+from instructions import instructions
+from served import Served
+from trees import ASPECTS, FILL, GRAMMAR, SIZES, ListTree, SumTree
+
+ROOT = Path(__file__).resolve().parent.parent
+TURNS, MARK_TURNS = 12, 4
+# The program before edits found entries by what they touch, on the same trees: the multiples of a `version` line, and the
+# instructions of an entry that is filled in.
+BEFORE = {"kept question": 2.8, "front": 11_000.0, "fill": 10_000.0}
+MARKED = 50
+
+
+class Row(NamedTuple):
+    """A batch of lines that does the same `count` times, and how much longer it may take on the largest tree than on the smallest."""
+    what: str
+    lines: str
+    count: int
+    growth: float | None = None
+    most: float | None = None
+
+
+class Bounds:
+    """What was measured against what it may be."""
+
+    def __init__(self):
+        self.broken = []
+
+    def at_most(self, what, value, most):
+        """The value with its bound, which is noted where it doesn't hold."""
+        if value > most:
+            self.broken.append(f"{what}: {value:.2f}, at most {most:g}")
+        return f"{value:.2f} (at most {most:g}{'' if value <= most else ': BROKEN'})"
+
+    def at_least(self, what, value, least):
+        """The same of what it has to be at least."""
+        if value < least:
+            self.broken.append(f"{what}: {value:.1f}, at least {least:g}")
+        return f"{value:.1f} (at least {least:g}{'' if value >= least else ': BROKEN'})"
+
+
+def sum_rows(tree):
+    """Batches over a tree of sums."""
+    leaves = tree.leaves
+    above = [leaf.rsplit("/", 3)[0] for leaf in leaves]
+    pairs = [leaf.rsplit("/", 1)[0] for leaf in leaves]
+    whole = "0 ask /Main value()\n"
+
+    def rounds(times, units):
+        return "".join(unit(k) for k in range(times) for unit in units)
+
+    tokens = [lambda k, it=it: f"0 token {it} Value {k}\n" for it in leaves]
+    return [
+        Row("a token edit, 4 values anew", rounds(20, [lambda k, e=e, q=q: e(k) + f"0 ask {q} value()\n" for e, q in zip(tokens, above)]), 320, 1.5, 45),
+        Row("a token edit, 16 values anew", rounds(20, [lambda k, e=e: e(k) + whole for e in tokens]), 320, 1.5),
+        Row("an edit of a token that nothing rests on", rounds(40, [lambda k, it=it: f'0 token {it} Note "n{k}"\n' for it in leaves]), 640, 1.2, 10),
+        Row("a set of 3 nodes", rounds(20, [lambda k, it=it: f'0 set {it} Add(Num({k},""),Num(1,""))\n{whole}' for it in pairs]), 320, 2.0),
+        Row("a set of 61 nodes", rounds(60, [lambda k: f"0 set {tree.small} {tree.small_term}\n{whole}"]), 60, 2.0),
+        Row("a put or a drop", rounds(160, [lambda k: f'0 put {tree.spare} Extra Num({k},"")\n{whole}0 drop {tree.spare}/Extra\n{whole}']), 320, 2.0),
+        Row("a kept question", rounds(40, [lambda k, it=it: f"0 ask {it} value()\n" for it in leaves]), 640),
+    ]
+
+
+def list_rows(tree):
+    """Batches over a tree of which half is one long list."""
+    def at(index):
+        return f"0 insert / Item {index} Item(7)\n0 ask /Item:{index} price()\n0 drop /Item:{index}\n"
+
+    return [Row("an insert or a drop at the end of a long list", at(tree.items) * 200, 400, 2.0),
+            Row("an insert or a drop at its front", at(0) * 40, 80)]
+
+
+VERSIONS = Row("a version line", "0 version\n" * 2000, 2000)
+
+
+def least_of_turns(served, rows_of, turns):
+    """The least time of each row on each tree, in seconds for one unit, by turns: each behind the questions that fill the keeper, and
+    behind the same batch, since what fills the keeper leaves little of the tree in the processor's cache."""
+    least = [{} for _ in served]
+    for _ in range(turns):
+        for run, rows, times in zip(served, rows_of, least):
+            for row in rows:
+                run.spent(FILL)
+                run.spent(row.lines)
+                times[row.what] = min(times.get(row.what, 1e9), run.spent(row.lines) / row.count)
+    return least
+
+
+def line_of(least):
+    """What a `version` line takes, in seconds."""
+    return min(times[VERSIONS.what] for times in least)
+
+
+def tell_rows(bounds, rows, least):
+    """Prints the rows, each with what it takes on each tree and its bounds."""
+    for row in rows:
+        units = [times[row.what] / line_of(least) for times in least]
+        grown = least[-1][row.what] / least[0][row.what]
+        told = ", ".join(f"{unit:.1f}" for unit in units) + " `version` lines"
+        if row.most:
+            told += f", the last one {bounds.at_most(row.what, units[-1], row.most)}"
+        told += f"; {SIZES[-1]:,} nodes against {SIZES[0]:,}: "
+        told += bounds.at_most(f"{row.what}, ratio", grown, row.growth) if row.growth else f"{grown:.2f}"
+        print(f"{row.what}: {told}", flush=True)
+
+
+def started(program, folder, trees):
+    """The program over each tree, with all attributes of all nodes kept."""
+    served = []
+    for tree in trees:
+        name = f"{tree.name}.txt"
+        (Path(folder) / name).write_text(tree.term)
+        served.append(Served(program, folder, ["kept.ast", name, "kept.jrag"]))
+        served[-1].spent(FILL)
+    return served
+
+
+def edits(bounds, program, folder, turns, trees, rows_of):
+    """The rows over these trees: their least times."""
+    served = started(program, folder, trees)
+    rows = [[VERSIONS, *rows_of(tree)] for tree in trees]
+    least = least_of_turns(served, rows, turns)
+    for run in served:
+        run.end()
+    tell_rows(bounds, rows[0][1:], least)
+    return least
+
+
+def sums(bounds, program, folder, turns):
+    """Edits in a sum."""
+    trees = [SumTree(size) for size in SIZES]
+    least = edits(bounds, program, folder, turns, trees, sum_rows)
+    question = least[-1]["a kept question"] / line_of(least)
+    print(f"a kept question with {SIZES[-1]:,} nodes: {bounds.at_most('a kept question', question, BEFORE['kept question'])} `version` lines, as before")
+    against_java(bounds, folder, trees, least)
+
+
+def against_java(bounds, folder, trees, least):
+    """How much faster the program is than a flush of everything and the evaluation of what is asked."""
+    java = FullFlush.compiled(folder)
+    if java is None:
+        print("no Java row: there is no javac")
+        return
+    for what, levels, wanted in (("a token edit, 4 values anew", 3, 25), ("a token edit, 16 values anew", 15, 12)):
+        ratios = []
+        for tree, times in zip(trees, least):
+            spent = java.spent(tree, levels)
+            ratios.append(spent / times[what])
+        told = ", ".join(f"{ratio:.1f}" for ratio in ratios[:-1]) + ", " + bounds.at_least(f"{what}, against Java", ratios[-1], wanted)
+        print(f"{what}: against full flush and evaluation in Java, on {', '.join(f'{size:,}' for size in SIZES)} nodes, {told} times as fast", flush=True)
+
+
+def lists(bounds, program, folder, turns):
+    """Edits of a long list."""
+    least = edits(bounds, program, folder, turns, [ListTree(size) for size in SIZES], list_rows)
+    front = least[-1]["an insert or a drop at its front"] / line_of(least)
+    told = bounds.at_most("an insert or a drop at the front", front, BEFORE["front"] / 20)
+    print(f"an insert or a drop at its front, with {SIZES[-1]:,} nodes: {told} `version` lines, a twentieth of what they were")
+
+
+def filling(bounds, program, folder):
+    """The instructions of an entry that is filled in, of the program itself."""
+    tree = SumTree(10_000)
+    (Path(folder) / "fill.txt").write_text(tree.term)
+    words = [program, "kept.ast", "fill.txt", "kept.jrag"]
+    counts = [instructions(words, folder, lines) for lines in ("", FILL)]
+    if None in counts:
+        print("filling the keeper isn't counted: there is no valgrind")
+        return
+    each = (counts[1] - counts[0]) / tree.entries
+    print(f"filling the keeper: {each:,.0f} instructions an entry, against {BEFORE['fill']:,.0f} before: {bounds.at_most('filling', each / BEFORE['fill'], 1.4)}")
+
+
+def keystrokes(bounds, program):
+    """20,000 keystrokes at one name: the memory and the time of an edit stay level."""
+    samples = ROOT / "samples" / "calculator"
+    words = ["--keep", "10000", "calc.ast", "tree.txt", "calc.jrag"]
+    if subprocess.run([program, *words], cwd=samples, stdin=subprocess.DEVNULL, capture_output=True).returncode:
+        print("no row of keystrokes: the program has no option --keep")
+        return
+    run = Served(program, samples, words)
+    spent, peaks = [], []
+    for begin in range(0, 20_000, 1_000):
+        lines = "".join(f'0 token /Block/Stmt:1/Expr/Left ID "x{k}"\n0 ask /Block/Stmt:1/Expr/Left decl()\n' for k in range(begin, begin + 1_000))
+        spent.append(run.spent(lines))
+        peaks.append(run.peak())
+    run.end()
+    grown = sum(spent[15:]) / sum(spent[5:10])
+    print(f"20,000 keystrokes at one name with --keep 10000: {sum(spent) / 20_000 * 1e6:.1f} us each; the last 5,000 against the second: "
+          f"{bounds.at_most('time of keystrokes', grown, 1.25)}; peak {peaks[-1]:,} KiB, against that of 5,000: {bounds.at_most('memory of keystrokes', peaks[-1] / peaks[4], 1.1)}")
+
+
+def marks(bounds, program, folder):
+    """200 sessions with 50 marks each: making them takes as long for each as with 100 sessions."""
+    def lines(sessions):
+        return "".join(f"{session} mark m{mark} /Item:{mark}\n" for mark in range(MARKED) for session in range(sessions))
+
+    least = [1e9, 1e9]
+    for _ in range(MARK_TURNS):
+        for at, sessions in enumerate((100, 200)):
+            run = Served(program, folder, ["kept.ast", f"{ListTree(SIZES[0]).name}.txt", "kept.jrag"])
+            least[at] = min(least[at], run.spent(lines(sessions)))
+            run.end()
+    print(f"200 sessions with {MARKED} marks each made: {least[1] / 200 / MARKED * 1e6:.2f} us a mark; against 100 sessions: {bounds.at_most('marks', least[1] / least[0], 2.5)}")
+
+
+def main():
+    program = os.path.abspath(sys.argv[1] if len(sys.argv) > 1 else ROOT / "attrd")
+    if not os.path.exists(program):
+        sys.exit("make bench builds ./attrd first")
+    turns = int(sys.argv[2]) if len(sys.argv) > 2 else TURNS
+    bounds = Bounds()
+    with tempfile.TemporaryDirectory() as folder:
+        (Path(folder) / "kept.ast").write_text(GRAMMAR)
+        (Path(folder) / "kept.jrag").write_text(ASPECTS)
+        sums(bounds, program, folder, turns)
+        lists(bounds, program, folder, turns)
+        filling(bounds, program, folder)
+        marks(bounds, program, folder)
+    keystrokes(bounds, program)
+    if bounds.broken:
+        sys.exit("these bounds don't hold:\n" + "\n".join(f"  {it}" for it in bounds.broken))
+    print("all bounds hold")
+
+
+if __name__ == "__main__":
+    main()
