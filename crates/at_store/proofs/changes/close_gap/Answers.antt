@@ -1,8 +1,14 @@
-use Rattle.std.proofs.Common.{drop, ◌∙◌}
+use Rattle.std.proofs.Common.{List, drop, sym, ◌∙◌, subst}
+use Rattle.std.specs.List.{slice_get}
 use Rattle.at_store.specs.Memory.{kids_in, renumbered}
+use Rattle.at_store.specs.Reserving.{HasSpace}
+use Rattle.at_store.specs.declared.entry.Slot.{Slot}
 use Rattle.at_store.proofs.changes.close_gap.Goals as goal
 
 pub returns-clause-written : goal.returns-clause-written
 returns-clause-written c = λ k.
     let cut = c.remove_kid.ensures.written in
     c.number_kids.ensures.written k ∙ (λ i. renumbered (drop c.args.index (kids_in (cut c.args.parent i) c.args.part)) c.args.index k (cut k i))
+
+pub returns-clause-room : goal.returns-clause-room
+returns-clause-room c = λ node part h. subst (λ (slots : List Slot). HasSpace (slice_get slots part)) (sym (c.number_kids.ensures.slots node)) (c.remove_kid.ensures.room node part h)

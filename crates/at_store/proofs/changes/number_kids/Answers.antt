@@ -3,6 +3,7 @@ use Rattle.std.specs.List.{slice_get}
 use Rattle.slab.specs.Slab.{Slab}
 use Rattle.at_store.specs.declared.entry.Entry.{Entry}
 use Rattle.at_store.specs.Memory.{kids_in, renumbered}
+use Rattle.at_store.specs.Reserving.{slots_in}
 use Rattle.at_store.specs.View.{leaves_in, memory_of}
 use Rattle.at_store.proofs.Slots.{kids_indexed, none_past, numbered_on}
 use Rattle.at_store.proofs.changes.number_kids.Goals.{in-Some, in_default}
@@ -25,6 +26,7 @@ loop-index-preserved c =
             kids = ap (λ (s : Slab Entry). kids_in (memory_of s c.args.node) c.args.part) w.slab-is ∙ ap (λ o. kids_in o c.args.part) (w.write_index.ensures.written c.args.node) ∙ kids_indexed w.in-Some.kid c.loop-index.index c.args.node c.args.part (before c.args.node) ∙ inv.kids;
             written = λ k. subst (λ (j : ℕ). renumbered (drop j kids) j k (memory_of c.match-kid_at.slab k) ≡ renumbered (drop c.args.from kids) c.args.from k (old k)) (next c.loop-index.index) (numbered_on kids c.loop-index.index w.in-Some.kid k (before k) (memory_of c.match-kid_at.slab k) _ at' (ap (λ (s : Slab Entry). memory_of s k) w.slab-is ∙ w.write_index.ensures.written k) (inv.written k));
             marks = λ k. ap (λ (s : Slab Entry). leaves_in s k) w.slab-is ∙ w.write_index.ensures.marks k ∙ inv.marks k;
+            slots = λ k. ap (λ (s : Slab Entry). slots_in s k) w.slab-is ∙ w.write_index.ensures.slots k ∙ inv.slots k;
           })
       | in_default w ↦ (
           let nowhere : slice_get kids c.loop-index.index ≡ None = ap (λ ns. slice_get ns c.loop-index.index) (sym inv.kids) ∙ sym c.kid_at.ensures ∙ w.in_default.is in

@@ -7,6 +7,5 @@ returns-clause-prepared c =
     let old = c.args.self.now in
     let new = c.bring_child.new.self in
     let root = c.in_ok-new.new in
-    let kids = c.in_ok-new.kids in
     let (planted, waits, (root_stays, leaving, absent)) = c.in_ok-new.ensures.brought in
-    insert_prepared old new c.args.node c.args.part c.args.index root c.args.tree kids (brings old new (tree_view c.args.tree) root c.in_ok-new.ensures.brought) leaving c.bring_child.ensures.marks c.in_ok-new.ensures.list
+    insert_prepared old new c.args.node c.args.part c.args.index root c.args.tree (brings old new (tree_view c.args.tree) root c.in_ok-new.ensures.brought) leaving c.bring_child.ensures.marks c.in_ok-new.ensures.room

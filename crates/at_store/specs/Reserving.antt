@@ -1,0 +1,45 @@
+-- Room that is taken for one more child, before it comes.
+use Rattle.std.specs.Prelude.{◌≡◌, ⊤, ℕ, ◌≤◌, length, List, [], Option, Some, None}
+use Rattle.std.specs.List.{insert, slice_get}
+use Rattle.slab.specs.Slab.{Slab, get}
+use Rattle.smallvec.specs.SmallVec.{HasRoomFor}
+use Rattle.at_model.specs.Edits.{Edit}
+use Rattle.at_model.specs.Edits as edit
+use Rattle.at_model.specs.Trees.{Tree}
+use Rattle.at_store.specs.Memory.{Form, IsPlacedIn, Kids, cell_in}
+use Rattle.at_store.specs.Numbers.{number_at}
+use Rattle.at_store.specs.View.{memory_of}
+use Rattle.at_store.specs.declared.entry.Entry.{Entry}
+use Rattle.at_store.specs.declared.entry.Slot.{Slot}
+use Rattle.at_store.specs.declared.entry.Slot.TheVariants as slot
+
+-- one more child in the component takes no memory
+abbrev pub HasSpace : Option Slot → Type 0
+HasSpace (Some (slot.Kids form kids)) = HasRoomFor kids 1
+HasSpace o = ⊤
+
+abbrev pub slots_of : Option Entry → List Slot
+slots_of None = []
+slots_of (Some e) = e.cells.items
+
+abbrev pub slots_in : Slab Entry → ℕ → List Slot
+slots_in slab k = slots_of (get slab k)
+
+abbrev pub HasRoom : Slab Entry → (node part : ℕ) → Type 0
+HasRoom slab node part = HasSpace (slice_get (slots_in slab node) part)
+
+-- where there was room there still is
+abbrev pub KeepsRoom : (before later : Slab Entry) → Type 0
+KeepsRoom before later = (node part : ℕ) → HasRoom before node part → HasRoom later node part
+
+-- there is room where the edit of a numbered tree puts a child
+abbrev pub IsRoomFor : Slab Entry → Tree → Edit → Type 0
+IsRoomFor slab s (edit.Put node part new) = HasRoom slab (number_at s node) part
+IsRoomFor slab s (edit.Insert node part index new) = HasRoom slab (number_at s node) part
+IsRoomFor slab s (edit.Move node to part index) = HasRoom slab (number_at s to) part
+IsRoomFor slab s e = ⊤
+
+-- where there was room the node came into the list, to that index
+abbrev pub ComesTo : (node part index new : ℕ) → (before later : Slab Entry) → Type 0
+ComesTo node part index new before later = (form : Form) (kids : List ℕ) → cell_in (memory_of before node) part ≡ Some (Kids form kids) → index ≤ length kids → HasRoom before node part
+    → IsPlacedIn node part index new (Kids form (insert kids index new)) (memory_of before) (memory_of later)
