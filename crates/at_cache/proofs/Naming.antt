@@ -1,5 +1,5 @@
 -- A flush begins at the nodes that places name.
-use Rattle.std.proofs.Common.{◌≡◌, ◌⊎◌, inl, inr, ℕ, ◌+◌, ◌<◌, List, [], ◌∷◌, ◌++◌, ◌||◌, ◌&&◌, Bool, true, false, true≢false, Option, None, Some, Contains, Vec, take, slice_get, get_or, length, nat_eq, nat_lt, refl, sym, ap, ◌∙◌, subst, append-nil, append_assoc, eqb-true}
+use Rattle.std.proofs.Common.{◌≡◌, ◌⊎◌, inl, inr, ℕ, ◌+◌, ◌<◌, List, [], ◌∷◌, ◌++◌, ◌||◌, Bool, true, false, true≢false, Option, None, Some, Contains, Vec, take, slice_get, get_or, length, nat_eq, nat_lt, refl, sym, ap, ◌∙◌, subst, append-nil, append_assoc, eqb-true}
 use Rattle.std.specs.Bool.{MatchBool}
 use Rattle.std.specs.List.{list_any}
 use Rattle.std.proofs.lemmas.Bool.{cases_eq, eq-eqb, ltb-false, ltb-true}
@@ -18,7 +18,7 @@ use Rattle.at_cache.specs.declared.edge.Edge.{Edge}
 use Rattle.at_cache.specs.declared.facet.Readers.{Readers}
 use Rattle.at_cache.specs.declared.scope.Scope.{Scope}
 use Rattle.at_cache.specs.declared.scope.Scope.TheVariants as scope
-use Rattle.at_cache.specs.Asking.{AreNoted, Asked, GoesOn, is_index, looks_at, sees}
+use Rattle.at_cache.specs.Asking.{AreNoted, GoesOn, looks_at, sees}
 use Rattle.at_cache.specs.Flushing.{Begins, IsIdle, Work}
 use Rattle.at_cache.specs.Info.{Memory}
 use Rattle.at_cache.specs.Kept.{Answers, AreNamed, node_at}

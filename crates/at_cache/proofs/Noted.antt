@@ -1,10 +1,10 @@
 -- The nodes of which an entry read the index.
-use Rattle.std.proofs.Common.{◌≡◌, ◌⊎◌, inl, inr, ℕ, ◌<◌, List, [], ◌∷◌, ◌++◌, Bool, true, false, true≢false, Some, Contains, Vec, IsTrue, not, cond, nat_eq, length, get_or, slice_get, refl, sym, ap, ◌∙◌, subst}
+use Rattle.std.proofs.Common.{◌≡◌, inl, inr, ℕ, ◌<◌, List, [], ◌∷◌, ◌++◌, Bool, true, false, true≢false, Some, Contains, Vec, IsTrue, not, cond, nat_eq, length, get_or, slice_get, refl, sym, ap, ◌∙◌, subst}
 use Rattle.std.specs.List.{list_any}
 use Rattle.std.proofs.lemmas.Bool.{eq-eqb}
 use Rattle.std.proofs.lemmas.List.Elements.{Contains-append_left, Contains-append_right}
 use Rattle.slab.proofs.SlabLemmas.{Contains-cons_cases}
-use Rattle.at_model.specs.Run.{Location, Is, Tok, Slot, Up, Idx}
+use Rattle.at_model.specs.Run.{Location, Idx}
 use Rattle.at_store.specs.declared.node.Loc.{Loc}
 use Rattle.at_store.specs.declared.node.Loc.TheVariants as loc
 use Rattle.at_store.specs.Located.{loc_view}
@@ -13,7 +13,7 @@ use Rattle.at_cache.specs.declared.facet.Facet.{Facet}
 use Rattle.at_cache.specs.declared.facet.Facet.TheVariants as facet
 use Rattle.at_cache.specs.declared.facet.Readers.{Readers}
 use Rattle.at_cache.specs.Asking.{AreNoted, is_index}
-use Rattle.at_cache.specs.Kept.{node_at, same_location}
+use Rattle.at_cache.specs.Kept.{node_at}
 use Rattle.at_cache.specs.Readers.{edges_among, edges_at, facet_at}
 use Rattle.at_cache.specs.Recorded.{is_listed}
 use Rattle.at_cache.proofs.Beginning.{edges_of}

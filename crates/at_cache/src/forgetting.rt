@@ -32,7 +32,8 @@ fn doom(entries: &mut Table, first: Option<usize>, edge: &Edge) -> Option<usize>
 
 // So do those that all these edges tell of.
 fn doom_all(entries: &mut Table, first: Option<usize>, edges: &[Edge]) -> Option<usize>
-    ensures works { (old : Memory) (start : List Edge) → Work old start edges.now first (memory_of entries.old) → Work old start [] result (memory_of entries.new) }
+    ensures works { (old : Memory) (start : List Edge) → Work old start edges.now first (memory_of entries.old)
+        → Work old start [] result (memory_of entries.new) }
     ensures len { table_len entries.new ≡ table_len entries.old }
 {
     let mut first = first;
@@ -45,7 +46,8 @@ fn doom_all(entries: &mut Table, first: Option<usize>, edges: &[Edge]) -> Option
 // Whether the facet of the node is in the scope, and touched.
 fn is_touched<F: Fn(Loc) -> bool>(node: Node, facet: Facet, scope: Scope, touched: &F) -> bool
     requires { F.IsAlwaysCallable touched.now }
-    ensures { MatchBool result (Answers (F.post touched.now) (facet_at node facet) true) (looks_at scope (facet_at node facet) ≡ true → Answers (F.post touched.now) (facet_at node facet) false) }
+    ensures { MatchBool result (Answers (F.post touched.now) (facet_at node facet) true) (looks_at scope (facet_at node facet) ≡ true
+        → Answers (F.post touched.now) (facet_at node facet) false) }
 {
     if !scope.has(facet) {
         return false;
@@ -81,7 +83,8 @@ fn begin<F: Fn(Loc) -> bool>(
     touched: &F,
 ) -> Option<usize>
     requires { F.IsAlwaysCallable touched.now }
-    ensures { IsIdle (memory_of entries.old) → (start : List Edge) × Work (memory_of entries.old) start [] result (memory_of entries.new) × Begins (Answers (F.post touched.now)) (edges_at readers.now) start }
+    ensures { IsIdle (memory_of entries.old) → (start : List Edge) × Work (memory_of entries.old) start [] result (memory_of entries.new)
+        × Begins (Answers (F.post touched.now)) (edges_at readers.now) start }
 {
     let mut first = None;
     for number in 0..readers.len() {
@@ -99,7 +102,8 @@ fn begin<F: Fn(Loc) -> bool>(
 
 // The first entry that goes is taken out, and those that used it go, too.
 fn forget(entries: &mut Table, slot: usize) -> Option<usize>
-    ensures works { (old : Memory) (start : List Edge) → Work old start [] (Some slot) (memory_of entries.old) → Work old start [] result (memory_of entries.new) }
+    ensures works { (old : Memory) (start : List Edge) → Work old start [] (Some slot) (memory_of entries.old)
+        → Work old start [] result (memory_of entries.new) }
     ensures fewer { (table_len entries.new < table_len entries.old) ⊎ ((result ≡ None) × (table_len entries.new ≡ table_len entries.old)) }
 {
     match entries.remove(slot) {
@@ -121,9 +125,12 @@ pub fn forget_all(entries: &mut Table, first: Option<usize>)
 /// All that stands for a touched location is taken out.
 pub fn take_out<F: Fn(Loc) -> bool>(entries: &mut Table, readers: &[Vec<Readers>], touched: &F)
     requires { F.IsAlwaysCallable touched.now }
-    ensures indexed { (puts : ℕ) → IsIndexed (edges_at readers.now) puts (memory_of entries.old) → IsIndexed (edges_at readers.now) puts (memory_of entries.new) }
-    ensures leaves { (puts : ℕ) → IsIndexed (edges_at readers.now) puts (memory_of entries.old) → LeavesUntouched (Answers (F.post touched.now)) (kept_in entries.old puts) (kept_in entries.new puts) }
-    ensures loses { (puts : ℕ) → IsIndexed (edges_at readers.now) puts (memory_of entries.old) → LosesTouched (Answers (F.post touched.now)) (kept_in entries.old puts) (kept_in entries.new puts) }
+    ensures indexed { (puts : ℕ) → IsIndexed (edges_at readers.now) puts (memory_of entries.old)
+        → IsIndexed (edges_at readers.now) puts (memory_of entries.new) }
+    ensures leaves { (puts : ℕ) → IsIndexed (edges_at readers.now) puts (memory_of entries.old)
+        → LeavesUntouched (Answers (F.post touched.now)) (kept_in entries.old puts) (kept_in entries.new puts) }
+    ensures loses { (puts : ℕ) → IsIndexed (edges_at readers.now) puts (memory_of entries.old)
+        → LosesTouched (Answers (F.post touched.now)) (kept_in entries.old puts) (kept_in entries.new puts) }
 {
     let first = begin(entries, readers, touched);
     forget_all(entries, first);

@@ -1,9 +1,11 @@
-//! The keeper that holds no more than a number of entries from one edit to the next.
+//! The keeper that takes no more than a number of entries through an edit.
 
-ghost use Rattle.std.specs.Prelude.{◌≡◌, ◌-◌, ◌^◌, min, None, false};
+ghost use Rattle.std.specs.Prelude.{◌≡◌, ◌-◌, ◌^◌, min, map, None, OnErr, OnOk, false, true};
+ghost use Rattle.at_body.specs.Values.{value_view};
+ghost use Rattle.at_store.specs.Located.{loc_view};
 ghost use Rattle.at_cache.specs.Info.{table_len};
 ghost use Rattle.at_cache.specs.Bound.{ForgetsOver, kept_by};
-ghost use Rattle.at_cache.specs.Kept.{Answers, AreNamed, KeepsAll, LeavesUntouched};
+ghost use Rattle.at_cache.specs.Kept.{Answers, AreKept, AreNamed, KeepsAll, LeavesUntouched, Puts};
 ghost use Rattle.at_cache.specs.Recorded.{reads_held};
 
 use crate::keep_recorded::KeepRecorded;
@@ -74,7 +76,13 @@ impl Keeper for KeepAtMost {
         value: Value,
         reads: &[Loc],
         uses: &[Inst],
-    ) -> Result<(), AllocError> {
+    ) -> Result<(), AllocError>
+        requires absent { kept_by self.old inst ≡ None }
+        requires present { AreKept (kept_by self.old) uses.now }
+        ensures puts { OnOk result (Puts true (kept_by self.old) inst (value_view value) (map loc_view reads.now) uses.now (kept_by self.new)) }
+        ensures err { OnErr result (KeepsAll (kept_by self.old) (kept_by self.new)) }
+        ensures bound { self.new.most ≡ self.old.most }
+    {
         self.keeper.put(inst, value, reads, uses)
     }
 
@@ -82,6 +90,7 @@ impl Keeper for KeepAtMost {
         requires { F.IsAlwaysCallable touched.now }
         ensures leaves { LeavesUntouched (Answers (F.post touched.now)) (kept_by self.old) (kept_by self.new) }
         ensures over { ForgetsOver (Answers (F.post touched.now)) self.old self.new }
+        ensures bound { self.new.most ≡ self.old.most }
     {
         if self.keeper.len() > self.most {
             self.keeper = KeepRecorded::new(self.alloc);
@@ -95,6 +104,7 @@ impl Keeper for KeepAtMost {
         requires named { AreNamed places.now (F.post touched.now) }
         ensures leaves { LeavesUntouched (Answers (F.post touched.now)) (kept_by self.old) (kept_by self.new) }
         ensures over { ForgetsOver (Answers (F.post touched.now)) self.old self.new }
+        ensures bound { self.new.most ≡ self.old.most }
     {
         if self.keeper.len() > self.most {
             self.keeper = KeepRecorded::new(self.alloc);

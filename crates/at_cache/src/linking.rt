@@ -166,9 +166,11 @@ fn add_reader(
 // One more edge to an entry that used this one.
 fn add_user(alloc: Global, entries: &mut Table, slot: usize, edge: Edge) -> Result<(), AllocError>
     requires there { IsSome (memory_of entries.old slot) }
-    ensures lists { (users : List Edge) × ((k : ℕ) → memory_of entries.new k ≡ reused slot users (memory_of entries.old) k) × Lists (memory_of entries.old) edge (users_at (memory_of entries.old) slot) users × OnOk result (Contains users edge) }
+    ensures lists { (users : List Edge) × ((k : ℕ) → memory_of entries.new k ≡ reused slot users (memory_of entries.old) k)
+        × Lists (memory_of entries.old) edge (users_at (memory_of entries.old) slot) users × OnOk result (Contains users edge) }
     ensures key { entries.new.places.vacant_key ≡ entries.old.places.vacant_key }
-    ensures absent { (i : Instance ℕ) → lookup (same_instance i) entries.old.entries.entries ≡ None → lookup (same_instance i) entries.new.entries.entries ≡ None }
+    ensures absent { (i : Instance ℕ) → lookup (same_instance i) entries.old.entries.entries ≡ None
+        → lookup (same_instance i) entries.new.entries.entries ≡ None }
 {
     let mut users = entries.exchange_users(slot, Edges::new(alloc));
     let result = add_edge(entries, &mut users, edge);
@@ -207,7 +209,8 @@ pub fn add_users(
     ensures uses { Uses edge slots.now (memory_of entries.old) (memory_of entries.new) }
     ensures listed { OnOk result (AreListed edge slots.now (users_at (memory_of entries.new))) }
     ensures key { entries.new.places.vacant_key ≡ entries.old.places.vacant_key }
-    ensures absent { (i : Instance ℕ) → lookup (same_instance i) entries.old.entries.entries ≡ None → lookup (same_instance i) entries.new.entries.entries ≡ None }
+    ensures absent { (i : Instance ℕ) → lookup (same_instance i) entries.old.entries.entries ≡ None
+        → lookup (same_instance i) entries.new.entries.entries ≡ None }
 {
     for slot in slots {
         add_user(alloc, entries, *slot, edge)?;

@@ -66,7 +66,8 @@ pub fn note(
     location: Loc,
 ) -> Result<(), AllocError>
     ensures stay { AreNoted (edges_at readers.now) index_read.old.items → AreNoted (edges_at readers.now) index_read.new.items }
-    ensures noted { OnOk result (AreNoted (edges_at readers.now) index_read.old.items → (n : ℕ) → loc_view location ≡ Idx n → list_any (nat_eq n) index_read.new.items ≡ true) }
+    ensures noted { OnOk result (AreNoted (edges_at readers.now) index_read.old.items → (n : ℕ)
+        → loc_view location ≡ Idx n → list_any (nat_eq n) index_read.new.items ≡ true) }
 {
     match location {
         Loc::Idx(node) => note_node(readers, index_read, node),

@@ -90,14 +90,7 @@ fn begin_around<F: Fn(Loc) -> bool>(
 {
     match changing {
         Some(changing) => {
-            let at = begin_node(
-                entries,
-                first,
-                readers,
-                changing.node,
-                Scope::All,
-                touched,
-            );
+            let at = begin_node(entries, first, readers, changing.node, Scope::All, touched);
             begin_children(entries, at, readers, index_read, changing.children, touched)
         }
         None => first,
@@ -151,9 +144,12 @@ pub fn take_out_at<F: Fn(Loc) -> bool>(
     requires callable { F.IsAlwaysCallable touched.now }
     requires named { AreNamed places.now (F.post touched.now) }
     requires noted { AreNoted (edges_at readers.now) index_read.now }
-    ensures indexed { (puts : ℕ) → IsIndexed (edges_at readers.now) puts (memory_of entries.old) → IsIndexed (edges_at readers.now) puts (memory_of entries.new) }
-    ensures leaves { (puts : ℕ) → IsIndexed (edges_at readers.now) puts (memory_of entries.old) → LeavesUntouched (Answers (F.post touched.now)) (kept_in entries.old puts) (kept_in entries.new puts) }
-    ensures loses { (puts : ℕ) → IsIndexed (edges_at readers.now) puts (memory_of entries.old) → LosesTouched (Answers (F.post touched.now)) (kept_in entries.old puts) (kept_in entries.new puts) }
+    ensures indexed { (puts : ℕ) → IsIndexed (edges_at readers.now) puts (memory_of entries.old)
+        → IsIndexed (edges_at readers.now) puts (memory_of entries.new) }
+    ensures leaves { (puts : ℕ) → IsIndexed (edges_at readers.now) puts (memory_of entries.old)
+        → LeavesUntouched (Answers (F.post touched.now)) (kept_in entries.old puts) (kept_in entries.new puts) }
+    ensures loses { (puts : ℕ) → IsIndexed (edges_at readers.now) puts (memory_of entries.old)
+        → LosesTouched (Answers (F.post touched.now)) (kept_in entries.old puts) (kept_in entries.new puts) }
 {
     let first = begin_named(entries, readers, index_read, places, touched);
     forget_all(entries, first);

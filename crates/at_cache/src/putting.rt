@@ -77,10 +77,13 @@ pub fn enter_with(
     uses: &[Inst],
 ) -> Result<(), AllocError>
     requires absent { lookup (same_instance inst) entries.old.entries.entries ≡ None }
-    ensures indexed { IsIndexed (edges_at readers.old.items) stamp (memory_of entries.old) → IsIndexed (edges_at readers.new.items) (stamp + 1) (memory_of entries.new) }
+    ensures indexed { IsIndexed (edges_at readers.old.items) stamp (memory_of entries.old)
+        → IsIndexed (edges_at readers.new.items) (stamp + 1) (memory_of entries.new) }
     ensures noted { AreNoted (edges_at readers.old.items) index_read.old.items → AreNoted (edges_at readers.new.items) index_read.new.items }
-    ensures puts { IsIndexed (edges_at readers.old.items) stamp (memory_of entries.old) → OnOk result (Puts true (kept_in entries.old stamp) inst (value_view value) (map loc_view reads.now) uses.now (kept_in entries.new (stamp + 1))) }
-    ensures err { IsIndexed (edges_at readers.old.items) stamp (memory_of entries.old) → OnErr result (KeepsAll (kept_in entries.old stamp) (kept_in entries.new (stamp + 1))) }
+    ensures puts { IsIndexed (edges_at readers.old.items) stamp (memory_of entries.old)
+        → OnOk result (Puts true (kept_in entries.old stamp) inst (value_view value) (map loc_view reads.now) uses.now (kept_in entries.new (stamp + 1))) }
+    ensures err { IsIndexed (edges_at readers.old.items) stamp (memory_of entries.old)
+        → OnErr result (KeepsAll (kept_in entries.old stamp) (kept_in entries.new (stamp + 1))) }
 {
     let entry = fresh(alloc, entries, stamp, value, reads, uses)?;
     let edge = Edge {

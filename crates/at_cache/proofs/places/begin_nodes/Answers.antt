@@ -1,4 +1,4 @@
-use Rattle.std.proofs.Common.{List, ℕ, ap, subst, sym, take_all}
+use Rattle.std.proofs.Common.{List, ℕ, subst, take_all}
 use Rattle.std.specs.List.{list_any}
 use Rattle.at_cache.specs.Asking.{GoesOn, sees}
 use Rattle.at_cache.specs.Info.{memory_of}
