@@ -1,5 +1,6 @@
 -- Elements of lists at their positions.
 use Rattle.std.proofs.Common.{◌≡◌, ℕ, zero, suc, ◌+◌, ◌<◌, List, [], ◌∷◌, ◌++◌, length, Some, refl, sym, ap, ◌∙◌, subst, arith, length-append}
+use Rattle.std.proofs.lemmas.Option.{slice_get_within}
 use Rattle.std.specs.Prelude.{slice_get, slice_set, remove}
 use Rattle.std.specs.List.{AllByRecursion}
 
@@ -35,6 +36,9 @@ set_set [] zero a b = refl
 set_set [] (suc i) a b = refl
 set_set (x ∷ xs) zero a b = refl
 set_set (x ∷ xs) (suc i) a b = ap (λ l. x ∷ l) (set_set xs i a b)
+
+pub within_set : {A : Type 0} (xs : List A) (i : ℕ) (a b : A) → slice_get xs i ≡ Some a → i < length (slice_set xs i b)
+within_set xs i a b e = slice_get_within (slice_set xs i b) i b (get_set xs i a b e)
 
 -- it is one less without the element
 pub one_less : {A : Type 0} (xs : List A) (i : ℕ) → i < length xs → length (remove xs i) + 1 ≡ length xs

@@ -86,8 +86,8 @@ module _ {N : Type 0} (look : ℕ → Option N) where
       let f : Mark → Bool = λ x. is_some (look x.node) in
       let next : suc i ≡ i + 1 = omega arith in
       let again : AreTallied (kept_up_to look (suc i) ms) t u =
-          subst (λ l. AreTallied l t u) (sym (ap (λ l. filter f l ++ drop (suc i) ms) (front_at ms i m at) ∙ one_kept m (take i ms) (drop (suc i) ms) (is_some (look m.node)) refl))
-          (step (filter f (take i ms)) (drop (suc i) ms) (subst (λ l. AreTallied (filter f (take i ms) ++ l) s n) (rest_at ms i m at) is)) in
+      subst (λ l. AreTallied l t u) (sym (ap (λ l. filter f l ++ drop (suc i) ms) (front_at ms i m at) ∙ one_kept m (take i ms) (drop (suc i) ms) (is_some (look m.node)) refl))
+      (step (filter f (take i ms)) (drop (suc i) ms) (subst (λ l. AreTallied (filter f (take i ms) ++ l) s n) (rest_at ms i m at) is)) in
       subst (λ (k : ℕ). AreTallied (kept_up_to look k ms) t u) next again
     where
       rest_at : (ms : List Mark) (i : ℕ) (m : Mark) → slice_get ms i ≡ Some m → drop i ms ≡ m ∷ drop (suc i) ms

@@ -8,13 +8,12 @@ mod noted;
 mod tally;
 mod using;
 
-pub use noted::Noted;
-pub use using::{has_asked, has_mark, has_used};
-
 use at_store::Node;
 use indexmap::IndexMap;
+pub use noted::Noted;
 use std::borrow::CowStr;
 use tally::Tally;
+pub use using::{has_asked, has_mark, has_used};
 
 /// How many marks a session may have.
 pub const MAX_MARKS: usize = 100;

@@ -149,10 +149,11 @@ impl Posts {
     }
 
     /// The question at the position.
-    pub fn get(&self, position: usize) -> Option<&Posted>
-        ensures { MatchOption result (slice_get self.now.items.items position ≡ None) (λ p. slice_get self.now.items.items position ≡ Some p.now) }
+    pub fn at(&self, position: usize) -> &Posted
+        requires { position < length self.now.items.items }
+        ensures { slice_get self.now.items.items position ≡ Some result.now }
     {
-        self.items.get(position)
+        &self.items[position]
     }
 
     /// What was done for the question at the position, which has nothing of it any more.

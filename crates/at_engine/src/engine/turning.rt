@@ -301,6 +301,7 @@ impl<K: Keeper> Engine<K> {
     /// What was done for the question at the position; where nothing was, its words are looked at.
     fn begin(&self, position: usize, begun: Option<Question>) -> Result<Begun, AllocError>
         requires sound { IsHeld K.contents self.now }
+        requires within { position < length self.now.posts.items.items }
         ensures begins { (p : Posted) → StandsAt self.now.posts.items.items position p → HasBegun (rules_of self.now) self.now.store (K.contents self.now.demand.keeper) p begun
             → IfOk result (Begins (rules_of self.now) self.now.store (K.contents self.now.demand.keeper) p begun) }
         ensures sparing { IsSparingOn (rules_of self.now) (contents self.now.store) (K.contents self.now.demand.keeper) begun → IfOk result (BeginsSparing (rules_of self.now) (contents self.now.store) (K.contents self.now.demand.keeper)) }
@@ -314,12 +315,11 @@ impl<K: Keeper> Engine<K> {
     /// A question for the words at the position, or why they are refused.
     fn begin_anew(&self, position: usize) -> Result<Begun, AllocError>
         requires sound { IsHeld K.contents self.now }
+        requires within { position < length self.now.posts.items.items }
         ensures begins { (p : Posted) → StandsAt self.now.posts.items.items position p → IfOk result (Begins (rules_of self.now) self.now.store (K.contents self.now.demand.keeper) p None) }
         ensures sparing { IfOk result (BeginsSparing (rules_of self.now) (contents self.now.store) (K.contents self.now.demand.keeper)) }
     {
-        let Some(posted) = self.posts.get(position) else {
-            return Ok(Begun::Refused(Refusal::Question));
-        };
+        let posted = self.posts.at(position);
         let arguments = posted.arguments.as_slice();
         if !has_asked(&posted.marks, posted.session, &posted.place, arguments) {
             return Ok(Begun::Refused(Refusal::Mark));

@@ -142,13 +142,7 @@ fn discount(sessions: &mut Tally, nodes: &mut Tally, session: u16, node: Node)
 }
 
 // One less, if the node is gone.
-fn discount_gone(
-    sessions: &mut Tally,
-    nodes: &mut Tally,
-    session: u16,
-    node: Node,
-    store: &Store,
-)
+fn discount_gone(sessions: &mut Tally, nodes: &mut Tally, session: u16, node: Node, store: &Store)
     requires { IsIdle store.now }
     ensures { (front back : List Mark) (m : Mark) → IsOf session node m → AreTallied (front ++ m ∷ back) sessions.old nodes.old
         → AreTallied (front ++ cond (is_some (path store.now m.node)) (m ∷ back) back) sessions.new nodes.new }
@@ -220,11 +214,7 @@ fn place_of(items: &IndexMap<Key<'static>, Node>, session: u16, name: &str) -> O
 }
 
 // Takes the session's mark of that name out, where there is one. All others stay in their order.
-fn take_out(
-    items: &mut IndexMap<Key<'static>, Node>,
-    session: u16,
-    name: &str,
-) -> Option<Node>
+fn take_out(items: &mut IndexMap<Key<'static>, Node>, session: u16, name: &str) -> Option<Node>
     ensures left { listed items.new.entries ≡ filter (λ m. not (is_named session name.now m)) (listed items.old.entries) }
     ensures taken { MatchOption result (listed items.new.entries ≡ listed items.old.entries) (λ node. IsTaken session node (listed items.old.entries) (listed items.new.entries)) }
 {

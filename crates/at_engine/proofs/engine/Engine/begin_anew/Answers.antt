@@ -1,4 +1,4 @@
-use Rattle.std.proofs.Common.{◌≡◌, ◌∙◌, ◌++◌, ℕ, List, Some, None, ap, sym, subst, string_bytes}
+use Rattle.std.proofs.Common.{◌≡◌, ◌∙◌, ◌++◌, ℕ, List, None, ap, sym, subst, string_bytes}
 use Rattle.std.specs.List.{flat_map, list_all}
 use Rattle.at_model.specs.Lines.{Ask}
 use Rattle.at_model.specs.Names.{IsName}
@@ -20,54 +20,51 @@ use Rattle.at_engine.proofs.Positions.{holds_at, same_there}
 use Rattle.at_engine.proofs.Reading.{read_asked, read_refused, read_unmarked}
 use Rattle.at_engine.proofs.engine.Engine.begin_anew.Goals as goal
 
-pub returns-in_default-clause-begins : goal.returns-in_default-clause-begins
-returns-in_default-clause-begins g c p there = let none : None ≡ Some p = sym c.in_default.ensures ∙ there in absurd cc
-
 pub returns-then-not-has_asked-clause-begins : goal.returns-then-not-has_asked-clause-begins
 returns-then-not-has_asked-clause-begins g c p there =
     let e = c.args.self.now in
-    let q = c.in-Some.posted.now in
-    let marked = (holds_at (IsPostedOn e.rules e.store (g.K.Keeper.contents e.demand.keeper)) e.posts.items.items c.args.position q c.in-Some.ensures c.requires.sound.posted).marked in
+    let q = c.at-posted.result.now in
+    let marked = (holds_at (IsPostedOn e.rules e.store (g.K.Keeper.contents e.demand.keeper)) e.posts.items.items c.args.position q c.at-posted.ensures c.requires.sound.posted).marked in
     let none = ap (λ (l : List Argument). list_all (has_mark q.marks.items.items q.session) (marks_in (place_view q.place) ++ flat_map marks_in_argument (arguments_view l))) (sym c.as_slice-arguments.ensures.value) ∙ sym c.if-not-has_asked.ensures in
-    subst (λ (x : Posted). words_verdict e.rules (tree e.store) (posted_view (path e.store) x) ≡ Refuses code.Mark) (same_there e.posts.items.items c.args.position q p c.in-Some.ensures there)
+    subst (λ (x : Posted). words_verdict e.rules (tree e.store) (posted_view (path e.store) x) ≡ Refuses code.Mark) (same_there e.posts.items.items c.args.position q p c.at-posted.ensures there)
     (read_unmarked e.rules e.store e.version e.posts q marked none)
 
 pub asked-requires-clause-there : goal.asked-requires-clause-there
 asked-requires-clause-there g c =
     let e = c.args.self.now in
-    (holds_at (IsPostedOn e.rules e.store (g.K.Keeper.contents e.demand.keeper)) e.posts.items.items c.args.position c.in-Some.posted.now c.in-Some.ensures c.requires.sound.posted).marked
+    (holds_at (IsPostedOn e.rules e.store (g.K.Keeper.contents e.demand.keeper)) e.posts.items.items c.args.position c.at-posted.result.now c.at-posted.ensures c.requires.sound.posted).marked
 
 pub asked-requires-clause-named : goal.asked-requires-clause-named
 asked-requires-clause-named g c =
     let e = c.args.self.now in
-    subst IsName (sym c.as_str.ensures.value) (holds_at (IsPostedOn e.rules e.store (g.K.Keeper.contents e.demand.keeper)) e.posts.items.items c.args.position c.in-Some.posted.now c.in-Some.ensures c.requires.sound.posted).named
+    subst IsName (sym c.as_str.ensures.value) (holds_at (IsPostedOn e.rules e.store (g.K.Keeper.contents e.demand.keeper)) e.posts.items.items c.args.position c.at-posted.result.now c.at-posted.ensures c.requires.sound.posted).named
 
 pub returns-in-Refused-clause-begins : goal.returns-in-Refused-clause-begins
 returns-in-Refused-clause-begins g c p there =
     let e = c.args.self.now in
-    let q = c.in-Some.posted.now in
-    let marked = (holds_at (IsPostedOn e.rules e.store (g.K.Keeper.contents e.demand.keeper)) e.posts.items.items c.args.position q c.in-Some.ensures c.requires.sound.posted).marked in
+    let q = c.at-posted.result.now in
+    let marked = (holds_at (IsPostedOn e.rules e.store (g.K.Keeper.contents e.demand.keeper)) e.posts.items.items c.args.position q c.at-posted.ensures c.requires.sound.posted).marked in
     let all = ap (λ (l : List Argument). list_all (has_mark q.marks.items.items q.session) (marks_in (place_view q.place) ++ flat_map marks_in_argument (arguments_view l))) (sym c.as_slice-arguments.ensures.value) ∙ sym c.if-not-has_asked.ensures in
     let v : List ℕ → List Argument → Verdict = λ text l. obeyed e.rules (state_by e q.marks.items.items) q.session (Ask (place_view q.place) text (arguments_view l)) in
     let one = subst (λ (l : List Argument). IsAskedBy e.rules e.store (v c.as_str.result.now l) c.in_ok-asked.asked) c.as_slice-arguments.ensures.value c.in_ok-asked.ensures in
     let two = subst (λ (text : List ℕ). IsAskedBy e.rules e.store (v text q.arguments.items) c.in_ok-asked.asked) c.as_str.ensures.value one in
     let is = subst (λ (x : Asked). IsAskedBy e.rules e.store (v (string_bytes q.attribute) q.arguments.items) x) c.in-Refused.is two in
-    subst (λ (x : Posted). words_verdict e.rules (tree e.store) (posted_view (path e.store) x) ≡ Refuses (code_view c.in-Refused.refusal)) (same_there e.posts.items.items c.args.position q p c.in-Some.ensures there)
+    subst (λ (x : Posted). words_verdict e.rules (tree e.store) (posted_view (path e.store) x) ≡ Refuses (code_view c.in-Refused.refusal)) (same_there e.posts.items.items c.args.position q p c.at-posted.ensures there)
     (read_refused e.rules e.store e.version e.posts q marked all c.in-Refused.refusal is)
 
 pub returns-in_ok-post-in-Instance-clause-begins : goal.returns-in_ok-post-in-Instance-clause-begins
 returns-in_ok-post-in-Instance-clause-begins g c p there =
     let e = c.args.self.now in
-    let q = c.in-Some.posted.now in
+    let q = c.at-posted.result.now in
     let k = g.K.Keeper.contents e.demand.keeper in
-    let marked = (holds_at (IsPostedOn e.rules e.store k) e.posts.items.items c.args.position q c.in-Some.ensures c.requires.sound.posted).marked in
+    let marked = (holds_at (IsPostedOn e.rules e.store k) e.posts.items.items c.args.position q c.at-posted.ensures c.requires.sound.posted).marked in
     let all = ap (λ (l : List Argument). list_all (has_mark q.marks.items.items q.session) (marks_in (place_view q.place) ++ flat_map marks_in_argument (arguments_view l))) (sym c.as_slice-arguments.ensures.value) ∙ sym c.if-not-has_asked.ensures in
     let v : List ℕ → List Argument → Verdict = λ text l. obeyed e.rules (state_by e q.marks.items.items) q.session (Ask (place_view q.place) text (arguments_view l)) in
     let one = subst (λ (l : List Argument). IsAskedBy e.rules e.store (v c.as_str.result.now l) c.in_ok-asked.asked) c.as_slice-arguments.ensures.value c.in_ok-asked.ensures in
     let two = subst (λ (text : List ℕ). IsAskedBy e.rules e.store (v text q.arguments.items) c.in_ok-asked.asked) c.as_str.ensures.value one in
     let is = subst (λ (x : Asked). IsAskedBy e.rules e.store (v (string_bytes q.attribute) q.arguments.items) x) c.in-Instance.is two in
     let made = c.in_ok-post-in-Instance in
-    subst (λ (x : Posted). IsBegun e.rules e.store k x None made.field-0) (same_there e.posts.items.items c.args.position q p c.in-Some.ensures there)
+    subst (λ (x : Posted). IsBegun e.rules e.store k x None made.field-0) (same_there e.posts.items.items c.args.position q p c.at-posted.ensures there)
     (read_asked e.rules e.store e.version e.posts q marked all k c.in-Instance.inst is made.field-0 made.ensures.posted (made.ensures.standing k e.rules e.store is.typed))
 
 pub returns-in_ok-post-in-Instance-clause-sparing : goal.returns-in_ok-post-in-Instance-clause-sparing

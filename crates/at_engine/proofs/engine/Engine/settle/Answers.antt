@@ -1,4 +1,4 @@
-use Rattle.std.proofs.Common.{Ok, refl, subst, []}
+use Rattle.std.proofs.Common.{Ok, refl, subst, [], ◌<◌, List, None, length, sym}
 use Rattle.std.proofs.lemmas.Result.{err_from_is_err_and, IfOk-weaker}
 use Rattle.at_protocol.specs.declared.reply.Form.TheVariants as form
 use Rattle.at_store.specs.Shown.{contents, path, tree}
@@ -6,21 +6,29 @@ use Rattle.at_demand.specs.Known.{answer_view}
 use Rattle.at_engine.specs.Engines.{rules_of}
 use Rattle.at_engine.specs.Turning.{Begins, BeginsSparing}
 use Rattle.at_engine.specs.declared.engine.turning.Begun.{Begun}
-use Rattle.at_engine.proofs.Positions.{there_at}
+use Rattle.at_engine.specs.declared.posts.Posted.{Posted}
+use Rattle.at_engine.proofs.Positions.{there_at, within_set}
 use Rattle.at_engine.proofs.Trying.{bare, refused_answer, settled_err, settled_so, sound_more, sound_taken, spare_more, spare_taken, there_asked, there_still, told_answer, was_begun, was_sparing}
 use Rattle.at_model.specs.Machine.{line_of}
 use Rattle.at_model.proofs.WellAsked.{well_asked}
 use Rattle.at_engine.specs.Posted.{posted_view}
 use Rattle.at_engine.proofs.engine.Engine.settle.Goals as goal
 
-pub begin-requires : goal.begin-requires
-begin-requires g c =
+pub begin-requires-clause-sound : goal.begin-requires-clause-sound
+begin-requires-clause-sound g c =
     let e = c.args.self.now in
     let k = g.K.Keeper.contents in
     let (p, there) = there_at e.posts.items.items c.args.position c.requires.within in
     let t = c.take-begun.new.self in
     let at = c.take-begun.ensures.taken p there in
-    record { sound = sound_taken k e c.requires.sound c.args.position p there t c.take-begun.ensures.count at.1 }
+    sound_taken k e c.requires.sound c.args.position p there t c.take-begun.ensures.count at.1
+
+pub begin-requires-clause-within : goal.begin-requires-clause-within
+begin-requires-clause-within g c =
+    let e = c.args.self.now in
+    let (p, there) = there_at e.posts.items.items c.args.position c.requires.within in
+    let at = c.take-begun.ensures.taken p there in
+    subst (λ (l : List Posted). c.args.position < length l) (sym at.1) (within_set e.posts.items.items c.args.position p (record p { question = None }) there)
 
 pub returns-in_err-question-clause-spare : goal.returns-in_err-question-clause-spare
 returns-in_err-question-clause-spare g c exact spare =

@@ -1,4 +1,4 @@
-use Rattle.std.proofs.Common.{Ok, Some, Option, option_map, refl, subst, ℕ}
+use Rattle.std.proofs.Common.{Ok, Some, Option, option_map, refl, subst, ℕ, ◌<◌, List, None, length, sym}
 use Rattle.std.proofs.lemmas.Result.{err_from_is_err_and}
 use Rattle.at_model.specs.Turning.{Turned, asked}
 use Rattle.at_protocol.specs.declared.reply.Form.TheVariants as form
@@ -9,21 +9,29 @@ use Rattle.at_demand.proofs.Standing.{asked_same}
 use Rattle.at_engine.specs.Engines.{rules_of}
 use Rattle.at_engine.specs.Turning.{Begins, BeginsSparing}
 use Rattle.at_engine.specs.declared.engine.turning.Begun.{Begun}
-use Rattle.at_engine.proofs.Positions.{there_at}
+use Rattle.at_engine.specs.declared.posts.Posted.{Posted}
+use Rattle.at_engine.proofs.Positions.{there_at, within_set}
 use Rattle.std.specs.Prelude.{IfSome}
 use Rattle.at_model.specs.Meaning.{Answers}
 use Rattle.at_demand.specs.declared.answer.Answer.{Answer as AnswerCode}
 use Rattle.at_engine.proofs.Trying.{bare, begun_after, reopened, sound_more, sound_put, sound_taken, spare_more, spare_put, spare_taken, there_asked, there_still, told_answer, tried_err, tried_refused, tried_silent, tried_told, tried_unread, was_begun, was_sparing}
 use Rattle.at_engine.proofs.engine.Engine.try_once.Goals as goal
 
-pub begin-requires : goal.begin-requires
-begin-requires g c =
+pub begin-requires-clause-sound : goal.begin-requires-clause-sound
+begin-requires-clause-sound g c =
     let e = c.args.self.now in
     let k = g.K.Keeper.contents in
     let (p, there) = there_at e.posts.items.items c.args.position c.requires.within in
     let t = c.take-begun.new.self in
     let at = c.take-begun.ensures.taken p there in
-    record { sound = sound_taken k e c.requires.sound c.args.position p there t c.take-begun.ensures.count at.1 }
+    sound_taken k e c.requires.sound c.args.position p there t c.take-begun.ensures.count at.1
+
+pub begin-requires-clause-within : goal.begin-requires-clause-within
+begin-requires-clause-within g c =
+    let e = c.args.self.now in
+    let (p, there) = there_at e.posts.items.items c.args.position c.requires.within in
+    let at = c.take-begun.ensures.taken p there in
+    subst (λ (l : List Posted). c.args.position < length l) (sym at.1) (within_set e.posts.items.items c.args.position p (record p { question = None }) there)
 
 pub returns-in_err-question-clause-tried : goal.returns-in_err-question-clause-tried
 returns-in_err-question-clause-tried g c p there =

@@ -4,5 +4,5 @@ use Rattle.at_engine.specs.Marks.{listed}
 use Rattle.at_engine.proofs.Leaving.{all_live}
 use Rattle.at_engine.proofs.marks.Marks.keep_live.Goals as goal
 
-pub returns-in_default : goal.returns-in_default
-returns-in_default c = sym (all_live (path c.args.store.now) (listed c.args.self.now.items.entries) (c.requires.there c.if-any_gone.false))
+pub returns-else-any_gone : goal.returns-else-any_gone
+returns-else-any_gone c = sym (all_live (path c.args.store.now) (listed c.args.self.now.items.entries) (c.requires.there c.if-any_gone.false))
