@@ -19,7 +19,7 @@ const LINES: &[(&str, usize, usize)] = &[
     ),
     ("0 drop /Block/Stmt:1/Expr/Right", 12, 7),
     ("0 insert /Block Stmt 0 Decl(\"y\",-)", 13, 7),
-    ("0 drop /Block/Stmt:2", 4, 4),
+    ("0 drop /Block/Stmt:2", 5, 4),
 ];
 
 /// How many nodes and levels a copy of the engine's tree has.
