@@ -99,10 +99,12 @@ tries: tools python
 	cd crates/tries && rt run < stdin -- data/calc.ast data/calc.jrag data/tree.txt
 	@python3 tools/examples.py docs/TRIES.md
 
-# Speed, by the proved program, as ratios in one run; and what it takes at its limits.
+# Speed, by the proved program, as ratios in one run; what edits cost where everything is kept, which fails where a bound doesn't
+# hold; and what the program takes at its limits.
 bench: build
 	cd crates/tries && rt run < stdin -- data/calc.ast data/calc.jrag data/tree.txt > /dev/null
 	python3 bench/bench.py
+	python3 bench/kept.py
 	python3 bench/limits.py
 	python3 bench/clients.py
 	python3 bench/editor.py

@@ -23,7 +23,7 @@ ROOT = Path(__file__).resolve().parent.parent
 TURNS, MARK_TURNS = 12, 4
 # The program before edits found entries by what they touch, on the same trees: the multiples of a `version` line, and the
 # instructions of an entry that is filled in.
-BEFORE = {"kept question": 2.8, "front": 11_000.0, "fill": 10_000.0}
+BEFORE = {"kept question": 6.5, "front": 11_000.0, "fill": 12_300.0}
 MARKED = 50
 
 
@@ -187,23 +187,42 @@ def filling(bounds, program, folder):
     print(f"filling the keeper: {each:,.0f} instructions an entry, against {BEFORE['fill']:,.0f} before: {bounds.at_most('filling', each / BEFORE['fill'], 1.4)}")
 
 
-def keystrokes(bounds, program):
-    """20,000 keystrokes at one name: the memory and the time of an edit stay level."""
+STROKES, NESTED, DECLARED = 20_000, 4, 60
+
+
+def nested_use():
+    """A tree of the calculator: a use below so many blocks, each with declarations of other names, and its path."""
+    term, path = 'Print(Use("x"))', "/Expr"
+    for level in range(NESTED):
+        names = ",".join(f'Decl("d{level}_{k}",-)' for k in range(DECLARED // NESTED))
+        term, path = f"Block([{names},{term}])", f"/Stmt:{DECLARED // NESTED}{path}"
+    return f"Program({term})\n", f"/Block{path}"
+
+
+def strokes(path, begin, count):
+    """Lines that give the use another name each time, and ask for its declaration."""
+    return "".join(f'0 token {path} ID "x{k}"\n0 ask {path} decl()\n' for k in range(begin, begin + count))
+
+
+def keystrokes(bounds, program, folder):
+    """20,000 keystrokes at one name: the memory and the time of an edit stay level from the 5,000th on."""
     samples = ROOT / "samples" / "calculator"
-    words = ["--keep", "10000", "calc.ast", "tree.txt", "calc.jrag"]
-    if subprocess.run([program, *words], cwd=samples, stdin=subprocess.DEVNULL, capture_output=True).returncode:
+    term, path = nested_use()
+    (Path(folder) / "strokes.txt").write_text(term)
+    words = ["--keep", "10000", samples / "calc.ast", "strokes.txt", samples / "calc.jrag"]
+    if subprocess.run([program, *words], cwd=folder, stdin=subprocess.DEVNULL, capture_output=True).returncode:
         print("no row of keystrokes: the program has no option --keep")
         return
-    run = Served(program, samples, words)
+    run, quarter = Served(program, folder, words), STROKES // 4
     spent, peaks = [], []
-    for begin in range(0, 20_000, 1_000):
-        lines = "".join(f'0 token /Block/Stmt:1/Expr/Left ID "x{k}"\n0 ask /Block/Stmt:1/Expr/Left decl()\n' for k in range(begin, begin + 1_000))
-        spent.append(run.spent(lines))
+    for begin in range(0, STROKES, quarter):
+        spent.append(run.spent(strokes(path, begin, quarter)))
         peaks.append(run.peak())
     run.end()
-    grown = sum(spent[15:]) / sum(spent[5:10])
-    print(f"20,000 keystrokes at one name with --keep 10000: {sum(spent) / 20_000 * 1e6:.1f} us each; the last 5,000 against the second: "
-          f"{bounds.at_most('time of keystrokes', grown, 1.25)}; peak {peaks[-1]:,} KiB, against that of 5,000: {bounds.at_most('memory of keystrokes', peaks[-1] / peaks[4], 1.1)}")
+    time = bounds.at_most("time of keystrokes", spent[3] / spent[1], 1.25)
+    memory = bounds.at_most("memory of keystrokes", peaks[3] / peaks[0], 1.1)
+    print(f"{STROKES:,} keystrokes at one name with --keep 10000: {sum(spent) / STROKES * 1e6:.1f} us each; the last {quarter:,} against the second ones: {time}; "
+          f"at most {peaks[3]:,} KiB, against the first ones: {memory}")
 
 
 def marks(bounds, program, folder):
@@ -233,7 +252,7 @@ def main():
         lists(bounds, program, folder, turns)
         filling(bounds, program, folder)
         marks(bounds, program, folder)
-    keystrokes(bounds, program)
+        keystrokes(bounds, program, folder)
     if bounds.broken:
         sys.exit("these bounds don't hold:\n" + "\n".join(f"  {it}" for it in bounds.broken))
     print("all bounds hold")

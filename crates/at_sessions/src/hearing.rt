@@ -71,7 +71,14 @@ pub fn played(
     if !is_told(alloc, files, KeepUntilEdit::new(alloc), slice, lines, &told)? {
         return Err(Fail::new("what is kept until an edit is heard"));
     }
-    if !is_told(alloc, files, KeepAtMost::new(alloc, FEW), slice, lines, &told)? {
+    if !is_told(
+        alloc,
+        files,
+        KeepAtMost::new(alloc, FEW),
+        slice,
+        lines,
+        &told,
+    )? {
         return Err(Fail::new("that few entries are kept is heard"));
     }
     Ok((told, report))

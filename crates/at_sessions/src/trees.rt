@@ -12,10 +12,14 @@ use std::test::Fail;
 /// A line, and how many nodes and levels the tree has behind it.
 const LINES: &[(&str, usize, usize)] = &[
     ("0 version", 8, 5),
-    ("0 set /Block/Stmt:1/Expr/Right Add(Num(3),Add(Num(4),Num(5)))", 12, 7),
+    (
+        "0 set /Block/Stmt:1/Expr/Right Add(Num(3),Add(Num(4),Num(5)))",
+        12,
+        7,
+    ),
     ("0 drop /Block/Stmt:1/Expr/Right", 12, 7),
     ("0 insert /Block Stmt 0 Decl(\"y\",-)", 13, 7),
-    ("0 drop /Block/Stmt:2", 4, 4),
+    ("0 drop /Block/Stmt:2", 5, 4),
 ];
 
 /// How many nodes and levels a copy of the engine's tree has.
