@@ -416,9 +416,13 @@ def an_input_that_does_not_block_is_a_read_fault(runs):
 
 
 def the_version_is_that_of_its_file(runs):
-    wanted = f"attrd {VERSION.read_text()}".encode()
+    """The man page has it, too, in its first line."""
+    wanted = f"attrd {VERSION.read_text()}"
     for word in "--version", "-V":
-        same("the end", ended(runs.begin([word])), (2, b"", wanted))
+        same("the end", ended(runs.begin([word])), (2, b"", wanted.encode()))
+    title = (VERSION.parent / "docs/attrd.1").read_text().splitlines()[0]
+    if f'"{wanted.strip()}"' not in title:
+        raise Differs(f"the man page begins with {title}")
 
 
 # Two values are kept when an edit comes that touches the first one, and then the second is asked for anew.
