@@ -35,11 +35,13 @@ run: tools
 
 # The gate: every proof (see tools/gate.py), the tests, the programs, the must-fail edits; and then, on the programs that
 # were proved, a session with each request for memory refused in turn, the words of the command line and real sockets, the
-# tests of the clients, and the examples of the manual, the tutorial, the samples and single tries.
+# tests of the clients (in Neovim and Chromium, which are installed where they are missing and that may be; else their tests
+# name the package), and the examples of the manual, the tutorial, the samples and single tries.
 test: tools python
 	@python3 tools/gate.py
 	@python3 tools/starve.py crates/starve/out/starve
 	@python3 tools/program.py crates/attrd/out/attrd
+	@tools/editors.sh nvim chromium || true
 	@python3 clients/run_tests.py crates/attrd/out/attrd
 	@python3 tools/examples.py --program crates/attrd/out/attrd --tries crates/tries/out/tries $(PAGES) docs/TRIES.md
 

@@ -127,18 +127,15 @@ def requests(editor):
 
 def spent_by_program(editor):
     """The processor time of the program behind the language server of an editor, in seconds; 0 before it has begun."""
-    for folder in Path("/proc").glob("[0-9]*"):
+    from lsp_support import children
+
+    times = [0]
+    for program in [it for server in children(editor.process.pid) for it in children(server)]:
         try:
-            if b"/tree.txt\0" in (folder / "cmdline").read_bytes() and parent(parent(int(folder.name))) == editor.process.pid:
-                return int((folder / "schedstat").read_text().split()[0]) / 1e9
+            times.append(int(Path(f"/proc/{program}/schedstat").read_text().split()[0]))
         except (OSError, ValueError):
             continue
-    return 0.0
-
-
-def parent(process):
-    """The process that began this one."""
-    return int(Path(f"/proc/{process}/stat").read_text().rpartition(")")[2].split()[1])
+    return max(times) / 1e9
 
 
 def beside_a_check(nodes, program):

@@ -1,6 +1,7 @@
 """The documents that are open in the editor, and what the editor asks of them."""
 from __future__ import annotations
 
+import gc
 from typing import Any, Callable, Dict, List, Optional, Tuple
 
 from attrd import AttrdError
@@ -55,6 +56,8 @@ class Workspace:
         self.close(params)
         version = part(params, int, "textDocument", "version")
         self.documents[uri] = Document(uri, version, text, self.files.start, self.publish, self.tell)
+        # The trees of a document have no circles: they go without the collector, which would hold up a key to look at them all.
+        gc.freeze()
 
     def change(self, params: Any) -> None:
         """A document has other text now."""

@@ -55,6 +55,11 @@ def large_class(number: int) -> str:
     return f"class C{number}{above} {{\n{fields}  {{\n{blocks}    s = me{number}.a{number} + 1;\n    show s;\n  }}\n}}\n"
 
 
+def children(process: int) -> List[int]:
+    """The processes that this one has started."""
+    return [int(it) for it in Path(f"/proc/{process}/task/{process}/children").read_text().split()]
+
+
 class Ended(Exception):
     """The server has ended, or doesn't answer in time."""
 

@@ -1,13 +1,17 @@
 """Neovim, with its own client and the lines of the page, over the language server and the program."""
 from __future__ import annotations
 
+import os
 import re
+import shutil
+import signal
 import tempfile
 import unittest
 from pathlib import Path
 from typing import List
 
-from lsp_support import CLASS_NODES, CLONE, LSP, SMALL, large_program, program
+from attrd_lsp.language import DATA
+from lsp_support import CLASS_NODES, CLONE, LSP, SMALL, children, large_program, program
 from neovim import EditorFault, Neovim
 
 DIAGNOSTICS = "return vim.tbl_map(function(it) return (it.lnum + 1) .. ':' .. (it.col + 1) .. ' ' .. it.message end, vim.diagnostic.get(0))"
@@ -129,6 +133,49 @@ class OnSmallFile(unittest.TestCase):
         listed = self.editor.until(first)
         wanted = ["[Class] Point", "[Field] x", "[Field] y", "[Variable] near", "[Class] Circle", "[Field] r", "[Variable] end"]
         self.assertEqual([it["text"] for it in listed], wanted)
+
+
+class OnFaults(unittest.TestCase):
+    """A language that is refused, and a program that ends."""
+
+    def test_a_refused_file_shows_its_fault_at_its_place_until_it_is_corrected(self) -> None:
+        folder = Folder(SMALL)
+        self.addCleanup(folder.temporary.cleanup)
+        types = self.wrong_types(folder)
+        editor = folder.open()
+        self.addCleanup(editor.close)
+        told = f"local at = vim.fn.bufnr('{types}') {DIAGNOSTICS.replace('get(0)', 'get(at)')}"
+        editor.until(f"return vim.fn.bufnr('{types}') > 0 and #vim.diagnostic.get(0) > 0")
+        line = types.read_text("utf-8")[: types.read_text("utf-8").index('lookupKind("int", 1)')].count("\n") + 1
+        self.assertEqual([it[: len(f"{line}:19 J5 argument")] for it in editor.lua(told)], [f"{line}:19 J5 argument"])
+        self.assertIn("types.jrag: J5 argument", editor.lua(DIAGNOSTICS)[0])
+        editor.call("nvim_command", f"split {types}")
+        editor.lua("vim.cmd(\"%s/, 1)/)/\")")
+        editor.until("return #vim.diagnostic.get() == 0")
+
+    def wrong_types(self, folder: Folder) -> Path:
+        """A language of its own for the folder's editor, one file of which is refused."""
+        shutil.copytree(DATA, folder.folder / "language")
+        option = f"clone .. '/attrd', '--language', '{folder.folder / 'language'}'"
+        folder.init.write_text(page_lines().replace("clone .. '/attrd'", option), "utf-8")
+        types = folder.folder / "language" / "types.jrag"
+        text = types.read_text("utf-8")
+        types.write_text(text.replace('eq Num.kind() = lookupKind("int");', 'eq Num.kind() = lookupKind("int", 1);'), "utf-8")
+        return types
+
+    def test_a_program_that_ends_is_told_and_started_anew(self) -> None:
+        folder = Folder(SMALL)
+        self.addCleanup(folder.temporary.cleanup)
+        editor = folder.open()
+        self.addCleanup(editor.close)
+        editor.until("return seen > 0")
+        for server in children(editor.process.pid):
+            for behind in children(server):
+                os.kill(behind, signal.SIGKILL)
+        editor.keys("7G0fx")
+        editor.keys("gd")
+        editor.until("return vim.api.nvim_win_get_cursor(0)[1] == 2")
+        editor.until("return vim.fn.execute('messages'):find('it is started anew', 1, true) ~= nil")
 
 
 class OnLargeFile(unittest.TestCase):

@@ -7,7 +7,7 @@ import tempfile
 import unittest
 from pathlib import Path
 
-from lsp_support import PYTHONPATH, SMALL, Client, Editing, Ended, program, shown, tutorial_file
+from lsp_support import PYTHONPATH, SMALL, Client, Editing, Ended, children, program, shown, tutorial_file
 from attrd_lsp.language import DATA, Language, NoLanguage
 
 CONTENT_MODIFIED, CANCELLED, FAILED = -32801, -32800, -32803
@@ -313,12 +313,6 @@ class OnFaults(unittest.TestCase):
         told = subprocess.run(command, env=environment, capture_output=True)
         self.assertEqual(told.returncode, 0)
         self.assertIn(b"--language", told.stdout)
-
-
-def children(process):
-    """The processes that this one has started."""
-    tasks = Path(f"/proc/{process}/task/{process}/children").read_text().split()
-    return [int(it) for it in tasks]
 
 
 class OnItsProgram(unittest.TestCase):

@@ -58,8 +58,11 @@ async def serve(given: argparse.Namespace) -> int:
         except AttrdError:
             raise await stream.fault() if stream.process is not None else AttrdError(f"{given.connect}: the server has ended") from None
         page = Page(hub, files, given.program if stream.process is not None else None)
-        await page.begin()
-        return await _serve_page(given, hub, page, replies)
+        try:
+            await page.begin()
+            return await _serve_page(given, hub, page, replies)
+        finally:
+            await page.end()
     finally:
         replies.cancel()
         told = await hub.close()

@@ -2,6 +2,7 @@
 from __future__ import annotations
 
 import asyncio
+from contextlib import suppress
 from pathlib import Path as FilePath
 from typing import Any, Callable, Dict, List, Optional, Sequence, Set
 
@@ -34,6 +35,7 @@ class Page:
         self._is_astray = True
         self._counting: Optional[asyncio.Task[None]] = None
         self._next_copy: Optional[work.Copy] = None
+        self._copies: work.Processes = set()
         hub.watchers.append(self._watch)
         hub.on_members = self._tell_clients
 
@@ -41,6 +43,15 @@ class Page:
         """Asks for the tree. Raises ServerLost."""
         self._resync()
         await self._member.reply("version")
+
+    async def end(self) -> None:
+        """Counts no more work, and waits until no copy runs."""
+        self.program = None
+        for process in self._copies:
+            with suppress(ProcessLookupError):
+                process.kill()
+        if self._counting is not None:
+            await asyncio.wait([self._counting])
 
     def _resync(self) -> None:
         """Asks for the whole tree. The reply is taken at its place among the replies, so no edit is missed or counted twice."""
@@ -132,6 +143,6 @@ class Page:
     async def _counts(self) -> None:
         while self._next_copy is not None and self.program is not None:
             copy, self._next_copy = self._next_copy, None
-            found = await work.count(self.program, self.files[0], self.files[2:], copy)
+            found = await work.count(self.program, self.files[0], self.files[2:], copy, self._copies)
             if found is not None:
                 self._tell_all({"kind": "work", "version": copy.version, "evaluated": found, "probes": len(copy.questions)})

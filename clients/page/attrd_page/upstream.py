@@ -8,7 +8,7 @@ from typing import IO, List, Optional, Sequence
 
 from attrd import AttrdError
 from attrd.errors import StartFault
-from attrd.server import start_fault
+from attrd.server import cannot_start, start_fault
 
 ENDING_SECONDS = 10.0
 
@@ -57,7 +57,7 @@ async def start_program(program: str, files: Sequence[str], options: Sequence[st
             *words, stdin=asyncio.subprocess.PIPE, stdout=asyncio.subprocess.PIPE, stderr=errors, start_new_session=True)
     except (OSError, ValueError) as fault:
         errors.close()
-        raise AttrdError(f"{program}: it can't be started: {getattr(fault, 'strerror', None) or fault}") from None
+        raise cannot_start(program, fault) from None
     assert process.stdin is not None and process.stdout is not None
     return Upstream(process.stdout, process.stdin, process, errors)
 

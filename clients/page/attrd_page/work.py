@@ -11,7 +11,7 @@ import re
 import tempfile
 from dataclasses import dataclass
 from pathlib import Path as FilePath
-from typing import List, Optional, Sequence
+from typing import List, Optional, Sequence, Set
 
 SECONDS = 20.0
 NODES = 2_000
@@ -29,30 +29,41 @@ class Copy:
     edit: str
 
 
-async def count(program: str, grammar: str, aspects: Sequence[str], copy: Copy) -> Optional[int]:
-    """How many values of lazy attributes were evaluated for the probes after the edit; None where the copy couldn't be run."""
+Processes = Set[asyncio.subprocess.Process]
+
+
+async def count(program: str, grammar: str, aspects: Sequence[str], copy: Copy, running: Processes) -> Optional[int]:
+    """How many values of lazy attributes were evaluated for the probes after the edit; None where the copy couldn't be run.
+
+    The process that runs it is among `running` meanwhile: where that is killed, there is no count. It isn't to be cancelled: a
+    process that is cancelled while it is being created is waited for without end."""
     asked = [*copy.marks, *copy.questions]
     with tempfile.TemporaryDirectory(prefix="attrd-page-") as folder:
         tree = FilePath(folder) / "tree.txt"
         tree.write_text(copy.term, "utf-8")
         words = [program, "--work", "--", grammar, str(tree), *aspects]
-        before = await _work(words, asked)
-        after = await _work(words, [*asked, f"0 {copy.edit}", *copy.questions])
-    return None if before is None or after is None else after - before
+        before = await _work(words, asked, running)
+        if before is None:
+            return None
+        after = await _work(words, [*asked, f"0 {copy.edit}", *copy.questions], running)
+    return None if after is None else after - before
 
 
-async def _work(words: List[str], lines: Sequence[str]) -> Optional[int]:
+async def _work(words: List[str], lines: Sequence[str], running: Processes) -> Optional[int]:
     try:
         process = await asyncio.create_subprocess_exec(
             *words, stdin=asyncio.subprocess.PIPE, stdout=asyncio.subprocess.DEVNULL, stderr=asyncio.subprocess.PIPE,
             start_new_session=True, env=os.environ)
     except OSError:
         return None
+    running.add(process)
     try:
         _, told = await asyncio.wait_for(process.communicate("".join(f"{it}\n" for it in lines).encode()), SECONDS)
     except asyncio.TimeoutError:
         process.kill()
         await process.wait()
         return None
+    finally:
+        running.discard(process)
     found = _WORK.search(told)
     return int(found[1]) if found else None

@@ -26,7 +26,7 @@ def chromium() -> str:
     found = next((it for it in map(shutil.which, NAMES) if it), None)
     if found is None:
         raise AssertionError("there is no Chromium: install the package `chromium` (tools/editors.sh chromium)")
-    return found
+    return str(found)
 
 
 class Browser:

@@ -6,6 +6,7 @@ import json
 import os
 import socket
 import tempfile
+import time
 import unittest
 from pathlib import Path
 from typing import Any, Dict, List, Optional
@@ -183,13 +184,25 @@ class Options(unittest.TestCase):
 
 
 class Work(unittest.TestCase):
+    def test_a_page_that_ends_while_it_counts(self) -> None:
+        """Whenever that is: while a copy begins, runs or has ended."""
+        for wait in (0.0, 0.01, 0.02, 0.03, 0.05, 0.1):
+            served = Served()
+            page = Page(served)
+            page.probe("/", "errors")
+            page.do(do="edit", edit="token", id=page.number("/Kind:2/Block/Stmt:0/Init/Left"), part="ID", value="q")
+            page.told("edited")
+            time.sleep(wait)
+            self.assertIn("work", served.close())
+            page.close()
+
     def test_the_work_of_an_edit(self) -> None:
         """The number in a sum is another one: its value and the sum's are found again, and no other."""
         folder = CLONE / "samples" / "calculator"
         term = (folder / "tree.txt").read_text("utf-8")
         question = "0 ask $p value()"
         copy = Copy(1, term, ["0 mark p /Block/Stmt:1/Expr"], [question], "token /Block/Stmt:1/Expr/Right Value 5")
-        found = asyncio.run(count(program(), str(folder / "calc.ast"), [str(folder / "calc.jrag")], copy))
+        found = asyncio.run(count(program(), str(folder / "calc.ast"), [str(folder / "calc.jrag")], copy, set()))
         self.assertEqual(found, 2)
 
 

@@ -5,7 +5,7 @@ import threading
 import time
 from collections import deque
 from types import TracebackType
-from typing import Callable, Deque, Dict, List, Optional, Set, Type
+from typing import Callable, Deque, Dict, List, Optional, Set, Type, TypeVar
 
 from . import commands
 from .channel import Channel
@@ -18,6 +18,8 @@ SESSIONS = 1_000
 HIGH_WATER = 1 << 16
 # Where many replies are to come, a pause before each read takes many of them at once: waking for each costs more than its answer.
 MANY, PAUSE_A_REPLY, LONGEST_PAUSE = 16, 2e-6, 1e-3
+
+ConnectionOrServer = TypeVar("ConnectionOrServer", bound="Connection")
 
 
 class Pending:
@@ -302,7 +304,7 @@ class Connection:
         for call in calls:
             call()
 
-    def __enter__(self) -> Connection:
+    def __enter__(self: ConnectionOrServer) -> ConnectionOrServer:
         return self
 
     def __exit__(self, kind: Optional[Type[BaseException]], fault: Optional[BaseException], trace: Optional[TracebackType]) -> None:

@@ -91,7 +91,7 @@ def known_options(program: Union[str, "os.PathLike[str]"]) -> FrozenSet[str]:
     try:
         told = subprocess.run(words, stdin=subprocess.DEVNULL, stdout=subprocess.PIPE, stderr=subprocess.STDOUT, timeout=HELP_SECONDS, check=False)
     except (OSError, ValueError, UnicodeError, subprocess.TimeoutExpired) as fault:
-        raise AttrdError(f"{words[0]}: it can't be started: {getattr(fault, 'strerror', None) or fault}") from None
+        raise cannot_start(words[0], fault) from None
     return frozenset(_OPTION.findall(told.stdout.decode("utf-8", "replace")))
 
 
@@ -106,8 +106,15 @@ def _run(words: List[str]) -> Program:
         process = subprocess.Popen(words, stdin=subprocess.PIPE, stdout=subprocess.PIPE, stderr=errors)
     except (OSError, ValueError, UnicodeError) as fault:
         errors.close()
-        raise AttrdError(f"{words[0]}: it can't be started: {getattr(fault, 'strerror', None) or fault}") from None
+        raise cannot_start(words[0], fault) from None
     return Program(process, errors)
+
+
+def cannot_start(program: str, fault: Exception) -> AttrdError:
+    """That a program can't be started, for this reason. One without a folder is looked for on the PATH alone."""
+    if isinstance(fault, FileNotFoundError) and os.sep not in program:
+        return AttrdError(f"{program}: it can't be started: there is no such program on the PATH (a file here is ./{program})")
+    return AttrdError(f"{program}: it can't be started: {getattr(fault, 'strerror', None) or fault}")
 
 
 def start_fault(status: Optional[int], message: str) -> StartFault:

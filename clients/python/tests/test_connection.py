@@ -293,6 +293,7 @@ class Sockets(unittest.TestCase):
         lines = session.send_all(["drop /Block/Stmt:0", "drop /Block/Stmt:0"])
         connection.flush()
         process.kill()
+        process.wait()
         with self.assertRaises(attrd.ServerLost) as caught:
             lines[0].reply()
         self.assertRaises(attrd.ServerLost, lines[1].reply)
