@@ -1,11 +1,16 @@
 -- What lines one after the other do to what is kept.
-use Rattle.std.proofs.Common.{◌≡◌, ◌↔◌, ℕ, ◌+◌, ◌-◌, ◌^◌, ◌<◌, min, List, [], ◌∷◌, ◌++◌, inl, inr, refl, sym, ◌∙◌, subst, arith}
+use Rattle.std.proofs.Common.{◌≡◌, ◌↔◌, ℕ, ◌+◌, ◌-◌, ◌^◌, ◌<◌, min, List, [], ◌∷◌, ◌++◌, inl, inr, refl, sym, ap, ◌∙◌, subst, arith, Option, Some, None}
+use Rattle.std.specs.Prelude.{sum}
+use Rattle.std.proofs.lemmas.List.Sums.{sum_by-append}
 use Rattle.at_model.specs.Paths.{Node}
 use Rattle.at_model.specs.Run.{Instance}
 use Rattle.at_model.specs.Rules.{Rules}
 use Rattle.at_model.specs.Machine.{State, Verdict, Refuses, Tells, Leaves, Edits, Asks, Posts, Waits, after}
+use Rattle.at_model.specs.Lines.{Line}
 use Rattle.at_model.specs.Sparing.{KeptAfter, IsWork}
-use Rattle.at_engine.specs.KeptOver.{HasVerdict, HaveVerdicts, after_all, KeptAfterAll, IsWorkOfAll, KeepsLines}
+use Rattle.at_model.specs.Keeping.{heard, state_after, IsHeard, KeptOver, AreWorks, IsTotalWork, max_work}
+use Rattle.at_model.specs.Working.{AreHeard}
+use Rattle.at_engine.specs.KeptOver.{HasVerdict, obeys, refuses, KeepsLines}
 
 through : {A B C : Type 0} → A ↔ B → B ↔ C → A ↔ C
 through f g = (λ a. g.0 (f.0 a), λ c. f.1 (g.1 c))
@@ -45,51 +50,70 @@ same_work rules s (Asks q) Old New work same (added, a, size) = (
   size,
 )
 
-same_after_all : (rules : Rules) (vs : List Verdict) (s : State) (Old New : Instance Node → Type 0) → ((j : Instance Node) → Old j ↔ New j) → (j : Instance Node) → KeptAfterAll rules s vs Old j ↔ KeptAfterAll rules s vs New j
-same_after_all rules [] s Old New same j = same j
-same_after_all rules (v ∷ vs) s Old New same j = same_after_all rules vs (after s v) (KeptAfter rules s v Old) (KeptAfter rules s v New) (same_after rules s v Old New same) j
+same_over : (rules : Rules) (ls : List (Option Line)) (s : State) (Old New : Instance Node → Type 0) → ((j : Instance Node) → Old j ↔ New j) → (j : Instance Node) → KeptOver rules s ls Old j ↔ KeptOver rules s ls New j
+same_over rules [] s Old New same j = same j
+same_over rules (l ∷ ls) s Old New same j =
+    let v = heard rules s l in
+    same_over rules ls (after s v) (KeptAfter rules s v Old) (KeptAfter rules s v New) (same_after rules s v Old New same) j
 
-same_work_all : (rules : Rules) (vs : List Verdict) (s : State) (Old New : Instance Node → Type 0) (work : ℕ) → ((j : Instance Node) → Old j ↔ New j) → IsWorkOfAll rules s vs Old work → IsWorkOfAll rules s vs New work
-same_work_all rules [] s Old New work same w = w
-same_work_all rules (v ∷ vs) s Old New work same (first, rest, w, more, sum) =
-    (first, rest, same_work rules s v Old New first same w, same_work_all rules vs (after s v) (KeptAfter rules s v Old) (KeptAfter rules s v New) rest (same_after rules s v Old New same) more, sum)
-
--- verdicts and then others
-after_append : (rules : Rules) (vs us : List Verdict) (s : State) (Kept : Instance Node → Type 0) (j : Instance Node) → KeptAfterAll rules s (vs ++ us) Kept j ↔ KeptAfterAll rules (after_all s vs) us (KeptAfterAll rules s vs Kept) j
-after_append rules [] us s Kept j = (λ h. h, λ h. h)
-after_append rules (v ∷ vs) us s Kept j = after_append rules vs us (after s v) (KeptAfter rules s v Kept) j
-
-work_append : (rules : Rules) (vs us : List Verdict) (s : State) (Kept : Instance Node → Type 0) (a b : ℕ) → IsWorkOfAll rules s vs Kept a → IsWorkOfAll rules (after_all s vs) us (KeptAfterAll rules s vs Kept) b → IsWorkOfAll rules s (vs ++ us) Kept (a + b)
-work_append rules [] us s Kept a b none w = let same : b ≡ a + b = omega (arith, none) in subst (IsWorkOfAll rules s us Kept) same w
-work_append rules (v ∷ vs) us s Kept a b (first, rest, w, more, sum) u = (first, rest + b, w, work_append rules vs us (after s v) (KeptAfter rules s v Kept) rest b more u, omega (arith, sum))
-
-verdicts_append : (rules : Rules) (ls ms : List (List ℕ)) (vs us : List Verdict) (s : State) → HaveVerdicts rules s ls vs → HaveVerdicts rules (after_all s vs) ms us → HaveVerdicts rules s (ls ++ ms) (vs ++ us)
-verdicts_append rules [] ms [] us s h g = g
-verdicts_append rules [] ms (v ∷ vs) us s h g = absurd h
-verdicts_append rules (l ∷ ls) ms [] us s h g = absurd h
-verdicts_append rules (l ∷ ls) ms (v ∷ vs) us s h g = (h.0, verdicts_append rules ls ms vs us (after s v) h.1 g)
-
-after_all-append : (vs us : List Verdict) (s : State) → after_all s (vs ++ us) ≡ after_all (after_all s vs) us
-after_all-append [] us s = refl
-after_all-append (v ∷ vs) us s = after_all-append vs us (after s v)
+same_works : (rules : Rules) (ls : List (Option Line)) (ws : List ℕ) (s : State) (Old New : Instance Node → Type 0) → ((j : Instance Node) → Old j ↔ New j) → AreWorks rules s ls Old ws → AreWorks rules s ls New ws
+same_works rules [] [] s Old New same h = h
+same_works rules [] (w ∷ ws) s Old New same h = absurd h
+same_works rules (l ∷ ls) [] s Old New same h = absurd h
+same_works rules (l ∷ ls) (w ∷ ws) s Old New same h =
+    let v = heard rules s l in
+    (same_work rules s v Old New w same h.0, same_works rules ls ws (after s v) (KeptAfter rules s v Old) (KeptAfter rules s v New) (same_after rules s v Old New same) h.1)
 
 -- lines and then others
-keeps_on : (rules : Rules) (old mid new : State) (ls ms : List (List ℕ)) (First Then Last : Instance Node → Type 0) (w x y : ℕ) → (p : KeepsLines rules old ls mid First Then w x) → KeepsLines rules (after_all old p.verdicts) ms new Then Last x y → KeepsLines rules old (ls ++ ms) new First Last w y
-keeps_on rules old mid new ls ms First Then Last w x y p q = record {
-  verdicts = p.verdicts ++ q.verdicts;
-  are_verdicts = verdicts_append rules ls ms p.verdicts q.verdicts old p.are_verdicts q.are_verdicts;
-  state = q.state ∙ sym (after_all-append p.verdicts q.verdicts old);
-  kept = λ j. through (q.kept j) (through (same_after_all rules q.verdicts (after_all old p.verdicts) Then (KeptAfterAll rules old p.verdicts First) p.kept j) (turned (after_append rules p.verdicts q.verdicts old First j)));
-  added = p.added + q.added;
-  is_work = work_append rules p.verdicts q.verdicts old First p.added q.added p.is_work (same_work_all rules q.verdicts (after_all old p.verdicts) Then (KeptAfterAll rules old p.verdicts First) q.added p.kept q.is_work);
-  grows = λ small. sums w x y p.added q.added small (p.grows small) q.grows;
-}
-  where
-    turned : {A B : Type 0} → A ↔ B → B ↔ A
-    turned f = (f.1, f.0)
+over_append : (rules : Rules) (ls ms : List (Option Line)) (s : State) (Kept : Instance Node → Type 0) (j : Instance Node) → KeptOver rules s (ls ++ ms) Kept j ↔ KeptOver rules (state_after rules s ls) ms (KeptOver rules s ls Kept) j
+over_append rules [] ms s Kept j = (λ h. h, λ h. h)
+over_append rules (l ∷ ls) ms s Kept j = over_append rules ls ms (after s (heard rules s l)) (KeptAfter rules s (heard rules s l) Kept) j
 
-    sums : (w x y a b : ℕ) → w < 2 ^ 64 → x ≡ min (w + a) (2 ^ 64 - 1) → (x < 2 ^ 64 → y ≡ min (x + b) (2 ^ 64 - 1)) → y ≡ min (w + (a + b)) (2 ^ 64 - 1)
-    sums w x y a b small e f = let below : x < 2 ^ 64 = omega (arith, e) in omega (arith, e, f below)
+works_append : (rules : Rules) (ls ms : List (Option Line)) (ws us : List ℕ) (s : State) (Kept : Instance Node → Type 0) → AreWorks rules s ls Kept ws → AreWorks rules (state_after rules s ls) ms (KeptOver rules s ls Kept) us → AreWorks rules s (ls ++ ms) Kept (ws ++ us)
+works_append rules [] ms [] us s Kept h g = g
+works_append rules [] ms (w ∷ ws) us s Kept h g = absurd h
+works_append rules (l ∷ ls) ms [] us s Kept h g = absurd h
+works_append rules (l ∷ ls) ms (w ∷ ws) us s Kept h g = (h.0, works_append rules ls ms ws us (after s (heard rules s l)) (KeptAfter rules s (heard rules s l) Kept) h.1 g)
+
+heard_append : (bs cs : List (List ℕ)) (ls ms : List (Option Line)) → AreHeard bs ls → AreHeard cs ms → AreHeard (bs ++ cs) (ls ++ ms)
+heard_append [] cs [] ms h g = g
+heard_append [] cs (l ∷ ls) ms h g = absurd h
+heard_append (b ∷ bs) cs [] ms h g = absurd h
+heard_append (b ∷ bs) cs (l ∷ ls) ms h g = (h.0, heard_append bs cs ls ms h.1 g)
+
+state_after-append : (rules : Rules) (ls ms : List (Option Line)) (s : State) → state_after rules s (ls ++ ms) ≡ state_after rules (state_after rules s ls) ms
+state_after-append rules [] ms s = refl
+state_after-append rules (l ∷ ls) ms s = state_after-append rules ls ms (after s (heard rules s l))
+
+-- a total that stays at its greatest value goes on so
+both_totals : (greatest a b x y : ℕ) → x ≡ min a greatest → y ≡ min b greatest → min (x + y) greatest ≡ min (a + b) greatest
+both_totals greatest a b x y e f = omega (arith, e, f)
+
+total_append : (rules : Rules) (ls ms : List (Option Line)) (s : State) (Kept : Instance Node → Type 0) (a b : ℕ) → IsTotalWork rules s ls Kept a → IsTotalWork rules (state_after rules s ls) ms (KeptOver rules s ls Kept) b → IsTotalWork rules s (ls ++ ms) Kept (min (a + b) max_work)
+total_append rules ls ms s Kept a b (ws, works, e) (us, more, f) =
+    (ws ++ us, works_append rules ls ms ws us s Kept works more, both_totals max_work (sum ws) (sum us) a b e f ∙ ap (λ n. min n max_work) (sym (sum_by-append (λ (x : ℕ). x) ws us)))
+
+same_total : (rules : Rules) (ls : List (Option Line)) (s : State) (Old New : Instance Node → Type 0) (a : ℕ) → ((j : Instance Node) → Old j ↔ New j) → IsTotalWork rules s ls Old a → IsTotalWork rules s ls New a
+same_total rules ls s Old New a same (ws, works, e) = (ws, same_works rules ls ws s Old New same works, e)
+
+sums : (w x y a b : ℕ) → w < 2 ^ 64 → x ≡ min (w + a) max_work → (x < 2 ^ 64 → y ≡ min (x + b) max_work) → y ≡ min (w + min (a + b) max_work) max_work
+sums w x y a b small e f = let below : x < 2 ^ 64 = omega (arith, e) in omega (arith, e, f below)
+
+turned : {A B : Type 0} → A ↔ B → B ↔ A
+turned f = (f.1, f.0)
+
+keeps_on : (rules : Rules) (old mid new : State) (ls ms : List (List ℕ)) (First Then Last : Instance Node → Type 0) (w x y : ℕ) → (p : KeepsLines rules old ls mid First Then w x) → KeepsLines rules (state_after rules old p.spelled) ms new Then Last x y → KeepsLines rules old (ls ++ ms) new First Last w y
+keeps_on rules old mid new ls ms First Then Last w x y p q =
+    let between = state_after rules old p.spelled in
+    record {
+      spelled = p.spelled ++ q.spelled;
+      are_heard = heard_append ls ms p.spelled q.spelled p.are_heard q.are_heard;
+      state = q.state ∙ sym (state_after-append rules p.spelled q.spelled old);
+      kept = λ j. through (q.kept j) (through (same_over rules q.spelled between Then (KeptOver rules old p.spelled First) p.kept j) (turned (over_append rules p.spelled q.spelled old First j)));
+      added = min (p.added + q.added) max_work;
+      is_work = total_append rules p.spelled q.spelled old First p.added q.added p.is_work (same_total rules q.spelled between Then (KeptOver rules old p.spelled First) q.added p.kept q.is_work);
+      grows = λ small. sums w x y p.added q.added small (p.grows small) q.grows;
+    }
 
 pub keeps_append : (rules : Rules) (old mid new : State) (ls ms : List (List ℕ)) (First Then Last : Instance Node → Type 0) (w x y : ℕ) → KeepsLines rules old ls mid First Then w x → KeepsLines rules mid ms new Then Last x y → KeepsLines rules old (ls ++ ms) new First Last w y
 keeps_append rules old mid new ls ms First Then Last w x y p q = keeps_on rules old mid new ls ms First Then Last w x y p (subst (λ (s : State). KeepsLines rules s ms new Then Last x y) p.state q)
@@ -97,23 +121,39 @@ keeps_append rules old mid new ls ms First Then Last w x y p q = keeps_on rules 
 -- no line
 pub keeps_nothing : (rules : Rules) (s : State) (Kept : Instance Node → Type 0) (w : ℕ) → KeepsLines rules s [] s Kept Kept w w
 keeps_nothing rules s Kept w = record {
-  verdicts = [];
-  are_verdicts = tt;
+  spelled = [];
+  are_heard = tt;
   state = refl;
   kept = λ j. (λ h. h, λ h. h);
   added = 0;
-  is_work = refl;
+  is_work = ([], tt, refl);
   grows = λ small. omega (arith, small);
 }
 
 -- one line
-pub keeps_one : (rules : Rules) (old new : State) (line : List ℕ) (v : Verdict) (before later : Instance Node → Type 0) (w x more : ℕ) → HasVerdict rules old line v → new ≡ after old v → ((j : Instance Node) → later j ↔ KeptAfter rules old v before j) → IsWork rules old v before more → (w < 2 ^ 64 → x ≡ min (w + more) (2 ^ 64 - 1)) → KeepsLines rules old (line ∷ []) new before later w x
-keeps_one rules old new line v before later w x more is state kept work grows = record {
-  verdicts = v ∷ [];
-  are_verdicts = (is, tt);
+one_heard : (rules : Rules) (old new : State) (line : List ℕ) (l : Option Line) (before later : Instance Node → Type 0) (w x more : ℕ) → IsHeard line l → new ≡ after old (heard rules old l)
+    → ((j : Instance Node) → later j ↔ KeptAfter rules old (heard rules old l) before j) → IsWork rules old (heard rules old l) before more → (w < 2 ^ 64 → x ≡ min (w + more) (2 ^ 64 - 1)) → KeepsLines rules old (line ∷ []) new before later w x
+one_heard rules old new line l before later w x more is state kept work grows = record {
+  spelled = l ∷ [];
+  are_heard = (is, tt);
   state = state;
   kept = kept;
-  added = more;
-  is_work = (more, 0, work, refl, omega arith);
-  grows = grows;
+  added = min more max_work;
+  is_work = (more ∷ [], (work, tt), ap (λ n. min n max_work) (alone more));
+  grows = λ small. omega (arith, grows small);
 }
+  where
+    alone : (n : ℕ) → n ≡ 0 + n
+    alone n = omega arith
+
+pub keeps_one : (rules : Rules) (old new : State) (line : List ℕ) (v : Verdict) (before later : Instance Node → Type 0) (w x more : ℕ) → HasVerdict rules old line v → new ≡ after old v → ((j : Instance Node) → later j ↔ KeptAfter rules old v before j) → IsWork rules old v before more → (w < 2 ^ 64 → x ≡ min (w + more) (2 ^ 64 - 1)) → KeepsLines rules old (line ∷ []) new before later w x
+keeps_one rules old new line v before later w x more has state kept work grows = by has
+  where
+    heard_so : (l : Option Line) → IsHeard line l → v ≡ heard rules old l → KeepsLines rules old (line ∷ []) new before later w x
+    heard_so l is e =
+        one_heard rules old new line l before later w x more is (state ∙ ap (after old) e) (λ j. subst (λ (u : Verdict). later j ↔ KeptAfter rules old u before j) e (kept j))
+        (subst (λ (u : Verdict). IsWork rules old u before more) e work) grows
+
+    by : HasVerdict rules old line v → KeepsLines rules old (line ∷ []) new before later w x
+    by (obeys l spells e) = heard_so (Some l) spells e
+    by (refuses none e) = heard_so None none e

@@ -1,5 +1,5 @@
 -- What a run has done at its end.
-use Rattle.std.specs.Prelude.{◌≡◌, ℕ, ◌-◌, ◌≤◌, Bool, true, false, List, [], ◌∷◌, ◌++◌, length, filter, Option, Result, Ok, Err}
+use Rattle.std.specs.Prelude.{◌≡◌, ℕ, ◌-◌, ◌≤◌, ⊤, Bool, true, false, List, [], ◌∷◌, ◌++◌, length, filter, Option, Result, Ok, Err}
 use Rattle.std.specs.Io.KnownBytes.{Appends, Consumes, IsAtEnd}
 use Rattle.at_model.specs.Lines.{lines, pieces, is_filled}
 use Rattle.at_model.specs.Rules.{Rules}
@@ -8,7 +8,7 @@ use Rattle.at_model.specs.Machine.{State, Given, Runs, Outputs, text_of}
 use Rattle.at_engine.specs.declared.stream.desk.Report.{Report}
 use Rattle.at_engine.specs.declared.stream.desk.RunFault.{RunFault}
 use Rattle.at_engine.specs.declared.stream.desk.RunFault.TheVariants.{Read, Write, TooManyReads, Memory}
-use Rattle.at_engine.specs.Ends.{Remembers}
+use Rattle.at_engine.specs.Ends.{Counted, Remembers}
 use Rattle.at_engine.specs.Loop.{Progress}
 use Rattle.at_engine.specs.Taking.{EndsIn, wants}
 
@@ -103,3 +103,29 @@ write_fails (Err Memory) = false
 -- did in it, and `Write` just where one of the writer did
 abbrev pub TellsFailures : Result Report RunFault → (reader_old reader_new writer_old writer_new : Option Bool) → Type 0
 TellsFailures result reader_old reader_new writer_old writer_new = Remembers reader_old reader_new (read_fails result) × Remembers writer_old writer_new (write_fails result)
+
+-- how many reads there may be by what a run answers that may make so many: no more, all where there are too many, and none where
+-- it never began
+abbrev pub AreReads : (most_reads : ℕ) → Result Report RunFault → (reads : ℕ) → Type 0
+AreReads most_reads (Ok report) reads = reads ≤ most_reads
+AreReads most_reads (Err Read) reads = reads ≤ most_reads
+AreReads most_reads (Err Write) reads = reads ≤ most_reads
+AreReads most_reads (Err TooManyReads) reads = reads ≡ most_reads
+AreReads most_reads (Err Memory) reads = reads ≡ 0
+
+-- where it is known how many reads there were, the run made so many more
+abbrev pub MakesReads : (most_reads : ℕ) → Result Report RunFault → (before after : Option ℕ) → Type 0
+MakesReads most_reads result before after = (reads : ℕ) × AreReads most_reads result reads × Counted before after reads
+
+-- where it is known whether a read brought no byte, which is the end, one did in a run that answers a report, and none in one that
+-- answers a fault; but of a run in which a write failed nothing is said
+abbrev pub TellsEnd : Result Report RunFault → (before after : Option Bool) → Type 0
+TellsEnd (Ok report) before after = Remembers before after true
+TellsEnd (Err Read) before after = Remembers before after false
+TellsEnd (Err Write) before after = ⊤
+TellsEnd (Err TooManyReads) before after = Remembers before after false
+TellsEnd (Err Memory) before after = Remembers before after false
+
+-- unless a write failed, all that was written is sent on, where nothing waited before
+abbrev pub SendsAll : Result Report RunFault → (waited waits : Bool) → Type 0
+SendsAll result waited waits = write_fails result ≡ false → waited ≡ false → waits ≡ false

@@ -1,15 +1,15 @@
 //! The loop over lines: bytes come in pieces of any size, each line is served whole, and its reply is written before the
 //! next line is looked at.
-ghost use Rattle.std.specs.Prelude.{◌≡◌, ◌∷◌, ◌++◌, ◌≤◌, ◌<◌, ◌+◌, ◌*◌, ◌^◌, ℕ, List, [], filter, vec_len, length, is_err, IfOk, IsTrue, MatchOption, OnOk};
+ghost use Rattle.std.specs.Prelude.{◌≡◌, ◌∷◌, ◌++◌, ◌≤◌, ◌<◌, ◌+◌, ◌*◌, ◌^◌, ℕ, List, [], false, filter, vec_len, length, is_err, IfOk, IsTrue, MatchOption, OnOk};
 ghost use Rattle.at_model.specs.Lines.{is_filled};
 ghost use Rattle.at_engine.specs.Engines.{state_of, rules_of, slice_of, IsSound};
-ghost use Rattle.at_engine.specs.Ends.{Remembers};
+ghost use Rattle.at_engine.specs.Ends.{Remembers, SendsOn};
 ghost use Rattle.at_engine.specs.Loop.{kept, newline_at, IsOpen};
 ghost use Rattle.at_engine.specs.Keeping.{IsSpare, KeepsLine, work_of};
 ghost use Rattle.at_engine.specs.KeepingRuns.{KeepsAll, KeepsBytes, KeepsRun};
 ghost use Rattle.at_engine.specs.KeptOver.{NonePosts};
 ghost use Rattle.at_engine.specs.Taking.{countable, Drains, Finishes, GivesTurns, LeavesTurns, ServedOrHalts, SettlesOne, TakesOrStops, Written};
-ghost use Rattle.at_engine.specs.Running.{Ran, TellsFailures, max_reads};
+ghost use Rattle.at_engine.specs.Running.{MakesReads, Ran, SendsAll, TellsEnd, TellsFailures, max_reads};
 
 mod desk;
 mod ends;
@@ -30,6 +30,7 @@ const PIECE: usize = 8_192;
 fn write_whole<W: Output>(writer: &mut W, bytes: &[u8]) -> Result<(), RunFault>
     ensures written { Written result (W.contents writer.old) (W.contents writer.new) bytes.now }
     ensures failed { Remembers (W.failed writer.old) (W.failed writer.new) (is_err result) }
+    ensures sent { OnOk result (W.waits writer.new ≡ false) }
 {
     let mut rest = bytes;
     while !rest.is_empty() {
@@ -55,6 +56,7 @@ fn serve<K: Keeper, W: Output>(
     requires few { countable desk.old (state_of engine.old) + 3 < 2 ^ 128 }
     ensures served { ServedOrHalts result (rules_of engine.old) (slice_of engine.old) (state_of engine.old) desk.old.line.items (state_of engine.new) desk.old desk.new (W.contents writer.old) (W.contents writer.new) }
     ensures failed { Remembers (W.failed writer.old) (W.failed writer.new) (is_err result) }
+    ensures sent { SendsOn result (W.waits writer.old) (W.waits writer.new) }
     ensures keeps { IsTrue K.exact → IsSpare K.contents engine.old → OnOk result ((state_of engine.old).posted ≡ [] → NonePosts (desk.old.line.items ∷ []) → desk.new.memory ≡ desk.old.memory → KeepsLine K.contents desk.old.line.items engine.old engine.new) }
     ensures spare { IsTrue K.exact → IsSpare K.contents engine.old → IsSpare K.contents engine.new }
     ensures rules { rules_of engine.new ≡ rules_of engine.old }
@@ -84,6 +86,7 @@ fn give_turns<K: Keeper, W: Output>(
     requires few { countable desk.old (state_of engine.old) < 2 ^ 128 }
     ensures gives { GivesTurns result (rules_of engine.old) (slice_of engine.old) (state_of engine.old) (state_of engine.new) desk.old desk.new (W.contents writer.old) (W.contents writer.new) }
     ensures failed { Remembers (W.failed writer.old) (W.failed writer.new) (is_err result) }
+    ensures sent { SendsOn result (W.waits writer.old) (W.waits writer.new) }
     ensures none { (state_of engine.old).posted ≡ [] → engine.new ≡ engine.old }
     ensures spare { IsTrue K.exact → IsSpare K.contents engine.old → IsSpare K.contents engine.new }
     ensures rules { rules_of engine.new ≡ rules_of engine.old }
@@ -112,6 +115,7 @@ fn give_some<K: Keeper, W: Output>(
     requires few { countable desk.old (state_of engine.old) < 2 ^ 128 }
     ensures gives { LeavesTurns result (rules_of engine.old) limit (state_of engine.old) (state_of engine.new) desk.old desk.new (W.contents writer.old) (W.contents writer.new) }
     ensures failed { Remembers (W.failed writer.old) (W.failed writer.new) (is_err result) }
+    ensures sent { SendsOn result (W.waits writer.old) (W.waits writer.new) }
     ensures none { (state_of engine.old).posted ≡ [] → engine.new ≡ engine.old }
     ensures spare { IsTrue K.exact → IsSpare K.contents engine.old → IsSpare K.contents engine.new }
     ensures rules { rules_of engine.new ≡ rules_of engine.old }
@@ -144,6 +148,7 @@ fn drain<K: Keeper, W: Output>(
     requires few { countable desk.old (state_of engine.old) < 2 ^ 128 }
     ensures drains { Drains result (rules_of engine.old) (state_of engine.old) (state_of engine.new) desk.old desk.new (W.contents writer.old) (W.contents writer.new) }
     ensures failed { Remembers (W.failed writer.old) (W.failed writer.new) (is_err result) }
+    ensures sent { SendsOn result (W.waits writer.old) (W.waits writer.new) }
     ensures none { (state_of engine.old).posted ≡ [] → engine.new ≡ engine.old }
     ensures spare { IsTrue K.exact → IsSpare K.contents engine.old → IsSpare K.contents engine.new }
     ensures rules { rules_of engine.new ≡ rules_of engine.old }
@@ -167,6 +172,7 @@ fn settle_one<K: Keeper, W: Output>(
     requires few { countable desk.old (state_of engine.old) < 2 ^ 128 }
     ensures settles { SettlesOne result (rules_of engine.old) (state_of engine.old) (state_of engine.new) desk.old desk.new (W.contents writer.old) (W.contents writer.new) }
     ensures failed { Remembers (W.failed writer.old) (W.failed writer.new) (is_err result) }
+    ensures sent { SendsOn result (W.waits writer.old) (W.waits writer.new) }
     ensures none { (state_of engine.old).posted ≡ [] → engine.new ≡ engine.old }
     ensures spare { IsTrue K.exact → IsSpare K.contents engine.old → IsSpare K.contents engine.new }
     ensures rules { rules_of engine.new ≡ rules_of engine.old }
@@ -198,6 +204,7 @@ fn take_newline<K: Keeper, W: Output>(
     requires few { countable desk.old (state_of engine.old) + 3 < 2 ^ 128 }
     ensures taken { (front : List ℕ) → IsOpen front → desk.old.line.items ≡ kept front → TakesOrStops result (rules_of engine.old) (slice_of engine.old) (state_of engine.old) front (10 ∷ []) (state_of engine.new) desk.old desk.new (W.contents writer.old) (W.contents writer.new) }
     ensures failed { Remembers (W.failed writer.old) (W.failed writer.new) (is_err result) }
+    ensures sent { SendsOn result (W.waits writer.old) (W.waits writer.new) }
     ensures keeps { IsTrue K.exact → IsSpare K.contents engine.old → (front : List ℕ) → IsOpen front → desk.old.line.items ≡ kept front → OnOk result (KeepsBytes K.contents front (10 ∷ []) engine.old engine.new desk.old desk.new) }
     ensures spare { IsTrue K.exact → IsSpare K.contents engine.old → IsSpare K.contents engine.new }
     ensures rules { rules_of engine.new ≡ rules_of engine.old }
@@ -223,6 +230,7 @@ fn take_piece<K: Keeper, W: Output>(
     requires few { countable desk.old (state_of engine.old) + 3 * length piece.now < 2 ^ 128 }
     ensures taken { (front : List ℕ) → IsOpen front → desk.old.line.items ≡ kept front → TakesOrStops result (rules_of engine.old) (slice_of engine.old) (state_of engine.old) front piece.now (state_of engine.new) desk.old desk.new (W.contents writer.old) (W.contents writer.new) }
     ensures failed { Remembers (W.failed writer.old) (W.failed writer.new) (is_err result) }
+    ensures sent { SendsOn result (W.waits writer.old) (W.waits writer.new) }
     ensures keeps { IsTrue K.exact → IsSpare K.contents engine.old → (front : List ℕ) → IsOpen front → desk.old.line.items ≡ kept front → OnOk result (KeepsBytes K.contents front piece.now engine.old engine.new desk.old desk.new) }
     ensures spare { IsTrue K.exact → IsSpare K.contents engine.old → IsSpare K.contents engine.new }
     ensures rules { rules_of engine.new ≡ rules_of engine.old }
@@ -266,6 +274,7 @@ fn finish<K: Keeper, W: Output>(
     requires few { countable desk.old (state_of engine.old) + 3 < 2 ^ 128 }
     ensures finished { (front : List ℕ) → desk.old.line.items ≡ kept front → Finishes result (rules_of engine.old) (slice_of engine.old) (state_of engine.old) front (state_of engine.new) desk.old desk.new (W.contents writer.old) (W.contents writer.new) }
     ensures failed { Remembers (W.failed writer.old) (W.failed writer.new) (is_err result) }
+    ensures sent { SendsOn result (W.waits writer.old) (W.waits writer.new) }
     ensures keeps { IsTrue K.exact → IsSpare K.contents engine.old → (front : List ℕ) → desk.old.line.items ≡ kept front → OnOk result ((state_of engine.old).posted ≡ [] → NonePosts (filter is_filled (front ∷ [])) → desk.new.memory ≡ desk.old.memory → KeepsAll K.contents (filter is_filled (front ∷ [])) engine.old engine.new) }
     ensures spare { IsTrue K.exact → IsSpare K.contents engine.old → IsSpare K.contents engine.new }
     ensures rules { rules_of engine.new ≡ rules_of engine.old }
@@ -296,6 +305,9 @@ pub fn run<K: Keeper, R: Input, W: Output>(
     requires sound { IsSound K.contents engine.old }
     ensures ran { Ran max_reads result (rules_of engine.old) (slice_of engine.old) (state_of engine.old) (state_of engine.new) (R.remaining reader.old) (R.remaining reader.new) (W.contents writer.old) (W.contents writer.new) }
     ensures failed { TellsFailures result (R.failed reader.old) (R.failed reader.new) (W.failed writer.old) (W.failed writer.new) }
+    ensures reads { MakesReads max_reads result (R.reads reader.old) (R.reads reader.new) }
+    ensures ended { TellsEnd result (R.ended reader.old) (R.ended reader.new) }
+    ensures sent { SendsAll result (W.waits writer.old) (W.waits writer.new) }
     ensures keeps { IsTrue K.exact → IsSpare K.contents engine.old → IfOk result (λ report. report.memory ≡ 0 → KeepsRun K.contents engine.old engine.new (R.remaining reader.old) (R.remaining reader.new)) }
     ensures work { IfOk result (λ report. report.work ≡ work_of engine.new) }
     ensures spare { IsTrue K.exact → IsSpare K.contents engine.old → IsSpare K.contents engine.new }
@@ -320,6 +332,9 @@ pub fn run_for<K: Keeper, R: Input, W: Output>(
     requires sound { IsSound K.contents engine.old }
     ensures ran { Ran limit result (rules_of engine.old) (slice_of engine.old) (state_of engine.old) (state_of engine.new) (R.remaining reader.old) (R.remaining reader.new) (W.contents writer.old) (W.contents writer.new) }
     ensures failed { TellsFailures result (R.failed reader.old) (R.failed reader.new) (W.failed writer.old) (W.failed writer.new) }
+    ensures reads { MakesReads limit result (R.reads reader.old) (R.reads reader.new) }
+    ensures ended { TellsEnd result (R.ended reader.old) (R.ended reader.new) }
+    ensures sent { SendsAll result (W.waits writer.old) (W.waits writer.new) }
     ensures keeps { IsTrue K.exact → IsSpare K.contents engine.old → IfOk result (λ report. report.memory ≡ 0 → KeepsRun K.contents engine.old engine.new (R.remaining reader.old) (R.remaining reader.new)) }
     ensures work { IfOk result (λ report. report.work ≡ work_of engine.new) }
     ensures spare { IsTrue K.exact → IsSpare K.contents engine.old → IsSpare K.contents engine.new }

@@ -14,6 +14,7 @@ loop-is_open-init g c =
       given = (0, gave_nothing (rules_of e) (state_of e) (state_of e) c.args.desk.now c.args.desk.now (contents c.args.writer.now) refl refl refl);
       closed = λ h. absurd (true≢false h);
       failed = no_call _;
+      sent = λ none. none;
       none = λ h. refl;
       spare = λ exact spare. spare;
       rules = refl;
@@ -35,6 +36,7 @@ loop-is_open-preserved g c =
           (contents c.args.writer.now) (contents c.loop-is_open.writer) (contents c.settle_one.new.writer) inv.rules inv.given s;
       closed = closed_then found (rules_of mid) (state_of mid) (state_of new) c.loop-is_open.desk c.settle_one.new.desk (contents c.loop-is_open.writer) (contents c.settle_one.new.writer) s;
       failed = then_calls _ _ _ false inv.failed c.in_ok-is_open.ensures.failed;
+      sent = λ none. c.in_ok-is_open.ensures.sent (inv.sent none);
       none = λ h. c.in_ok-is_open.ensures.none (ap (λ (e : Engine g.row.K.Denot). (state_of e).posted) (inv.none h) ∙ h) ∙ inv.none h;
       spare = λ exact spare. c.in_ok-is_open.ensures.spare exact (inv.spare exact spare);
       rules = c.in_ok-is_open.ensures.rules ∙ inv.rules;
@@ -63,3 +65,9 @@ returns-in_err-is_open-clause-drains g c =
     let s = c.in_err-is_open.ensures.settles in
     let rules = rules_of c.args.engine.now in
     rw (p.1, p.2) (s.0, _, stops_later rules inv.given.0 s.1 _ _ _ _ _ _ _ _ inv.given.1 (ruled_in_part rules (rules_of c.loop-is_open.engine) s.1 _ _ _ _ inv.rules s.2))
+
+pub returns-in_err-is_open-clause-sent : goal.returns-in_err-is_open-clause-sent
+returns-in_err-is_open-clause-sent g c = let p = err_from_is_err_and c.from_residual.result c.from_residual.ensures.1 in rw p.1 tt
+
+pub returns-clause-sent : goal.returns-clause-sent
+returns-clause-sent g c = c.loop-is_open.invariant.sent

@@ -14,6 +14,7 @@ invariant-loop-is_open g l =
       given : (turns : ℕ) × Gives (rules_of l.fn.engine) turns (state_of l.fn.engine) (state_of l.engine) l.fn.desk l.desk (contents l.fn.writer) (contents l.writer);
       closed : l.is_open ≡ false → (state_of l.engine).posted ≡ [];
       failed : Remembers (g.W.Output.failed l.fn.writer) (g.W.Output.failed l.writer) false;
+      sent : g.W.Output.waits l.fn.writer ≡ false → g.W.Output.waits l.writer ≡ false;
       none : (state_of l.fn.engine).posted ≡ [] → l.engine ≡ l.fn.engine;
       spare : IsTrue g.K.Keeper.exact → IsSpare g.K.Keeper.contents l.fn.engine → IsSpare g.K.Keeper.contents l.engine;
       rules : rules_of l.engine ≡ rules_of l.fn.engine;

@@ -5,7 +5,7 @@ use Rattle.at_engine.specs.Loop.{kept}
 use Rattle.at_engine.specs.Engines.{rules_of, slice_of, state_of}
 use Rattle.at_engine.proofs.Kept.{filled_as_kept, empty_as_kept}
 use Rattle.at_engine.proofs.KeepingBytes.{kept_at_end, kept_at_once}
-use Rattle.at_engine.proofs.Remembering.{then_calls}
+use Rattle.at_engine.proofs.Remembering.{sends_later, then_calls}
 use Rattle.at_engine.proofs.Runnings.{end_of_empty, end_of_line, stopped_in_last}
 use Rattle.at_engine.proofs.stream.finish.Goals as goal
 
@@ -57,3 +57,12 @@ returns-clause-failed g c = then_calls _ _ _ _ c.in_ok-serve.ensures.failed c.dr
 
 pub returns-then-is_empty-clause-failed : goal.returns-then-is_empty-clause-failed
 returns-then-is_empty-clause-failed g c = c.drain.ensures.failed
+
+pub returns-in_err-serve-clause-sent : goal.returns-in_err-serve-clause-sent
+returns-in_err-serve-clause-sent g c = let p = err_from_is_err_and c.from_residual.result c.from_residual.ensures.1 in rw p.1 tt
+
+pub returns-clause-sent : goal.returns-clause-sent
+returns-clause-sent g c = sends_later c.drain-2.result _ _ _ c.in_ok-serve.ensures.sent c.drain-2.ensures.sent
+
+pub returns-then-is_empty-clause-sent : goal.returns-then-is_empty-clause-sent
+returns-then-is_empty-clause-sent g c = c.drain.ensures.sent

@@ -48,3 +48,9 @@ pub returns-in-None-clause-grows : goal.returns-in-None-clause-grows
 returns-in-None-clause-grows g c =
     let given = has_none _ c.args.limit _ _ _ _ c.in-Ok.spent c.in-None.is c.in-Ok.ensures.spends in
     omega (arith, fewer_given (rules_of c.args.engine.now) c.args.limit _ [] _ given)
+
+pub returns-in_err-write_whole-in-Some-clause-sent : goal.returns-in_err-write_whole-in-Some-clause-sent
+returns-in_err-write_whole-in-Some-clause-sent g c = let p = err_from_is_err_and c.from_residual.result c.from_residual.ensures.1 in rw p.1 tt
+
+pub returns-in_ok-write_whole-in-Some-clause-sent : goal.returns-in_ok-write_whole-in-Some-clause-sent
+returns-in_ok-write_whole-in-Some-clause-sent g c none = c.in_ok-write_whole-in-Some.ensures.sent

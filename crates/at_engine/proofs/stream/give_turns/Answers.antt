@@ -16,6 +16,7 @@ loop-left-init g c =
       within = omega (arith, all);
       gives = as_many_given (rules_of e) 0 _ _ _ _ _ _ _ none (gave_nothing (rules_of e) (state_of e) (state_of e) c.args.desk.now c.args.desk.now (contents c.args.writer.now) refl refl refl);
       failed = no_call _;
+      sent = λ none. none;
       none = λ h. refl;
       spare = λ exact spare. spare;
       rules = refl;
@@ -39,6 +40,7 @@ loop-left-preserved g c =
       within = omega (arith, inv.within, s.0);
       gives = as_many_given rules ((slice - left) + (left - rest)) (slice - rest) _ _ _ _ _ _ all (gave_more rules (slice - left) (left - rest) _ _ _ _ _ _ _ _ _ inv.gives more);
       failed = then_calls _ _ _ false inv.failed c.in_ok-left.ensures.failed;
+      sent = λ none. c.in_ok-left.ensures.sent (inv.sent none);
       none = λ h. c.in_ok-left.ensures.none (ap (λ (e : Engine g.row.K.Denot). (state_of e).posted) (inv.none h) ∙ h) ∙ inv.none h;
       spare = λ exact spare. c.in_ok-left.ensures.spare exact (inv.spare exact spare);
       rules = c.in_ok-left.ensures.rules ∙ inv.rules;
@@ -68,3 +70,9 @@ returns-in_err-left-clause-gives g c =
       s.0,
       as_many_in_part rules ((slice - left) + left) slice _ _ _ _ all (stops_later rules (slice - left) left _ _ _ _ _ _ _ _ inv.gives (ruled_in_part rules (rules_of c.loop-left.engine) left _ _ _ _ inv.rules s.1)),
     )
+
+pub returns-in_err-left-clause-sent : goal.returns-in_err-left-clause-sent
+returns-in_err-left-clause-sent g c = let p = err_from_is_err_and c.from_residual.result c.from_residual.ensures.1 in rw p.1 tt
+
+pub returns-clause-sent : goal.returns-clause-sent
+returns-clause-sent g c = c.loop-left.invariant.sent

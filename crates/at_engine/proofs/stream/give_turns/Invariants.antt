@@ -14,6 +14,7 @@ invariant-loop-left g l =
       within : l.left ≤ slice_of l.fn.engine;
       gives : Gives (rules_of l.fn.engine) (slice_of l.fn.engine - l.left) (state_of l.fn.engine) (state_of l.engine) l.fn.desk l.desk (contents l.fn.writer) (contents l.writer);
       failed : Remembers (g.W.Output.failed l.fn.writer) (g.W.Output.failed l.writer) false;
+      sent : g.W.Output.waits l.fn.writer ≡ false → g.W.Output.waits l.writer ≡ false;
       none : (state_of l.fn.engine).posted ≡ [] → l.engine ≡ l.fn.engine;
       spare : IsTrue g.K.Keeper.exact → IsSpare g.K.Keeper.contents l.fn.engine → IsSpare g.K.Keeper.contents l.engine;
       rules : rules_of l.engine ≡ rules_of l.fn.engine;

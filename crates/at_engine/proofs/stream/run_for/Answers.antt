@@ -1,14 +1,15 @@
 use Rattle.std.specs.Prelude.{IsTrue}
-use Rattle.std.proofs.Common.{◌≡◌, ◌∙◌, sym, [], ◌++◌, length, take, ◌<◌, ◌≤◌, ◌+◌, length-append, arith, refl, true, false}
+use Rattle.std.proofs.Common.{nat_eq, ℕ, ap, subst, true≢false, ◌≡◌, ◌∙◌, sym, [], ◌++◌, length, take, ◌<◌, ◌≤◌, ◌+◌, length-append, arith, refl, true, false}
 use Rattle.std.proofs.KnownBytes.{Consumes-kept, Consumes-nil, Consumes-trans}
 use Rattle.std.proofs.lemmas.Result.{err_from_is_err_and}
+use Rattle.at_engine.specs.Ends.{Remembers}
 use Rattle.at_engine.specs.Keeping.{IsSpare}
 use Rattle.at_engine.specs.KeepingRuns.{KeepsBytes}
 use Rattle.at_engine.specs.Engines.{state_of, rules_of, slice_of}
 use Rattle.at_engine.proofs.Kept.{kept-nil}
 use Rattle.at_engine.proofs.Giving.{few_open}
 use Rattle.at_engine.proofs.KeepingBytes.{keeps_more, keeps_none, keeps_run}
-use Rattle.at_engine.proofs.Remembering.{no_call, then_calls}
+use Rattle.at_engine.proofs.Remembering.{counted_on, no_call, none_counted, not_zero, then_calls}
 use Rattle.at_engine.proofs.Takings.{took_nothing, took_more, takes_under, stopped_later, stops_under}
 use Rattle.at_engine.proofs.Runnings.{ended, broke_off, cut_off, cut_off_at_end, at_end, finished_under, finish_stops_under}
 use Rattle.at_engine.proofs.stream.run_for.Goals as goal
@@ -17,7 +18,10 @@ pub loop-turn-init : goal.loop-turn-init
 loop-turn-init g c = record {
   so_far = ([], Consumes-nil _, omega arith, took_nothing _ _ _ [] c.in-Ok.desk _ refl (c.in-Ok.ensures.line ∙ sym kept-nil), λ exact spare. keeps_none g.K.Keeper.contents c.args.engine.now [] c.in-Ok.desk refl (c.in-Ok.ensures.line ∙ sym kept-nil));
   read = no_call _;
+  ended = no_call _;
+  reads = none_counted _;
   written = no_call _;
+  sent = λ none. none;
   spare = λ exact spare. spare;
   rules = refl;
   slice = refl;
@@ -81,6 +85,7 @@ loop-turn-preserved g c =
     let t = inv.3 in
     let u = c.in_ok-take_piece.ensures.taken t.rest t.progress.open' t.line in
     let v = takes_under rules _ slice _ (state_of c.loop-turn.engine) (state_of c.take_piece.new.engine) t.rest piece c.loop-turn.desk c.take_piece.new.desk (contents c.loop-turn.writer) (contents c.take_piece.new.writer) c.loop-turn.invariant.rules c.loop-turn.invariant.slice u in
+    let brought : 0 < c.in-Ok-read.count = omega (arith, c.if-count-eq0.false) in
     let some : c.loop-turn.turn + 1 ≤ length (inv.0 ++ piece) = omega (arith, inv.2, length-append inv.0 piece, c.in-Ok-read.ensures.bound.1, c.if-count-eq0.false) in
     let keeps : IsTrue g.K.Keeper.exact → IsSpare g.K.Keeper.contents c.args.engine.now → KeepsBytes g.K.Keeper.contents [] (inv.0 ++ piece) c.args.engine.now c.take_piece.new.engine c.in-Ok.desk c.take_piece.new.desk = λ exact spare.
     let p = inv.4 exact spare in
@@ -89,7 +94,10 @@ loop-turn-preserved g c =
     record {
       so_far = (inv.0 ++ piece, Consumes-trans _ _ _ _ _ inv.1 c.in-Ok-read.ensures.bytes.0, some, took_more rules slice _ _ _ [] inv.0 piece _ _ _ _ _ _ t v, keeps);
       read = then_calls _ _ _ false c.loop-turn.invariant.read c.in-Ok-read.ensures.failed;
+      ended = then_calls _ _ _ false c.loop-turn.invariant.ended (subst (Remembers _ _) (not_zero c.in-Ok-read.count brought) c.in-Ok-read.ensures.ended);
+      reads = counted_on _ _ _ c.loop-turn.turn 1 c.loop-turn.invariant.reads c.in-Ok-read.ensures.counted;
       written = then_calls _ _ _ false c.loop-turn.invariant.written c.in_ok-take_piece.ensures.failed;
+      sent = λ none. c.in_ok-take_piece.ensures.sent (c.loop-turn.invariant.sent none);
       spare = λ exact spare. c.in_ok-take_piece.ensures.spare exact (c.loop-turn.invariant.spare exact spare);
       rules = c.in_ok-take_piece.ensures.rules ∙ c.loop-turn.invariant.rules;
       slice = c.in_ok-take_piece.ensures.slice ∙ c.loop-turn.invariant.slice;
@@ -149,3 +157,73 @@ returns-in-Err-clause-failed g c = (then_calls _ _ _ true c.loop-turn.invariant.
 
 pub returns-clause-failed : goal.returns-clause-failed
 returns-clause-failed g c = (c.loop-turn.invariant.read, c.loop-turn.invariant.written)
+
+pub returns-in_err-finish-clause-reads : goal.returns-in_err-finish-clause-reads
+returns-in_err-finish-clause-reads g c =
+    let p = err_from_is_err_and c.from_residual.result c.from_residual.ensures.1 in
+    let t = c.loop-turn.invariant.so_far.3 in
+    let f = c.in_err-finish.ensures.finished t.rest t.line in
+    rw (p.1, p.2, f.0) (c.loop-turn.turn + 1, omega arith, counted_on _ _ _ c.loop-turn.turn 1 c.loop-turn.invariant.reads c.in-Ok-read.ensures.counted)
+
+pub returns-then-count-eq0-clause-reads : goal.returns-then-count-eq0-clause-reads
+returns-then-count-eq0-clause-reads g c = (c.loop-turn.turn + 1, omega arith, counted_on _ _ _ c.loop-turn.turn 1 c.loop-turn.invariant.reads c.in-Ok-read.ensures.counted)
+
+pub returns-in_err-take_piece-clause-reads : goal.returns-in_err-take_piece-clause-reads
+returns-in_err-take_piece-clause-reads g c =
+    let p = err_from_is_err_and c.from_residual-in_err-take_piece.result c.from_residual-in_err-take_piece.ensures.1 in
+    let t = c.loop-turn.invariant.so_far.3 in
+    let u = c.in_err-take_piece.ensures.taken t.rest t.progress.open' t.line in
+    rw (p.1, p.2, u.0) (c.loop-turn.turn + 1, omega arith, counted_on _ _ _ c.loop-turn.turn 1 c.loop-turn.invariant.reads c.in-Ok-read.ensures.counted)
+
+pub returns-in-Err-clause-reads : goal.returns-in-Err-clause-reads
+returns-in-Err-clause-reads g c = (c.loop-turn.turn + 1, omega arith, counted_on _ _ _ c.loop-turn.turn 1 c.loop-turn.invariant.reads c.in-Err.ensures.counted)
+
+pub returns-clause-reads : goal.returns-clause-reads
+returns-clause-reads g c = (c.loop-turn.turn, omega arith, c.loop-turn.invariant.reads)
+
+pub returns-in_err-finish-clause-ended : goal.returns-in_err-finish-clause-ended
+returns-in_err-finish-clause-ended g c =
+    let p = err_from_is_err_and c.from_residual.result c.from_residual.ensures.1 in
+    let t = c.loop-turn.invariant.so_far.3 in
+    let f = c.in_err-finish.ensures.finished t.rest t.line in
+    rw (p.1, p.2, f.0) tt
+
+pub returns-then-count-eq0-clause-ended : goal.returns-then-count-eq0-clause-ended
+returns-then-count-eq0-clause-ended g c =
+    then_calls _ _ _ true c.loop-turn.invariant.ended (subst (Remembers _ _) (ap (λ (n : ℕ). nat_eq n 0) c.if-count-eq0.true) c.in-Ok-read.ensures.ended)
+
+pub returns-in_err-take_piece-clause-ended : goal.returns-in_err-take_piece-clause-ended
+returns-in_err-take_piece-clause-ended g c =
+    let p = err_from_is_err_and c.from_residual-in_err-take_piece.result c.from_residual-in_err-take_piece.ensures.1 in
+    let t = c.loop-turn.invariant.so_far.3 in
+    let u = c.in_err-take_piece.ensures.taken t.rest t.progress.open' t.line in
+    rw (p.1, p.2, u.0) tt
+
+pub returns-in-Err-clause-ended : goal.returns-in-Err-clause-ended
+returns-in-Err-clause-ended g c = then_calls _ _ _ false c.loop-turn.invariant.ended c.in-Err.ensures.ended
+
+pub returns-clause-ended : goal.returns-clause-ended
+returns-clause-ended g c = c.loop-turn.invariant.ended
+
+pub returns-in_err-finish-clause-sent : goal.returns-in_err-finish-clause-sent
+returns-in_err-finish-clause-sent g c =
+    let p = err_from_is_err_and c.from_residual.result c.from_residual.ensures.1 in
+    let t = c.loop-turn.invariant.so_far.3 in
+    let f = c.in_err-finish.ensures.finished t.rest t.line in
+    rw (p.1, p.2, f.0) (λ well none. absurd (true≢false well))
+
+pub returns-then-count-eq0-clause-sent : goal.returns-then-count-eq0-clause-sent
+returns-then-count-eq0-clause-sent g c well none = c.in_ok-finish.ensures.sent (c.loop-turn.invariant.sent none)
+
+pub returns-in_err-take_piece-clause-sent : goal.returns-in_err-take_piece-clause-sent
+returns-in_err-take_piece-clause-sent g c =
+    let p = err_from_is_err_and c.from_residual-in_err-take_piece.result c.from_residual-in_err-take_piece.ensures.1 in
+    let t = c.loop-turn.invariant.so_far.3 in
+    let u = c.in_err-take_piece.ensures.taken t.rest t.progress.open' t.line in
+    rw (p.1, p.2, u.0) (λ well none. absurd (true≢false well))
+
+pub returns-in-Err-clause-sent : goal.returns-in-Err-clause-sent
+returns-in-Err-clause-sent g c well none = c.loop-turn.invariant.sent none
+
+pub returns-clause-sent : goal.returns-clause-sent
+returns-clause-sent g c well none = c.loop-turn.invariant.sent none

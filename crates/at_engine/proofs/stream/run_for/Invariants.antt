@@ -1,7 +1,7 @@
 use Rattle.std.specs.Prelude.{IsTrue, false}
 use Rattle.std.proofs.Common.{◌≡◌, ◌≤◌, ◌<◌, ◌^◌, ◌*◌, ◌+◌, List, ℕ, [], length}
 use Rattle.std.specs.Io.KnownBytes.{Consumes}
-use Rattle.at_engine.specs.Ends.{Remembers}
+use Rattle.at_engine.specs.Ends.{Counted, Remembers}
 use Rattle.at_engine.specs.Taking.{Takes, countable}
 use Rattle.at_engine.specs.Keeping.{IsSpare}
 use Rattle.at_engine.specs.KeepingRuns.{KeepsBytes}
@@ -18,7 +18,10 @@ invariant-loop-turn g l =
           × Takes (rules_of l.fn.engine) (slice_of l.fn.engine) (state_of l.fn.engine) [] input (state_of l.engine) l.initial.desk l.desk (contents l.fn.writer) (contents l.writer)
           × (IsTrue g.K.Keeper.exact → IsSpare g.K.Keeper.contents l.fn.engine → KeepsBytes g.K.Keeper.contents [] input l.fn.engine l.engine l.initial.desk l.desk);
       read : Remembers (g.R.Input.failed l.fn.reader) (g.R.Input.failed l.reader) false;
+      ended : Remembers (g.R.Input.ended l.fn.reader) (g.R.Input.ended l.reader) false;
+      reads : Counted (g.R.Input.reads l.fn.reader) (g.R.Input.reads l.reader) l.turn;
       written : Remembers (g.W.Output.failed l.fn.writer) (g.W.Output.failed l.writer) false;
+      sent : g.W.Output.waits l.fn.writer ≡ false → g.W.Output.waits l.writer ≡ false;
       spare : IsTrue g.K.Keeper.exact → IsSpare g.K.Keeper.contents l.fn.engine → IsSpare g.K.Keeper.contents l.engine;
       rules : rules_of l.engine ≡ rules_of l.fn.engine;
       slice : slice_of l.engine ≡ slice_of l.fn.engine;

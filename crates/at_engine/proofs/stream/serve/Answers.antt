@@ -7,7 +7,7 @@ use Rattle.at_engine.specs.Engines.{state_of, rules_of, slice_of}
 use Rattle.at_engine.specs.Keeping.{KeepsServed}
 use Rattle.at_engine.proofs.Giving.{counts_served, halts_in_line, then_turns}
 use Rattle.at_engine.proofs.KeepingBytes.{kept_behind}
-use Rattle.at_engine.proofs.Remembering.{then_calls}
+use Rattle.at_engine.proofs.Remembering.{sends_later, then_calls}
 use Rattle.at_engine.proofs.stream.serve.Goals as goal
 
 pub give_turns-requires-clause-few : goal.give_turns-requires-clause-few
@@ -71,3 +71,9 @@ returns-in_err-write_whole-in-Ok-clause-failed g c = let p = err_from_is_err_and
 
 pub returns-clause-failed : goal.returns-clause-failed
 returns-clause-failed g c = then_calls _ _ _ _ c.in_ok-write_whole-in-Ok.ensures.failed c.give_turns.ensures.failed
+
+pub returns-in_err-write_whole-in-Ok-clause-sent : goal.returns-in_err-write_whole-in-Ok-clause-sent
+returns-in_err-write_whole-in-Ok-clause-sent g c = let p = err_from_is_err_and c.from_residual.result c.from_residual.ensures.1 in rw p.1 tt
+
+pub returns-clause-sent : goal.returns-clause-sent
+returns-clause-sent g c = sends_later c.give_turns.result _ _ _ (λ none. c.in_ok-write_whole-in-Ok.ensures.sent) c.give_turns.ensures.sent

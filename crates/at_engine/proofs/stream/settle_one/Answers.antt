@@ -18,3 +18,9 @@ pub returns-in-None-clause-settles : goal.returns-in-None-clause-settles
 returns-in-None-clause-settles g c =
     let n = none_settled _ _ _ _ _ c.in-Ok.told c.in-None.is c.in-Ok.ensures.settles in
     (ap (λ (x : State). x.posted) n.1 ∙ n.0, gave_nothing (rules_of c.args.engine.now) _ _ c.args.desk.now _ _ n.1 refl refl)
+
+pub returns-in_err-write_whole-in-Some-clause-sent : goal.returns-in_err-write_whole-in-Some-clause-sent
+returns-in_err-write_whole-in-Some-clause-sent g c = let p = err_from_is_err_and c.from_residual.result c.from_residual.ensures.1 in rw p.1 tt
+
+pub returns-in_ok-write_whole-in-Some-clause-sent : goal.returns-in_ok-write_whole-in-Some-clause-sent
+returns-in_ok-write_whole-in-Some-clause-sent g c none = c.in_ok-write_whole-in-Some.ensures.sent

@@ -56,3 +56,12 @@ returns-in_ok-serve-clause-failed g c = c.in_ok-serve.ensures.failed
 
 pub returns-else-not-is_empty-clause-failed : goal.returns-else-not-is_empty-clause-failed
 returns-else-not-is_empty-clause-failed g c = no_call _
+
+pub returns-in_err-serve-clause-sent : goal.returns-in_err-serve-clause-sent
+returns-in_err-serve-clause-sent g c = let p = err_from_is_err_and c.from_residual.result c.from_residual.ensures.1 in rw p.1 tt
+
+pub returns-in_ok-serve-clause-sent : goal.returns-in_ok-serve-clause-sent
+returns-in_ok-serve-clause-sent g c = c.in_ok-serve.ensures.sent
+
+pub returns-else-not-is_empty-clause-sent : goal.returns-else-not-is_empty-clause-sent
+returns-else-not-is_empty-clause-sent g c none = none

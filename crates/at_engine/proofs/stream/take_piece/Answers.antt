@@ -15,7 +15,7 @@ cut piece done line behind rest is at =
 
 pub loop-line-init : goal.loop-line-init
 loop-line-init g c =
-    ([], record { split = refl; taken = λ front o e. took_nothing _ _ _ front c.args.desk.now _ o e; keeps = λ exact spare front o e. keeps_none g.K.Keeper.contents c.args.engine.now front c.args.desk.now o e; failed = no_call _; spare = λ exact spare. spare; rules = refl; slice = refl; sound = c.requires.sound; grows = omega arith })
+    ([], record { split = refl; taken = λ front o e. took_nothing _ _ _ front c.args.desk.now _ o e; keeps = λ exact spare front o e. keeps_none g.K.Keeper.contents c.args.engine.now front c.args.desk.now o e; failed = no_call _; sent = λ none. none; spare = λ exact spare. spare; rules = refl; slice = refl; sound = c.requires.sound; grows = omega arith })
 
 pub take_newline-requires-clause-sound : goal.take_newline-requires-clause-sound
 take_newline-requires-clause-sound g c = c.loop-line.invariant.1.sound
@@ -94,6 +94,7 @@ loop-line-preserved g c =
             let q = c.in_ok-take_newline.ensures.keeps exact (inv.spare exact spare) p.rest p.open' p.line in
             keeps_more g.K.Keeper.contents c.args.engine.now c.loop-line.engine c.take_newline.new.engine front (done ++ line) (10 ∷ []) c.args.desk.now c.keep.new.self c.take_newline.new.desk inv.rules (omega (arith, t.counts.memory)) (omega (arith, u.counts.memory)) p q;
         failed = then_calls _ _ _ false inv.failed c.in_ok-take_newline.ensures.failed;
+        sent = λ none. c.in_ok-take_newline.ensures.sent (inv.sent none);
         spare = λ exact spare. c.in_ok-take_newline.ensures.spare exact (inv.spare exact spare);
         rules = c.in_ok-take_newline.ensures.rules ∙ inv.rules;
         slice = c.in_ok-take_newline.ensures.slice ∙ inv.slice;
@@ -137,3 +138,9 @@ returns-clause-grows g c =
 
 pub returns-clause-sound : goal.returns-clause-sound
 returns-clause-sound g c = c.loop-line.invariant.1.sound
+
+pub returns-in_err-take_newline-clause-sent : goal.returns-in_err-take_newline-clause-sent
+returns-in_err-take_newline-clause-sent g c = let p = err_from_is_err_and c.from_residual.result c.from_residual.ensures.1 in rw p.1 tt
+
+pub returns-clause-sent : goal.returns-clause-sent
+returns-clause-sent g c = c.loop-line.invariant.1.sent

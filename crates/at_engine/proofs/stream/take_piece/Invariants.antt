@@ -19,6 +19,7 @@ invariant-loop-line g l =
       keeps : IsTrue g.K.Keeper.exact → IsSpare g.K.Keeper.contents l.fn.engine → (front : List ℕ) → IsOpen front → l.fn.desk.line.items ≡ kept front
           → KeepsBytes g.K.Keeper.contents front done l.fn.engine l.engine l.fn.desk l.desk;
       failed : Remembers (g.W.Output.failed l.fn.writer) (g.W.Output.failed l.writer) false;
+      sent : g.W.Output.waits l.fn.writer ≡ false → g.W.Output.waits l.writer ≡ false;
       spare : IsTrue g.K.Keeper.exact → IsSpare g.K.Keeper.contents l.fn.engine → IsSpare g.K.Keeper.contents l.engine;
       rules : rules_of l.engine ≡ rules_of l.fn.engine;
       slice : slice_of l.engine ≡ slice_of l.fn.engine;
