@@ -121,9 +121,13 @@ class Served:
     def close(self) -> str:
         """Ends it by a signal; what it told on standard output at the end."""
         self.process.terminate()
-        told, _ = self.process.communicate(timeout=SECONDS)
-        self.errors.close()
-        self._folder.cleanup()
+        try:
+            told, _ = self.process.communicate(timeout=SECONDS)
+        finally:
+            self.process.kill()
+            self.process.wait()
+            self.errors.close()
+            self._folder.cleanup()
         return told
 
 

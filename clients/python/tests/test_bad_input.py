@@ -99,8 +99,8 @@ class CommandLines(unittest.TestCase):
 
     def test_programs(self):
         files = [str(CALCULATOR / it) for it in ("calc.ast", "tree.txt", "calc.jrag")]
-        wanted = {"/nosuch/attrd": "No such file", "empty": "there is no such program on the PATH (a file here is ./empty)", "./empty": "Permission denied",
-                  "./folder": "Permission denied", "true": "the program ended with status 0"}
+        wanted = {"/nosuch/attrd": "No such file", "empty": "there is no such program on the PATH (a file here is ./empty)",
+                  "./empty": "Permission denied", "./folder": "Permission denied", "true": "the program ended with status 0"}
         for command in (["attrd"], ["attrd_page", "--no-browser"]):
             for program, reason in wanted.items():
                 told = self.told(*command, "--program", program, *files)
