@@ -1,4 +1,5 @@
-//! The engine that files make: grammar, aspects and tree, looked at in this order, or the first fault.
+//! The engine that files make: grammar, aspects and tree, looked at in this order, or the first fault; and the whole, from the
+//! bytes of the files and of lines to the bytes that are written.
 #![tactic(auto)]
 
 ghost use Rattle.std.specs.Prelude.{◌≡◌, None, IfOk, IfErr};
@@ -13,6 +14,8 @@ mod code;
 mod fault;
 mod files;
 mod grammar;
+pub mod laws;
+mod serving;
 mod tree;
 
 use aspects::rules_of;
@@ -25,6 +28,7 @@ pub use fault::StartFault;
 use fault::{of_file, of_tree};
 pub use files::{Files, MAX_FILE, Source};
 use grammar::classes_of;
+pub use serving::{Answered, answer};
 use std::alloc::Global;
 use tree::tree_of;
 
