@@ -5,3 +5,4 @@ pub mod GrammarFiles
 pub mod TreeFiles
 pub mod AspectFiles
 pub mod Starts
+pub mod Whole

@@ -1,10 +1,11 @@
-//! The engine that files make: grammar, aspects and tree, looked at in this order, or the first fault.
+//! The engine that files make: grammar, aspects and tree, looked at in this order, or the first fault; and the whole, from the
+//! bytes of the files and of lines to the bytes that are written.
 //!
-//! **Its specs:** `Starts` is what files make, with a page for each kind of file (`GrammarFiles`, `AspectFiles`,
+//! **Its specs:** `Whole` is the theorem, to be read first; `Starts` is what files make, with a page for each kind of file (`GrammarFiles`, `AspectFiles`,
 //! `TreeFiles`) over their bytes (`Files`); `StartFaults` and `Codes` are what is printed of a file that is
 //! refused.
 //!
-//! **Where to begin:** `start`, below; `grammar.rt`, `aspects.rt` and `tree.rt` have what each kind of file gives,
+//! **Where to begin:** `answer` in `serving.rt` is the whole, `start`, below, its first half; `grammar.rt`, `aspects.rt` and `tree.rt` have what each kind of file gives,
 //! `fault.rt` why there is no engine.
 //!
 //! **What it keeps true:** an engine that is made is sound, keeps nothing yet, and has just the classes, rules and
@@ -23,6 +24,8 @@ mod code;
 mod fault;
 mod files;
 mod grammar;
+pub mod laws;
+mod serving;
 mod tree;
 
 use aspects::rules_of;
@@ -35,6 +38,7 @@ pub use fault::StartFault;
 use fault::{of_file, of_tree};
 pub use files::{Files, MAX_FILE, Source};
 use grammar::classes_of;
+pub use serving::{Answered, answer};
 use std::alloc::Global;
 use tree::tree_of;
 

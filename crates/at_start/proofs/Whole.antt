@@ -1,0 +1,63 @@
+-- What a run that came to its end has written.
+use Rattle.std.proofs.Common.{◌≡◌, ◌∙◌, ℕ, List, [], ◌++◌, sym, ap, refl, append-nil, subst, Option, Some, None, Result, Ok}
+use Rattle.std.specs.Io.KnownBytes.{Appends, Consumes, IsAtEnd}
+use Rattle.at_model.specs.Machine.{State, Outputs, text_of}
+use Rattle.at_cache.specs.Kept.{Entries}
+use Rattle.at_engine.specs.Engines.{rules_of, slice_of, state_of, IsSound}
+use Rattle.at_engine.specs.Running.{Ran, max_reads}
+use Rattle.at_engine.specs.declared.engine.Engine.{Engine}
+use Rattle.at_engine.specs.declared.stream.desk.Report.{Report}
+use Rattle.at_engine.specs.declared.stream.desk.RunFault.{RunFault}
+use Rattle.at_start.specs.Starts.{Starts, opening}
+use Rattle.at_start.specs.Whole.{Answers, MeansOutput}
+use Rattle.at_start.specs.declared.files.Files.{Files}
+
+-- all known bytes were read
+read_whole : (input bytes : List ℕ) (left : Option (List ℕ)) → Consumes (Some input) left bytes → IsAtEnd left → bytes ≡ input
+read_whole input bytes None read end = absurd read
+read_whole input bytes (Some ys) read end = sym (read ∙ ap (λ l. bytes ++ l) end ∙ append-nil bytes)
+
+-- all known bytes that were written are these
+written_whole : (bytes : List ℕ) (after : Option (List ℕ)) → Appends (Some []) after bytes → after ≡ Some bytes
+written_whole bytes None written = absurd written
+written_whole bytes (Some ys) written = ap (λ l. Some l) written
+
+pub whole : (files : Files) (slice : ℕ) (report : Report) (input : List ℕ) (left after : Option (List ℕ)) → Answers files slice (Ok report) (Some input) left (Some []) after
+    → (output : List ℕ) × (after ≡ Some output) × MeansOutput files slice input output
+whole files slice report input left after a =
+    let r = a.ran in
+    let s = a.starts in
+    let all : r.input ≡ input = read_whole input r.input left r.read r.ended in
+    let from = subst (λ (x : State). Outputs a.rules slice x r.input r.told a.new) s.state_is r.outputs in (
+      text_of r.told,
+      written_whole (text_of r.told) after r.written,
+      record {
+        classes = s.classes;
+        grammar = s.grammar;
+        rules = a.rules;
+        aspects = s.aspects;
+        opened = s.opened;
+        tree = s.tree;
+        told = r.told;
+        new = a.new;
+        outputs = subst (λ (l : List ℕ). Outputs a.rules slice (opening s.opened) l r.told a.new) all from;
+        text = refl;
+      },
+    )
+
+-- another slice of turns leaves an engine sound
+pub sound_set : {K : Type 0} (entries : K → Entries) (old new : Engine K) (slice : ℕ) → new ≡ record old { slice = slice } → IsSound entries old → IsSound entries new
+sound_set {K} entries old new slice is s =
+    let set : IsSound entries (record old { slice = slice }) = record { held = s.held; typed = s.typed } in
+    subst (λ (e : Engine K). IsSound entries e) (sym is) set
+
+-- the run over an engine that files make, with so many turns behind each line
+pub answers_by : {K : Type 0} (files : Files) (slice : ℕ) (made set new : Engine K) (run : Result Report RunFault) (readable left before after : Option (List ℕ)) → set ≡ record made { slice = slice } → Starts files (rules_of made) (state_of made)
+    → Ran max_reads run (rules_of set) (slice_of set) (state_of set) (state_of new) readable left before after → Answers files slice run readable left before after
+answers_by {K} files slice made set new run readable left before after is starts ran = record {
+  rules = rules_of set;
+  old = state_of set;
+  new = state_of new;
+  starts = subst (λ (e : Engine K). Starts files (rules_of e) (state_of e)) (sym is) starts;
+  ran = subst (λ (n : ℕ). Ran max_reads run (rules_of set) n (state_of set) (state_of new) readable left before after) (ap (λ (e : Engine K). slice_of e) is) ran;
+}

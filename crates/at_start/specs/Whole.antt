@@ -1,0 +1,45 @@
+-- The whole: from the bytes of the files, and those of the lines, to the bytes that are written.
+use Rattle.std.specs.Prelude.{◌≡◌, ℕ, Bool, List, Option, Result, Ok, Err}
+use Rattle.at_model.specs.Classes.{Classes}
+use Rattle.at_model.specs.Trees.{Tree}
+use Rattle.at_model.specs.Rules.{Rules}
+use Rattle.at_model.specs.Replies.{Reply}
+use Rattle.at_model.specs.Machine.{State, Outputs, text_of}
+use Rattle.at_engine.specs.Running.{Ran, max_reads}
+use Rattle.at_engine.specs.declared.stream.desk.Report.{Report}
+use Rattle.at_engine.specs.declared.stream.desk.RunFault.{RunFault}
+use Rattle.at_start.specs.AspectFiles.{GivesRules}
+use Rattle.at_start.specs.GrammarFiles.{GivesClasses}
+use Rattle.at_start.specs.TreeFiles.{GivesTree}
+use Rattle.at_start.specs.Starts.{Starts, IsStartFault, aspect_bytes, opening}
+use Rattle.at_start.specs.declared.files.Files.{Files}
+use Rattle.at_start.specs.declared.fault.StartFault.{StartFault}
+use Rattle.at_start.specs.declared.serving.Answered.{Answered}
+
+-- The files give rules and a tree; and from that tree on the run has done with the bytes of the reader what the machine without
+-- caches does.
+pub record Answers (files : Files) (slice : ℕ) (run : Result Report RunFault) (readable left before after : Option (List ℕ)) : Type 0 where
+  pub rules : Rules
+  pub old : State
+  pub new : State
+  pub starts : Starts files rules old
+  pub ran : Ran max_reads run rules slice old new readable left before after
+
+-- So it is; or the fault is that of the first file that is refused, and nothing was read or written.
+abbrev pub AnswersFiles : Files → (slice : ℕ) → Result Answered StartFault → (readable left before after : Option (List ℕ)) → Type 0
+AnswersFiles files slice (Ok answered) readable left before after = Answers files slice answered.run readable left before after
+AnswersFiles files slice (Err fault) readable left before after = IsStartFault files fault × (left ≡ readable) × (after ≡ before)
+
+-- The grammar file gives classes, the aspect files rules over them, and the tree file a tree; and the output is the text of what
+-- the machine without caches, from that tree on, tells for the bytes of the input.
+pub record MeansOutput (files : Files) (slice : ℕ) (input output : List ℕ) : Type 0 where
+  pub classes : Classes
+  pub grammar : GivesClasses files.grammar.bytes.items classes
+  pub rules : Rules
+  pub aspects : GivesRules classes (aspect_bytes files.aspects.items) rules
+  pub opened : Tree
+  pub tree : GivesTree classes files.tree.bytes.items opened
+  pub told : List (Bool × Reply)
+  pub new : State
+  pub outputs : Outputs rules slice (opening opened) input told new
+  pub text : output ≡ text_of told

@@ -1,0 +1,45 @@
+//! The whole: lines, answered by the engine that files make.
+
+ghost use Rattle.std.specs.Prelude.{None};
+ghost use Rattle.at_cache.specs.Kept.{KeepsAll};
+ghost use Rattle.at_start.specs.Whole.{AnswersFiles};
+
+use super::fault::StartFault;
+use super::files::Files;
+use super::start_with;
+use at_cache::Keeper;
+use at_engine::{Input, Output, Report, RunFault, run};
+use std::alloc::Global;
+
+/// What became of the lines that a reader gave.
+#[derive(Clone, Copy)]
+pub struct Answered {
+    /// What the run did, or why it ended before its input.
+    pub run: Result<Report, RunFault>,
+    /// The engine's work at the end.
+    pub work: u64,
+}
+
+/// Serves the lines that the reader gives by the engine that the files make, over an empty keeper, with so many turns behind
+/// each line, and writes what they are told.
+///
+/// # Errors
+///
+/// Those of `start`, and then nothing was read or written.
+pub fn answer<K: Keeper, R: Input, W: Output>(
+    alloc: Global,
+    files: &Files,
+    keeper: K,
+    slice: u32,
+    reader: &mut R,
+    writer: &mut W,
+) -> Result<Answered, StartFault>
+    requires { KeepsAll (λ _. None) (K.contents keeper) }
+    ensures { AnswersFiles files.now slice result (R.remaining reader.old) (R.remaining reader.new) (W.contents writer.old) (W.contents writer.new) }
+{
+    let mut engine = start_with(alloc, files, keeper)?;
+    engine.set_slice(slice);
+    let ended = run(&mut engine, reader, writer);
+    let work = engine.work();
+    Ok(Answered { run: ended, work })
+}
