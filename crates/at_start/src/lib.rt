@@ -1,12 +1,12 @@
 //! The engine that files make: grammar, aspects and tree, looked at in this order, or the first fault; and the whole, from the
 //! bytes of the files and of lines to the bytes that are written.
 //!
-//! **Its specs:** `Whole` is the theorem, to be read first; `Starts` is what files make, with a page for each kind of file (`GrammarFiles`, `AspectFiles`,
-//! `TreeFiles`) over their bytes (`Files`); `StartFaults` and `Codes` are what is printed of a file that is
-//! refused.
+//! **Its specs:** `Whole` is the theorem, to be read first; `Starts` is what files make, with a page for each kind of file
+//! (`GrammarFiles`, `AspectFiles`, `TreeFiles`) over their bytes (`Files`); `StartFaults` and `Codes` are what is printed of
+//! a file that is refused.
 //!
-//! **Where to begin:** `answer` in `serving.rt` is the whole, `start`, below, its first half; `grammar.rt`, `aspects.rt` and `tree.rt` have what each kind of file gives,
-//! `fault.rt` why there is no engine.
+//! **Where to begin:** `answer` in `serving.rt` is the whole, and `start`, below, its first half; `grammar.rt`, `aspects.rt`
+//! and `tree.rt` have what each kind of file gives, `fault.rt` why there is no engine.
 //!
 //! **What it keeps true:** an engine that is made is sound, keeps nothing yet, and has just the classes, rules and
 //! tree of the files.

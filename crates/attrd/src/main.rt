@@ -1,29 +1,31 @@
 //! attrd: an attribute tree server in the JastAdd profile. It reads a grammar, a tree and aspects, and answers
 //! lines of standard input on standard output, or those of the connections of a socket.
 //!
-//! **Its specs:** `CommandLine` is which words are taken, `Options` what they ask for, `Keepers` the keeper for
-//! that, `Connections` how connections of a socket ended, `Statuses` with which status the program ends.
+//! **Its specs:** `CommandLine` is which words are taken, `Options` what they ask for, `Doors` what is done with the
+//! connections that come, `Connections` how they ended, `Statuses` with which status the program ends.
 //!
 //! **Where to begin:** `main`, below; `options/words.rt` reads the words, `socket.rt` has the socket and its file,
-//! `serving.rt` serves its connections, `failure.rt` has what is printed.
+//! `door.rt` where connections come from, `serving.rt` serves them, `failure.rt` has what is printed.
 //!
-//! **What it keeps true:** the engine that `start` made stays ready over all connections. What is answered is
-//! `at_engine`'s `run` alone.
+//! **What it keeps true:** standard input is answered by `at_start`'s `answer`, and connections one after the other by
+//! `at_engine`'s `run`, each in the state in which the one before it has left the engine. Nothing else is written.
 #![tactic(auto)]
 
-ghost use Rattle.std.specs.Prelude.{◌≡◌, None, IfOk, IfSome, option_map};
+ghost use Rattle.std.specs.Prelude.{◌≡◌, None, IfSome, option_map};
 ghost use Rattle.at_cache.specs.Bound.{kept_by};
 ghost use Rattle.at_cache.specs.Kept.{KeepsAll};
 ghost use Rattle.at_engine.specs.Engines.{IsSound};
+ghost use Rattle.at_start.specs.Starts.{IsStartFault};
 
+mod door;
 mod failure;
 mod options;
 mod serving;
 mod socket;
 
 use at_cache::{KeepAtMost, KeepRecorded, Keeper};
-use at_engine::{Engine, Watched, run};
-use at_start::{Files, MAX_FILE, Source, StartFault, start_with};
+use at_engine::{Engine, Watched};
+use at_start::{Files, MAX_FILE, Source, StartFault, answer, start_with};
 use failure::{Failure, status, tell};
 use options::{Options, options};
 use serving::serve;
@@ -89,11 +91,13 @@ fn serve_over<K: Keeper>(
 ) -> Result<(), Failure>
     requires { KeepsAll (λ _. None) (K.contents keeper) }
 {
-    let mut engine = engine_of(rt, files, keeper)?;
-    engine.set_slice(options.slice);
-    let served = serve_asked(rt, options, &mut engine);
+    let mut done = None;
+    let served = match &options.socket {
+        Some(path) => serve_connections(rt, path.as_str(), options, files, keeper, &mut done),
+        None => serve_standard(rt, options, files, keeper, &mut done),
+    };
     if options.work {
-        *work = Some(engine.work());
+        *work = done;
     }
     served
 }
@@ -117,19 +121,10 @@ fn words(rt: &HostRuntime) -> Result<Vec<String>, Failure> {
     }
 }
 
-/// The engine that the files make over an empty keeper.
-fn engine_of<K: Keeper>(rt: &HostRuntime, files: &Files, keeper: K) -> Result<Engine<K>, Failure>
-    requires { KeepsAll (λ _. None) (K.contents keeper) }
-    ensures { IfOk result (IsSound K.contents) }
-{
-    match start_with(rt.alloc(), files, keeper) {
-        Ok(engine) => Ok(engine),
-        Err(fault) => Err(refused(rt, files, &fault)),
-    }
-}
-
 /// The failure of files that make no engine.
-fn refused(rt: &HostRuntime, files: &Files, fault: &StartFault) -> Failure {
+fn refused(rt: &HostRuntime, files: &Files, fault: &StartFault) -> Failure
+    requires { IsStartFault files.now fault.now }
+{
     if let StartFault::Memory = fault {
         return Failure::Memory;
     }
@@ -139,30 +134,49 @@ fn refused(rt: &HostRuntime, files: &Files, fault: &StartFault) -> Failure {
     }
 }
 
-/// Serves standard input, or the connections of the socket that is asked for.
-fn serve_asked<K: Keeper>(
+/// Serves standard input, and replies on standard output; notes the engine's work.
+fn serve_standard<K: Keeper>(
     rt: &HostRuntime,
     options: &Options,
-    engine: &mut Engine<K>,
+    files: &Files,
+    keeper: K,
+    work: &mut Option<u64>,
 ) -> Result<(), Failure>
-    requires { IsSound K.contents engine.old }
-{
-    match &options.socket {
-        Some(path) => serve_socket(rt, path.as_str(), options.connections, engine),
-        None => serve_standard(rt, engine),
-    }
-}
-
-/// Serves standard input, and replies on standard output.
-fn serve_standard<K: Keeper>(rt: &HostRuntime, engine: &mut Engine<K>) -> Result<(), Failure>
-    requires { IsSound K.contents engine.old }
+    requires { KeepsAll (λ _. None) (K.contents keeper) }
 {
     let mut reader = Watched::new(rt.reader());
     let mut writer = Watched::new(io::writer(rt));
-    match run(engine, &mut reader, &mut writer) {
-        Ok(_) => Ok(()),
-        Err(fault) => Err(Failure::Run(fault)),
+    match answer(rt.alloc(), files, keeper, options.slice, &mut reader, &mut writer) {
+        Ok(answered) => {
+            *work = Some(answered.work);
+            match answered.run {
+                Ok(_) => Ok(()),
+                Err(fault) => Err(Failure::Run(fault)),
+            }
+        }
+        Err(fault) => Err(refused(rt, files, &fault)),
     }
+}
+
+/// Serves the connections of the socket with the engine that the files make; notes the engine's work.
+fn serve_connections<K: Keeper>(
+    rt: &HostRuntime,
+    path: &str,
+    options: &Options,
+    files: &Files,
+    keeper: K,
+    work: &mut Option<u64>,
+) -> Result<(), Failure>
+    requires { KeepsAll (λ _. None) (K.contents keeper) }
+{
+    let mut engine = match start_with(rt.alloc(), files, keeper) {
+        Ok(engine) => engine,
+        Err(fault) => return Err(refused(rt, files, &fault)),
+    };
+    engine.set_slice(options.slice);
+    let served = serve_socket(rt, path, options.connections, &mut engine);
+    *work = Some(engine.work());
+    served
 }
 
 /// Serves so many connections of the socket, which has a file as long as that takes. Where the socket can't be made, nothing
@@ -175,12 +189,12 @@ fn serve_socket<K: Keeper>(
 ) -> Result<(), Failure>
     requires { IsSound K.contents engine.old }
 {
-    let socket = match Socket::bind(rt, path) {
+    let mut socket = match Socket::bind(rt, path) {
         Ok(socket) => socket,
         Err(e) if e.kind() == ErrorKind::OutOfMemory => return Err(Failure::Memory),
         Err(_) => return Err(Failure::Socket),
     };
-    let served = serve(engine, &socket.listener, connections);
+    let served = serve(engine, &mut socket.listener, connections);
     socket.remove_file(rt, path);
     if served.is_faultless() {
         Ok(())
