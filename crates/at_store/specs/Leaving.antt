@@ -23,7 +23,8 @@ AreListedBelow node levels memory before later = (place : Place) (x : Tree) → 
 
 -- of a tree at the node that is listed up to a component that component is listed too
 abbrev pub AreListedUpTo : (node part levels : ℕ) → (ℕ → Option Info) → (before later : List ℕ) → Type 0
-AreListedUpTo node part levels memory before later = (first : ℕ → Bool) (place : Place) (x : Tree) → class_of x ≡ node → IsApart x → Stored memory place x → IsShallow (suc levels) x →
+AreListedUpTo node part levels memory before later = (first : ℕ → Bool) (place : Place) (x : Tree)
+    → class_of x ≡ node → IsApart x → Stored memory place x → IsShallow (suc levels) x →
     IsSpreadTo true first (is_listed before) x (part, 0) → IsSpreadTo true first (is_listed later) x (suc part, 0)
 
 -- they are the node and all below it, where one is named

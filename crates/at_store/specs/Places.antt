@@ -44,7 +44,8 @@ NamesComponent memory node part c = (l : Location ℕ) → IsChild memory (node_
 
 abbrev pub NamesAround : (ℕ → Option Info) → (node : ℕ) → Option Changing → Type 0
 NamesAround memory node o = (l : Location ℕ) → IsChild memory (node_of l) → names_around o l ≡ false
-    → (at_parent (λ p. is_slot_of nat_eq p.0 p.1 l) (up_in (memory node)) ≡ false) × (at_parent (λ p. is_index_of nat_eq (told memory) p.0 p.1 l) (up_in (memory node)) ≡ false)
+    → (at_parent (λ p. is_slot_of nat_eq p.0 p.1 l) (up_in (memory node)) ≡ false)
+    × (at_parent (λ p. is_index_of nat_eq (told memory) p.0 p.1 l) (up_in (memory node)) ≡ false)
 
 -- the same where no index changes
 abbrev pub NamesParent : (ℕ → Option Info) → (node : ℕ) → Option Changing → Type 0

@@ -41,5 +41,6 @@ IsRoomFor slab s e = ⊤
 
 -- where there was room the node came into the list, to that index
 abbrev pub ComesTo : (node part index new : ℕ) → (before later : Slab Entry) → Type 0
-ComesTo node part index new before later = (form : Form) (kids : List ℕ) → cell_in (memory_of before node) part ≡ Some (Kids form kids) → index ≤ length kids → HasRoom before node part
+ComesTo node part index new before later = (form : Form) (kids : List ℕ)
+    → cell_in (memory_of before node) part ≡ Some (Kids form kids) → index ≤ length kids → HasRoom before node part
     → IsPlacedIn node part index new (Kids form (insert kids index new)) (memory_of before) (memory_of later)
