@@ -2,6 +2,7 @@
 
 ghost use Rattle.std.specs.Prelude.{◌≡◌, string_bytes, IfOk};
 ghost use Rattle.at_start.specs.declared.fault.StartFault.TheVariants.{Memory};
+ghost use Rattle.at_start.specs.Starts.{IsStartFault};
 ghost use Rattle.at_start.specs.StartFaults.{fault_text, refused_text, file_name, of_file, of_tree};
 
 use super::files::{Files, Source};
@@ -79,12 +80,13 @@ fn numbered_file(files: &Files, file: usize) -> &Source
 }
 
 impl StartFault {
-    /// The fault as it is printed, without a newline.
+    /// The fault of these files as it is printed, without a newline.
     ///
     /// # Errors
     ///
     /// `AllocError` for want of memory.
     pub fn text(&self, alloc: Global, files: &Files) -> Result<String, AllocError>
+        requires { IsStartFault files.now self.now }
         ensures { IfOk result (λ text. string_bytes text ≡ fault_text files.now self.now) }
     {
         match self {

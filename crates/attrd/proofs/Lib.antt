@@ -5,3 +5,4 @@ pub mod Entries
 pub mod WholeRows
 pub mod Taken
 pub mod Parses
+mod Doors

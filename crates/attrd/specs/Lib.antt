@@ -2,3 +2,4 @@ pub mod Statuses
 pub mod CommandLine
 pub mod Options
 pub mod Connections
+pub mod Doors

@@ -2,16 +2,16 @@
 //! answers lines of standard input on standard output, or those of the connections of a socket.
 #![tactic(auto)]
 
-ghost use Rattle.std.specs.Prelude.{IfOk};
-ghost use Rattle.at_start.specs.Starts.{IsReady};
+ghost use Rattle.at_start.specs.Starts.{IsReady, IsStartFault};
 
+mod door;
 mod failure;
 mod options;
 mod serving;
 
 use at_cache::KeepRecorded;
-use at_engine::{Engine, Watched, run};
-use at_start::{Files, MAX_FILE, Source, StartFault, start};
+use at_engine::{Engine, Watched};
+use at_start::{Files, MAX_FILE, Source, StartFault, answer, start};
 use failure::{Failure, status, tell};
 use options::{Options, options};
 use serving::serve;
@@ -48,11 +48,14 @@ fn ended(rt: &HostRuntime, served: &Result<(), Failure>, work: Option<u64>) -> E
 /// Serves what the words of the command line ask for, and notes the engine's work, where they ask for that.
 fn serve_words(rt: &HostRuntime, work: &mut Option<u64>) -> Result<(), Failure> {
     let options = asked(rt)?;
-    let mut engine = engine_of(rt, &options)?;
-    engine.set_slice(options.slice);
-    let served = serve_asked(rt, &options, &mut engine);
+    let files = read_files(rt, &options)?;
+    let mut done = None;
+    let served = match &options.socket {
+        Some(path) => serve_connections(rt, path.as_str(), &options, &files, &mut done),
+        None => serve_standard(rt, &options, &files, &mut done),
+    };
     if options.work {
-        *work = Some(engine.work());
+        *work = done;
     }
     served
 }
@@ -76,19 +79,10 @@ fn words(rt: &HostRuntime) -> Result<Vec<String>, Failure> {
     }
 }
 
-/// The engine of the files that are asked for.
-fn engine_of(rt: &HostRuntime, options: &Options) -> Result<Engine<KeepRecorded>, Failure>
-    ensures { IfOk result IsReady }
-{
-    let files = read_files(rt, options)?;
-    match start(rt.alloc(), &files) {
-        Ok(engine) => Ok(engine),
-        Err(fault) => Err(refused(rt, &files, &fault)),
-    }
-}
-
 /// The failure of files that make no engine.
-fn refused(rt: &HostRuntime, files: &Files, fault: &StartFault) -> Failure {
+fn refused(rt: &HostRuntime, files: &Files, fault: &StartFault) -> Failure
+    requires { IsStartFault files.now fault.now }
+{
     if let StartFault::Memory = fault {
         return Failure::Memory;
     }
@@ -98,30 +92,51 @@ fn refused(rt: &HostRuntime, files: &Files, fault: &StartFault) -> Failure {
     }
 }
 
-/// Serves standard input, or the connections of the socket that is asked for.
-fn serve_asked(
+/// Serves standard input, and replies on standard output; notes the engine's work.
+fn serve_standard(
     rt: &HostRuntime,
     options: &Options,
-    engine: &mut Engine<KeepRecorded>,
-) -> Result<(), Failure>
-    requires { IsReady engine.old }
-{
-    match &options.socket {
-        Some(path) => serve_socket(rt, path.as_str(), options.connections, engine),
-        None => serve_standard(rt, engine),
+    files: &Files,
+    work: &mut Option<u64>,
+) -> Result<(), Failure> {
+    let keeper = KeepRecorded::new(rt.alloc());
+    let mut reader = Watched::new(rt.reader());
+    let mut writer = Watched::new(io::writer(rt));
+    match answer(
+        rt.alloc(),
+        files,
+        keeper,
+        options.slice,
+        &mut reader,
+        &mut writer,
+    ) {
+        Ok(answered) => {
+            *work = Some(answered.work);
+            match answered.run {
+                Ok(_) => Ok(()),
+                Err(fault) => Err(Failure::Run(fault)),
+            }
+        }
+        Err(fault) => Err(refused(rt, files, &fault)),
     }
 }
 
-/// Serves standard input, and replies on standard output.
-fn serve_standard(rt: &HostRuntime, engine: &mut Engine<KeepRecorded>) -> Result<(), Failure>
-    requires { IsReady engine.old }
-{
-    let mut reader = Watched::new(rt.reader());
-    let mut writer = Watched::new(io::writer(rt));
-    match run(engine, &mut reader, &mut writer) {
-        Ok(_) => Ok(()),
-        Err(fault) => Err(Failure::Run(fault)),
-    }
+/// Serves the connections of the socket with the engine that the files make; notes the engine's work.
+fn serve_connections(
+    rt: &HostRuntime,
+    path: &str,
+    options: &Options,
+    files: &Files,
+    work: &mut Option<u64>,
+) -> Result<(), Failure> {
+    let mut engine = match start(rt.alloc(), files) {
+        Ok(engine) => engine,
+        Err(fault) => return Err(refused(rt, files, &fault)),
+    };
+    engine.set_slice(options.slice);
+    let served = serve_socket(rt, path, options.connections, &mut engine);
+    *work = Some(engine.work());
+    served
 }
 
 /// Binds the socket, serves so many of its connections, and removes its file. A file that is there already stays, and
@@ -134,12 +149,12 @@ fn serve_socket(
 ) -> Result<(), Failure>
     requires { IsReady engine.old }
 {
-    let listener = match UnixListener::bind(rt, path) {
+    let mut listener = match UnixListener::bind(rt, path) {
         Ok(listener) => listener,
         Err(e) if e.kind() == ErrorKind::OutOfMemory => return Err(Failure::Memory),
         Err(_) => return Err(Failure::Socket),
     };
-    let served = serve(engine, &listener, connections);
+    let served = serve(engine, &mut listener, connections);
     // Whoever took the file away meanwhile did what was to be done.
     let _ = fs::remove_file(rt, path);
     if served.is_faultless() {

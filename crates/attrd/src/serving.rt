@@ -1,12 +1,14 @@
 //! The connections of a socket, served one after the other.
-ghost use Rattle.std.specs.Prelude.{◌≡◌, ◌≤◌, ◌+◌, ◌<◌, ◌^◌, ◌==◌};
-ghost use Rattle.at_engine.specs.Engines.{rules_of, IsSound};
+ghost use Rattle.std.specs.Prelude.{◌≡◌, ◌≤◌, ◌+◌, ◌<◌, ◌^◌, ◌==◌, IsTrue};
+ghost use Rattle.at_engine.specs.Engines.{rules_of, slice_of, state_of, IsSound};
+ghost use Rattle.at_engine.specs.Keeping.{IsSpare};
 ghost use Rattle.attrd.specs.Connections.{faults, counted};
+ghost use Rattle.attrd.specs.Doors.{ServesAll, ServesNext};
 
+use crate::door::Door;
 use at_cache::Keeper;
-use at_engine::{Engine, RunFault, Watched, run};
+use at_engine::{Engine, Report, RunFault, run};
 use std::fmt;
-use std::os::unix::net::UnixListener;
 use thiserror::Error;
 
 /// How many connections ended, and how many of them by each fault.
@@ -99,38 +101,48 @@ impl Served {
     }
 }
 
-/// Serves so many connections, one after the other, all with this engine. A connection's fault ends that connection
-/// alone; one that isn't accepted counts, too.
-pub fn serve<K: Keeper>(engine: &mut Engine<K>, listener: &UnixListener, n: u16) -> Served
+/// Serves so many connections that come through the door, one after the other, all with this engine. A connection's fault
+/// ends that connection alone; one that isn't accepted counts, too.
+pub fn serve<K: Keeper, D: Door>(engine: &mut Engine<K>, door: &mut D, n: u16) -> Served
     requires sound { IsSound K.contents engine.old }
+    ensures serves { ServesAll (rules_of engine.old) (slice_of engine.old) (state_of engine.old) (D.coming door.old) n (state_of engine.new) (D.coming door.new) }
+    ensures spare { IsTrue K.exact → IsSpare K.contents engine.old → IsSpare K.contents engine.new }
     ensures ended { result.ended ≡ n }
     ensures faults { faults result ≤ n }
     ensures rules { rules_of engine.new ≡ rules_of engine.old }
+    ensures slice { slice_of engine.new ≡ slice_of engine.old }
     ensures sound { IsSound K.contents engine.new }
 {
     let mut served = Served::none();
     for turn in 0..n {
-        let ended = serve_next(engine, listener);
+        let ended = serve_next(engine, door);
         served.count(ended);
     }
     served
 }
 
 /// Serves the connection that comes next.
-fn serve_next<K: Keeper>(
+fn serve_next<K: Keeper, D: Door>(
     engine: &mut Engine<K>,
-    listener: &UnixListener,
+    door: &mut D,
 ) -> Result<(), ConnectionFault>
     requires sound { IsSound K.contents engine.old }
+    ensures serves { ServesNext (rules_of engine.old) (slice_of engine.old) (state_of engine.old) (state_of engine.new) (D.coming door.old) (D.coming door.new) }
+    ensures spare { IsTrue K.exact → IsSpare K.contents engine.old → IsSpare K.contents engine.new }
     ensures rules { rules_of engine.new ≡ rules_of engine.old }
+    ensures slice { slice_of engine.new ≡ slice_of engine.old }
     ensures sound { IsSound K.contents engine.new }
 {
-    let Ok((stream, _)) = listener.accept() else {
+    let Ok(mut ends) = door.open() else {
         return Err(ConnectionFault::Socket);
     };
-    let mut reader = Watched::new(&stream);
-    let mut writer = Watched::new(&stream);
-    match run(engine, &mut reader, &mut writer) {
+    let served = run(engine, &mut ends.reader, &mut ends.writer);
+    ended(served)
+}
+
+/// How a connection ended that a run has served.
+fn ended(served: Result<Report, RunFault>) -> Result<(), ConnectionFault> {
+    match served {
         Ok(_) => Ok(()),
         Err(fault) => Err(ConnectionFault::Run(fault)),
     }

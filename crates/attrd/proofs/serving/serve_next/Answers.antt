@@ -1,0 +1,9 @@
+use Rattle.std.proofs.Common.{refl}
+use Rattle.attrd.specs.Doors.{by_run, not_accepted}
+use Rattle.attrd.proofs.serving.serve_next.Goals as goal
+
+pub returns-clause-serves : goal.returns-clause-serves
+returns-clause-serves g c = by_run c.run-served.result _ _ _ _ c.in-Ok.ensures.comes c.run-served.ensures.ran
+
+pub returns-in_default-clause-serves : goal.returns-in_default-clause-serves
+returns-in_default-clause-serves g c = not_accepted refl c.in_default.ensures.none
