@@ -1,5 +1,5 @@
 -- Marks in their map: what is found of a key, and what is left when it is taken out.
-use Rattle.std.proofs.Common.{◌≡◌, ◌∙◌, ◌+◌, ◌<◌, ◌≤◌, ℕ, suc, zero, Bool, true, false, cond, not, ◌&&◌, nat_eq, nat_lt, List, [], ◌∷◌, ◌++◌, length, filter, map, position, Option, Some, None, is_some, option_map, slice_get, arith, refl, sym, ap, subst}
+use Rattle.std.proofs.Common.{◌≡◌, ◌∙◌, ◌+◌, ◌≤◌, ℕ, suc, zero, Bool, true, false, cond, not, ◌&&◌, nat_eq, nat_lt, List, [], ◌∷◌, ◌++◌, length, filter, map, position, Option, Some, None, is_some, option_map, slice_get, arith, refl, sym, ap, subst}
 use Rattle.std.specs.Prelude.{MatchOption, remove}
 use Rattle.std.specs.Cow.{cow_str_bytes}
 use Rattle.std.specs.List.{find, position_or_len, AllByRecursion, IsDistinct}
@@ -11,7 +11,7 @@ use Rattle.std.proofs.lemmas.Map.Keys.{IsDistinct-head, IsDistinct-tail}
 use Rattle.std.proofs.lemmas.Bool.{and_parts, eqb-true, le-ltb, lt-ltb, ltb-false, ltb-true}
 use Rattle.std.proofs.lemmas.Option.{slice_get-map}
 use Rattle.at_engine.specs.Marks.{Mark, has_mark, is_named, listed, mark_of, number_marked}
-use Rattle.at_engine.specs.Tallied.{IsOf, IsPlaceOf, IsTaken}
+use Rattle.at_engine.specs.Tallied.{IsPlaceOf, IsTaken}
 use Rattle.at_engine.specs.declared.marks.Key.{Key}
 use Rattle.at_engine.specs.contracts.marks.KeyPartialEq.TheImpl.{ghosts}
 

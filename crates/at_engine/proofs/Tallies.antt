@@ -1,5 +1,5 @@
 -- What is counted of marks, when marks come and go.
-use Rattle.std.proofs.Common.{◌≡◌, ◌∙◌, ◌+◌, ◌-◌, ◌≤◌, ◌||◌, ℕ, zero, suc, nat_lt, Bool, true, false, cond, not, nat_eq, List, [], ◌∷◌, ◌++◌, length, take, drop, filter, count_by, Option, Some, None, is_some, arith, refl, sym, ap, subst, append-nil, append_assoc, slice_get}
+use Rattle.std.proofs.Common.{◌≡◌, ◌∙◌, ◌+◌, ◌-◌, ◌≤◌, ◌||◌, ℕ, zero, suc, nat_lt, Bool, true, false, cond, nat_eq, List, [], ◌∷◌, ◌++◌, length, take, drop, filter, count_by, Option, Some, is_some, arith, refl, sym, ap, subst, append-nil, append_assoc, slice_get}
 use Rattle.std.proofs.lemmas.List.{take_all, drop_all}
 use Rattle.std.proofs.lemmas.Bool.{lt-ltb}
 use Rattle.std.specs.List.{list_any}

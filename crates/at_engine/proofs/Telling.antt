@@ -3,14 +3,13 @@ use Rattle.std.proofs.Common.{◌≡◌, ℕ, true, false, List, Option, None, r
 use Rattle.std.specs.List.{list_all}
 use Rattle.at_model.specs.Rules.{Rules}
 use Rattle.at_model.specs.Lines.{Spells, IsSessionOf, Line}
-use Rattle.at_model.specs.Machine.{State, is_stale, is_marked, marks_used, obeyed, verdict}
+use Rattle.at_model.specs.Machine.{State, is_stale, is_marked, marks_used, verdict}
 use Rattle.at_model.specs.Machine as machine
 use Rattle.at_model.specs.Replies.{Refused}
 use Rattle.at_model.specs.Replies as code
 use Rattle.at_protocol.specs.declared.reply.Refusal.TheVariants as refusal
-use Rattle.at_protocol.specs.declared.reply.Form.{Form as FormValue}
 use Rattle.at_protocol.specs.declared.reply.Form.TheVariants as form
-use Rattle.at_engine.specs.Telling.{IsTold, Obeys, Meets}
+use Rattle.at_engine.specs.Telling.{IsTold, Meets}
 use Rattle.at_engine.proofs.Following.{refuses}
 use Rattle.at_engine.proofs.Verdicts.{at_stale, at_unmarked}
 
