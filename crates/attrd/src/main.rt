@@ -146,7 +146,14 @@ fn serve_standard<K: Keeper>(
 {
     let mut reader = Watched::new(rt.reader());
     let mut writer = Watched::new(io::writer(rt));
-    match answer(rt.alloc(), files, keeper, options.slice, &mut reader, &mut writer) {
+    match answer(
+        rt.alloc(),
+        files,
+        keeper,
+        options.slice,
+        &mut reader,
+        &mut writer,
+    ) {
         Ok(answered) => {
             *work = Some(answered.work);
             match answered.run {
