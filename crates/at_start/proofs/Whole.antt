@@ -2,8 +2,7 @@
 use Rattle.std.proofs.Common.{◌≡◌, ◌∙◌, ℕ, List, [], ◌++◌, sym, ap, refl, append-nil, subst, Option, Some, None, Result, Ok}
 use Rattle.std.specs.Io.KnownBytes.{Appends, Consumes, IsAtEnd}
 use Rattle.at_model.specs.Machine.{State, Outputs, text_of}
-use Rattle.at_cache.specs.Kept.{Entries}
-use Rattle.at_engine.specs.Engines.{rules_of, slice_of, state_of, IsSound}
+use Rattle.at_engine.specs.Engines.{rules_of, slice_of, state_of}
 use Rattle.at_engine.specs.Running.{Ran, max_reads}
 use Rattle.at_engine.specs.declared.engine.Engine.{Engine}
 use Rattle.at_engine.specs.declared.stream.desk.Report.{Report}
@@ -44,12 +43,6 @@ whole files slice report input left after a =
         text = refl;
       },
     )
-
--- another slice of turns leaves an engine sound
-pub sound_set : {K : Type 0} (entries : K → Entries) (old new : Engine K) (slice : ℕ) → new ≡ record old { slice = slice } → IsSound entries old → IsSound entries new
-sound_set {K} entries old new slice is s =
-    let set : IsSound entries (record old { slice = slice }) = record { held = s.held; typed = s.typed } in
-    subst (λ (e : Engine K). IsSound entries e) (sym is) set
 
 -- the run over an engine that files make, with so many turns behind each line
 pub answers_by : {K : Type 0} (files : Files) (slice : ℕ) (made set new : Engine K) (run : Result Report RunFault) (readable left before after : Option (List ℕ)) → set ≡ record made { slice = slice } → Starts files (rules_of made) (state_of made)

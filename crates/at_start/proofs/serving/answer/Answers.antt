@@ -1,10 +1,10 @@
 use Rattle.std.proofs.Common.{refl}
 use Rattle.std.proofs.lemmas.Result.{err_from_is_err_and}
-use Rattle.at_start.proofs.Whole.{answers_by, sound_set}
+use Rattle.at_start.proofs.Whole.{answers_by}
 use Rattle.at_start.proofs.serving.answer.Goals as goal
 
 pub run-ended-requires : goal.run-ended-requires
-run-ended-requires g c = record { sound = sound_set g.K.Keeper.contents c.in_ok-engine.engine c.set_slice.new.self c.args.slice c.set_slice.ensures.rest c.in_ok-engine.ensures.ready }
+run-ended-requires g c = record { sound = c.set_slice.ensures.sound c.in_ok-engine.ensures.ready }
 
 pub returns : goal.returns
 returns g c =
