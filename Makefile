@@ -106,11 +106,11 @@ tries: tools python
 bench: build
 	cd crates/tries && rt run < stdin -- data/calc.ast data/calc.jrag data/tree.txt > /dev/null
 	python3 bench/bench.py
-	python3 bench/kept.py
 	python3 bench/limits.py
 	python3 bench/clients.py
 	python3 bench/editor.py
 	python3 bench/hub.py
+	python3 bench/kept.py
 
 tools:
 	@command -v rt > /dev/null || { echo "attrd is written in Rattle: install the Rattle kit, so that the command 'rt' is on the PATH."; exit 1; }

@@ -20,10 +20,10 @@ from served import Served
 from trees import ASPECTS, FILL, GRAMMAR, SIZES, ListTree, SumTree
 
 ROOT = Path(__file__).resolve().parent.parent
-TURNS, MARK_TURNS = 12, 4
+TURNS, MARK_TURNS = 12, 12
 # The program before edits found entries by what they touch, on the same trees: the multiples of a `version` line, and the
 # instructions of an entry that is filled in.
-BEFORE = {"kept question": 6.5, "front": 11_000.0, "fill": 12_300.0}
+BEFORE = {"kept question": 8.0, "front": 11_000.0, "fill": 12_300.0}
 MARKED = 50
 
 
