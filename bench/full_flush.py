@@ -5,7 +5,7 @@ from pathlib import Path
 
 SOURCE = Path(__file__).resolve().parent / "java" / "FullFlush.java"
 # Units in a batch, and batches: the first ones are to have the code compiled.
-BATCH, BATCHES = 20, 400
+BATCH, BATCHES, ASKED = 20, 400, 40
 
 
 class FullFlush:
@@ -24,8 +24,15 @@ class FullFlush:
 
     def spent(self, tree, levels):
         """The least time of an edit and a question so many levels above the edited leaf, in seconds of the thread's processor time."""
-        paths = Path(self.folder) / "leaves"
-        paths.write_text("".join(f"{leaf}\n" for leaf in tree.leaves))
-        words = ["java", "-XX:+UseSerialGC", "-cp", self.folder, "FullFlush", f"{tree.name}.txt", "leaves", str(levels), str(BATCH), str(BATCHES)]
+        return self.told(tree, tree.leaves, levels, BATCH, BATCHES)
+
+    def asked(self, tree, paths):
+        """The least time of a question, where both attributes are asked once at each path, in seconds of the thread's processor time."""
+        return self.told(tree, paths, ASKED)
+
+    def told(self, tree, paths, *numbers):
+        """What the program prints for these paths and numbers, in seconds."""
+        (Path(self.folder) / "paths").write_text("".join(f"{path}\n" for path in paths))
+        words = ["java", "-XX:+UseSerialGC", "-cp", self.folder, "FullFlush", f"{tree.name}.txt", "paths", *map(str, numbers)]
         run = subprocess.run(words, cwd=self.folder, check=True, capture_output=True, text=True)
-        return int(run.stdout) / 1e9
+        return float(run.stdout) / 1e9

@@ -9,6 +9,9 @@ import java.util.List;
  * The language of bench/trees.py as JastAdd2 would generate it: a class for each class of the grammar, with a field and a flag for each
  * cached attribute, and everything flushed at an edit.
  *
+ * <p>java FullFlush TREE PATHS BATCHES: asks for both attributes once at each path. It prints the least of these batches, in nanoseconds of the
+ * thread's processor time for one question.
+ *
  * <p>java FullFlush TREE LEAVES LEVELS BATCH BATCHES: edits a token of each leaf by turns, and asks for the value so many levels above it. It
  * prints the least of these batches, in nanoseconds of the thread's processor time for one edit with its question.
  */
@@ -287,15 +290,15 @@ public final class FullFlush {
         }
     }
 
-    /** The number at the path from the main sum. */
-    static Num leaf(Top top, String path) {
+    /** The node at the path from the main sum. */
+    static Expr found(Top top, String path) {
         Node node = top.getMain();
         for (String step : path.substring("/Main".length()).split("/")) {
             if (!step.isEmpty()) {
                 node = node.children[step.equals("Left") ? 0 : 1];
             }
         }
-        return (Num) node;
+        return (Expr) node;
     }
 
     static Expr above(Node node, int levels) {
@@ -322,15 +325,45 @@ public final class FullFlush {
         return sum;
     }
 
+    /** Finds the node of each path, and asks it for both attributes: the sum of what is answered. */
+    static long ask(Top top, List<String> paths) {
+        long sum = 0;
+        for (String path : paths) {
+            Expr node = found(top, path);
+            sum += node.value();
+            sum += node.depth();
+        }
+        return sum;
+    }
+
+    /** The least time of a question, both attributes asked once at each path, over so many batches. */
+    static void askAll(Top top, List<String> paths, int batches) {
+        ThreadMXBean threads = ManagementFactory.getThreadMXBean();
+        long least = Long.MAX_VALUE;
+        long sum = 0;
+        for (int k = 0; k < batches; k++) {
+            top.flushTreeCache();
+            long began = threads.getCurrentThreadCpuTime();
+            sum += ask(top, paths);
+            least = Math.min(least, threads.getCurrentThreadCpuTime() - began);
+        }
+        System.err.println("the sum of all answers is " + sum);
+        System.out.println((double) least / (2L * paths.size()));
+    }
+
     public static void main(String[] words) throws Exception {
         Top top = (Top) new Reader(Files.readString(Path.of(words[0]))).node();
         List<String> paths = Files.readAllLines(Path.of(words[1]));
+        if (words.length == 3) {
+            askAll(top, paths, Integer.parseInt(words[2]));
+            return;
+        }
         int levels = Integer.parseInt(words[2]);
         int count = Integer.parseInt(words[3]);
         Num[] leaves = new Num[paths.size()];
         Expr[] asked = new Expr[paths.size()];
         for (int k = 0; k < leaves.length; k++) {
-            leaves[k] = leaf(top, paths.get(k));
+            leaves[k] = (Num) found(top, paths.get(k));
             asked[k] = above(leaves[k], levels);
         }
         top.getMain().filled();
