@@ -29,6 +29,7 @@ pub mod Taking
 pub mod TypedRuns
 pub mod Instances
 pub mod WellFormed
+pub mod GrammarRules
 pub mod Sparing
 pub mod Keeping
 pub mod SampleLines
