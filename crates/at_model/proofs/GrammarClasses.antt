@@ -1,10 +1,10 @@
 -- Each test of grammars finds nothing exactly where the grammar keeps the rule: superclasses, components and how many there are.
-use Rattle.std.proofs.Common.{◌≡◌, ◌⊎◌, ◌↔◌, ℕ, zero, suc, ◌+◌, ◌-◌, ◌<◌, ◌≤◌, inl, inr, Bool, true, false, cond, ◌||◌, ◌&&◌, not, List, [], ◌∷◌, ◌++◌, length, map, reverse, take, drop, get_or, Option, Some, None, refl, sym, ap, ◌∙◌, subst, arith}
-use Rattle.std.specs.Prelude.{position, nat_eq, nat_le, nat_lt, option_map, option_and_then, IfSome, unwrap_or}
+use Rattle.std.proofs.Common.{◌≡◌, ◌⊎◌, ◌↔◌, ℕ, zero, suc, ◌<◌, ◌≤◌, inl, inr, Bool, true, false, ◌||◌, List, [], ◌∷◌, ◌++◌, length, reverse, take, drop, Option, Some, None, refl, sym, ap, ◌∙◌, subst, arith}
+use Rattle.std.specs.Prelude.{position, nat_eq, nat_le, nat_lt, option_map, option_and_then, IfSome}
 use Rattle.std.specs.List.{slice_get, flat_map, list_any}
 use Rattle.std.specs.Str.{bytes_eq}
 use Rattle.std.proofs.lemmas.Bool.Decides.{nat_tests}
-use Rattle.std.proofs.lemmas.Option.{slice_get-map, slice_get_within, slice_get-get_or}
+use Rattle.std.proofs.lemmas.Option.{slice_get-map, slice_get_within}
 use Rattle.std.proofs.lemmas.List.{length-map, reverse-append}
 use Rattle.std.proofs.lemmas.List.Quantifiers.{position-Some}
 use Rattle.std.proofs.lemmas.Grind.{flat_map-append}
@@ -13,8 +13,8 @@ use Rattle.at_model.specs.Classes.{Classes, Class, Component, Shape, chain_withi
 use Rattle.at_model.specs.Classes as class
 use Rattle.at_model.specs.Declarations.{Declarations, Declaration, PartDeclaration, classes_of, class_by, class_named, component_by, above, superclass_circle, is_list, takes, clash, is_common, inherited, is_taken, is_twice, component_twice, max_classes, max_parts, over_limit}
 use Rattle.at_model.specs.WellFormed.{IsHierarchy}
-use Rattle.at_model.specs.GrammarRules.{IsNone, IsAbove, next, further, AreClassesBelowOthers, TakesName, own, number, all, AreNamesFree, AreComponentsApart, AreFew}
-use Rattle.at_model.proofs.Options.{both, and_true, either_true, or_right, not_true, led, mapped}
+use Rattle.at_model.specs.GrammarRules.{IsAbove, next, further, AreClassesBelowOthers, TakesName, own, number, all, AreNamesFree, AreComponentsApart, AreFew}
+use Rattle.at_model.proofs.Options.{both, and_true, either_true, or_right, not_true, mapped}
 use Rattle.at_model.proofs.Chained.{nat_same}
 use Rattle.at_model.proofs.LedUp.{has_parent, first_in}
 use Rattle.at_model.proofs.LedUp as up

@@ -1,19 +1,17 @@
 -- Each test of grammars finds nothing exactly where the grammar keeps the rule: names, kinds and limits.
-use Rattle.std.proofs.Common.{◌≡◌, ◌⊎◌, ℕ, zero, suc, ◌+◌, ◌-◌, ◌<◌, ◌≤◌, inl, inr, Bool, true, false, cond, ◌||◌, ◌&&◌, not, List, [], ◌∷◌, length, map, take, Option, Some, None, refl, sym, ap, ◌∙◌, subst, arith, ◌↔◌}
-use Rattle.std.specs.Prelude.{if◌then◌else◌, is_some, is_none, position, nat_eq, nat_le, nat_lt, option_map, option_and_then}
+use Rattle.std.proofs.Common.{◌≡◌, ◌⊎◌, ℕ, ◌<◌, inl, inr, Bool, true, false, ◌||◌, ◌&&◌, not, List, [], ◌∷◌, length, take, Option, Some, None, refl, sym, ap, ◌∙◌, subst, arith, ◌↔◌}
+use Rattle.std.specs.Prelude.{if◌then◌else◌, is_some, is_none, nat_lt}
 use Rattle.std.specs.List.{slice_get, list_any, list_all}
 use Rattle.std.specs.Str.{bytes_eq}
 use Rattle.std.proofs.lemmas.Bool.Decides.{nat_tests}
 use Rattle.std.proofs.lemmas.Slice.Eq.{bytes_eq-Decides}
-use Rattle.std.proofs.lemmas.Option.{slice_get_within, slice_get_past, slice_get-get_or}
-use Rattle.std.proofs.lemmas.List.{length-map}
 use lib.Chars.{codes}
 use Rattle.at_model.specs.Classes.{Classes, TokenKind, parts}
 use Rattle.at_model.specs.Classes as class
-use Rattle.at_model.specs.Declarations.{Declarations, Declaration, PartDeclaration, Form, One, Many, Maybe, Tok, classes_of, class_named, token_kind_named, no_class, is_predefined, class_twice, is_parent_known, is_part_known, is_known, is_token, unknown_class, token_kind, over_limit, max_classes, max_parts}
-use Rattle.at_model.specs.GrammarRules.{IsNone, AreClassesApart, IsOfClass, AreClassesKnown, AreTokensOfKinds, AreFew}
-use Rattle.at_model.proofs.Options.{both, and_true, either_true, or_right, not_true}
-use Rattle.at_model.proofs.FirstGiven.{off_on, on_off, classes_pass, no_class_fails, parts_pass, no_part_fails, any_before, before_any, any_there, there_any, all_there, there_all, some_position}
+use Rattle.at_model.specs.Declarations.{Declarations, Declaration, PartDeclaration, Form, One, Many, Maybe, Tok, class_named, token_kind_named, no_class, is_predefined, class_twice, is_parent_known, is_part_known, is_known, is_token, unknown_class, token_kind}
+use Rattle.at_model.specs.GrammarRules.{IsNone, AreClassesApart, IsOfClass, AreClassesKnown, AreTokensOfKinds}
+use Rattle.at_model.proofs.Options.{both, and_true, not_true}
+use Rattle.at_model.proofs.FirstGiven.{off_on, classes_pass, no_class_fails, parts_pass, no_part_fails, any_before, before_any, any_there, there_any, all_there, there_all, some_position}
 
 pub off_not : (b : Bool) → not b ≡ false → b ≡ true
 off_not true e = refl

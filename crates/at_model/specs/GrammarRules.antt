@@ -1,6 +1,6 @@
 -- What the rules of grammars say, in words of their own: what holds of a grammar that isn't refused, rule by rule in the order in which
 -- they are looked at. `Declarations` has the tests, and the places.
-use Rattle.std.specs.Prelude.{◌≡◌, ℕ, ◌<◌, ◌≤◌, ◌⊎◌, List, ◌++◌, length, Option, Some}
+use Rattle.std.specs.Prelude.{◌≡◌, ℕ, ◌<◌, ◌≤◌, ◌⊎◌, List, ◌++◌, length, Some}
 use Rattle.std.specs.List.{slice_get}
 use lib.Chars.{codes}
 use Rattle.at_model.specs.Classes.{Classes, Component, Many, parent_of, parts}

@@ -30,6 +30,7 @@ pub mod TypedRuns
 pub mod Instances
 pub mod WellFormed
 pub mod GrammarRules
+pub mod Refusing
 pub mod Sparing
 pub mod Keeping
 pub mod SampleLines
