@@ -21,8 +21,8 @@ use Rattle.at_model.specs.Replies.{Code}
 use Rattle.at_model.specs.Replies as code
 use Rattle.at_model.specs.Replies.{Written, At}
 use Rattle.at_model.specs.Machine.{State, Posted, Verdict, Refuses, Leaves, Edits, Asks, Posts, Waits, marked, is_marked, marks_used, node_named, node_below, value_named, each, fit_parameters, parameters_of, is_posted, code_of, max_marks, max_posted, is_edit, is_stale, changed, with_component, with_tree, obeyed, verdict}
-use Rattle.at_model.specs.Refusing.{number, rank, Breaks, places_in, Asked, component_asked, term_in, shape_named, HasComponent, class_for, tree_for, meant, ExpectsOther, IsRefusedAs, IsPastLast, MarksAgain, MarksTooMany, PostsTooMany, AsksNone, AsksAmiss, Applies}
-use Rattle.at_model.proofs.Options.{led, mapped, both, or_right}
+use Rattle.at_model.specs.Refusing.{number, rank, Breaks, places_in, Asked, component_asked, term_in, shape_named, HasComponent, class_for, tree_for, meant, ExpectsOther, IsRefusedAs, IsPastLast, MarksAgain, MarksTooMany, PostsTooMany, AsksNone, AsksAmiss, WaitsForNone, Applies}
+use Rattle.at_model.proofs.Options.{led, mapped, both, either_true, or_right}
 use Rattle.at_model.proofs.Untouched.{tree_at-append}
 use Rattle.at_model.proofs.Chained.{nat_same}
 use Rattle.at_model.proofs.FirstGiven.{off_on}
@@ -75,12 +75,12 @@ module _ (rules : Rules) (s : State) (session : ℕ) (expected : Option ℕ) (fr
   abbrev IsFirst : Command → Code → Type 0
   IsFirst c d = Applies rules s (line c) d × ((e : Code) → number e < number d → Applies rules s (line c) e → ⊥)
 
-  -- whatever the verdict refuses the command for is the first reason
-  abbrev Firstly : Command → Verdict → Type 0
-  Firstly c v = (d : Code) → v ≡ Refuses d → IsFirst c d
-
   abbrev Isnt : Command → Code → Type 0
   Isnt c d = Applies rules s (line c) d → ⊥
+
+  -- whatever the verdict refuses the command for is the first reason, and where it doesn't refuse it there is none
+  abbrev Firstly : Command → Verdict → Type 0
+  Firstly c v = ((d : Code) → v ≡ Refuses d → IsFirst c d) × (((d : Code) → v ≡ Refuses d → ⊥) → (d : Code) → Isnt c d)
 
   none_before : (c : Command) (n : ℕ) → Isnt c code.Mark → (4 < n → Isnt c code.Path) → (5 < n → Isnt c code.Component) → (6 < n → Isnt c code.Class) → (7 < n → Isnt c code.Fit) → (8 < n → Isnt c code.Index) → (9 < n → Isnt c code.Taken) → (10 < n → Isnt c code.Fixed) → (11 < n → Isnt c code.Inside) → (12 < n → Isnt c code.Limit) → (13 < n → Isnt c code.Attribute) → (14 < n → Isnt c code.Arguments) → n ≤ 15
       → (e : Code) → number e < n → Isnt c e
@@ -101,7 +101,25 @@ module _ (rules : Rules) (s : State) (session : ℕ) (expected : Option ℕ) (fr
   none_before c n mk pa co cl fi ix ta fx ins li at ar m code.Question l x = absurd (omega (arith, l, m))
 
   told : (c : Command) (d : Code) → IsFirst c d → Firstly c (Refuses d)
-  told c d h e f = let same : d ≡ e = cc in subst (IsFirst c) same h
+  told c d h = (λ e f. let same : d ≡ e = cc in subst (IsFirst c) same h, λ no. absurd (no d refl))
+
+  -- none of the fifteen
+  every : (c : Command) → ((e : Code) → number e < 15 → Isnt c e) → Isnt c code.Question → (d : Code) → Isnt c d
+  every c h q code.Syntax = h code.Syntax (omega arith)
+  every c h q (code.Stale v) = h (code.Stale v) (omega arith)
+  every c h q code.Mark = h code.Mark (omega arith)
+  every c h q code.Path = h code.Path (omega arith)
+  every c h q code.Component = h code.Component (omega arith)
+  every c h q code.Class = h code.Class (omega arith)
+  every c h q code.Fit = h code.Fit (omega arith)
+  every c h q code.Index = h code.Index (omega arith)
+  every c h q code.Taken = h code.Taken (omega arith)
+  every c h q code.Fixed = h code.Fixed (omega arith)
+  every c h q code.Inside = h code.Inside (omega arith)
+  every c h q code.Limit = h code.Limit (omega arith)
+  every c h q code.Attribute = h code.Attribute (omega arith)
+  every c h q code.Arguments = h code.Arguments (omega arith)
+  every c h q code.Question = q
 
   stage : (c : Command) {A : Type 0} (o : Option A) (d : Code) (k : A → Verdict) → (o ≡ None → IsFirst c d) → ((a : A) → o ≡ Some a → Firstly c (k a)) → Firstly c (elim o [ None ↦ Refuses d | Some a ↦ k a ])
   stage c None d k f g = told c d (f refl)
@@ -142,6 +160,26 @@ module _ (rules : Rules) (s : State) (session : ℕ) (expected : Option ℕ) (fr
           let same : f ≡ e = cc in
           h (subst (λ z. Breaks rules.classes s.tree z r) same b)
 
+      not_many : MarksTooMany s (line c) ⊎ PostsTooMany s (line c) → ⊥
+      not_many (inl (name, place, is, x)) = off_on false refl (sym (ap is_edit is) ∙ edits)
+      not_many (inr (place, name, arguments, is, x)) = off_on false refl (sym (ap is_edit is) ∙ edits)
+
+      not_waiting : WaitsForNone s (line c) → ⊥
+      not_waiting (which, is, x) = off_on false refl (sym (ap is_edit is) ∙ edits)
+
+      nothing : ((q : Refusal) → Breaks rules.classes s.tree e q → ⊥) → (s.version ≡ last_version → ⊥) → (d : Code) → Isnt c d
+      nothing h version = every c
+          (none_before c 15 mk (λ l. pa) (λ l. co) (λ l. cl) (λ l x. elim x [ inl y ↦ tr y | inr y ↦ not_this edit.Fit (h edit.Fit) y ])
+          (λ l. not_this edit.Index (h edit.Index))
+          (λ l x. elim x [ inl y ↦ not_this edit.Taken (h edit.Taken) y | inr y ↦ not_again y ])
+          (λ l. not_this edit.Fixed (h edit.Fixed))
+          (λ l. not_this edit.Inside (h edit.Inside))
+          (λ l x. elim x [ inl y ↦ not_this edit.Limit (h edit.Limit) y | inr (inl y) ↦ version y.2 | inr (inr y) ↦ not_many y ])
+          (λ l. not_asked)
+          (λ l. not_amiss)
+          (omega arith))
+          not_waiting
+
       earlier : (n : ℕ) → (12 < n → ⊥) → ((q : Refusal) → rank q < n → Breaks rules.classes s.tree e q → ⊥) → (d : Code) → number d < n → Isnt c d
       earlier n few before = none_before c n mk (λ l. pa) (λ l. co) (λ l. cl) (λ l x. elim x [ inl y ↦ tr y | inr y ↦ not_this edit.Fit (before edit.Fit l) y ])
           (λ l. not_this edit.Index (before edit.Index l))
@@ -171,7 +209,7 @@ module _ (rules : Rules) (s : State) (session : ℕ) (expected : Option ℕ) (fr
 
       at_version : (u : Tree) → edited rules.classes s.tree e ≡ Ok u → (b : Bool) → nat_eq s.version last_version ≡ b → Firstly c (if b then Refuses code.Limit else Edits e u)
       at_version u f true g = told c code.Limit (inr (inl (e, means, nat_same s.version last_version g)), earlier 12 (past_itself 12) (λ q l. (none_refused rules.classes s.tree e u f).0 q))
-      at_version u f false g = λ d h. absurd cc
+      at_version u f false g = (λ d h. absurd cc, λ no. nothing (none_refused rules.classes s.tree e u f).0 (λ same. off_on (nat_eq s.version last_version) g (grind (arith, nat_tests))))
 
       by_result : (r : Result Tree Refusal) → edited rules.classes s.tree e ≡ r → Firstly c (elim r [ Err refusal ↦ Refuses (code_of refusal) | Ok t ↦ if nat_eq s.version last_version then Refuses code.Limit else Edits e t ])
       by_result (Err r) f = let (b, before) = first_refused rules.classes s.tree e r f in told c (code_of r) (applies r b, earlier (rank r) (past_twelve r) before)
@@ -323,6 +361,37 @@ module _ (rules : Rules) (s : State) (session : ℕ) (expected : Option ℕ) (fr
         at ar most,
   )
 
+  -- and where none of these is there, no reason is
+  none_other : (c : Command) → Isnt c code.Mark → component_asked c ≡ None → term_in c ≡ None → meant rules.classes s session c ≡ None → Isnt c code.Path → (MarksAgain s (line c) → ⊥) → (MarksTooMany s (line c) ⊎ PostsTooMany s (line c) → ⊥) → Isnt c code.Attribute → Isnt c code.Arguments → Isnt c code.Question → (d : Code) → Isnt c d
+  none_other c mk co te ed pa ta li at ar qu = every c
+      (none_before c 15 mk (λ l. pa) (λ l. no_asked c co) (λ l. no_term c te)
+      (λ l y. elim y [ inl z ↦ termless c te z | inr z ↦ no_edit c edit.Fit ed z ])
+      (λ l. no_edit c edit.Index ed)
+      (λ l y. elim y [ inl z ↦ no_edit c edit.Taken ed z | inr z ↦ ta z ])
+      (λ l. no_edit c edit.Fixed ed)
+      (λ l. no_edit c edit.Inside ed)
+      (λ l y. elim y [ inl z ↦ no_edit c edit.Limit ed z | inr (inl z) ↦ no_last c ed z | inr (inr z) ↦ li z ])
+      (λ l. at)
+      (λ l. ar)
+      (omega arith))
+      qu
+
+  -- it neither asks, nor marks, nor posts, nor waits
+  abbrev is_plain : Command → Bool
+  is_plain (Ask place name arguments) = false
+  is_plain (Mark name place) = false
+  is_plain (Post place name arguments) = false
+  is_plain (Wait which) = false
+  is_plain c = true
+
+  none_plain : (c : Command) → is_plain c ≡ true → Isnt c code.Mark → component_asked c ≡ None → term_in c ≡ None → meant rules.classes s session c ≡ None → Isnt c code.Path → (d : Code) → Isnt c d
+  none_plain c plain mk co te ed pa = none_other c mk co te ed pa
+      (λ x. off_on false refl (sym (ap is_plain x.2) ∙ plain))
+      (λ x. elim x [ inl y ↦ off_on false refl (sym (ap is_plain y.2) ∙ plain) | inr y ↦ off_on false refl (sym (ap is_plain y.3) ∙ plain) ])
+      (λ x. off_on false refl (sym (ap is_plain x.asks) ∙ plain))
+      (λ x. off_on false refl (sym (ap is_plain x.asks) ∙ plain))
+      (λ x. off_on false refl (sym (ap is_plain x.1) ∙ plain))
+
   -- a place among the arguments leads nowhere
   some_unnamed : (arguments : List Argument) → each (map (value_named rules.classes s session) arguments) ≡ None → (p : Place) × Among p (flat_map places_in arguments) × (node_named rules.classes s session p ≡ None)
   some_unnamed [] e = absurd cc
@@ -366,16 +435,16 @@ module _ (rules : Rules) (s : State) (session : ℕ) (expected : Option ℕ) (fr
   asked_places place n arguments vs named all (p, inl same, none) = none_some (node_named rules.classes s session place) n (subst (λ z. node_named rules.classes s session z ≡ None) same none) named
   asked_places place n arguments vs named all (p, inr x, none) = all_named arguments vs all p x none
 
-  by_fit : (c : Command) (b : Bool) (q : Instance Node) → (b ≡ false → IsFirst c code.Arguments) → Firstly c (if b then Asks q else Refuses code.Arguments)
-  by_fit c true q f = λ d e. absurd cc
-  by_fit c false q f = told c code.Arguments (f refl)
+  by_fit : (c : Command) (b : Bool) (q : Instance Node) → (b ≡ false → IsFirst c code.Arguments) → (b ≡ true → (d : Code) → Isnt c d) → Firstly c (if b then Asks q else Refuses code.Arguments)
+  by_fit c true q f g = (λ d e. absurd cc, λ no. g refl)
+  by_fit c false q f g = told c code.Arguments (f refl)
 
   not_marking : (place : Place) (name : List ℕ) (arguments : List Argument) → MarksAgain s (line (Ask place name arguments)) → ⊥
   not_marking place name arguments (other, at, e, x) = absurd cc
 
-  not_many : (place : Place) (name : List ℕ) (arguments : List Argument) → MarksTooMany s (line (Ask place name arguments)) ⊎ PostsTooMany s (line (Ask place name arguments)) → ⊥
-  not_many place name arguments (inl (other, at, e, x)) = absurd cc
-  not_many place name arguments (inr (other, at, more, e, x)) = absurd cc
+  not_many_asked : (place : Place) (name : List ℕ) (arguments : List Argument) → MarksTooMany s (line (Ask place name arguments)) ⊎ PostsTooMany s (line (Ask place name arguments)) → ⊥
+  not_many_asked place name arguments (inl (other, at, e, x)) = absurd cc
+  not_many_asked place name arguments (inr (other, at, more, e, x)) = absurd cc
 
   of_ask : (place : Place) (name : List ℕ) (arguments : List Argument) → Isnt (Ask place name arguments) code.Mark → Firstly (Ask place name arguments) (obeyed rules s session (Ask place name arguments))
   of_ask place name arguments mk =
@@ -383,12 +452,13 @@ module _ (rules : Rules) (s : State) (session : ℕ) (expected : Option ℕ) (fr
       stage c (node_named rules.classes s session place) code.Path _ (λ none. first_path c mk (place, inl refl, none)) (λ n named.
       stage c (each (map (value_named rules.classes s session) arguments)) code.Path _ (λ none. let (p, among, x) = some_unnamed arguments none in first_path c mk (p, inr among, x)) (λ vs all.
       stage c (option_and_then (λ u. attribute_named rules (class_of u) name) (tree_at s.tree n)) code.Attribute _
-      (λ none. first_other c code.Attribute mk refl refl refl (omega arith) (asked_places place n arguments vs named all) (λ l. not_marking place name arguments) (λ l. not_many place name arguments) (λ l. absurd (past_itself 13 l)) (λ l. absurd (omega (arith, l)))
+      (λ none. first_other c code.Attribute mk refl refl refl (omega arith) (asked_places place n arguments vs named all) (λ l. not_marking place name arguments) (λ l. not_many_asked place name arguments) (λ l. absurd (past_itself 13 l)) (λ l. absurd (omega (arith, l)))
       (record { place = place; name = name; arguments = arguments; node = n; asks = refl; named = named; none = none }))
       (λ a found.
       by_fit c (fit_parameters rules.classes s.tree (parameters_of rules a) vs) _
-      (λ amiss. first_other c code.Arguments mk refl refl refl (omega arith) (asked_places place n arguments vs named all) (λ l. not_marking place name arguments) (λ l. not_many place name arguments) (λ l. has_attribute place name arguments n a named found) (λ l. absurd (past_itself 14 l))
-      (record { place = place; name = name; arguments = arguments; node = n; attribute = a; values = vs; asks = refl; named = named; found = found; told = all; amiss = amiss })))))
+      (λ amiss. first_other c code.Arguments mk refl refl refl (omega arith) (asked_places place n arguments vs named all) (λ l. not_marking place name arguments) (λ l. not_many_asked place name arguments) (λ l. has_attribute place name arguments n a named found) (λ l. absurd (past_itself 14 l))
+      (record { place = place; name = name; arguments = arguments; node = n; attribute = a; values = vs; asks = refl; named = named; found = found; told = all; amiss = amiss }))
+      (λ fit. none_other c mk refl refl refl (asked_places place n arguments vs named all) (not_marking place name arguments) (not_many_asked place name arguments) (has_attribute place name arguments n a named found) (fits_all place name arguments n a vs named found all fit) (λ x. let e = x.1 in absurd cc)))))
     where
       has_attribute : (place : Place) (name : List ℕ) (arguments : List Argument) (n : Node) (a : ℕ) → node_named rules.classes s session place ≡ Some n → option_and_then (λ u. attribute_named rules (class_of u) name) (tree_at s.tree n) ≡ Some a → Isnt (Ask place name arguments) code.Attribute
       has_attribute place name arguments n a named found x =
@@ -399,11 +469,25 @@ module _ (rules : Rules) (s : State) (session : ℕ) (expected : Option ℕ) (fr
           none_some (option_and_then (λ u. attribute_named rules (class_of u) x.name) (tree_at s.tree x.node)) a x.none
           (subst (λ m. option_and_then (λ u. attribute_named rules (class_of u) x.name) (tree_at s.tree m) ≡ Some a) node_same (subst (λ z. option_and_then (λ u. attribute_named rules (class_of u) z) (tree_at s.tree n) ≡ Some a) name_same found))
 
+      fits_all : (place : Place) (name : List ℕ) (arguments : List Argument) (n : Node) (a : ℕ) (vs : List (Value Node)) → node_named rules.classes s session place ≡ Some n → option_and_then (λ u. attribute_named rules (class_of u) name) (tree_at s.tree n) ≡ Some a → each (map (value_named rules.classes s session) arguments) ≡ Some vs
+          → fit_parameters rules.classes s.tree (parameters_of rules a) vs ≡ true → Isnt (Ask place name arguments) code.Arguments
+      fits_all place name arguments n a vs named found all fit x =
+          let place_same : place ≡ x.place = let e = x.asks in cc in
+          let name_same : name ≡ x.name = let e = x.asks in cc in
+          let arguments_same : arguments ≡ x.arguments = let e = x.asks in cc in
+          let node : Some n ≡ Some x.node = sym named ∙ ap (node_named rules.classes s session) place_same ∙ x.named in
+          let node_same : n ≡ x.node = cc in
+          let attribute : Some a ≡ Some x.attribute = sym found ∙ ap (λ z. option_and_then (λ u. attribute_named rules (class_of u) z) (tree_at s.tree n)) name_same ∙ ap (λ m. option_and_then (λ u. attribute_named rules (class_of u) x.name) (tree_at s.tree m)) node_same ∙ x.found in
+          let attribute_same : a ≡ x.attribute = cc in
+          let values : Some vs ≡ Some x.values = sym all ∙ ap (λ as'. each (map (value_named rules.classes s session) as')) arguments_same ∙ x.told in
+          let values_same : vs ≡ x.values = cc in
+          off_on (fit_parameters rules.classes s.tree (parameters_of rules a) vs) (ap (λ z. fit_parameters rules.classes s.tree (parameters_of rules z) vs) attribute_same ∙ ap (fit_parameters rules.classes s.tree (parameters_of rules x.attribute)) values_same ∙ x.amiss) fit
+
   of_show : (place : Place) → Isnt (Show place) code.Mark → Firstly (Show place) (obeyed rules s session (Show place))
   of_show place mk =
       let c = Show place in
       stage c (node_named rules.classes s session place) code.Path _ (λ none. first_path c mk (place, inl refl, none)) (λ n named.
-      stage c (tree_at s.tree n) code.Path _ (λ none. let (u, there) = place_there rules.classes s session place n named in absurd (none_some (tree_at s.tree n) u none there)) (λ u there d e. absurd cc))
+      stage c (tree_at s.tree n) code.Path _ (λ none. let (u, there) = place_there rules.classes s session place n named in absurd (none_some (tree_at s.tree n) u none there)) (λ u there. (λ d e. absurd cc, λ no. none_plain c refl mk refl refl refl (one_place place n named))))
 
   of_mark : (name : List ℕ) (place : Place) → Isnt (Mark name place) code.Mark → Firstly (Mark name place) (obeyed rules s session (Mark name place))
   of_mark name place mk =
@@ -419,12 +503,23 @@ module _ (rules : Rules) (s : State) (session : ℕ) (expected : Option ℕ) (fr
       some_of None e = absurd cc
       some_of (Some n) e = refl
 
+      few : (m n : ℕ) → nat_le n m ≡ false → n ≤ m → ⊥
+      few m n e l = grind (arith, nat_tests)
+
       by_many : (n : Node) → node_named rules.classes s session place ≡ Some n → is_marked s.marks session name ≡ false → (b : Bool) → nat_le max_marks (count_by (λ m. nat_eq session m.session) s.marks) ≡ b
           → Firstly (Mark name place) (if b then Refuses code.Limit else Leaves (s.marks ++ record { session = session; name = name; node = n } ∷ []))
       by_many n named e true f = told (Mark name place) code.Limit (first_other (Mark name place) code.Limit mk refl refl refl (omega arith) (one_place place n named)
           (λ l x. let (other, at, is, some) = x in let same : name ≡ other = cc in free (marked s.marks session name) e (subst (λ z. IsSome (marked s.marks session z)) (sym same) some))
           (λ l. absurd (past_itself 12 l)) (λ l. absurd (omega (arith, l))) (λ l. absurd (omega (arith, l))) (inr (inr (inl (name, place, refl, grind (arith, nat_tests))))))
-      by_many n named e false f = λ d h. absurd cc
+      by_many n named e false f = (
+        λ d h. absurd cc,
+        λ no. none_other (Mark name place) mk refl refl refl (one_place place n named)
+            (λ x. let (other, at, is, some) = x in let same : name ≡ other = cc in free (marked s.marks session name) e (subst (λ z. IsSome (marked s.marks session z)) (sym same) some))
+            (λ x. elim x [ inl y ↦ few (count_by (λ m. nat_eq session m.session) s.marks) max_marks f y.3 | inr y ↦ let h = y.3 in absurd cc ])
+            (λ x. let h = x.asks in absurd cc)
+            (λ x. let h = x.asks in absurd cc)
+            (λ x. let h = x.1 in absurd cc),
+      )
 
       by_name : (n : Node) → node_named rules.classes s session place ≡ Some n → (b : Bool) → is_marked s.marks session name ≡ b → (t : Bool) → nat_le max_marks (count_by (λ m. nat_eq session m.session) s.marks) ≡ t
           → Firstly (Mark name place) (if b then Refuses code.Taken else (if nat_le max_marks (count_by (λ m. nat_eq session m.session) s.marks) then Refuses code.Limit else Leaves (s.marks ++ record { session = session; name = name; node = n } ∷ [])))
@@ -437,8 +532,12 @@ module _ (rules : Rules) (s : State) (session : ℕ) (expected : Option ℕ) (fr
   among_any p (y ∷ ys) x (inl same) e = ap (λ b. b || list_any p ys) (subst (λ z. p z ≡ true) same e)
   among_any p (y ∷ ys) x (inr h) e = or_right (p y) _ (among_any p ys x h e)
 
+  any_among : {A : Type 0} (p : A → Bool) (xs : List A) → list_any p xs ≡ true → (x : A) × Among x xs × (p x ≡ true)
+  any_among p [] e = absurd cc
+  any_among p (y ∷ ys) e = elim (either_true (p y) _ e) [ inl f ↦ (y, inl refl, f) | inr f ↦ let (x, among, g) = any_among p ys f in (x, inr among, g) ]
+
   of_where : (name : List ℕ) → Isnt (Where name) code.Mark → Firstly (Where name) (obeyed rules s session (Where name))
-  of_where name mk = stage (Where name) (marked s.marks session name) code.Mark _ (λ none. absurd (mk (name, inl refl, none))) (λ n some d e. absurd cc)
+  of_where name mk = stage (Where name) (marked s.marks session name) code.Mark _ (λ none. absurd (mk (name, inl refl, none))) (λ n some. (λ d e. absurd cc, λ no. none_plain (Where name) refl mk refl refl refl (λ x. x.1)))
 
   not_posted : (place : Place) (name : List ℕ) (arguments : List Argument) → MarksAgain s (line (Post place name arguments)) → ⊥
   not_posted place name arguments (other, at, e, x) = absurd cc
@@ -448,16 +547,27 @@ module _ (rules : Rules) (s : State) (session : ℕ) (expected : Option ℕ) (fr
       first_other (Post place name arguments) code.Limit mk refl refl refl (omega arith) (λ x. x.1) (λ l. not_posted place name arguments) (λ l. absurd (past_itself 12 l)) (λ l. absurd (omega (arith, l))) (λ l. absurd (omega (arith, l)))
       (inr (inr (inr (place, name, arguments, refl, h))))
 
-  by_posts : (c : Command) (q : Posted) (b t : Bool) → (b ≡ true → IsFirst c code.Limit) → (t ≡ true → IsFirst c code.Limit) → Firstly c (if b then Refuses code.Limit else (if t then Refuses code.Limit else Posts q))
-  by_posts c q true t f g = told c code.Limit (f refl)
-  by_posts c q false true f g = told c code.Limit (g refl)
-  by_posts c q false false f g = λ d e. absurd cc
+  by_posts : (c : Command) (q : Posted) (b t : Bool) → (b ≡ true → IsFirst c code.Limit) → (t ≡ true → IsFirst c code.Limit) → (b ≡ false → t ≡ false → (d : Code) → Isnt c d) → Firstly c (if b then Refuses code.Limit else (if t then Refuses code.Limit else Posts q))
+  by_posts c q true t f g h = told c code.Limit (f refl)
+  by_posts c q false true f g h = told c code.Limit (g refl)
+  by_posts c q false false f g h = (λ d e. absurd cc, λ no. h refl refl)
 
   of_post : (place : Place) (name : List ℕ) (arguments : List Argument) → Isnt (Post place name arguments) code.Mark → Firstly (Post place name arguments) (obeyed rules s session (Post place name arguments))
   of_post place name arguments mk = by_posts (Post place name arguments) _ (nat_le max_posted (count_by (λ q. nat_eq session q.session) s.posted)) (nat_eq s.posts last_post)
       (λ e. post_limit place name arguments mk (inl (most (count_by (λ q. nat_eq session q.session) s.posted) max_posted e)))
       (λ e. post_limit place name arguments mk (inr (nat_same s.posts last_post e)))
+      (λ e f. none_other (Post place name arguments) mk refl refl refl (λ x. x.1) (not_posted place name arguments)
+      (λ x. elim x [ inl y ↦ let h = y.2 in absurd cc | inr y ↦ elim y.4 [ inl l ↦ few (count_by (λ q. nat_eq session q.session) s.posted) max_posted e l | inr same ↦ off_on (nat_eq s.posts last_post) f (same_on s.posts last_post same) ] ])
+      (λ x. let h = x.asks in absurd cc)
+      (λ x. let h = x.asks in absurd cc)
+      (λ x. let h = x.1 in absurd cc))
     where
+      few : (m n : ℕ) → nat_le n m ≡ false → n ≤ m → ⊥
+      few m n e l = grind (arith, nat_tests)
+
+      same_on : (m n : ℕ) → m ≡ n → nat_eq m n ≡ true
+      same_on m n e = grind (arith, nat_tests)
+
       most : (m n : ℕ) → nat_le n m ≡ true → n ≤ m
       most m n e = grind (arith, nat_tests)
 
@@ -475,7 +585,14 @@ module _ (rules : Rules) (s : State) (session : ℕ) (expected : Option ℕ) (fr
   no_many which (inr (other, at, more, e, x)) = absurd cc
 
   by_open : (which : ℕ) → Isnt (Wait which) code.Mark → (b : Bool) → list_any (is_posted session which) s.posted ≡ b → Firstly (Wait which) (if b then Waits which else Refuses code.Question)
-  by_open which mk true e = λ d f. absurd cc
+  by_open which mk true e = (
+    λ d f. absurd cc,
+    λ no. none_other (Wait which) mk refl refl refl (λ x. x.1) (no_again which) (no_many which) (no_ask which) (no_amiss which) (λ x.
+        let (other, is, none) = x in
+        let same : which ≡ other = cc in
+        let (q, among, f) = any_among (is_posted session which) s.posted e in
+        none q among (subst (λ z. is_posted session z q ≡ true) same f)),
+  )
   by_open which mk false e = told (Wait which) code.Question (first_other (Wait which) code.Question mk refl refl refl (omega arith) (λ x. x.1) (λ l. no_again which) (λ l. no_many which) (λ l. no_ask which) (λ l. no_amiss which)
       (which, refl, λ q among f. off_on _ e (among_any (is_posted session which) s.posted q among f)))
 
@@ -492,9 +609,9 @@ module _ (rules : Rules) (s : State) (session : ℕ) (expected : Option ℕ) (fr
   of_command (Move place to name index) = of_move place to name index
   of_command (Show place) = of_show place
   of_command (Mark name place) = of_mark name place
-  of_command (Unmark name) = λ mk d e. absurd cc
+  of_command (Unmark name) = λ mk. (λ d e. absurd cc, λ no. none_plain (Unmark name) refl mk refl refl refl (λ x. x.1))
   of_command (Where name) = of_where name
-  of_command Version = λ mk d e. absurd cc
+  of_command Version = λ mk. (λ d e. absurd cc, λ no. none_plain Version refl mk refl refl refl (λ x. x.1))
   of_command (Post place name arguments) = of_post place name arguments
   of_command (Wait which) = of_wait which
 
@@ -523,10 +640,10 @@ module _ (rules : Rules) (s : State) (l : Line) where
   IsToldFirst d = Applies rules s l d × ((e : Code) → number e < number d → Applies rules s l e → ⊥)
 
   abbrev IsTold : Verdict → Type 0
-  IsTold v = (d : Code) → v ≡ Refuses d → IsToldFirst d
+  IsTold v = ((d : Code) → v ≡ Refuses d → IsToldFirst d) × (((d : Code) → v ≡ Refuses d → ⊥) → (d : Code) → Applies rules s l d → ⊥)
 
   tells : (d : Code) → IsToldFirst d → IsTold (Refuses d)
-  tells d h e f = let same : d ≡ e = cc in subst IsToldFirst same h
+  tells d h = (λ e f. let same : d ≡ e = cc in subst IsToldFirst same h, λ no. absurd (no d refl))
 
   stale_other : (o : Option ℕ) (version : ℕ) → is_stale o version ≡ true → ExpectsOther o version
   stale_other None version e = absurd cc
@@ -563,5 +680,5 @@ module _ (rules : Rules) (s : State) (l : Line) where
   by_version true e = tells (code.Stale s.version) ((stale_other l.expected s.version e, refl), small 2 (omega arith) (λ k. absurd (past_itself 2 k)))
   by_version false e = by_marks (fresh_by l.expected s.version e) (list_all (is_marked s.marks l.session) (marks_used l.command)) refl
 
-  pub told_first : (d : Code) → verdict rules s l ≡ Refuses d → Applies rules s l d × ((e : Code) → number e < number d → Applies rules s l e → ⊥)
+  pub told_first : IsTold (verdict rules s l)
   told_first = by_version (is_stale l.expected s.version) refl

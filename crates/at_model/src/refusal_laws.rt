@@ -18,8 +18,11 @@ pub fn an_edit_is_refused_for_its_first_reason()
         → ((r : Refusal) → Breaks classes t e r → ⊥) × (left_by t e ≡ new) }
 {}
 
-/// The code by which a line is refused applies to it, and none of a lower number does.
+/// The code by which a line is refused applies to it, and none of a lower number does; and no code applies to a line
+/// that isn't refused.
 pub fn a_line_is_refused_for_its_first_reason()
-    ensures { (rules : Rules) (s : State) (l : Line) (c : Code) → verdict rules s l ≡ Refuses c
+    ensures refused { (rules : Rules) (s : State) (l : Line) (c : Code) → verdict rules s l ≡ Refuses c
         → Applies rules s l c × ((d : Code) → number d < number c → Applies rules s l d → ⊥) }
+    ensures accepted { (rules : Rules) (s : State) (l : Line) → ((c : Code) → verdict rules s l ≡ Refuses c → ⊥)
+        → (c : Code) → Applies rules s l c → ⊥ }
 {}
