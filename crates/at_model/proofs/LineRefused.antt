@@ -49,6 +49,9 @@ past_itself n l = omega (arith, l)
 step_there : (t : Tree) (a b : Node) (v : Tree) → a ≡ b → tree_at t a ≡ Some v → (w : Tree) × (tree_at t b ≡ Some w)
 step_there t a b v e found = (v, ap (tree_at t) (sym e) ∙ found)
 
+step_leads : (t : Tree) (s : ℕ × ℕ) (ss : Node) (u v : Tree) → slice_get (children_at t s.0) s.1 ≡ Some u → tree_at u ss ≡ Some v → tree_at t (s ∷ ss) ≡ Some v
+step_leads t s ss u v child found = ap (option_and_then (λ x. tree_at x ss)) child ∙ found
+
 path_there : (classes : Classes) (t : Tree) (path : Path) (n : Node) → node_at classes t path ≡ Some n → (u : Tree) × (tree_at t n ≡ Some u)
 path_there classes t [] n e = let f : [] ≡ n = cc in step_there t [] n t f refl
 path_there classes t (p ∷ ps) n e =
@@ -56,7 +59,7 @@ path_there classes t (p ∷ ps) n e =
     let (u, child, g) = led (λ u. option_map (λ ways. way ∷ ways) (node_at classes u ps)) (slice_get (children_at t way.0) way.1) n f in
     let (ways, rest, h) = mapped (λ (ways : Node). way ∷ ways) (node_at classes u ps) n g in
     let (v, found) = path_there classes u ps ways rest in
-    step_there t (way ∷ ways) n v h (ap (option_and_then (λ x. tree_at x ways)) child ∙ found)
+    step_there t (way ∷ ways) n v h (step_leads t way ways u v child found)
 
 place_there : (classes : Classes) (s : State) (session : ℕ) (place : Place) (n : Node) → node_named classes s session place ≡ Some n → (u : Tree) × (tree_at s.tree n ≡ Some u)
 place_there classes s session (From_root path) n e = path_there classes s.tree path n e

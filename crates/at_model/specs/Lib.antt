@@ -36,4 +36,5 @@ pub mod Keeping
 pub mod SampleLines
 pub mod Playing
 pub mod SampleSessions
+pub mod SampleGrammars
 pub mod Working
