@@ -9,7 +9,7 @@ use lib.Chars.{codes}
 use Rattle.at_model.specs.Classes.{Classes, TokenKind, parts}
 use Rattle.at_model.specs.Classes as class
 use Rattle.at_model.specs.Declarations.{Declarations, Declaration, PartDeclaration, Form, One, Many, Maybe, Tok, class_named, token_kind_named, no_class, is_predefined, class_twice, is_parent_known, is_part_known, is_known, is_token, unknown_class, token_kind}
-use Rattle.at_model.specs.GrammarRules.{IsNone, AreClassesApart, IsOfClass, AreClassesKnown, AreTokensOfKinds}
+use Rattle.at_model.specs.GrammarRules.{IsNoneOf, AreClassesApart, IsOfClass, AreClassesKnown, AreTokensOfKinds}
 use Rattle.at_model.proofs.Options.{both, and_true, not_true}
 use Rattle.at_model.proofs.FirstGiven.{off_on, classes_pass, no_class_fails, parts_pass, no_part_fails, any_before, before_any, any_there, there_any, all_there, there_all, some_position}
 
@@ -42,13 +42,13 @@ pub text_other : (a b : List ℕ) → (a ≡ b → ⊥) → bytes_eq a b ≡ fal
 text_other a b h = not_true (bytes_eq a b) (λ e. h (same_text a b e))
 
 -- it is none of the three words
-pub none_of : (name a b c : List ℕ) → (bytes_eq name a || bytes_eq name b || bytes_eq name c) ≡ false → IsNone name a b c
+pub none_of : (name a b c : List ℕ) → (bytes_eq name a || bytes_eq name b || bytes_eq name c) ≡ false → IsNoneOf name a b c
 none_of name a b c e =
     let (f, g) = or_off (bytes_eq name a || bytes_eq name b) (bytes_eq name c) e in
     let (h, k) = or_off (bytes_eq name a) (bytes_eq name b) f in
     (other_text name a h, other_text name b k, other_text name c g)
 
-pub of_none : (name a b c : List ℕ) → IsNone name a b c → (bytes_eq name a || bytes_eq name b || bytes_eq name c) ≡ false
+pub of_none : (name a b c : List ℕ) → IsNoneOf name a b c → (bytes_eq name a || bytes_eq name b || bytes_eq name c) ≡ false
 of_none name a b c (h, k, g) = off_or (bytes_eq name a || bytes_eq name b) (bytes_eq name c) (off_or (bytes_eq name a) (bytes_eq name b) (text_other name a h) (text_other name b k)) (text_other name c g)
 
 -- there is a class -----------------------------------------------------------------------------------------------------

@@ -6,20 +6,20 @@ use lib.Chars.{codes}
 use Rattle.at_model.specs.Classes.{Classes, Component, Many, parent_of, parts}
 use Rattle.at_model.specs.Declarations.{Declarations, Declaration, PartDeclaration, Tok, classes_of, max_classes, max_parts, Code, NoClass, ClassTwice, UnknownClass, SuperclassCircle, TokenKindCode, ComponentTwice, Limit}
 
--- none of these three
-abbrev pub IsNone : List ℕ → (a b c : List ℕ) → Type 0
-IsNone name a b c = (name ≡ a → ⊥) × (name ≡ b → ⊥) × (name ≡ c → ⊥)
+-- it is none of these three
+abbrev pub IsNoneOf : List ℕ → (a b c : List ℕ) → Type 0
+IsNoneOf name a b c = (name ≡ a → ⊥) × (name ≡ b → ⊥) × (name ≡ c → ⊥)
 
--- each class has a name of its own, and none that every tree's classes have already
+-- G2: each class has a name of its own, and none that every tree's classes have already
 pub record AreClassesApart (ds : Declarations) : Type 0 where
   pub apart : (b c : ℕ) (d e : Declaration) → slice_get ds b ≡ Some d → slice_get ds c ≡ Some e → d.name ≡ e.name → b ≡ c
-  pub free : (c : ℕ) (d : Declaration) → slice_get ds c ≡ Some d → IsNone d.name (codes "ASTNode") (codes "List") (codes "Opt")
+  pub free : (c : ℕ) (d : Declaration) → slice_get ds c ≡ Some d → IsNoneOf d.name (codes "ASTNode") (codes "List") (codes "Opt")
 
 -- a class of that name is declared
 abbrev pub IsOfClass : Declarations → List ℕ → Type 0
 IsOfClass ds name = (c : ℕ) × (d : Declaration) × (slice_get ds c ≡ Some d) × (name ≡ d.name)
 
--- each superclass is declared, and the class of each component that is no token
+-- G3: each superclass is declared, and the class of each component that is no token
 pub record AreClassesKnown (ds : Declarations) : Type 0 where
   pub parents : (c : ℕ) (d : Declaration) (name : List ℕ) → slice_get ds c ≡ Some d → d.parent ≡ Some name → IsOfClass ds name
   pub parts : (c i : ℕ) (d : Declaration) (p : PartDeclaration) → slice_get ds c ≡ Some d → slice_get d.parts i ≡ Some p → (p.form ≡ Tok → ⊥) →
@@ -30,11 +30,11 @@ pub data IsAbove (classes : Classes) (b : ℕ) : ℕ → Type 0 where
   next : (c : ℕ) → parent_of classes c ≡ Some b → IsAbove classes b c
   further : (c d : ℕ) → parent_of classes c ≡ Some d → IsAbove classes b d → IsAbove classes b c
 
--- no class is above itself, however far up
+-- G4: no class is above itself, however far up
 abbrev pub AreClassesBelowOthers : Declarations → Type 0
 AreClassesBelowOthers ds = (c : ℕ) → IsAbove (classes_of ds) c c → ⊥
 
--- each token is a String, an int or a boolean
+-- G6: each token is a String, an int or a boolean
 abbrev pub AreTokensOfKinds : Declarations → Type 0
 AreTokensOfKinds ds =
     (c i : ℕ) (d : Declaration) (p : PartDeclaration) → slice_get ds c ≡ Some d → slice_get d.parts i ≡ Some p → p.form ≡ Tok →
@@ -49,18 +49,18 @@ pub data TakesName (p : Component) : List ℕ → Type 0 where
 -- none of the components has a name that another one takes, or that every tree's accessors have already
 pub record AreNamesFree (ps : List Component) : Type 0 where
   pub apart : (i j : ℕ) (p q : Component) → slice_get ps i ≡ Some p → slice_get ps j ≡ Some q → TakesName p q.name → i ≡ j
-  pub free : (i : ℕ) (p : Component) → slice_get ps i ≡ Some p → IsNone p.name (codes "Child") (codes "Parent") (codes "NumChild")
+  pub free : (i : ℕ) (p : Component) → slice_get ps i ≡ Some p → IsNoneOf p.name (codes "Child") (codes "Parent") (codes "NumChild")
 
--- so it is with the components of each class, those that it inherits among them
+-- G5: so it is with the components of each class, those that it inherits among them
 abbrev pub AreComponentsApart : Declarations → Type 0
 AreComponentsApart ds = (c : ℕ) → AreNamesFree (parts (classes_of ds) c)
 
--- there are at most 1,000 classes, and each has at most 32 components
+-- G8: there are at most 1,000 classes, and each has at most 32 components
 pub record AreFew (ds : Declarations) : Type 0 where
   pub classes : length ds ≤ max_classes
   pub parts : (c : ℕ) → length (parts (classes_of ds) c) ≤ max_parts
 
--- the grammar keeps the rule of that code
+-- the grammar keeps the rule of that code; G9 is that there is a class
 abbrev pub Keeps : Declarations → Code → Type 0
 Keeps ds NoClass = 0 < length ds
 Keeps ds ClassTwice = AreClassesApart ds
