@@ -116,21 +116,23 @@ class_for classes s session command = None
 abbrev pub tree_for : Classes → State → ℕ → Command → Option Tree
 tree_for classes s session command = option_and_then (λ t. option_and_then (shaped classes t) (class_for classes s session command)) (term_in command)
 
--- with the component of that name
-abbrev pub with_part : Classes → State → Node → List ℕ → (ℕ → Edit) → Option Edit
-with_part classes s n name edit_of = option_map edit_of (component_named classes s.tree n name)
+-- the edit of the node at the place and of its component of that name
+abbrev pub with_part : Classes → State → ℕ → Place → List ℕ → (Node → ℕ → Edit) → Option Edit
+with_part classes s session place name edit_of =
+    option_and_then (λ n. option_map (edit_of n) (component_named classes s.tree n name)) (node_named classes s session place)
 
 -- the edit that the command is, where all that it names is there
 abbrev pub meant : Classes → State → ℕ → Command → Option Edit
-meant classes s session (Set place t) = option_and_then (λ u. option_map (λ n. edit.Set n u) (node_named classes s session place)) (tree_for classes s session (Set place t))
+meant classes s session (Set place t) =
+    option_and_then (λ u. option_map (λ n. edit.Set n u) (node_named classes s session place)) (tree_for classes s session (Set place t))
 meant classes s session (Put place part t) =
-    option_and_then (λ u. option_and_then (λ n. with_part classes s n part (λ p. edit.Put n p u)) (node_named classes s session place)) (tree_for classes s session (Put place part t))
+    option_and_then (λ u. with_part classes s session place part (λ n p. edit.Put n p u)) (tree_for classes s session (Put place part t))
 meant classes s session (Drop place) = option_map (λ n. edit.Drop n) (node_named classes s session place)
 meant classes s session (Insert place part index t) =
-    option_and_then (λ u. option_and_then (λ n. with_part classes s n part (λ p. edit.Insert n p index u)) (node_named classes s session place)) (tree_for classes s session (Insert place part index t))
-meant classes s session (Token place part v) = option_and_then (λ n. with_part classes s n part (λ p. edit.Token n p v)) (node_named classes s session place)
+    option_and_then (λ u. with_part classes s session place part (λ n p. edit.Insert n p index u)) (tree_for classes s session (Insert place part index t))
+meant classes s session (Token place part v) = with_part classes s session place part (λ n p. edit.Token n p v)
 meant classes s session (Move place to part index) =
-    option_and_then (λ n. option_and_then (λ m. with_part classes s m part (λ p. edit.Move n m p index)) (node_named classes s session to)) (node_named classes s session place)
+    option_and_then (λ n. with_part classes s session to part (λ m p. edit.Move n m p index)) (node_named classes s session place)
 meant classes s session command = None
 
 -- lines ----------------------------------------------------------------------------------------------------------------
