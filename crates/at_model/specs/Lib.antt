@@ -29,9 +29,12 @@ pub mod Taking
 pub mod TypedRuns
 pub mod Instances
 pub mod WellFormed
+pub mod GrammarRules
+pub mod Refusing
 pub mod Sparing
 pub mod Keeping
 pub mod SampleLines
 pub mod Playing
 pub mod SampleSessions
+pub mod SampleGrammars
 pub mod Working
