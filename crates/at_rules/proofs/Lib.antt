@@ -1,3 +1,4 @@
+mod Dispatching
 mod Lookups
 mod Numbers
 pub mod Earlier

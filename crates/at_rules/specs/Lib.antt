@@ -1,4 +1,5 @@
 pub mod Bodies
+pub mod Dispatch
 pub mod Marks
 pub mod RulesView
 pub mod Upward

@@ -12,6 +12,7 @@
 
 mod attribute;
 mod body;
+mod dispatch;
 mod rules;
 
 pub use attribute::AttrId;
