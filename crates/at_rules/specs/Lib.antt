@@ -1,5 +1,6 @@
 pub mod Bodies
 pub mod Dispatch
+pub mod Holding
 pub mod Marks
 pub mod RulesView
 pub mod Upward

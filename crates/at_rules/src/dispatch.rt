@@ -78,7 +78,9 @@ impl Dispatch {
         width: usize,
         precedence: Precedence,
     ) -> Dispatch
-        ensures { AreRight (found_up precedence (keys_of keys.now.entries) classes.now) result.rows.items }
+        ensures right { AreRight (found_up precedence (keys_of keys.now.entries) classes.now) result.rows.items }
+        ensures sound { AreSound classes.now }
+        ensures hierarchy { IsHierarchy classes.now }
     {
         if classes.len().saturating_mul(width) > MAX_CELLS {
             return Dispatch::empty(alloc);
@@ -90,7 +92,7 @@ impl Dispatch {
     }
 
     /// A table that says nothing.
-    fn empty(alloc: Global) -> Dispatch
+    pub fn empty(alloc: Global) -> Dispatch
         ensures { (c k : ℕ) → cell_at result.rows.items c k ≡ None }
     {
         Dispatch {

@@ -13,6 +13,7 @@
 mod attribute;
 mod body;
 mod dispatch;
+mod holders;
 mod rules;
 
 pub use attribute::AttrId;
