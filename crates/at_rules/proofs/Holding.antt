@@ -142,10 +142,32 @@ pub holders_right : {V Z : Type 0} (classes : Classes) → IsHierarchy classes �
 holders_right classes h some es held rows same right = λ c n part cell is.
     leads classes h some held n (numbered_in es n part) (λ d none. none_numbered es n part d (same d n ∙ none_held (keys_of held) n d none)) c _ (ap (option_and_then (class_at held)) (right c n cell is ∙ found_first (key_at (keys_of held) n) (chain classes c)))
 
--- the equations up to one more
-pub one_more : (ks : List (ℕ × Option ℕ × ℕ)) (key : ℕ × Option ℕ × ℕ) (c n : ℕ) → has_equation (ks ++ key ∷ []) c n ≡ (has_equation ks c n || (nat_eq c key.0 && nat_eq n key.2))
+-- one equation more ----------------------------------------------------------------------------------------------------------
+
+one_more : (ks : List (ℕ × Option ℕ × ℕ)) (key : ℕ × Option ℕ × ℕ) (c n : ℕ) → has_equation (ks ++ key ∷ []) c n ≡ (has_equation ks c n || (nat_eq c key.0 && nat_eq n key.2))
 one_more ks key c n = list_any-append (λ k. nat_eq c k.0 && nat_eq n k.2) ks (key ∷ []) ∙ ap (λ b. has_equation ks c n || b) (last (nat_eq c key.0 && nat_eq n key.2))
   where
     last : (b : Bool) → (b || false) ≡ b
     last true = refl
     last false = refl
+
+taken : (es : List ((ℕ × Option ℕ × ℕ) × Body)) (i : ℕ) (e : (ℕ × Option ℕ × ℕ) × Body) → slice_get es i ≡ Some e → take (i + 1) (keys_of es) ≡ take i (keys_of es) ++ e.0 ∷ []
+taken [] i e is = absurd (none-some e is)
+taken (x ∷ xs) zero e is = ap (λ o. elim o [ None ↦ x.0 ∷ [] | Some y ↦ y.0 ∷ [] ]) is
+taken (x ∷ xs) (suc i) e is =
+    let next : suc i + 1 ≡ suc (i + 1) = omega arith in
+    ap (λ m. take m (keys_of (x ∷ xs))) next ∙ ap (λ ks. x.0 ∷ ks) (taken xs i e is)
+
+pub held_next : (es : List ((ℕ × Option ℕ × ℕ) × Body)) (i : ℕ) (e : (ℕ × Option ℕ × ℕ) × Body) (old new : List (ℕ × ℕ)) → slice_get es i ≡ Some e
+    → ((c n : ℕ) → has_equation (take i (keys_of es)) c n ≡ is_held old c n) → ((c n : ℕ) → is_held new c n ≡ (is_held old c n || (nat_eq c e.0.0 && nat_eq n e.0.2)))
+    → (c n : ℕ) → has_equation (take (i + 1) (keys_of es)) c n ≡ is_held new c n
+held_next es i e old new there before here c n =
+    ap (λ ks. has_equation ks c n) (taken es i e there)
+    ∙ one_more (take i (keys_of es)) e.0 c n
+    ∙ ap (λ b. b || (nat_eq c e.0.0 && nat_eq n e.0.2)) (before c n)
+    ∙ sym (here c n)
+
+pub not_there : {A : Type 0} (es : List A) (i : ℕ) → i < length es → slice_get es i ≡ None → ⊥
+not_there [] i less is = omega (arith, less)
+not_there (x ∷ xs) zero less is = none-some x (sym is)
+not_there (x ∷ xs) (suc i) less is = not_there xs i (omega (arith, less)) is

@@ -51,8 +51,3 @@ AreRight answer rows = (c k : ℕ) (cell : Cell) → cell_at rows c k ≡ Some c
 -- the body at a position
 abbrev pub body_at : List ((ℕ × ℕ) × Body) → ℕ → Option Expr
 body_at es p = option_map (λ e. body_view e.1) (slice_get es p)
-
--- the tables of rules: by class and attribute the nearest equation, by class and name the earliest attribute
-pub record AreTables {Y Z : Type 0} (classes : Classes) (own attributes : List (ℕ × ℕ)) (body_rows : List (Vec Cell Y)) (declared_rows : List (Vec Cell Z)) : Type 0 where
-  pub bodies : AreRight (found_up Nearest own classes) body_rows
-  pub declared : AreRight (found_up Earliest attributes classes) declared_rows

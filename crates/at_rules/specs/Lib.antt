@@ -3,4 +3,5 @@ pub mod Dispatch
 pub mod Holding
 pub mod Marks
 pub mod RulesView
+pub mod Tables
 pub mod Upward

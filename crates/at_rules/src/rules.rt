@@ -3,6 +3,7 @@
 use crate::attribute::AttrId;
 use crate::body::{Body, Kind};
 use crate::dispatch::{Dispatch, Precedence, earlier};
+use crate::holders::Holders;
 use at_class::{ClassId, ClassTable};
 use indexmap::{IndexMap, IndexSet};
 use std::alloc::Global;
@@ -59,6 +60,7 @@ pub struct Rules {
     // By class and attribute the position of the body, and by class and name that of the attribute.
     bodies: Dispatch,
     declared: Dispatch,
+    holders: Holders,
 }
 
 /// One call, where each exit that lets it go would else have a case for each collection.
@@ -70,6 +72,7 @@ impl Drop for Rules {
             equations: _,
             bodies: _,
             declared: _,
+            holders: _,
         } = self;
     }
 }
@@ -89,9 +92,9 @@ impl Model for Rules {
     ghost view = { λ r. record { classes = r.classes; attributes = map (attribute_view r.names.keys) r.equations.attributes.entries; own = map own_view r.equations.own.entries; inherited = map (inherited_view r.names.keys) (named r.names.keys r.equations.inherited.entries) } };
 
     ghost use Rattle.std.specs.Map.{keys_of};
-    ghost use Rattle.at_rules.specs.Dispatch.{AreTables};
+    ghost use Rattle.at_rules.specs.Tables.{AreTables};
 
-    ghost invariant = { λ r. AreTables r.classes (keys_of r.equations.own.entries) (keys_of r.equations.attributes.entries) r.bodies.rows.items r.declared.rows.items };
+    ghost invariant = { λ r. AreTables r.classes r.equations r.bodies r.declared r.holders };
 }
 
 impl Rules {
@@ -129,12 +132,14 @@ impl Rules {
             names.len(),
             Precedence::Earliest,
         );
+        let holders = Holders::of(alloc, &classes, &equations.inherited, names.len());
         Rules {
             classes,
             names,
             equations,
             bodies,
             declared,
+            holders,
         }
     }
 
@@ -269,7 +274,14 @@ impl Rules {
         ensures { option_map (λ b. body_view b.now) result ≡ inherited_equation self.now class part (attribute_name self.now attribute) }
     {
         let name = name_number(&self.names, &self.equations.attributes, attribute)?;
-        inherited_above(&self.classes, &self.equations.inherited, class, part, name)
+        inherited_up(
+            &self.holders,
+            &self.classes,
+            &self.equations.inherited,
+            class,
+            part,
+            name,
+        )
     }
 }
 
@@ -282,6 +294,7 @@ ghost use Rattle.at_rules.specs.Bodies.{body_view};
 ghost use Rattle.at_rules.specs.RulesView.{text_of, name_in, numbered_in, LacksText};
 ghost use Rattle.at_rules.specs.declared.dispatch.Precedence.TheVariants.{Earliest};
 ghost use Rattle.at_rules.specs.Dispatch.{body_at, found_up, AreRight};
+ghost use Rattle.at_rules.specs.Holding.{AreHolders};
 ghost use Rattle.at_rules.specs.Upward.{earlier, declared_in};
 ghost use Rattle.std.specs.Map.{keys_of};
 ghost use Rattle.std.specs.Prelude.{position, is_some, string_bytes, bytes_eq};
@@ -366,7 +379,29 @@ fn name_number(
 }
 
 /// The body of the equation for the name of that number and a component: in the first class upward that has
-/// one, the one for the component before the one for each.
+/// one, the one for the component before the one for each. The way up begins at the first class that has an
+/// equation for the name, where that is known.
+fn inherited_up<'a>(
+    holders: &Holders,
+    classes: &ClassTable,
+    inherited: &'a IndexMap<(usize, Option<usize>, usize), Body>,
+    class: ClassId,
+    part: usize,
+    name: usize,
+) -> Option<&'a Body>
+    requires { AreHolders classes.now inherited.now.entries holders.now.held.entries holders.now.table.rows.items }
+    ensures { option_map (λ b. body_view b.now) result ≡ first_answer (numbered_in inherited.now.entries name part) (chain classes.now class) }
+{
+    match holders.cell(class, name) {
+        Some(cell) => {
+            let holder = holders.class_at(cell)?;
+            inherited_above(classes, inherited, holder, part, name)
+        }
+        None => inherited_above(classes, inherited, class, part, name),
+    }
+}
+
+/// The same, by climbing from the class.
 fn inherited_above<'a>(
     classes: &ClassTable,
     inherited: &'a IndexMap<(usize, Option<usize>, usize), Body>,

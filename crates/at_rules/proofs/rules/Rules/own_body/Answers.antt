@@ -11,7 +11,7 @@ pub returns-in-Some : goal.returns-in-Some
 returns-in-Some c =
     let es = c.self.inside.equations.own.entries in
     let rows = c.self.inside.bodies.rows.items in
-    let right = subst (λ classes. AreRight (found_up Nearest (keys_of es) classes) rows) (ap (λ (r : Rules). r.classes) c.self.view_is) c.self.invariant.bodies in
+    let right = subst (λ classes. AreRight (found_up Nearest (keys_of es) classes) rows) (ap (λ (r : Rules). r.classes) c.self.view_is) c.self.invariant.of_bodies in
     let there = ap (λ i. cell_at rows c.args.class i) (sym c.index.ensures) ∙ sym c.cell.ensures ∙ c.in-Some.is in
     c.body_at.ensures
     ∙ ap (option_and_then (body_at es)) c.position.ensures
