@@ -1,6 +1,6 @@
 -- What a dispatch table says is what climbing finds.
-use Rattle.std.proofs.Common.{◌≡◌, ℕ, ◌+◌, ◌-◌, ◌<◌, ◌≤◌, List, [], ◌∷◌, ◌++◌, length, refl, ap, sym, ◌∙◌, subst, arith, Option, Some, None, suc, zero, true≢false}
-use Rattle.std.specs.Prelude.{Bool, true, false, ◌&&◌, cond, nat_eq, map, option_map, option_and_then, slice_get, position, find, Vec}
+use Rattle.std.proofs.Common.{◌≡◌, ℕ, ◌+◌, ◌<◌, List, [], ◌∷◌, ◌++◌, length, refl, ap, sym, ◌∙◌, subst, arith, Option, Some, None, suc, zero}
+use Rattle.std.specs.Prelude.{Bool, true, false, ◌&&◌, cond, nat_eq, map, option_map, option_and_then, find, Vec}
 use Rattle.std.specs.List.{position_from}
 use Rattle.std.specs.Map.{lookup, keys_of}
 use Rattle.std.specs.Option.{option_or}

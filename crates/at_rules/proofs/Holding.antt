@@ -1,6 +1,6 @@
 -- From a class to the first one upward that has an equation for a name, and to what is found from there.
 use Rattle.std.proofs.Common.{◌≡◌, ℕ, ◌+◌, ◌<◌, List, [], ◌∷◌, ◌++◌, length, take, drop, refl, ap, sym, ◌∙◌, subst, arith, Option, Some, None, suc, zero, true≢false}
-use Rattle.std.specs.Prelude.{Bool, true, false, ◌&&◌, ◌||◌, cond, nat_eq, map, option_map, option_and_then, is_some, slice_get, position, Vec}
+use Rattle.std.specs.Prelude.{Bool, true, false, ◌&&◌, ◌||◌, cond, nat_eq, option_map, option_and_then, is_some, slice_get, Vec}
 use Rattle.std.specs.List.{list_any, position_from}
 use Rattle.std.specs.Map.{lookup, keys_of}
 use Rattle.std.specs.Option.{option_eq, option_or}
@@ -21,7 +21,7 @@ use Rattle.at_rules.specs.declared.body.Body.{Body}
 use Rattle.at_rules.specs.declared.dispatch.Cell.{Cell}
 use Rattle.at_rules.specs.declared.dispatch.Precedence.TheVariants.{Nearest}
 use Rattle.at_rules.specs.Bodies.{body_view}
-use Rattle.at_rules.specs.Dispatch.{key_at, found_up, cell_at, cell_view, AreRight}
+use Rattle.at_rules.specs.Dispatch.{key_at, found_up, AreRight}
 use Rattle.at_rules.specs.Holding.{is_held, has_equation, class_at, Leads, AreHolders}
 use Rattle.at_rules.specs.RulesView.{by_number, numbered_in}
 use Rattle.at_rules.proofs.Dispatching.{found_first}

@@ -10,6 +10,6 @@ loop-position-preserved c =
     let es = c.args.inherited.now.entries in
     let i = c.loop-position.position in
     elim c.match-get_index.branch [
-      | in-Some+in_ok-hold w ↦ subst (λ held. (c n : ℕ) → has_equation (take (i + 1) (keys_of es)) c n ≡ is_held (keys_of held.entries) c n) (sym w.held-is) (held_next es i _ (keys_of c.loop-position.held.entries) _ (sym w.in-Some.ensures.entry) c.loop-position.invariant ?)
+      | in-Some+in_ok-hold w ↦ subst (λ held. (c n : ℕ) → has_equation (take (i + 1) (keys_of es)) c n ≡ is_held (keys_of held.entries) c n) (sym w.held-is) (held_next es i _ (keys_of c.loop-position.held.entries) _ (sym w.in-Some.ensures.entry) c.loop-position.invariant w.in_ok-hold.ensures)
       | in_default w ↦ absurd (not_there es i (omega (arith, c.loop-position-test.true, c.len-position-end.ensures.len)) (sym w.in_default.ensures.entry))
     ]

@@ -1,7 +1,6 @@
-use Rattle.std.proofs.Common.{◌∙◌, ap, sym}
+use Rattle.std.proofs.Common.{◌∙◌, sym}
 use Rattle.std.specs.Map.{keys_of}
 use Rattle.at_model.specs.Classes.{chain}
-use Rattle.at_rules.specs.Dispatch.{key_at}
 use Rattle.at_rules.proofs.Dispatching.{found_earliest}
 use Rattle.at_rules.proofs.rules.declared_up.Goals as goal
 

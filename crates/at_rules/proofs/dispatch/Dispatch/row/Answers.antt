@@ -1,6 +1,5 @@
-use Rattle.std.proofs.Common.{◌≡◌, ◌∙◌, ap, sym, subst, arith, length, ◌++◌, ◌∷◌, []}
 use Rattle.std.specs.Map.{keys_of}
-use Rattle.at_rules.specs.Dispatch.{cell_view, found_up, IsRight}
+use Rattle.at_rules.specs.Dispatch.{found_up}
 use Rattle.at_rules.proofs.Dispatching.{pushed}
 use Rattle.at_rules.proofs.dispatch.Dispatch.row.Goals as goal
 
