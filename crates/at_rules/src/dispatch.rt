@@ -4,8 +4,8 @@ use at_class::{ClassId, ClassTable};
 use indexmap::IndexMap;
 use std::alloc::{AllocError, Global};
 
-/// No table has more cells than this: 1,000 classes with 2,000 attributes fit.
-const MAX_CELLS: usize = 2_000_000;
+/// A table has at most so many cells for each class, key and number, so that its memory is linear in what the declarations give.
+const MAX_CELLS_FOR_EACH: usize = 64;
 
 /// A position or none, in four bytes: 0 stands for none.
 #[derive(Clone, Copy)]
@@ -70,7 +70,7 @@ impl Dispatch {
     ghost use Rattle.at_rules.specs.Dispatch.{above_in, cell_at, cell_view, found_up, AreRight, IsRight};
 
     /// The table of the positions of keys, which are classes with numbers below the width. Rows are missing where memory is wanting,
-    /// and where the table would have more than `MAX_CELLS`.
+    /// and all of them where there is no key or the table would be too large.
     pub fn new<V>(
         alloc: Global,
         classes: &ClassTable,
@@ -82,7 +82,7 @@ impl Dispatch {
         ensures sound { AreSound classes.now }
         ensures hierarchy { IsHierarchy classes.now }
     {
-        if classes.len().saturating_mul(width) > MAX_CELLS {
+        if !is_affordable(classes.len(), keys.len(), width) {
             return Dispatch::empty(alloc);
         }
         match Dispatch::filled(alloc, classes, keys, width, precedence) {
@@ -258,6 +258,15 @@ impl Dispatch {
 ghost use Rattle.std.specs.Prelude.{◌≡◌, IfSome, Some};
 ghost use Rattle.at_rules.specs.Dispatch.{cell_view};
 ghost use Rattle.at_rules.specs.Upward.{earlier};
+
+/// Whether a table over so many classes, keys and numbers has few enough cells.
+fn is_affordable(classes: usize, keys: usize, width: usize) -> bool {
+    let most = classes
+        .saturating_add(keys)
+        .saturating_add(width)
+        .saturating_mul(MAX_CELLS_FOR_EACH);
+    keys > 0 && classes.saturating_mul(width) <= most
+}
 
 /// The cell that holds the position; `None` where it is too great for one.
 fn holding(position: usize) -> Option<Cell>
