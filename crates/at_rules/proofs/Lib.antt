@@ -1,3 +1,5 @@
+mod Dispatching
+mod Holding
 mod Lookups
 mod Numbers
 pub mod Earlier

@@ -2,7 +2,8 @@
 //! stands for a node.
 //!
 //! **Its specs:** `RulesView` is what rules are in the words of `at_model`, `Bodies` what a body is; `Upward` which
-//! attribute a class has; `Marks` gives expressions back from lists, so that they may be told apart.
+//! attribute a class has; `Dispatch`, `Holding` and `Tables` what the tables hold that spare climbing; `Marks` gives
+//! expressions back from lists, so that they may be told apart.
 //!
 //! **Where to begin:** `rules.rt` has the look-ups. It is all that evaluation needs, so nothing above it waits for
 //! the checks of declarations (`at_kinds`, `at_complete`, `at_typing`).
@@ -12,6 +13,8 @@
 
 mod attribute;
 mod body;
+mod dispatch;
+mod holders;
 mod rules;
 
 pub use attribute::AttrId;

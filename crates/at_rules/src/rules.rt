@@ -2,6 +2,8 @@
 
 use crate::attribute::AttrId;
 use crate::body::{Body, Kind};
+use crate::dispatch::{Dispatch, Precedence, earlier};
+use crate::holders::Holders;
 use at_class::{ClassId, ClassTable};
 use indexmap::{IndexMap, IndexSet};
 use std::alloc::Global;
@@ -55,6 +57,10 @@ pub struct Rules {
     classes: ClassTable,
     names: IndexSet<String>,
     equations: Equations,
+    // By class and attribute the position of the body, and by class and name that of the attribute.
+    bodies: Dispatch,
+    declared: Dispatch,
+    holders: Holders,
 }
 
 /// One call, where each exit that lets it go would else have a case for each collection.
@@ -64,6 +70,9 @@ impl Drop for Rules {
             classes: _,
             names: _,
             equations: _,
+            bodies: _,
+            declared: _,
+            holders: _,
         } = self;
     }
 }
@@ -81,6 +90,11 @@ impl Model for Rules {
     ghost use Rattle.at_rules.specs.RulesView.{attribute_view, own_view, inherited_view, named};
 
     ghost view = { λ r. record { classes = r.classes; attributes = map (attribute_view r.names.keys) r.equations.attributes.entries; own = map own_view r.equations.own.entries; inherited = map (inherited_view r.names.keys) (named r.names.keys r.equations.inherited.entries) } };
+
+    ghost use Rattle.std.specs.Map.{keys_of};
+    ghost use Rattle.at_rules.specs.Tables.{AreTables};
+
+    ghost invariant = { λ r. AreTables r.classes r.equations r.bodies r.declared r.holders };
 }
 
 impl Rules {
@@ -92,17 +106,40 @@ impl Rules {
     ghost use Rattle.at_rules.specs.Upward.{result_of};
 
     /// The rules of these attributes and equations over the classes, where these are the names by their
-    /// numbers.
-    pub fn new(classes: ClassTable, names: IndexSet<String>, equations: Equations) -> Rules
+    /// numbers. Where memory is wanting for the tables of what is found upward, look-ups climb.
+    pub fn new(
+        alloc: Global,
+        classes: ClassTable,
+        names: IndexSet<String>,
+        equations: Equations,
+    ) -> Rules
         ensures classes { result.classes ≡ classes }
         ensures attributes { result.attributes ≡ map (attribute_view names.keys) equations.attributes.entries }
         ensures own { result.own ≡ map own_view equations.own.entries }
         ensures inherited { result.inherited ≡ map (inherited_view names.keys) (named names.keys equations.inherited.entries) }
     {
+        let bodies = Dispatch::new(
+            alloc,
+            &classes,
+            &equations.own,
+            equations.attributes.len(),
+            Precedence::Nearest,
+        );
+        let declared = Dispatch::new(
+            alloc,
+            &classes,
+            &equations.attributes,
+            names.len(),
+            Precedence::Earliest,
+        );
+        let holders = Holders::of(alloc, &classes, &equations.inherited, names.len());
         Rules {
             classes,
             names,
             equations,
+            bodies,
+            declared,
+            holders,
         }
     }
 
@@ -127,7 +164,13 @@ impl Rules {
         ensures named { (name.now ≡ [] → ⊥) → result ≡ attribute_named self.now class name.now }
     {
         let name = number_named(&self.names, name)?;
-        let position = declared_above(&self.classes, &self.equations.attributes, class, name)?;
+        let position = declared_up(
+            &self.declared,
+            &self.classes,
+            &self.equations.attributes,
+            class,
+            name,
+        )?;
         Some(AttrId::new(position))
     }
 
@@ -197,6 +240,16 @@ impl Rules {
     pub fn own_body(&self, class: ClassId, attribute: AttrId) -> Option<&Body>
         ensures { option_map (λ b. body_view b.now) result ≡ own_equation self.now class attribute }
     {
+        match self.bodies.cell(class, attribute.index()) {
+            Some(cell) => body_at(&self.equations.own, cell.position()),
+            None => self.own_above(class, attribute),
+        }
+    }
+
+    /// The same, where the table says nothing.
+    fn own_above(&self, class: ClassId, attribute: AttrId) -> Option<&Body>
+        ensures { option_map (λ b. body_view b.now) result ≡ own_equation self.now class attribute }
+    {
         let mut next = Some(class);
         for step in 0..self.classes.len() {
             let Some(class) = next else { return None };
@@ -221,17 +274,27 @@ impl Rules {
         ensures { option_map (λ b. body_view b.now) result ≡ inherited_equation self.now class part (attribute_name self.now attribute) }
     {
         let name = name_number(&self.names, &self.equations.attributes, attribute)?;
-        inherited_above(&self.classes, &self.equations.inherited, class, part, name)
+        inherited_up(
+            &self.holders,
+            &self.classes,
+            &self.equations.inherited,
+            class,
+            part,
+            name,
+        )
     }
 }
 
-ghost use Rattle.std.specs.Prelude.{◌≡◌, ◌<◌, length, option_map, IfNone, IfSome};
+ghost use Rattle.std.specs.Prelude.{◌≡◌, ◌<◌, length, option_map, option_and_then, IfNone, IfSome};
 ghost use Rattle.std.specs.List.{IsDistinct};
 ghost use Rattle.std.specs.String.{string_eq};
 ghost use Rattle.at_model.specs.Classes.{chain};
 ghost use Rattle.at_model.specs.Rules.{first_answer};
 ghost use Rattle.at_rules.specs.Bodies.{body_view};
 ghost use Rattle.at_rules.specs.RulesView.{text_of, name_in, numbered_in, LacksText};
+ghost use Rattle.at_rules.specs.declared.dispatch.Precedence.TheVariants.{Earliest};
+ghost use Rattle.at_rules.specs.Dispatch.{body_at, found_up, AreRight};
+ghost use Rattle.at_rules.specs.Holding.{AreHolders};
 ghost use Rattle.at_rules.specs.Upward.{earlier, declared_in};
 ghost use Rattle.std.specs.Map.{keys_of};
 ghost use Rattle.std.specs.Prelude.{position, is_some, string_bytes, bytes_eq};
@@ -247,6 +310,34 @@ fn number_named(names: &IndexSet<String>, name: &str) -> Option<usize>
         return None;
     }
     names.get_index_of(name)
+}
+
+/// The body at the position, if there is one.
+fn body_at(own: &IndexMap<(usize, usize), Body>, position: Option<usize>) -> Option<&Body>
+    ensures { option_map (λ b. body_view b.now) result ≡ option_and_then (body_at own.now.entries) position }
+{
+    match own.get_index(position?) {
+        Some((_, body)) => Some(body),
+        None => None,
+    }
+}
+
+/// The position of the first attribute of the name of that number that the class or one above it declares: by the
+/// table, or by climbing where it says nothing.
+fn declared_up(
+    table: &Dispatch,
+    classes: &ClassTable,
+    attributes: &IndexMap<(usize, usize), Attribute>,
+    class: ClassId,
+    name: usize,
+) -> Option<usize>
+    requires { AreRight (found_up Earliest (keys_of attributes.now.entries) classes.now) table.now.rows.items }
+    ensures { result ≡ declared_in (keys_of attributes.now.entries) name (chain classes.now class) }
+{
+    match table.cell(class, name) {
+        Some(cell) => cell.position(),
+        None => declared_above(classes, attributes, class, name),
+    }
 }
 
 /// The position of the first attribute of the name of that number that the class or one above it declares.
@@ -266,15 +357,6 @@ fn declared_above(
         next = classes.parent(class);
     }
     found
-}
-
-/// The lesser of two positions, where they are.
-fn earlier(found: Option<usize>, other: Option<usize>) -> Option<usize>
-    ensures { result ≡ earlier found other }
-{
-    let Some(i) = found else { return other };
-    let Some(j) = other else { return found };
-    Some(i.min(j))
 }
 
 /// The number of the attribute's name. A number that no attribute has stands for the name without characters.
@@ -297,7 +379,29 @@ fn name_number(
 }
 
 /// The body of the equation for the name of that number and a component: in the first class upward that has
-/// one, the one for the component before the one for each.
+/// one, the one for the component before the one for each. The way up begins at the first class that has an
+/// equation for the name, where that is known.
+fn inherited_up<'a>(
+    holders: &Holders,
+    classes: &ClassTable,
+    inherited: &'a IndexMap<(usize, Option<usize>, usize), Body>,
+    class: ClassId,
+    part: usize,
+    name: usize,
+) -> Option<&'a Body>
+    requires { AreHolders classes.now inherited.now.entries holders.now.held.entries holders.now.table.rows.items }
+    ensures { option_map (λ b. body_view b.now) result ≡ first_answer (numbered_in inherited.now.entries name part) (chain classes.now class) }
+{
+    match holders.cell(class, name) {
+        Some(cell) => {
+            let holder = holders.class_at(cell)?;
+            inherited_above(classes, inherited, holder, part, name)
+        }
+        None => inherited_above(classes, inherited, class, part, name),
+    }
+}
+
+/// The same, by climbing from the class.
 fn inherited_above<'a>(
     classes: &ClassTable,
     inherited: &'a IndexMap<(usize, Option<usize>, usize), Body>,

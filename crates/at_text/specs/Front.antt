@@ -1,6 +1,6 @@
 -- What stands at the front of a text, for the functions that step over it.
-use Rattle.std.specs.Prelude.{◌≡◌, ℕ, ◌<◌, List, [], ◌∷◌, ◌++◌, get_or, Bool, true, false, ◌&&◌, ◌==◌, not, Option, IsUtf8, encode_utf8_all, ◌⊎◌}
-use Rattle.std.specs.List.{flat_map}
+use Rattle.std.specs.Prelude.{◌≡◌, ℕ, ◌<◌, List, [], ◌∷◌, ◌++◌, get_or, Bool, true, false, ◌&&◌, ◌==◌, not, Option, IsUtf8, codes, nat_eq, encode_utf8_all, ◌⊎◌}
+use Rattle.std.specs.List.{flat_map, list_any}
 use Rattle.std.specs.Char.{is_ascii_digit}
 use Rattle.at_model.specs.Names.{continues_name}
 use Rattle.at_model.specs.Texts.{escaped}
@@ -48,6 +48,22 @@ EndsSign text rest = (sign : List ℕ) × (text ≡ sign ++ rest) × IsLongestSi
 
 abbrev pub BeginsNoSign : List ℕ → Type 0
 BeginsNoSign text = (sign rest : List ℕ) → is_sign sign ≡ true → text ≡ sign ++ rest → ⊥
+
+-- the signs of more than one character, in the order of all signs
+abbrev pub long_signs : List (List ℕ)
+long_signs = codes "::=" ∷ codes "==" ∷ codes "!=" ∷ codes "<=" ∷ codes ">=" ∷ codes "&&" ∷ codes "||" ∷ []
+
+-- a colon, an equals sign, an ampersand or a bar: what stands in the second place of one of these
+abbrev pub is_second : ℕ → Bool
+is_second b = list_any (nat_eq b) (codes ":=&|")
+
+-- a character that is a sign
+abbrev pub is_short_sign : ℕ → Bool
+is_short_sign c = list_any (nat_eq c) (codes ":;*[]<>/.(){},=!-+%?")
+
+-- the rest follows the first sign of more than one character that fits
+abbrev pub EndsLong : List ℕ → List ℕ → Type 0
+EndsLong text rest = (k : ℕ) × (k < 7) × FitsNone long_signs k text × (text ≡ get_or long_signs k [] ++ rest) × IsUtf8 rest
 
 -- what stands between quotes goes on with neither a closing quote nor a character that is meant
 abbrev pub BreaksQuoted : List ℕ → Break → Type 0

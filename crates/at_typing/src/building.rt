@@ -61,7 +61,7 @@ fn complete_rules(
     ensures classes { IfOk result (λ r. r.classes ≡ classes) }
 {
     let Declarations { items, names } = declared;
-    let rules = Rules::new(classes, names, meant);
+    let rules = Rules::new(alloc, classes, names, meant);
     refuse_incomplete(alloc, &rules, &items)?;
     Ok(rules)
 }

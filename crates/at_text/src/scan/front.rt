@@ -3,7 +3,7 @@
 ghost use Rattle.std.specs.Prelude.{◌≡◌, ◌≢◌, ◌<◌, ℕ, List, ◌∷◌, ◌++◌, [], get_or, map, MatchOption, MatchResult, length, IsUtf8};
 ghost use Rattle.at_text.specs.Pieces.{is_blank, HasNoEnd};
 ghost use Rattle.at_text.specs.Faults.{makes_escape, is_misplaced};
-ghost use Rattle.at_text.specs.Front.{takes, stands_for_itself, EndsRun, EndsComment, Means, MeansNone, BreaksQuoted, FitsNone, EndsSign, BeginsNoSign, IsFound, BreaksSign, BreaksPiece};
+ghost use Rattle.at_text.specs.Front.{takes, stands_for_itself, EndsRun, EndsComment, Means, MeansNone, BreaksQuoted, FitsNone, EndsSign, BeginsNoSign, EndsLong, long_signs, is_second, is_short_sign, IsFound, BreaksSign, BreaksPiece};
 
 use crate::names::{continues_name, starts_name};
 use crate::token::TokenKind;
@@ -26,11 +26,8 @@ enum Run {
     Line,
 }
 
-/// The signs, the longer ones first.
-const SIGNS: [&str; 27] = [
-    "::=", "==", "!=", "<=", ">=", "&&", "||", ":", ";", "*", "[", "]", "<", ">", "/", ".", "(",
-    ")", "{", "}", ",", "=", "!", "-", "+", "%", "?",
-];
+/// The signs of more than one character, the longer ones first.
+const LONG_SIGNS: [&str; 7] = ["::=", "==", "!=", "<=", ">=", "&&", "||"];
 
 fn is_blank(c: char) -> bool
     ensures { result ≡ is_blank c }
@@ -153,11 +150,67 @@ fn past_first<'a>(text: &'a str, fronts: &[&str]) -> Option<&'a str>
     None
 }
 
+/// Whether a sign of more than one character may have that byte in its second place.
+fn is_second(byte: u8) -> bool
+    ensures { result ≡ is_second byte }
+{
+    byte == b':' || byte == b'=' || byte == b'&' || byte == b'|'
+}
+
+/// What follows the longest sign of more than one character at the front.
+fn past_long_sign(text: &str) -> Option<&str>
+    ensures { MatchOption result (FitsNone long_signs 7 text.now) (λ after. EndsLong text.now after.now) }
+{
+    let bytes = text.as_bytes();
+    if bytes.len() < 2 {
+        return None;
+    }
+    if !is_second(bytes[1]) {
+        return None;
+    }
+    past_first(text, &LONG_SIGNS)
+}
+
+/// Whether the character is a sign.
+fn is_short_sign(c: char) -> bool
+    ensures { result ≡ is_short_sign c }
+{
+    c == ':'
+        || c == ';'
+        || c == '*'
+        || c == '['
+        || c == ']'
+        || c == '<'
+        || c == '>'
+        || c == '/'
+        || c == '.'
+        || c == '('
+        || c == ')'
+        || c == '{'
+        || c == '}'
+        || c == ','
+        || c == '='
+        || c == '!'
+        || c == '-'
+        || c == '+'
+        || c == '%'
+        || c == '?'
+}
+
 /// What follows the longest sign at the front.
 fn past_sign(text: &str) -> Option<&str>
     ensures { MatchOption result (BeginsNoSign text.now) (λ after. EndsSign text.now after.now) }
 {
-    past_first(text, &SIGNS)
+    if let Some(after) = past_long_sign(text) {
+        return Some(after);
+    }
+    let mut chars = text.chars();
+    let first = chars.next()?;
+    if is_short_sign(first) {
+        Some(chars.as_str())
+    } else {
+        None
+    }
 }
 
 /// What follows the comment or the sign at the front, and what kind of token it is, if it is one.

@@ -20,7 +20,7 @@ returns-in_err-position-clause-named c = λ some.
     let classes = c.self.inside.classes in
     c.from_residual-in_err-position.ensures
     ∙ sym c.in_err-position.was
-    ∙ c.declared_above.ensures
+    ∙ c.declared_up.ensures
     ∙ declared_by_name names c.number_named.ensures.distinct c.args.name.now some c.in_ok-name.name (sym c.in_ok-name.ensures.index) es (chain classes c.args.class)
     ∙ ap (λ (r : Rules). attribute_named r c.args.class c.args.name.now) c.self.view_is
 
@@ -31,6 +31,6 @@ returns-clause-named c = λ some.
     let classes = c.self.inside.classes in
     ap Some c.new.ensures
     ∙ sym c.in_ok-position.was
-    ∙ c.declared_above.ensures
+    ∙ c.declared_up.ensures
     ∙ declared_by_name names c.number_named.ensures.distinct c.args.name.now some c.in_ok-name.name (sym c.in_ok-name.ensures.index) es (chain classes c.args.class)
     ∙ ap (λ (r : Rules). attribute_named r c.args.class c.args.name.now) c.self.view_is

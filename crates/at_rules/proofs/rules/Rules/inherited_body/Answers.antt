@@ -21,7 +21,7 @@ returns c =
     let rules = c.args.self.now in
     let n = c.in_ok-name.name in
     let found = c.in_ok-name.ensures.found in
-    c.inherited_above.ensures
+    c.inherited_up.ensures
     ∙ ap (λ (r : Rules). first_answer (numbered_in es n c.args.part) (chain r.classes c.args.class)) c.self.view_is
     ∙ equation_numbered names c.name_number.ensures.distinct es rules (ap (λ (r : Rules). r.inherited) c.self.view_is) n found.0 c.args.part c.args.class
     ∙ ap (inherited_equation rules c.args.class c.args.part) (found.1 ∙ name_seen names c.self.inside.equations.attributes.entries c.args.attribute ∙ ap (λ (r : Rules). attribute_name r c.args.attribute) c.self.view_is)

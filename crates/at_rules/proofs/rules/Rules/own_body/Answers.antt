@@ -1,44 +1,18 @@
-use Rattle.std.proofs.Common.{◌∙◌, ◌-◌, ◌+◌, ap, sym, arith, length}
-use Rattle.at_model.specs.Classes.{chain, chain_within, parent_of}
-use Rattle.at_model.specs.Rules.{Rules, first_answer, own_in}
-use Rattle.at_rules.proofs.Lookups.{answer_here, answer_above, no_answer, answer_ends}
+use Rattle.std.proofs.Common.{◌∙◌, ap, sym, subst}
+use Rattle.std.specs.Prelude.{option_and_then}
+use Rattle.std.specs.Map.{keys_of}
+use Rattle.at_model.specs.Rules.{Rules}
+use Rattle.at_rules.specs.declared.dispatch.Precedence.TheVariants.{Nearest}
+use Rattle.at_rules.specs.Dispatch.{body_at, cell_at, found_up, AreRight}
+use Rattle.at_rules.proofs.Dispatching.{own_right}
 use Rattle.at_rules.proofs.rules.Rules.own_body.Goals as goal
 
-pub returns-in_default : goal.returns-in_default
-unfolding chain
-returns-in_default c =
-    let f = own_in c.args.self.now c.args.attribute in
-    let classes = c.args.self.now.classes in
-    let n = length classes - c.loop-step.step in
-    sym (c.loop-step.invariant ∙ ap (λ o. first_answer f (chain_within n classes o)) c.in_default.is ∙ no_answer f classes n)
-
-pub returns-in-Some-own_in : goal.returns-in-Some-own_in
-unfolding chain
-returns-in-Some-own_in c =
-    let f = own_in c.args.self.now c.args.attribute in
-    let classes = c.args.self.now.classes in
-    let n = length classes in
-    let same = ap (λ (r : Rules). length r.classes) c.self.view_is in
-    let i = c.loop-step.step in
-    sym (c.loop-step.invariant ∙ ap (λ o. first_answer f (chain_within (n - i) classes o)) c.in-Some.is ∙ answer_here f classes n i c.in-Some.class _ (omega (arith, same)) (sym c.in-Some-own_in.ensures))
-
-pub loop-step-preserved : goal.loop-step-preserved
-loop-step-preserved c =
-    let f = own_in c.args.self.now c.args.attribute in
-    let classes = c.args.self.now.classes in
-    let n = length classes in
-    let same = ap (λ (r : Rules). length r.classes) c.self.view_is in
-    let i = c.loop-step.step in
-    c.loop-step.invariant
-    ∙ ap (λ o. first_answer f (chain_within (n - i) classes o)) c.in-Some.is
-    ∙ answer_above f classes n i c.in-Some.class (omega (arith, same)) (sym c.in_default-own_in.ensures)
-    ∙ ap (λ (r : Rules). first_answer f (chain_within (n - (i + 1)) classes (parent_of r.classes c.in-Some.class))) (sym c.self.view_is)
-    ∙ ap (λ o. first_answer f (chain_within (n - (i + 1)) classes o)) (sym c.parent-next.ensures.found)
-
-pub returns : goal.returns
-unfolding chain
-returns c =
-    let f = own_in c.args.self.now c.args.attribute in
-    let classes = c.args.self.now.classes in
-    let same = ap (λ (r : Rules). length r.classes) c.self.view_is in
-    sym (c.loop-step.invariant ∙ answer_ends f classes (length classes) c.loop-step.step c.loop-step.next (omega (arith, same)))
+pub returns-in-Some : goal.returns-in-Some
+returns-in-Some c =
+    let es = c.self.inside.equations.own.entries in
+    let rows = c.self.inside.bodies.rows.items in
+    let right = subst (λ classes. AreRight (found_up Nearest (keys_of es) classes) rows) (ap (λ (r : Rules). r.classes) c.self.view_is) c.self.invariant.of_bodies in
+    let there = ap (λ i. cell_at rows c.args.class i) (sym c.index.ensures) ∙ sym c.cell.ensures ∙ c.in-Some.is in
+    c.body_at.ensures
+    ∙ ap (option_and_then (body_at es)) c.position.ensures
+    ∙ own_right es c.args.self.now (ap (λ (r : Rules). r.own) c.self.view_is) rows right c.args.class c.args.attribute c.in-Some.cell there
