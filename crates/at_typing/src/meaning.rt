@@ -485,7 +485,7 @@ fn is_known(declared: &WrittenKind, kind: &Kind) -> bool
 {
     match declared {
         WrittenKind::Known(declared) => is_same(declared, kind),
-        WrittenKind::Strange => false,
+        WrittenKind::Strange(_) => false,
     }
 }
 

@@ -1,11 +1,11 @@
 //! What is written of attributes.
 
-ghost use Rattle.std.specs.Prelude.{◌≡◌, ◌++◌, All, map, IfOk, OnOk};
+ghost use Rattle.std.specs.Prelude.{◌≡◌, ◌++◌, All, None, map, position, IfOk, OnOk};
 ghost use Rattle.at_jrag.specs.View.{kind_view as kind_form_view, kind_word_view, param_view};
 ghost use Rattle.at_typing.specs.Numbering.{IsOfItsClass, known_class as known_class_of, numbered_view};
 ghost use Rattle.at_typing.specs.Declaring.{result_in};
-ghost use Rattle.at_typing.specs.Meanings.{signature, signature_if, signatures};
-ghost use Rattle.at_typing.specs.Ruling.{known_kind, as_written, written_kind};
+ghost use Rattle.at_typing.specs.Meanings.{results, signature, signature_if, signatures, words_of};
+ghost use Rattle.at_typing.specs.Ruling.{known_kind, as_written, first_named, names_class, written_kind};
 ghost use Rattle.at_kinds.specs.Signatures.{declared_view};
 
 use crate::located::{is_inherited, is_lazy, name_word, params_in, result_in};
@@ -13,7 +13,7 @@ use crate::numbered::{NamedClass, Numbered};
 use at_class::{ClassId, ClassTable};
 use at_jrag::{Kind as KindForm, KindWord, Param};
 use at_kinds::signatures::{Signature, Signatures, WrittenKind};
-use at_rules::Kind;
+use at_rules::{AttrId, Kind};
 use std::alloc::{AllocError, Global};
 
 /// All attributes that are declared, in order, or want of memory.
@@ -25,45 +25,75 @@ pub fn signatures_of(
     requires { All (IsOfItsClass classes.now) declared.now }
     ensures { IfOk result (λ s. s ≡ signatures classes.now (map numbered_view declared.now)) }
 {
+    let words = results_of(alloc, declared)?;
     let mut signatures = Signatures::new(alloc);
     for numbered in declared {
-        append_signature(alloc, classes, numbered, &mut signatures)?;
+        append_signature(alloc, classes, &words, numbered, &mut signatures)?;
     }
     Ok(signatures)
+}
+
+/// The words with which the values of attributes are declared, in order, or want of memory.
+fn results_of<'a>(
+    alloc: Global,
+    declared: &[Numbered<'a>],
+) -> Result<Vec<&'a KindWord>, AllocError>
+    ensures { IfOk result (λ words. map (λ w. kind_word_view w.now) words.items ≡ results (map numbered_view declared.now)) }
+{
+    let mut words = Vec::new(alloc);
+    for numbered in declared {
+        append_result(numbered, &mut words)?;
+    }
+    Ok(words)
+}
+
+/// Appends the word with which the attribute's values are declared, if the declaration declares one.
+fn append_result<'a>(
+    numbered: &Numbered<'a>,
+    words: &mut Vec<&'a KindWord>,
+) -> Result<(), AllocError>
+    ensures { OnOk result (map (λ w. kind_word_view w.now) words.new.items ≡ map (λ w. kind_word_view w.now) words.old.items ++ words_of (result_in (numbered_view numbered.now).decl.form)) }
+{
+    let Some(word) = result_in(&numbered.decl.form) else {
+        return Ok(());
+    };
+    words.push(word)
 }
 
 /// Appends what is declared of the attribute, if the declaration declares one.
 fn append_signature(
     alloc: Global,
     classes: &ClassTable,
+    words: &[&KindWord],
     numbered: &Numbered,
     signatures: &mut Signatures,
 ) -> Result<(), AllocError>
     requires { IsOfItsClass classes.now numbered.now }
-    ensures { OnOk result (signatures.new ≡ signatures.old ++ signature_if classes.now (numbered_view numbered.now) (result_in (numbered_view numbered.now).decl.form)) }
+    ensures { OnOk result (signatures.new ≡ signatures.old ++ signature_if classes.now (map (λ w. kind_word_view w.now) words.now) (numbered_view numbered.now) (result_in (numbered_view numbered.now).decl.form)) }
 {
     let Some(kind) = result_in(&numbered.decl.form) else {
         return Ok(());
     };
-    signatures.push(signature_of(alloc, classes, numbered, kind)?)
+    signatures.push(signature_of(alloc, classes, words, numbered, kind)?)
 }
 
 /// What is declared of the attribute, whose kind is written so.
 fn signature_of(
     alloc: Global,
     classes: &ClassTable,
+    words: &[&KindWord],
     numbered: &Numbered,
     kind: &KindWord,
 ) -> Result<Signature, AllocError>
     requires { IsOfItsClass classes.now numbered.now }
-    ensures { IfOk result (λ s. declared_view s ≡ signature classes.now (numbered_view numbered.now) (kind_word_view kind.now)) }
+    ensures { IfOk result (λ s. declared_view s ≡ signature classes.now (map (λ w. kind_word_view w.now) words.now) (numbered_view numbered.now) (kind_word_view kind.now)) }
 {
     let form = &numbered.decl.form;
     Ok(Signature {
         name: String::from_str(alloc, name_word(form).text.as_str())?,
         class: known_class(numbered.class),
-        params: kinds_of(alloc, classes, &params_in(form).items)?,
-        result: as_written(known_kind(classes, &kind.kind)),
+        params: kinds_of(alloc, classes, words, &params_in(form).items)?,
+        result: written_kind(classes, words, &kind.kind),
         lazy: is_lazy(form),
         inherited: is_inherited(form),
     })
@@ -81,14 +111,15 @@ fn known_class(class: NamedClass) -> Option<ClassId>
 fn kinds_of(
     alloc: Global,
     classes: &ClassTable,
+    words: &[&KindWord],
     params: &[Param],
 ) -> Result<Vec<WrittenKind>, AllocError>
-    ensures { IfOk result (λ kinds. kinds.items ≡ map (λ p. written_kind classes.now p.kind) (map param_view params.now)) }
+    ensures { IfOk result (λ kinds. kinds.items ≡ map (λ p. written_kind classes.now (map (λ w. kind_word_view w.now) words.now) p.kind.kind) (map param_view params.now)) }
 {
     let mut kinds = Vec::new(alloc);
     for param in params {
-        let kind: Option<Kind> = known_kind(classes, &param.kind.kind);
-        kinds.push(as_written(kind))?;
+        let kind: WrittenKind = written_kind(classes, words, &param.kind.kind);
+        kinds.push(kind)?;
     }
     Ok(kinds)
 }
@@ -105,12 +136,51 @@ pub fn known_kind(classes: &ClassTable, kind: &KindForm) -> Option<Kind>
     }
 }
 
-/// A kind as it is written: nothing known is a strange one.
+/// The kind that is written; of a class that isn't there the first attribute with such values tells which one it is.
+fn written_kind(classes: &ClassTable, words: &[&KindWord], kind: &KindForm) -> WrittenKind
+    ensures { result ≡ written_kind classes.now (map (λ w. kind_word_view w.now) words.now) (kind_form_view kind.now) }
+{
+    match known_kind(classes, kind) {
+        Some(kind) => WrittenKind::Known(kind),
+        None => WrittenKind::Strange(first_named(words, kind)),
+    }
+}
+
+/// The first of the words that is of the same class, if that one is a class.
+fn first_named(words: &[&KindWord], kind: &KindForm) -> Option<AttrId>
+    ensures { result ≡ first_named (map (λ w. kind_word_view w.now) words.now) (kind_form_view kind.now) }
+{
+    match kind {
+        KindForm::Class(name) => Some(AttrId::new(position_named(words, name.as_str())?)),
+        KindForm::Int | KindForm::Bool | KindForm::Text => None,
+    }
+}
+
+fn position_named(words: &[&KindWord], name: &str) -> Option<usize>
+    ensures { result ≡ position (λ w. names_class name.now (kind_word_view w.now).kind) words.now }
+{
+    words.iter().position(
+        |word| -> bool ensures { result ≡ names_class name.now (kind_word_view word.now.now).kind } {
+            names_class(&word.kind, name)
+        },
+    )
+}
+
+fn names_class(kind: &KindForm, name: &str) -> bool
+    ensures { result ≡ names_class name.now (kind_form_view kind.now) }
+{
+    match kind {
+        KindForm::Class(word) => word.as_str() == name,
+        KindForm::Int | KindForm::Bool | KindForm::Text => false,
+    }
+}
+
+/// The kind that is written, by itself: what isn't known is a class of its own.
 pub fn as_written(kind: Option<Kind>) -> WrittenKind
-    ensures { result ≡ as_written kind }
+    ensures { result ≡ as_written None kind }
 {
     match kind {
         Some(kind) => WrittenKind::Known(kind),
-        None => WrittenKind::Strange,
+        None => WrittenKind::Strange(None),
     }
 }
