@@ -1,5 +1,5 @@
 -- The kinds of expressions. A class kind has null and the nodes of the class and of every class below.
-use Rattle.std.specs.Prelude.{ℕ, Bool, true, false, ◌&&◌, nat_eq, Option, Some, None, if◌then◌else◌}
+use Rattle.std.specs.Prelude.{ℕ, Bool, true, false, ◌&&◌, nat_eq, Option, Some, None, is_some, option_map, if◌then◌else◌}
 use Rattle.at_model.specs.Classes.{Classes, is_sub}
 use Rattle.at_rules.specs.declared.body.Kind.{Kind}
 use Rattle.at_rules.specs.declared.body.Kind.TheVariants as kind
@@ -51,15 +51,15 @@ fits_known classes k kind.Bool = is_truth k
 fits_known classes k kind.Text = is_text k
 fits_known classes k (kind.Class b) = is_within classes b k
 
--- two words for classes that aren't there are the same: the same attribute is the first with values of that kind
-abbrev pub is_same_word : Option ℕ → Option ℕ → Bool
-is_same_word None second = false
-is_same_word (Some a) None = false
-is_same_word (Some a) (Some b) = nat_eq a b
+-- where two are one class that isn't there: the same attribute is the first with values of that kind
+abbrev pub common_word : Option ℕ → Option ℕ → Option ℕ
+common_word None second = None
+common_word (Some a) None = None
+common_word (Some a) (Some b) = if nat_eq a b then Some a else None
 
 -- null, or nodes of that class which isn't there
 abbrev pub is_of_word : Option ℕ → ExprKind → Bool
-is_of_word first (Strange second) = is_same_word first second
+is_of_word first (Strange second) = is_some (common_word first second)
 is_of_word first Null = true
 is_of_word first k = false
 
@@ -82,7 +82,7 @@ wider_class classes c k = None
 
 abbrev pub wider_strange : Option ℕ → ExprKind → Option ExprKind
 wider_strange first Null = Some (Strange first)
-wider_strange first (Strange second) = only_if (is_same_word first second) (Strange second)
+wider_strange first (Strange second) = option_map (λ word. Strange (Some word)) (common_word first second)
 wider_strange first k = None
 
 -- the wider of two kinds that are equal, or of which one has all values of the other

@@ -1,6 +1,6 @@
 -- Inherited attributes of one name have the same kinds, where none is declared twice.
 use Rattle.std.proofs.Common.{◌≡◌, ℕ, zero, suc, ◌<◌, ◌⊎◌, inl, inr, Bool, true, false, ◌&&◌, ◌||◌, not, List, [], ◌∷◌, take, Option, Some, None, refl, sym, ap, ap₂, ◌∙◌, subst, true≢false, arith}
-use Rattle.std.specs.Prelude.{cond}
+use Rattle.std.specs.Prelude.{cond, is_some}
 use Rattle.std.specs.List.{slice_get, list_any, AllZip, filter}
 use Rattle.std.specs.Str.{bytes_eq}
 use Rattle.std.proofs.lemmas.Bool.{cases_order}
@@ -16,7 +16,7 @@ use Rattle.at_jrag.specs.Syntax.{KindWord, Param, DeclForm}
 use Rattle.at_jrag.specs.Syntax as written
 use Rattle.at_typing.specs.Declaring.{attributes, is_attribute, is_inherited, result_in, params_in, name_text, class_text, is_same_kind, have_same_kinds, has_same_result, has_same_signature, differs, is_on_one_line, clashes, declared_twice}
 use Rattle.at_typing.specs.Located.{Located}
-use Rattle.at_typing.specs.Ruling.{first_named, known_kind, as_written, written_kind}
+use Rattle.at_typing.specs.Ruling.{first_unless, known_kind, as_written, written_kind}
 use Rattle.at_kinds.specs.declared.signatures.WrittenKind.{WrittenKind}
 use Rattle.at_kinds.specs.declared.signatures.WrittenKind.TheVariants.{Known, Strange}
 use Rattle.at_typing.proofs.Gathering.{no_clash}
@@ -33,13 +33,14 @@ same_known classes (written.Class v) (written.Class w) is = ap (λ name. known_k
 same_known classes v w is = absurd (true≢false (sym is))
 
 same_written : (classes : Classes) (v w : KindWord) → is_same_kind v.kind w.kind ≡ true → written_kind classes [] v.kind ≡ written_kind classes [] w.kind
-same_written classes v w is = ap₂ as_written (none_first v.kind ∙ sym (none_first w.kind)) (same_known classes v.kind w.kind is)
+same_written classes v w is = ap₂ as_written (none_first (is_some (known_kind classes v.kind)) v.kind ∙ sym (none_first (is_some (known_kind classes w.kind)) w.kind)) (same_known classes v.kind w.kind is)
   where
-    none_first : (k : written.Kind) → first_named [] k ≡ None
-    none_first written.Int = refl
-    none_first written.Bool' = refl
-    none_first written.Text = refl
-    none_first (written.Class name) = refl
+    none_first : (b : Bool) (k : written.Kind) → first_unless b [] k ≡ None
+    none_first true k = refl
+    none_first false written.Int = refl
+    none_first false written.Bool' = refl
+    none_first false written.Text = refl
+    none_first false (written.Class name) = refl
 
 same_parameters : (classes : Classes) (ps qs : List Param) → have_same_kinds ps qs ≡ true → written_kinds classes [] ps ≡ written_kinds classes [] qs
 same_parameters classes [] [] is = refl

@@ -21,7 +21,7 @@ use Rattle.at_typing.specs.Declaring.{attributes, is_attribute, is_inherited, re
 use Rattle.at_kinds.specs.Judging.{Judgement, Is, Wrong, and_then}
 use Rattle.at_typing.specs.Located.{Located, class_word}
 use Rattle.at_typing.specs.Meanings.{Meaning, attribute, attribute_with, attribute_for, attribute_meant, results, signature, signature_if, signatures, signatures_among, meant, with_body, below_class, below_component, form_meant, own_meant, inherited_meant, declared_alone, declared_with, own_alone, inherited_alone}
-use Rattle.at_typing.specs.Ruling.{known_kind, as_written, first_named, written_kind, or_unknown, class_named, kind_named, max_parameters, can_be_passed, passed_if, param_named, params_named, component_got}
+use Rattle.at_typing.specs.Ruling.{known_kind, as_written, first_unless, written_kind, or_unknown, class_named, kind_named, max_parameters, can_be_passed, passed_if, param_named, params_named, component_got}
 use Rattle.at_kinds.specs.declared.signatures.WrittenKind.{WrittenKind}
 use Rattle.at_typing.proofs.Gathering.{first_none, other_none}
 use Rattle.at_kinds.proofs.Holding.{Holds, then_holds, none_holds}
@@ -100,7 +100,7 @@ params_named_right classes i (p ∷ ps) =
     then_holds (IsPassed classes i p) (ArePassed classes i (p ∷ ps)) (λ k. and_then (λ ks. Is (k ∷ ks)) (params_named classes (i + 1) ps)) (param_named classes i p) (param_named_right classes i p) (λ k first.
     then_holds (ArePassed classes (i + 1) ps) (ArePassed classes i (p ∷ ps)) (λ ks. Is (k ∷ ks)) (params_named classes (i + 1) ps) (params_named_right classes (i + 1) ps) (λ ks rest.
     record {
-      named = λ words. (first.named.known (first_named words p.kind.kind), rest.named words);
+      named = λ words. (first.named.known (first_unless (is_some (known_kind classes p.kind.kind)) words p.kind.kind), rest.named words);
       passed = (first.passed, rest.passed);
       few = λ less. counted i (length (map kind_view ks)) max_parameters first.early rest.few;
     }))
@@ -130,7 +130,7 @@ attribute_right classes d result =
     then_holds (λ c. class_of_name classes (class_text d) ≡ Some c) (IsOfWord classes d result) (attribute_with classes d k) (class_named classes (class_word d.decl.form)) (class_named_right classes (class_word d.decl.form)) (λ c class.
     then_holds (ArePassed classes 0 (params_in d.decl.form).items) (IsOfWord classes d result) (λ params. Is (attribute d c k params)) (params_named classes 0 (params_in d.decl.form).items) (params_named_right classes 0 (params_in d.decl.form).items) (λ ks passed.
     record {
-      declared = λ words. record { class = class; parameters = passed.named words; result = named.known (first_named words result.kind) };
+      declared = λ words. record { class = class; parameters = passed.named words; result = named.known (first_unless (is_some (known_kind classes result.kind)) words result.kind) };
       typed = record { class = class_there classes (class_text d) c class; result = named.there; parameters = passed.passed; few = few_parameters (length (map kind_view ks)) (passed.few (within max_parameters)) };
       same_name = refl;
       inherits = refl;

@@ -1,11 +1,14 @@
 -- The parts of a declaration: its kinds, its class, its component and index name, its parameters; or their first fault.
-use Rattle.std.specs.Prelude.{ℕ, ◌+◌, Bool, true, false, ◌&&◌, nat_eq, nat_lt, List, [], ◌∷◌, length, codes, position, Option, Some, None, option_map, option_and_then, slice_get, if◌then◌else◌}
+use Rattle.std.specs.Prelude.{ℕ, ◌+◌, Bool, true, false, ◌&&◌, nat_eq, nat_lt, List, [], ◌∷◌, length, map, codes, position, Option, Some, None, is_some, option_map, option_and_then, slice_get, if◌then◌else◌}
+use Rattle.std.specs.Borrow.{Bor}
 use Rattle.std.specs.Str.{bytes_eq}
 use Rattle.at_model.specs.Classes.{Classes, class_of_name, parts}
 use Rattle.at_model.specs.Classes as class
 use Rattle.at_text.specs.declared.place.Place.{Place}
 use Rattle.at_jrag.specs.Syntax.{Word, KindWord, Param}
 use Rattle.at_jrag.specs.Syntax as written
+use Rattle.at_jrag.specs.View.{kind_word_view}
+use Rattle.at_jrag.specs.declared.syntax.KindWord.{KindWord as KindWordValue}
 use Rattle.at_rules.specs.declared.body.Kind.{Kind}
 use Rattle.at_rules.specs.declared.body.Kind.TheVariants as kind
 use Rattle.at_kinds.specs.Accessors.{accessed, shape_of, is_list}
@@ -27,10 +30,17 @@ abbrev pub names_class : List ℕ → written.Kind → Bool
 names_class name (written.Class word) = bytes_eq word name
 names_class name k = false
 
+abbrev pub words_view : List (Bor KindWordValue) → List KindWord
+words_view words = map (λ (w : Bor KindWordValue). kind_word_view w.now) words
+
 -- the first of the words that is of the same class
 abbrev pub first_named : List KindWord → written.Kind → Option ℕ
 first_named words (written.Class name) = position (λ w. names_class name w.kind) words
 first_named words k = None
+
+abbrev pub first_unless : (is_known : Bool) → List KindWord → written.Kind → Option ℕ
+first_unless true words k = None
+first_unless false words k = first_named words k
 
 abbrev pub as_written : (first : Option ℕ) → Option Kind → WrittenKind
 as_written first None = Strange first
@@ -39,7 +49,7 @@ as_written first (Some k) = Known k
 -- the kind that is written, where these are the words with which the values of attributes are declared: a class that isn't there
 -- is told by the first of them that is of it
 abbrev pub written_kind : Classes → (words : List KindWord) → written.Kind → WrittenKind
-written_kind classes words k = as_written (first_named words k) (known_kind classes k)
+written_kind classes words k = as_written (first_unless (is_some (known_kind classes k)) words k) (known_kind classes k)
 
 -- the parts of a declaration ------------------------------------------------------------------------------------------
 

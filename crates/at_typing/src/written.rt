@@ -1,11 +1,11 @@
 //! What is written of attributes.
 
-ghost use Rattle.std.specs.Prelude.{◌≡◌, ◌++◌, All, None, map, position, IfOk, OnOk};
+ghost use Rattle.std.specs.Prelude.{◌≡◌, ◌++◌, All, map, position, IfOk, OnOk};
 ghost use Rattle.at_jrag.specs.View.{kind_view as kind_form_view, kind_word_view, param_view};
 ghost use Rattle.at_typing.specs.Numbering.{IsOfItsClass, known_class as known_class_of, numbered_view};
 ghost use Rattle.at_typing.specs.Declaring.{result_in};
 ghost use Rattle.at_typing.specs.Meanings.{results, signature, signature_if, signatures, words_of};
-ghost use Rattle.at_typing.specs.Ruling.{known_kind, as_written, first_named, names_class, written_kind};
+ghost use Rattle.at_typing.specs.Ruling.{known_kind, as_written, first_named, first_unless, names_class, words_view, written_kind};
 ghost use Rattle.at_kinds.specs.Signatures.{declared_view};
 
 use crate::located::{is_inherited, is_lazy, name_word, params_in, result_in};
@@ -38,7 +38,7 @@ fn results_of<'a>(
     alloc: Global,
     declared: &[Numbered<'a>],
 ) -> Result<Vec<&'a KindWord>, AllocError>
-    ensures { IfOk result (λ words. map (λ w. kind_word_view w.now) words.items ≡ results (map numbered_view declared.now)) }
+    ensures { IfOk result (λ words. words_view words.items ≡ results (map numbered_view declared.now)) }
 {
     let mut words = Vec::new(alloc);
     for numbered in declared {
@@ -52,12 +52,13 @@ fn append_result<'a>(
     numbered: &Numbered<'a>,
     words: &mut Vec<&'a KindWord>,
 ) -> Result<(), AllocError>
-    ensures { OnOk result (map (λ w. kind_word_view w.now) words.new.items ≡ map (λ w. kind_word_view w.now) words.old.items ++ words_of (result_in (numbered_view numbered.now).decl.form)) }
+    ensures { OnOk result (words_view words.new.items ≡ words_view words.old.items ++ words_of (result_in (numbered_view numbered.now).decl.form)) }
 {
     let Some(word) = result_in(&numbered.decl.form) else {
         return Ok(());
     };
-    words.push(word)
+    words.push(word)?;
+    Ok(())
 }
 
 /// Appends what is declared of the attribute, if the declaration declares one.
@@ -69,7 +70,7 @@ fn append_signature(
     signatures: &mut Signatures,
 ) -> Result<(), AllocError>
     requires { IsOfItsClass classes.now numbered.now }
-    ensures { OnOk result (signatures.new ≡ signatures.old ++ signature_if classes.now (map (λ w. kind_word_view w.now) words.now) (numbered_view numbered.now) (result_in (numbered_view numbered.now).decl.form)) }
+    ensures { OnOk result (signatures.new ≡ signatures.old ++ signature_if classes.now (words_view words.now) (numbered_view numbered.now) (result_in (numbered_view numbered.now).decl.form)) }
 {
     let Some(kind) = result_in(&numbered.decl.form) else {
         return Ok(());
@@ -86,7 +87,7 @@ fn signature_of(
     kind: &KindWord,
 ) -> Result<Signature, AllocError>
     requires { IsOfItsClass classes.now numbered.now }
-    ensures { IfOk result (λ s. declared_view s ≡ signature classes.now (map (λ w. kind_word_view w.now) words.now) (numbered_view numbered.now) (kind_word_view kind.now)) }
+    ensures { IfOk result (λ s. declared_view s ≡ signature classes.now (words_view words.now) (numbered_view numbered.now) (kind_word_view kind.now)) }
 {
     let form = &numbered.decl.form;
     Ok(Signature {
@@ -114,12 +115,13 @@ fn kinds_of(
     words: &[&KindWord],
     params: &[Param],
 ) -> Result<Vec<WrittenKind>, AllocError>
-    ensures { IfOk result (λ kinds. kinds.items ≡ map (λ p. written_kind classes.now (map (λ w. kind_word_view w.now) words.now) p.kind.kind) (map param_view params.now)) }
+    ensures { IfOk result (λ kinds. kinds.items ≡ map (λ p. written_kind classes.now (words_view words.now) p.kind.kind) (map param_view params.now)) }
 {
     let mut kinds = Vec::new(alloc);
     for param in params {
-        let kind: WrittenKind = written_kind(classes, words, &param.kind.kind);
-        kinds.push(kind)?;
+        let known: Option<Kind> = known_kind(classes, &param.kind.kind);
+        let first: Option<AttrId> = first_unless(known.is_some(), words, &param.kind.kind);
+        kinds.push(as_written(first, known))?;
     }
     Ok(kinds)
 }
@@ -136,31 +138,51 @@ pub fn known_kind(classes: &ClassTable, kind: &KindForm) -> Option<Kind>
     }
 }
 
-/// The kind that is written; of a class that isn't there the first attribute with such values tells which one it is.
 fn written_kind(classes: &ClassTable, words: &[&KindWord], kind: &KindForm) -> WrittenKind
-    ensures { result ≡ written_kind classes.now (map (λ w. kind_word_view w.now) words.now) (kind_form_view kind.now) }
+    ensures { result ≡ written_kind classes.now (words_view words.now) (kind_form_view kind.now) }
 {
-    match known_kind(classes, kind) {
-        Some(kind) => WrittenKind::Known(kind),
-        None => WrittenKind::Strange(first_named(words, kind)),
+    let known = known_kind(classes, kind);
+    let first = first_unless(known.is_some(), words, kind);
+    as_written(first, known)
+}
+
+/// The first of the words that is of the same class, where it isn't there.
+fn first_unless(is_known: bool, words: &[&KindWord], kind: &KindForm) -> Option<AttrId>
+    ensures { result ≡ first_unless is_known (words_view words.now) (kind_form_view kind.now) }
+{
+    if is_known {
+        return None;
     }
+    first_named(words, kind)
 }
 
 /// The first of the words that is of the same class, if that one is a class.
 fn first_named(words: &[&KindWord], kind: &KindForm) -> Option<AttrId>
-    ensures { result ≡ first_named (map (λ w. kind_word_view w.now) words.now) (kind_form_view kind.now) }
+    ensures { result ≡ first_named (words_view words.now) (kind_form_view kind.now) }
 {
     match kind {
-        KindForm::Class(name) => Some(AttrId::new(position_named(words, name.as_str())?)),
+        KindForm::Class(name) => attribute_at(position_of(words, name.as_str())),
         KindForm::Int | KindForm::Bool | KindForm::Text => None,
     }
+}
+
+fn attribute_at(position: Option<usize>) -> Option<AttrId>
+    ensures { result ≡ position }
+{
+    Some(AttrId::new(position?))
+}
+
+fn position_of(words: &[&KindWord], name: &str) -> Option<usize>
+    ensures { result ≡ position (λ w. names_class name.now w.kind) (words_view words.now) }
+{
+    position_named(words, name)
 }
 
 fn position_named(words: &[&KindWord], name: &str) -> Option<usize>
     ensures { result ≡ position (λ w. names_class name.now (kind_word_view w.now).kind) words.now }
 {
     words.iter().position(
-        |word| -> bool ensures { result ≡ names_class name.now (kind_word_view word.now.now).kind } {
+        |word| -> bool ensures { result ≡ names_class name.entry.now (kind_word_view word.now.now).kind } {
             names_class(&word.kind, name)
         },
     )
@@ -175,12 +197,12 @@ fn names_class(kind: &KindForm, name: &str) -> bool
     }
 }
 
-/// The kind that is written, by itself: what isn't known is a class of its own.
-pub fn as_written(kind: Option<Kind>) -> WrittenKind
-    ensures { result ≡ as_written None kind }
+/// The kind that is written; of a class that isn't there the first attribute with such values tells which one it is.
+pub fn as_written(first: Option<AttrId>, known: Option<Kind>) -> WrittenKind
+    ensures { result ≡ as_written first known }
 {
-    match kind {
+    match known {
         Some(kind) => WrittenKind::Known(kind),
-        None => WrittenKind::Strange(None),
+        None => WrittenKind::Strange(first),
     }
 }

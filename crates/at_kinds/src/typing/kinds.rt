@@ -2,7 +2,7 @@
 
 ghost use Rattle.std.specs.Prelude.{◌≡◌, Option, option_and_then};
 ghost use Rattle.at_rules.specs.Bodies.{body_view};
-ghost use Rattle.at_kinds.specs.Kinds.{known, of_written, is_int as is_int_kind, is_truth as is_truth_kind, is_text as is_text_kind, is_node as is_node_kind, is_within, is_of_word, is_same_word, fits as fits_kind, fits_known, only_if, upper as upper_of, wider_class as wider_class_of, wider_strange as wider_strange_of, wider as wider_of};
+ghost use Rattle.at_kinds.specs.Kinds.{known, of_written, is_int as is_int_kind, is_truth as is_truth_kind, is_text as is_text_kind, is_node as is_node_kind, is_within, is_of_word, common_word, fits as fits_kind, fits_known, only_if, upper as upper_of, wider_class as wider_class_of, wider_strange as wider_strange_of, wider as wider_of};
 ghost use Rattle.at_kinds.specs.Typed.{typed_view};
 
 use crate::signatures::WrittenKind;
@@ -112,7 +112,7 @@ impl ExprKind {
         ensures { result ≡ is_of_word first self }
     {
         match self {
-            ExprKind::Strange(second) => is_same_word(first, second),
+            ExprKind::Strange(second) => common_word(first, second).is_some(),
             ExprKind::Null => true,
             _ => false,
         }
@@ -157,18 +157,22 @@ fn wider_strange(first: Option<AttrId>, other: ExprKind) -> Option<ExprKind>
 {
     match other {
         ExprKind::Null => Some(ExprKind::Strange(first)),
-        ExprKind::Strange(second) => only_if(is_same_word(first, second), other),
+        ExprKind::Strange(second) => Some(ExprKind::Strange(Some(common_word(first, second)?))),
         _ => None,
     }
 }
 
-/// Whether the two are one class that isn't there: the same attribute is the first one with values of its word.
-fn is_same_word(first: Option<AttrId>, second: Option<AttrId>) -> bool
-    ensures { result ≡ is_same_word first second }
+/// The first attribute with values of the word, where the two are of one word.
+fn common_word(first: Option<AttrId>, second: Option<AttrId>) -> Option<AttrId>
+    ensures { result ≡ common_word first second }
 {
-    let Some(first) = first else { return false };
-    let Some(second) = second else { return false };
-    first.index() == second.index()
+    let first = first?;
+    let second = second?;
+    if first.index() == second.index() {
+        Some(first)
+    } else {
+        None
+    }
 }
 
 /// Of two classes the one that is the other or above it.

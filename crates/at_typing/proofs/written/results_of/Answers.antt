@@ -1,7 +1,7 @@
 use Rattle.std.proofs.Common.{List, arith, map, refl}
-use Rattle.at_jrag.specs.View.{kind_word_view}
 use Rattle.at_typing.specs.Declaring.{result_in}
 use Rattle.at_typing.specs.Meanings.{results, words_of}
+use Rattle.at_typing.specs.Ruling.{words_view}
 use Rattle.at_typing.specs.Numbering.{numbered_view}
 use Rattle.at_typing.specs.declared.numbered.Numbered.{Numbered}
 use Rattle.at_typing.proofs.Appending.{next_part, no_part}
@@ -16,4 +16,4 @@ loop-numbered-preserved c =
 pub returns : goal.returns
 returns c =
     let left = λ (ds : List Numbered). results (map numbered_view ds) in
-    no_part left (map (λ w. kind_word_view w.now) c.loop-numbered.words.items) _ c.args.declared.now c.loop-numbered.numbered-index (omega arith) refl c.loop-numbered.invariant
+    no_part left (words_view c.loop-numbered.words.items) _ c.args.declared.now c.loop-numbered.numbered-index (omega arith) refl c.loop-numbered.invariant
