@@ -10,7 +10,7 @@ use Rattle.at_model.proofs.TypedTogether.{classes_hierarchy}
 use Rattle.at_class.specs.Checks.{circle_at}
 use Rattle.at_class.proofs.Sound.{given_nowhere}
 
-passed : (b : Bool) (p : Place) → (if b then Some p else None) ≡ None → b ≡ false
+pub passed : (b : Bool) (p : Place) → (if b then Some p else None) ≡ None → b ≡ false
 passed true p h = absurd (cc)
 passed false p h = refl
 

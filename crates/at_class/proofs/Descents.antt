@@ -52,7 +52,7 @@ self_same (Some c) = eq-eqb c c refl
 
 -- components ----------------------------------------------------------------------------------------------------------
 
-all_more : (classes : Classes) (c : ℕ) (up : List ℕ) → all_of classes (c ∷ up) ≡ all_of classes up ++ own_of classes c
+pub all_more : (classes : Classes) (c : ℕ) (up : List ℕ) → all_of classes (c ∷ up) ≡ all_of classes up ++ own_of classes c
 all_more classes c up =
     ap (flat_map (own_of classes)) (reverse-append (c ∷ []) up)
     ∙ flat_map-append (own_of classes) (reverse up) (c ∷ [])

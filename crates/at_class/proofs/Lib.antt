@@ -11,3 +11,5 @@ pub mod Led
 pub mod Descents
 pub mod Entries
 pub mod Places
+pub mod Apart
+pub mod PartsTested

@@ -1,6 +1,6 @@
 -- The first of the faults.
-use Rattle.std.proofs.Common.{◌≡◌, refl, ap, sym, ◌∙◌, Option, Some, None}
-use Rattle.at_model.specs.Declarations.{Declarations, Place, NoClass, ClassTwice, UnknownClass, SuperclassCircle, TokenKindCode, ComponentTwice, Limit, first_fault, no_class, class_twice, unknown_class, superclass_circle, token_kind, component_twice, over_limit}
+use Rattle.std.proofs.Common.{◌≡◌, [], ◌∷◌, refl, ap, sym, ◌∙◌, Option, Some, None}
+use Rattle.at_model.specs.Declarations.{Declarations, Place, NoClass, ClassTwice, UnknownClass, SuperclassCircle, TokenKindCode, ComponentTwice, Limit, coded, first_of, first_fault, no_class, class_twice, unknown_class, superclass_circle, token_kind, component_twice, over_limit}
 use Rattle.at_text.specs.declared.fault.Fault.{Fault}
 use Rattle.at_text.specs.declared.fault.Fault.TheVariants.{Refused, Memory}
 use Rattle.at_class.specs.declared.fault.ClassCode.{ClassCode}
@@ -43,3 +43,17 @@ fault_limit ds at a b c d e f h = rw (a, b, c, d, e, f, h) refl
 pub no_fault : (ds : Declarations) → no_class ds ≡ None → class_twice ds ≡ None → unknown_class ds ≡ None → superclass_circle ds ≡ None → token_kind ds ≡ None → component_twice ds ≡ None → over_limit ds ≡ None → first_fault ds ≡ None
 unfolding first_fault
 no_fault ds a b c d e f h = rw (a, b, c, d, e, f, h) refl
+
+-- a grammar without a fault breaks none of these rules
+pub none_broken : (ds : Declarations) → first_fault ds ≡ None → (superclass_circle ds ≡ None) × (component_twice ds ≡ None)
+unfolding first_fault
+none_broken ds e = by (no_class ds) (class_twice ds) (unknown_class ds) (superclass_circle ds) (token_kind ds) (component_twice ds) e
+  where
+    by : (a b c d t p : Option Place) → first_of (coded NoClass a ∷ coded ClassTwice b ∷ coded UnknownClass c ∷ coded SuperclassCircle d ∷ coded TokenKindCode t ∷ coded ComponentTwice p ∷ coded Limit (over_limit ds) ∷ []) ≡ None → (d ≡ None) × (p ≡ None)
+    by None None None None None None e = (refl, refl)
+    by None None None None None (Some p) e = absurd cc
+    by None None None None (Some t) p e = absurd cc
+    by None None None (Some d) t p e = absurd cc
+    by None None (Some c) d t p e = absurd cc
+    by None (Some b) c d t p e = absurd cc
+    by (Some a) b c d t p e = absurd cc

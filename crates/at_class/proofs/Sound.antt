@@ -92,7 +92,7 @@ class_sound ds d some named texts = record {
     spare : Declaration → PartDeclaration
     spare d = record { name = []; kind = []; form = Tok; at = (0, 0) }
 
-bytes_eq-same : (xs : List ℕ) → bytes_eq xs xs ≡ true
+pub bytes_eq-same : (xs : List ℕ) → bytes_eq xs xs ≡ true
 bytes_eq-same [] = refl
 bytes_eq-same (x ∷ xs) = rw (eq-eqb x x refl) (bytes_eq-same xs)
 

@@ -32,7 +32,7 @@ nat_eq-swap a b = by (nat_eq a b) (nat_eq b a) refl refl
     by false true e f = no_name (sym e ∙ eq-eqb a b (sym (eqb-true b a f)))
     by false false e f = refl
 
-bytes_eq-swap : (xs ys : List ℕ) → bytes_eq xs ys ≡ bytes_eq ys xs
+pub bytes_eq-swap : (xs ys : List ℕ) → bytes_eq xs ys ≡ bytes_eq ys xs
 bytes_eq-swap [] [] = refl
 bytes_eq-swap [] (y ∷ ys) = refl
 bytes_eq-swap (x ∷ xs) [] = refl

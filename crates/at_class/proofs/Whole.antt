@@ -7,13 +7,15 @@ use Rattle.std.specs.Prelude.{String, string_bytes, ◌==◌}
 use Rattle.at_grammar.specs.declared.syntax.ClassDecl.{ClassDecl}
 use Rattle.at_model.specs.Classes.{AreSound, Class as ModelClass, parts}
 use Rattle.at_model.specs.WellFormed.{IsHierarchy}
-use Rattle.at_model.specs.Declarations.{no_class, classes_of, class_by, class_named}
+use Rattle.at_model.specs.Declarations.{no_class, classes_of, class_by, class_named, component_twice}
+use Rattle.at_model.specs.Paths.{ArePartsApart}
 use Rattle.at_class.specs.declared.class.Class.{Class}
 use Rattle.at_class.specs.declared.entry.Entry.{Entry}
 use Rattle.at_class.specs.View.{classes_view, part_view}
 use Rattle.at_class.specs.Grammar.{declarations_view}
 use Rattle.at_class.specs.Table.{AreEntries, IsTable, table_view}
 use Rattle.at_class.specs.Ways.{AreLed}
+use Rattle.at_class.proofs.Apart.{parts_apart}
 use Rattle.at_class.proofs.Entries.{table-declared}
 use Rattle.at_class.proofs.Led.{led}
 use Rattle.at_class.proofs.Places.{as_many}
@@ -49,8 +51,8 @@ table_of_declared keys ks lent es xs same e is are sound hierarchy =
     table-declared keys lent es (same ∙ sym (ap (map (λ (k : ModelClass). k.name)) f ∙ names_declared xs)) are (subst AreLed (sym f) (led (classes_of (declarations_view xs)) hierarchy sound.some)) (subst IsHierarchy (sym f) hierarchy) ∙ f
 
 pub is_table : {A : Type 0} (keys : List (String A)) (ks lent : List Class) (es : List Entry) (xs : List ClassDecl) → map string_bytes keys ≡ map (λ d. string_bytes d.name) xs → classes_view ks ≡ classes_of (declarations_view xs)
-    → lent ≡ ks → AreEntries lent es (length lent) → AreSound (classes_of (declarations_view xs)) → IsHierarchy (classes_of (declarations_view xs)) → IsTable keys es
-is_table keys ks lent es xs same e is are sound hierarchy =
+    → lent ≡ ks → AreEntries lent es (length lent) → AreSound (classes_of (declarations_view xs)) → IsHierarchy (classes_of (declarations_view xs)) → component_twice (declarations_view xs) ≡ None → IsTable keys es
+is_table keys ks lent es xs same e is are sound hierarchy once =
     let t : table_view keys es ≡ classes_of (declarations_view xs) = table_of_declared keys ks lent es xs same e is are sound hierarchy in
     let f : classes_view lent ≡ table_view keys es = ap classes_view is ∙ e ∙ sym t in
     record {
@@ -58,6 +60,7 @@ is_table keys ks lent es xs same e is are sound hierarchy =
       parts = λ c d less. subst (λ classes. map part_view (get_or es c d).parts.items ≡ parts classes c) f (are.each c (spare lent c (subst (λ n. c < n) are.count less)) d (subst (λ n. c < n) are.count less)).parts;
       sound = subst AreSound (sym t) sound;
       hierarchy = subst IsHierarchy (sym t) hierarchy;
+      apart = subst ArePartsApart (sym t) (parts_apart (declarations_view xs) (led (classes_of (declarations_view xs)) hierarchy sound.some) once);
     }
   where
     spare : {X : Type 0} (xs : List X) (c : ℕ) → c < length xs → X

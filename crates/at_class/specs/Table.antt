@@ -2,6 +2,7 @@
 use Rattle.std.specs.Prelude.{◌≡◌, ℕ, ◌<◌, List, length, map, drop, get_or, zip, option_map, option_and_then, unwrap_or, String, string_bytes}
 use Rattle.std.specs.List.{slice_get}
 use Rattle.at_model.specs.Classes.{Classes, Class as ModelClass, AreSound, parts}
+use Rattle.at_model.specs.Paths.{ArePartsApart}
 use Rattle.at_model.specs.WellFormed.{IsHierarchy}
 use Rattle.at_class.specs.declared.class.Class.{Class}
 use Rattle.at_class.specs.declared.entry.Entry.{Entry}
@@ -36,3 +37,4 @@ pub record IsTable {A : Type 0} (names : List (String A)) (es : List Entry) : Ty
   pub parts : (c : ℕ) (e : Entry) → c < length es → map part_view (get_or es c e).parts.items ≡ parts (table_view names es) c
   pub sound : AreSound (table_view names es)
   pub hierarchy : IsHierarchy (table_view names es)
+  pub apart : ArePartsApart (table_view names es)

@@ -18,6 +18,7 @@ mod descent;
 mod entry;
 mod fault;
 mod found;
+pub mod laws;
 mod names;
 mod naming;
 mod part;

@@ -44,7 +44,7 @@ impl ClassTable {
     ghost use Rattle.at_model.specs.Classes.{AreSound, class_of_name, fits, name_of, is_concrete, is_sub, parent_of, parts};
     ghost use Rattle.at_model.specs.WellFormed.{IsHierarchy};
     ghost use Rattle.at_model.specs.Declarations.{AreNamed, classes_of, first_fault};
-    ghost use Rattle.at_model.specs.Paths.{part_named};
+    ghost use Rattle.at_model.specs.Paths.{ArePartsApart, part_named};
     ghost use Rattle.at_class.specs.View.{part_view};
     ghost use Rattle.at_class.specs.Grammar.{grammar_view};
     ghost use Rattle.at_class.specs.Faults.{IsRefusedFor};
@@ -60,11 +60,13 @@ impl ClassTable {
         table_of(alloc, &grammar.classes)
     }
 
-    /// How many classes there are: their numbers are those below. Each superclass is one of them, and no class is above itself.
+    /// How many classes there are: their numbers are those below. Each superclass is one of them, no class is above itself, and no two
+    /// components of a class have one name, inherited ones counted.
     pub fn len(&self) -> usize
         ensures len { result ≡ length self.now }
         ensures sound { AreSound self.now }
         ensures hierarchy { IsHierarchy self.now }
+        ensures apart { ArePartsApart self.now }
     {
         self.entries.len()
     }

@@ -13,7 +13,7 @@ use Rattle.at_kinds.specs.declared.signatures.WrittenKind.TheVariants.{Known, St
 -- it is known, and that kind
 abbrev pub IsKind : WrittenKind → Kind → Type 0
 IsKind (Known k) m = kind_view k ≡ m
-IsKind Strange m = ⊥
+IsKind (Strange first) m = ⊥
 
 -- the attribute is the one that is declared
 pub record IsDeclaredAs (d : Declared) (a : Attribute) : Type 0 where

@@ -19,7 +19,7 @@ use Rattle.at_text.specs.declared.place.Place.{Place}
 use Rattle.at_jrag.specs.Syntax as written
 use Rattle.at_rules.specs.declared.body.Kind.TheVariants as known_kind
 use Rattle.at_kinds.specs.Accessors.{accessor_named, accessed as accessed_part, got_or, getter, named_besides, is_had, is_counted, is_listed, is_list, is_optional, shape_of, token_kind, element_class, listed, listed_in}
-use Rattle.at_kinds.specs.Judging.{Kinded, Wrong, Judged, Scope, Bound, Listed, and_then, of_kind, where_fit, one_argument, equal, alone, accessed, is_given_text, is_argument, misfit, bodies, bodies_or, fitted, demanded_of, asked_by, asked, asked_of, called, list_named, without, list_by, list_called, folded}
+use Rattle.at_kinds.specs.Judging.{Kinded, Wrong, Judged, Scope, Bound, Listed, and_then, of_kind, where_fit, one_argument, equal, alone, accessed, is_given_text, is_argument, misfit, bodies, bodies_or, fitted, demanded_of, asked_by, asked, asked_of, called, list_named, nodes_of, no_list, folded_in, folded_over, without, list_by, list_called, folded}
 use Rattle.at_kinds.specs.Kinds.{known, of_written, is_int, is_truth, is_text, is_within}
 use Rattle.at_kinds.specs.Signatures.{Declared, declared_named, is_below}
 use Rattle.at_kinds.specs.declared.accessors.Accessor.{Accessor}
@@ -122,9 +122,21 @@ module _ (rules : Rules) where
   AllRight t [] = ⊤
   AllRight t (k ∷ ks) = Right rules t k × AllRight t ks
 
-  -- the list is one of a node
+  -- the list in that component is one of the node
+  abbrev pub IsListIn : ScopeKinds → Listed → Option ℕ → Type 0
+  IsListIn t l None = ⊤
+  IsListIn t l (Some part) = (c : ℕ) × (shape_of_part rules.classes c part ≡ Some (class.Many l.class)) × HasKind rules t l.node (model.Class c)
+
+  -- if it is a list, it is one of a node
   abbrev pub IsListOf : ScopeKinds → Listed → Type 0
-  IsListOf t l = (c : ℕ) × (shape_of_part rules.classes c l.part ≡ Some (class.Many l.class)) × HasKind rules t l.node (model.Class c)
+  IsListOf t l = IsListIn t l l.part
+
+  pub no_list_right : (t : ScopeKinds) (fold : Place) (k : Kinded) → Holds (IsListOf t) (no_list fold k)
+  no_list_right t fold k = by k.kind
+    where
+      by : (m : ExprKind) → Holds (IsListOf t) (nodes_of fold m k.body)
+      by (found.Class c) = tt
+      by m = tt
 
   known_right : (t : ScopeKinds) (kind : TokenKind) (e : Expr) → HasKind rules t e (kind_of_token kind) → Has rules t (known (token_kind kind)) e
   known_right t class.Int e h = h
@@ -187,7 +199,7 @@ module _ (rules : Rules) where
   argument_right t k (Known (known_kind.Class b)) m is fit h =
       let (one, other) = both (is_within rules.classes b k.kind) true fit in
       subst (λ n. IsArgumentForm n k.body × HasKind rules t k.body n) is (tt, within_has t b k.kind k.body one h)
-  argument_right t k Strange m is fit h = absurd is
+  argument_right t k (Strange first) m is fit h = absurd is
 
   arguments_right : (t : ScopeKinds) (ks : List Kinded) (ps : List WrittenKind) (ms : List Kind) → length ks ≡ length ps → AllZip IsKind ps ms → misfit rules.classes ks ps ≡ None → AllRight t ks → HaveKinds rules t (bodies ks) ms
   arguments_right t [] [] [] same zip none all = has.no_more
@@ -220,7 +232,7 @@ module _ (rules : Rules) where
   result_right t e (Known known_kind.Bool) m is h = subst (λ n. HasKind rules t e n) (sym is) h
   result_right t e (Known known_kind.Text) m is h = subst (λ n. HasKind rules t e n) (sym is) h
   result_right t e (Known (known_kind.Class b)) m is h = subst (λ n. HasKind rules t e n) (sym is) h
-  result_right t e Strange m is h = absurd is
+  result_right t e (Strange first) m is h = absurd is
 
   module _ (declared : List Declared) (same : AllZip IsDeclaredAs declared rules.attributes) where
     abbrev pub scope_at : ℕ → List Bound → Option (List ℕ) → Scope
@@ -246,7 +258,7 @@ module _ (rules : Rules) where
 
       asked_of_right : (at : Place) (name : List ℕ) (k : ExprKind) (e : Expr) (ks : List Kinded) → Has rules t k e → AllRight t ks → Holds (Right rules t) (asked_of (scope_at this names index) at name k e ks)
       asked_of_right at name (found.Class c) e ks h all = asked_right at name c e ks h all
-      asked_of_right at name found.Strange e ks h all = tt
+      asked_of_right at name (found.Strange first) e ks h all = tt
       asked_of_right at name k e ks h all = tt
 
       pub called_right : (at : Place) (name : List ℕ) (k : Kinded) (ks : List Kinded) → Right rules t k → AllRight t ks → Holds (Right rules t) (called (scope_at this names index) at name k ks)
@@ -261,7 +273,7 @@ module _ (rules : Rules) where
       pub list_called_right : (fold at : Place) (name : List ℕ) (k : Kinded) (ks : List Kinded) → Right rules t k → Holds (IsListOf t) (list_called (scope_at this names index) fold at name k ks)
       list_called_right fold at name k ks h = by (list_named rules.classes k.kind name) refl
         where
-          node_of : (m : ExprKind) (l : ℕ × ℕ) (e : Expr) → list_named rules.classes m name ≡ Some l → Has rules t m e → IsListOf t (record { node = e; part = l.0; class = l.1 })
+          node_of : (m : ExprKind) (l : ℕ × ℕ) (e : Expr) → list_named rules.classes m name ≡ Some l → Has rules t m e → IsListOf t (record { node = e; part = Some l.0; class = l.1 })
           node_of (found.Class c) l e is h = (c, listed_many rules.classes c name l is, h)
           node_of m l e is h = absurd (none-some l is)
 
@@ -270,11 +282,18 @@ module _ (rules : Rules) where
           alone_listed l (j ∷ js) x = tt
 
           by : (o : Option (ℕ × ℕ)) → list_named rules.classes k.kind name ≡ o → Holds (IsListOf t) (list_by fold at o (called (scope_at this names index) at name k ks) k ks)
-          by None is = none_holds (IsListOf t) (λ (j : Kinded). Wrong code.Kind fold) (called (scope_at this names index) at name k ks) (λ j. tt)
-          by (Some l) is = alone_listed (record { node = k.body; part = l.0; class = l.1 }) ks (node_of k.kind l k.body is h)
+          by None is = none_holds (IsListOf t) (no_list fold) (called (scope_at this names index) at name k ks) (no_list_right t fold)
+          by (Some l) is = alone_listed (record { node = k.body; part = Some l.0; class = l.1 }) ks (node_of k.kind l k.body is h)
 
   -- a fold over a list
   pub folded_right : (t : ScopeKinds) (at : Place) (form : written.FoldForm) (l : Listed) (k : Kinded) → IsListOf t l → Right rules (bound_kinds t l.class) k → Holds (Right rules t) (folded at form l k)
-  folded_right t at written.Exists l k (c, shape, h) g = if_right rules t (is_truth k.kind) at found.Bool (body.Exists l.node l.part k.body) (λ is. has.exists c l.part l.class shape h (truth_has rules (bound_kinds t l.class) k.kind k.body is g))
-  folded_right t at written.First l k (c, shape, h) g = if_right rules t (is_truth k.kind) at (found.Class l.class) (body.First l.node l.part k.body) (λ is. has.first c l.part l.class shape h (truth_has rules (bound_kinds t l.class) k.kind k.body is g))
-  folded_right t at written.Sum l k (c, shape, h) g = if_right rules t (is_int k.kind) at found.Int (body.Sum l.node l.part k.body) (λ is. has.sum c l.part l.class shape h (int_has rules (bound_kinds t l.class) k.kind k.body is g))
+  folded_right t at form l k list g = by l.part list
+    where
+      over : (form : written.FoldForm) (part c : ℕ) → shape_of_part rules.classes c part ≡ Some (class.Many l.class) → HasKind rules t l.node (model.Class c) → Holds (Right rules t) (folded_over at form l part k)
+      over written.Exists part c shape h = if_right rules t (is_truth k.kind) at found.Bool (body.Exists l.node part k.body) (λ is. has.exists c part l.class shape h (truth_has rules (bound_kinds t l.class) k.kind k.body is g))
+      over written.First part c shape h = if_right rules t (is_truth k.kind) at (found.Class l.class) (body.First l.node part k.body) (λ is. has.first c part l.class shape h (truth_has rules (bound_kinds t l.class) k.kind k.body is g))
+      over written.Sum part c shape h = if_right rules t (is_int k.kind) at found.Int (body.Sum l.node part k.body) (λ is. has.sum c part l.class shape h (int_has rules (bound_kinds t l.class) k.kind k.body is g))
+
+      by : (o : Option ℕ) → IsListIn t l o → Holds (Right rules t) (folded_in at form l o k)
+      by None x = tt
+      by (Some part) (c, shape, h) = over form part c shape h

@@ -30,7 +30,7 @@ module _ (rules : Rules) where
   Has t found.Bool e = HasKind rules t e model.Truth
   Has t found.Text e = HasKind rules t e model.Text
   Has t (found.Class c) e = HasKind rules t e (model.Class c)
-  Has t found.Strange e = ⊥
+  Has t (found.Strange first) e = ⊥
   Has t found.Null e = (c : ℕ) → HasKind rules t e (model.Class c)
 
   -- so has what is found of an expression
@@ -67,7 +67,7 @@ module _ (rules : Rules) where
   pub node_has : (t : ScopeKinds) (k : ExprKind) (e : Expr) → is_node k ≡ true → Has t k e → (c : ℕ) × HasKind rules t e (model.Class c)
   node_has t (found.Class c) e is h = (c, h)
   node_has t found.Null e is h = (0, h 0)
-  node_has t found.Strange e is h = absurd h
+  node_has t (found.Strange first) e is h = absurd h
   node_has t k e is h = absurd (true≢false (sym is))
 
   -- operators -----------------------------------------------------------------------------------------------------------
@@ -118,7 +118,7 @@ module _ (rules : Rules) where
   alike_has t found.Bool k a b is h g = (model.Truth, model.Truth, has.truths, h, truth_has t k b is g)
   alike_has t found.Text k a b is h g = absurd (true≢false (sym is))
   alike_has t (found.Class c) k a b is h g = nodes_alike t c k a b is h g
-  alike_has t found.Strange k a b is h g = absurd h
+  alike_has t (found.Strange first) k a b is h g = absurd h
   alike_has t found.Null k a b is h g = nodes_alike t 0 k a b is (h 0) g
 
   same_right : (t : ScopeKinds) (at : Place) (j k : Kinded) → Right t j → Right t k → Holds (Right t) (joined at written.Same j k)
@@ -186,7 +186,7 @@ module _ (rules : Rules) where
   null_has : (t : ScopeKinds) (c a b : Expr) (k : ExprKind) → is_node k ≡ true → HasKind rules t c model.Truth → ((d : ℕ) → HasKind rules t a (model.Class d)) → Has t k b → Has t k (body.Choose c a b)
   null_has t c a b (found.Class d) is hc ha hb = has.choose (model.Class d) hc (ha d) hb
   null_has t c a b found.Null is hc ha hb = λ d. has.choose (model.Class d) hc (ha d) (hb d)
-  null_has t c a b found.Strange is hc ha hb = absurd hb
+  null_has t c a b (found.Strange first) is hc ha hb = absurd hb
   null_has t c a b k is hc ha hb = absurd (true≢false (sym is))
 
   wider_has : (t : ScopeKinds) (c a b : Expr) (j k m : ExprKind) → HasKind rules t c model.Truth → Has t j a → Has t k b → wider rules.classes j k ≡ Some m → Has t m (body.Choose c a b)
@@ -200,7 +200,7 @@ module _ (rules : Rules) where
       let (one, same) = only_some (is_text k) k m is in
       moved t (body.Choose c a b) k m (ap Some same) (text_of t k (body.Choose c a b) one (has.choose model.Text hc ha (text_has t k b one hb)))
   wider_has t c a b (found.Class d) k m hc ha hb is = wider_class_has t c a b d k m hc ha hb is
-  wider_has t c a b found.Strange k m hc ha hb is = absurd ha
+  wider_has t c a b (found.Strange first) k m hc ha hb is = absurd ha
   wider_has t c a b found.Null k m hc ha hb is =
       let (one, same) = only_some (is_node k) k m is in
       moved t (body.Choose c a b) k m (ap Some same) (null_has t c a b k one hc ha hb)

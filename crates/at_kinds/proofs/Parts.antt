@@ -16,7 +16,7 @@ use Rattle.at_jrag.specs.View.{expr_view}
 use Rattle.at_jrag.specs.declared.syntax.Expr.{Expr as ExprValue}
 use Rattle.at_rules.specs.Bodies.{body_view, bodies_view}
 use Rattle.at_rules.specs.declared.body.Body.{Body}
-use Rattle.at_kinds.specs.Judging.{Judgement, Judged, Kinded, Scope, Bound, bound_to, Is, Wrong, and_then, judged, judged_all, bodies, bodies_or, misfit, fitted, is_argument, accessed, asked_by, demanded, demanded_of, of_kind, list_by, fitting}
+use Rattle.at_kinds.specs.Judging.{Judgement, Judged, Kinded, Scope, Bound, bound_to, Is, Wrong, and_then, judged, judged_all, bodies, bodies_or, misfit, fitted, is_argument, accessed, asked_by, demanded, demanded_of, of_kind, list_by, no_list, fitting}
 use Rattle.at_kinds.specs.Kinds.{of_written, fits}
 use Rattle.at_kinds.specs.Signatures.{Declared}
 use Rattle.at_kinds.specs.Typed.{Judges, typed_view, all_view, list_view, bound_view}
@@ -166,16 +166,16 @@ not_fitting classes wanted here at k is other = ap (λ b. if b then Is k.body el
 -- the list of a fold ------------------------------------------------------------------------------------------------------
 
 pub no_list_fault : (fold at : Place) (o : Option (ℕ × ℕ)) (call : Judged) (k : Kinded) (ks : List Kinded) (e : Fault RuleCode) → o ≡ None → Judges typed_view call (Err e) → Judges list_view (list_by fold at o call k ks) (Err e)
-no_list_fault fold at None call k ks e is so = fault_of typed_view list_view (λ j. Wrong code.Kind fold) call e so
+no_list_fault fold at None call k ks e is so = fault_of typed_view list_view (no_list fold) call e so
 no_list_fault fold at (Some l) call k ks e is so = absurd (none-some l (sym is))
 
-pub no_list_kind : (fold at : Place) (o : Option (ℕ × ℕ)) (call : Judged) (k : Kinded) (ks : List Kinded) (t : Typed) → o ≡ None → call ≡ Is (typed_view t) → list_by fold at o call k ks ≡ Wrong code.Kind fold
-no_list_kind fold at o call k ks t is so = ap (λ p. list_by fold at p call k ks) is ∙ ap (and_then (λ j. Wrong code.Kind fold)) so
+pub no_list_kind : (fold at : Place) (o : Option (ℕ × ℕ)) (call : Judged) (k : Kinded) (ks : List Kinded) (t : Typed) → o ≡ None → call ≡ Is (typed_view t) → list_by fold at o call k ks ≡ no_list fold (typed_view t)
+no_list_kind fold at o call k ks t is so = ap (λ p. list_by fold at p call k ks) is ∙ ap (and_then (no_list fold)) so
 
 pub list_crowded : (fold at : Place) (o : Option (ℕ × ℕ)) (l : ℕ × ℕ) (call : Judged) (k : Kinded) (ks : List Kinded) (j : Kinded) (js : List Kinded) → o ≡ Some l → ks ≡ j ∷ js → list_by fold at o call k ks ≡ Wrong code.Argument at
 list_crowded fold at o l call k ks j js is given = ap₂ (λ p xs. list_by fold at p call k xs) is given
 
-pub list_there : (fold at : Place) (o : Option (ℕ × ℕ)) (l : ℕ × ℕ) (call : Judged) (k : Kinded) (ks : List Kinded) → o ≡ Some l → ks ≡ [] → list_by fold at o call k ks ≡ Is (record { node = k.body; part = l.0; class = l.1 })
+pub list_there : (fold at : Place) (o : Option (ℕ × ℕ)) (l : ℕ × ℕ) (call : Judged) (k : Kinded) (ks : List Kinded) → o ≡ Some l → ks ≡ [] → list_by fold at o call k ks ≡ Is (record { node = k.body; part = Some l.0; class = l.1 })
 list_there fold at o l call k ks is given = ap₂ (λ p xs. list_by fold at p call k xs) is given
 
 -- the name of a fold over nodes of class c

@@ -236,7 +236,7 @@ asked s at name c e ks = asked_by s at (declared_named s.classes s.declared c na
 
 abbrev pub asked_of : Scope → Place → List ℕ → ExprKind → Expr → List Kinded → Judged
 asked_of s at name (Class c) e ks = asked s at name c e ks
-asked_of s at name Strange e ks = Wrong code.UnknownName at
+asked_of s at name (Strange first) e ks = Wrong code.UnknownName at
 asked_of s at name k e ks = Wrong code.Kind at
 
 -- a call of a receiver: texts have `equals`, nodes have accessors and attributes
@@ -245,11 +245,19 @@ called s at name k ks = if bytes_eq name (codes "equals") then equal at k ks els
 
 -- folds ---------------------------------------------------------------------------------------------------------------
 
--- the list of a fold: its node, its component, and the class of its elements
+-- what a fold goes over: the node of the list, its component, and the class of its elements; no component where it is no list
 pub record Listed : Type 0 where
   pub node : Expr
-  pub part : ℕ
+  pub part : Option ℕ
   pub class : ℕ
+
+-- what is no list: its braces are looked at where it has nodes of a class, and else it is a wrong kind of the fold
+abbrev pub nodes_of : Place → ExprKind → Expr → Judgement Listed
+nodes_of fold (Class c) e = Is (record { node = e; part = None; class = c })
+nodes_of fold k e = Wrong code.Kind fold
+
+abbrev pub no_list : Place → Kinded → Judgement Listed
+no_list fold k = nodes_of fold k.kind k.body
 
 -- the list that nodes of that kind have under that name, and the class of its elements
 abbrev pub list_named : Classes → ExprKind → List ℕ → Option (ℕ × ℕ)
@@ -260,23 +268,32 @@ abbrev pub without : Place → List Kinded → Listed → Judgement Listed
 without at [] l = Is l
 without at (k ∷ ks) l = Wrong code.Argument at
 
--- a call that is no list is a wrong kind of the fold, if it has no fault itself
+-- a call that is no list, if it has no fault itself
 abbrev pub list_by : Place → Place → Option (ℕ × ℕ) → Judged → Kinded → List Kinded → Judgement Listed
-list_by fold at None call k ks = and_then (λ j. Wrong code.Kind fold) call
-list_by fold at (Some l) call k ks = without at ks (record { node = k.body; part = l.0; class = l.1 })
+list_by fold at None call k ks = and_then (no_list fold) call
+list_by fold at (Some l) call k ks = without at ks (record { node = k.body; part = Some l.0; class = l.1 })
 
 abbrev pub list_called : Scope → Place → Place → List ℕ → Kinded → List Kinded → Judgement Listed
 list_called s fold at name k ks = list_by fold at (list_named s.classes k.kind name) (called s at name k ks) k ks
 
 -- what is no call is no list
 abbrev pub list_or : Place → Judged → Option (Judgement Listed) → Judgement Listed
-list_or fold whole None = and_then (λ k. Wrong code.Kind fold) whole
+list_or fold whole None = and_then (no_list fold) whole
 list_or fold whole (Some l) = l
 
+-- a fold over the list in that component
+abbrev pub folded_over : Place → written.FoldForm → Listed → ℕ → Kinded → Judged
+folded_over at written.Exists l part k = kind_if (is_truth k.kind) at Truth (body.Exists l.node part k.body)
+folded_over at written.First l part k = kind_if (is_truth k.kind) at (Class l.class) (body.First l.node part k.body)
+folded_over at written.Sum l part k = kind_if (is_int k.kind) at Int (body.Sum l.node part k.body)
+
+-- behind the braces the whole: over what is no list it is a wrong kind
+abbrev pub folded_in : Place → written.FoldForm → Listed → Option ℕ → Kinded → Judged
+folded_in at form l None k = Wrong code.Kind at
+folded_in at form l (Some part) k = folded_over at form l part k
+
 abbrev pub folded : Place → written.FoldForm → Listed → Kinded → Judged
-folded at written.Exists l k = kind_if (is_truth k.kind) at Truth (body.Exists l.node l.part k.body)
-folded at written.First l k = kind_if (is_truth k.kind) at (Class l.class) (body.First l.node l.part k.body)
-folded at written.Sum l k = kind_if (is_int k.kind) at Int (body.Sum l.node l.part k.body)
+folded at form l k = folded_in at form l l.part k
 
 -- ---------------------------------------------------------------------------------------------------------------------
 

@@ -10,8 +10,9 @@ use std::marker::Model;
 #[derive(Clone, Copy, PartialEq, Eq)]
 pub enum WrittenKind {
     Known(Kind),
-    /// The word names no class. Nothing but null fits it.
-    Strange,
+    /// The word names no class. The number is that of the first attribute whose values are of this kind, if there is one. Null fits
+    /// it, and what has the same number.
+    Strange(Option<AttrId>),
 }
 
 /// What is declared of an attribute: its name, the class that has it, where that is there, and the kinds

@@ -97,7 +97,7 @@ module _ (rules : Rules) (ds : List Located) (zip : AllZip (Declares rules.class
         declaration = of.declaration;
         attribute = of.attribute;
         synthesized = sym declared.inherits ∙ not_true (is_inherited x.decl.form) own;
-        declared = below_by_words rules.classes (class_text d) (class_text x) c of.declaration.class class declared.declared.class below;
+        declared = below_by_words rules.classes (class_text d) (class_text x) c of.declaration.class class (declared.declared []).class below;
         body = of.body;
       })
     where
@@ -166,7 +166,7 @@ module _ (rules : Rules) (ds : List Located) (zip : AllZip (Declares rules.class
     with_body_right : (d : Located) (result : KindWord) (a : Attribute) (o : Option Body) → IsOfWord rules.classes d result a → index_in d.decl.form ≡ None → IfSome o (λ b. AreInts b.expr) → Holds AddsTyped (with_body rules.classes ds d o a)
     with_body_right d result a None of no_index ints = (tt, tt)
     with_body_right d result a (Some body) of no_index ints =
-        then_holds (IsOwnTyped rules) AddsTyped (declared_with a) (own_meant rules.classes ds d body a.class) (own_right d body a.class ints of.declared.class no_index) (λ e typed. (typed, tt))
+        then_holds (IsOwnTyped rules) AddsTyped (declared_with a) (own_meant rules.classes ds d body a.class) (own_right d body a.class ints (of.declared []).class no_index) (λ e typed. (typed, tt))
 
     form_right : (d : Located) (form : DeclForm) → d.decl.form ≡ form → AreIntsIn d → Holds AddsTyped (form_meant rules.classes ds d form)
     form_right d (written.Synthesized lazy result class name params ending) at ints =

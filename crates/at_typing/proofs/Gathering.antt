@@ -65,7 +65,7 @@ module _ {A B : Type 0} where
       by None rest = rest
       by (Some y) rest = ap (λ b. p y || b) rest
 
-not_both : (b : Bool) → (b ≡ true → ⊥) → b ≡ false
+pub not_both : (b : Bool) → (b ≡ true → ⊥) → b ≡ false
 not_both true not_so = absurd (not_so refl)
 not_both false not_so = refl
 
@@ -105,7 +105,7 @@ no_clash classes ds i d less at none declares = by (is_attribute d.decl.form) de
     by false is b c off = absurd (true≢false (sym is))
 
 -- an equation is not there already
-no_equation : (ds : List Located) (i : ℕ) (d : Located) → i < length ds → d ≡ get_or ds i d → equation_twice ds ≡ None → list_any (is_same_equation d) (take i ds) ≡ false
+pub no_equation : (ds : List Located) (i : ℕ) (d : Located) → i < length ds → d ≡ get_or ds i d → equation_twice ds ≡ None → list_any (is_same_equation d) (take i ds) ≡ false
 no_equation ds i d less at none = no_fault (list_any (is_same_equation d) (take i ds)) code.EquationTwice d (ap (equation_at ds i) at ∙ given_at (equation_at ds) ds i d less none)
 
 -- keys that aren't there -----------------------------------------------------------------------------------------------
@@ -164,10 +164,10 @@ module _ {Z : Type 0} where
 
 -- what the declarations before it mean has no such key -------------------------------------------------------------------
 
-equal : (v w : List ℕ) → v ≡ w → bytes_eq v w ≡ true
+pub equal : (v w : List ℕ) → v ≡ w → bytes_eq v w ≡ true
 equal v w is = ap (bytes_eq v) (sym is) ∙ nat_list_eq_equiv.refl v
 
-or_left : (a b : Bool) → a ≡ true → (a || b) ≡ true
+pub or_left : (a b : Bool) → a ≡ true → (a || b) ≡ true
 or_left a b is = ap (λ x. x || b) is
 
 same_option : (o p : Option ℕ) → option_eq nat_eq o p ≡ true → o ≡ p
@@ -177,8 +177,32 @@ same_option (Some i) None is = absurd (true≢false (sym is))
 same_option (Some i) (Some j) is = ap Some (eqb-true i j is)
 
 -- what is said of a part that is there
-said : {A : Type 0} (P : A → Type 0) (o : Option A) (a : A) → o ≡ Some a → IfSome o P → P a
+pub said : {A : Type 0} (P : A → Type 0) (o : Option A) (a : A) → o ≡ Some a → IfSome o P → P a
 said P o a is says = subst (λ x. IfSome x P) is says
+
+-- two equations for one attribute of a class are the same one
+pub same_own : (classes : Classes) (ds : List Located) (d e : Located) (a b : OwnEquation) → OfOwn classes ds d a → OfOwn classes ds e b → (nat_eq a.class b.class && nat_eq a.attribute b.attribute) ≡ true → is_same_equation d e ≡ true
+same_own classes ds d e a b of other same =
+    let class : a.class ≡ b.class = eqb-true a.class b.class (first_of (nat_eq a.class b.class) (nat_eq a.attribute b.attribute) same) in
+    let attribute : a.attribute ≡ b.attribute = eqb-true a.attribute b.attribute (second_of (nat_eq a.class b.class) (nat_eq a.attribute b.attribute) same) in
+    let classes_same = same_class_text classes (class_text d) (class_text e) b.class (of.1 ∙ ap Some class) other.1 in
+    let names_same = same_name_text classes ds (class_text d) (class_text e) (name_text d) (name_text e) b.attribute (of.2 ∙ ap Some attribute) other.2 in
+    let words : (bytes_eq (class_text d) (class_text e) && bytes_eq (name_text d) (name_text e)) ≡ true = and_true (bytes_eq (class_text d) (class_text e)) (bytes_eq (name_text d) (name_text e)) (equal (class_text d) (class_text e) classes_same) (equal (name_text d) (name_text e) names_same) in
+    let owns : (is_own_equation d.decl.form && is_own_equation e.decl.form) ≡ true = and_true (is_own_equation d.decl.form) (is_own_equation e.decl.form) of.0 other.0 in
+    and_true (bytes_eq (class_text d) (class_text e) && bytes_eq (name_text d) (name_text e)) ((is_own_equation d.decl.form && is_own_equation e.decl.form) || is_same_getter (getter_in d.decl.form) (getter_in e.decl.form)) words (or_left (is_own_equation d.decl.form && is_own_equation e.decl.form) (is_same_getter (getter_in d.decl.form) (getter_in e.decl.form)) owns)
+
+-- so are two for one component and one attribute of a class
+pub same_inherited : (classes : Classes) (d e : Located) (a b : InheritedEquation) → OfInherited classes d a → OfInherited classes e b → ((nat_eq a.class b.class && option_eq nat_eq a.part b.part) && bytes_eq a.name b.name) ≡ true → is_same_equation d e ≡ true
+same_inherited classes d e a b of other same =
+    let place : (nat_eq a.class b.class && option_eq nat_eq a.part b.part) ≡ true = first_of (nat_eq a.class b.class && option_eq nat_eq a.part b.part) (bytes_eq a.name b.name) same in
+    let class : a.class ≡ b.class = eqb-true a.class b.class (first_of (nat_eq a.class b.class) (option_eq nat_eq a.part b.part) place) in
+    let part : a.part ≡ b.part = same_option a.part b.part (second_of (nat_eq a.class b.class) (option_eq nat_eq a.part b.part) place) in
+    let name : a.name ≡ b.name = (bytes_eq-Decides a.name b.name).0 (second_of (nat_eq a.class b.class && option_eq nat_eq a.part b.part) (bytes_eq a.name b.name) same) in
+    let classes_same = same_class_text classes (class_text d) (class_text e) b.class (of.2 ∙ ap Some class) other.2 in
+    let getters_same = same_getter classes b.class of.0 other.0 b.part (ap (λ c. component_got classes c of.0) (sym class) ∙ of.3 ∙ ap Is part) other.3 in
+    let getters : is_same_getter (getter_in d.decl.form) (getter_in e.decl.form) ≡ true = ap₂ is_same_getter of.1 other.1 ∙ equal of.0.text other.0.text getters_same in
+    let words : (bytes_eq (class_text d) (class_text e) && bytes_eq (name_text d) (name_text e)) ≡ true = and_true (bytes_eq (class_text d) (class_text e)) (bytes_eq (name_text d) (name_text e)) (equal (class_text d) (class_text e) classes_same) (equal (name_text d) (name_text e) (sym of.4 ∙ name ∙ other.4)) in
+    and_true (bytes_eq (class_text d) (class_text e) && bytes_eq (name_text d) (name_text e)) ((is_own_equation d.decl.form && is_own_equation e.decl.form) || is_same_getter (getter_in d.decl.form) (getter_in e.decl.form)) words (or_right (is_own_equation d.decl.form && is_own_equation e.decl.form) (is_same_getter (getter_in d.decl.form) (getter_in e.decl.form)) getters)
 
 module _ (classes : Classes) (ds : List Located) (i : ℕ) (d : Located) (less : i < length ds) (at : d ≡ get_or ds i d) where
   attribute_clashes : declared_twice classes ds ≡ None → (a : Attribute) → OfAttribute classes d a → list_any (λ (b : Attribute). nat_eq a.class b.class && bytes_eq a.name b.name) (filter_map (λ (m : Meaning). m.attribute) (meanings classes ds (take i ds))) ≡ false
@@ -196,34 +220,12 @@ module _ (classes : Classes) (ds : List Located) (i : ℕ) (d : Located) (less :
           and_true (is_attribute e.decl.form && bytes_eq (name_text d) (name_text e)) (differs d.decl.form e.decl.form || is_on_one_line classes (class_text d) (class_text e)) names (or_right (differs d.decl.form e.decl.form) (is_on_one_line classes (class_text d) (class_text e)) line)
 
   own_clashes : equation_twice ds ≡ None → (a : OwnEquation) → OfOwn classes ds d a → list_any (λ (b : OwnEquation). nat_eq a.class b.class && nat_eq a.attribute b.attribute) (filter_map (λ (m : Meaning). m.own) (meanings classes ds (take i ds))) ≡ false
-  own_clashes none a of = none_meant classes ds (λ (m : Meaning). m.own) _ (is_same_equation d) too (take i ds) (no_equation ds i d less at none)
-    where
-      too : (e : Located) (m : Meaning) (b : OwnEquation) → meant classes ds e ≡ Is m → m.own ≡ Some b → (nat_eq a.class b.class && nat_eq a.attribute b.attribute) ≡ true → is_same_equation d e ≡ true
-      too e m b is there same =
-          let other = said (OfOwn classes ds e) m.own b there (of_words classes ds e m is).own in
-          let class : a.class ≡ b.class = eqb-true a.class b.class (first_of (nat_eq a.class b.class) (nat_eq a.attribute b.attribute) same) in
-          let attribute : a.attribute ≡ b.attribute = eqb-true a.attribute b.attribute (second_of (nat_eq a.class b.class) (nat_eq a.attribute b.attribute) same) in
-          let classes_same = same_class_text classes (class_text d) (class_text e) b.class (of.1 ∙ ap Some class) other.1 in
-          let names_same = same_name_text classes ds (class_text d) (class_text e) (name_text d) (name_text e) b.attribute (of.2 ∙ ap Some attribute) other.2 in
-          let words : (bytes_eq (class_text d) (class_text e) && bytes_eq (name_text d) (name_text e)) ≡ true = and_true (bytes_eq (class_text d) (class_text e)) (bytes_eq (name_text d) (name_text e)) (equal (class_text d) (class_text e) classes_same) (equal (name_text d) (name_text e) names_same) in
-          let owns : (is_own_equation d.decl.form && is_own_equation e.decl.form) ≡ true = and_true (is_own_equation d.decl.form) (is_own_equation e.decl.form) of.0 other.0 in
-          and_true (bytes_eq (class_text d) (class_text e) && bytes_eq (name_text d) (name_text e)) ((is_own_equation d.decl.form && is_own_equation e.decl.form) || is_same_getter (getter_in d.decl.form) (getter_in e.decl.form)) words (or_left (is_own_equation d.decl.form && is_own_equation e.decl.form) (is_same_getter (getter_in d.decl.form) (getter_in e.decl.form)) owns)
+  own_clashes none a of = none_meant classes ds (λ (m : Meaning). m.own) _ (is_same_equation d)
+      (λ e m b is there. same_own classes ds d e a b of (said (OfOwn classes ds e) m.own b there (of_words classes ds e m is).own)) (take i ds) (no_equation ds i d less at none)
 
   inherited_clashes : equation_twice ds ≡ None → (a : InheritedEquation) → OfInherited classes d a → list_any (λ (b : InheritedEquation). (nat_eq a.class b.class && option_eq nat_eq a.part b.part) && bytes_eq a.name b.name) (filter_map (λ (m : Meaning). m.inherited) (meanings classes ds (take i ds))) ≡ false
-  inherited_clashes none a of = none_meant classes ds (λ (m : Meaning). m.inherited) _ (is_same_equation d) too (take i ds) (no_equation ds i d less at none)
-    where
-      too : (e : Located) (m : Meaning) (b : InheritedEquation) → meant classes ds e ≡ Is m → m.inherited ≡ Some b → ((nat_eq a.class b.class && option_eq nat_eq a.part b.part) && bytes_eq a.name b.name) ≡ true → is_same_equation d e ≡ true
-      too e m b is there same =
-          let other = said (OfInherited classes e) m.inherited b there (of_words classes ds e m is).inherited in
-          let place : (nat_eq a.class b.class && option_eq nat_eq a.part b.part) ≡ true = first_of (nat_eq a.class b.class && option_eq nat_eq a.part b.part) (bytes_eq a.name b.name) same in
-          let class : a.class ≡ b.class = eqb-true a.class b.class (first_of (nat_eq a.class b.class) (option_eq nat_eq a.part b.part) place) in
-          let part : a.part ≡ b.part = same_option a.part b.part (second_of (nat_eq a.class b.class) (option_eq nat_eq a.part b.part) place) in
-          let name : a.name ≡ b.name = (bytes_eq-Decides a.name b.name).0 (second_of (nat_eq a.class b.class && option_eq nat_eq a.part b.part) (bytes_eq a.name b.name) same) in
-          let classes_same = same_class_text classes (class_text d) (class_text e) b.class (of.2 ∙ ap Some class) other.2 in
-          let getters_same = same_getter classes b.class of.0 other.0 b.part (ap (λ c. component_got classes c of.0) (sym class) ∙ of.3 ∙ ap Is part) other.3 in
-          let getters : is_same_getter (getter_in d.decl.form) (getter_in e.decl.form) ≡ true = ap₂ is_same_getter of.1 other.1 ∙ equal of.0.text other.0.text getters_same in
-          let words : (bytes_eq (class_text d) (class_text e) && bytes_eq (name_text d) (name_text e)) ≡ true = and_true (bytes_eq (class_text d) (class_text e)) (bytes_eq (name_text d) (name_text e)) (equal (class_text d) (class_text e) classes_same) (equal (name_text d) (name_text e) (sym of.4 ∙ name ∙ other.4)) in
-          and_true (bytes_eq (class_text d) (class_text e) && bytes_eq (name_text d) (name_text e)) ((is_own_equation d.decl.form && is_own_equation e.decl.form) || is_same_getter (getter_in d.decl.form) (getter_in e.decl.form)) words (or_right (is_own_equation d.decl.form && is_own_equation e.decl.form) (is_same_getter (getter_in d.decl.form) (getter_in e.decl.form)) getters)
+  inherited_clashes none a of = none_meant classes ds (λ (m : Meaning). m.inherited) _ (is_same_equation d)
+      (λ e m b is there. same_inherited classes d e a b of (said (OfInherited classes e) m.inherited b there (of_words classes ds e m is).inherited)) (take i ds) (no_equation ds i d less at none)
 
 -- one declaration more ---------------------------------------------------------------------------------------------------
 

@@ -1,6 +1,6 @@
 -- Inherited attributes of one name have the same kinds, where none is declared twice.
 use Rattle.std.proofs.Common.{◌≡◌, ℕ, zero, suc, ◌<◌, ◌⊎◌, inl, inr, Bool, true, false, ◌&&◌, ◌||◌, not, List, [], ◌∷◌, take, Option, Some, None, refl, sym, ap, ap₂, ◌∙◌, subst, true≢false, arith}
-use Rattle.std.specs.Prelude.{cond}
+use Rattle.std.specs.Prelude.{cond, is_some}
 use Rattle.std.specs.List.{slice_get, list_any, AllZip, filter}
 use Rattle.std.specs.Str.{bytes_eq}
 use Rattle.std.proofs.lemmas.Bool.{cases_order}
@@ -16,7 +16,7 @@ use Rattle.at_jrag.specs.Syntax.{KindWord, Param, DeclForm}
 use Rattle.at_jrag.specs.Syntax as written
 use Rattle.at_typing.specs.Declaring.{attributes, is_attribute, is_inherited, result_in, params_in, name_text, class_text, is_same_kind, have_same_kinds, has_same_result, has_same_signature, differs, is_on_one_line, clashes, declared_twice}
 use Rattle.at_typing.specs.Located.{Located}
-use Rattle.at_typing.specs.Ruling.{known_kind, as_written, written_kind}
+use Rattle.at_typing.specs.Ruling.{first_unless, known_kind, as_written, written_kind}
 use Rattle.at_kinds.specs.declared.signatures.WrittenKind.{WrittenKind}
 use Rattle.at_kinds.specs.declared.signatures.WrittenKind.TheVariants.{Known, Strange}
 use Rattle.at_typing.proofs.Gathering.{no_clash}
@@ -32,10 +32,17 @@ same_known classes written.Text written.Text is = refl
 same_known classes (written.Class v) (written.Class w) is = ap (λ name. known_kind classes (written.Class name)) ((bytes_eq-Decides v w).0 is)
 same_known classes v w is = absurd (true≢false (sym is))
 
-same_written : (classes : Classes) (v w : KindWord) → is_same_kind v.kind w.kind ≡ true → written_kind classes v ≡ written_kind classes w
-same_written classes v w is = ap as_written (same_known classes v.kind w.kind is)
+same_written : (classes : Classes) (v w : KindWord) → is_same_kind v.kind w.kind ≡ true → written_kind classes [] v.kind ≡ written_kind classes [] w.kind
+same_written classes v w is = ap₂ as_written (none_first (is_some (known_kind classes v.kind)) v.kind ∙ sym (none_first (is_some (known_kind classes w.kind)) w.kind)) (same_known classes v.kind w.kind is)
+  where
+    none_first : (b : Bool) (k : written.Kind) → first_unless b [] k ≡ None
+    none_first true k = refl
+    none_first false written.Int = refl
+    none_first false written.Bool' = refl
+    none_first false written.Text = refl
+    none_first false (written.Class name) = refl
 
-same_parameters : (classes : Classes) (ps qs : List Param) → have_same_kinds ps qs ≡ true → written_kinds classes ps ≡ written_kinds classes qs
+same_parameters : (classes : Classes) (ps qs : List Param) → have_same_kinds ps qs ≡ true → written_kinds classes [] ps ≡ written_kinds classes [] qs
 same_parameters classes [] [] is = refl
 same_parameters classes [] (q ∷ qs) is = absurd (true≢false (sym is))
 same_parameters classes (p ∷ ps) [] is = absurd (true≢false (sym is))
@@ -43,18 +50,18 @@ same_parameters classes (p ∷ ps) (q ∷ qs) is =
     let (first, rest) = both (is_same_kind p.kind.kind q.kind.kind) (have_same_kinds ps qs) is in
     ap₂ (λ k ks. k ∷ ks) (same_written classes p.kind q.kind first) (same_parameters classes ps qs rest)
 
-same_result : (classes : Classes) (o p : Option KindWord) (r s : KindWord) → o ≡ Some r → p ≡ Some s → has_same_result o p ≡ true → written_kind classes r ≡ written_kind classes s
+same_result : (classes : Classes) (o p : Option KindWord) (r s : KindWord) → o ≡ Some r → p ≡ Some s → has_same_result o p ≡ true → written_kind classes [] r.kind ≡ written_kind classes [] s.kind
 same_result classes (Some v) (Some w) r s is at same =
     let e : v ≡ r = cc in
     let f : w ≡ s = cc in
-    ap (written_kind classes) (sym e) ∙ same_written classes v w same ∙ ap (written_kind classes) f
+    ap (λ (x : KindWord). written_kind classes [] x.kind) (sym e) ∙ same_written classes v w same ∙ ap (λ (x : KindWord). written_kind classes [] x.kind) f
 same_result classes None p r s is at same = absurd (none-some r is)
 same_result classes (Some v) None r s is at same = absurd (none-some s at)
 
 -- one kind alone is known of each
 one_kind : (w : WrittenKind) (k l : model.Kind) → IsKind w k → IsKind w l → k ≡ l
 one_kind (Known j) k l is at = sym is ∙ at
-one_kind Strange k l is at = absurd is
+one_kind (Strange first) k l is at = absurd is
 
 one_each : (ws : List WrittenKind) (ks ls : List model.Kind) → AllZip IsKind ws ks → AllZip IsKind ws ls → ks ≡ ls
 one_each [] [] [] is at = refl
@@ -68,14 +75,14 @@ one_each (w ∷ ws) (k ∷ ks) (l ∷ ls) is at = ap₂ (λ x xs. x ∷ xs) (one
 
 -- the same kinds are written
 pub record AreWrittenAlike (classes : Classes) (d e : Located) : Type 0 where
-  pub parameters : written_kinds classes (params_in d.decl.form).items ≡ written_kinds classes (params_in e.decl.form).items
-  pub result : (r s : KindWord) → result_in d.decl.form ≡ Some r → result_in e.decl.form ≡ Some s → written_kind classes r ≡ written_kind classes s
+  pub parameters : written_kinds classes [] (params_in d.decl.form).items ≡ written_kinds classes [] (params_in e.decl.form).items
+  pub result : (r s : KindWord) → result_in d.decl.form ≡ Some r → result_in e.decl.form ≡ Some s → written_kind classes [] r.kind ≡ written_kind classes [] s.kind
 
 turned : (classes : Classes) (d e : Located) → AreWrittenAlike classes d e → AreWrittenAlike classes e d
 turned classes d e alike = record { parameters = sym alike.parameters; result = λ r s is at. sym (alike.result s r at is) }
 
 alike_itself : (classes : Classes) (d e : Located) → d ≡ e → AreWrittenAlike classes d e
-alike_itself classes d e same = subst (AreWrittenAlike classes d) same (record { parameters = refl; result = λ r s is at. let f : r ≡ s = let g : Some r ≡ Some s = sym is ∙ at in cc in ap (written_kind classes) f })
+alike_itself classes d e same = subst (AreWrittenAlike classes d) same (record { parameters = refl; result = λ r s is at. let f : r ≡ s = let g : Some r ≡ Some s = sym is ∙ at in cc in ap (λ (x : KindWord). written_kind classes [] x.kind) f })
 
 off_left : (a b : Bool) → (a || b) ≡ false → a ≡ false
 off_left false b is = refl
@@ -112,7 +119,7 @@ no_clash_alike classes d e declares inherits name none = of_signature (signature
         }
 
 -- what none of them passes, one of them doesn't pass
-none_passes : {A : Type 0} (p : A → Bool) (xs : List A) (i k : ℕ) (x : A) → i < k → slice_get xs i ≡ Some x → list_any p (take k xs) ≡ false → p x ≡ false
+pub none_passes : {A : Type 0} (p : A → Bool) (xs : List A) (i k : ℕ) (x : A) → i < k → slice_get xs i ≡ Some x → list_any p (take k xs) ≡ false → p x ≡ false
 none_passes p [] i k x less is none = absurd (none-some x is)
 none_passes p (y ∷ ys) i zero x less is none = absurd (omega (arith, less))
 none_passes p (y ∷ ys) zero (suc k) x less is none = let e : y ≡ x = cc in ap p (sym e) ∙ off_left (p y) _ none
@@ -156,6 +163,6 @@ inherited_alike rules ds none zip = λ j k a b at there inherits also name.
     let (m, d_there, d_declares) = place_of (λ (x : Located). is_attribute x.decl.form) ds j d d_at in
     let (n, e_there, e_declares) = place_of (λ (x : Located). is_attribute x.decl.form) ds k e e_at in
     let alike = any_alike rules.classes ds none m n d e d_there e_there d_declares e_declares (d_of.inherits ∙ inherits) (e_of.inherits ∙ also) (ap₂ bytes_eq d_of.same_name e_of.same_name ∙ name) in (
-      one_each (written_kinds rules.classes (params_in d.decl.form).items) a.parameters b.parameters d_of.declared.parameters (subst (λ ws. AllZip IsKind ws b.parameters) (sym alike.parameters) e_of.declared.parameters),
-      one_kind (written_kind rules.classes r) a.result b.result d_of.declared.result (subst (λ w. IsKind w b.result) (sym (alike.result r s r_is s_is)) e_of.declared.result),
+      one_each (written_kinds rules.classes [] (params_in d.decl.form).items) a.parameters b.parameters (d_of.declared []).parameters (subst (λ ws. AllZip IsKind ws b.parameters) (sym alike.parameters) (e_of.declared []).parameters),
+      one_kind (written_kind rules.classes [] r.kind) a.result b.result (d_of.declared []).result (subst (λ w. IsKind w b.result) (sym (alike.result r s r_is s_is)) (e_of.declared []).result),
     )

@@ -20,8 +20,8 @@ use Rattle.at_typing.specs.Building.{meaning_if, meanings, refusal, refused_at}
 use Rattle.at_typing.specs.Declaring.{attributes, is_attribute, is_inherited, result_in, params_in, class_text, name_text}
 use Rattle.at_kinds.specs.Judging.{Judgement, Is, Wrong, and_then}
 use Rattle.at_typing.specs.Located.{Located, class_word}
-use Rattle.at_typing.specs.Meanings.{Meaning, attribute, attribute_with, attribute_for, attribute_meant, signature, signature_if, signatures, meant, with_body, below_class, below_component, form_meant, own_meant, inherited_meant, declared_alone, declared_with, own_alone, inherited_alone}
-use Rattle.at_typing.specs.Ruling.{known_kind, as_written, written_kind, or_unknown, class_named, kind_named, max_parameters, can_be_passed, passed_if, param_named, params_named, component_got}
+use Rattle.at_typing.specs.Meanings.{Meaning, attribute, attribute_with, attribute_for, attribute_meant, results, signature, signature_if, signatures, signatures_among, meant, with_body, below_class, below_component, form_meant, own_meant, inherited_meant, declared_alone, declared_with, own_alone, inherited_alone}
+use Rattle.at_typing.specs.Ruling.{known_kind, as_written, first_unless, written_kind, or_unknown, class_named, kind_named, max_parameters, can_be_passed, passed_if, param_named, params_named, component_got}
 use Rattle.at_kinds.specs.declared.signatures.WrittenKind.{WrittenKind}
 use Rattle.at_typing.proofs.Gathering.{first_none, other_none}
 use Rattle.at_kinds.proofs.Holding.{Holds, then_holds, none_holds}
@@ -41,7 +41,7 @@ class_named_right classes word = by (class_of_name classes word.text) refl
 
 -- the kind is the one that is written, and a class that it names is there
 pub record IsNamed (classes : Classes) (word : KindWord) (k : Kind) : Type 0 where
-  pub known : IsKind (written_kind classes word) (kind_view k)
+  pub known : (first : Option ℕ) → IsKind (as_written first (known_kind classes word.kind)) (kind_view k)
   pub there : IsKindThere classes (kind_view k)
 
 kind_there : (classes : Classes) (w : written.Kind) (k : Kind) → known_kind classes w ≡ Some k → IsKindThere classes (kind_view k)
@@ -61,7 +61,7 @@ kind_named_right classes word = by (known_kind classes word.kind) refl
   where
     by : (o : Option Kind) → known_kind classes word.kind ≡ o → Holds (IsNamed classes word) (or_unknown word.at o)
     by None is = tt
-    by (Some k) is = record { known = subst (λ o. IsKind (as_written o) (kind_view k)) (sym is) refl; there = kind_there classes word.kind k is }
+    by (Some k) is = record { known = λ first. subst (λ o. IsKind (as_written first o) (kind_view k)) (sym is) refl; there = kind_there classes word.kind k is }
 
 -- parameters ------------------------------------------------------------------------------------------------------------
 
@@ -86,21 +86,21 @@ param_named_right classes i p = then_holds (IsNamed classes p.kind) (IsPassed cl
         record { named = named; passed = passed_there classes k passes named.there; early = ltb-true i max_parameters early }
     by k named false is = tt
 
-abbrev pub written_kinds : Classes → List Param → List WrittenKind
-written_kinds classes ps = map (λ p. written_kind classes p.kind) ps
+abbrev pub written_kinds : Classes → (words : List KindWord) → List Param → List WrittenKind
+written_kinds classes words ps = map (λ p. written_kind classes words p.kind.kind) ps
 
 pub record ArePassed (classes : Classes) (i : ℕ) (ps : List Param) (ks : List Kind) : Type 0 where
-  pub named : AllZip IsKind (written_kinds classes ps) (map kind_view ks)
+  pub named : (words : List KindWord) → AllZip IsKind (written_kinds classes words ps) (map kind_view ks)
   pub passed : AllByRecursion (IsParameter classes) (map kind_view ks)
   pub few : i ≤ max_parameters → i + length (map kind_view ks) ≤ max_parameters
 
 pub params_named_right : (classes : Classes) (i : ℕ) (ps : List Param) → Holds (ArePassed classes i ps) (params_named classes i ps)
-params_named_right classes i [] = record { named = tt; passed = tt; few = λ less. omega (arith, less) }
+params_named_right classes i [] = record { named = λ words. tt; passed = tt; few = λ less. omega (arith, less) }
 params_named_right classes i (p ∷ ps) =
     then_holds (IsPassed classes i p) (ArePassed classes i (p ∷ ps)) (λ k. and_then (λ ks. Is (k ∷ ks)) (params_named classes (i + 1) ps)) (param_named classes i p) (param_named_right classes i p) (λ k first.
     then_holds (ArePassed classes (i + 1) ps) (ArePassed classes i (p ∷ ps)) (λ ks. Is (k ∷ ks)) (params_named classes (i + 1) ps) (params_named_right classes (i + 1) ps) (λ ks rest.
     record {
-      named = (first.named.known, rest.named);
+      named = λ words. (first.named.known (first_unless (is_some (known_kind classes p.kind.kind)) words p.kind.kind), rest.named words);
       passed = (first.passed, rest.passed);
       few = λ less. counted i (length (map kind_view ks)) max_parameters first.early rest.few;
     }))
@@ -112,7 +112,7 @@ params_named_right classes i (p ∷ ps) =
 
 -- the attribute is the one that is declared with that kind
 pub record IsOfWord (classes : Classes) (d : Located) (result : KindWord) (a : Attribute) : Type 0 where
-  pub declared : IsDeclaredAs (signature classes d result) a
+  pub declared : (words : List KindWord) → IsDeclaredAs (signature classes words d result) a
   pub typed : IsDeclarationTyped classes a
   pub same_name : name_text d ≡ a.name
   pub inherits : is_inherited d.decl.form ≡ a.is_inherited
@@ -130,7 +130,7 @@ attribute_right classes d result =
     then_holds (λ c. class_of_name classes (class_text d) ≡ Some c) (IsOfWord classes d result) (attribute_with classes d k) (class_named classes (class_word d.decl.form)) (class_named_right classes (class_word d.decl.form)) (λ c class.
     then_holds (ArePassed classes 0 (params_in d.decl.form).items) (IsOfWord classes d result) (λ params. Is (attribute d c k params)) (params_named classes 0 (params_in d.decl.form).items) (params_named_right classes 0 (params_in d.decl.form).items) (λ ks passed.
     record {
-      declared = record { class = class; parameters = passed.named; result = named.known };
+      declared = λ words. record { class = class; parameters = passed.named words; result = named.known (first_unless (is_some (known_kind classes result.kind)) words result.kind) };
       typed = record { class = class_there classes (class_text d) c class; result = named.there; parameters = passed.passed; few = few_parameters (length (map kind_view ks)) (passed.few (within max_parameters)) };
       same_name = refl;
       inherits = refl;
@@ -193,23 +193,26 @@ all_declared classes all k (d ∷ ds) none = by (meant classes all d) refl (form
     by (Wrong c at) is holds faultless rest = absurd (none-some _ (sym faultless))
 
 -- what is declared of attributes is what they are
-pub signatures_same : (classes : Classes) (ds : List Located) (as' : List Attribute) → AllZip (Declares classes) (attributes ds) as' → AllZip IsDeclaredAs (signatures classes ds) as'
-signatures_same classes [] as' zip = by as' zip
+among_same : (classes : Classes) (words : List KindWord) (ds : List Located) (as' : List Attribute) → AllZip (Declares classes) (attributes ds) as' → AllZip IsDeclaredAs (signatures_among classes words ds) as'
+among_same classes words [] as' zip = by as' zip
   where
-    by : (as' : List Attribute) → AllZip (Declares classes) [] as' → AllZip IsDeclaredAs (flat_map (λ d. signature_if classes d (result_in d.decl.form)) []) as'
+    by : (as' : List Attribute) → AllZip (Declares classes) [] as' → AllZip IsDeclaredAs (signatures_among classes words []) as'
     by [] zip = tt
     by (a ∷ as') zip = absurd zip
-signatures_same classes (d ∷ ds) as' zip =
-    subst (λ xs. AllZip IsDeclaredAs xs as') (sym (flat_map-cons (λ d. signature_if classes d (result_in d.decl.form)) d ds))
-    (by (result_in d.decl.form) refl as' (subst (λ b. AllZip (Declares classes) (cond b (d ∷ attributes ds) (attributes ds)) as') (sym (declares_result d.decl.form)) zip) (signatures_same classes ds))
+among_same classes words (d ∷ ds) as' zip =
+    subst (λ xs. AllZip IsDeclaredAs xs as') (sym (flat_map-cons (λ d. signature_if classes words d (result_in d.decl.form)) d ds))
+    (by (result_in d.decl.form) refl as' (subst (λ b. AllZip (Declares classes) (cond b (d ∷ attributes ds) (attributes ds)) as') (sym (declares_result d.decl.form)) zip) (among_same classes words ds))
   where
-    by : (r : Option KindWord) → result_in d.decl.form ≡ r → (as' : List Attribute) → AllZip (Declares classes) (cond (is_some r) (d ∷ attributes ds) (attributes ds)) as' → ((bs : List Attribute) → AllZip (Declares classes) (attributes ds) bs → AllZip IsDeclaredAs (signatures classes ds) bs)
-        → AllZip IsDeclaredAs (signature_if classes d r ++ signatures classes ds) as'
+    by : (r : Option KindWord) → result_in d.decl.form ≡ r → (as' : List Attribute) → AllZip (Declares classes) (cond (is_some r) (d ∷ attributes ds) (attributes ds)) as' → ((bs : List Attribute) → AllZip (Declares classes) (attributes ds) bs → AllZip IsDeclaredAs (signatures_among classes words ds) bs)
+        → AllZip IsDeclaredAs (signature_if classes words d r ++ signatures_among classes words ds) as'
     by None at as' zip rest = rest as' zip
     by (Some result) at [] zip rest = absurd zip
     by (Some result) at (a ∷ as') zip rest =
         let e : zip.0.0 ≡ result = let f : Some zip.0.0 ≡ Some result = sym zip.0.1 ∙ at in cc in
-        (subst (λ r. IsDeclaredAs (signature classes d r) a) e zip.0.2.declared, rest as' zip.1)
+        (subst (λ r. IsDeclaredAs (signature classes words d r) a) e (zip.0.2.declared words), rest as' zip.1)
+
+pub signatures_same : (classes : Classes) (ds : List Located) (as' : List Attribute) → AllZip (Declares classes) (attributes ds) as' → AllZip IsDeclaredAs (signatures classes ds) as'
+signatures_same classes ds as' zip = among_same classes (results ds) ds as' zip
 
 -- so the rules' attributes are typed
 pub all_typed : (classes : Classes) (ds : List Located) (as' : List Attribute) → AllZip (Declares classes) ds as' → AllByRecursion (IsDeclarationTyped classes) as'

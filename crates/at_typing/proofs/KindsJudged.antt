@@ -13,16 +13,15 @@ use Rattle.at_model.proofs.Options.{led, mapped}
 use Rattle.at_text.specs.declared.place.Place.{Place}
 use Rattle.at_jrag.specs.Syntax as written
 use Rattle.at_rules.specs.declared.body.Kind.TheVariants as known_kind
-use Rattle.at_kinds.specs.Judging.{Kinded, Is, Wrong, Scope, Bound, and_then, within, index_eq, bound_to, index_named, named_by, named, this_node, negation, opposite, joined, chosen, cast, tested, called, list_called, list_or, folded, placed, judged, judged_all, judged_list}
+use Rattle.at_kinds.specs.Judging.{Kinded, Is, Wrong, Scope, Bound, and_then, within, index_eq, bound_to, index_named, named_by, named, this_node, negation, opposite, joined, chosen, cast, tested, called, list_called, list_or, no_list, folded, placed, judged, judged_all, judged_list}
 use Rattle.at_kinds.specs.Kinds.{of_written}
 use Rattle.at_kinds.specs.Signatures.{Declared}
-use Rattle.at_kinds.specs.declared.code.RuleCode.TheVariants as code
 use Rattle.at_kinds.specs.declared.signatures.WrittenKind.{WrittenKind}
 use Rattle.at_kinds.specs.declared.signatures.WrittenKind.TheVariants.{Known}
 use Rattle.at_kinds.proofs.Holding.{Holds, then_holds, none_holds}
 use Rattle.at_kinds.proofs.KindsKnown.{IsKind, IsDeclaredAs, beside_it}
 use Rattle.at_kinds.proofs.KindsOfForms.{Has, Right, negation_right, opposite_right, joined_right, chosen_right, cast_right, tested_right}
-use Rattle.at_kinds.proofs.KindsOfCalls.{AllRight, IsListOf, scope_at, result_right, called_right, list_called_right, folded_right}
+use Rattle.at_kinds.proofs.KindsOfCalls.{AllRight, IsListOf, scope_at, result_right, called_right, list_called_right, no_list_right, folded_right}
 use Rattle.at_typing.proofs.Literals.{AreInts, AreIntsAmong}
 
 abbrev pub IsBound : Bound → Kind → Type 0
@@ -110,4 +109,4 @@ module _ (rules : Rules) (declared : List Declared) (same : AllZip IsDeclaredAs 
         then_holds (Right rules t) (IsListOf rules t) (λ k. and_then (list_called (At this names index) fold at name k) (judged_all (At this names index) es)) (judged (At this names index) e) (judged_right t this names index are e ints.0) (λ k h.
         then_holds (AllRight rules t) (IsListOf rules t) (list_called (At this names index) fold at name k) (judged_all (At this names index) es) (judged_all_right t this names index are es ints.1) (λ ks all.
         list_called_right rules declared same t this names index fold at name k ks h))
-    listed_right t this names index are fold e ints = none_holds (IsListOf rules t) (λ (k : Kinded). Wrong code.Kind fold) (judged (At this names index) e) (λ k. tt)
+    listed_right t this names index are fold e ints = none_holds (IsListOf rules t) (no_list fold) (judged (At this names index) e) (no_list_right rules t fold)

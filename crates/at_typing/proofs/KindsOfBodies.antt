@@ -21,7 +21,7 @@ use Rattle.at_kinds.specs.Judging.{Kinded, Judgement, Is, Wrong, and_then, fitti
 use Rattle.at_kinds.specs.Kinds.{fits}
 use Rattle.at_typing.specs.Located.{Located}
 use Rattle.at_typing.specs.Meanings.{scope, body_for, body_if, body_meant}
-use Rattle.at_typing.specs.Ruling.{written_kind, is_same, is_kind, passed_if, param_named, param_as_declared, as_declared, bound}
+use Rattle.at_typing.specs.Ruling.{as_written, known_kind, is_same, is_kind, passed_if, param_named, param_as_declared, as_declared, bound}
 use Rattle.at_kinds.specs.Signatures.{Declared}
 use Rattle.at_kinds.specs.declared.code.RuleCode.TheVariants as code
 use Rattle.at_kinds.specs.declared.signatures.WrittenKind.{WrittenKind}
@@ -46,23 +46,23 @@ same_kind j k is = absurd (true≢false (sym is))
 -- the kind that is declared
 kind_declared : (o : Option WrittenKind) (k : Kind) → is_kind o k ≡ true → o ≡ Some (Known k)
 kind_declared None k is = absurd (true≢false (sym is))
-kind_declared (Some Strange) k is = absurd (true≢false (sym is))
+kind_declared (Some (Strange first)) k is = absurd (true≢false (sym is))
 kind_declared (Some (Known j)) k is = ap (λ l. Some (Known l)) (same_kind j k is)
 
 -- its kind is known, and the one that is declared
 abbrev IsAsDeclared : List model.Kind → ℕ → WrittenKind → Type 0
 IsAsDeclared ms i w = (m : model.Kind) × (slice_get ms i ≡ Some m) × IsKind w m
 
-param_right : (classes : Classes) (ws : List WrittenKind) (ms : List model.Kind) (i : ℕ) (p : Param) → AllZip IsKind ws ms → Holds (λ k. IsAsDeclared ms i (written_kind classes p.kind)) (param_as_declared classes ws i p)
-param_right classes ws ms i p zip = then_holds (IsPassed classes i p) (λ k. IsAsDeclared ms i (written_kind classes p.kind)) (λ k. passed_if (is_kind (slice_get ws i) k) p.kind.at k) (param_named classes i p) (param_named_right classes i p) (λ k passed. by k passed (is_kind (slice_get ws i) k) refl)
+param_right : (classes : Classes) (ws : List WrittenKind) (ms : List model.Kind) (i : ℕ) (p : Param) → AllZip IsKind ws ms → Holds (λ k. IsAsDeclared ms i (as_written None (known_kind classes p.kind.kind))) (param_as_declared classes ws i p)
+param_right classes ws ms i p zip = then_holds (IsPassed classes i p) (λ k. IsAsDeclared ms i (as_written None (known_kind classes p.kind.kind))) (λ k. passed_if (is_kind (slice_get ws i) k) p.kind.at k) (param_named classes i p) (param_named_right classes i p) (λ k passed. by k passed (is_kind (slice_get ws i) k) refl)
   where
     same_view : (w : WrittenKind) (k : Kind) (m : model.Kind) → IsKind w (kind_view k) → IsKind (Known k) m → IsKind w m
     same_view w k m is other = subst (IsKind w) other is
 
-    by : (k : Kind) → IsPassed classes i p k → (b : Bool) → is_kind (slice_get ws i) k ≡ b → Holds (λ k. IsAsDeclared ms i (written_kind classes p.kind)) (passed_if b p.kind.at k)
+    by : (k : Kind) → IsPassed classes i p k → (b : Bool) → is_kind (slice_get ws i) k ≡ b → Holds (λ k. IsAsDeclared ms i (as_written None (known_kind classes p.kind.kind))) (passed_if b p.kind.at k)
     by k passed true is =
         let (m, there, known) = beside_it IsKind ws ms i (Known k) zip (kind_declared (slice_get ws i) k is) in
-        (m, there, same_view (written_kind classes p.kind) k m passed.named.known known)
+        (m, there, same_view (as_written None (known_kind classes p.kind.kind)) k m (passed.named.known None) known)
     by k passed false is = tt
 
 front : (ms : List model.Kind) (i : ℕ) (m : model.Kind) → slice_get ms i ≡ Some m → drop i ms ≡ m ∷ drop (i + 1) ms
@@ -87,10 +87,10 @@ params_right classes ws ms end i [] zip = by (nat_lt i (length ws)) refl
     by true is = tt
     by false is = subst (λ xs. AllZip IsBound [] xs) (sym (drop_all i ms (past is))) tt
 params_right classes ws ms end i (p ∷ ps) zip =
-    then_holds (λ k. IsAsDeclared ms i (written_kind classes p.kind)) (λ u. AllZip IsBound (map (bound classes) (p ∷ ps)) (drop i ms)) (λ k. as_declared classes ws end (i + 1) ps) (param_as_declared classes ws i p) (param_right classes ws ms i p zip) (λ k (m, there, known).
+    then_holds (λ k. IsAsDeclared ms i (as_written None (known_kind classes p.kind.kind))) (λ u. AllZip IsBound (map (bound classes) (p ∷ ps)) (drop i ms)) (λ k. as_declared classes ws end (i + 1) ps) (param_as_declared classes ws i p) (param_right classes ws ms i p zip) (λ k (m, there, known).
     by m (front ms i m there) known (as_declared classes ws end (i + 1) ps) (params_right classes ws ms end (i + 1) ps zip))
   where
-    by : (m : model.Kind) → drop i ms ≡ m ∷ drop (i + 1) ms → IsKind (written_kind classes p.kind) m → (j : Judgement (Unit {0})) → Holds (λ u. AllZip IsBound (map (bound classes) ps) (drop (i + 1) ms)) j → Holds (λ u. AllZip IsBound (map (bound classes) (p ∷ ps)) (drop i ms)) j
+    by : (m : model.Kind) → drop i ms ≡ m ∷ drop (i + 1) ms → IsKind (as_written None (known_kind classes p.kind.kind)) m → (j : Judgement (Unit {0})) → Holds (λ u. AllZip IsBound (map (bound classes) ps) (drop (i + 1) ms)) j → Holds (λ u. AllZip IsBound (map (bound classes) (p ∷ ps)) (drop i ms)) j
     by m is known (Is u) rest = subst (λ xs. AllZip IsBound (map (bound classes) (p ∷ ps)) xs) (sym is) (known, rest)
     by m is known (Wrong c at) rest = tt
 
@@ -103,7 +103,7 @@ module _ (rules : Rules) where
   fit_right t k (Known kind.Bool) m is fit h = subst (HasKind rules t k.body) is (truth_has rules t k.kind k.body fit h)
   fit_right t k (Known kind.Text) m is fit h = subst (HasKind rules t k.body) is (text_has rules t k.kind k.body fit h)
   fit_right t k (Known (kind.Class b)) m is fit h = subst (HasKind rules t k.body) is (within_has rules t b k.kind k.body fit h)
-  fit_right t k Strange m is fit h = absurd is
+  fit_right t k (Strange first) m is fit h = absurd is
 
   module _ (declared : List Declared) (same : AllZip IsDeclaredAs declared rules.attributes) where
     abbrev where_stands : ℕ → Attribute → Bool → ScopeKinds

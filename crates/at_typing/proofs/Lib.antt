@@ -28,5 +28,6 @@ mod KindsJudged
 mod KindsDeclared
 mod KindsOfBodies
 mod InheritedAlike
+mod Singles
 mod EquationsOfKinds
 pub mod BuiltWellFormed

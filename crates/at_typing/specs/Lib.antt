@@ -11,3 +11,5 @@ pub mod Meanings
 pub mod Building
 pub mod Seen
 pub mod Completing
+pub mod Single
+pub mod Samples

@@ -18,22 +18,34 @@ use Rattle.at_kinds.specs.declared.code.RuleCode.TheVariants as code
 
 -- the attributes that are declared -----------------------------------------------------------------------------------
 
-abbrev pub signature : Classes → Located → KindWord → Declared
-signature classes d result = record {
+-- the word with which the values of an attribute are declared, if one is
+abbrev pub words_of : Option KindWord → List KindWord
+words_of None = []
+words_of (Some word) = word ∷ []
+
+-- the words with which the values of attributes are declared, in the order of the declarations
+abbrev pub results : List Located → List KindWord
+results ds = flat_map (λ d. words_of (result_in d.decl.form)) ds
+
+abbrev pub signature : Classes → (words : List KindWord) → Located → KindWord → Declared
+signature classes words d result = record {
   name = name_text d;
   class = class_of_name classes (class_text d);
-  parameters = map (λ p. written_kind classes p.kind) (params_in d.decl.form).items;
-  result = written_kind classes result;
+  parameters = map (λ p. written_kind classes words p.kind.kind) (params_in d.decl.form).items;
+  result = written_kind classes words result.kind;
 }
 
 -- where the declaration declares an attribute
-abbrev pub signature_if : Classes → Located → Option KindWord → List Declared
-signature_if classes d None = []
-signature_if classes d (Some result) = signature classes d result ∷ []
+abbrev pub signature_if : Classes → (words : List KindWord) → Located → Option KindWord → List Declared
+signature_if classes words d None = []
+signature_if classes words d (Some result) = signature classes words d result ∷ []
+
+abbrev pub signatures_among : Classes → (words : List KindWord) → List Located → List Declared
+signatures_among classes words ds = flat_map (λ d. signature_if classes words d (result_in d.decl.form)) ds
 
 -- what is declared of attributes, in the order of the declarations
 abbrev pub signatures : Classes → List Located → List Declared
-signatures classes ds = flat_map (λ d. signature_if classes d (result_in d.decl.form)) ds
+signatures classes ds = signatures_among classes (results ds) ds
 
 -- bodies of equations -------------------------------------------------------------------------------------------------
 

@@ -1,11 +1,14 @@
 -- The parts of a declaration: its kinds, its class, its component and index name, its parameters; or their first fault.
-use Rattle.std.specs.Prelude.{ℕ, ◌+◌, Bool, true, false, ◌&&◌, nat_eq, nat_lt, List, [], ◌∷◌, length, codes, Option, Some, None, option_map, option_and_then, slice_get, if◌then◌else◌}
+use Rattle.std.specs.Prelude.{ℕ, ◌+◌, Bool, true, false, ◌&&◌, nat_eq, nat_lt, List, [], ◌∷◌, length, map, codes, position, Option, Some, None, is_some, option_map, option_and_then, slice_get, if◌then◌else◌}
+use Rattle.std.specs.Borrow.{Bor}
 use Rattle.std.specs.Str.{bytes_eq}
 use Rattle.at_model.specs.Classes.{Classes, class_of_name, parts}
 use Rattle.at_model.specs.Classes as class
 use Rattle.at_text.specs.declared.place.Place.{Place}
 use Rattle.at_jrag.specs.Syntax.{Word, KindWord, Param}
 use Rattle.at_jrag.specs.Syntax as written
+use Rattle.at_jrag.specs.View.{kind_word_view}
+use Rattle.at_jrag.specs.declared.syntax.KindWord.{KindWord as KindWordValue}
 use Rattle.at_rules.specs.declared.body.Kind.{Kind}
 use Rattle.at_rules.specs.declared.body.Kind.TheVariants as kind
 use Rattle.at_kinds.specs.Accessors.{accessed, shape_of, is_list}
@@ -23,12 +26,30 @@ known_kind classes written.Bool' = Some kind.Bool
 known_kind classes written.Text = Some kind.Text
 known_kind classes (written.Class name) = option_map kind.Class (class_of_name classes name)
 
-abbrev pub as_written : Option Kind → WrittenKind
-as_written None = Strange
-as_written (Some k) = Known k
+abbrev pub names_class : List ℕ → written.Kind → Bool
+names_class name (written.Class word) = bytes_eq word name
+names_class name k = false
 
-abbrev pub written_kind : Classes → KindWord → WrittenKind
-written_kind classes word = as_written (known_kind classes word.kind)
+abbrev pub words_view : List (Bor KindWordValue) → List KindWord
+words_view words = map (λ (w : Bor KindWordValue). kind_word_view w.now) words
+
+-- the first of the words that is of the same class
+abbrev pub first_named : List KindWord → written.Kind → Option ℕ
+first_named words (written.Class name) = position (λ w. names_class name w.kind) words
+first_named words k = None
+
+abbrev pub first_unless : (is_known : Bool) → List KindWord → written.Kind → Option ℕ
+first_unless true words k = None
+first_unless false words k = first_named words k
+
+abbrev pub as_written : (first : Option ℕ) → Option Kind → WrittenKind
+as_written first None = Strange first
+as_written first (Some k) = Known k
+
+-- the kind that is written, where these are the words with which the values of attributes are declared: a class that isn't there
+-- is told by the first of them that is of it
+abbrev pub written_kind : Classes → (words : List KindWord) → written.Kind → WrittenKind
+written_kind classes words k = as_written (first_unless (is_some (known_kind classes k)) words k) (known_kind classes k)
 
 -- the parts of a declaration ------------------------------------------------------------------------------------------
 
@@ -74,7 +95,7 @@ is_same j k = false
 -- that is the kind which is declared
 abbrev pub is_kind : Option WrittenKind → Kind → Bool
 is_kind (Some (Known j)) k = is_same j k
-is_kind (Some Strange) k = false
+is_kind (Some (Strange first)) k = false
 is_kind None k = false
 
 -- the parameter at that position is the one that is declared
@@ -110,4 +131,4 @@ index_of_list classes c part (Some index) = if is_many (option_and_then (shape_o
 
 -- a parameter's name, with the kind of what it stands for
 abbrev pub bound : Classes → Param → Bound
-bound classes p = record { name = p.name.text; kind = written_kind classes p.kind }
+bound classes p = record { name = p.name.text; kind = as_written None (known_kind classes p.kind.kind) }

@@ -11,6 +11,7 @@ ghost use Rattle.at_typing.specs.Located.{declarations_in, AreSpelled};
 ghost use Rattle.at_typing.specs.Meanings.{meant as meant_by_itself};
 ghost use Rattle.at_typing.specs.Numbering.{numbered_view, AreNumbered};
 ghost use Rattle.at_typing.specs.Seen.{refusal_of, AddsOrTells, IsAbout, Means, Stands, Tells};
+ghost use Rattle.at_typing.specs.Single.{AreSingle};
 ghost use Rattle.at_typing.specs.declared.numbered.Numbered.{Numbered as NumberedValue};
 
 use crate::attributes::Attributes;
@@ -41,6 +42,7 @@ pub fn build(alloc: Global, classes: ClassTable, files: &[Vec<Aspect>]) -> Resul
     ensures built { Builds classes (declarations_in files.now) result }
     ensures complete { IfOk result AreComplete }
     ensures well_formed { IsHierarchy classes → AreSpelled files.now → IfOk result AreWellFormed }
+    ensures single { IfOk result AreSingle }
     ensures classes { IfOk result (λ r. r.classes ≡ classes) }
 {
     let declared = Declarations::of(alloc, &classes, files)?;

@@ -311,7 +311,7 @@ impl Among<'_> {
                 self.alloc,
                 String::from_str(self.alloc, param.name.text.as_str())?,
             )?,
-            kind: as_written(known_kind(self.classes, &param.kind.kind)),
+            kind: as_written(None, known_kind(self.classes, &param.kind.kind)),
         })
     }
 
@@ -485,7 +485,7 @@ fn is_known(declared: &WrittenKind, kind: &Kind) -> bool
 {
     match declared {
         WrittenKind::Known(declared) => is_same(declared, kind),
-        WrittenKind::Strange => false,
+        WrittenKind::Strange(_) => false,
     }
 }
 

@@ -47,7 +47,7 @@ impl Scope<'_> {
     {
         match kind {
             ExprKind::Class(class) => self.asked(class, node, name, arguments, at),
-            ExprKind::Strange => Err(refused(RuleCode::UnknownName, at)),
+            ExprKind::Strange(_) => Err(refused(RuleCode::UnknownName, at)),
             _ => Err(refused(RuleCode::Kind, at)),
         }
     }

@@ -2,12 +2,12 @@
 
 ghost use Rattle.std.specs.Prelude.{◌≡◌, Option, option_and_then};
 ghost use Rattle.at_rules.specs.Bodies.{body_view};
-ghost use Rattle.at_kinds.specs.Kinds.{known, of_written, is_int as is_int_kind, is_truth as is_truth_kind, is_text as is_text_kind, is_null as is_null_kind, is_node as is_node_kind, is_within, fits as fits_kind, fits_known, only_if, upper as upper_of, wider_class as wider_class_of, wider as wider_of};
+ghost use Rattle.at_kinds.specs.Kinds.{known, of_written, is_int as is_int_kind, is_truth as is_truth_kind, is_text as is_text_kind, is_node as is_node_kind, is_within, is_of_word, common_word, fits as fits_kind, fits_known, only_if, upper as upper_of, wider_class as wider_class_of, wider_strange as wider_strange_of, wider as wider_of};
 ghost use Rattle.at_kinds.specs.Typed.{typed_view};
 
 use crate::signatures::WrittenKind;
 use at_class::{ClassId, ClassTable};
-use at_rules::{Body, Kind};
+use at_rules::{AttrId, Body, Kind};
 use at_text::place::Place;
 
 /// The kind of an expression.
@@ -18,8 +18,8 @@ pub enum ExprKind {
     Text,
     /// Null, or a node of the class or below.
     Class(ClassId),
-    /// Nodes, of a class that isn't there.
-    Strange,
+    /// Null, or nodes of a class that isn't there: of that of the word with which the values of this attribute are declared.
+    Strange(Option<AttrId>),
     /// Null alone.
     Null,
 }
@@ -31,7 +31,7 @@ impl ExprKind {
     {
         match kind {
             WrittenKind::Known(kind) => ExprKind::known(kind),
-            WrittenKind::Strange => ExprKind::Strange,
+            WrittenKind::Strange(first) => ExprKind::Strange(first),
         }
     }
 
@@ -65,18 +65,12 @@ impl ExprKind {
         matches!(self, ExprKind::Text)
     }
 
-    fn is_null(&self) -> bool
-        ensures { result ≡ is_null_kind self.now }
-    {
-        matches!(self, ExprKind::Null)
-    }
-
     /// Whether its values are nodes and null.
     pub fn is_node(&self) -> bool
         ensures { result ≡ is_node_kind self.now }
     {
         match self {
-            ExprKind::Class(_) | ExprKind::Strange | ExprKind::Null => true,
+            ExprKind::Class(_) | ExprKind::Strange(_) | ExprKind::Null => true,
             ExprKind::Int | ExprKind::Bool | ExprKind::Text => false,
         }
     }
@@ -87,7 +81,7 @@ impl ExprKind {
     {
         match wanted {
             WrittenKind::Known(kind) => self.fits_known(classes, kind),
-            WrittenKind::Strange => self.is_null(),
+            WrittenKind::Strange(first) => self.is_of_word(first),
         }
     }
 
@@ -113,6 +107,17 @@ impl ExprKind {
         }
     }
 
+    /// Whether it is null's kind, or that of the same class that isn't there.
+    fn is_of_word(self, first: Option<AttrId>) -> bool
+        ensures { result ≡ is_of_word first self }
+    {
+        match self {
+            ExprKind::Strange(second) => common_word(first, second).is_some(),
+            ExprKind::Null => true,
+            _ => false,
+        }
+    }
+
     /// The wider of two kinds that are equal, or of which one has all values of the other.
     pub fn wider(self, classes: &ClassTable, other: ExprKind) -> Option<ExprKind>
         ensures { result ≡ wider_of classes.now self other }
@@ -122,7 +127,7 @@ impl ExprKind {
             ExprKind::Bool => only_if(other.is_truth(), other),
             ExprKind::Text => only_if(other.is_text(), other),
             ExprKind::Class(class) => wider_class(classes, class, other),
-            ExprKind::Strange => only_if(other.is_null(), ExprKind::Strange),
+            ExprKind::Strange(first) => wider_strange(first, other),
             ExprKind::Null => only_if(other.is_node(), other),
         }
     }
@@ -143,6 +148,30 @@ fn wider_class(classes: &ClassTable, class: ClassId, other: ExprKind) -> Option<
         ExprKind::Null => Some(ExprKind::Class(class)),
         ExprKind::Class(second) => upper(classes, class, second),
         _ => None,
+    }
+}
+
+/// The kind of a class that isn't there, where the other one is the same or null's.
+fn wider_strange(first: Option<AttrId>, other: ExprKind) -> Option<ExprKind>
+    ensures { result ≡ wider_strange_of first other }
+{
+    match other {
+        ExprKind::Null => Some(ExprKind::Strange(first)),
+        ExprKind::Strange(second) => Some(ExprKind::Strange(Some(common_word(first, second)?))),
+        _ => None,
+    }
+}
+
+/// The first attribute with values of the word, where the two are of one word.
+fn common_word(first: Option<AttrId>, second: Option<AttrId>) -> Option<AttrId>
+    ensures { result ≡ common_word first second }
+{
+    let first = first?;
+    let second = second?;
+    if first.index() == second.index() {
+        Some(first)
+    } else {
+        None
     }
 }
 

@@ -212,6 +212,6 @@ fn are_alike(left: ExprKind, right: ExprKind) -> bool
         ExprKind::Int => right.is_int(),
         ExprKind::Bool => right.is_truth(),
         ExprKind::Text => false,
-        ExprKind::Class(_) | ExprKind::Strange | ExprKind::Null => right.is_node(),
+        ExprKind::Class(_) | ExprKind::Strange(_) | ExprKind::Null => right.is_node(),
     }
 }

@@ -2,14 +2,12 @@
 
 ghost use Rattle.std.specs.Prelude.{◌≡◌, List as Items};
 ghost use Rattle.at_jrag.specs.View.{operator_view as sign_view, word_view};
-ghost use Rattle.at_kinds.specs.declared.code.RuleCode.TheVariants as code;
-ghost use Rattle.at_kinds.specs.Judging.{Judged, Judgement, Kinded, Wrong, and_then, called as called_of, placed as placed_at, negation as negation_of, opposite as opposite_of, cast as cast_to, tested as tested_by, joined as joined_of, chosen as chosen_of, list_called as list_called_by};
+ghost use Rattle.at_kinds.specs.Judging.{Judged, Judgement, Kinded, and_then, called as called_of, placed as placed_at, negation as negation_of, opposite as opposite_of, cast as cast_to, tested as tested_by, joined as joined_of, chosen as chosen_of, list_called as list_called_by, no_list as no_list_of};
 ghost use Rattle.at_kinds.specs.Typed.{typed_view, all_view, list_view, scope_view, Judges};
 
-use super::folds::List;
+use super::folds::{List, nodes_of};
 use super::kinds::Typed;
-use super::{Scope, TypeFault, refused};
-use crate::code::RuleCode;
+use super::{Scope, TypeFault};
 use at_jrag::{Operator, Word};
 use at_text::place::Place;
 
@@ -139,10 +137,10 @@ impl Scope<'_> {
     }
 }
 
-/// What is no call is no list: a wrong kind of the fold at that place, where it has no fault itself.
+/// What is no call is no list of the fold at that place, where it has no fault itself.
 pub(super) fn no_list(whole: Result<Typed, TypeFault>, fold: Place) -> Result<List, TypeFault>
-    ensures { (j : Judged) → Judges typed_view j whole → Judges list_view (and_then (λ k. Wrong code.Kind fold) j) result }
+    ensures { (j : Judged) → Judges typed_view j whole → Judges list_view (and_then (no_list_of fold) j) result }
 {
-    whole?;
-    Err(refused(RuleCode::Kind, fold))
+    let whole = whole?;
+    nodes_of(whole.kind, whole.body, fold)
 }

@@ -5,10 +5,12 @@ use Rattle.std.proofs.lemmas.Result.{err_from_is_err_and}
 use Rattle.at_jrag.specs.View.{aspect_view}
 use Rattle.at_jrag.specs.declared.syntax.Aspect.{Aspect}
 use Rattle.at_typing.specs.Building.{first_fault, meanings, Builds}
+use Rattle.at_typing.specs.Located.{declarations_in}
 use Rattle.at_typing.specs.Numbering.{numbered_view, AreNumbered, IsNamed}
 use Rattle.at_typing.specs.Seen.{Stands}
 use Rattle.at_typing.proofs.Built.{meant_fault}
 use Rattle.at_typing.proofs.BuiltWellFormed.{built_if_ok}
+use Rattle.at_typing.proofs.Singles.{single_if_ok}
 use Rattle.at_typing.proofs.building.build.Goals as goal
 
 pub meant_together-requires : goal.meant_together-requires
@@ -34,3 +36,6 @@ returns-clause-built c = subst (λ ds. Builds c.args.classes ds c.complete_rules
 pub returns-clause-well_formed : goal.returns-clause-well_formed
 returns-clause-well_formed c hierarchy spelled =
     built_if_ok c.args.classes (map (λ (f : Vec Aspect Global). map aspect_view f.items) c.args.files.now) c.complete_rules.result hierarchy spelled (returns-clause-built c)
+
+pub returns-clause-single : goal.returns-clause-single
+returns-clause-single c = single_if_ok c.args.classes (declarations_in c.args.files.now) c.complete_rules.result (returns-clause-built c)
