@@ -6,13 +6,12 @@ ghost use Rattle.at_body.specs.Values.{value_view};
 use super::value::Value;
 use at_rules::AttrId;
 use at_store::Node;
-use smallvec::SmallVec;
 use std::alloc::{AllocError, Global};
 use std::hash::{Hash, Hasher};
 use std::marker::Model;
 
-/// What is passed to an attribute; up to two values stand inline.
-pub type Arguments = SmallVec<Value, 2>;
+/// What is passed to an attribute. None of them take no memory.
+pub type Arguments = Vec<Value>;
 
 /// The question for an attribute of a node, with arguments: texts, nodes and null.
 #[derive(Debug)]

@@ -8,6 +8,7 @@ ghost use Rattle.at_model.specs.Bodies.{named, index_of, demand_of, no_exprs};
 ghost use Rattle.at_model.specs.Rules.{Rules as Meant};
 ghost use Rattle.at_model.specs.TypedRuns.{ClassAt};
 ghost use Rattle.at_model.specs.WellFormed.{IsHierarchy};
+ghost use Rattle.at_store.specs.Located.{loc_view};
 ghost use Rattle.at_store.specs.Shown.{contents, IsIdle};
 ghost use Rattle.at_body.specs.Size.{size, sizes, tests};
 ghost use Rattle.at_body.specs.Typed.{Calls, ComesTo, Enters, IsOver, IsTypedNow, IsTypedStep, Takes, Uses, class_shown};
@@ -29,6 +30,7 @@ use super::value::{FaultKind, Value};
 use at_rules::{AttrId, Body, Rules};
 use at_store::{Loc, Node, Store};
 use std::alloc::{AllocError, Global};
+use std::mem;
 
 /// An evaluation under way: where it stands, what is left to do, and the locations that it has looked at.
 pub struct Trial<'a> {
@@ -90,6 +92,13 @@ impl<'a> Trial<'a> {
         ensures { result.now ≡ self.now.reads }
     {
         &self.reads
+    }
+
+    /// The locations that it has looked at, in order, taken out of it.
+    pub fn take_reads(&mut self, alloc: Global) -> Vec<Loc>
+        ensures { map loc_view result.items ≡ self.old.reads }
+    {
+        mem::replace(&mut self.reads, Reads::new(alloc)).into_vec()
     }
 
     /// Goes on up to the end or to a demand.

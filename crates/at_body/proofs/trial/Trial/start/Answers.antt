@@ -7,7 +7,7 @@ use Rattle.at_body.proofs.TypedBegins.{begins}
 use Rattle.at_body.proofs.trial.Trial.start.Goals as goal
 
 pub returns-clause-found : goal.returns-clause-found
-returns-clause-found c = started c.args.rules.now (contents c.args.store.now) c.args.inst.now c.look_at.new.reads _ _ c.class-class.result _ _ c.node-node.ensures c.attribute-attribute.ensures (c.in_ok-arguments.ensures ∙ c.arguments.ensures) (rw (c.in_ok-look_at.ensures, c.as_slice.ensures, c.in_ok-push.ensures.gained, c.new-reads.ensures) refl) c.class-class.ensures (c.in_ok-now.ensures.same ∙ c.in_ok-step.ensures.found)
+returns-clause-found c = started c.args.rules.now (contents c.args.store.now) c.args.inst.now c.look_at.new.reads _ _ c.class-class.result _ _ c.node-node.ensures c.attribute-attribute.ensures (c.in_ok-arguments.ensures ∙ c.arguments.ensures) (rw (c.in_ok-look_at.ensures, c.as_slice.ensures.value, c.in_ok-push.ensures.gained, c.new-reads.ensures) refl) c.class-class.ensures (c.in_ok-now.ensures.same ∙ c.in_ok-step.ensures.found)
 
 pub begin-requires-clause-formed : goal.begin-requires-clause-formed
 begin-requires-clause-formed c = c.requires.formed.typed
