@@ -129,7 +129,15 @@ impl Hash for Inst {
 pub fn copied(alloc: Global, values: &[Value]) -> Result<Arguments, AllocError>
     ensures { IfOk result (λ vs. map value_view vs.items ≡ map value_view values.now) }
 {
-    let mut copies = Arguments::new(alloc);
+    copied_into(Arguments::new(alloc), values)
+}
+
+/// The values once more, in a list in place of what it has. An error where memory is wanting.
+pub fn copied_into(list: Arguments, values: &[Value]) -> Result<Arguments, AllocError>
+    ensures { IfOk result (λ vs. map value_view vs.items ≡ map value_view values.now) }
+{
+    let mut copies = list;
+    copies.clear();
     let mut rest = values;
     while let Some((value, others)) = rest.split_first() {
         copies.push(value.copy()?)?;

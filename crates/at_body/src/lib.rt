@@ -17,6 +17,7 @@ mod folding;
 mod inst;
 mod laws;
 mod reads;
+mod room;
 mod stack;
 mod starting;
 mod todo;
@@ -29,6 +30,7 @@ mod value;
 pub use inst::{Arguments, Inst};
 pub use laws::{comes, fails, gives, passes};
 pub use reads::Reads;
+pub use room::Room;
 pub use trial::{Step, Trial};
 pub use trying::{Known, Tried, try_body};
 pub use typing_laws::{

@@ -23,6 +23,7 @@ ghost use Rattle.at_body.specs.Rest.{GoesOn, OnlyReads, ev, evaluated_for, rest,
 
 use super::inst::{Arguments, Inst};
 use super::reads::Reads;
+use super::room::Room;
 use super::stack::Stack;
 use super::todo::{Asking, Binary, Fold, Now, Todo, Unary};
 use super::using::int_value;
@@ -99,6 +100,23 @@ impl<'a> Trial<'a> {
         ensures { map loc_view result.items ≡ self.old.reads }
     {
         mem::replace(&mut self.reads, Reads::new(alloc)).into_vec()
+    }
+
+    /// Its lists, for a trial that begins in their memory.
+    pub fn into_room(self) -> Room<'a> {
+        let Trial {
+            this: _,
+            child: _,
+            bound,
+            arguments,
+            todo,
+            reads: _,
+        } = self;
+        Room {
+            bound,
+            arguments,
+            todo,
+        }
     }
 
     /// Goes on up to the end or to a demand.

@@ -4,7 +4,7 @@ use Rattle.at_body.proofs.Climbing.{started}
 use Rattle.at_model.specs.Run.{Is}
 use Rattle.at_body.proofs.TypedShown.{shown_typed}
 use Rattle.at_body.proofs.TypedBegins.{begins}
-use Rattle.at_body.proofs.trial.Trial.start.Goals as goal
+use Rattle.at_body.proofs.trial.Trial.start_in.Goals as goal
 
 pub returns-clause-found : goal.returns-clause-found
 returns-clause-found c = started c.args.rules.now (contents c.args.store.now) c.args.inst.now c.look_at.new.reads _ _ c.class-class.result _ _ c.node-node.ensures c.attribute-attribute.ensures (c.in_ok-arguments.ensures ∙ c.arguments.ensures) (rw (c.in_ok-look_at.ensures, c.as_slice.ensures.value, c.in_ok-push.ensures.gained, c.new-reads.ensures) refl) c.class-class.ensures (c.in_ok-now.ensures.same ∙ c.in_ok-step.ensures.found)
