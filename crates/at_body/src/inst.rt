@@ -1,6 +1,6 @@
 //! Instances: attributes of nodes, with arguments.
 
-ghost use Rattle.std.specs.Prelude.{◌≡◌, ◌++◌, IfOk, map};
+ghost use Rattle.std.specs.Prelude.{◌≡◌, ◌++◌, IfOk, OnOk, map};
 ghost use Rattle.at_body.specs.Values.{value_view};
 
 use super::value::Value;
@@ -129,19 +129,19 @@ impl Hash for Inst {
 pub fn copied(alloc: Global, values: &[Value]) -> Result<Arguments, AllocError>
     ensures { IfOk result (λ vs. map value_view vs.items ≡ map value_view values.now) }
 {
-    copied_into(Arguments::new(alloc), values)
+    let mut copies = Arguments::new(alloc);
+    copy_behind(&mut copies, values)?;
+    Ok(copies)
 }
 
-/// The values once more, in a list in place of what it has. An error where memory is wanting.
-pub fn copied_into(list: Arguments, values: &[Value]) -> Result<Arguments, AllocError>
-    ensures { IfOk result (λ vs. map value_view vs.items ≡ map value_view values.now) }
+/// Puts the values once more behind those that are there. An error where memory is wanting.
+pub fn copy_behind(copies: &mut Arguments, values: &[Value]) -> Result<(), AllocError>
+    ensures { OnOk result (map value_view copies.new.items ≡ map value_view copies.old.items ++ map value_view values.now) }
 {
-    let mut copies = list;
-    copies.clear();
     let mut rest = values;
     while let Some((value, others)) = rest.split_first() {
         copies.push(value.copy()?)?;
         rest = others;
     }
-    Ok(copies)
+    Ok(())
 }

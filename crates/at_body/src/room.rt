@@ -36,17 +36,19 @@ impl<'a> Room<'a> {
         }
     }
 
-    /// The lists; those that a trial begins without anything in are emptied.
+    /// The lists, emptied.
     pub(crate) fn into_lists(self) -> (Stack<Node>, Arguments, Stack<Todo<'a>>)
         ensures unbound { result.0 ≡ [] }
+        ensures none { result.1.items ≡ [] }
         ensures idle { result.2 ≡ [] }
     {
         let Room {
             mut bound,
-            arguments,
+            mut arguments,
             mut todo,
         } = self;
         bound.clear();
+        arguments.clear();
         todo.clear();
         (bound, arguments, todo)
     }

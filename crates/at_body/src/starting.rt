@@ -17,7 +17,7 @@ ghost use Rattle.at_body.specs.Starting.{own_of, by_rule};
 ghost use Rattle.at_body.specs.Typed.{IsOver, IsTypedNow, IsTypedStep, class_shown};
 ghost use Rattle.at_body.specs.TypedStart.{Begins, HasEquation};
 
-use super::inst::{Inst, copied_into};
+use super::inst::{Inst, copy_behind};
 use super::reads::Reads;
 use super::room::Room;
 use super::todo::Now;
@@ -64,10 +64,10 @@ impl<'a> Trial<'a> {
         ensures found { IfOk result (λ r. follow (contents store.now) [] (evaluation rules.now nat_eq inst.now) ≡ (reached rules.now.classes r.1 r.0, r.0.reads)) }
         ensures typed { IfOk result (λ r. IsTypedStep rules.now (class_shown store.now) r.1 r.0) }
     {
-        let (bound, arguments, todo) = room.into_lists();
+        let (bound, mut arguments, todo) = room.into_lists();
         let node = inst.node();
         let attribute = inst.attribute();
-        let arguments = copied_into(arguments, inst.arguments())?;
+        copy_behind(&mut arguments, inst.arguments())?;
         let mut reads = Reads::new(alloc);
         reads.push(Loc::Is(node))?;
         look_at(arguments.as_slice(), &mut reads)?;
