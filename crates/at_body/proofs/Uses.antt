@@ -1,8 +1,8 @@
 -- The use of a value.
-use Rattle.std.proofs.Common.{◌≡◌, ℕ, List, [], ◌∷◌, ◌++◌, ap, ◌∙◌, refl, sym, subst, Result, Ok, Err, IfOk, Bor, append_assoc, Some}
+use Rattle.std.proofs.Common.{◌≡◌, ℕ, List, [], ◌∷◌, ◌++◌, ap, ◌∙◌, refl, sym, subst, Result, Ok, Err, IfOk, Bor, append_assoc, Some, slice_get}
 use Rattle.at_model.specs.Classes.{Classes}
-use Rattle.at_model.specs.Bodies.{Expr, Exprs, demand_of}
-use Rattle.at_model.specs.Run.{Value, Slot, Location, Contents, Run, ◌>>=◌}
+use Rattle.at_model.specs.Bodies.{Expr, Exprs, demand_of, node_or, Child, This}
+use Rattle.at_model.specs.Run.{Value, Ref, Slot, Location, Contents, Run, Fails, Absent, ◌>>=◌}
 use Rattle.at_model.specs.Follow.{follow}
 use Rattle.at_rules.specs.declared.body.Body.{Body}
 use Rattle.at_body.specs.declared.value.Value.{Value as ValueCode}
@@ -10,12 +10,12 @@ use Rattle.at_body.specs.declared.todo.Binary.{Binary}
 use Rattle.at_body.specs.declared.todo.Fold.{Fold}
 use Rattle.at_body.specs.declared.todo.Now.{Now}
 use Rattle.at_body.specs.declared.todo.Todo.{Todo}
-use Rattle.at_body.specs.declared.todo.Todo.TheVariants.{Right, Apply, Element}
+use Rattle.at_body.specs.declared.todo.Todo.TheVariants.{Right, Apply, Arguments, Element}
 use Rattle.at_body.specs.declared.trial.Trial.{Trial}
 use Rattle.at_body.specs.Values.{value_view}
-use Rattle.at_rules.specs.Bodies.{body_view}
+use Rattle.at_rules.specs.Bodies.{body_view, bodies_view}
 use Rattle.at_body.specs.Stacked.{below}
-use Rattle.at_body.specs.Rest.{rest, resumed, used, called, gone_over, folded, decided, place_of, ev, ev_all, with_two}
+use Rattle.at_body.specs.Rest.{rest, resumed, used, called, evaluated_for, gone_over, folded, decided, place_of, ev, ev_all, with_two}
 use Rattle.at_body.proofs.Runs.{regroup, fun_ext}
 use Rattle.at_body.proofs.Entering.{Put}
 
@@ -48,6 +48,17 @@ pub one_more : (classes : Classes) (t : Trial) (a : ℕ) (v w : Value ℕ) (done
 one_more classes t a v w done es =
     let e : (λ (ws : List (Value ℕ)). demand_of a v (done ++ w ∷ ws)) ≡ (λ ws. demand_of a v ((done ++ w ∷ []) ++ ws)) = fun_ext (λ ws. ap (demand_of a v) (sym (append_assoc done (w ∷ []) ws))) in
     ap (λ k. (ev_all classes es (place_of t) >>= k) >>= resumed classes t) e
+
+-- the receiver of a call is a child of `this`, which is looked at
+pub receiver_seen : {E : Type 0} (classes : Classes) (tree : Contents ℕ) (res : Result Now E) (t mid new : Trial) (e : Expr) (part n a : ℕ) (bs : Bor (List Body)) →
+    e ≡ Child This part → slice_get (tree (Slot t.this part)) 0 ≡ Some n → mid ≡ record t { reads = t.reads ++ Slot t.this part ∷ [] } →
+    IfOk res (λ now. called classes mid a (Ref (Some n)) [] (bodies_view bs.now) ≡ rest classes now new) → IfOk res (λ now. new.reads ≡ mid.reads) →
+    IfOk res (λ now. follow tree t.reads (evaluated_for classes t (Arguments a bs) e) ≡ follow tree new.reads (rest classes now new))
+receiver_seen classes tree (Ok now) t mid new e part n a bs is there after h same =
+    let s : follow tree t.reads (evaluated_for classes t (Arguments a bs) e) ≡ follow tree mid.reads (called classes mid a (Ref (Some n)) [] (bodies_view bs.now)) =
+    rw (is, after) (ap (λ (r : Run ℕ (Value ℕ)). follow tree (t.reads ++ Slot t.this part ∷ []) (r >>= used classes (Arguments a bs) t)) (ap (node_or (Fails Absent)) there)) in
+    let P : List (Location ℕ) → Type 0 = λ ls. follow tree t.reads (evaluated_for classes t (Arguments a bs) e) ≡ follow tree ls (rest classes now new) in subst P (sym same) (s ∙ ap (follow tree mid.reads) h)
+receiver_seen classes tree (Err e') t mid new e part n a bs is there after h same = tt
 
 -- the value of a fold's expression, once the element is no longer bound
 pub unbound : {E : Type 0} (classes : Classes) (tree : Contents ℕ) (res : Result Now E) (t new : Trial) (f : Fold) (b : Bor Body) (n : ℕ) (ns : Bor (List ℕ)) (v : Value ℕ) (bound : List ℕ) →

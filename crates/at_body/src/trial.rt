@@ -136,7 +136,7 @@ impl<'a> Trial<'a> {
     {
         loop {
             now = match now {
-                Now::Enter(body) => self.enter(rules, store, body)?,
+                Now::Enter(body) => self.enter(alloc, rules, store, body)?,
                 Now::Back(value) => match self.todo.pop() {
                     Some(todo) => self.back(alloc, rules, store, todo, value)?,
                     None => return Ok(Step::Value(value)),
@@ -152,6 +152,7 @@ impl<'a> Trial<'a> {
     /// room for all arms of a `match` is made at each call.
     fn enter(
         &mut self,
+        alloc: Global,
         rules: &'a Rules,
         store: &'a Store,
         body: &'a Body,
@@ -168,6 +169,7 @@ impl<'a> Trial<'a> {
             Body::Arithmetic(operator, a, b) => {
                 self.operands(store, Binary::Arithmetic(*operator), a, b)
             }
+            Body::Call(a, attribute, passed) => self.call(alloc, store, a, *attribute, passed),
             _ => self.enter_any(rules, store, body),
         }
     }
@@ -429,7 +431,7 @@ impl<'a> Trial<'a> {
     }
 
     /// Evaluates the first argument of a call, or demands the attribute where it has none, which takes no memory.
-    fn first_argument(
+    pub(crate) fn first_argument(
         &mut self,
         alloc: Global,
         attribute: AttrId,
