@@ -1,12 +1,12 @@
 -- What a trial does next, by the kinds of its values.
-use Rattle.std.proofs.Common.{◌≡◌, ℕ, ℤ, ◌-◌, zero, suc, List, [], ◌∷◌, ◌++◌, length, map, Option, Some, None, refl, sym, subst, ap, Bor, Result, Ok, Err, IfOk, arith}
+use Rattle.std.proofs.Common.{◌≡◌, ℕ, ℤ, ◌-◌, zero, suc, List, [], ◌∷◌, ◌++◌, length, map, Option, Some, None, refl, sym, subst, Bor, Result, Ok, Err, IfOk, arith}
 use Rattle.std.specs.Prelude.{IsSome}
 use Rattle.std.specs.List.{slice_get}
-use Rattle.at_model.specs.Bodies.{Exprs, IndexName, Name, Child, This, computed, joined, node_or}
+use Rattle.at_model.specs.Bodies.{Exprs, IndexName, Name, computed, joined}
 use Rattle.at_model.specs.Kinds.{HasKind}
 use Rattle.at_model.specs.Kinds as form
 use Rattle.at_model.specs.Rules.{Rules, Kind, Class}
-use Rattle.at_model.specs.Run.{Value, Ref, Contents, Slot, Run, Gives, Fails, Absent, Location}
+use Rattle.at_model.specs.Run.{Value, Ref, Contents, Slot, Gives, Location}
 use Rattle.at_model.specs.TypedRuns.{ClassAt, AreArguments}
 use Rattle.at_model.specs.Instances.{AnyText}
 use Rattle.at_model.proofs.Chained.{chained}
@@ -26,6 +26,7 @@ use Rattle.at_body.specs.declared.value.Value.TheVariants as value
 use Rattle.at_body.specs.Values.{value_view}
 use Rattle.at_body.specs.Standing.{names, scope}
 use Rattle.at_body.specs.Rest.{ev, place_of, with_one, with_two}
+use Rattle.at_body.specs.Calling.{IsReceiver}
 use Rattle.at_body.specs.Typed.{ComesTo, IsOver, PlaceKinds, name_kinds, scope_kinds, AreBound, Stands, Takes, Enters, Uses, Calls, Operates, GoesOver, Folds, IsTypedNow}
 use Rattle.at_body.proofs.TypedUses.{taken, receives, right_follows, operands_there}
 use Rattle.at_body.proofs.TypedFolds.{elements_there}
@@ -151,12 +152,12 @@ module _ (rules : Rules) (at : ClassAt ℕ) (look : Contents ℕ) (over : IsOver
   pub hand_uses : (t : Trial) (k : Todo) (b : Body) (v : Value ℕ) → Enters rules at (record t { todo = k ∷ t.todo }) b → ev rules.classes (body_view b) (place_of t) ≡ Gives v → Uses rules at t k v
   hand_uses t k b v h e = taken rules at (chained rules.classes over.hierarchy) (record t { todo = k ∷ t.todo }) v k t.todo refl (at_hand_takes rules at look over (record t { todo = k ∷ t.todo }) b v h e)
 
-  -- a child of `this` that is there is the receiver of a call
-  pub receiver_called : (t mid : Trial) (b : Body) (part n attribute : ℕ) (bs : Bor (List Body)) (seen : List (Location ℕ)) → body_view b ≡ Child This part → slice_get (look (Slot t.this part)) 0 ≡ Some n → mid ≡ record t { reads = seen } →
+  -- what a call goes on with, once its receiver is there
+  pub receiver_called : (t mid : Trial) (b : Body) (n attribute : ℕ) (bs : Bor (List Body)) → IsReceiver look (body_view b) t mid (Some n) →
       Enters rules at (record t { todo = code.Arguments attribute bs ∷ t.todo }) b → Calls rules at mid attribute (Some n) [] (bodies_view bs.now)
-  receiver_called t mid b part n attribute bs seen is there after h =
+  receiver_called t mid b n attribute bs (seen, after, comes, goes) h =
       let waits : Trial = record t { todo = code.Arguments attribute bs ∷ t.todo } in
-      let takes : Takes rules at waits (Ref (Some n)) = evaluated_now rules at look over waits b (now.Back (value.Ref (Some n))) h (rw is (subst (λ (r : Run ℕ (Value ℕ)). ComesTo look r (now.Back (value.Ref (Some n)))) (sym (ap (node_or (Fails Absent)) there)) refl)) in
+      let takes : Takes rules at waits (Ref (Some n)) = evaluated_now rules at look over waits b (now.Back (value.Ref (Some n))) h (comes rules.classes) in
       let uses : Uses rules at t (code.Arguments attribute bs) (Ref (Some n)) = taken rules at (chained rules.classes over.hierarchy) waits (Ref (Some n)) (code.Arguments attribute bs) t.todo refl takes in
       subst (λ z. Calls rules at z attribute (Some n) [] (bodies_view bs.now)) (sym after) (seen_calls rules at t attribute (Some n) [] (bodies_view bs.now) seen (receives rules at t attribute bs (Ref (Some n)) uses))
 

@@ -175,7 +175,7 @@ fn look_at(arguments: &[Value], reads: &mut Reads) -> Result<(), AllocError>
 }
 
 /// The node to which an argument refers; none for null, and for one that is no reference.
-fn node_in(argument: &Value) -> Option<Node>
+pub(crate) fn node_in(argument: &Value) -> Option<Node>
     ensures { result ≡ ref_of (value_view argument.now) }
 {
     match argument {

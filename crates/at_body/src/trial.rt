@@ -313,7 +313,7 @@ impl<'a> Trial<'a> {
 
     /// The value of an expression for which nothing has to be done first: of a literal that is no text, of `this`, of the
     /// name of a fold.
-    fn at_hand(&self, body: &Body) -> Option<Value>
+    pub(crate) fn at_hand(&self, body: &Body) -> Option<Value>
         ensures { (classes : Classes) → IfSome result (λ value. ev classes (body_view body.now) (place_of self.now) ≡ Gives (value_view value)) }
     {
         match body {
