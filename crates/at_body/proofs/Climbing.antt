@@ -6,6 +6,7 @@ use Rattle.at_model.specs.Bodies.{Expr, ref_of, eval}
 use Rattle.at_model.specs.Rules.{Rules, by_inherited, by_equation, inherited_equation, past_arguments, evaluation}
 use Rattle.at_model.specs.Support.{argument_classes}
 use Rattle.at_body.specs.declared.trial.Trial.{Trial}
+use Rattle.at_body.specs.declared.value.Value.{Value as ValueCode}
 use Rattle.at_body.specs.Values.{value_view}
 use Rattle.at_body.specs.Standing.{scope}
 use Rattle.at_model.specs.Follow.{Reached, follow}
@@ -21,6 +22,10 @@ alone classes t e n vs child idle unbound this passed down =
     let s : begun classes t e ≡ r = rw idle (to_its_end r) in
     let p : scope (place_of t) ≡ record { this = n; names = vs; child = child } = rw (unbound, this, passed, down) refl in
     s ∙ ap (eval classes nat_eq e) p
+
+-- values that are put behind none
+pub put_behind_none : (old new : List ValueCode) (vs all : List (Value ℕ)) → old ≡ [] → map value_view new ≡ map value_view old ++ vs → vs ≡ all → map value_view new ≡ all
+put_behind_none old new vs all none is same = is ∙ rw none same
 
 -- one argument more, where it is a node or none
 past_with : {A : Type 0} (tree : Contents ℕ) (seen : List (Location ℕ)) (vs : List (Value ℕ)) (r : Run ℕ A) →

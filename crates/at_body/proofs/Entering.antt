@@ -114,6 +114,11 @@ first_arg classes t a v done e es =
     let each : (λ (w : Value ℕ). list w >>= call) ≡ here = fun_ext (λ w. regroup others (λ ws. Gives (w ∷ ws)) call) in
     ap (λ r. r >>= resumed classes t) (regroup first list call ∙ ap (λ k. first >>= k) each) ∙ regroup first here (resumed classes t)
 
+-- the first argument of a call, for which none is there yet
+pub first_of_all : (classes : Classes) (t : Trial) (a : ℕ) (v : Value ℕ) (done : List (Value ℕ)) (e : Expr) (es : Exprs) → done ≡ [] →
+    called classes t a v [] (expr e es) ≡ ev classes e (place_of t) >>= λ w. (ev_all classes es (place_of t) >>= λ ws. demand_of a v (done ++ w ∷ ws)) >>= resumed classes t
+first_of_all classes t a v done e es none = rw none (first_arg classes t a v [] e es)
+
 pub first_element : (classes : Classes) (t : Trial) (f : Fold) (e : Expr) (n : ℕ) (ns : List ℕ) →
     gone_over classes t f e (n ∷ ns) ≡ ev classes e (inside (place_of t) n) >>= λ v. settled classes f e (place_of t) n ns v >>= resumed classes t
 first_element classes t fold.Exists e n ns = regroup (ev classes e (inside (place_of t) n)) (settled classes fold.Exists e (place_of t) n ns) (resumed classes t)

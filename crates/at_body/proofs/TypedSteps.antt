@@ -2,30 +2,33 @@
 use Rattle.std.proofs.Common.{◌≡◌, ℕ, ℤ, ◌-◌, zero, suc, List, [], ◌∷◌, ◌++◌, length, map, Option, Some, None, refl, sym, subst, Bor, Result, Ok, Err, IfOk, arith}
 use Rattle.std.specs.Prelude.{IsSome}
 use Rattle.std.specs.List.{slice_get}
-use Rattle.at_model.specs.Bodies.{IndexName, Name, computed, joined}
+use Rattle.at_model.specs.Bodies.{Exprs, IndexName, Name, computed, joined}
 use Rattle.at_model.specs.Kinds.{HasKind}
 use Rattle.at_model.specs.Kinds as form
 use Rattle.at_model.specs.Rules.{Rules, Kind, Class}
-use Rattle.at_model.specs.Run.{Value, Contents, Slot, Gives, Location}
+use Rattle.at_model.specs.Run.{Value, Ref, Contents, Slot, Gives, Location}
 use Rattle.at_model.specs.TypedRuns.{ClassAt, AreArguments}
 use Rattle.at_model.specs.Instances.{AnyText}
 use Rattle.at_model.proofs.Chained.{chained}
-use Rattle.at_rules.specs.Bodies.{body_view, operator_view}
+use Rattle.at_rules.specs.Bodies.{body_view, bodies_view, operator_view}
 use Rattle.at_rules.specs.declared.body.Operator.{Operator}
 use Rattle.at_rules.specs.declared.body.Body.{Body}
 use Rattle.at_body.specs.declared.todo.Binary.{Binary}
 use Rattle.at_body.specs.declared.todo.Fold.{Fold}
 use Rattle.at_body.specs.declared.todo.Now.{Now}
+use Rattle.at_body.specs.declared.todo.Now.TheVariants as now
 use Rattle.at_body.specs.declared.todo.Todo.{Todo}
 use Rattle.at_body.specs.declared.todo.Todo.TheVariants as code
 use Rattle.at_body.specs.declared.todo.Unary.{Unary}
 use Rattle.at_body.specs.declared.trial.Trial.{Trial}
 use Rattle.at_body.specs.declared.value.Value.{Value as ValueCode}
+use Rattle.at_body.specs.declared.value.Value.TheVariants as value
 use Rattle.at_body.specs.Values.{value_view}
 use Rattle.at_body.specs.Standing.{names, scope}
 use Rattle.at_body.specs.Rest.{ev, place_of, with_one, with_two}
-use Rattle.at_body.specs.Typed.{ComesTo, IsOver, PlaceKinds, name_kinds, scope_kinds, AreBound, Stands, Enters, Uses, Operates, GoesOver, Folds, IsTypedNow}
-use Rattle.at_body.proofs.TypedUses.{taken, right_follows, operands_there}
+use Rattle.at_body.specs.Calling.{IsReceiver}
+use Rattle.at_body.specs.Typed.{ComesTo, IsOver, PlaceKinds, name_kinds, scope_kinds, AreBound, Stands, Takes, Enters, Uses, Calls, Operates, GoesOver, Folds, IsTypedNow}
+use Rattle.at_body.proofs.TypedUses.{taken, receives, right_follows, operands_there}
 use Rattle.at_body.proofs.TypedFolds.{elements_there}
 use Rattle.at_body.proofs.TypedAnswers.{evaluated_now, at_hand_takes, use_typed, operates_typed}
 
@@ -63,6 +66,22 @@ module _ (rules : Rules) (at : ClassAt ℕ) where
 
   pub seen_goes : (t : Trial) (f : Fold) (e : Body) (ns : List ℕ) (seen : List (Location ℕ)) → GoesOver rules at t f e ns → GoesOver rules at (record t { reads = seen }) f e ns
   seen_goes t f e ns seen h = record { kinds = h.kinds; class = h.class; kind = h.kind; result = h.result; folds = h.folds; is = h.is; nodes = h.nodes; stands = seen_stands h.kinds h.result t seen h.stands }
+
+  seen_calls : (t : Trial) (attribute : ℕ) (n : Option ℕ) (done : List (Value ℕ)) (es : Exprs) (seen : List (Location ℕ)) → Calls rules at t attribute n done es → Calls rules at (record t { reads = seen }) attribute n done es
+  seen_calls t attribute n done es seen h = record {
+    kinds = h.kinds;
+    class = h.class;
+    declaration = h.declaration;
+    first = h.first;
+    others = h.others;
+    attribute_is = h.attribute_is;
+    declared = h.declared;
+    parameters = h.parameters;
+    node = h.node;
+    arguments = h.arguments;
+    are = h.are;
+    stands = seen_stands h.kinds h.declaration.result t seen h.stands;
+  }
 
   -- names -------------------------------------------------------------------------------------------------------------
 
@@ -132,6 +151,15 @@ module _ (rules : Rules) (at : ClassAt ℕ) (look : Contents ℕ) (over : IsOver
   -- a value at hand is used
   pub hand_uses : (t : Trial) (k : Todo) (b : Body) (v : Value ℕ) → Enters rules at (record t { todo = k ∷ t.todo }) b → ev rules.classes (body_view b) (place_of t) ≡ Gives v → Uses rules at t k v
   hand_uses t k b v h e = taken rules at (chained rules.classes over.hierarchy) (record t { todo = k ∷ t.todo }) v k t.todo refl (at_hand_takes rules at look over (record t { todo = k ∷ t.todo }) b v h e)
+
+  -- what a call goes on with, once its receiver is there
+  pub receiver_called : (t mid : Trial) (b : Body) (n attribute : ℕ) (bs : Bor (List Body)) → IsReceiver look (body_view b) t mid (Some n) →
+      Enters rules at (record t { todo = code.Arguments attribute bs ∷ t.todo }) b → Calls rules at mid attribute (Some n) [] (bodies_view bs.now)
+  receiver_called t mid b n attribute bs (seen, after, comes, goes) h =
+      let waits : Trial = record t { todo = code.Arguments attribute bs ∷ t.todo } in
+      let takes : Takes rules at waits (Ref (Some n)) = evaluated_now rules at look over waits b (now.Back (value.Ref (Some n))) h (comes rules.classes) in
+      let uses : Uses rules at t (code.Arguments attribute bs) (Ref (Some n)) = taken rules at (chained rules.classes over.hierarchy) waits (Ref (Some n)) (code.Arguments attribute bs) t.todo refl takes in
+      subst (λ z. Calls rules at z attribute (Some n) [] (bodies_view bs.now)) (sym after) (seen_calls rules at t attribute (Some n) [] (bodies_view bs.now) seen (receives rules at t attribute bs (Ref (Some n)) uses))
 
   -- and is the right operand
   pub hand_operates : (t : Trial) (o : Binary) (b : Bor Body) (v : ValueCode) (w : Value ℕ) → Uses rules at t (code.Right o b) (value_view v) → ev rules.classes (body_view b.now) (place_of t) ≡ Gives w → Operates rules at t o (value_view v) w

@@ -6,6 +6,7 @@ pub mod Size
 pub mod Stacked
 pub mod Standing
 pub mod Rest
+pub mod Calling
 pub mod Starting
 pub mod Trying
 pub mod Typed

@@ -1,18 +1,17 @@
 //! Instances: attributes of nodes, with arguments.
 
-ghost use Rattle.std.specs.Prelude.{◌≡◌, ◌++◌, IfOk, map};
+ghost use Rattle.std.specs.Prelude.{◌≡◌, ◌++◌, IfOk, OnOk, map};
 ghost use Rattle.at_body.specs.Values.{value_view};
 
 use super::value::Value;
 use at_rules::AttrId;
 use at_store::Node;
-use smallvec::SmallVec;
 use std::alloc::{AllocError, Global};
 use std::hash::{Hash, Hasher};
 use std::marker::Model;
 
-/// What is passed to an attribute; up to two values stand inline.
-pub type Arguments = SmallVec<Value, 2>;
+/// What is passed to an attribute. None of them take no memory.
+pub type Arguments = Vec<Value>;
 
 /// The question for an attribute of a node, with arguments: texts, nodes and null.
 #[derive(Debug)]
@@ -131,10 +130,18 @@ pub fn copied(alloc: Global, values: &[Value]) -> Result<Arguments, AllocError>
     ensures { IfOk result (λ vs. map value_view vs.items ≡ map value_view values.now) }
 {
     let mut copies = Arguments::new(alloc);
+    copy_behind(&mut copies, values)?;
+    Ok(copies)
+}
+
+/// Puts the values once more behind those that are there. An error where memory is wanting.
+pub fn copy_behind(copies: &mut Arguments, values: &[Value]) -> Result<(), AllocError>
+    ensures { OnOk result (map value_view copies.new.items ≡ map value_view copies.old.items ++ map value_view values.now) }
+{
     let mut rest = values;
     while let Some((value, others)) = rest.split_first() {
         copies.push(value.copy()?)?;
         rest = others;
     }
-    Ok(copies)
+    Ok(())
 }

@@ -2,21 +2,24 @@
 //! value.
 //!
 //! **Its specs:** `Values`, `Same` and `Sameness` are values and instances; `Rest` says what is left of an
-//! evaluation under way, `Size` how much that is; `Starting` and `Stacked`, `Standing` where it stands; `Trying`
-//! what one try finds; `Typed`, `TypedStart` and `ValueKinds` of what kinds the values are that are there and that
-//! are waited for.
+//! evaluation under way, `Size` how much that is; `Starting` and `Stacked`, `Standing` where it stands; `Calling`
+//! which receivers of calls are taken at once; `Trying` what one try finds; `Typed`, `TypedStart` and `ValueKinds`
+//! of what kinds the values are that are there and that are waited for.
 //!
-//! **Where to begin:** `trial.rt` has the steps, `using.rt` and `folding.rt` what is done with values,
-//! `starting.rt` the way up to an inherited equation; `trying.rt` is one try with what is known.
+//! **Where to begin:** `trial.rt` has the steps, `calling.rt` the receivers of calls, `using.rt` and `folding.rt`
+//! what is done with values, `starting.rt` the way up to an inherited equation, `room.rt` the lists that the next
+//! trial uses again; `trying.rt` is one try with what is known.
 //!
 //! **What it keeps true:** a trial goes exactly as far as `at_model`'s `Run` of the instance, notes just the
 //! locations that this looks at, and keeps to the kinds, so no code answers for a value of another one.
 #![tactic(auto)]
 
+mod calling;
 mod folding;
 mod inst;
 mod laws;
 mod reads;
+mod room;
 mod stack;
 mod starting;
 mod todo;
@@ -29,6 +32,7 @@ mod value;
 pub use inst::{Arguments, Inst};
 pub use laws::{comes, fails, gives, passes};
 pub use reads::Reads;
+pub use room::Room;
 pub use trial::{Step, Trial};
 pub use trying::{Known, Tried, try_body};
 pub use typing_laws::{

@@ -55,6 +55,13 @@ impl Reads {
         self.items.as_slice()
     }
 
+    /// All of them, taken out.
+    pub fn into_vec(self) -> Vec<Loc>
+        ensures { map loc_view result.items ≡ self }
+    {
+        self.items
+    }
+
     /// How many there are.
     pub fn len(&self) -> usize
         ensures { result ≡ length self.now }

@@ -40,6 +40,13 @@ impl<T> Stack<T> {
 }
 
 impl<T: Drop> Stack<T> {
+    /// Takes all out; their memory stays with the stack.
+    pub fn clear(&mut self)
+        ensures { self.new ≡ [] }
+    {
+        self.items.clear();
+    }
+
     /// Puts a value on top.
     pub fn push(&mut self, value: T) -> Result<(), AllocError>
         ensures { OnOk result (self.new ≡ value ∷ self.old) }

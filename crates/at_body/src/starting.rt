@@ -17,9 +17,9 @@ ghost use Rattle.at_body.specs.Starting.{own_of, by_rule};
 ghost use Rattle.at_body.specs.Typed.{IsOver, IsTypedNow, IsTypedStep, class_shown};
 ghost use Rattle.at_body.specs.TypedStart.{Begins, HasEquation};
 
-use super::inst::{Inst, copied};
+use super::inst::{Inst, copy_behind};
 use super::reads::Reads;
-use super::stack::Stack;
+use super::room::Room;
 use super::todo::Now;
 use super::trial::{Step, Trial};
 use super::value::Value;
@@ -45,9 +45,29 @@ impl<'a> Trial<'a> {
         ensures found { IfOk result (λ r. follow (contents store.now) [] (evaluation rules.now nat_eq inst.now) ≡ (reached rules.now.classes r.1 r.0, r.0.reads)) }
         ensures typed { IfOk result (λ r. IsTypedStep rules.now (class_shown store.now) r.1 r.0) }
     {
+        Trial::start_in(alloc, rules, store, inst, Room::new(alloc))
+    }
+
+    /// Begins the evaluation as `start` does, in the lists of a trial that has ended, so that it takes no memory for what they have room
+    /// for. An error where memory is wanting.
+    pub fn start_in(
+        alloc: Global,
+        rules: &'a Rules,
+        store: &'a Store,
+        inst: &Inst,
+        room: Room<'a>,
+    ) -> Result<(Trial<'a>, Step), AllocError>
+        requires idle_store { IsIdle store.now }
+        requires formed { AreWellFormed rules.now }
+        requires sound { IsTreeSound rules.now.classes (tree store.now) }
+        requires typed { IsWellTyped rules.now (class_shown store.now) AnyText inst.now }
+        ensures found { IfOk result (λ r. follow (contents store.now) [] (evaluation rules.now nat_eq inst.now) ≡ (reached rules.now.classes r.1 r.0, r.0.reads)) }
+        ensures typed { IfOk result (λ r. IsTypedStep rules.now (class_shown store.now) r.1 r.0) }
+    {
+        let (bound, mut arguments, todo) = room.into_lists();
         let node = inst.node();
         let attribute = inst.attribute();
-        let arguments = copied(alloc, inst.arguments())?;
+        copy_behind(&mut arguments, inst.arguments())?;
         let mut reads = Reads::new(alloc);
         reads.push(Loc::Is(node))?;
         look_at(arguments.as_slice(), &mut reads)?;
@@ -55,9 +75,9 @@ impl<'a> Trial<'a> {
         let mut trial = Trial {
             this: node,
             child: None,
-            bound: Stack::new(alloc),
+            bound,
             arguments,
-            todo: Stack::new(alloc),
+            todo,
             reads,
         };
         let now = trial.begin(rules, store, class, attribute)?;
@@ -155,7 +175,7 @@ fn look_at(arguments: &[Value], reads: &mut Reads) -> Result<(), AllocError>
 }
 
 /// The node to which an argument refers; none for null, and for one that is no reference.
-fn node_in(argument: &Value) -> Option<Node>
+pub(crate) fn node_in(argument: &Value) -> Option<Node>
     ensures { result ≡ ref_of (value_view argument.now) }
 {
     match argument {

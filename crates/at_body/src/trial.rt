@@ -8,6 +8,7 @@ ghost use Rattle.at_model.specs.Bodies.{named, index_of, demand_of, no_exprs};
 ghost use Rattle.at_model.specs.Rules.{Rules as Meant};
 ghost use Rattle.at_model.specs.TypedRuns.{ClassAt};
 ghost use Rattle.at_model.specs.WellFormed.{IsHierarchy};
+ghost use Rattle.at_store.specs.Located.{loc_view};
 ghost use Rattle.at_store.specs.Shown.{contents, IsIdle};
 ghost use Rattle.at_body.specs.Size.{size, sizes, tests};
 ghost use Rattle.at_body.specs.Typed.{Calls, ComesTo, Enters, IsOver, IsTypedNow, IsTypedStep, Takes, Uses, class_shown};
@@ -22,6 +23,7 @@ ghost use Rattle.at_body.specs.Rest.{GoesOn, OnlyReads, ev, evaluated_for, rest,
 
 use super::inst::{Arguments, Inst};
 use super::reads::Reads;
+use super::room::Room;
 use super::stack::Stack;
 use super::todo::{Asking, Binary, Fold, Now, Todo, Unary};
 use super::using::int_value;
@@ -29,6 +31,7 @@ use super::value::{FaultKind, Value};
 use at_rules::{AttrId, Body, Rules};
 use at_store::{Loc, Node, Store};
 use std::alloc::{AllocError, Global};
+use std::mem;
 
 /// An evaluation under way: where it stands, what is left to do, and the locations that it has looked at.
 pub struct Trial<'a> {
@@ -92,6 +95,30 @@ impl<'a> Trial<'a> {
         &self.reads
     }
 
+    /// The locations that it has looked at, in order, taken out of it.
+    pub fn take_reads(&mut self, alloc: Global) -> Vec<Loc>
+        ensures { map loc_view result.items ≡ self.old.reads }
+    {
+        mem::replace(&mut self.reads, Reads::new(alloc)).into_vec()
+    }
+
+    /// Its lists, for a trial that begins in their memory.
+    pub fn into_room(self) -> Room<'a> {
+        let Trial {
+            this: _,
+            child: _,
+            bound,
+            arguments,
+            todo,
+            reads: _,
+        } = self;
+        Room {
+            bound,
+            arguments,
+            todo,
+        }
+    }
+
     /// Goes on up to the end or to a demand.
     pub(crate) fn advance(
         &mut self,
@@ -109,7 +136,7 @@ impl<'a> Trial<'a> {
     {
         loop {
             now = match now {
-                Now::Enter(body) => self.enter(rules, store, body)?,
+                Now::Enter(body) => self.enter(alloc, rules, store, body)?,
                 Now::Back(value) => match self.todo.pop() {
                     Some(todo) => self.back(alloc, rules, store, todo, value)?,
                     None => return Ok(Step::Value(value)),
@@ -125,6 +152,7 @@ impl<'a> Trial<'a> {
     /// room for all arms of a `match` is made at each call.
     fn enter(
         &mut self,
+        alloc: Global,
         rules: &'a Rules,
         store: &'a Store,
         body: &'a Body,
@@ -141,6 +169,7 @@ impl<'a> Trial<'a> {
             Body::Arithmetic(operator, a, b) => {
                 self.operands(store, Binary::Arithmetic(*operator), a, b)
             }
+            Body::Call(a, attribute, passed) => self.call(alloc, store, a, *attribute, passed),
             _ => self.enter_any(rules, store, body),
         }
     }
@@ -284,7 +313,7 @@ impl<'a> Trial<'a> {
 
     /// The value of an expression for which nothing has to be done first: of a literal that is no text, of `this`, of the
     /// name of a fold.
-    fn at_hand(&self, body: &Body) -> Option<Value>
+    pub(crate) fn at_hand(&self, body: &Body) -> Option<Value>
         ensures { (classes : Classes) → IfSome result (λ value. ev classes (body_view body.now) (place_of self.now) ≡ Gives (value_view value)) }
     {
         match body {
@@ -402,7 +431,7 @@ impl<'a> Trial<'a> {
     }
 
     /// Evaluates the first argument of a call, or demands the attribute where it has none, which takes no memory.
-    fn first_argument(
+    pub(crate) fn first_argument(
         &mut self,
         alloc: Global,
         attribute: AttrId,

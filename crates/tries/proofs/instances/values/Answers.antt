@@ -6,4 +6,4 @@ pub loop-argument-init : goal.loop-argument-init
 loop-argument-init c = all_none (RefersThere c.args.world.now) c.new-values.result.items c.new-values.ensures.items
 
 pub loop-argument-preserved : goal.loop-argument-preserved
-loop-argument-preserved c = all_more (RefersThere c.args.world.now) c.loop-argument.values.items c.push.new.self.items c.in_ok-value_of.field-0 c.in_ok-push.ensures.ok c.loop-argument.invariant c.in_ok-value_of.ensures
+loop-argument-preserved c = all_more (RefersThere c.args.world.now) c.loop-argument.values.items c.push.new.self.items c.in_ok-value_of.field-0 c.in_ok-push.ensures.items c.loop-argument.invariant c.in_ok-value_of.ensures

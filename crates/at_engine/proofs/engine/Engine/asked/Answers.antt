@@ -27,11 +27,11 @@ returns-then-not-fit_parameters g c =
     let e = c.args.self.now in
     asked_unfit (rules_of e) e.store c.requires.sound.idle e.version (g.M.Lookup.marks c.args.marks.now) e.posts c.args.session (place_view c.args.place.now) c.args.attribute.now (arguments_view c.args.arguments.now) c.in-Some.node c.in-Some.ensures
     c.in-Some-2.values.items (values_some _ _ _ _ _ c.in-Some-2.is c.in_ok-values.ensures) c.class.result c.class.ensures c.requires.named c.in-Some-attribute.attribute c.in-Some-attribute.ensures.named
-    c.as_slice.result.now c.as_slice.ensures c.if-not-fit_parameters.ensures
+    c.as_slice.result.now c.as_slice.ensures.value c.if-not-fit_parameters.ensures
 
 pub returns : goal.returns
 returns g c =
     let e = c.args.self.now in
     asked_fit (rules_of e) e.store c.requires.sound.idle e.version (g.M.Lookup.marks c.args.marks.now) e.posts c.args.session (place_view c.args.place.now) c.args.attribute.now (arguments_view c.args.arguments.now) c.in-Some.node c.in-Some.ensures
     c.in-Some-2.values.items (values_some _ _ _ _ _ c.in-Some-2.is c.in_ok-values.ensures) c.class.result c.class.ensures c.requires.named c.in-Some-attribute.attribute c.in-Some-attribute.ensures.named
-    c.as_slice.result.now c.as_slice.ensures c.if-not-fit_parameters.ensures c.new.result c.new.ensures
+    c.as_slice.result.now c.as_slice.ensures.value c.if-not-fit_parameters.ensures c.new.result c.new.ensures

@@ -17,7 +17,7 @@ loop-argument-preserved g c =
     let e = c.args.self.now in
     let named = value_named (rules_of e).classes (state_by e (g.M.Lookup.marks c.args.marks.now)) c.args.session in
     so_more (path e.store) named (map named (arguments_view c.args.arguments.now)) c.loop-argument.values.items c.loop-argument.rest.now c.loop-argument.invariant c.in-Some.argument.now c.in-Some.others.now c.in-Some.ensures.cases.0
-    c.in_ok-value.field-0 c.in-Some-2.value c.in-Some-2.is c.in_ok-value.ensures c.push.new.self.items c.in_ok-push.ensures.ok
+    c.in_ok-value.field-0 c.in-Some-2.value c.in-Some-2.is c.in_ok-value.ensures c.push.new.self.items c.in_ok-push.ensures.items
 
 pub returns-in_default-2 : goal.returns-in_default-2
 returns-in_default-2 g c =
