@@ -3,12 +3,16 @@
 use crate::edge::Edges;
 use at_body::Value;
 use at_store::Loc;
+use smallvec::SmallVec;
+
+/// Slots of entries; two stand inline.
+pub type Links = SmallVec<usize, 2>;
 
 /// A value with the locations that its evaluation read, the slots of the entries that it used, and edges to those that used it.
 pub struct Entry {
     pub value: Value,
     pub reads: Vec<Loc>,
-    pub links: Vec<usize>,
+    pub links: Links,
     pub slot: usize,
     /// The number of its `put`.
     pub stamp: u64,

@@ -34,4 +34,4 @@ pub use keep_at_most::KeepAtMost;
 pub use keep_none::KeepNone;
 pub use keep_recorded::KeepRecorded;
 pub use keep_until_edit::KeepUntilEdit;
-pub use keeper::Keeper;
+pub use keeper::{Keeper, Put};
