@@ -1,6 +1,7 @@
 //! Entries.
 
 use crate::edge::Edges;
+use crate::mark::Mark;
 use at_body::Value;
 use at_store::Loc;
 use smallvec::SmallVec;
@@ -17,10 +18,7 @@ pub struct Entry {
     /// The number of its `put`.
     pub stamp: u64,
     pub users: Edges,
-    /// Whether the flush under way takes the entry out.
-    pub going: bool,
-    /// The slot of the next one that it takes out.
-    pub next: Option<usize>,
+    pub mark: Mark,
 }
 
 /// One call, where each exit that lets it go would else have a case for each field.
@@ -33,8 +31,7 @@ impl Drop for Entry {
             slot: _,
             stamp: _,
             users: _,
-            going: _,
-            next: _,
+            mark: _,
         } = self;
     }
 }

@@ -23,6 +23,7 @@ mod keep_recorded;
 mod keep_until_edit;
 mod keeper;
 mod linking;
+mod mark;
 mod noting;
 mod places;
 mod putting;

@@ -18,6 +18,7 @@ use crate::entry::{Entry, Links};
 use crate::facet::Readers;
 use crate::keeper::Put;
 use crate::linking::{add_readers, add_users};
+use crate::mark::Mark;
 use crate::table::Table;
 use at_body::{Inst, Value};
 use at_store::{Loc, Node};
@@ -49,8 +50,7 @@ fn fresh(alloc: Global, value: Value, reads: Vec<Loc>, links: Links, edge: Edge)
         slot: edge.slot,
         stamp: edge.stamp,
         users: Edges::new(alloc),
-        going: false,
-        next: None,
+        mark: Mark::Stays,
     }
 }
 
