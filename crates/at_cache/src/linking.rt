@@ -1,6 +1,6 @@
 //! One edge more of what an entry rests on.
 
-ghost use Rattle.std.specs.Prelude.{◌≡◌, ◌≢◌, ◌<◌, ℕ, List, Option, None, Some, IsSome, Contains, IfOk, IfSome, OnOk, length, map, option_map, slice_get, slice_set};
+ghost use Rattle.std.specs.Prelude.{◌≡◌, ◌≢◌, ◌<◌, ℕ, List, Option, None, Some, IsSome, Contains, IfOk, IfSome, OnOk, length, map, slice_get};
 ghost use Rattle.std.specs.Map.{lookup};
 ghost use Rattle.at_model.specs.Run.{Instance, Location};
 ghost use Rattle.at_body.specs.Same.{same_instance};

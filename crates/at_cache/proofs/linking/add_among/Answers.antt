@@ -1,5 +1,5 @@
 use Rattle.std.proofs.lemmas.Result.{on_ok_weaker}
-use Rattle.at_cache.proofs.Exchanged.{among_exchanged, among_gained, among_stays}
+use Rattle.at_cache.proofs.Gained.{among_changed, among_gained, among_stays}
 use Rattle.at_cache.proofs.Listing.{lists_same}
 use Rattle.at_cache.proofs.Moving.{within}
 use Rattle.at_cache.proofs.linking.add_among.Goals as goal
@@ -13,7 +13,7 @@ add_at-requires c = let (r, at, is) = c.in_ok-place.ensures.there in record { th
 pub returns-clause-lists : goal.returns-clause-lists
 returns-clause-lists c n l =
     let (edges, written, lists, has) = c.add_at.ensures.gains in
-    among_exchanged _ _ _ _ _ _ c.place_for.ensures.same c.in_ok-place.ensures.there written lists n l
+    among_changed _ _ _ _ _ _ c.place_for.ensures.same c.in_ok-place.ensures.there written lists n l
 
 pub returns-clause-has : goal.returns-clause-has
 returns-clause-has c n =

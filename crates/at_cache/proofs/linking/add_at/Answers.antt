@@ -1,4 +1,4 @@
-use Rattle.at_cache.proofs.Exchanged.{gained_at}
+use Rattle.at_cache.proofs.Gained.{gained_at}
 use Rattle.at_cache.proofs.linking.add_at.Goals as goal
 
 pub returns : goal.returns

@@ -4,7 +4,7 @@ use Rattle.std.proofs.lemmas.Result.{on_ok_weaker}
 use Rattle.at_store.specs.Located.{loc_view}
 use Rattle.at_cache.specs.Kept.{node_at}
 use Rattle.at_cache.specs.Readers.{edges_among, facet_at}
-use Rattle.at_cache.proofs.Exchanged.{list_exchanged, list_gained, list_stays}
+use Rattle.at_cache.proofs.Gained.{list_changed, list_gained, list_stays}
 use Rattle.at_cache.proofs.Listing.{lists_same}
 use Rattle.at_cache.proofs.linking.add_reader.Goals as goal
 
@@ -14,7 +14,7 @@ returns-in_err-make_list-clause-lists c l = lists_same (c.make_list.ensures.same
 pub returns-clause-lists : goal.returns-clause-lists
 returns-clause-lists c l =
     let at = slice_get_read c.make_list.new.readers.items _ c.index-number.result c.index_mut-list.result.now refl c.in_ok-make_list.ensures.there c.index_mut-list.ensures.value in
-    list_exchanged _ _ _ _ c.add_among.new.readers c.make_list.ensures.same at refl c.add_among.ensures.lists l
+    list_changed _ _ _ _ c.add_among.new.readers c.make_list.ensures.same at refl c.add_among.ensures.lists l
 
 pub returns-clause-has : goal.returns-clause-has
 returns-clause-has c =

@@ -92,8 +92,8 @@ gained_at m x rs p r v result read lists has = (
 -- the edges at a place are others
 module _ (old made new : List Readers) (p : ℕ) (facet : Facet) (v : SmallVec Edge) (same : (n : ℕ) (l : Location ℕ) → edges_among n made l ≡ edges_among n old l)
     (there : (r : Readers) × (slice_get made p ≡ Some r) × (r.facet ≡ facet)) (change : HasChanged (with_edges v) p made new) where
-  pub among_exchanged : {m : Memory} {x : Edge} → ListsAt m x p made v.items → (n : ℕ) (l : Location ℕ) → Lists m x (edges_among n old l) (edges_among n new l)
-  among_exchanged {m} {x} lists n l =
+  pub among_changed : {m : Memory} {x : Edge} → ListsAt m x p made v.items → (n : ℕ) (l : Location ℕ) → Lists m x (edges_among n old l) (edges_among n new l)
+  among_changed {m} {x} lists n l =
       let (r, at, is) = there in
       subst (λ es. Lists m x es (edges_among n new l)) (same n l)
       (subst (λ rs. Lists m x (edges_among n made l) (edges_among n rs l)) (sym (change r at))
@@ -126,8 +126,8 @@ module _ {A : Type 0} (old made new : List (Vec Readers A)) (k : ℕ) (v : Vec R
   others : (l : Location ℕ) → (node_at l ≡ k → ⊥) → edges_at new l ≡ edges_at old l
   others l differs = same_list new made l (off (node_at l) differs) ∙ same l
 
-  pub list_exchanged : {m : Memory} {x : Edge} → ((n : ℕ) (l : Location ℕ) → Lists m x (edges_among n was.items l) (edges_among n v.items l)) → (l : Location ℕ) → Lists m x (edges_at old l) (edges_at new l)
-  list_exchanged {m} {x} lists l = elim (cases_eq (node_at l) k) [
+  pub list_changed : {m : Memory} {x : Edge} → ((n : ℕ) (l : Location ℕ) → Lists m x (edges_among n was.items l) (edges_among n v.items l)) → (l : Location ℕ) → Lists m x (edges_at old l) (edges_at new l)
+  list_changed {m} {x} lists l = elim (cases_eq (node_at l) k) [
     | inl at_k ↦ subst (λ es. Lists m x es (edges_at new l)) (sym (before l at_k)) (subst (Lists m x (edges_among k was.items l)) (sym (after l at_k)) (lists k l))
     | inr differs ↦ lists_same (others l differs)
   ]
