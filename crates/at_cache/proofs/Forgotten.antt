@@ -1,7 +1,7 @@
 -- A keeper with a bound.
 use Rattle.std.proofs.Common.{◌<◌, ◌≤◌, ℕ, Bool, None, sym, ◌∙◌, arith}
 use Rattle.std.proofs.lemmas.Option.{none-some}
-use Rattle.at_model.specs.Run.{Instance, Location}
+use Rattle.at_model.specs.Run.{Location}
 use Rattle.at_cache.specs.Kept.{Entries, KeepsAll, LeavesUntouched, LosesTouched}
 
 module _ (says : Location ℕ → Bool → Type 0) (old new : Entries) where
