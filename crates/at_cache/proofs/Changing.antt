@@ -8,10 +8,12 @@ use Rattle.at_model.specs.Run.{Instance}
 use Rattle.at_body.specs.Same.{same_instance}
 use Rattle.at_cache.specs.declared.edge.Edge.{Edge}
 use Rattle.at_cache.specs.declared.entry.Entry.{Entry}
-use Rattle.at_cache.specs.Info.{Info, Memory, info}
+use Rattle.at_cache.specs.declared.mark.Mark.{Mark}
+use Rattle.at_cache.specs.Flushing.{doomed}
+use Rattle.at_cache.specs.Info.{Info, Memory, info, is_going, next_of}
 use Rattle.at_cache.specs.Placed.{IsPlaced, at}
 use Rattle.at_cache.specs.Putting.{Enters}
-use Rattle.at_cache.specs.Slots.{HasWritten}
+use Rattle.at_cache.specs.Slots.{HasWritten, with_mark}
 use Rattle.at_cache.proofs.Moving.{at_changed, at_none, at_slot, at_some, placed, table_by, table_changed, apart_changed, within}
 
 absent_set : (test : Instance ℕ → Bool) (es : List (Instance ℕ × Entry)) (p : ℕ) (w : Entry) → lookup test es ≡ None → lookup test (set_value_at es p w) ≡ None
@@ -61,6 +63,10 @@ module _ (es : List (Instance ℕ × Entry)) (slots : ℕ → Option ℕ) (slot 
         by e here (inr differs) =
             ap (λ b. option_map info (if b then Some (e.0, f e.1) else at es slots k)) (ne_eqb k slot differs)
             ∙ sym (ap (λ b. if b then option_map g (option_map info (at es slots k)) else option_map info (at es slots k)) (ne_eqb k slot differs))
+
+-- a mark that tells of what goes
+pub marked : (mark : Mark) (first : Option ℕ) → is_going mark ≡ true → next_of mark ≡ first → (e : Instance ℕ × Entry) → info (e.0, with_mark mark e.1) ≡ doomed first (info e)
+marked mark first going next e = ap (λ (b : Bool). record (info e) { going = b; next = next_of mark }) going ∙ ap (λ (n : Option ℕ). record (info e) { going = true; next = n }) next
 
 -- a slot that holds an entry is taken
 pub taken_slot : (es : List (Instance ℕ × Entry)) (slots : ℕ → Option ℕ) (slot : ℕ) → IsSome (option_map info (at es slots slot)) → slots slot ≡ None → ⊥

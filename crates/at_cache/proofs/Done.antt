@@ -48,6 +48,16 @@ module _ (old mid : Table) {lists : Location ℕ → List Edge} {puts : ℕ} {x 
           same_kept old new puts (puts + 1) (λ s. ap (λ m. kept_at m (puts + 1) s) (sym same) ∙ kept_mid later (indexed_by i) stamp r u s),
         )
 
+    -- so for the locations and slots as they were given
+    pub put_ends : {E V : Type 0} (slot : ℕ) (e : Info) (result : Result V E) (rs : List (Location ℕ)) (ls : List ℕ) → reads ≡ rs → links ≡ ls → x.slot ≡ slot → e ≡ fresh_entry inst value rs ls puts
+        → OnOk result (Enters (memory_of mid) slot e (memory_of new)) → OnErr result ((k : ℕ) → memory_of new k ≡ memory_of mid k)
+        → AreListed x reads later → AreListed x links (users_at (memory_of mid)) → AreTaken (memory_of old) ls → AreOf old uses ls
+        → IsIndexed later (puts + 1) (memory_of new) × OnOk result (Puts true (kept_in old puts) inst value rs uses (kept_in new (puts + 1))) × OnErr result (KeepsAll (kept_in old puts) (kept_in new (puts + 1)))
+    put_ends slot e result rs ls at_reads at_links at_slot is enters none listed used are of =
+        let made = is ∙ ap (λ r. fresh_entry inst value r ls puts) (sym at_reads) ∙ ap (λ l. fresh_entry inst value reads l puts) (sym at_links) in
+        let (indexed, puts_it, keeps) = put_done slot e result at_slot made enters none listed used (subst (AreTaken (memory_of old)) (sym at_links) are) (subst (AreOf old uses) (sym at_links) of) in
+        (indexed, subst (λ r. OnOk result (Puts true (kept_in old puts) inst value r uses (kept_in new (puts + 1)))) at_reads puts_it, keeps)
+
 -- the slot of one instance more, or of one without an entry
 module _ (t : Table) (uses : List (Instance ℕ)) (i : ℕ) (u : Instance ℕ) (is : u ≡ get_or uses i u) (less : i < length uses) (slots : List ℕ) (of : AreOf t (take i uses) slots) where
   next : (puts : ℕ) (l : Location ℕ) → list_any (λ u. covers_at (kept_in t puts u) l) (take (i + 1) uses) ≡ (list_any (λ u. covers_at (kept_in t puts u) l) (take i uses) || covers_at (kept_in t puts u) l)

@@ -1,13 +1,8 @@
 -- A keeper with a bound.
-use Rattle.std.proofs.Common.{◌<◌, ◌≤◌, inl, inr, ℕ, List, Bool, true, false, true≢false, None, sym, ◌∙◌, arith}
+use Rattle.std.proofs.Common.{◌<◌, ◌≤◌, ℕ, Bool, None, sym, ◌∙◌, arith}
 use Rattle.std.proofs.lemmas.Option.{none-some}
-use Rattle.at_model.specs.Run.{Instance, Location, Value}
-use Rattle.at_cache.specs.Kept.{Entries, KeepsAll, LeavesUntouched, LosesTouched, MayPut, Puts}
-
--- an exact keeper does put
-pub does_put : {old new : Entries} {i : Instance ℕ} {v : Value ℕ} {reads : List (Location ℕ)} {uses : List (Instance ℕ)} → MayPut true old i v reads uses new → Puts true old i v reads uses new
-does_put (inl h) = absurd (true≢false h.0)
-does_put (inr p) = p
+use Rattle.at_model.specs.Run.{Location}
+use Rattle.at_cache.specs.Kept.{Entries, KeepsAll, LeavesUntouched, LosesTouched}
 
 module _ (says : Location ℕ → Bool → Type 0) (old new : Entries) where
   -- nothing is left

@@ -11,7 +11,7 @@ pub mod Taking
 pub mod Listed
 pub mod Beginning
 pub mod Listing
-pub mod Exchanged
+pub mod Gained
 pub mod Ending
 pub mod Entered
 pub mod Testing

@@ -3,7 +3,7 @@ use Rattle.std.proofs.Common.{◌≡◌, ℕ, Bool, false, ◌&&◌, not, nat_eq
 use Rattle.at_model.specs.Run.{Instance}
 use Rattle.at_cache.specs.declared.edge.Edge.{Edge}
 use Rattle.at_cache.specs.declared.entry.Entry.{Entry}
-use Rattle.at_cache.specs.Info.{info}
+use Rattle.at_cache.specs.Info.{info, is_going}
 use Rattle.at_cache.specs.Flushing.{is_fresh}
 
 module _ (x : Edge) where
@@ -16,7 +16,7 @@ module _ (x : Edge) where
   pub current_none : (o : Option (Instance ℕ × Entry)) → None ≡ o → false ≡ (elim (option_map info o) as (λ _. Bool) [ None ↦ false | Some e ↦ nat_eq e.stamp x.stamp ])
   current_none o h = ap (λ (o : Option (Instance ℕ × Entry)). elim (option_map info o) as (λ _. Bool) [ None ↦ false | Some e ↦ nat_eq e.stamp x.stamp ]) h
 
-  pub fresh_some : (o : Option (Instance ℕ × Entry)) (e : Instance ℕ × Entry) → Some e ≡ o → (nat_eq e.1.stamp x.stamp && not e.1.going) ≡ is_fresh x (option_map info o)
+  pub fresh_some : (o : Option (Instance ℕ × Entry)) (e : Instance ℕ × Entry) → Some e ≡ o → (nat_eq e.1.stamp x.stamp && not (is_going e.1.mark)) ≡ is_fresh x (option_map info o)
   fresh_some o e h = ap (λ (o : Option (Instance ℕ × Entry)). is_fresh x (option_map info o)) h
 
   pub fresh_none : (o : Option (Instance ℕ × Entry)) → None ≡ o → false ≡ is_fresh x (option_map info o)

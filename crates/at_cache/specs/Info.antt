@@ -1,5 +1,5 @@
 -- What is kept, by slots.
-use Rattle.std.specs.Prelude.{ℕ, List, Bool, Option, map, option_map}
+use Rattle.std.specs.Prelude.{ℕ, List, Bool, true, false, Option, None, Some, map, option_map}
 use Rattle.slab.specs.Slab.{get}
 use Rattle.indexmap.specs.IndexMap.{index_map_len}
 use Rattle.at_model.specs.Run.{Value, Instance, Location}
@@ -7,8 +7,22 @@ use Rattle.at_body.specs.Values.{value_view}
 use Rattle.at_store.specs.Located.{loc_view}
 use Rattle.at_cache.specs.declared.edge.Edge.{Edge}
 use Rattle.at_cache.specs.declared.entry.Entry.{Entry}
+use Rattle.at_cache.specs.declared.mark.Mark.{Mark}
+use Rattle.at_cache.specs.declared.mark.Mark.TheVariants as mark
 use Rattle.at_cache.specs.declared.table.Table.{Table}
 use Rattle.at_cache.specs.Placed.{at}
+
+-- whether an entry goes
+abbrev pub is_going : Mark → Bool
+is_going mark.Stays = false
+is_going mark.Last = true
+is_going (mark.Before s) = true
+
+-- the slot of the one that goes next
+abbrev pub next_of : Mark → Option ℕ
+next_of mark.Stays = None
+next_of mark.Last = None
+next_of (mark.Before s) = Some s
 
 -- an entry: its instance and value, its direct reads, the slots of those that it used, the number of its `put`, the edges to
 -- those that used it, whether it goes, and which one goes next
@@ -23,7 +37,7 @@ pub record Info : Type 0 where
   pub next : Option ℕ
 
 abbrev pub info : Instance ℕ × Entry → Info
-info e = record { instance = e.0; value = value_view e.1.value; reads = map loc_view e.1.reads.items; links = e.1.links.items; stamp = e.1.stamp; users = e.1.users.items; going = e.1.going; next = e.1.next }
+info e = record { instance = e.0; value = value_view e.1.value; reads = map loc_view e.1.reads.items; links = e.1.links.items; stamp = e.1.stamp; users = e.1.users.items; going = is_going e.1.mark; next = next_of e.1.mark }
 
 -- the entry in each slot
 abbrev pub Memory : Type 0

@@ -1,5 +1,6 @@
 -- What a keeper keeps, and the laws of its calls.
-use Rattle.std.specs.Prelude.{◌≡◌, ℕ, List, Bool, true, false, ◌&&◌, ◌||◌, ◌⊎◌, Option, Some, None, IsSome, Contains, nat_eq, if◌then◌else◌}
+use Rattle.std.specs.Prelude.{◌≡◌, ℕ, List, map, Bool, true, false, ◌&&◌, ◌||◌, ◌⊎◌, Option, Some, None, IsSome, Contains, nat_eq, if◌then◌else◌}
+use Rattle.std.specs.Global.{Vec}
 use Rattle.std.specs.List.{list_any}
 use Rattle.at_model.specs.Run.{Value, Instance, Location, Is, Tok, Slot, Up, Idx}
 use Rattle.at_store.specs.declared.node.Loc.{Loc}
@@ -7,6 +8,8 @@ use Rattle.at_body.specs.Same.{same_instance}
 use Rattle.at_store.specs.Located.{loc_view}
 use Rattle.at_store.specs.Places.{named}
 use Rattle.at_store.specs.declared.places.Places.{Places}
+use Rattle.at_cache.specs.declared.keeper.Put.{Put}
+use Rattle.at_cache.specs.declared.keeper.Put.TheVariants as put
 
 -- the form of a location, its node, and its component or 0
 abbrev pub form_of : Location ℕ → ℕ
@@ -65,9 +68,10 @@ pub record Puts (exact : Bool) (old : Entries) (i : Instance ℕ) (v : Value ℕ
   pub only : exact ≡ true → (l : Location ℕ) → entry.covers l ≡ true → covered old reads uses l ≡ true
   pub adds : (j : Instance ℕ) → new j ≡ (if same_instance i j then Some entry else old j)
 
--- `new` has that entry more; a keeper that isn't exact may leave it
-abbrev pub MayPut : (exact : Bool) (old : Entries) (i : Instance ℕ) (v : Value ℕ) (reads : List (Location ℕ)) (uses : List (Instance ℕ)) (new : Entries) → Type 0
-MayPut exact old i v reads uses new = ((exact ≡ false) × KeepsAll old new) ⊎ Puts exact old i v reads uses new
+-- the value is kept so; or a keeper that isn't exact has left all as it was, and hands the locations back
+abbrev pub HasPut : (exact : Bool) (old : Entries) → Instance ℕ → Value ℕ → (reads : Vec Loc) (uses : List (Instance ℕ)) (new : Entries) → Put → Type 0
+HasPut exact old i v reads uses new put.Kept = Puts exact old i v (map loc_view reads.items) uses new
+HasPut exact old i v reads uses new (put.Left back) = (exact ≡ false) × KeepsAll old new × (map loc_view back.items ≡ map loc_view reads.items)
 
 -- the instances are all kept
 abbrev pub AreKept : Entries → List (Instance ℕ) → Type 0

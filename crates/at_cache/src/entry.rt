@@ -1,22 +1,24 @@
 //! Entries.
 
 use crate::edge::Edges;
+use crate::mark::Mark;
 use at_body::Value;
 use at_store::Loc;
+use smallvec::SmallVec;
+
+/// Slots of entries; two stand inline.
+pub type Links = SmallVec<usize, 2>;
 
 /// A value with the locations that its evaluation read, the slots of the entries that it used, and edges to those that used it.
 pub struct Entry {
     pub value: Value,
     pub reads: Vec<Loc>,
-    pub links: Vec<usize>,
+    pub links: Links,
     pub slot: usize,
     /// The number of its `put`.
     pub stamp: u64,
     pub users: Edges,
-    /// Whether the flush under way takes the entry out.
-    pub going: bool,
-    /// The slot of the next one that it takes out.
-    pub next: Option<usize>,
+    pub mark: Mark,
 }
 
 /// One call, where each exit that lets it go would else have a case for each field.
@@ -29,8 +31,7 @@ impl Drop for Entry {
             slot: _,
             stamp: _,
             users: _,
-            going: _,
-            next: _,
+            mark: _,
         } = self;
     }
 }

@@ -107,7 +107,7 @@ fn forget(entries: &mut Table, slot: usize) -> Option<usize>
     ensures fewer { (table_len entries.new < table_len entries.old) ⊎ ((result ≡ None) × (table_len entries.new ≡ table_len entries.old)) }
 {
     match entries.remove(slot) {
-        Some(entry) => doom_all(entries, entry.next, entry.users.as_slice()),
+        Some(entry) => doom_all(entries, entry.mark.next(), entry.users.as_slice()),
         None => None,
     }
 }

@@ -1,15 +1,14 @@
 //! The keeper that takes no more than a number of entries through an edit.
 
-ghost use Rattle.std.specs.Prelude.{◌≡◌, ◌-◌, ◌^◌, min, map, None, OnErr, OnOk, false, true};
+ghost use Rattle.std.specs.Prelude.{◌≡◌, ◌-◌, ◌^◌, min, None, OnErr, IfOk, false, true};
 ghost use Rattle.at_body.specs.Values.{value_view};
-ghost use Rattle.at_store.specs.Located.{loc_view};
 ghost use Rattle.at_cache.specs.Info.{table_len};
 ghost use Rattle.at_cache.specs.Bound.{ForgetsOver, kept_by};
-ghost use Rattle.at_cache.specs.Kept.{Answers, AreKept, AreNamed, KeepsAll, LeavesUntouched, Puts};
+ghost use Rattle.at_cache.specs.Kept.{Answers, AreKept, AreNamed, HasPut, KeepsAll, LeavesUntouched};
 ghost use Rattle.at_cache.specs.Recorded.{reads_held};
 
 use crate::keep_recorded::KeepRecorded;
-use crate::keeper::Keeper;
+use crate::keeper::{Keeper, Put};
 use at_body::{Inst, Value};
 use at_store::{Loc, Places};
 use std::alloc::{AllocError, Global};
@@ -74,12 +73,12 @@ impl Keeper for KeepAtMost {
         &mut self,
         inst: Inst,
         value: Value,
-        reads: &[Loc],
+        reads: Vec<Loc>,
         uses: &[Inst],
-    ) -> Result<(), AllocError>
+    ) -> Result<Put, AllocError>
         requires absent { kept_by self.old inst ≡ None }
         requires present { AreKept (kept_by self.old) uses.now }
-        ensures puts { OnOk result (Puts true (kept_by self.old) inst (value_view value) (map loc_view reads.now) uses.now (kept_by self.new)) }
+        ensures puts { IfOk result (HasPut true (kept_by self.old) inst (value_view value) reads uses.now (kept_by self.new)) }
         ensures err { OnErr result (KeepsAll (kept_by self.old) (kept_by self.new)) }
         ensures bound { self.new.most ≡ self.old.most }
     {

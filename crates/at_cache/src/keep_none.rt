@@ -2,7 +2,7 @@
 
 ghost use Rattle.std.specs.Prelude.{None, false};
 
-use crate::keeper::Keeper;
+use crate::keeper::{Keeper, Put};
 use at_body::{Inst, Value};
 use at_store::{Loc, Places};
 use std::alloc::{AllocError, Global};
@@ -31,10 +31,10 @@ impl Keeper for KeepNone {
         &mut self,
         _inst: Inst,
         _value: Value,
-        _reads: &[Loc],
+        reads: Vec<Loc>,
         _uses: &[Inst],
-    ) -> Result<(), AllocError> {
-        Ok(())
+    ) -> Result<Put, AllocError> {
+        Ok(Put::Left(reads))
     }
 
     fn flush<F: Fn(Loc) -> bool>(&mut self, _touched: &F) {}

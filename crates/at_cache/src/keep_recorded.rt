@@ -9,7 +9,7 @@ ghost use Rattle.at_cache.specs.Recorded.{IsIndexed, kept_in, reads_held};
 
 use crate::facet::Readers;
 use crate::forgetting::take_out;
-use crate::keeper::Keeper;
+use crate::keeper::{Keeper, Put};
 use crate::places::take_out_at;
 use crate::putting::enter_with;
 use crate::table::Table;
@@ -96,9 +96,9 @@ impl Keeper for KeepRecorded {
         &mut self,
         inst: Inst,
         value: Value,
-        reads: &[Loc],
+        reads: Vec<Loc>,
         uses: &[Inst],
-    ) -> Result<(), AllocError> {
+    ) -> Result<Put, AllocError> {
         let stamp = self.puts;
         if stamp == u64::MAX {
             return Err(AllocError);

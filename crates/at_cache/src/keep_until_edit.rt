@@ -4,7 +4,7 @@ ghost use Rattle.std.specs.Prelude.{None, false};
 ghost use Rattle.at_cache.specs.Kept.{KeepsAll};
 ghost use Rattle.at_cache.specs.UntilEdit.{values_kept};
 
-use crate::keeper::Keeper;
+use crate::keeper::{Keeper, Put};
 use at_body::{Inst, Value};
 use at_store::{Loc, Places};
 use indexmap::IndexMap;
@@ -40,11 +40,11 @@ impl Keeper for KeepUntilEdit {
         &mut self,
         inst: Inst,
         value: Value,
-        _reads: &[Loc],
+        _reads: Vec<Loc>,
         _uses: &[Inst],
-    ) -> Result<(), AllocError> {
+    ) -> Result<Put, AllocError> {
         self.values.insert(inst, value)?;
-        Ok(())
+        Ok(Put::Kept)
     }
 
     fn flush<F: Fn(Loc) -> bool>(&mut self, _touched: &F) {

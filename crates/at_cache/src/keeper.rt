@@ -1,15 +1,23 @@
 //! What every keeper does.
 
-ghost use Rattle.std.specs.Prelude.{◌≡◌, ℕ, Option, None, Bool, IsTrue, OnOk, OnErr, map};
+ghost use Rattle.std.specs.Prelude.{◌≡◌, ℕ, Option, None, Bool, IsTrue, IfOk, OnErr};
 ghost use Rattle.std.specs.Option.{option_map};
 ghost use Rattle.at_model.specs.Run.{Instance};
 ghost use Rattle.at_body.specs.Values.{value_view};
-ghost use Rattle.at_store.specs.Located.{loc_view};
-ghost use Rattle.at_cache.specs.Kept.{AreNamed, Kept, KeepsAll, MayPut, AreKept, Answers, LeavesUntouched, LosesTouched};
+ghost use Rattle.at_cache.specs.Kept.{AreNamed, Kept, KeepsAll, HasPut, AreKept, Answers, LeavesUntouched, LosesTouched};
 
 use at_body::{Inst, Value};
 use at_store::{Loc, Places};
 use std::alloc::AllocError;
+
+/// What became of a value that was put.
+#[derive(Drop)]
+pub enum Put {
+    /// It is kept.
+    Kept,
+    /// It isn't, as a keeper that isn't exact may choose; its locations are handed back.
+    Left(Vec<Loc>),
+}
 
 /// Keeps values of instances, each with the locations that it stands for.
 pub trait Keeper: Drop {
@@ -23,18 +31,18 @@ pub trait Keeper: Drop {
     fn get(&self, inst: &Inst) -> Option<&Value>
         ensures { option_map (λ v. value_view v.now) result ≡ option_map (λ k. k.value) (contents self.now inst.now) };
 
-    /// Keeps the value of an instance that isn't kept, for the locations in `reads` and those of the entries of `uses`, or
-    /// leaves all as it is. An error where memory is wanting: all is then as it was.
+    /// Keeps the value of an instance that isn't kept, for the locations in `reads`, which the entry takes over, and those of the
+    /// entries of `uses`; or leaves all as it is. An error where memory is wanting: all is then as it was.
     fn put(
         &mut self,
         inst: Inst,
         value: Value,
-        reads: &[Loc],
+        reads: Vec<Loc>,
         uses: &[Inst],
-    ) -> Result<(), AllocError>
+    ) -> Result<Put, AllocError>
         requires absent { contents self.old inst ≡ None }
         requires present { AreKept (contents self.old) uses.now }
-        ensures puts { OnOk result (MayPut exact (contents self.old) inst (value_view value) (map loc_view reads.now) uses.now (contents self.new)) }
+        ensures puts { IfOk result (HasPut exact (contents self.old) inst (value_view value) reads uses.now (contents self.new)) }
         ensures err { OnErr result (KeepsAll (contents self.old) (contents self.new)) };
 
     /// Forgets each entry that stands for a touched location.

@@ -1,6 +1,6 @@
 //! One edge more of what an entry rests on.
 
-ghost use Rattle.std.specs.Prelude.{◌≡◌, ◌≢◌, ◌<◌, ℕ, List, Option, None, Some, IsSome, Contains, IfOk, IfSome, OnOk, length, map, option_map, slice_get, slice_set};
+ghost use Rattle.std.specs.Prelude.{◌≡◌, ◌≢◌, ◌<◌, ℕ, List, Option, None, Some, IsSome, Contains, IfOk, IfSome, OnOk, length, map, slice_get};
 ghost use Rattle.std.specs.Map.{lookup};
 ghost use Rattle.at_model.specs.Run.{Instance, Location};
 ghost use Rattle.at_body.specs.Same.{same_instance};
@@ -11,7 +11,8 @@ ghost use Rattle.at_cache.specs.Asking.{AreNoted};
 ghost use Rattle.at_cache.specs.Info.{memory_of};
 ghost use Rattle.at_cache.specs.Putting.{AreListed, AreTaken, Keeps, Lists, Reads, Uses, reused, users_at};
 ghost use Rattle.at_cache.specs.Readers.{edges_among, edges_at, facet_at};
-ghost use Rattle.at_cache.specs.Slots.{HasChanged, with_edges};
+ghost use Rattle.at_cache.specs.Slots.{HasChanged, ListsAt, with_edges};
+ghost use Rattle.smallvec.specs.SmallVec.{SmallVec};
 
 use crate::edge::{Edge, Edges};
 use crate::facet::{Facet, Readers};
@@ -19,7 +20,6 @@ use crate::noting::note;
 use crate::table::Table;
 use at_store::{Loc, Node};
 use std::alloc::{AllocError, Global};
-use std::mem;
 
 // Only the edges that tell of an entry stay.
 fn purge(entries: &Table, edges: &mut Edges)
@@ -74,6 +74,19 @@ fn position_of(readers: &[Readers], facet: Facet) -> Option<usize>
     None
 }
 
+// How many facets of a node are given room for at first: of most nodes no more are looked at.
+const FEW: usize = 3;
+
+// The first facet of a node comes with room for a few.
+fn make_first_room(readers: &mut Vec<Readers>) -> Result<(), AllocError>
+    ensures { readers.new.items ≡ readers.old.items }
+{
+    if !readers.is_empty() {
+        return Ok(());
+    }
+    readers.reserve_exact(FEW)
+}
+
 // Where the facet stands among those of a node; it comes behind them where it isn't there yet.
 fn place_for(alloc: Global, readers: &mut Vec<Readers>, facet: Facet) -> Result<usize, AllocError>
     ensures same { (n : ℕ) (l : Location ℕ) → edges_among n readers.new.items l ≡ edges_among n readers.old.items l }
@@ -83,6 +96,7 @@ fn place_for(alloc: Global, readers: &mut Vec<Readers>, facet: Facet) -> Result<
         return Ok(place);
     }
     let place = readers.len();
+    make_first_room(readers)?;
     readers.push(Readers {
         facet,
         edges: Edges::new(alloc),
@@ -90,14 +104,19 @@ fn place_for(alloc: Global, readers: &mut Vec<Readers>, facet: Facet) -> Result<
     Ok(place)
 }
 
-// The edges of what stands at that place, which has these then.
-fn exchange_edges(readers: &mut Vec<Readers>, place: usize, edges: Edges) -> Edges
+// One more edge of what stands at that place.
+fn add_at(
+    entries: &Table,
+    readers: &mut Vec<Readers>,
+    place: usize,
+    edge: Edge,
+) -> Result<(), AllocError>
     requires there { place < length readers.old.items }
-    ensures written { HasChanged (with_edges edges) place readers.old.items readers.new.items }
-    ensures was { option_map (λ r. r.edges) (slice_get readers.old.items place) ≡ Some result }
+    ensures gains { (edges : SmallVec Edge) × HasChanged (with_edges edges) place readers.old.items readers.new.items
+        × ListsAt (memory_of entries.now) edge place readers.old.items edges.items × OnOk result (Contains edges.items edge) }
 {
     let found = &mut readers[place];
-    mem::replace(&mut found.edges, edges)
+    add_edge(entries, &mut found.edges, edge)
 }
 
 // One more edge of a facet, among those of a node.
@@ -113,10 +132,7 @@ fn add_among(
     ensures others { (n : ℕ) (l : Location ℕ) → l ≢ facet_at n facet → edges_among n readers.new.items l ≡ edges_among n readers.old.items l }
 {
     let place = place_for(alloc, readers, facet)?;
-    let mut edges = exchange_edges(readers, place, Edges::new(alloc));
-    let result = add_edge(entries, &mut edges, edge);
-    exchange_edges(readers, place, edges);
-    result
+    add_at(entries, readers, place, edge)
 }
 
 // A list for the node of that number, where there is none yet.
@@ -134,15 +150,6 @@ fn make_list(
     Ok(())
 }
 
-// The list of the node of that number, which has this one then.
-fn exchange_list(readers: &mut Vec<Vec<Readers>>, number: usize, list: Vec<Readers>) -> Vec<Readers>
-    requires there { number < length readers.old.items }
-    ensures written { readers.new.items ≡ slice_set readers.old.items number list }
-    ensures was { slice_get readers.old.items number ≡ Some result }
-{
-    mem::replace(&mut readers[number], list)
-}
-
 // One more edge of a location.
 fn add_reader(
     alloc: Global,
@@ -157,10 +164,8 @@ fn add_reader(
 {
     let number = location.node().index();
     make_list(alloc, readers, number)?;
-    let mut list = exchange_list(readers, number, Vec::new(alloc));
-    let result = add_among(alloc, entries, &mut list, Facet::of(location), edge);
-    exchange_list(readers, number, list);
-    result
+    let list = &mut readers[number];
+    add_among(alloc, entries, list, Facet::of(location), edge)
 }
 
 // One more edge to an entry that used this one.

@@ -1,6 +1,6 @@
 //! One entry more.
 
-ghost use Rattle.std.specs.Prelude.{◌≡◌, ◌+◌, ℕ, true, None, IfOk, OnErr, OnOk, map};
+ghost use Rattle.std.specs.Prelude.{◌≡◌, ◌+◌, ℕ, true, None, IfOk, OnErr, map};
 ghost use Rattle.std.specs.Map.{lookup};
 ghost use Rattle.at_model.specs.Run.{Instance};
 ghost use Rattle.at_body.specs.Same.{same_instance};
@@ -8,26 +8,28 @@ ghost use Rattle.at_body.specs.Values.{value_view};
 ghost use Rattle.at_store.specs.Located.{loc_view};
 ghost use Rattle.at_cache.specs.Asking.{AreNoted};
 ghost use Rattle.at_cache.specs.Info.{info, memory_of};
-ghost use Rattle.at_cache.specs.Kept.{KeepsAll, Puts};
+ghost use Rattle.at_cache.specs.Kept.{HasPut, KeepsAll};
 ghost use Rattle.at_cache.specs.Putting.{AreTaken, fresh_entry};
 ghost use Rattle.at_cache.specs.Readers.{edges_at};
 ghost use Rattle.at_cache.specs.Recorded.{AreOf, IsIndexed, kept_in};
 
 use crate::edge::{Edge, Edges};
-use crate::entry::Entry;
+use crate::entry::{Entry, Links};
 use crate::facet::Readers;
+use crate::keeper::Put;
 use crate::linking::{add_readers, add_users};
+use crate::mark::Mark;
 use crate::table::Table;
 use at_body::{Inst, Value};
 use at_store::{Loc, Node};
 use std::alloc::{AllocError, Global};
 
 // The slots of these instances.
-fn slots_of(alloc: Global, entries: &Table, uses: &[Inst]) -> Result<Vec<usize>, AllocError>
+fn slots_of(alloc: Global, entries: &Table, uses: &[Inst]) -> Result<Links, AllocError>
     ensures taken { IfOk result (λ slots. AreTaken (memory_of entries.now) slots.items) }
     ensures covers { IfOk result (λ slots. AreOf entries.now uses.now slots.items) }
 {
-    let mut slots = Vec::new(alloc);
+    let mut slots = Links::new(alloc);
     for used in uses {
         if let Some(entry) = entries.entries.get(used) {
             slots.push(entry.slot)?;
@@ -36,32 +38,20 @@ fn slots_of(alloc: Global, entries: &Table, uses: &[Inst]) -> Result<Vec<usize>,
     Ok(slots)
 }
 
-// An entry that is to come.
-fn fresh(
-    alloc: Global,
-    entries: &Table,
-    stamp: u64,
-    value: Value,
-    reads: &[Loc],
-    uses: &[Inst],
-) -> Result<Entry, AllocError>
-    ensures entry { IfOk result (λ e. (i : Instance ℕ) → info (i, e) ≡ fresh_entry i (value_view value) (map loc_view reads.now) e.links.items stamp) }
-    ensures slot { IfOk result (λ e. e.slot ≡ entries.now.places.vacant_key) }
-    ensures taken { IfOk result (λ e. AreTaken (memory_of entries.now) e.links.items) }
-    ensures covers { IfOk result (λ e. AreOf entries.now uses.now e.links.items) }
+// An entry that is to come, which that edge tells of.
+fn fresh(alloc: Global, value: Value, reads: Vec<Loc>, links: Links, edge: Edge) -> Entry
+    ensures entry { (i : Instance ℕ) → info (i, result) ≡ fresh_entry i (value_view value) (map loc_view reads.items) links.items edge.stamp }
+    ensures slot { result.slot ≡ edge.slot }
 {
-    let copies = Vec::from_slice(alloc, reads)?;
-    let links = slots_of(alloc, entries, uses)?;
-    Ok(Entry {
+    Entry {
         value,
-        reads: copies,
+        reads,
         links,
-        slot: entries.next(),
-        stamp,
+        slot: edge.slot,
+        stamp: edge.stamp,
         users: Edges::new(alloc),
-        going: false,
-        next: None,
-    })
+        mark: Mark::Stays,
+    }
 }
 
 /// One entry more, of that number, which no entry had.
@@ -73,24 +63,25 @@ pub fn enter_with(
     stamp: u64,
     inst: Inst,
     value: Value,
-    reads: &[Loc],
+    reads: Vec<Loc>,
     uses: &[Inst],
-) -> Result<(), AllocError>
+) -> Result<Put, AllocError>
     requires absent { lookup (same_instance inst) entries.old.entries.entries ≡ None }
     ensures indexed { IsIndexed (edges_at readers.old.items) stamp (memory_of entries.old)
         → IsIndexed (edges_at readers.new.items) (stamp + 1) (memory_of entries.new) }
     ensures noted { AreNoted (edges_at readers.old.items) index_read.old.items → AreNoted (edges_at readers.new.items) index_read.new.items }
     ensures puts { IsIndexed (edges_at readers.old.items) stamp (memory_of entries.old)
-        → OnOk result (Puts true (kept_in entries.old stamp) inst (value_view value) (map loc_view reads.now) uses.now (kept_in entries.new (stamp + 1))) }
+        → IfOk result (HasPut true (kept_in entries.old stamp) inst (value_view value) reads uses.now (kept_in entries.new (stamp + 1))) }
     ensures err { IsIndexed (edges_at readers.old.items) stamp (memory_of entries.old)
         → OnErr result (KeepsAll (kept_in entries.old stamp) (kept_in entries.new (stamp + 1))) }
 {
-    let entry = fresh(alloc, entries, stamp, value, reads, uses)?;
+    let links = slots_of(alloc, entries, uses)?;
     let edge = Edge {
-        slot: entry.slot,
+        slot: entries.next(),
         stamp,
     };
-    add_readers(alloc, entries, readers, index_read, reads, edge)?;
-    add_users(alloc, entries, entry.links.as_slice(), edge)?;
-    entries.enter(inst, entry)
+    add_readers(alloc, entries, readers, index_read, reads.as_slice(), edge)?;
+    add_users(alloc, entries, links.as_slice(), edge)?;
+    entries.enter(inst, fresh(alloc, value, reads, links, edge))?;
+    Ok(Put::Kept)
 }

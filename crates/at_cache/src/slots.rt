@@ -6,7 +6,7 @@ ghost use Rattle.at_model.specs.Run.{Instance};
 ghost use Rattle.at_body.specs.Same.{same_instance};
 ghost use Rattle.slab.specs.Slab.{get};
 ghost use Rattle.indexmap.specs.IndexMap.{IsUnique, index_map_len};
-ghost use Rattle.at_cache.specs.Info.{Memory, info, memory_of, table_len};
+ghost use Rattle.at_cache.specs.Info.{Memory, info, is_going, memory_of, table_len};
 ghost use Rattle.at_cache.specs.Placed.{IsMoved, IsPlaced, at};
 ghost use Rattle.at_cache.specs.Flushing.{doomed, is_fresh};
 ghost use Rattle.at_cache.specs.Putting.{Enters, is_current, reused, users_at};
@@ -14,6 +14,7 @@ ghost use Rattle.at_cache.specs.Slots.{HasWritten, with_list, with_mark};
 
 use crate::edge::{Edge, Edges};
 use crate::entry::Entry;
+use crate::mark::Mark;
 use crate::table::Table;
 use at_body::Inst;
 use indexmap::IndexMap;
@@ -22,13 +23,12 @@ use std::alloc::AllocError;
 use std::mem;
 
 // The mark of the entry at that place.
-fn write_mark(entries: &mut IndexMap<Inst, Entry>, place: usize, first: Option<usize>)
+fn write_mark(entries: &mut IndexMap<Inst, Entry>, place: usize, mark: Mark)
     requires { place < index_map_len entries.old }
-    ensures { HasWritten (with_mark first) place entries.old.entries entries.new.entries }
+    ensures { HasWritten (with_mark mark) place entries.old.entries entries.new.entries }
 {
     let (_, entry) = entries.pair_mut(place);
-    entry.going = true;
-    entry.next = first;
+    entry.mark = mark;
 }
 
 // The users of the entry at that place, which has these then.
@@ -77,7 +77,7 @@ impl Table {
         ensures len { table_len self.new ≡ table_len self.old }
     {
         if let Some(place) = self.places.get(slot) {
-            write_mark(&mut self.entries, *place, first);
+            write_mark(&mut self.entries, *place, Mark::before(first));
         }
     }
 
@@ -187,8 +187,8 @@ fn append(entries: &mut IndexMap<Inst, Entry>, instance: Inst, entry: Entry) -> 
 
 impl Entry {
     fn is_fresh(&self, edge: &Edge) -> bool
-        ensures { result ≡ (nat_eq self.now.stamp edge.now.stamp && not self.now.going) }
+        ensures { result ≡ (nat_eq self.now.stamp edge.now.stamp && not (is_going self.now.mark)) }
     {
-        self.stamp == edge.stamp && !self.going
+        self.stamp == edge.stamp && !self.mark.is_going()
     }
 }

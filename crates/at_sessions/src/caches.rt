@@ -31,6 +31,7 @@ fn insts(alloc: Global, nodes: &[usize]) -> Result<Vec<Inst>, AllocError> {
 
 /// Puts an entry for an instance that isn't kept, which uses entries that are.
 fn put_new<K: Keeper>(
+    alloc: Global,
     keeper: &mut K,
     inst: Inst,
     value: Value,
@@ -45,7 +46,8 @@ fn put_new<K: Keeper>(
             return Ok(());
         };
     }
-    keeper.put(inst, value, reads, uses)
+    keeper.put(inst, value, Vec::from_slice(alloc, reads)?, uses)?;
+    Ok(())
 }
 
 /// A keeper with an entry for each node in order, which reads its own location and uses those of the listed nodes.
@@ -54,6 +56,7 @@ fn recorded(alloc: Global, graph: &[&[usize]]) -> Result<KeepRecorded, AllocErro
     for (node, uses) in graph.iter().enumerate() {
         let uses = insts(alloc, uses)?;
         put_new(
+            alloc,
             &mut keeper,
             inst(alloc, node),
             Value::Bool(true),
@@ -121,7 +124,14 @@ fn links_follow_their_entries(rt: HostRuntime) -> Result<(), Fail> {
     flush(&mut keeper, 0);
     assert_eq!(rt; keeper.stored(), 2);
     let used = insts(alloc, &[3])?;
-    put_new(&mut keeper, inst(alloc, 4), Value::Int(7), &[], &used)?;
+    put_new(
+        alloc,
+        &mut keeper,
+        inst(alloc, 4),
+        Value::Int(7),
+        &[],
+        &used,
+    )?;
     assert_eq!(rt; keeper.stored(), 2);
     flush(&mut keeper, 0);
     assert!(rt; keeper.get(&inst(alloc, 4)) == Some(&Value::Int(7)));
@@ -159,6 +169,7 @@ fn put_by_chance(
     }
     let uses = used(alloc, keeper, chance)?;
     put_new(
+        alloc,
         keeper,
         inst(alloc, node),
         Value::Int(node as i32),
@@ -202,7 +213,15 @@ fn the_index_forgets_what_plain_models_forget(rt: HostRuntime) -> Result<(), Fai
 
 /// Whether the keeper takes an entry, or not; whether it keeps what it took; and whether it forgets it with any flush.
 fn is_as_told<K: Keeper>(alloc: Global, mut keeper: K, takes: bool, keeps: bool) -> bool {
-    let taken = put_new(&mut keeper, inst(alloc, 1), Value::Int(5), &[own(1)], &[]).is_ok();
+    let taken = put_new(
+        alloc,
+        &mut keeper,
+        inst(alloc, 1),
+        Value::Int(5),
+        &[own(1)],
+        &[],
+    )
+    .is_ok();
     let kept = keeper.get(&inst(alloc, 1)) == Some(&Value::Int(5));
     let is_other_kept = has(alloc, &keeper, 2);
     flush(&mut keeper, 2);

@@ -7,7 +7,7 @@ ghost use Rattle.at_cache.specs.Recorded.{kept_in};
 use super::flat::{Covering, Flat};
 use super::listed::List;
 use at_body::{Inst, Value};
-use at_cache::{KeepRecorded, Keeper};
+use at_cache::{KeepRecorded, Keeper, Put};
 use at_store::{Loc, Places};
 use std::alloc::{AllocError, Global};
 
@@ -131,17 +131,18 @@ impl Keeper for KeepCompared {
         &mut self,
         inst: Inst,
         value: Value,
-        reads: &[Loc],
+        reads: Vec<Loc>,
         uses: &[Inst],
-    ) -> Result<(), AllocError> {
+    ) -> Result<Put, AllocError> {
         if self.differs || self.gone > self.most_gone {
             return Err(AllocError);
         }
         let noted = inst.copy(self.alloc)?;
         let told = value.copy()?;
-        self.keeper.put(inst, value, reads, uses)?;
-        self.note(noted, told, reads, uses);
-        Ok(())
+        let read = Vec::from_slice(self.alloc, reads.as_slice())?;
+        let put = self.keeper.put(inst, value, reads, uses)?;
+        self.note(noted, told, read.as_slice(), uses);
+        Ok(put)
     }
 
     fn flush<F: Fn(Loc) -> bool>(&mut self, touched: &F) {

@@ -1,9 +1,10 @@
-use Rattle.std.proofs.Common.{◌≡◌, ◌∙◌, ℕ, sym, ap, subst, Contains}
+use Rattle.std.proofs.Common.{◌≡◌, ◌∙◌, ℕ, sym, ap, subst, refl, Contains}
+use Rattle.std.proofs.lemmas.Option.{slice_get_read}
 use Rattle.std.proofs.lemmas.Result.{on_ok_weaker}
 use Rattle.at_store.specs.Located.{loc_view}
 use Rattle.at_cache.specs.Kept.{node_at}
 use Rattle.at_cache.specs.Readers.{edges_among, facet_at}
-use Rattle.at_cache.proofs.Exchanged.{list_exchanged, list_gained, list_stays}
+use Rattle.at_cache.proofs.Gained.{list_changed, list_gained, list_stays}
 use Rattle.at_cache.proofs.Listing.{lists_same}
 use Rattle.at_cache.proofs.linking.add_reader.Goals as goal
 
@@ -12,19 +13,19 @@ returns-in_err-make_list-clause-lists c l = lists_same (c.make_list.ensures.same
 
 pub returns-clause-lists : goal.returns-clause-lists
 returns-clause-lists c l =
-    let x = c.exchange_list-list.ensures in
-    list_exchanged _ _ _ _ _ _ _ c.make_list.ensures.same x.was x.written c.exchange_list.ensures.written c.add_among-result.ensures.lists l
+    let at = slice_get_read c.make_list.new.readers.items _ c.index-number.result c.index_mut-list.result.now refl c.in_ok-make_list.ensures.there c.index_mut-list.ensures.value in
+    list_changed _ _ _ _ c.add_among.new.readers c.make_list.ensures.same at refl c.add_among.ensures.lists l
 
 pub returns-clause-has : goal.returns-clause-has
 returns-clause-has c =
-    let x = c.exchange_list-list.ensures in
+    let at = slice_get_read c.make_list.new.readers.items _ c.index-number.result c.index_mut-list.result.now refl c.in_ok-make_list.ensures.there c.index_mut-list.ensures.value in
     let number : node_at (loc_view c.args.location) ≡ c.index-number.result = sym (c.index-number.ensures ∙ c.node.ensures) in
-    on_ok_weaker c.add_among-result.result (λ d. list_gained _ _ _ _ _ _ _ c.make_list.ensures.same x.was x.written c.exchange_list.ensures.written c.args.edge (loc_view c.args.location) number
-    (subst (λ l. Contains (edges_among c.index-number.result c.add_among-result.new.readers.items l) c.args.edge) (ap (λ (n : ℕ). facet_at n c.of.result) (sym number) ∙ c.of.ensures) d)) (c.add_among-result.ensures.has c.index-number.result)
+    on_ok_weaker c.add_among.result (λ d. list_gained _ _ _ _ c.add_among.new.readers c.make_list.ensures.same at refl c.args.edge (loc_view c.args.location) number
+    (subst (λ l. Contains (edges_among c.index-number.result c.add_among.new.readers.items l) c.args.edge) (ap (λ (n : ℕ). facet_at n c.of.result) (sym number) ∙ c.of.ensures) d)) (c.add_among.ensures.has c.index-number.result)
 
 pub returns-clause-others : goal.returns-clause-others
 returns-clause-others c l differs =
-    let x = c.exchange_list-list.ensures in
+    let at = slice_get_read c.make_list.new.readers.items _ c.index-number.result c.index_mut-list.result.now refl c.in_ok-make_list.ensures.there c.index_mut-list.ensures.value in
     let number : node_at (loc_view c.args.location) ≡ c.index-number.result = sym (c.index-number.ensures ∙ c.node.ensures) in
     let its : facet_at c.index-number.result c.of.result ≡ loc_view c.args.location = ap (λ (n : ℕ). facet_at n c.of.result) (sym number) ∙ c.of.ensures in
-    list_stays _ _ _ _ _ _ _ c.make_list.ensures.same x.was x.written c.exchange_list.ensures.written (loc_view c.args.location) (λ k other. c.add_among-result.ensures.others c.index-number.result k (λ h. other (h ∙ its))) l differs
+    list_stays _ _ _ _ c.add_among.new.readers c.make_list.ensures.same at refl (loc_view c.args.location) (λ k other. c.add_among.ensures.others c.index-number.result k (λ h. other (h ∙ its))) l differs

@@ -18,7 +18,7 @@ loop-used-preserved c =
     elim c.match-get.branch [
       | in-Some+in_ok-push w ↦
           let found = sym w.in-Some.ensures.value in
-          let pushed = ap (λ v. v.items) w.slots-is ∙ w.in_ok-push.ensures.items in
+          let pushed = ap (λ v. v.items) w.slots-is ∙ w.in_ok-push.ensures.ok in
           record {
             taken = taken_more t _ w.in-Some.entry.now _ _ found pushed c.loop-used.invariant.taken;
             covers = of_more t c.args.uses.now _ _ c.used-item.is c.loop-used-test.true _ c.loop-used.invariant.covers w.in-Some.entry.now _ found pushed;

@@ -1,5 +1,3 @@
-use Rattle.std.proofs.Common.{inr}
-use Rattle.std.proofs.lemmas.Result.{on_ok_weaker}
 use Rattle.at_cache.proofs.Shown.{absent_entry}
 use Rattle.at_cache.proofs.keep_recorded.KeepRecordedKeeper.put.Goals as goal
 
@@ -10,7 +8,7 @@ pub invariant_of-self : goal.invariant_of-self
 invariant_of-self c = record { indexed = c.enter_with.ensures.indexed c.args.self.now.indexed; noted = c.enter_with.ensures.noted c.args.self.now.noted }
 
 pub returns-clause-puts : goal.returns-clause-puts
-returns-clause-puts c = on_ok_weaker c.enter_with.result inr (c.enter_with.ensures.puts c.args.self.now.indexed)
+returns-clause-puts c = c.enter_with.ensures.puts c.args.self.now.indexed
 
 pub returns-clause-err : goal.returns-clause-err
 returns-clause-err c = c.enter_with.ensures.err c.args.self.now.indexed

@@ -1,7 +1,7 @@
--- The edges of one location are taken out, and put back with one more.
-use Rattle.std.proofs.Common.{◌≡◌, inl, inr, ℕ, zero, suc, List, [], ◌∷◌, ◌++◌, Bool, true, false, cond, Some, Vec, Contains, length, option_map, ◌<◌, slice_get, slice_set, refl, sym, ap, ◌∙◌, subst}
+-- One location has one edge more.
+use Rattle.std.proofs.Common.{◌≡◌, inl, inr, ℕ, zero, suc, List, [], ◌∷◌, ◌++◌, Bool, true, false, cond, Some, Vec, Result, OnOk, Contains, get_or, slice_get, slice_set, refl, sym, ap, ◌∙◌, subst}
 use Rattle.std.proofs.lemmas.Bool.{cases_eq}
-use Rattle.std.proofs.lemmas.Option.{none-some, same_Some}
+use Rattle.std.proofs.lemmas.Option.{none-some, same_Some, get_or_from_slice_get}
 use Rattle.std.proofs.lemmas.List.Elements.{Contains-append_cases, Contains-append_left, Contains-append_right}
 use Rattle.smallvec.specs.SmallVec.{SmallVec}
 use Rattle.at_model.specs.Run.{Location}
@@ -12,12 +12,11 @@ use Rattle.at_cache.specs.Info.{Memory}
 use Rattle.at_cache.specs.Kept.{node_at, same_location}
 use Rattle.at_cache.specs.Putting.{Lists}
 use Rattle.at_cache.specs.Readers.{edges_among, edges_at, facet_at}
-use Rattle.at_cache.specs.Slots.{HasChanged, with_edges}
+use Rattle.at_cache.specs.Slots.{HasChanged, ListsAt, with_edges}
 use Rattle.at_cache.proofs.Beginning.{edges_of}
 use Rattle.at_cache.proofs.Listed.{edges_are, same_list}
 use Rattle.at_cache.proofs.Listing.{lists_same}
 use Rattle.at_cache.proofs.Locations.{same_location-is, same_location-itself}
-use Rattle.at_cache.proofs.Moving.{within}
 
 module _ {X : Type 0} where
   pub get_same : (xs : List X) (k : ℕ) (v w : X) → slice_get xs k ≡ Some w → slice_get (slice_set xs k v) k ≡ Some v
@@ -31,11 +30,6 @@ module _ {X : Type 0} where
   get_other (x ∷ xs) zero (suc l) v differs = refl
   get_other (x ∷ xs) (suc k) zero v differs = refl
   get_other (x ∷ xs) (suc k) (suc l) v differs = get_other xs k l v (λ same. differs (ap suc same))
-
-  set_twice : (xs : List X) (k : ℕ) (v w : X) → slice_set (slice_set xs k v) k w ≡ slice_set xs k w
-  set_twice [] k v w = refl
-  set_twice (x ∷ xs) zero v w = refl
-  set_twice (x ∷ xs) (suc k) v w = ap (λ ys. x ∷ ys) (set_twice xs k v w)
 
 module _ {m : Memory} {x : Edge} where
   lists_before : (front : List Edge) {a b : List Edge} → Lists m x a b → Lists m x (front ++ a) (front ++ b)
@@ -82,49 +76,46 @@ among_has n [] p r h es x c = absurd (none-some r h)
 among_has n (y ∷ ys) zero r h es x c = Contains-append_left (edges_of n (with_edges es r) (facet_at n r.facet)) (edges_among n ys (facet_at n r.facet)) x (subst (λ b. Contains (cond b es.items []) x) (sym (same_location-itself (facet_at n r.facet))) c)
 among_has n (y ∷ ys) (suc p) r h es x c = Contains-append_right (edges_of n y (facet_at n r.facet)) (edges_among n (slice_set ys p (with_edges es r)) (facet_at n r.facet)) x (among_has n ys p r h es x c)
 
--- the edges at a place are exchanged twice
-between : (made mid : List Readers) (p : ℕ) (e : SmallVec Edge) → HasChanged (with_edges e) p made mid → (r : Readers) → slice_get made p ≡ Some r → slice_get mid p ≡ Some (with_edges e r)
-between made mid p e first r at = ap (λ xs. slice_get xs p) (first r at) ∙ get_same made p (with_edges e r) r at
+-- what stood at a place has these edges
+pub gained_at : {E V : Type 0} (m : Memory) (x : Edge) (rs : List Readers) (p : ℕ) (r : Readers) (v : SmallVec Edge) (result : Result V E) → r ≡ get_or rs p r → Lists m x r.edges.items v.items → OnOk result (Contains v.items x)
+    → (edges : SmallVec Edge) × HasChanged (with_edges edges) p rs (slice_set rs p (record { facet = r.facet; edges = v })) × ListsAt m x p rs edges.items × OnOk result (Contains edges.items x)
+gained_at m x rs p r v result read lists has = (
+  v,
+  λ w at. ap (λ (z : Readers). slice_set rs p (record { facet = z.facet; edges = v })) (is w at),
+  λ w at. subst (λ (z : Readers). Lists m x z.edges.items v.items) (is w at) lists,
+  has,
+)
+  where
+    is : (w : Readers) → slice_get rs p ≡ Some w → r ≡ w
+    is w at = read ∙ get_or_from_slice_get rs p w r at
 
-pub still_within : (made mid : List Readers) (p : ℕ) {facet : Facet} (e : SmallVec Edge) → (r : Readers) × (slice_get made p ≡ Some r) × (r.facet ≡ facet) → HasChanged (with_edges e) p made mid → p < length mid
-still_within made mid p e (r, at, is) first = within mid p (with_edges e r) (between made mid p e first r at)
-
-module _ (old made mid new : List Readers) (p : ℕ) (facet : Facet) (e w v : SmallVec Edge) (same : (n : ℕ) (l : Location ℕ) → edges_among n made l ≡ edges_among n old l)
-    (there : (r : Readers) × (slice_get made p ≡ Some r) × (r.facet ≡ facet)) (first : HasChanged (with_edges e) p made mid) (had : option_map (λ (r : Readers). r.edges) (slice_get made p) ≡ Some w) (second : HasChanged (with_edges v) p mid new) where
-  changed : (r : Readers) × (slice_get made p ≡ Some r) × (r.facet ≡ facet) × (r.edges ≡ w) × (new ≡ slice_set made p (with_edges v r))
-  changed =
-      let (r, at, is) = there in (
-        r,
-        at,
-        is,
-        same_Some r.edges w (sym (ap (option_map (λ (r : Readers). r.edges)) at) ∙ had),
-        second (with_edges e r) (between made mid p e first r at) ∙ ap (λ xs. slice_set xs p (with_edges v r)) (first r at) ∙ set_twice made p (with_edges e r) (with_edges v r),
-      )
-
-  pub among_exchanged : {m : Memory} {x : Edge} → Lists m x w.items v.items → (n : ℕ) (l : Location ℕ) → Lists m x (edges_among n old l) (edges_among n new l)
-  among_exchanged {m} {x} lists n l =
-      let (r, at, is, was, set) = changed in
+-- the edges at a place are others
+module _ (old made new : List Readers) (p : ℕ) (facet : Facet) (v : SmallVec Edge) (same : (n : ℕ) (l : Location ℕ) → edges_among n made l ≡ edges_among n old l)
+    (there : (r : Readers) × (slice_get made p ≡ Some r) × (r.facet ≡ facet)) (change : HasChanged (with_edges v) p made new) where
+  pub among_changed : {m : Memory} {x : Edge} → ListsAt m x p made v.items → (n : ℕ) (l : Location ℕ) → Lists m x (edges_among n old l) (edges_among n new l)
+  among_changed {m} {x} lists n l =
+      let (r, at, is) = there in
       subst (λ es. Lists m x es (edges_among n new l)) (same n l)
-      (subst (λ rs. Lists m x (edges_among n made l) (edges_among n rs l)) (sym set)
-      (among_set n l made p r at v (subst (λ (z : SmallVec Edge). Lists m x z.items v.items) (sym was) lists)))
+      (subst (λ rs. Lists m x (edges_among n made l) (edges_among n rs l)) (sym (change r at))
+      (among_set n l made p r at v (lists r at)))
 
   pub among_stays : (n : ℕ) (l : Location ℕ) → (l ≡ facet_at n facet → ⊥) → edges_among n new l ≡ edges_among n old l
   among_stays n l differs =
-      let (r, at, is, was, set) = changed in
-      ap (λ rs. edges_among n rs l) set ∙ among_same n l made p r at v (λ h. differs (h ∙ ap (facet_at n) is)) ∙ same n l
+      let (r, at, is) = there in
+      ap (λ rs. edges_among n rs l) (change r at) ∙ among_same n l made p r at v (λ h. differs (h ∙ ap (facet_at n) is)) ∙ same n l
 
   pub among_gained : (x : Edge) (n : ℕ) → Contains v.items x → Contains (edges_among n new (facet_at n facet)) x
   among_gained x n c =
-      let (r, at, is, was, set) = changed in
-      subst (λ f. Contains (edges_among n new (facet_at n f)) x) is (subst (λ rs. Contains (edges_among n rs (facet_at n r.facet)) x) (sym set) (among_has n made p r at v x c))
+      let (r, at, is) = there in
+      subst (λ f. Contains (edges_among n new (facet_at n f)) x) is (subst (λ rs. Contains (edges_among n rs (facet_at n r.facet)) x) (sym (change r at)) (among_has n made p r at v x c))
 
--- the list of a node is exchanged twice
-module _ {A : Type 0} (old made mid new : List (Vec Readers A)) (k : ℕ) (e v : Vec Readers A) {was : Vec Readers A} (same : (l : Location ℕ) → edges_at made l ≡ edges_at old l) (there : slice_get made k ≡ Some was) (is : mid ≡ slice_set made k e) (so : new ≡ slice_set mid k v) where
+-- the list of a node is another one
+module _ {A : Type 0} (old made new : List (Vec Readers A)) (k : ℕ) (v : Vec Readers A) {was : Vec Readers A} (same : (l : Location ℕ) → edges_at made l ≡ edges_at old l) (there : slice_get made k ≡ Some was) (so : new ≡ slice_set made k v) where
   now : slice_get new k ≡ Some v
-  now = ap (λ xs. slice_get xs k) so ∙ get_same mid k v e (ap (λ xs. slice_get xs k) is ∙ get_same made k e was there)
+  now = ap (λ xs. slice_get xs k) so ∙ get_same made k v was there
 
   off : (n : ℕ) → (n ≡ k → ⊥) → slice_get new n ≡ slice_get made n
-  off n differs = ap (λ xs. slice_get xs n) so ∙ get_other mid k n v differs ∙ ap (λ xs. slice_get xs n) is ∙ get_other made k n e differs
+  off n differs = ap (λ xs. slice_get xs n) so ∙ get_other made k n v differs
 
   before : (l : Location ℕ) → node_at l ≡ k → edges_at old l ≡ edges_among k was.items l
   before l at_k = sym (same l) ∙ edges_are made l was (ap (slice_get made) at_k ∙ there) ∙ ap (λ n. edges_among n was.items l) at_k
@@ -135,8 +126,8 @@ module _ {A : Type 0} (old made mid new : List (Vec Readers A)) (k : ℕ) (e v :
   others : (l : Location ℕ) → (node_at l ≡ k → ⊥) → edges_at new l ≡ edges_at old l
   others l differs = same_list new made l (off (node_at l) differs) ∙ same l
 
-  pub list_exchanged : {m : Memory} {x : Edge} → ((n : ℕ) (l : Location ℕ) → Lists m x (edges_among n was.items l) (edges_among n v.items l)) → (l : Location ℕ) → Lists m x (edges_at old l) (edges_at new l)
-  list_exchanged {m} {x} lists l = elim (cases_eq (node_at l) k) [
+  pub list_changed : {m : Memory} {x : Edge} → ((n : ℕ) (l : Location ℕ) → Lists m x (edges_among n was.items l) (edges_among n v.items l)) → (l : Location ℕ) → Lists m x (edges_at old l) (edges_at new l)
+  list_changed {m} {x} lists l = elim (cases_eq (node_at l) k) [
     | inl at_k ↦ subst (λ es. Lists m x es (edges_at new l)) (sym (before l at_k)) (subst (Lists m x (edges_among k was.items l)) (sym (after l at_k)) (lists k l))
     | inr differs ↦ lists_same (others l differs)
   ]

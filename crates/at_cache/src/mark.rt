@@ -1,0 +1,50 @@
+//! Which entries a flush takes out.
+
+ghost use Rattle.std.specs.Prelude.{◌≡◌, true};
+ghost use Rattle.at_cache.specs.Info.{is_going, next_of};
+
+/// Whether the flush under way takes an entry out, and which one it takes out next.
+#[derive(Clone, Copy)]
+pub enum Mark {
+    /// It stays.
+    Stays,
+    /// It goes, as the last one.
+    Last,
+    /// It goes before the one in this slot.
+    Before(usize),
+}
+
+impl Mark {
+    /// The mark of an entry that goes before these, from the first one on.
+    pub fn before(first: Option<usize>) -> Mark
+        ensures going { is_going result ≡ true }
+        ensures next { next_of result ≡ first }
+    {
+        match first {
+            Some(slot) => Mark::Before(slot),
+            None => Mark::Last,
+        }
+    }
+
+    /// Whether the entry goes.
+    pub fn is_going(self) -> bool
+        ensures { result ≡ is_going self }
+    {
+        match self {
+            Mark::Stays => false,
+            Mark::Last => true,
+            Mark::Before(_) => true,
+        }
+    }
+
+    /// The slot of the one that goes next.
+    pub fn next(self) -> Option<usize>
+        ensures { result ≡ next_of self }
+    {
+        match self {
+            Mark::Stays => None,
+            Mark::Last => None,
+            Mark::Before(slot) => Some(slot),
+        }
+    }
+}
