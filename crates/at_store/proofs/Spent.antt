@@ -1,10 +1,10 @@
 -- Of the room that a tree may take, what its cells and the elements of its lists leave one after the other.
-use Rattle.std.proofs.Common.{◌≡◌, ℕ, zero, suc, ◌+◌, ◌-◌, ◌<◌, ◌≤◌, List, length, drop, get_or, map, refl, ap, sym, ◌∙◌, ◌⊎◌, add-one, arith, Option, Some, None}
+use Rattle.std.proofs.Common.{◌≡◌, ℕ, suc, ◌+◌, ◌-◌, ◌<◌, ◌≤◌, List, length, drop, get_or, map, ap, sym, ◌∙◌, ◌⊎◌, add-one, arith, Option, Some, None}
 use Rattle.std.proofs.Math.Seq.{drop-cons}
 use Rattle.std.proofs.lemmas.List.{drop_all}
 use Rattle.std.proofs.lemmas.Bool.Decides.{nat_tests}
-use Rattle.std.specs.Prelude.{Bool, true, false, ◌&&◌, nat_le, max, option_and_then}
-use Rattle.at_model.specs.Trees.{Tree, Cell, Cells, Trees, Node as branch, to_cells, to_trees, cells_nodes, cells_depth, cell_nodes, cell_depth, trees_nodes, trees_depth, nodes, depth}
+use Rattle.std.specs.Prelude.{Bool, true, ◌&&◌, max, option_and_then}
+use Rattle.at_model.specs.Trees.{Tree, Cell, Node as branch, to_cells, to_trees, cells_nodes, cells_depth, cell_nodes, cell_depth, trees_nodes, trees_depth, nodes, depth}
 use Rattle.at_model.specs.Edits.{tokens_short, cell_tokens_short, cells_tokens_short, trees_tokens_short}
 use Rattle.at_tree.specs.TreeView.{see_tree, see_cell, tree_view, cell_view}
 use Rattle.at_tree.specs.declared.tree.Tree.{Tree as TreeValue, out-Tree}

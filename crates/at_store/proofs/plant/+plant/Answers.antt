@@ -3,12 +3,12 @@ use Rattle.std.specs.Prelude.{map}
 use Rattle.std.specs.Iterator.Adapters.{enumerate_source, enumerate_count}
 use Rattle.std.specs.Vec.Iter.{into_iter_items, into_iter_len}
 use Rattle.std.proofs.lemmas.List.{nil_from_length}
-use Rattle.at_model.specs.Trees.{Cell, Many, Empty, Holds, to_trees}
+use Rattle.at_model.specs.Trees.{Cell, Empty, Holds}
 use Rattle.at_tree.specs.declared.tree.Cell.TheVariants as value
 use Rattle.at_tree.specs.Token.{token_view}
 use Rattle.at_tree.proofs.Made.{made_filled}
 use Rattle.at_tree.specs.TreeView.{cell_view, tree_view}
-use Rattle.at_store.specs.Memory.{Kids, List_of, Optional, Token_of}
+use Rattle.at_store.specs.Memory.{Kids, List_of, Optional}
 use Rattle.at_store.specs.Planting.{GainsCell, GainsTree, StaysPlanted}
 use Rattle.at_tree.specs.declared.tree.Tree.{out-Tree}
 use Rattle.at_tree.proofs.TreeLoops.{tree_view_out}
