@@ -6,7 +6,6 @@ use Rattle.at_model.specs.Edits.{Edit, carried}
 use Rattle.at_model.specs.Paths.{Node, tree_at}
 use Rattle.at_model.specs.Run.{Contents, Is, Up}
 use Rattle.at_model.specs.Touches.{touches}
-use Rattle.at_model.specs.Trees.{Tree}
 use Rattle.at_model.proofs.Edited.{gone_where_touched}
 use Rattle.at_store.specs.Marked.{change_in, told}
 use Rattle.at_store.specs.Memory.{class_in}

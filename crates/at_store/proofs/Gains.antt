@@ -1,7 +1,7 @@
 -- What each step of planting leaves.
-use Rattle.std.proofs.Common.{◌≡◌, ℕ, ◌+◌, ◌<◌, ◌≤◌, zero, suc, length, take, get_or, List, [], ◌∷◌, ◌++◌, Option, Some, refl, sym, ap, ◌∙◌, subst, arith}
-use Rattle.std.specs.Prelude.{map, Result, Ok, Err, OnOk, OnErr}
-use Rattle.std.proofs.lemmas.List.{map_more, take_all}
+use Rattle.std.proofs.Common.{◌≡◌, ℕ, ◌+◌, suc, length, List, [], ◌∷◌, ◌++◌, Option, Some, refl, sym, ap, ◌∙◌, subst, arith, append_assoc}
+use Rattle.std.specs.Prelude.{Result, Ok, Err, OnOk, OnErr}
+use Rattle.std.proofs.lemmas.List.{append-nil}
 use Rattle.at_model.specs.Trees.{Tree, Cells, Cell, Many, Node as branch, no_cells, cell, no_trees, children, to_cells, from_cells, to_trees, cells_of, class_of}
 use Rattle.at_model.proofs.Untouched.{from_to_cells}
 use Rattle.at_store.specs.Numbers.{relabel, relabel_cells, relabel_cell}
@@ -133,33 +133,50 @@ tree_freed kid place u w before mid later free number p same freed =
     let q = planted_still before mid later place u w same p in
     unplanted before later free place u w q (freed place w number q.apart q.stored)
 
--- the loops over what is given
+-- The loops over what is given: these are planted, and those are still to come.
 next : (n : ℕ) → suc n ≡ n + 1
 next n = omega arith
 
-one_more : {X A : Type 0} (v : X → A) (xs : List X) (i : ℕ) (x : X) → i < length xs → x ≡ get_or xs i x → map v (take i xs) ++ v x ∷ [] ≡ map v (take (i + 1) xs)
-one_more v xs i x less is = sym (map_more v xs i x less ∙ ap (λ y. map v (take i xs) ++ v y ∷ []) (sym is))
+abbrev pub HasFirstCells : (node class : ℕ) → Place → (all rest : List Cell) → (part : ℕ) → (before later : ℕ → Option Info) → Type 0
+HasFirstCells node class place all rest part before later = (cs : List Cell) × (all ≡ cs ++ rest) × HasCells node class place cs part before later
 
-pub cells_on : {X : Type 0} (v : X → Cell) (xs : List X) (i : ℕ) (x : X) → i < length xs → x ≡ get_or xs i x → (node class : ℕ) (place : Place) (before mid later : ℕ → Option Info) → HasCells node class place (map v (take i xs)) i before mid →
-    GainsCell node i (v x) mid later → HasCells node class place (map v (take (i + 1) xs)) (i + 1) before later
-cells_on v xs i x less is node class place before mid later has gains =
-    subst (λ (cs : List Cell). HasCells node class place cs (i + 1) before later) (one_more v xs i x less is)
-    (subst (λ (n : ℕ). HasCells node class place (map v (take i xs) ++ v x ∷ []) n before later) (next i) (cells_more node class place (map v (take i xs)) (v x) i before mid later has gains))
+pub cells_begun : (node class : ℕ) (place : Place) (all : List Cell) (part : ℕ) (before later : ℕ → Option Info) → part ≡ 0 → IsAdded node class place before later → HasFirstCells node class place all all part before later
+cells_begun node class place all part before later none added = ([], refl, subst (λ (n : ℕ). HasCells node class place [] n before later) (sym none) (cells_first node class place before later added))
 
-pub cells_whole : {X : Type 0} (v : X → Cell) (xs : List X) (i : ℕ) (u : Tree) → length xs ≤ i → (node class : ℕ) → u ≡ branch class (to_cells (map v xs)) → (place : Place) (before later : ℕ → Option Info) → HasCells node class place (map v (take i xs)) i before later →
+pub cells_on : (node class : ℕ) (place : Place) (all rest : List Cell) (c : Cell) (part next_part : ℕ) (before mid later : ℕ → Option Info) → next_part ≡ part + 1 → HasFirstCells node class place all (c ∷ rest) part before mid → GainsCell node part c mid later →
+    HasFirstCells node class place all rest next_part before later
+cells_on node class place all rest c part next_part before mid later count (cs, is, has) gains = (
+  cs ++ c ∷ [],
+  is ∙ sym (append_assoc cs (c ∷ []) rest),
+  subst (λ (n : ℕ). HasCells node class place (cs ++ c ∷ []) n before later) (next part ∙ sym count) (cells_more node class place cs c part before mid later has gains),
+)
+
+pub cells_given_up : (node class : ℕ) (place : Place) (all rest : List Cell) (part : ℕ) (before mid later free : ℕ → Option Info) → HasFirstCells node class place all rest part before mid → StaysPlanted node part mid later → IsFreed node later free → IsAsBefore before free
+cells_given_up node class place all rest part before mid later free (cs, is, has) stays freed = cells_freed node class place cs part before mid later free has stays freed
+
+pub cells_whole : (node class : ℕ) (place : Place) (all rest : List Cell) (part : ℕ) (u : Tree) (before later : ℕ → Option Info) → rest ≡ [] → u ≡ branch class (to_cells all) → HasFirstCells node class place all rest part before later →
     (w : Tree) × (class_of w ≡ node) × IsPlanted before later place u w
-cells_whole v xs i u most node class is place before later (cells, len, h) =
-    (branch node cells, refl, subst (λ z. IsPlanted before later place z (branch node cells)) (ap (λ ys. branch class (to_cells (map v ys))) (take_all i xs most) ∙ sym is) h)
+cells_whole node class place all rest part u before later none is (cs, whole, (cells, len, h)) =
+    (branch node cells, refl, subst (λ z. IsPlanted before later place z (branch node cells)) (ap (λ ys. branch class (to_cells ys)) (sym (append-nil cs) ∙ ap (λ ys. cs ++ ys) (sym none) ∙ sym whole) ∙ sym is) h)
 
-length_taken : {X A : Type 0} (v : X → A) (xs : List X) (i : ℕ) → i ≤ length xs → length (map v (take i xs)) ≡ i
-length_taken v [] zero h = refl
-length_taken v [] (suc i) h = let f : suc i ≤ 0 = h in absurd (omega arith)
-length_taken v (x ∷ xs) zero h = refl
-length_taken v (x ∷ xs) (suc i) h = let f : suc i ≤ suc (length xs) = h in ap suc (length_taken v xs i (omega arith))
+abbrev pub HasFirstTrees : (node part : ℕ) → (all rest : List Tree) → (index : ℕ) → (before later : ℕ → Option Info) → Type 0
+HasFirstTrees node part all rest index before later = (us : List Tree) × (all ≡ us ++ rest) × (length us ≡ index) × HasTrees node part us before later
 
-pub trees_on : {X : Type 0} (v : X → Tree) (xs : List X) (i : ℕ) (x : X) → i < length xs → x ≡ get_or xs i x → (node part : ℕ) (before mid later : ℕ → Option Info) → HasTrees node part (map v (take i xs)) before mid → GainsTree node part i (v x) mid later → HasTrees node part (map v (take (i + 1) xs)) before later
-trees_on v xs i x less is node part before mid later has gains =
-    subst (λ (us : List Tree). HasTrees node part us before later) (one_more v xs i x less is) (has_more node part i (map v (take i xs)) (v x) before mid later (length_taken v xs i (omega (arith, less))) has gains)
+pub trees_begun : (node part : ℕ) (c : Kept) (all : List Tree) (index : ℕ) (before later : ℕ → Option Info) → index ≡ 0 → c ≡ Kids List_of [] → IsPushed node c before later → HasFirstTrees node part all all index before later
+trees_begun node part c all index before later none is pushed = ([], refl, sym none, has_none node part c before later is pushed)
 
-pub trees_whole : {X : Type 0} (v : X → Tree) (xs : List X) (i : ℕ) → length xs ≤ i → (node part : ℕ) (before later : ℕ → Option Info) → HasTrees node part (map v (take i xs)) before later → GainsCell node part (Many (to_trees (map v xs))) before later
-trees_whole v xs i most node part before later has = has_whole node part (map v xs) before later (subst (λ (us : List Tree). HasTrees node part us before later) (ap (map v) (take_all i xs most)) has)
+pub trees_on : (node part : ℕ) (all rest : List Tree) (u : Tree) (index next_index : ℕ) (before mid later : ℕ → Option Info) → next_index ≡ index + 1 → HasFirstTrees node part all (u ∷ rest) index before mid → GainsTree node part index u mid later →
+    HasFirstTrees node part all rest next_index before later
+trees_on node part all rest u index next_index before mid later count (us, is, len, has) gains = (
+  us ++ u ∷ [],
+  is ∙ sym (append_assoc us (u ∷ []) rest),
+  length_snoc us u ∙ ap suc len ∙ next index ∙ sym count,
+  has_more node part index us u before mid later len has gains,
+)
+
+pub trees_given_up : (node part : ℕ) (all rest : List Tree) (index : ℕ) (before mid later : ℕ → Option Info) → HasFirstTrees node part all rest index before mid → IsAsBefore mid later → StaysPlanted node part before later
+trees_given_up node part all rest index before mid later (us, is, len, has) same = has_stayed node part us before mid later has same
+
+pub trees_whole : (node part : ℕ) (all rest : List Tree) (index : ℕ) (before later : ℕ → Option Info) → rest ≡ [] → HasFirstTrees node part all rest index before later → GainsCell node part (Many (to_trees all)) before later
+trees_whole node part all rest index before later none (us, whole, len, has) =
+    has_whole node part all before later (subst (λ (ys : List Tree). HasTrees node part ys before later) (sym (append-nil us) ∙ ap (λ ys. us ++ ys) (sym none) ∙ sym whole) has)

@@ -1,13 +1,14 @@
 //! The limits of a tree.
-ghost use Rattle.std.specs.Prelude.{◌≡◌, map, not};
+ghost use Rattle.std.specs.Prelude.{◌≡◌, IfSome, None, Some, cond, is_some, map, not};
 ghost use Rattle.at_model.specs.Edits.{cell_tokens_short, is_short, is_within_limits, tokens_short, trees_tokens_short};
-ghost use Rattle.at_model.specs.Trees.{to_trees};
+ghost use Rattle.at_model.specs.Trees.{nodes, to_trees};
 ghost use Rattle.at_tree.specs.Token.{token_view};
 ghost use Rattle.at_tree.specs.TreeView.{cell_view, tree_view};
+ghost use Rattle.at_store.specs.Spending.{left_by_cell, left_by_tree, left_by_trees};
 
 use at_tree::reader::MAX_DEPTH;
 use at_tree::token::TokVal;
-use at_tree::tree::{Cell, Tree, depth, nodes};
+use at_tree::tree::{Cell, Tree};
 
 /// How many nodes a tree may have.
 pub const MAX_NODES: usize = 65536;
@@ -15,11 +16,59 @@ pub const MAX_NODES: usize = 65536;
 /// How many bytes a text may have among the tokens.
 pub const MAX_TOKEN: usize = 4096;
 
-/// Whether the tree has no more nodes, no more levels and no longer text than a tree may.
-pub(crate) fn is_within_limits(tree: &Tree) -> bool
-    ensures { result ≡ is_within_limits (tree_view tree.now) }
+/// How many nodes the tree has, or `None` where it has more nodes, more levels or a longer text than a tree may.
+pub(crate) fn nodes_within_limits(tree: &Tree) -> Option<usize>
+    ensures within { is_some result ≡ is_within_limits (tree_view tree.now) }
+    ensures counted { IfSome result (λ n. n ≡ nodes (tree_view tree.now)) }
 {
-    nodes(tree) <= MAX_NODES && depth(tree) <= MAX_DEPTH && !has_long_token(tree)
+    let left = left_after(tree, MAX_NODES, MAX_DEPTH)?;
+    Some(MAX_NODES - left)
+}
+
+/// How many more nodes may come after the tree, where so many may come with it, on so many levels; `None` where there
+/// are too many nodes or levels, or a text is too long.
+#[cycle(spending)]
+fn left_after(tree: &Tree, room: usize, levels: usize) -> Option<usize>
+    ensures { result ≡ left_by_tree (tree_view tree.now) room levels }
+{
+    if room == 0 || levels == 0 {
+        return None;
+    }
+    let mut left = room - 1;
+    for cell in &tree.cells {
+        left = left_after_cell(cell, left, levels - 1)?;
+    }
+    Some(left)
+}
+
+#[cycle(spending)]
+fn left_after_cell(cell: &Cell, room: usize, levels: usize) -> Option<usize>
+    ensures { result ≡ left_by_cell (cell_view cell.now) room levels }
+{
+    match cell {
+        Cell::One(tree) => left_after(tree, room, levels),
+        Cell::Many(trees) => left_after_list(trees, room, levels),
+        Cell::Maybe(Some(tree)) => left_after(tree, room, levels),
+        Cell::Maybe(None) => Some(room),
+        Cell::Tok(value) => left_after_token(value, room),
+    }
+}
+
+#[cycle(spending)]
+fn left_after_list(trees: &[Tree], room: usize, levels: usize) -> Option<usize>
+    ensures { result ≡ left_by_trees (to_trees (map tree_view trees.now)) room levels }
+{
+    let mut left = room;
+    for tree in trees {
+        left = left_after(tree, left, levels)?;
+    }
+    Some(left)
+}
+
+fn left_after_token(value: &TokVal, room: usize) -> Option<usize>
+    ensures { result ≡ cond (is_short (token_view value.now)) (Some room) None }
+{
+    if is_long(value) { None } else { Some(room) }
 }
 
 /// Whether a text among the tokens of the tree is too long.

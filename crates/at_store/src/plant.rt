@@ -126,21 +126,23 @@ fn push_filled(
     push_slot(slab, node, Slot::Kids(form, kids))
 }
 
-/// Plants a tree's nodes under new numbers: the number of its root. Where memory is wanting, all is taken out again.
+/// Plants a tree's nodes under new numbers: the number of its root. What the tree holds of memory is given back node by
+/// node, and its texts are kept. Where memory is wanting, all is taken out again.
 #[cycle(plant)]
 pub(crate) fn plant(
     alloc: Global,
     slab: &mut Slab<Entry>,
     up: Option<(Node, usize)>,
     index: usize,
-    tree: &Tree,
+    tree: Tree,
 ) -> Result<Node, AllocError>
-    ensures planted { IfOk result (λ node. (w : Numbered) × (class_of w ≡ node) × IsPlanted (memory_of slab.old) (memory_of slab.new) (up, index) (tree_view tree.now) w) }
+    ensures planted { IfOk result (λ node. (w : Numbered) × (class_of w ≡ node) × IsPlanted (memory_of slab.old) (memory_of slab.new) (up, index) (tree_view tree) w) }
     ensures kept { OnErr result (IsAsBefore (memory_of slab.old) (memory_of slab.new)) }
     ensures marks { MarksNoMore slab.old slab.new }
 {
-    let node = add(alloc, slab, tree.class, up, index, tree.cells.len())?;
-    for (part, cell) in tree.cells.iter().enumerate() {
+    let Tree { class, cells } = tree;
+    let node = add(alloc, slab, class, up, index, cells.len())?;
+    for (part, cell) in cells.into_iter().enumerate() {
         if let Err(error) = plant_cell(alloc, slab, node, part, cell) {
             free(slab, node);
             return Err(error);
@@ -156,9 +158,9 @@ fn plant_cell(
     slab: &mut Slab<Entry>,
     node: Node,
     part: usize,
-    cell: &Cell,
+    cell: Cell,
 ) -> Result<(), AllocError>
-    ensures planted { OnOk result (GainsCell node part (cell_view cell.now) (memory_of slab.old) (memory_of slab.new)) }
+    ensures planted { OnOk result (GainsCell node part (cell_view cell) (memory_of slab.old) (memory_of slab.new)) }
     ensures stays { OnErr result (StaysPlanted node part (memory_of slab.old) (memory_of slab.new)) }
     ensures marks { MarksNoMore slab.old slab.new }
 {
@@ -169,7 +171,7 @@ fn plant_cell(
             None => push_slot(slab, node, Slot::Kids(Form::Optional, Children::new(alloc))),
             Some(tree) => plant_child(alloc, slab, node, part, Form::Optional, tree),
         },
-        Cell::Tok(value) => push_slot(slab, node, Slot::Token(value.copied(alloc)?)),
+        Cell::Tok(value) => push_slot(slab, node, Slot::Token(value)),
     }
 }
 
@@ -180,9 +182,9 @@ fn plant_child(
     node: Node,
     part: usize,
     form: Form,
-    tree: &Tree,
+    tree: Tree,
 ) -> Result<(), AllocError>
-    ensures planted { OnOk result (GainsCell node part (holding (form_view form) (tree_view tree.now)) (memory_of slab.old) (memory_of slab.new)) }
+    ensures planted { OnOk result (GainsCell node part (holding (form_view form) (tree_view tree)) (memory_of slab.old) (memory_of slab.new)) }
     ensures kept { OnErr result (IsAsBefore (memory_of slab.old) (memory_of slab.new)) }
     ensures marks { MarksNoMore slab.old slab.new }
 {
@@ -200,14 +202,15 @@ fn plant_list(
     slab: &mut Slab<Entry>,
     node: Node,
     part: usize,
-    trees: &[Tree],
+    trees: Vec<Tree>,
 ) -> Result<(), AllocError>
-    ensures planted { OnOk result (GainsCell node part (Many (to_trees (map tree_view trees.now))) (memory_of slab.old) (memory_of slab.new)) }
+    ensures planted { OnOk result (GainsCell node part (Many (to_trees (map tree_view trees.items))) (memory_of slab.old) (memory_of slab.new)) }
     ensures stays { OnErr result (StaysPlanted node part (memory_of slab.old) (memory_of slab.new)) }
     ensures marks { MarksNoMore slab.old slab.new }
 {
-    push_slot(slab, node, Slot::Kids(Form::List, Children::new(alloc)))?;
-    for (index, tree) in trees.iter().enumerate() {
+    let kids = Children::with_capacity(alloc, trees.len())?;
+    push_slot(slab, node, Slot::Kids(Form::List, kids))?;
+    for (index, tree) in trees.into_iter().enumerate() {
         plant_element(alloc, slab, node, part, index, tree)?;
     }
     Ok(())
@@ -220,9 +223,9 @@ fn plant_element(
     node: Node,
     part: usize,
     index: usize,
-    tree: &Tree,
+    tree: Tree,
 ) -> Result<(), AllocError>
-    ensures planted { OnOk result (GainsTree node part index (tree_view tree.now) (memory_of slab.old) (memory_of slab.new)) }
+    ensures planted { OnOk result (GainsTree node part index (tree_view tree) (memory_of slab.old) (memory_of slab.new)) }
     ensures kept { OnErr result (IsAsBefore (memory_of slab.old) (memory_of slab.new)) }
     ensures marks { MarksNoMore slab.old slab.new }
 {

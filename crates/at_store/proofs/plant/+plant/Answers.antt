@@ -1,17 +1,20 @@
-use Rattle.std.proofs.Common.{sym, ap, ◌∙◌, subst, refl, take, Some}
+use Rattle.std.proofs.Common.{ℕ, length, sym, ap, ◌∙◌, subst, refl, arith, Some}
 use Rattle.std.specs.Prelude.{map}
-use Rattle.at_model.specs.Trees.{Cell, Node as branch, Many, Empty, Holds, to_cells, to_trees}
+use Rattle.std.specs.Iterator.Adapters.{enumerate_source, enumerate_count}
+use Rattle.std.specs.Vec.Iter.{into_iter_items, into_iter_len}
+use Rattle.std.proofs.lemmas.List.{nil_from_length}
+use Rattle.at_model.specs.Trees.{Cell, Empty, Holds}
 use Rattle.at_tree.specs.declared.tree.Cell.TheVariants as value
 use Rattle.at_tree.specs.Token.{token_view}
 use Rattle.at_tree.proofs.Made.{made_filled}
 use Rattle.at_tree.specs.TreeView.{cell_view, tree_view}
-use Rattle.at_store.specs.Memory.{Kids, List_of, Optional, Token_of}
-use Rattle.at_store.specs.Planting.{GainsCell}
+use Rattle.at_store.specs.Memory.{Kids, List_of, Optional}
+use Rattle.at_store.specs.Planting.{GainsCell, GainsTree, StaysPlanted}
 use Rattle.at_tree.specs.declared.tree.Tree.{out-Tree}
 use Rattle.at_tree.proofs.TreeLoops.{tree_view_out}
 use Rattle.at_store.specs.View.{form_view, memory_of}
 use Rattle.at_store.proofs.Cells.{made_one, made_many, made_empty, made_token}
-use Rattle.at_store.proofs.Gains.{on_ok, on_err, at_err, stays_same, gains_childless, gains_child, gains_tree, has_none, has_stayed, cells_first, cells_freed, tree_freed, cells_on, cells_whole, trees_on, trees_whole}
+use Rattle.at_store.proofs.Gains.{on_ok, on_err, at_err, stays_same, gains_childless, gains_child, gains_tree, tree_freed, HasFirstCells, HasFirstTrees, cells_begun, cells_on, cells_given_up, cells_whole, trees_begun, trees_on, trees_given_up, trees_whole}
 use Rattle.at_store.proofs.plant.+plant.Goals as goal
 
 pub plant_cell-returns-in-One-clause-planted : goal.plant_cell-returns-in-One-clause-planted
@@ -23,74 +26,113 @@ plant_cell-returns-in-One-clause-stays t c = on_err c.plant_child.result (stays_
 pub plant_cell-returns-in-Many-clause-planted : goal.plant_cell-returns-in-Many-clause-planted
 plant_cell-returns-in-Many-clause-planted t c =
     on_ok c.plant_list.result (subst (λ (x : Cell). GainsCell c.args.node c.args.part x (memory_of c.args.slab.now) (memory_of c.plant_list.new.slab))
-    (ap (λ xs. Many (to_trees (map tree_view xs))) c.deref.ensures.value ∙ sym (ap cell_view c.in-Many.is ∙ made_many c.in-Many.trees))) c.plant_list.ensures.planted
+    (sym (ap cell_view c.in-Many.is ∙ made_many c.in-Many.trees))) c.plant_list.ensures.planted
 
-pub plant_cell-returns-in_ok-copied-in-Tok-clause-planted : goal.plant_cell-returns-in_ok-copied-in-Tok-clause-planted
-plant_cell-returns-in_ok-copied-in-Tok-clause-planted t c =
+pub plant_cell-returns-in-Tok-clause-planted : goal.plant_cell-returns-in-Tok-clause-planted
+plant_cell-returns-in-Tok-clause-planted t c =
     on_ok c.push_slot-in-Tok.result (λ p. subst (λ (x : Cell). GainsCell c.args.node c.args.part x (memory_of c.args.slab.now) (memory_of c.push_slot-in-Tok.new.slab)) (sym (ap cell_view c.in-Tok.is ∙ made_token c.in-Tok.value))
-    (gains_childless c.args.node c.args.part (Holds (token_view c.in-Tok.value)) _ (memory_of c.args.slab.now) (memory_of c.push_slot-in-Tok.new.slab) (ap Token_of c.in_ok-copied-in-Tok.ensures) refl (λ f. refl) p)) c.push_slot-in-Tok.ensures.pushed
+    (gains_childless c.args.node c.args.part (Holds (token_view c.in-Tok.value)) _ (memory_of c.args.slab.now) (memory_of c.push_slot-in-Tok.new.slab) refl refl (λ f. refl) p)) c.push_slot-in-Tok.ensures.pushed
 
-pub plant_cell-returns-in_ok-copied-in-Tok-clause-stays : goal.plant_cell-returns-in_ok-copied-in-Tok-clause-stays
-plant_cell-returns-in_ok-copied-in-Tok-clause-stays t c = on_err c.push_slot-in-Tok.result (stays_same c.args.node c.args.part (memory_of c.args.slab.now) (memory_of c.push_slot-in-Tok.new.slab)) c.push_slot-in-Tok.ensures.kept
+pub plant_cell-returns-in-Tok-clause-stays : goal.plant_cell-returns-in-Tok-clause-stays
+plant_cell-returns-in-Tok-clause-stays t c = on_err c.push_slot-in-Tok.result (stays_same c.args.node c.args.part (memory_of c.args.slab.now) (memory_of c.push_slot-in-Tok.new.slab)) c.push_slot-in-Tok.ensures.kept
 
 pub plant-loop-part-init : goal.plant-loop-part-init
-plant-loop-part-init t c = (cells_first c.in_ok-node.node (out-Tree c.args.tree.now).class (c.args.up, c.args.index) (memory_of c.args.slab.now) (memory_of c.add.new.slab) c.in_ok-node.ensures.added, c.add.ensures.marks)
+plant-loop-part-init t c =
+    let it = c.into_iter-part-iterator.ensures.into_iter_gives in
+    let same = ap enumerate_source it ∙ c.enumerate-part-items.ensures.source in
+    let all = ap into_iter_items same ∙ c.into_iter.ensures.rest in
+    record {
+      len = ap into_iter_len same ∙ c.into_iter.ensures.len ∙ (out-Tree c.args.tree).cells.ok.0 ∙ ap length (sym all);
+      has = subst (λ xs. HasFirstCells c.in_ok-node.node (out-Tree c.args.tree).class (c.args.up, c.args.index) (map cell_view (out-Tree c.args.tree).cells.items) (map cell_view xs) (enumerate_count c.into_iter-part-iterator.result) (memory_of c.args.slab.now) (memory_of c.add.new.slab)) (sym all)
+          (cells_begun c.in_ok-node.node (out-Tree c.args.tree).class (c.args.up, c.args.index) (map cell_view (out-Tree c.args.tree).cells.items) (enumerate_count c.into_iter-part-iterator.result) (memory_of c.args.slab.now) (memory_of c.add.new.slab) (ap enumerate_count it ∙ c.enumerate-part-items.ensures.count) c.in_ok-node.ensures.added);
+      marks = c.add.ensures.marks;
+    }
 
 pub plant-returns-in-Err-clause-kept : goal.plant-returns-in-Err-clause-kept
 plant-returns-in-Err-clause-kept t c =
-    cells_freed c.in_ok-node.node (out-Tree c.args.tree.now).class (c.args.up, c.args.index) (map cell_view (take c.loop-part.part c.deref-cell-items.result.now)) c.loop-part.part
-    (memory_of c.args.slab.now) (memory_of c.loop-part.slab) (memory_of c.plant_cell.new.slab) (memory_of c.free.new.slab) c.loop-part.invariant.0 c.in-Err.ensures.stays c.free.ensures.freed
+    let number = c.in-Some.ensures.steps.1 in
+    cells_given_up c.in_ok-node.node (out-Tree c.args.tree).class (c.args.up, c.args.index) (map cell_view (out-Tree c.args.tree).cells.items) (map cell_view (into_iter_items (enumerate_source c.loop-part.part-iterator))) (enumerate_count c.loop-part.part-iterator)
+    (memory_of c.args.slab.now) (memory_of c.loop-part.slab) (memory_of c.plant_cell.new.slab) (memory_of c.free.new.slab) c.loop-part.invariant.has
+    (subst (λ (n : ℕ). StaysPlanted c.in_ok-node.node n (memory_of c.loop-part.slab) (memory_of c.plant_cell.new.slab)) number c.in-Err.ensures.stays) c.free.ensures.freed
 
 pub plant-loop-part-preserved : goal.plant-loop-part-preserved
-plant-loop-part-preserved t c = (
-  cells_on cell_view c.deref-cell-items.result.now c.loop-part.part c.cell-item.result c.loop-part-test.true c.cell-item.is c.in_ok-node.node (out-Tree c.args.tree.now).class (c.args.up, c.args.index)
-      (memory_of c.args.slab.now) (memory_of c.loop-part.slab) (memory_of c.plant_cell.new.slab) c.loop-part.invariant.0 c.in_default.ensures.planted,
-  λ k e. c.loop-part.invariant.1 k (c.plant_cell.ensures.marks k e),
-)
+plant-loop-part-preserved t c =
+    let inv = c.loop-part.invariant in
+    let steps = c.in-Some.ensures.steps in
+    let took = steps.0.0 in
+    record {
+      len = omega (arith, inv.len, steps.0.1, ap length took);
+      has = cells_on c.in_ok-node.node (out-Tree c.args.tree).class (c.args.up, c.args.index) (map cell_view (out-Tree c.args.tree).cells.items) (map cell_view (into_iter_items (enumerate_source c.next.new.self))) (cell_view c.in-Some.cell) (enumerate_count c.loop-part.part-iterator) (enumerate_count c.next.new.self)
+          (memory_of c.args.slab.now) (memory_of c.loop-part.slab) (memory_of c.plant_cell.new.slab) steps.2
+          (subst (λ xs. HasFirstCells c.in_ok-node.node (out-Tree c.args.tree).class (c.args.up, c.args.index) (map cell_view (out-Tree c.args.tree).cells.items) (map cell_view xs) (enumerate_count c.loop-part.part-iterator) (memory_of c.args.slab.now) (memory_of c.loop-part.slab)) took inv.has)
+          (subst (λ (n : ℕ). GainsCell c.in_ok-node.node n (cell_view c.in-Some.cell) (memory_of c.loop-part.slab) (memory_of c.plant_cell.new.slab)) steps.1 c.in_default.ensures.planted);
+      marks = λ k e. inv.marks k (c.plant_cell.ensures.marks k e);
+    }
 
 pub plant-returns-clause-planted : goal.plant-returns-clause-planted
 plant-returns-clause-planted t c =
-    cells_whole cell_view c.deref-cell-items.result.now c.loop-part.part (tree_view c.args.tree.now) c.loop-part-test.false c.in_ok-node.node (out-Tree c.args.tree.now).class
-    (tree_view_out c.args.tree.now ∙ ap (λ xs. branch (out-Tree c.args.tree.now).class (to_cells (map cell_view xs))) (sym c.deref-cell-items.ensures.value)) (c.args.up, c.args.index) (memory_of c.args.slab.now) (memory_of c.loop-part.slab) c.loop-part.invariant.0
+    let inv = c.loop-part.invariant in
+    let none = ap (map cell_view) (nil_from_length (into_iter_items (enumerate_source c.loop-part.part-iterator)) (sym inv.len ∙ c.in-None.ensures.steps.0.0)) in
+    cells_whole c.in_ok-node.node (out-Tree c.args.tree).class (c.args.up, c.args.index) (map cell_view (out-Tree c.args.tree).cells.items) (map cell_view (into_iter_items (enumerate_source c.loop-part.part-iterator))) (enumerate_count c.loop-part.part-iterator) (tree_view c.args.tree) (memory_of c.args.slab.now) (memory_of c.loop-part.slab) none (tree_view_out c.args.tree) inv.has
 
 pub plant_child-returns-in-Err-clause-kept : goal.plant_child-returns-in-Err-clause-kept
 plant_child-returns-in-Err-clause-kept t c =
     let (w, number, p) = c.in_ok-kid.ensures.planted in
-    tree_freed c.in_ok-kid.kid (Some (c.args.node, c.args.part), 0) (tree_view c.args.tree.now) w (memory_of c.args.slab.now) (memory_of c.plant.new.slab) (memory_of c.push_filled.new.slab) (memory_of c.free.new.slab) number p c.in-Err.ensures.kept c.free.ensures.freed
+    tree_freed c.in_ok-kid.kid (Some (c.args.node, c.args.part), 0) (tree_view c.args.tree) w (memory_of c.args.slab.now) (memory_of c.plant.new.slab) (memory_of c.push_filled.new.slab) (memory_of c.free.new.slab) number p c.in-Err.ensures.kept c.free.ensures.freed
 
 pub plant_child-returns-clause-planted : goal.plant_child-returns-clause-planted
 plant_child-returns-clause-planted t c =
     let (w, number, p) = c.in_ok-kid.ensures.planted in
-    gains_child c.args.node c.args.part c.in_ok-kid.kid (form_view c.args.form) (tree_view c.args.tree.now) w (memory_of c.args.slab.now) (memory_of c.plant.new.slab) (memory_of c.push_filled.new.slab) number p c.in_default.ensures.pushed
+    gains_child c.args.node c.args.part c.in_ok-kid.kid (form_view c.args.form) (tree_view c.args.tree) w (memory_of c.args.slab.now) (memory_of c.plant.new.slab) (memory_of c.push_filled.new.slab) number p c.in_default.ensures.pushed
 
 pub plant_element-returns-in-Err-clause-kept : goal.plant_element-returns-in-Err-clause-kept
 plant_element-returns-in-Err-clause-kept t c =
     let (w, number, p) = c.in_ok-kid.ensures.planted in
-    tree_freed c.in_ok-kid.kid (Some (c.args.node, c.args.part), c.args.index) (tree_view c.args.tree.now) w (memory_of c.args.slab.now) (memory_of c.plant.new.slab) (memory_of c.push_kid.new.slab) (memory_of c.free.new.slab) number p c.in-Err.ensures.kept c.free.ensures.freed
+    tree_freed c.in_ok-kid.kid (Some (c.args.node, c.args.part), c.args.index) (tree_view c.args.tree) w (memory_of c.args.slab.now) (memory_of c.plant.new.slab) (memory_of c.push_kid.new.slab) (memory_of c.free.new.slab) number p c.in-Err.ensures.kept c.free.ensures.freed
 
 pub plant_element-returns-clause-planted : goal.plant_element-returns-clause-planted
 plant_element-returns-clause-planted t c =
     let (w, number, p) = c.in_ok-kid.ensures.planted in
-    gains_tree c.args.node c.args.part c.args.index c.in_ok-kid.kid (tree_view c.args.tree.now) w (memory_of c.args.slab.now) (memory_of c.plant.new.slab) (memory_of c.push_kid.new.slab) number p c.in_default.ensures.pushed
+    gains_tree c.args.node c.args.part c.args.index c.in_ok-kid.kid (tree_view c.args.tree) w (memory_of c.args.slab.now) (memory_of c.plant.new.slab) (memory_of c.push_kid.new.slab) number p c.in_default.ensures.pushed
 
 pub plant_list-returns-in_err-push_slot-clause-stays : goal.plant_list-returns-in_err-push_slot-clause-stays
-plant_list-returns-in_err-push_slot-clause-stays t c = at_err c.from_residual.result (stays_same c.args.node c.args.part (memory_of c.args.slab.now) (memory_of c.push_slot.new.slab) c.in_err-push_slot.ensures.kept)
+plant_list-returns-in_err-push_slot-clause-stays t c = at_err c.from_residual-in_err-push_slot.result (stays_same c.args.node c.args.part (memory_of c.args.slab.now) (memory_of c.push_slot.new.slab) c.in_err-push_slot.ensures.kept)
 
 pub plant_list-loop-index-init : goal.plant_list-loop-index-init
-plant_list-loop-index-init t c = (has_none c.args.node c.args.part (Kids List_of c.new.result.items) (memory_of c.args.slab.now) (memory_of c.push_slot.new.slab) (ap (Kids List_of) c.new.ensures.items) c.in_ok-push_slot.ensures.pushed, c.push_slot.ensures.marks)
+plant_list-loop-index-init t c =
+    let it = c.into_iter-index-iterator.ensures.into_iter_gives in
+    let same = ap enumerate_source it ∙ c.enumerate-index-items.ensures.source in
+    let all = ap into_iter_items same ∙ c.into_iter.ensures.rest in
+    record {
+      len = ap into_iter_len same ∙ c.into_iter.ensures.len ∙ c.args.trees.ok.0 ∙ ap length (sym all);
+      has = subst (λ xs. HasFirstTrees c.args.node c.args.part (map tree_view c.args.trees.items) (map tree_view xs) (enumerate_count c.into_iter-index-iterator.result) (memory_of c.args.slab.now) (memory_of c.push_slot.new.slab)) (sym all)
+          (trees_begun c.args.node c.args.part (Kids List_of c.in_ok-kids.kids.items) (map tree_view c.args.trees.items) (enumerate_count c.into_iter-index-iterator.result) (memory_of c.args.slab.now) (memory_of c.push_slot.new.slab) (ap enumerate_count it ∙ c.enumerate-index-items.ensures.count) (ap (Kids List_of) c.in_ok-kids.ensures.items) c.in_ok-push_slot.ensures.pushed);
+      marks = c.push_slot.ensures.marks;
+    }
 
 pub plant_list-returns-in_err-plant_element-clause-stays : goal.plant_list-returns-in_err-plant_element-clause-stays
 plant_list-returns-in_err-plant_element-clause-stays t c =
-    at_err c.from_residual-in_err-plant_element.result (has_stayed c.args.node c.args.part (map tree_view (take c.loop-index.index c.args.trees.now)) (memory_of c.args.slab.now) (memory_of c.loop-index.slab) (memory_of c.plant_element.new.slab) c.loop-index.invariant.0 c.in_err-plant_element.ensures.kept)
+    at_err c.from_residual-in_err-plant_element.result (trees_given_up c.args.node c.args.part (map tree_view c.args.trees.items) (map tree_view (into_iter_items (enumerate_source c.loop-index.index-iterator))) (enumerate_count c.loop-index.index-iterator) (memory_of c.args.slab.now) (memory_of c.loop-index.slab) (memory_of c.plant_element.new.slab) c.loop-index.invariant.has c.in_err-plant_element.ensures.kept)
 
 pub plant_list-loop-index-preserved : goal.plant_list-loop-index-preserved
-plant_list-loop-index-preserved t c = (
-  trees_on tree_view c.args.trees.now c.loop-index.index c.index-trees-index.result c.loop-index-test.true c.index-trees-index.is c.args.node c.args.part (memory_of c.args.slab.now) (memory_of c.loop-index.slab) (memory_of c.plant_element.new.slab) c.loop-index.invariant.0 c.in_ok-plant_element.ensures.planted,
-  λ k e. c.loop-index.invariant.1 k (c.plant_element.ensures.marks k e),
-)
+plant_list-loop-index-preserved t c =
+    let inv = c.loop-index.invariant in
+    let steps = c.in-Some.ensures.steps in
+    let took = steps.0.0 in
+    record {
+      len = omega (arith, inv.len, steps.0.1, ap length took);
+      has = trees_on c.args.node c.args.part (map tree_view c.args.trees.items) (map tree_view (into_iter_items (enumerate_source c.next.new.self))) (tree_view c.in-Some.tree) (enumerate_count c.loop-index.index-iterator) (enumerate_count c.next.new.self)
+          (memory_of c.args.slab.now) (memory_of c.loop-index.slab) (memory_of c.plant_element.new.slab) steps.2
+          (subst (λ xs. HasFirstTrees c.args.node c.args.part (map tree_view c.args.trees.items) (map tree_view xs) (enumerate_count c.loop-index.index-iterator) (memory_of c.args.slab.now) (memory_of c.loop-index.slab)) took inv.has)
+          (subst (λ (n : ℕ). GainsTree c.args.node c.args.part n (tree_view c.in-Some.tree) (memory_of c.loop-index.slab) (memory_of c.plant_element.new.slab)) steps.1 c.in_ok-plant_element.ensures.planted);
+      marks = λ k e. inv.marks k (c.plant_element.ensures.marks k e);
+    }
 
 pub plant_list-returns-clause-planted : goal.plant_list-returns-clause-planted
-plant_list-returns-clause-planted t c = trees_whole tree_view c.args.trees.now c.loop-index.index c.loop-index-test.false c.args.node c.args.part (memory_of c.args.slab.now) (memory_of c.loop-index.slab) c.loop-index.invariant.0
+plant_list-returns-clause-planted t c =
+    let inv = c.loop-index.invariant in
+    let none = ap (map tree_view) (nil_from_length (into_iter_items (enumerate_source c.loop-index.index-iterator)) (sym inv.len ∙ c.in-None.ensures.steps.0.0)) in
+    trees_whole c.args.node c.args.part (map tree_view c.args.trees.items) (map tree_view (into_iter_items (enumerate_source c.loop-index.index-iterator))) (enumerate_count c.loop-index.index-iterator) (memory_of c.args.slab.now) (memory_of c.loop-index.slab) none inv.has
 
 pub plant_cell-returns-in-None-clause-planted : goal.plant_cell-returns-in-None-clause-planted
 plant_cell-returns-in-None-clause-planted t c =

@@ -1,4 +1,4 @@
-use Rattle.std.proofs.Common.{None, false, sym, refl, ◌∙◌}
+use Rattle.std.proofs.Common.{None, false, sym, refl, ap, is_some, ◌∙◌}
 use Rattle.at_tree.specs.TreeView.{tree_view}
 use Rattle.at_tree.specs.declared.token.TokVal.TheVariants as token
 use Rattle.at_store.specs.Shown.{Shown}
@@ -14,11 +14,11 @@ returns-clause-loaded c =
       waiting = refl;
       leaving = refl;
       absent = refl;
-      before = memory_of c.new-slab.result;
-      free = empty_memory c.new-slab.result c.new-slab.ensures.empty;
+      before = memory_of c.in_ok-slab.slab;
+      free = empty_memory c.in_ok-slab.slab c.in_ok-slab.ensures.empty;
       planted = c.in_ok-root.ensures.planted;
-      unmarked = unmarked_still c.new-slab.result c.plant.new.slab c.plant.ensures.marks (empty_unmarked c.new-slab.result c.new-slab.ensures.empty);
-      limits = sym c.is_within_limits.ensures ∙ c.if-not-is_within_limits.false;
+      unmarked = unmarked_still c.in_ok-slab.slab c.plant.new.slab c.plant.ensures.marks (empty_unmarked c.in_ok-slab.slab c.in_ok-slab.ensures.empty);
+      limits = sym c.nodes_within_limits.ensures.within ∙ ap is_some c.in-Some.is;
     })
 
 pub returns-clause-idle : goal.returns-clause-idle
@@ -28,9 +28,9 @@ returns-clause-idle c =
       waiting = refl;
       leaving = refl;
       absent = refl;
-      before = memory_of c.new-slab.result;
-      free = empty_memory c.new-slab.result c.new-slab.ensures.empty;
+      before = memory_of c.in_ok-slab.slab;
+      free = empty_memory c.in_ok-slab.slab c.in_ok-slab.ensures.empty;
       planted = c.in_ok-root.ensures.planted;
-      unmarked = unmarked_still c.new-slab.result c.plant.new.slab c.plant.ensures.marks (empty_unmarked c.new-slab.result c.new-slab.ensures.empty);
-      limits = sym c.is_within_limits.ensures ∙ c.if-not-is_within_limits.false;
+      unmarked = unmarked_still c.in_ok-slab.slab c.plant.new.slab c.plant.ensures.marks (empty_unmarked c.in_ok-slab.slab c.in_ok-slab.ensures.empty);
+      limits = sym c.nodes_within_limits.ensures.within ∙ ap is_some c.in-Some.is;
     })
