@@ -52,6 +52,9 @@ module _ (rules : Rules) (look : Contents ℕ) where
     pub still : (j : Instance ℕ) → IsSome (old j) → IsSome (new j)
     still j some = elim (grows j) [ inl e ↦ subst IsSome (sym e) some | inr p ↦ (let (same, there, lazy) = p in there) ]
 
+    pub settled_still : (found : List (Instance ℕ × Find)) → AreSettled rules old found → AreSettled rules new found
+    settled_still found settled p j g e = let s = settled p j g e in record { lazy = λ l. still j (s.lazy l); took = λ u h. still u (s.took u h) }
+
     pub lazy_more : ((j : Instance ℕ) → IsSome (old j) → IsLazy j) → (j : Instance ℕ) → IsSome (new j) → IsLazy j
     lazy_more all j some = elim (grows j) [ inl e ↦ all j (subst IsSome e some) | inr p ↦ (let (same, there, lazy) = p in subst IsLazy same lazy) ]
 
@@ -97,7 +100,7 @@ module _ (rules : Rules) (look : Contents ℕ) where
 
       pub settled_push : (IsLazy i → IsSome (new i)) → AreSettled rules new (found ++ (i, d) ∷ [])
       settled_push kept p j g is = elim (get_push found (i, d) p (j, g) is) [
-        | inl e ↦ (let s = settled p j g e in record { lazy = λ l. still j (s.lazy l); took = λ u h. still u (s.took u h) })
+        | inl e ↦ settled_still found settled p j g e
         | inr e ↦ subst (λ (x : Instance ℕ × Find). IsSettled rules new x.0 x.1) e.1 (record { lazy = kept; took = λ u h. still u (took u h) })
       ]
 

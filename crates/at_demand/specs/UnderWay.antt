@@ -8,6 +8,7 @@ use Rattle.at_model.specs.Rules.{Rules}
 use Rattle.at_model.specs.Meaning.{HasValue, Right, Among, Distinct, Answers}
 use Rattle.at_body.specs.Same.{same_instance}
 use Rattle.at_body.specs.Rest.{reached, resumed}
+use Rattle.at_body.specs.declared.value.Value.{Value as ValueCode}
 use Rattle.at_body.specs.declared.trial.Step.{Step}
 use Rattle.at_body.specs.declared.trial.Step.TheVariants as step
 use Rattle.at_body.specs.declared.trial.Trial.{Trial}
@@ -65,15 +66,15 @@ pub record IsOrderly (entries : Entries) (waiting : List (Instance ℕ × Frame)
 abbrev pub IsOrderlyIn : Entries → Evaluation → Type 0
 IsOrderlyIn entries q = IsOrderly entries q.waiting.entries q.found.entries q.inst q.frame.demanded.kept.items
 
--- how far a question has come: an instance counts once when it waits, and twice when it is found
+-- how far a question has come: an instance counts once when it waits, and twice when it is found or came to be kept
 abbrev pub progress : Evaluation → ℕ
-progress q = 2 * length q.found.entries + length q.waiting.entries
+progress q = 2 * (length q.found.entries + q.kept) + length q.waiting.entries
 
 -- the question goes on, further than it was
 pub record GoesOn (entries : Entries) (done : ℕ) (new : Evaluation) : Type 0 where
   pub orderly : IsOrderlyIn entries new
   pub further : done < progress new
-  pub few : progress new < 2 ^ 66
+  pub few : progress new < 2 ^ 67
 
 abbrev pub IsAdvance : Entries → (old new : Evaluation) → Advance → Type 0
 IsAdvance entries old new (advance.GoesOn s) = GoesOn entries (progress old) new
@@ -87,12 +88,29 @@ pub record IsAscended (waiting : List (Instance ℕ × Frame)) (found : List (In
   pub needs : s ≡ step.Need i
   pub few : length new.waiting.entries < 2 ^ 64
   pub finds : length new.found.entries < 2 ^ 64
+  pub counts : new.kept < 2 ^ 64
 
 -- so it is, or none waited, and its value is the answer
 abbrev pub HasAscended : Evaluation → Find → Evaluation → Advance → Type 0
-HasAscended old find new (advance.GoesOn s) = IsAscended old.waiting.entries old.found.entries old.inst find new s
+HasAscended old find new (advance.GoesOn s) = IsAscended old.waiting.entries old.found.entries old.inst find new s × (new.kept ≡ old.kept)
 HasAscended old find new (advance.Fails kind) = ⊥
 HasAscended old find new (advance.Answers a) = (old.waiting.entries ≡ []) × (a ≡ answer.Value find.value)
+
+-- The last instance is off the chain as one more that came to be kept, and the one that waited for it is the last.
+pub record IsPassedBack (waiting : List (Instance ℕ × Frame)) (found : List (Instance ℕ × Find)) (kept : ℕ) (i : Instance ℕ) (new : Evaluation) (s : Step) : Type 0 where
+  pub waits : waiting ≡ new.waiting.entries ++ (new.inst, new.frame) ∷ []
+  pub same : new.found.entries ≡ found
+  pub counted : new.kept ≡ kept + 1
+  pub needs : s ≡ step.Need i
+  pub few : length new.waiting.entries < 2 ^ 64
+  pub finds : length new.found.entries < 2 ^ 64
+  pub counts : new.kept < 2 ^ 64
+
+-- so it is, or none waited, and this value is the answer
+abbrev pub HasPassedBack : Evaluation → ValueCode → Evaluation → Advance → Type 0
+HasPassedBack old v new (advance.GoesOn s) = IsPassedBack old.waiting.entries old.found.entries old.kept old.inst new s
+HasPassedBack old v new (advance.Fails kind) = ⊥
+HasPassedBack old v new (advance.Answers a) = (old.waiting.entries ≡ []) × (a ≡ answer.Value v)
 
 -- The chain leads from what was asked by demands to the last instance, whose evaluation has come to this step; and what is
 -- kept and what was found holds.

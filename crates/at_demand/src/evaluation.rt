@@ -13,7 +13,7 @@ ghost use Rattle.at_body.specs.Same.{same_instance};
 ghost use Rattle.at_body.specs.Typed.{IsTypedStep, class_shown};
 ghost use Rattle.indexmap.specs.IndexMap.{insert_entry};
 ghost use Rattle.at_demand.specs.Known.{meaning, known_in, IsRecalled};
-ghost use Rattle.at_demand.specs.UnderWay.{chain_of, HasAscended, HasStepped, IsOpen};
+ghost use Rattle.at_demand.specs.UnderWay.{chain_of, HasAscended, HasPassedBack, HasStepped, IsOpen};
 ghost use Rattle.at_demand.specs.Covering.{HasPassedTo, Takes};
 ghost use Rattle.at_demand.specs.Only.{TakesOne, TakesOnly};
 ghost use Rattle.at_demand.specs.declared.evaluation.Find.{Find as FindCode};
@@ -75,10 +75,11 @@ impl Drop for Find {
 }
 
 // A question under way. `inst` is the last instance of the chain, and `frame` its evaluation; each of `waiting` waits for
-// the next, and the last one for `inst`.
+// the next, and the last one for `inst`. What came to be kept isn't among what was `found`: `kept` counts it.
 pub struct Evaluation<'a> {
     pub waiting: IndexMap<Inst, Frame<'a>>,
     pub found: IndexMap<Inst, Find>,
+    pub kept: u64,
     pub inst: Inst,
     pub frame: Frame<'a>,
 }
@@ -89,6 +90,7 @@ impl Drop for Evaluation<'_> {
         let Evaluation {
             waiting: _,
             found: _,
+            kept: _,
             inst: _,
             frame: _,
         } = self;
@@ -102,6 +104,13 @@ pub enum Advance {
     GoesOn(Step),
     Fails(FaultKind),
     Answers(Answer),
+}
+
+// What became of a find that was to be kept: its value is kept, or it is found still.
+#[derive(Drop)]
+pub enum Settled {
+    Kept(Value),
+    Found(Find),
 }
 
 // The value of an instance, or the instance, where it isn't known.
@@ -136,6 +145,7 @@ impl<'a> Evaluation<'a> {
         let evaluation = Evaluation {
             waiting: IndexMap::new(alloc),
             found: IndexMap::new(alloc),
+            kept: 0,
             inst,
             frame,
         };
@@ -168,6 +178,8 @@ impl<'a> Evaluation<'a> {
         ensures unfound { OnOk result (self.new.frame.demanded.finds.items ≡ []) }
         ensures few { OnOk result (length self.new.waiting.entries < 2 ^ 64) }
         ensures finds { OnOk result (length self.new.found.entries < 2 ^ 64) }
+        ensures counted { self.new.kept ≡ self.old.kept }
+        ensures counts { OnOk result (self.new.kept < 2 ^ 64) }
         ensures stepped { IfOk result (HasStepped rules.now (contents store.now) needed self.new.frame.trial) }
         ensures passed { (finds : List (Instance ℕ × FindCode)) → IfOk result (HasPassedTo rules.now (contents store.now) finds needed self.new.frame) }
         ensures typed { IfOk result (λ s. IsTypedStep rules.now (class_shown store.now) s self.new.frame.trial) }
@@ -176,8 +188,8 @@ impl<'a> Evaluation<'a> {
         let frame = mem::replace(&mut self.frame, frame);
         let inst = mem::replace(&mut self.inst, needed);
         put(&mut self.waiting, inst, frame)?;
-        // `len` says that they are fewer than 2^64.
-        let _counts = (self.waiting.len(), self.found.len());
+        // The calls say that they are fewer than 2^64.
+        let _counts = (self.waiting.len(), self.found.len(), self.kept());
         Ok(step)
     }
 
@@ -192,9 +204,35 @@ impl<'a> Evaluation<'a> {
         let inst = mem::replace(&mut self.inst, below);
         let needed = inst.copy(alloc)?;
         put(&mut self.found, inst, find)?;
-        // `len` says that they are fewer than 2^64.
-        let _counts = (self.waiting.len(), self.found.len());
+        // The calls say that they are fewer than 2^64.
+        let _counts = (self.waiting.len(), self.found.len(), self.kept());
         Ok(Advance::GoesOn(Step::Need(needed)))
+    }
+
+    // Goes back so from the last instance, which is kept with this value. Their count ends at the greatest number, as if memory
+    // were wanting.
+    pub fn pass(&mut self, value: Value) -> Result<Advance, AllocError>
+        ensures { IfOk result (HasPassedBack self.old value self.new) }
+    {
+        let Some(kept) = self.kept.checked_add(1) else {
+            return Err(AllocError);
+        };
+        let Some((below, frame)) = self.waiting.pop() else {
+            return Ok(Advance::Answers(Answer::Value(value)));
+        };
+        self.kept = kept;
+        self.frame = frame;
+        let inst = mem::replace(&mut self.inst, below);
+        // The calls say that they are fewer than 2^64.
+        let _counts = (self.waiting.len(), self.found.len(), self.kept());
+        Ok(Advance::GoesOn(Step::Need(inst)))
+    }
+
+    // How many came to be kept.
+    fn kept(&self) -> u64
+        ensures { result ≡ self.now.kept }
+    {
+        self.kept
     }
 
     // The last instance of the chain.
@@ -204,6 +242,7 @@ impl<'a> Evaluation<'a> {
         let Evaluation {
             waiting: _,
             found: _,
+            kept: _,
             inst,
             frame: _,
         } = self;
@@ -280,19 +319,18 @@ impl<'a> Frame<'a> {
     }
 
     // What it found, at its end.
-    pub fn find(&mut self, alloc: Global, value: Value) -> Result<Find, AllocError>
-        ensures value { IfOk result (λ f. f.value ≡ value) }
-        ensures demanded { IfOk result (λ f. f.demanded ≡ self.old.demanded) }
-        ensures reads { IfOk result (λ f. map loc_view f.reads.items ≡ self.old.trial.reads) }
+    pub fn find(&mut self, alloc: Global, value: Value) -> Find
+        ensures value { result.value ≡ value }
+        ensures demanded { result.demanded ≡ self.old.demanded }
+        ensures reads { map loc_view result.reads.items ≡ self.old.trial.reads }
     {
-        let mut reads = Vec::new(alloc);
-        reads.extend_from_slice(self.trial.reads().as_slice())?;
+        let reads = self.trial.take_reads(alloc);
         let demanded = mem::replace(&mut self.demanded, Demanded::new(alloc));
-        Ok(Find {
+        Find {
             value,
             reads,
             demanded,
-        })
+        }
     }
 }
 
