@@ -19,7 +19,7 @@ ghost use Rattle.at_demand.specs.Only.{TakesOne, TakesOnly};
 ghost use Rattle.at_demand.specs.declared.evaluation.Find.{Find as FindCode};
 
 use crate::answer::Answer;
-use at_body::{FaultKind, Inst, Step, Trial, Value};
+use at_body::{FaultKind, Inst, Room, Step, Trial, Value};
 use at_cache::Keeper;
 use at_rules::Rules;
 use at_store::{Loc, Store};
@@ -75,11 +75,13 @@ impl Drop for Find {
 }
 
 // A question under way. `inst` is the last instance of the chain, and `frame` its evaluation; each of `waiting` waits for
-// the next, and the last one for `inst`. What came to be kept isn't among what was `found`: `kept` counts it.
+// the next, and the last one for `inst`. What came to be kept isn't among what was `found`: `kept` counts it. A trial begins in
+// the `room` of one that ended.
 pub struct Evaluation<'a> {
     pub waiting: IndexMap<Inst, Frame<'a>>,
     pub found: IndexMap<Inst, Find>,
     pub kept: u64,
+    pub room: Room<'a>,
     pub inst: Inst,
     pub frame: Frame<'a>,
 }
@@ -91,6 +93,7 @@ impl Drop for Evaluation<'_> {
             waiting: _,
             found: _,
             kept: _,
+            room: _,
             inst: _,
             frame: _,
         } = self;
@@ -146,6 +149,7 @@ impl<'a> Evaluation<'a> {
             waiting: IndexMap::new(alloc),
             found: IndexMap::new(alloc),
             kept: 0,
+            room: Room::new(alloc),
             inst,
             frame,
         };
@@ -184,7 +188,8 @@ impl<'a> Evaluation<'a> {
         ensures passed { (finds : List (Instance ℕ × FindCode)) → IfOk result (HasPassedTo rules.now (contents store.now) finds needed self.new.frame) }
         ensures typed { IfOk result (λ s. IsTypedStep rules.now (class_shown store.now) s self.new.frame.trial) }
     {
-        let (frame, step) = Frame::start(alloc, rules, store, &needed)?;
+        let room = mem::replace(&mut self.room, Room::new(alloc));
+        let (frame, step) = Frame::start_in(alloc, rules, store, &needed, room)?;
         let frame = mem::replace(&mut self.frame, frame);
         let inst = mem::replace(&mut self.inst, needed);
         put(&mut self.waiting, inst, frame)?;
@@ -200,7 +205,7 @@ impl<'a> Evaluation<'a> {
         let Some((below, frame)) = self.waiting.pop() else {
             return Ok(Advance::Answers(Answer::Value(find.into_value())));
         };
-        self.frame = frame;
+        self.room = mem::replace(&mut self.frame, frame).into_room();
         let inst = mem::replace(&mut self.inst, below);
         let needed = inst.copy(alloc)?;
         put(&mut self.found, inst, find)?;
@@ -221,7 +226,7 @@ impl<'a> Evaluation<'a> {
             return Ok(Advance::Answers(Answer::Value(value)));
         };
         self.kept = kept;
-        self.frame = frame;
+        self.room = mem::replace(&mut self.frame, frame).into_room();
         let inst = mem::replace(&mut self.inst, below);
         // The calls say that they are fewer than 2^64.
         let _counts = (self.waiting.len(), self.found.len(), self.kept());
@@ -243,6 +248,7 @@ impl<'a> Evaluation<'a> {
             waiting: _,
             found: _,
             kept: _,
+            room: _,
             inst,
             frame: _,
         } = self;
@@ -276,9 +282,36 @@ impl<'a> Frame<'a> {
         ensures passed { (finds : List (Instance ℕ × FindCode)) → IfOk result (λ r. HasPassedTo rules.now (contents store.now) finds inst.now r.0 r.1) }
         ensures typed { IfOk result (λ r. IsTypedStep rules.now (class_shown store.now) r.1 r.0.trial) }
     {
-        let (trial, step) = Trial::start(alloc, rules, store, inst)?;
+        Frame::start_in(alloc, rules, store, inst, Room::new(alloc))
+    }
+
+    // The same, in the room of a trial that ended.
+    fn start_in(
+        alloc: Global,
+        rules: &'a Rules,
+        store: &'a Store,
+        inst: &Inst,
+        room: Room<'a>,
+    ) -> Result<(Frame<'a>, Step), AllocError>
+        requires idle { IsIdle store.now }
+        requires formed { AreWellFormed rules.now }
+        requires sound { IsTreeSound rules.now.classes (tree store.now) }
+        requires typed { IsWellTyped rules.now (class_shown store.now) AnyText inst.now }
+        ensures fresh { IfOk result (λ r. r.0.demanded.kept.items ≡ []) }
+        ensures unfound { IfOk result (λ r. r.0.demanded.finds.items ≡ []) }
+        ensures stepped { IfOk result (λ r. HasStepped rules.now (contents store.now) inst.now r.0.trial r.1) }
+        ensures passed { (finds : List (Instance ℕ × FindCode)) → IfOk result (λ r. HasPassedTo rules.now (contents store.now) finds inst.now r.0 r.1) }
+        ensures typed { IfOk result (λ r. IsTypedStep rules.now (class_shown store.now) r.1 r.0.trial) }
+    {
+        let (trial, step) = Trial::start_in(alloc, rules, store, inst, room)?;
         let demanded = Demanded::new(alloc);
         Ok((Frame { trial, demanded }, step))
+    }
+
+    // The memory of its trial.
+    fn into_room(self) -> Room<'a> {
+        let Frame { trial, demanded: _ } = self;
+        trial.into_room()
     }
 
     // Goes on with each value that is known, up to the end or to an instance that isn't.
@@ -374,6 +407,10 @@ impl Demanded {
         if let Some(value) = keeper.get(&needed) {
             self.kept.push(needed)?;
             return Ok(Recalled::Value(value.copy()?));
+        }
+        // The map makes the hash of what is looked up in it, empty as it may be.
+        if found.is_empty() {
+            return Ok(Recalled::Unknown(needed));
         }
         match found.get_full(&needed) {
             Some((position, _inst, find)) => {

@@ -120,7 +120,7 @@ returns-in-Value-clause-sparing g c asked exact h stands sparing =
     let on = steps_on rules look asked entries q.waiting.entries q.found.entries q.inst q.frame.trial trial c.args.step (step.Value c.in-Value.value) h last in
     let passed = subst (λ (s : Step). HasPassedTo rules look q.found.entries q.inst c.go_on.new.self s) c.in-Value.is (c.in_ok-step.ensures.passed q.inst stands.last) in
     let stands' = covers_on rules look q.waiting.entries q.found.entries q.inst q.frame c.go_on.new.self c.args.step (step.Value c.in-Value.value) stands passed in
-    let next : Evaluation = record { waiting = q.waiting; found = q.found; kept = q.kept; inst = q.inst; frame = c.go_on.new.self } in
+    let next : Evaluation = record { waiting = q.waiting; found = q.found; kept = q.kept; room = q.room; inst = q.inst; frame = c.go_on.new.self } in
     let goes = sparing_on rules look entries q next sparing refl refl refl (c.in_ok-step.ensures.only q.inst h.last sparing.last) in
     c.settle.ensures.sparing look asked exact on stands' goes
 
@@ -135,7 +135,7 @@ returns-in-Value-clause-spare g c asked exact h stands sparing =
     let on = steps_on rules look asked entries q.waiting.entries q.found.entries q.inst q.frame.trial trial c.args.step (step.Value c.in-Value.value) h last in
     let passed = subst (λ (s : Step). HasPassedTo rules look q.found.entries q.inst c.go_on.new.self s) c.in-Value.is (c.in_ok-step.ensures.passed q.inst stands.last) in
     let stands' = covers_on rules look q.waiting.entries q.found.entries q.inst q.frame c.go_on.new.self c.args.step (step.Value c.in-Value.value) stands passed in
-    let next : Evaluation = record { waiting = q.waiting; found = q.found; kept = q.kept; inst = q.inst; frame = c.go_on.new.self } in
+    let next : Evaluation = record { waiting = q.waiting; found = q.found; kept = q.kept; room = q.room; inst = q.inst; frame = c.go_on.new.self } in
     let goes = sparing_on rules look entries q next sparing refl refl refl (c.in_ok-step.ensures.only q.inst h.last sparing.last) in
     c.settle.ensures.spare look asked exact on stands' goes
 
@@ -150,7 +150,7 @@ returns-in-Fault-clause-sparing g c asked exact h stands sparing =
     let on = steps_on rules look asked entries q.waiting.entries q.found.entries q.inst q.frame.trial trial c.args.step (step.Fault c.in-Fault.kind) h last in
     let passed = subst (λ (s : Step). HasPassedTo rules look q.found.entries q.inst c.go_on.new.self s) c.in-Fault.is (c.in_ok-step.ensures.passed q.inst stands.last) in
     let stands' = covers_on rules look q.waiting.entries q.found.entries q.inst q.frame c.go_on.new.self c.args.step (step.Fault c.in-Fault.kind) stands passed in
-    let next : Evaluation = record { waiting = q.waiting; found = q.found; kept = q.kept; inst = q.inst; frame = c.go_on.new.self } in
+    let next : Evaluation = record { waiting = q.waiting; found = q.found; kept = q.kept; room = q.room; inst = q.inst; frame = c.go_on.new.self } in
     let goes = sparing_on rules look entries q next sparing refl refl refl (c.in_ok-step.ensures.only q.inst h.last sparing.last) in
     let o = c.requires.orderly in
     let orderly : IsOrderlyIn entries next = record { distinct = o.distinct; open_ones = o.open_ones; unkept = o.unkept; waiting_kept = o.waiting_kept; found_kept = o.found_kept; last_kept = c.in_ok-step.ensures.kept } in
@@ -167,7 +167,7 @@ returns-in-Need-clause-sparing g c asked exact h stands sparing =
     let on = steps_on rules look asked entries q.waiting.entries q.found.entries q.inst q.frame.trial trial c.args.step (step.Need c.in-Need.needed) h last in
     let passed = subst (λ (s : Step). HasPassedTo rules look q.found.entries q.inst c.go_on.new.self s) c.in-Need.is (c.in_ok-step.ensures.passed q.inst stands.last) in
     let stands' = covers_on rules look q.waiting.entries q.found.entries q.inst q.frame c.go_on.new.self c.args.step (step.Need c.in-Need.needed) stands passed in
-    let next : Evaluation = record { waiting = q.waiting; found = q.found; kept = q.kept; inst = q.inst; frame = c.go_on.new.self } in
+    let next : Evaluation = record { waiting = q.waiting; found = q.found; kept = q.kept; room = q.room; inst = q.inst; frame = c.go_on.new.self } in
     let goes = sparing_on rules look entries q next sparing refl refl refl (c.in_ok-step.ensures.only q.inst h.last sparing.last) in
     c.deepen.ensures.sparing asked on stands' goes
 

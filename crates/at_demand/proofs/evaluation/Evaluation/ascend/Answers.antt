@@ -6,6 +6,7 @@ use Rattle.at_body.specs.Same.{same_instance}
 use Rattle.at_body.specs.declared.value.Value.{Value as ValueCode}
 use Rattle.at_body.specs.declared.trial.Step.TheVariants as step
 use Rattle.at_demand.specs.declared.answer.Answer.TheVariants as answer
+use Rattle.at_demand.specs.declared.evaluation.Frame.{Frame}
 use Rattle.at_demand.proofs.Orderly.{none_there}
 use Rattle.at_demand.proofs.evaluation.Evaluation.ascend.Goals as goal
 
@@ -22,7 +23,8 @@ pub returns : goal.returns
 returns c =
     let is = c.replace-inst.ensures in (
       record {
-        waits = subst (λ (i : Instance ℕ). c.args.self.now.waiting.entries ≡ c.pop.new.self.entries ++ (i, c.in-Some.frame) ∷ []) (sym is.after) c.in-Some.ensures.entries;
+        waits = subst (λ (f : Frame). c.args.self.now.waiting.entries ≡ c.pop.new.self.entries ++ (c.replace-inst.new.dest, f) ∷ []) (sym c.replace.ensures.after)
+            (subst (λ (i : Instance ℕ). c.args.self.now.waiting.entries ≡ c.pop.new.self.entries ++ (i, c.in-Some.frame) ∷ []) (sym is.after) c.in-Some.ensures.entries);
         settled = subst (λ (i : Instance ℕ). c.put.new.map.entries ≡ insert_entry same_instance c.args.self.now.found.entries i c.args.find) is.value c.in_ok-put.ensures;
         needs = ap (λ (i : Instance ℕ). step.Need i) (c.in_ok-needed.ensures ∙ is.value);
         few = subst (λ n. n < 2 ^ 64) c.len.ensures.len c.len.type_inv;

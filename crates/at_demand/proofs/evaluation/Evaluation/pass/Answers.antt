@@ -1,6 +1,7 @@
 use Rattle.std.proofs.Common.{◌≡◌, ℕ, ◌<◌, ◌^◌, [], ◌∷◌, ◌++◌, refl, sym, ap, subst, true≢false}
 use Rattle.at_model.specs.Run.{Instance}
 use Rattle.at_body.specs.declared.trial.Step.TheVariants as step
+use Rattle.at_demand.specs.declared.evaluation.Frame.{Frame}
 use Rattle.at_demand.proofs.Orderly.{none_there}
 use Rattle.at_demand.proofs.evaluation.Evaluation.pass.Goals as goal
 
@@ -14,7 +15,8 @@ pub returns : goal.returns
 returns c =
     let is = c.replace-inst.ensures in
     record {
-      waits = subst (λ (i : Instance ℕ). c.args.self.now.waiting.entries ≡ c.pop.new.self.entries ++ (i, c.in-Some-pop.frame) ∷ []) (sym is.after) c.in-Some-pop.ensures.entries;
+      waits = subst (λ (f : Frame). c.args.self.now.waiting.entries ≡ c.pop.new.self.entries ++ (c.replace-inst.new.dest, f) ∷ []) (sym c.replace.ensures.after)
+          (subst (λ (i : Instance ℕ). c.args.self.now.waiting.entries ≡ c.pop.new.self.entries ++ (i, c.in-Some-pop.frame) ∷ []) (sym is.after) c.in-Some-pop.ensures.entries);
       same = refl;
       counted = c.in-Some.ensures.1;
       needs = ap (λ (i : Instance ℕ). step.Need i) is.value;
