@@ -1,5 +1,5 @@
 -- The work counts what comes to an exact keeper.
-use Rattle.std.proofs.Common.{◌≡◌, ◌⊎◌, ◌↔◌, ℕ, ◌+◌, ◌-◌, ◌^◌, ◌<◌, min, Bool, true, false, List, [], ◌∷◌, ◌++◌, length, length-append, Option, Some, None, inl, inr, refl, sym, ap, ◌∙◌, subst, arith, if◌then◌else◌, true≢false}
+use Rattle.std.proofs.Common.{◌≡◌, ◌⊎◌, ℕ, ◌+◌, ◌-◌, ◌^◌, ◌<◌, min, Bool, true, false, List, [], ◌∷◌, ◌++◌, length, length-append, Option, Some, None, inl, inr, refl, sym, ap, ◌∙◌, subst, arith, if◌then◌else◌, true≢false}
 use Rattle.std.specs.Prelude.{IsSome, IsTrue, Vec}
 use Rattle.std.specs.Global.{Global}
 use Rattle.at_model.specs.Run.{Value, Instance}
@@ -11,7 +11,7 @@ use Rattle.at_cache.specs.declared.keeper.Put.TheVariants as put
 use Rattle.at_store.specs.declared.node.Loc.{Loc}
 use Rattle.at_model.specs.Rules.{Rules}
 use Rattle.at_model.specs.Run.{Contents}
-use Rattle.at_demand.specs.Sparing.{IsWorthKeeping, AddsWorthy, HasWorthy, AreGained, Counts, IsWork}
+use Rattle.at_demand.specs.Sparing.{AddsWorthy, HasWorthy, AreGained, Counts, IsWork}
 use Rattle.at_demand.proofs.Sameness.{same_true, same_refl}
 
 not_both : (o : Option Kept) → IsSome o → o ≡ None → ⊥

@@ -1,12 +1,10 @@
 -- What a question adds: each lazy instance that has a value and to which the question leads, and no other.
-use Rattle.std.proofs.Common.{◌≡◌, ◌⊎◌, ℕ, Bool, true, false, List, [], ◌∷◌, ◌++◌, slice_get, Option, Some, None, inl, inr, refl, sym, ap, ◌∙◌, subst, true≢false}
+use Rattle.std.proofs.Common.{◌≡◌, ◌⊎◌, ℕ, true, List, [], ◌∷◌, ◌++◌, slice_get, Option, Some, None, inl, inr, refl, sym, ◌∙◌, subst, true≢false}
 use Rattle.std.specs.Prelude.{IsSome}
 use Rattle.std.specs.Option.{option_map}
-use Rattle.at_model.specs.Run.{Value, Instance, Location, Contents, Run, Fails, Demands, FaultKind}
-use Rattle.at_model.specs.Follow.{Past}
+use Rattle.at_model.specs.Run.{Value, Instance, Contents, Fails, Demands}
 use Rattle.at_model.specs.Rules.{Rules, is_lazy}
 use Rattle.at_model.specs.Meaning.{Finds, Faults, Holds, HasValue, Among, Comes, Leads}
-use Rattle.at_model.specs.Support.{Supports}
 use Rattle.at_model.proofs.Outcomes.{once}
 use Rattle.at_body.specs.Values.{value_view, fault_view}
 use Rattle.at_body.specs.Rest.{resumed}
@@ -23,7 +21,7 @@ use Rattle.at_demand.specs.declared.evaluation.Evaluation.{Evaluation}
 use Rattle.at_demand.specs.Known.{meaning, WaitingKept}
 use Rattle.at_demand.specs.UnderWay.{HasStepped, AreWaiting, first_of, chain_of, IsTrueIn, IsOrderlyIn}
 use Rattle.at_demand.specs.Covering.{IsDemanded, IsTold, HavePassed, HasPassedTo, AreWhole, IsWhole, IsCoveringIn}
-use Rattle.at_demand.specs.Sparing.{IsDeep, AreSpare, IsWorthKeeping, AddsWorthy, HasWorthy, MayAddLazy, IsSettled, AreSettled}
+use Rattle.at_demand.specs.Sparing.{IsDeep, IsWorthKeeping, AddsWorthy, HasWorthy, MayAddLazy, IsSettled, AreSettled}
 use Rattle.at_demand.proofs.Coming.{has_value, has_fault}
 use Rattle.at_demand.proofs.Chains.{leads}
 use Rattle.at_demand.proofs.Gathered.{among_at}

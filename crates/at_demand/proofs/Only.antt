@@ -1,6 +1,6 @@
 -- What stands with a find is only what its evaluation sees and comes to; so the sources stand for nothing but what supports the
 -- instance.
-use Rattle.std.proofs.Common.{◌≡◌, ◌⊎◌, ℕ, zero, suc, Bool, true, false, ◌||◌, List, [], ◌∷◌, ◌++◌, map, slice_get, Option, Some, None, OnOk, OnErr, Ok, Err, inl, inr, refl, sym, ap, ◌∙◌, subst, if◌then◌else◌, true≢false}
+use Rattle.std.proofs.Common.{◌≡◌, ◌⊎◌, ℕ, zero, suc, Bool, true, false, ◌||◌, List, [], ◌∷◌, ◌++◌, map, slice_get, Option, Some, None, OnOk, Ok, Err, inl, inr, refl, sym, ap, ◌∙◌, subst, if◌then◌else◌, true≢false}
 use Rattle.std.specs.Prelude.{Result, IsTrue}
 use Rattle.std.specs.List.{list_any}
 use Rattle.std.proofs.lemmas.Option.{none-some, same_Some}
@@ -11,7 +11,6 @@ use Rattle.at_model.specs.Rules.{Rules}
 use Rattle.at_model.specs.Meaning.{HasValue, Among, Comes, Leads}
 use Rattle.at_model.specs.Support.{Supports}
 use Rattle.at_model.proofs.Listed.{among_map}
-use Rattle.at_store.specs.declared.node.Loc.{Loc}
 use Rattle.at_store.specs.Located.{loc_view}
 use Rattle.at_body.specs.Same.{same_instance}
 use Rattle.at_body.specs.Values.{value_view}

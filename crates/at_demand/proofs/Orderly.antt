@@ -1,7 +1,7 @@
 -- A question stays orderly while it goes on.
-use Rattle.std.proofs.Common.{◌≡◌, ◌⊎◌, ℕ, suc, ◌+◌, ◌*◌, ◌^◌, ◌<◌, Bool, true, false, if◌then◌else◌, OnOk, OnErr, Ok, Err, List, [], ◌∷◌, ◌++◌, length, Option, Some, None, inl, inr, refl, sym, ap, ◌∙◌, subst, arith}
+use Rattle.std.proofs.Common.{◌≡◌, ◌⊎◌, ℕ, suc, ◌+◌, ◌*◌, ◌^◌, ◌<◌, OnOk, Ok, Err, List, [], ◌∷◌, ◌++◌, length, Option, Some, None, inl, inr, refl, sym, ap, ◌∙◌, subst, arith}
 use Rattle.std.specs.Prelude.{IsSome, Result}
-use Rattle.std.proofs.lemmas.List.Elements.{Contains-append_cases}
+use Rattle.std.proofs.lemmas.List.Elements.{Contains-append_cases, Contains-push_cases}
 use Rattle.std.specs.Option.{option_map}
 use Rattle.std.specs.Map.{keys_of, lookup}
 use Rattle.indexmap.specs.IndexMap.{insert_entry}
@@ -15,9 +15,8 @@ use Rattle.at_cache.specs.Kept.{Kept, Entries, AreKept}
 use Rattle.at_demand.specs.declared.evaluation.Find.{Find}
 use Rattle.at_demand.specs.declared.evaluation.Frame.{Frame}
 use Rattle.at_demand.specs.declared.evaluation.Evaluation.{Evaluation}
-use Rattle.at_demand.specs.Known.{kept_values, found_values, known_in, MayAdd, WaitingKept, FoundKept}
+use Rattle.at_demand.specs.Known.{found_values, known_in, MayAdd, WaitingKept, FoundKept}
 use Rattle.at_demand.specs.UnderWay.{chain_of, IsOrderly, IsOrderlyIn, GoesOn, progress}
-use Rattle.at_demand.proofs.Sameness.{same_true}
 use Rattle.at_demand.proofs.Keys.{lookup_push, lookup_other, goes_last, no_key, keys_push, length_push}
 
 pub some_value : (o : Option Kept) (v : Value ℕ) → option_map (λ (k : Kept). k.value) o ≡ Some v → IsSome o
@@ -125,6 +124,10 @@ module _ (entries : Entries) (ws : List (Instance ℕ × Frame)) (fs : List (Ins
         last_kept = risen.last_kept;
       }
 
+-- one more that is kept
+kept_more : (entries : Entries) (ks : List (Instance ℕ)) (i : Instance ℕ) → AreKept entries ks → IsSome (entries i) → AreKept entries (ks ++ i ∷ [])
+kept_more entries ks i all some u h = elim (Contains-push_cases ks i u h) [ inl before ↦ all u before | inr same ↦ subst (λ x. IsSome (entries x)) same some ]
+
 -- what is kept of one list and of another is kept of both
 pub kept_append : (entries : Entries) (ks ls : List (Instance ℕ)) → AreKept entries ks → AreKept entries ls → AreKept entries (ks ++ ls)
 kept_append entries ks ls all more u h = elim (Contains-append_cases ks ls u h) [ inl a ↦ all u a | inr b ↦ more u b ]
@@ -194,15 +197,18 @@ settles entries more old new v q adds b f d waiting kept found counted last same
       few = few (length new.found.entries) new.kept (length new.waiting.entries) few_found few_kept few_wait;
     }
 
--- the last one came to be kept
-pub passes : (entries more : Entries) (old new : Evaluation) (v : Value ℕ) → IsOrderlyIn entries old → MayAdd entries more old.inst v → old.waiting.entries ≡ new.waiting.entries ++ (new.inst, new.frame) ∷ [] → new.found.entries ≡ old.found.entries → new.kept ≡ old.kept + 1 →
-    length new.waiting.entries < 2 ^ 64 → length new.found.entries < 2 ^ 64 → new.kept < 2 ^ 64 → GoesOn more (progress old) new
-passes entries more old new v q adds waiting found counted few_wait few_found few_kept =
+-- the last one came to be kept, and the one that waited for it took it
+pub passes : (entries more : Entries) (old new : Evaluation) (v : Value ℕ) (f : Frame) → IsOrderlyIn entries old → MayAdd entries more old.inst v → IsSome (more old.inst) → old.waiting.entries ≡ new.waiting.entries ++ (new.inst, f) ∷ [] →
+    new.frame.demanded.kept.items ≡ f.demanded.kept.items ++ old.inst ∷ [] → new.found.entries ≡ old.found.entries → new.kept ≡ old.kept + 1 → length new.waiting.entries < 2 ^ 64 → length new.found.entries < 2 ^ 64 → new.kept < 2 ^ 64 → GoesOn more (progress old) new
+passes entries more old new v f q adds some waiting took found counted few_wait few_found few_kept =
     let ws = old.waiting.entries in
     let fs = old.found.entries in
+    let up = risen entries ws fs old.inst _ q more v adds new.inst f new.waiting.entries waiting in
+    let P : List (Instance ℕ × Find) → Type 0 = λ x. IsOrderly more new.waiting.entries x new.inst new.frame.demanded.kept.items in
+    let there : P fs = record { distinct = up.distinct; open_ones = up.open_ones; unkept = up.unkept; waiting_kept = up.waiting_kept; found_kept = up.found_kept; last_kept = subst (AreKept more) (sym took) (kept_more more f.demanded.kept.items old.inst up.last_kept some) } in
     record {
-      orderly = moved more _ _ _ _ _ _ _ _ (risen entries ws fs old.inst _ q more v adds new.inst new.frame new.waiting.entries waiting) refl (sym found) refl refl;
-      further = further_kept (length fs) old.kept (length ws) (length new.found.entries) new.kept (length new.waiting.entries) (ap length found) counted (ap length waiting ∙ length_push new.waiting.entries (new.inst, new.frame));
+      orderly = subst P (sym found) there;
+      further = further_kept (length fs) old.kept (length ws) (length new.found.entries) new.kept (length new.waiting.entries) (ap length found) counted (ap length waiting ∙ length_push new.waiting.entries (new.inst, f));
       few = few (length new.found.entries) new.kept (length new.waiting.entries) few_found few_kept few_wait;
     }
 

@@ -1,5 +1,5 @@
 -- What a find that is to be kept leaves in what is kept.
-use Rattle.std.proofs.Common.{◌≡◌, ◌⊎◌, ℕ, Bool, true, false, List, [], map, Option, Some, None, OnErr, OnOk, Ok, Err, inl, inr, refl, sym, ap, ◌∙◌, subst, if◌then◌else◌, true≢false, arith, length, nat_eq, vec_len, ◌∷◌}
+use Rattle.std.proofs.Common.{◌≡◌, ◌⊎◌, ℕ, Bool, true, false, List, [], map, Some, OnErr, OnOk, Ok, Err, inl, inr, refl, sym, ap, ◌∙◌, subst, if◌then◌else◌, true≢false, arith, length, nat_eq, vec_len, ◌∷◌}
 use Rattle.std.specs.Prelude.{IfOk, IsSome, IsTrue, Result, Vec}
 use Rattle.std.specs.Global.{Global}
 use Rattle.std.specs.Option.{option_map}
@@ -10,7 +10,6 @@ use Rattle.at_store.specs.declared.node.Loc.{Loc}
 use Rattle.at_store.specs.Located.{loc_view}
 use Rattle.at_body.specs.Same.{same_instance}
 use Rattle.at_body.specs.Values.{value_view}
-use Rattle.at_body.specs.declared.value.Value.{Value as ValueCode}
 use Rattle.at_cache.specs.Kept.{Kept, Entries, AreKept, HasPut, KeepsAll, Puts}
 use Rattle.at_cache.specs.declared.keeper.Put.{Put}
 use Rattle.at_demand.specs.declared.evaluation.Find.{Find}

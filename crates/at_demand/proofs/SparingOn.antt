@@ -1,14 +1,13 @@
 -- A question stays sparing while it goes on.
-use Rattle.std.proofs.Common.{◌≡◌, ◌⊎◌, ℕ, Bool, true, false, List, [], ◌∷◌, ◌++◌, map, slice_get, Option, Some, None, OnOk, OnErr, Ok, Err, inl, inr, refl, sym, ap, ◌∙◌, subst, if◌then◌else◌, true≢false}
-use Rattle.std.specs.Prelude.{IsSome, IsTrue, Result}
+use Rattle.std.proofs.Common.{◌≡◌, ℕ, Bool, true, List, [], ◌∷◌, ◌++◌, map, slice_get, Some, refl, sym, ap, ◌∙◌, subst}
+use Rattle.std.specs.Prelude.{IsSome}
 use Rattle.indexmap.specs.IndexMap.{insert_entry}
-use Rattle.at_model.specs.Run.{Value, Instance, Location, Contents}
+use Rattle.at_model.specs.Run.{Instance, Contents}
 use Rattle.at_model.specs.Rules.{Rules, is_lazy}
 use Rattle.at_model.specs.Meaning.{Among, Leads}
 use Rattle.at_store.specs.Located.{loc_view}
 use Rattle.at_body.specs.Same.{same_instance}
 use Rattle.at_body.specs.declared.value.Value.{Value as ValueCode}
-use Rattle.at_body.specs.declared.trial.Step.{Step}
 use Rattle.at_body.specs.declared.trial.Step.TheVariants as step
 use Rattle.at_cache.specs.Kept.{Entries}
 use Rattle.at_demand.specs.declared.evaluation.Demanded.{Demanded}
@@ -17,14 +16,13 @@ use Rattle.at_demand.specs.declared.evaluation.Frame.{Frame}
 use Rattle.at_demand.specs.declared.evaluation.Evaluation.{Evaluation}
 use Rattle.at_demand.specs.Known.{meaning}
 use Rattle.at_demand.specs.UnderWay.{first_of, IsTrueIn, IsOrderlyIn}
-use Rattle.at_demand.specs.Covering.{AreWhole, IsWhole, IsCoveringIn, Extends}
+use Rattle.at_demand.specs.Covering.{IsWhole, IsCoveringIn, Extends}
 use Rattle.at_demand.specs.Only.{TakesOnly, TakeOnly, IsLean, AreLean}
-use Rattle.at_demand.specs.Sparing.{AreOnly, IsDeep, AreSpare, HasWorthy, MayAddLazy, IsSettled, AreSettled, IsSparing}
-use Rattle.at_demand.proofs.Sameness.{same_true, same_refl}
+use Rattle.at_demand.specs.Sparing.{AreOnly, AreSpare, HasWorthy, MayAddLazy, AreSettled, IsSparing}
 use Rattle.at_demand.proofs.Orderly.{waits_last, found_last}
 use Rattle.at_demand.proofs.Passing.{whole}
 use Rattle.at_demand.proofs.Only.{takes_none, lean, lean_push, take_push, take_pop, take_more, takes_more}
-use Rattle.at_demand.proofs.Gaining.{IsLazy, is_kept, lazy_more, all_below, deep_more, settled_push}
+use Rattle.at_demand.proofs.Gaining.{is_kept, lazy_more, all_below, deep_more, settled_push}
 
 -- what the rules say of the instance's attribute
 pub told_lazy : (rules : Rules) (said is : Bool) (attribute at : ℕ) → said ≡ is_lazy rules attribute → attribute ≡ at → said ≡ is → is_lazy rules at ≡ is

@@ -4,12 +4,12 @@ ghost use Rattle.std.specs.Prelude.{◌≡◌, ◌<◌, ◌^◌, ℕ, true, map,
 ghost use Rattle.std.specs.Map.{lookup};
 ghost use Rattle.at_model.specs.Run.{Contents, Instance};
 ghost use Rattle.at_model.specs.Instances.{AnyText};
-ghost use Rattle.at_model.specs.Meaning.{Answers as HasAnswer, Right};
-ghost use Rattle.at_model.specs.TypedRuns.{ClassAt, IsWellTyped};
+ghost use Rattle.at_model.specs.Meaning.{Answers as HasAnswer, HasValue, Right};
+ghost use Rattle.at_model.specs.TypedRuns.{IsWellTyped};
 ghost use Rattle.at_model.specs.WellFormed.{AreWellFormed, IsTreeSound};
 ghost use Rattle.at_body.specs.declared.trial.Step.TheVariants as step_code;
 ghost use Rattle.at_store.specs.Located.{loc_view};
-ghost use Rattle.at_store.specs.Shown.{IsIdle, Shown, contents, tree};
+ghost use Rattle.at_store.specs.Shown.{IsIdle, contents, tree};
 ghost use Rattle.at_body.specs.Same.{same_instance};
 ghost use Rattle.at_body.specs.Typed.{class_shown};
 ghost use Rattle.at_body.specs.Values.{value_view};
@@ -17,7 +17,7 @@ ghost use Rattle.at_cache.specs.Kept.{AreKept, AreNamed, Entries, HasPut, KeepsA
 ghost use Rattle.at_demand.specs.Known.{meaning, kept_values, known_in, answer_view, MayAdd, FoundKept};
 ghost use Rattle.at_demand.specs.Keeping.{Becomes, HasPlaced, HasPlacedAll};
 ghost use Rattle.at_demand.specs.Right.{AreRight, IsThere};
-ghost use Rattle.at_demand.specs.UnderWay.{IsOrderlyIn, IsTrueIn, IsAdvance, IsRightAdvance};
+ghost use Rattle.at_demand.specs.UnderWay.{HasStepped, IsOrderlyIn, IsTrueIn, IsAdvance, IsRightAdvance};
 ghost use Rattle.at_demand.specs.Typing.{AreTypedWaiting, IsTypedIn, IsTypedAdvance};
 ghost use Rattle.at_model.specs.Rules.{is_lazy};
 ghost use Rattle.at_demand.specs.Only.{AreLean, IsLean};
@@ -163,6 +163,7 @@ impl<K: Keeper> Demand<K> {
         requires sound { IsTreeSound rules.now.classes (tree store.now) }
         requires right { Right (contents store.now) (meaning rules.now) (known_in (K.contents self.old.keeper) evaluation.old.found.entries) }
         requires typed { IsTypedIn rules.now (class_shown store.now) evaluation.old step }
+        requires stepped { HasStepped rules.now (contents store.now) evaluation.old.inst evaluation.old.frame.trial step }
         requires orderly { IsOrderlyIn (K.contents self.old.keeper) evaluation.old }
         ensures advance { IfOk result (IsAdvance (K.contents self.new.keeper) evaluation.old evaluation.new) }
         ensures typed { IfOk result (IsTypedAdvance rules.now (class_shown store.now) evaluation.new) }
@@ -184,7 +185,7 @@ impl<K: Keeper> Demand<K> {
             step,
         )?;
         match step {
-            Step::Value(value) => self.settle(rules, evaluation, value),
+            Step::Value(value) => self.settle(rules, store, evaluation, value),
             Step::Fault(kind) => Ok(Advance::Fails(kind)),
             Step::Need(needed) => self.deepen(rules, store, evaluation, needed),
         }
@@ -221,26 +222,32 @@ impl<K: Keeper> Demand<K> {
     // The last instance has this value.
     fn settle<'a>(
         &mut self,
-        rules: &Rules,
+        rules: &'a Rules,
+        store: &'a Store,
         evaluation: &mut Evaluation<'a>,
         value: Value,
     ) -> Result<Advance, AllocError>
+        requires idle { IsIdle store.now }
+        requires formed { AreWellFormed rules.now }
+        requires sound { IsTreeSound rules.now.classes (tree store.now) }
+        requires typed { AreTypedWaiting rules.now (class_shown store.now) evaluation.old.waiting.entries evaluation.old.inst }
+        requires has { HasValue (contents store.now) (meaning rules.now) evaluation.old.inst (value_view value) }
         requires orderly { IsOrderlyIn (K.contents self.old.keeper) evaluation.old }
         ensures advance { IfOk result (IsAdvance (K.contents self.new.keeper) evaluation.old evaluation.new) }
-        ensures typed { (at : ClassAt ℕ) → AreTypedWaiting rules.now at evaluation.old.waiting.entries evaluation.old.inst → IfOk result (IsTypedAdvance rules.now at evaluation.new) }
-        ensures answers { (look : Contents ℕ) (asked : Instance ℕ) → IsTrueIn rules.now look asked (K.contents self.old.keeper) evaluation.old (step_code.Value value) → IfOk result (IsRightAdvance rules.now look asked (K.contents self.new.keeper) evaluation.new) }
-        ensures right { (look : Contents ℕ) (asked : Instance ℕ) → IsTrueIn rules.now look asked (K.contents self.old.keeper) evaluation.old (step_code.Value value) → Right look (meaning rules.now) (kept_values (K.contents self.new.keeper)) }
-        ensures covering { (look : Contents ℕ) → IsCoveringIn rules.now look evaluation.old (step_code.Value value) → IfOk result (IsCoveringAdvance rules.now look evaluation.new) }
-        ensures stays { (s : Shown) (asked : Instance ℕ) → IsIdle s → IsThere s asked → IsTrueIn rules.now (contents s) asked (K.contents self.old.keeper) evaluation.old (step_code.Value value) → IsCoveringIn rules.now (contents s) evaluation.old (step_code.Value value) → AreRight rules.now s (K.contents self.old.keeper) → AreRight rules.now s (K.contents self.new.keeper) }
-        ensures worthy { (look : Contents ℕ) (asked : Instance ℕ) (first : Entries) → IsTrueIn rules.now look asked (K.contents self.old.keeper) evaluation.old (step_code.Value value) → AddsWorthy rules.now look asked first (K.contents self.old.keeper) → AddsWorthy rules.now look asked first (K.contents self.new.keeper) }
-        ensures sparing { (look : Contents ℕ) (asked : Instance ℕ) → IsTrue K.exact → IsTrueIn rules.now look asked (K.contents self.old.keeper) evaluation.old (step_code.Value value) → IsCoveringIn rules.now look evaluation.old (step_code.Value value) → IsSparing rules.now look (K.contents self.old.keeper) evaluation.old → IfOk result (IsSparingAdvance rules.now look asked (K.contents self.new.keeper) evaluation.new) }
-        ensures spare { (look : Contents ℕ) (asked : Instance ℕ) → IsTrue K.exact → IsTrueIn rules.now look asked (K.contents self.old.keeper) evaluation.old (step_code.Value value) → IsCoveringIn rules.now look evaluation.old (step_code.Value value) → IsSparing rules.now look (K.contents self.old.keeper) evaluation.old → AreSpare rules.now look (K.contents self.new.keeper) }
+        ensures typed { IfOk result (IsTypedAdvance rules.now (class_shown store.now) evaluation.new) }
+        ensures answers { (asked : Instance ℕ) → IsTrueIn rules.now (contents store.now) asked (K.contents self.old.keeper) evaluation.old (step_code.Value value) → IfOk result (IsRightAdvance rules.now (contents store.now) asked (K.contents self.new.keeper) evaluation.new) }
+        ensures right { (asked : Instance ℕ) → IsTrueIn rules.now (contents store.now) asked (K.contents self.old.keeper) evaluation.old (step_code.Value value) → Right (contents store.now) (meaning rules.now) (kept_values (K.contents self.new.keeper)) }
+        ensures covering { IsCoveringIn rules.now (contents store.now) evaluation.old (step_code.Value value) → IfOk result (IsCoveringAdvance rules.now (contents store.now) evaluation.new) }
+        ensures stays { (asked : Instance ℕ) → IsThere store.now asked → IsTrueIn rules.now (contents store.now) asked (K.contents self.old.keeper) evaluation.old (step_code.Value value) → IsCoveringIn rules.now (contents store.now) evaluation.old (step_code.Value value) → AreRight rules.now store.now (K.contents self.old.keeper) → AreRight rules.now store.now (K.contents self.new.keeper) }
+        ensures worthy { (asked : Instance ℕ) (first : Entries) → IsTrueIn rules.now (contents store.now) asked (K.contents self.old.keeper) evaluation.old (step_code.Value value) → AddsWorthy rules.now (contents store.now) asked first (K.contents self.old.keeper) → AddsWorthy rules.now (contents store.now) asked first (K.contents self.new.keeper) }
+        ensures sparing { (asked : Instance ℕ) → IsTrue K.exact → IsTrueIn rules.now (contents store.now) asked (K.contents self.old.keeper) evaluation.old (step_code.Value value) → IsCoveringIn rules.now (contents store.now) evaluation.old (step_code.Value value) → IsSparing rules.now (contents store.now) (K.contents self.old.keeper) evaluation.old → IfOk result (IsSparingAdvance rules.now (contents store.now) asked (K.contents self.new.keeper) evaluation.new) }
+        ensures spare { (asked : Instance ℕ) → IsTrue K.exact → IsTrueIn rules.now (contents store.now) asked (K.contents self.old.keeper) evaluation.old (step_code.Value value) → IsCoveringIn rules.now (contents store.now) evaluation.old (step_code.Value value) → IsSparing rules.now (contents store.now) (K.contents self.old.keeper) evaluation.old → AreSpare rules.now (contents store.now) (K.contents self.new.keeper) }
         ensures counts { IsTrue K.exact → self.old.work < 2 ^ 64 → Counts (K.contents self.old.keeper) (K.contents self.new.keeper) self.old.work self.new.work }
     {
         let find = evaluation.frame.find(self.alloc, value);
         let settled = self.keep(rules, &evaluation.found, &evaluation.inst, find)?;
         match settled {
-            Settled::Kept(value) => evaluation.pass(value),
+            Settled::Kept(value) => evaluation.pass(self.alloc, rules, store, value),
             Settled::Found(find) => evaluation.ascend(self.alloc, find),
         }
     }

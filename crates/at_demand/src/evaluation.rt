@@ -3,17 +3,19 @@
 ghost use Rattle.std.specs.Prelude.{◌≡◌, ◌<◌, ◌^◌, List, [], length, map, IfOk, OnOk, MatchBool, ℕ};
 ghost use Rattle.at_model.specs.Run.{Instance};
 ghost use Rattle.at_model.specs.Instances.{AnyText};
-ghost use Rattle.at_model.specs.Meaning.{Among, Right};
+ghost use Rattle.at_model.specs.Meaning.{Among, HasValue, Right};
 ghost use Rattle.at_model.specs.TypedRuns.{IsWellTyped};
 ghost use Rattle.at_model.specs.WellFormed.{AreWellFormed, IsTreeSound};
 ghost use Rattle.at_store.specs.Located.{loc_view};
 ghost use Rattle.at_store.specs.Shown.{IsIdle, contents, tree};
 ghost use Rattle.at_cache.specs.Kept.{AreKept};
 ghost use Rattle.at_body.specs.Same.{same_instance};
-ghost use Rattle.at_body.specs.Typed.{IsTypedStep, class_shown};
+ghost use Rattle.at_body.specs.Values.{value_view};
+ghost use Rattle.at_body.specs.Typed.{IsTypedStep, WaitsFor, class_shown};
 ghost use Rattle.indexmap.specs.IndexMap.{insert_entry};
 ghost use Rattle.at_demand.specs.Known.{meaning, known_in, IsRecalled};
-ghost use Rattle.at_demand.specs.UnderWay.{chain_of, HasAscended, HasPassedBack, HasStepped, IsOpen};
+ghost use Rattle.at_demand.specs.UnderWay.{chain_of, HasAscended, HasPassedBack, HasStepped, IsOpen, IsToldTo};
+ghost use Rattle.at_demand.specs.Typing.{AreTypedWaiting};
 ghost use Rattle.at_demand.specs.Covering.{HasPassedTo, Takes};
 ghost use Rattle.at_demand.specs.Only.{TakesOne, TakesOnly};
 ghost use Rattle.at_demand.specs.declared.evaluation.Find.{Find as FindCode};
@@ -214,23 +216,35 @@ impl<'a> Evaluation<'a> {
         Ok(Advance::GoesOn(Step::Need(needed)))
     }
 
-    // Goes back so from the last instance, which is kept with this value. Their count ends at the greatest number, as if memory
-    // were wanting.
-    pub fn pass(&mut self, value: Value) -> Result<Advance, AllocError>
-        ensures { IfOk result (HasPassedBack self.old value self.new) }
+    // Goes back so from the last instance, which is kept with this value; the one that waits for it is told that at once. Their
+    // count ends at the greatest number, as if memory were wanting.
+    pub fn pass(
+        &mut self,
+        alloc: Global,
+        rules: &'a Rules,
+        store: &'a Store,
+        value: Value,
+    ) -> Result<Advance, AllocError>
+        requires idle { IsIdle store.now }
+        requires formed { AreWellFormed rules.now }
+        requires sound { IsTreeSound rules.now.classes (tree store.now) }
+        requires typed { AreTypedWaiting rules.now (class_shown store.now) self.old.waiting.entries self.old.inst }
+        requires has { HasValue (contents store.now) (meaning rules.now) self.old.inst (value_view value) }
+        ensures { IfOk result (HasPassedBack rules.now store.now self.old value self.new) }
     {
         let Some(kept) = self.kept.checked_add(1) else {
             return Err(AllocError);
         };
-        let Some((below, frame)) = self.waiting.pop() else {
+        let Some((below, mut frame)) = self.waiting.pop() else {
             return Ok(Advance::Answers(Answer::Value(value)));
         };
         self.kept = kept;
-        self.room = mem::replace(&mut self.frame, frame).into_room();
         let inst = mem::replace(&mut self.inst, below);
+        let step = frame.tell(alloc, rules, store, inst, value)?;
+        self.room = mem::replace(&mut self.frame, frame).into_room();
         // The calls say that they are fewer than 2^64.
         let _counts = (self.waiting.len(), self.found.len(), self.kept());
-        Ok(Advance::GoesOn(Step::Need(inst)))
+        Ok(Advance::GoesOn(step))
     }
 
     // How many came to be kept.
@@ -349,6 +363,27 @@ impl<'a> Frame<'a> {
                 ended => return Ok(ended),
             }
         }
+    }
+
+    // Goes on with the value of the instance that it waits for, which is kept.
+    fn tell(
+        &mut self,
+        alloc: Global,
+        rules: &'a Rules,
+        store: &'a Store,
+        needed: Inst,
+        value: Value,
+    ) -> Result<Step, AllocError>
+        requires idle { IsIdle store.now }
+        requires formed { AreWellFormed rules.now }
+        requires sound { IsTreeSound rules.now.classes (tree store.now) }
+        requires typed { WaitsFor rules.now (class_shown store.now) self.old.trial needed }
+        requires has { HasValue (contents store.now) (meaning rules.now) needed (value_view value) }
+        ensures { IfOk result (IsToldTo rules.now store.now self.old self.new needed value) }
+    {
+        self.demanded.kept.push(needed)?;
+        let step = self.trial.resume(alloc, rules, store, value)?;
+        Ok(step)
     }
 
     // What it found, at its end.

@@ -1,4 +1,4 @@
-use Rattle.std.proofs.Common.{ℕ, map, refl, sym, ap, ◌∙◌, subst}
+use Rattle.std.proofs.Common.{ℕ, refl, subst}
 use Rattle.std.proofs.lemmas.Result.{err_from_is_err_and}
 use Rattle.at_model.specs.Run.{Instance, Value}
 use Rattle.at_body.specs.Values.{value_view}

@@ -1,19 +1,22 @@
-use Rattle.std.proofs.Common.{◌≡◌, ◌∙◌, ℕ, map, sym, ap, subst}
+use Rattle.std.proofs.Common.{◌≡◌, ◌∙◌, ℕ, sym, subst}
 use Rattle.std.specs.Prelude.{IsTrue}
 use Rattle.std.proofs.lemmas.Result.{IfOk-weaker, err_from_is_err_and}
 use Rattle.at_model.specs.Run.{Contents, Instance}
+use Rattle.at_model.specs.Meaning.{HasValue}
+use Rattle.at_store.specs.Shown.{contents}
+use Rattle.at_body.specs.Typed.{class_shown}
 use Rattle.at_body.specs.Values.{value_view}
 use Rattle.at_body.specs.declared.trial.Step.TheVariants as step
 use Rattle.at_body.specs.declared.value.Value.{Value as ValueCode}
 use Rattle.at_cache.specs.Kept.{AreKept}
 use Rattle.at_demand.specs.declared.evaluation.Demanded.{Demanded}
 use Rattle.at_demand.specs.declared.evaluation.Settled.{Settled}
-use Rattle.at_demand.specs.Known.{MayAdd}
+use Rattle.at_demand.specs.Known.{meaning, MayAdd}
 use Rattle.at_demand.specs.Keeping.{Becomes}
 use Rattle.at_demand.specs.UnderWay.{IsTrueIn}
 use Rattle.at_demand.specs.Covering.{IsCoveringIn}
 use Rattle.at_demand.specs.Sparing.{IsSparing}
-use Rattle.at_demand.proofs.Orderly.{last_unkept}
+use Rattle.at_demand.proofs.Orderly.{last_unkept, some_value}
 use Rattle.at_demand.proofs.Truth.{right_after}
 use Rattle.at_demand.proofs.There.{settles_right}
 use Rattle.at_demand.proofs.Gaining.{worthy_more, worth_last}
@@ -30,6 +33,14 @@ keep-requires-clause-absent g c =
 pub keep-requires-clause-kept : goal.keep-requires-clause-kept
 keep-requires-clause-kept g c = subst (λ (x : Demanded). AreKept (g.K.Keeper.contents c.args.self.now.keeper) x.kept.items) (sym c.find-find.ensures.demanded) c.requires.orderly.last_kept
 
+pub pass-requires-clause-typed : goal.pass-requires-clause-typed
+pass-requires-clause-typed g c = c.requires.typed
+
+pub pass-requires-clause-has : goal.pass-requires-clause-has
+pass-requires-clause-has g c =
+    let becomes = subst (λ (r : Settled). Becomes (g.K.Keeper.contents c.keep.new.self.keeper) c.args.evaluation.now.inst c.find-find.result r) c.in-Kept.is c.in_ok-settled.ensures.becomes in
+    subst (λ (x : ValueCode). HasValue (contents c.args.store.now) (meaning c.args.rules.now) c.args.evaluation.now.inst (value_view x)) (sym (becomes.0 ∙ c.find-find.ensures.value)) c.requires.has
+
 pub returns-in_err-settled : goal.returns-in_err-settled
 returns-in_err-settled g c =
     let is = (err_from_is_err_and c.from_residual.result c.from_residual.ensures.1).1 in
@@ -39,19 +50,21 @@ returns-in_err-settled g c =
     let e = c.find-find.ensures in
     let d = c.find-find.result in
     let orderly = c.requires.orderly in
+    let s = c.args.store.now in
+    let look = contents s in
     let adds = λ (v : ValueCode) (is : d.value ≡ v). subst (λ (x : ValueCode). MayAdd old more q.inst (value_view x)) is c.keep.ensures.adds in
     let only = λ (look : Contents ℕ) (asked : Instance ℕ) (exact : IsTrue g.K.Keeper.exact) (h : IsTrueIn c.args.rules.now look asked old q (step.Value c.args.value)) (stands : IsCoveringIn c.args.rules.now look q (step.Value c.args.value)) (sparing : IsSparing c.args.rules.now look old q).
     c.keep.ensures.only look exact sparing.finds (last_lean c.args.rules.now look asked old more q c.args.value d orderly h stands sparing e.reads e.demanded c.keep.ensures.lazy) sparing.spare.only in
     record {
       advance = rw is tt;
-      typed = λ at waits. rw is tt;
-      answers = λ look asked h. rw is tt;
-      covering = λ look h. rw is tt;
-      sparing = λ look asked exact h stands sparing. rw is tt;
-      right = λ look asked h. right_after c.args.rules.now look asked old more q c.args.value h (adds c.args.value e.value);
-      stays = λ s asked idle is h stands right. settles_right c.args.rules.now s idle asked old more q c.args.value d e.value e.reads e.demanded c.keep.ensures.adds c.keep.ensures.covers is h stands right;
-      worthy = λ look asked first h adds. worthy_more c.args.rules.now look old more q.inst c.keep.ensures.lazy asked first (last_unkept old q.waiting.entries q.found.entries q.inst q.frame.demanded.kept.items orderly) (worth_last c.args.rules.now look asked old q c.args.value h) adds;
-      spare = λ look asked exact h stands sparing. settles_spare c.args.rules.now look asked old more q c.args.value d orderly h stands sparing e.reads e.demanded c.keep.ensures.lazy (only look asked exact h stands sparing);
+      typed = rw is tt;
+      answers = λ asked h. rw is tt;
+      covering = λ h. rw is tt;
+      sparing = λ asked exact h stands sparing. rw is tt;
+      right = λ asked h. right_after c.args.rules.now look asked old more q c.args.value h (adds c.args.value e.value);
+      stays = λ asked is h stands right. settles_right c.args.rules.now s c.requires.idle asked old more q c.args.value d e.value e.reads e.demanded c.keep.ensures.adds c.keep.ensures.covers is h stands right;
+      worthy = λ asked first h adds. worthy_more c.args.rules.now look old more q.inst c.keep.ensures.lazy asked first (last_unkept old q.waiting.entries q.found.entries q.inst q.frame.demanded.kept.items orderly) (worth_last c.args.rules.now look asked old q c.args.value h) adds;
+      spare = λ asked exact h stands sparing. settles_spare c.args.rules.now look asked old more q c.args.value d orderly h stands sparing e.reads e.demanded c.keep.ensures.lazy (only look asked exact h stands sparing);
       counts = c.keep.ensures.counts;
     }
 
@@ -63,6 +76,8 @@ returns-in-Kept g c =
     let e = c.find-find.ensures in
     let d = c.find-find.result in
     let orderly = c.requires.orderly in
+    let s = c.args.store.now in
+    let look = contents s in
     let adds = λ (v : ValueCode) (is : d.value ≡ v). subst (λ (x : ValueCode). MayAdd old more q.inst (value_view x)) is c.keep.ensures.adds in
     let only = λ (look : Contents ℕ) (asked : Instance ℕ) (exact : IsTrue g.K.Keeper.exact) (h : IsTrueIn c.args.rules.now look asked old q (step.Value c.args.value)) (stands : IsCoveringIn c.args.rules.now look q (step.Value c.args.value)) (sparing : IsSparing c.args.rules.now look old q).
     c.keep.ensures.only look exact sparing.finds (last_lean c.args.rules.now look asked old more q c.args.value d orderly h stands sparing e.reads e.demanded c.keep.ensures.lazy) sparing.spare.only in
@@ -70,16 +85,17 @@ returns-in-Kept g c =
     let w = c.in-Kept.value in
     let becomes = subst (λ (r : Settled). Becomes more q.inst d r) c.in-Kept.is c.in_ok-settled.ensures.becomes in
     let value = becomes.0 ∙ e.value in
+    let has = subst (λ (x : ValueCode). HasValue look (meaning c.args.rules.now) q.inst (value_view x)) (sym value) c.requires.has in
     record {
-      advance = IfOk-weaker c.pass.result _ _ (passes_on old more q new w (value_view d.value) orderly c.keep.ensures.adds) c.pass.ensures;
-      typed = λ at waits. IfOk-weaker c.pass.result _ _ (passes_typed c.args.rules.now at q new w waits) c.pass.ensures;
-      answers = λ look asked h. IfOk-weaker c.pass.result _ _ (passes_true old more q new w c.args.rules.now look c.args.value asked h (adds c.args.value e.value) value) c.pass.ensures;
-      covering = λ look h. IfOk-weaker c.pass.result _ _ (passes_covering old more q new w c.args.rules.now look c.args.value h) c.pass.ensures;
-      sparing = λ look asked exact h stands sparing. IfOk-weaker c.pass.result _ _ (passes_sparing old more q new w c.args.rules.now look c.args.value d orderly asked h stands sparing e.reads e.demanded c.keep.ensures.lazy (c.in_ok-settled.ensures.keeps exact) (only look asked exact h stands sparing)) c.pass.ensures;
-      right = λ look asked h. right_after c.args.rules.now look asked old more q c.args.value h (adds c.args.value e.value);
-      stays = λ s asked idle is h stands right. settles_right c.args.rules.now s idle asked old more q c.args.value d e.value e.reads e.demanded c.keep.ensures.adds c.keep.ensures.covers is h stands right;
-      worthy = λ look asked first h adds. worthy_more c.args.rules.now look old more q.inst c.keep.ensures.lazy asked first (last_unkept old q.waiting.entries q.found.entries q.inst q.frame.demanded.kept.items orderly) (worth_last c.args.rules.now look asked old q c.args.value h) adds;
-      spare = λ look asked exact h stands sparing. settles_spare c.args.rules.now look asked old more q c.args.value d orderly h stands sparing e.reads e.demanded c.keep.ensures.lazy (only look asked exact h stands sparing);
+      advance = IfOk-weaker c.pass.result _ _ (passes_on c.args.rules.now s old more q new w (value_view d.value) orderly c.keep.ensures.adds (some_value (more q.inst) (value_view w) becomes.1)) c.pass.ensures;
+      typed = IfOk-weaker c.pass.result _ _ (passes_typed c.args.rules.now s old more q new w c.requires.typed) c.pass.ensures;
+      answers = λ asked h. IfOk-weaker c.pass.result _ _ (passes_true c.args.rules.now s old more q new w c.args.value has asked h (adds c.args.value e.value) value) c.pass.ensures;
+      covering = λ h. IfOk-weaker c.pass.result _ _ (passes_covering c.args.rules.now s old more q new w c.args.value has h) c.pass.ensures;
+      sparing = λ asked exact h stands sparing. IfOk-weaker c.pass.result _ _ (passes_sparing c.args.rules.now s old more q new w c.args.value has d orderly asked h stands sparing e.reads e.demanded c.keep.ensures.lazy (c.in_ok-settled.ensures.keeps exact) (only look asked exact h stands sparing)) c.pass.ensures;
+      right = λ asked h. right_after c.args.rules.now look asked old more q c.args.value h (adds c.args.value e.value);
+      stays = λ asked is h stands right. settles_right c.args.rules.now s c.requires.idle asked old more q c.args.value d e.value e.reads e.demanded c.keep.ensures.adds c.keep.ensures.covers is h stands right;
+      worthy = λ asked first h adds. worthy_more c.args.rules.now look old more q.inst c.keep.ensures.lazy asked first (last_unkept old q.waiting.entries q.found.entries q.inst q.frame.demanded.kept.items orderly) (worth_last c.args.rules.now look asked old q c.args.value h) adds;
+      spare = λ asked exact h stands sparing. settles_spare c.args.rules.now look asked old more q c.args.value d orderly h stands sparing e.reads e.demanded c.keep.ensures.lazy (only look asked exact h stands sparing);
       counts = c.keep.ensures.counts;
     }
 
@@ -91,6 +107,8 @@ returns-in-Found g c =
     let e = c.find-find.ensures in
     let d = c.find-find.result in
     let orderly = c.requires.orderly in
+    let s = c.args.store.now in
+    let look = contents s in
     let adds = λ (v : ValueCode) (is : d.value ≡ v). subst (λ (x : ValueCode). MayAdd old more q.inst (value_view x)) is c.keep.ensures.adds in
     let only = λ (look : Contents ℕ) (asked : Instance ℕ) (exact : IsTrue g.K.Keeper.exact) (h : IsTrueIn c.args.rules.now look asked old q (step.Value c.args.value)) (stands : IsCoveringIn c.args.rules.now look q (step.Value c.args.value)) (sparing : IsSparing c.args.rules.now look old q).
     c.keep.ensures.only look exact sparing.finds (last_lean c.args.rules.now look asked old more q c.args.value d orderly h stands sparing e.reads e.demanded c.keep.ensures.lazy) sparing.spare.only in
@@ -102,13 +120,13 @@ returns-in-Found g c =
     let demanded = becomes.demanded ∙ e.demanded in
     record {
       advance = IfOk-weaker c.ascend.result _ _ (ascends old more q new f (value_view d.value) orderly c.keep.ensures.adds (subst (λ (x : Demanded). AreKept old x.kept.items) (sym demanded) orderly.last_kept)) c.ascend.ensures;
-      typed = λ at waits. IfOk-weaker c.ascend.result _ _ (ascends_typed c.args.rules.now at q new f waits) c.ascend.ensures;
-      answers = λ look asked h. IfOk-weaker c.ascend.result _ _ (ascends_true old more q new f c.args.rules.now look c.args.value orderly asked h (adds c.args.value e.value) value) c.ascend.ensures;
-      covering = λ look h. IfOk-weaker c.ascend.result _ _ (ascends_covering old more q new f c.args.rules.now look c.args.value orderly reads demanded h) c.ascend.ensures;
-      sparing = λ look asked exact h stands sparing. IfOk-weaker c.ascend.result _ _ (ascends_sparing old more q new f c.args.rules.now look c.args.value orderly reads demanded asked h stands sparing c.keep.ensures.lazy (c.in_ok-settled.ensures.keeps exact) (only look asked exact h stands sparing)) c.ascend.ensures;
-      right = λ look asked h. right_after c.args.rules.now look asked old more q c.args.value h (adds c.args.value e.value);
-      stays = λ s asked idle is h stands right. settles_right c.args.rules.now s idle asked old more q c.args.value d e.value e.reads e.demanded c.keep.ensures.adds c.keep.ensures.covers is h stands right;
-      worthy = λ look asked first h adds. worthy_more c.args.rules.now look old more q.inst c.keep.ensures.lazy asked first (last_unkept old q.waiting.entries q.found.entries q.inst q.frame.demanded.kept.items orderly) (worth_last c.args.rules.now look asked old q c.args.value h) adds;
-      spare = λ look asked exact h stands sparing. settles_spare c.args.rules.now look asked old more q c.args.value d orderly h stands sparing e.reads e.demanded c.keep.ensures.lazy (only look asked exact h stands sparing);
+      typed = IfOk-weaker c.ascend.result _ _ (ascends_typed c.args.rules.now (class_shown s) q new f c.requires.typed) c.ascend.ensures;
+      answers = λ asked h. IfOk-weaker c.ascend.result _ _ (ascends_true old more q new f c.args.rules.now look c.args.value orderly asked h (adds c.args.value e.value) value) c.ascend.ensures;
+      covering = λ h. IfOk-weaker c.ascend.result _ _ (ascends_covering old more q new f c.args.rules.now look c.args.value orderly reads demanded h) c.ascend.ensures;
+      sparing = λ asked exact h stands sparing. IfOk-weaker c.ascend.result _ _ (ascends_sparing old more q new f c.args.rules.now look c.args.value orderly reads demanded asked h stands sparing c.keep.ensures.lazy (c.in_ok-settled.ensures.keeps exact) (only look asked exact h stands sparing)) c.ascend.ensures;
+      right = λ asked h. right_after c.args.rules.now look asked old more q c.args.value h (adds c.args.value e.value);
+      stays = λ asked is h stands right. settles_right c.args.rules.now s c.requires.idle asked old more q c.args.value d e.value e.reads e.demanded c.keep.ensures.adds c.keep.ensures.covers is h stands right;
+      worthy = λ asked first h adds. worthy_more c.args.rules.now look old more q.inst c.keep.ensures.lazy asked first (last_unkept old q.waiting.entries q.found.entries q.inst q.frame.demanded.kept.items orderly) (worth_last c.args.rules.now look asked old q c.args.value h) adds;
+      spare = λ asked exact h stands sparing. settles_spare c.args.rules.now look asked old more q c.args.value d orderly h stands sparing e.reads e.demanded c.keep.ensures.lazy (only look asked exact h stands sparing);
       counts = c.keep.ensures.counts;
     }
