@@ -29,14 +29,14 @@ use Rattle.at_demand.proofs.Typing.{settles_typed}
 
 module _ (entries more : Entries) (old new : Evaluation) (d : Find) where
   pub ascends : (v : Value ℕ) → IsOrderlyIn entries old → MayAdd entries more old.inst v → AreKept entries d.demanded.kept.items → (t : Advance) → HasAscended old d new t → IsAdvance more old new t
-  ascends v q adds kept (advance.GoesOn s) a = settles entries more old new v q adds new.inst new.frame d a.waits kept a.settled refl refl a.few a.finds
+  ascends v q adds kept (advance.GoesOn s) a = let (up, same) = a in settles entries more old new v q adds new.inst new.frame d up.waits kept up.settled same refl refl up.few up.finds up.counts
   ascends v q adds kept (advance.Fails k) a = absurd a
   ascends v q adds kept (advance.Answers x) a = tt
 
   module _ (rules : Rules) (look : Contents ℕ) (v : ValueCode) (q : IsOrderlyIn entries old) where
     pub ascends_true : (asked : Instance ℕ) → IsTrueIn rules look asked entries old (step.Value v) → MayAdd entries more old.inst (value_view v) → d.value ≡ v → (t : Advance) → HasAscended old d new t → IsRightAdvance rules look asked more new t
-    ascends_true asked h adds value (advance.GoesOn s) a =
-        subst (λ r. IsTrueIn rules look asked more new r) (sym a.needs) (settles_true rules look asked entries more old v h new old.inst new.inst new.frame d q adds value a.waits a.settled refl refl refl)
+    ascends_true asked h adds value (advance.GoesOn s) a = let up = a.0 in
+        subst (λ r. IsTrueIn rules look asked more new r) (sym up.needs) (settles_true rules look asked entries more old v h new old.inst new.inst new.frame d q adds value up.waits up.settled refl refl refl)
     ascends_true asked h adds value (advance.Fails k) a = absurd a
     ascends_true asked h adds value (advance.Answers x) a =
         let told : Answers look (meaning rules) asked (answer_view (answer.Value v)) = ends rules look asked entries more old v h a.0 in
@@ -44,18 +44,18 @@ module _ (entries more : Entries) (old new : Evaluation) (d : Find) where
 
     module _ (reads : map loc_view d.reads.items ≡ old.frame.trial.reads) (demanded : d.demanded ≡ old.frame.demanded) where
       pub ascends_covering : IsCoveringIn rules look old (step.Value v) → (t : Advance) → HasAscended old d new t → IsCoveringAdvance rules look new t
-      ascends_covering h (advance.GoesOn s) a =
-          subst (λ r. IsCoveringIn rules look new r) (sym a.needs) (settles_covering rules look entries old new q v old.inst new.inst new.frame d h reads demanded a.waits a.settled refl refl refl)
+      ascends_covering h (advance.GoesOn s) a = let up = a.0 in
+          subst (λ r. IsCoveringIn rules look new r) (sym up.needs) (settles_covering rules look entries old new q v old.inst new.inst new.frame d h reads demanded up.waits up.settled refl refl refl)
       ascends_covering h (advance.Fails k) a = absurd a
       ascends_covering h (advance.Answers x) a = tt
 
       pub ascends_sparing : (asked : Instance ℕ) → IsTrueIn rules look asked entries old (step.Value v) → IsCoveringIn rules look old (step.Value v) → IsSparing rules look entries old → MayAddLazy rules entries more old.inst →
           (is_lazy rules old.inst.attribute ≡ true → IsSome (more old.inst)) → AreOnly rules look more → (t : Advance) → HasAscended old d new t → IsSparingAdvance rules look asked more new t
-      ascends_sparing asked h stands sparing grows keeps only (advance.GoesOn s) a = settles_sparing rules look asked entries more old v d q h stands sparing reads demanded grows new new.inst new.frame keeps only a.waits a.settled refl refl
+      ascends_sparing asked h stands sparing grows keeps only (advance.GoesOn s) a = let up = a.0 in settles_sparing rules look asked entries more old v d q h stands sparing reads demanded grows new new.inst new.frame keeps only up.waits up.settled refl refl
       ascends_sparing asked h stands sparing grows keeps only (advance.Fails k) a = absurd a
       ascends_sparing asked h stands sparing grows keeps only (advance.Answers x) a = ends_all rules look asked entries more old v d q h stands sparing reads demanded grows a.0 keeps
 
 pub ascends_typed : (rules : Rules) (at : ClassAt ℕ) (old new : Evaluation) (d : Find) → AreTypedWaiting rules at old.waiting.entries old.inst → (t : Advance) → HasAscended old d new t → IsTypedAdvance rules at new t
-ascends_typed rules at old new d waits (advance.GoesOn s) a = subst (λ r. IsTypedIn rules at new r) (sym a.needs) (settles_typed rules at old new old.inst new.inst new.frame waits a.waits refl refl refl)
+ascends_typed rules at old new d waits (advance.GoesOn s) a = let up = a.0 in subst (λ r. IsTypedIn rules at new r) (sym up.needs) (settles_typed rules at old new old.inst new.inst new.frame waits up.waits refl refl refl)
 ascends_typed rules at old new d waits (advance.Fails k) a = absurd a
 ascends_typed rules at old new d waits (advance.Answers x) a = tt

@@ -18,9 +18,10 @@ use Rattle.at_demand.specs.declared.evaluation.Demanded.{Demanded}
 use Rattle.at_demand.specs.declared.evaluation.Find.{Find}
 use Rattle.at_demand.specs.declared.evaluation.Frame.{Frame}
 use Rattle.at_demand.specs.Known.{meaning, kept_values, known_in, MayAdd}
+use Rattle.at_demand.specs.Keeping.{IsSameFind}
 use Rattle.at_demand.specs.Right.{AreRight, IsThere}
 use Rattle.at_demand.specs.UnderWay.{HasStepped, IsOpen}
-use Rattle.at_demand.specs.Covering.{HasPassedTo, AreWhole, AreCovered}
+use Rattle.at_demand.specs.Covering.{HasPassedTo, IsDemanded, AreWhole, AreCovered}
 use Rattle.at_demand.specs.Only.{TakesOnly}
 use Rattle.std.specs.Prelude.{IsSome}
 use Rattle.at_demand.specs.Sparing.{AddsWorthy, AreOnly, AreSettled, AreSpare, MayAddLazy}
@@ -43,6 +44,15 @@ module _ (rules : Rules) (look : Contents ℕ) (entries : Entries) (found : List
     whole = whole rules look found i f v d passed reads demanded;
     lean = lean rules look found i f v d stepped takes reads demanded;
     kept = subst (λ (x : Demanded). AreKept entries x.kept.items) (sym demanded) kept;
+  }
+
+  -- as one that is the same
+  pub found_same : (d g : Find) → IsSameFind d g → HasFound rules look entries found i d → HasFound rules look entries found i g
+  found_same d g same has = record {
+    value = subst (λ (w : ValueCode). HasValue look (meaning rules) i (value_view w)) (sym same.value) has.value;
+    whole = record { reads = λ l h. subst (Among l) (sym same.reads) (has.whole.reads l h); demands = λ j c. subst (λ (x : Demanded). IsDemanded found x j) (sym same.demanded) (has.whole.demands j c) };
+    lean = record { reads = λ l h. has.lean.reads l (subst (Among l) same.reads h); takes = subst (TakesOnly rules look found i) (sym same.demanded) has.lean.takes };
+    kept = subst (λ (x : Demanded). AreKept entries x.kept.items) (sym same.demanded) has.kept;
   }
 
   -- its fault

@@ -1,12 +1,12 @@
 -- What an edit leaves of what is kept, by paths.
-use Rattle.std.proofs.Common.{◌≡◌, ◌↔◌, ℕ, true, false, nat_eq, List, Option, Some, None, inl, inr, refl, sym, ap, ◌∙◌, subst}
+use Rattle.std.proofs.Common.{◌≡◌, ◌↔◌, ℕ, false, nat_eq, List, Option, Some, sym, ap, ◌∙◌, subst}
 use Rattle.at_model.specs.Trees.{Tree}
 use Rattle.at_model.specs.Paths.{Node, node_eq}
 use Rattle.at_model.specs.Run.{Value, Instance, Location, Is, Tok, Slot, Up, Idx, Contents}
-use Rattle.at_model.specs.Rules.{Rules, evaluation}
+use Rattle.at_model.specs.Rules.{Rules}
 use Rattle.at_model.specs.Meaning.{Equations, Finds, HasValue, content, equations}
 use Rattle.at_model.specs.Support.{Supports}
-use Rattle.at_model.specs.Alike.{OptionLike, neither, both, ListLike, end, more, ValueLike, int, truth, text, ref, InstanceLike, LocationLike, is, tok, slot, up, idx, Names, IsInjective, EquationsLike, AlikeAt}
+use Rattle.at_model.specs.Alike.{neither, both, ListLike, end, more, ValueLike, int, truth, text, ref, InstanceLike, LocationLike, is, tok, slot, up, idx, Names, IsInjective, EquationsLike, AlikeAt}
 use Rattle.at_model.specs.Edits.{Edit, carried}
 use Rattle.at_model.specs.Touches.{touches}
 use Rattle.at_model.specs.Sparing.{IsUntouched}

@@ -1,13 +1,17 @@
 -- The work counts what comes to an exact keeper.
-use Rattle.std.proofs.Common.{◌≡◌, ◌⊎◌, ◌↔◌, ℕ, ◌+◌, ◌-◌, ◌^◌, ◌<◌, min, Bool, true, false, List, [], ◌∷◌, ◌++◌, length, length-append, Option, Some, None, inl, inr, refl, sym, ap, ◌∙◌, subst, arith, if◌then◌else◌, true≢false}
-use Rattle.std.specs.Prelude.{IsSome, IsTrue}
-use Rattle.at_model.specs.Run.{Value, Instance, Location}
+use Rattle.std.proofs.Common.{◌≡◌, ◌⊎◌, ℕ, ◌+◌, ◌-◌, ◌^◌, ◌<◌, min, Bool, true, false, List, [], ◌∷◌, ◌++◌, length, length-append, Option, Some, None, inl, inr, refl, sym, ap, ◌∙◌, subst, arith, if◌then◌else◌, true≢false}
+use Rattle.std.specs.Prelude.{IsSome, IsTrue, Vec}
+use Rattle.std.specs.Global.{Global}
+use Rattle.at_model.specs.Run.{Value, Instance}
 use Rattle.at_model.specs.Meaning.{Among, Distinct}
 use Rattle.at_body.specs.Same.{same_instance}
-use Rattle.at_cache.specs.Kept.{Kept, Entries, KeepsAll, Puts, MayPut}
+use Rattle.at_cache.specs.Kept.{Kept, Entries, KeepsAll, HasPut}
+use Rattle.at_cache.specs.declared.keeper.Put.{Put}
+use Rattle.at_cache.specs.declared.keeper.Put.TheVariants as put
+use Rattle.at_store.specs.declared.node.Loc.{Loc}
 use Rattle.at_model.specs.Rules.{Rules}
 use Rattle.at_model.specs.Run.{Contents}
-use Rattle.at_demand.specs.Sparing.{IsWorthKeeping, AddsWorthy, HasWorthy, AreGained, Counts, IsWork}
+use Rattle.at_demand.specs.Sparing.{AddsWorthy, HasWorthy, AreGained, Counts, IsWork}
 use Rattle.at_demand.proofs.Sameness.{same_true, same_refl}
 
 not_both : (o : Option Kept) → IsSome o → o ≡ None → ⊥
@@ -46,9 +50,9 @@ module _ (old new : Entries) where
       other j some true s e = absurd (not_both (old j) some (subst (λ x. old x ≡ None) (same_true i j s) absent))
       other j some false s e = e
 
-  pub counts_put : (exact : Bool) (i j : Instance ℕ) (v : Value ℕ) (reads : List (Location ℕ)) (uses : List (Instance ℕ)) (w x : ℕ) → j ≡ i → IsTrue exact → old i ≡ None → MayPut exact old j v reads uses new → x ≡ min (w + 1) (2 ^ 64 - 1) → Counts old new w x
-  counts_put exact i j v reads uses w x same is absent (inl p) more = absurd (true≢false (sym is ∙ p.0))
-  counts_put exact i j v reads uses w x same is absent (inr p) more = (j ∷ [], gains_one j p.entry (subst (λ (y : Instance ℕ). old y ≡ None) (sym same) absent) p.adds, more)
+  pub counts_put : (exact : Bool) (i : Instance ℕ) (v : Value ℕ) (reads : Vec Loc Global) (uses : List (Instance ℕ)) (w x : ℕ) → IsTrue exact → old i ≡ None → (p : Put) → HasPut exact old i v reads uses new p → x ≡ min (w + 1) (2 ^ 64 - 1) → Counts old new w x
+  counts_put exact i v reads uses w x is absent put.Kept p more = (i ∷ [], gains_one i p.entry absent p.adds, more)
+  counts_put exact i v reads uses w x is absent (put.Left back) (off, all, same) more = absurd (true≢false (sym is ∙ off))
 
 -- nothing changes
 pub counts_none : (entries : Entries) (w : ℕ) → w < 2 ^ 64 → Counts entries entries w w

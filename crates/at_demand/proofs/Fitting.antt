@@ -153,6 +153,16 @@ module _ (rules : Rules) (s : Shown) (entries more : Entries) (grown : (i : Inst
       subst (λ x. Trial more p.found.entries (keys_of p.waiting.entries ++ p.inst ∷ []) x t.frames.items) (sym same) (subst (λ os. Trial more p.found.entries os q.inst t.frames.items) owners (subst (λ fs. Trial more fs (keys_of q.waiting.entries) q.inst t.frames.items) (sym goes) here)) in
       subst (λ a. FitAt rules s more p t.frames.items a) (sym awaited) there
 
+  pub fit_gained : (t : Trials) (i : Instance ℕ) (v : ValueCode) → i ≡ q.inst → t.awaited ≡ Some i → Trial entries q.found.entries (keys_of q.waiting.entries) q.inst t.frames.items → (o : Option AnswerCode) → HasPassedOn q v p o → FitAfter rules s more p t o
+  fit_gained t i v same awaited trial (Some a) r = tt
+  fit_gained t i v same awaited trial None r =
+      let grows : Extends q.found.entries q.found.entries = ([], sym (append-nil q.found.entries)) in
+      let here : Trial more q.found.entries (keys_of q.waiting.entries) q.inst t.frames.items = more_trials rules (class_shown s) (contents s) entries more grown q.found.entries q.found.entries grows (keys_of q.waiting.entries) q.inst t.frames.items trial in
+      let owners = last_two q.waiting.entries p.waiting.entries p.inst r.waits in
+      let there : Trial more p.found.entries (keys_of p.waiting.entries ++ p.inst ∷ []) i t.frames.items =
+      subst (λ x. Trial more p.found.entries (keys_of p.waiting.entries ++ p.inst ∷ []) x t.frames.items) (sym same) (subst (λ os. Trial more p.found.entries os q.inst t.frames.items) owners (subst (λ fs. Trial more fs (keys_of q.waiting.entries) q.inst t.frames.items) (sym r.found) here)) in
+      subst (λ a. FitAt rules s more p t.frames.items a) (sym awaited) there
+
   pub fit_deepened : (t : Trials) (frames : List Frame) (f : Frame) (j : Instance ℕ) → t.awaited ≡ None → t.frames.items ≡ frames ++ f ∷ [] → Trial entries q.found.entries (keys_of q.waiting.entries) q.inst frames → HasComeTo rules (class_shown s) (contents s) entries q.found.entries q.inst f (step.Need j) →
       (o : Option AnswerCode) → HasDeepened q j p o → FitAfter rules s more p t o
   fit_deepened t frames f j none pushed trial one (Some a) r = tt

@@ -1,12 +1,10 @@
 -- What a question adds: each lazy instance that has a value and to which the question leads, and no other.
-use Rattle.std.proofs.Common.{◌≡◌, ◌⊎◌, ℕ, Bool, true, false, List, [], ◌∷◌, ◌++◌, slice_get, Option, Some, None, inl, inr, refl, sym, ap, ◌∙◌, subst, true≢false}
+use Rattle.std.proofs.Common.{◌≡◌, ◌⊎◌, ℕ, true, List, [], ◌∷◌, ◌++◌, slice_get, Option, Some, None, inl, inr, refl, sym, ◌∙◌, subst, true≢false}
 use Rattle.std.specs.Prelude.{IsSome}
 use Rattle.std.specs.Option.{option_map}
-use Rattle.at_model.specs.Run.{Value, Instance, Location, Contents, Run, Fails, Demands, FaultKind}
-use Rattle.at_model.specs.Follow.{Past}
+use Rattle.at_model.specs.Run.{Value, Instance, Contents, Fails, Demands}
 use Rattle.at_model.specs.Rules.{Rules, is_lazy}
 use Rattle.at_model.specs.Meaning.{Finds, Faults, Holds, HasValue, Among, Comes, Leads}
-use Rattle.at_model.specs.Support.{Supports}
 use Rattle.at_model.proofs.Outcomes.{once}
 use Rattle.at_body.specs.Values.{value_view, fault_view}
 use Rattle.at_body.specs.Rest.{resumed}
@@ -23,7 +21,7 @@ use Rattle.at_demand.specs.declared.evaluation.Evaluation.{Evaluation}
 use Rattle.at_demand.specs.Known.{meaning, WaitingKept}
 use Rattle.at_demand.specs.UnderWay.{HasStepped, AreWaiting, first_of, chain_of, IsTrueIn, IsOrderlyIn}
 use Rattle.at_demand.specs.Covering.{IsDemanded, IsTold, HavePassed, HasPassedTo, AreWhole, IsWhole, IsCoveringIn}
-use Rattle.at_demand.specs.Sparing.{IsDeep, AreSpare, IsWorthKeeping, AddsWorthy, HasWorthy, MayAddLazy, IsSettled, AreSettled}
+use Rattle.at_demand.specs.Sparing.{IsDeep, IsWorthKeeping, AddsWorthy, HasWorthy, MayAddLazy, IsSettled, AreSettled}
 use Rattle.at_demand.proofs.Coming.{has_value, has_fault}
 use Rattle.at_demand.proofs.Chains.{leads}
 use Rattle.at_demand.proofs.Gathered.{among_at}
@@ -51,6 +49,9 @@ module _ (rules : Rules) (look : Contents ℕ) where
   module _ (old new : Entries) (i : Instance ℕ) (grows : MayAddLazy rules old new i) where
     pub still : (j : Instance ℕ) → IsSome (old j) → IsSome (new j)
     still j some = elim (grows j) [ inl e ↦ subst IsSome (sym e) some | inr p ↦ (let (same, there, lazy) = p in there) ]
+
+    pub settled_still : (found : List (Instance ℕ × Find)) → AreSettled rules old found → AreSettled rules new found
+    settled_still found settled p j g e = let s = settled p j g e in record { lazy = λ l. still j (s.lazy l); took = λ u h. still u (s.took u h) }
 
     pub lazy_more : ((j : Instance ℕ) → IsSome (old j) → IsLazy j) → (j : Instance ℕ) → IsSome (new j) → IsLazy j
     lazy_more all j some = elim (grows j) [ inl e ↦ all j (subst IsSome e some) | inr p ↦ (let (same, there, lazy) = p in subst IsLazy same lazy) ]
@@ -97,7 +98,7 @@ module _ (rules : Rules) (look : Contents ℕ) where
 
       pub settled_push : (IsLazy i → IsSome (new i)) → AreSettled rules new (found ++ (i, d) ∷ [])
       settled_push kept p j g is = elim (get_push found (i, d) p (j, g) is) [
-        | inl e ↦ (let s = settled p j g e in record { lazy = λ l. still j (s.lazy l); took = λ u h. still u (s.took u h) })
+        | inl e ↦ settled_still found settled p j g e
         | inr e ↦ subst (λ (x : Instance ℕ × Find). IsSettled rules new x.0 x.1) e.1 (record { lazy = kept; took = λ u h. still u (took u h) })
       ]
 

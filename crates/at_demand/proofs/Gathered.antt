@@ -1,5 +1,5 @@
 -- What is gathered stands among the sources, and so they cover all that supports the instance.
-use Rattle.std.proofs.Common.{◌≡◌, ◌⊎◌, ℕ, zero, suc, ◌+◌, ◌<◌, ◌≤◌, nat_eq, Bool, true, false, ◌||◌, List, [], ◌∷◌, ◌++◌, length, map, slice_get, Option, Some, None, OnOk, OnErr, Ok, Err, inl, inr, refl, sym, ap, ◌∙◌, subst, append_assoc, append-nil, if◌then◌else◌, true≢false, arith}
+use Rattle.std.proofs.Common.{◌≡◌, ◌⊎◌, ℕ, zero, suc, ◌+◌, ◌<◌, ◌≤◌, nat_eq, Bool, true, false, ◌||◌, List, [], ◌∷◌, ◌++◌, length, map, slice_get, Option, Some, None, OnOk, Ok, Err, inl, inr, refl, sym, ap, ◌∙◌, subst, append_assoc, append-nil, if◌then◌else◌, true≢false, arith}
 use Rattle.std.specs.Prelude.{IsSome, Result}
 use Rattle.std.specs.List.{list_any}
 use Rattle.std.proofs.lemmas.Bool.{eqb-true}
@@ -11,10 +11,9 @@ use Rattle.at_model.specs.Meaning.{HasValue, Among, Comes}
 use Rattle.at_model.specs.Support.{Sees, Supports}
 use Rattle.at_model.proofs.Listed.{among_left, among_map, among_right}
 use Rattle.at_model.proofs.Options.{or_right}
-use Rattle.at_store.specs.declared.node.Loc.{Loc}
 use Rattle.at_store.specs.Located.{loc_view}
 use Rattle.at_body.specs.Same.{same_instance}
-use Rattle.at_cache.specs.Kept.{Kept, Entries, AreKept, KeepsAll, MayPut, covered, covers_at, same_location}
+use Rattle.at_cache.specs.Kept.{Kept, Entries, AreKept, Puts, covered, covers_at, same_location}
 use Rattle.at_cache.proofs.Lists.{get_left, get_contains}
 use Rattle.at_cache.proofs.Locations.{same_location-itself}
 use Rattle.at_demand.specs.declared.evaluation.Find.{Find}
@@ -213,16 +212,20 @@ module _ (rules : Rules) (look : Contents ℕ) (entries : Entries) (found : List
   all_covered i l w h = supported look (meaning rules) Within (λ u. Among u s.kept.items) (λ m. covered entries reads s.kept.items m ≡ true) next seen below i l (f, w, gathered.first) h
 
   -- and so what is put
-  pub put_covers : {E : Type 0} (exact : Bool) (new : Entries) (i j : Instance ℕ) (v : Value ℕ) (locs : List Loc) (uses : List (Instance ℕ)) (r : Result (Unit {0}) E) → IsWhole rules look found i f → j ≡ i → locs ≡ s.reads.items → uses ≡ s.kept.items →
-      OnOk r (MayPut exact entries j v (map loc_view locs) uses new) → OnErr r (KeepsAll entries new) → AreCovered rules look new
-  put_covers exact new i j v locs uses (Err e) w a b c puts err m k is l h = covers m k (sym (err m) ∙ is) l h
-  put_covers exact new i j v locs uses (Ok u) w a b c (inl p) err m k is l h = covers m k (sym (p.1 m) ∙ is) l h
-  put_covers exact new i j v locs uses (Ok u) w a b c (inr p) err m k is l h = by (same_instance j m) refl (sym (p.adds m) ∙ is)
+  pub put_covers : (exact : Bool) (new : Entries) (i : Instance ℕ) (v : Value ℕ) → IsWhole rules look found i f → Puts exact entries i v reads s.kept.items new → AreCovered rules look new
+  put_covers exact new i v w p m k is l h = by (same_instance i m) refl (sym (p.adds m) ∙ is)
     where
-      by : (t : Bool) → same_instance j m ≡ t → (if t then Some p.entry else entries m) ≡ Some k → k.covers l ≡ true
+      by : (t : Bool) → same_instance i m ≡ t → (if t then Some p.entry else entries m) ≡ Some k → k.covers l ≡ true
       by true at e =
           let same : p.entry ≡ k = same_Some p.entry k e in
-          let here : Supports look (meaning rules) l i = subst (λ x. Supports look (meaning rules) l x) (sym (sym a ∙ same_true j m at)) h in
-          let all : covered entries (map loc_view locs) uses l ≡ true = ap (λ x. covered entries (map loc_view x) uses l) b ∙ ap (λ x. covered entries reads x l) c ∙ all_covered i l w here in
-          ap (λ (x : Kept). x.covers l) (sym same) ∙ p.covers l all
+          let here : Supports look (meaning rules) l i = subst (λ x. Supports look (meaning rules) l x) (sym (same_true i m at)) h in
+          ap (λ (x : Kept). x.covers l) (sym same) ∙ p.covers l (all_covered i l w here)
       by false at e = covers m k e l h
+
+-- a find below which no other one stands is gathered by itself
+pub gathered_alone : (found : List (Instance ℕ × Find)) (f : Find) → f.demanded.finds.items ≡ [] → AreGathered found f (record { reads = f.reads; kept = f.demanded.kept })
+gathered_alone found f alone = record {
+  positions = [];
+  first = record { reads = λ x h. h; kept = λ u h. h; finds = λ p h. subst (Among p) alone h };
+  others = λ p i g among is. absurd among;
+}

@@ -31,3 +31,5 @@ mod Turned
 pub mod Standing
 pub mod Few
 mod Fitting
+mod Putting
+mod Rising

@@ -1,6 +1,6 @@
 -- What stands with a find is only what its evaluation sees and comes to; so the sources stand for nothing but what supports the
 -- instance.
-use Rattle.std.proofs.Common.{◌≡◌, ◌⊎◌, ℕ, zero, suc, Bool, true, false, ◌||◌, List, [], ◌∷◌, ◌++◌, map, slice_get, Option, Some, None, OnOk, OnErr, Ok, Err, inl, inr, refl, sym, ap, ◌∙◌, subst, if◌then◌else◌, true≢false}
+use Rattle.std.proofs.Common.{◌≡◌, ◌⊎◌, ℕ, zero, suc, Bool, true, false, ◌||◌, List, [], ◌∷◌, ◌++◌, map, slice_get, Option, Some, None, OnOk, Ok, Err, inl, inr, refl, sym, ap, ◌∙◌, subst, if◌then◌else◌, true≢false}
 use Rattle.std.specs.Prelude.{Result, IsTrue}
 use Rattle.std.specs.List.{list_any}
 use Rattle.std.proofs.lemmas.Option.{none-some, same_Some}
@@ -11,7 +11,6 @@ use Rattle.at_model.specs.Rules.{Rules}
 use Rattle.at_model.specs.Meaning.{HasValue, Among, Comes, Leads}
 use Rattle.at_model.specs.Support.{Supports}
 use Rattle.at_model.proofs.Listed.{among_map}
-use Rattle.at_store.specs.declared.node.Loc.{Loc}
 use Rattle.at_store.specs.Located.{loc_view}
 use Rattle.at_body.specs.Same.{same_instance}
 use Rattle.at_body.specs.Values.{value_view}
@@ -19,7 +18,7 @@ use Rattle.at_body.specs.Rest.{resumed}
 use Rattle.at_body.specs.declared.value.Value.{Value as ValueCode}
 use Rattle.at_body.specs.declared.trial.Step.TheVariants as step
 use Rattle.at_body.specs.declared.trial.Trial.{Trial}
-use Rattle.at_cache.specs.Kept.{Kept, Entries, KeepsAll, MayPut, covered, covers_at, same_location}
+use Rattle.at_cache.specs.Kept.{Kept, Entries, Puts, covered, covers_at, same_location}
 use Rattle.at_cache.proofs.Locations.{same_location-is}
 use Rattle.at_cache.proofs.Lists.{get_push}
 use Rattle.at_demand.specs.declared.evaluation.Demanded.{Demanded}
@@ -225,16 +224,15 @@ module _ (rules : Rules) (look : Contents ℕ) where
       ]
 
       -- and so what is put into an exact keeper
-      pub put_only : {E : Type 0} (exact : Bool) (new : Entries) (j : Instance ℕ) (v : Value ℕ) (locs : List Loc) (uses : List (Instance ℕ)) (r : Result (Unit {0}) E) → IsTrue exact → j ≡ i → locs ≡ s.reads.items → uses ≡ s.kept.items →
-          OnOk r (MayPut exact entries j v (map loc_view locs) uses new) → OnErr r (KeepsAll entries new) → (m : Instance ℕ) (k : Kept) → new m ≡ Some k → (l : Location ℕ) → k.covers l ≡ true → Supports look (meaning rules) l m
-      put_only exact new j v locs uses (Err e) ex a b c puts err m k is l h = only m k (sym (err m) ∙ is) l h
-      put_only exact new j v locs uses (Ok u) ex a b c (inl p) err m k is l h = only m k (sym (p.1 m) ∙ is) l h
-      put_only exact new j v locs uses (Ok u) ex a b c (inr p) err m k is l h = by (same_instance j m) refl (sym (p.adds m) ∙ is)
+      pub put_only : (exact : Bool) (new : Entries) (v : Value ℕ) → IsTrue exact → Puts exact entries i v (map loc_view s.reads.items) s.kept.items new → (m : Instance ℕ) (k : Kept) → new m ≡ Some k → (l : Location ℕ) → k.covers l ≡ true → Supports look (meaning rules) l m
+      put_only exact new v ex p m k is l h = by (same_instance i m) refl (sym (p.adds m) ∙ is)
         where
-          by : (t : Bool) → same_instance j m ≡ t → (if t then Some p.entry else entries m) ≡ Some k → Supports look (meaning rules) l m
+          by : (t : Bool) → same_instance i m ≡ t → (if t then Some p.entry else entries m) ≡ Some k → Supports look (meaning rules) l m
           by true at e =
               let same : p.entry ≡ k = same_Some p.entry k e in
-              let was : covered entries (map loc_view locs) uses l ≡ true = p.only ex l (ap (λ (x : Kept). x.covers l) same ∙ h) in
-              let here : covered entries (map loc_view s.reads.items) s.kept.items l ≡ true = ap (λ x. covered entries (map loc_view s.reads.items) x l) (sym c) ∙ ap (λ x. covered entries (map loc_view x) uses l) (sym b) ∙ was in
-              subst (Supports look (meaning rules) l) (sym a ∙ same_true j m at) (covered_supports l here)
+              subst (Supports look (meaning rules) l) (same_true i m at) (covered_supports l (p.only ex l (ap (λ (x : Kept). x.covers l) same ∙ h)))
           by false at e = only m k e l h
+
+-- where no other find stands below, nothing else is gathered
+pub from_alone : (found : List (Instance ℕ × Find)) (f : Find) → AreFrom found f (record { reads = f.reads; kept = f.demanded.kept })
+from_alone found f = ([], record { reads = λ x h. (f, itself, h); kept = λ u h. (f, itself, h); finds = λ p h. absurd h })

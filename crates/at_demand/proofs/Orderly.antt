@@ -1,23 +1,22 @@
 -- A question stays orderly while it goes on.
-use Rattle.std.proofs.Common.{◌≡◌, ◌⊎◌, ℕ, suc, ◌+◌, ◌*◌, ◌^◌, ◌<◌, Bool, true, false, if◌then◌else◌, OnOk, OnErr, Ok, Err, List, [], ◌∷◌, ◌++◌, length, Option, Some, None, inl, inr, refl, sym, ap, ◌∙◌, subst, arith}
+use Rattle.std.proofs.Common.{◌≡◌, ◌⊎◌, ℕ, suc, ◌+◌, ◌*◌, ◌^◌, ◌<◌, OnOk, Ok, Err, List, [], ◌∷◌, ◌++◌, length, Option, Some, None, inl, inr, refl, sym, ap, ◌∙◌, subst, arith}
 use Rattle.std.specs.Prelude.{IsSome, Result}
-use Rattle.std.proofs.lemmas.List.Elements.{Contains-append_cases}
+use Rattle.std.proofs.lemmas.List.Elements.{Contains-append_cases, Contains-push_cases}
 use Rattle.std.specs.Option.{option_map}
 use Rattle.std.specs.Map.{keys_of, lookup}
 use Rattle.indexmap.specs.IndexMap.{insert_entry}
-use Rattle.at_model.specs.Run.{Value, Instance, Location}
+use Rattle.at_model.specs.Run.{Value, Instance}
 use Rattle.at_model.specs.Meaning.{Among, Distinct}
 use Rattle.at_model.proofs.Listed.{among_left}
 use Rattle.at_model.proofs.Members.{among_last, among_push, distinct_push, distinct_pop}
 use Rattle.at_body.specs.Same.{same_instance}
 use Rattle.at_body.specs.Values.{value_view}
-use Rattle.at_cache.specs.Kept.{Kept, Entries, AreKept, KeepsAll, MayPut}
+use Rattle.at_cache.specs.Kept.{Kept, Entries, AreKept}
 use Rattle.at_demand.specs.declared.evaluation.Find.{Find}
 use Rattle.at_demand.specs.declared.evaluation.Frame.{Frame}
 use Rattle.at_demand.specs.declared.evaluation.Evaluation.{Evaluation}
-use Rattle.at_demand.specs.Known.{kept_values, found_values, known_in, MayAdd, WaitingKept, FoundKept}
+use Rattle.at_demand.specs.Known.{found_values, known_in, MayAdd, WaitingKept, FoundKept}
 use Rattle.at_demand.specs.UnderWay.{chain_of, IsOrderly, IsOrderlyIn, GoesOn, progress}
-use Rattle.at_demand.proofs.Sameness.{same_true}
 use Rattle.at_demand.proofs.Keys.{lookup_push, lookup_other, goes_last, no_key, keys_push, length_push}
 
 pub some_value : (o : Option Kept) (v : Value ℕ) → option_map (λ (k : Kept). k.value) o ≡ Some v → IsSome o
@@ -81,7 +80,7 @@ module _ (entries : Entries) (ws : List (Instance ℕ × Frame)) (fs : List (Ins
       before : (k : Instance ℕ) → Among k (chain_of (ws ++ (i, f) ∷ []) j) → Among k (chain_of ws i) ⊎ (k ≡ j)
       before k h = among_push (chain_of ws i) k j (subst (λ ks. Among k (ks ++ j ∷ [])) (keys_push ws i f) h)
 
-  module _ (new : Entries) (v : Value ℕ) (adds : MayAdd entries new i v) (b : Instance ℕ) (f : Frame) (rest : List (Instance ℕ × Frame)) (is : ws ≡ rest ++ (b, f) ∷ []) (d : Find) (same : AreKept entries d.demanded.kept.items) where
+  module _ (new : Entries) (v : Value ℕ) (adds : MayAdd entries new i v) (b : Instance ℕ) (f : Frame) (rest : List (Instance ℕ × Frame)) (is : ws ≡ rest ++ (b, f) ∷ []) where
     keys : keys_of ws ≡ chain_of rest b
     keys = ap keys_of is ∙ keys_push rest b f
 
@@ -94,21 +93,40 @@ module _ (entries : Entries) (ws : List (Instance ℕ × Frame)) (fs : List (Ins
     waiting : WaitingKept entries rest × AreKept entries f.demanded.kept.items
     waiting = waiting_pop entries rest (b, f) (subst (WaitingKept entries) is q.waiting_kept)
 
-    finds : FoundKept new (fs ++ (i, d) ∷ [])
-    finds k g e = kept_still entries new i v adds g.demanded.kept.items (elim (lookup_push fs i k d g e) [
-      | inl h ↦ q.found_kept k g h
-      | inr h ↦ subst (λ (x : Find). AreKept entries x.demanded.kept.items) h.1 same
-    ])
+    open_before : (k : Instance ℕ) → Among k (chain_of rest b) → lookup (same_instance k) fs ≡ None
+    open_before k h = q.open_ones k (among_left k (keys_of ws) (i ∷ []) (inside k h))
 
-    pub settled : IsOrderly new rest (fs ++ (i, d) ∷ []) b f.demanded.kept.items
-    settled = record {
+    -- where it isn't put into what was found
+    pub risen : IsOrderly new rest fs b f.demanded.kept.items
+    risen = record {
       distinct = subst Distinct keys last_apart.0;
-      open_ones = λ k h. lookup_other fs i k d (apart_from k h) (q.open_ones k (among_left k (keys_of ws) (i ∷ []) (inside k h)));
+      open_ones = open_before;
       unkept = λ k h. open_still entries new i v adds k (λ e. apart_from k h (sym e)) (q.unkept k (among_left k (keys_of ws) (i ∷ []) (inside k h)));
       waiting_kept = waiting_still entries new i v adds rest waiting.0;
-      found_kept = finds;
+      found_kept = λ k g e. kept_still entries new i v adds g.demanded.kept.items (q.found_kept k g e);
       last_kept = kept_still entries new i v adds f.demanded.kept.items waiting.1;
     }
+
+    module _ (d : Find) (same : AreKept entries d.demanded.kept.items) where
+      finds : FoundKept new (fs ++ (i, d) ∷ [])
+      finds k g e = elim (lookup_push fs i k d g e) [
+        | inl h ↦ risen.found_kept k g h
+        | inr h ↦ kept_still entries new i v adds g.demanded.kept.items (subst (λ (x : Find). AreKept entries x.demanded.kept.items) h.1 same)
+      ]
+
+      pub settled : IsOrderly new rest (fs ++ (i, d) ∷ []) b f.demanded.kept.items
+      settled = record {
+        distinct = risen.distinct;
+        open_ones = λ k h. lookup_other fs i k d (apart_from k h) (open_before k h);
+        unkept = risen.unkept;
+        waiting_kept = risen.waiting_kept;
+        found_kept = finds;
+        last_kept = risen.last_kept;
+      }
+
+-- one more that is kept
+kept_more : (entries : Entries) (ks : List (Instance ℕ)) (i : Instance ℕ) → AreKept entries ks → IsSome (entries i) → AreKept entries (ks ++ i ∷ [])
+kept_more entries ks i all some u h = elim (Contains-push_cases ks i u h) [ inl before ↦ all u before | inr same ↦ subst (λ x. IsSome (entries x)) same some ]
 
 -- what is kept of one list and of another is kept of both
 pub kept_append : (entries : Entries) (ks ls : List (Instance ℕ)) → AreKept entries ks → AreKept entries ls → AreKept entries (ks ++ ls)
@@ -141,39 +159,57 @@ begun entries ws fs i asked ks alone nothing same fresh none = moved entries [] 
     nothing_found : (f : Find) → ◌≡◌ {A = Option Find} None (Some f) → ⊥
     nothing_found f e = absurd cc
 
-further : (m n m' n' : ℕ) → m' ≡ m → n' ≡ suc n → 2 * m + n < 2 * m' + n'
-further m n m' n' a b = omega (arith, a, b)
+further : (m k n m' k' n' : ℕ) → m' ≡ m → k' ≡ k → n' ≡ suc n → 2 * (m + k) + n < 2 * (m' + k') + n'
+further m k n m' k' n' a b c = omega (arith, a, b, c)
 
-further_found : (m n m' n' : ℕ) → m' ≡ suc m → n ≡ suc n' → 2 * m + n < 2 * m' + n'
-further_found m n m' n' a b = omega (arith, a, b)
+further_found : (m k n m' k' n' : ℕ) → m' ≡ suc m → k' ≡ k → n ≡ suc n' → 2 * (m + k) + n < 2 * (m' + k') + n'
+further_found m k n m' k' n' a b c = omega (arith, a, b, c)
 
-few : (m n : ℕ) → m < 2 ^ 64 → n < 2 ^ 64 → 2 * m + n < 2 ^ 66
-few m n a b = omega (arith, a, b)
+further_kept : (m k n m' k' n' : ℕ) → m' ≡ m → k' ≡ k + 1 → n ≡ suc n' → 2 * (m + k) + n < 2 * (m' + k') + n'
+further_kept m k n m' k' n' a b c = omega (arith, a, b, c)
+
+few : (m k n : ℕ) → m < 2 ^ 64 → k < 2 ^ 64 → n < 2 ^ 64 → 2 * (m + k) + n < 2 ^ 67
+few m k n a b c = omega (arith, a, b, c)
 
 pub deepens : (entries : Entries) (old new : Evaluation) (j : Instance ℕ) → IsOrderlyIn entries old → lookup (same_instance j) old.found.entries ≡ None → entries j ≡ None → (Among j (chain_of old.waiting.entries old.inst) → ⊥) →
-    new.waiting.entries ≡ insert_entry same_instance old.waiting.entries old.inst old.frame → new.found.entries ≡ old.found.entries → new.inst ≡ j → new.frame.demanded.kept.items ≡ [] →
-    length new.waiting.entries < 2 ^ 64 → length new.found.entries < 2 ^ 64 → GoesOn entries (progress old) new
-deepens entries old new j q found kept fresh waiting same last none a b =
+    new.waiting.entries ≡ insert_entry same_instance old.waiting.entries old.inst old.frame → new.found.entries ≡ old.found.entries → new.kept ≡ old.kept → new.inst ≡ j → new.frame.demanded.kept.items ≡ [] →
+    length new.waiting.entries < 2 ^ 64 → length new.found.entries < 2 ^ 64 → new.kept < 2 ^ 64 → GoesOn entries (progress old) new
+deepens entries old new j q found kept fresh waiting same counted last none a b c =
     let ws = old.waiting.entries in
     let fs = old.found.entries in
     let goes = waiting ∙ waits_last entries ws fs old.inst _ q old.frame in
     record {
       orderly = moved entries _ _ _ _ _ _ _ _ (descended entries ws fs old.inst _ q j old.frame found kept fresh q.last_kept) (sym goes) (sym same) (sym last) (sym none);
-      further = further (length fs) (length ws) (length new.found.entries) (length new.waiting.entries) (ap length same) (ap length goes ∙ length_push ws (old.inst, old.frame));
-      few = few (length new.found.entries) (length new.waiting.entries) b a;
+      further = further (length fs) old.kept (length ws) (length new.found.entries) new.kept (length new.waiting.entries) (ap length same) counted (ap length goes ∙ length_push ws (old.inst, old.frame));
+      few = few (length new.found.entries) new.kept (length new.waiting.entries) b c a;
     }
 
 pub settles : (entries more : Entries) (old new : Evaluation) (v : Value ℕ) → IsOrderlyIn entries old → MayAdd entries more old.inst v → (b : Instance ℕ) (f : Frame) (d : Find) →
-    old.waiting.entries ≡ new.waiting.entries ++ (b, f) ∷ [] → AreKept entries d.demanded.kept.items → new.found.entries ≡ insert_entry same_instance old.found.entries old.inst d → new.inst ≡ b → new.frame ≡ f →
-    length new.waiting.entries < 2 ^ 64 → length new.found.entries < 2 ^ 64 → GoesOn more (progress old) new
-settles entries more old new v q adds b f d waiting kept found last same few_wait few_found =
+    old.waiting.entries ≡ new.waiting.entries ++ (b, f) ∷ [] → AreKept entries d.demanded.kept.items → new.found.entries ≡ insert_entry same_instance old.found.entries old.inst d → new.kept ≡ old.kept → new.inst ≡ b → new.frame ≡ f →
+    length new.waiting.entries < 2 ^ 64 → length new.found.entries < 2 ^ 64 → new.kept < 2 ^ 64 → GoesOn more (progress old) new
+settles entries more old new v q adds b f d waiting kept found counted last same few_wait few_found few_kept =
     let ws = old.waiting.entries in
     let fs = old.found.entries in
     let goes = found ∙ found_last entries ws fs old.inst _ q d in
     record {
       orderly = moved more _ _ _ _ _ _ _ _ (settled entries ws fs old.inst _ q more v adds b f new.waiting.entries waiting d kept) refl (sym goes) (sym last) (sym (ap (λ (x : Frame). x.demanded.kept.items) same));
-      further = further_found (length fs) (length ws) (length new.found.entries) (length new.waiting.entries) (ap length goes ∙ length_push fs (old.inst, d)) (ap length waiting ∙ length_push new.waiting.entries (b, f));
-      few = few (length new.found.entries) (length new.waiting.entries) few_found few_wait;
+      further = further_found (length fs) old.kept (length ws) (length new.found.entries) new.kept (length new.waiting.entries) (ap length goes ∙ length_push fs (old.inst, d)) counted (ap length waiting ∙ length_push new.waiting.entries (b, f));
+      few = few (length new.found.entries) new.kept (length new.waiting.entries) few_found few_kept few_wait;
+    }
+
+-- the last one came to be kept, and the one that waited for it took it
+pub passes : (entries more : Entries) (old new : Evaluation) (v : Value ℕ) (f : Frame) → IsOrderlyIn entries old → MayAdd entries more old.inst v → IsSome (more old.inst) → old.waiting.entries ≡ new.waiting.entries ++ (new.inst, f) ∷ [] →
+    new.frame.demanded.kept.items ≡ f.demanded.kept.items ++ old.inst ∷ [] → new.found.entries ≡ old.found.entries → new.kept ≡ old.kept + 1 → length new.waiting.entries < 2 ^ 64 → length new.found.entries < 2 ^ 64 → new.kept < 2 ^ 64 → GoesOn more (progress old) new
+passes entries more old new v f q adds some waiting took found counted few_wait few_found few_kept =
+    let ws = old.waiting.entries in
+    let fs = old.found.entries in
+    let up = risen entries ws fs old.inst _ q more v adds new.inst f new.waiting.entries waiting in
+    let P : List (Instance ℕ × Find) → Type 0 = λ x. IsOrderly more new.waiting.entries x new.inst new.frame.demanded.kept.items in
+    let there : P fs = record { distinct = up.distinct; open_ones = up.open_ones; unkept = up.unkept; waiting_kept = up.waiting_kept; found_kept = up.found_kept; last_kept = subst (AreKept more) (sym took) (kept_more more f.demanded.kept.items old.inst up.last_kept some) } in
+    record {
+      orderly = subst P (sym found) there;
+      further = further_kept (length fs) old.kept (length ws) (length new.found.entries) new.kept (length new.waiting.entries) (ap length found) counted (ap length waiting ∙ length_push new.waiting.entries (new.inst, f));
+      few = few (length new.found.entries) new.kept (length new.waiting.entries) few_found few_kept few_wait;
     }
 
 -- what isn't known is neither kept nor found
@@ -187,15 +223,3 @@ neither entries found j e = by (entries j) refl e
     by : (o : Option Kept) → entries j ≡ o → ◌≡◌ {A = Option (Value ℕ)} (elim (option_map (λ (k : Kept). k.value) o) [ Some v ↦ Some v | None ↦ found_values found j ]) None → (entries j ≡ None) × (lookup (same_instance j) found ≡ None)
     by None is e = (is, no_find (lookup (same_instance j) found) e)
     by (Some k) is e = absurd cc
-
-pub may_add : (exact : Bool) (old new : Entries) (i : Instance ℕ) (v : Value ℕ) (reads : List (Location ℕ)) (uses : List (Instance ℕ)) → MayPut exact old i v reads uses new → MayAdd old new i v
-may_add exact old new i v reads uses (inl p) j = inl (p.1 j)
-may_add exact old new i v reads uses (inr p) j = by (same_instance i j) refl (p.adds j)
-  where
-    by : (b : Bool) → same_instance i j ≡ b → new j ≡ (if b then Some p.entry else old j) → (new j ≡ old j) ⊎ ((i ≡ j) × (kept_values new j ≡ Some v))
-    by true s e = inr (same_true i j s, ap (option_map (λ (k : Kept). k.value)) e ∙ ap Some p.value)
-    by false s e = inl e
-
-pub put_adds : {E : Type 0} (exact : Bool) (old new : Entries) (i : Instance ℕ) (v : Value ℕ) (reads : List (Location ℕ)) (uses : List (Instance ℕ)) (r : Result (Unit {0}) E) → OnOk r (MayPut exact old i v reads uses new) → OnErr r (KeepsAll old new) → MayAdd old new i v
-put_adds exact old new i v reads uses (Ok u) puts err = may_add exact old new i v reads uses puts
-put_adds exact old new i v reads uses (Err e) puts err = λ j. inl (err j)

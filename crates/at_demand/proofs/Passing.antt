@@ -101,7 +101,7 @@ module _ (rules : Rules) (look : Contents ℕ) where
   passed_push found [] i j f all one = (one, tt)
   passed_push found (e ∷ es) i j f all one = (subst (λ x. HasPassed rules look found e.0 e.1 (Demands x (resumed rules.classes e.1.trial))) (sym (first_push es i j f)) all.0, passed_push found es i j f all.1 one)
 
-  passed_pop : (found : List (Instance ℕ × Find)) (es : List (Instance ℕ × Frame)) (i j : Instance ℕ) (f : Frame) → HavePassed rules look found (es ++ (i, f) ∷ []) j → HavePassed rules look found es i × HasPassed rules look found i f (Demands j (resumed rules.classes f.trial))
+  pub passed_pop : (found : List (Instance ℕ × Find)) (es : List (Instance ℕ × Frame)) (i j : Instance ℕ) (f : Frame) → HavePassed rules look found (es ++ (i, f) ∷ []) j → HavePassed rules look found es i × HasPassed rules look found i f (Demands j (resumed rules.classes f.trial))
   passed_pop found [] i j f all = (tt, all.0)
   passed_pop found (e ∷ es) i j f all =
       let r = passed_pop found es i j f all.1 in

@@ -1,5 +1,5 @@
 -- What is known of an instance once it is recalled.
-use Rattle.std.proofs.Common.{◌≡◌, ℕ, List, [], ◌∷◌, ◌++◌, Option, Some, None, inl, inr, sym, ap, ◌∙◌, subst, IsSome}
+use Rattle.std.proofs.Common.{◌≡◌, ℕ, List, [], ◌∷◌, ◌++◌, Option, Some, None, inl, inr, refl, sym, ap, ◌∙◌, subst, length, arith, IsSome}
 use Rattle.std.specs.Map.{lookup}
 use Rattle.std.specs.Option.{option_map}
 use Rattle.std.proofs.lemmas.List.Elements.{Contains-push_cases}
@@ -26,6 +26,11 @@ module _ (entries : Entries) (found : List (Instance ℕ × Find)) (i : Instance
   -- no value, where none is kept and none was found
   pub unknown : None ≡ kept_values entries i → None ≡ lookup (same_instance i) found → known_in entries found i ≡ None
   unknown none gone = ap or_found (sym none) ∙ ap (option_map (λ (x : Find). value_view x.value)) (sym gone)
+
+-- none was found where nothing was
+pub none_found : (found : List (Instance ℕ × Find)) (i : Instance ℕ) → length found ≡ 0 → ◌≡◌ {A = Option Find} None (lookup (same_instance i) found)
+none_found [] i e = refl
+none_found (f ∷ fs) i e = absurd (omega (arith, e))
 
 -- one more instance with a kept value
 pub kept_push : (entries : Entries) (old new : List (Instance ℕ)) (i : Instance ℕ) (v : Value ℕ) → AreKept entries old → new ≡ old ++ i ∷ [] → Some v ≡ kept_values entries i → AreKept entries new

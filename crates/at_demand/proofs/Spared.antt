@@ -1,5 +1,5 @@
 -- Over an edit that is done, an exact keeper has just what rests on nothing that the edit touches, and that is spare.
-use Rattle.std.proofs.Common.{◌≡◌, ℕ, true, Some, Ok, ap}
+use Rattle.std.proofs.Common.{◌≡◌, true, Ok, ap}
 use Rattle.std.specs.Option.{option_map}
 use Rattle.at_model.specs.Trees.{Tree, conforms}
 use Rattle.at_model.specs.Rules.{Rules}

@@ -1,50 +1,28 @@
 -- A question stays sparing while it goes on.
-use Rattle.std.proofs.Common.{◌≡◌, ◌⊎◌, ℕ, Bool, true, false, List, [], ◌∷◌, ◌++◌, map, slice_get, Option, Some, None, OnOk, OnErr, Ok, Err, inl, inr, refl, sym, ap, ◌∙◌, subst, if◌then◌else◌, true≢false}
-use Rattle.std.specs.Prelude.{IsSome, IsTrue, Result}
+use Rattle.std.proofs.Common.{◌≡◌, ℕ, Bool, true, List, [], ◌∷◌, ◌++◌, map, slice_get, Some, refl, sym, ap, ◌∙◌, subst}
+use Rattle.std.specs.Prelude.{IsSome}
 use Rattle.indexmap.specs.IndexMap.{insert_entry}
-use Rattle.at_model.specs.Run.{Value, Instance, Location, Contents}
+use Rattle.at_model.specs.Run.{Instance, Contents}
 use Rattle.at_model.specs.Rules.{Rules, is_lazy}
 use Rattle.at_model.specs.Meaning.{Among, Leads}
 use Rattle.at_store.specs.Located.{loc_view}
 use Rattle.at_body.specs.Same.{same_instance}
 use Rattle.at_body.specs.declared.value.Value.{Value as ValueCode}
-use Rattle.at_body.specs.declared.trial.Step.{Step}
 use Rattle.at_body.specs.declared.trial.Step.TheVariants as step
-use Rattle.at_cache.specs.Kept.{Kept, Entries, AreKept, KeepsAll, MayPut}
+use Rattle.at_cache.specs.Kept.{Entries}
 use Rattle.at_demand.specs.declared.evaluation.Demanded.{Demanded}
 use Rattle.at_demand.specs.declared.evaluation.Find.{Find}
 use Rattle.at_demand.specs.declared.evaluation.Frame.{Frame}
 use Rattle.at_demand.specs.declared.evaluation.Evaluation.{Evaluation}
 use Rattle.at_demand.specs.Known.{meaning}
 use Rattle.at_demand.specs.UnderWay.{first_of, IsTrueIn, IsOrderlyIn}
-use Rattle.at_demand.specs.Covering.{AreWhole, IsWhole, IsCoveringIn, Extends}
+use Rattle.at_demand.specs.Covering.{IsWhole, IsCoveringIn, Extends}
 use Rattle.at_demand.specs.Only.{TakesOnly, TakeOnly, IsLean, AreLean}
-use Rattle.at_demand.specs.Sparing.{AreOnly, IsDeep, AreSpare, HasWorthy, MayAddLazy, IsSettled, AreSettled, IsSparing}
-use Rattle.at_demand.proofs.Sameness.{same_true, same_refl}
+use Rattle.at_demand.specs.Sparing.{AreOnly, AreSpare, HasWorthy, MayAddLazy, AreSettled, IsSparing}
 use Rattle.at_demand.proofs.Orderly.{waits_last, found_last}
 use Rattle.at_demand.proofs.Passing.{whole}
 use Rattle.at_demand.proofs.Only.{takes_none, lean, lean_push, take_push, take_pop, take_more, takes_more}
-use Rattle.at_demand.proofs.Gaining.{IsLazy, is_kept, lazy_more, all_below, deep_more, settled_push}
-
--- what is put is lazy, and at Ok an exact keeper has it
-may_add_lazy : (rules : Rules) (exact : Bool) (old new : Entries) (i : Instance ℕ) (v : Value ℕ) (reads : List (Location ℕ)) (uses : List (Instance ℕ)) → is_lazy rules i.attribute ≡ true → MayPut exact old i v reads uses new → MayAddLazy rules old new i
-may_add_lazy rules exact old new i v reads uses lazy (inl p) j = inl (p.1 j)
-may_add_lazy rules exact old new i v reads uses lazy (inr p) j = by (same_instance i j) refl (p.adds j)
-  where
-    by : (b : Bool) → same_instance i j ≡ b → new j ≡ (if b then Some p.entry else old j) → (new j ≡ old j) ⊎ ((i ≡ j) × IsSome (new j) × (is_lazy rules i.attribute ≡ true))
-    by true s e = inr (same_true i j s, subst IsSome (sym e) refl, lazy)
-    by false s e = inl e
-
--- as the copy of its instance is
-pub put_lazy : {E : Type 0} (rules : Rules) (exact : Bool) (old new : Entries) (i j : Instance ℕ) (v : Value ℕ) (reads : List (Location ℕ)) (uses : List (Instance ℕ)) (r : Result (Unit {0}) E) → j ≡ i → is_lazy rules i.attribute ≡ true →
-    OnOk r (MayPut exact old j v reads uses new) → OnErr r (KeepsAll old new) → MayAddLazy rules old new i
-put_lazy rules exact old new i j v reads uses (Ok u) same lazy puts err =
-    subst (λ (x : Instance ℕ). MayAddLazy rules old new x) same (may_add_lazy rules exact old new j v reads uses (subst (λ (x : Instance ℕ). is_lazy rules x.attribute ≡ true) (sym same) lazy) puts)
-put_lazy rules exact old new i j v reads uses (Err e) same lazy puts err = λ k. inl (err k)
-
-pub put_keeps : (exact : Bool) (old new : Entries) (i j : Instance ℕ) (v : Value ℕ) (reads : List (Location ℕ)) (uses : List (Instance ℕ)) → j ≡ i → IsTrue exact → MayPut exact old j v reads uses new → IsSome (new i)
-put_keeps exact old new i j v reads uses same is (inl p) = absurd (true≢false (sym is ∙ p.0))
-put_keeps exact old new i j v reads uses same is (inr p) = subst (λ (x : Instance ℕ). IsSome (new x)) same (subst IsSome (sym (p.adds j ∙ ap (λ (b : Bool). if b then Some p.entry else old j) (same_refl j))) refl)
+use Rattle.at_demand.proofs.Gaining.{is_kept, lazy_more, all_below, deep_more, settled_push}
 
 -- what the rules say of the instance's attribute
 pub told_lazy : (rules : Rules) (said is : Bool) (attribute at : ℕ) → said ≡ is_lazy rules attribute → attribute ≡ at → said ≡ is → is_lazy rules at ≡ is

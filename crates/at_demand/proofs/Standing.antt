@@ -106,7 +106,7 @@ module _ (rules : Rules) (s : Shown) (entries more : Entries) (grown : (i : Inst
       }
 
   -- or is kept
-  pub stands_passed : (new : Question) (v : ValueCode) → kept_values entries old.inst ≡ Some (value_view v) → (o : Option AnswerCode) → HasPassedOn old v new o →
+  pub stands_passed : (new : Question) (v : ValueCode) → kept_values more old.inst ≡ Some (value_view v) → (o : Option AnswerCode) → HasPassedOn old v new o →
       Turned (contents s) (meaning rules) (kept_values entries) (under_way old) (under_way new) (option_map answer_view o) → IsStanding rules s more new
   stands_passed new v kept (Some a) r turned = stands_as new r.same r.found r.passed
   stands_passed new v kept None r turned =
@@ -115,10 +115,10 @@ module _ (rules : Rules) (s : Shown) (entries more : Entries) (grown : (i : Inst
         on = on_next (under_way new) None turned;
         typed = fewer (chain (under_way new)) (last_two old.waiting.entries new.waiting.entries new.inst r.waits);
         kept = subst (λ fs. FoundKept more fs) (sym r.found) (λ i f e. kept_found entries more grown f.demanded.kept.items (st.kept i f e));
-        passed = λ i w a. still_kept i w (elim (pushed old.passed.entries i w (subst (λ ps. Among (i, w) (passed_of ps)) goes a)) [
-          | inl b ↦ st.passed i w b
-          | inr e ↦ subst (λ (p : Instance ℕ × Value ℕ). kept_values entries p.0 ≡ Some p.1) (sym e) kept
-        ]);
+        passed = λ i w a. elim (pushed old.passed.entries i w (subst (λ ps. Among (i, w) (passed_of ps)) goes a)) [
+          | inl b ↦ still_kept i w (st.passed i w b)
+          | inr e ↦ subst (λ (p : Instance ℕ × Value ℕ). kept_values more p.0 ≡ Some p.1) (sym e) kept
+        ];
         whole = subst (AreWhole rules (contents s)) (sym r.found) st.whole;
       }
     where

@@ -1,10 +1,10 @@
 -- Of what is kept spare, an edit leaves just what rests on nothing that it touches, and that is spare.
-use Rattle.std.proofs.Common.{◌≡◌, ◌⊎◌, ◌↔◌, ℕ, Bool, true, false, Option, Some, None, inl, inr, refl, sym, ap, ◌∙◌, subst, true≢false}
+use Rattle.std.proofs.Common.{◌≡◌, ◌↔◌, ℕ, Bool, true, false, Option, Some, None, inl, inr, refl, sym, ◌∙◌, subst, true≢false}
 use Rattle.std.specs.Prelude.{IsSome}
 use Rattle.at_model.specs.Trees.{Tree}
 use Rattle.at_model.specs.Paths.{Node}
 use Rattle.at_model.specs.Run.{Instance, Location, Contents}
-use Rattle.at_model.specs.Rules.{Rules, is_lazy}
+use Rattle.at_model.specs.Rules.{Rules}
 use Rattle.at_model.specs.Meaning.{HasValue, Leads}
 use Rattle.at_model.specs.Support.{Supports}
 use Rattle.at_model.specs.Alike.{InstanceLike, LocationLike, Names, IsInjective}

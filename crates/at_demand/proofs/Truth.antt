@@ -47,7 +47,7 @@ module _ (rules : Rules) (look : Contents ℕ) where
       by None is f = also j v f
       by (Some w) is f = kept j v (is ∙ f)
 
-  value_of : (i : Instance ℕ) (t : Trial) (v : ValueCode) → HasStepped rules look i t (step.Value v) → HasValue look (meaning rules) i (value_view v)
+  pub value_of : (i : Instance ℕ) (t : Trial) (v : ValueCode) → HasStepped rules look i t (step.Value v) → HasValue look (meaning rules) i (value_view v)
   value_of i t v (js, past) = has_value look (meaning rules) i (value_view v) js t.reads past
 
   adds_right : (old new : Entries) (i : Instance ℕ) (v : Value ℕ) → MayAdd old new i v → HasValue look (meaning rules) i v → Right look (meaning rules) (kept_values old) → Right look (meaning rules) (kept_values new)

@@ -1,12 +1,12 @@
 -- One turn of a question, as its code has it, is a turn.
-use Rattle.std.proofs.Common.{◌≡◌, ◌⊎◌, ℕ, zero, suc, List, [], ◌∷◌, ◌++◌, slice_get, Option, Some, None, inl, inr, refl, sym, ap, ◌∙◌, subst, append_assoc, append-nil}
+use Rattle.std.proofs.Common.{◌≡◌, ℕ, zero, suc, List, [], ◌∷◌, ◌++◌, slice_get, Option, Some, None, inl, inr, refl, sym, ap, ◌∙◌, subst, append_assoc, append-nil}
 use Rattle.std.specs.Prelude.{IsSome}
 use Rattle.std.specs.Map.{keys_of}
 use Rattle.std.specs.Option.{option_map}
 use Rattle.indexmap.specs.IndexMap.{insert_entry}
 use Rattle.at_model.specs.Run.{Value, Instance, Contents}
 use Rattle.at_model.specs.Rules.{Rules}
-use Rattle.at_model.specs.Meaning.{Among, Comes, Distinct, Faults, Holds, Right}
+use Rattle.at_model.specs.Meaning.{Among, Comes, Distinct, Faults, HasValue, Holds, Right}
 use Rattle.at_model.specs.Turning.{UnderWay, Turned, is_kept, finds, faults, closes, deepens, ascends, IsOneMore, between, IsKnown, asked, chain, keys}
 use Rattle.at_model.proofs.Bounded.{keys_both}
 use Rattle.at_model.proofs.Listed.{among_left, among_right}
@@ -117,6 +117,9 @@ module _ (rules : Rules) (s : Shown) (entries more : Entries) (old : Question) (
       let there : IsOneMore (old.inst, value_view v) (whole ++ []) (whole ++ (old.inst, value_view v) ∷ []) = between whole [] in
       subst (IsOneMore (old.inst, value_view v) whole) (sym is) (subst (λ xs. IsOneMore (old.inst, value_view v) xs (whole ++ (old.inst, value_view v) ∷ [])) (append-nil whole) there)
 
+  has_value : (v : ValueCode) (d : Find) → d.value ≡ v → HasFound rules (contents s) entries old.found.entries old.inst d → HasValue (contents s) (meaning rules) old.inst (value_view v)
+  has_value v d same has = subst (λ (w : ValueCode). HasValue (contents s) (meaning rules) old.inst (value_view w)) same has.value
+
   -- the turns, by what the code has come to
   pub settled_turn : (new : Question) (d : Find) → HasFound rules (contents s) entries old.found.entries old.inst d → (o : Option AnswerCode) → HasSettled old d new o → Next (under_way new) o
   settled_turn new d has None r =
@@ -130,6 +133,14 @@ module _ (rules : Rules) (s : Shown) (entries more : Entries) (old : Question) (
       ascends (keys_of new.waiting.entries) new.inst (value_view v) (found_of new.found.entries ++ passed_of new.passed.entries) (last_two old.waiting.entries new.waiting.entries new.inst r.waits) (right old.inst (value_view v) kept) (inl kept) (one_passed new v r.found r.passed)
   passed_turn new v right kept (Some a) r =
       let there : Next here (Some (answer.Value v)) = finds (value_view v) (ap keys_of r.alone) (right old.inst (value_view v) kept) (inl kept) in
+      subst (λ u. Next u (Some a)) (sym r.same) (subst (λ b. Next here (Some b)) (sym r.is) there)
+
+  -- what was found came to be kept
+  pub gained_turn : (new : Question) (v : ValueCode) (d : Find) → d.value ≡ v → HasFound rules (contents s) entries old.found.entries old.inst d → (o : Option AnswerCode) → HasPassedOn old v new o → Next (under_way new) o
+  gained_turn new v d same has None r =
+      ascends (keys_of new.waiting.entries) new.inst (value_view v) (found_of new.found.entries ++ passed_of new.passed.entries) (last_two old.waiting.entries new.waiting.entries new.inst r.waits) (has_value v d same has) (inr (ready d has)) (one_passed new v r.found r.passed)
+  gained_turn new v d same has (Some a) r =
+      let there : Next here (Some (answer.Value v)) = finds (value_view v) (ap keys_of r.alone) (has_value v d same has) (inr (ready d has)) in
       subst (λ u. Next u (Some a)) (sym r.same) (subst (λ b. Next here (Some b)) (sym r.is) there)
 
   pub failed_turn : (k : FaultCode) (at : Instance ℕ) → at ≡ old.inst → Holds (contents s) (meaning rules) old.inst (Faults (fault_view k) old.inst) → Next here (Some (answer.Fault k at))

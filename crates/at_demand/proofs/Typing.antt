@@ -28,7 +28,7 @@ module _ (rules : Rules) (at : ClassAt ℕ) where
   typed_push [] i j f all one = (one, tt)
   typed_push (e ∷ es) i j f all one = (subst (λ x. trial.WaitsFor rules at e.1.trial x) (sym (first_push es i j f)) all.0, typed_push es i j f all.1 one)
 
-  typed_pop : (es : List (Instance ℕ × Frame)) (i j : Instance ℕ) (f : Frame) → AreTypedWaiting rules at (es ++ (i, f) ∷ []) j → AreTypedWaiting rules at es i × trial.WaitsFor rules at f.trial j
+  pub typed_pop : (es : List (Instance ℕ × Frame)) (i j : Instance ℕ) (f : Frame) → AreTypedWaiting rules at (es ++ (i, f) ∷ []) j → AreTypedWaiting rules at es i × trial.WaitsFor rules at f.trial j
   typed_pop [] i j f all = (tt, all.0)
   typed_pop (e ∷ es) i j f all =
       let r = typed_pop es i j f all.1 in

@@ -1,5 +1,5 @@
 -- What one try of an instance comes to.
-use Rattle.std.specs.Prelude.{◌≡◌, ℕ, List, [], ◌∷◌, ◌++◌, None}
+use Rattle.std.specs.Prelude.{◌≡◌, ℕ, List, [], ◌∷◌, ◌++◌, Some, None}
 use Rattle.std.specs.Map.{lookup}
 use Rattle.at_model.specs.Run.{Instance, Contents}
 use Rattle.at_model.specs.Rules.{Rules}
@@ -16,7 +16,7 @@ use Rattle.at_demand.specs.declared.evaluation.Find.{Find}
 use Rattle.at_demand.specs.declared.evaluation.Frame.{Frame}
 use Rattle.at_demand.specs.declared.trials.Attempt.{Attempt}
 use Rattle.at_demand.specs.declared.trials.Attempt.TheVariants as attempt
-use Rattle.at_demand.specs.Known.{meaning}
+use Rattle.at_demand.specs.Known.{kept_values, meaning}
 use Rattle.at_demand.specs.UnderWay.{HasStepped}
 use Rattle.at_demand.specs.Covering.{HasPassedTo, IsWhole}
 use Rattle.at_demand.specs.Only.{IsLean, TakesOnly}
@@ -33,6 +33,7 @@ pub record HasComeTo (rules : Rules) (at : ClassAt ℕ) (look : Contents ℕ) (e
 
 -- where it needs another instance, its trial waits for that
 abbrev pub Awaits : Rules → ClassAt ℕ → Contents ℕ → Entries → List (Instance ℕ × Find) → Instance ℕ → Frame → Attempt → Type 0
+Awaits rules at look entries found i f (attempt.Kept v) = Unit {0}
 Awaits rules at look entries found i f (attempt.Found d) = Unit {0}
 Awaits rules at look entries found i f (attempt.Fails kind) = Unit {0}
 Awaits rules at look entries found i f (attempt.Needs j) = HasComeTo rules at look entries found i f (step.Need j)
@@ -53,12 +54,21 @@ pub record HasNeeded (rules : Rules) (at : ClassAt ℕ) (look : Contents ℕ) (e
 
 -- what one try of an instance has come to
 abbrev pub HasTried : Rules → ClassAt ℕ → Contents ℕ → Entries → List (Instance ℕ × Find) → Instance ℕ → Attempt → Type 0
+HasTried rules at look entries found i (attempt.Kept v) = (f : Find) × (f.value ≡ v) × HasFound rules look entries found i f
 HasTried rules at look entries found i (attempt.Found f) = HasFound rules look entries found i f
 HasTried rules at look entries found i (attempt.Fails kind) = Holds look (meaning rules) i (Faults (fault_view kind) i)
 HasTried rules at look entries found i (attempt.Needs j) = HasNeeded rules at look entries found i j
 
 -- what was found of lazy attributes is kept, with the value of this one, where it was found
 abbrev pub SettlesOn : Rules → Entries → List (Instance ℕ × Find) → Instance ℕ → Attempt → Type 0
+SettlesOn rules entries found i (attempt.Kept v) = AreSettled rules entries found
 SettlesOn rules entries found i (attempt.Found f) = AreSettled rules entries (found ++ (i, f) ∷ [])
 SettlesOn rules entries found i (attempt.Fails kind) = AreSettled rules entries found
 SettlesOn rules entries found i (attempt.Needs j) = AreSettled rules entries found
+
+-- a value that is said to be kept is kept
+abbrev pub IsKeptAs : Entries → Instance ℕ → Attempt → Type 0
+IsKeptAs entries i (attempt.Kept v) = kept_values entries i ≡ Some (value_view v)
+IsKeptAs entries i (attempt.Found f) = Unit {0}
+IsKeptAs entries i (attempt.Fails kind) = Unit {0}
+IsKeptAs entries i (attempt.Needs j) = Unit {0}

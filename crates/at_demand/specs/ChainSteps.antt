@@ -1,5 +1,5 @@
 -- What the steps of a question's chain lead to.
-use Rattle.std.specs.Prelude.{◌≡◌, ℕ, List, [], ◌∷◌, ◌++◌, Option, Some, None}
+use Rattle.std.specs.Prelude.{◌≡◌, ℕ, [], ◌∷◌, ◌++◌, Option, Some, None}
 use Rattle.std.specs.Map.{keys_of}
 use Rattle.indexmap.specs.IndexMap.{insert_entry}
 use Rattle.at_model.specs.Run.{Instance}

@@ -12,3 +12,4 @@ pub mod Turns
 pub mod ChainSteps
 pub mod Attempts
 pub mod KeptTrials
+pub mod Keeping

@@ -5,7 +5,6 @@ use Rattle.at_model.specs.Run.{Value, Instance, Location, Contents}
 use Rattle.at_model.specs.Rules.{Rules, is_lazy}
 use Rattle.at_model.specs.Meaning.{HasValue, Leads, Among, Distinct}
 use Rattle.at_model.specs.Support.{Supports}
-use Rattle.at_body.specs.declared.trial.Step.{Step}
 use Rattle.at_cache.specs.Kept.{Kept, Entries}
 use Rattle.at_demand.specs.declared.evaluation.Find.{Find}
 use Rattle.at_demand.specs.declared.evaluation.Evaluation.{Evaluation}

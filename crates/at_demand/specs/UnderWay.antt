@@ -3,11 +3,15 @@ use Rattle.std.specs.Prelude.{◌≡◌, ℕ, ◌+◌, ◌*◌, ◌<◌, ◌^◌
 use Rattle.std.specs.Map.{keys_of, lookup}
 use Rattle.indexmap.specs.IndexMap.{insert_entry}
 use Rattle.at_model.specs.Run.{Value, Instance, Contents, Run, Gives, Fails, Demands, Known}
-use Rattle.at_model.specs.Follow.{Reached, Ends, Stops, Waits, Past}
+use Rattle.at_model.specs.Follow.{follow, Reached, Ends, Stops, Waits, Past}
 use Rattle.at_model.specs.Rules.{Rules}
 use Rattle.at_model.specs.Meaning.{HasValue, Right, Among, Distinct, Answers}
+use Rattle.at_store.specs.Shown.{Shown, contents}
 use Rattle.at_body.specs.Same.{same_instance}
+use Rattle.at_body.specs.Typed.{IsTypedStep, class_shown}
+use Rattle.at_body.specs.Values.{value_view}
 use Rattle.at_body.specs.Rest.{reached, resumed}
+use Rattle.at_body.specs.declared.value.Value.{Value as ValueCode}
 use Rattle.at_body.specs.declared.trial.Step.{Step}
 use Rattle.at_body.specs.declared.trial.Step.TheVariants as step
 use Rattle.at_body.specs.declared.trial.Trial.{Trial}
@@ -65,15 +69,15 @@ pub record IsOrderly (entries : Entries) (waiting : List (Instance ℕ × Frame)
 abbrev pub IsOrderlyIn : Entries → Evaluation → Type 0
 IsOrderlyIn entries q = IsOrderly entries q.waiting.entries q.found.entries q.inst q.frame.demanded.kept.items
 
--- how far a question has come: an instance counts once when it waits, and twice when it is found
+-- how far a question has come: an instance counts once when it waits, and twice when it is found or came to be kept
 abbrev pub progress : Evaluation → ℕ
-progress q = 2 * length q.found.entries + length q.waiting.entries
+progress q = 2 * (length q.found.entries + q.kept) + length q.waiting.entries
 
 -- the question goes on, further than it was
 pub record GoesOn (entries : Entries) (done : ℕ) (new : Evaluation) : Type 0 where
   pub orderly : IsOrderlyIn entries new
   pub further : done < progress new
-  pub few : progress new < 2 ^ 66
+  pub few : progress new < 2 ^ 67
 
 abbrev pub IsAdvance : Entries → (old new : Evaluation) → Advance → Type 0
 IsAdvance entries old new (advance.GoesOn s) = GoesOn entries (progress old) new
@@ -87,12 +91,38 @@ pub record IsAscended (waiting : List (Instance ℕ × Frame)) (found : List (In
   pub needs : s ≡ step.Need i
   pub few : length new.waiting.entries < 2 ^ 64
   pub finds : length new.found.entries < 2 ^ 64
+  pub counts : new.kept < 2 ^ 64
 
 -- so it is, or none waited, and its value is the answer
 abbrev pub HasAscended : Evaluation → Find → Evaluation → Advance → Type 0
-HasAscended old find new (advance.GoesOn s) = IsAscended old.waiting.entries old.found.entries old.inst find new s
+HasAscended old find new (advance.GoesOn s) = IsAscended old.waiting.entries old.found.entries old.inst find new s × (new.kept ≡ old.kept)
 HasAscended old find new (advance.Fails kind) = ⊥
 HasAscended old find new (advance.Answers a) = (old.waiting.entries ≡ []) × (a ≡ answer.Value find.value)
+
+-- A frame was told the value of i, which is kept, and has come to a step of the right kinds.
+pub record IsToldTo (rules : Rules) (s : Shown) (old new : Frame) (i : Instance ℕ) (v : ValueCode) (r : Step) : Type 0 where
+  pub kept : new.demanded.kept.items ≡ old.demanded.kept.items ++ i ∷ []
+  pub finds : new.demanded.finds.items ≡ old.demanded.finds.items
+  pub follows : follow (contents s) old.trial.reads (resumed rules.classes old.trial (value_view v)) ≡ (reached rules.classes r new.trial, new.trial.reads)
+  pub typed : IsTypedStep rules (class_shown s) r new.trial
+
+-- The last instance is off the chain as one more that came to be kept, and the one that waited for it is the last, and was told
+-- its value.
+pub record IsPassedBack (rules : Rules) (s : Shown) (waiting : List (Instance ℕ × Frame)) (found : List (Instance ℕ × Find)) (kept : ℕ) (i : Instance ℕ) (v : ValueCode) (new : Evaluation) (r : Step) : Type 0 where
+  pub waited : Frame
+  pub waits : waiting ≡ new.waiting.entries ++ (new.inst, waited) ∷ []
+  pub told : IsToldTo rules s waited new.frame i v r
+  pub same : new.found.entries ≡ found
+  pub counted : new.kept ≡ kept + 1
+  pub few : length new.waiting.entries < 2 ^ 64
+  pub finds : length new.found.entries < 2 ^ 64
+  pub counts : new.kept < 2 ^ 64
+
+-- so it is, or none waited, and this value is the answer
+abbrev pub HasPassedBack : Rules → Shown → Evaluation → ValueCode → Evaluation → Advance → Type 0
+HasPassedBack rules s old v new (advance.GoesOn r) = IsPassedBack rules s old.waiting.entries old.found.entries old.kept old.inst v new r
+HasPassedBack rules s old v new (advance.Fails kind) = ⊥
+HasPassedBack rules s old v new (advance.Answers a) = (old.waiting.entries ≡ []) × (a ≡ answer.Value v)
 
 -- The chain leads from what was asked by demands to the last instance, whose evaluation has come to this step; and what is
 -- kept and what was found holds.

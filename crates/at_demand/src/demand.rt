@@ -1,21 +1,23 @@
 //! Questions for the values of instances.
 
-ghost use Rattle.std.specs.Prelude.{◌≡◌, ◌<◌, ◌^◌, ℕ, true, IfOk, OnOk, IsSome, IsTrue, None};
+ghost use Rattle.std.specs.Prelude.{◌≡◌, ◌<◌, ◌^◌, ℕ, true, map, IfOk, OnErr, OnOk, IsSome, IsTrue, None};
 ghost use Rattle.std.specs.Map.{lookup};
 ghost use Rattle.at_model.specs.Run.{Contents, Instance};
 ghost use Rattle.at_model.specs.Instances.{AnyText};
-ghost use Rattle.at_model.specs.Meaning.{Answers as HasAnswer, Right};
-ghost use Rattle.at_model.specs.TypedRuns.{ClassAt, IsWellTyped};
+ghost use Rattle.at_model.specs.Meaning.{Answers as HasAnswer, HasValue, Right};
+ghost use Rattle.at_model.specs.TypedRuns.{IsWellTyped};
 ghost use Rattle.at_model.specs.WellFormed.{AreWellFormed, IsTreeSound};
 ghost use Rattle.at_body.specs.declared.trial.Step.TheVariants as step_code;
-ghost use Rattle.at_store.specs.Shown.{IsIdle, Shown, contents, tree};
+ghost use Rattle.at_store.specs.Located.{loc_view};
+ghost use Rattle.at_store.specs.Shown.{IsIdle, contents, tree};
 ghost use Rattle.at_body.specs.Same.{same_instance};
 ghost use Rattle.at_body.specs.Typed.{class_shown};
 ghost use Rattle.at_body.specs.Values.{value_view};
-ghost use Rattle.at_cache.specs.Kept.{AreKept, AreNamed, Entries, Answers as Says, LeavesUntouched, LosesTouched};
+ghost use Rattle.at_cache.specs.Kept.{AreKept, AreNamed, Entries, HasPut, KeepsAll, Answers as Says, LeavesUntouched, LosesTouched};
 ghost use Rattle.at_demand.specs.Known.{meaning, kept_values, known_in, answer_view, MayAdd, FoundKept};
+ghost use Rattle.at_demand.specs.Keeping.{Becomes, HasPlaced, HasPlacedAll};
 ghost use Rattle.at_demand.specs.Right.{AreRight, IsThere};
-ghost use Rattle.at_demand.specs.UnderWay.{IsOrderlyIn, IsTrueIn, IsAdvance, IsRightAdvance};
+ghost use Rattle.at_demand.specs.UnderWay.{HasStepped, IsOrderlyIn, IsTrueIn, IsAdvance, IsRightAdvance};
 ghost use Rattle.at_demand.specs.Typing.{AreTypedWaiting, IsTypedIn, IsTypedAdvance};
 ghost use Rattle.at_model.specs.Rules.{is_lazy};
 ghost use Rattle.at_demand.specs.Only.{AreLean, IsLean};
@@ -25,14 +27,15 @@ ghost use Rattle.at_demand.specs.Covering.{AreCovered, AreWhole, IsCoveringIn, I
 mod turning;
 
 use crate::answer::Answer;
-use crate::evaluation::{Advance, Evaluation, Find};
+use crate::evaluation::{Advance, Evaluation, Find, Settled};
 use crate::gathering::Sources;
 use at_body::{Inst, Step, Value};
-use at_cache::Keeper;
+use at_cache::{Keeper, Put};
 use at_rules::Rules;
 use at_store::{Loc, Places, Store};
 use indexmap::IndexMap;
 use std::alloc::{AllocError, Global};
+use std::mem;
 
 /// Answers questions, and keeps the values of lazy attributes.
 #[derive(Drop)]
@@ -160,6 +163,7 @@ impl<K: Keeper> Demand<K> {
         requires sound { IsTreeSound rules.now.classes (tree store.now) }
         requires right { Right (contents store.now) (meaning rules.now) (known_in (K.contents self.old.keeper) evaluation.old.found.entries) }
         requires typed { IsTypedIn rules.now (class_shown store.now) evaluation.old step }
+        requires stepped { HasStepped rules.now (contents store.now) evaluation.old.inst evaluation.old.frame.trial step }
         requires orderly { IsOrderlyIn (K.contents self.old.keeper) evaluation.old }
         ensures advance { IfOk result (IsAdvance (K.contents self.new.keeper) evaluation.old evaluation.new) }
         ensures typed { IfOk result (IsTypedAdvance rules.now (class_shown store.now) evaluation.new) }
@@ -181,7 +185,7 @@ impl<K: Keeper> Demand<K> {
             step,
         )?;
         match step {
-            Step::Value(value) => self.settle(rules, evaluation, value),
+            Step::Value(value) => self.settle(rules, store, evaluation, value),
             Step::Fault(kind) => Ok(Advance::Fails(kind)),
             Step::Need(needed) => self.deepen(rules, store, evaluation, needed),
         }
@@ -218,56 +222,124 @@ impl<K: Keeper> Demand<K> {
     // The last instance has this value.
     fn settle<'a>(
         &mut self,
-        rules: &Rules,
+        rules: &'a Rules,
+        store: &'a Store,
         evaluation: &mut Evaluation<'a>,
         value: Value,
     ) -> Result<Advance, AllocError>
+        requires idle { IsIdle store.now }
+        requires formed { AreWellFormed rules.now }
+        requires sound { IsTreeSound rules.now.classes (tree store.now) }
+        requires typed { AreTypedWaiting rules.now (class_shown store.now) evaluation.old.waiting.entries evaluation.old.inst }
+        requires has { HasValue (contents store.now) (meaning rules.now) evaluation.old.inst (value_view value) }
         requires orderly { IsOrderlyIn (K.contents self.old.keeper) evaluation.old }
         ensures advance { IfOk result (IsAdvance (K.contents self.new.keeper) evaluation.old evaluation.new) }
-        ensures typed { (at : ClassAt ℕ) → AreTypedWaiting rules.now at evaluation.old.waiting.entries evaluation.old.inst → IfOk result (IsTypedAdvance rules.now at evaluation.new) }
-        ensures answers { (look : Contents ℕ) (asked : Instance ℕ) → IsTrueIn rules.now look asked (K.contents self.old.keeper) evaluation.old (step_code.Value value) → IfOk result (IsRightAdvance rules.now look asked (K.contents self.new.keeper) evaluation.new) }
-        ensures right { (look : Contents ℕ) (asked : Instance ℕ) → IsTrueIn rules.now look asked (K.contents self.old.keeper) evaluation.old (step_code.Value value) → Right look (meaning rules.now) (kept_values (K.contents self.new.keeper)) }
-        ensures covering { (look : Contents ℕ) → IsCoveringIn rules.now look evaluation.old (step_code.Value value) → IfOk result (IsCoveringAdvance rules.now look evaluation.new) }
-        ensures stays { (s : Shown) (asked : Instance ℕ) → IsIdle s → IsThere s asked → IsTrueIn rules.now (contents s) asked (K.contents self.old.keeper) evaluation.old (step_code.Value value) → IsCoveringIn rules.now (contents s) evaluation.old (step_code.Value value) → AreRight rules.now s (K.contents self.old.keeper) → AreRight rules.now s (K.contents self.new.keeper) }
-        ensures worthy { (look : Contents ℕ) (asked : Instance ℕ) (first : Entries) → IsTrueIn rules.now look asked (K.contents self.old.keeper) evaluation.old (step_code.Value value) → AddsWorthy rules.now look asked first (K.contents self.old.keeper) → AddsWorthy rules.now look asked first (K.contents self.new.keeper) }
-        ensures sparing { (look : Contents ℕ) (asked : Instance ℕ) → IsTrue K.exact → IsTrueIn rules.now look asked (K.contents self.old.keeper) evaluation.old (step_code.Value value) → IsCoveringIn rules.now look evaluation.old (step_code.Value value) → IsSparing rules.now look (K.contents self.old.keeper) evaluation.old → IfOk result (IsSparingAdvance rules.now look asked (K.contents self.new.keeper) evaluation.new) }
-        ensures spare { (look : Contents ℕ) (asked : Instance ℕ) → IsTrue K.exact → IsTrueIn rules.now look asked (K.contents self.old.keeper) evaluation.old (step_code.Value value) → IsCoveringIn rules.now look evaluation.old (step_code.Value value) → IsSparing rules.now look (K.contents self.old.keeper) evaluation.old → AreSpare rules.now look (K.contents self.new.keeper) }
+        ensures typed { IfOk result (IsTypedAdvance rules.now (class_shown store.now) evaluation.new) }
+        ensures answers { (asked : Instance ℕ) → IsTrueIn rules.now (contents store.now) asked (K.contents self.old.keeper) evaluation.old (step_code.Value value) → IfOk result (IsRightAdvance rules.now (contents store.now) asked (K.contents self.new.keeper) evaluation.new) }
+        ensures right { (asked : Instance ℕ) → IsTrueIn rules.now (contents store.now) asked (K.contents self.old.keeper) evaluation.old (step_code.Value value) → Right (contents store.now) (meaning rules.now) (kept_values (K.contents self.new.keeper)) }
+        ensures covering { IsCoveringIn rules.now (contents store.now) evaluation.old (step_code.Value value) → IfOk result (IsCoveringAdvance rules.now (contents store.now) evaluation.new) }
+        ensures stays { (asked : Instance ℕ) → IsThere store.now asked → IsTrueIn rules.now (contents store.now) asked (K.contents self.old.keeper) evaluation.old (step_code.Value value) → IsCoveringIn rules.now (contents store.now) evaluation.old (step_code.Value value) → AreRight rules.now store.now (K.contents self.old.keeper) → AreRight rules.now store.now (K.contents self.new.keeper) }
+        ensures worthy { (asked : Instance ℕ) (first : Entries) → IsTrueIn rules.now (contents store.now) asked (K.contents self.old.keeper) evaluation.old (step_code.Value value) → AddsWorthy rules.now (contents store.now) asked first (K.contents self.old.keeper) → AddsWorthy rules.now (contents store.now) asked first (K.contents self.new.keeper) }
+        ensures sparing { (asked : Instance ℕ) → IsTrue K.exact → IsTrueIn rules.now (contents store.now) asked (K.contents self.old.keeper) evaluation.old (step_code.Value value) → IsCoveringIn rules.now (contents store.now) evaluation.old (step_code.Value value) → IsSparing rules.now (contents store.now) (K.contents self.old.keeper) evaluation.old → IfOk result (IsSparingAdvance rules.now (contents store.now) asked (K.contents self.new.keeper) evaluation.new) }
+        ensures spare { (asked : Instance ℕ) → IsTrue K.exact → IsTrueIn rules.now (contents store.now) asked (K.contents self.old.keeper) evaluation.old (step_code.Value value) → IsCoveringIn rules.now (contents store.now) evaluation.old (step_code.Value value) → IsSparing rules.now (contents store.now) (K.contents self.old.keeper) evaluation.old → AreSpare rules.now (contents store.now) (K.contents self.new.keeper) }
         ensures counts { IsTrue K.exact → self.old.work < 2 ^ 64 → Counts (K.contents self.old.keeper) (K.contents self.new.keeper) self.old.work self.new.work }
     {
-        let find = evaluation.frame.find(self.alloc, value)?;
-        self.keep(rules, &evaluation.found, &evaluation.inst, &find)?;
-        evaluation.ascend(self.alloc, find)
+        let find = evaluation.frame.find(self.alloc, value);
+        let settled = self.keep(rules, &evaluation.found, &evaluation.inst, find)?;
+        match settled {
+            Settled::Kept(value) => evaluation.pass(self.alloc, rules, store, value),
+            Settled::Found(find) => evaluation.ascend(self.alloc, find),
+        }
     }
 
-    // Keeps what was found of the instance, if its attribute is lazy.
+    // Keeps what was found of the instance, if its attribute is lazy, and says what became of it.
     fn keep(
         &mut self,
         rules: &Rules,
         found: &IndexMap<Inst, Find>,
         inst: &Inst,
-        find: &Find,
-    ) -> Result<(), AllocError>
+        find: Find,
+    ) -> Result<Settled, AllocError>
         requires absent { K.contents self.old.keeper inst.now ≡ None }
-        requires kept { AreKept (K.contents self.old.keeper) find.now.demanded.kept.items }
+        requires kept { AreKept (K.contents self.old.keeper) find.demanded.kept.items }
         requires found { FoundKept (K.contents self.old.keeper) found.now.entries }
-        ensures adds { MayAdd (K.contents self.old.keeper) (K.contents self.new.keeper) inst.now (value_view find.now.value) }
-        ensures covers { (look : Contents ℕ) → AreWhole rules.now look found.now.entries → IsWhole rules.now look found.now.entries inst.now find.now → AreCovered rules.now look (K.contents self.old.keeper) → AreCovered rules.now look (K.contents self.new.keeper) }
+        ensures adds { MayAdd (K.contents self.old.keeper) (K.contents self.new.keeper) inst.now (value_view find.value) }
+        ensures covers { (look : Contents ℕ) → AreWhole rules.now look found.now.entries → IsWhole rules.now look found.now.entries inst.now find → AreCovered rules.now look (K.contents self.old.keeper) → AreCovered rules.now look (K.contents self.new.keeper) }
         ensures lazy { MayAddLazy rules.now (K.contents self.old.keeper) (K.contents self.new.keeper) inst.now }
         ensures keeps { IsTrue K.exact → is_lazy rules.now inst.now.attribute ≡ true → OnOk result (IsSome (K.contents self.new.keeper inst.now)) }
-        ensures only { (look : Contents ℕ) → IsTrue K.exact → AreLean rules.now look found.now.entries → IsLean rules.now look found.now.entries inst.now find.now → AreOnly rules.now look (K.contents self.old.keeper) → AreOnly rules.now look (K.contents self.new.keeper) }
+        ensures only { (look : Contents ℕ) → IsTrue K.exact → AreLean rules.now look found.now.entries → IsLean rules.now look found.now.entries inst.now find → AreOnly rules.now look (K.contents self.old.keeper) → AreOnly rules.now look (K.contents self.new.keeper) }
         ensures counts { IsTrue K.exact → self.old.work < 2 ^ 64 → Counts (K.contents self.old.keeper) (K.contents self.new.keeper) self.old.work self.new.work }
+        ensures becomes { IfOk result (Becomes (K.contents self.new.keeper) inst.now find) }
     {
         if !rules.is_lazy(inst.attribute()) {
-            return Ok(());
+            return Ok(Settled::Found(find));
         }
-        let sources = Sources::of(self.alloc, found, find)?;
-        self.keeper.put(
-            inst.copy(self.alloc)?,
-            find.value.copy()?,
-            sources.reads.as_slice(),
-            sources.kept.as_slice(),
-        )?;
+        if find.demanded.finds.is_empty() {
+            return self.keep_alone(inst, find);
+        }
+        self.keep_with(found, inst, find)
+    }
+
+    // Keeps a find below which no other one stands, for its own reads and what it took of what is kept.
+    fn keep_alone(&mut self, inst: &Inst, mut find: Find) -> Result<Settled, AllocError>
+        requires absent { K.contents self.old.keeper inst.now ≡ None }
+        requires kept { AreKept (K.contents self.old.keeper) find.demanded.kept.items }
+        ensures placed { IfOk result (HasPlaced K.exact (K.contents self.old.keeper) inst.now find (map loc_view find.reads.items) find.demanded.kept.items (K.contents self.new.keeper)) }
+        ensures err { OnErr result (KeepsAll (K.contents self.old.keeper) (K.contents self.new.keeper)) }
+        ensures counts { IsTrue K.exact → self.old.work < 2 ^ 64 → Counts (K.contents self.old.keeper) (K.contents self.new.keeper) self.old.work self.new.work }
+    {
+        let reads = mem::replace(&mut find.reads, Vec::new(self.alloc));
+        let put = self.put(inst, &find.value, reads, find.demanded.kept.as_slice())?;
+        match put {
+            Put::Kept => Ok(Settled::Kept(find.into_value())),
+            Put::Left(reads) => {
+                find.reads = reads;
+                Ok(Settled::Found(find))
+            }
+        }
+    }
+
+    // Keeps a find for all that it and those below it rest on.
+    fn keep_with(
+        &mut self,
+        found: &IndexMap<Inst, Find>,
+        inst: &Inst,
+        find: Find,
+    ) -> Result<Settled, AllocError>
+        requires absent { K.contents self.old.keeper inst.now ≡ None }
+        requires kept { AreKept (K.contents self.old.keeper) find.demanded.kept.items }
+        requires found { FoundKept (K.contents self.old.keeper) found.now.entries }
+        ensures placed { IfOk result (HasPlacedAll K.exact (K.contents self.old.keeper) found.now.entries inst.now find (K.contents self.new.keeper)) }
+        ensures err { OnErr result (KeepsAll (K.contents self.old.keeper) (K.contents self.new.keeper)) }
+        ensures counts { IsTrue K.exact → self.old.work < 2 ^ 64 → Counts (K.contents self.old.keeper) (K.contents self.new.keeper) self.old.work self.new.work }
+    {
+        let mut sources = Sources::of(self.alloc, found, &find)?;
+        let reads = mem::replace(&mut sources.reads, Vec::new(self.alloc));
+        let put = self.put(inst, &find.value, reads, sources.kept.as_slice())?;
+        match put {
+            Put::Kept => Ok(Settled::Kept(find.into_value())),
+            Put::Left(_reads) => Ok(Settled::Found(find)),
+        }
+    }
+
+    // Puts a value to what is kept, and counts it.
+    fn put(
+        &mut self,
+        inst: &Inst,
+        value: &Value,
+        reads: Vec<Loc>,
+        uses: &[Inst],
+    ) -> Result<Put, AllocError>
+        requires absent { K.contents self.old.keeper inst.now ≡ None }
+        requires present { AreKept (K.contents self.old.keeper) uses.now }
+        ensures puts { IfOk result (HasPut K.exact (K.contents self.old.keeper) inst.now (value_view value.now) reads uses.now (K.contents self.new.keeper)) }
+        ensures err { OnErr result (KeepsAll (K.contents self.old.keeper) (K.contents self.new.keeper)) }
+        ensures counts { IsTrue K.exact → self.old.work < 2 ^ 64 → Counts (K.contents self.old.keeper) (K.contents self.new.keeper) self.old.work self.new.work }
+    {
+        let put = self
+            .keeper
+            .put(inst.copy(self.alloc)?, value.copy()?, reads, uses)?;
         self.work = self.work.saturating_add(1);
-        Ok(())
+        Ok(put)
     }
 }

@@ -3,23 +3,25 @@
 ghost use Rattle.std.specs.Prelude.{◌≡◌, ◌<◌, ◌^◌, List, [], length, map, IfOk, OnOk, MatchBool, ℕ};
 ghost use Rattle.at_model.specs.Run.{Instance};
 ghost use Rattle.at_model.specs.Instances.{AnyText};
-ghost use Rattle.at_model.specs.Meaning.{Among, Right};
+ghost use Rattle.at_model.specs.Meaning.{Among, HasValue, Right};
 ghost use Rattle.at_model.specs.TypedRuns.{IsWellTyped};
 ghost use Rattle.at_model.specs.WellFormed.{AreWellFormed, IsTreeSound};
 ghost use Rattle.at_store.specs.Located.{loc_view};
 ghost use Rattle.at_store.specs.Shown.{IsIdle, contents, tree};
 ghost use Rattle.at_cache.specs.Kept.{AreKept};
 ghost use Rattle.at_body.specs.Same.{same_instance};
-ghost use Rattle.at_body.specs.Typed.{IsTypedStep, class_shown};
+ghost use Rattle.at_body.specs.Values.{value_view};
+ghost use Rattle.at_body.specs.Typed.{IsTypedStep, WaitsFor, class_shown};
 ghost use Rattle.indexmap.specs.IndexMap.{insert_entry};
 ghost use Rattle.at_demand.specs.Known.{meaning, known_in, IsRecalled};
-ghost use Rattle.at_demand.specs.UnderWay.{chain_of, HasAscended, HasStepped, IsOpen};
+ghost use Rattle.at_demand.specs.UnderWay.{chain_of, HasAscended, HasPassedBack, HasStepped, IsOpen, IsToldTo};
+ghost use Rattle.at_demand.specs.Typing.{AreTypedWaiting};
 ghost use Rattle.at_demand.specs.Covering.{HasPassedTo, Takes};
 ghost use Rattle.at_demand.specs.Only.{TakesOne, TakesOnly};
 ghost use Rattle.at_demand.specs.declared.evaluation.Find.{Find as FindCode};
 
 use crate::answer::Answer;
-use at_body::{FaultKind, Inst, Step, Trial, Value};
+use at_body::{FaultKind, Inst, Room, Step, Trial, Value};
 use at_cache::Keeper;
 use at_rules::Rules;
 use at_store::{Loc, Store};
@@ -75,10 +77,13 @@ impl Drop for Find {
 }
 
 // A question under way. `inst` is the last instance of the chain, and `frame` its evaluation; each of `waiting` waits for
-// the next, and the last one for `inst`.
+// the next, and the last one for `inst`. What came to be kept isn't among what was `found`: `kept` counts it. A trial begins in
+// the `room` of one that ended.
 pub struct Evaluation<'a> {
     pub waiting: IndexMap<Inst, Frame<'a>>,
     pub found: IndexMap<Inst, Find>,
+    pub kept: u64,
+    pub room: Room<'a>,
     pub inst: Inst,
     pub frame: Frame<'a>,
 }
@@ -89,6 +94,8 @@ impl Drop for Evaluation<'_> {
         let Evaluation {
             waiting: _,
             found: _,
+            kept: _,
+            room: _,
             inst: _,
             frame: _,
         } = self;
@@ -102,6 +109,13 @@ pub enum Advance {
     GoesOn(Step),
     Fails(FaultKind),
     Answers(Answer),
+}
+
+// What became of a find that was to be kept: its value is kept, or it is found still.
+#[derive(Drop)]
+pub enum Settled {
+    Kept(Value),
+    Found(Find),
 }
 
 // The value of an instance, or the instance, where it isn't known.
@@ -136,6 +150,8 @@ impl<'a> Evaluation<'a> {
         let evaluation = Evaluation {
             waiting: IndexMap::new(alloc),
             found: IndexMap::new(alloc),
+            kept: 0,
+            room: Room::new(alloc),
             inst,
             frame,
         };
@@ -168,16 +184,19 @@ impl<'a> Evaluation<'a> {
         ensures unfound { OnOk result (self.new.frame.demanded.finds.items ≡ []) }
         ensures few { OnOk result (length self.new.waiting.entries < 2 ^ 64) }
         ensures finds { OnOk result (length self.new.found.entries < 2 ^ 64) }
+        ensures counted { self.new.kept ≡ self.old.kept }
+        ensures counts { OnOk result (self.new.kept < 2 ^ 64) }
         ensures stepped { IfOk result (HasStepped rules.now (contents store.now) needed self.new.frame.trial) }
         ensures passed { (finds : List (Instance ℕ × FindCode)) → IfOk result (HasPassedTo rules.now (contents store.now) finds needed self.new.frame) }
         ensures typed { IfOk result (λ s. IsTypedStep rules.now (class_shown store.now) s self.new.frame.trial) }
     {
-        let (frame, step) = Frame::start(alloc, rules, store, &needed)?;
+        let room = mem::replace(&mut self.room, Room::new(alloc));
+        let (frame, step) = Frame::start_in(alloc, rules, store, &needed, room)?;
         let frame = mem::replace(&mut self.frame, frame);
         let inst = mem::replace(&mut self.inst, needed);
         put(&mut self.waiting, inst, frame)?;
-        // `len` says that they are fewer than 2^64.
-        let _counts = (self.waiting.len(), self.found.len());
+        // The calls say that they are fewer than 2^64.
+        let _counts = (self.waiting.len(), self.found.len(), self.kept());
         Ok(step)
     }
 
@@ -188,13 +207,51 @@ impl<'a> Evaluation<'a> {
         let Some((below, frame)) = self.waiting.pop() else {
             return Ok(Advance::Answers(Answer::Value(find.into_value())));
         };
-        self.frame = frame;
+        self.room = mem::replace(&mut self.frame, frame).into_room();
         let inst = mem::replace(&mut self.inst, below);
         let needed = inst.copy(alloc)?;
         put(&mut self.found, inst, find)?;
-        // `len` says that they are fewer than 2^64.
-        let _counts = (self.waiting.len(), self.found.len());
+        // The calls say that they are fewer than 2^64.
+        let _counts = (self.waiting.len(), self.found.len(), self.kept());
         Ok(Advance::GoesOn(Step::Need(needed)))
+    }
+
+    // Goes back so from the last instance, which is kept with this value; the one that waits for it is told that at once. Their
+    // count ends at the greatest number, as if memory were wanting.
+    pub fn pass(
+        &mut self,
+        alloc: Global,
+        rules: &'a Rules,
+        store: &'a Store,
+        value: Value,
+    ) -> Result<Advance, AllocError>
+        requires idle { IsIdle store.now }
+        requires formed { AreWellFormed rules.now }
+        requires sound { IsTreeSound rules.now.classes (tree store.now) }
+        requires typed { AreTypedWaiting rules.now (class_shown store.now) self.old.waiting.entries self.old.inst }
+        requires has { HasValue (contents store.now) (meaning rules.now) self.old.inst (value_view value) }
+        ensures { IfOk result (HasPassedBack rules.now store.now self.old value self.new) }
+    {
+        let Some(kept) = self.kept.checked_add(1) else {
+            return Err(AllocError);
+        };
+        let Some((below, mut frame)) = self.waiting.pop() else {
+            return Ok(Advance::Answers(Answer::Value(value)));
+        };
+        self.kept = kept;
+        let inst = mem::replace(&mut self.inst, below);
+        let step = frame.tell(alloc, rules, store, inst, value)?;
+        self.room = mem::replace(&mut self.frame, frame).into_room();
+        // The calls say that they are fewer than 2^64.
+        let _counts = (self.waiting.len(), self.found.len(), self.kept());
+        Ok(Advance::GoesOn(step))
+    }
+
+    // How many came to be kept.
+    fn kept(&self) -> u64
+        ensures { result ≡ self.now.kept }
+    {
+        self.kept
     }
 
     // The last instance of the chain.
@@ -204,6 +261,8 @@ impl<'a> Evaluation<'a> {
         let Evaluation {
             waiting: _,
             found: _,
+            kept: _,
+            room: _,
             inst,
             frame: _,
         } = self;
@@ -237,9 +296,36 @@ impl<'a> Frame<'a> {
         ensures passed { (finds : List (Instance ℕ × FindCode)) → IfOk result (λ r. HasPassedTo rules.now (contents store.now) finds inst.now r.0 r.1) }
         ensures typed { IfOk result (λ r. IsTypedStep rules.now (class_shown store.now) r.1 r.0.trial) }
     {
-        let (trial, step) = Trial::start(alloc, rules, store, inst)?;
+        Frame::start_in(alloc, rules, store, inst, Room::new(alloc))
+    }
+
+    // The same, in the room of a trial that ended.
+    fn start_in(
+        alloc: Global,
+        rules: &'a Rules,
+        store: &'a Store,
+        inst: &Inst,
+        room: Room<'a>,
+    ) -> Result<(Frame<'a>, Step), AllocError>
+        requires idle { IsIdle store.now }
+        requires formed { AreWellFormed rules.now }
+        requires sound { IsTreeSound rules.now.classes (tree store.now) }
+        requires typed { IsWellTyped rules.now (class_shown store.now) AnyText inst.now }
+        ensures fresh { IfOk result (λ r. r.0.demanded.kept.items ≡ []) }
+        ensures unfound { IfOk result (λ r. r.0.demanded.finds.items ≡ []) }
+        ensures stepped { IfOk result (λ r. HasStepped rules.now (contents store.now) inst.now r.0.trial r.1) }
+        ensures passed { (finds : List (Instance ℕ × FindCode)) → IfOk result (λ r. HasPassedTo rules.now (contents store.now) finds inst.now r.0 r.1) }
+        ensures typed { IfOk result (λ r. IsTypedStep rules.now (class_shown store.now) r.1 r.0.trial) }
+    {
+        let (trial, step) = Trial::start_in(alloc, rules, store, inst, room)?;
         let demanded = Demanded::new(alloc);
         Ok((Frame { trial, demanded }, step))
+    }
+
+    // The memory of its trial.
+    fn into_room(self) -> Room<'a> {
+        let Frame { trial, demanded: _ } = self;
+        trial.into_room()
     }
 
     // Goes on with each value that is known, up to the end or to an instance that isn't.
@@ -279,20 +365,40 @@ impl<'a> Frame<'a> {
         }
     }
 
-    // What it found, at its end.
-    pub fn find(&mut self, alloc: Global, value: Value) -> Result<Find, AllocError>
-        ensures value { IfOk result (λ f. f.value ≡ value) }
-        ensures demanded { IfOk result (λ f. f.demanded ≡ self.old.demanded) }
-        ensures reads { IfOk result (λ f. map loc_view f.reads.items ≡ self.old.trial.reads) }
+    // Goes on with the value of the instance that it waits for, which is kept.
+    fn tell(
+        &mut self,
+        alloc: Global,
+        rules: &'a Rules,
+        store: &'a Store,
+        needed: Inst,
+        value: Value,
+    ) -> Result<Step, AllocError>
+        requires idle { IsIdle store.now }
+        requires formed { AreWellFormed rules.now }
+        requires sound { IsTreeSound rules.now.classes (tree store.now) }
+        requires typed { WaitsFor rules.now (class_shown store.now) self.old.trial needed }
+        requires has { HasValue (contents store.now) (meaning rules.now) needed (value_view value) }
+        ensures { IfOk result (IsToldTo rules.now store.now self.old self.new needed value) }
     {
-        let mut reads = Vec::new(alloc);
-        reads.extend_from_slice(self.trial.reads().as_slice())?;
+        self.demanded.kept.push(needed)?;
+        let step = self.trial.resume(alloc, rules, store, value)?;
+        Ok(step)
+    }
+
+    // What it found, at its end.
+    pub fn find(&mut self, alloc: Global, value: Value) -> Find
+        ensures value { result.value ≡ value }
+        ensures demanded { result.demanded ≡ self.old.demanded }
+        ensures reads { map loc_view result.reads.items ≡ self.old.trial.reads }
+    {
+        let reads = self.trial.take_reads(alloc);
         let demanded = mem::replace(&mut self.demanded, Demanded::new(alloc));
-        Ok(Find {
+        Find {
             value,
             reads,
             demanded,
-        })
+        }
     }
 }
 
@@ -336,6 +442,10 @@ impl Demanded {
         if let Some(value) = keeper.get(&needed) {
             self.kept.push(needed)?;
             return Ok(Recalled::Value(value.copy()?));
+        }
+        // The map makes the hash of what is looked up in it, empty as it may be.
+        if found.is_empty() {
+            return Ok(Recalled::Unknown(needed));
         }
         match found.get_full(&needed) {
             Some((position, _inst, find)) => {

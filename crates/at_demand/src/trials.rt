@@ -4,13 +4,14 @@ ghost use Rattle.std.specs.Prelude.{◌≡◌, ◌++◌, ◌∷◌, [], OnOk, No
 ghost use Rattle.at_demand.specs.KeptTrials.{HasLast};
 
 use crate::evaluation::{Find, Frame};
-use at_body::{FaultKind, Inst};
+use at_body::{FaultKind, Inst, Value};
 use std::alloc::{AllocError, Global};
 use std::mem;
 
-// What one try of an instance comes to: its value, its fault, or another instance, whose value isn't known.
+// What one try of an instance comes to: its value, which is kept or found, its fault, or another instance, whose value isn't known.
 #[derive(Drop)]
 pub enum Attempt {
+    Kept(Value),
     Found(Find),
     Fails(FaultKind),
     Needs(Inst),

@@ -18,12 +18,12 @@ ghost use Rattle.at_demand.specs.Covering.{AreWhole};
 ghost use Rattle.at_demand.specs.Only.{AreLean};
 ghost use Rattle.at_demand.specs.Sparing.{AddsWorthy, AreSettled, AreSpare, Counts, MayAddLazy};
 ghost use Rattle.at_demand.specs.Turns.{HasGiven, IsStanding, IsSparingTurns, under_way};
-ghost use Rattle.at_demand.specs.Attempts.{HasComeTo, HasTried, SettlesOn, Awaits};
+ghost use Rattle.at_demand.specs.Attempts.{HasComeTo, HasTried, IsKeptAs, SettlesOn, Awaits};
 ghost use Rattle.at_demand.specs.KeptTrials.{Fit, FitAfter};
 
 use super::Demand;
 use crate::answer::Answer;
-use crate::evaluation::{Find, Frame};
+use crate::evaluation::{Find, Frame, Settled};
 use crate::question::Question;
 use crate::trials::{Attempt, Trials};
 use at_body::{Inst, Step};
@@ -154,6 +154,10 @@ impl<K: Keeper> Demand<K> {
             &mut frame,
             step,
         )? {
+            Attempt::Kept(value) => {
+                trials.awaited = Some(question.inst.copy(self.alloc)?);
+                question.pass(value)
+            }
             Attempt::Found(find) => {
                 trials.awaited = Some(question.inst.copy(self.alloc)?);
                 question.settle(find)
@@ -223,14 +227,18 @@ impl<K: Keeper> Demand<K> {
         ensures spare { IsTrue K.exact → AreSpare rules.now (contents store.now) (K.contents self.old.keeper) → AreLean rules.now (contents store.now) found.now.entries → AreSettled rules.now (K.contents self.old.keeper) found.now.entries → AreSpare rules.now (contents store.now) (K.contents self.new.keeper) }
         ensures settles { IsTrue K.exact → AreSpare rules.now (contents store.now) (K.contents self.old.keeper) → AreSettled rules.now (K.contents self.old.keeper) found.now.entries → IfOk result (SettlesOn rules.now (K.contents self.new.keeper) found.now.entries inst.now) }
         ensures counts { IsTrue K.exact → self.old.work < 2 ^ 64 → Counts (K.contents self.old.keeper) (K.contents self.new.keeper) self.old.work self.new.work }
+        ensures keeps { IfOk result (IsKeptAs (K.contents self.new.keeper) inst.now) }
         ensures waits { IfOk result (Awaits rules.now (class_shown store.now) (contents store.now) (K.contents self.old.keeper) found.now.entries inst.now frame.new) }
     {
         let step = frame.go_on(self.alloc, &self.keeper, found, rules, store, step)?;
         match step {
             Step::Value(value) => {
-                let find = frame.find(self.alloc, value)?;
-                self.keep(rules, found, inst, &find)?;
-                Ok(Attempt::Found(find))
+                let find = frame.find(self.alloc, value);
+                let settled = self.keep(rules, found, inst, find)?;
+                match settled {
+                    Settled::Kept(value) => Ok(Attempt::Kept(value)),
+                    Settled::Found(find) => Ok(Attempt::Found(find)),
+                }
             }
             Step::Fault(kind) => Ok(Attempt::Fails(kind)),
             Step::Need(needed) => Ok(Attempt::Needs(needed)),

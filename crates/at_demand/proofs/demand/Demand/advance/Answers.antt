@@ -6,7 +6,7 @@ use Rattle.at_body.specs.declared.trial.Step.TheVariants as step
 use Rattle.at_demand.specs.Known.{known_in}
 use Rattle.at_demand.specs.UnderWay.{HasStepped, IsOrderlyIn, IsOpen}
 use Rattle.at_demand.proofs.Orderly.{neither}
-use Rattle.at_demand.proofs.Truth.{steps_on, fails}
+use Rattle.at_demand.proofs.Truth.{steps_on, fails, value_of}
 use Rattle.at_demand.specs.Covering.{HasPassedTo}
 use Rattle.at_demand.specs.declared.evaluation.Evaluation.{Evaluation}
 use Rattle.at_demand.proofs.Passing.{covers_on}
@@ -24,7 +24,7 @@ returns-in-Value-clause-answers g c asked h =
     let goes = c.in_ok-step.ensures.stepped q.inst h.last in
     let last = subst (λ (s : Step). HasStepped c.args.rules.now look q.inst trial s) c.in-Value.is goes in
     let on = steps_on c.args.rules.now look asked entries q.waiting.entries q.found.entries q.inst q.frame.trial trial c.args.step (step.Value c.in-Value.value) h last in
-    c.settle.ensures.answers look asked on
+    c.settle.ensures.answers asked on
 
 pub returns-in-Value-clause-right : goal.returns-in-Value-clause-right
 returns-in-Value-clause-right g c asked h =
@@ -35,7 +35,7 @@ returns-in-Value-clause-right g c asked h =
     let goes = c.in_ok-step.ensures.stepped q.inst h.last in
     let last = subst (λ (s : Step). HasStepped c.args.rules.now look q.inst trial s) c.in-Value.is goes in
     let on = steps_on c.args.rules.now look asked entries q.waiting.entries q.found.entries q.inst q.frame.trial trial c.args.step (step.Value c.in-Value.value) h last in
-    c.settle.ensures.right look asked on
+    c.settle.ensures.right asked on
 
 pub returns-in-Fault-clause-answers : goal.returns-in-Fault-clause-answers
 returns-in-Fault-clause-answers g c asked h =
@@ -70,7 +70,7 @@ returns-in-Value-clause-covering g c asked h stands =
     let on = steps_on rules look asked entries q.waiting.entries q.found.entries q.inst q.frame.trial trial c.args.step (step.Value c.in-Value.value) h last in
     let passed = subst (λ (s : Step). HasPassedTo rules look q.found.entries q.inst c.go_on.new.self s) c.in-Value.is (c.in_ok-step.ensures.passed q.inst stands.last) in
     let stands' = covers_on rules look q.waiting.entries q.found.entries q.inst q.frame c.go_on.new.self c.args.step (step.Value c.in-Value.value) stands passed in
-    c.settle.ensures.covering look stands'
+    c.settle.ensures.covering stands'
 
 pub returns-in-Value-clause-stays : goal.returns-in-Value-clause-stays
 returns-in-Value-clause-stays g c asked is h stands right =
@@ -83,7 +83,7 @@ returns-in-Value-clause-stays g c asked is h stands right =
     let on = steps_on rules look asked entries q.waiting.entries q.found.entries q.inst q.frame.trial trial c.args.step (step.Value c.in-Value.value) h last in
     let passed = subst (λ (s : Step). HasPassedTo rules look q.found.entries q.inst c.go_on.new.self s) c.in-Value.is (c.in_ok-step.ensures.passed q.inst stands.last) in
     let stands' = covers_on rules look q.waiting.entries q.found.entries q.inst q.frame c.go_on.new.self c.args.step (step.Value c.in-Value.value) stands passed in
-    c.settle.ensures.stays c.args.store.now asked c.requires.idle is on stands' right
+    c.settle.ensures.stays asked is on stands' right
 
 pub returns-in-Need-clause-covering : goal.returns-in-Need-clause-covering
 returns-in-Need-clause-covering g c asked h stands =
@@ -107,7 +107,7 @@ returns-in-Value-clause-worthy g c asked first h adds =
     let trial = c.go_on.new.self.trial in
     let last = subst (λ (s : Step). HasStepped rules look q.inst trial s) c.in-Value.is (c.in_ok-step.ensures.stepped q.inst h.last) in
     let on = steps_on rules look asked entries q.waiting.entries q.found.entries q.inst q.frame.trial trial c.args.step (step.Value c.in-Value.value) h last in
-    c.settle.ensures.worthy look asked first on adds
+    c.settle.ensures.worthy asked first on adds
 
 pub returns-in-Value-clause-sparing : goal.returns-in-Value-clause-sparing
 returns-in-Value-clause-sparing g c asked exact h stands sparing =
@@ -120,9 +120,9 @@ returns-in-Value-clause-sparing g c asked exact h stands sparing =
     let on = steps_on rules look asked entries q.waiting.entries q.found.entries q.inst q.frame.trial trial c.args.step (step.Value c.in-Value.value) h last in
     let passed = subst (λ (s : Step). HasPassedTo rules look q.found.entries q.inst c.go_on.new.self s) c.in-Value.is (c.in_ok-step.ensures.passed q.inst stands.last) in
     let stands' = covers_on rules look q.waiting.entries q.found.entries q.inst q.frame c.go_on.new.self c.args.step (step.Value c.in-Value.value) stands passed in
-    let next : Evaluation = record { waiting = q.waiting; found = q.found; inst = q.inst; frame = c.go_on.new.self } in
+    let next : Evaluation = record { waiting = q.waiting; found = q.found; kept = q.kept; room = q.room; inst = q.inst; frame = c.go_on.new.self } in
     let goes = sparing_on rules look entries q next sparing refl refl refl (c.in_ok-step.ensures.only q.inst h.last sparing.last) in
-    c.settle.ensures.sparing look asked exact on stands' goes
+    c.settle.ensures.sparing asked exact on stands' goes
 
 pub returns-in-Value-clause-spare : goal.returns-in-Value-clause-spare
 returns-in-Value-clause-spare g c asked exact h stands sparing =
@@ -135,9 +135,9 @@ returns-in-Value-clause-spare g c asked exact h stands sparing =
     let on = steps_on rules look asked entries q.waiting.entries q.found.entries q.inst q.frame.trial trial c.args.step (step.Value c.in-Value.value) h last in
     let passed = subst (λ (s : Step). HasPassedTo rules look q.found.entries q.inst c.go_on.new.self s) c.in-Value.is (c.in_ok-step.ensures.passed q.inst stands.last) in
     let stands' = covers_on rules look q.waiting.entries q.found.entries q.inst q.frame c.go_on.new.self c.args.step (step.Value c.in-Value.value) stands passed in
-    let next : Evaluation = record { waiting = q.waiting; found = q.found; inst = q.inst; frame = c.go_on.new.self } in
+    let next : Evaluation = record { waiting = q.waiting; found = q.found; kept = q.kept; room = q.room; inst = q.inst; frame = c.go_on.new.self } in
     let goes = sparing_on rules look entries q next sparing refl refl refl (c.in_ok-step.ensures.only q.inst h.last sparing.last) in
-    c.settle.ensures.spare look asked exact on stands' goes
+    c.settle.ensures.spare asked exact on stands' goes
 
 pub returns-in-Fault-clause-sparing : goal.returns-in-Fault-clause-sparing
 returns-in-Fault-clause-sparing g c asked exact h stands sparing =
@@ -150,7 +150,7 @@ returns-in-Fault-clause-sparing g c asked exact h stands sparing =
     let on = steps_on rules look asked entries q.waiting.entries q.found.entries q.inst q.frame.trial trial c.args.step (step.Fault c.in-Fault.kind) h last in
     let passed = subst (λ (s : Step). HasPassedTo rules look q.found.entries q.inst c.go_on.new.self s) c.in-Fault.is (c.in_ok-step.ensures.passed q.inst stands.last) in
     let stands' = covers_on rules look q.waiting.entries q.found.entries q.inst q.frame c.go_on.new.self c.args.step (step.Fault c.in-Fault.kind) stands passed in
-    let next : Evaluation = record { waiting = q.waiting; found = q.found; inst = q.inst; frame = c.go_on.new.self } in
+    let next : Evaluation = record { waiting = q.waiting; found = q.found; kept = q.kept; room = q.room; inst = q.inst; frame = c.go_on.new.self } in
     let goes = sparing_on rules look entries q next sparing refl refl refl (c.in_ok-step.ensures.only q.inst h.last sparing.last) in
     let o = c.requires.orderly in
     let orderly : IsOrderlyIn entries next = record { distinct = o.distinct; open_ones = o.open_ones; unkept = o.unkept; waiting_kept = o.waiting_kept; found_kept = o.found_kept; last_kept = c.in_ok-step.ensures.kept } in
@@ -167,7 +167,7 @@ returns-in-Need-clause-sparing g c asked exact h stands sparing =
     let on = steps_on rules look asked entries q.waiting.entries q.found.entries q.inst q.frame.trial trial c.args.step (step.Need c.in-Need.needed) h last in
     let passed = subst (λ (s : Step). HasPassedTo rules look q.found.entries q.inst c.go_on.new.self s) c.in-Need.is (c.in_ok-step.ensures.passed q.inst stands.last) in
     let stands' = covers_on rules look q.waiting.entries q.found.entries q.inst q.frame c.go_on.new.self c.args.step (step.Need c.in-Need.needed) stands passed in
-    let next : Evaluation = record { waiting = q.waiting; found = q.found; inst = q.inst; frame = c.go_on.new.self } in
+    let next : Evaluation = record { waiting = q.waiting; found = q.found; kept = q.kept; room = q.room; inst = q.inst; frame = c.go_on.new.self } in
     let goes = sparing_on rules look entries q next sparing refl refl refl (c.in_ok-step.ensures.only q.inst h.last sparing.last) in
     c.deepen.ensures.sparing asked on stands' goes
 
@@ -202,7 +202,7 @@ pub returns-in-Need-clause-counts : goal.returns-in-Need-clause-counts
 returns-in-Need-clause-counts g c exact small = counts_none (g.K.Keeper.contents c.args.self.now.keeper) c.args.self.now.work small
 
 pub returns-in-Value-clause-typed : goal.returns-in-Value-clause-typed
-returns-in-Value-clause-typed g c = c.settle.ensures.typed (class_shown c.args.store.now) c.requires.typed.waits
+returns-in-Value-clause-typed g c = c.settle.ensures.typed
 
 pub deepen-requires-clause-typed : goal.deepen-requires-clause-typed
 deepen-requires-clause-typed g c =
@@ -215,10 +215,21 @@ go_on-requires-clause-right g c = c.requires.right
 pub go_on-requires-clause-typed : goal.go_on-requires-clause-typed
 go_on-requires-clause-typed g c = c.requires.typed.last
 
-pub settle-requires : goal.settle-requires
-settle-requires g c =
+pub settle-requires-clause-orderly : goal.settle-requires-clause-orderly
+settle-requires-clause-orderly g c =
     let o = c.requires.orderly in
-    record { orderly = record { distinct = o.distinct; open_ones = o.open_ones; unkept = o.unkept; waiting_kept = o.waiting_kept; found_kept = o.found_kept; last_kept = c.in_ok-step.ensures.kept } }
+    record { distinct = o.distinct; open_ones = o.open_ones; unkept = o.unkept; waiting_kept = o.waiting_kept; found_kept = o.found_kept; last_kept = c.in_ok-step.ensures.kept }
+
+pub settle-requires-clause-typed : goal.settle-requires-clause-typed
+settle-requires-clause-typed g c = c.requires.typed.waits
+
+pub settle-requires-clause-has : goal.settle-requires-clause-has
+settle-requires-clause-has g c =
+    let q = c.args.evaluation.now in
+    let look = contents c.args.store.now in
+    let trial = c.go_on.new.self.trial in
+    let last = subst (λ (s : Step). HasStepped c.args.rules.now look q.inst trial s) c.in-Value.is (c.in_ok-step.ensures.stepped q.inst c.requires.stepped) in
+    value_of c.args.rules.now look q.inst trial c.in-Value.value last
 
 pub deepen-requires-clause-orderly : goal.deepen-requires-clause-orderly
 deepen-requires-clause-orderly g c =

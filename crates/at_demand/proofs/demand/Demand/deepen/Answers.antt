@@ -19,7 +19,7 @@ pub returns-clause-advance : goal.returns-clause-advance
 returns-clause-advance g c =
     let e = c.in_ok-step.ensures in
     deepens (g.K.Keeper.contents c.args.self.now.keeper) c.args.evaluation.now c.descend.new.self c.args.needed c.requires.orderly c.requires.found c.requires.kept c.if-has.ensures
-    e.waiting e.found e.inst e.fresh e.few e.finds
+    e.waiting e.found e.counted e.inst e.fresh e.few e.finds e.counts
 
 pub returns-clause-answers : goal.returns-clause-answers
 returns-clause-answers g c asked h =

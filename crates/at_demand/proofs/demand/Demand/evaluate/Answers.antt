@@ -47,6 +47,9 @@ advance-requires-clause-right g c =
     let h = c.loop-evaluation.invariant.holds in
     right_known c.args.rules.now (contents c.args.store.now) (g.K.Keeper.contents c.loop-evaluation.self.keeper) q.found.entries h.kept h.finds
 
+pub advance-requires-clause-stepped : goal.advance-requires-clause-stepped
+advance-requires-clause-stepped g c = c.loop-evaluation.invariant.holds.last
+
 pub advance-requires-clause-typed : goal.advance-requires-clause-typed
 advance-requires-clause-typed g c = c.loop-evaluation.invariant.typed
 

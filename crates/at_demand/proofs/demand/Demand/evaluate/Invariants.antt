@@ -22,4 +22,4 @@ invariant-loop-evaluation g l = record {
 }
 
 abbrev pub decreases-loop-evaluation : goal.decreases-loop-evaluation
-decreases-loop-evaluation g l = 2 ^ 66 - progress l.evaluation
+decreases-loop-evaluation g l = 2 ^ 67 - progress l.evaluation

@@ -6,13 +6,15 @@ use Rattle.at_body.specs.Typed.{IsTypedStep, class_shown}
 use Rattle.at_body.specs.declared.trial.Step.{Step}
 use Rattle.at_cache.specs.Kept.{AreKept, Entries}
 use Rattle.at_demand.specs.declared.evaluation.Demanded.{Demanded}
+use Rattle.at_demand.specs.declared.evaluation.Settled.{Settled}
+use Rattle.at_demand.specs.Keeping.{Becomes}
 use Rattle.at_demand.specs.Known.{known_in}
 use Rattle.at_demand.specs.UnderWay.{HasStepped, IsOpen}
 use Rattle.at_demand.specs.Covering.{HasPassedTo}
 use Rattle.at_demand.specs.Attempts.{HasFound}
-use Rattle.at_demand.proofs.Gaining.{worthy_none}
+use Rattle.at_demand.proofs.Gaining.{settled_still, worthy_none}
 use Rattle.at_demand.proofs.Counting.{counts_none}
-use Rattle.at_demand.proofs.Attempted.{has_found, has_failed, has_needed, right_added, right_stays, worthy_added, spare_added, settled_added}
+use Rattle.at_demand.proofs.Attempted.{found_same, has_found, has_failed, has_needed, right_added, right_stays, worthy_added, spare_added, settled_added}
 use Rattle.at_demand.proofs.demand.Demand.go_on.Goals as goal
 
 none_kept : (entries : Entries) → AreKept entries []
@@ -22,20 +24,14 @@ pub returns-in_err-step : goal.returns-in_err-step
 returns-in_err-step g c =
     let is = (err_from_is_err_and c.from_residual.result c.from_residual.ensures.1).1 in
     let entries = g.K.Keeper.contents c.args.self.now.keeper in
-    record { tried = rw is tt; right = c.requires.kept_right; stays = λ there right. right; lazy = λ j. inl refl; worthy = worthy_none c.args.rules.now (contents c.args.store.now) c.args.inst.now entries; spare = λ exact spare lean settled. spare; settles = λ exact spare settled. rw is tt; counts = λ exact small. counts_none entries c.args.self.now.work small; waits = rw is tt }
+    record { tried = rw is tt; right = c.requires.kept_right; stays = λ there right. right; lazy = λ j. inl refl; worthy = worthy_none c.args.rules.now (contents c.args.store.now) c.args.inst.now entries; spare = λ exact spare lean settled. spare; settles = λ exact spare settled. rw is tt; counts = λ exact small. counts_none entries c.args.self.now.work small; keeps = rw is tt; waits = rw is tt }
 
 pub keep-requires-clause-kept : goal.keep-requires-clause-kept
-keep-requires-clause-kept g c = subst (λ (d : Demanded). AreKept (g.K.Keeper.contents c.args.self.now.keeper) d.kept.items) (sym c.in_ok-find-in-Value.ensures.demanded) c.in_ok-step.ensures.kept
+keep-requires-clause-kept g c = subst (λ (d : Demanded). AreKept (g.K.Keeper.contents c.args.self.now.keeper) d.kept.items) (sym c.find-find.ensures.demanded) c.in_ok-step.ensures.kept
 
-pub returns-in_err-find-in-Value : goal.returns-in_err-find-in-Value
-returns-in_err-find-in-Value g c =
-    let is = (err_from_is_err_and c.from_residual-in_err-find-in-Value.result c.from_residual-in_err-find-in-Value.ensures.1).1 in
-    let entries = g.K.Keeper.contents c.args.self.now.keeper in
-    record { tried = rw is tt; right = c.requires.kept_right; stays = λ there right. right; lazy = λ j. inl refl; worthy = worthy_none c.args.rules.now (contents c.args.store.now) c.args.inst.now entries; spare = λ exact spare lean settled. spare; settles = λ exact spare settled. rw is tt; counts = λ exact small. counts_none entries c.args.self.now.work small; waits = rw is tt }
-
-pub returns-in_err-keep-in-Value : goal.returns-in_err-keep-in-Value
-returns-in_err-keep-in-Value g c =
-    let is = (err_from_is_err_and c.from_residual-in_err-keep-in-Value.result c.from_residual-in_err-keep-in-Value.ensures.1).1 in
+pub returns-in_err-settled-in-Value : goal.returns-in_err-settled-in-Value
+returns-in_err-settled-in-Value g c =
+    let is = (err_from_is_err_and c.from_residual-in_err-settled-in-Value.result c.from_residual-in_err-settled-in-Value.ensures.1).1 in
     let rules = c.args.rules.now in
     let look = contents c.args.store.now in
     let found = c.args.found.now.entries in
@@ -43,8 +39,8 @@ returns-in_err-keep-in-Value g c =
     let old = g.K.Keeper.contents c.args.self.now.keeper in
     let new = g.K.Keeper.contents c.keep.new.self.keeper in
     let frame = c.go_on.new.self in
-    let d = c.in_ok-find-in-Value.find in
-    let e = c.in_ok-find-in-Value.ensures in
+    let d = c.find-find.result in
+    let e = c.find-find.ensures in
     let stepped = subst (λ (s : Step). HasStepped rules look inst frame.trial s) c.in-Value.is (c.in_ok-step.ensures.stepped inst c.requires.standing.stepped) in
     let passed = subst (λ (s : Step). HasPassedTo rules look found inst frame s) c.in-Value.is (c.in_ok-step.ensures.passed inst c.requires.standing.passed) in
     let takes = c.in_ok-step.ensures.only inst c.requires.standing.stepped c.requires.standing.takes in
@@ -59,11 +55,12 @@ returns-in_err-keep-in-Value g c =
       spare = λ exact spare lean settled. spare_added rules look old new found inst d c.keep.ensures.lazy c.requires.whole has settled spare (c.keep.ensures.only look exact lean has.lean spare.only);
       settles = λ exact spare settled. rw is tt;
       counts = λ exact small. c.keep.ensures.counts exact small;
+      keeps = rw is tt;
       waits = rw is tt;
     }
 
-pub returns-in_ok-keep-in-Value : goal.returns-in_ok-keep-in-Value
-returns-in_ok-keep-in-Value g c =
+pub returns-in-Kept : goal.returns-in-Kept
+returns-in-Kept g c =
     let rules = c.args.rules.now in
     let look = contents c.args.store.now in
     let found = c.args.found.now.entries in
@@ -71,22 +68,55 @@ returns-in_ok-keep-in-Value g c =
     let old = g.K.Keeper.contents c.args.self.now.keeper in
     let new = g.K.Keeper.contents c.keep.new.self.keeper in
     let frame = c.go_on.new.self in
-    let d = c.in_ok-find-in-Value.find in
-    let e = c.in_ok-find-in-Value.ensures in
+    let d = c.find-find.result in
+    let e = c.find-find.ensures in
     let stepped = subst (λ (s : Step). HasStepped rules look inst frame.trial s) c.in-Value.is (c.in_ok-step.ensures.stepped inst c.requires.standing.stepped) in
     let passed = subst (λ (s : Step). HasPassedTo rules look found inst frame s) c.in-Value.is (c.in_ok-step.ensures.passed inst c.requires.standing.passed) in
     let takes = c.in_ok-step.ensures.only inst c.requires.standing.stepped c.requires.standing.takes in
     let has : HasFound rules look old found inst d = has_found rules look old found inst frame c.in-Value.value d stepped passed takes c.in_ok-step.ensures.kept e.value e.reads e.demanded in
     let adds = c.keep.ensures.adds in
+    let becomes = subst (λ (r : Settled). Becomes new inst d r) c.in-Kept.is c.in_ok-settled-in-Value.ensures.becomes in
     record {
-      tried = has;
+      tried = (d, sym becomes.0, has);
       right = right_added rules old new inst (value_view d.value) adds look has.value c.requires.kept_right;
       stays = right_stays rules old new inst (value_view d.value) adds c.args.store.now has.value (c.keep.ensures.covers look c.requires.whole has.whole);
       lazy = c.keep.ensures.lazy;
       worthy = worthy_added rules look old new inst (value_view d.value) c.keep.ensures.lazy c.requires.absent has.value;
       spare = λ exact spare lean settled. spare_added rules look old new found inst d c.keep.ensures.lazy c.requires.whole has settled spare (c.keep.ensures.only look exact lean has.lean spare.only);
-      settles = λ exact spare settled. settled_added rules look old new found inst d c.keep.ensures.lazy c.requires.whole has settled spare (c.in_ok-keep-in-Value.ensures.keeps exact);
+      settles = λ exact spare settled. settled_still rules look old new inst c.keep.ensures.lazy found settled;
       counts = λ exact small. c.keep.ensures.counts exact small;
+      keeps = becomes.1;
+      waits = tt;
+    }
+
+pub returns-in-Found : goal.returns-in-Found
+returns-in-Found g c =
+    let rules = c.args.rules.now in
+    let look = contents c.args.store.now in
+    let found = c.args.found.now.entries in
+    let inst = c.args.inst.now in
+    let old = g.K.Keeper.contents c.args.self.now.keeper in
+    let new = g.K.Keeper.contents c.keep.new.self.keeper in
+    let frame = c.go_on.new.self in
+    let d = c.find-find.result in
+    let e = c.find-find.ensures in
+    let stepped = subst (λ (s : Step). HasStepped rules look inst frame.trial s) c.in-Value.is (c.in_ok-step.ensures.stepped inst c.requires.standing.stepped) in
+    let passed = subst (λ (s : Step). HasPassedTo rules look found inst frame s) c.in-Value.is (c.in_ok-step.ensures.passed inst c.requires.standing.passed) in
+    let takes = c.in_ok-step.ensures.only inst c.requires.standing.stepped c.requires.standing.takes in
+    let has : HasFound rules look old found inst d = has_found rules look old found inst frame c.in-Value.value d stepped passed takes c.in_ok-step.ensures.kept e.value e.reads e.demanded in
+    let adds = c.keep.ensures.adds in
+    let becomes = subst (λ (r : Settled). Becomes new inst d r) c.in-Found.is c.in_ok-settled-in-Value.ensures.becomes in
+    let has' = found_same rules look old found inst d c.in-Found.find becomes has in
+    record {
+      tried = has';
+      right = right_added rules old new inst (value_view d.value) adds look has.value c.requires.kept_right;
+      stays = right_stays rules old new inst (value_view d.value) adds c.args.store.now has.value (c.keep.ensures.covers look c.requires.whole has.whole);
+      lazy = c.keep.ensures.lazy;
+      worthy = worthy_added rules look old new inst (value_view d.value) c.keep.ensures.lazy c.requires.absent has.value;
+      spare = λ exact spare lean settled. spare_added rules look old new found inst d c.keep.ensures.lazy c.requires.whole has settled spare (c.keep.ensures.only look exact lean has.lean spare.only);
+      settles = λ exact spare settled. settled_added rules look old new found inst c.in-Found.find c.keep.ensures.lazy c.requires.whole has' settled spare (c.in_ok-settled-in-Value.ensures.keeps exact);
+      counts = λ exact small. c.keep.ensures.counts exact small;
+      keeps = tt;
       waits = tt;
     }
 
@@ -98,7 +128,7 @@ returns-in-Fault g c =
     let inst = c.args.inst.now in
     let entries = g.K.Keeper.contents c.args.self.now.keeper in
     let stepped = subst (λ (s : Step). HasStepped rules look inst c.go_on.new.self.trial s) c.in-Fault.is (c.in_ok-step.ensures.stepped inst c.requires.standing.stepped) in
-    record { tried = has_failed rules look entries found inst c.go_on.new.self.trial c.in-Fault.kind stepped; right = c.requires.kept_right; stays = λ there right. right; lazy = λ j. inl refl; worthy = worthy_none rules look inst entries; spare = λ exact spare lean settled. spare; settles = λ exact spare settled. settled; counts = λ exact small. counts_none entries c.args.self.now.work small; waits = tt }
+    record { tried = has_failed rules look entries found inst c.go_on.new.self.trial c.in-Fault.kind stepped; right = c.requires.kept_right; stays = λ there right. right; lazy = λ j. inl refl; worthy = worthy_none rules look inst entries; spare = λ exact spare lean settled. spare; settles = λ exact spare settled. settled; counts = λ exact small. counts_none entries c.args.self.now.work small; keeps = tt; waits = tt }
 
 pub returns-in-Need : goal.returns-in-Need
 returns-in-Need g c =
@@ -113,4 +143,4 @@ returns-in-Need g c =
     let typed = subst (λ (s : Step). IsTypedStep rules (class_shown c.args.store.now) s trial) c.in-Need.is c.in_ok-step.ensures.typed in
     let passed = subst (λ (s : Step). HasPassedTo rules look found inst c.go_on.new.self s) c.in-Need.is (c.in_ok-step.ensures.passed inst c.requires.standing.passed) in
     let takes = c.in_ok-step.ensures.only inst c.requires.standing.stepped c.requires.standing.takes in
-    record { tried = has_needed rules look entries found inst (class_shown c.args.store.now) trial c.in-Need.needed stepped unknown typed; right = c.requires.kept_right; stays = λ there right. right; lazy = λ j. inl refl; worthy = worthy_none rules look inst entries; spare = λ exact spare lean settled. spare; settles = λ exact spare settled. settled; counts = λ exact small. counts_none entries c.args.self.now.work small; waits = record { stepped = stepped; passed = passed; takes = takes; typed = typed; kept = c.in_ok-step.ensures.kept } }
+    record { tried = has_needed rules look entries found inst (class_shown c.args.store.now) trial c.in-Need.needed stepped unknown typed; right = c.requires.kept_right; stays = λ there right. right; lazy = λ j. inl refl; worthy = worthy_none rules look inst entries; spare = λ exact spare lean settled. spare; settles = λ exact spare settled. settled; counts = λ exact small. counts_none entries c.args.self.now.work small; keeps = tt; waits = record { stepped = stepped; passed = passed; takes = takes; typed = typed; kept = c.in_ok-step.ensures.kept } }

@@ -5,11 +5,11 @@ use Rattle.at_body.specs.Typed.{class_shown}
 use Rattle.at_model.specs.Run.{Instance}
 use Rattle.at_demand.specs.declared.trials.Attempt.{Attempt}
 use Rattle.at_demand.specs.Known.{kept_values}
-use Rattle.at_demand.specs.Attempts.{HasTried, SettlesOn, Awaits}
+use Rattle.at_demand.specs.Attempts.{HasTried, IsKeptAs, SettlesOn, Awaits}
 use Rattle.at_demand.specs.KeptTrials.{FitAt}
-use Rattle.at_demand.proofs.Turned.{settled_turn, passed_turn, failed_turn, kept_turn, deepened_turn}
+use Rattle.at_demand.proofs.Turned.{gained_turn, settled_turn, passed_turn, failed_turn, kept_turn, deepened_turn}
 use Rattle.at_demand.proofs.Standing.{stands_grown, last_typed, stands_settled, stands_passed, stands_deepened, all_right, last_there, worthy_asked, spares_settled, spares_passed, spares_deepened}
-use Rattle.at_demand.proofs.Fitting.{fit_passed, fit_settled, fit_deepened}
+use Rattle.at_demand.proofs.Fitting.{fit_gained, fit_passed, fit_settled, fit_deepened}
 use Rattle.at_demand.proofs.demand.Demand.turn_with.Goals as goal
 
 pub trial_of-requires-clause-typed : goal.trial_of-requires-clause-typed
@@ -61,8 +61,8 @@ returns-in-Some-get-clause-sparing g c exact spare sparing =
     let p = c.pass.new.self in
     IfOk-weaker c.pass.result _ _ (λ o r. spares_passed rules s old old (λ i some. refl) q st p v o r sparing) c.pass.ensures
 
-pub returns-in_err-find-clause-stays : goal.returns-in_err-find-clause-stays
-returns-in_err-find-clause-stays g c there right =
+pub returns-in_err-value-clause-stays : goal.returns-in_err-value-clause-stays
+returns-in_err-value-clause-stays g c there right =
     let rules = c.args.rules.now in
     let s = c.args.store.now in
     let q = c.args.question.now in
@@ -72,8 +72,8 @@ returns-in_err-find-clause-stays g c there right =
     let grown = c.go_on.ensures.worthy.stays in
     c.go_on.ensures.stays (last_there rules s old new grown q st c.requires.idle there) right
 
-pub returns-in_err-find-clause-worthy : goal.returns-in_err-find-clause-worthy
-returns-in_err-find-clause-worthy g c =
+pub returns-in_err-value-clause-worthy : goal.returns-in_err-value-clause-worthy
+returns-in_err-value-clause-worthy g c =
     let rules = c.args.rules.now in
     let s = c.args.store.now in
     let q = c.args.question.now in
@@ -104,6 +104,103 @@ returns-in_err-at-in-Fails-clause-worthy g c =
     let new = g.K.Keeper.contents c.go_on.new.self.keeper in
     let grown = c.go_on.ensures.worthy.stays in
     worthy_asked rules s old new grown q st c.go_on.ensures.worthy
+
+pub returns-in_ok-copy-in-Kept-clause-stays : goal.returns-in_ok-copy-in-Kept-clause-stays
+returns-in_ok-copy-in-Kept-clause-stays g c there right =
+    let rules = c.args.rules.now in
+    let s = c.args.store.now in
+    let q = c.args.question.now in
+    let st = c.requires.standing in
+    let old = g.K.Keeper.contents c.args.self.now.keeper in
+    let new = g.K.Keeper.contents c.go_on.new.self.keeper in
+    let grown = c.go_on.ensures.worthy.stays in
+    c.go_on.ensures.stays (last_there rules s old new grown q st c.requires.idle there) right
+
+pub returns-in_ok-copy-in-Kept-clause-worthy : goal.returns-in_ok-copy-in-Kept-clause-worthy
+returns-in_ok-copy-in-Kept-clause-worthy g c =
+    let rules = c.args.rules.now in
+    let s = c.args.store.now in
+    let q = c.args.question.now in
+    let st = c.requires.standing in
+    let old = g.K.Keeper.contents c.args.self.now.keeper in
+    let new = g.K.Keeper.contents c.go_on.new.self.keeper in
+    let grown = c.go_on.ensures.worthy.stays in
+    worthy_asked rules s old new grown q st c.go_on.ensures.worthy
+
+pub returns-in_err-copy-in-Kept-clause-stays : goal.returns-in_err-copy-in-Kept-clause-stays
+returns-in_err-copy-in-Kept-clause-stays g c there right =
+    let rules = c.args.rules.now in
+    let s = c.args.store.now in
+    let q = c.args.question.now in
+    let st = c.requires.standing in
+    let old = g.K.Keeper.contents c.args.self.now.keeper in
+    let new = g.K.Keeper.contents c.go_on.new.self.keeper in
+    let grown = c.go_on.ensures.worthy.stays in
+    c.go_on.ensures.stays (last_there rules s old new grown q st c.requires.idle there) right
+
+pub returns-in_err-copy-in-Kept-clause-worthy : goal.returns-in_err-copy-in-Kept-clause-worthy
+returns-in_err-copy-in-Kept-clause-worthy g c =
+    let rules = c.args.rules.now in
+    let s = c.args.store.now in
+    let q = c.args.question.now in
+    let st = c.requires.standing in
+    let old = g.K.Keeper.contents c.args.self.now.keeper in
+    let new = g.K.Keeper.contents c.go_on.new.self.keeper in
+    let grown = c.go_on.ensures.worthy.stays in
+    worthy_asked rules s old new grown q st c.go_on.ensures.worthy
+
+pub returns-in_ok-copy-in-Kept-clause-turned : goal.returns-in_ok-copy-in-Kept-clause-turned
+returns-in_ok-copy-in-Kept-clause-turned g c =
+    let rules = c.args.rules.now in
+    let s = c.args.store.now in
+    let q = c.args.question.now in
+    let st = c.requires.standing in
+    let old = g.K.Keeper.contents c.args.self.now.keeper in
+    let new = g.K.Keeper.contents c.go_on.new.self.keeper in
+    let grown = c.go_on.ensures.worthy.stays in
+    let p = c.pass-in-Kept.new.self in
+    let v = c.in-Kept.value in
+    let (d, same, has) = subst (λ (t : Attempt). HasTried rules (class_shown s) (contents s) old q.found.entries q.inst t) c.in-Kept.is c.in_ok-value.ensures.tried in
+    IfOk-weaker c.pass-in-Kept.result _ _ (gained_turn rules s old old q st p v d same has) c.pass-in-Kept.ensures
+
+pub returns-in_ok-copy-in-Kept-clause-standing : goal.returns-in_ok-copy-in-Kept-clause-standing
+returns-in_ok-copy-in-Kept-clause-standing g c =
+    let rules = c.args.rules.now in
+    let s = c.args.store.now in
+    let q = c.args.question.now in
+    let st = c.requires.standing in
+    let old = g.K.Keeper.contents c.args.self.now.keeper in
+    let new = g.K.Keeper.contents c.go_on.new.self.keeper in
+    let grown = c.go_on.ensures.worthy.stays in
+    let p = c.pass-in-Kept.new.self in
+    let v = c.in-Kept.value in
+    let (d, same, has) = subst (λ (t : Attempt). HasTried rules (class_shown s) (contents s) old q.found.entries q.inst t) c.in-Kept.is c.in_ok-value.ensures.tried in
+    let kept = subst (λ (t : Attempt). IsKeptAs new q.inst t) c.in-Kept.is c.in_ok-value.ensures.keeps in
+    IfOk-weaker c.pass-in-Kept.result _ _ (λ o r. stands_passed rules s old new grown q st p v kept o r (gained_turn rules s old old q st p v d same has o r)) c.pass-in-Kept.ensures
+
+pub returns-in_ok-copy-in-Kept-clause-sparing : goal.returns-in_ok-copy-in-Kept-clause-sparing
+returns-in_ok-copy-in-Kept-clause-sparing g c exact spare sparing =
+    let rules = c.args.rules.now in
+    let s = c.args.store.now in
+    let q = c.args.question.now in
+    let st = c.requires.standing in
+    let old = g.K.Keeper.contents c.args.self.now.keeper in
+    let new = g.K.Keeper.contents c.go_on.new.self.keeper in
+    let grown = c.go_on.ensures.worthy.stays in
+    IfOk-weaker c.pass-in-Kept.result _ _ (λ o r. spares_passed rules s old new grown q st c.pass-in-Kept.new.self c.in-Kept.value o r sparing) c.pass-in-Kept.ensures
+
+pub returns-in_ok-copy-in-Kept-clause-fit : goal.returns-in_ok-copy-in-Kept-clause-fit
+returns-in_ok-copy-in-Kept-clause-fit g c =
+    let rules = c.args.rules.now in
+    let s = c.args.store.now in
+    let q = c.args.question.now in
+    let st = c.requires.standing in
+    let old = g.K.Keeper.contents c.args.self.now.keeper in
+    let new = g.K.Keeper.contents c.go_on.new.self.keeper in
+    let grown = c.go_on.ensures.worthy.stays in
+    let t = c.trial_of.new.trials in
+    let fit = subst (λ (o : Option (Instance ℕ)). FitAt rules s old q t.frames.items o) c.trial_of.ensures.none c.trial_of.ensures.fit in
+    IfOk-weaker c.pass-in-Kept.result _ _ (fit_gained rules s old new grown q c.pass-in-Kept.new.self st (record { frames = t.frames; awaited = Some c.in_ok-copy-in-Kept.field-0 }) c.in_ok-copy-in-Kept.field-0 c.in-Kept.value c.in_ok-copy-in-Kept.ensures refl fit) c.pass-in-Kept.ensures
 
 pub returns-in_ok-copy-in-Found-clause-stays : goal.returns-in_ok-copy-in-Found-clause-stays
 returns-in_ok-copy-in-Found-clause-stays g c there right =
@@ -226,7 +323,7 @@ returns-in_ok-copy-in-Found-clause-turned g c =
     let grown = c.go_on.ensures.worthy.stays in
     let p = c.settle.new.self in
     let d = c.in-Found.find in
-    let has = subst (λ (t : Attempt). HasTried rules (class_shown s) (contents s) old q.found.entries q.inst t) c.in-Found.is c.in_ok-find.ensures.tried in
+    let has = subst (λ (t : Attempt). HasTried rules (class_shown s) (contents s) old q.found.entries q.inst t) c.in-Found.is c.in_ok-value.ensures.tried in
     IfOk-weaker c.settle.result _ _ (settled_turn rules s old old q st p d has) c.settle.ensures
 
 pub returns-in_ok-copy-in-Found-clause-standing : goal.returns-in_ok-copy-in-Found-clause-standing
@@ -240,7 +337,7 @@ returns-in_ok-copy-in-Found-clause-standing g c =
     let grown = c.go_on.ensures.worthy.stays in
     let p = c.settle.new.self in
     let d = c.in-Found.find in
-    let has = subst (λ (t : Attempt). HasTried rules (class_shown s) (contents s) old q.found.entries q.inst t) c.in-Found.is c.in_ok-find.ensures.tried in
+    let has = subst (λ (t : Attempt). HasTried rules (class_shown s) (contents s) old q.found.entries q.inst t) c.in-Found.is c.in_ok-value.ensures.tried in
     IfOk-weaker c.settle.result _ _ (λ o r. stands_settled rules s old new grown q st p d has o r (settled_turn rules s old old q st p d has o r)) c.settle.ensures
 
 pub returns-in_ok-copy-in-Found-clause-sparing : goal.returns-in_ok-copy-in-Found-clause-sparing
@@ -254,8 +351,8 @@ returns-in_ok-copy-in-Found-clause-sparing g c exact spare sparing =
     let grown = c.go_on.ensures.worthy.stays in
     let p = c.settle.new.self in
     let d = c.in-Found.find in
-    let has = subst (λ (t : Attempt). HasTried rules (class_shown s) (contents s) old q.found.entries q.inst t) c.in-Found.is c.in_ok-find.ensures.tried in
-    let settled = subst (λ (t : Attempt). SettlesOn rules new q.found.entries q.inst t) c.in-Found.is (c.in_ok-find.ensures.settles exact spare sparing.settled) in
+    let has = subst (λ (t : Attempt). HasTried rules (class_shown s) (contents s) old q.found.entries q.inst t) c.in-Found.is c.in_ok-value.ensures.tried in
+    let settled = subst (λ (t : Attempt). SettlesOn rules new q.found.entries q.inst t) c.in-Found.is (c.in_ok-value.ensures.settles exact spare sparing.settled) in
     IfOk-weaker c.settle.result _ _ (λ o r. spares_settled rules s old new grown q st p d has o r sparing settled) c.settle.ensures
 
 pub returns-in_ok-push-in-Needs-clause-turned : goal.returns-in_ok-push-in-Needs-clause-turned
@@ -269,7 +366,7 @@ returns-in_ok-push-in-Needs-clause-turned g c =
     let grown = c.go_on.ensures.worthy.stays in
     let p = c.deepen.new.self in
     let j = c.in-Needs.needed in
-    let has = subst (λ (t : Attempt). HasTried rules (class_shown s) (contents s) old q.found.entries q.inst t) c.in-Needs.is c.in_ok-find.ensures.tried in
+    let has = subst (λ (t : Attempt). HasTried rules (class_shown s) (contents s) old q.found.entries q.inst t) c.in-Needs.is c.in_ok-value.ensures.tried in
     IfOk-weaker c.deepen.result _ _ (deepened_turn rules s old old q st p j has) c.deepen.ensures
 
 pub returns-in_ok-push-in-Needs-clause-standing : goal.returns-in_ok-push-in-Needs-clause-standing
@@ -283,7 +380,7 @@ returns-in_ok-push-in-Needs-clause-standing g c =
     let grown = c.go_on.ensures.worthy.stays in
     let p = c.deepen.new.self in
     let j = c.in-Needs.needed in
-    let has = subst (λ (t : Attempt). HasTried rules (class_shown s) (contents s) old q.found.entries q.inst t) c.in-Needs.is c.in_ok-find.ensures.tried in
+    let has = subst (λ (t : Attempt). HasTried rules (class_shown s) (contents s) old q.found.entries q.inst t) c.in-Needs.is c.in_ok-value.ensures.tried in
     IfOk-weaker c.deepen.result _ _ (λ o r. stands_deepened rules s old new grown q st p j has o r (deepened_turn rules s old old q st p j has o r)) c.deepen.ensures
 
 pub returns-in_ok-push-in-Needs-clause-sparing : goal.returns-in_ok-push-in-Needs-clause-sparing
@@ -297,7 +394,7 @@ returns-in_ok-push-in-Needs-clause-sparing g c exact spare sparing =
     let grown = c.go_on.ensures.worthy.stays in
     let p = c.deepen.new.self in
     let j = c.in-Needs.needed in
-    let has = subst (λ (t : Attempt). HasTried rules (class_shown s) (contents s) old q.found.entries q.inst t) c.in-Needs.is c.in_ok-find.ensures.tried in
+    let has = subst (λ (t : Attempt). HasTried rules (class_shown s) (contents s) old q.found.entries q.inst t) c.in-Needs.is c.in_ok-value.ensures.tried in
     IfOk-weaker c.deepen.result _ _ (λ o r. spares_deepened rules s old new grown q st p j o r sparing) c.deepen.ensures
 
 pub returns-in_ok-at-in-Fails-clause-turned : goal.returns-in_ok-at-in-Fails-clause-turned
@@ -309,7 +406,7 @@ returns-in_ok-at-in-Fails-clause-turned g c =
     let old = g.K.Keeper.contents c.args.self.now.keeper in
     let new = g.K.Keeper.contents c.go_on.new.self.keeper in
     let grown = c.go_on.ensures.worthy.stays in
-    let has = subst (λ (t : Attempt). HasTried rules (class_shown s) (contents s) old q.found.entries q.inst t) c.in-Fails.is c.in_ok-find.ensures.tried in
+    let has = subst (λ (t : Attempt). HasTried rules (class_shown s) (contents s) old q.found.entries q.inst t) c.in-Fails.is c.in_ok-value.ensures.tried in
     let turned = failed_turn rules s old old q st c.in-Fails.kind c.in_ok-at-in-Fails.at c.in_ok-at-in-Fails.ensures has in
     turned
 
@@ -347,7 +444,7 @@ returns-in_ok-copy-in-Found-clause-fit g c =
     let grown = c.go_on.ensures.worthy.stays in
     let p = c.settle.new.self in
     let d = c.in-Found.find in
-    let has = subst (λ (t : Attempt). HasTried rules (class_shown s) (contents s) old q.found.entries q.inst t) c.in-Found.is c.in_ok-find.ensures.tried in
+    let has = subst (λ (t : Attempt). HasTried rules (class_shown s) (contents s) old q.found.entries q.inst t) c.in-Found.is c.in_ok-value.ensures.tried in
     let t = c.trial_of.new.trials in
     let fit = subst (λ (o : Option (Instance ℕ)). FitAt rules s old q t.frames.items o) c.trial_of.ensures.none c.trial_of.ensures.fit in
     IfOk-weaker c.settle.result _ _ (fit_settled rules s old new grown q p st (record { frames = t.frames; awaited = Some c.in_ok-copy-in-Found.field-0 }) c.in_ok-copy-in-Found.field-0 d c.in_ok-copy-in-Found.ensures refl fit) c.settle.ensures
@@ -363,12 +460,12 @@ returns-in_ok-push-in-Needs-clause-fit g c =
     let grown = c.go_on.ensures.worthy.stays in
     let p = c.deepen.new.self in
     let j = c.in-Needs.needed in
-    let has = subst (λ (t : Attempt). HasTried rules (class_shown s) (contents s) old q.found.entries q.inst t) c.in-Needs.is c.in_ok-find.ensures.tried in
+    let has = subst (λ (t : Attempt). HasTried rules (class_shown s) (contents s) old q.found.entries q.inst t) c.in-Needs.is c.in_ok-value.ensures.tried in
     let t = c.trial_of.new.trials in
     let fit = subst (λ (o : Option (Instance ℕ)). FitAt rules s old q t.frames.items o) c.trial_of.ensures.none c.trial_of.ensures.fit in
     let u = c.push.new.self in
     let frame = c.go_on.new.frame in
-    let one = subst (λ (t : Attempt). Awaits rules (class_shown s) (contents s) old q.found.entries q.inst frame t) c.in-Needs.is c.in_ok-find.ensures.waits in
+    let one = subst (λ (t : Attempt). Awaits rules (class_shown s) (contents s) old q.found.entries q.inst frame t) c.in-Needs.is c.in_ok-value.ensures.waits in
     IfOk-weaker c.deepen.result _ _ (fit_deepened rules s old new grown q p st u t.frames.items frame j (c.push.ensures.awaited ∙ c.trial_of.ensures.none) c.in_ok-push-in-Needs.ensures.frames fit one) c.deepen.ensures
 
 pub go_on-requires-clause-standing : goal.go_on-requires-clause-standing

@@ -7,7 +7,7 @@ use Rattle.at_demand.specs.declared.evaluation.Demanded.{Demanded}
 use Rattle.at_demand.proofs.Keys.{key_passes}
 use Rattle.at_demand.proofs.Sameness.{same_true}
 use Rattle.at_demand.proofs.Passing.{takes_kept, takes_found}
-use Rattle.at_demand.proofs.Recalling.{known_kept, known_found, unknown, kept_push}
+use Rattle.at_demand.proofs.Recalling.{known_kept, known_found, none_found, unknown, kept_push}
 use Rattle.at_demand.proofs.evaluation.Demanded.recall.Goals as goal
 
 pub returns-in_err-push : goal.returns-in_err-push
@@ -62,6 +62,17 @@ returns-in_ok-copy-in-Some-get_full g c =
       takes = takes_found found old new needed got.position got.find.now there refl items;
       one = inr (got.position, got.find.now, there, refl, items);
       recalled = known_found entries found needed (value_view c.in_ok-copy-in-Some-get_full.field-0) got.find.now c.in_default.ensures got.ensures.value c.in_ok-copy-in-Some-get_full.ensures;
+    }
+
+pub returns-then-is_empty : goal.returns-then-is_empty
+returns-then-is_empty g c =
+    let found = c.args.found.now.entries in
+    let none = none_found found c.args.needed (c.is_empty.ensures.0 c.if-is_empty.true) in
+    record {
+      kept = c.requires.kept;
+      takes = refl;
+      one = refl;
+      recalled = (refl, unknown (g.K.Keeper.contents c.args.keeper.now) found c.args.needed c.in_default.ensures none);
     }
 
 pub returns-in-None : goal.returns-in-None

@@ -1,0 +1,41 @@
+use Rattle.std.proofs.Common.{refl, sym, subst}
+use Rattle.std.proofs.lemmas.Result.{err_from_is_err_and}
+use Rattle.at_body.specs.Values.{value_view}
+use Rattle.at_cache.specs.Kept.{AreKept}
+use Rattle.at_cache.specs.declared.keeper.Put.TheVariants as put
+use Rattle.at_demand.proofs.Counting.{counts_none}
+use Rattle.at_demand.proofs.Putting.{put_as}
+use Rattle.at_demand.proofs.demand.Demand.keep_with.Goals as goal
+
+pub put-requires-clause-present : goal.put-requires-clause-present
+put-requires-clause-present g c =
+    let old = g.K.Keeper.contents c.args.self.now.keeper in
+    subst (AreKept old) (sym c.as_slice.ensures.value) (c.in_ok-sources.ensures.kept old c.requires.found c.requires.kept)
+
+pub returns-in_err-sources : goal.returns-in_err-sources
+returns-in_err-sources g c =
+    let is = (err_from_is_err_and c.from_residual.result c.from_residual.ensures.1).1 in
+    record { placed = rw is tt; err = rw is (λ i. refl); counts = λ exact small. counts_none (g.K.Keeper.contents c.args.self.now.keeper) c.args.self.now.work small }
+
+pub returns-in_err-put : goal.returns-in_err-put
+returns-in_err-put g c =
+    let is = (err_from_is_err_and c.from_residual-in_err-put.result c.from_residual-in_err-put.ensures.1).1 in
+    record { placed = rw is tt; err = rw is c.in_err-put.ensures.err; counts = c.put.ensures.counts }
+
+pub returns-in-Kept : goal.returns-in-Kept
+returns-in-Kept g c =
+    let f = c.args.find in
+    let s = c.in_ok-sources.sources in
+    let e = c.in_ok-sources.ensures in
+    let old = g.K.Keeper.contents c.args.self.now.keeper in
+    let puts = put_as g.K.Keeper.exact old c.args.inst.now (value_view f.value) _ s.reads _ s.kept.items (g.K.Keeper.contents c.put.new.self.keeper) _ put.Kept c.in_ok-put.ensures.puts c.replace-reads.ensures.value c.as_slice.ensures.value c.in-Kept.is in
+    record { placed = (s, e.gathered, e.only, e.kept old c.requires.found c.requires.kept, (c.into_value.ensures, puts)); err = tt; counts = c.put.ensures.counts }
+
+pub returns : goal.returns
+returns g c =
+    let f = c.args.find in
+    let s = c.in_ok-sources.sources in
+    let e = c.in_ok-sources.ensures in
+    let old = g.K.Keeper.contents c.args.self.now.keeper in
+    let (off, all, same) = put_as g.K.Keeper.exact old c.args.inst.now (value_view f.value) _ s.reads _ s.kept.items (g.K.Keeper.contents c.put.new.self.keeper) _ (put.Left c.in-Left._reads) c.in_ok-put.ensures.puts c.replace-reads.ensures.value c.as_slice.ensures.value c.in-Left.is in
+    record { placed = (s, e.gathered, e.only, e.kept old c.requires.found c.requires.kept, (off, all, record { value = refl; reads = refl; demanded = refl })); err = tt; counts = c.put.ensures.counts }
