@@ -1,14 +1,12 @@
 //! A path in one pass over its text, a step at a time.
 ghost use Rattle.std.specs.Prelude.{◌≡◌, ◌<◌, ◌++◌, ◌∷◌, ◌+◌, IfOk, IfSome};
 ghost use Rattle.std.specs.Fmt.{decimal};
-ghost use Rattle.at_model.specs.Names.{IsName};
 ghost use Rattle.at_model.specs.Paths.{IsStep, IsPath, path_text, step_text};
 ghost use Rattle.at_tree.specs.PathView.{path_view, step_view};
 
 use super::{Path, Step};
 use crate::fault::{Misfit, Untaken};
-use crate::names::{begins_name, name_len};
-use at_text::names::is_reserved;
+use crate::names::name_first;
 use std::alloc::Global;
 use std::borrow::CowStr;
 
@@ -40,7 +38,7 @@ fn step_first<'a>(text: &'a str) -> Result<(Step<'a>, &'a str), Untaken>
     let Some(behind) = text.strip_prefix('/') else {
         return Err(Untaken::For(Misfit::Form));
     };
-    let (name, rest) = part_first(behind)?;
+    let (name, rest) = name_first(behind)?;
     let part = CowStr::Borrowed(name);
     let Some(digits) = rest.strip_prefix(':') else {
         return Ok((Step { part, index: None }, rest));
@@ -50,17 +48,6 @@ fn step_first<'a>(text: &'a str) -> Result<(Step<'a>, &'a str), Untaken>
     };
     let index = Some(index);
     Ok((Step { part, index }, rest))
-}
-
-/// The name at the front, and what follows it.
-fn part_first(text: &str) -> Result<(&str, &str), Untaken>
-    ensures { IfOk result (λ r. IsName r.0.now × (text.now ≡ r.0.now ++ r.1.now)) }
-{
-    let (name, rest) = text.split_at(name_len(text));
-    if !begins_name(name) || is_reserved(name) {
-        return Err(Untaken::For(Misfit::Form));
-    }
-    Ok((name, rest))
 }
 
 /// The index whose decimal stands at the front, and what follows it.
