@@ -50,7 +50,12 @@ pub fn has_mark<M: Lookup>(marks: &M, session: u16, name: &str) -> bool
 }
 
 /// Whether the session has the marks that the words of a question use.
-pub fn has_asked<M: Lookup>(marks: &M, session: u16, place: &Place<'_>, arguments: &[Argument<'_>]) -> bool
+pub fn has_asked<M: Lookup>(
+    marks: &M,
+    session: u16,
+    place: &Place<'_>,
+    arguments: &[Argument<'_>],
+) -> bool
     ensures { result ≡ list_all (has_mark (M.marks marks.now) session) (marks_in (place_view place.now) ++ flat_map marks_in_argument (arguments_view arguments.now)) }
 {
     if !has_in(marks, session, place) {
