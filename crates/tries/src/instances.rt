@@ -33,7 +33,7 @@ pub fn instance(world: &World, call: &str) -> Result<Inst, Refusal>
     ensures { IfOk result (IsTyped world.now) }
 {
     let line = line_of(world, "0 ask ", call, "")?;
-    let command = command(world, &line)?;
+    let command = command(world, line.as_str())?;
     let Command::Ask {
         place,
         attribute,
@@ -78,7 +78,7 @@ fn value(world: &World, text: &str) -> Result<Value, Refusal>
         return Ok(Value::Int(number));
     }
     let line = line_of(world, "0 ask / v(", text, ")")?;
-    let command = command(world, &line)?;
+    let command = command(world, line.as_str())?;
     let Command::Ask { arguments, .. } = &*command else {
         return Err(Refusal::Line);
     };
