@@ -1,5 +1,5 @@
 -- Each command that doesn't wait is obeyed at once.
-use Rattle.std.proofs.Common.{◌≡◌, ℕ, ◌+◌, Bool, if◌then◌else◌, true, false, nat_eq, nat_le, List, [], ◌∷◌, ◌++◌, count_by, map, Option, Some, None, option_and_then, Result, Ok, Err, refl, string_bytes}
+use Rattle.std.proofs.Common.{◌≡◌, ℕ, ◌+◌, Bool, if◌then◌else◌, true, false, nat_eq, nat_le, List, [], ◌∷◌, ◌++◌, count_by, map, Option, Some, None, option_and_then, Result, Ok, Err, refl}
 use Rattle.at_model.specs.Classes.{Shape}
 use Rattle.at_model.specs.Trees.{Tree, class_of}
 use Rattle.at_model.specs.Terms.{Term, term_of}
@@ -104,17 +104,17 @@ module _ (rules : Rules) (s : State) (session : ℕ) where
   at_mark (Some n) = tt
 
   pub at_once : (c : Command) → ((number : ℕ) → c ≡ command.Wait number → ⊥) → IsAtOnce (obeyed rules s session (command_view c))
-  at_once (command.Ask place name arguments) other = at_place (place_view place) _ (λ n. at_values n (string_bytes name) (each (map (value_named rules.classes s session) (arguments_view arguments.items))))
+  at_once (command.Ask place name arguments) other = at_place (place_view place) _ (λ n. at_values n name.now (each (map (value_named rules.classes s session) (arguments_view arguments.items))))
   at_once (command.Set place t) other = at_place (place_view place) _ (λ n. at_tree (term_view t) (class_asked rules.classes s.tree n) _ (λ u. at_edit (edit.Set n u)))
-  at_once (command.Put place part t) other = at_place (place_view place) _ (λ n. at_part n (string_bytes part) optional_class _ (λ p b. at_tree (term_view t) (Some b) _ (λ u. at_edit (edit.Put n p u))))
+  at_once (command.Put place part t) other = at_place (place_view place) _ (λ n. at_part n part.now optional_class _ (λ p b. at_tree (term_view t) (Some b) _ (λ u. at_edit (edit.Put n p u))))
   at_once (command.Drop place) other = at_place (place_view place) _ (λ n. at_edit (edit.Drop n))
-  at_once (command.Insert place part index t) other = at_place (place_view place) _ (λ n. at_part n (string_bytes part) list_class _ (λ p b. at_tree (term_view t) (Some b) _ (λ u. at_edit (edit.Insert n p index u))))
-  at_once (command.Token place part value) other = at_place (place_view place) _ (λ n. at_part n (string_bytes part) token_kind _ (λ p kind. at_edit (edit.Token n p (token_view value))))
-  at_once (command.Move place to part index) other = at_place (place_view place) _ (λ n. at_place (place_view to) _ (λ m. at_part m (string_bytes part) list_class _ (λ p b. at_edit (edit.Move n m p index))))
+  at_once (command.Insert place part index t) other = at_place (place_view place) _ (λ n. at_part n part.now list_class _ (λ p b. at_tree (term_view t) (Some b) _ (λ u. at_edit (edit.Insert n p index u))))
+  at_once (command.Token place part value) other = at_place (place_view place) _ (λ n. at_part n part.now token_kind _ (λ p kind. at_edit (edit.Token n p (token_view value))))
+  at_once (command.Move place to part index) other = at_place (place_view place) _ (λ n. at_place (place_view to) _ (λ m. at_part m part.now list_class _ (λ p b. at_edit (edit.Move n m p index))))
   at_once (command.Show place) other = at_place (place_view place) _ (λ n. at_shown (tree_at s.tree n))
-  at_once (command.Mark name place) other = at_place (place_view place) _ (at_name (string_bytes name))
+  at_once (command.Mark name place) other = at_place (place_view place) _ (at_name name.now)
   at_once (command.Unmark name) other = tt
-  at_once (command.Where name) other = at_mark (marked s.marks session (string_bytes name))
+  at_once (command.Where name) other = at_mark (marked s.marks session name.now)
   at_once command.Version other = tt
-  at_once (command.Post place name arguments) other = at_post (place_view place) (string_bytes name) (arguments_view arguments.items)
+  at_once (command.Post place name arguments) other = at_post (place_view place) name.now (arguments_view arguments.items)
   at_once (command.Wait number) other = absurd (other number refl)

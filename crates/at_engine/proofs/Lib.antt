@@ -20,6 +20,7 @@ pub mod Editing
 pub mod Kept
 pub mod KeptLines
 pub mod Pieces
+pub mod Newlines
 pub mod Progressing
 pub mod Remembering
 pub mod Takings
@@ -44,6 +45,7 @@ pub mod Openings
 pub mod Copying
 pub mod Trying
 pub mod Opened
+pub mod PostedFor
 pub mod Beginning
 pub mod Finishing
 pub mod Reading

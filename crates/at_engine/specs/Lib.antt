@@ -5,6 +5,7 @@ pub mod Marks
 pub mod Tally
 pub mod Tallied
 pub mod Posted
+pub mod PostedFor
 pub mod Holding
 pub mod Serving
 pub mod Following

@@ -4,7 +4,8 @@
 //! size), `Serving` (one call), `Ends` and `RunFaults` (streams that fail). Of a line: `Holding` and `Engines`
 //! (which state of the machine an engine holds, and when it is sound), `Following` and `Telling` (what a verdict
 //! leads to, in the program's words). By numbers for nodes: `Naming`, `Marks`, `Asking`, `Answered`, `Fitting`,
-//! `Collected`. Open questions: `Posted`, `Turning`, `Turned`. What is kept: `Keeping`, `KeptOver`, `KeepingRuns`.
+//! `Collected`. Open questions: `Posted`, `PostedFor`, `Turning`, `Turned`. What is kept: `Keeping`, `KeptOver`,
+//! `KeepingRuns`.
 //!
 //! **Where to begin:** `engine.rt` serves one line, `engine/` has its commands; `stream.rt` serves all, between an
 //! `Input` and an `Output`.

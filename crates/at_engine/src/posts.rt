@@ -21,9 +21,9 @@ pub const MAX_POSTED: usize = 100;
 pub struct Posted {
     pub(crate) number: u64,
     pub(crate) session: u16,
-    pub(crate) place: Place,
+    pub(crate) place: Place<'static>,
     pub(crate) attribute: String,
-    pub(crate) arguments: Vec<Argument>,
+    pub(crate) arguments: Vec<Argument<'static>>,
     pub(crate) marks: Noted,
     pub(crate) question: Option<Question>,
 }

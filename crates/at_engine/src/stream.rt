@@ -19,6 +19,7 @@ use at_cache::Keeper;
 use desk::Desk;
 pub use desk::{Report, RunFault};
 pub use ends::{Input, Output, Watched};
+use memchr::memchr;
 
 /// How many reads `run` may take.
 const READS: u64 = 1_000_000_000;
@@ -261,7 +262,7 @@ fn at_newline(bytes: &[u8]) -> Option<(&[u8], &[u8])>
 fn newline_in(bytes: &[u8]) -> Option<usize>
     ensures { result ≡ newline_at bytes.now }
 {
-    bytes.iter().position(|byte| *byte == b'\n')
+    memchr(b'\n', bytes)
 }
 
 /// Serves the last line, which no newline ends, unless it is empty, and gives turns until no question is open.

@@ -44,3 +44,9 @@ session_read bytes word (Some session) is h =
 
 pub no_session : (bytes word : List ℕ) → word ≡ front bytes → (IsUtf8 word → ⊥) → IsSessionOf bytes None
 no_session bytes word is no_text = λ session b. no_text (subst IsUtf8 (sym (the_word bytes word session is b)) (IsUtf8-from_ascii _ (IsAscii-decimal session (omega (arith, b.exists)))))
+
+-- the text before the first space is the first word
+pub word_first : (bytes text word rest : List ℕ) → text ≡ bytes → text ≡ word ++ 32 ∷ rest → HasNoSpace word → word ≡ front bytes
+word_first bytes text word rest same split one =
+    let w = first_word bytes in
+    sym (one_front (front bytes) word w.rest (32 ∷ rest) (sym w.split ∙ sym same ∙ split) w.one one w.behind refl).0

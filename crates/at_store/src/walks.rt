@@ -22,6 +22,7 @@ use at_tree::path::Step;
 use at_tree::tree::{Cell, Tree};
 use slab::Slab;
 use std::alloc::{AllocError, Global};
+use std::borrow::CowStr;
 
 /// The position among the children: an index stands exactly for a list.
 fn place_in(shape: PartShape, index: Option<u32>) -> Option<usize>
@@ -36,7 +37,7 @@ fn place_in(shape: PartShape, index: Option<u32>) -> Option<usize>
 }
 
 /// The component of a class and the position in it to which a step leads.
-fn way_by(classes: &ClassTable, class: ClassId, step: &Step) -> Option<(usize, usize)>
+fn way_by(classes: &ClassTable, class: ClassId, step: &Step<'_>) -> Option<(usize, usize)>
     ensures { result ≡ step_in classes.now (bare class no_cells) (step_view step.now) }
 {
     if class.index() >= classes.len() {
@@ -48,7 +49,7 @@ fn way_by(classes: &ClassTable, class: ClassId, step: &Step) -> Option<(usize, u
 }
 
 /// The node to which one step leads.
-fn step_from(slab: &Slab<Entry>, classes: &ClassTable, node: Node, step: &Step) -> Option<Node>
+fn step_from(slab: &Slab<Entry>, classes: &ClassTable, node: Node, step: &Step<'_>) -> Option<Node>
     ensures { result ≡ option_and_then (λ way. slice_get (kids_in (memory_of slab.now node) way.0) way.1) (step_in classes.now (bare (class_in (memory_of slab.now) node) no_cells) (step_view step.now)) }
 {
     let (part, index) = way_by(classes, class_at(slab, node), step)?;
@@ -60,7 +61,7 @@ pub(crate) fn walk(
     slab: &Slab<Entry>,
     classes: &ClassTable,
     from: Node,
-    steps: &[Step],
+    steps: &[Step<'_>],
 ) -> Option<Node>
     ensures { (s : Numbered) (n : Place) (u : Numbered) → Keeps (memory_of slab.now) s None → path_in from s ≡ Some n → tree_at s n ≡ Some u
         → Led s classes.now n (relabel (class_in (memory_of slab.now)) u) (steps_view steps.now) result }
@@ -103,12 +104,12 @@ pub(crate) fn part_of(classes: &ClassTable, class: ClassId, part: usize) -> Opti
 }
 
 /// The step by a component to a position.
-fn step_by(alloc: Global, part: &Part, index: usize) -> Result<Step, AllocError>
+fn step_by(alloc: Global, part: &Part, index: usize) -> Result<Step<'static>, AllocError>
     requires { index < 65536 }
     ensures { IfOk result (λ s. step_view s ≡ record { part = string_bytes part.now.name; index = index_of (shape_view part.now.shape) index }) }
 {
     Ok(Step {
-        part: String::from_str(alloc, part.name.as_str())?,
+        part: CowStr::Owned(String::from_str(alloc, part.name.as_str())?),
         index: step_index(part.shape, index),
     })
 }
@@ -120,7 +121,7 @@ pub(crate) fn steps_to(
     classes: &ClassTable,
     node: Node,
     most: usize,
-) -> Result<Vec<Step>, AllocError>
+) -> Result<Vec<Step<'static>>, AllocError>
     requires { (k : ℕ) → index_in (memory_of slab.now k) < 65536 }
     ensures written { IfOk result (λ steps. IsPath (steps_view steps.items)) }
     ensures led { IfOk result (λ steps. (s : Numbered) (n : Place) (p : Path) → Keeps (memory_of slab.now) s None → path_in node s ≡ Some n → length n ≤ most

@@ -38,7 +38,7 @@ name_found classes name c e =
 and_true : (a b : Bool) → a ≡ true → b ≡ true → (a && b) ≡ true
 and_true a b e f = ap (λ x. x && b) e ∙ f
 
-begun : (text name mid texts rest : List ℕ) → text ≡ name ++ 40 ∷ mid → mid ≡ texts ++ 41 ∷ rest → text ≡ (name ++ 40 ∷ (texts ++ 41 ∷ [])) ++ rest
+pub begun : (text name mid texts rest : List ℕ) → text ≡ name ++ 40 ∷ mid → mid ≡ texts ++ 41 ∷ rest → text ≡ (name ++ 40 ∷ (texts ++ 41 ∷ [])) ++ rest
 begun text name mid texts rest begins inside =
     begins ∙ ap (λ ys. name ++ 40 ∷ ys) (inside ∙ sym (append_assoc texts (41 ∷ []) rest)) ∙ sym (append_assoc name (40 ∷ (texts ++ 41 ∷ [])) rest)
 

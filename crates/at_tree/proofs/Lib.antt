@@ -22,4 +22,5 @@ pub mod Made
 pub mod ShapeLaws
 pub mod ReadTrees
 pub mod Fronts
+pub mod TermFronts
 mod Misfits

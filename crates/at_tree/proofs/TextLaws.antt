@@ -2,7 +2,7 @@
 use Rattle.std.proofs.Common.{◌≡◌, ℕ, List, [], ◌∷◌, ◌++◌, length, Some, None, refl, ap, sym, ◌∙◌, append-nil, length-append, arith}
 use Rattle.std.specs.Prelude.{chars}
 use Rattle.std.proofs.lemmas.Str.{chars-nil}
-use Rattle.at_model.specs.Terms.{Term, term_text}
+use Rattle.at_model.specs.Terms.{Term, IsTerm, term_text}
 use Rattle.at_tree.specs.Laws.{NoneBeginsAnother, OnePathEach}
 use Rattle.at_tree.specs.Partial.{Start, Done, at, nothing_read, step}
 use Rattle.at_tree.proofs.Machine.{run, run_none, unique}
@@ -24,6 +24,9 @@ none_begins_another t u rest h k e =
     let whole : run step (Some nothing_read) (chars (term_text u)) ≡ Some (at [] (Done u)) = ap (λ y. run step (Some nothing_read) (chars y)) (sym (append-nil (term_text u))) ∙ run_term u [] [] k ∙ rw chars-nil refl in
     let same : t ≡ u = nothing_behind t u (chars rest) (sym over ∙ whole) in
     (same, no_rest (term_text t) rest (ap term_text same ∙ e))
+
+pub one_term_each : (t u : Term) → IsTerm t → IsTerm u → term_text t ≡ term_text u → t ≡ u
+one_term_each t u h k e = (none_begins_another t u [] h k (sym e ∙ sym (append-nil (term_text t)))).0
 
 pub one_path_each : OnePathEach
 one_path_each p q h k e = unique path_machine p q h k e

@@ -16,6 +16,7 @@ pub mod Laws
 pub mod TreeView
 pub mod Separated
 pub mod Fronts
+pub mod TermFronts
 pub mod Shape
 pub mod TreeLaws
 pub mod ReadTrees

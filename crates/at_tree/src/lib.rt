@@ -3,11 +3,11 @@
 //! **Its specs:** `View`, `TreeView`, `PathView` and `Token` are what terms, trees, paths and tokens stand for;
 //! `Reads`, `ReadTrees` and `Shape` what the readers and `shape` answer; `Laws` and `TreeLaws` what is promised of
 //! texts. `Partial`, `PartialPath`, `Gives`, `Leads`, `Stops` and `Finishes` are the readers by characters,
-//! `Fronts`, `Runs` and `PlainNames` those that take whole names, cells and steps; `Seen`, `PathSeen` and
+//! `Fronts`, `TermFronts`, `Runs` and `PlainNames` those that take whole names, cells and steps; `Seen`, `PathSeen` and
 //! `Separated` say what their values stand for.
 //!
 //! **Where to begin:** `term.rt` and `tree.rt`. A file is read in one pass, straight to its tree, and read again by
-//! characters where that fails, to tell the first fault; so is a path.
+//! characters where that fails, to tell the first fault; so are a path and a term in a line.
 //!
 //! **What it keeps true:** one text for each tree and each path, from which the same is read.
 #![tactic(auto)]

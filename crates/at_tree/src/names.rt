@@ -1,8 +1,9 @@
 //! Names of ASCII alone, which are told by their bytes.
-ghost use Rattle.std.specs.Prelude.{◌≡◌, true};
+ghost use Rattle.std.specs.Prelude.{◌≡◌, ◌++◌, true, IfOk};
 ghost use Rattle.at_model.specs.Names.{IsName};
 ghost use Rattle.at_tree.specs.PlainNames.{is_name_byte, name_len, begins_name};
 
+use crate::fault::{Misfit, Untaken};
 use at_text::names::is_reserved;
 
 /// Whether the word is a name of ASCII alone. It may be another name where it isn't.
@@ -15,8 +16,19 @@ pub fn is_plain_name(word: &str) -> bool
     !is_reserved(word)
 }
 
+/// The name of ASCII alone at the front, and what follows it.
+pub(crate) fn name_first(text: &str) -> Result<(&str, &str), Untaken>
+    ensures { IfOk result (λ r. IsName r.0.now × (text.now ≡ r.0.now ++ r.1.now)) }
+{
+    let (name, rest) = text.split_at(name_len(text));
+    if !begins_name(name) || is_reserved(name) {
+        return Err(Untaken::For(Misfit::Form));
+    }
+    Ok((name, rest))
+}
+
 /// How many bytes stand before the first that is none of a name in ASCII.
-pub(crate) fn name_len(text: &str) -> usize
+fn name_len(text: &str) -> usize
     ensures { result ≡ name_len text.now }
 {
     match text.as_bytes().iter().position(|b| !is_name_byte(*b)) {
@@ -33,7 +45,7 @@ fn is_name_byte(b: u8) -> bool
 }
 
 /// Whether such bytes are some, and no digit is the first.
-pub(crate) fn begins_name(name: &str) -> bool
+fn begins_name(name: &str) -> bool
     ensures { result ≡ begins_name name.now }
 {
     match name.as_bytes() {

@@ -2,7 +2,7 @@
 mod conforming;
 mod counts;
 mod direct;
-mod front;
+pub(crate) mod front;
 pub mod laws;
 mod reading;
 mod shaping;

@@ -32,7 +32,8 @@ pub fn instance(world: &World, call: &str) -> Result<Inst, Refusal>
     requires { IsSound world.now }
     ensures { IfOk result (IsTyped world.now) }
 {
-    let command = command(world, "0 ask ", call, "")?;
+    let line = line_of(world, "0 ask ", call, "")?;
+    let command = command(world, line.as_str())?;
     let Command::Ask {
         place,
         attribute,
@@ -44,7 +45,7 @@ pub fn instance(world: &World, call: &str) -> Result<Inst, Refusal>
     let node = node(world, place)?;
     let values = values(world, arguments)?;
     let class = world.store.class(node);
-    let Some(attribute) = world.rules.attribute(class, attribute.as_str()) else {
+    let Some(attribute) = world.rules.attribute(class, attribute) else {
         return Err(Refusal::Attribute);
     };
     if !are_of(world, world.rules.params(attribute), values.as_slice()) {
@@ -76,7 +77,8 @@ fn value(world: &World, text: &str) -> Result<Value, Refusal>
     if let Some(number) = read_int(text) {
         return Ok(Value::Int(number));
     }
-    let command = command(world, "0 ask / v(", text, ")")?;
+    let line = line_of(world, "0 ask / v(", text, ")")?;
+    let command = command(world, line.as_str())?;
     let Command::Ask { arguments, .. } = &*command else {
         return Err(Refusal::Line);
     };
@@ -86,13 +88,18 @@ fn value(world: &World, text: &str) -> Result<Value, Refusal>
     }
 }
 
-/// The command of a session's line that these texts make together; in a box, which each exit lets go by one call.
-fn command(world: &World, front: &str, text: &str, back: &str) -> Result<Box<Command>, Refusal>
-    ensures { IfOk result (λ c. IsCommand (command_view c.value)) }
-{
+/// The session's line that these texts make together.
+fn line_of(world: &World, front: &str, text: &str, back: &str) -> Result<String, Refusal> {
     let mut line = String::from_str(world.alloc, front)?;
     line.push_str(text)?;
     line.push_str(back)?;
+    Ok(line)
+}
+
+/// The command of the line; in a box, which each exit lets go by one call.
+fn command<'a>(world: &World, line: &'a str) -> Result<Box<Command<'a>>, Refusal>
+    ensures { IfOk result (λ c. IsCommand (command_view c.value)) }
+{
     match read_line(world.alloc, line.as_bytes()) {
         Ok(line) => Ok(Box::new(world.alloc, line.command)?),
         Err(LineFault::Syntax { .. }) => Err(Refusal::Line),
@@ -101,7 +108,7 @@ fn command(world: &World, front: &str, text: &str, back: &str) -> Result<Box<Com
 }
 
 /// The node at the place. Nodes have no marks here.
-fn node(world: &World, place: &Place) -> Result<Node, Refusal>
+fn node(world: &World, place: &Place<'_>) -> Result<Node, Refusal>
     requires { IsSound world.now }
     ensures { IfOk result (λ n. IsSome (classes_at world.now n)) }
 {
@@ -116,7 +123,7 @@ fn node(world: &World, place: &Place) -> Result<Node, Refusal>
 }
 
 /// The values of the arguments.
-fn values(world: &World, arguments: &[Argument]) -> Result<Arguments, Refusal>
+fn values(world: &World, arguments: &[Argument<'_>]) -> Result<Arguments, Refusal>
     requires { IsSound world.now }
     ensures { IfOk result (λ vs. AllByRecursion (RefersThere world.now) (map value_view vs.items)) }
 {
@@ -127,7 +134,7 @@ fn values(world: &World, arguments: &[Argument]) -> Result<Arguments, Refusal>
     Ok(values)
 }
 
-fn value_of(world: &World, argument: &Argument) -> Result<Value, Refusal>
+fn value_of(world: &World, argument: &Argument<'_>) -> Result<Value, Refusal>
     requires { IsSound world.now }
     ensures { IfOk result (λ v. RefersThere world.now (value_view v)) }
 {

@@ -60,9 +60,9 @@ impl<K: Keeper> Engine<K> {
     pub(super) fn ask(
         &mut self,
         session: u16,
-        place: &Place,
+        place: &Place<'_>,
         attribute: &str,
-        arguments: &[Argument],
+        arguments: &[Argument<'_>],
     ) -> Result<Form, AllocError>
         requires sound { IsHeld K.contents self.old }
         requires typed { IsTyped (rules_of self.old) (state_of self.old) }
@@ -103,9 +103,9 @@ impl<K: Keeper> Engine<K> {
         &self,
         marks: &M,
         session: u16,
-        place: &Place,
+        place: &Place<'_>,
         attribute: &str,
-        arguments: &[Argument],
+        arguments: &[Argument<'_>],
     ) -> Result<Asked, AllocError>
         requires sound { IsHeld K.contents self.now }
         requires there { AreThere (path_shown self.now.store) (M.marks marks.now) }
@@ -132,7 +132,7 @@ impl<K: Keeper> Engine<K> {
         &self,
         marks: &M,
         session: u16,
-        arguments: &[Argument],
+        arguments: &[Argument<'_>],
     ) -> Result<Option<Arguments>, AllocError>
         requires sound { IsHeld K.contents self.now }
         requires there { AreThere (path_shown self.now.store) (M.marks marks.now) }
@@ -155,7 +155,7 @@ impl<K: Keeper> Engine<K> {
         &self,
         marks: &M,
         session: u16,
-        argument: &Argument,
+        argument: &Argument<'_>,
     ) -> Result<Option<Value>, AllocError>
         requires sound { IsHeld K.contents self.now }
         requires there { AreThere (path_shown self.now.store) (M.marks marks.now) }

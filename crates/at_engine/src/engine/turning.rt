@@ -17,7 +17,6 @@ use super::{Engine, REPLY_ROOM};
 use crate::marks::has_asked;
 use at_cache::Keeper;
 use at_demand::{Answer, Demand, Question};
-use at_protocol::line::Line;
 use at_protocol::reply::{Form, Posting, Refusal};
 use at_rules::Rules;
 use at_store::Store;
@@ -174,9 +173,8 @@ impl<K: Keeper> Engine<K> {
         Ok(Some(self.tell(0, form, out)))
     }
 
-    /// What is told of the line that waits for the question at the position, which is given turns until it is answered. The
-    /// line ends here.
-    pub(super) fn wait(&mut self, position: usize, _line: Line) -> Told
+    /// What is told of a line that waits for the question at the position, which is given turns until it is answered.
+    pub(super) fn wait(&mut self, position: usize) -> Told
         requires sound { IsHeld K.contents self.old }
         requires typed { IsTyped (rules_of self.old) (state_of self.old) }
         requires within { position < length self.old.posts.items.items }

@@ -11,7 +11,7 @@ use at_protocol::line::{Argument, Command, Place};
 use std::alloc::{AllocError, Global};
 
 /// Whether the session has the marks that its command uses.
-pub fn has_used<M: Lookup>(marks: &M, session: u16, command: &Command) -> bool
+pub fn has_used<M: Lookup>(marks: &M, session: u16, command: &Command<'_>) -> bool
     ensures { result ≡ list_all (has_mark (M.marks marks.now) session) (marks_used (command_view command.now)) }
 {
     match command {
@@ -35,8 +35,8 @@ pub fn has_used<M: Lookup>(marks: &M, session: u16, command: &Command) -> bool
         }
         Command::Show { place } => has_in(marks, session, place),
         Command::Mark { place, .. } => has_in(marks, session, place),
-        Command::Unmark { name } => has_mark(marks, session, name.as_str()),
-        Command::Where { name } => has_mark(marks, session, name.as_str()),
+        Command::Unmark { name } => has_mark(marks, session, name),
+        Command::Where { name } => has_mark(marks, session, name),
         Command::Version => true,
         Command::Wait { .. } => true,
     }
@@ -50,7 +50,12 @@ pub fn has_mark<M: Lookup>(marks: &M, session: u16, name: &str) -> bool
 }
 
 /// Whether the session has the marks that the words of a question use.
-pub fn has_asked<M: Lookup>(marks: &M, session: u16, place: &Place, arguments: &[Argument]) -> bool
+pub fn has_asked<M: Lookup>(
+    marks: &M,
+    session: u16,
+    place: &Place<'_>,
+    arguments: &[Argument<'_>],
+) -> bool
     ensures { result ≡ list_all (has_mark (M.marks marks.now) session) (marks_in (place_view place.now) ++ flat_map marks_in_argument (arguments_view arguments.now)) }
 {
     if !has_in(marks, session, place) {
@@ -60,7 +65,7 @@ pub fn has_asked<M: Lookup>(marks: &M, session: u16, place: &Place, arguments: &
 }
 
 /// Whether the session has the mark that the place uses.
-fn has_in<M: Lookup>(marks: &M, session: u16, place: &Place) -> bool
+fn has_in<M: Lookup>(marks: &M, session: u16, place: &Place<'_>) -> bool
     ensures { result ≡ list_all (has_mark (M.marks marks.now) session) (marks_in (place_view place.now)) }
 {
     match place {
@@ -70,7 +75,7 @@ fn has_in<M: Lookup>(marks: &M, session: u16, place: &Place) -> bool
 }
 
 /// Whether the session has the mark that the argument uses.
-fn has_in_argument<M: Lookup>(marks: &M, session: u16, argument: &Argument) -> bool
+fn has_in_argument<M: Lookup>(marks: &M, session: u16, argument: &Argument<'_>) -> bool
     ensures { result ≡ list_all (has_mark (M.marks marks.now) session) (marks_in_argument (argument_view argument.now)) }
 {
     match argument {
@@ -81,7 +86,7 @@ fn has_in_argument<M: Lookup>(marks: &M, session: u16, argument: &Argument) -> b
 }
 
 /// Whether the session has the marks that the arguments use.
-fn has_in_all<M: Lookup>(marks: &M, session: u16, arguments: &[Argument]) -> bool
+fn has_in_all<M: Lookup>(marks: &M, session: u16, arguments: &[Argument<'_>]) -> bool
     ensures { result ≡ list_all (λ a. list_all (has_mark (M.marks marks.now) session) (marks_in_argument (argument_view a))) arguments.now }
 {
     for argument in arguments {
@@ -98,8 +103,8 @@ impl Marks {
         &self,
         alloc: Global,
         session: u16,
-        place: &Place,
-        arguments: &[Argument],
+        place: &Place<'_>,
+        arguments: &[Argument<'_>],
     ) -> Result<Noted, AllocError>
         ensures { IfOk result (λ ms. Copies session (marks_in (place_view place.now) ++ flat_map marks_in_argument (arguments_view arguments.now)) (listed self.now.items.entries) [] ms.items.items) }
     {
@@ -118,7 +123,7 @@ impl Marks {
         &self,
         alloc: Global,
         session: u16,
-        argument: &Argument,
+        argument: &Argument<'_>,
         copies: &mut Noted,
     ) -> Result<(), AllocError>
         ensures { OnOk result (Copies session (marks_in_argument (argument_view argument.now)) (listed self.now.items.entries) copies.old.items.items copies.new.items.items) }
@@ -135,7 +140,7 @@ impl Marks {
         &self,
         alloc: Global,
         session: u16,
-        place: &Place,
+        place: &Place<'_>,
         copies: &mut Noted,
     ) -> Result<(), AllocError>
         ensures { OnOk result (Copies session (marks_in (place_view place.now)) (listed self.now.items.entries) copies.old.items.items copies.new.items.items) }

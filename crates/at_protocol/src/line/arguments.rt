@@ -13,11 +13,14 @@ use at_text::quoted::{QuoteFault, read_quoted};
 use std::alloc::Global;
 
 /// The attribute and the arguments that `ATTRIBUTE(ARGUMENTS)` names.
-pub(super) fn read_call(alloc: Global, text: &str) -> Result<(String, Vec<Argument>), Unread>
-    ensures { Answers (λ call. (string_bytes call.0, arguments_view call.1.items)) (IsCallText text.now) result }
+pub(super) fn read_call<'a>(
+    alloc: Global,
+    text: &'a str,
+) -> Result<(&'a str, Vec<Argument<'a>>), Unread>
+    ensures { Answers (λ call. (call.0.now, arguments_view call.1.items)) (IsCallText text.now) result }
 {
     let (name, inside) = call_parts(text)?;
-    let attribute = read_name(alloc, name)?;
+    let attribute = read_name(name)?;
     if inside.is_empty() {
         return Ok((attribute, Vec::new(alloc)));
     }
@@ -41,7 +44,7 @@ fn call_parts(text: &str) -> Result<(&str, &str), Unread>
 }
 
 /// The arguments that the text spells, one or more, with a comma between each two.
-fn read_arguments(alloc: Global, text: &str) -> Result<Vec<Argument>, Unread>
+fn read_arguments<'a>(alloc: Global, text: &'a str) -> Result<Vec<Argument<'a>>, Unread>
     ensures { Answers (λ arguments. arguments_view arguments.items) (AreArguments text.now) result }
 {
     let (first, mut rest) = next_argument(alloc, text)?;
@@ -56,7 +59,10 @@ fn read_arguments(alloc: Global, text: &str) -> Result<Vec<Argument>, Unread>
 }
 
 /// The argument before the next comma or the end, and what stands behind the comma.
-fn next_argument(alloc: Global, text: &str) -> Result<(Argument, Option<&str>), Unread>
+fn next_argument<'a>(
+    alloc: Global,
+    text: &'a str,
+) -> Result<(Argument<'a>, Option<&'a str>), Unread>
     ensures { Answers next_view (IsNextArgument text.now) result }
 {
     if text.starts_with('"') {
@@ -69,7 +75,7 @@ fn next_argument(alloc: Global, text: &str) -> Result<(Argument, Option<&str>), 
 }
 
 /// The same, where a quote stands at the front.
-fn next_text(alloc: Global, text: &str) -> Result<(Argument, Option<&str>), Unread>
+fn next_text<'a>(alloc: Global, text: &'a str) -> Result<(Argument<'a>, Option<&'a str>), Unread>
     requires { slice_index text.now 0 ≡ 34 }
     ensures { Answers next_view (IsNextArgument text.now) result }
 {
@@ -95,7 +101,7 @@ fn text_first(alloc: Global, text: &str) -> Result<(String, &str), Unread>
 }
 
 /// The argument that the word spells: `null` or a place.
-fn read_bare(alloc: Global, word: &str) -> Result<Argument, Unread>
+fn read_bare<'a>(alloc: Global, word: &'a str) -> Result<Argument<'a>, Unread>
     ensures { Answers argument_view (IsBareArgument word.now) result }
 {
     if word == "null" {

@@ -9,9 +9,10 @@ use super::words::{Misfit, Unread, read_name};
 use at_tree::fault::TermFault;
 use at_tree::path::{Path, read_path};
 use std::alloc::Global;
+use std::borrow::CowStr;
 
 /// The place that the word spells.
-pub(super) fn read_place(alloc: Global, word: &str) -> Result<Place, Unread>
+pub(super) fn read_place<'a>(alloc: Global, word: &'a str) -> Result<Place<'a>, Unread>
     ensures { Answers place_view (IsPlaceText word.now) result }
 {
     match word.strip_prefix('$') {
@@ -21,12 +22,13 @@ pub(super) fn read_place(alloc: Global, word: &str) -> Result<Place, Unread>
 }
 
 /// A mark's name and the steps from there, behind the dollar sign.
-fn read_marked(alloc: Global, text: &str) -> Result<Place, Unread>
+fn read_marked<'a>(alloc: Global, text: &'a str) -> Result<Place<'a>, Unread>
     ensures { Answers place_view (IsPlaceText (36 ∷ text.now)) result }
 {
     let (name, steps) = at_slash(text);
-    let name = read_name(alloc, name)?;
+    let name = read_name(name)?;
     let steps = read_steps(alloc, steps)?;
+    let name = CowStr::Borrowed(name);
     Ok(Place::FromMark { name, steps })
 }
 
@@ -43,7 +45,7 @@ fn at_slash(text: &str) -> (&str, &str)
 }
 
 /// The steps that the text spells: none where it is empty.
-fn read_steps(alloc: Global, text: &str) -> Result<Path, Unread>
+fn read_steps<'a>(alloc: Global, text: &'a str) -> Result<Path<'a>, Unread>
     ensures { Answers path_view (IsStepsText text.now) result }
 {
     if text.is_empty() {
@@ -59,7 +61,7 @@ fn read_steps(alloc: Global, text: &str) -> Result<Path, Unread>
 }
 
 /// The path that the text spells.
-fn read_whole_path(alloc: Global, text: &str) -> Result<Path, Unread>
+fn read_whole_path<'a>(alloc: Global, text: &'a str) -> Result<Path<'a>, Unread>
     ensures { Answers path_view (IsPathText text.now) result }
 {
     match read_path(alloc, text) {

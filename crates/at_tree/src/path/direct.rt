@@ -1,19 +1,18 @@
 //! A path in one pass over its text, a step at a time.
-ghost use Rattle.std.specs.Prelude.{◌≡◌, ◌<◌, ◌++◌, ◌∷◌, ◌+◌, IfOk, IfSome, string_bytes};
+ghost use Rattle.std.specs.Prelude.{◌≡◌, ◌<◌, ◌++◌, ◌∷◌, ◌+◌, IfOk, IfSome};
 ghost use Rattle.std.specs.Fmt.{decimal};
-ghost use Rattle.at_model.specs.Names.{IsName};
 ghost use Rattle.at_model.specs.Paths.{IsStep, IsPath, path_text, step_text};
 ghost use Rattle.at_tree.specs.PathView.{path_view, step_view};
 
 use super::{Path, Step};
 use crate::fault::{Misfit, Untaken};
-use crate::names::{begins_name, name_len};
-use at_text::names::is_reserved;
+use crate::names::name_first;
 use std::alloc::Global;
+use std::borrow::CowStr;
 
 /// The path that the whole text is written of. What isn't read so (a name that is not of ASCII alone, for one) may
 /// still be a path's text, of which the reader by characters tells the path, or where it stops.
-pub(super) fn whole_path(alloc: Global, text: &str) -> Result<Path, Untaken>
+pub(super) fn whole_path<'a>(alloc: Global, text: &'a str) -> Result<Path<'a>, Untaken>
     ensures { IfOk result (λ p. IsPath (path_view p) × (path_text (path_view p) ≡ text.now)) }
 {
     let mut steps = Vec::new(alloc);
@@ -25,7 +24,7 @@ pub(super) fn whole_path(alloc: Global, text: &str) -> Result<Path, Untaken>
     }
     let mut rest = text;
     while !rest.is_empty() {
-        let (step, behind) = step_first(alloc, rest)?;
+        let (step, behind) = step_first(rest)?;
         steps.push(step)?;
         rest = behind;
     }
@@ -33,13 +32,14 @@ pub(super) fn whole_path(alloc: Global, text: &str) -> Result<Path, Untaken>
 }
 
 /// The step whose text stands at the front, and what follows it.
-fn step_first(alloc: Global, text: &str) -> Result<(Step, &str), Untaken>
+fn step_first<'a>(text: &'a str) -> Result<(Step<'a>, &'a str), Untaken>
     ensures { IfOk result (λ r. IsStep (step_view r.0) × (text.now ≡ step_text (step_view r.0) ++ r.1.now)) }
 {
     let Some(behind) = text.strip_prefix('/') else {
         return Err(Untaken::For(Misfit::Form));
     };
-    let (part, rest) = part_first(alloc, behind)?;
+    let (name, rest) = name_first(behind)?;
+    let part = CowStr::Borrowed(name);
     let Some(digits) = rest.strip_prefix(':') else {
         return Ok((Step { part, index: None }, rest));
     };
@@ -48,17 +48,6 @@ fn step_first(alloc: Global, text: &str) -> Result<(Step, &str), Untaken>
     };
     let index = Some(index);
     Ok((Step { part, index }, rest))
-}
-
-/// The name at the front, and what follows it.
-fn part_first(alloc: Global, text: &str) -> Result<(String, &str), Untaken>
-    ensures { IfOk result (λ r. IsName (string_bytes r.0) × (text.now ≡ string_bytes r.0 ++ r.1.now)) }
-{
-    let (name, rest) = text.split_at(name_len(text));
-    if !begins_name(name) || is_reserved(name) {
-        return Err(Untaken::For(Misfit::Form));
-    }
-    Ok((String::from_str(alloc, name)?, rest))
 }
 
 /// The index whose decimal stands at the front, and what follows it.

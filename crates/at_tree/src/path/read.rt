@@ -15,10 +15,11 @@ use super::{Path, Step};
 use crate::fault::{TermFault, Untaken};
 use at_text::names::is_reserved;
 use std::alloc::Global;
+use std::borrow::CowStr;
 
 /// The path that ends with this step.
-fn ends_with(mut steps: Vec<Step>, step: Step) -> Result<Path, TermFault>
-    ensures { Finishes path_view result (Some (steps_view steps.items ++ step_view step ∷ [])) 0 }
+fn ends_with<'a>(mut steps: Vec<Step<'a>>, step: Step<'a>) -> Result<Path<'a>, TermFault>
+    ensures { Finishes path_view result (Some (steps_view steps.entry.items ++ step_view step.entry ∷ [])) 0 }
 {
     match steps.push(step) {
         Ok(()) => Ok(Path { steps }),
@@ -27,23 +28,25 @@ fn ends_with(mut steps: Vec<Step>, step: Step) -> Result<Path, TermFault>
 }
 
 /// The path that ends with a name.
-fn ends_with_part(steps: Vec<Step>, part: String, at: usize) -> Result<Path, TermFault>
-    ensures { Finishes path_view result (whole_at (steps_view steps.items) (InPart (string_bytes part))) at }
+fn ends_with_part<'a>(steps: Vec<Step<'a>>, part: String, at: usize) -> Result<Path<'a>, TermFault>
+    ensures { Finishes path_view result (whole_at (steps_view steps.entry.items) (InPart (string_bytes part))) at }
 {
     if is_reserved(&part) {
         return Err(TermFault::Syntax { at });
     }
+    let part = CowStr::Owned(part);
     ends_with(steps, Step { part, index: None })
 }
 
 /// The path that is whole at the end of its text.
-fn finish(steps: Vec<Step>, place: Place, at: usize) -> Result<Path, TermFault>
-    ensures { Finishes path_view result (whole_path (partial_view steps.items place)) at }
+fn finish<'a>(steps: Vec<Step<'a>>, place: Place, at: usize) -> Result<Path<'a>, TermFault>
+    ensures { Finishes path_view result (whole_path (partial_view steps.entry.items place)) at }
 {
     match place {
         Place::InPart(part) => ends_with_part(steps, part, at),
         Place::InIndex(part, index) => {
             let index = Some(index.value);
+            let part = CowStr::Owned(part);
             ends_with(steps, Step { part, index })
         }
         Place::Slash if steps.is_empty() => Ok(Path { steps }),
@@ -60,7 +63,7 @@ fn finish(steps: Vec<Step>, place: Place, at: usize) -> Result<Path, TermFault>
 ///
 /// `Syntax` has the offset of the first character with which no path's text goes on, or the end of
 /// the text; `Memory` is want of memory.
-pub fn read_path(alloc: Global, text: &str) -> Result<Path, TermFault>
+pub fn read_path<'a>(alloc: Global, text: &'a str) -> Result<Path<'a>, TermFault>
     // What is read is the text's path.
     ensures found { IfOk result (λ p. IsPath (path_view p) × (path_text (path_view p) ≡ text.now)) }
     // A path's text is read as that path, unless memory runs out.
@@ -76,7 +79,7 @@ pub fn read_path(alloc: Global, text: &str) -> Result<Path, TermFault>
 }
 
 /// The same for any text, character by character, which shows where it stops.
-fn read_by_characters(alloc: Global, text: &str) -> Result<Path, TermFault>
+fn read_by_characters<'a>(alloc: Global, text: &'a str) -> Result<Path<'a>, TermFault>
     ensures found { IfOk result (λ p. IsPath (path_view p) × (path_text (path_view p) ≡ text.now)) }
     ensures only { (p : Steps) → IsPath p → path_text p ≡ text.now → Reads path_view result p }
     ensures fault { IfErr result (StopsWith IsPathText text.now) }

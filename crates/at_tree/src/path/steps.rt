@@ -14,10 +14,11 @@ use crate::fault::{Misfit, Untaken};
 use crate::runs::{Run, past};
 use at_text::names::{continues_name, is_reserved, starts_name};
 use std::alloc::Global;
+use std::borrow::CowStr;
 
 /// The slash behind a step.
-fn next_step(steps: &mut Vec<Step>, step: Step) -> Result<Place, Untaken>
-    ensures { Gives steps.new.items result (Some (next_step (steps_view steps.old.items) (step_view step))) }
+fn next_step<'a>(steps: &mut Vec<Step<'a>>, step: Step<'a>) -> Result<Place, Untaken>
+    ensures { Gives steps.new.items result (Some (next_step (steps_view steps.old.items) (step_view step.entry))) }
 {
     steps.push(step)?;
     Ok(Place::Slash)
@@ -32,7 +33,7 @@ fn longer(mut part: String, c: char) -> Result<Place, Untaken>
 }
 
 /// The character behind the front of a name.
-fn in_part(steps: &mut Vec<Step>, part: String, c: char) -> Result<Place, Untaken>
+fn in_part(steps: &mut Vec<Step<'_>>, part: String, c: char) -> Result<Place, Untaken>
     ensures { Gives steps.new.items result (in_part (steps_view steps.old.items) (string_bytes part) c) }
 {
     if continues_name(c) {
@@ -43,13 +44,16 @@ fn in_part(steps: &mut Vec<Step>, part: String, c: char) -> Result<Place, Untake
     }
     match c {
         ':' => Ok(Place::Colon(part)),
-        '/' => next_step(steps, Step { part, index: None }),
+        '/' => {
+            let part = CowStr::Owned(part);
+            next_step(steps, Step { part, index: None })
+        }
         _ => Err(Untaken::For(Misfit::Form)),
     }
 }
 
 /// The first digit of an index.
-fn in_colon(steps: &mut Vec<Step>, part: String, c: char) -> Result<Place, Untaken>
+fn in_colon(steps: &mut Vec<Step<'_>>, part: String, c: char) -> Result<Place, Untaken>
     ensures { Gives steps.new.items result (in_colon (steps_view steps.old.items) (string_bytes part) c) }
 {
     if !c.is_ascii_digit() {
@@ -60,7 +64,12 @@ fn in_colon(steps: &mut Vec<Step>, part: String, c: char) -> Result<Place, Untak
 }
 
 /// The character behind the digits of an index.
-fn in_index(steps: &mut Vec<Step>, part: String, index: Index, c: char) -> Result<Place, Untaken>
+fn in_index(
+    steps: &mut Vec<Step<'_>>,
+    part: String,
+    index: Index,
+    c: char,
+) -> Result<Place, Untaken>
     ensures { Gives steps.new.items result (in_index (steps_view steps.old.items) (string_bytes part) index.value c) }
 {
     if c.is_ascii_digit() && index.value > 0 && index.value < 100_000_000 {
@@ -71,11 +80,12 @@ fn in_index(steps: &mut Vec<Step>, part: String, index: Index, c: char) -> Resul
         return Err(Untaken::For(Misfit::Form));
     }
     let index = Some(index.value);
+    let part = CowStr::Owned(part);
     next_step(steps, Step { part, index })
 }
 
 /// One more character.
-fn step(alloc: Global, steps: &mut Vec<Step>, place: Place, c: char) -> Result<Place, Untaken>
+fn step(alloc: Global, steps: &mut Vec<Step<'_>>, place: Place, c: char) -> Result<Place, Untaken>
     ensures { Gives steps.new.items result (step (partial_view steps.old.items place) c) }
 {
     match place {
@@ -111,7 +121,7 @@ fn whole_name(alloc: Global, text: &str) -> Result<(Place, &str), Untaken>
 /// The place behind the next character, and what follows it.
 fn one_character<'a>(
     alloc: Global,
-    steps: &mut Vec<Step>,
+    steps: &mut Vec<Step<'_>>,
     place: Place,
     text: &'a str,
 ) -> Result<(Place, &'a str), Untaken>
@@ -130,7 +140,7 @@ fn one_character<'a>(
 /// The place behind the next character, or behind the whole of a name, and what follows it.
 pub(super) fn advance<'a>(
     alloc: Global,
-    steps: &mut Vec<Step>,
+    steps: &mut Vec<Step<'_>>,
     place: Place,
     text: &'a str,
 ) -> Result<(Place, &'a str), Untaken>

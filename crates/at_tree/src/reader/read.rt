@@ -11,7 +11,7 @@ ghost use Rattle.at_tree.specs.Finishes.{Finishes};
 use super::advance::advance;
 use super::{Partial, Place};
 use crate::fault::{TermFault, Untaken};
-use crate::term::Term;
+use crate::term::{Term, whole_term};
 use std::alloc::Global;
 
 impl Partial {
@@ -44,6 +44,19 @@ pub fn read_term(alloc: Global, text: &str) -> Result<Term, TermFault>
     // A term's text is read as that term, unless memory runs out.
     ensures only { (t : Words) → IsTerm t → term_text t ≡ text.now → Reads term_view result t }
     // Else the fault stands at the first character that leads to no term's text.
+    ensures fault { IfErr result (StopsWith IsTermText text.now) }
+{
+    match whole_term(alloc, text) {
+        Ok(term) => Ok(term),
+        Err(Untaken::Memory) => Err(TermFault::Memory),
+        Err(Untaken::For(_)) => read_by_characters(alloc, text),
+    }
+}
+
+/// The same for any text, character by character, which shows where it stops.
+fn read_by_characters(alloc: Global, text: &str) -> Result<Term, TermFault>
+    ensures found { IfOk result (λ t. IsTerm (term_view t) × (term_text (term_view t) ≡ text.now)) }
+    ensures only { (t : Words) → IsTerm t → term_text t ≡ text.now → Reads term_view result t }
     ensures fault { IfErr result (StopsWith IsTermText text.now) }
 {
     let mut partial = Partial {

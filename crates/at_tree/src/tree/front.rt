@@ -20,12 +20,12 @@ use std::alloc::Global;
 
 /// What is left of a text.
 #[derive(Drop)]
-pub(super) struct Front<'a> {
+pub(crate) struct Front<'a> {
     pub rest: &'a str,
 }
 
 /// Whether the sign stands at the front, and takes it.
-pub(super) fn takes(front: &mut Front<'_>, sign: char) -> bool
+pub(crate) fn takes(front: &mut Front<'_>, sign: char) -> bool
     requires { sign < 128 }
     ensures taken { result ≡ true → front.old.rest.now ≡ sign ∷ front.new.rest.now }
     ensures stays { result ≡ false → front.new.rest.now ≡ front.old.rest.now }
@@ -40,7 +40,7 @@ pub(super) fn takes(front: &mut Front<'_>, sign: char) -> bool
 }
 
 /// Takes the sign.
-pub(super) fn take(front: &mut Front<'_>, sign: char) -> Result<(), Untaken>
+pub(crate) fn take(front: &mut Front<'_>, sign: char) -> Result<(), Untaken>
     requires { sign < 128 }
     ensures { OnOk result (front.old.rest.now ≡ sign ∷ front.new.rest.now) }
 {
@@ -76,7 +76,7 @@ pub(super) fn take_class(
 }
 
 /// Takes the value of a token of the kind.
-pub(super) fn take_value(
+pub(crate) fn take_value(
     alloc: Global,
     front: &mut Front<'_>,
     kind: TokenKind,

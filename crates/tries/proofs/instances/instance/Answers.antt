@@ -2,7 +2,6 @@ use Rattle.std.proofs.Common.{List, Some, map, refl, sym, ap, ◌∙◌, subst}
 use Rattle.at_model.specs.Instances.{AnyText}
 use Rattle.at_model.specs.Lines.{IsCommand}
 use Rattle.at_model.specs.Machine.{parameters_of}
-use Rattle.at_model.specs.Names.{IsName}
 use Rattle.at_model.specs.Rules.{Kind}
 use Rattle.at_model.specs.TypedRuns.{AreArguments}
 use Rattle.at_model.proofs.Words.{name_filled}
@@ -19,9 +18,8 @@ pub returns : goal.returns
 returns c =
     let w = c.args.world.now in
     let asked = subst (λ (x : Command). IsCommand (command_view x)) (sym c.deref.ensures ∙ c.in-Ask.is) c.in_ok-command.ensures in
-    let is_name = subst IsName (sym c.as_str.ensures.value) asked.1 in
     let there = class_of_there w.store c.in_ok-node.node c.in_ok-node.ensures ∙ ap Some (sym c.class-class.ensures) in
-    let named = sym (c.in-Some.ensures.named (name_filled c.as_str.result.now is_name.0)) in
+    let named = sym (c.in-Some.ensures.named (name_filled c.in-Ask.attribute.now asked.1.0)) in
     let by_kinds = subst (λ (ks : List Kind). AreArguments w.rules.classes (classes_at w) AnyText (map value_view c.as_slice.result.now) ks) c.params.ensures (c.if-not-are_of.ensures refl) in
     let fit = subst (λ (vs : List Value). AreArguments w.rules.classes (classes_at w) AnyText (map value_view vs) (parameters_of w.rules c.in-Some.attribute)) c.as_slice.ensures.value by_kinds in
-    subst (IsTyped w) (sym c.new.ensures) (well_typed w.rules (classes_at w) c.in_ok-node.node c.class-class.result c.in-Some.attribute c.as_str.result.now (map value_view c.in_ok-values.values.items) there named fit)
+    subst (IsTyped w) (sym c.new.ensures) (well_typed w.rules (classes_at w) c.in_ok-node.node c.class-class.result c.in-Some.attribute c.in-Ask.attribute.now (map value_view c.in_ok-values.values.items) there named fit)

@@ -19,15 +19,15 @@ use Rattle.at_engine.proofs.engine.Engine.obey.Goals as goal
 pub returns-in-Some-clause-hears : goal.returns-in-Some-clause-hears
 returns-in-Some-clause-hears g c =
     let e = c.args.self.now in
-    let is = c.at_once.ensures.form ∙ c.turned_away.ensures in
-    heard_at_once (rules_of e) (state_of e) (state_of e) (line_view c.args.line) c.at_once.result (Ok (form.Refused c.in-Some.refusal)) c.at_once.ensures.session c.at_once.ensures.done is c.in-Some.ensures tt
+    let is = c.at_once.ensures.form in
+    heard_at_once (rules_of e) (state_of e) (state_of e) (line_view c.args.line.now) c.at_once.result (Ok (form.Refused c.in-Some.refusal)) c.at_once.ensures.session c.at_once.ensures.done is c.in-Some.ensures tt
 
 pub returns-in-Some-clause-spares : goal.returns-in-Some-clause-spares
 returns-in-Some-clause-spares g c exact spare =
     let e = c.args.self.now in
     let k = g.K.Keeper.contents in
-    let v = verdict (rules_of e) (state_of e) (line_view c.args.line) in
-    let is = c.at_once.ensures.form ∙ c.turned_away.ensures in
+    let v = verdict (rules_of e) (state_of e) (line_view c.args.line.now) in
+    let is = c.at_once.ensures.form in
     let all : SparesVerdict {T = Form} {E = AllocError} k v (Ok (form.Refused c.in-Some.refusal)) e e = at_once_spares {E = AllocError} k e e v (Ok (form.Refused c.in-Some.refusal)) (refused_spares k e v spare c.in-Some.refusal c.in-Some.ensures) in
     subst (λ (x : Result Form AllocError). SparesVerdict k v x e e) (sym is) all
 
@@ -43,13 +43,13 @@ returns-in-Some-awaited-clause-hears g c =
 pub returns-in-Some-awaited-clause-spares : goal.returns-in-Some-awaited-clause-spares
 returns-in-Some-awaited-clause-spares g c exact spare =
     let e = c.args.self.now in
-    let v = verdict (rules_of e) (state_of e) (line_view c.args.line) in
+    let v = verdict (rules_of e) (state_of e) (line_view c.args.line.now) in
     waited_spares g.K.Keeper.contents e c.wait.new.self v c.wait.result.form c.in-Some-awaited.ensures.question.number (c.in_default.ensures ∙ c.in-Some-awaited.ensures.waits) (c.wait.ensures.spare exact spare)
 
 pub returns-in-None-clause-hears : goal.returns-in-None-clause-hears
 returns-in-None-clause-hears g c =
     let e = c.args.self.now in
-    let l = line_view c.args.line in
+    let l = line_view c.args.line.now in
     let v = verdict (rules_of e) (state_of e) l in
     let o = obeyed (rules_of e) (state_of e) l.session l.command in
     heard_at_once (rules_of e) (state_of e) (state_of c.command.new.self) l c.at_once-in-None.result c.command.result c.at_once-in-None.ensures.session c.at_once-in-None.ensures.done c.at_once-in-None.ensures.form
@@ -59,7 +59,7 @@ pub returns-in-None-clause-spares : goal.returns-in-None-clause-spares
 returns-in-None-clause-spares g c exact spare =
     let e = c.args.self.now in
     let k = g.K.Keeper.contents in
-    let l = line_view c.args.line in
+    let l = line_view c.args.line.now in
     let v = verdict (rules_of e) (state_of e) l in
     let all = at_once_spares k e c.command.new.self v c.command.result (turned_spares k e c.command.new.self v (obeyed (rules_of e) (state_of e) l.session l.command) c.command.result c.in_default.ensures (c.command.ensures.spares exact spare)) in
     subst (λ (x : Result Form AllocError). SparesVerdict k v x e c.command.new.self) (sym c.at_once-in-None.ensures.form) all

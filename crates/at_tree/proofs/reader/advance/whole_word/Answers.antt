@@ -1,4 +1,4 @@
-use Rattle.std.proofs.Common.{◌≡◌, ◌++◌, true, ap, sym, ◌∙◌, rules, string_bytes, encode_utf8_all}
+use Rattle.std.proofs.Common.{◌≡◌, ◌++◌, true, ap, ◌∙◌, rules, string_bytes, encode_utf8_all}
 use Rattle.at_tree.specs.Partial.{can_open}
 use Rattle.at_tree.specs.Seen.{levels_view}
 use Rattle.at_tree.proofs.TermPassing.{leads_word}

@@ -1,47 +1,7 @@
-use Rattle.std.proofs.Common.{rules, ◌≡◌, ◌-◌, ◌∷◌, length, refl, ◌∙◌, ap}
-use Rattle.at_text.specs.declared.fault.Failure.TheVariants.{For}
-use Rattle.at_tree.proofs.Misfits.{one_form}
-use Rattle.at_tree.specs.Stops.{StopsAt, IsTermText}
+use Rattle.std.proofs.Common.{◌∙◌, sym}
 use Rattle.at_tree.specs.View.{term_view}
-use Rattle.at_tree.specs.Seen.{partial_view}
-use Rattle.at_tree.proofs.Machine.{read_nothing, read_over, stops_before, no_value}
-use Rattle.at_tree.proofs.Passing.{less_left}
-use Rattle.at_tree.proofs.Finished.{found, fault, only}
-use Rattle.at_tree.proofs.TermMachine.{term_machine}
+use Rattle.at_tree.proofs.TextLaws.{one_term_each}
 use Rattle.at_tree.proofs.reader.read.read_term.Goals as goal
 
-pub loop-rest-init : goal.loop-rest-init
-loop-rest-init c = rw c.new.ensures.items (read_nothing term_machine c.args.text.now c.utf8.text)
-
-pub loop-rest-preserved : goal.loop-rest-preserved
-loop-rest-preserved c =
-    let t = c.in-Ok.ensures.taken in
-    read_over term_machine c.args.text.now (t.0 ∷ t.1) c.loop-rest.rest.now c.in-Ok.behind.now (partial_view c.loop-rest.partial) (partial_view c.in-Ok.next) c.loop-rest.invariant t.2 t.3
-
-pub loop-rest-smaller : goal.loop-rest-smaller
-loop-rest-smaller c = let t = c.in-Ok.ensures.taken in less_left t.0 t.1 c.loop-rest.rest.now c.in-Ok.behind.now t.2
-
-refused : (c : goal.In-Err-For) → StopsAt IsTermText c.args.text.now (length c.args.text.now - length c.loop-rest.rest.now)
-refused c =
-    stops_before term_machine c.args.text.now (length c.args.text.now - length c.loop-rest.rest.now) c.loop-rest.rest.now (partial_view c.loop-rest.partial) c.loop-rest.invariant refl
-    (c.in-Err-For.ensures.refused (c.in-Err-For.field-0-is ∙ ap (λ m. For m) (one_form _)))
-
-pub returns-in-Err-For-clause-only : goal.returns-in-Err-For-clause-only
-returns-in-Err-For-clause-only c = λ v fits is. absurd (no_value term_machine _ _ c.utf8.text (refused c) (v, fits, is))
-
-pub returns-in-Err-For-clause-fault : goal.returns-in-Err-For-clause-fault
-returns-in-Err-For-clause-fault c = refused c
-
-none : (c : goal.After-finish) → length c.loop-rest.rest.now ≡ 0
-none c = search rules
-
-pub returns-clause-found : goal.returns-clause-found
-returns-clause-found c = found term_machine term_view _ _ _ _ _ _ c.loop-rest.invariant.1 (none c) c.finish.ensures
-
-pub returns-clause-only : goal.returns-clause-only
-returns-clause-only c =
-    let r = c.loop-rest.invariant.1 in
-    only term_machine term_view _ _ c.utf8.text (found term_machine term_view _ _ _ _ _ _ r (none c) c.finish.ensures) (fault term_machine term_view _ _ _ _ _ r (none c) c.finish.ensures)
-
-pub returns-clause-fault : goal.returns-clause-fault
-returns-clause-fault c = fault term_machine term_view _ _ _ _ _ c.loop-rest.invariant.1 (none c) c.finish.ensures
+pub returns-in-Ok-clause-only : goal.returns-in-Ok-clause-only
+returns-in-Ok-clause-only c = λ t fits is. one_term_each (term_view c.in-Ok.term) t c.in-Ok.ensures.0 fits (c.in-Ok.ensures.1 ∙ sym is)
