@@ -7,7 +7,7 @@ pub mod Waiting
 pub mod OneTry
 pub mod Few
 pub mod Joining
-pub mod Sameness
+pub mod SamenessLemmas
 pub mod TypedParts
 pub mod TypedUses
 pub mod TypedFolds

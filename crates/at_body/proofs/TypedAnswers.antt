@@ -9,8 +9,8 @@ use Rattle.at_model.specs.Run.{Value, Int, Truth, Text, Ref, Contents, Run, Give
 use Rattle.at_model.specs.TypedRuns.{ClassAt, AreArguments, IsOfKind, IsOfScopeKinds, IsTypedRun}
 use Rattle.at_model.proofs.Chained.{chained}
 use Rattle.at_model.proofs.Everywhere.{all_any}
-use Rattle.at_model.proofs.TypedExpressions.{typed as evaluated_typed}
-use Rattle.at_model.proofs.TypedTogether.{any_text}
+use Rattle.at_model.proofs.of_typing.TypedExpressions.{typed as evaluated_typed}
+use Rattle.at_model.proofs.of_typing.TypedTogether.{any_text}
 use Rattle.at_rules.specs.Bodies.{body_view, operator_view, order_view}
 use Rattle.at_rules.specs.declared.body.Body.{Body}
 use Rattle.at_body.specs.declared.todo.Binary.{Binary}

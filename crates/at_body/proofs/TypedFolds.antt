@@ -11,7 +11,7 @@ use Rattle.at_model.specs.Kinds.{HasKind}
 use Rattle.at_model.specs.TypedRuns.{ClassAt, IsOfKind}
 use Rattle.at_model.proofs.Below.{asked_below}
 use Rattle.at_model.proofs.Chained.{chained}
-use Rattle.at_model.proofs.TypedExpressions.{read_back}
+use Rattle.at_model.proofs.of_typing.TypedExpressions.{read_back}
 use Rattle.at_rules.specs.Bodies.{body_view}
 use Rattle.at_rules.specs.declared.body.Body.{Body}
 use Rattle.at_body.specs.declared.todo.Fold.{Fold}

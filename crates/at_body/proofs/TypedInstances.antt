@@ -16,7 +16,7 @@ use Rattle.at_model.specs.WellFormed.{AreWellFormed, IsTreeSound}
 use Rattle.at_model.proofs.Complete.{has_own, has_source}
 use Rattle.at_model.proofs.Depths.{within_depth}
 use Rattle.at_model.proofs.Options.{led, mapped}
-use Rattle.at_model.proofs.TypedTogether.{any_text}
+use Rattle.at_model.proofs.of_typing.TypedTogether.{any_text}
 use Rattle.at_store.specs.Memory.{class_in}
 use Rattle.at_store.specs.Shown.{IsIdle, Shown, contents, numbers, path, tree}
 use Rattle.at_store.specs.View.{memory_of}

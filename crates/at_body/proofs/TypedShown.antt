@@ -18,8 +18,8 @@ use Rattle.at_model.specs.Instances.{AnyText, tokens}
 use Rattle.at_model.specs.WellFormed.{AreWellFormed, IsTreeSound}
 use Rattle.at_model.proofs.Options.{led}
 use Rattle.at_model.proofs.Everywhere.{all_any}
-use Rattle.at_model.proofs.TypedContents.{contents_stand, tokens_written, slot_few}
-use Rattle.at_model.proofs.TypedTogether.{few_nodes}
+use Rattle.at_model.proofs.of_typing.TypedContents.{contents_stand, tokens_written, slot_few}
+use Rattle.at_model.proofs.of_typing.TypedTogether.{few_nodes}
 use Rattle.at_store.specs.Memory.{class_in}
 use Rattle.at_store.specs.Numbers.{number_at}
 use Rattle.at_store.specs.Shown.{IsIdle, Shown, contents, numbers, path, tree}

@@ -12,7 +12,7 @@ use Rattle.at_model.specs.Kinds.{HasKind, AreTyped, IsOwnTyped, IsInheritedTyped
 use Rattle.at_model.specs.TypedRuns.{ClassAt, AreArguments}
 use Rattle.at_model.specs.Instances.{AnyText}
 use Rattle.at_model.proofs.Options.{mapped, both}
-use Rattle.at_model.proofs.TypedEquations.{found_in, either_of, answered, each_among, one_declaration}
+use Rattle.at_model.proofs.of_typing.TypedEquations.{found_in, either_of, answered, each_among, one_declaration}
 use Rattle.at_model.proofs.Chained.{nat_same}
 use Rattle.at_rules.specs.Bodies.{body_view}
 use Rattle.at_rules.specs.declared.body.Body.{Body}

@@ -11,7 +11,7 @@ use Rattle.at_model.specs.Kinds as form
 use Rattle.at_model.specs.TypedRuns.{ClassAt, IsNodeOf, IsOfKind, AreArguments, IsOfItsKind}
 use Rattle.at_model.specs.Instances.{AnyText}
 use Rattle.at_model.proofs.Below.{AreChained, sub_sub}
-use Rattle.at_model.proofs.TypedTogether.{any_text}
+use Rattle.at_model.proofs.of_typing.TypedTogether.{any_text}
 use Rattle.at_rules.specs.Bodies.{body_view, bodies_view}
 use Rattle.at_rules.specs.declared.body.Body.{Body}
 use Rattle.std.specs.Global.{Box}

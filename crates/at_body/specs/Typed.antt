@@ -125,7 +125,8 @@ pub data IsUse (rules : Rules) : Kind → Unary → Kind → Type 0 where
   child : (c part b : ℕ) → option_and_then single_class (shape_of_part rules.classes c part) ≡ Some b → IsUse rules (Class c) (unary.Child part) (Class b)
   count : (c part b : ℕ) → shape_of_part rules.classes c part ≡ Some (Many b) → IsUse rules (Class c) (unary.Count part) Int
   has : (c part b : ℕ) → shape_of_part rules.classes c part ≡ Some (Maybe b) → IsUse rules (Class c) (unary.Has part) Truth
-  token : (c part : ℕ) (kind : TokenKind) → shape_of_part rules.classes c part ≡ Some (Token kind) → IsUse rules (Class c) (unary.Token part) (kind_of_token kind)
+  token : (c part : ℕ) (kind : TokenKind) → shape_of_part rules.classes c part ≡ Some (Token kind)
+      → IsUse rules (Class c) (unary.Token part) (kind_of_token kind)
 
 -- of values of the first two kinds, the left one first, it gives one of the third
 pub data IsOperation (rules : Rules) : Kind → Kind → Binary → Kind → Type 0 where
@@ -175,7 +176,8 @@ pub data IsTodo (rules : Rules) (at : ClassAt ℕ) : PlaceKinds → Kind → Tod
 -- a stack of things to do waits for a value of the kind; one for a class waits for each class below, too
 pub data AreTodos (rules : Rules) (at : ClassAt ℕ) : PlaceKinds → Kind → List Todo → Type 0 where
   ended : (s : PlaceKinds) (k : Kind) → AreTodos rules at s k []
-  more : {s s' : PlaceKinds} {k k' : Kind} {t : Todo} {ts : List Todo} → IsTodo rules at s k t s' k' → AreTodos rules at s' k' ts → AreTodos rules at s k (t ∷ ts)
+  more : {s s' : PlaceKinds} {k k' : Kind} {t : Todo} {ts : List Todo} → IsTodo rules at s k t s' k' → AreTodos rules at s' k' ts
+      → AreTodos rules at s k (t ∷ ts)
   widened : {s : PlaceKinds} {ts : List Todo} (c d : ℕ) → is_sub rules.classes c d ≡ true → AreTodos rules at s (Class d) ts → AreTodos rules at s (Class c) ts
 
 -- trials --------------------------------------------------------------------------------------------------------------

@@ -35,9 +35,11 @@ impl<'a> Trial<'a> {
         node: Option<Node>,
     ) -> Result<Now<'a>, AllocError>
         requires idle_store { IsIdle store.now }
-        ensures same { (classes : Classes) → IfOk result (λ now. GoesOn (contents store.now) classes self.old.reads (folded classes self.old fold part (body_view body.now) node) now self.new) }
+        ensures same { (classes : Classes)
+            → IfOk result (λ now. GoesOn (contents store.now) classes self.old.reads (folded classes self.old fold part (body_view body.now) node) now self.new) }
         ensures less { IfOk result (λ now. weight now self.new < tests (size (body_view body.now)) most + load self.old.todo + 1) }
-        ensures typed { (meant : Meant) (at : ClassAt ℕ) → IsOver meant at (contents store.now) → Folds meant at self.old fold part body.now node → IfOk result (λ now. IsTypedNow meant at now self.new) }
+        ensures typed { (meant : Meant) (at : ClassAt ℕ) → IsOver meant at (contents store.now) → Folds meant at self.old fold part body.now node
+            → IfOk result (λ now. IsTypedNow meant at now self.new) }
     {
         match node {
             Some(node) => {
@@ -58,7 +60,8 @@ impl<'a> Trial<'a> {
         ensures same { (classes : Classes) → IfOk result (λ now. gone_over classes self.old fold (body_view body.now) nodes.now ≡ rest classes now self.new) }
         ensures less { IfOk result (λ now. weight now self.new < tests (size (body_view body.now)) (length nodes.now) + load self.old.todo) }
         ensures reads { IfOk result (λ now. self.new.reads ≡ self.old.reads) }
-        ensures typed { (meant : Meant) (at : ClassAt ℕ) → GoesOver meant at self.old fold body.now nodes.now → IfOk result (λ now. IsTypedNow meant at now self.new) }
+        ensures typed { (meant : Meant) (at : ClassAt ℕ) → GoesOver meant at self.old fold body.now nodes.now
+            → IfOk result (λ now. IsTypedNow meant at now self.new) }
     {
         match nodes.split_first() {
             Some((node, others)) => {
@@ -79,10 +82,12 @@ impl<'a> Trial<'a> {
         value: &Value,
     ) -> Result<Now<'a>, AllocError>
         requires told { IsTold fold (value_view value.now) }
-        ensures same { (classes : Classes) → IfOk result (λ now. decided classes self.old fold (body_view body.now) node others.now (value_view value.now) ≡ rest classes now self.new) }
+        ensures same { (classes : Classes)
+            → IfOk result (λ now. decided classes self.old fold (body_view body.now) node others.now (value_view value.now) ≡ rest classes now self.new) }
         ensures less { IfOk result (λ now. weight now self.new < tests (size (body_view body.now)) (length others.now) + load self.old.todo) }
         ensures reads { IfOk result (λ now. self.new.reads ≡ self.old.reads) }
-        ensures typed { (meant : Meant) (at : ClassAt ℕ) → Decides meant at self.old fold body.now node others.now (value_view value.now) → IfOk result (λ now. IsTypedNow meant at now self.new) }
+        ensures typed { (meant : Meant) (at : ClassAt ℕ) → Decides meant at self.old fold body.now node others.now (value_view value.now)
+            → IfOk result (λ now. IsTypedNow meant at now self.new) }
     {
         match &fold {
             Fold::Exists => {

@@ -42,7 +42,8 @@ impl<'a> Trial<'a> {
         requires formed { AreWellFormed rules.now }
         requires sound { IsTreeSound rules.now.classes (tree store.now) }
         requires typed { IsWellTyped rules.now (class_shown store.now) AnyText inst.now }
-        ensures found { IfOk result (λ r. follow (contents store.now) [] (evaluation rules.now nat_eq inst.now) ≡ (reached rules.now.classes r.1 r.0, r.0.reads)) }
+        ensures found { IfOk result (λ r. follow (contents store.now) [] (evaluation rules.now nat_eq inst.now)
+            ≡ (reached rules.now.classes r.1 r.0, r.0.reads)) }
         ensures typed { IfOk result (λ r. IsTypedStep rules.now (class_shown store.now) r.1 r.0) }
     {
         Trial::start_in(alloc, rules, store, inst, Room::new(alloc))
@@ -61,7 +62,8 @@ impl<'a> Trial<'a> {
         requires formed { AreWellFormed rules.now }
         requires sound { IsTreeSound rules.now.classes (tree store.now) }
         requires typed { IsWellTyped rules.now (class_shown store.now) AnyText inst.now }
-        ensures found { IfOk result (λ r. follow (contents store.now) [] (evaluation rules.now nat_eq inst.now) ≡ (reached rules.now.classes r.1 r.0, r.0.reads)) }
+        ensures found { IfOk result (λ r. follow (contents store.now) [] (evaluation rules.now nat_eq inst.now)
+            ≡ (reached rules.now.classes r.1 r.0, r.0.reads)) }
         ensures typed { IfOk result (λ r. IsTypedStep rules.now (class_shown store.now) r.1 r.0) }
     {
         let (bound, mut arguments, todo) = room.into_lists();
@@ -116,7 +118,8 @@ impl<'a> Trial<'a> {
         requires top { self.now.child ≡ None }
         requires there { IsSome (own_equation rules.now class attribute) }
         ensures same { own_of rules.now self.now.this attribute (map value_view self.now.arguments.items) class ≡ rest rules.now.classes result self.now }
-        ensures typed { (at : ClassAt ℕ) (look : Contents ℕ) → AreTyped rules.now → Begins rules.now at look self.now class attribute → IsTypedNow rules.now at result self.now }
+        ensures typed { (at : ClassAt ℕ) (look : Contents ℕ) → AreTyped rules.now → Begins rules.now at look self.now class attribute
+            → IsTypedNow rules.now at result self.now }
     {
         match rules.own_body(class, attribute) {
             Some(body) => Now::Enter(body),

@@ -81,7 +81,8 @@ impl<'a> Trial<'a> {
         requires idle_store { IsIdle store.now }
         requires over { IsOver rules.now (class_shown store.now) (contents store.now) }
         requires takes { Takes rules.now (class_shown store.now) self.old (value_view value) }
-        ensures found { IfOk result (λ step. follow (contents store.now) self.old.reads (resumed rules.now.classes self.old (value_view value)) ≡ (reached rules.now.classes step self.new, self.new.reads)) }
+        ensures found { IfOk result (λ step. follow (contents store.now) self.old.reads (resumed rules.now.classes self.old (value_view value))
+            ≡ (reached rules.now.classes step self.new, self.new.reads)) }
         ensures less { IfOk result (λ step. left step self.new ≤ load self.old.todo) }
         ensures typed { IfOk result (λ step. IsTypedStep rules.now (class_shown store.now) step self.new) }
     {
@@ -130,7 +131,8 @@ impl<'a> Trial<'a> {
         requires idle_store { IsIdle store.now }
         requires over { IsOver rules.now (class_shown store.now) (contents store.now) }
         requires typed { IsTypedNow rules.now (class_shown store.now) now self.old }
-        ensures found { IfOk result (λ step. follow (contents store.now) self.old.reads (rest rules.now.classes now.entry self.old) ≡ (reached rules.now.classes step self.new, self.new.reads)) }
+        ensures found { IfOk result (λ step. follow (contents store.now) self.old.reads (rest rules.now.classes now.entry self.old)
+            ≡ (reached rules.now.classes step self.new, self.new.reads)) }
         ensures less { IfOk result (λ step. left step self.new ≤ weight now.entry self.old) }
         ensures typed { IfOk result (λ step. IsTypedStep rules.now (class_shown store.now) step self.new) }
     {
@@ -260,10 +262,14 @@ impl<'a> Trial<'a> {
         right: &'a Body,
     ) -> Result<Now<'a>, AllocError>
         requires idle_store { IsIdle store.now }
-        requires typed { (meant : Meant) × (at : ClassAt ℕ) × IsOver meant at (contents store.now) × Enters meant at (record self.old { todo = Right binary right ∷ self.old.todo }) left.now }
-        ensures same { (classes : Classes) → IfOk result (λ now. GoesOn (contents store.now) classes self.old.reads (evaluated_for classes self.old (Right binary right.entry) (body_view left.now)) now self.new) }
+        requires typed { (meant : Meant) × (at : ClassAt ℕ) × IsOver meant at (contents store.now)
+            × Enters meant at (record self.old { todo = Right binary right ∷ self.old.todo }) left.now }
+        ensures same { (classes : Classes)
+            → IfOk result (λ now. GoesOn (contents store.now) classes self.old.reads (evaluated_for classes self.old (Right binary right.entry) (body_view left.now)) now self.new) }
         ensures less { IfOk result (λ now. weight now self.new < size (body_view left.now) + size (body_view right.now) + 3 + load self.old.todo) }
-        ensures typed { (meant : Meant) (at : ClassAt ℕ) → IsOver meant at (contents store.now) → Enters meant at (record self.old { todo = Right binary right.entry ∷ self.old.todo }) left.now → IfOk result (λ now. IsTypedNow meant at now self.new) }
+        ensures typed { (meant : Meant) (at : ClassAt ℕ) → IsOver meant at (contents store.now)
+            → Enters meant at (record self.old { todo = Right binary right.entry ∷ self.old.todo }) left.now
+            → IfOk result (λ now. IsTypedNow meant at now self.new) }
     {
         match self.at_hand(left) {
             Some(value) => self.right_operand(store, binary, value, right),
@@ -280,10 +286,13 @@ impl<'a> Trial<'a> {
         right: &'a Body,
     ) -> Result<Now<'a>, AllocError>
         requires idle_store { IsIdle store.now }
-        requires typed { (meant : Meant) × (at : ClassAt ℕ) × IsOver meant at (contents store.now) × Uses meant at self.old (Right binary right) (value_view left) }
-        ensures same { (classes : Classes) → IfOk result (λ now. GoesOn (contents store.now) classes self.old.reads (used classes (Right binary right.entry) self.old (value_view left)) now self.new) }
+        requires typed { (meant : Meant) × (at : ClassAt ℕ) × IsOver meant at (contents store.now)
+            × Uses meant at self.old (Right binary right) (value_view left) }
+        ensures same { (classes : Classes)
+            → IfOk result (λ now. GoesOn (contents store.now) classes self.old.reads (used classes (Right binary right.entry) self.old (value_view left)) now self.new) }
         ensures less { IfOk result (λ now. weight now self.new < size (body_view right.now) + 2 + load self.old.todo) }
-        ensures typed { (meant : Meant) (at : ClassAt ℕ) → IsOver meant at (contents store.now) → Uses meant at self.old (Right binary right.entry) (value_view left) → IfOk result (λ now. IsTypedNow meant at now self.new) }
+        ensures typed { (meant : Meant) (at : ClassAt ℕ) → IsOver meant at (contents store.now)
+            → Uses meant at self.old (Right binary right.entry) (value_view left) → IfOk result (λ now. IsTypedNow meant at now self.new) }
     {
         match right {
             Body::Int(n) => self.with_int(store, binary, left, n),
@@ -300,10 +309,13 @@ impl<'a> Trial<'a> {
         right: &'a Body,
     ) -> Result<Now<'a>, AllocError>
         requires idle_store { IsIdle store.now }
-        requires typed { (meant : Meant) × (at : ClassAt ℕ) × IsOver meant at (contents store.now) × Uses meant at self.old (Right binary right) (value_view left) }
-        ensures same { (classes : Classes) → IfOk result (λ now. GoesOn (contents store.now) classes self.old.reads (used classes (Right binary right.entry) self.old (value_view left)) now self.new) }
+        requires typed { (meant : Meant) × (at : ClassAt ℕ) × IsOver meant at (contents store.now)
+            × Uses meant at self.old (Right binary right) (value_view left) }
+        ensures same { (classes : Classes)
+            → IfOk result (λ now. GoesOn (contents store.now) classes self.old.reads (used classes (Right binary right.entry) self.old (value_view left)) now self.new) }
         ensures less { IfOk result (λ now. weight now self.new < size (body_view right.now) + 2 + load self.old.todo) }
-        ensures typed { (meant : Meant) (at : ClassAt ℕ) → IsOver meant at (contents store.now) → Uses meant at self.old (Right binary right.entry) (value_view left) → IfOk result (λ now. IsTypedNow meant at now self.new) }
+        ensures typed { (meant : Meant) (at : ClassAt ℕ) → IsOver meant at (contents store.now)
+            → Uses meant at self.old (Right binary right.entry) (value_view left) → IfOk result (λ now. IsTypedNow meant at now self.new) }
     {
         match self.at_hand(right) {
             Some(value) => self.binary(store, binary, left, &value),
@@ -352,7 +364,8 @@ impl<'a> Trial<'a> {
     /// What a name stands for.
     fn name(&self, position: usize) -> Result<Now<'a>, AllocError>
         requires there { IsSome (slice_get (scope (place_of self.now)).names position) }
-        ensures same { (classes : Classes) → IfOk result (λ now. resumed classes self.now (named (scope (place_of self.now)).names position) ≡ rest classes now self.now) }
+        ensures same { (classes : Classes)
+            → IfOk result (λ now. resumed classes self.now (named (scope (place_of self.now)).names position) ≡ rest classes now self.now) }
         ensures less { IfOk result (λ now. weight now self.now ≡ load self.now.todo) }
         ensures told { (look : Contents ℕ) → IfOk result (λ now. ComesTo look (Gives (named (scope (place_of self.now)).names position)) now) }
     {
@@ -365,9 +378,12 @@ impl<'a> Trial<'a> {
     /// What a name behind those of the folds stands for.
     fn argument(&self, position: usize) -> Result<Now<'a>, AllocError>
         requires there { IsSome (slice_get self.now.arguments.items (position - length self.now.bound)) }
-        ensures same { (classes : Classes) → IfOk result (λ now. resumed classes self.now (named (map value_view self.now.arguments.items) (position - length self.now.bound)) ≡ rest classes now self.now) }
+        ensures same { (classes : Classes)
+            → IfOk result (λ now. resumed classes self.now (named (map value_view self.now.arguments.items) (position - length self.now.bound))
+            ≡ rest classes now self.now) }
         ensures less { IfOk result (λ now. weight now self.now ≡ load self.now.todo) }
-        ensures told { (look : Contents ℕ) → IfOk result (λ now. ComesTo look (Gives (named (map value_view self.now.arguments.items) (position - length self.now.bound))) now) }
+        ensures told { (look : Contents ℕ)
+            → IfOk result (λ now. ComesTo look (Gives (named (map value_view self.now.arguments.items) (position - length self.now.bound))) now) }
     {
         let passed = position.saturating_sub(self.bound.len());
         match at(self.arguments.as_slice(), passed) {
@@ -380,7 +396,8 @@ impl<'a> Trial<'a> {
     fn index(&mut self, store: &'a Store) -> Result<Now<'a>, AllocError>
         requires idle_store { IsIdle store.now }
         requires child { IsSome self.old.child }
-        ensures same { (classes : Classes) → IfOk result (λ now. GoesOn (contents store.now) classes self.old.reads (onto classes self.old (index_of self.old.child)) now self.new) }
+        ensures same { (classes : Classes)
+            → IfOk result (λ now. GoesOn (contents store.now) classes self.old.reads (onto classes self.old (index_of self.old.child)) now self.new) }
         ensures less { IfOk result (λ now. weight now self.new ≡ load self.old.todo) }
         ensures told { IfOk result (λ now. ComesTo (contents store.now) (index_of self.old.child) now × OnlyReads self.old self.new) }
     {
@@ -438,10 +455,12 @@ impl<'a> Trial<'a> {
         node: Option<Node>,
         arguments: &'a [Body],
     ) -> Result<Now<'a>, AllocError>
-        ensures same { (classes : Classes) → IfOk result (λ now. called classes self.old attribute (Ref node) [] (bodies_view arguments.now) ≡ rest classes now self.new) }
+        ensures same { (classes : Classes)
+            → IfOk result (λ now. called classes self.old attribute (Ref node) [] (bodies_view arguments.now) ≡ rest classes now self.new) }
         ensures less { IfOk result (λ now. weight now self.new < sizes (bodies_view arguments.now) + 2 + load self.old.todo) }
         ensures reads { IfOk result (λ now. self.new.reads ≡ self.old.reads) }
-        ensures typed { (meant : Meant) (at : ClassAt ℕ) → Calls meant at self.old attribute node [] (bodies_view arguments.now) → IfOk result (λ now. IsTypedNow meant at now self.new) }
+        ensures typed { (meant : Meant) (at : ClassAt ℕ) → Calls meant at self.old attribute node [] (bodies_view arguments.now)
+            → IfOk result (λ now. IsTypedNow meant at now self.new) }
     {
         match arguments.split_first() {
             Some((argument, others)) => {
@@ -464,10 +483,14 @@ impl<'a> Trial<'a> {
         value: Value,
         others: &'a [Body],
     ) -> Result<Now<'a>, AllocError>
-        ensures same { (classes : Classes) → IfOk result (λ now. called classes self.old call.value.attribute (Ref call.value.node) (map value_view call.value.done.items ++ value_view value ∷ []) (bodies_view others.now) ≡ rest classes now self.new) }
+        ensures same { (classes : Classes)
+            → IfOk result (λ now. called classes self.old call.value.attribute (Ref call.value.node) (map value_view call.value.done.items ++ value_view value ∷ []) (bodies_view others.now)
+            ≡ rest classes now self.new) }
         ensures less { IfOk result (λ now. weight now self.new < sizes (bodies_view others.now) + 2 + load self.old.todo) }
         ensures reads { IfOk result (λ now. self.new.reads ≡ self.old.reads) }
-        ensures typed { (meant : Meant) (at : ClassAt ℕ) → Calls meant at self.old call.value.attribute call.value.node (map value_view call.value.done.items ++ value_view value ∷ []) (bodies_view others.now) → IfOk result (λ now. IsTypedNow meant at now self.new) }
+        ensures typed { (meant : Meant) (at : ClassAt ℕ)
+            → Calls meant at self.old call.value.attribute call.value.node (map value_view call.value.done.items ++ value_view value ∷ []) (bodies_view others.now)
+            → IfOk result (λ now. IsTypedNow meant at now self.new) }
     {
         call.done.push(value)?;
         self.next_argument(call, others)
@@ -479,10 +502,14 @@ impl<'a> Trial<'a> {
         call: Box<Asking>,
         others: &'a [Body],
     ) -> Result<Now<'a>, AllocError>
-        ensures same { (classes : Classes) → IfOk result (λ now. called classes self.old call.value.attribute (Ref call.value.node) (map value_view call.value.done.items) (bodies_view others.now) ≡ rest classes now self.new) }
+        ensures same { (classes : Classes)
+            → IfOk result (λ now. called classes self.old call.value.attribute (Ref call.value.node) (map value_view call.value.done.items) (bodies_view others.now)
+            ≡ rest classes now self.new) }
         ensures less { IfOk result (λ now. weight now self.new < sizes (bodies_view others.now) + 2 + load self.old.todo) }
         ensures reads { IfOk result (λ now. self.new.reads ≡ self.old.reads) }
-        ensures typed { (meant : Meant) (at : ClassAt ℕ) → Calls meant at self.old call.value.attribute call.value.node (map value_view call.value.done.items) (bodies_view others.now) → IfOk result (λ now. IsTypedNow meant at now self.new) }
+        ensures typed { (meant : Meant) (at : ClassAt ℕ)
+            → Calls meant at self.old call.value.attribute call.value.node (map value_view call.value.done.items) (bodies_view others.now)
+            → IfOk result (λ now. IsTypedNow meant at now self.new) }
     {
         match others.split_first() {
             Some((argument, others)) => self.then(Todo::Argument(call, others), argument),
@@ -505,9 +532,11 @@ fn without_arguments<'a>(attribute: AttrId, node: Option<Node>) -> Now<'a>
 
 /// The demand of an attribute of a node, without arguments.
 fn asked(alloc: Global, attribute: AttrId, node: Node) -> Step
-    ensures same { (tree : Contents ℕ) (seen : List (Location ℕ)) (classes : Classes) (t : Trial) → follow tree seen (rest classes (Ask attribute node) t) ≡ (reached classes result t, seen) }
+    ensures same { (tree : Contents ℕ) (seen : List (Location ℕ)) (classes : Classes) (t : Trial)
+        → follow tree seen (rest classes (Ask attribute node) t) ≡ (reached classes result t, seen) }
     ensures less { (t : Trial) → left result t ≤ weight (Ask attribute node) t }
-    ensures typed { (meant : Meant) (at : ClassAt ℕ) (t : Trial) → IsHierarchy meant.classes → IsTypedNow meant at (Ask attribute node) t → IsTypedStep meant at result t }
+    ensures typed { (meant : Meant) (at : ClassAt ℕ) (t : Trial) → IsHierarchy meant.classes → IsTypedNow meant at (Ask attribute node) t
+        → IsTypedStep meant at result t }
 {
     let none = Arguments::new(alloc);
     Step::Need(Inst::new(node, attribute, none))
@@ -515,9 +544,11 @@ fn asked(alloc: Global, attribute: AttrId, node: Node) -> Step
 
 /// The demand of a call, or the fault of one that is asked of null.
 fn asked_with_arguments(call: Box<Asking>) -> Step
-    ensures same { (tree : Contents ℕ) (seen : List (Location ℕ)) (classes : Classes) (t : Trial) → follow tree seen (rest classes (Call call) t) ≡ (reached classes result t, seen) }
+    ensures same { (tree : Contents ℕ) (seen : List (Location ℕ)) (classes : Classes) (t : Trial)
+        → follow tree seen (rest classes (Call call) t) ≡ (reached classes result t, seen) }
     ensures less { (t : Trial) → left result t ≤ weight (Call call) t }
-    ensures typed { (meant : Meant) (at : ClassAt ℕ) (t : Trial) → IsHierarchy meant.classes → IsTypedNow meant at (Call call) t → IsTypedStep meant at result t }
+    ensures typed { (meant : Meant) (at : ClassAt ℕ) (t : Trial) → IsHierarchy meant.classes → IsTypedNow meant at (Call call) t
+        → IsTypedStep meant at result t }
 {
     let Asking {
         attribute,
@@ -568,7 +599,8 @@ fn choose<'a>(test: &Value, yes: &'a Body, no: &'a Body) -> Now<'a>
     requires { IsTruth (value_view test.now) }
     ensures same { (classes : Classes) (t : Trial) → used classes (Choose yes.entry no.entry) t (value_view test.now) ≡ rest classes result t }
     ensures less { (t : Trial) → weight result t < cost (Choose yes.entry no.entry) + load t.todo }
-    ensures typed { (meant : Meant) (at : ClassAt ℕ) (t : Trial) → Uses meant at t (Choose yes.entry no.entry) (value_view test.now) → IsTypedNow meant at result t }
+    ensures typed { (meant : Meant) (at : ClassAt ℕ) (t : Trial) → Uses meant at t (Choose yes.entry no.entry) (value_view test.now)
+        → IsTypedNow meant at result t }
 {
     if test.truth() {
         return Now::Enter(yes);

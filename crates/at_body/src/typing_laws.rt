@@ -20,7 +20,8 @@ pub fn what_a_store_shows_is_typed()
 
 /// A trial that waits for the value of an instance may be told each value of the kind of its attribute.
 pub fn what_is_told_is_taken()
-    ensures { (rules : Rules) (at : ClassAt ℕ) (t : Trial) (j : Instance ℕ) (v : Value ℕ) → WaitsFor rules at t j → IsOfItsKind rules at j v → Takes rules at t v }
+    ensures { (rules : Rules) (at : ClassAt ℕ) (t : Trial) (j : Instance ℕ) (v : Value ℕ) → WaitsFor rules at t j → IsOfItsKind rules at j v
+        → Takes rules at t v }
 {}
 
 /// A well-typed instance has an equation: of its node's class or a class above that one, or of a node above its node.

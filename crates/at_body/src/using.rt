@@ -38,7 +38,8 @@ impl<'a> Trial<'a> {
         requires operand { IsOperand unary (value_view value.now) }
         ensures same { IfOk result (λ now. GoesOn (contents store.now) rules.now.classes self.old.reads (onto rules.now.classes self.old (with_one rules.now.classes unary (value_view value.now))) now self.new) }
         ensures less { IfOk result (λ now. weight now self.new ≡ load self.old.todo) }
-        ensures told { IfOk result (λ now. ComesTo (contents store.now) (with_one rules.now.classes unary (value_view value.now)) now × OnlyReads self.old self.new) }
+        ensures told { IfOk result (λ now. ComesTo (contents store.now) (with_one rules.now.classes unary (value_view value.now)) now
+            × OnlyReads self.old self.new) }
     {
         match unary {
             Unary::Negate => Ok(Now::Back(value.negated())),
@@ -62,9 +63,11 @@ impl<'a> Trial<'a> {
     ) -> Result<Now<'a>, AllocError>
         requires idle_store { IsIdle store.now }
         requires operands { AreOperands binary (value_view left) (value_view right.now) }
-        ensures same { (classes : Classes) → IfOk result (λ now. GoesOn (contents store.now) classes self.old.reads (onto classes self.old (with_two binary (value_view left) (value_view right.now))) now self.new) }
+        ensures same { (classes : Classes)
+            → IfOk result (λ now. GoesOn (contents store.now) classes self.old.reads (onto classes self.old (with_two binary (value_view left) (value_view right.now))) now self.new) }
         ensures less { IfOk result (λ now. weight now self.new ≡ load self.old.todo) }
-        ensures told { IfOk result (λ now. ComesTo (contents store.now) (with_two binary (value_view left) (value_view right.now)) now × OnlyReads self.old self.new) }
+        ensures told { IfOk result (λ now. ComesTo (contents store.now) (with_two binary (value_view left) (value_view right.now)) now
+            × OnlyReads self.old self.new) }
     {
         match binary {
             Binary::Arithmetic(operator) => Ok(computed(operator, left.int(), right.int())),
@@ -90,7 +93,8 @@ impl<'a> Trial<'a> {
     ) -> Result<Now<'a>, AllocError>
         requires idle_store { IsIdle store.now }
         requires operands { AreOperands binary (value_view left) (Int right.now) }
-        ensures same { (classes : Classes) → IfOk result (λ now. GoesOn (contents store.now) classes self.old.reads (onto classes self.old (with_two binary (value_view left) (Int right.now))) now self.new) }
+        ensures same { (classes : Classes)
+            → IfOk result (λ now. GoesOn (contents store.now) classes self.old.reads (onto classes self.old (with_two binary (value_view left) (Int right.now))) now self.new) }
         ensures less { IfOk result (λ now. weight now self.new ≡ load self.old.todo) }
         ensures told { IfOk result (λ now. ComesTo (contents store.now) (with_two binary (value_view left) (Int right.now)) now × OnlyReads self.old self.new) }
     {
@@ -161,7 +165,8 @@ impl<'a> Trial<'a> {
         node: Option<Node>,
     ) -> Result<Now<'a>, AllocError>
         requires idle_store { IsIdle store.now }
-        ensures same { (classes : Classes) → IfOk result (λ now. GoesOn (contents store.now) classes self.old.reads (onto classes self.old (child_of part (Ref node))) now self.new) }
+        ensures same { (classes : Classes)
+            → IfOk result (λ now. GoesOn (contents store.now) classes self.old.reads (onto classes self.old (child_of part (Ref node))) now self.new) }
         ensures less { IfOk result (λ now. weight now self.new ≡ load self.old.todo) }
         ensures told { IfOk result (λ now. ComesTo (contents store.now) (child_of part (Ref node)) now × OnlyReads self.old self.new) }
     {
@@ -185,7 +190,8 @@ impl<'a> Trial<'a> {
         node: Option<Node>,
     ) -> Result<Now<'a>, AllocError>
         requires idle_store { IsIdle store.now }
-        ensures same { (classes : Classes) → IfOk result (λ now. GoesOn (contents store.now) classes self.old.reads (onto classes self.old (count_of part (Ref node))) now self.new) }
+        ensures same { (classes : Classes)
+            → IfOk result (λ now. GoesOn (contents store.now) classes self.old.reads (onto classes self.old (count_of part (Ref node))) now self.new) }
         ensures less { IfOk result (λ now. weight now self.new ≡ load self.old.todo) }
         ensures told { IfOk result (λ now. ComesTo (contents store.now) (count_of part (Ref node)) now × OnlyReads self.old self.new) }
     {
@@ -206,7 +212,8 @@ impl<'a> Trial<'a> {
         node: Option<Node>,
     ) -> Result<Now<'a>, AllocError>
         requires idle_store { IsIdle store.now }
-        ensures same { (classes : Classes) → IfOk result (λ now. GoesOn (contents store.now) classes self.old.reads (onto classes self.old (has_of part (Ref node))) now self.new) }
+        ensures same { (classes : Classes)
+            → IfOk result (λ now. GoesOn (contents store.now) classes self.old.reads (onto classes self.old (has_of part (Ref node))) now self.new) }
         ensures less { IfOk result (λ now. weight now self.new ≡ load self.old.todo) }
         ensures told { IfOk result (λ now. ComesTo (contents store.now) (has_of part (Ref node)) now × OnlyReads self.old self.new) }
     {
@@ -227,7 +234,8 @@ impl<'a> Trial<'a> {
         node: Option<Node>,
     ) -> Result<Now<'a>, AllocError>
         requires idle_store { IsIdle store.now }
-        ensures same { (classes : Classes) → IfOk result (λ now. GoesOn (contents store.now) classes self.old.reads (onto classes self.old (token_of part (Ref node))) now self.new) }
+        ensures same { (classes : Classes)
+            → IfOk result (λ now. GoesOn (contents store.now) classes self.old.reads (onto classes self.old (token_of part (Ref node))) now self.new) }
         ensures less { IfOk result (λ now. weight now self.new ≡ load self.old.todo) }
         ensures told { IfOk result (λ now. ComesTo (contents store.now) (token_of part (Ref node)) now × OnlyReads self.old self.new) }
     {
@@ -251,9 +259,11 @@ impl<'a> Trial<'a> {
         requires idle_store { IsIdle store.now }
         requires node { IsRef (value_view node.now) }
         requires index { IsInt (value_view index.now) }
-        ensures same { (classes : Classes) → IfOk result (λ now. GoesOn (contents store.now) classes self.old.reads (onto classes self.old (element_of part (value_view node.now) (value_view index.now))) now self.new) }
+        ensures same { (classes : Classes)
+            → IfOk result (λ now. GoesOn (contents store.now) classes self.old.reads (onto classes self.old (element_of part (value_view node.now) (value_view index.now))) now self.new) }
         ensures less { IfOk result (λ now. weight now self.new ≡ load self.old.todo) }
-        ensures told { IfOk result (λ now. ComesTo (contents store.now) (element_of part (value_view node.now) (value_view index.now)) now × OnlyReads self.old self.new) }
+        ensures told { IfOk result (λ now. ComesTo (contents store.now) (element_of part (value_view node.now) (value_view index.now)) now
+            × OnlyReads self.old self.new) }
     {
         match node.node() {
             Some(node) => {
@@ -282,14 +292,14 @@ fn computed<'a>(operator: Operator, left: i32, right: i32) -> Now<'a>
     ensures told { (look : Contents ℕ) → ComesTo look (computed (operator_view operator) left right) result }
 {
     match operator {
-        Operator::Times => Now::Back(Value::Int(left.wrapping_mul(right))),
-        Operator::Plus => Now::Back(Value::Int(left.wrapping_add(right))),
-        Operator::Minus => Now::Back(Value::Int(left.wrapping_sub(right))),
-        Operator::Over => match right {
+        Operator::Multiply => Now::Back(Value::Int(left.wrapping_mul(right))),
+        Operator::Add => Now::Back(Value::Int(left.wrapping_add(right))),
+        Operator::Subtract => Now::Back(Value::Int(left.wrapping_sub(right))),
+        Operator::Divide => match right {
             0 => Now::Fail(FaultKind::Zero),
             divisor => Now::Back(Value::Int(left.wrapping_div(divisor))),
         },
-        Operator::Modulo => match right {
+        Operator::Remainder => match right {
             0 => Now::Fail(FaultKind::Zero),
             divisor => Now::Back(Value::Int(left.wrapping_rem(divisor))),
         },
@@ -335,7 +345,8 @@ fn fits(left: &str, right: &str) -> bool
 /// The text and the int in decimal, or a fault where that is too long.
 fn joined_int<'a>(left: String, right: &Value) -> Result<Now<'a>, AllocError>
     requires { IsInt (value_view right.now) }
-    ensures same { (classes : Classes) (t : Trial) → IfOk result (λ now. onto classes t (joined (string_bytes left ++ signed_decimal (int_of (value_view right.now)))) ≡ rest classes now t) }
+    ensures same { (classes : Classes) (t : Trial)
+        → IfOk result (λ now. onto classes t (joined (string_bytes left ++ signed_decimal (int_of (value_view right.now)))) ≡ rest classes now t) }
     ensures less { (t : Trial) → IfOk result (λ now. weight now t ≡ load t.todo) }
     ensures told { (look : Contents ℕ) → IfOk result (λ now. ComesTo look (joined (string_bytes left ++ signed_decimal (int_of (value_view right.now)))) now) }
 {

@@ -45,7 +45,8 @@ IsDoomed m x = (e : Info) → m x.slot ≡ Some e → e.stamp ≡ x.stamp → e.
 -- An edge of the start tells of the entry in the slot, or an edge to one that used an entry which is reached so.
 pub data Reached (old : Memory) (start : List Edge) : ℕ → Type 0 where
   by_start : (x : Edge) → Contains start x → (e : Info) → old x.slot ≡ Some e → e.stamp ≡ x.stamp → Reached old start x.slot
-  by_user : (p : ℕ) → Reached old start p → (f : Info) → old p ≡ Some f → (x : Edge) → Contains f.users x → (e : Info) → old x.slot ≡ Some e → e.stamp ≡ x.stamp → Reached old start x.slot
+  by_user : (p : ℕ) → Reached old start p → (f : Info) → old p ≡ Some f → (x : Edge) → Contains f.users x → (e : Info) → old x.slot ≡ Some e → e.stamp ≡ x.stamp
+      → Reached old start x.slot
 
 -- From the old entries the flush has come so far: what the edges of the start tell of is going or gone, and so is what used an
 -- entry that is gone, apart from what is still to do; and what is going or gone was reached from there.

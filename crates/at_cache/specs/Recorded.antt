@@ -51,7 +51,9 @@ pub record IsIndexed (lists : Location ℕ → List Edge) (puts : ℕ) (m : Memo
   pub known : (s : ℕ) (e : Info) → m s ≡ Some e → e.stamp < puts
   pub read : (s : ℕ) (e : Info) → m s ≡ Some e → (l : Location ℕ) → list_any (same_location l) e.reads ≡ true → is_listed (edge_to s e) (lists l) ≡ true
   pub used : (s : ℕ) (e : Info) → m s ≡ Some e → (p : ℕ) → list_any (nat_eq p) e.links ≡ true → is_used m s e p ≡ true
-  pub reads : (l : Location ℕ) (x : Edge) → is_listed x (lists l) ≡ true → (e : Info) → m x.slot ≡ Some e → e.stamp ≡ x.stamp → list_any (same_location l) e.reads ≡ true
-  pub uses : (p : ℕ) (f : Info) → m p ≡ Some f → (x : Edge) → is_listed x f.users ≡ true → (e : Info) → m x.slot ≡ Some e → e.stamp ≡ x.stamp → list_any (nat_eq p) e.links ≡ true
+  pub reads : (l : Location ℕ) (x : Edge) → is_listed x (lists l) ≡ true → (e : Info) → m x.slot ≡ Some e → e.stamp ≡ x.stamp
+      → list_any (same_location l) e.reads ≡ true
+  pub uses : (p : ℕ) (f : Info) → m p ≡ Some f → (x : Edge) → is_listed x f.users ≡ true → (e : Info) → m x.slot ≡ Some e → e.stamp ≡ x.stamp
+      → list_any (nat_eq p) e.links ≡ true
   pub past_readers : (l : Location ℕ) (x : Edge) → is_listed x (lists l) ≡ true → x.stamp < puts
   pub past_users : (p : ℕ) (f : Info) → m p ≡ Some f → (x : Edge) → is_listed x f.users ≡ true → x.stamp < puts

@@ -87,7 +87,8 @@ impl Table {
         ensures written { (k : ℕ) → memory_of self.new k ≡ reused slot users.items (memory_of self.old) k }
         ensures was { result.items ≡ users_at (memory_of self.old) slot }
         ensures key { self.new.places.vacant_key ≡ self.old.places.vacant_key }
-        ensures absent { (i : Instance ℕ) → lookup (same_instance i) self.old.entries.entries ≡ None → lookup (same_instance i) self.new.entries.entries ≡ None }
+        ensures absent { (i : Instance ℕ) → lookup (same_instance i) self.old.entries.entries ≡ None
+            → lookup (same_instance i) self.new.entries.entries ≡ None }
     {
         match self.places.get(slot) {
             Some(place) => write_users(&mut self.entries, *place, users),
@@ -164,7 +165,8 @@ fn note(entries: &IndexMap<Inst, Entry>, slots: &mut Slab<usize>, place: usize)
 fn take(entries: &mut IndexMap<Inst, Entry>, slots: &mut Slab<usize>, slot: usize) -> Option<Entry>
     ensures placed { IsPlaced entries.old.entries (get slots.old) → IsPlaced entries.new.entries (get slots.new) }
     ensures removed { IsPlaced entries.old.entries (get slots.old) → result ≡ option_map (λ e. e.1) (at entries.old.entries (get slots.old) slot) }
-    ensures others { IsPlaced entries.old.entries (get slots.old) → (k : ℕ) → at entries.new.entries (get slots.new) k ≡ (if nat_eq k slot then None else at entries.old.entries (get slots.old) k) }
+    ensures others { IsPlaced entries.old.entries (get slots.old) → (k : ℕ)
+        → at entries.new.entries (get slots.new) k ≡ (if nat_eq k slot then None else at entries.old.entries (get slots.old) k) }
     ensures len { IsPlaced entries.old.entries (get slots.old) → index_map_len entries.new + (if is_some result then 1 else 0) ≡ index_map_len entries.old }
 {
     let place = slots.try_remove(slot)?;

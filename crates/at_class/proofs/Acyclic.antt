@@ -6,7 +6,7 @@ use Rattle.std.proofs.lemmas.List.{length-map}
 use Rattle.at_model.specs.Classes.{AreSound}
 use Rattle.at_model.specs.Declarations.{Declarations, Declaration, Place, above, class_by, class_named, classes_of, superclass_circle}
 use Rattle.at_model.specs.WellFormed.{IsHierarchy}
-use Rattle.at_model.proofs.TypedTogether.{classes_hierarchy}
+use Rattle.at_model.proofs.of_typing.TypedTogether.{classes_hierarchy}
 use Rattle.at_class.specs.Checks.{circle_at}
 use Rattle.at_class.proofs.Sound.{given_nowhere}
 

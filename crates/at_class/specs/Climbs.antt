@@ -78,7 +78,8 @@ pub record GoingRound (classes : Classes) (from : ℕ) (marks : List Mark) (way 
   pub met : (c : ℕ) → is_met (mark_at marks c) ≡ true → (is_settled (mark_at marks c) || list_any (nat_eq c) way) ≡ true
   pub closed : (c b : ℕ) → is_settled (mark_at marks c) ≡ true → parent_of classes c ≡ Some b → (is_settled (mark_at marks b) ≡ true) ⊎ (next ≡ Some b)
   pub right : (c : ℕ) → is_settled (mark_at marks c) ≡ true → is_circular (mark_at marks c) ≡ is_above_itself classes c
-  pub round : (b : ℕ) → next ≡ Some b → (is_settled (mark_at marks b) ≡ true) ⊎ ((m : ℕ) → list_all (is_above_itself classes) (chain_within m classes (Some b)) ≡ true)
+  pub round : (b : ℕ) → next ≡ Some b → (is_settled (mark_at marks b) ≡ true)
+      ⊎ ((m : ℕ) → list_all (is_above_itself classes) (chain_within m classes (Some b)) ≡ true)
   pub ended : (b : ℕ) → end ≡ Some b → (is_settled (mark_at marks b) ≡ true) ⊎ (next ≡ Some b)
   pub leads : Leads classes (Some from) way end
   pub begun : is_met (mark_at marks from) ≡ true

@@ -35,7 +35,8 @@ top_of levels = end_of (on_way levels)
 -- the names are those of the classes up from here, and each level says how many of them there were before it
 abbrev pub Holds : {A : Type 0} → Classes → List Level → List (String A) → List (String A) → Type 0
 Holds classes [] names accessors = AreTaken [] names accessors
-Holds classes (l ∷ ls) names accessors = AreTaken (all_of classes (classes_on (l ∷ ls))) names accessors × (l.room ≡ suc max_parts - length (all_of classes (classes_on (l ∷ ls)))) × Holds classes ls (take l.names names) (take l.accessors accessors)
+Holds classes (l ∷ ls) names accessors = AreTaken (all_of classes (classes_on (l ∷ ls))) names accessors
+    × (l.room ≡ suc max_parts - length (all_of classes (classes_on (l ∷ ls)))) × Holds classes ls (take l.names names) (take l.accessors accessors)
 
 -- the levels are the whole way to a class, and the names those that its components and the inherited ones take
 pub record IsWay (classes : Classes) (levels : List Level) (t : TakenNames) : Type 0 where

@@ -83,7 +83,8 @@ fn has_wrong_kind(part: &PartDecl) -> bool
 /// The first component that clashes with one before it in its class, or with what every tree has: of classes of which this was found.
 pub fn component_twice(found: &[Found], declarations: &[ClassDecl]) -> Option<Place>
     requires { length found.now ≡ length declarations.now }
-    ensures { (classes : Classes) → AreFound classes found.now (length found.now) → option_map place_view result ≡ twice_in classes (declarations_view declarations.now) }
+    ensures { (classes : Classes) → AreFound classes found.now (length found.now)
+        → option_map place_view result ≡ twice_in classes (declarations_view declarations.now) }
 {
     for (position, declaration) in declarations.iter().enumerate() {
         if let Some(at) = twice_at(found[position], &declaration.parts) {
@@ -94,7 +95,8 @@ pub fn component_twice(found: &[Found], declarations: &[ClassDecl]) -> Option<Pl
 }
 
 fn twice_at(found: Found, parts: &[PartDecl]) -> Option<Place>
-    ensures { (classes : Classes) (class : ℕ) → IsFound classes class found → option_map place_view result ≡ parts_twice classes class (map part_declaration_view parts.now) }
+    ensures { (classes : Classes) (class : ℕ) → IsFound classes class found
+        → option_map place_view result ≡ parts_twice classes class (map part_declaration_view parts.now) }
 {
     Some(parts.get(found.twice?)?.at)
 }
@@ -102,7 +104,8 @@ fn twice_at(found: Found, parts: &[PartDecl]) -> Option<Place>
 /// The name of the first class that is one too many, or has too many components: of classes of which this was found.
 pub fn over_limit(found: &[Found], declarations: &[ClassDecl]) -> Option<Place>
     requires { length found.now ≡ length declarations.now }
-    ensures { (classes : Classes) → AreFound classes found.now (length found.now) → option_map place_view result ≡ over_in classes (declarations_view declarations.now) }
+    ensures { (classes : Classes) → AreFound classes found.now (length found.now)
+        → option_map place_view result ≡ over_in classes (declarations_view declarations.now) }
 {
     for (position, declaration) in declarations.iter().enumerate() {
         if is_over(found[position], position) {

@@ -78,7 +78,8 @@ impl Circles {
 
     // Marks the circle at the end of the way, if there is one.
     fn go_round(&mut self, classes: &[Class], end: Option<ClassId>)
-        ensures { (from : ℕ) → Climbed (classes_view classes.now) from self.old.marks.items self.old.way.items end → Descending (classes_view classes.now) from self.new.marks.items self.new.way.items }
+        ensures { (from : ℕ) → Climbed (classes_view classes.now) from self.old.marks.items self.old.way.items end
+            → Descending (classes_view classes.now) from self.new.marks.items self.new.way.items }
     {
         let mut next = end;
         while let Some(class) = next {
@@ -92,7 +93,8 @@ impl Circles {
 
     // Goes the way back down: what isn't settled there is below a circle, or there is none.
     fn descend(&mut self)
-        ensures { (classes : Classes) (from : ℕ) → Descending classes from self.old.marks.items self.old.way.items → IsResting classes self.new × (is_settled (mark_at self.new.marks.items from) ≡ true) }
+        ensures { (classes : Classes) (from : ℕ) → Descending classes from self.old.marks.items self.old.way.items → IsResting classes self.new
+            × (is_settled (mark_at self.new.marks.items from) ≡ true) }
     {
         while let Some(class) = self.way.pop() {
             if !is_settled(self.mark_of(class)) {

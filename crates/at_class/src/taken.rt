@@ -56,7 +56,9 @@ impl TakenNames {
 
     /// Takes the names of all of these, and tells the first that can't be a component with those before it.
     pub fn take_all(&mut self, alloc: Global, parts: &[Part]) -> Result<Option<usize>, AllocError>
-        ensures { IfOk result (λ twice. Grows self.old self.new × ((before : List Component) → AreTaken before self.old.names.keys self.old.accessors.keys → AreTaken (before ++ map part_view parts.now) self.new.names.keys self.new.accessors.keys × IsFirst (is_taken_at before (map part_view parts.now)) twice)) }
+        ensures { IfOk result (λ twice. Grows self.old self.new × ((before : List Component) → AreTaken before self.old.names.keys self.old.accessors.keys
+            → AreTaken (before ++ map part_view parts.now) self.new.names.keys self.new.accessors.keys
+            × IsFirst (is_taken_at before (map part_view parts.now)) twice)) }
     {
         let mut twice = None;
         for (i, part) in parts.iter().enumerate() {
@@ -68,7 +70,8 @@ impl TakenNames {
 
     // Takes the component's names, and tells whether it couldn't be one with those whose names these are.
     fn take(&mut self, alloc: Global, part: &Part) -> Result<bool, AllocError>
-        ensures { IfOk result (λ is. Grows self.old self.new × ((before : List Component) → AreTaken before self.old.names.keys self.old.accessors.keys → AreTaken (before ++ part_view part.now ∷ []) self.new.names.keys self.new.accessors.keys × (is ≡ is_taken before (part_view part.now)))) }
+        ensures { IfOk result (λ is. Grows self.old self.new × ((before : List Component) → AreTaken before self.old.names.keys self.old.accessors.keys
+            → AreTaken (before ++ part_view part.now ∷ []) self.new.names.keys self.new.accessors.keys × (is ≡ is_taken before (part_view part.now)))) }
     {
         let is_taken = self.is_taken(alloc, part)?;
         self.add(alloc, part)?;
@@ -77,7 +80,8 @@ impl TakenNames {
 
     // Whether the component clashes with one of those whose names these are, or with what every tree has.
     fn is_taken(&self, alloc: Global, part: &Part) -> Result<bool, AllocError>
-        ensures { IfOk result (λ is. (before : List Component) → AreTaken before self.now.names.keys self.now.accessors.keys → is ≡ is_taken before (part_view part.now)) }
+        ensures { IfOk result (λ is. (before : List Component) → AreTaken before self.now.names.keys self.now.accessors.keys
+            → is ≡ is_taken before (part_view part.now)) }
     {
         if is_common(part.name.as_str()) {
             return Ok(true);
@@ -87,7 +91,8 @@ impl TakenNames {
 
     // Whether the component clashes with one of those whose names these are.
     fn has_clash(&self, alloc: Global, part: &Part) -> Result<bool, AllocError>
-        ensures { IfOk result (λ is. (before : List Component) → AreTaken before self.now.names.keys self.now.accessors.keys → is ≡ list_any (clash (part_view part.now)) before) }
+        ensures { IfOk result (λ is. (before : List Component) → AreTaken before self.now.names.keys self.now.accessors.keys
+            → is ≡ list_any (clash (part_view part.now)) before) }
     {
         let name = part.name.as_str();
         if has(&self.names, name) {
@@ -106,7 +111,8 @@ impl TakenNames {
 
     // The names of one component more.
     fn add(&mut self, alloc: Global, part: &Part) -> Result<(), AllocError>
-        ensures { OnOk result (Grows self.old self.new × ((before : List Component) → AreTaken before self.old.names.keys self.old.accessors.keys → AreTaken (before ++ part_view part.now ∷ []) self.new.names.keys self.new.accessors.keys)) }
+        ensures { OnOk result (Grows self.old self.new × ((before : List Component) → AreTaken before self.old.names.keys self.old.accessors.keys
+            → AreTaken (before ++ part_view part.now ∷ []) self.new.names.keys self.new.accessors.keys)) }
     {
         let name = part.name.as_str();
         insert(&mut self.names, String::from_str(alloc, name)?)?;
@@ -162,7 +168,8 @@ fn has_either(set: &IndexSet<String>, one: &str, other: &str) -> bool
 }
 
 fn insert(set: &mut IndexSet<String>, text: String) -> Result<(), AllocError>
-    ensures { OnOk result (Begins set.old.keys set.new.keys × ((n : List ℕ) → has_key set.new.keys n ≡ (has_key set.old.keys n || bytes_eq n (string_bytes text)))) }
+    ensures { OnOk result (Begins set.old.keys set.new.keys
+        × ((n : List ℕ) → has_key set.new.keys n ≡ (has_key set.old.keys n || bytes_eq n (string_bytes text)))) }
 {
     set.insert_full(text)?;
     Ok(())

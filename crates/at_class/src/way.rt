@@ -61,7 +61,8 @@ impl Way {
         class: ClassId,
     ) -> Result<Found, AllocError>
         requires { AreLed (classes_view classes.now) × IsWay (classes_view classes.now) self.now.levels.items self.now.taken }
-        ensures { IfOk result (λ found. IsFound (classes_view classes.now) class found × IsWay (classes_view classes.now) self.new.levels.items self.new.taken) }
+        ensures { IfOk result (λ found. IsFound (classes_view classes.now) class found
+            × IsWay (classes_view classes.now) self.new.levels.items self.new.taken) }
     {
         self.leave_to(classes, class);
         let mut missing = self.missing(alloc, classes, class)?;
@@ -73,7 +74,9 @@ impl Way {
 
     // Goes up until the way is that to the class's superclass, or none.
     fn leave_to(&mut self, classes: &[Class], class: ClassId)
-        ensures { AreLed (classes_view classes.now) → IsWay (classes_view classes.now) self.old.levels.items self.old.taken → IsWay (classes_view classes.now) self.new.levels.items self.new.taken × ((top_of self.new.levels.items ≡ parent_of (classes_view classes.now) class) ⊎ (self.new.levels.items ≡ [])) }
+        ensures { AreLed (classes_view classes.now) → IsWay (classes_view classes.now) self.old.levels.items self.old.taken
+            → IsWay (classes_view classes.now) self.new.levels.items self.new.taken
+            × ((top_of self.new.levels.items ≡ parent_of (classes_view classes.now) class) ⊎ (self.new.levels.items ≡ [])) }
     {
         while !self.is_above(classes, class) {
             let Some(level) = self.levels.pop() else {
@@ -104,7 +107,9 @@ impl Way {
         classes: &[Class],
         class: ClassId,
     ) -> Result<Vec<ClassId>, AllocError>
-        ensures { IfOk result (λ v. IsWay (classes_view classes.now) self.now.levels.items self.now.taken → (top_of self.now.levels.items ≡ parent_of (classes_view classes.now) class) ⊎ (self.now.levels.items ≡ []) → above_of (classes_view classes.now) class ≡ v.items ++ on_way self.now.levels.items) }
+        ensures { IfOk result (λ v. IsWay (classes_view classes.now) self.now.levels.items self.now.taken
+            → (top_of self.now.levels.items ≡ parent_of (classes_view classes.now) class) ⊎ (self.now.levels.items ≡ [])
+            → above_of (classes_view classes.now) class ≡ v.items ++ on_way self.now.levels.items) }
     {
         if self.is_above(classes, class) {
             return Ok(Vec::new(alloc));
@@ -114,7 +119,8 @@ impl Way {
 
     // How many components are wanting before there are too many.
     fn room(&self) -> usize
-        ensures { (classes : Classes) → IsWay classes self.now.levels.items self.now.taken → result ≡ suc max_parts - length (all_of classes (on_way self.now.levels.items)) }
+        ensures { (classes : Classes) → IsWay classes self.now.levels.items self.now.taken
+            → result ≡ suc max_parts - length (all_of classes (on_way self.now.levels.items)) }
     {
         match self.levels.last() {
             None => TOO_MANY,
@@ -129,8 +135,10 @@ impl Way {
         classes: &[Class],
         class: ClassId,
     ) -> Result<Found, AllocError>
-        requires { AreLed (classes_view classes.now) × IsWay (classes_view classes.now) self.now.levels.items self.now.taken × (on_way self.now.levels.items ≡ above_of (classes_view classes.now) class) }
-        ensures { IfOk result (λ found. IsFound (classes_view classes.now) class found × IsWay (classes_view classes.now) self.new.levels.items self.new.taken × (on_way self.new.levels.items ≡ class ∷ on_way self.old.levels.items)) }
+        requires { AreLed (classes_view classes.now) × IsWay (classes_view classes.now) self.now.levels.items self.now.taken
+            × (on_way self.now.levels.items ≡ above_of (classes_view classes.now) class) }
+        ensures { IfOk result (λ found. IsFound (classes_view classes.now) class found × IsWay (classes_view classes.now) self.new.levels.items self.new.taken
+            × (on_way self.new.levels.items ≡ class ∷ on_way self.old.levels.items)) }
     {
         let own = own_parts(classes, class);
         let room = self.room().saturating_sub(own.len());

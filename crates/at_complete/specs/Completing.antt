@@ -24,7 +24,8 @@ LacksOwn rules attribute = (a : Attribute) × (slice_get rules.attributes attrib
 
 -- the attribute is inherited, and such a class is exposed
 abbrev pub LacksInherited : Rules → (attribute : ℕ) → Type 0
-LacksInherited rules attribute = (a : Attribute) × (slice_get rules.attributes attribute ≡ Some a) × (a.is_inherited ≡ true) × IsExposedBelow rules a.name a.class
+LacksInherited rules attribute = (a : Attribute) × (slice_get rules.attributes attribute ≡ Some a) × (a.is_inherited ≡ true)
+    × IsExposedBelow rules a.name a.class
 
 -- the first attribute of which it is so, if there is one
 abbrev pub IsFirst : (ℕ → Type 0) → Option ℕ → Type 0

@@ -31,7 +31,8 @@ pub record Walked (n : ℕ) (start : ℕ → Bool) (leads : ℕ → ℕ → Bool
   pub closed : (c d : ℕ) → has_met met c ≡ true → d < n → leads c d ≡ true → has_met met d ≡ true
 
 -- after so many steps, all that is still to be looked at waits
-pub record Walking (n : ℕ) (start : ℕ → Bool) (leads : ℕ → ℕ → Bool) (passes : ℕ → Bool) (Good : ℕ → Type 0) (i : ℕ) (met : List Bool) (pending : List ℕ) : Type 0 where
+pub record Walking (n : ℕ) (start : ℕ → Bool) (leads : ℕ → ℕ → Bool) (passes : ℕ → Bool) (Good : ℕ
+    → Type 0) (i : ℕ) (met : List Bool) (pending : List ℕ) : Type 0 where
   pub size : length met ≡ n
   pub count : i + length pending ≡ met_count met
   pub known : (c : ℕ) → is_in c pending ≡ true → has_met met c ≡ true

@@ -76,7 +76,8 @@ fn list_below(
 ) -> Result<(), AllocError>
     requires { IfSome parent (λ p. p < length below.now.items) }
     ensures count { OnOk result (length below.new.items ≡ length below.old.items) }
-    ensures listed { OnOk result ((c d : ℕ) → list_any (nat_eq d) (listed_at below.new.items c) ≡ (list_any (nat_eq d) (listed_at below.old.items c) || (option_eq nat_eq (Some c) parent && nat_eq d class))) }
+    ensures listed { OnOk result ((c d : ℕ) → list_any (nat_eq d) (listed_at below.new.items c)
+        ≡ (list_any (nat_eq d) (listed_at below.old.items c) || (option_eq nat_eq (Some c) parent && nat_eq d class))) }
 {
     let Some(parent) = parent else { return Ok(()) };
     below[parent.index()].push(class)?;

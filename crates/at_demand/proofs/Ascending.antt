@@ -25,7 +25,7 @@ use Rattle.at_demand.proofs.Orderly.{settles}
 use Rattle.at_demand.proofs.Truth.{ends, settles_true}
 use Rattle.at_demand.proofs.Passing.{settles_covering}
 use Rattle.at_demand.proofs.SparingOn.{ends_all, settles_sparing}
-use Rattle.at_demand.proofs.Typing.{settles_typed}
+use Rattle.at_demand.proofs.TypingLemmas.{settles_typed}
 
 module _ (entries more : Entries) (old new : Evaluation) (d : Find) where
   pub ascends : (v : Value ℕ) → IsOrderlyIn entries old → MayAdd entries more old.inst v → AreKept entries d.demanded.kept.items → (t : Advance) → HasAscended old d new t → IsAdvance more old new t

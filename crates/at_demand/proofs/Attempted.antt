@@ -28,7 +28,7 @@ use Rattle.at_demand.specs.Sparing.{AddsWorthy, AreOnly, AreSettled, AreSpare, M
 use Rattle.at_demand.specs.Attempts.{HasFound, HasNeeded}
 use Rattle.at_demand.proofs.Coming.{has_value, has_fault}
 use Rattle.at_demand.proofs.Passing.{whole}
-use Rattle.at_demand.proofs.Only.{lean, needs_comes}
+use Rattle.at_demand.proofs.OnlyLemmas.{lean, needs_comes}
 use Rattle.at_demand.proofs.Orderly.{neither}
 use Rattle.at_demand.proofs.Gaining.{is_kept, worthy_none, worthy_more, lazy_more, deep_more, settled_push}
 

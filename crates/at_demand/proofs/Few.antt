@@ -8,13 +8,13 @@ use Rattle.at_model.specs.Paths.{Node, node_eq}
 use Rattle.at_model.specs.Rules.{Rules}
 use Rattle.at_model.specs.Run.{Instance}
 use Rattle.at_model.specs.WellFormed.{AreWellFormed, IsTreeSound}
-use Rattle.at_model.proofs.CarryingCircles.{Agrees, instance-agrees, names_agree}
-use Rattle.at_model.proofs.CarryingSupport.{leads_there}
-use Rattle.at_model.proofs.EquationsAlike.{evaluation-like}
+use Rattle.at_model.proofs.of_likeness.CarryingCircles.{Agrees, instance-agrees, names_agree}
+use Rattle.at_model.proofs.of_likeness.CarryingSupport.{leads_there}
+use Rattle.at_model.proofs.of_likeness.EquationsAlike.{evaluation-like}
 use Rattle.at_model.proofs.Nodes.{same_like, nat_eq-is, node_eq-is}
-use Rattle.at_model.proofs.TypedTogether.{listed}
+use Rattle.at_model.proofs.of_typing.TypedTogether.{listed}
 use Rattle.at_model.specs.Turning.{UnderWay, chain, keys, posted, Silent, IsOn}
-use Rattle.at_model.proofs.Bounded.{all_apart, all_led, all_many, begun, turns_are}
+use Rattle.at_model.proofs.of_machines.Bounded.{all_apart, all_led, all_many, begun, turns_are}
 use Rattle.at_model.proofs.Members.{no_more}
 use Rattle.at_store.specs.Shown.{Shown, IsIdle, contents, numbers, path, tree}
 use Rattle.at_store.specs.Memory.{class_in}

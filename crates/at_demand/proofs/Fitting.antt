@@ -23,7 +23,7 @@ use Rattle.at_demand.specs.ChainSteps.{HasDeepened, HasPassedOn, HasSettled}
 use Rattle.at_demand.specs.Attempts.{HasComeTo}
 use Rattle.at_demand.specs.KeptTrials.{AllWait, AreTrials, Fit, FitAfter, FitAt, HasNoLast, HasTaken, frames_of, next_of}
 use Rattle.at_demand.proofs.Keys.{goes_last, keys_push}
-use Rattle.at_demand.proofs.Only.{takes_more}
+use Rattle.at_demand.proofs.OnlyLemmas.{takes_more}
 use Rattle.at_demand.proofs.Passing.{passed_more}
 use Rattle.at_demand.proofs.Turned.{fresh_found, kept_found, last_two, waits_push}
 

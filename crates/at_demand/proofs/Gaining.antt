@@ -27,7 +27,7 @@ use Rattle.at_demand.proofs.Chains.{leads}
 use Rattle.at_demand.proofs.Gathered.{among_at}
 use Rattle.at_demand.proofs.Passing.{past_more, past_has}
 use Rattle.at_demand.proofs.Leading.{led_now, valueless, open_led, comes_before, comes_failed}
-use Rattle.at_demand.proofs.Only.{needs_comes}
+use Rattle.at_demand.proofs.OnlyLemmas.{needs_comes}
 
 not_none : (o : Option Kept) → IsSome o → o ≡ None → ⊥
 not_none None some e = absurd (true≢false (sym some))

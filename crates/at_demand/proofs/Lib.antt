@@ -6,26 +6,20 @@ pub mod Orderly
 pub mod Recalling
 pub mod Truth
 pub mod Seeing
-pub mod Staying
-pub mod StayingRight
+pub mod of_keeping
 pub mod Supported
 pub mod Gathered
 pub mod Passing
 pub mod There
 pub mod Leading
-pub mod Only
+pub mod OnlyLemmas
 pub mod Gaining
 pub mod Counting
 pub mod SparingOn
 pub mod Ascending
-pub mod StayingSpare
-pub mod Spared
 pub mod Naming
-pub mod CalledAsked
-pub mod CalledEdited
-pub mod Called
 pub mod TypedKnown
-pub mod Typing
+pub mod TypingLemmas
 mod Attempted
 mod Turned
 pub mod Standing

@@ -22,7 +22,7 @@ use Rattle.at_demand.specs.Covering.{AreCovered, AreGathered, AreWhole, IsWhole}
 use Rattle.at_demand.specs.Only.{AreFrom, AreLean, IsLean}
 use Rattle.at_demand.specs.Sparing.{AreOnly, MayAddLazy}
 use Rattle.at_demand.proofs.Gathered.{gathered_alone, put_covers}
-use Rattle.at_demand.proofs.Only.{from_alone, put_only}
+use Rattle.at_demand.proofs.OnlyLemmas.{from_alone, put_only}
 use Rattle.at_demand.proofs.Sameness.{same_true, same_refl}
 
 pub none_below : (positions : Vec ℕ Global) → nat_eq (vec_len positions) 0 ≡ true → positions.items ≡ []

@@ -25,12 +25,12 @@ use Rattle.at_demand.specs.Sparing.{AreOnly, AreSettled, MayAddLazy, IsSparing, 
 use Rattle.at_demand.specs.Typing.{AreTypedWaiting, IsTypedAdvance}
 use Rattle.at_demand.proofs.Chains.{first_push, wait_pop}
 use Rattle.at_demand.proofs.Gaining.{settled_still}
-use Rattle.at_demand.proofs.Only.{needs_comes, take_pop, takes_one}
+use Rattle.at_demand.proofs.OnlyLemmas.{needs_comes, take_pop, takes_one}
 use Rattle.at_demand.proofs.Orderly.{passes}
 use Rattle.at_demand.proofs.Passing.{passed_on, passed_pop, takes_kept}
 use Rattle.at_demand.proofs.Truth.{ends, resumed_step, right_after}
 use Rattle.at_demand.proofs.SparingOn.{ends_all, settles_spare}
-use Rattle.at_demand.proofs.Typing.{typed_pop}
+use Rattle.at_demand.proofs.TypingLemmas.{typed_pop}
 
 module _ (rules : Rules) (s : Shown) (entries more : Entries) (old new : Evaluation) (w : ValueCode) where
   abbrev pub look : Contents ℕ

@@ -21,7 +21,7 @@ use Rattle.at_demand.specs.Only.{TakesOnly, TakeOnly, IsLean, AreLean}
 use Rattle.at_demand.specs.Sparing.{AreOnly, AreSpare, HasWorthy, MayAddLazy, AreSettled, IsSparing}
 use Rattle.at_demand.proofs.Orderly.{waits_last, found_last}
 use Rattle.at_demand.proofs.Passing.{whole}
-use Rattle.at_demand.proofs.Only.{takes_none, lean, lean_push, take_push, take_pop, take_more, takes_more}
+use Rattle.at_demand.proofs.OnlyLemmas.{takes_none, lean, lean_push, take_push, take_pop, take_more, takes_more}
 use Rattle.at_demand.proofs.Gaining.{is_kept, lazy_more, all_below, deep_more, settled_push}
 
 -- what the rules say of the instance's attribute

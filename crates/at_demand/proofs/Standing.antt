@@ -11,7 +11,7 @@ use Rattle.at_model.specs.Meaning.{Among, Answers, Equations, HasValue, Leads, R
 use Rattle.at_model.specs.TypedRuns.{IsWellTyped}
 use Rattle.at_model.proofs.Everywhere.{all_both, both_all}
 use Rattle.at_model.specs.Turning.{UnderWay, Turned, IsOn, asked, chain}
-use Rattle.at_model.proofs.Bounded.{stays_on, answers_right, leads_last}
+use Rattle.at_model.proofs.of_machines.Bounded.{stays_on, answers_right, leads_last}
 use Rattle.at_model.proofs.Listed.{among_left}
 use Rattle.at_store.specs.Shown.{Shown, IsIdle, contents}
 use Rattle.at_body.specs.Same.{same_instance}
@@ -32,7 +32,7 @@ use Rattle.at_demand.specs.ChainSteps.{HasSettled, HasPassedOn, HasDeepened}
 use Rattle.at_demand.specs.Attempts.{HasFound, HasNeeded}
 use Rattle.at_demand.proofs.Keys.{goes_last, lookup_push}
 use Rattle.at_demand.proofs.Leading.{leads_on}
-use Rattle.at_demand.proofs.Only.{lean_push}
+use Rattle.at_demand.proofs.OnlyLemmas.{lean_push}
 use Rattle.at_demand.proofs.Passing.{whole_push}
 use Rattle.at_demand.proofs.Sameness.{same_true}
 use Rattle.at_demand.proofs.There.{led_there}

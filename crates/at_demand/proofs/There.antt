@@ -5,8 +5,8 @@ use Rattle.at_model.specs.Run.{Instance, Contents}
 use Rattle.at_model.specs.Rules.{Rules}
 use Rattle.at_model.specs.Meaning.{Leads, content, equations}
 use Rattle.at_model.proofs.Nodes.{same_like, nat_eq-is, node_eq-is}
-use Rattle.at_model.proofs.EquationsAlike.{evaluation-like}
-use Rattle.at_model.proofs.CarryingSupport.{leads_there}
+use Rattle.at_model.proofs.of_likeness.EquationsAlike.{evaluation-like}
+use Rattle.at_model.proofs.of_likeness.CarryingSupport.{leads_there}
 use Rattle.at_store.specs.Shown.{Shown, IsIdle, contents, numbers, path, tree}
 use Rattle.at_store.specs.Located.{loc_view}
 use Rattle.at_store.specs.Memory.{class_in}

@@ -8,7 +8,7 @@ use Rattle.at_model.specs.Run.{Value, Instance, Contents}
 use Rattle.at_model.specs.Rules.{Rules}
 use Rattle.at_model.specs.Meaning.{Among, Comes, Distinct, Faults, HasValue, Holds, Right}
 use Rattle.at_model.specs.Turning.{UnderWay, Turned, is_kept, finds, faults, closes, deepens, ascends, IsOneMore, between, IsKnown, asked, chain, keys}
-use Rattle.at_model.proofs.Bounded.{keys_both}
+use Rattle.at_model.proofs.of_machines.Bounded.{keys_both}
 use Rattle.at_model.proofs.Listed.{among_left, among_right}
 use Rattle.at_model.proofs.Members.{among_either, among_last}
 use Rattle.at_store.specs.Shown.{Shown, contents}

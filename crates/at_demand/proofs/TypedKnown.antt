@@ -8,11 +8,11 @@ use Rattle.at_model.specs.Meaning.{HasValue, content, equations}
 use Rattle.at_model.specs.TypedRuns.{IsWellTyped, IsOfItsKind, class_at}
 use Rattle.at_model.specs.Instances.{AnyText}
 use Rattle.at_model.specs.WellFormed.{AreWellFormed, IsTreeSound}
-use Rattle.at_model.proofs.EquationsAlike.{evaluation-like}
+use Rattle.at_model.proofs.of_likeness.EquationsAlike.{evaluation-like}
 use Rattle.at_model.proofs.Nodes.{same_like, nat_eq-is, node_eq-is}
-use Rattle.at_model.proofs.TypedLeads.{value_typed}
-use Rattle.at_model.proofs.TypedNumbers.{value_back}
-use Rattle.at_model.proofs.TypedTogether.{evaluated_any}
+use Rattle.at_model.proofs.of_typing.TypedLeads.{value_typed}
+use Rattle.at_model.proofs.of_typing.TypedNumbers.{value_back}
+use Rattle.at_model.proofs.of_typing.TypedTogether.{evaluated_any}
 use Rattle.at_store.specs.Shown.{IsIdle, Shown, contents, numbers, path, tree}
 use Rattle.at_store.specs.Memory.{class_in}
 use Rattle.at_store.specs.View.{memory_of}
@@ -21,7 +21,7 @@ use Rattle.at_store.proofs.Relabelled.{contents_alike}
 use Rattle.at_body.specs.Typed.{class_shown}
 use Rattle.at_body.proofs.TypedInstances.{instance_on}
 use Rattle.at_demand.specs.Known.{meaning}
-use Rattle.at_model.proofs.AlikeBack.{value_on}
+use Rattle.at_model.proofs.of_likeness.AlikeBack.{value_on}
 
 pub known_typed : (rules : Rules) → AreWellFormed rules → (s : Shown) → IsIdle s → IsTreeSound rules.classes (tree s) → (i : Instance ℕ) (v : Value ℕ) →
     IsWellTyped rules (class_shown s) AnyText i → HasValue (contents s) (meaning rules) i v → IsOfItsKind rules (class_shown s) i v

@@ -24,7 +24,8 @@ use Rattle.at_demand.specs.Sparing.{AreSettled}
 
 -- The trial of an instance has come to this step, past values that hold; what it looked at and took is what its evaluation sees and
 -- comes to, all values are of their kinds, and what it took of what is kept is kept.
-pub record HasComeTo (rules : Rules) (at : ClassAt ℕ) (look : Contents ℕ) (entries : Entries) (found : List (Instance ℕ × Find)) (i : Instance ℕ) (f : Frame) (s : Step) : Type 0 where
+pub record HasComeTo (rules : Rules) (at : ClassAt ℕ) (look : Contents ℕ) (entries : Entries) (found : List (Instance ℕ
+    × Find)) (i : Instance ℕ) (f : Frame) (s : Step) : Type 0 where
   pub stepped : HasStepped rules look i f.trial s
   pub passed : HasPassedTo rules look found i f s
   pub takes : TakesOnly rules look found i f.demanded
@@ -46,7 +47,8 @@ pub record HasFound (rules : Rules) (look : Contents ℕ) (entries : Entries) (f
   pub kept : AreKept entries f.demanded.kept.items
 
 -- it needs another instance, which is well typed, and neither kept nor found
-pub record HasNeeded (rules : Rules) (at : ClassAt ℕ) (look : Contents ℕ) (entries : Entries) (found : List (Instance ℕ × Find)) (i j : Instance ℕ) : Type 0 where
+pub record HasNeeded (rules : Rules) (at : ClassAt ℕ) (look : Contents ℕ) (entries : Entries) (found : List (Instance ℕ
+    × Find)) (i j : Instance ℕ) : Type 0 where
   pub comes : Comes look (meaning rules) i j
   pub unkept : entries j ≡ None
   pub unfound : lookup (same_instance j) found ≡ None

@@ -21,7 +21,8 @@ pub record IsRisen (old new : Question) (i : Instance ℕ) : Type 0 where
 
 -- so it is, or none waited for it
 abbrev pub HasRisen : (old new : Question) → Option (Instance ℕ) → Type 0
-HasRisen old new None = (old.waiting.entries ≡ []) × (under_way new ≡ under_way old) × (new.found.entries ≡ old.found.entries) × (new.passed.entries ≡ old.passed.entries)
+HasRisen old new None = (old.waiting.entries ≡ []) × (under_way new ≡ under_way old) × (new.found.entries ≡ old.found.entries)
+    × (new.passed.entries ≡ old.passed.entries)
 HasRisen old new (Some i) = IsRisen old new i
 
 -- the last one is off the chain, and one more of those that were found

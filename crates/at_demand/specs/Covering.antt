@@ -41,7 +41,8 @@ HasPassedTo rules look found i f s = HasPassed rules look found i f (left_of (re
 -- each that waits has come to the demand of the next, and the last one to that of i
 abbrev pub HavePassed : Rules → Contents ℕ → List (Instance ℕ × Find) → List (Instance ℕ × Frame) → Instance ℕ → Type 0
 HavePassed rules look found [] i = Unit {0}
-HavePassed rules look found (e ∷ es) i = HasPassed rules look found e.0 e.1 (Demands (first_of es i) (resumed rules.classes e.1.trial)) × HavePassed rules look found es i
+HavePassed rules look found (e ∷ es) i = HasPassed rules look found e.0 e.1 (Demands (first_of es i) (resumed rules.classes e.1.trial))
+    × HavePassed rules look found es i
 
 -- what was demanded stays so, and the instance is among it where its value was recalled
 abbrev pub Takes : List (Instance ℕ × Find) → (old new : Demanded) → Instance ℕ → Recalled → Type 0
@@ -58,7 +59,8 @@ abbrev pub AreWhole : Rules → Contents ℕ → List (Instance ℕ × Find) →
 AreWhole rules look found = (p : ℕ) (i : Instance ℕ) (f : Find) → slice_get found p ≡ Some (i, f) → IsWhole rules look found i f
 
 -- Whatever the question was told stands with the frame that was told it, or with the find.
-pub record IsCovering (rules : Rules) (look : Contents ℕ) (waiting : List (Instance ℕ × Frame)) (found : List (Instance ℕ × Find)) (i : Instance ℕ) (f : Frame) (s : Step) : Type 0 where
+pub record IsCovering (rules : Rules) (look : Contents ℕ) (waiting : List (Instance ℕ × Frame)) (found : List (Instance ℕ
+    × Find)) (i : Instance ℕ) (f : Frame) (s : Step) : Type 0 where
   pub waits : HavePassed rules look found waiting i
   pub last : HasPassedTo rules look found i f s
   pub finds : AreWhole rules look found

@@ -20,13 +20,15 @@ pub record IsSameFind (f g : Find) : Type 0 where
 
 -- the find's value is kept for these locations and those of these instances; or a keeper that isn't exact has left all as it was,
 -- and the find is handed back
-abbrev pub HasPlaced : (exact : Bool) (old : Entries) → Instance ℕ → Find → (reads : List (Location ℕ)) (uses : List (Instance ℕ)) (new : Entries) → Settled → Type 0
+abbrev pub HasPlaced : (exact : Bool) (old : Entries) → Instance ℕ → Find → (reads : List (Location ℕ)) (uses : List (Instance ℕ)) (new : Entries) → Settled
+    → Type 0
 HasPlaced exact old i f reads uses new (settled.Kept v) = (v ≡ f.value) × Puts exact old i (value_view f.value) reads uses new
 HasPlaced exact old i f reads uses new (settled.Found g) = (exact ≡ false) × KeepsAll old new × IsSameFind f g
 
 -- so it is for all that the find rests on, and nothing else
 abbrev pub HasPlacedAll : (exact : Bool) (old : Entries) (found : List (Instance ℕ × Find)) → Instance ℕ → Find → (new : Entries) → Settled → Type 0
-HasPlacedAll exact old found i f new r = (s : Sources) × AreGathered found f s × AreFrom found f s × AreKept old s.kept.items × HasPlaced exact old i f (map loc_view s.reads.items) s.kept.items new r
+HasPlacedAll exact old found i f new r = (s : Sources) × AreGathered found f s × AreFrom found f s × AreKept old s.kept.items
+    × HasPlaced exact old i f (map loc_view s.reads.items) s.kept.items new r
 
 -- the value is kept, or found still
 abbrev pub Becomes : Entries → Instance ℕ → Find → Settled → Type 0

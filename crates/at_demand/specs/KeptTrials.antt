@@ -39,13 +39,15 @@ next_of (e ∷ es) j = e.0
 -- each of these waits for the next, and the last one for j
 abbrev pub AllWait : Rules → ClassAt ℕ → Contents ℕ → Entries → List (Instance ℕ × Find) → List (Instance ℕ × Frame) → Instance ℕ → Type 0
 AllWait rules at look entries found [] j = Unit {0}
-AllWait rules at look entries found (e ∷ es) j = HasComeTo rules at look entries found e.0 e.1 (step.Need (next_of es j)) × AllWait rules at look entries found es j
+AllWait rules at look entries found (e ∷ es) j = HasComeTo rules at look entries found e.0 e.1 (step.Need (next_of es j))
+    × AllWait rules at look entries found es j
 
 abbrev pub frames_of : List (Instance ℕ × Frame) → List Frame
 frames_of es = map (λ (e : Instance ℕ × Frame). e.1) es
 
 -- The frames are those of the last ones of these instances, each of which waits for the next, and the last one for j.
-pub record AreTrials (rules : Rules) (at : ClassAt ℕ) (look : Contents ℕ) (entries : Entries) (found : List (Instance ℕ × Find)) (owners : List (Instance ℕ)) (j : Instance ℕ) (frames : List Frame) : Type 0 where
+pub record AreTrials (rules : Rules) (at : ClassAt ℕ) (look : Contents ℕ) (entries : Entries) (found : List (Instance ℕ
+    × Find)) (owners : List (Instance ℕ)) (j : Instance ℕ) (frames : List Frame) : Type 0 where
   pub front : List (Instance ℕ)
   pub tail : List (Instance ℕ × Frame)
   pub owners_are : owners ≡ front ++ keys_of tail

@@ -35,7 +35,8 @@ AreLean rules look found = (p : ℕ) (i : Instance ℕ) (f : Find) → slice_get
 
 -- the instance was taken, of what is kept or of what was found, where its value was recalled
 abbrev pub TakesOne : List (Instance ℕ × Find) → (old new : Demanded) → Instance ℕ → Recalled → Type 0
-TakesOne found old new i (recalled.Value v) = ((new.kept.items ≡ old.kept.items ++ i ∷ []) × (new.finds.items ≡ old.finds.items)) ⊎ ((p : ℕ) × (f : Find) × (slice_get found p ≡ Some (i, f)) × (new.kept.items ≡ old.kept.items) × (new.finds.items ≡ old.finds.items ++ p ∷ []))
+TakesOne found old new i (recalled.Value v) = ((new.kept.items ≡ old.kept.items ++ i ∷ []) × (new.finds.items ≡ old.finds.items))
+    ⊎ ((p : ℕ) × (f : Find) × (slice_get found p ≡ Some (i, f)) × (new.kept.items ≡ old.kept.items) × (new.finds.items ≡ old.finds.items ++ p ∷ []))
 TakesOne found old new i (recalled.Unknown j) = new ≡ old
 
 -- positions lead from the one find to the other
@@ -68,4 +69,5 @@ IsNext found positions next g = (p : ℕ) × (i : Instance ℕ) × (slice_get po
 
 -- nothing was added, or what stands with the find there
 abbrev pub AddsOnlyAt : List (Instance ℕ × Find) → ℕ → (old new : Sources) (positions more : List ℕ) → Type 0
-AddsOnlyAt found next old new positions more = ((new ≡ old) × (more ≡ positions)) ⊎ ((g : Find) × IsNext found positions next g × AddsOnly g old new positions more)
+AddsOnlyAt found next old new positions more = ((new ≡ old) × (more ≡ positions))
+    ⊎ ((g : Find) × IsNext found positions next g × AddsOnly g old new positions more)

@@ -50,4 +50,5 @@ pub record IsSparingTurns (rules : Rules) (look : Contents ℕ) (entries : Entri
 -- It was given so many turns: as many as it may be, without an answer; or none of them was answered but the last.
 abbrev pub HasGiven : Contents ℕ → Equations ℕ → (limit given : ℕ) → UnderWay ℕ → UnderWay ℕ → Option (Answer ℕ) → Type 0
 HasGiven look equation limit given u new None = (given ≡ limit) × Silent look equation given u new
-HasGiven look equation limit given u new (Some a) = (before : ℕ) × (mid : UnderWay ℕ) × (kept : Known ℕ) × (given ≡ before + 1) × (given ≤ limit) × Silent look equation before u mid × Turned look equation kept mid new (Some a)
+HasGiven look equation limit given u new (Some a) = (before : ℕ) × (mid : UnderWay ℕ) × (kept : Known ℕ) × (given ≡ before + 1) × (given ≤ limit)
+    × Silent look equation before u mid × Turned look equation kept mid new (Some a)

@@ -57,7 +57,8 @@ abbrev pub chain_of : List (Instance ℕ × Frame) → Instance ℕ → List (In
 chain_of waiting i = keys_of waiting ++ i ∷ []
 
 -- No instance is twice under way, none that is was found or is kept, and each kept one that was demanded is kept.
-pub record IsOrderly (entries : Entries) (waiting : List (Instance ℕ × Frame)) (found : List (Instance ℕ × Find)) (i : Instance ℕ) (kept : List (Instance ℕ)) : Type 0 where
+pub record IsOrderly (entries : Entries) (waiting : List (Instance ℕ × Frame)) (found : List (Instance ℕ
+    × Find)) (i : Instance ℕ) (kept : List (Instance ℕ)) : Type 0 where
   pub distinct : Distinct (chain_of waiting i)
   pub open_ones : (j : Instance ℕ) → Among j (chain_of waiting i) → lookup (same_instance j) found ≡ None
   pub unkept : (j : Instance ℕ) → Among j (chain_of waiting i) → entries j ≡ None
@@ -85,7 +86,8 @@ IsAdvance entries old new (advance.Fails kind) = Unit {0}
 IsAdvance entries old new (advance.Answers a) = Unit {0}
 
 -- the last instance is found, and the one that waited for it is the last
-pub record IsAscended (waiting : List (Instance ℕ × Frame)) (found : List (Instance ℕ × Find)) (i : Instance ℕ) (find : Find) (new : Evaluation) (s : Step) : Type 0 where
+pub record IsAscended (waiting : List (Instance ℕ × Frame)) (found : List (Instance ℕ
+    × Find)) (i : Instance ℕ) (find : Find) (new : Evaluation) (s : Step) : Type 0 where
   pub waits : waiting ≡ new.waiting.entries ++ (new.inst, new.frame) ∷ []
   pub settled : new.found.entries ≡ insert_entry same_instance found i find
   pub needs : s ≡ step.Need i
@@ -108,7 +110,8 @@ pub record IsToldTo (rules : Rules) (s : Shown) (old new : Frame) (i : Instance 
 
 -- The last instance is off the chain as one more that came to be kept, and the one that waited for it is the last, and was told
 -- its value.
-pub record IsPassedBack (rules : Rules) (s : Shown) (waiting : List (Instance ℕ × Frame)) (found : List (Instance ℕ × Find)) (kept : ℕ) (i : Instance ℕ) (v : ValueCode) (new : Evaluation) (r : Step) : Type 0 where
+pub record IsPassedBack (rules : Rules) (s : Shown) (waiting : List (Instance ℕ × Frame)) (found : List (Instance ℕ
+    × Find)) (kept : ℕ) (i : Instance ℕ) (v : ValueCode) (new : Evaluation) (r : Step) : Type 0 where
   pub waited : Frame
   pub waits : waiting ≡ new.waiting.entries ++ (new.inst, waited) ∷ []
   pub told : IsToldTo rules s waited new.frame i v r
@@ -126,7 +129,8 @@ HasPassedBack rules s old v new (advance.Answers a) = (old.waiting.entries ≡ [
 
 -- The chain leads from what was asked by demands to the last instance, whose evaluation has come to this step; and what is
 -- kept and what was found holds.
-pub record IsTrue (rules : Rules) (look : Contents ℕ) (asked : Instance ℕ) (entries : Entries) (waiting : List (Instance ℕ × Frame)) (found : List (Instance ℕ × Find)) (i : Instance ℕ) (t : Trial) (s : Step) : Type 0 where
+pub record IsTrue (rules : Rules) (look : Contents ℕ) (asked : Instance ℕ) (entries : Entries) (waiting : List (Instance ℕ × Frame)) (found : List (Instance ℕ
+    × Find)) (i : Instance ℕ) (t : Trial) (s : Step) : Type 0 where
   pub starts : first_of waiting i ≡ asked
   pub waits : AreWaiting rules look waiting i
   pub last : HasStepped rules look i t s

@@ -74,11 +74,15 @@ impl<K: Keeper> Demand<K> {
         requires right { Right (contents store.now) (meaning rules.now) (kept_values (K.contents self.old.keeper)) }
         ensures answers { IfOk result (λ a. HasAnswer (contents store.now) (meaning rules.now) inst.now (answer_view a)) }
         ensures worthy { AddsWorthy rules.now (contents store.now) inst.now (K.contents self.old.keeper) (K.contents self.new.keeper) }
-        ensures spare { IsTrue K.exact → AreSpare rules.now (contents store.now) (K.contents self.old.keeper) → AreSpare rules.now (contents store.now) (K.contents self.new.keeper) }
-        ensures all { IsTrue K.exact → AreSpare rules.now (contents store.now) (K.contents self.old.keeper) → IfOk result (λ a. HasWorthy rules.now (contents store.now) inst.now (K.contents self.new.keeper)) }
+        ensures spare { IsTrue K.exact → AreSpare rules.now (contents store.now) (K.contents self.old.keeper)
+            → AreSpare rules.now (contents store.now) (K.contents self.new.keeper) }
+        ensures all { IsTrue K.exact → AreSpare rules.now (contents store.now) (K.contents self.old.keeper)
+            → IfOk result (λ a. HasWorthy rules.now (contents store.now) inst.now (K.contents self.new.keeper)) }
         ensures counts { IsTrue K.exact → Counts (K.contents self.old.keeper) (K.contents self.new.keeper) self.old.work self.new.work }
-        ensures work { IsTrue K.exact → AreSpare rules.now (contents store.now) (K.contents self.old.keeper) → IfOk result (λ a. IsWork rules.now (contents store.now) inst.now (K.contents self.old.keeper) self.old.work self.new.work) }
-        ensures right { IsThere store.now inst.now → AreRight rules.now store.now (K.contents self.old.keeper) → AreRight rules.now store.now (K.contents self.new.keeper) }
+        ensures work { IsTrue K.exact → AreSpare rules.now (contents store.now) (K.contents self.old.keeper)
+            → IfOk result (λ a. IsWork rules.now (contents store.now) inst.now (K.contents self.old.keeper) self.old.work self.new.work) }
+        ensures right { IsThere store.now inst.now → AreRight rules.now store.now (K.contents self.old.keeper)
+            → AreRight rules.now store.now (K.contents self.new.keeper) }
     {
         // The call says that it is less than 2^64.
         let _work = self.work();
@@ -99,11 +103,15 @@ impl<K: Keeper> Demand<K> {
         requires unkept { K.contents self.old.keeper inst.now ≡ None }
         ensures answers { IfOk result (λ a. HasAnswer (contents store.now) (meaning rules.now) inst.now (answer_view a)) }
         ensures worthy { AddsWorthy rules.now (contents store.now) inst.now (K.contents self.old.keeper) (K.contents self.new.keeper) }
-        ensures spare { IsTrue K.exact → AreSpare rules.now (contents store.now) (K.contents self.old.keeper) → AreSpare rules.now (contents store.now) (K.contents self.new.keeper) }
-        ensures all { IsTrue K.exact → AreSpare rules.now (contents store.now) (K.contents self.old.keeper) → IfOk result (λ a. HasWorthy rules.now (contents store.now) inst.now (K.contents self.new.keeper)) }
+        ensures spare { IsTrue K.exact → AreSpare rules.now (contents store.now) (K.contents self.old.keeper)
+            → AreSpare rules.now (contents store.now) (K.contents self.new.keeper) }
+        ensures all { IsTrue K.exact → AreSpare rules.now (contents store.now) (K.contents self.old.keeper)
+            → IfOk result (λ a. HasWorthy rules.now (contents store.now) inst.now (K.contents self.new.keeper)) }
         ensures counts { IsTrue K.exact → Counts (K.contents self.old.keeper) (K.contents self.new.keeper) self.old.work self.new.work }
-        ensures work { IsTrue K.exact → AreSpare rules.now (contents store.now) (K.contents self.old.keeper) → IfOk result (λ a. IsWork rules.now (contents store.now) inst.now (K.contents self.old.keeper) self.old.work self.new.work) }
-        ensures right { IsThere store.now inst.now → AreRight rules.now store.now (K.contents self.old.keeper) → AreRight rules.now store.now (K.contents self.new.keeper) }
+        ensures work { IsTrue K.exact → AreSpare rules.now (contents store.now) (K.contents self.old.keeper)
+            → IfOk result (λ a. IsWork rules.now (contents store.now) inst.now (K.contents self.old.keeper) self.old.work self.new.work) }
+        ensures right { IsThere store.now inst.now → AreRight rules.now store.now (K.contents self.old.keeper)
+            → AreRight rules.now store.now (K.contents self.new.keeper) }
     {
         // The call says that it is less than 2^64.
         let _work = self.work();
@@ -167,14 +175,31 @@ impl<K: Keeper> Demand<K> {
         requires orderly { IsOrderlyIn (K.contents self.old.keeper) evaluation.old }
         ensures advance { IfOk result (IsAdvance (K.contents self.new.keeper) evaluation.old evaluation.new) }
         ensures typed { IfOk result (IsTypedAdvance rules.now (class_shown store.now) evaluation.new) }
-        ensures answers { (asked : Instance ℕ) → IsTrueIn rules.now (contents store.now) asked (K.contents self.old.keeper) evaluation.old step → IfOk result (IsRightAdvance rules.now (contents store.now) asked (K.contents self.new.keeper) evaluation.new) }
-        ensures right { (asked : Instance ℕ) → IsTrueIn rules.now (contents store.now) asked (K.contents self.old.keeper) evaluation.old step → Right (contents store.now) (meaning rules.now) (kept_values (K.contents self.new.keeper)) }
-        ensures covering { (asked : Instance ℕ) → IsTrueIn rules.now (contents store.now) asked (K.contents self.old.keeper) evaluation.old step → IsCoveringIn rules.now (contents store.now) evaluation.old step → IfOk result (IsCoveringAdvance rules.now (contents store.now) evaluation.new) }
-        ensures stays { (asked : Instance ℕ) → IsThere store.now asked → IsTrueIn rules.now (contents store.now) asked (K.contents self.old.keeper) evaluation.old step → IsCoveringIn rules.now (contents store.now) evaluation.old step → AreRight rules.now store.now (K.contents self.old.keeper) → AreRight rules.now store.now (K.contents self.new.keeper) }
-        ensures worthy { (asked : Instance ℕ) (first : Entries) → IsTrueIn rules.now (contents store.now) asked (K.contents self.old.keeper) evaluation.old step → AddsWorthy rules.now (contents store.now) asked first (K.contents self.old.keeper) → AddsWorthy rules.now (contents store.now) asked first (K.contents self.new.keeper) }
-        ensures sparing { (asked : Instance ℕ) → IsTrue K.exact → IsTrueIn rules.now (contents store.now) asked (K.contents self.old.keeper) evaluation.old step → IsCoveringIn rules.now (contents store.now) evaluation.old step → IsSparing rules.now (contents store.now) (K.contents self.old.keeper) evaluation.old → IfOk result (IsSparingAdvance rules.now (contents store.now) asked (K.contents self.new.keeper) evaluation.new) }
-        ensures spare { (asked : Instance ℕ) → IsTrue K.exact → IsTrueIn rules.now (contents store.now) asked (K.contents self.old.keeper) evaluation.old step → IsCoveringIn rules.now (contents store.now) evaluation.old step → IsSparing rules.now (contents store.now) (K.contents self.old.keeper) evaluation.old → AreSpare rules.now (contents store.now) (K.contents self.new.keeper) }
-        ensures counts { IsTrue K.exact → self.old.work < 2 ^ 64 → Counts (K.contents self.old.keeper) (K.contents self.new.keeper) self.old.work self.new.work }
+        ensures answers { (asked : Instance ℕ) → IsTrueIn rules.now (contents store.now) asked (K.contents self.old.keeper) evaluation.old step
+            → IfOk result (IsRightAdvance rules.now (contents store.now) asked (K.contents self.new.keeper) evaluation.new) }
+        ensures right { (asked : Instance ℕ) → IsTrueIn rules.now (contents store.now) asked (K.contents self.old.keeper) evaluation.old step
+            → Right (contents store.now) (meaning rules.now) (kept_values (K.contents self.new.keeper)) }
+        ensures covering { (asked : Instance ℕ) → IsTrueIn rules.now (contents store.now) asked (K.contents self.old.keeper) evaluation.old step
+            → IsCoveringIn rules.now (contents store.now) evaluation.old step → IfOk result (IsCoveringAdvance rules.now (contents store.now) evaluation.new) }
+        ensures stays { (asked : Instance ℕ) → IsThere store.now asked
+            → IsTrueIn rules.now (contents store.now) asked (K.contents self.old.keeper) evaluation.old step
+            → IsCoveringIn rules.now (contents store.now) evaluation.old step → AreRight rules.now store.now (K.contents self.old.keeper)
+            → AreRight rules.now store.now (K.contents self.new.keeper) }
+        ensures worthy { (asked : Instance ℕ) (first : Entries)
+            → IsTrueIn rules.now (contents store.now) asked (K.contents self.old.keeper) evaluation.old step
+            → AddsWorthy rules.now (contents store.now) asked first (K.contents self.old.keeper)
+            → AddsWorthy rules.now (contents store.now) asked first (K.contents self.new.keeper) }
+        ensures sparing { (asked : Instance ℕ) → IsTrue K.exact
+            → IsTrueIn rules.now (contents store.now) asked (K.contents self.old.keeper) evaluation.old step
+            → IsCoveringIn rules.now (contents store.now) evaluation.old step
+            → IsSparing rules.now (contents store.now) (K.contents self.old.keeper) evaluation.old
+            → IfOk result (IsSparingAdvance rules.now (contents store.now) asked (K.contents self.new.keeper) evaluation.new) }
+        ensures spare { (asked : Instance ℕ) → IsTrue K.exact → IsTrueIn rules.now (contents store.now) asked (K.contents self.old.keeper) evaluation.old step
+            → IsCoveringIn rules.now (contents store.now) evaluation.old step
+            → IsSparing rules.now (contents store.now) (K.contents self.old.keeper) evaluation.old
+            → AreSpare rules.now (contents store.now) (K.contents self.new.keeper) }
+        ensures counts { IsTrue K.exact → self.old.work < 2 ^ 64
+            → Counts (K.contents self.old.keeper) (K.contents self.new.keeper) self.old.work self.new.work }
     {
         let step = evaluation.frame.go_on(
             self.alloc,
@@ -208,9 +233,16 @@ impl<K: Keeper> Demand<K> {
         requires kept { K.contents self.now.keeper needed ≡ None }
         ensures advance { IfOk result (IsAdvance (K.contents self.now.keeper) evaluation.old evaluation.new) }
         ensures typed { IfOk result (IsTypedAdvance rules.now (class_shown store.now) evaluation.new) }
-        ensures answers { (asked : Instance ℕ) → IsTrueIn rules.now (contents store.now) asked (K.contents self.now.keeper) evaluation.old (step_code.Need needed) → IfOk result (IsRightAdvance rules.now (contents store.now) asked (K.contents self.now.keeper) evaluation.new) }
-        ensures covering { IsCoveringIn rules.now (contents store.now) evaluation.old (step_code.Need needed) → IfOk result (IsCoveringAdvance rules.now (contents store.now) evaluation.new) }
-        ensures sparing { (asked : Instance ℕ) → IsTrueIn rules.now (contents store.now) asked (K.contents self.now.keeper) evaluation.old (step_code.Need needed) → IsCoveringIn rules.now (contents store.now) evaluation.old (step_code.Need needed) → IsSparing rules.now (contents store.now) (K.contents self.now.keeper) evaluation.old → IfOk result (IsSparingAdvance rules.now (contents store.now) asked (K.contents self.now.keeper) evaluation.new) }
+        ensures answers { (asked : Instance ℕ)
+            → IsTrueIn rules.now (contents store.now) asked (K.contents self.now.keeper) evaluation.old (step_code.Need needed)
+            → IfOk result (IsRightAdvance rules.now (contents store.now) asked (K.contents self.now.keeper) evaluation.new) }
+        ensures covering { IsCoveringIn rules.now (contents store.now) evaluation.old (step_code.Need needed)
+            → IfOk result (IsCoveringAdvance rules.now (contents store.now) evaluation.new) }
+        ensures sparing { (asked : Instance ℕ)
+            → IsTrueIn rules.now (contents store.now) asked (K.contents self.now.keeper) evaluation.old (step_code.Need needed)
+            → IsCoveringIn rules.now (contents store.now) evaluation.old (step_code.Need needed)
+            → IsSparing rules.now (contents store.now) (K.contents self.now.keeper) evaluation.old
+            → IfOk result (IsSparingAdvance rules.now (contents store.now) asked (K.contents self.now.keeper) evaluation.new) }
     {
         if evaluation.has(&needed) {
             return Ok(Advance::Answers(Answer::Circular { at: needed }));
@@ -235,14 +267,34 @@ impl<K: Keeper> Demand<K> {
         requires orderly { IsOrderlyIn (K.contents self.old.keeper) evaluation.old }
         ensures advance { IfOk result (IsAdvance (K.contents self.new.keeper) evaluation.old evaluation.new) }
         ensures typed { IfOk result (IsTypedAdvance rules.now (class_shown store.now) evaluation.new) }
-        ensures answers { (asked : Instance ℕ) → IsTrueIn rules.now (contents store.now) asked (K.contents self.old.keeper) evaluation.old (step_code.Value value) → IfOk result (IsRightAdvance rules.now (contents store.now) asked (K.contents self.new.keeper) evaluation.new) }
-        ensures right { (asked : Instance ℕ) → IsTrueIn rules.now (contents store.now) asked (K.contents self.old.keeper) evaluation.old (step_code.Value value) → Right (contents store.now) (meaning rules.now) (kept_values (K.contents self.new.keeper)) }
-        ensures covering { IsCoveringIn rules.now (contents store.now) evaluation.old (step_code.Value value) → IfOk result (IsCoveringAdvance rules.now (contents store.now) evaluation.new) }
-        ensures stays { (asked : Instance ℕ) → IsThere store.now asked → IsTrueIn rules.now (contents store.now) asked (K.contents self.old.keeper) evaluation.old (step_code.Value value) → IsCoveringIn rules.now (contents store.now) evaluation.old (step_code.Value value) → AreRight rules.now store.now (K.contents self.old.keeper) → AreRight rules.now store.now (K.contents self.new.keeper) }
-        ensures worthy { (asked : Instance ℕ) (first : Entries) → IsTrueIn rules.now (contents store.now) asked (K.contents self.old.keeper) evaluation.old (step_code.Value value) → AddsWorthy rules.now (contents store.now) asked first (K.contents self.old.keeper) → AddsWorthy rules.now (contents store.now) asked first (K.contents self.new.keeper) }
-        ensures sparing { (asked : Instance ℕ) → IsTrue K.exact → IsTrueIn rules.now (contents store.now) asked (K.contents self.old.keeper) evaluation.old (step_code.Value value) → IsCoveringIn rules.now (contents store.now) evaluation.old (step_code.Value value) → IsSparing rules.now (contents store.now) (K.contents self.old.keeper) evaluation.old → IfOk result (IsSparingAdvance rules.now (contents store.now) asked (K.contents self.new.keeper) evaluation.new) }
-        ensures spare { (asked : Instance ℕ) → IsTrue K.exact → IsTrueIn rules.now (contents store.now) asked (K.contents self.old.keeper) evaluation.old (step_code.Value value) → IsCoveringIn rules.now (contents store.now) evaluation.old (step_code.Value value) → IsSparing rules.now (contents store.now) (K.contents self.old.keeper) evaluation.old → AreSpare rules.now (contents store.now) (K.contents self.new.keeper) }
-        ensures counts { IsTrue K.exact → self.old.work < 2 ^ 64 → Counts (K.contents self.old.keeper) (K.contents self.new.keeper) self.old.work self.new.work }
+        ensures answers { (asked : Instance ℕ)
+            → IsTrueIn rules.now (contents store.now) asked (K.contents self.old.keeper) evaluation.old (step_code.Value value)
+            → IfOk result (IsRightAdvance rules.now (contents store.now) asked (K.contents self.new.keeper) evaluation.new) }
+        ensures right { (asked : Instance ℕ)
+            → IsTrueIn rules.now (contents store.now) asked (K.contents self.old.keeper) evaluation.old (step_code.Value value)
+            → Right (contents store.now) (meaning rules.now) (kept_values (K.contents self.new.keeper)) }
+        ensures covering { IsCoveringIn rules.now (contents store.now) evaluation.old (step_code.Value value)
+            → IfOk result (IsCoveringAdvance rules.now (contents store.now) evaluation.new) }
+        ensures stays { (asked : Instance ℕ) → IsThere store.now asked
+            → IsTrueIn rules.now (contents store.now) asked (K.contents self.old.keeper) evaluation.old (step_code.Value value)
+            → IsCoveringIn rules.now (contents store.now) evaluation.old (step_code.Value value) → AreRight rules.now store.now (K.contents self.old.keeper)
+            → AreRight rules.now store.now (K.contents self.new.keeper) }
+        ensures worthy { (asked : Instance ℕ) (first : Entries)
+            → IsTrueIn rules.now (contents store.now) asked (K.contents self.old.keeper) evaluation.old (step_code.Value value)
+            → AddsWorthy rules.now (contents store.now) asked first (K.contents self.old.keeper)
+            → AddsWorthy rules.now (contents store.now) asked first (K.contents self.new.keeper) }
+        ensures sparing { (asked : Instance ℕ) → IsTrue K.exact
+            → IsTrueIn rules.now (contents store.now) asked (K.contents self.old.keeper) evaluation.old (step_code.Value value)
+            → IsCoveringIn rules.now (contents store.now) evaluation.old (step_code.Value value)
+            → IsSparing rules.now (contents store.now) (K.contents self.old.keeper) evaluation.old
+            → IfOk result (IsSparingAdvance rules.now (contents store.now) asked (K.contents self.new.keeper) evaluation.new) }
+        ensures spare { (asked : Instance ℕ) → IsTrue K.exact
+            → IsTrueIn rules.now (contents store.now) asked (K.contents self.old.keeper) evaluation.old (step_code.Value value)
+            → IsCoveringIn rules.now (contents store.now) evaluation.old (step_code.Value value)
+            → IsSparing rules.now (contents store.now) (K.contents self.old.keeper) evaluation.old
+            → AreSpare rules.now (contents store.now) (K.contents self.new.keeper) }
+        ensures counts { IsTrue K.exact → self.old.work < 2 ^ 64
+            → Counts (K.contents self.old.keeper) (K.contents self.new.keeper) self.old.work self.new.work }
     {
         let find = evaluation.frame.find(self.alloc, value);
         let settled = self.keep(rules, &evaluation.found, &evaluation.inst, find)?;
@@ -264,11 +316,14 @@ impl<K: Keeper> Demand<K> {
         requires kept { AreKept (K.contents self.old.keeper) find.demanded.kept.items }
         requires found { FoundKept (K.contents self.old.keeper) found.now.entries }
         ensures adds { MayAdd (K.contents self.old.keeper) (K.contents self.new.keeper) inst.now (value_view find.value) }
-        ensures covers { (look : Contents ℕ) → AreWhole rules.now look found.now.entries → IsWhole rules.now look found.now.entries inst.now find → AreCovered rules.now look (K.contents self.old.keeper) → AreCovered rules.now look (K.contents self.new.keeper) }
+        ensures covers { (look : Contents ℕ) → AreWhole rules.now look found.now.entries → IsWhole rules.now look found.now.entries inst.now find
+            → AreCovered rules.now look (K.contents self.old.keeper) → AreCovered rules.now look (K.contents self.new.keeper) }
         ensures lazy { MayAddLazy rules.now (K.contents self.old.keeper) (K.contents self.new.keeper) inst.now }
         ensures keeps { IsTrue K.exact → is_lazy rules.now inst.now.attribute ≡ true → OnOk result (IsSome (K.contents self.new.keeper inst.now)) }
-        ensures only { (look : Contents ℕ) → IsTrue K.exact → AreLean rules.now look found.now.entries → IsLean rules.now look found.now.entries inst.now find → AreOnly rules.now look (K.contents self.old.keeper) → AreOnly rules.now look (K.contents self.new.keeper) }
-        ensures counts { IsTrue K.exact → self.old.work < 2 ^ 64 → Counts (K.contents self.old.keeper) (K.contents self.new.keeper) self.old.work self.new.work }
+        ensures only { (look : Contents ℕ) → IsTrue K.exact → AreLean rules.now look found.now.entries → IsLean rules.now look found.now.entries inst.now find
+            → AreOnly rules.now look (K.contents self.old.keeper) → AreOnly rules.now look (K.contents self.new.keeper) }
+        ensures counts { IsTrue K.exact → self.old.work < 2 ^ 64
+            → Counts (K.contents self.old.keeper) (K.contents self.new.keeper) self.old.work self.new.work }
         ensures becomes { IfOk result (Becomes (K.contents self.new.keeper) inst.now find) }
     {
         if !rules.is_lazy(inst.attribute()) {
@@ -286,7 +341,8 @@ impl<K: Keeper> Demand<K> {
         requires kept { AreKept (K.contents self.old.keeper) find.demanded.kept.items }
         ensures placed { IfOk result (HasPlaced K.exact (K.contents self.old.keeper) inst.now find (map loc_view find.reads.items) find.demanded.kept.items (K.contents self.new.keeper)) }
         ensures err { OnErr result (KeepsAll (K.contents self.old.keeper) (K.contents self.new.keeper)) }
-        ensures counts { IsTrue K.exact → self.old.work < 2 ^ 64 → Counts (K.contents self.old.keeper) (K.contents self.new.keeper) self.old.work self.new.work }
+        ensures counts { IsTrue K.exact → self.old.work < 2 ^ 64
+            → Counts (K.contents self.old.keeper) (K.contents self.new.keeper) self.old.work self.new.work }
     {
         let reads = mem::replace(&mut find.reads, Vec::new(self.alloc));
         let put = self.put(inst, &find.value, reads, find.demanded.kept.as_slice())?;
@@ -311,7 +367,8 @@ impl<K: Keeper> Demand<K> {
         requires found { FoundKept (K.contents self.old.keeper) found.now.entries }
         ensures placed { IfOk result (HasPlacedAll K.exact (K.contents self.old.keeper) found.now.entries inst.now find (K.contents self.new.keeper)) }
         ensures err { OnErr result (KeepsAll (K.contents self.old.keeper) (K.contents self.new.keeper)) }
-        ensures counts { IsTrue K.exact → self.old.work < 2 ^ 64 → Counts (K.contents self.old.keeper) (K.contents self.new.keeper) self.old.work self.new.work }
+        ensures counts { IsTrue K.exact → self.old.work < 2 ^ 64
+            → Counts (K.contents self.old.keeper) (K.contents self.new.keeper) self.old.work self.new.work }
     {
         let mut sources = Sources::of(self.alloc, found, &find)?;
         let reads = mem::replace(&mut sources.reads, Vec::new(self.alloc));
@@ -334,7 +391,8 @@ impl<K: Keeper> Demand<K> {
         requires present { AreKept (K.contents self.old.keeper) uses.now }
         ensures puts { IfOk result (HasPut K.exact (K.contents self.old.keeper) inst.now (value_view value.now) reads uses.now (K.contents self.new.keeper)) }
         ensures err { OnErr result (KeepsAll (K.contents self.old.keeper) (K.contents self.new.keeper)) }
-        ensures counts { IsTrue K.exact → self.old.work < 2 ^ 64 → Counts (K.contents self.old.keeper) (K.contents self.new.keeper) self.old.work self.new.work }
+        ensures counts { IsTrue K.exact → self.old.work < 2 ^ 64
+            → Counts (K.contents self.old.keeper) (K.contents self.new.keeper) self.old.work self.new.work }
     {
         let put = self
             .keeper

@@ -160,7 +160,8 @@ impl<'a> Evaluation<'a> {
 
     // Whether the instance is under way.
     pub fn has(&self, inst: &Inst) -> bool
-        ensures { MatchBool result (Among inst.now (chain_of self.now.waiting.entries self.now.inst)) (Among inst.now (chain_of self.now.waiting.entries self.now.inst) → ⊥) }
+        ensures { MatchBool result (Among inst.now (chain_of self.now.waiting.entries self.now.inst)) (Among inst.now (chain_of self.now.waiting.entries self.now.inst)
+            → ⊥) }
     {
         self.inst == *inst || self.waiting.contains_key(inst)
     }
@@ -345,9 +346,13 @@ impl<'a> Frame<'a> {
         requires typed { IsTypedStep rules.now (class_shown store.now) step self.old.trial }
         requires kept { AreKept (K.contents keeper.now) self.old.demanded.kept.items }
         ensures kept { OnOk result (AreKept (K.contents keeper.now) self.new.demanded.kept.items) }
-        ensures stepped { (i : Instance ℕ) → HasStepped rules.now (contents store.now) i self.old.trial step → IfOk result (HasStepped rules.now (contents store.now) i self.new.trial) }
-        ensures passed { (i : Instance ℕ) → HasPassedTo rules.now (contents store.now) found.now.entries i self.old step → IfOk result (HasPassedTo rules.now (contents store.now) found.now.entries i self.new) }
-        ensures only { (i : Instance ℕ) → HasStepped rules.now (contents store.now) i self.old.trial step → TakesOnly rules.now (contents store.now) found.now.entries i self.old.demanded → IfOk result (λ r. TakesOnly rules.now (contents store.now) found.now.entries i self.new.demanded) }
+        ensures stepped { (i : Instance ℕ) → HasStepped rules.now (contents store.now) i self.old.trial step
+            → IfOk result (HasStepped rules.now (contents store.now) i self.new.trial) }
+        ensures passed { (i : Instance ℕ) → HasPassedTo rules.now (contents store.now) found.now.entries i self.old step
+            → IfOk result (HasPassedTo rules.now (contents store.now) found.now.entries i self.new) }
+        ensures only { (i : Instance ℕ) → HasStepped rules.now (contents store.now) i self.old.trial step
+            → TakesOnly rules.now (contents store.now) found.now.entries i self.old.demanded
+            → IfOk result (λ r. TakesOnly rules.now (contents store.now) found.now.entries i self.new.demanded) }
         ensures typed { IfOk result (λ r. IsTypedStep rules.now (class_shown store.now) r self.new.trial) }
         ensures unknown { IfOk result (IsOpen (known_in (K.contents keeper.now) found.now.entries)) }
     {

@@ -32,7 +32,8 @@ impl Sources {
         found: &IndexMap<Inst, Find>,
         find: &Find,
     ) -> Result<Sources, AllocError>
-        ensures kept { (entries : Entries) → FoundKept entries found.now.entries → AreKept entries find.now.demanded.kept.items → IfOk result (λ s. AreKept entries s.kept.items) }
+        ensures kept { (entries : Entries) → FoundKept entries found.now.entries → AreKept entries find.now.demanded.kept.items
+            → IfOk result (λ s. AreKept entries s.kept.items) }
         ensures gathered { IfOk result (AreGathered found.now.entries find.now) }
         ensures only { IfOk result (AreFrom found.now.entries find.now) }
     {
@@ -58,7 +59,8 @@ impl Sources {
         next: usize,
         visited: &mut IndexSet<usize>,
     ) -> Result<(), AllocError>
-        ensures kept { (entries : Entries) → FoundKept entries found.now.entries → AreKept entries self.old.kept.items → OnOk result (AreKept entries self.new.kept.items) }
+        ensures kept { (entries : Entries) → FoundKept entries found.now.entries → AreKept entries self.old.kept.items
+            → OnOk result (AreKept entries self.new.kept.items) }
         ensures added { OnOk result (AddsAt found.now.entries next self.old self.new visited.old.keys visited.new.keys) }
         ensures only { OnOk result (AddsOnlyAt found.now.entries next self.old self.new visited.old.keys visited.new.keys) }
     {

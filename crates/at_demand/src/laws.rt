@@ -33,7 +33,8 @@ pub fn what_is_kept_stays_spare()
 
 /// What is kept right and spare is well kept, by the paths of nodes.
 pub fn what_is_kept_spare_is_well_kept()
-    ensures { (rules : Rules) (s : Shown) → IsIdle s → (entries : Entries) → AreRight rules s entries → AreSpare rules (contents s) entries → AreWellKept rules (tree s) (KeptBy s entries) }
+    ensures { (rules : Rules) (s : Shown) → IsIdle s → (entries : Entries) → AreRight rules s entries → AreSpare rules (contents s) entries
+        → AreWellKept rules (tree s) (KeptBy s entries) }
 {}
 
 /// A question that adds just what is worth keeping, and counts it, adds by the paths of nodes what the model says, and has that

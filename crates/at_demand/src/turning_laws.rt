@@ -26,6 +26,8 @@ pub fn a_question_has_few_turns()
 
 /// A question that was posted on the tree as it is stands so while more comes to what is kept, by whichever question.
 pub fn a_question_stands_while_more_is_kept()
-    ensures stands { (rules : Rules) (s : Shown) (entries more : Entries) → ((i : Instance ℕ) → IsSome (entries i) → more i ≡ entries i) → (q : Question) → IsStanding rules s entries q → IsStanding rules s more q }
-    ensures spares { (rules : Rules) (s : Shown) (entries more : Entries) → ((i : Instance ℕ) → IsSome (entries i) → more i ≡ entries i) → (q : Question) → IsStanding rules s entries q → IsSparingTurns rules (contents s) entries q → IsSparingTurns rules (contents s) more q }
+    ensures stands { (rules : Rules) (s : Shown) (entries more : Entries) → ((i : Instance ℕ) → IsSome (entries i) → more i ≡ entries i) → (q : Question)
+        → IsStanding rules s entries q → IsStanding rules s more q }
+    ensures spares { (rules : Rules) (s : Shown) (entries more : Entries) → ((i : Instance ℕ) → IsSome (entries i) → more i ≡ entries i) → (q : Question)
+        → IsStanding rules s entries q → IsSparingTurns rules (contents s) entries q → IsSparingTurns rules (contents s) more q }
 {}

@@ -11,7 +11,7 @@ use Rattle.at_model.specs.Names.{IsName}
 use Rattle.at_model.specs.Replies as code
 use Rattle.at_model.specs.Machine.{State, Verdict, Asks, Refuses, each, fit_parameters, node_named, obeyed, parameters_of, value_named}
 use Rattle.at_model.specs.Alike.{ListLike, ValueLike, InstanceLike, AlikeAt, Names}
-use Rattle.at_model.proofs.Words.{name_filled}
+use Rattle.at_model.proofs.of_texts.Words.{name_filled}
 use Rattle.at_body.specs.Values.{value_view}
 use Rattle.at_body.specs.declared.value.Value.{Value as ValueCode}
 use Rattle.at_store.specs.Shown.{IsIdle, Shown, contents, path}
@@ -24,7 +24,7 @@ use Rattle.at_engine.specs.Asking.{IsInstanceOf}
 use Rattle.at_engine.proofs.FittingAlike.{class_at, fit_like}
 use Rattle.at_engine.specs.declared.posts.Posts.{Posts}
 use Rattle.at_engine.proofs.Typing.{formed, numbered_typed}
-use Rattle.at_engine.proofs.Naming.{tree_there}
+use Rattle.at_engine.proofs.NamingLemmas.{tree_there}
 use Rattle.at_engine.proofs.Numbered.{shown_alike}
 use Rattle.at_engine.proofs.Questions.{asked_of_nothing, asked_strangely, asked_unfitly, asked_fitly}
 

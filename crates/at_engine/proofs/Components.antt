@@ -10,7 +10,7 @@ use Rattle.at_model.specs.Meaning.{content}
 use Rattle.at_model.specs.Edits.{class_asked, shape_at}
 use Rattle.at_model.proofs.Options.{led}
 use Rattle.at_model.proofs.Complete.{child_conforms, conforms_at}
-use Rattle.at_model.proofs.Surviving.{parent_is}
+use Rattle.at_model.proofs.of_edits.Surviving.{parent_is}
 use Rattle.at_model.proofs.WayUp.{parent_there}
 use Rattle.at_model.proofs.WithinTree.{tree_at-snoc}
 use Rattle.at_class.specs.View.{part_view}
@@ -20,7 +20,7 @@ use Rattle.at_store.specs.Shown.{IsIdle, Shown, contents, numbers, path, tree}
 use Rattle.at_store.proofs.Found.{named}
 use Rattle.at_store.proofs.Reading.{shown_there}
 use Rattle.at_engine.specs.Telling.{IsComponentOf}
-use Rattle.at_engine.proofs.Naming.{class_there, tree_there}
+use Rattle.at_engine.proofs.NamingLemmas.{class_there, tree_there}
 
 -- a part that is read is a component
 pub part_read : (ps : List Part) (cs : List Component) (i : ℕ) (p : Part) → map part_view ps ≡ cs → slice_get ps i ≡ Some p → slice_get cs i ≡ Some (part_view p)

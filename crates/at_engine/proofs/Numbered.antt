@@ -7,8 +7,8 @@ use Rattle.at_model.specs.Meaning.{Answer, Answers, content, equations}
 use Rattle.at_model.specs.Machine.{AnswersIn}
 use Rattle.at_model.specs.Alike.{AlikeAt, AnswerLike, InstanceLike, Names}
 use Rattle.at_model.proofs.Nodes.{same_like, nat_eq-is, node_eq-is}
-use Rattle.at_model.proofs.EquationsAlike.{evaluation-like}
-use Rattle.at_model.proofs.CarryingCircles.{named_answer}
+use Rattle.at_model.proofs.of_likeness.EquationsAlike.{evaluation-like}
+use Rattle.at_model.proofs.of_likeness.CarryingCircles.{named_answer}
 use Rattle.at_store.specs.Memory.{class_in}
 use Rattle.at_store.specs.Shown.{IsIdle, Shown, contents, numbers, path, tree}
 use Rattle.at_store.specs.View.{memory_of}

@@ -4,7 +4,7 @@ use Rattle.at_model.specs.Lines.{pieces, is_filled}
 use Rattle.at_model.specs.Rules.{Rules}
 use Rattle.at_model.specs.Replies.{Reply}
 use Rattle.at_model.specs.Machine.{State, Serves, Given, Runs, end}
-use Rattle.at_model.proofs.Runs.{one_more, runs_on}
+use Rattle.at_model.proofs.of_machines.Runs.{one_more, runs_on}
 use Rattle.at_engine.specs.Loop.{IsOpen, Progress}
 use Rattle.at_engine.proofs.Pieces.{splits_open, splits_newline, splits_on, filter-append}
 

@@ -6,14 +6,14 @@ use Rattle.at_model.specs.Rules.{Rules}
 use Rattle.at_model.specs.Lines.{lines, pieces, is_filled}
 use Rattle.at_model.specs.Replies.{Reply}
 use Rattle.at_model.specs.Machine.{State, Serves, Runs, end, text_of}
-use Rattle.at_model.proofs.Runs.{one_more, runs_on}
+use Rattle.at_model.proofs.of_machines.Runs.{one_more, runs_on}
 use Rattle.at_engine.specs.declared.stream.desk.Desk.{Desk}
 use Rattle.at_engine.specs.declared.stream.desk.Report.{Report}
 use Rattle.at_engine.specs.declared.stream.desk.RunFault.{RunFault}
 use Rattle.at_engine.specs.Taking.{Takes, Halts, Stops, Served, Drained, Drains, Finished, Finishes, FinishStops, in_last, behind_last, GivesInPart}
 use Rattle.at_engine.specs.Running.{Ended, BrokeOff, CutOff, AreWhole, before_newlines, up_to_end, behind_line, at_the_end}
 use Rattle.at_engine.specs.Loop.{kept}
-use Rattle.at_engine.proofs.KeptLines.{serves_kept}
+use Rattle.at_engine.proofs.of_keeping.KeptLines.{serves_kept}
 use Rattle.at_engine.proofs.Pieces.{IsCons, pieces_cons, onto_front_nothing, splits_then, splits_newline, filter-append}
 use Rattle.at_engine.proofs.Takings.{as_counted, both_counted, both_written, halts_kept, wants-append, written_behind}
 use Rattle.at_engine.proofs.Progressing.{filled_behind, one_line}

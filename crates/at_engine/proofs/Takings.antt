@@ -6,12 +6,12 @@ use Rattle.at_model.specs.Rules.{Rules}
 use Rattle.at_model.specs.Lines.{is_filled}
 use Rattle.at_model.specs.Replies.{Reply}
 use Rattle.at_model.specs.Machine.{State, Serves, text_of}
-use Rattle.at_model.proofs.Runs.{text_append}
+use Rattle.at_model.proofs.of_machines.Runs.{text_append}
 use Rattle.at_engine.specs.declared.stream.desk.Desk.{Desk}
 use Rattle.at_engine.specs.Loop.{IsOpen, kept}
 use Rattle.at_engine.specs.Taking.{Takes, Served, Halts, EndsIn, in_line, in_turn, Stops, Counts, wants}
-use Rattle.at_engine.proofs.Kept.{kept-more, kept-nil}
-use Rattle.at_engine.proofs.KeptLines.{serves_kept}
+use Rattle.at_engine.proofs.of_keeping.Kept.{kept-more, kept-nil}
+use Rattle.at_engine.proofs.of_keeping.KeptLines.{serves_kept}
 use Rattle.at_engine.proofs.Pieces.{filter-append}
 use Rattle.at_engine.proofs.Progressing.{one_line, nothing_came, open_came, empty_line_came, line_came, more_came}
 

@@ -13,11 +13,11 @@ use Rattle.at_model.specs.Asking.{IsWellFormed}
 use Rattle.at_model.specs.Instances.{AnyText, IsGiven}
 use Rattle.at_model.specs.TypedRuns.{ClassAt, Texts, class_at, AreArguments, IsWellTyped}
 use Rattle.at_model.proofs.Options.{both}
-use Rattle.at_model.proofs.TokensKept.{tokens_served}
-use Rattle.at_model.proofs.TypedNumbers.{instance_back}
-use Rattle.at_model.proofs.TypedQuestions.{typed_of_formed}
-use Rattle.at_model.proofs.WellAsked.{element_at}
-use Rattle.at_model.proofs.TypedTogether.{any_text}
+use Rattle.at_model.proofs.of_machines.TokensKept.{tokens_served}
+use Rattle.at_model.proofs.of_typing.TypedNumbers.{instance_back}
+use Rattle.at_model.proofs.of_typing.TypedQuestions.{typed_of_formed}
+use Rattle.at_model.proofs.of_machines.WellAsked.{element_at}
+use Rattle.at_model.proofs.of_typing.TypedTogether.{any_text}
 use Rattle.at_store.specs.Shown.{Shown, path, tree}
 use Rattle.at_body.specs.Typed.{class_shown}
 use Rattle.at_engine.specs.Engines.{IsTyped}

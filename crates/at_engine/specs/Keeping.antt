@@ -85,4 +85,5 @@ KeepsServed entries true bytes old new = AreAtOnce old bytes → GrowsLine entri
 -- adds is kept, or some of that where its reply is `memory`, unless it waits for turns.
 abbrev pub KeepsStep : {K : Type 0} → (entries : K → Entries) → List ℕ → (old new : Engine K) → (before after : List ℕ) → Type 0
 KeepsStep entries [] old new before after = (new ≡ old) × (after ≡ before)
-KeepsStep entries (b ∷ bs) old new before after = (wants : Bool) × (reply : Reply) × Serves (rules_of old) (state_of old) (b ∷ bs) (state_of new) (wants, reply) × (after ≡ before ++ reply_text reply) × KeepsServed entries wants (b ∷ bs) old new
+KeepsStep entries (b ∷ bs) old new before after = (wants : Bool) × (reply : Reply) × Serves (rules_of old) (state_of old) (b ∷ bs) (state_of new) (wants, reply)
+    × (after ≡ before ++ reply_text reply) × KeepsServed entries wants (b ∷ bs) old new

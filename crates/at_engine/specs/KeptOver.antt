@@ -52,7 +52,8 @@ NonePosts served = AllByRecursion (λ line. (l : Line) → Spells line l → is_
 
 -- The bytes spell these lines, or none. Just what they leave and add is kept, and the work grows by theirs, up to the greatest
 -- number.
-pub record KeepsLines (rules : Rules) (old : State) (served : List (List ℕ)) (new : State) (before later : Instance Node → Type 0) (work more : ℕ) : Type 0 where
+pub record KeepsLines (rules : Rules) (old : State) (served : List (List ℕ)) (new : State) (before later : Instance Node
+    → Type 0) (work more : ℕ) : Type 0 where
   pub spelled : List (Option Line)
   pub are_heard : AreHeard served spelled
   pub state : new ≡ state_after rules old spelled

@@ -38,15 +38,19 @@ pub record BrokeOff (rules : Rules) (slice : ℕ) (old new : State) (readable le
 
 -- The lines are whole ones of the input: each stands before a newline, or they are all and the reader came to its end.
 pub data AreWhole (input : List ℕ) (left : Option (List ℕ)) (served : List (List ℕ)) : Type 0 where
-  before_newlines : (fulls : List (List ℕ)) (next : List ℕ) (others : List (List ℕ)) → pieces input ≡ fulls ++ next ∷ others → served ≡ filter is_filled fulls → AreWhole input left served
+  before_newlines : (fulls : List (List ℕ)) (next : List ℕ) (others : List (List ℕ)) → pieces input ≡ fulls ++ next ∷ others → served ≡ filter is_filled fulls
+      → AreWhole input left served
   up_to_end : IsAtEnd left → served ≡ lines input → AreWhole input left served
 
 -- what was told before the last, and what was told last: behind one of the lines, or, at the end of the reader, by the turns
 -- behind all lines
-pub data StopsIn (rules : Rules) (slice : ℕ) (old : State) (input : List ℕ) (left : Option (List ℕ)) (new : State) : List (Bool × Reply) → Bool × Reply → Type 0 where
-  behind_line : {mid : State} {said : Bool × Reply} (front told : List (Bool × Reply)) (earlier : List (List ℕ)) (last : List ℕ) → AreWhole input left (earlier ++ last ∷ []) → Runs rules slice old earlier front mid →
+pub data StopsIn (rules : Rules) (slice : ℕ) (old : State) (input : List ℕ) (left : Option (List ℕ)) (new : State) : List (Bool × Reply) → Bool × Reply
+    → Type 0 where
+  behind_line : {mid : State} {said : Bool × Reply} (front told : List (Bool × Reply)) (earlier : List (List ℕ)) (last : List ℕ)
+      → AreWhole input left (earlier ++ last ∷ []) → Runs rules slice old earlier front mid →
       EndsIn rules slice mid last new told said → StopsIn rules slice old input left new (front ++ told) said
-  at_the_end : {mid : State} {said : Bool × Reply} (front told : List (Bool × Reply)) (turns : ℕ) → IsAtEnd left → Runs rules slice old (lines input) front mid →
+  at_the_end : {mid : State} {said : Bool × Reply} (front told : List (Bool × Reply)) (turns : ℕ) → IsAtEnd left
+      → Runs rules slice old (lines input) front mid →
       Given rules turns mid (told ++ said ∷ []) new → StopsIn rules slice old input left new (front ++ told) said
 
 -- A reply or an answer could not be written whole. What was written is all that was told before it, and some front of it, or all
@@ -75,7 +79,8 @@ Failed most_reads Write rules slice old new readable left before after = CutOff 
 Failed most_reads Memory rules slice old new readable left before after = NeverBegan old new readable left before after
 
 -- what a run of at most so many reads has done, by what it answers
-abbrev pub Ran : (most_reads : ℕ) → Result Report RunFault → Rules → (slice : ℕ) → State → State → Option (List ℕ) → Option (List ℕ) → Option (List ℕ) → Option (List ℕ) → Type 0
+abbrev pub Ran : (most_reads : ℕ) → Result Report RunFault → Rules → (slice : ℕ) → State → State → Option (List ℕ) → Option (List ℕ) → Option (List ℕ)
+    → Option (List ℕ) → Type 0
 Ran most_reads (Ok report) rules slice old new readable left before after = Ended rules slice old new readable left before after report
 Ran most_reads (Err fault) rules slice old new readable left before after = Failed most_reads fault rules slice old new readable left before after
 
@@ -102,7 +107,8 @@ write_fails (Err Memory) = false
 -- where it is known whether calls of the reader and the writer failed, the run answers `Read` just where one of the reader
 -- did in it, and `Write` just where one of the writer did
 abbrev pub TellsFailures : Result Report RunFault → (reader_old reader_new writer_old writer_new : Option Bool) → Type 0
-TellsFailures result reader_old reader_new writer_old writer_new = Remembers reader_old reader_new (read_fails result) × Remembers writer_old writer_new (write_fails result)
+TellsFailures result reader_old reader_new writer_old writer_new = Remembers reader_old reader_new (read_fails result)
+    × Remembers writer_old writer_new (write_fails result)
 
 -- how many reads there may be by what a run answers that may make so many: no more, all where there are too many, and none where
 -- it never began

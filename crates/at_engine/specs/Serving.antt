@@ -8,7 +8,8 @@ use Rattle.at_engine.specs.declared.engine.turning.Spent.{Spent}
 -- An empty line changes and appends nothing. Any other one is a step of the machine, and its reply is appended.
 abbrev pub Steps : Rules → State → List ℕ → State → (before after : List ℕ) → Type 0
 Steps rules old [] new before after = (new ≡ old) × (after ≡ before)
-Steps rules old (b ∷ bs) new before after = (wants : Bool) × (reply : Reply) × Serves rules old (b ∷ bs) new (wants, reply) × (after ≡ before ++ reply_text reply)
+Steps rules old (b ∷ bs) new before after = (wants : Bool) × (reply : Reply) × Serves rules old (b ∷ bs) new (wants, reply)
+    × (after ≡ before ++ reply_text reply)
 
 -- what is there, as a list
 abbrev pub listed : {A : Type 0} → Option A → List A
@@ -29,4 +30,5 @@ pub record Spends (rules : Rules) (limit : ℕ) (old new : State) (before after 
 -- No question is open; or the one with the least number is given turns until it is answered, and its answer is appended.
 abbrev pub Settles : Rules → State → State → (before after : List ℕ) → Option Bool → Type 0
 Settles rules old new before after None = (old.posted ≡ []) × (new ≡ old) × (after ≡ before)
-Settles rules old new before after (Some wants) = (turns : ℕ) × (reply : Reply) × Given rules turns old ((wants, reply) ∷ []) new × (after ≡ before ++ reply_text reply)
+Settles rules old new before after (Some wants) = (turns : ℕ) × (reply : Reply) × Given rules turns old ((wants, reply) ∷ []) new
+    × (after ≡ before ++ reply_text reply)

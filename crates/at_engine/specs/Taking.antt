@@ -83,7 +83,8 @@ pub record Takes (rules : Rules) (slice : ℕ) (old : State) (front bytes : List
 -- what was told last: the reply to the line, or the answer to a question that one of so many turns behind it gave
 pub data EndsIn (rules : Rules) (slice : ℕ) (old : State) (line : List ℕ) (new : State) : List (Bool × Reply) → Bool × Reply → Type 0 where
   in_line : {said : Bool × Reply} → Serves rules old line new said → EndsIn rules slice old line new [] said
-  in_turn : {mid : State} {first said : Bool × Reply} {told : List (Bool × Reply)} (turns : ℕ) → turns ≤ slice → Serves rules old line mid first → Given rules turns mid (told ++ said ∷ []) new →
+  in_turn : {mid : State} {first said : Bool × Reply} {told : List (Bool × Reply)} (turns : ℕ) → turns ≤ slice → Serves rules old line mid first
+      → Given rules turns mid (told ++ said ∷ []) new →
       EndsIn rules slice old line new (first ∷ told) said
 
 -- What was told last behind a line could not be written: some front of it was, or all where the flush failed.
@@ -156,7 +157,8 @@ pub record Finished (rules : Rules) (slice : ℕ) (old : State) (front : List �
 -- What was told last could not be written: behind the last line, or by the turns behind that.
 pub data FinishStops (rules : Rules) (slice : ℕ) (old : State) (front : List ℕ) (new : State) (before after : Option (List ℕ)) : Type 0 where
   in_last : is_filled front ≡ true → Halts rules slice old front new before after → FinishStops rules slice old front new before after
-  behind_last : {mid : State} {told : List (Bool × Reply)} {between : Option (List ℕ)} → Runs rules slice old (filter is_filled (front ∷ [])) told mid → Appends before between (text_of told) →
+  behind_last : {mid : State} {told : List (Bool × Reply)} {between : Option (List ℕ)} → Runs rules slice old (filter is_filled (front ∷ [])) told mid
+      → Appends before between (text_of told) →
       (limit : ℕ) → GivesInPart rules limit mid new between after → FinishStops rules slice old front new before after
 
 abbrev pub Finishes : Result (Unit {0}) RunFault → Rules → ℕ → State → List ℕ → State → Desk → Desk → Option (List ℕ) → Option (List ℕ) → Type 0

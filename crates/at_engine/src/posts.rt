@@ -204,7 +204,8 @@ impl Posts {
     fn renew(&mut self, position: usize, store: &Store)
         requires idle { IsIdle store.now }
         ensures count { self.new.count ≡ self.old.count }
-        ensures renewed { (p : Posted) → slice_get self.old.items.items position ≡ Some p → IsRenewed (path store.now) position p self.old.items.items self.new.items.items }
+        ensures renewed { (p : Posted) → slice_get self.old.items.items position ≡ Some p
+            → IsRenewed (path store.now) position p self.old.items.items self.new.items.items }
         ensures none { slice_get self.old.items.items position ≡ None → self.new.items.items ≡ self.old.items.items }
     {
         if let Some(posted) = self.items.get_mut(position) {

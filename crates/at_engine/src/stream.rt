@@ -58,7 +58,8 @@ fn serve<K: Keeper, W: Output>(
     ensures served { ServedOrHalts result (rules_of engine.old) (slice_of engine.old) (state_of engine.old) desk.old.line.items (state_of engine.new) desk.old desk.new (W.contents writer.old) (W.contents writer.new) }
     ensures failed { Remembers (W.failed writer.old) (W.failed writer.new) (is_err result) }
     ensures sent { SendsOn result (W.waits writer.old) (W.waits writer.new) }
-    ensures keeps { IsTrue K.exact → IsSpare K.contents engine.old → OnOk result ((state_of engine.old).posted ≡ [] → NonePosts (desk.old.line.items ∷ []) → desk.new.memory ≡ desk.old.memory → KeepsLine K.contents desk.old.line.items engine.old engine.new) }
+    ensures keeps { IsTrue K.exact → IsSpare K.contents engine.old → OnOk result ((state_of engine.old).posted ≡ [] → NonePosts (desk.old.line.items ∷ [])
+        → desk.new.memory ≡ desk.old.memory → KeepsLine K.contents desk.old.line.items engine.old engine.new) }
     ensures spare { IsTrue K.exact → IsSpare K.contents engine.old → IsSpare K.contents engine.new }
     ensures rules { rules_of engine.new ≡ rules_of engine.old }
     ensures slice { slice_of engine.new ≡ slice_of engine.old }
@@ -203,10 +204,12 @@ fn take_newline<K: Keeper, W: Output>(
 ) -> Result<(), RunFault>
     requires sound { IsSound K.contents engine.old }
     requires few { countable desk.old (state_of engine.old) + 3 < 2 ^ 128 }
-    ensures taken { (front : List ℕ) → IsOpen front → desk.old.line.items ≡ kept front → TakesOrStops result (rules_of engine.old) (slice_of engine.old) (state_of engine.old) front (10 ∷ []) (state_of engine.new) desk.old desk.new (W.contents writer.old) (W.contents writer.new) }
+    ensures taken { (front : List ℕ) → IsOpen front → desk.old.line.items ≡ kept front
+        → TakesOrStops result (rules_of engine.old) (slice_of engine.old) (state_of engine.old) front (10 ∷ []) (state_of engine.new) desk.old desk.new (W.contents writer.old) (W.contents writer.new) }
     ensures failed { Remembers (W.failed writer.old) (W.failed writer.new) (is_err result) }
     ensures sent { SendsOn result (W.waits writer.old) (W.waits writer.new) }
-    ensures keeps { IsTrue K.exact → IsSpare K.contents engine.old → (front : List ℕ) → IsOpen front → desk.old.line.items ≡ kept front → OnOk result (KeepsBytes K.contents front (10 ∷ []) engine.old engine.new desk.old desk.new) }
+    ensures keeps { IsTrue K.exact → IsSpare K.contents engine.old → (front : List ℕ) → IsOpen front → desk.old.line.items ≡ kept front
+        → OnOk result (KeepsBytes K.contents front (10 ∷ []) engine.old engine.new desk.old desk.new) }
     ensures spare { IsTrue K.exact → IsSpare K.contents engine.old → IsSpare K.contents engine.new }
     ensures rules { rules_of engine.new ≡ rules_of engine.old }
     ensures slice { slice_of engine.new ≡ slice_of engine.old }
@@ -229,10 +232,12 @@ fn take_piece<K: Keeper, W: Output>(
 ) -> Result<(), RunFault>
     requires sound { IsSound K.contents engine.old }
     requires few { countable desk.old (state_of engine.old) + 3 * length piece.now < 2 ^ 128 }
-    ensures taken { (front : List ℕ) → IsOpen front → desk.old.line.items ≡ kept front → TakesOrStops result (rules_of engine.old) (slice_of engine.old) (state_of engine.old) front piece.now (state_of engine.new) desk.old desk.new (W.contents writer.old) (W.contents writer.new) }
+    ensures taken { (front : List ℕ) → IsOpen front → desk.old.line.items ≡ kept front
+        → TakesOrStops result (rules_of engine.old) (slice_of engine.old) (state_of engine.old) front piece.now (state_of engine.new) desk.old desk.new (W.contents writer.old) (W.contents writer.new) }
     ensures failed { Remembers (W.failed writer.old) (W.failed writer.new) (is_err result) }
     ensures sent { SendsOn result (W.waits writer.old) (W.waits writer.new) }
-    ensures keeps { IsTrue K.exact → IsSpare K.contents engine.old → (front : List ℕ) → IsOpen front → desk.old.line.items ≡ kept front → OnOk result (KeepsBytes K.contents front piece.now engine.old engine.new desk.old desk.new) }
+    ensures keeps { IsTrue K.exact → IsSpare K.contents engine.old → (front : List ℕ) → IsOpen front → desk.old.line.items ≡ kept front
+        → OnOk result (KeepsBytes K.contents front piece.now engine.old engine.new desk.old desk.new) }
     ensures spare { IsTrue K.exact → IsSpare K.contents engine.old → IsSpare K.contents engine.new }
     ensures rules { rules_of engine.new ≡ rules_of engine.old }
     ensures slice { slice_of engine.new ≡ slice_of engine.old }
@@ -273,10 +278,13 @@ fn finish<K: Keeper, W: Output>(
 ) -> Result<(), RunFault>
     requires sound { IsSound K.contents engine.old }
     requires few { countable desk.old (state_of engine.old) + 3 < 2 ^ 128 }
-    ensures finished { (front : List ℕ) → desk.old.line.items ≡ kept front → Finishes result (rules_of engine.old) (slice_of engine.old) (state_of engine.old) front (state_of engine.new) desk.old desk.new (W.contents writer.old) (W.contents writer.new) }
+    ensures finished { (front : List ℕ) → desk.old.line.items ≡ kept front
+        → Finishes result (rules_of engine.old) (slice_of engine.old) (state_of engine.old) front (state_of engine.new) desk.old desk.new (W.contents writer.old) (W.contents writer.new) }
     ensures failed { Remembers (W.failed writer.old) (W.failed writer.new) (is_err result) }
     ensures sent { SendsOn result (W.waits writer.old) (W.waits writer.new) }
-    ensures keeps { IsTrue K.exact → IsSpare K.contents engine.old → (front : List ℕ) → desk.old.line.items ≡ kept front → OnOk result ((state_of engine.old).posted ≡ [] → NonePosts (filter is_filled (front ∷ [])) → desk.new.memory ≡ desk.old.memory → KeepsAll K.contents (filter is_filled (front ∷ [])) engine.old engine.new) }
+    ensures keeps { IsTrue K.exact → IsSpare K.contents engine.old → (front : List ℕ) → desk.old.line.items ≡ kept front
+        → OnOk result ((state_of engine.old).posted ≡ [] → NonePosts (filter is_filled (front ∷ [])) → desk.new.memory ≡ desk.old.memory
+        → KeepsAll K.contents (filter is_filled (front ∷ [])) engine.old engine.new) }
     ensures spare { IsTrue K.exact → IsSpare K.contents engine.old → IsSpare K.contents engine.new }
     ensures rules { rules_of engine.new ≡ rules_of engine.old }
     ensures slice { slice_of engine.new ≡ slice_of engine.old }
@@ -309,7 +317,8 @@ pub fn run<K: Keeper, R: Input, W: Output>(
     ensures reads { MakesReads max_reads result (R.reads reader.old) (R.reads reader.new) }
     ensures ended { TellsEnd result (R.ended reader.old) (R.ended reader.new) }
     ensures sent { SendsAll result (W.waits writer.old) (W.waits writer.new) }
-    ensures keeps { IsTrue K.exact → IsSpare K.contents engine.old → IfOk result (λ report. report.memory ≡ 0 → KeepsRun K.contents engine.old engine.new (R.remaining reader.old) (R.remaining reader.new)) }
+    ensures keeps { IsTrue K.exact → IsSpare K.contents engine.old
+        → IfOk result (λ report. report.memory ≡ 0 → KeepsRun K.contents engine.old engine.new (R.remaining reader.old) (R.remaining reader.new)) }
     ensures work { IfOk result (λ report. report.work ≡ work_of engine.new) }
     ensures spare { IsTrue K.exact → IsSpare K.contents engine.old → IsSpare K.contents engine.new }
     ensures rules { rules_of engine.new ≡ rules_of engine.old }
@@ -336,7 +345,8 @@ pub fn run_for<K: Keeper, R: Input, W: Output>(
     ensures reads { MakesReads limit result (R.reads reader.old) (R.reads reader.new) }
     ensures ended { TellsEnd result (R.ended reader.old) (R.ended reader.new) }
     ensures sent { SendsAll result (W.waits writer.old) (W.waits writer.new) }
-    ensures keeps { IsTrue K.exact → IsSpare K.contents engine.old → IfOk result (λ report. report.memory ≡ 0 → KeepsRun K.contents engine.old engine.new (R.remaining reader.old) (R.remaining reader.new)) }
+    ensures keeps { IsTrue K.exact → IsSpare K.contents engine.old
+        → IfOk result (λ report. report.memory ≡ 0 → KeepsRun K.contents engine.old engine.new (R.remaining reader.old) (R.remaining reader.new)) }
     ensures work { IfOk result (λ report. report.work ≡ work_of engine.new) }
     ensures spare { IsTrue K.exact → IsSpare K.contents engine.old → IsSpare K.contents engine.new }
     ensures rules { rules_of engine.new ≡ rules_of engine.old }

@@ -110,7 +110,8 @@ declaration = record {
   want = want.Declaration;
   spell = grammar.declaration;
   Is = IsDeclaration;
-  LeavesAt = λ front s. (d : Declaration) × (more : List Symbol) × IsDeclaration d × (front ≡ grammar.head d ++ sign (codes "::=") ∷ more) × LeftOutOfParts more s;
+  LeavesAt = λ front s. (d : Declaration) × (more : List Symbol) × IsDeclaration d × (front ≡ grammar.head d ++ sign (codes "::=") ∷ more)
+      × LeftOutOfParts more s;
 }
 
 abbrev pub file : Form Symbol Want (List Declaration)

@@ -21,7 +21,7 @@ use Rattle.at_jrag.specs.Table.{table, next, on, is_number_within, expression_an
 use Rattle.at_jrag.specs.Runs.{Pass}
 use Rattle.at_jrag.proofs.MachineLaws.{run-takes, run-skips}
 use Rattle.at_jrag.proofs.MachineLaws.{run-begins}
-use Rattle.at_jrag.proofs.ExpressionSteps.{sign_is, binary_stays}
+use Rattle.at_jrag.proofs.of_expressions.ExpressionSteps.{sign_is, binary_stays}
 use Rattle.at_jrag.proofs.DeclarationRuns.{pass_none, pass_then, pass_skips}
 
 -- ---- the symbols

@@ -26,9 +26,9 @@ use Rattle.at_text.specs.declared.fault.Failure.TheVariants as failure
 use Rattle.at_jrag.specs.declared.JragCode.{JragCode}
 use Rattle.at_jrag.specs.declared.JragCode.TheVariants as code
 use Rattle.at_jrag.proofs.MachineLaws.{run-takes, run-skips, run-refuses, run-leaves_out}
-use Rattle.at_jrag.proofs.ExpressionSteps.{no_word}
-use Rattle.at_jrag.proofs.ExpressionRanks.{EndsWhole}
-use Rattle.at_jrag.proofs.ExpressionsTaken.{accepted}
+use Rattle.at_jrag.proofs.of_expressions.ExpressionSteps.{no_word}
+use Rattle.at_jrag.proofs.of_expressions.ExpressionRanks.{EndsWhole}
+use Rattle.at_jrag.proofs.of_expressions.ExpressionsTaken.{accepted}
 
 -- ---- one want after another
 

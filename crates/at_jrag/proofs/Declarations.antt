@@ -11,7 +11,7 @@ use Rattle.at_jrag.specs.Syntax.{Word, Param, Params, KindWord, Body, Ending, De
 use Rattle.at_text.specs.Rows.{Row, word}
 use Rattle.at_jrag.specs.Grammar.{kind_text, Sign, Lazy, ParamOf, MoreParams, Listed, Signature, Owner, Index, Getter, Declared, BodyOf, EndingOf, Behind, DeclOf, Decls, AspectOf, File}
 use Rattle.at_jrag.specs.Heads.{is_getter, is_int, index, TargetOf}
-use Rattle.at_jrag.proofs.Expressions.{takes_one, spells_shorter}
+use Rattle.at_jrag.proofs.of_expressions.Expressions.{takes_one, spells_shorter}
 
 -- ---- parameters
 

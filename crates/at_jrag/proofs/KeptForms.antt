@@ -23,7 +23,7 @@ use Rattle.at_jrag.proofs.Reached.{Reached, TakesIt, goes_taken, taken_goes}
 use Rattle.at_jrag.proofs.Shapes.{loose, firm, next_firm, next_ends, follows, barred, Stands, reached_shape}
 use Rattle.at_jrag.proofs.SignRows.{Is, it_is, is_not, end_text, EndsAt, passes, end_row, bar, bar_passes, bar_taken, asks, get_row, paren, paren_row, takes_int, paren_asked}
 use Rattle.at_jrag.proofs.SoundTokens.{or_case, word_is}
-use Rattle.at_jrag.proofs.ExpressionSteps.{sign_is}
+use Rattle.at_jrag.proofs.of_expressions.ExpressionSteps.{sign_is}
 use Rattle.at_jrag.proofs.TokenRows.{IsKeyword, TakesWord, next_lazy, word_row}
 use Rattle.at_jrag.proofs.Walks.{never, off, goes_not, halts_not, left_not, loose_firm, IsTaker, taker}
 

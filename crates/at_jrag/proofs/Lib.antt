@@ -1,10 +1,6 @@
 pub mod MachineLaws
-pub mod ExpressionSteps
+pub mod of_expressions
 pub mod Tokens
-pub mod Expressions
-pub mod ExpressionRanks
-pub mod ExpressionRuns
-pub mod ExpressionsTaken
 pub mod Declarations
 pub mod Numbers
 pub mod DeclarationRuns
@@ -17,7 +13,6 @@ pub mod CompletionSteps
 pub mod Completed
 pub mod SoundSays
 pub mod SoundTokens
-pub mod SoundExpressions
 pub mod SoundCalls
 pub mod SoundDeclarations
 pub mod Sound
@@ -30,10 +25,6 @@ pub mod SignRows
 pub mod LeftForms
 pub mod KeptForms
 pub mod FirstFaults
-pub mod OperatorStops
 pub mod PartStops
 pub mod OneToken
-pub mod ExpressionLinks
-pub mod ExpressionFronts
-pub mod OneExpression
 pub mod Unambiguous

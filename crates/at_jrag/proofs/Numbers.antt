@@ -22,7 +22,7 @@ use Rattle.at_jrag.specs.Runs.{NoNegative}
 use Rattle.at_text.specs.declared.fault.Failure.TheVariants as failure
 use Rattle.at_jrag.specs.declared.JragCode.TheVariants as code
 use Rattle.at_jrag.specs.declared.reader.forms.Measured.{Measured}
-use Rattle.at_jrag.proofs.Expressions.{reads_made}
+use Rattle.at_jrag.proofs.of_expressions.Expressions.{reads_made}
 use Rattle.at_model.proofs.Options.{both}
 
 -- what the digits of a number within the bound are

@@ -29,9 +29,9 @@ use Rattle.at_jrag.specs.declared.JragCode.{JragCode}
 use Rattle.at_jrag.specs.declared.JragCode.TheVariants as code
 use Rattle.at_jrag.proofs.MachineLaws.{run-takes, run-skips, run-refuses, run-too_deep, run-leaves_out}
 use Rattle.at_jrag.proofs.MachineLaws.{run-begins}
-use Rattle.at_jrag.proofs.ExpressionSteps.{then_stays, sign_is, name_is_no_literal}
-use Rattle.at_jrag.proofs.ExpressionRuns.{moves_on, calls_end, call_moves, more_none, literal_goes, name_goes, named_taken, fold_taken, fold_goes}
-use Rattle.at_jrag.proofs.ExpressionsTaken.{next_first, deep, number_is, number_literal, quoted_is}
+use Rattle.at_jrag.proofs.of_expressions.ExpressionSteps.{then_stays, sign_is, name_is_no_literal}
+use Rattle.at_jrag.proofs.of_expressions.ExpressionRuns.{moves_on, calls_end, call_moves, more_none, literal_goes, name_goes, named_taken, fold_taken, fold_goes}
+use Rattle.at_jrag.proofs.of_expressions.ExpressionsTaken.{next_first, deep, number_is, number_literal, quoted_is}
 
 -- ---- the limited machine, step by step
 

@@ -7,7 +7,7 @@ use Rattle.at_jrag.specs.Machine.{Whole, run}
 use Rattle.at_jrag.specs.Wants as want
 use Rattle.at_jrag.specs.Table.{table}
 use Rattle.at_jrag.proofs.SoundSays.{Means, only_says, whole_said}
-use Rattle.at_jrag.proofs.SoundExpressions.{mark_means, name_means, primary_means, unary_means, minus_means, links_mean, binary_means, otherwise_means, choice_means, expression_means}
+use Rattle.at_jrag.proofs.of_expressions.SoundExpressions.{mark_means, name_means, primary_means, unary_means, minus_means, links_mean, binary_means, otherwise_means, choice_means, expression_means}
 use Rattle.at_jrag.proofs.SoundCalls.{calls_mean, called_means, arguments_mean, first_argument_means, more_arguments_mean, named_means, fold_body_means, enclosed_means, parenthesized_means, opened_means}
 use Rattle.at_jrag.proofs.SoundDeclarations.{return_means, close_means, kind_means, not_nta_means, not_circular_means, lazy_means, more_params_mean, other_params_mean, params_mean, opening_means, signed_means, body_means, ending_means, defined_means, decls_mean, file_means}
 

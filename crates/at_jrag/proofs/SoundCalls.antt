@@ -16,11 +16,11 @@ use Rattle.at_jrag.specs.Grammar.{follows_cast, Sign, deepest}
 use Rattle.at_jrag.specs.Machine.{Answer, Takes, Skips, Refuses, LeavesOut, and_then}
 use Rattle.at_jrag.specs.Wants.{Want, Expression, Links, Choice, Enclosed, Parenthesized, Calls, Called, Arguments, FirstArgument, MoreArguments, Deeper, Join, Deepest, Mark}
 use Rattle.at_jrag.specs.Table.{next, or_else, is_get_child, expects, unary_answer, expression_answer, links_answer, choice_answer, calls_answer, called_answer, named_answer, first_argument_answer, more_arguments_answer, links_from, tails_answer, enclosed_rest, enclosed_answer, opened_answer, parenthesized_answer}
-use Rattle.at_jrag.proofs.ExpressionSteps.{name_is}
-use Rattle.at_jrag.proofs.ExpressionsTaken.{next_first}
+use Rattle.at_jrag.proofs.of_expressions.ExpressionSteps.{name_is}
+use Rattle.at_jrag.proofs.of_expressions.ExpressionsTaken.{next_first}
 use Rattle.at_jrag.proofs.SoundTokens.{sign_front}
 use Rattle.at_jrag.proofs.SoundSays.{IsRead, HasArguments, HasMore, IsApplied, IsCalled, IsFoldBody, AllSay, Does, only_says, then_does, else_does, on_does}
-use Rattle.at_jrag.proofs.SoundExpressions.{put, moved, weaken, first_tail, sign_alone, paren_read, cast_read, unary_means, links_mean, choice_means, expression_means}
+use Rattle.at_jrag.proofs.of_expressions.SoundExpressions.{put, moved, weaken, first_tail, sign_alone, paren_read, cast_read, unary_means, links_mean, choice_means, expression_means}
 
 -- ---- calls
 

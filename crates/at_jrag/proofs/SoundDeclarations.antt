@@ -15,10 +15,10 @@ use Rattle.at_jrag.specs.Grammar.{kind_text, IsKind, Sign, Keyword, KindOf, List
 use Rattle.at_jrag.specs.Machine.{Takes, Skips, Refuses, LeavesOut}
 use Rattle.at_jrag.specs.Wants as want
 use Rattle.at_jrag.specs.Table.{next, on, expects, is_get_child, is_kind, no_keyword, declared, file_answer, decls_answer, not_nta_answer, lazy_answer, signed_answer, more_params_answer, params_answer, body_answer, ending_answer, defined_answer, alone}
-use Rattle.at_jrag.proofs.ExpressionSteps.{name_is}
+use Rattle.at_jrag.proofs.of_expressions.ExpressionSteps.{name_is}
 use Rattle.at_jrag.proofs.SoundTokens.{or_case, front_passes, sign_front, word_is, word_front}
 use Rattle.at_jrag.proofs.SoundSays.{IsRead, HasParams, HasMoreParams, IsOpened, IsSigned, IsBody, IsDefined, AllSay, Does, only_says, on_does}
-use Rattle.at_jrag.proofs.SoundExpressions.{first_tail, sign_alone, word_alone}
+use Rattle.at_jrag.proofs.of_expressions.SoundExpressions.{first_tail, sign_alone, word_alone}
 use Rattle.at_model.proofs.Options.{both, and_off}
 
 -- ---- single tokens

@@ -13,7 +13,7 @@ use Rattle.at_jrag.specs.Grammar.{number, quotation, is_number, Spells, level, d
 use Rattle.at_jrag.specs.Syntax as syntax
 use Rattle.at_jrag.specs.Syntax.{Operator, FoldForm, Expr}
 use Rattle.at_jrag.specs.Table.{next, is_literal, is_quotation, is_quoted, is_constant, is_number_within, is_decimal_within, begins_fold, sign_rank, link_rank}
-use Rattle.at_jrag.proofs.ExpressionSteps.{is_word_of, sign_is}
+use Rattle.at_jrag.proofs.of_expressions.ExpressionSteps.{is_word_of, sign_is}
 use Rattle.at_jrag.proofs.Numbers.{within}
 use Rattle.at_jrag.proofs.Quotations.{quoted_of}
 use Rattle.at_jrag.proofs.Tokens.{of_kind}

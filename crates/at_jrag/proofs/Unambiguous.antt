@@ -11,10 +11,10 @@ use Rattle.at_jrag.specs.Syntax as syntax
 use Rattle.at_jrag.specs.Syntax.{Word, Kind, KindWord, Param, Params, BodyForm, Body, Ending, Decl, DeclForm, Aspect}
 use Rattle.at_text.specs.Rows.{Row, sign, is_sign, is_word, next_is}
 use Rattle.at_jrag.specs.Grammar.{Sign, kind_text, IsKind, KindOf, ParamOf, MoreParams, Listed, Signature, Owner, Lazy, Index, Getter, Declared, BodyOf, EndingOf, Behind, keyword, DeclOf, Decls, AspectOf, File}
-use Rattle.at_jrag.proofs.ExpressionSteps.{reserved_is_no_name, no_word}
+use Rattle.at_jrag.proofs.of_expressions.ExpressionSteps.{reserved_is_no_name, no_word}
 use Rattle.at_jrag.proofs.OneToken.{token_one, text_one, at_one, apart, name_one}
-use Rattle.at_jrag.proofs.ExpressionLinks.{ended}
-use Rattle.at_jrag.proofs.OneExpression.{one_expression}
+use Rattle.at_jrag.proofs.of_expressions.ExpressionLinks.{ended}
+use Rattle.at_jrag.proofs.of_expressions.OneExpression.{one_expression}
 
 -- ---- kinds
 

@@ -17,7 +17,8 @@ use Rattle.at_jrag.specs.declared.JragCode.TheVariants as code
 
 -- What is wanted, up to this depth, is gone over up to us, which is wanted behind it; of a machine with a limit where it fits.
 abbrev pub Goes : (ℕ → Want) → (ℕ → List Want) → ℕ → Row → Row → Type 0
-Goes want us depth old rest = (l : Bool) (b : ℕ) → (l ≡ true → depth ≤ b) → (ws : List Want) (d : ℕ) → run l table (want b ∷ ws) d old ≡ run l table (us b ++ ws) depth rest
+Goes want us depth old rest = (l : Bool) (b : ℕ) → (l ≡ true → depth ≤ b) → (ws : List Want) (d : ℕ)
+    → run l table (want b ∷ ws) d old ≡ run l table (us b ++ ws) depth rest
 
 -- from one depth to the other, the machine goes on with what is wanted
 abbrev pub Moves : (ℕ → List Want) → (ℕ → List Want) → ℕ → ℕ → Row → Row → Type 0
@@ -63,7 +64,8 @@ Missing test (failure.For code.Nesting) old rest = ⊥
 abbrev pub NotOpened : List ℕ → Failure JragCode → Row → Row → Type 0
 NotOpened name failure.Memory old rest = Unit {0}
 NotOpened name (failure.For code.Syntax) old rest = (rest ≡ old) × (next_is (is_sign (codes "(")) old ≡ false)
-NotOpened name (failure.For code.LeftOut) old rest = Sign (codes "(") old rest × (bytes_eq name (codes "getChild") && next_is (is_word (codes "int")) rest ≡ true)
+NotOpened name (failure.For code.LeftOut) old rest = Sign (codes "(") old rest
+    × (bytes_eq name (codes "getChild") && next_is (is_word (codes "int")) rest ≡ true)
 NotOpened name (failure.For code.Nesting) old rest = ⊥
 
 -- what stands between quotes is no text's spelling
@@ -87,13 +89,15 @@ NoParam e old rest = Missing is_kind e old rest ⊎ ((k : KindWord) × (mid : Ro
 -- a `-` was taken, and the number behind it is none
 abbrev pub NoNegative : Failure JragCode → Row → Row → Type 0
 NoNegative failure.Memory old rest = ⊥
-NoNegative (failure.For code.Syntax) old rest = (at : Place) × (old ≡ sign (codes "-") at ∷ rest) × (next_is is_number rest ≡ true) × (next_is (is_number_within 2147483648) rest ≡ false)
+NoNegative (failure.For code.Syntax) old rest = (at : Place) × (old ≡ sign (codes "-") at ∷ rest) × (next_is is_number rest ≡ true)
+    × (next_is (is_number_within 2147483648) rest ≡ false)
 NoNegative (failure.For code.LeftOut) old rest = ⊥
 NoNegative (failure.For code.Nesting) old rest = ⊥
 
 -- a `-` and a number were taken
 abbrev pub TakesNegative : Row → Row → Type 0
-TakesNegative old rest = (at : Place) × (digits : List ℕ) × (digits_at : Place) × (old ≡ sign (codes "-") at ∷ number digits digits_at ∷ rest) × (is_decimal_within 2147483648 digits ≡ true)
+TakesNegative old rest = (at : Place) × (digits : List ℕ) × (digits_at : Place) × (old ≡ sign (codes "-") at ∷ number digits digits_at ∷ rest)
+    × (is_decimal_within 2147483648 digits ≡ true)
 
 -- what is next is no literal, no parenthesis and no fold
 abbrev pub IsOther : Row → Type 0

@@ -102,9 +102,9 @@ module _ (rules : Rules) where
   added_right : (t : ScopeKinds) (at : Place) (j k : Kinded) → Right t j → Right t k → Holds (Right t) (added at j k)
   added_right t at j k h g = by (is_text j.kind) refl
     where
-      by : (b : Bool) → is_text j.kind ≡ b → Holds (Right t) (if b then text_joined at j.body k.kind k.body else computed at body.Plus j k)
+      by : (b : Bool) → is_text j.kind ≡ b → Holds (Right t) (if b then text_joined at j.body k.kind k.body else computed at body.Add j k)
       by true is = text_joined_right t at j.body k.kind k.body (text_has t j.kind j.body is h) g
-      by false is = computed_right t at body.Plus j k h g
+      by false is = computed_right t at body.Add j k h g
 
   -- what may stand beside `==`
   abbrev Alike : ScopeKinds → Expr → Expr → Type 0
@@ -145,10 +145,10 @@ module _ (rules : Rules) where
 
   pub joined_right : (t : ScopeKinds) (at : Place) (o : written.Operator) (j k : Kinded) → Right t j → Right t k → Holds (Right t) (joined at o j k)
   joined_right t at written.Add j k h g = added_right t at j k h g
-  joined_right t at written.Subtract j k h g = computed_right t at body.Minus j k h g
-  joined_right t at written.Multiply j k h g = computed_right t at body.Times j k h g
-  joined_right t at written.Divide j k h g = computed_right t at body.Over j k h g
-  joined_right t at written.Remainder j k h g = computed_right t at body.Modulo j k h g
+  joined_right t at written.Subtract j k h g = computed_right t at body.Subtract j k h g
+  joined_right t at written.Multiply j k h g = computed_right t at body.Multiply j k h g
+  joined_right t at written.Divide j k h g = computed_right t at body.Divide j k h g
+  joined_right t at written.Remainder j k h g = computed_right t at body.Remainder j k h g
   joined_right t at written.Below j k h g = ordered_right t at body.Below j k h g
   joined_right t at written.AtMost j k h g = ordered_right t at body.AtMost j k h g
   joined_right t at written.Above j k h g = ordered_right t at body.Above j k h g

@@ -111,14 +111,14 @@ text_joined at a k b = Wrong code.Kind at
 
 -- `+`
 abbrev pub added : Place → Kinded → Kinded → Judged
-added at j k = if is_text j.kind then text_joined at j.body k.kind k.body else computed at body.Plus j k
+added at j k = if is_text j.kind then text_joined at j.body k.kind k.body else computed at body.Add j k
 
 abbrev pub joined : Place → written.Operator → Kinded → Kinded → Judged
 joined at written.Add j k = added at j k
-joined at written.Subtract j k = computed at body.Minus j k
-joined at written.Multiply j k = computed at body.Times j k
-joined at written.Divide j k = computed at body.Over j k
-joined at written.Remainder j k = computed at body.Modulo j k
+joined at written.Subtract j k = computed at body.Subtract j k
+joined at written.Multiply j k = computed at body.Multiply j k
+joined at written.Divide j k = computed at body.Divide j k
+joined at written.Remainder j k = computed at body.Remainder j k
 joined at written.Below j k = ordered at body.Below j k
 joined at written.AtMost j k = ordered at body.AtMost j k
 joined at written.Above j k = ordered at body.Above j k

@@ -186,7 +186,8 @@ fn is_list(shape: PartShape) -> bool
 
 /// What stands in a name behind that front, if it begins so.
 fn behind<'a>(name: &'a [u8], front: &[u8]) -> Option<&'a [u8]>
-    ensures { MatchOption result ((x : List ℕ) → bytes_eq name.now (front.now ++ x) ≡ false) (λ rest. (x : List ℕ) → bytes_eq name.now (front.now ++ x) ≡ bytes_eq rest.now x) }
+    ensures { MatchOption result ((x : List ℕ) → bytes_eq name.now (front.now ++ x) ≡ false) (λ rest. (x : List ℕ)
+        → bytes_eq name.now (front.now ++ x) ≡ bytes_eq rest.now x) }
 {
     if name.len() < front.len() {
         return None;
@@ -197,7 +198,8 @@ fn behind<'a>(name: &'a [u8], front: &[u8]) -> Option<&'a [u8]>
 
 /// What stands in a name before that end, if it ends so.
 fn without_end<'a>(name: &'a [u8], end: &[u8]) -> Option<&'a [u8]>
-    ensures { MatchOption result ((x : List ℕ) → bytes_eq name.now (x ++ end.now) ≡ false) (λ rest. (x : List ℕ) → bytes_eq name.now (x ++ end.now) ≡ bytes_eq rest.now x) }
+    ensures { MatchOption result ((x : List ℕ) → bytes_eq name.now (x ++ end.now) ≡ false) (λ rest. (x : List ℕ)
+        → bytes_eq name.now (x ++ end.now) ≡ bytes_eq rest.now x) }
 {
     if name.len() < end.len() {
         return None;

@@ -169,7 +169,8 @@ impl Scope<'_> {
         name: &Word,
         at: Place,
     ) -> Result<Typed, TypeFault>
-        ensures { (l : Judgement Listed) → Judges list_view l list → Judges typed_view (and_then (λ l. and_then (folded_by at (fold_view form) l) (judged (within_of (scope_view self.now) (word_view name.now).text l.class) (expr_view body.now))) l) result }
+        ensures { (l : Judgement Listed) → Judges list_view l list
+            → Judges typed_view (and_then (λ l. and_then (folded_by at (fold_view form) l) (judged (within_of (scope_view self.now) (word_view name.now).text l.class) (expr_view body.now))) l) result }
     {
         let list = list?;
         let names = within(self.alloc, name.text.as_str(), list.class, self.names)?;

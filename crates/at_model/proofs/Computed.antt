@@ -22,7 +22,7 @@ use Rattle.at_model.specs.Machine.{State, Verdict, Refuses, Tells, Leaves, Edits
 use Rattle.at_model.specs.Sparing.{IsWorthKeeping, IsUntouched, KeptAfter, AreAdded, IsWork}
 use Rattle.at_model.specs.Keeping.{heard, AreWorks, NothingKept}
 use Rattle.at_model.specs.Working.{Effort, AreHeard, Works}
-use Rattle.at_model.proofs.PlainLines.{is_plain_line, spelled}
+use Rattle.at_model.proofs.of_texts.PlainLines.{is_plain_line, spelled}
 use Rattle.at_model.proofs.Options.{led, mapped, both as both_of, and_true}
 use Rattle.at_model.proofs.Nodes.{node_eq-is, nat_eq-is}
 use Rattle.at_model.proofs.Outcomes.{once}

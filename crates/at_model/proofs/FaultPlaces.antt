@@ -2,7 +2,7 @@
 use Rattle.std.proofs.Common.{◌≡◌, ℕ, zero, suc, Option, Some, None, inl, refl, ap, subst}
 use Rattle.at_model.specs.Run.{Value, FaultKind, Instance, Contents, Known, Tried, Valued, Faulted, Needs, tried}
 use Rattle.at_model.specs.Meaning.{Outcome, Finds, Faults, value_in, Equations, settled, outcome_at, Holds, Leads, Right}
-use Rattle.at_model.proofs.Carrying.{first_led}
+use Rattle.at_model.proofs.of_likeness.Carrying.{first_led}
 use Rattle.at_model.proofs.Tries.{needed}
 
 found : {N : Type 0} (p : Option (Outcome N)) (v : Value N) → value_in p ≡ Some v → p ≡ Some (Finds v)

@@ -23,7 +23,7 @@ use Rattle.at_model.specs.Replies.{Written, At}
 use Rattle.at_model.specs.Machine.{State, Posted, Verdict, Refuses, Leaves, Edits, Asks, Posts, Waits, marked, is_marked, marks_used, node_named, node_below, value_named, each, fit_parameters, parameters_of, is_posted, code_of, max_marks, max_posted, is_edit, is_stale, changed, with_component, with_tree, obeyed, verdict}
 use Rattle.at_model.specs.Refusing.{number, rank, Breaks, places_in, Asked, component_asked, term_in, shape_named, HasComponent, class_for, tree_for, meant, ExpectsOther, IsRefusedAs, IsPastLast, MarksAgain, MarksTooMany, PostsTooMany, AsksNone, AsksAmiss, WaitsForNone, Applies}
 use Rattle.at_model.proofs.Options.{led, mapped, both, either_true, or_right}
-use Rattle.at_model.proofs.Untouched.{tree_at-append}
+use Rattle.at_model.proofs.of_edits.Untouched.{tree_at-append}
 use Rattle.at_model.proofs.Chained.{nat_same}
 use Rattle.at_model.proofs.FirstGiven.{off_on}
 use Rattle.at_model.proofs.GrammarKept.{off_not}

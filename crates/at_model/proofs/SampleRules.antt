@@ -21,8 +21,8 @@ use Rattle.at_model.proofs.Options.{both}
 use Rattle.at_model.proofs.Everywhere.{found}
 use Rattle.at_model.proofs.Below.{sub_sub}
 use Rattle.at_model.proofs.Chained.{chained}
-use Rattle.at_model.proofs.Taken.{taken}
-use Rattle.at_model.proofs.PlainLines.{low_utf8}
+use Rattle.at_model.proofs.of_typing.Taken.{taken}
+use Rattle.at_model.proofs.of_texts.PlainLines.{low_utf8}
 use Rattle.at_model.proofs.Listed.{none_below}
 
 -- tests on all numbers below one
@@ -88,9 +88,9 @@ sum_hierarchy : IsHierarchy sum_rules.classes
 unfolding chain
 sum_hierarchy = hierarchy sum_rules.classes (tt, (tt, tt)) refl
 
-sum_body : HasKind sum_rules (record { this = 0; names = []; has_index = false }) (body.Arithmetic body.Plus (body.TokenOf (body.Child This 0) 0) (body.Arithmetic body.Times (body.TokenOf (body.Child This 1) 0) (IntLiteral (pos 2)))) Int
+sum_body : HasKind sum_rules (record { this = 0; names = []; has_index = false }) (body.Arithmetic body.Add (body.TokenOf (body.Child This 0) 0) (body.Arithmetic body.Multiply (body.TokenOf (body.Child This 1) 0) (IntLiteral (pos 2)))) Int
 unfolding chain
-sum_body = form.arithmetic body.Plus (form.token_of 1 0 token.Int refl (form.child 0 0 1 refl form.this)) (form.arithmetic body.Times (form.token_of 1 0 token.Int refl (form.child 0 1 1 refl form.this)) (form.int_literal (pos 2) (omega arith)))
+sum_body = form.arithmetic body.Add (form.token_of 1 0 token.Int refl (form.child 0 0 1 refl form.this)) (form.arithmetic body.Multiply (form.token_of 1 0 token.Int refl (form.child 0 1 1 refl form.this)) (form.int_literal (pos 2) (omega arith)))
 
 not_inherited : (a : Attribute) → a.is_inherited ≡ false → a.is_inherited ≡ true → ⊥
 not_inherited a e f = let g : false ≡ true = sym e ∙ f in absurd cc
@@ -141,8 +141,8 @@ with_name c b = record { this = c; names = Text ∷ []; has_index = b }
 int_of : (s : ScopeKinds) (n : ℕ) → n < 2147483648 → HasKind calc s (IntLiteral (pos n)) Int
 int_of s n h = form.int_literal (pos n) h
 
-one_by_zero_typed : HasKind calc (plain 0) (body.Arithmetic body.Over (IntLiteral (pos 1)) (IntLiteral (pos 0))) Int
-one_by_zero_typed = form.arithmetic body.Over (int_of (plain 0) 1 (omega arith)) (int_of (plain 0) 0 (omega arith))
+one_by_zero_typed : HasKind calc (plain 0) (body.Arithmetic body.Divide (IntLiteral (pos 1)) (IntLiteral (pos 0))) Int
+one_by_zero_typed = form.arithmetic body.Divide (int_of (plain 0) 1 (omega arith)) (int_of (plain 0) 0 (omega arith))
 
 circ_typed : HasKind calc (plain 0) (body.Call This 9 no_exprs) Int
 unfolding chain
@@ -200,7 +200,7 @@ own_typed = (
               attribute = refl;
               synthesized = refl;
               declared = refl;
-              body = form.arithmetic body.Plus (form.call 5 5 (at 5) refl refl (form.child 8 0 5 refl form.this) form.no_more) (form.call 5 5 (at 5) refl refl (form.child 8 1 5 refl form.this) form.no_more);
+              body = form.arithmetic body.Add (form.call 5 5 (at 5) refl refl (form.child 8 0 5 refl form.this) form.no_more) (form.call 5 5 (at 5) refl refl (form.child 8 1 5 refl form.this) form.no_more);
             },
             (
               record {
@@ -241,16 +241,16 @@ own_typed = (
                         (
                           record { declaration = at 11; attribute = refl; synthesized = refl; declared = refl; body = form.and (form.truth_literal false) spin_typed },
                           (
-                            record { declaration = at 12; attribute = refl; synthesized = refl; declared = refl; body = form.arithmetic body.Plus one_by_zero_typed circ_typed },
+                            record { declaration = at 12; attribute = refl; synthesized = refl; declared = refl; body = form.arithmetic body.Add one_by_zero_typed circ_typed },
                             (
-                              record { declaration = at 13; attribute = refl; synthesized = refl; declared = refl; body = form.arithmetic body.Plus circ_typed one_by_zero_typed },
+                              record { declaration = at 13; attribute = refl; synthesized = refl; declared = refl; body = form.arithmetic body.Add circ_typed one_by_zero_typed },
                               (
                                 record {
                                   declaration = at 14;
                                   attribute = refl;
                                   synthesized = refl;
                                   declared = refl;
-                                  body = form.arithmetic body.Plus (int_of (plain 0) 2147483647 (omega arith)) (int_of (plain 0) 1 (omega arith));
+                                  body = form.arithmetic body.Add (int_of (plain 0) 2147483647 (omega arith)) (int_of (plain 0) 1 (omega arith));
                                 },
                                 (
                                   record {
@@ -258,7 +258,7 @@ own_typed = (
                                     attribute = refl;
                                     synthesized = refl;
                                     declared = refl;
-                                    body = form.join_int (form.join_int (form.text_literal (codes "n")) (form.arithmetic body.Over (int_of (plain 0) 1 (omega arith)) (int_of (plain 0) 2 (omega arith)))) (form.int_literal (negsuc 6) (omega arith));
+                                    body = form.join_int (form.join_int (form.text_literal (codes "n")) (form.arithmetic body.Divide (int_of (plain 0) 1 (omega arith)) (int_of (plain 0) 2 (omega arith)))) (form.int_literal (negsuc 6) (omega arith));
                                   },
                                   tt,
                                 ),

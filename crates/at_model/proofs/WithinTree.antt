@@ -10,8 +10,8 @@ use Rattle.at_model.specs.Meaning.{child_nodes, content, equations, Leads, HasVa
 use Rattle.at_model.specs.Support.{Supports, IsThere, IsValueThere, IsInstanceThere}
 use Rattle.at_model.specs.Touches.{node_of}
 use Rattle.at_model.specs.Alike.{OptionLike, neither, both, ListLike, end, more, ValueLike, int, truth, text, ref, InstanceLike, LocationLike, is, tok, slot, up, idx, SameLike, EquationsLike, AlikeAt}
-use Rattle.at_model.proofs.EquationsAlike.{evaluation-like}
-use Rattle.at_model.proofs.CarryingSupport.{carried_value, leads_there, supports_there}
+use Rattle.at_model.proofs.of_likeness.EquationsAlike.{evaluation-like}
+use Rattle.at_model.proofs.of_likeness.CarryingSupport.{carried_value, leads_there, supports_there}
 use Rattle.at_model.proofs.WayUp.{snoc, parent_of-snoc, parent_there}
 use Rattle.at_model.proofs.Complete.{got}
 

@@ -11,11 +11,11 @@ use Rattle.at_model.specs.Run.{Value, Int, Truth, Text, Ref, Is, Tok, Slot, Idx,
 
 -- operators on two ints that give an int
 pub data Operator : Type 0 where
-  Times : Operator
-  Over : Operator
-  Modulo : Operator
-  Plus : Operator
-  Minus : Operator
+  Multiply : Operator
+  Divide : Operator
+  Remainder : Operator
+  Add : Operator
+  Subtract : Operator
 
 -- and those that give a boolean
 pub data Order : Type 0 where
@@ -164,11 +164,11 @@ remainder m (negsuc n) = Gives (Int (int_rem m (negsuc n)))
 
 -- ints are 32 bits in two's complement, and wrap
 abbrev pub computed : {N : Type 0} → Operator → ℤ → ℤ → Run N (Value N)
-computed Times m n = Gives (Int (int_wrapping_mul w32 m n))
-computed Over m n = quotient m n
-computed Modulo m n = remainder m n
-computed Plus m n = Gives (Int (int_wrapping_add w32 m n))
-computed Minus m n = Gives (Int (int_wrapping_sub w32 m n))
+computed Multiply m n = Gives (Int (int_wrapping_mul w32 m n))
+computed Divide m n = quotient m n
+computed Remainder m n = remainder m n
+computed Add m n = Gives (Int (int_wrapping_add w32 m n))
+computed Subtract m n = Gives (Int (int_wrapping_sub w32 m n))
 
 -- whether the comparison holds
 abbrev pub is_in_order : Order → ℤ → ℤ → Bool

@@ -33,7 +33,8 @@ abbrev pub AreWorks : Rules → State → List (Option Line) → (Instance Node 
 AreWorks rules s [] Kept [] = Unit {0}
 AreWorks rules s [] Kept (w ∷ ws) = ⊥
 AreWorks rules s (l ∷ ls) Kept [] = ⊥
-AreWorks rules s (l ∷ ls) Kept (w ∷ ws) = IsWork rules s (heard rules s l) Kept w × AreWorks rules (after s (heard rules s l)) ls (KeptAfter rules s (heard rules s l) Kept) ws
+AreWorks rules s (l ∷ ls) Kept (w ∷ ws) = IsWork rules s (heard rules s l) Kept w
+    × AreWorks rules (after s (heard rules s l)) ls (KeptAfter rules s (heard rules s l) Kept) ws
 
 -- the greatest work that is counted: the greatest number of 64 bits
 abbrev pub max_work : ℕ

@@ -203,7 +203,8 @@ Applies rules s l code.Mark = (name : List ℕ) × Among name (marks_used l.comm
 Applies rules s l code.Path = (place : Place) × Among place (places l.command) × (node_named rules.classes s l.session place ≡ None)
 Applies rules s l code.Component = (a : Asked) × (component_asked l.command ≡ Some a) × (HasComponent rules.classes s l.session a → ⊥)
 Applies rules s l code.Class = (t : Term) × (term_in l.command ≡ Some t) × (names_classes rules.classes t ≡ false)
-Applies rules s l code.Fit = ((t : Term) × (term_in l.command ≡ Some t) × (tree_for rules.classes s l.session l.command ≡ None)) ⊎ IsRefusedAs rules s l edit.Fit
+Applies rules s l code.Fit = ((t : Term) × (term_in l.command ≡ Some t) × (tree_for rules.classes s l.session l.command ≡ None))
+    ⊎ IsRefusedAs rules s l edit.Fit
 Applies rules s l code.Index = IsRefusedAs rules s l edit.Index
 Applies rules s l code.Taken = IsRefusedAs rules s l edit.Taken ⊎ MarksAgain s l
 Applies rules s l code.Fixed = IsRefusedAs rules s l edit.Fixed

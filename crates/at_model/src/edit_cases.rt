@@ -10,17 +10,23 @@ ghost use Rattle.at_model.specs.Samples.{bare_tree, block, calc_classes, calc_tr
 
 /// A subtree that is replaced is touched whole, with the slot around it; of the root all is.
 pub fn what_a_set_touches()
-    ensures child { list_all (touches (Set (init_of 0) (num (pos 7)))) (Slot (statement 0) 1 ∷ Is (init_of 0) ∷ Tok (init_of 0) 0 ∷ Up (init_of 0) ∷ []) ≡ true }
-    ensures beside { list_any (touches (Set (init_of 0) (num (pos 7)))) (Is (statement 0) ∷ Tok (statement 0) 0 ∷ Slot block 0 ∷ Idx (statement 0) ∷ Is (statement 1) ∷ []) ≡ false }
-    ensures element { list_all (touches (Set (statement 0) print_sum)) (Slot block 0 ∷ Is (statement 0) ∷ Slot (statement 0) 1 ∷ Idx (statement 0) ∷ Is (init_of 0) ∷ []) ≡ true }
-    ensures others { list_any (touches (Set (statement 0) print_sum)) (Idx (statement 1) ∷ Up (statement 1) ∷ Is (statement 1) ∷ Is block ∷ Slot root 0 ∷ []) ≡ false }
-    ensures root { list_all (touches (Set root calc_tree)) (Is root ∷ Slot root 0 ∷ Up block ∷ Slot block 0 ∷ Idx (statement 1) ∷ Tok (right_of 1) 0 ∷ []) ≡ true }
+    ensures child { list_all (touches (Set (init_of 0) (num (pos 7)))) (Slot (statement 0) 1 ∷ Is (init_of 0) ∷ Tok (init_of 0) 0 ∷ Up (init_of 0) ∷ [])
+        ≡ true }
+    ensures beside { list_any (touches (Set (init_of 0) (num (pos 7)))) (Is (statement 0) ∷ Tok (statement 0) 0 ∷ Slot block 0 ∷ Idx (statement 0) ∷ Is (statement 1) ∷ [])
+        ≡ false }
+    ensures element { list_all (touches (Set (statement 0) print_sum)) (Slot block 0 ∷ Is (statement 0) ∷ Slot (statement 0) 1 ∷ Idx (statement 0) ∷ Is (init_of 0) ∷ [])
+        ≡ true }
+    ensures others { list_any (touches (Set (statement 0) print_sum)) (Idx (statement 1) ∷ Up (statement 1) ∷ Is (statement 1) ∷ Is block ∷ Slot root 0 ∷ [])
+        ≡ false }
+    ensures root { list_all (touches (Set root calc_tree)) (Is root ∷ Slot root 0 ∷ Up block ∷ Slot block 0 ∷ Idx (statement 1) ∷ Tok (right_of 1) 0 ∷ [])
+        ≡ true }
 {}
 
 /// Filling an optional touches its slot alone, emptying it also all that was in it.
 pub fn what_an_optional_touches()
     ensures filled { touches (Put (statement 0) 1 (num (pos 7))) (Slot (statement 0) 1) ≡ true }
-    ensures unfilled { list_any (touches (Put (statement 0) 1 (num (pos 7)))) (Is (statement 0) ∷ Tok (statement 0) 0 ∷ Slot block 0 ∷ Slot (statement 0) 0 ∷ Slot (statement 1) 1 ∷ []) ≡ false }
+    ensures unfilled { list_any (touches (Put (statement 0) 1 (num (pos 7)))) (Is (statement 0) ∷ Tok (statement 0) 0 ∷ Slot block 0 ∷ Slot (statement 0) 0 ∷ Slot (statement 1) 1 ∷ [])
+        ≡ false }
     ensures emptied { list_all (touches (Drop (init_of 0))) (Slot (statement 0) 1 ∷ Is (init_of 0) ∷ Tok (init_of 0) 0 ∷ Up (init_of 0) ∷ []) ≡ true }
     ensures unemptied { list_any (touches (Drop (init_of 0))) (Is (statement 0) ∷ Tok (statement 0) 0 ∷ Idx (statement 0) ∷ Slot block 0 ∷ []) ≡ false }
 {}
@@ -29,15 +35,18 @@ pub fn what_an_optional_touches()
 /// does so too.
 pub fn what_a_list_touches()
     ensures inserted { list_all (touches (Insert block 0 1 print_sum)) (Slot block 0 ∷ Idx (statement 0) ∷ Idx (statement 1) ∷ []) ≡ true }
-    ensures beside { list_any (touches (Insert block 0 1 print_sum)) (Is (statement 0) ∷ Is (statement 1) ∷ Up (statement 1) ∷ Slot (statement 0) 1 ∷ Idx (init_of 0) ∷ Is block ∷ Idx block ∷ []) ≡ false }
-    ensures dropped { list_all (touches (Drop (statement 1))) (Slot block 0 ∷ Idx (statement 0) ∷ Idx (statement 1) ∷ Is (statement 1) ∷ Tok (right_of 1) 0 ∷ []) ≡ true }
+    ensures beside { list_any (touches (Insert block 0 1 print_sum)) (Is (statement 0) ∷ Is (statement 1) ∷ Up (statement 1) ∷ Slot (statement 0) 1 ∷ Idx (init_of 0) ∷ Is block ∷ Idx block ∷ [])
+        ≡ false }
+    ensures dropped { list_all (touches (Drop (statement 1))) (Slot block 0 ∷ Idx (statement 0) ∷ Idx (statement 1) ∷ Is (statement 1) ∷ Tok (right_of 1) 0 ∷ [])
+        ≡ true }
     ensures left { list_any (touches (Drop (statement 1))) (Is (statement 0) ∷ Up (statement 0) ∷ Tok (init_of 0) 0 ∷ Idx (init_of 0) ∷ []) ≡ false }
 {}
 
 /// A token touches itself alone.
 pub fn what_a_token_touches()
     ensures itself { touches (Token (statement 0) 0 (Text (codes "y"))) (Tok (statement 0) 0) ≡ true }
-    ensures others { list_any (touches (Token (statement 0) 0 (Text (codes "y")))) (Tok (statement 0) 1 ∷ Tok (statement 1) 0 ∷ Tok (init_of 0) 0 ∷ Is (statement 0) ∷ Slot (statement 0) 0 ∷ Slot block 0 ∷ []) ≡ false }
+    ensures others { list_any (touches (Token (statement 0) 0 (Text (codes "y")))) (Tok (statement 0) 1 ∷ Tok (statement 1) 0 ∷ Tok (init_of 0) 0 ∷ Is (statement 0) ∷ Slot (statement 0) 0 ∷ Slot block 0 ∷ [])
+        ≡ false }
 {}
 
 /// What is replaced goes nowhere, with all below it, and the others stay where they are.

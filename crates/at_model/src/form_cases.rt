@@ -35,12 +35,12 @@ ghost use Rattle.at_model.specs.Bodies.{
   InstanceOf,
   IntLiteral,
   JoinInt,
-  Modulo,
+  Remainder,
   Name,
   NullLiteral,
   Or,
-  Over,
-  Plus,
+  Divide,
+  Add,
   Same,
   Sum,
   TextLiteral,
@@ -90,19 +90,20 @@ pub fn equality()
 
 /// The quotient goes toward zero, and the remainder has the sign of the dividend.
 pub fn ints_below_zero()
-    ensures dividend { evaluated calc_tree root (Arithmetic Over (IntLiteral (negsuc 6)) (IntLiteral (pos 2))) ≡ Valued (Int (negsuc 2)) }
-    ensures divisor { evaluated calc_tree root (Arithmetic Over (IntLiteral (pos 7)) (IntLiteral (negsuc 1))) ≡ Valued (Int (negsuc 2)) }
-    ensures both { evaluated calc_tree root (Arithmetic Over (IntLiteral (negsuc 6)) (IntLiteral (negsuc 1))) ≡ Valued (Int (pos 3)) }
-    ensures nothing { evaluated calc_tree root (Arithmetic Over (IntLiteral (negsuc 0)) (IntLiteral (pos 2))) ≡ Valued (Int (pos 0)) }
-    ensures rest_of_dividend { evaluated calc_tree root (Arithmetic Modulo (IntLiteral (negsuc 6)) (IntLiteral (pos 2))) ≡ Valued (Int (negsuc 0)) }
-    ensures rest_of_divisor { evaluated calc_tree root (Arithmetic Modulo (IntLiteral (pos 7)) (IntLiteral (negsuc 1))) ≡ Valued (Int (pos 1)) }
-    ensures rest_of_both { evaluated calc_tree root (Arithmetic Modulo (IntLiteral (negsuc 6)) (IntLiteral (negsuc 1))) ≡ Valued (Int (negsuc 0)) }
+    ensures dividend { evaluated calc_tree root (Arithmetic Divide (IntLiteral (negsuc 6)) (IntLiteral (pos 2))) ≡ Valued (Int (negsuc 2)) }
+    ensures divisor { evaluated calc_tree root (Arithmetic Divide (IntLiteral (pos 7)) (IntLiteral (negsuc 1))) ≡ Valued (Int (negsuc 2)) }
+    ensures both { evaluated calc_tree root (Arithmetic Divide (IntLiteral (negsuc 6)) (IntLiteral (negsuc 1))) ≡ Valued (Int (pos 3)) }
+    ensures nothing { evaluated calc_tree root (Arithmetic Divide (IntLiteral (negsuc 0)) (IntLiteral (pos 2))) ≡ Valued (Int (pos 0)) }
+    ensures rest_of_dividend { evaluated calc_tree root (Arithmetic Remainder (IntLiteral (negsuc 6)) (IntLiteral (pos 2))) ≡ Valued (Int (negsuc 0)) }
+    ensures rest_of_divisor { evaluated calc_tree root (Arithmetic Remainder (IntLiteral (pos 7)) (IntLiteral (negsuc 1))) ≡ Valued (Int (pos 1)) }
+    ensures rest_of_both { evaluated calc_tree root (Arithmetic Remainder (IntLiteral (negsuc 6)) (IntLiteral (negsuc 1))) ≡ Valued (Int (negsuc 0)) }
 {}
 
 /// A text that is joined with an int has at most 65,535 bytes too.
 pub fn long_decimals()
     ensures long { (a : List ℕ) → 65535 < length (a ++ codes "-7") → evaluated calc_tree root (JoinInt (TextLiteral a) (IntLiteral (negsuc 6))) ≡ Faulted Long }
-    ensures text { (a : List ℕ) → length (a ++ codes "-7") ≤ 65535 → evaluated calc_tree root (JoinInt (TextLiteral a) (IntLiteral (negsuc 6))) ≡ Valued (Text (a ++ codes "-7")) }
+    ensures text { (a : List ℕ) → length (a ++ codes "-7") ≤ 65535
+        → evaluated calc_tree root (JoinInt (TextLiteral a) (IntLiteral (negsuc 6))) ≡ Valued (Text (a ++ codes "-7")) }
 {}
 
 /// What the left side doesn't decide, the right side does.
@@ -138,7 +139,7 @@ pub fn what_folds_read()
     ensures sum { looked calc_tree block (Sum This 0 (IntLiteral (pos 21))) ≡ Slot block 0 ∷ [] }
     ensures instance { looked calc_tree (statement 0) (InstanceOf This 4) ≡ Is (statement 0) ∷ [] }
     ensures cast { looked calc_tree (statement 0) (CastTo 1 This) ≡ Is (statement 0) ∷ [] }
-    ensures fault { looked calc_tree block (Arithmetic Plus one_by_zero (Count This 0)) ≡ [] }
+    ensures fault { looked calc_tree block (Arithmetic Add one_by_zero (Count This 0)) ≡ [] }
     ensures arguments { reads (content calc_tree) (λ i. None) (equations calc_with_argument (record { node = printed 1; attribute = 17; arguments = Ref (Some (left_of 1)) ∷ Ref None ∷ [] }))
         ≡ Is (printed 1) ∷ Is (left_of 1) ∷ Slot (printed 1) 0 ∷ [] }
 {}

@@ -32,19 +32,19 @@ ghost use Rattle.at_model.specs.Bodies.{
   InstanceOf,
   IntLiteral,
   Join,
-  Minus,
-  Modulo,
+  Subtract,
+  Remainder,
   Name,
   Negate,
   Not,
   NullLiteral,
   Or,
-  Over,
+  Divide,
   Same,
   Sum,
   TextLiteral,
   This,
-  Times,
+  Multiply,
   TokenOf,
   TruthLiteral,
 };
@@ -66,14 +66,14 @@ ghost use Rattle.at_model.specs.Samples.{
 
 /// `/` goes toward zero, `%` has the sign of the dividend, and all wraps at 32 bits.
 pub fn arithmetic()
-    ensures toward_zero { evaluated calc_tree root (Arithmetic Over (IntLiteral (negsuc 6)) (IntLiteral (pos 2))) ≡ Valued (Int (negsuc 2)) }
-    ensures sign { evaluated calc_tree root (Arithmetic Modulo (IntLiteral (negsuc 6)) (IntLiteral (pos 2))) ≡ Valued (Int (negsuc 0)) }
-    ensures least { evaluated calc_tree root (Arithmetic Over (IntLiteral (negsuc 2147483647)) (IntLiteral (negsuc 0))) ≡ Valued (Int (negsuc 2147483647)) }
-    ensures nothing_left { evaluated calc_tree root (Arithmetic Modulo (IntLiteral (negsuc 2147483647)) (IntLiteral (negsuc 0))) ≡ Valued (Int (pos 0)) }
+    ensures toward_zero { evaluated calc_tree root (Arithmetic Divide (IntLiteral (negsuc 6)) (IntLiteral (pos 2))) ≡ Valued (Int (negsuc 2)) }
+    ensures sign { evaluated calc_tree root (Arithmetic Remainder (IntLiteral (negsuc 6)) (IntLiteral (pos 2))) ≡ Valued (Int (negsuc 0)) }
+    ensures least { evaluated calc_tree root (Arithmetic Divide (IntLiteral (negsuc 2147483647)) (IntLiteral (negsuc 0))) ≡ Valued (Int (negsuc 2147483647)) }
+    ensures nothing_left { evaluated calc_tree root (Arithmetic Remainder (IntLiteral (negsuc 2147483647)) (IntLiteral (negsuc 0))) ≡ Valued (Int (pos 0)) }
     ensures negated { evaluated calc_tree root (Negate (IntLiteral (negsuc 2147483647))) ≡ Valued (Int (negsuc 2147483647)) }
-    ensures product { evaluated calc_tree root (Arithmetic Times (IntLiteral (pos 65536)) (IntLiteral (pos 32768))) ≡ Valued (Int (negsuc 2147483647)) }
-    ensures difference { evaluated calc_tree root (Arithmetic Minus (IntLiteral (negsuc 2147483647)) (IntLiteral (pos 1))) ≡ Valued (Int (pos 2147483647)) }
-    ensures no_remainder { evaluated calc_tree root (Arithmetic Modulo (IntLiteral (pos 1)) (IntLiteral (pos 0))) ≡ Faulted Zero }
+    ensures product { evaluated calc_tree root (Arithmetic Multiply (IntLiteral (pos 65536)) (IntLiteral (pos 32768))) ≡ Valued (Int (negsuc 2147483647)) }
+    ensures difference { evaluated calc_tree root (Arithmetic Subtract (IntLiteral (negsuc 2147483647)) (IntLiteral (pos 1))) ≡ Valued (Int (pos 2147483647)) }
+    ensures no_remainder { evaluated calc_tree root (Arithmetic Remainder (IntLiteral (pos 1)) (IntLiteral (pos 0))) ≡ Faulted Zero }
 {}
 
 /// Children, elements, numbers of elements, and what is absent.
@@ -104,12 +104,13 @@ pub fn folds()
 /// What is decided evaluates nothing more, and a null receiver is looked at after the arguments.
 pub fn order()
     ensures decided { evaluated calc_tree root (Or (TruthLiteral true) (Same one_by_zero one_by_zero)) ≡ Valued (Truth true) }
-    ensures chosen { evaluated calc_tree root (Choose (Compare Above (IntLiteral (pos 2)) (IntLiteral (pos 1))) (IntLiteral (pos 7)) one_by_zero) ≡ Valued (Int (pos 7)) }
+    ensures chosen { evaluated calc_tree root (Choose (Compare Above (IntLiteral (pos 2)) (IntLiteral (pos 1))) (IntLiteral (pos 7)) one_by_zero)
+        ≡ Valued (Int (pos 7)) }
     ensures argument { evaluated calc_tree root (call_with NullLiteral 2 (CastTo 3 This)) ≡ Faulted Cast }
     ensures receiver { evaluated calc_tree root (call_with NullLiteral 2 (TextLiteral (codes "x"))) ≡ Faulted Null }
     ensures index { evaluated calc_tree root (Element NullLiteral 0 one_by_zero) ≡ Faulted Zero }
     ensures null { evaluated calc_tree root (Element NullLiteral 0 (IntLiteral (pos 9))) ≡ Faulted Null }
-    ensures left { evaluated calc_tree root (Arithmetic Times (Element This 0 (IntLiteral (pos 9))) one_by_zero) ≡ Faulted Index }
+    ensures left { evaluated calc_tree root (Arithmetic Multiply (Element This 0 (IntLiteral (pos 9))) one_by_zero) ≡ Faulted Index }
 {}
 
 /// Null stays null under a cast, is an instance of no class, and reads nothing.

@@ -41,7 +41,8 @@ pub fn circles_of_superclasses()
     ensures two { first_fault (class_in 1 (codes "A") (Some (codes "B")) [] ∷ class_in 2 (codes "B") (Some (codes "A")) [] ∷ []) ≡ at SuperclassCircle (1, 1) }
     ensures below { first_fault (class_in 1 (codes "C") (Some (codes "A")) [] ∷ class_in 2 (codes "A") (Some (codes "B")) [] ∷ class_in 3 (codes "B") (Some (codes "A")) [] ∷ [])
         ≡ at SuperclassCircle (2, 1) }
-    ensures line { first_fault (class_in 1 (codes "C") (Some (codes "A")) [] ∷ class_in 2 (codes "A") (Some (codes "B")) [] ∷ class_in 3 (codes "B") None [] ∷ []) ≡ None }
+    ensures line { first_fault (class_in 1 (codes "C") (Some (codes "A")) [] ∷ class_in 2 (codes "A") (Some (codes "B")) [] ∷ class_in 3 (codes "B") None [] ∷ [])
+        ≡ None }
 {}
 
 /// A token is a String, an int or a boolean, and its kind is looked at before names of components are.
@@ -56,13 +57,18 @@ pub fn kinds_of_tokens()
 /// A component has a name that none before it takes, one of a superclass among them; a list takes two more; and some
 /// names are every tree's.
 pub fn names_of_components()
-    ensures twice { first_fault (class_in 1 (codes "A") None (part One (codes "X") (codes "A") (1, 7) ∷ part Tok (codes "X") (codes "int") (1, 12) ∷ []) ∷ []) ≡ at ComponentTwice (1, 12) }
+    ensures twice { first_fault (class_in 1 (codes "A") None (part One (codes "X") (codes "A") (1, 7) ∷ part Tok (codes "X") (codes "int") (1, 12) ∷ []) ∷ [])
+        ≡ at ComponentTwice (1, 12) }
     ensures inherited { first_fault (class_in 1 (codes "B") (Some (codes "A")) (part Tok (codes "X") (codes "int") (1, 12) ∷ []) ∷ class_in 2 (codes "A") None (part One (codes "X") (codes "A") (2, 7) ∷ []) ∷ [])
         ≡ at ComponentTwice (1, 12) }
-    ensures beside { first_fault (class_in 1 (codes "B") None (part Tok (codes "X") (codes "int") (1, 8) ∷ []) ∷ class_in 2 (codes "A") None (part One (codes "X") (codes "A") (2, 7) ∷ []) ∷ []) ≡ None }
-    ensures number { first_fault (class_in 1 (codes "A") None (part Many (codes "X") (codes "A") (1, 7) ∷ part Tok (codes "NumX") (codes "int") (1, 13) ∷ []) ∷ []) ≡ at ComponentTwice (1, 13) }
-    ensures list { first_fault (class_in 1 (codes "A") None (part Tok (codes "XList") (codes "int") (1, 8) ∷ part Many (codes "X") (codes "A") (1, 20) ∷ []) ∷ []) ≡ at ComponentTwice (1, 20) }
-    ensures plain { first_fault (class_in 1 (codes "A") None (part One (codes "X") (codes "A") (1, 7) ∷ part Tok (codes "NumX") (codes "int") (1, 12) ∷ []) ∷ []) ≡ None }
+    ensures beside { first_fault (class_in 1 (codes "B") None (part Tok (codes "X") (codes "int") (1, 8) ∷ []) ∷ class_in 2 (codes "A") None (part One (codes "X") (codes "A") (2, 7) ∷ []) ∷ [])
+        ≡ None }
+    ensures number { first_fault (class_in 1 (codes "A") None (part Many (codes "X") (codes "A") (1, 7) ∷ part Tok (codes "NumX") (codes "int") (1, 13) ∷ []) ∷ [])
+        ≡ at ComponentTwice (1, 13) }
+    ensures list { first_fault (class_in 1 (codes "A") None (part Tok (codes "XList") (codes "int") (1, 8) ∷ part Many (codes "X") (codes "A") (1, 20) ∷ []) ∷ [])
+        ≡ at ComponentTwice (1, 20) }
+    ensures plain { first_fault (class_in 1 (codes "A") None (part One (codes "X") (codes "A") (1, 7) ∷ part Tok (codes "NumX") (codes "int") (1, 12) ∷ []) ∷ [])
+        ≡ None }
     ensures every { first_fault (class_in 1 (codes "A") None (part One (codes "Child") (codes "A") (1, 7) ∷ []) ∷ []) ≡ at ComponentTwice (1, 7) }
 {}
 

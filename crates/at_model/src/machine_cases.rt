@@ -102,9 +102,12 @@ pub fn a_mark_is_asked_where_it_is()
 
 /// A mark is made, used, and forgotten; a session has at most a hundred, and one of each name.
 pub fn marks()
-    ensures made { after opened (verdict calc opened (says (Mark (codes "u") (From_root (statement_path 1))))) ≡ record opened { marks = mark 0 "u" (statement 1) ∷ [] } }
-    ensures used { verdict calc (record opened { marks = mark 0 "u" (statement 1) ∷ [] }) (says (Show (From_mark (codes "u") (plain_step "Expr" ∷ plain_step "Right" ∷ [])))) ≡ Tells (Written (num_term (pos 2))) }
-    ensures forgotten { after (record opened { marks = mark 0 "u" (statement 1) ∷ [] }) (verdict calc (record opened { marks = mark 0 "u" (statement 1) ∷ [] }) (says (Unmark (codes "u")))) ≡ opened }
+    ensures made { after opened (verdict calc opened (says (Mark (codes "u") (From_root (statement_path 1)))))
+        ≡ record opened { marks = mark 0 "u" (statement 1) ∷ [] } }
+    ensures used { verdict calc (record opened { marks = mark 0 "u" (statement 1) ∷ [] }) (says (Show (From_mark (codes "u") (plain_step "Expr" ∷ plain_step "Right" ∷ []))))
+        ≡ Tells (Written (num_term (pos 2))) }
+    ensures forgotten { after (record opened { marks = mark 0 "u" (statement 1) ∷ [] }) (verdict calc (record opened { marks = mark 0 "u" (statement 1) ∷ [] }) (says (Unmark (codes "u"))))
+        ≡ opened }
     ensures unknown { verdict calc opened (says (Unmark (codes "u"))) ≡ Refuses code.Mark }
     ensures taken { verdict calc (record opened { marks = replicate 100 (mark 0 "u" []) }) (says (Mark (codes "u") (From_root []))) ≡ Refuses code.Taken }
     ensures too_many { verdict calc (record opened { marks = replicate 100 (mark 0 "u" []) }) (says (Mark (codes "v") (From_root []))) ≡ Refuses code.Limit }
@@ -123,7 +126,8 @@ pub fn a_drop_moves_what_is_behind()
 /// An optional is emptied, and filled again; a filled one is taken.
 pub fn an_optional_is_emptied_and_filled()
     ensures emptied { edited calc_classes calc_tree (edit.Drop (init_of 0)) ≡ Ok (program (decl (codes "x") tree.Empty ∷ print_sum ∷ [])) }
-    ensures filled { edited calc_classes (program (decl (codes "x") tree.Empty ∷ print_sum ∷ [])) (edit.Put (statement 0) 1 (num (pos 7))) ≡ Ok (program (decl (codes "x") (tree.Filled (num (pos 7))) ∷ print_sum ∷ [])) }
+    ensures filled { edited calc_classes (program (decl (codes "x") tree.Empty ∷ print_sum ∷ [])) (edit.Put (statement 0) 1 (num (pos 7)))
+        ≡ Ok (program (decl (codes "x") (tree.Filled (num (pos 7))) ∷ print_sum ∷ [])) }
     ensures taken { verdict calc opened (says (Put (From_root (statement_path 0)) (codes "Init") (num_term (pos 8)))) ≡ Refuses code.Taken }
 {}
 
@@ -147,9 +151,12 @@ pub fn the_deepest_tree()
 
 /// A line that expects another version is refused, whatever else it says; one that expects this version is not.
 pub fn a_stale_line()
-    ensures stale { verdict calc (record opened { version = 1 }) (record { session = 1; expected = Some 0; command = Token (From_root (statement_path 0)) (codes "ID") (tree.Int (pos 5)) }) ≡ Refuses (code.Stale 1) }
-    ensures current_edit { verdict calc (record opened { version = 1 }) (record { session = 1; expected = Some 1; command = Drop (From_root (statement_path 0)) }) ≡ Edits (edit.Drop (statement 0)) (program (print_sum ∷ [])) }
-    ensures stale_edit { verdict calc (record opened { version = 1 }) (record { session = 1; expected = Some 0; command = Drop (From_root (statement_path 0)) }) ≡ Refuses (code.Stale 1) }
+    ensures stale { verdict calc (record opened { version = 1 }) (record { session = 1; expected = Some 0; command = Token (From_root (statement_path 0)) (codes "ID") (tree.Int (pos 5)) })
+        ≡ Refuses (code.Stale 1) }
+    ensures current_edit { verdict calc (record opened { version = 1 }) (record { session = 1; expected = Some 1; command = Drop (From_root (statement_path 0)) })
+        ≡ Edits (edit.Drop (statement 0)) (program (print_sum ∷ [])) }
+    ensures stale_edit { verdict calc (record opened { version = 1 }) (record { session = 1; expected = Some 0; command = Drop (From_root (statement_path 0)) })
+        ≡ Refuses (code.Stale 1) }
     ensures current { verdict calc (record opened { version = 1 }) (record { session = 1; expected = Some 1; command = Version }) ≡ Leaves [] }
 {}
 
@@ -157,12 +164,15 @@ pub fn a_stale_line()
 /// don't fit; and one that is asked.
 pub fn questions()
     ensures path { verdict calc opened (says (Ask (From_root (statement_path 5)) (codes "value") [])) ≡ Refuses code.Path }
-    ensures argument { verdict calc opened (says (Ask (From_root []) (codes "nosuch") (line.Ref (From_root (plain_step "Nix" ∷ [])) ∷ []))) ≡ Refuses code.Path }
-    ensures mark { verdict calc opened (says (Ask (From_root (plain_step "Nix" ∷ [])) (codes "value") (line.Ref (From_mark (codes "u") []) ∷ []))) ≡ Refuses code.Mark }
+    ensures argument { verdict calc opened (says (Ask (From_root []) (codes "nosuch") (line.Ref (From_root (plain_step "Nix" ∷ [])) ∷ [])))
+        ≡ Refuses code.Path }
+    ensures mark { verdict calc opened (says (Ask (From_root (plain_step "Nix" ∷ [])) (codes "value") (line.Ref (From_mark (codes "u") []) ∷ [])))
+        ≡ Refuses code.Mark }
     ensures attribute { verdict calc opened (says (Ask (From_root []) (codes "value") [])) ≡ Refuses code.Attribute }
     ensures arguments { verdict calc opened (says (Ask (From_root block_path) (codes "local") [])) ≡ Refuses code.Arguments }
     ensures kind { verdict calc opened (says (Ask (From_root block_path) (codes "local") (line.Null ∷ []))) ≡ Refuses code.Arguments }
-    ensures asked { verdict calc opened (says (Ask (From_root block_path) (codes "local") (line.Text (codes "q") ∷ []))) ≡ Asks (record { node = block; attribute = 2; arguments = run.Text (codes "q") ∷ [] }) }
+    ensures asked { verdict calc opened (says (Ask (From_root block_path) (codes "local") (line.Text (codes "q") ∷ [])))
+        ≡ Asks (record { node = block; attribute = 2; arguments = run.Text (codes "q") ∷ [] }) }
 {}
 
 /// The drop of the first statement touches the slot, the indexes of both statements and all of the
@@ -170,7 +180,8 @@ pub fn questions()
 pub fn what_a_drop_touches()
     ensures yes { map (touches (edit.Drop (statement 0))) (Slot block 0 ∷ Idx (statement 0) ∷ Idx (statement 1) ∷ Is (statement 0) ∷ Tok (statement 0) 0 ∷ Slot (statement 0) 1 ∷ Up (statement 0) ∷ Is (init_of 0) ∷ Tok (init_of 0) 0 ∷ Up (init_of 0) ∷ Idx (init_of 0) ∷ [])
         ≡ true ∷ true ∷ true ∷ true ∷ true ∷ true ∷ true ∷ true ∷ true ∷ true ∷ true ∷ [] }
-    ensures no { map (touches (edit.Drop (statement 0))) (Is (statement 1) ∷ Up (statement 1) ∷ Slot (statement 1) 0 ∷ Is block ∷ Up block ∷ Slot [] 0 ∷ []) ≡ false ∷ false ∷ false ∷ false ∷ false ∷ false ∷ [] }
+    ensures no { map (touches (edit.Drop (statement 0))) (Is (statement 1) ∷ Up (statement 1) ∷ Slot (statement 1) 0 ∷ Is block ∷ Up block ∷ Slot [] 0 ∷ [])
+        ≡ false ∷ false ∷ false ∷ false ∷ false ∷ false ∷ [] }
 {}
 
 /// The text of a line with every kind of argument.
@@ -184,7 +195,8 @@ pub fn replies_as_text()
     ensures done { reply_text (record { session = Some 0; done = None; form = Done 1 }) ≡ codes "0 ok 1\n" }
     ensures value { reply_text (record { session = Some 0; done = None; form = Shows (Plain (tree.Int (pos 3))) }) ≡ codes "0 = 3\n" }
     ensures term { reply_text (record { session = Some 1; done = None; form = Shows (Written (num_term (pos 5))) }) ≡ codes "1 = Num(5)\n" }
-    ensures fault { reply_text (record { session = Some 0; done = None; form = Fails run.Null left_path (codes "value") }) ≡ codes "0 fault null in /Block/Stmt:1/Expr/Left.value\n" }
+    ensures fault { reply_text (record { session = Some 0; done = None; form = Fails run.Null left_path (codes "value") })
+        ≡ codes "0 fault null in /Block/Stmt:1/Expr/Left.value\n" }
     ensures circle { reply_text (record { session = Some 0; done = None; form = Circular [] (codes "circ") }) ≡ codes "0 circular /.circ\n" }
     ensures stale { reply_text (record { session = Some 1; done = None; form = Refused (code.Stale 1) }) ≡ codes "1 refused 2 stale 1\n" }
     ensures syntax { reply_text (record { session = None; done = None; form = Refused code.Syntax }) ≡ codes "? refused 1 syntax\n" }

@@ -92,7 +92,8 @@ pub fn a_hundred_marks()
 /// A mark is forgotten and the others stay; the version is told and all stay; and an index is looked at
 /// before how deep the tree would be.
 pub fn marks_beside_others()
-    ensures forgotten { verdict calc (record opened { marks = some_marks }) (says (Unmark (codes "u"))) ≡ Leaves (mark 1 "u" [] ∷ mark 0 "v" [] ∷ mark 1 "w" [] ∷ []) }
+    ensures forgotten { verdict calc (record opened { marks = some_marks }) (says (Unmark (codes "u")))
+        ≡ Leaves (mark 1 "u" [] ∷ mark 0 "v" [] ∷ mark 1 "w" [] ∷ []) }
     ensures kept { verdict calc (record opened { marks = some_marks }) (says Version) ≡ Leaves some_marks }
     ensures index { verdict calc opened (says (Insert (From_root block_path) (codes "Stmt") 3 (nested 510))) ≡ Refuses code.Index }
 {}

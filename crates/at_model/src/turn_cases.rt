@@ -17,9 +17,12 @@ pub fn turns_as_text()
     ensures wait { line_text (says (Wait 1)) ≡ codes "0 wait 1" }
     ensures opened { reply_text (record { session = Some 0; done = None; form = Opened 1 }) ≡ codes "0 open 1\n" }
     ensures question { reply_text (record { session = Some 0; done = None; form = Refused code.Question }) ≡ codes "0 refused 15 question\n" }
-    ensures value { reply_text (record { session = Some 0; done = Some (record { number = 1; version = 0 }); form = Shows (Plain (tree.Int (pos 3))) }) ≡ codes "0 done 1 0 = 3\n" }
-    ensures refused { reply_text (record { session = Some 0; done = Some (record { number = 1; version = 1 }); form = Refused code.Path }) ≡ codes "0 done 1 1 refused 4 path\n" }
-    ensures circle { reply_text (record { session = Some 0; done = Some (record { number = 1; version = 0 }); form = Circular [] (codes "circ") }) ≡ codes "0 done 1 0 circular /.circ\n" }
+    ensures value { reply_text (record { session = Some 0; done = Some (record { number = 1; version = 0 }); form = Shows (Plain (tree.Int (pos 3))) })
+        ≡ codes "0 done 1 0 = 3\n" }
+    ensures refused { reply_text (record { session = Some 0; done = Some (record { number = 1; version = 1 }); form = Refused code.Path })
+        ≡ codes "0 done 1 1 refused 4 path\n" }
+    ensures circle { reply_text (record { session = Some 0; done = Some (record { number = 1; version = 0 }); form = Circular [] (codes "circ") })
+        ≡ codes "0 done 1 0 circular /.circ\n" }
     ensures memory { reply_text (record { session = Some 999; done = Some (record { number = 18446744073709551615; version = 18446744073709551615 }); form = Memory })
         ≡ codes "999 done 18446744073709551615 18446744073709551615 memory\n" }
     ensures longest { length (codes "999 done 18446744073709551615 18446744073709551615 memory\n") ≡ 58 }
@@ -41,21 +44,25 @@ pub fn numbers_of_questions()
 /// A session has at most a hundred open questions, and there is a last number. An old version and a mark that is missing are told
 /// first; where the path leads is not looked at.
 pub fn what_is_not_posted()
-    ensures stale { verdict calc (with_questions 100) (record { session = 0; expected = Some 5; command = Post (From_mark (codes "v") []) (codes "decl") [] }) ≡ Refuses (code.Stale 0) }
+    ensures stale { verdict calc (with_questions 100) (record { session = 0; expected = Some 5; command = Post (From_mark (codes "v") []) (codes "decl") [] })
+        ≡ Refuses (code.Stale 0) }
     ensures mark { verdict calc (with_questions 100) (says (Post (From_mark (codes "v") []) (codes "decl") [])) ≡ Refuses code.Mark }
     ensures hundred { verdict calc (with_questions 100) (says posting) ≡ Refuses code.Limit }
     ensures one_fewer { verdict calc (with_questions 99) (says posting) ≡ Posts (value_posted 100) }
-    ensures other_session { verdict calc (with_questions 100) (record { session = 1; expected = None; command = posting }) ≡ Posts (record (value_posted 101) { session = 1 }) }
+    ensures other_session { verdict calc (with_questions 100) (record { session = 1; expected = None; command = posting })
+        ≡ Posts (record (value_posted 101) { session = 1 }) }
     ensures no_number { verdict calc (record opened { posts = last_post }) (says posting) ≡ Refuses code.Limit }
     ensures last_number { verdict calc (record opened { posts = 18446744073709551614 }) (says posting) ≡ Posts (value_posted last_post) }
-    ensures path { verdict calc opened (says (Post (From_root (plain_step "Nix" ∷ [])) (codes "value") [])) ≡ Posts (record (value_posted 1) { place = From_root (plain_step "Nix" ∷ []) }) }
+    ensures path { verdict calc opened (says (Post (From_root (plain_step "Nix" ∷ [])) (codes "value") []))
+        ≡ Posts (record (value_posted 1) { place = From_root (plain_step "Nix" ∷ []) }) }
 {}
 
 /// A turn is counted, and an edit begins the count anew.
 pub fn turns_are_counted()
     ensures posted { after opened (verdict calc opened (says posting)) ≡ with_questions 1 }
     ensures turn { map (λ q. q.turns) (given_one 1 (with_questions 2)).posted ≡ 1 ∷ 0 ∷ [] }
-    ensures edit { map (λ q. q.turns) (after (given_one 1 (with_questions 2)) (verdict calc (given_one 1 (with_questions 2)) (says (Token (From_root (printed_path ++ plain_step "Right" ∷ [])) (codes "Value") (tree.Int (pos 5)))))).posted ≡ 0 ∷ 0 ∷ [] }
+    ensures edit { map (λ q. q.turns) (after (given_one 1 (with_questions 2)) (verdict calc (given_one 1 (with_questions 2)) (says (Token (From_root (printed_path ++ plain_step "Right" ∷ [])) (codes "Value") (tree.Int (pos 5)))))).posted
+        ≡ 0 ∷ 0 ∷ [] }
 {}
 
 /// A question that is waited for is answered on the tree as it is, to the session that posted it; no other session waits for it, and

@@ -26,7 +26,8 @@ pub fn turns_change_open_questions_alone()
 
 /// Where no question is open, turns tell nothing and change nothing.
 pub fn no_turns_where_no_question_is_open()
-    ensures { (rules : Rules) (limit : ℕ) (s new : State) (told : List (Bool × Reply)) → s.posted ≡ [] → Given rules limit s told new → (told ≡ []) × (new ≡ s) }
+    ensures { (rules : Rules) (limit : ℕ) (s new : State) (told : List (Bool × Reply)) → s.posted ≡ [] → Given rules limit s told new → (told ≡ [])
+        × (new ≡ s) }
 {}
 
 /// However many turns a question needs while its session waits, it is then no longer open, nothing else has changed, and it is

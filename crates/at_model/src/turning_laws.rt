@@ -29,7 +29,8 @@ pub fn a_turn_leaves_a_question_on_its_tree()
 /// A turn without an answer counts one, and at the post the count is 0: so how many there were is read off the question.
 pub fn a_turn_counts_one()
     ensures none { (q : Instance Node) → turns_of (posted q) ≡ 0 }
-    ensures one { (look : Contents Node) (equation : Equations Node) (kept : Known Node) (u new : UnderWay Node) → Turned look equation kept u new None → turns_of new ≡ turns_of u + 1 }
+    ensures one { (look : Contents Node) (equation : Equations Node) (kept : Known Node) (u new : UnderWay Node) → Turned look equation kept u new None
+        → turns_of new ≡ turns_of u + 1 }
 {}
 
 /// What a turn answers is the answer that the equations give the question.

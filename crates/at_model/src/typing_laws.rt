@@ -43,7 +43,8 @@ ghost use Rattle.at_model.specs.WellFormed.{AreWellFormed, IsHierarchy, IsTreeSo
 /// Sound classes without a circle of superclasses are a hierarchy. The tree of a sound state is sound where its
 /// tokens can be written: both are so after each line that is served.
 pub fn what_is_served_is_sound()
-    ensures classes { (classes : Classes) → AreSound classes → ((c : ℕ) → c < length classes → list_any (nat_eq c) (above classes c) ≡ false) → IsHierarchy classes }
+    ensures classes { (classes : Classes) → AreSound classes → ((c : ℕ) → c < length classes → list_any (nat_eq c) (above classes c) ≡ false)
+        → IsHierarchy classes }
     ensures tree { (classes : Classes) (s : State) → IsSound classes s → AreTokens s.tree → IsTreeSound classes s.tree }
 {}
 

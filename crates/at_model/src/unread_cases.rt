@@ -18,5 +18,6 @@ pub fn bytes_that_are_no_line()
         ∷ "0 show / " ⟼ "0 refused 1 syntax"
         ∷ "0 version" ⟼ "0 ok 0"
         ∷ []) }
-    ensures long { (rest : List ℕ) → length rest ≡ 65528 → Plays calc opened (record { line = codes "0 show /" ++ rest; reply = codes "0 refused 1 syntax" } ∷ []) }
+    ensures long { (rest : List ℕ) → length rest ≡ 65528
+        → Plays calc opened (record { line = codes "0 show /" ++ rest; reply = codes "0 refused 1 syntax" } ∷ []) }
 {}

@@ -2,9 +2,9 @@ pub mod Spaces
 pub mod Cuts
 pub mod Values
 pub mod Answering
-pub mod Commands
+pub mod CommandsLemmas
 pub mod Parts
-pub mod Calls
+pub mod CallsLemmas
 pub mod Utf8
 pub mod Lines
 pub mod Sessions

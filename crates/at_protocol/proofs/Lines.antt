@@ -5,7 +5,7 @@ use Rattle.std.specs.Fmt.{decimal}
 use Rattle.std.specs.Str.{IsUtf8}
 use Rattle.std.proofs.lemmas.Fmt.{decimal_injective}
 use Rattle.at_model.specs.Lines.{Command, Line, Spells, IsVersion, max_line, max_sessions, last_version, BeginsWith, IsSessionOf}
-use Rattle.at_model.proofs.OneLine.{command_text, body_text, line_flat, no_at, same_line}
+use Rattle.at_model.proofs.of_texts.OneLine.{command_text, body_text, line_flat, no_at, same_line}
 use Rattle.at_protocol.specs.Commands.{IsCommandText}
 use Rattle.at_protocol.specs.Words.{HasNoSpace, FailsOn, IsExpected}
 use Rattle.at_text.specs.declared.fault.Failure.{Failure}

@@ -4,7 +4,7 @@ use Rattle.std.specs.List.{flat_map}
 use Rattle.at_model.specs.Paths.{Path, path_text, step_text}
 use Rattle.at_model.specs.Lines.{Place, From_root, From_mark}
 use Rattle.at_model.specs.Names.{IsName}
-use Rattle.at_model.proofs.OneLine.{path_head}
+use Rattle.at_model.proofs.of_texts.OneLine.{path_head}
 use Rattle.at_tree.proofs.TextLaws.{one_path_each}
 use Rattle.at_protocol.specs.Words.{HasNo, IsPlaceText, IsPathText, IsStepsText, IsNameText, IsSlashOrEnd, FailsOn, Answers}
 use Rattle.at_tree.specs.PathView.{path_view}

@@ -10,7 +10,7 @@ use Rattle.std.proofs.lemmas.Fmt.{digits_decimal}
 use Rattle.at_model.specs.Paths.{Path, Step, IsPath, IsStep, IsIndex, step_text, index_text, path_text}
 use Rattle.at_model.specs.Lines.{Place, From_root, From_mark, place_text, IsPlace, IsSpaceOrEnd}
 use Rattle.at_model.specs.Names.{IsName}
-use Rattle.at_model.proofs.Words.{IsInner, delimits, name_inner}
+use Rattle.at_model.proofs.of_texts.Words.{IsInner, delimits, name_inner}
 use Rattle.at_model.proofs.Options.{both}
 use Rattle.at_protocol.specs.Words.{HasNo, HasNoSpace, IsSlashOrEnd}
 

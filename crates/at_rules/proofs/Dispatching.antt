@@ -13,7 +13,7 @@ use Rattle.at_model.specs.WellFormed.{IsHierarchy}
 use Rattle.at_class.proofs.Chains.{chain_within-none}
 use Rattle.at_class.proofs.Led.{led}
 use Rattle.at_class.proofs.Named.{position-map}
-use Rattle.at_model.proofs.WellAsked.{element_at}
+use Rattle.at_model.proofs.of_machines.WellAsked.{element_at}
 use Rattle.at_rules.specs.declared.dispatch.Cell.{Cell}
 use Rattle.at_rules.specs.declared.dispatch.Precedence.{Precedence}
 use Rattle.at_rules.specs.declared.dispatch.Precedence.TheVariants.{Nearest, Earliest}
@@ -23,7 +23,7 @@ use Rattle.at_rules.specs.Bodies.{body_view}
 use Rattle.at_rules.specs.RulesView.{own_view}
 use Rattle.at_rules.specs.declared.body.Body.{Body}
 use Rattle.at_rules.specs.Upward.{earlier, declares, declared_in}
-use Rattle.at_rules.proofs.Upward.{nowhere}
+use Rattle.at_rules.proofs.UpwardLemmas.{nowhere}
 use Rattle.at_rules.proofs.Lookups.{own_found}
 use Rattle.at_rules.proofs.Earlier.{either}
 

@@ -1,6 +1,6 @@
 mod Dispatching
-mod Holding
+mod HoldingLemmas
 mod Lookups
 mod Numbers
 pub mod Earlier
-mod Upward
+mod UpwardLemmas

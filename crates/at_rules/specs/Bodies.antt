@@ -1,6 +1,6 @@
 -- What the bodies of equations stand for, and the kinds of values.
 use Rattle.std.specs.Prelude.{List, [], ◌∷◌, string_bytes}
-use Rattle.at_model.specs.Bodies.{Expr, Exprs, no_exprs, expr, IntLiteral, TruthLiteral, TextLiteral, NullLiteral, Arithmetic, Compare, Times, Over, Modulo, Plus, Minus, Below, AtMost, Above, AtLeast}
+use Rattle.at_model.specs.Bodies.{Expr, Exprs, no_exprs, expr, IntLiteral, TruthLiteral, TextLiteral, NullLiteral, Arithmetic, Compare, Multiply, Divide, Remainder, Add, Subtract, Below, AtMost, Above, AtLeast}
 use Rattle.at_model.specs.Bodies as model
 use Rattle.at_model.specs.Rules as kinds
 use Rattle.at_rules.specs.declared.body.Operator.{Operator}
@@ -13,11 +13,11 @@ use Rattle.at_rules.specs.declared.body.Body.{Body, Row_of-Body, end_of-Body, mo
 use Rattle.at_rules.specs.declared.body.Body as body
 
 abbrev pub operator_view : Operator → model.Operator
-operator_view operator.Times = Times
-operator_view operator.Over = Over
-operator_view operator.Modulo = Modulo
-operator_view operator.Plus = Plus
-operator_view operator.Minus = Minus
+operator_view operator.Multiply = Multiply
+operator_view operator.Divide = Divide
+operator_view operator.Remainder = Remainder
+operator_view operator.Add = Add
+operator_view operator.Subtract = Subtract
 
 abbrev pub order_view : Order → model.Order
 order_view order.Below = Below

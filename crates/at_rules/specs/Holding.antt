@@ -27,4 +27,5 @@ Leads f classes c (Some b) = first_answer f (chain classes c) ≡ first_answer f
 
 -- each cell of the table leads to the class that it tells of, for each component
 abbrev pub AreHolders : {V Z : Type 0} → Classes → List ((ℕ × Option ℕ × ℕ) × Body) → List ((ℕ × ℕ) × V) → List (Vec Cell Z) → Type 0
-AreHolders classes es held rows = (c n part : ℕ) (cell : Cell) → cell_at rows c n ≡ Some cell → Leads (numbered_in es n part) classes c (option_and_then (class_at held) (cell_view cell))
+AreHolders classes es held rows = (c n part : ℕ) (cell : Cell) → cell_at rows c n ≡ Some cell
+    → Leads (numbered_in es n part) classes c (option_and_then (class_at held) (cell_view cell))

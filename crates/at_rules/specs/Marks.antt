@@ -2,7 +2,7 @@
 use Rattle.std.specs.Prelude.{◌≡◌, ℕ, ℤ, pos, Bool, true, false, List, [], ◌∷◌, nat_eq, if◌then◌else◌, refl}
 use Rattle.std.specs.Coded.{Coded, code_by, coded×, coded_list, coded_ℕ, coded_ℤ}
 use Rattle.std.proofs.Common.{ap, ◌∙◌}
-use Rattle.at_model.specs.Bodies.{Expr, Exprs, Operator, Order, Times, Over, Modulo, Plus, Minus, Below, AtMost, Above, AtLeast, IntLiteral, TruthLiteral, TextLiteral, NullLiteral, This, Name, IndexName, Negate, Not, Arithmetic, Compare, Join, JoinInt, Same, Differ, And, Or, Choose, Equals, InstanceOf, CastTo, Child, Element, Count, Has, TokenOf, Call, Exists, First, Sum, no_exprs, expr}
+use Rattle.at_model.specs.Bodies.{Expr, Exprs, Operator, Order, Multiply, Divide, Remainder, Add, Subtract, Below, AtMost, Above, AtLeast, IntLiteral, TruthLiteral, TextLiteral, NullLiteral, This, Name, IndexName, Negate, Not, Arithmetic, Compare, Join, JoinInt, Same, Differ, And, Or, Choose, Equals, InstanceOf, CastTo, Child, Element, Count, Has, TokenOf, Call, Exists, First, Sum, no_exprs, expr}
 
 -- the number of a form, and what of it is no expression
 abbrev pub Mark : Type 0
@@ -16,14 +16,14 @@ truth_number false = 0
 truth_number true = 1
 
 abbrev pub operator_number : Operator → ℕ
-operator_number Times = 0
-operator_number Over = 1
-operator_number Modulo = 2
-operator_number Plus = 3
-operator_number Minus = 4
+operator_number Multiply = 0
+operator_number Divide = 1
+operator_number Remainder = 2
+operator_number Add = 3
+operator_number Subtract = 4
 
 abbrev pub operator_at : ℕ → Operator
-operator_at n = if nat_eq n 0 then Times else (if nat_eq n 1 then Over else (if nat_eq n 2 then Modulo else (if nat_eq n 3 then Plus else Minus)))
+operator_at n = if nat_eq n 0 then Multiply else (if nat_eq n 1 then Divide else (if nat_eq n 2 then Remainder else (if nat_eq n 3 then Add else Subtract)))
 
 abbrev pub order_number : Order → ℕ
 order_number Below = 0
@@ -137,11 +137,11 @@ same_truth true = refl
 same_truth false = refl
 
 same_operator : (o : Operator) → operator_at (operator_number o) ≡ o
-same_operator Times = refl
-same_operator Over = refl
-same_operator Modulo = refl
-same_operator Plus = refl
-same_operator Minus = refl
+same_operator Multiply = refl
+same_operator Divide = refl
+same_operator Remainder = refl
+same_operator Add = refl
+same_operator Subtract = refl
 
 same_order : (o : Order) → order_at (order_number o) ≡ o
 same_order Below = refl

@@ -6,11 +6,11 @@ use at_class::ClassId;
 /// The operators on two ints that give an int.
 #[derive(Clone, Copy, Debug, PartialEq, Eq)]
 pub enum Operator {
-    Times,
-    Over,
-    Modulo,
-    Plus,
-    Minus,
+    Multiply,
+    Divide,
+    Remainder,
+    Add,
+    Subtract,
 }
 
 /// The operators on two ints that give a truth value.

@@ -50,7 +50,8 @@ impl Holders {
         held: IndexMap<(usize, usize), ()>,
         width: usize,
     ) -> Holders
-        ensures { (es : List ((ℕ × Option ℕ × ℕ) × BodyValue)) → ((c n : ℕ) → has_equation (keys_of es) c n ≡ is_held (keys_of held.entries) c n) → AreHolders classes.now es result.held.entries result.table.rows.items }
+        ensures { (es : List ((ℕ × Option ℕ × ℕ) × BodyValue)) → ((c n : ℕ) → has_equation (keys_of es) c n ≡ is_held (keys_of held.entries) c n)
+            → AreHolders classes.now es result.held.entries result.table.rows.items }
     {
         let table = Dispatch::new(alloc, classes, &held, width, Precedence::Nearest);
         Holders { held, table }

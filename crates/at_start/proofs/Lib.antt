@@ -4,4 +4,4 @@ mod TermFiles
 mod Ruled
 mod Started
 mod RulesTyped
-mod Whole
+mod WholeLemmas

@@ -44,7 +44,8 @@ pub data Refuses (files : Files) : (file : ℕ) → Code → Option Place → Ty
   by_grammar : (c : Code) (at : Place) → RefusesGrammar files.grammar.bytes.items c at → Refuses files 0 c (Some at)
   by_aspects : (classes : Classes) (file : ℕ) (c : Code) (at : Place) → GivesClasses files.grammar.bytes.items classes
       → RefusesAspects classes (aspect_bytes files.aspects.items) file c at → Refuses files file c (Some at)
-  by_tree : (classes : Classes) (rules : Rules) (c : Code) → GivesClasses files.grammar.bytes.items classes → GivesRules classes (aspect_bytes files.aspects.items) rules
+  by_tree : (classes : Classes) (rules : Rules) (c : Code) → GivesClasses files.grammar.bytes.items classes
+      → GivesRules classes (aspect_bytes files.aspects.items) rules
       → RefusesTree classes files.tree.bytes.items c → Refuses files (length files.aspects.items + 1) c None
 
 -- the fault is the first one of the files; of want of memory nothing is said

@@ -33,8 +33,10 @@ pub data RefusesTree (classes : Classes) (bytes : List ℕ) : Code → Type 0 wh
   no_text : (c : Code) → IsNoText bytes code.TreeLimit code.TreeSyntax c → RefusesTree classes bytes c
   no_term : IsText bytes → ((t : Term) → IsTermFile bytes t → ⊥) → RefusesTree classes bytes code.TreeSyntax
   no_class : (t : Term) → IsText bytes → IsTermFile bytes t → names_classes classes t ≡ false → RefusesTree classes bytes code.TreeClass
-  no_fit : (t : Term) → IsText bytes → IsTermFile bytes t → names_classes classes t ≡ true → ((u : Tree) → ¬ (IsShaped classes t 0 u)) → RefusesTree classes bytes code.TreeFit
-  no_room : (u : Tree) → IsText bytes → IsTermFile bytes (term_of classes u) → conforms classes u 0 ≡ true → is_within_limits u ≡ false → RefusesTree classes bytes code.TreeLimit
+  no_fit : (t : Term) → IsText bytes → IsTermFile bytes t → names_classes classes t ≡ true → ((u : Tree) → ¬ (IsShaped classes t 0 u))
+      → RefusesTree classes bytes code.TreeFit
+  no_room : (u : Tree) → IsText bytes → IsTermFile bytes (term_of classes u) → conforms classes u 0 ≡ true → is_within_limits u ≡ false
+      → RefusesTree classes bytes code.TreeLimit
 
 -- the fault is one by which the file is refused; of want of memory nothing is said
 abbrev pub IsTreeFault : Classes → List ℕ → Failure Code → Type 0

@@ -5,7 +5,7 @@ use Rattle.at_model.specs.Edits.{Edit, left_by}
 use Rattle.at_store.specs.Numbers.{relabel, relabel_cells, relabel_cell, relabel_trees, relabel_edit}
 use Rattle.at_store.specs.Memory.{Info, Kept, Place, Stored, IsShallow, class_in, rewritten, placed, renumbered}
 use Rattle.at_store.proofs.Relabelled.{relabelled-left}
-use Rattle.at_store.proofs.Planted.{relabel_same}
+use Rattle.at_store.proofs.of_planting.Planted.{relabel_same}
 use Rattle.at_store.proofs.Slots.{class_at, class_renumbered, class_rewritten, class_placed}
 use Rattle.at_store.proofs.Depths.{shallow}
 

@@ -6,10 +6,10 @@ use Rattle.at_model.specs.Trees as trees
 use Rattle.at_model.specs.Paths.{Node, tree_at, cell_at, children_at, parent_of}
 use Rattle.at_model.specs.Edits.{Set, Put, Drop, Insert, Token, changed_at, with_child, with_cell, with_node, without_child, with_one_more, left_by}
 use Rattle.at_model.proofs.Options.{led}
-use Rattle.at_model.proofs.Moving.{Way}
-use Rattle.at_model.proofs.Surviving.{parent_is}
+use Rattle.at_model.proofs.of_edits.Moving.{Way}
+use Rattle.at_model.proofs.of_edits.Surviving.{parent_is}
 use Rattle.at_model.proofs.WithinTree.{tree_at-snoc}
-use Rattle.at_model.proofs.Untouched.{in_cell as kids}
+use Rattle.at_model.proofs.of_edits.Untouched.{in_cell as kids}
 
 -- a cell holds a child
 pub of_cell : (o : Option Cell) (i : ℕ) (y : Tree) → slice_get (kids o) i ≡ Some y → (c : Cell) × (o ≡ Some c) × (slice_get (children c) i ≡ Some y)

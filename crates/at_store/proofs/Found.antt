@@ -7,7 +7,7 @@ use Rattle.at_model.specs.Trees.{Tree, Cells, Cell, Trees, Node as branch, no_ce
 use Rattle.at_model.specs.Paths.{Node, tree_at}
 use Rattle.at_model.specs.Alike.{IsInjective}
 use Rattle.at_model.proofs.Options.{mapped}
-use Rattle.at_model.proofs.Untouched.{in_cell as kids}
+use Rattle.at_model.proofs.of_edits.Untouched.{in_cell as kids}
 use Rattle.at_store.specs.Numbers.{path_in, in_cells, in_cell, in_trees, IsApart}
 
 -- a tree of that number is there

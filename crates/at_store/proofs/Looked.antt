@@ -7,7 +7,7 @@ use Rattle.at_model.specs.Trees as trees
 use Rattle.at_model.specs.Paths.{Node, tree_at, cell_at, children_at, parent_of}
 use Rattle.at_model.specs.Run.{Is, Tok, Slot, Up, Idx}
 use Rattle.at_model.specs.Meaning.{token_in, child_nodes, content}
-use Rattle.at_model.proofs.Untouched.{in_cell as kids}
+use Rattle.at_model.proofs.of_edits.Untouched.{in_cell as kids}
 use Rattle.at_model.proofs.WithinTree.{tree_at-snoc}
 use Rattle.at_store.specs.Numbers.{path_in, number_at, relabel, relabel_cell, contents}
 use Rattle.at_store.specs.Memory.{Info, kept, kept_of, Place, top, place_at, Keeps, class_in, up_in, index_in, numbers_in, token_kept, kids_in, token_in_cell}

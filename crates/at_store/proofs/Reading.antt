@@ -13,8 +13,8 @@ use Rattle.at_store.specs.Grown.{shown_below}
 use Rattle.at_store.specs.View.{memory_of}
 use Rattle.at_store.specs.Shown.{Shown, IsIdle, numbers, path, tree}
 use Rattle.at_store.proofs.Found.{number_found, named}
-use Rattle.at_store.proofs.Growing.{class-grown, grown-stored}
-use Rattle.at_store.proofs.Composed.{child_stored}
+use Rattle.at_store.proofs.of_planting.Growing.{class-grown, grown-stored}
+use Rattle.at_store.proofs.of_planting.Composed.{child_stored}
 use Rattle.at_store.proofs.Relabelled.{relabelled-tree_at, relabelled-children_at}
 use Rattle.at_store.proofs.Looked.{absent, index_is}
 use Rattle.at_store.proofs.Sizes.{below_smaller, children_fewer, index_fewer, within_nodes}

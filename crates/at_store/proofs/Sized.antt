@@ -3,7 +3,7 @@ use Rattle.std.proofs.Common.{◌≡◌, ◌≤◌, ◌<◌, ℕ, zero, suc, ◌
 use Rattle.std.specs.List.{slice_get}
 use Rattle.at_model.specs.Trees.{Tree, Cells, Cell, Node as branch, no_cells, cell, One, Many, Empty, Filled, Holds, class_of, children, from_cells, from_trees, to_trees, nodes, cells_nodes, cell_nodes, trees_nodes, depth}
 use Rattle.at_model.specs.Paths.{Node, tree_at}
-use Rattle.at_model.proofs.Untouched.{in_cell as kids}
+use Rattle.at_model.proofs.of_edits.Untouched.{in_cell as kids}
 use Rattle.at_model.proofs.WithinTree.{tree_at-snoc}
 use Rattle.at_store.specs.Memory.{Info, Keeps, kept, cells_in, numbers_in}
 use Rattle.at_store.specs.Told.{kids_size, slots_size, size_told}

@@ -9,7 +9,7 @@ use Rattle.at_model.specs.Meaning.{content}
 use Rattle.at_model.specs.Run.{Idx}
 use Rattle.at_model.specs.Edits.{is_within_limits}
 use Rattle.at_model.proofs.Options.{both, led}
-use Rattle.at_model.proofs.Untouched.{in_cell as kids}
+use Rattle.at_model.proofs.of_edits.Untouched.{in_cell as kids}
 use Rattle.at_model.proofs.WayUp.{snoc, parent_of-snoc}
 
 some_node : (t : Tree) → 1 ≤ nodes t

@@ -7,7 +7,7 @@ use Rattle.at_store.specs.Grown.{grown_cell, shown_below}
 use Rattle.at_store.specs.Memory.{Info, cells_in, class_in}
 use Rattle.at_store.specs.View.{kept_view}
 use Rattle.at_store.specs.declared.entry.Slot.{Slot}
-use Rattle.at_store.proofs.Copied.{level_above, no_level}
+use Rattle.at_store.proofs.of_planting.Copied.{level_above, no_level}
 
 module _ (classes : Classes) (deeper : ℕ → Tree) where
   -- the text of a cell

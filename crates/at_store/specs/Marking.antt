@@ -9,12 +9,14 @@ use Rattle.at_store.specs.declared.entry.Entry.{Entry}
 
 -- the node and all below it got this mark, wherever a tree of fewer levels stands there
 abbrev pub AreMarkedBelow : (node : ℕ) → Bool → (levels : ℕ) → (before later : Slab Entry) → Type 0
-AreMarkedBelow node b levels before later = (place : Place) (x : Tree) → class_of x ≡ node → IsApart x → Stored (memory_of before) place x → IsShallow levels x →
+AreMarkedBelow node b levels before later = (place : Place) (x : Tree) → class_of x ≡ node → IsApart x → Stored (memory_of before) place x
+    → IsShallow levels x →
     (k : ℕ) → leaves_in later k ≡ cond (is_some (path_in k x)) b (leaves_in before k)
 
 -- of a tree at the node that is marked up to a component that component is marked too
 abbrev pub AreMarkedUpTo : (node part : ℕ) → Bool → (levels : ℕ) → (before later : Slab Entry) → Type 0
-AreMarkedUpTo node part b levels before later = (first : ℕ → Bool) (place : Place) (x : Tree) → class_of x ≡ node → IsApart x → Stored (memory_of before) place x → IsShallow (suc levels) x →
+AreMarkedUpTo node part b levels before later = (first : ℕ → Bool) (place : Place) (x : Tree) → class_of x ≡ node → IsApart x
+    → Stored (memory_of before) place x → IsShallow (suc levels) x →
     IsSpreadTo b first (leaves_in before) x (part, 0) → IsSpreadTo b first (leaves_in later) x (suc part, 0)
 
 -- the marks of the node that was to leave are taken back

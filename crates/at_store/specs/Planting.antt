@@ -37,7 +37,8 @@ abbrev pub IsAsBefore : (before later : ℕ → Option Info) → Type 0
 IsAsBefore before later = (k : ℕ) → later k ≡ before k
 
 abbrev pub IsAdded : (node class : ℕ) → Place → (before later : ℕ → Option Info) → Type 0
-IsAdded node class place before later = (before node ≡ None) × ((k : ℕ) → later k ≡ cond (nat_eq k node) (Some (record { class = class; up = place.0; index = place.1; cells = [] })) (before k))
+IsAdded node class place before later = (before node ≡ None)
+    × ((k : ℕ) → later k ≡ cond (nat_eq k node) (Some (record { class = class; up = place.0; index = place.1; cells = [] })) (before k))
 
 abbrev pub IsPushed : (node : ℕ) → Kept → (before later : ℕ → Option Info) → Type 0
 IsPushed node c before later = (k : ℕ) → later k ≡ cond (nat_eq k node) (with_more c (before k)) (before k)
@@ -52,7 +53,8 @@ GainsCell node part c before later = (first : ℕ → Option Info) (place : Plac
 
 -- the same, where its last component is a list with so many elements: it gets one more element
 abbrev pub GainsTree : (node part index : ℕ) → Tree → (before later : ℕ → Option Info) → Type 0
-GainsTree node part index u before later = (first : ℕ → Option Info) (place : Place) (t : Tree) (cells : Cells) (us ws : List Tree) → length (from_cells cells) ≡ part → length (from_cells (cells_of t)) ≡ part → length us ≡ index → length ws ≡ index →
+GainsTree node part index u before later = (first : ℕ → Option Info) (place : Place) (t : Tree) (cells : Cells) (us ws : List Tree)
+    → length (from_cells cells) ≡ part → length (from_cells (cells_of t)) ≡ part → length us ≡ index → length ws ≡ index →
     IsPlanted first before place (added (Many (to_trees us)) t) (added (Many (to_trees ws)) (branch node cells)) →
     (w : Tree) × IsPlanted first later place (added (Many (to_trees (us ++ u ∷ []))) t) (added (Many (to_trees (ws ++ w ∷ []))) (branch node cells))
 

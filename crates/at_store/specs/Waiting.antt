@@ -17,15 +17,18 @@ IsStoreAsBefore before later = IsAsBefore (memory_of before.slab) (memory_of lat
 -- the tree is planted beside what there is, and waits under this number
 abbrev pub IsBrought : (before later : Shown) → Tree → ℕ → Type 0
 IsBrought before later t new =
-    ((w : Tree) × (class_of w ≡ new) × IsPlanted (memory_of before.slab) (memory_of later.slab) top t w) × (later.waiting ≡ Some new) × IsRestAsBefore before later
+    ((w : Tree) × (class_of w ≡ new) × IsPlanted (memory_of before.slab) (memory_of later.slab) top t w) × (later.waiting ≡ Some new)
+        × IsRestAsBefore before later
 
 -- what waited is freed
 abbrev pub IsUnbrought : (before later : Shown) → Type 0
-IsUnbrought before later = ((new : ℕ) → before.waiting ≡ Some new → IsFreed new (memory_of before.slab) (memory_of later.slab)) × (later.waiting ≡ None) × IsRestAsBefore before later
+IsUnbrought before later = ((new : ℕ) → before.waiting ≡ Some new → IsFreed new (memory_of before.slab) (memory_of later.slab)) × (later.waiting ≡ None)
+    × IsRestAsBefore before later
 
 -- nodes are marked; all else is as before
 abbrev pub IsMarking : (before later : Shown) → Type 0
-IsMarking before later = IsAsBefore (memory_of before.slab) (memory_of later.slab) × (later.root ≡ before.root) × (later.waiting ≡ before.waiting) × (later.absent ≡ before.absent)
+IsMarking before later = IsAsBefore (memory_of before.slab) (memory_of later.slab) × (later.root ≡ before.root) × (later.waiting ≡ before.waiting)
+    × (later.absent ≡ before.absent)
 
 -- the node leaves, with all below it
 abbrev pub IsLeaving : (node : ℕ) → (before later : Shown) → Type 0

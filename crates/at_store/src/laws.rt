@@ -22,7 +22,8 @@ pub fn paths()
 
 /// The numbers show what the tree of classes shows.
 pub fn contents_are_alike()
-    ensures { (numbers tree : Tree) (class : ℕ → ℕ) → IsApart numbers → tree ≡ relabel class numbers → (l : Location ℕ) → AlikeAt (Names (λ k. path_in k numbers)) (contents numbers tree) (content tree) l }
+    ensures { (numbers tree : Tree) (class : ℕ → ℕ) → IsApart numbers → tree ≡ relabel class numbers → (l : Location ℕ)
+        → AlikeAt (Names (λ k. path_in k numbers)) (contents numbers tree) (content tree) l }
 {}
 
 /// An edit leaves of the tree of classes what it leaves of the numbers.

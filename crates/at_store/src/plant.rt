@@ -136,7 +136,8 @@ pub(crate) fn plant(
     index: usize,
     tree: Tree,
 ) -> Result<Node, AllocError>
-    ensures planted { IfOk result (λ node. (w : Numbered) × (class_of w ≡ node) × IsPlanted (memory_of slab.old) (memory_of slab.new) (up, index) (tree_view tree) w) }
+    ensures planted { IfOk result (λ node. (w : Numbered) × (class_of w ≡ node)
+        × IsPlanted (memory_of slab.old) (memory_of slab.new) (up, index) (tree_view tree) w) }
     ensures kept { OnErr result (IsAsBefore (memory_of slab.old) (memory_of slab.new)) }
     ensures marks { MarksNoMore slab.old slab.new }
 {

@@ -63,7 +63,8 @@ fn append_slot(
     levels: usize,
     out: &mut Vec<u8>,
 ) -> Result<(), AllocError>
-    ensures ok { OnOk result (out.new.items ≡ out.old.items ++ cell_text (cell_of classes.now (grown_cell (shown_below (memory_of slab.now) levels) (kept_view slot.now)))) }
+    ensures ok { OnOk result (out.new.items
+        ≡ out.old.items ++ cell_text (cell_of classes.now (grown_cell (shown_below (memory_of slab.now) levels) (kept_view slot.now)))) }
     ensures err { OnErr result (take (length out.old.items) out.new.items ≡ out.old.items) }
 {
     match slot {
@@ -81,7 +82,8 @@ fn append_kids(
     levels: usize,
     out: &mut Vec<u8>,
 ) -> Result<(), AllocError>
-    ensures ok { OnOk result (out.new.items ≡ out.old.items ++ cell_text (cell_of classes.now (grown_cell (shown_below (memory_of slab.now) levels) (Kids (form_view form) kids.now)))) }
+    ensures ok { OnOk result (out.new.items
+        ≡ out.old.items ++ cell_text (cell_of classes.now (grown_cell (shown_below (memory_of slab.now) levels) (Kids (form_view form) kids.now)))) }
     ensures err { OnErr result (take (length out.old.items) out.new.items ≡ out.old.items) }
 {
     match form {
@@ -100,7 +102,8 @@ fn append_kid(
     levels: usize,
     out: &mut Vec<u8>,
 ) -> Result<(), AllocError>
-    ensures ok { OnOk result (out.new.items ≡ out.old.items ++ cell_text (cell_of classes.now (grown_cell (shown_below (memory_of slab.now) levels) (Kids Optional kids.now)))) }
+    ensures ok { OnOk result (out.new.items
+        ≡ out.old.items ++ cell_text (cell_of classes.now (grown_cell (shown_below (memory_of slab.now) levels) (Kids Optional kids.now)))) }
     ensures err { OnErr result (take (length out.old.items) out.new.items ≡ out.old.items) }
 {
     match kids.first() {
@@ -117,7 +120,8 @@ fn append_list(
     levels: usize,
     out: &mut Vec<u8>,
 ) -> Result<(), AllocError>
-    ensures ok { OnOk result (out.new.items ≡ out.old.items ++ cell_text (cell_of classes.now (Many (to_trees (map (shown_below (memory_of slab.now) levels) kids.now))))) }
+    ensures ok { OnOk result (out.new.items
+        ≡ out.old.items ++ cell_text (cell_of classes.now (Many (to_trees (map (shown_below (memory_of slab.now) levels) kids.now))))) }
     ensures err { OnErr result (take (length out.old.items) out.new.items ≡ out.old.items) }
 {
     out.push(b'[')?;

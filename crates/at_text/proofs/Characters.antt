@@ -5,7 +5,7 @@ use Rattle.std.specs.Prelude.{encode_utf8}
 use Rattle.std.proofs.lemmas.Bool.Decides.{nat_tests}
 use Rattle.std.proofs.lemmas.Str.{char_from_byte, inside_one, encode_ascii}
 use Rattle.at_model.specs.Texts.{escaped}
-use Rattle.at_model.proofs.QuotedTexts.{front, Neither}
+use Rattle.at_model.proofs.of_texts.QuotedTexts.{front, Neither}
 
 other : (a b : ℕ) → (a ≡ b → ⊥) → (a == b) ≡ false
 other a b h = grind (arith, nat_tests)

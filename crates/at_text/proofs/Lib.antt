@@ -1,6 +1,6 @@
 pub mod Spelling
 pub mod Characters
-pub mod Reading
+pub mod ReadingLemmas
 pub mod ReadingLaws
 pub mod Placing
 pub mod Fronts
@@ -15,4 +15,4 @@ pub mod Signs
 pub mod Found
 pub mod Scanned
 pub mod Decimals
-pub mod Rows
+pub mod RowsLemmas

@@ -2,7 +2,7 @@
 use Rattle.std.proofs.Common.{◌≡◌, ℕ, ◌<◌, ◌≤◌, length, length-append, List, [], ◌∷◌, ◌++◌, arith, refl, ap, sym, ◌∙◌}
 use Rattle.std.specs.List.{flat_map}
 use Rattle.at_model.specs.Texts.{escaped}
-use Rattle.at_model.proofs.QuotedTexts.{Closing, Spelled, Neither, front, front_escaped, front_more}
+use Rattle.at_model.proofs.of_texts.QuotedTexts.{Closing, Spelled, Neither, front, front_escaped, front_more}
 use Rattle.at_text.specs.Quoted.{EndsIn}
 
 -- where neither stands at the front, no value is left

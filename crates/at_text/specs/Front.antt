@@ -83,6 +83,7 @@ BreaksSign text OpenComment = IsOpenComment text
 
 -- no piece stands at the front
 abbrev pub BreaksPiece : List ℕ → Break → Type 0
-BreaksPiece text (Bad tail) = (BeginsNone text × (tail.now ≡ text)) ⊎ ((body : List ℕ) × OpensText text body tail.now × (is_misplaced tail.now ≡ true) × IsUtf8 tail.now)
+BreaksPiece text (Bad tail) = (BeginsNone text × (tail.now ≡ text))
+    ⊎ ((body : List ℕ) × OpensText text body tail.now × (is_misplaced tail.now ≡ true) × IsUtf8 tail.now)
 BreaksPiece text OpenText = IsOpenText text
 BreaksPiece text OpenComment = IsOpenComment text

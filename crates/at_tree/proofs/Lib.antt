@@ -5,7 +5,7 @@ pub mod Passing
 pub mod Finished
 pub mod PathMachine
 pub mod PathRuns
-pub mod PlainNames
+pub mod PlainNamesLemmas
 pub mod PathFronts
 pub mod Escapes
 pub mod TermSpelled
@@ -20,7 +20,7 @@ pub mod TreeTexts
 pub mod Shaping
 pub mod Made
 pub mod ShapeLaws
-pub mod ReadTrees
-pub mod Fronts
-pub mod TermFronts
+pub mod ReadTreesLemmas
+pub mod FrontsLemmas
+pub mod TermFrontsLemmas
 mod Misfits

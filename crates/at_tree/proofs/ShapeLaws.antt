@@ -9,7 +9,7 @@ use Rattle.at_model.specs.Trees.{Tree, conforms}
 use Rattle.at_tree.specs.declared.tree.shaping.ShapeFault.{ShapeFault}
 use Rattle.at_tree.specs.declared.tree.shaping.ShapeFault.TheVariants.{Class, Fit, Memory}
 use Rattle.at_model.specs.Shaping.{shaped, names_classes}
-use Rattle.at_model.proofs.Shaped.{shaped_conforms, conforms_shaped}
+use Rattle.at_model.proofs.of_texts.Shaped.{shaped_conforms, conforms_shaped}
 use Rattle.at_tree.specs.Shape.{IsShaped, IsMisshaped, IsNoneAtFit}
 
 pub found-is : (classes : Classes) (t : Term) (b : ℕ) (u : Tree) → shaped classes t b ≡ Some u → IsShaped classes t b u

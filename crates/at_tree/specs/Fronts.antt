@@ -10,7 +10,8 @@ IsTreeFront classes text rest b levels t = (text ≡ tree_text classes t ++ rest
 
 -- the same of what a component of the shape holds
 abbrev pub IsCellFront : Classes → List ℕ → List ℕ → Shape → ℕ → Cell → Type 0
-IsCellFront classes text rest shape levels c = (text ≡ cell_text (cell_of classes c) ++ rest) × (cell_conforms classes c shape ≡ true) × IsCellWithin levels (cell_of classes c)
+IsCellFront classes text rest shape levels c = (text ≡ cell_text (cell_of classes c) ++ rest) × (cell_conforms classes c shape ≡ true)
+    × IsCellWithin levels (cell_of classes c)
 
 -- and of the cells for components, with a parenthesis behind them
 abbrev pub AreCellsFront : Classes → List ℕ → List ℕ → List Component → ℕ → Cells → Type 0

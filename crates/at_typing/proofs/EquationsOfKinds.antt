@@ -26,9 +26,9 @@ use Rattle.at_kinds.specs.declared.code.RuleCode.TheVariants as code
 use Rattle.at_complete.proofs.Climbing.{sub_itself}
 use Rattle.at_typing.proofs.Gathering.{first_none, other_none}
 use Rattle.at_kinds.proofs.Holding.{Holds, then_holds, none_holds}
-use Rattle.at_typing.proofs.InheritedAlike.{inherited_alike}
+use Rattle.at_typing.proofs.of_attributes.InheritedAlike.{inherited_alike}
 use Rattle.at_kinds.proofs.KindsKnown.{beside_it, element_found}
-use Rattle.at_typing.proofs.KindsDeclared.{IsOfWord, Declares, class_there, class_named_right, attribute_right, all_declared, signatures_same, all_typed}
+use Rattle.at_typing.proofs.of_attributes.KindsDeclared.{IsOfWord, Declares, class_there, class_named_right, attribute_right, all_declared, signatures_same, all_typed}
 use Rattle.at_typing.proofs.KindsOfBodies.{IsBodyOf, body_right}
 use Rattle.at_typing.proofs.Literals.{AreInts, AreIntsIn}
 

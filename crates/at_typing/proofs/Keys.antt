@@ -14,7 +14,7 @@ use Rattle.at_typing.specs.declared.attributes.Attributes.{Attributes}
 use Rattle.at_typing.specs.declared.numbered.NamedClass.{NamedClass}
 use Rattle.at_typing.specs.declared.numbered.Numbered.{Numbered as NumberedValue}
 use Rattle.at_typing.specs.contracts.numbered.NamedClassPartialEq.TheImpl.{ghosts}
-use Rattle.at_typing.proofs.Clashing.{class_symm}
+use Rattle.at_typing.proofs.of_attributes.Clashing.{class_symm}
 use Rattle.at_typing.proofs.EquationsBefore.{class_eq}
 use Rattle.at_typing.proofs.FirstValues.{not_noted}
 

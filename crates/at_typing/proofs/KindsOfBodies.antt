@@ -28,7 +28,7 @@ use Rattle.at_kinds.specs.declared.signatures.WrittenKind.{WrittenKind}
 use Rattle.at_kinds.specs.declared.signatures.WrittenKind.TheVariants.{Known, Strange}
 use Rattle.at_kinds.proofs.Holding.{Holds, then_holds}
 use Rattle.at_kinds.proofs.KindsKnown.{IsKind, IsDeclaredAs, beside_it}
-use Rattle.at_typing.proofs.KindsDeclared.{IsPassed, param_named_right}
+use Rattle.at_typing.proofs.of_attributes.KindsDeclared.{IsPassed, param_named_right}
 use Rattle.at_kinds.proofs.KindsOfForms.{Right, int_has, truth_has, text_has}
 use Rattle.at_kinds.proofs.KindsOfCalls.{within_has}
 use Rattle.at_typing.proofs.KindsJudged.{IsBound, judged_right}

@@ -4,7 +4,7 @@ mod Binding
 mod FirstFaults
 mod FirstValues
 mod LongTexts
-mod AttributesCounted
+mod of_attributes
 mod Positions
 mod WordNumbers
 mod AccessorNaming
@@ -13,10 +13,7 @@ mod EquationsBefore
 mod Earlier
 mod ClassesBelow
 mod Lines
-mod AttributesFound
-mod Clashing
 mod Keys
-mod AttributesDeclared
 mod Adding
 mod MeaningParts
 mod ParamsNamed
@@ -25,9 +22,7 @@ mod InOrder
 mod Built
 mod Literals
 mod KindsJudged
-mod KindsDeclared
 mod KindsOfBodies
-mod InheritedAlike
 mod Singles
 mod EquationsOfKinds
 pub mod BuiltWellFormed

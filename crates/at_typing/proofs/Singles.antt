@@ -19,7 +19,7 @@ use Rattle.at_typing.specs.Meanings.{Meaning, meant}
 use Rattle.at_typing.specs.Single.{AreSingle}
 use Rattle.at_typing.specs.declared.fault.Breach.{Breach}
 use Rattle.at_typing.proofs.Gathering.{equal, first_none, no_clash, no_equation, not_both, or_left, other_none, said, same_inherited, same_own}
-use Rattle.at_typing.proofs.InheritedAlike.{none_passes}
+use Rattle.at_typing.proofs.of_attributes.InheritedAlike.{none_passes}
 use Rattle.at_typing.proofs.MeaningParts.{OfAttribute, OfInherited, OfOwn, of_words}
 
 -- what two parts were made of -------------------------------------------------------------------------------------------

@@ -31,8 +31,10 @@ pub record AreAttributes (ds : List NumberedValue) (a : Attributes) : Type 0 whe
 
 -- the attribute of that number, which the declaration declares, is noted where it is the first
 pub record Notes (d : NumberedValue) (attribute : ℕ) (old new : Attributes) : Type 0 where
-  pub synthesized : (class : NamedClass) (name : ℕ) → get_by (is_key class name) new.synthesized ≡ option_or (get_by (is_key class name) old.synthesized) (if is_synthesized_in class name d then Some attribute else None)
-  pub inherited : (name : ℕ) → get nat_eq new.inherited name ≡ option_or (get nat_eq old.inherited name) (if is_inherited_as name d then Some attribute else None)
+  pub synthesized : (class : NamedClass) (name : ℕ) → get_by (is_key class name) new.synthesized
+      ≡ option_or (get_by (is_key class name) old.synthesized) (if is_synthesized_in class name d then Some attribute else None)
+  pub inherited : (name : ℕ)
+      → get nat_eq new.inherited name ≡ option_or (get nat_eq old.inherited name) (if is_inherited_as name d then Some attribute else None)
 
 -- the declaration's numbers stand for its words, and are the same as those of these where the words are
 pub record IsAmong (classes : Classes) (ds : List NumberedValue) (d : NumberedValue) : Type 0 where
@@ -42,12 +44,15 @@ pub record IsAmong (classes : Classes) (ds : List NumberedValue) (d : NumberedVa
 
 -- the attribute that was found by a declaration's numbers is the one that its words name
 abbrev pub FindsSynthesized : Attributes → Classes → NamedClass → ℕ → Option ℕ → Type 0
-FindsSynthesized a classes class name found = (ds : List NumberedValue) (d : NumberedValue) → AreAttributes ds a → IsAmong classes ds d → class ≡ d.class → name ≡ d.name
+FindsSynthesized a classes class name found = (ds : List NumberedValue) (d : NumberedValue) → AreAttributes ds a → IsAmong classes ds d → class ≡ d.class
+    → name ≡ d.name
     → found ≡ synthesized_named classes (map numbered_view ds) (class_text (numbered_view d)) (name_text (numbered_view d))
 
 abbrev pub FindsInherited : Attributes → ℕ → Option ℕ → Type 0
-FindsInherited a name found = (ds : List NumberedValue) (d : NumberedValue) → AreAttributes ds a → All (AreAlike d) ds → name ≡ d.name → found ≡ inherited_named (map numbered_view ds) (name_text (numbered_view d))
+FindsInherited a name found = (ds : List NumberedValue) (d : NumberedValue) → AreAttributes ds a → All (AreAlike d) ds → name ≡ d.name
+    → found ≡ inherited_named (map numbered_view ds) (name_text (numbered_view d))
 
 -- the answer says whether the declaration is no equation, or that of an attribute
 abbrev pub TellsAttribute : Attributes → Classes → NumberedValue → Bool → Type 0
-TellsAttribute a classes d found = (ds : List NumberedValue) → AreAttributes ds a → IsAmong classes ds d → found ≡ is_of_attribute classes (map numbered_view ds) (numbered_view d).decl.form
+TellsAttribute a classes d found = (ds : List NumberedValue) → AreAttributes ds a → IsAmong classes ds d
+    → found ≡ is_of_attribute classes (map numbered_view ds) (numbered_view d).decl.form

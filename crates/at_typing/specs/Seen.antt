@@ -64,7 +64,8 @@ AddsOwn c j old new (Err (Refused code at)) = j ≡ Wrong code at
 AddsOwn c j old new (Err Memory) = Unit {0}
 
 -- the body that is judged stands by the class, the component and that name, or its first fault is told
-abbrev pub AddsInherited : (class : ℕ) → Option ℕ → (name : ℕ) → Judgement (ℕ × Expr) → (old new : List ((ℕ × Option ℕ × ℕ) × BodyValue)) → Result (Unit {0}) (Fault RuleCode) → Type 0
+abbrev pub AddsInherited : (class : ℕ) → Option ℕ → (name : ℕ) → Judgement (ℕ × Expr) → (old new : List ((ℕ × Option ℕ × ℕ) × BodyValue))
+    → Result (Unit {0}) (Fault RuleCode) → Type 0
 AddsInherited c part n j old new (Ok u) = (e : ℕ × BodyValue) × (j ≡ Is (equation_view e)) × (new ≡ insert_entry same_place old (c, part, n) e.1)
 AddsInherited c part n j old new (Err (Refused code at)) = j ≡ Wrong code at
 AddsInherited c part n j old new (Err Memory) = Unit {0}
@@ -123,7 +124,8 @@ pub record Stands {Z : Type 0} (names : List (String Z)) (ms : List Meaning) (e 
 
 -- what the declarations mean, where there is no fault; else the fault is told; of want of memory nothing is said
 abbrev pub Means : Classes → List NumberedValue → Option Breach → Result Equations (Failure Breach) → Type 0
-Means classes ds first (Ok e) = (first ≡ None) × ((names : List (String Global)) → All (IsNamed names) ds → Stands names (meanings classes (map numbered_view ds) (map numbered_view ds)) e)
+Means classes ds first (Ok e) = (first ≡ None)
+    × ((names : List (String Global)) → All (IsNamed names) ds → Stands names (meanings classes (map numbered_view ds) (map numbered_view ds)) e)
 Means classes ds first (Err (failure.For f)) = first ≡ Some f
 Means classes ds first (Err failure.Memory) = Unit {0}
 

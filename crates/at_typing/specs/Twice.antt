@@ -37,21 +37,26 @@ declares name d = is_attribute (numbered_view d).decl.form && nat_eq name d.name
 -- What differs from the first declaration of a name is what differs from one of these. Each class has the names that it declares, and
 -- those that it or a class below it declares.
 pub record AreBefore (classes : Classes) (ds : List NumberedValue) (b : Before) : Type 0 where
-  pub first : (form : DeclForm) (name : ℕ) → differs_from form (first_form b name) ≡ list_any (λ d. declares name d && differs form (numbered_view d).decl.form) ds
+  pub first : (form : DeclForm) (name : ℕ)
+      → differs_from form (first_form b name) ≡ list_any (λ d. declares name d && differs form (numbered_view d).decl.form) ds
   pub declared : (class : NamedClass) (name : ℕ) → has_key b.declared.keys name class ≡ list_any (λ d. declares name d && same_class class d.class) ds
   pub above : (class : NamedClass) (name : ℕ) → has_key b.above.keys name class ≡ list_any (λ d. declares name d && is_class_below classes d.class class) ds
 
 -- the declaration is one more
 pub record Adds (classes : Classes) (d : NumberedValue) (old new : Before) : Type 0 where
   pub first : (name : ℕ) → first_form new name ≡ option_or (first_form old name) (if declares name d then Some (numbered_view d).decl.form else None)
-  pub declared : (class : NamedClass) (name : ℕ) → has_key new.declared.keys name class ≡ (has_key old.declared.keys name class || (declares name d && same_class class d.class))
-  pub above : (class : NamedClass) (name : ℕ) → has_key new.above.keys name class ≡ (has_key old.above.keys name class || (declares name d && is_class_below classes d.class class))
+  pub declared : (class : NamedClass) (name : ℕ)
+      → has_key new.declared.keys name class ≡ (has_key old.declared.keys name class || (declares name d && same_class class d.class))
+  pub above : (class : NamedClass) (name : ℕ)
+      → has_key new.above.keys name class ≡ (has_key old.above.keys name class || (declares name d && is_class_below classes d.class class))
 
 -- the answer says whether the declaration's attribute clashes with one of these
 abbrev pub TellsClash : Classes → Before → NumberedValue → Bool → Type 0
-TellsClash classes b d answer = (ds : List NumberedValue) → AreBefore classes ds b → IsAmong classes ds d → answer ≡ (is_attribute (numbered_view d).decl.form && list_any (clashes classes (numbered_view d)) (map numbered_view ds))
+TellsClash classes b d answer = (ds : List NumberedValue) → AreBefore classes ds b → IsAmong classes ds d
+    → answer ≡ (is_attribute (numbered_view d).decl.form && list_any (clashes classes (numbered_view d)) (map numbered_view ds))
 
 -- or whether it binds a name twice
 abbrev pub TellsTwice : Classes → Before → NumberedValue → Bool → Type 0
 TellsTwice classes b d answer = (ds : List NumberedValue) → AreBefore classes ds b → IsAmong classes ds d
-    → answer ≡ ((is_attribute (numbered_view d).decl.form && list_any (clashes classes (numbered_view d)) (map numbered_view ds)) || binds_twice (numbered_view d).decl.form)
+    → answer
+        ≡ ((is_attribute (numbered_view d).decl.form && list_any (clashes classes (numbered_view d)) (map numbered_view ds)) || binds_twice (numbered_view d).decl.form)

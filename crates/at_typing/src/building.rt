@@ -57,7 +57,8 @@ fn complete_rules(
     declared: Declarations,
     meant: Equations,
 ) -> Result<Rules, RuleFault>
-    requires { (first_fault classes (map numbered_view declared.items.items) ≡ None) × Stands declared.names.keys (meanings classes (map numbered_view declared.items.items) (map numbered_view declared.items.items)) meant }
+    requires { (first_fault classes (map numbered_view declared.items.items) ≡ None)
+        × Stands declared.names.keys (meanings classes (map numbered_view declared.items.items) (map numbered_view declared.items.items)) meant }
     ensures built { Builds classes (map numbered_view declared.entry.items.items) result }
     ensures complete { IfOk result AreComplete }
     ensures classes { IfOk result (λ r. r.classes ≡ classes) }
@@ -112,7 +113,8 @@ fn meant_by(
     attributes: &Attributes,
     declared: &[Numbered],
 ) -> Result<Equations, RuleFault>
-    requires { AreNumbered classes.now declared.now × AreAttributes declared.now attributes.now × (fault_together classes.now (map numbered_view declared.now) ≡ None) }
+    requires { AreNumbered classes.now declared.now × AreAttributes declared.now attributes.now
+        × (fault_together classes.now (map numbered_view declared.now) ≡ None) }
     ensures { Means classes.now declared.now (refused classes.now (map numbered_view declared.now)) result }
 {
     let signatures = signatures_of(alloc, classes, declared)?;
@@ -141,7 +143,8 @@ fn no_equations(alloc: Global) -> Equations
 
 /// Adds what the declaration means.
 fn add(among: &Among, numbered: &Numbered, meant: &mut Equations) -> Result<(), RuleFault>
-    ensures { (ds : List NumberedValue) → IsAbout ds among.now numbered.now → AddsOrTells (numbered_view numbered.now) numbered.now.name (meant_by_itself among.now.classes.now (map numbered_view ds) (numbered_view numbered.now)) meant.old meant.new result }
+    ensures { (ds : List NumberedValue) → IsAbout ds among.now numbered.now
+        → AddsOrTells (numbered_view numbered.now) numbered.now.name (meant_by_itself among.now.classes.now (map numbered_view ds) (numbered_view numbered.now)) meant.old meant.new result }
 {
     match among.add(numbered, meant) {
         Ok(()) => Ok(()),

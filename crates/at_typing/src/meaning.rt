@@ -57,7 +57,8 @@ impl Among<'_> {
     /// `Refused` for its first fault: of its classes, then of its component and index name, of its
     /// parameters, of its body. `Memory` for want of memory.
     pub fn add(&self, numbered: &Numbered, meant: &mut Equations) -> Result<(), TypeFault>
-        ensures { (ds : List NumberedValue) → IsAbout ds self.now numbered.now → Adds (numbered_view numbered.now) numbered.now.name (meant_by_itself self.now.classes.now (map numbered_view ds) (numbered_view numbered.now)) meant.old meant.new result }
+        ensures { (ds : List NumberedValue) → IsAbout ds self.now numbered.now
+            → Adds (numbered_view numbered.now) numbered.now.name (meant_by_itself self.now.classes.now (map numbered_view ds) (numbered_view numbered.now)) meant.old meant.new result }
     {
         self.add_form(&numbered.decl.form, numbered, meant)
     }
@@ -69,7 +70,8 @@ impl Among<'_> {
         numbered: &Numbered,
         meant: &mut Equations,
     ) -> Result<(), TypeFault>
-        ensures { (ds : List NumberedValue) → IsAbout ds self.now numbered.now → Adds (numbered_view numbered.now) numbered.now.name (form_meant self.now.classes.now (map numbered_view ds) (numbered_view numbered.now) (decl_form_view form.now)) meant.old meant.new result }
+        ensures { (ds : List NumberedValue) → IsAbout ds self.now numbered.now
+            → Adds (numbered_view numbered.now) numbered.now.name (form_meant self.now.classes.now (map numbered_view ds) (numbered_view numbered.now) (decl_form_view form.now)) meant.old meant.new result }
     {
         match form {
             DeclForm::Synthesized { kind, .. } => self.add_synthesized(numbered, kind, meant),
@@ -94,7 +96,8 @@ impl Among<'_> {
         kind: &KindWord,
         meant: &mut Equations,
     ) -> Result<(), TypeFault>
-        ensures { (ds : List NumberedValue) → IsAbout ds self.now numbered.now → Adds (numbered_view numbered.now) numbered.now.name (synthesized_meant self.now.classes.now (map numbered_view ds) (numbered_view numbered.now) (kind_word_view kind.now)) meant.old meant.new result }
+        ensures { (ds : List NumberedValue) → IsAbout ds self.now numbered.now
+            → Adds (numbered_view numbered.now) numbered.now.name (synthesized_meant self.now.classes.now (map numbered_view ds) (numbered_view numbered.now) (kind_word_view kind.now)) meant.old meant.new result }
     {
         let class = self.declare(numbered, kind, meant)?;
         match body_in(&numbered.decl.form) {
@@ -124,7 +127,8 @@ impl Among<'_> {
         body: &Written,
         meant: &mut Equations,
     ) -> Result<(), TypeFault>
-        ensures { (ds : List NumberedValue) → IsAbout ds self.now numbered.now → Adds (numbered_view numbered.now) numbered.now.name (equation_meant self.now.classes.now (map numbered_view ds) (numbered_view numbered.now) (word_view class.now) (written_body body.now)) meant.old meant.new result }
+        ensures { (ds : List NumberedValue) → IsAbout ds self.now numbered.now
+            → Adds (numbered_view numbered.now) numbered.now.name (equation_meant self.now.classes.now (map numbered_view ds) (numbered_view numbered.now) (word_view class.now) (written_body body.now)) meant.old meant.new result }
     {
         let class = self.class_named(class)?;
         self.add_own(class, self.synthesized(numbered), numbered, body, meant)
@@ -140,7 +144,8 @@ impl Among<'_> {
         body: &Written,
         meant: &mut Equations,
     ) -> Result<(), TypeFault>
-        ensures { (ds : List NumberedValue) → IsAbout ds self.now numbered.now → Adds (numbered_view numbered.now) numbered.now.name (equation_below_meant self.now.classes.now (map numbered_view ds) (numbered_view numbered.now) (word_view class.now) (word_view getter.now) (option_map (λ w. word_view w.now) index.entry) (written_body body.now)) meant.old meant.new result }
+        ensures { (ds : List NumberedValue) → IsAbout ds self.now numbered.now
+            → Adds (numbered_view numbered.now) numbered.now.name (equation_below_meant self.now.classes.now (map numbered_view ds) (numbered_view numbered.now) (word_view class.now) (word_view getter.now) (option_map (λ w. word_view w.now) index.entry) (written_body body.now)) meant.old meant.new result }
     {
         let class = self.class_named(class)?;
         let part = self.component_got(class, getter)?;
@@ -150,7 +155,8 @@ impl Among<'_> {
 
     /// The synthesized attribute of that name that the declaration's class or one above it declares.
     fn synthesized(&self, numbered: &Numbered) -> Option<AttrId>
-        ensures { (ds : List NumberedValue) → IsAbout ds self.now numbered.now → result ≡ synthesized_named self.now.classes.now (map numbered_view ds) (class_text (numbered_view numbered.now)) (name_text (numbered_view numbered.now)) }
+        ensures { (ds : List NumberedValue) → IsAbout ds self.now numbered.now → result
+            ≡ synthesized_named self.now.classes.now (map numbered_view ds) (class_text (numbered_view numbered.now)) (name_text (numbered_view numbered.now)) }
     {
         self.attributes
             .synthesized(self.classes, numbered.class, numbered.name)
@@ -158,7 +164,8 @@ impl Among<'_> {
 
     /// The first inherited attribute of that name.
     fn inherited(&self, numbered: &Numbered) -> Option<AttrId>
-        ensures { (ds : List NumberedValue) → IsAbout ds self.now numbered.now → result ≡ inherited_named (map numbered_view ds) (name_text (numbered_view numbered.now)) }
+        ensures { (ds : List NumberedValue) → IsAbout ds self.now numbered.now
+            → result ≡ inherited_named (map numbered_view ds) (name_text (numbered_view numbered.now)) }
     {
         self.attributes.inherited(numbered.name)
     }

@@ -70,7 +70,8 @@ fn append_signature(
     signatures: &mut Signatures,
 ) -> Result<(), AllocError>
     requires { IsOfItsClass classes.now numbered.now }
-    ensures { OnOk result (signatures.new ≡ signatures.old ++ signature_if classes.now (words_view words.now) (numbered_view numbered.now) (result_in (numbered_view numbered.now).decl.form)) }
+    ensures { OnOk result (signatures.new
+        ≡ signatures.old ++ signature_if classes.now (words_view words.now) (numbered_view numbered.now) (result_in (numbered_view numbered.now).decl.form)) }
 {
     let Some(kind) = result_in(&numbered.decl.form) else {
         return Ok(());

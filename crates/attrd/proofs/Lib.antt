@@ -1,8 +1,8 @@
-pub mod CommandLine
+pub mod CommandLineLemmas
 mod CommandLineFacts
 pub mod OptionsRead
 pub mod Entries
 pub mod WholeRows
 pub mod Taken
 pub mod Parses
-mod Doors
+mod DoorsLemmas

@@ -14,10 +14,13 @@ Comes (Some (sent ∷ rest)) after readable = (readable ≡ Some sent) × (after
 
 -- One has come, and a run has served what can be read from it; or none could be accepted, and nothing was done.
 pub data ServesNext (rules : Rules) (slice : ℕ) (old new : State) (coming later : Option (List (List ℕ))) : Type 0 where
-  by_run : (run : Result Report RunFault) (readable left before after : Option (List ℕ)) → Comes coming later readable → Ran max_reads run rules slice old new readable left before after → ServesNext rules slice old new coming later
+  by_run : (run : Result Report RunFault) (readable left before after : Option (List ℕ)) → Comes coming later readable
+      → Ran max_reads run rules slice old new readable left before after → ServesNext rules slice old new coming later
   not_accepted : new ≡ old → later ≡ coming → ServesNext rules slice old new coming later
 
 -- so many were served so, each in the state in which the one before it has left the machine
-pub data ServesAll (rules : Rules) (slice : ℕ) (old : State) (coming : Option (List (List ℕ))) : (connections : ℕ) → State → (later : Option (List (List ℕ))) → Type 0 where
+pub data ServesAll (rules : Rules) (slice : ℕ) (old : State) (coming : Option (List (List ℕ))) : (connections : ℕ) → State → (later : Option (List (List ℕ)))
+    → Type 0 where
   none : ServesAll rules slice old coming 0 old coming
-  one_more : {n : ℕ} {mid new : State} {between later : Option (List (List ℕ))} → ServesAll rules slice old coming n mid between → ServesNext rules slice mid new between later → ServesAll rules slice old coming (n + 1) new later
+  one_more : {n : ℕ} {mid new : State} {between later : Option (List (List ℕ))} → ServesAll rules slice old coming n mid between
+      → ServesNext rules slice mid new between later → ServesAll rules slice old coming (n + 1) new later

@@ -10,8 +10,8 @@ use Rattle.at_model.specs.Run.{Value, Int, Instance}
 use Rattle.at_model.specs.TypedRuns.{ClassAt, IsOfKind, IsOfItsKind, AreArguments, IsWellTyped}
 use Rattle.at_model.specs.Rules as kinds
 use Rattle.at_model.proofs.Options.{both}
-use Rattle.at_model.proofs.WellAsked.{element_at}
-use Rattle.at_model.proofs.TypedTogether.{any_text}
+use Rattle.at_model.proofs.of_machines.WellAsked.{element_at}
+use Rattle.at_model.proofs.of_typing.TypedTogether.{any_text}
 use Rattle.at_rules.specs.Bodies.{kind_view}
 use Rattle.at_rules.specs.declared.body.Kind.{Kind as KindCode}
 use Rattle.at_rules.specs.Upward.{result_of}

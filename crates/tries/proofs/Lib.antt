@@ -1,4 +1,4 @@
 pub mod Placed
-pub mod Worlds
+pub mod WorldsLemmas
 pub mod Fitted
 pub mod Noted

@@ -4,7 +4,7 @@ use Rattle.at_model.specs.Classes.{Classes}
 use Rattle.at_model.specs.Trees.{Tree}
 use Rattle.at_model.specs.Terms.{IsTerm}
 use Rattle.at_model.specs.Enduring.{AreTokens}
-use Rattle.at_model.proofs.TokensKept.{written_tokens}
+use Rattle.at_model.proofs.of_machines.TokensKept.{written_tokens}
 use Rattle.at_tree.specs.ReadTrees.{IsReadAs}
 
 -- a tree that is read has tokens that can be written

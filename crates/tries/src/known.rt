@@ -29,7 +29,8 @@ impl Values {
 
     /// Notes the value of an instance, in place of the one that it had. An error where memory is wanting; then it isn't noted.
     pub fn learn(&mut self, inst: Inst, value: Value) -> Result<(), AllocError>
-        ensures { (rules : Rules) (at : ClassAt ℕ) → AreOfTheirKinds rules at (known_in self.old) → IsOfItsKind rules at inst (value_view value) → AreOfTheirKinds rules at (known_in self.new) }
+        ensures { (rules : Rules) (at : ClassAt ℕ) → AreOfTheirKinds rules at (known_in self.old) → IsOfItsKind rules at inst (value_view value)
+            → AreOfTheirKinds rules at (known_in self.new) }
     {
         self.values.insert(inst, value)?;
         Ok(())

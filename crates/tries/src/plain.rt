@@ -110,14 +110,14 @@ fn bound_at(bound: &[Node], position: usize) -> Option<Node> {
 /// What an operator gives.
 fn computed(operator: Operator, left: i32, right: i32) -> Result<Value, Refusal> {
     match operator {
-        Operator::Times => Ok(Value::Int(left.wrapping_mul(right))),
-        Operator::Plus => Ok(Value::Int(left.wrapping_add(right))),
-        Operator::Minus => Ok(Value::Int(left.wrapping_sub(right))),
-        Operator::Over => match right {
+        Operator::Multiply => Ok(Value::Int(left.wrapping_mul(right))),
+        Operator::Add => Ok(Value::Int(left.wrapping_add(right))),
+        Operator::Subtract => Ok(Value::Int(left.wrapping_sub(right))),
+        Operator::Divide => match right {
             0 => Err(Refusal::NoValue),
             divisor => Ok(Value::Int(left.wrapping_div(divisor))),
         },
-        Operator::Modulo => match right {
+        Operator::Remainder => match right {
             0 => Err(Refusal::NoValue),
             divisor => Ok(Value::Int(left.wrapping_rem(divisor))),
         },

@@ -37,7 +37,8 @@ impl<K: Keeper> Demand<K> {
     /// The question for an instance, as it is before its first turn. It takes no memory as yet, so there is no error.
     pub fn post(&self, inst: Inst) -> Result<Question, AllocError>
         ensures posted { IfOk result (λ q. under_way q ≡ posted inst) }
-        ensures standing { (entries : Entries) (rules : Rules) (s : Shown) → IsWellTyped rules (class_shown s) AnyText inst → IfOk result (IsStanding rules s entries) }
+        ensures standing { (entries : Entries) (rules : Rules) (s : Shown) → IsWellTyped rules (class_shown s) AnyText inst
+            → IfOk result (IsStanding rules s entries) }
         ensures sparing { (entries : Entries) (rules : Rules) (look : Contents ℕ) → IfOk result (IsSparingTurns rules look entries) }
     {
         Ok(Question::new(self.alloc, inst))
@@ -61,11 +62,16 @@ impl<K: Keeper> Demand<K> {
         ensures answers { IfOk result (λ o. IfSome o (λ a. HasAnswer (contents store.now) (meaning rules.now) (asked (under_way question.old)) (answer_view a))) }
         ensures standing { IfOk result (λ o. IsStanding rules.now store.now (K.contents self.new.keeper) question.new) }
         ensures right { Right (contents store.now) (meaning rules.now) (kept_values (K.contents self.new.keeper)) }
-        ensures stays { IsThere store.now (asked (under_way question.old)) → AreRight rules.now store.now (K.contents self.old.keeper) → AreRight rules.now store.now (K.contents self.new.keeper) }
+        ensures stays { IsThere store.now (asked (under_way question.old)) → AreRight rules.now store.now (K.contents self.old.keeper)
+            → AreRight rules.now store.now (K.contents self.new.keeper) }
         ensures last { MayAddLazy rules.now (K.contents self.old.keeper) (K.contents self.new.keeper) question.old.inst }
         ensures worthy { AddsWorthy rules.now (contents store.now) (asked (under_way question.old)) (K.contents self.old.keeper) (K.contents self.new.keeper) }
-        ensures sparing { IsTrue K.exact → AreSpare rules.now (contents store.now) (K.contents self.old.keeper) → IsSparingTurns rules.now (contents store.now) (K.contents self.old.keeper) question.old → IfOk result (λ o. IsSparingTurns rules.now (contents store.now) (K.contents self.new.keeper) question.new) }
-        ensures spare { IsTrue K.exact → AreSpare rules.now (contents store.now) (K.contents self.old.keeper) → IsSparingTurns rules.now (contents store.now) (K.contents self.old.keeper) question.old → AreSpare rules.now (contents store.now) (K.contents self.new.keeper) }
+        ensures sparing { IsTrue K.exact → AreSpare rules.now (contents store.now) (K.contents self.old.keeper)
+            → IsSparingTurns rules.now (contents store.now) (K.contents self.old.keeper) question.old
+            → IfOk result (λ o. IsSparingTurns rules.now (contents store.now) (K.contents self.new.keeper) question.new) }
+        ensures spare { IsTrue K.exact → AreSpare rules.now (contents store.now) (K.contents self.old.keeper)
+            → IsSparingTurns rules.now (contents store.now) (K.contents self.old.keeper) question.old
+            → AreSpare rules.now (contents store.now) (K.contents self.new.keeper) }
         ensures counts { IsTrue K.exact → Counts (K.contents self.old.keeper) (K.contents self.new.keeper) self.old.work self.new.work }
     {
         // The call says that it is less than 2^64.
@@ -93,9 +99,14 @@ impl<K: Keeper> Demand<K> {
         ensures standing { IfOk result (λ r. IsStanding rules.now store.now (K.contents self.new.keeper) question.new) }
         ensures right { Right (contents store.now) (meaning rules.now) (kept_values (K.contents self.new.keeper)) }
         ensures worthy { AddsWorthy rules.now (contents store.now) (asked (under_way question.old)) (K.contents self.old.keeper) (K.contents self.new.keeper) }
-        ensures stays { IsThere store.now (asked (under_way question.old)) → AreRight rules.now store.now (K.contents self.old.keeper) → AreRight rules.now store.now (K.contents self.new.keeper) }
-        ensures spare { IsTrue K.exact → AreSpare rules.now (contents store.now) (K.contents self.old.keeper) → IsSparingTurns rules.now (contents store.now) (K.contents self.old.keeper) question.old → AreSpare rules.now (contents store.now) (K.contents self.new.keeper) }
-        ensures sparing { IsTrue K.exact → AreSpare rules.now (contents store.now) (K.contents self.old.keeper) → IsSparingTurns rules.now (contents store.now) (K.contents self.old.keeper) question.old → IfOk result (λ r. IsSparingTurns rules.now (contents store.now) (K.contents self.new.keeper) question.new) }
+        ensures stays { IsThere store.now (asked (under_way question.old)) → AreRight rules.now store.now (K.contents self.old.keeper)
+            → AreRight rules.now store.now (K.contents self.new.keeper) }
+        ensures spare { IsTrue K.exact → AreSpare rules.now (contents store.now) (K.contents self.old.keeper)
+            → IsSparingTurns rules.now (contents store.now) (K.contents self.old.keeper) question.old
+            → AreSpare rules.now (contents store.now) (K.contents self.new.keeper) }
+        ensures sparing { IsTrue K.exact → AreSpare rules.now (contents store.now) (K.contents self.old.keeper)
+            → IsSparingTurns rules.now (contents store.now) (K.contents self.old.keeper) question.old
+            → IfOk result (λ r. IsSparingTurns rules.now (contents store.now) (K.contents self.new.keeper) question.new) }
         ensures counts { IsTrue K.exact → Counts (K.contents self.old.keeper) (K.contents self.new.keeper) self.old.work self.new.work }
     {
         // The call says that it is less than 2^64.
@@ -130,12 +141,18 @@ impl<K: Keeper> Demand<K> {
         ensures standing { IfOk result (λ o. IsStanding rules.now store.now (K.contents self.new.keeper) question.new) }
         ensures fit { IfOk result (FitAfter rules.now store.now (K.contents self.new.keeper) question.new trials.new) }
         ensures right { Right (contents store.now) (meaning rules.now) (kept_values (K.contents self.new.keeper)) }
-        ensures stays { IsThere store.now (asked (under_way question.old)) → AreRight rules.now store.now (K.contents self.old.keeper) → AreRight rules.now store.now (K.contents self.new.keeper) }
+        ensures stays { IsThere store.now (asked (under_way question.old)) → AreRight rules.now store.now (K.contents self.old.keeper)
+            → AreRight rules.now store.now (K.contents self.new.keeper) }
         ensures last { MayAddLazy rules.now (K.contents self.old.keeper) (K.contents self.new.keeper) question.old.inst }
         ensures worthy { AddsWorthy rules.now (contents store.now) (asked (under_way question.old)) (K.contents self.old.keeper) (K.contents self.new.keeper) }
-        ensures sparing { IsTrue K.exact → AreSpare rules.now (contents store.now) (K.contents self.old.keeper) → IsSparingTurns rules.now (contents store.now) (K.contents self.old.keeper) question.old → IfOk result (λ o. IsSparingTurns rules.now (contents store.now) (K.contents self.new.keeper) question.new) }
-        ensures spare { IsTrue K.exact → AreSpare rules.now (contents store.now) (K.contents self.old.keeper) → IsSparingTurns rules.now (contents store.now) (K.contents self.old.keeper) question.old → AreSpare rules.now (contents store.now) (K.contents self.new.keeper) }
-        ensures counts { IsTrue K.exact → self.old.work < 2 ^ 64 → Counts (K.contents self.old.keeper) (K.contents self.new.keeper) self.old.work self.new.work }
+        ensures sparing { IsTrue K.exact → AreSpare rules.now (contents store.now) (K.contents self.old.keeper)
+            → IsSparingTurns rules.now (contents store.now) (K.contents self.old.keeper) question.old
+            → IfOk result (λ o. IsSparingTurns rules.now (contents store.now) (K.contents self.new.keeper) question.new) }
+        ensures spare { IsTrue K.exact → AreSpare rules.now (contents store.now) (K.contents self.old.keeper)
+            → IsSparingTurns rules.now (contents store.now) (K.contents self.old.keeper) question.old
+            → AreSpare rules.now (contents store.now) (K.contents self.new.keeper) }
+        ensures counts { IsTrue K.exact → self.old.work < 2 ^ 64
+            → Counts (K.contents self.old.keeper) (K.contents self.new.keeper) self.old.work self.new.work }
     {
         if let Some(value) = self.keeper.get(question.asked()) {
             return Ok(Some(Answer::Value(value.copy()?)));
@@ -221,12 +238,18 @@ impl<K: Keeper> Demand<K> {
         requires whole { AreWhole rules.now (contents store.now) found.now.entries }
         ensures tried { IfOk result (HasTried rules.now (class_shown store.now) (contents store.now) (K.contents self.old.keeper) found.now.entries inst.now) }
         ensures right { Right (contents store.now) (meaning rules.now) (kept_values (K.contents self.new.keeper)) }
-        ensures stays { IsThere store.now inst.now → AreRight rules.now store.now (K.contents self.old.keeper) → AreRight rules.now store.now (K.contents self.new.keeper) }
+        ensures stays { IsThere store.now inst.now → AreRight rules.now store.now (K.contents self.old.keeper)
+            → AreRight rules.now store.now (K.contents self.new.keeper) }
         ensures lazy { MayAddLazy rules.now (K.contents self.old.keeper) (K.contents self.new.keeper) inst.now }
         ensures worthy { AddsWorthy rules.now (contents store.now) inst.now (K.contents self.old.keeper) (K.contents self.new.keeper) }
-        ensures spare { IsTrue K.exact → AreSpare rules.now (contents store.now) (K.contents self.old.keeper) → AreLean rules.now (contents store.now) found.now.entries → AreSettled rules.now (K.contents self.old.keeper) found.now.entries → AreSpare rules.now (contents store.now) (K.contents self.new.keeper) }
-        ensures settles { IsTrue K.exact → AreSpare rules.now (contents store.now) (K.contents self.old.keeper) → AreSettled rules.now (K.contents self.old.keeper) found.now.entries → IfOk result (SettlesOn rules.now (K.contents self.new.keeper) found.now.entries inst.now) }
-        ensures counts { IsTrue K.exact → self.old.work < 2 ^ 64 → Counts (K.contents self.old.keeper) (K.contents self.new.keeper) self.old.work self.new.work }
+        ensures spare { IsTrue K.exact → AreSpare rules.now (contents store.now) (K.contents self.old.keeper)
+            → AreLean rules.now (contents store.now) found.now.entries → AreSettled rules.now (K.contents self.old.keeper) found.now.entries
+            → AreSpare rules.now (contents store.now) (K.contents self.new.keeper) }
+        ensures settles { IsTrue K.exact → AreSpare rules.now (contents store.now) (K.contents self.old.keeper)
+            → AreSettled rules.now (K.contents self.old.keeper) found.now.entries
+            → IfOk result (SettlesOn rules.now (K.contents self.new.keeper) found.now.entries inst.now) }
+        ensures counts { IsTrue K.exact → self.old.work < 2 ^ 64
+            → Counts (K.contents self.old.keeper) (K.contents self.new.keeper) self.old.work self.new.work }
         ensures keeps { IfOk result (IsKeptAs (K.contents self.new.keeper) inst.now) }
         ensures waits { IfOk result (Awaits rules.now (class_shown store.now) (contents store.now) (K.contents self.old.keeper) found.now.entries inst.now frame.new) }
     {

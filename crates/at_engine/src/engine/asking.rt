@@ -69,7 +69,8 @@ impl<K: Keeper> Engine<K> {
         requires named { IsName attribute.now }
         ensures obeys { IfOk result (λ f. Obeys (rules_of self.old) (state_of self.old) session (Ask (place_view place.now) attribute.now (arguments_view arguments.now)) f (state_of self.new)) }
         ensures kept { state_of self.new ≡ state_of self.old }
-        ensures spares { IsTrue K.exact → IsSpare K.contents self.old → Spares K.contents (obeyed (rules_of self.old) (state_of self.old) session (Ask (place_view place.now) attribute.now (arguments_view arguments.now))) result self.old self.new }
+        ensures spares { IsTrue K.exact → IsSpare K.contents self.old
+            → Spares K.contents (obeyed (rules_of self.old) (state_of self.old) session (Ask (place_view place.now) attribute.now (arguments_view arguments.now))) result self.old self.new }
         ensures rules { rules_of self.new ≡ rules_of self.old }
         ensures slice { slice_of self.new ≡ slice_of self.old }
         ensures sound { IsHeld K.contents self.new }
@@ -89,7 +90,8 @@ impl<K: Keeper> Engine<K> {
         ensures answered { (q : Instance NodeOf) → InstanceLike (Names (path_shown self.old.store)) inst.now q
             → IfOk result (λ f. (a : AnswerOf NodeOf) × AnswersIn (rules_of self.old) (state_of self.old).tree q a × IsToldAs (rules_of self.old) (state_of self.old).tree a f) }
         ensures kept { state_of self.new ≡ state_of self.old }
-        ensures spares { (q : Instance NodeOf) → InstanceLike (Names (path_shown self.old.store)) inst.now q → IsTrue K.exact → IsSpare K.contents self.old → Spares K.contents (Asks q) result self.old self.new }
+        ensures spares { (q : Instance NodeOf) → InstanceLike (Names (path_shown self.old.store)) inst.now q → IsTrue K.exact → IsSpare K.contents self.old
+            → Spares K.contents (Asks q) result self.old self.new }
         ensures rules { rules_of self.new ≡ rules_of self.old }
         ensures slice { slice_of self.new ≡ slice_of self.old }
         ensures sound { IsHeld K.contents self.new }
@@ -177,7 +179,8 @@ impl<K: Keeper> Engine<K> {
     /// Whether there are as many values as parameters, each of its parameter's kind.
     fn fit_parameters(&self, attribute: AttrId, values: &[Value]) -> bool
         requires sound { IsHeld K.contents self.now }
-        ensures { result ≡ fit_numbers (rules_of self.now).classes (contents self.now.store) (parameters_of (rules_of self.now) attribute) (map value_view values.now) }
+        ensures { result
+            ≡ fit_numbers (rules_of self.now).classes (contents self.now.store) (parameters_of (rules_of self.now) attribute) (map value_view values.now) }
     {
         let mut kinds = self.rules.params(attribute);
         let mut rest = values;

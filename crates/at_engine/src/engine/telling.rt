@@ -59,7 +59,8 @@ impl<K: Keeper> Engine<K> {
     /// The value, or the fault or circle with the path of its node.
     pub(super) fn told(&self, answer: Answer) -> Result<Form, AllocError>
         requires sound { IsHeld K.contents self.now }
-        ensures { (a : AnswerOf NodeOf) → AnswerLike (Names (path_shown self.now.store)) (answer_view answer) a → IfOk result (IsToldAs (rules_of self.now) (state_of self.now).tree a) }
+        ensures { (a : AnswerOf NodeOf) → AnswerLike (Names (path_shown self.now.store)) (answer_view answer) a
+            → IfOk result (IsToldAs (rules_of self.now) (state_of self.now).tree a) }
     {
         match answer {
             Answer::Value(value) => Ok(Form::Shows(self.shown(value)?)),
@@ -71,7 +72,8 @@ impl<K: Keeper> Engine<K> {
     /// The fault with the path of its node.
     fn told_fault(&self, kind: FaultKind, at: &Inst) -> Result<Form, AllocError>
         requires sound { IsHeld K.contents self.now }
-        ensures { (a : AnswerOf NodeOf) → AnswerLike (Names (path_shown self.now.store)) (Outcomes (Faults (fault_view kind) at.now)) a → IfOk result (IsToldAs (rules_of self.now) (state_of self.now).tree a) }
+        ensures { (a : AnswerOf NodeOf) → AnswerLike (Names (path_shown self.now.store)) (Outcomes (Faults (fault_view kind) at.now)) a
+            → IfOk result (IsToldAs (rules_of self.now) (state_of self.now).tree a) }
     {
         let path = self.path_to(at.node())?;
         let attribute = self.attribute_of(at)?;
@@ -85,7 +87,8 @@ impl<K: Keeper> Engine<K> {
     /// The circle with the path of its node.
     fn told_circle(&self, at: &Inst) -> Result<Form, AllocError>
         requires sound { IsHeld K.contents self.now }
-        ensures { (a : AnswerOf NodeOf) → AnswerLike (Names (path_shown self.now.store)) (Circle at.now) a → IfOk result (IsToldAs (rules_of self.now) (state_of self.now).tree a) }
+        ensures { (a : AnswerOf NodeOf) → AnswerLike (Names (path_shown self.now.store)) (Circle at.now) a
+            → IfOk result (IsToldAs (rules_of self.now) (state_of self.now).tree a) }
     {
         let path = self.path_to(at.node())?;
         let attribute = self.attribute_of(at)?;
@@ -102,7 +105,8 @@ impl<K: Keeper> Engine<K> {
     /// What is shown of a value: of a node its path.
     fn shown(&self, value: Value) -> Result<Shown, AllocError>
         requires sound { IsHeld K.contents self.now }
-        ensures { (v : ValueOf NodeOf) → ValueLike (Names (path_shown self.now.store)) (value_view value) v → IfOk result (IsShownAs (shown_value (rules_of self.now).classes (state_of self.now).tree v)) }
+        ensures { (v : ValueOf NodeOf) → ValueLike (Names (path_shown self.now.store)) (value_view value) v
+            → IfOk result (IsShownAs (shown_value (rules_of self.now).classes (state_of self.now).tree v)) }
     {
         match value {
             Value::Int(_) => Ok(Shown::Token(number_of(&value))),
@@ -115,7 +119,8 @@ impl<K: Keeper> Engine<K> {
     /// What is shown of a node, or of null.
     fn shown_node(&self, node: Option<Node>) -> Result<Shown, AllocError>
         requires sound { IsHeld K.contents self.now }
-        ensures { (n : Option NodeOf) → OptionLike (Names (path_shown self.now.store)) node n → IfOk result (IsShownAs (shown_value (rules_of self.now).classes (state_of self.now).tree (Ref n))) }
+        ensures { (n : Option NodeOf) → OptionLike (Names (path_shown self.now.store)) node n
+            → IfOk result (IsShownAs (shown_value (rules_of self.now).classes (state_of self.now).tree (Ref n))) }
     {
         match node {
             None => Ok(Shown::Null),

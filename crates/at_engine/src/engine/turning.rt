@@ -51,8 +51,11 @@ fn answer_to<K: Keeper>(
     requires named { IsAskedOf rules.now store.now (asked (under_way question)) }
     ensures answers { IfOk result (λ a. HasAnswer (contents store.now) (meaning rules.now) (asked (under_way question)) (answer_view a)) }
     ensures worthy { AddsWorthy rules.now (contents store.now) (asked (under_way question)) (K.contents demand.old.keeper) (K.contents demand.new.keeper) }
-    ensures stays { IsThere store.now (asked (under_way question)) → AreRight rules.now store.now (K.contents demand.old.keeper) → AreRight rules.now store.now (K.contents demand.new.keeper) }
-    ensures spare { IsTrue K.exact → AreSpare rules.now (contents store.now) (K.contents demand.old.keeper) → IsSparingTurns rules.now (contents store.now) (K.contents demand.old.keeper) question → AreSpare rules.now (contents store.now) (K.contents demand.new.keeper) }
+    ensures stays { IsThere store.now (asked (under_way question)) → AreRight rules.now store.now (K.contents demand.old.keeper)
+        → AreRight rules.now store.now (K.contents demand.new.keeper) }
+    ensures spare { IsTrue K.exact → AreSpare rules.now (contents store.now) (K.contents demand.old.keeper)
+        → IsSparingTurns rules.now (contents store.now) (K.contents demand.old.keeper) question
+        → AreSpare rules.now (contents store.now) (K.contents demand.new.keeper) }
 {
     loop {
         let (_, answer) = demand.turns(rules, store, &mut question, u64::MAX)?;
@@ -178,7 +181,8 @@ impl<K: Keeper> Engine<K> {
         requires sound { IsHeld K.contents self.old }
         requires typed { IsTyped (rules_of self.old) (state_of self.old) }
         requires within { position < length self.old.posts.items.items }
-        ensures closed { (p : Posted) → StandsAt self.old.posts.items.items position p → IsClosed (rules_of self.old) (state_of self.old) (posted_view (path_shown self.old.store) p) (state_of self.new) result }
+        ensures closed { (p : Posted) → StandsAt self.old.posts.items.items position p
+            → IsClosed (rules_of self.old) (state_of self.old) (posted_view (path_shown self.old.store) p) (state_of self.new) result }
         ensures rest { self.new ≡ record self.old { demand = self.new.demand; posts = self.new.posts } }
         ensures spare { IsTrue K.exact → IsSpare K.contents self.old → IsSpare K.contents self.new }
         ensures sound { IsHeld K.contents self.new }
@@ -193,7 +197,8 @@ impl<K: Keeper> Engine<K> {
         requires within { position < length self.old.posts.items.items }
         requires writable { IfOk form IsWritable }
         requires room { vec_len out.old + 64 ≤ vec_capacity out.old }
-        ensures said { (p : Posted) → StandsAt self.old.posts.items.items position p → IsSaid (told_of p self.old.version form) result out.old.items out.new.items }
+        ensures said { (p : Posted) → StandsAt self.old.posts.items.items position p
+            → IsSaid (told_of p self.old.version form) result out.old.items out.new.items }
         ensures items { self.new.posts.items.items ≡ remove self.old.posts.items.items position }
         ensures rest { self.new ≡ record self.old { posts = record self.new.posts { count = self.old.posts.count } } }
         ensures room { vec_capacity out.old ≤ vec_capacity out.new }
@@ -302,7 +307,8 @@ impl<K: Keeper> Engine<K> {
         requires within { position < length self.now.posts.items.items }
         ensures begins { (p : Posted) → StandsAt self.now.posts.items.items position p → HasBegun (rules_of self.now) self.now.store (K.contents self.now.demand.keeper) p begun
             → IfOk result (Begins (rules_of self.now) self.now.store (K.contents self.now.demand.keeper) p begun) }
-        ensures sparing { IsSparingOn (rules_of self.now) (contents self.now.store) (K.contents self.now.demand.keeper) begun → IfOk result (BeginsSparing (rules_of self.now) (contents self.now.store) (K.contents self.now.demand.keeper)) }
+        ensures sparing { IsSparingOn (rules_of self.now) (contents self.now.store) (K.contents self.now.demand.keeper) begun
+            → IfOk result (BeginsSparing (rules_of self.now) (contents self.now.store) (K.contents self.now.demand.keeper)) }
     {
         match begun {
             Some(question) => Ok(Begun::Question(question)),
@@ -314,7 +320,8 @@ impl<K: Keeper> Engine<K> {
     fn begin_anew(&self, position: usize) -> Result<Begun, AllocError>
         requires sound { IsHeld K.contents self.now }
         requires within { position < length self.now.posts.items.items }
-        ensures begins { (p : Posted) → StandsAt self.now.posts.items.items position p → IfOk result (Begins (rules_of self.now) self.now.store (K.contents self.now.demand.keeper) p None) }
+        ensures begins { (p : Posted) → StandsAt self.now.posts.items.items position p
+            → IfOk result (Begins (rules_of self.now) self.now.store (K.contents self.now.demand.keeper) p None) }
         ensures sparing { IfOk result (BeginsSparing (rules_of self.now) (contents self.now.store) (K.contents self.now.demand.keeper)) }
     {
         let posted = self.posts.at(position);

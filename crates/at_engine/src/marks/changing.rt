@@ -55,7 +55,8 @@ impl Marks {
     /// they were.
     pub fn push(&mut self, session: u16, name: String, node: Node) -> Result<(), AllocError>
         requires { has_mark (listed self.old.items.entries) session (string_bytes name) ≡ false }
-        ensures more { IfOk result (λ u. listed self.new.items.entries ≡ listed self.old.items.entries ++ record { session = session; name = string_bytes name; node = node } ∷ []) }
+        ensures more { IfOk result (λ u. listed self.new.items.entries
+            ≡ listed self.old.items.entries ++ record { session = session; name = string_bytes name; node = node } ∷ []) }
         ensures err { OnErr result (listed self.new.items.entries ≡ listed self.old.items.entries) }
     {
         let Marks {
@@ -120,7 +121,8 @@ fn count(
     session: u16,
     node: Node,
 ) -> Result<(), AllocError>
-    ensures ok { OnOk result ((ms : List Mark) (m : Mark) → IsOf session node m → AreTallied ms sessions.old nodes.old → AreTallied (ms ++ m ∷ []) sessions.new nodes.new) }
+    ensures ok { OnOk result ((ms : List Mark) (m : Mark) → IsOf session node m → AreTallied ms sessions.old nodes.old
+        → AreTallied (ms ++ m ∷ []) sessions.new nodes.new) }
     ensures err { OnErr result ((ms : List Mark) → AreTallied ms sessions.old nodes.old → AreTallied ms sessions.new nodes.new) }
 {
     sessions.add(session as usize)?;
@@ -135,7 +137,8 @@ fn count(
 
 // One mark less of the session, and of the node.
 fn discount(sessions: &mut Tally, nodes: &mut Tally, session: u16, node: Node)
-    ensures { (front back : List Mark) (m : Mark) → IsOf session node m → AreTallied (front ++ m ∷ back) sessions.old nodes.old → AreTallied (front ++ back) sessions.new nodes.new }
+    ensures { (front back : List Mark) (m : Mark) → IsOf session node m → AreTallied (front ++ m ∷ back) sessions.old nodes.old
+        → AreTallied (front ++ back) sessions.new nodes.new }
 {
     sessions.take(session as usize);
     nodes.take(node.index());
@@ -177,7 +180,8 @@ fn discount_all_gone(
     store: &Store,
 )
     requires { IsIdle store.now }
-    ensures { AreTallied (listed items.now.entries) sessions.old nodes.old → AreTallied (filter (λ m. is_some (path store.now m.node)) (listed items.now.entries)) sessions.new nodes.new }
+    ensures { AreTallied (listed items.now.entries) sessions.old nodes.old
+        → AreTallied (filter (λ m. is_some (path store.now m.node)) (listed items.now.entries)) sessions.new nodes.new }
 {
     for position in 0..items.len() {
         discount_at(items, sessions, nodes, store, position);
@@ -208,7 +212,8 @@ fn enter(
 
 // Where the session's mark of that name stands, if there is one.
 fn place_of(items: &IndexMap<Key<'static>, Node>, session: u16, name: &str) -> Option<usize>
-    ensures { MatchOption result (filter (λ m. not (is_named session name.now m)) (listed items.now.entries) ≡ listed items.now.entries) (IsPlaceOf session name.now (listed items.now.entries)) }
+    ensures { MatchOption result (filter (λ m. not (is_named session name.now m)) (listed items.now.entries)
+        ≡ listed items.now.entries) (IsPlaceOf session name.now (listed items.now.entries)) }
 {
     items.get_index_of(&Key::lent(session, name))
 }
@@ -216,7 +221,8 @@ fn place_of(items: &IndexMap<Key<'static>, Node>, session: u16, name: &str) -> O
 // Takes the session's mark of that name out, where there is one. All others stay in their order.
 fn take_out(items: &mut IndexMap<Key<'static>, Node>, session: u16, name: &str) -> Option<Node>
     ensures left { listed items.new.entries ≡ filter (λ m. not (is_named session name.now m)) (listed items.old.entries) }
-    ensures taken { MatchOption result (listed items.new.entries ≡ listed items.old.entries) (λ node. IsTaken session node (listed items.old.entries) (listed items.new.entries)) }
+    ensures taken { MatchOption result (listed items.new.entries
+        ≡ listed items.old.entries) (λ node. IsTaken session node (listed items.old.entries) (listed items.new.entries)) }
 {
     let place = place_of(items, session, name)?;
     let (_, node) = items.shift_remove_index(place)?;

@@ -73,7 +73,8 @@ impl Noted {
 
     /// One more mark, behind the others. Where memory is wanting the marks stay as they were.
     pub fn push(&mut self, session: u16, name: String, node: Node) -> Result<(), AllocError>
-        ensures more { IfOk result (λ u. self.new.items.items ≡ self.old.items.items ++ record { session = session; name = string_bytes name; node = node } ∷ []) }
+        ensures more { IfOk result (λ u. self.new.items.items
+            ≡ self.old.items.items ++ record { session = session; name = string_bytes name; node = node } ∷ []) }
         ensures err { OnErr result (self.new.items.items ≡ self.old.items.items) }
     {
         self.items.push(Mark {

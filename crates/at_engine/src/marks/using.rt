@@ -56,7 +56,8 @@ pub fn has_asked<M: Lookup>(
     place: &Place<'_>,
     arguments: &[Argument<'_>],
 ) -> bool
-    ensures { result ≡ list_all (has_mark (M.marks marks.now) session) (marks_in (place_view place.now) ++ flat_map marks_in_argument (arguments_view arguments.now)) }
+    ensures { result
+        ≡ list_all (has_mark (M.marks marks.now) session) (marks_in (place_view place.now) ++ flat_map marks_in_argument (arguments_view arguments.now)) }
 {
     if !has_in(marks, session, place) {
         return false;

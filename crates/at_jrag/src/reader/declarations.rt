@@ -170,7 +170,8 @@ impl<'a> Reader<'a> {
 
     /// A synthesized attribute behind its `syn`, whose place this is.
     fn synthesized(&mut self, at: Place) -> Result<Decl, ReadFault>
-        ensures found { IfOk result (λ d. (old : Row) → old ≡ word (codes "syn") at ∷ left self.old.cursor.rest.now → DeclOf (decl_view d) old (left self.new.cursor.rest.now)) }
+        ensures found { IfOk result (λ d. (old : Row) → old ≡ word (codes "syn") at ∷ left self.old.cursor.rest.now
+            → DeclOf (decl_view d) old (left self.new.cursor.rest.now)) }
         ensures within { IfOk result (λ d. NestsWithin (decl_view d)) }
         ensures stays { IfErr result (λ e. Stay (declared (want.Ending ∷ want.Decls ∷ [])) (reason_of e) (left self.old.cursor.rest.now) (left self.new.cursor.rest.now)) }
     {
@@ -189,7 +190,8 @@ impl<'a> Reader<'a> {
 
     /// An inherited attribute behind its `inh`, whose place this is.
     fn inherited(&mut self, at: Place) -> Result<Decl, ReadFault>
-        ensures found { IfOk result (λ d. (old : Row) → old ≡ word (codes "inh") at ∷ left self.old.cursor.rest.now → DeclOf (decl_view d) old (left self.new.cursor.rest.now)) }
+        ensures found { IfOk result (λ d. (old : Row) → old ≡ word (codes "inh") at ∷ left self.old.cursor.rest.now
+            → DeclOf (decl_view d) old (left self.new.cursor.rest.now)) }
         ensures within { IfOk result (λ d. NestsWithin (decl_view d)) }
         ensures stays { IfErr result (λ e. Stay (declared (want.Mark (codes ";") ∷ want.Decls ∷ [])) (reason_of e) (left self.old.cursor.rest.now) (left self.new.cursor.rest.now)) }
     {
@@ -209,7 +211,8 @@ impl<'a> Reader<'a> {
     fn head(&mut self) -> Result<Head, ReadFault>
         ensures found { IfOk result (λ h. HeadOf h (left self.old.cursor.rest.now) (left self.new.cursor.rest.now)) }
         ensures behind { IfOk result (λ h. next_is (is_word (codes "circular")) (left self.new.cursor.rest.now) ≡ false) }
-        ensures stays { IfErr result (λ e. (us : List Want) → Stay (declared us) (reason_of e) (left self.old.cursor.rest.now) (left self.new.cursor.rest.now)) }
+        ensures stays { IfErr result (λ e. (us : List Want)
+            → Stay (declared us) (reason_of e) (left self.old.cursor.rest.now) (left self.new.cursor.rest.now)) }
     {
         let lazy = self.lazy()?;
         let kind = self.kind()?;
@@ -242,7 +245,8 @@ impl<'a> Reader<'a> {
     /// `name "." name "(" [params] ")"`
     fn target(&mut self) -> Result<Target, ReadFault>
         ensures found { IfOk result (λ t. TargetOf t (left self.old.cursor.rest.now) (left self.new.cursor.rest.now)) }
-        ensures stays { IfErr result (λ e. (us : List Want) → Stay (want.Name ∷ want.Mark (codes ".") ∷ want.Signed ∷ us) (reason_of e) (left self.old.cursor.rest.now) (left self.new.cursor.rest.now)) }
+        ensures stays { IfErr result (λ e. (us : List Want)
+            → Stay (want.Name ∷ want.Mark (codes ".") ∷ want.Signed ∷ us) (reason_of e) (left self.old.cursor.rest.now) (left self.new.cursor.rest.now)) }
     {
         let class = self.name()?;
         self.expects(".")?;
@@ -330,7 +334,8 @@ impl<'a> Reader<'a> {
 
     /// An equation behind its `eq`, whose place this is, of a synthesized or of an inherited attribute.
     fn equation(&mut self, at: Place) -> Result<Decl, ReadFault>
-        ensures found { IfOk result (λ d. (old : Row) → old ≡ word (codes "eq") at ∷ left self.old.cursor.rest.now → DeclOf (decl_view d) old (left self.new.cursor.rest.now)) }
+        ensures found { IfOk result (λ d. (old : Row) → old ≡ word (codes "eq") at ∷ left self.old.cursor.rest.now
+            → DeclOf (decl_view d) old (left self.new.cursor.rest.now)) }
         ensures within { IfOk result (λ d. NestsWithin (decl_view d)) }
         ensures stays { IfErr result (λ e. Stay (want.Name ∷ want.Mark (codes ".") ∷ want.Signed ∷ want.Defined ∷ want.Decls ∷ []) (reason_of e) (left self.old.cursor.rest.now) (left self.new.cursor.rest.now)) }
     {
@@ -386,7 +391,9 @@ impl<'a> Reader<'a> {
     fn body(&mut self) -> Result<Body, ReadFault>
         ensures found { IfOk result (λ b. BodyOf (body_view b) (left self.old.cursor.rest.now) (left self.new.cursor.rest.now)) }
         ensures within { IfOk result (λ b. depth (body_view b).expr ≤ max_nesting) }
-        ensures stays { IfErr result (λ e. (w : Want) (d : ℕ) → table w d (first (left self.old.cursor.rest.now)) ≡ body_answer (first (left self.old.cursor.rest.now)) → Stays (w ∷ []) d (reason_of e) (left self.old.cursor.rest.now) (left self.new.cursor.rest.now)) }
+        ensures stays { IfErr result (λ e. (w : Want) (d : ℕ)
+            → table w d (first (left self.old.cursor.rest.now)) ≡ body_answer (first (left self.old.cursor.rest.now))
+            → Stays (w ∷ []) d (reason_of e) (left self.old.cursor.rest.now) (left self.new.cursor.rest.now)) }
     {
         if let Some(at) = self.cursor.takes_sign("=") {
             let expr = self.expression(MAX_NESTING)?;

@@ -76,8 +76,10 @@ impl<'a> Reader<'a> {
         ensures deeper { IfOk result (λ m. operand.depth < m.depth) }
         ensures found { IfOk result (λ m. (old rest : Row) → Reads level operand old rest → LinksTo level link rest (left self.old.cursor.rest.now)
             → Reads level m old (left self.new.cursor.rest.now)) }
-        ensures goes { IfOk result (λ m. (start : Row) → LinksTo level link start (left self.old.cursor.rest.now) → Moves (λ b. want.Links (6 - level) b ∷ []) (λ b. want.Links (6 - level) b ∷ []) operand.depth m.depth start (left self.new.cursor.rest.now)) }
-        ensures halts { IfErr result (λ e. (start : Row) → LinksTo level link start (left self.old.cursor.rest.now) → Stays (want.Links (6 - level) budget ∷ []) operand.depth (reason_of e) start (left self.new.cursor.rest.now)) }
+        ensures goes { IfOk result (λ m. (start : Row) → LinksTo level link start (left self.old.cursor.rest.now)
+            → Moves (λ b. want.Links (6 - level) b ∷ []) (λ b. want.Links (6 - level) b ∷ []) operand.depth m.depth start (left self.new.cursor.rest.now)) }
+        ensures halts { IfErr result (λ e. (start : Row) → LinksTo level link start (left self.old.cursor.rest.now)
+            → Stays (want.Links (6 - level) budget ∷ []) operand.depth (reason_of e) start (left self.new.cursor.rest.now)) }
     {
         match link {
             Link::Operator(operator) => {
@@ -194,7 +196,8 @@ impl<'a> Reader<'a> {
         ensures found { IfOk result (λ m. Reads 8 m (left self.old.cursor.rest.now) (left self.new.cursor.rest.now)) }
         ensures plain { IfOk result (λ m. next_is (is_sign (codes "-")) (left self.old.cursor.rest.now) ≡ false) }
         ensures goes { IfOk result (λ m. Goes want.Primary (λ b. []) m.depth (left self.old.cursor.rest.now) (left self.new.cursor.rest.now)) }
-        ensures halts { IfErr result (λ e. IsOther (left self.old.cursor.rest.now) → Halts (want.Primary budget) (reason_of e) (left self.old.cursor.rest.now) (left self.new.cursor.rest.now)) }
+        ensures halts { IfErr result (λ e. IsOther (left self.old.cursor.rest.now)
+            → Halts (want.Primary budget) (reason_of e) (left self.old.cursor.rest.now) (left self.new.cursor.rest.now)) }
     {
         let name = self.name()?;
         if !self.cursor.is_before_sign("(") {
@@ -212,8 +215,10 @@ impl<'a> Reader<'a> {
         ensures depth { IfOk result (λ m. m.depth ≤ budget) }
         ensures found { IfOk result (λ m. (old : Row) → old ≡ word (fold_text (fold_view form)) at ∷ left self.old.cursor.rest.now
             → Reads 8 m old (left self.new.cursor.rest.now)) }
-        ensures goes { IfOk result (λ m. (old : Row) → old ≡ word (fold_text (fold_view form)) at ∷ left self.old.cursor.rest.now → Goes want.Primary (λ b. []) m.depth old (left self.new.cursor.rest.now)) }
-        ensures halts { IfErr result (λ e. (old : Row) → old ≡ word (fold_text (fold_view form)) at ∷ left self.old.cursor.rest.now → Halts (want.Primary budget) (reason_of e) old (left self.new.cursor.rest.now)) }
+        ensures goes { IfOk result (λ m. (old : Row) → old ≡ word (fold_text (fold_view form)) at ∷ left self.old.cursor.rest.now
+            → Goes want.Primary (λ b. []) m.depth old (left self.new.cursor.rest.now)) }
+        ensures halts { IfErr result (λ e. (old : Row) → old ≡ word (fold_text (fold_view form)) at ∷ left self.old.cursor.rest.now
+            → Halts (want.Primary budget) (reason_of e) old (left self.new.cursor.rest.now)) }
     {
         self.expects("(")?;
         let name = self.name()?;

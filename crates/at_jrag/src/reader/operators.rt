@@ -46,7 +46,8 @@ pub enum Prefix {
 
 /// The operator that the sign is, and its level.
 fn operator_of(sign: &str) -> Option<(Operator, usize)>
-    ensures { MatchOption result (sign_rank sign.now ≡ 0) (λ o. (sign.now ≡ operator_text (operator_view o.0)) × (o.1 ≡ operator_level (operator_view o.0)) × (sign_rank sign.now + o.1 ≡ 7)) }
+    ensures { MatchOption result (sign_rank sign.now ≡ 0) (λ o. (sign.now ≡ operator_text (operator_view o.0)) × (o.1 ≡ operator_level (operator_view o.0))
+        × (sign_rank sign.now + o.1 ≡ 7)) }
 {
     match sign.as_bytes() {
         [b'|', b'|'] => Some((Operator::Or, 1)),
@@ -69,7 +70,8 @@ fn operator_of(sign: &str) -> Option<(Operator, usize)>
 /// What the token is behind a left operand of this level.
 fn link_of(token: &Placed<'_>, level: usize) -> Option<Link>
     requires { level < 7 }
-    ensures { MatchOption result (link_rank (placed token.now) + level ≡ 7 → ⊥) (λ l. LinkIs level l (placed token.now) × (link_rank (placed token.now) + level ≡ 7)) }
+    ensures { MatchOption result (link_rank (placed token.now) + level ≡ 7 → ⊥) (λ l. LinkIs level l (placed token.now)
+        × (link_rank (placed token.now) + level ≡ 7)) }
 {
     if level == RELATIONAL && is_word(token, "instanceof") {
         return Some(Link::InstanceOf(token.at));
@@ -96,7 +98,8 @@ pub fn right_level(level: usize) -> usize
 
 /// The fold that the token begins.
 fn fold_of(token: &Placed<'_>) -> Option<FoldForm>
-    ensures { MatchOption result (begins_fold (placed token.now) ≡ false) (λ f. (placed token.now ≡ word (fold_text (fold_view f)) token.now.at) × (begins_fold (placed token.now) ≡ true)) }
+    ensures { MatchOption result (begins_fold (placed token.now) ≡ false) (λ f. (placed token.now ≡ word (fold_text (fold_view f)) token.now.at)
+        × (begins_fold (placed token.now) ≡ true)) }
 {
     if is_word(token, "exists") {
         Some(FoldForm::Exists)
@@ -158,7 +161,8 @@ impl<'a> Reader<'a> {
         ensures found { IfOk result (λ o. MatchOption o
             ((self.new.cursor ≡ self.old.cursor) × (next_is (is_sign text.now) (left self.old.cursor.rest.now) ≡ false))
             (λ at. (left self.old.cursor.rest.now ≡ sign text.now at ∷ left self.new.cursor.rest.now) × (depth < budget))) }
-        ensures refused { IfErr result (λ e. (e ≡ failure.For code.Nesting) × (self.new.cursor ≡ self.old.cursor) × (next_is (is_sign text.now) (left self.old.cursor.rest.now) ≡ true) × (budget ≤ depth)) }
+        ensures refused { IfErr result (λ e. (e ≡ failure.For code.Nesting) × (self.new.cursor ≡ self.old.cursor)
+            × (next_is (is_sign text.now) (left self.old.cursor.rest.now) ≡ true) × (budget ≤ depth)) }
     {
         if self.cursor.is_before_sign(text) && budget <= depth {
             return Err(ReadFault::For(JragCode::Nesting));
@@ -177,7 +181,8 @@ impl<'a> Reader<'a> {
         ensures found { IfOk result (λ o. MatchOption o (self.new.cursor ≡ self.old.cursor)
             (λ l. (depth < budget) × LinksTo level l (left self.old.cursor.rest.now) (left self.new.cursor.rest.now))) }
         ensures none { IfOk result (λ o. IfNone o (next_rank (first (left self.old.cursor.rest.now)) + level ≡ 7 → ⊥)) }
-        ensures refused { IfErr result (λ e. (e ≡ failure.For code.Nesting) × (self.new.cursor ≡ self.old.cursor) × (budget ≤ depth) × (next_rank (first (left self.old.cursor.rest.now)) + level ≡ 7)) }
+        ensures refused { IfErr result (λ e. (e ≡ failure.For code.Nesting) × (self.new.cursor ≡ self.old.cursor) × (budget ≤ depth)
+            × (next_rank (first (left self.old.cursor.rest.now)) + level ≡ 7)) }
     {
         let link = match self.cursor.rest {
             [token, ..] => link_of(token, level),
@@ -195,7 +200,8 @@ impl<'a> Reader<'a> {
 
     /// The fault where no expression may nest any more.
     pub fn too_deep(&self) -> ReadFault
-        ensures { (result ≡ failure.Memory) ⊎ (result ≡ cond (next_is opens_unary (left self.now.cursor.rest.now)) (failure.For code.Nesting) (failure.For code.Syntax)) }
+        ensures { (result ≡ failure.Memory)
+            ⊎ (result ≡ cond (next_is opens_unary (left self.now.cursor.rest.now)) (failure.For code.Nesting) (failure.For code.Syntax)) }
     {
         let [token, ..] = self.cursor.rest else {
             return ReadFault::For(JragCode::Syntax);
@@ -218,7 +224,8 @@ impl<'a> Reader<'a> {
         ensures found { IfOk result (λ o. MatchOption o (self.new.cursor ≡ self.old.cursor)
             (λ f. (1 < budget) × (left self.old.cursor.rest.now ≡ word (fold_text (fold_view f.1)) f.0 ∷ left self.new.cursor.rest.now))) }
         ensures none { IfOk result (λ o. IfNone o (next_is begins_fold (left self.old.cursor.rest.now) ≡ false)) }
-        ensures refused { IfErr result (λ e. (e ≡ failure.For code.Nesting) × (self.new.cursor ≡ self.old.cursor) × (budget ≤ 1) × (next_is begins_fold (left self.old.cursor.rest.now) ≡ true)) }
+        ensures refused { IfErr result (λ e. (e ≡ failure.For code.Nesting) × (self.new.cursor ≡ self.old.cursor) × (budget ≤ 1)
+            × (next_is begins_fold (left self.old.cursor.rest.now) ≡ true)) }
     {
         let [token, ..] = self.cursor.rest else {
             return Ok(None);
@@ -267,7 +274,8 @@ impl<'a> Reader<'a> {
             ((self.new.cursor ≡ self.old.cursor) × (next_is (is_sign (codes "-")) (left self.old.cursor.rest.now) ≡ false))
             (λ p. StandsBefore p.1 p.0 (left self.old.cursor.rest.now) (left self.new.cursor.rest.now))) }
         ensures within { IfOk result (λ o. MatchOption o (Unit {0}) (λ p. NestsWithin p.1 budget)) }
-        ensures none { IfOk result (λ o. IfNone o ((next_is (is_sign (codes "!")) (left self.old.cursor.rest.now) ≡ false) × (opens_cast (left self.old.cursor.rest.now) ≡ false))) }
+        ensures none { IfOk result (λ o. IfNone o ((next_is (is_sign (codes "!")) (left self.old.cursor.rest.now) ≡ false)
+            × (opens_cast (left self.old.cursor.rest.now) ≡ false))) }
         ensures refused { IfErr result (λ e. (e ≡ failure.Memory) ⊎ ((e ≡ failure.For code.Nesting) × (self.new.cursor ≡ self.old.cursor) × (budget ≤ 1)
             × ((next_is (is_sign (codes "!")) (left self.old.cursor.rest.now) ≡ true) ⊎ (opens_cast (left self.old.cursor.rest.now) ≡ true)))) }
     {

@@ -94,7 +94,8 @@ pub fn within(
     class: ClassId,
     outside: &[Bound],
 ) -> Result<Vec<Bound>, AllocError>
-    ensures { IfOk result (λ names. map bound_view names.items ≡ record { name = name.now; kind = WrittenKind.Known (Kind.Class class) } ∷ map bound_view outside.now) }
+    ensures { IfOk result (λ names. map bound_view names.items
+        ≡ record { name = name.now; kind = WrittenKind.Known (Kind.Class class) } ∷ map bound_view outside.now) }
 {
     let mut names = Vec::new(alloc);
     names.push(Bound {

@@ -52,10 +52,10 @@ impl Scope<'_> {
     {
         match sign {
             Sign::Add => self.added(left, right, at),
-            Sign::Subtract => self.computed(Operator::Minus, left, right, at),
-            Sign::Multiply => self.computed(Operator::Times, left, right, at),
-            Sign::Divide => self.computed(Operator::Over, left, right, at),
-            Sign::Remainder => self.computed(Operator::Modulo, left, right, at),
+            Sign::Subtract => self.computed(Operator::Subtract, left, right, at),
+            Sign::Multiply => self.computed(Operator::Multiply, left, right, at),
+            Sign::Divide => self.computed(Operator::Divide, left, right, at),
+            Sign::Remainder => self.computed(Operator::Remainder, left, right, at),
             Sign::Below => self.ordered(Order::Below, left, right, at),
             Sign::AtMost => self.ordered(Order::AtMost, left, right, at),
             Sign::Above => self.ordered(Order::Above, left, right, at),
@@ -74,7 +74,7 @@ impl Scope<'_> {
         if left.kind.is_text() {
             return self.text_joined(left.body, right, at);
         }
-        self.computed(Operator::Plus, left, right, at)
+        self.computed(Operator::Add, left, right, at)
     }
 
     /// A text joined with a text, or with an int.

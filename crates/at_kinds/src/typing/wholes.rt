@@ -20,7 +20,8 @@ impl Scope<'_> {
         arguments: Result<Vec<Typed>, TypeFault>,
         at: Place,
     ) -> Result<Typed, TypeFault>
-        ensures { (j : Judged) (ks : Judgement (Items Kinded)) → Judges typed_view j receiver → Judges all_view ks arguments → Judges typed_view (and_then (λ k. and_then (called_of (scope_view self.now) at name.now k) ks) j) result }
+        ensures { (j : Judged) (ks : Judgement (Items Kinded)) → Judges typed_view j receiver → Judges all_view ks arguments
+            → Judges typed_view (and_then (λ k. and_then (called_of (scope_view self.now) at name.now k) ks) j) result }
     {
         let receiver = receiver?;
         let arguments = arguments?;
@@ -97,7 +98,8 @@ impl Scope<'_> {
         right: Result<Typed, TypeFault>,
         at: Place,
     ) -> Result<Typed, TypeFault>
-        ensures { (j k : Judged) → Judges typed_view j left → Judges typed_view k right → Judges typed_view (and_then (λ a. and_then (joined_of at (sign_view sign) a) k) j) result }
+        ensures { (j k : Judged) → Judges typed_view j left → Judges typed_view k right
+            → Judges typed_view (and_then (λ a. and_then (joined_of at (sign_view sign) a) k) j) result }
     {
         let left = left?;
         let right = right?;
@@ -112,7 +114,8 @@ impl Scope<'_> {
         right: Result<Typed, TypeFault>,
         at: Place,
     ) -> Result<Typed, TypeFault>
-        ensures { (i j k : Judged) → Judges typed_view i test → Judges typed_view j left → Judges typed_view k right → Judges typed_view (and_then (λ c. and_then (λ a. and_then (chosen_of self.now.classes.now at c a) k) j) i) result }
+        ensures { (i j k : Judged) → Judges typed_view i test → Judges typed_view j left → Judges typed_view k right
+            → Judges typed_view (and_then (λ c. and_then (λ a. and_then (chosen_of self.now.classes.now at c a) k) j) i) result }
     {
         let test = test?;
         let left = left?;
@@ -129,7 +132,8 @@ impl Scope<'_> {
         at: Place,
         fold: Place,
     ) -> Result<List, TypeFault>
-        ensures { (j : Judged) (ks : Judgement (Items Kinded)) → Judges typed_view j receiver → Judges all_view ks arguments → Judges list_view (and_then (λ k. and_then (list_called_by (scope_view self.now) fold at name.now k) ks) j) result }
+        ensures { (j : Judged) (ks : Judgement (Items Kinded)) → Judges typed_view j receiver → Judges all_view ks arguments
+            → Judges list_view (and_then (λ k. and_then (list_called_by (scope_view self.now) fold at name.now k) ks) j) result }
     {
         let receiver = receiver?;
         let arguments = arguments?;

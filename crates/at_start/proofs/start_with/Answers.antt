@@ -18,7 +18,7 @@ use Rattle.at_start.specs.declared.code.Code.TheVariants as code
 use Rattle.at_start.specs.declared.files.Source.{Source}
 use Rattle.at_text.specs.declared.fault.Failure.TheVariants as failure
 use Rattle.at_start.proofs.Started.{grammar_refuses, aspects_refuse, tree_refuses}
-use Rattle.at_model.proofs.TokensKept.{written_tokens}
+use Rattle.at_model.proofs.of_machines.TokensKept.{written_tokens}
 use Rattle.at_start.proofs.start_with.Goals as goal
 
 pub returns-in-Err-clause-refused : goal.returns-in-Err-clause-refused

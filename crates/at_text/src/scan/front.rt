@@ -140,7 +140,8 @@ fn past_front<'a>(text: &'a str, front: &str) -> Option<&'a str>
 
 /// What follows the first of these that the text begins with.
 fn past_first<'a>(text: &'a str, fronts: &[&str]) -> Option<&'a str>
-    ensures { let texts = map (λ front. front.now) fronts.now in MatchOption result (FitsNone texts (length texts) text.now) (λ after. (k : ℕ) × (k < length texts) × FitsNone texts k text.now × (text.now ≡ get_or texts k [] ++ after.now) × IsUtf8 after.now) }
+    ensures { let texts = map (λ front. front.now) fronts.now in MatchOption result (FitsNone texts (length texts) text.now) (λ after. (k : ℕ)
+        × (k < length texts) × FitsNone texts k text.now × (text.now ≡ get_or texts k [] ++ after.now) × IsUtf8 after.now) }
 {
     for front in fronts {
         if let Some(after) = past_front(text, front) {

@@ -74,7 +74,8 @@ pub fn read_tree(
     // Else there is no term, or no tree of it.
     ensures refused { IfErr result (IsUnread classes.now text.now under) }
     // A tree that is written as the text is the one that is read, unless memory runs out.
-    ensures again { (u : Nodes) → conforms classes.now u under ≡ true → IsTerm (term_of classes.now u) → tree_text classes.now u ≡ text.now → ReadsTree result u }
+    ensures again { (u : Nodes) → conforms classes.now u under ≡ true → IsTerm (term_of classes.now u) → tree_text classes.now u ≡ text.now
+        → ReadsTree result u }
 {
     // the classes of a table have a name each, so that a tree is known from its term
     let _ = classes.len();
@@ -94,7 +95,8 @@ fn read_by_term(
 ) -> Result<Tree, ReadFault>
     ensures found { IfOk result (λ t. IsReadAs classes.now text.now under (tree_view t)) }
     ensures refused { IfErr result (IsUnread classes.now text.now under) }
-    ensures again { (u : Nodes) → conforms classes.now u under ≡ true → IsTerm (term_of classes.now u) → tree_text classes.now u ≡ text.now → ReadsTree result u }
+    ensures again { (u : Nodes) → conforms classes.now u under ≡ true → IsTerm (term_of classes.now u) → tree_text classes.now u ≡ text.now
+        → ReadsTree result u }
 {
     let _ = classes.len();
     let term = read_term(alloc, text)?;

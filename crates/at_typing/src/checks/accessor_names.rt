@@ -145,7 +145,8 @@ impl<'a> Accessors<'a> {
 
     /// Whether the declaration declares an attribute that has such a name.
     fn have_name_of(&self, form: &DeclForm) -> bool
-        ensures { (classes : Classes) → HasNames classes self.now → result ≡ is_attribute (decl_form_view form.now) && is_accessor classes (name_word (decl_form_view form.now)).text }
+        ensures { (classes : Classes) → HasNames classes self.now
+            → result ≡ is_attribute (decl_form_view form.now) && is_accessor classes (name_word (decl_form_view form.now)).text }
     {
         if !is_attribute(form) {
             return false;

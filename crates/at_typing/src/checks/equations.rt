@@ -130,7 +130,8 @@ fn add_inherited<'a>(
     numbered: &Numbered<'a>,
 ) -> Result<bool, AllocError>
     ensures new { IfOk result (λ is_new. is_new ≡ not (is_there (map key_view inherited.old.keys) numbered.now (getter_of numbered.now))) }
-    ensures added { IfOk result (λ is_new. is_new ≡ true → map key_view inherited.new.keys ≡ map key_view inherited.old.keys ++ inherited_keys (numbered.now ∷ [])) }
+    ensures added { IfOk result (λ is_new. is_new ≡ true
+        → map key_view inherited.new.keys ≡ map key_view inherited.old.keys ++ inherited_keys (numbered.now ∷ [])) }
 {
     let Some(getter) = getter_in(&numbered.decl.form) else {
         return Ok(true);

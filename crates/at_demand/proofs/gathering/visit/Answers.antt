@@ -3,7 +3,7 @@ use Rattle.std.proofs.lemmas.List.{take_all, take_more}
 use Rattle.at_demand.specs.Covering.{Visits}
 use Rattle.at_demand.specs.Only.{VisitsOnly}
 use Rattle.at_demand.proofs.Gathered.{extends_self, visits_more}
-use Rattle.at_demand.proofs.Only.{visits_one}
+use Rattle.at_demand.proofs.OnlyLemmas.{visits_one}
 use Rattle.at_demand.proofs.gathering.visit.Goals as goal
 
 pub loop-position-init : goal.loop-position-init

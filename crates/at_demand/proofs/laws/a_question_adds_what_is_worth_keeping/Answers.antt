@@ -1,4 +1,4 @@
-use Rattle.at_demand.proofs.Called.{keeps_asked}
+use Rattle.at_demand.proofs.of_keeping.CalledLemmas.{keeps_asked}
 use Rattle.at_demand.proofs.laws.a_question_adds_what_is_worth_keeping.Goals as goal
 
 pub returns : goal.returns

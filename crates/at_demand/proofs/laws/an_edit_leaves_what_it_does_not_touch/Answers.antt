@@ -1,4 +1,4 @@
-use Rattle.at_demand.proofs.Called.{keeps_edited}
+use Rattle.at_demand.proofs.of_keeping.CalledLemmas.{keeps_edited}
 use Rattle.at_demand.proofs.laws.an_edit_leaves_what_it_does_not_touch.Goals as goal
 
 pub returns : goal.returns

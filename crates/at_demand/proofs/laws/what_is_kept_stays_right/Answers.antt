@@ -1,5 +1,5 @@
 use Rattle.at_demand.specs.Touched.{Touches}
-use Rattle.at_demand.proofs.StayingRight.{kept_right}
+use Rattle.at_demand.proofs.of_keeping.StayingRight.{kept_right}
 use Rattle.at_demand.proofs.laws.what_is_kept_stays_right.Goals as goal
 
 pub returns : goal.returns

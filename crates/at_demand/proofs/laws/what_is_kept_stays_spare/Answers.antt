@@ -1,4 +1,4 @@
-use Rattle.at_demand.proofs.Spared.{kept_spare}
+use Rattle.at_demand.proofs.of_keeping.SparedLemmas.{kept_spare}
 use Rattle.at_demand.proofs.laws.what_is_kept_stays_spare.Goals as goal
 
 pub returns : goal.returns

@@ -3,8 +3,8 @@ use Rattle.std.proofs.lemmas.Result.{err_from_is_err_and}
 use Rattle.std.proofs.lemmas.Bool.Decides.{nat_tests}
 use Rattle.at_engine.specs.Loop.{kept}
 use Rattle.at_engine.specs.Engines.{rules_of, slice_of, state_of}
-use Rattle.at_engine.proofs.Kept.{filled_as_kept, empty_as_kept}
-use Rattle.at_engine.proofs.KeepingBytes.{kept_at_end, kept_at_once}
+use Rattle.at_engine.proofs.of_keeping.Kept.{filled_as_kept, empty_as_kept}
+use Rattle.at_engine.proofs.of_keeping.KeepingBytes.{kept_at_end, kept_at_once}
 use Rattle.at_engine.proofs.Remembering.{sends_later, then_calls}
 use Rattle.at_engine.proofs.Runnings.{end_of_empty, end_of_line, stopped_in_last}
 use Rattle.at_engine.proofs.stream.finish.Goals as goal

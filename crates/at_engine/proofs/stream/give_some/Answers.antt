@@ -3,7 +3,7 @@ use Rattle.std.specs.Io.KnownBytes.{Appends}
 use Rattle.std.proofs.lemmas.Result.{err_from_is_err_and}
 use Rattle.at_model.specs.Replies.{reply_text}
 use Rattle.at_engine.specs.Engines.{rules_of}
-use Rattle.at_engine.proofs.Giving.{as_many_given, counts_one, fewer_given, gave_none, gave_one, has_answer, has_none, stops_at_one}
+use Rattle.at_engine.proofs.of_turns.Giving.{as_many_given, counts_one, fewer_given, gave_none, gave_one, has_answer, has_none, stops_at_one}
 use Rattle.at_engine.proofs.stream.give_some.Goals as goal
 
 pub returns-in_err-write_whole-in-Some-clause-gives : goal.returns-in_err-write_whole-in-Some-clause-gives

@@ -2,7 +2,7 @@ use Rattle.std.proofs.Common.{◌≡◌, ◌∙◌, ap, arith, refl, false, ◌+
 use Rattle.std.proofs.lemmas.Result.{err_from_is_err_and}
 use Rattle.at_engine.specs.Engines.{rules_of, slice_of, state_of}
 use Rattle.at_engine.specs.declared.engine.Engine.{Engine}
-use Rattle.at_engine.proofs.Giving.{as_many_given, as_many_in_part, gave_more, gave_nothing, ruled, ruled_in_part, stops_later}
+use Rattle.at_engine.proofs.of_turns.Giving.{as_many_given, as_many_in_part, gave_more, gave_nothing, ruled, ruled_in_part, stops_later}
 use Rattle.at_engine.proofs.Remembering.{no_call, then_calls}
 use Rattle.at_engine.proofs.stream.give_turns.Goals as goal
 

@@ -5,8 +5,8 @@ use Rattle.at_model.specs.Machine.{Serves}
 use Rattle.at_model.specs.Replies.{reply_text}
 use Rattle.at_engine.specs.Engines.{state_of, rules_of, slice_of}
 use Rattle.at_engine.specs.Keeping.{KeepsServed}
-use Rattle.at_engine.proofs.Giving.{counts_served, halts_in_line, then_turns}
-use Rattle.at_engine.proofs.KeepingBytes.{kept_behind}
+use Rattle.at_engine.proofs.of_turns.Giving.{counts_served, halts_in_line, then_turns}
+use Rattle.at_engine.proofs.of_keeping.KeepingBytes.{kept_behind}
 use Rattle.at_engine.proofs.Remembering.{sends_later, then_calls}
 use Rattle.at_engine.proofs.stream.serve.Goals as goal
 

@@ -3,7 +3,7 @@ use Rattle.std.proofs.lemmas.Result.{err_from_is_err_and}
 use Rattle.at_model.specs.Machine.{State}
 use Rattle.at_model.specs.Replies.{reply_text}
 use Rattle.at_engine.specs.Engines.{rules_of}
-use Rattle.at_engine.proofs.Giving.{gave_nothing, has_settled, none_settled, stops_at_one}
+use Rattle.at_engine.proofs.of_turns.Giving.{gave_nothing, has_settled, none_settled, stops_at_one}
 use Rattle.at_engine.proofs.stream.settle_one.Goals as goal
 
 pub returns-in_err-write_whole-in-Some-clause-settles : goal.returns-in_err-write_whole-in-Some-clause-settles

@@ -3,8 +3,8 @@ use Rattle.std.proofs.lemmas.Result.{err_from_is_err_and}
 use Rattle.std.proofs.lemmas.Bool.Decides.{nat_tests}
 use Rattle.at_engine.specs.Engines.{rules_of, slice_of}
 use Rattle.at_engine.specs.Loop.{kept}
-use Rattle.at_engine.proofs.Kept.{filled_as_kept, empty_as_kept, kept-nil}
-use Rattle.at_engine.proofs.KeepingBytes.{keeps_empty, keeps_line, none_after_line}
+use Rattle.at_engine.proofs.of_keeping.Kept.{filled_as_kept, empty_as_kept, kept-nil}
+use Rattle.at_engine.proofs.of_keeping.KeepingBytes.{keeps_empty, keeps_line, none_after_line}
 use Rattle.at_engine.proofs.Remembering.{no_call}
 use Rattle.at_engine.proofs.Takings.{took_empty, took_line, stopped_at_line}
 use Rattle.at_engine.proofs.stream.take_newline.Goals as goal

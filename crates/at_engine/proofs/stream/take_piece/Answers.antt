@@ -3,7 +3,7 @@ use Rattle.std.proofs.lemmas.Result.{err_from_is_err_and}
 use Rattle.at_engine.specs.Taking.{Takes, Stops}
 use Rattle.at_engine.specs.KeepingRuns.{KeepsBytes}
 use Rattle.at_engine.specs.Engines.{state_of, rules_of, slice_of}
-use Rattle.at_engine.proofs.KeepingBytes.{keeps_more, keeps_none, keeps_on}
+use Rattle.at_engine.proofs.of_keeping.KeepingBytes.{keeps_more, keeps_none, keeps_on}
 use Rattle.at_engine.proofs.Remembering.{no_call, then_calls}
 use Rattle.at_engine.proofs.Takings.{took_nothing, took_more, took_on, takes_under, stopped_later, stopped_before, stops_under}
 use Rattle.at_engine.proofs.stream.take_piece.Goals as goal

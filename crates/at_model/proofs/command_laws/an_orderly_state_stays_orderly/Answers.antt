@@ -1,4 +1,4 @@
-use Rattle.at_model.proofs.Orderly.{orderly_served, orderly_turn, orderly_given}
+use Rattle.at_model.proofs.of_machines.Orderly.{orderly_served, orderly_turn, orderly_given}
 use Rattle.at_model.proofs.command_laws.an_orderly_state_stays_orderly.Goals as goal
 
 pub returns-clause-line : goal.returns-clause-line

@@ -1,5 +1,5 @@
-use Rattle.at_model.proofs.Commanded.{asked_line}
-use Rattle.at_model.proofs.Replying.{reply_to_line, reply_to_waiting, turn_answers, reply_to_no_line, reply_without_memory}
+use Rattle.at_model.proofs.of_machines.Commanded.{asked_line}
+use Rattle.at_model.proofs.of_machines.Replying.{reply_to_line, reply_to_waiting, turn_answers, reply_to_no_line, reply_without_memory}
 use Rattle.at_model.proofs.command_laws.every_line_has_a_reply.Goals as goal
 
 pub returns-clause-line : goal.returns-clause-line

@@ -1,4 +1,4 @@
-use Rattle.at_model.proofs.Commanded.{made_step, forgotten_step}
+use Rattle.at_model.proofs.of_machines.Commanded.{made_step, forgotten_step}
 use Rattle.at_model.proofs.command_laws.marks_are_made_and_forgotten.Goals as goal
 
 pub returns-clause-made : goal.returns-clause-made

@@ -1,4 +1,4 @@
-use Rattle.at_model.proofs.TokensKept.{tokens_served}
+use Rattle.at_model.proofs.of_machines.TokensKept.{tokens_served}
 use Rattle.at_model.proofs.command_laws.tokens_stay_tokens.Goals as goal
 
 pub returns : goal.returns

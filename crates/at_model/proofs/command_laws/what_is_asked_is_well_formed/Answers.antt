@@ -1,4 +1,4 @@
-use Rattle.at_model.proofs.WellAsked.{well_asked, well_there}
+use Rattle.at_model.proofs.of_machines.WellAsked.{well_asked, well_there}
 use Rattle.at_model.proofs.command_laws.what_is_asked_is_well_formed.Goals as goal
 
 pub returns-clause-asked : goal.returns-clause-asked

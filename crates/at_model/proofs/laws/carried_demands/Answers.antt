@@ -1,6 +1,6 @@
 use Rattle.at_model.specs.Meaning.{content, equations}
-use Rattle.at_model.proofs.EquationsAlike.{equations-like}
-use Rattle.at_model.proofs.CarryingSupport.{leads_there, leads_here}
+use Rattle.at_model.proofs.of_likeness.EquationsAlike.{equations-like}
+use Rattle.at_model.proofs.of_likeness.CarryingSupport.{leads_there, leads_here}
 use Rattle.at_model.proofs.laws.carried_demands.Goals as goal
 
 pub returns-clause-kept : goal.returns-clause-kept

@@ -1,6 +1,6 @@
 use Rattle.at_model.specs.Meaning.{content, equations}
-use Rattle.at_model.proofs.EquationsAlike.{equations-like}
-use Rattle.at_model.proofs.Carrying.{carried}
+use Rattle.at_model.proofs.of_likeness.EquationsAlike.{equations-like}
+use Rattle.at_model.proofs.of_likeness.Carrying.{carried}
 use Rattle.at_model.proofs.laws.carried_outcome.Goals as goal
 
 pub returns : goal.returns

@@ -1,6 +1,6 @@
 use Rattle.at_model.specs.Meaning.{content, equations}
-use Rattle.at_model.proofs.EquationsAlike.{equations-like}
-use Rattle.at_model.proofs.CarryingSupport.{supports_there, supports_here}
+use Rattle.at_model.proofs.of_likeness.EquationsAlike.{equations-like}
+use Rattle.at_model.proofs.of_likeness.CarryingSupport.{supports_there, supports_here}
 use Rattle.at_model.proofs.laws.carried_support.Goals as goal
 
 pub returns-clause-kept : goal.returns-clause-kept

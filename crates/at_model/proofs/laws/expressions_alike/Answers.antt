@@ -1,7 +1,7 @@
 use Rattle.std.proofs.Common.{nat_eq}
 use Rattle.at_model.specs.Paths.{node_eq}
 use Rattle.at_model.proofs.Nodes.{same_like, nat_eq-is, node_eq-is}
-use Rattle.at_model.proofs.ExpressionsAlike.{eval-like}
+use Rattle.at_model.proofs.of_likeness.ExpressionsAlike.{eval-like}
 use Rattle.at_model.proofs.laws.expressions_alike.Goals as goal
 
 pub returns : goal.returns

@@ -3,9 +3,9 @@ use Rattle.at_model.specs.Paths.{node_eq}
 use Rattle.at_model.specs.Rules.{evaluation}
 use Rattle.at_model.specs.Meaning.{content, equations}
 use Rattle.at_model.proofs.Nodes.{same_like, nat_eq-is, node_eq-is}
-use Rattle.at_model.proofs.EquationsAlike.{evaluation-like}
-use Rattle.at_model.proofs.TriesAlike.{tried-like, reads-like}
-use Rattle.at_model.proofs.CarryingCircles.{named_answer}
+use Rattle.at_model.proofs.of_likeness.EquationsAlike.{evaluation-like}
+use Rattle.at_model.proofs.of_likeness.TriesAlike.{tried-like, reads-like}
+use Rattle.at_model.proofs.of_likeness.CarryingCircles.{named_answer}
 use Rattle.at_model.proofs.laws.numbers_for_paths.Goals as goal
 
 pub returns-clause-tries : goal.returns-clause-tries

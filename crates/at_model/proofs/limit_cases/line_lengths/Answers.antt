@@ -6,7 +6,7 @@ use Rattle.at_model.specs.Names.{reserved_words}
 use Rattle.at_model.specs.Texts.{escaped}
 use Rattle.at_model.specs.SampleSessions.{letters, renaming}
 use Rattle.at_model.specs.SampleLines.{statement_path}
-use Rattle.at_model.proofs.PlainLines.{is_low, low_utf8, named, path}
+use Rattle.at_model.proofs.of_texts.PlainLines.{is_low, low_utf8, named, path}
 use Rattle.at_model.proofs.limit_cases.line_lengths.Goals as goal
 
 low_letters : (n : ℕ) → list_all is_low (letters n) ≡ true

@@ -7,7 +7,7 @@ use Rattle.at_model.specs.Lines.{Line, From_root, Token}
 use Rattle.at_model.specs.Samples.{calc}
 use Rattle.at_model.specs.SampleLines.{opened, says, statement_path}
 use Rattle.at_model.specs.SampleSessions.{letters}
-use Rattle.at_model.proofs.Played.{tested}
+use Rattle.at_model.proofs.of_machines.Played.{tested}
 use Rattle.at_model.proofs.limit_cases.token_lengths.Goals as goal
 
 pub returns-clause-longest : goal.returns-clause-longest

@@ -11,9 +11,9 @@ use Rattle.at_model.specs.Replies as code
 use Rattle.at_model.specs.Samples.{calc}
 use Rattle.at_model.specs.Machine.{obeys, refuses, Serves, handles, runs_out, Runs, end, next, spent, none_open}
 use Rattle.at_model.specs.Playing.{Writes}
-use Rattle.at_model.proofs.Runs.{append_nil}
+use Rattle.at_model.proofs.of_machines.Runs.{append_nil}
 use Rattle.at_model.specs.SampleLines.{opened, says}
-use Rattle.at_model.proofs.OneLine.{line_flat}
+use Rattle.at_model.proofs.of_texts.OneLine.{line_flat}
 use Rattle.at_model.proofs.machine_cases.outputs_of_bytes.Goals as goal
 
 first_digit : (n : ℕ) (r : List ℕ) (b : ℕ) (x : List ℕ) → n < 2 ^ 64 → b ∷ x ≡ decimal n ++ r → digit_value b < 10

@@ -1,4 +1,4 @@
-use Rattle.at_model.proofs.OneOutput.{refused_bytes}
+use Rattle.at_model.proofs.of_machines.OneOutput.{refused_bytes}
 use Rattle.at_model.proofs.machine_laws.a_refused_line_changes_nothing.Goals as goal
 
 pub returns : goal.returns

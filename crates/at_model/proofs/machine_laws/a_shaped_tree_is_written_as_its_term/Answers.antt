@@ -1,4 +1,4 @@
-use Rattle.at_model.proofs.Shaped.{shaped_conforms}
+use Rattle.at_model.proofs.of_texts.Shaped.{shaped_conforms}
 use Rattle.at_model.proofs.machine_laws.a_shaped_tree_is_written_as_its_term.Goals as goal
 
 pub returns : goal.returns

@@ -1,4 +1,4 @@
-use Rattle.at_model.proofs.Sound.{sound_served, sound_turn, sound_given}
+use Rattle.at_model.proofs.of_machines.Sound.{sound_served, sound_turn, sound_given}
 use Rattle.at_model.proofs.machine_laws.a_sound_state_stays_sound.Goals as goal
 
 pub returns-clause-line : goal.returns-clause-line

@@ -1,4 +1,4 @@
-use Rattle.at_model.proofs.Shaped.{conforms_shaped}
+use Rattle.at_model.proofs.of_texts.Shaped.{conforms_shaped}
 use Rattle.at_model.proofs.machine_laws.a_written_tree_is_shaped_again.Goals as goal
 
 pub returns : goal.returns

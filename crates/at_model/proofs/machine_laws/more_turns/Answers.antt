@@ -1,4 +1,4 @@
-use Rattle.at_model.proofs.Runs.{given_on, text_append}
+use Rattle.at_model.proofs.of_machines.Runs.{given_on, text_append}
 use Rattle.at_model.proofs.machine_laws.more_turns.Goals as goal
 
 pub returns-clause-turns : goal.returns-clause-turns

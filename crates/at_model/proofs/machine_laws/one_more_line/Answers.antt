@@ -1,4 +1,4 @@
-use Rattle.at_model.proofs.Runs.{one_more, runs_on}
+use Rattle.at_model.proofs.of_machines.Runs.{one_more, runs_on}
 use Rattle.at_model.proofs.machine_laws.one_more_line.Goals as goal
 
 pub returns-clause-line : goal.returns-clause-line

@@ -1,4 +1,4 @@
-use Rattle.at_model.proofs.OneOutput.{outputs_once}
+use Rattle.at_model.proofs.of_machines.OneOutput.{outputs_once}
 use Rattle.at_model.proofs.machine_laws.one_output.Goals as goal
 
 pub returns : goal.returns

@@ -1,7 +1,7 @@
 use Rattle.std.proofs.Common.{Bool, ap, refl}
 use Rattle.at_model.specs.Replies.{Reply}
-use Rattle.at_model.proofs.Steps.{answers_once}
-use Rattle.at_model.proofs.OneOutput.{handles_once}
+use Rattle.at_model.proofs.of_machines.Steps.{answers_once}
+use Rattle.at_model.proofs.of_machines.OneOutput.{handles_once}
 use Rattle.at_model.proofs.machine_laws.one_reply.Goals as goal
 
 pub returns : goal.returns

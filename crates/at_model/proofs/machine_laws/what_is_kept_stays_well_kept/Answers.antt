@@ -1,5 +1,5 @@
 use Rattle.std.proofs.Common.{◌≡◌, true}
-use Rattle.at_model.proofs.WellKept.{kept_well}
+use Rattle.at_model.proofs.of_machines.WellKept.{kept_well}
 use Rattle.at_model.proofs.machine_laws.what_is_kept_stays_well_kept.Goals as goal
 
 pub returns : goal.returns

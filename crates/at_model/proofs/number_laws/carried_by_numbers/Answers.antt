@@ -2,9 +2,9 @@ use Rattle.std.proofs.Common.{ℕ, nat_eq, Option}
 use Rattle.at_model.specs.Rules.{Rules, evaluation}
 use Rattle.at_model.specs.Alike.{EquationsLike, IsInjective, Names}
 use Rattle.at_model.proofs.Nodes.{same_like, nat_eq-is}
-use Rattle.at_model.proofs.EquationsAlike.{evaluation-like}
-use Rattle.at_model.proofs.Carrying.{carried}
-use Rattle.at_model.proofs.CarryingSupport.{leads_there, leads_here, supports_there, supports_here}
+use Rattle.at_model.proofs.of_likeness.EquationsAlike.{evaluation-like}
+use Rattle.at_model.proofs.of_likeness.Carrying.{carried}
+use Rattle.at_model.proofs.of_likeness.CarryingSupport.{leads_there, leads_here, supports_there, supports_here}
 use Rattle.at_model.proofs.number_laws.carried_by_numbers.Goals as goal
 
 like : (carry : ℕ → Option ℕ) → IsInjective carry → (rules : Rules) → EquationsLike (Names carry) (evaluation rules nat_eq) (evaluation rules nat_eq)

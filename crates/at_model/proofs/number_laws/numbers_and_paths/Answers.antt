@@ -4,8 +4,8 @@ use Rattle.at_model.specs.Rules.{Rules, evaluation}
 use Rattle.at_model.specs.Meaning.{content, equations}
 use Rattle.at_model.specs.Alike.{EquationsLike, IsInjective, Names}
 use Rattle.at_model.proofs.Nodes.{same_like, nat_eq-is, node_eq-is}
-use Rattle.at_model.proofs.EquationsAlike.{evaluation-like}
-use Rattle.at_model.proofs.AlikeBack.{value_on, value_back, leads_on, leads_back, supports_on, supports_back}
+use Rattle.at_model.proofs.of_likeness.EquationsAlike.{evaluation-like}
+use Rattle.at_model.proofs.of_likeness.AlikeBack.{value_on, value_back, leads_on, leads_back, supports_on, supports_back}
 use Rattle.at_model.proofs.number_laws.numbers_and_paths.Goals as goal
 
 like : (path : ℕ → Option Node) → IsInjective path → (rules : Rules) → EquationsLike (Names path) (evaluation rules nat_eq) (equations rules)

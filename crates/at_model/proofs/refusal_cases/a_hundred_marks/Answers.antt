@@ -5,7 +5,7 @@ use Rattle.at_model.specs.Names.{reserved_words}
 use Rattle.at_model.specs.Lines.{Line, From_root, Mark}
 use Rattle.at_model.specs.Samples.{calc}
 use Rattle.at_model.specs.SampleLines.{opened, says}
-use Rattle.at_model.proofs.Played.{tested}
+use Rattle.at_model.proofs.of_machines.Played.{tested}
 use Rattle.at_model.proofs.refusal_cases.a_hundred_marks.Goals as goal
 
 -- the lines of so many marks

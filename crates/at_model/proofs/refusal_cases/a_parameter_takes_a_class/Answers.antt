@@ -6,7 +6,7 @@ use Rattle.at_model.specs.Lines.{From_root, Text, Ref, Null, Ask}
 use Rattle.at_model.specs.Run.{Truth}
 use Rattle.at_model.specs.Meaning.{Outcomes, Finds}
 use Rattle.at_model.specs.SampleLines.{says, plain_step, list_step}
-use Rattle.at_model.proofs.Played.{ends, line, question}
+use Rattle.at_model.proofs.of_machines.Played.{ends, line, question}
 use Rattle.at_model.proofs.refusal_cases.a_parameter_takes_a_class.Goals as goal
 
 pub returns : goal.returns

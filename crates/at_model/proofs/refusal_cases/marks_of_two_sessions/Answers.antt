@@ -4,7 +4,7 @@ use Rattle.at_model.specs.Classes.{chain}
 use Rattle.at_model.specs.Names.{reserved_words}
 use Rattle.at_model.specs.Lines.{From_root, Mark, Unmark, Where}
 use Rattle.at_model.specs.SampleLines.{says, plain_step}
-use Rattle.at_model.proofs.Played.{ends, line}
+use Rattle.at_model.proofs.of_machines.Played.{ends, line}
 use Rattle.at_model.proofs.refusal_cases.marks_of_two_sessions.Goals as goal
 
 pub returns : goal.returns

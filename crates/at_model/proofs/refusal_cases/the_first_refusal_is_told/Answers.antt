@@ -6,7 +6,7 @@ use Rattle.at_model.specs.Trees as tree
 use Rattle.at_model.specs.Terms as term
 use Rattle.at_model.specs.Lines.{From_root, From_mark, Ref, Ask, Set, Put, Insert, Token, Show}
 use Rattle.at_model.specs.SampleLines.{says, plain_step, list_step}
-use Rattle.at_model.proofs.Played.{ends, line}
+use Rattle.at_model.proofs.of_machines.Played.{ends, line}
 use Rattle.at_model.proofs.refusal_cases.the_first_refusal_is_told.Goals as goal
 
 pub returns-clause-stale : goal.returns-clause-stale

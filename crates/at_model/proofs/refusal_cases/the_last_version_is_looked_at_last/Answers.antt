@@ -6,7 +6,7 @@ use Rattle.at_model.specs.Trees as tree
 use Rattle.at_model.specs.Terms as term
 use Rattle.at_model.specs.Lines.{From_root, Set, Put, Drop, Insert, Token, Mark, Version}
 use Rattle.at_model.specs.SampleLines.{says, plain_step, list_step}
-use Rattle.at_model.proofs.Played.{ends, line}
+use Rattle.at_model.proofs.of_machines.Played.{ends, line}
 use Rattle.at_model.proofs.refusal_cases.the_last_version_is_looked_at_last.Goals as goal
 
 pub returns : goal.returns

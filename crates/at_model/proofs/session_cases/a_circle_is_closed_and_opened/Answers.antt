@@ -9,7 +9,7 @@ use Rattle.at_model.specs.Run.{Int}
 use Rattle.at_model.specs.Meaning.{Outcomes, Finds, Circle}
 use Rattle.at_model.specs.Samples.{of_node}
 use Rattle.at_model.specs.SampleLines.{says, plain_step, list_step}
-use Rattle.at_model.proofs.Played.{ends, line, question}
+use Rattle.at_model.proofs.of_machines.Played.{ends, line, question}
 use Rattle.at_model.proofs.SampleCircles.{statement_circle}
 use Rattle.at_model.proofs.session_cases.a_circle_is_closed_and_opened.Goals as goal
 

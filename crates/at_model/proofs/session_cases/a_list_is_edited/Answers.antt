@@ -10,7 +10,7 @@ use Rattle.at_model.specs.Run as run
 use Rattle.at_model.specs.Meaning.{Outcomes, Finds, Faults}
 use Rattle.at_model.specs.Samples.{of_node}
 use Rattle.at_model.specs.SampleLines.{says, plain_step, list_step}
-use Rattle.at_model.proofs.Played.{ends, line, question}
+use Rattle.at_model.proofs.of_machines.Played.{ends, line, question}
 use Rattle.at_model.proofs.session_cases.a_list_is_edited.Goals as goal
 
 pub returns-clause-inserted : goal.returns-clause-inserted

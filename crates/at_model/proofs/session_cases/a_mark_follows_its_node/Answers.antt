@@ -9,7 +9,7 @@ use Rattle.at_model.specs.Run.{Int, Truth}
 use Rattle.at_model.specs.Run as run
 use Rattle.at_model.specs.Meaning.{Outcomes, Finds}
 use Rattle.at_model.specs.SampleLines.{plain_step, list_step}
-use Rattle.at_model.proofs.Played.{ends, line, question}
+use Rattle.at_model.proofs.of_machines.Played.{ends, line, question}
 use Rattle.at_model.proofs.session_cases.a_mark_follows_its_node.Goals as goal
 
 pub returns : goal.returns

@@ -9,7 +9,7 @@ use Rattle.at_model.specs.Run as run
 use Rattle.at_model.specs.Meaning.{Outcomes, Finds, Faults}
 use Rattle.at_model.specs.Samples.{of_node}
 use Rattle.at_model.specs.SampleLines.{says, plain_step, list_step}
-use Rattle.at_model.proofs.Played.{ends, line, question}
+use Rattle.at_model.proofs.of_machines.Played.{ends, line, question}
 use Rattle.at_model.proofs.session_cases.a_token_is_edited.Goals as goal
 
 pub returns-clause-summand : goal.returns-clause-summand

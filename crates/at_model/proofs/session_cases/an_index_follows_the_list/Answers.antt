@@ -6,7 +6,7 @@ use Rattle.at_model.specs.Lines.{From_root, Ask, Drop}
 use Rattle.at_model.specs.Run.{Int}
 use Rattle.at_model.specs.Meaning.{Outcomes, Finds}
 use Rattle.at_model.specs.SampleLines.{says, plain_step, list_step}
-use Rattle.at_model.proofs.Played.{ends, line, question}
+use Rattle.at_model.proofs.of_machines.Played.{ends, line, question}
 use Rattle.at_model.proofs.session_cases.an_index_follows_the_list.Goals as goal
 
 pub returns : goal.returns

@@ -5,7 +5,7 @@ use Rattle.at_model.specs.Names.{reserved_words}
 use Rattle.at_model.specs.Trees as tree
 use Rattle.at_model.specs.Lines.{From_root, Token, Show, Version}
 use Rattle.at_model.specs.SampleLines.{says, plain_step, list_step}
-use Rattle.at_model.proofs.Played.{ends, line}
+use Rattle.at_model.proofs.of_machines.Played.{ends, line}
 use Rattle.at_model.proofs.session_cases.an_old_version_is_expected.Goals as goal
 
 pub returns : goal.returns

@@ -8,7 +8,7 @@ use Rattle.at_model.specs.Lines.{From_root, Ask, Put, Drop}
 use Rattle.at_model.specs.Run.{Int}
 use Rattle.at_model.specs.Meaning.{Outcomes, Finds}
 use Rattle.at_model.specs.SampleLines.{says, plain_step, list_step}
-use Rattle.at_model.proofs.Played.{ends, line, question}
+use Rattle.at_model.proofs.of_machines.Played.{ends, line, question}
 use Rattle.at_model.proofs.session_cases.an_optional_is_edited.Goals as goal
 
 pub returns : goal.returns

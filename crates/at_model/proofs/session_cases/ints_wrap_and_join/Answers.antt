@@ -7,7 +7,7 @@ use Rattle.at_model.specs.Run.{Int, Truth}
 use Rattle.at_model.specs.Run as run
 use Rattle.at_model.specs.Meaning.{Outcomes, Finds}
 use Rattle.at_model.specs.SampleLines.{says}
-use Rattle.at_model.proofs.Played.{ends, question}
+use Rattle.at_model.proofs.of_machines.Played.{ends, question}
 use Rattle.at_model.proofs.session_cases.ints_wrap_and_join.Goals as goal
 
 pub returns-clause-wraps : goal.returns-clause-wraps

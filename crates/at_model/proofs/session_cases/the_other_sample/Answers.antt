@@ -7,7 +7,7 @@ use Rattle.at_model.specs.Lines.{From_root, Ask, Token, Show, Version}
 use Rattle.at_model.specs.Run.{Int}
 use Rattle.at_model.specs.Meaning.{Outcomes, Finds}
 use Rattle.at_model.specs.SampleLines.{says, plain_step}
-use Rattle.at_model.proofs.Played.{ends, line, question}
+use Rattle.at_model.proofs.of_machines.Played.{ends, line, question}
 use Rattle.at_model.proofs.session_cases.the_other_sample.Goals as goal
 
 pub returns-clause-asked : goal.returns-clause-asked

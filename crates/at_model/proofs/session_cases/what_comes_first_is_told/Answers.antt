@@ -8,7 +8,7 @@ use Rattle.at_model.specs.Run as run
 use Rattle.at_model.specs.Meaning.{Outcomes, Finds, Faults, Circle}
 use Rattle.at_model.specs.Samples.{of_node}
 use Rattle.at_model.specs.SampleLines.{says}
-use Rattle.at_model.proofs.Played.{ends, question}
+use Rattle.at_model.proofs.of_machines.Played.{ends, question}
 use Rattle.at_model.proofs.SampleCircles.{root_circle}
 use Rattle.at_model.proofs.session_cases.what_comes_first_is_told.Goals as goal
 

@@ -1,6 +1,6 @@
 use Rattle.std.proofs.Common.{◌≡◌, true}
 use Rattle.at_model.specs.Keeping.{NothingKept}
-use Rattle.at_model.proofs.KeptOverLines.{one_work, one_total, total_next}
+use Rattle.at_model.proofs.of_machines.KeptOverLines.{one_work, one_total, total_next}
 use Rattle.at_model.proofs.sparing_laws.one_work.Goals as goal
 
 pub returns-clause-line : goal.returns-clause-line

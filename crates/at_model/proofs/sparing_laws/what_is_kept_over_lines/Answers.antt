@@ -1,6 +1,6 @@
 use Rattle.at_model.specs.Keeping.{NothingKept}
-use Rattle.at_model.proofs.KeptOverLines.{sound_over, well_from_nothing, kept_next}
-use Rattle.at_model.proofs.NothingLost.{kept_there, nothing_lost}
+use Rattle.at_model.proofs.of_machines.KeptOverLines.{sound_over, well_from_nothing, kept_next}
+use Rattle.at_model.proofs.of_machines.NothingLost.{kept_there, nothing_lost}
 use Rattle.at_model.proofs.sparing_laws.what_is_kept_over_lines.Goals as goal
 
 pub returns-clause-well : goal.returns-clause-well

@@ -1,4 +1,4 @@
-use Rattle.at_model.proofs.CarriedInstances.{instance_carried, instance_there}
+use Rattle.at_model.proofs.of_edits.CarriedInstances.{instance_carried, instance_there}
 use Rattle.at_model.proofs.sparing_laws.what_is_not_touched_is_carried.Goals as goal
 
 pub returns : goal.returns

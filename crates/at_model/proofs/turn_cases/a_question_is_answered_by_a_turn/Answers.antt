@@ -11,7 +11,7 @@ use Rattle.at_model.specs.Machine.{Posted}
 use Rattle.at_model.specs.Samples.{of_node, root, statement}
 use Rattle.at_model.specs.SampleLines.{says, printed_path, left_path, statement_path}
 use Rattle.at_model.specs.SampleSessions.{posting, value_posted}
-use Rattle.at_model.proofs.Played.{ends, line, answering, answering_with}
+use Rattle.at_model.proofs.of_machines.Played.{ends, line, answering, answering_with}
 use Rattle.at_model.proofs.SampleCircles.{self_circle}
 use Rattle.at_model.proofs.turn_cases.a_question_is_answered_by_a_turn.Goals as goal
 

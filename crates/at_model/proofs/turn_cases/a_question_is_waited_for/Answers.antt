@@ -10,7 +10,7 @@ use Rattle.at_model.specs.Machine.{Posted}
 use Rattle.at_model.specs.Samples.{statement}
 use Rattle.at_model.specs.SampleLines.{says, plain_step, printed_path, left_path}
 use Rattle.at_model.specs.SampleSessions.{posting, value_posted}
-use Rattle.at_model.proofs.Played.{ends, line, waiting_for}
+use Rattle.at_model.proofs.of_machines.Played.{ends, line, waiting_for}
 use Rattle.at_model.proofs.turn_cases.a_question_is_waited_for.Goals as goal
 
 abbrev edit : Line

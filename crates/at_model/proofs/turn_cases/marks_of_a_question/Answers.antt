@@ -10,7 +10,7 @@ use Rattle.at_model.specs.Meaning.{Outcomes, Finds}
 use Rattle.at_model.specs.Machine.{Marked, Posted}
 use Rattle.at_model.specs.Samples.{left_of, statement}
 use Rattle.at_model.specs.SampleLines.{says, mark, block_path, left_path, statement_path, decl_y_term}
-use Rattle.at_model.proofs.Played.{ends, line, waiting_for, answering}
+use Rattle.at_model.proofs.of_machines.Played.{ends, line, waiting_for, answering}
 use Rattle.at_model.proofs.turn_cases.marks_of_a_question.Goals as goal
 
 abbrev marking : Line

@@ -2,8 +2,8 @@ use Rattle.std.proofs.Common.{◌<◌, [], Some, codes, refl, arith}
 use Rattle.std.specs.Fmt.{digits}
 use Rattle.at_model.specs.Lines.{Wait}
 use Rattle.at_model.specs.SampleLines.{says}
-use Rattle.at_model.proofs.Played.{ends, line, unread}
-use Rattle.at_model.proofs.Unread.{nothing_awaited, no_zero}
+use Rattle.at_model.proofs.of_machines.Played.{ends, line, unread}
+use Rattle.at_model.proofs.of_texts.Unread.{nothing_awaited, no_zero}
 use Rattle.at_model.proofs.turn_cases.numbers_of_questions.Goals as goal
 
 pub returns-clause-zero : goal.returns-clause-zero

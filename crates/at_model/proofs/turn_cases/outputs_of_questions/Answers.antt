@@ -10,7 +10,7 @@ use Rattle.at_model.specs.Machine.{State, Posted, Turns, answers, runs_out, tell
 use Rattle.at_model.specs.Samples.{calc}
 use Rattle.at_model.specs.SampleLines.{opened, says}
 use Rattle.at_model.specs.SampleSessions.{posting, value_posted, with_questions}
-use Rattle.at_model.proofs.Played.{serves_line, silent_turn, reply_to}
+use Rattle.at_model.proofs.of_machines.Played.{serves_line, silent_turn, reply_to}
 use Rattle.at_model.proofs.turn_cases.outputs_of_questions.Goals as goal
 
 -- the question, after the turn that answered nothing

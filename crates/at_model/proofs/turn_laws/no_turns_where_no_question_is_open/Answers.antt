@@ -1,4 +1,4 @@
-use Rattle.at_model.proofs.Machines.{none_given}
+use Rattle.at_model.proofs.of_machines.Machines.{none_given}
 use Rattle.at_model.proofs.turn_laws.no_turns_where_no_question_is_open.Goals as goal
 
 pub returns : goal.returns

@@ -1,4 +1,4 @@
-use Rattle.at_model.proofs.Machines.{turn_leaves, given_leaves}
+use Rattle.at_model.proofs.of_machines.Machines.{turn_leaves, given_leaves}
 use Rattle.at_model.proofs.turn_laws.turns_change_open_questions_alone.Goals as goal
 
 pub returns-clause-turn : goal.returns-clause-turn

@@ -1,4 +1,4 @@
-use Rattle.at_model.proofs.Machines.{waited}
+use Rattle.at_model.proofs.of_machines.Machines.{waited}
 use Rattle.at_model.proofs.turn_laws.what_is_waited_for_is_answered_as_asked.Goals as goal
 
 pub returns : goal.returns

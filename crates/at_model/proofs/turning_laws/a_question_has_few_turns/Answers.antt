@@ -1,7 +1,7 @@
 use Rattle.at_model.specs.Meaning.{content, equations}
 use Rattle.at_model.specs.Instances.{instances}
-use Rattle.at_model.proofs.TypedTogether.{listed}
-use Rattle.at_model.proofs.Bounded.{few_turns}
+use Rattle.at_model.proofs.of_typing.TypedTogether.{listed}
+use Rattle.at_model.proofs.of_machines.Bounded.{few_turns}
 use Rattle.at_model.proofs.turning_laws.a_question_has_few_turns.Goals as goal
 
 pub returns : goal.returns

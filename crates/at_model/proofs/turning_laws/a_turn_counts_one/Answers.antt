@@ -1,5 +1,5 @@
 use Rattle.std.proofs.Common.{refl, arith}
-use Rattle.at_model.proofs.Bounded.{one_turn}
+use Rattle.at_model.proofs.of_machines.Bounded.{one_turn}
 use Rattle.at_model.proofs.turning_laws.a_turn_counts_one.Goals as goal
 
 pub returns-clause-none : goal.returns-clause-none

@@ -1,4 +1,4 @@
-use Rattle.at_model.proofs.Bounded.{begun, stays_on}
+use Rattle.at_model.proofs.of_machines.Bounded.{begun, stays_on}
 use Rattle.at_model.proofs.turning_laws.a_turn_leaves_a_question_on_its_tree.Goals as goal
 
 pub returns-clause-begun : goal.returns-clause-begun

@@ -1,4 +1,4 @@
-use Rattle.at_model.proofs.Bounded.{answers_right}
+use Rattle.at_model.proofs.of_machines.Bounded.{answers_right}
 use Rattle.at_model.proofs.turning_laws.an_answer_is_that_of_the_question.Goals as goal
 
 pub returns : goal.returns

@@ -1,4 +1,4 @@
-use Rattle.at_model.proofs.TypedTogether.{demanded, value_of_kind}
+use Rattle.at_model.proofs.of_typing.TypedTogether.{demanded, value_of_kind}
 use Rattle.at_model.proofs.typing_laws.a_value_is_of_its_kind.Goals as goal
 
 pub returns-clause-value : goal.returns-clause-value

@@ -1,4 +1,4 @@
-use Rattle.at_model.proofs.TypedTogether.{listed}
+use Rattle.at_model.proofs.of_typing.TypedTogether.{listed}
 use Rattle.at_model.proofs.typing_laws.all_instances_are_listed.Goals as goal
 
 pub returns : goal.returns

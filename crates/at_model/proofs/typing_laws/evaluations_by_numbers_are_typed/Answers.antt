@@ -1,4 +1,4 @@
-use Rattle.at_model.proofs.TypedTogether.{evaluated_by_numbers}
+use Rattle.at_model.proofs.of_typing.TypedTogether.{evaluated_by_numbers}
 use Rattle.at_model.proofs.typing_laws.evaluations_by_numbers_are_typed.Goals as goal
 
 pub returns : goal.returns

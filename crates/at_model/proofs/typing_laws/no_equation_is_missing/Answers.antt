@@ -1,4 +1,4 @@
-use Rattle.at_model.proofs.TypedTogether.{demanded, own_there, source_there}
+use Rattle.at_model.proofs.of_typing.TypedTogether.{demanded, own_there, source_there}
 use Rattle.at_model.proofs.typing_laws.no_equation_is_missing.Goals as goal
 
 pub returns-clause-own : goal.returns-clause-own

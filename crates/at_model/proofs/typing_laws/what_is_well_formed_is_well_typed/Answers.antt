@@ -1,5 +1,5 @@
 use Rattle.at_model.specs.Instances.{AnyText}
-use Rattle.at_model.proofs.TypedQuestions.{typed_of_formed, formed_of_typed}
+use Rattle.at_model.proofs.of_typing.TypedQuestions.{typed_of_formed, formed_of_typed}
 use Rattle.at_model.proofs.typing_laws.what_is_well_formed_is_well_typed.Goals as goal
 
 pub returns-clause-typed : goal.returns-clause-typed

@@ -3,8 +3,8 @@ use Rattle.std.specs.Fmt.{digits}
 use Rattle.std.proofs.lemmas.List.{length-append}
 use Rattle.at_model.specs.Lines.{Version}
 use Rattle.at_model.specs.SampleLines.{says}
-use Rattle.at_model.proofs.Played.{ends, line, unread}
-use Rattle.at_model.proofs.Unread.{no_line, no_session, no_thousand, no_two_zeros, nothing_shown, no_byte, no_blank}
+use Rattle.at_model.proofs.of_machines.Played.{ends, line, unread}
+use Rattle.at_model.proofs.of_texts.Unread.{no_line, no_session, no_thousand, no_two_zeros, nothing_shown, no_byte, no_blank}
 use Rattle.at_model.proofs.unread_cases.bytes_that_are_no_line.Goals as goal
 
 pub returns-clause-sessions : goal.returns-clause-sessions

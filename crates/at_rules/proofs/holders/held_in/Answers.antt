@@ -1,7 +1,7 @@
 use Rattle.std.proofs.Common.{◌≡◌, ◌+◌, ℕ, arith, sym, subst, take}
 use Rattle.std.specs.Map.{keys_of}
 use Rattle.at_rules.specs.Holding.{has_equation, is_held}
-use Rattle.at_rules.proofs.Holding.{held_next, not_there}
+use Rattle.at_rules.proofs.HoldingLemmas.{held_next, not_there}
 use Rattle.at_rules.proofs.holders.held_in.Goals as goal
 use Rattle.at_rules.proofs.holders.held_in.Goals.{in-Some+in_ok-hold, in_default}
 

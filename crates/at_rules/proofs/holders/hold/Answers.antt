@@ -1,7 +1,7 @@
 use Rattle.std.proofs.Common.{◌∙◌, ap}
 use Rattle.std.specs.Map.{keys_of}
 use Rattle.at_rules.specs.Holding.{is_held}
-use Rattle.at_rules.proofs.Holding.{held_more}
+use Rattle.at_rules.proofs.HoldingLemmas.{held_more}
 use Rattle.at_rules.proofs.holders.hold.Goals as goal
 
 pub returns : goal.returns

@@ -3,7 +3,7 @@ use Rattle.std.specs.Prelude.{◌&&◌, nat_eq, position}
 use Rattle.std.specs.Map.{keys_of}
 use Rattle.at_model.specs.Classes.{chain, chain_within, parent_of}
 use Rattle.at_rules.specs.Upward.{earlier, declared_in}
-use Rattle.at_rules.proofs.Upward.{found_above, found_on_top, found_at_end}
+use Rattle.at_rules.proofs.UpwardLemmas.{found_above, found_on_top, found_at_end}
 use Rattle.at_rules.proofs.rules.declared_above.Goals as goal
 
 pub returns-in_default : goal.returns-in_default

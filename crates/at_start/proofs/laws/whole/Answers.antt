@@ -1,4 +1,4 @@
-use Rattle.at_start.proofs.Whole.{whole}
+use Rattle.at_start.proofs.WholeLemmas.{whole}
 use Rattle.at_start.proofs.laws.whole.Goals as goal
 
 pub returns : goal.returns

@@ -1,6 +1,6 @@
 use Rattle.std.proofs.Common.{refl}
 use Rattle.std.proofs.lemmas.Result.{err_from_is_err_and}
-use Rattle.at_start.proofs.Whole.{answers_by}
+use Rattle.at_start.proofs.WholeLemmas.{answers_by}
 use Rattle.at_start.proofs.serving.answer.Goals as goal
 
 pub run-ended-requires : goal.run-ended-requires

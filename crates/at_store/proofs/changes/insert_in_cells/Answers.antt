@@ -5,7 +5,7 @@ use Rattle.at_store.specs.Memory.{Kept, numbers_in}
 use Rattle.at_store.specs.Reserving.{HasSpace}
 use Rattle.at_store.specs.View.{kept_view}
 use Rattle.at_store.specs.declared.entry.Slot.{Slot}
-use Rattle.at_store.proofs.Reserved.{slot_at}
+use Rattle.at_store.proofs.of_edits.Reserved.{slot_at}
 use Rattle.at_store.proofs.Slots.{map_length, none_changed, set_shown}
 use Rattle.at_store.proofs.changes.insert_in_cells.Goals as goal
 

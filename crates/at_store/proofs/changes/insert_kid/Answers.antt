@@ -4,7 +4,7 @@ use Rattle.slab.specs.Slab.{with_value}
 use Rattle.at_store.specs.Memory.{kids_in, relinked}
 use Rattle.at_store.specs.Reserving.{HasRoom}
 use Rattle.at_store.specs.View.{memory_of}
-use Rattle.at_store.proofs.Reserved.{kids_were, new_entry, relinked_later, relinked_nowhere, room_was}
+use Rattle.at_store.proofs.of_edits.Reserved.{kids_were, new_entry, relinked_later, relinked_nowhere, room_was}
 use Rattle.at_store.proofs.changes.insert_kid.Goals as goal
 
 pub returns-in-Some-clause-written : goal.returns-in-Some-clause-written

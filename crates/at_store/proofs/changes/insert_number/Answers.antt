@@ -1,4 +1,4 @@
-use Rattle.at_store.proofs.Reserved.{done}
+use Rattle.at_store.proofs.of_edits.Reserved.{done}
 use Rattle.at_store.proofs.changes.insert_number.Goals as goal
 
 pub returns-then-index-len : goal.returns-then-index-len

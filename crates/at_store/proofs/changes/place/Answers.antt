@@ -2,7 +2,7 @@ use Rattle.std.proofs.Common.{◌≡◌, ◌≤◌, ℕ, Some, drop, length, sym
 use Rattle.std.specs.List.{insert}
 use Rattle.at_store.specs.Memory.{Kids, kids_in, numbers_in, raised, renumbered, rewritten}
 use Rattle.at_store.specs.View.{memory_of}
-use Rattle.at_store.proofs.Reserved.{list_written}
+use Rattle.at_store.proofs.of_edits.Reserved.{list_written}
 use Rattle.at_store.proofs.changes.place.Goals as goal
 
 pub returns-clause-written : goal.returns-clause-written

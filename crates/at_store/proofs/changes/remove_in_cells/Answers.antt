@@ -1,6 +1,6 @@
 use Rattle.std.proofs.Common.{◌≤◌, length, map, sym, arith}
 use Rattle.at_store.specs.View.{kept_view}
-use Rattle.at_store.proofs.Reserved.{space_kept}
+use Rattle.at_store.proofs.of_edits.Reserved.{space_kept}
 use Rattle.at_store.proofs.Slots.{set_shown, none_changed, map_length}
 use Rattle.at_store.proofs.changes.remove_in_cells.Goals as goal
 

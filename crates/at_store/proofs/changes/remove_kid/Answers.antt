@@ -1,4 +1,4 @@
-use Rattle.at_store.proofs.Reserved.{room_kept}
+use Rattle.at_store.proofs.of_edits.Reserved.{room_kept}
 use Rattle.at_store.proofs.changes.remove_kid.Goals as goal
 
 pub returns-in-Some-clause-room : goal.returns-in-Some-clause-room

@@ -1,8 +1,8 @@
 use Rattle.std.proofs.Common.{ℕ, subst}
 use Rattle.slab.specs.Slab.{with_value}
 use Rattle.at_store.specs.Reserving.{HasRoom}
-use Rattle.at_store.proofs.Gains.{on_ok}
-use Rattle.at_store.proofs.Reserved.{new_entry, no_room_needed, room_taken}
+use Rattle.at_store.proofs.of_planting.Gains.{on_ok}
+use Rattle.at_store.proofs.of_edits.Reserved.{new_entry, no_room_needed, room_taken}
 use Rattle.at_store.proofs.Written.{written_same}
 use Rattle.at_store.proofs.changes.reserve.Goals as goal
 

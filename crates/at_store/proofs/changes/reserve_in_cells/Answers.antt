@@ -1,6 +1,6 @@
 use Rattle.std.proofs.Common.{sym}
-use Rattle.at_store.proofs.Gains.{on_ok}
-use Rattle.at_store.proofs.Reserved.{no_space_needed, space_taken}
+use Rattle.at_store.proofs.of_planting.Gains.{on_ok}
+use Rattle.at_store.proofs.of_edits.Reserved.{no_space_needed, space_taken}
 use Rattle.at_store.proofs.Written.{slot_same}
 use Rattle.at_store.proofs.changes.reserve_in_cells.Goals as goal
 

@@ -3,8 +3,8 @@ use Rattle.std.specs.List.{slice_get}
 use Rattle.at_store.specs.Leaving.{is_listed}
 use Rattle.at_store.specs.Memory.{IsShallow, IsSpreadTo, kids_in}
 use Rattle.at_store.specs.View.{kept_view, memory_of}
-use Rattle.at_store.proofs.Listed.{child_listed, root_listed}
-use Rattle.at_store.proofs.Marked.{part_marked, whole_marked}
+use Rattle.at_store.proofs.of_planting.Listed.{child_listed, root_listed}
+use Rattle.at_store.proofs.of_planting.MarkedLemmas.{part_marked, whole_marked}
 use Rattle.at_store.proofs.Slots.{map_length, none_past}
 use Rattle.at_store.proofs.listing.+list.Goals.{list_slot-in-Some+in_ok-list, list_slot-in_default}
 use Rattle.at_store.proofs.listing.+list.Goals as goal

@@ -4,7 +4,7 @@ use Rattle.slab.specs.Slab.{Slab}
 use Rattle.at_store.specs.declared.entry.Entry.{Entry}
 use Rattle.at_store.specs.Memory.{IsShallow, IsSpreadTo, cells_in, kids_in}
 use Rattle.at_store.specs.View.{kept_view, leaves_in, memory_of}
-use Rattle.at_store.proofs.Marked.{child_marked, part_marked, root_marked, stored_same, whole_marked}
+use Rattle.at_store.proofs.of_planting.MarkedLemmas.{child_marked, part_marked, root_marked, stored_same, whole_marked}
 use Rattle.at_store.proofs.Slots.{map_length, none_past}
 use Rattle.at_store.proofs.marks.+mark.Goals.{mark_slot-in-Some, mark_slot-in_default}
 use Rattle.at_store.proofs.marks.+mark.Goals as goal

@@ -1,6 +1,6 @@
 use Rattle.std.proofs.Common.{sym, ◌∙◌}
 use Rattle.at_store.specs.View.{memory_of}
-use Rattle.at_store.proofs.Spared.{around_named, nothing_around}
+use Rattle.at_store.proofs.of_edits.Spared.{around_named, nothing_around}
 use Rattle.at_store.proofs.places.around.Goals as goal
 
 pub returns-in-Some : goal.returns-in-Some

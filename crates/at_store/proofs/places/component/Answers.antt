@@ -1,6 +1,6 @@
 use Rattle.std.proofs.Common.{refl}
 use Rattle.at_store.specs.View.{memory_of}
-use Rattle.at_store.proofs.Spared.{component_named}
+use Rattle.at_store.proofs.of_edits.Spared.{component_named}
 use Rattle.at_store.proofs.places.component.Goals as goal
 
 pub returns : goal.returns

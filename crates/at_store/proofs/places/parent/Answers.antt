@@ -1,6 +1,6 @@
 use Rattle.std.proofs.Common.{sym, ◌∙◌}
 use Rattle.at_store.specs.View.{memory_of}
-use Rattle.at_store.proofs.Spared.{no_parent_named, parent_named}
+use Rattle.at_store.proofs.of_edits.Spared.{no_parent_named, parent_named}
 use Rattle.at_store.proofs.places.parent.Goals as goal
 
 pub returns-in-Some : goal.returns-in-Some

@@ -3,7 +3,7 @@ use Rattle.at_store.specs.Marked.{change_in, told}
 use Rattle.at_store.specs.Touching.{touches_by}
 use Rattle.at_store.specs.View.{memory_of}
 use Rattle.at_store.specs.declared.edit.Prepared.{Prepared}
-use Rattle.at_store.proofs.Spared.{drop_spared, insert_spared, move_spared, put_spared, set_spared, token_spared_by}
+use Rattle.at_store.proofs.of_edits.Spared.{drop_spared, insert_spared, move_spared, put_spared, set_spared, token_spared_by}
 use Rattle.at_store.proofs.places.places_of.Goals as goal
 
 pub returns-in-Set : goal.returns-in-Set

@@ -9,7 +9,7 @@ use Rattle.at_store.specs.declared.entry.Entry.{Entry}
 use Rattle.at_store.specs.Memory.{Token_of, IsFreedTo, kept, kept_of}
 use Rattle.at_store.specs.View.{info, info_of, kept_view, marked, memory_of, leaves_in}
 use Rattle.at_store.proofs.Slots.{map_length}
-use Rattle.at_store.proofs.Freeing.{spread_root, spread_whole, cell_done, child_freed, root_cells, none_stored}
+use Rattle.at_store.proofs.of_planting.Freeing.{spread_root, spread_whole, cell_done, child_freed, root_cells, none_stored}
 use Rattle.at_store.proofs.plant.+free.Goals as goal
 
 next : (n : ℕ) → suc n ≡ n + 1

@@ -14,7 +14,7 @@ use Rattle.at_tree.specs.declared.tree.Tree.{out-Tree}
 use Rattle.at_tree.proofs.TreeLoops.{tree_view_out}
 use Rattle.at_store.specs.View.{form_view, memory_of}
 use Rattle.at_store.proofs.Cells.{made_one, made_many, made_empty, made_token}
-use Rattle.at_store.proofs.Gains.{on_ok, on_err, at_err, stays_same, gains_childless, gains_child, gains_tree, tree_freed, HasFirstCells, HasFirstTrees, cells_begun, cells_on, cells_given_up, cells_whole, trees_begun, trees_on, trees_given_up, trees_whole}
+use Rattle.at_store.proofs.of_planting.Gains.{on_ok, on_err, at_err, stays_same, gains_childless, gains_child, gains_tree, tree_freed, HasFirstCells, HasFirstTrees, cells_begun, cells_on, cells_given_up, cells_whole, trees_begun, trees_on, trees_given_up, trees_whole}
 use Rattle.at_store.proofs.plant.+plant.Goals as goal
 
 pub plant_cell-returns-in-One-clause-planted : goal.plant_cell-returns-in-One-clause-planted

@@ -1,7 +1,7 @@
 use Rattle.std.proofs.Common.{◌≤◌, length, map, sym, arith}
 use Rattle.at_store.specs.View.{kept_view}
 use Rattle.at_store.proofs.Slots.{none_changed, map_length}
-use Rattle.at_store.proofs.Gains.{at_err}
+use Rattle.at_store.proofs.of_planting.Gains.{at_err}
 use Rattle.at_store.proofs.Written.{slot_same, slot_changed}
 use Rattle.at_store.proofs.plant.push_in_cells.Goals as goal
 

@@ -1,4 +1,4 @@
-use Rattle.at_store.proofs.Gains.{at_err}
+use Rattle.at_store.proofs.of_planting.Gains.{at_err}
 use Rattle.at_store.proofs.Written.{written_same}
 use Rattle.at_store.proofs.plant.push_kid.Goals as goal
 

@@ -1,7 +1,7 @@
 use Rattle.std.proofs.Common.{ap}
 use Rattle.std.specs.Prelude.{map}
 use Rattle.at_store.specs.View.{kept_view}
-use Rattle.at_store.proofs.Gains.{at_err}
+use Rattle.at_store.proofs.of_planting.Gains.{at_err}
 use Rattle.at_store.proofs.Written.{written_same}
 use Rattle.at_store.proofs.plant.push_slot.Goals as goal
 

@@ -6,7 +6,7 @@ use Rattle.at_tree.specs.TreeView.{cell_view}
 use Rattle.at_store.specs.Grown.{grown_cell, shown_below}
 use Rattle.at_store.specs.Memory.{Kids, cells_in}
 use Rattle.at_store.specs.View.{form_view, kept_view, memory_of}
-use Rattle.at_store.proofs.Copied.{no_level, level_above, filled_first}
+use Rattle.at_store.proofs.of_planting.Copied.{no_level, level_above, filled_first}
 use Rattle.at_store.proofs.walks.+copy.Goals as goal
 
 pub tree_at-returns-then-levels-eq0 : goal.tree_at-returns-then-levels-eq0

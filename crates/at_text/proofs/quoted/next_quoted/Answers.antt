@@ -4,7 +4,7 @@ use Rattle.std.proofs.lemmas.Str.{encode_ascii}
 use Rattle.at_text.proofs.Spelling.{front_ends}
 use Rattle.at_text.proofs.Characters.{no_escape, raw, plain}
 use Rattle.at_text.proofs.quoted.next_quoted.Goals as goal
-use Rattle.at_model.proofs.QuotedTexts.{front}
+use Rattle.at_model.proofs.of_texts.QuotedTexts.{front}
 
 pub returns-in_default-clause-form : goal.returns-in_default-clause-form
 returns-in_default-clause-form c = λ value ends.

@@ -2,7 +2,7 @@ use Rattle.std.proofs.Common.{Some, ◌≡◌, ap, ◌∙◌, List, ℕ, length,
 use Rattle.std.specs.Str.Iter.{chars_rest}
 use Rattle.at_model.specs.Texts.{quoted}
 use Rattle.at_text.specs.Quoted.{Begins}
-use Rattle.at_text.proofs.Reading.{none_begins, none_ends, ended, taken_len, only_value, less_left}
+use Rattle.at_text.proofs.ReadingLemmas.{none_begins, none_ends, ended, taken_len, only_value, less_left}
 use Rattle.at_text.proofs.quoted.read_quoted.Goals as goal
 use Rattle.at_text.proofs.quoted.read_quoted.Goals.{in_default-via-in-Some+in_default, in_default-via-in_default}
 

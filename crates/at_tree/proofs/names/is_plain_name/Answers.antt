@@ -1,6 +1,6 @@
 use Rattle.std.proofs.Common.{◌≤◌, length, sym, ◌∙◌, subst}
 use Rattle.at_tree.proofs.Pieces.{not_true}
-use Rattle.at_tree.proofs.PlainNames.{plain}
+use Rattle.at_tree.proofs.PlainNamesLemmas.{plain}
 use Rattle.at_tree.proofs.names.is_plain_name.Goals as goal
 
 pub returns : goal.returns

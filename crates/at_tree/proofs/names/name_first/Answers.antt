@@ -3,7 +3,7 @@ use Rattle.std.specs.Str.{IsCharBoundary}
 use Rattle.std.proofs.lemmas.List.{take-append-drop}
 use Rattle.at_model.specs.Names.{IsName, is_reserved}
 use Rattle.at_tree.specs.PlainNames.{name_len, begins_name}
-use Rattle.at_tree.proofs.PlainNames.{cut_behind_name, name_bytes, named}
+use Rattle.at_tree.proofs.PlainNamesLemmas.{cut_behind_name, name_bytes, named}
 use Rattle.at_tree.proofs.names.name_first.Goals as goal
 
 pub split_at-requires : goal.split_at-requires

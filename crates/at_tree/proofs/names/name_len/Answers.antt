@@ -2,7 +2,7 @@ use Rattle.std.proofs.Common.{sym, ◌∙◌, not, length, rules, tests}
 use Rattle.std.proofs.lemmas.Iterator.{YieldsList-from_slice}
 use Rattle.std.proofs.lemmas.Iterator.Search.{position_from_yields_List}
 use Rattle.at_tree.specs.PlainNames.{is_name_byte, name_len}
-use Rattle.at_tree.proofs.PlainNames.{place_found, all_names}
+use Rattle.at_tree.proofs.PlainNamesLemmas.{place_found, all_names}
 use Rattle.at_tree.proofs.names.name_len.Goals as goal
 
 pub returns-in-Some : goal.returns-in-Some

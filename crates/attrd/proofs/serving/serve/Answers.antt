@@ -3,7 +3,7 @@ use Rattle.at_model.specs.Rules.{Rules}
 use Rattle.at_engine.specs.Engines.{rules_of, slice_of, state_of}
 use Rattle.attrd.specs.Connections.{counted, faults}
 use Rattle.attrd.specs.Doors.{ServesAll, ServesNext, none, one_more}
-use Rattle.attrd.proofs.Doors.{counted_ends, counted_faults, served_on}
+use Rattle.attrd.proofs.DoorsLemmas.{counted_ends, counted_faults, served_on}
 use Rattle.attrd.proofs.serving.serve.Goals as goal
 
 pub loop-turn-init : goal.loop-turn-init

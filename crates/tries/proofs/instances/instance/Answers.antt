@@ -4,14 +4,14 @@ use Rattle.at_model.specs.Lines.{IsCommand}
 use Rattle.at_model.specs.Machine.{parameters_of}
 use Rattle.at_model.specs.Rules.{Kind}
 use Rattle.at_model.specs.TypedRuns.{AreArguments}
-use Rattle.at_model.proofs.Words.{name_filled}
+use Rattle.at_model.proofs.of_texts.Words.{name_filled}
 use Rattle.at_body.specs.Values.{value_view}
 use Rattle.at_body.specs.declared.value.Value.{Value}
 use Rattle.at_protocol.specs.LineView.{command_view}
 use Rattle.at_protocol.specs.declared.line.Command.{Command}
 use Rattle.tries.specs.Worlds.{classes_at, IsTyped}
 use Rattle.tries.proofs.Fitted.{well_typed}
-use Rattle.tries.proofs.Worlds.{class_of_there}
+use Rattle.tries.proofs.WorldsLemmas.{class_of_there}
 use Rattle.tries.proofs.instances.instance.Goals as goal
 
 pub returns : goal.returns

@@ -1,6 +1,6 @@
 use Rattle.std.proofs.Common.{Some, sym, ap, ◌∙◌}
 use Rattle.at_model.specs.Classes.{is_sub}
-use Rattle.tries.proofs.Worlds.{class_of_there}
+use Rattle.tries.proofs.WorldsLemmas.{class_of_there}
 use Rattle.tries.proofs.instances.is_below.Goals as goal
 
 pub returns : goal.returns

@@ -1,5 +1,5 @@
 use Rattle.at_tree.specs.PathView.{steps_view}
-use Rattle.tries.proofs.Worlds.{led_there}
+use Rattle.tries.proofs.WorldsLemmas.{led_there}
 use Rattle.tries.proofs.instances.node.Goals as goal
 
 pub returns-in-Some : goal.returns-in-Some

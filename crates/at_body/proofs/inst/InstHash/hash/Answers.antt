@@ -1,5 +1,5 @@
 use Rattle.std.proofs.Common.{refl}
-use Rattle.at_body.proofs.Sameness.{instance_fed}
+use Rattle.at_body.proofs.SamenessLemmas.{instance_fed}
 use Rattle.at_body.proofs.inst.InstHash.hash.Goals as goal
 
 pub returns : goal.returns

@@ -1,5 +1,5 @@
 use Rattle.std.proofs.Common.{refl}
-use Rattle.at_body.proofs.Sameness.{same_rest}
+use Rattle.at_body.proofs.SamenessLemmas.{same_rest}
 use Rattle.at_body.proofs.inst.InstPartialEq.eq.Goals as goal
 
 pub returns : goal.returns

@@ -8,7 +8,7 @@ use Rattle.at_demand.proofs.SparingOn.{deepens_sparing}
 use Rattle.at_demand.proofs.Orderly.{deepens}
 use Rattle.at_demand.proofs.Truth.{deepens_true, closes}
 use Rattle.at_demand.proofs.Passing.{deepens_covering}
-use Rattle.at_demand.proofs.Typing.{deepens_typed}
+use Rattle.at_demand.proofs.TypingLemmas.{deepens_typed}
 use Rattle.at_demand.proofs.demand.Demand.deepen.Goals as goal
 
 pub returns-then-has-clause-answers : goal.returns-then-has-clause-answers

@@ -12,7 +12,7 @@ use Rattle.at_demand.specs.UnderWay.{HasStepped, IsAdvance, IsRightAdvance}
 use Rattle.at_demand.proofs.Orderly.{begun}
 use Rattle.at_demand.specs.Typing.{IsTypedAdvance}
 use Rattle.at_demand.proofs.Truth.{begun_true, right_known}
-use Rattle.at_demand.proofs.Typing.{begun_typed}
+use Rattle.at_demand.proofs.TypingLemmas.{begun_typed}
 use Rattle.at_demand.specs.Covering.{HasPassedTo, IsCoveringAdvance}
 use Rattle.at_demand.specs.Sparing.{IsSparingAdvance}
 use Rattle.at_demand.proofs.Passing.{begun_covering}

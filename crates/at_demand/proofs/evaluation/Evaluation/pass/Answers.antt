@@ -10,7 +10,7 @@ use Rattle.at_demand.specs.Known.{meaning}
 use Rattle.at_demand.specs.Typing.{AreTypedWaiting}
 use Rattle.at_demand.specs.UnderWay.{IsToldTo}
 use Rattle.at_demand.proofs.Orderly.{none_there}
-use Rattle.at_demand.proofs.Typing.{typed_pop}
+use Rattle.at_demand.proofs.TypingLemmas.{typed_pop}
 use Rattle.at_demand.proofs.evaluation.Evaluation.pass.Goals as goal
 
 pub tell-requires-clause-typed : goal.tell-requires-clause-typed

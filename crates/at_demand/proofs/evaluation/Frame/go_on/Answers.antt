@@ -15,9 +15,9 @@ use Rattle.at_demand.specs.declared.evaluation.Demanded.{Demanded}
 use Rattle.at_demand.specs.declared.evaluation.Frame.{Frame}
 use Rattle.at_demand.specs.Only.{TakesOne, TakesOnly}
 use Rattle.at_demand.proofs.Passing.{passed_on}
-use Rattle.at_demand.proofs.Only.{needs_comes, takes_one}
+use Rattle.at_demand.proofs.OnlyLemmas.{needs_comes, takes_one}
 use Rattle.at_demand.proofs.Truth.{resumed_step, open_end}
-use Rattle.at_demand.proofs.Typing.{told_value}
+use Rattle.at_demand.proofs.TypingLemmas.{told_value}
 use Rattle.at_demand.proofs.evaluation.Frame.go_on.Goals as goal
 
 pub loop-step-preserved : goal.loop-step-preserved

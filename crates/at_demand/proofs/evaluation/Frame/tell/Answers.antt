@@ -1,7 +1,7 @@
 use Rattle.std.proofs.Common.{refl}
 use Rattle.at_body.specs.Values.{value_view}
 use Rattle.at_body.proofs.TypedShown.{shown_typed}
-use Rattle.at_demand.proofs.Typing.{told_value}
+use Rattle.at_demand.proofs.TypingLemmas.{told_value}
 use Rattle.at_demand.proofs.evaluation.Frame.tell.Goals as goal
 
 pub resume-requires-clause-over : goal.resume-requires-clause-over

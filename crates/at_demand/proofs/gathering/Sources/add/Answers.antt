@@ -4,7 +4,7 @@ use Rattle.at_model.specs.Run.{Instance}
 use Rattle.at_demand.specs.Covering.{Visits}
 use Rattle.at_demand.specs.Only.{VisitsOnly}
 use Rattle.at_demand.proofs.Gathered.{adds_after}
-use Rattle.at_demand.proofs.Only.{adds_only_after}
+use Rattle.at_demand.proofs.OnlyLemmas.{adds_only_after}
 use Rattle.at_demand.proofs.gathering.Sources.add.Goals as goal
 
 pub returns-clause-added : goal.returns-clause-added

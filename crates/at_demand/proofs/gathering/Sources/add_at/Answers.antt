@@ -1,6 +1,6 @@
 use Rattle.at_demand.proofs.Orderly.{added_kept}
 use Rattle.at_demand.proofs.Gathered.{adds_one}
-use Rattle.at_demand.proofs.Only.{adds_only_one}
+use Rattle.at_demand.proofs.OnlyLemmas.{adds_only_one}
 use Rattle.at_demand.proofs.gathering.Sources.add_at.Goals as goal
 
 pub returns-in-Some-get_index : goal.returns-in-Some-get_index

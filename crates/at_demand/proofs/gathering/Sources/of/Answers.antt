@@ -5,7 +5,7 @@ use Rattle.std.proofs.Common.{ℕ}
 use Rattle.at_cache.specs.Kept.{AreKept}
 use Rattle.at_demand.specs.declared.gathering.Sources.{Sources}
 use Rattle.at_demand.proofs.Gathered.{visited_first, visited_next, visited_all}
-use Rattle.at_demand.proofs.Only.{from_first, from_next}
+use Rattle.at_demand.proofs.OnlyLemmas.{from_first, from_next}
 use Rattle.at_demand.proofs.gathering.Sources.of.Goals as goal
 
 pub loop-next-init : goal.loop-next-init

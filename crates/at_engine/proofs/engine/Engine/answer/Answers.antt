@@ -1,12 +1,12 @@
 use Rattle.std.proofs.lemmas.Result.{IfOk-weaker, err_from_is_err_and}
 use Rattle.at_model.specs.Machine.{Asks}
 use Rattle.at_demand.specs.Known.{answer_view}
-use Rattle.at_demand.proofs.Called.{keeps_asked}
+use Rattle.at_demand.proofs.of_keeping.CalledLemmas.{keeps_asked}
 use Rattle.at_engine.specs.Engines.{marks_of, rules_of, state_of}
-use Rattle.at_engine.proofs.Gained.{grows_asked}
-use Rattle.at_engine.proofs.Keeping.{either_spares, err_spares}
+use Rattle.at_engine.proofs.of_keeping.Gained.{grows_asked}
+use Rattle.at_engine.proofs.of_keeping.KeepingLemmas.{either_spares, err_spares}
 use Rattle.at_engine.proofs.Numbered.{answer_named}
-use Rattle.at_engine.proofs.Openings.{sound_grown, spare_grown}
+use Rattle.at_engine.proofs.of_turns.Openings.{sound_grown, spare_grown}
 use Rattle.at_engine.proofs.engine.Engine.answer.Goals as goal
 use Rattle.std.proofs.Common.{refl}
 

@@ -7,8 +7,8 @@ use Rattle.at_engine.specs.Asking.{IsAskedBy}
 use Rattle.at_engine.specs.Engines.{rules_of, state_of}
 use Rattle.at_engine.specs.Telling.{Obeys}
 use Rattle.at_engine.specs.declared.engine.asking.Asked.{Asked}
-use Rattle.at_engine.proofs.Following.{asks, refuses}
-use Rattle.at_engine.proofs.Keeping.{err_spares, failed_spares, refused_spares, turned_spares}
+use Rattle.at_engine.proofs.FollowingLemmas.{asks, refuses}
+use Rattle.at_engine.proofs.of_keeping.KeepingLemmas.{err_spares, failed_spares, refused_spares, turned_spares}
 use Rattle.at_engine.proofs.engine.Engine.ask.Goals as goal
 
 pub returns-in-Refused-clause-obeys : goal.returns-in-Refused-clause-obeys

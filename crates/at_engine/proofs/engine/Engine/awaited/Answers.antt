@@ -1,7 +1,7 @@
 use Rattle.std.proofs.Common.{sym}
 use Rattle.at_engine.specs.Engines.{marks_of, rules_of, state_of}
-use Rattle.at_engine.proofs.Awaiting.{at_once}
-use Rattle.at_engine.proofs.Opened.{waits_or_not}
+use Rattle.at_engine.proofs.of_turns.Awaiting.{at_once}
+use Rattle.at_engine.proofs.of_turns.Opened.{waits_or_not}
 use Rattle.at_engine.proofs.engine.Engine.awaited.Goals as goal
 
 pub returns-in-Wait : goal.returns-in-Wait

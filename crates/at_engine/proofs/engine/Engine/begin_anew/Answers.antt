@@ -17,7 +17,7 @@ use Rattle.at_engine.specs.Turning.{IsBegun}
 use Rattle.at_engine.specs.declared.engine.asking.Asked.{Asked}
 use Rattle.at_engine.specs.declared.posts.Posted.{Posted}
 use Rattle.at_engine.proofs.Positions.{holds_at, same_there}
-use Rattle.at_engine.proofs.Reading.{read_asked, read_refused, read_unmarked}
+use Rattle.at_engine.proofs.of_turns.Reading.{read_asked, read_refused, read_unmarked}
 use Rattle.at_engine.proofs.engine.Engine.begin_anew.Goals as goal
 
 pub returns-then-not-has_asked-clause-begins : goal.returns-then-not-has_asked-clause-begins

@@ -2,7 +2,7 @@ use Rattle.std.proofs.Common.{ap}
 use Rattle.at_engine.specs.Engines.{marks_of}
 use Rattle.at_engine.specs.Turning.{told_of}
 use Rattle.at_engine.specs.declared.posts.Posted.{Posted}
-use Rattle.at_engine.proofs.Openings.{sound_gone, spare_gone}
+use Rattle.at_engine.proofs.of_turns.Openings.{sound_gone, spare_gone}
 use Rattle.at_engine.proofs.Positions.{same_there}
 use Rattle.at_engine.proofs.engine.Engine.close.Goals as goal
 

@@ -7,7 +7,7 @@ use Rattle.at_engine.specs.Engines.{rules_of, state_of}
 use Rattle.at_engine.specs.Posted.{posted_view}
 use Rattle.at_engine.specs.Telling.{IsSaid}
 use Rattle.at_engine.specs.Turning.{HasGone, told_of}
-use Rattle.at_engine.proofs.Finishing.{first_stands, first_there, some_posted, spends_failed, spends_nothing, spends_silent, spends_told, stands_open, typed_end, typed_rest}
+use Rattle.at_engine.proofs.of_turns.Finishing.{first_stands, first_there, some_posted, spends_failed, spends_nothing, spends_silent, spends_told, stands_open, typed_end, typed_rest}
 use Rattle.at_engine.proofs.engine.Engine.give.Goals as goal
 
 pub returns-then-is_empty-clause-spends : goal.returns-then-is_empty-clause-spends

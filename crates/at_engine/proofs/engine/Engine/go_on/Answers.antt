@@ -9,7 +9,7 @@ use Rattle.at_engine.specs.declared.engine.turning.Begun.{Begun}
 use Rattle.at_engine.specs.declared.posts.Posted.{Posted}
 use Rattle.at_engine.proofs.Positions.{there_at, within_set}
 use Rattle.at_demand.specs.declared.answer.Answer.{Answer as AnswerCode}
-use Rattle.at_engine.proofs.Trying.{bare, begun_after, given_right, gone_err, gone_refused, gone_silent, gone_told, reopened, silent_asked, sound_more, sound_put, sound_taken, spare_more, spare_put, spare_taken, there_asked, there_still, told_answer, was_begun, was_sparing}
+use Rattle.at_engine.proofs.of_turns.Trying.{bare, begun_after, given_right, gone_err, gone_refused, gone_silent, gone_told, reopened, silent_asked, sound_more, sound_put, sound_taken, spare_more, spare_put, spare_taken, there_asked, there_still, told_answer, was_begun, was_sparing}
 use Rattle.at_engine.proofs.engine.Engine.go_on.Goals as goal
 
 pub begin-requires-clause-sound : goal.begin-requires-clause-sound

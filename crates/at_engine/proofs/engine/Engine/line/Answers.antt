@@ -2,7 +2,7 @@ use Rattle.std.proofs.Common.{◌≡◌, ◌<◌, length, arith}
 use Rattle.std.proofs.lemmas.Bool.Decides.{nat_tests}
 use Rattle.at_engine.specs.Engines.{rules_of, state_of}
 use Rattle.at_engine.proofs.Attempting.{stepped}
-use Rattle.at_engine.proofs.Keeping.{kept_empty, kept_step}
+use Rattle.at_engine.proofs.of_keeping.KeepingLemmas.{kept_empty, kept_step}
 use Rattle.at_engine.proofs.engine.Engine.line.Goals as goal
 
 pub returns-clause-steps : goal.returns-clause-steps

@@ -5,8 +5,8 @@ use Rattle.at_store.specs.Shown.{path}
 use Rattle.at_engine.specs.Engines.{marks_of, rules_of, state_of}
 use Rattle.at_engine.specs.Marks.{Mark, AreThere, has_mark, marks_view}
 use Rattle.at_engine.proofs.Commands.{mark_nowhere, mark_taken, mark_full, mark_made}
-use Rattle.at_engine.proofs.Marked.{counted, pushed, there_pushed}
-use Rattle.at_engine.proofs.Naming.{marked_as}
+use Rattle.at_engine.proofs.of_marks.Marked.{counted, pushed, there_pushed}
+use Rattle.at_engine.proofs.NamingLemmas.{marked_as}
 use Rattle.at_engine.proofs.Storing.{on_err, sound_marks}
 use Rattle.at_engine.proofs.engine.Engine.mark.Goals as goal
 

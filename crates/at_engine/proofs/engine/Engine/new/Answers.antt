@@ -10,7 +10,7 @@ use Rattle.at_engine.specs.Keeping.{IsSparingOn}
 use Rattle.at_engine.specs.Marks.{AreThere, marks_view}
 use Rattle.at_engine.specs.Posted.{posted_view}
 use Rattle.at_engine.specs.declared.posts.Posted.{Posted}
-use Rattle.at_engine.proofs.Keeping.{spare_of_nothing}
+use Rattle.at_engine.proofs.of_keeping.KeepingLemmas.{spare_of_nothing}
 use Rattle.at_engine.proofs.Storing.{held, right_of_nothing}
 use Rattle.at_engine.proofs.engine.Engine.new.Goals as goal
 

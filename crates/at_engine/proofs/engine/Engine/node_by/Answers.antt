@@ -6,7 +6,7 @@ use Rattle.at_store.specs.Led.{Led}
 use Rattle.at_store.specs.Shown.{numbers}
 use Rattle.at_engine.specs.Engines.{rules_of, state_by}
 use Rattle.at_engine.specs.Naming.{steps_of}
-use Rattle.at_engine.proofs.Naming.{named_led, named_nowhere}
+use Rattle.at_engine.proofs.NamingLemmas.{named_led, named_nowhere}
 use Rattle.at_engine.proofs.engine.Engine.node_by.Goals as goal
 
 pub returns-in_err-from : goal.returns-in_err-from

@@ -12,8 +12,8 @@ use Rattle.at_engine.specs.Keeping.{SparesVerdict}
 use Rattle.at_engine.specs.Posted.{posted_view}
 use Rattle.at_engine.specs.Telling.{by_turns}
 use Rattle.at_engine.proofs.Attempting.{heard_at_once}
-use Rattle.at_engine.proofs.Following.{as_verdict}
-use Rattle.at_engine.proofs.Keeping.{at_once_spares, refused_spares, turned_spares, waited_spares}
+use Rattle.at_engine.proofs.FollowingLemmas.{as_verdict}
+use Rattle.at_engine.proofs.of_keeping.KeepingLemmas.{at_once_spares, refused_spares, turned_spares, waited_spares}
 use Rattle.at_engine.proofs.engine.Engine.obey.Goals as goal
 
 pub returns-in-Some-clause-hears : goal.returns-in-Some-clause-hears

@@ -2,8 +2,8 @@ use Rattle.std.proofs.Common.{◌∙◌, sym}
 use Rattle.at_model.specs.Machine.{marks_used}
 use Rattle.at_protocol.specs.LineView.{command_view, line_view}
 use Rattle.at_engine.specs.Engines.{marks_of, rules_of, state_of}
-use Rattle.at_engine.proofs.Naming.{all_marked}
-use Rattle.at_engine.proofs.Telling.{meets_stale, meets_unmarked}
+use Rattle.at_engine.proofs.NamingLemmas.{all_marked}
+use Rattle.at_engine.proofs.TellingLemmas.{meets_stale, meets_unmarked}
 use Rattle.at_engine.proofs.Verdicts.{at_obeyed}
 use Rattle.at_engine.proofs.engine.Engine.objection.Goals as goal
 

@@ -4,7 +4,7 @@ use Rattle.at_protocol.specs.LineView.{place_view}
 use Rattle.at_protocol.specs.declared.line.Place.{Place}
 use Rattle.at_engine.specs.Engines.{state_by}
 use Rattle.at_engine.specs.Naming.{IsNumberOf, origin_of}
-use Rattle.at_engine.proofs.Naming.{marked_number}
+use Rattle.at_engine.proofs.NamingLemmas.{marked_number}
 use Rattle.at_engine.proofs.engine.Engine.origin.Goals as goal
 
 pub returns-in-FromRoot : goal.returns-in-FromRoot

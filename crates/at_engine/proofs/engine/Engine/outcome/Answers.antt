@@ -8,8 +8,8 @@ use Rattle.at_protocol.specs.declared.reply.Form.TheVariants as form
 use Rattle.at_protocol.specs.declared.reply.Refusal.TheVariants as refusal
 use Rattle.at_engine.specs.Engines.{rules_of, state_of}
 use Rattle.at_engine.proofs.Attempting.{gets_at_once, got}
-use Rattle.at_engine.proofs.Keeping.{form_spares, line_spares, unknown_spares, unread_spares}
-use Rattle.at_engine.proofs.Telling.{told_unread}
+use Rattle.at_engine.proofs.of_keeping.KeepingLemmas.{form_spares, line_spares, unknown_spares, unread_spares}
+use Rattle.at_engine.proofs.TellingLemmas.{told_unread}
 use Rattle.at_engine.proofs.engine.Engine.outcome.Goals as goal
 
 pub returns-in-Ok-clause-gets : goal.returns-in-Ok-clause-gets

@@ -3,7 +3,7 @@ use Rattle.std.proofs.lemmas.Result.{IfOk-weaker}
 use Rattle.at_model.specs.Classes.{Classes}
 use Rattle.at_model.specs.Paths.{path_of}
 use Rattle.at_store.specs.Shown.{tree}
-use Rattle.at_engine.proofs.Naming.{path_written, path_to_is, tree_there}
+use Rattle.at_engine.proofs.NamingLemmas.{path_written, path_to_is, tree_there}
 use Rattle.at_engine.proofs.engine.Engine.path_to.Goals as goal
 
 pub returns-clause-shown : goal.returns-clause-shown

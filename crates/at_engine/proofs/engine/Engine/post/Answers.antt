@@ -10,9 +10,9 @@ use Rattle.at_engine.specs.Keeping.{IsSparingOn}
 use Rattle.at_engine.specs.Telling.{Obeys}
 use Rattle.at_engine.specs.declared.posts.Posted.{Posted}
 use Rattle.at_engine.proofs.Commands.{post_full, post_last, post_made}
-use Rattle.at_engine.proofs.Opened.{as_many_posted}
+use Rattle.at_engine.proofs.of_turns.Opened.{as_many_posted}
 use Rattle.at_engine.proofs.Positions.{all_push}
-use Rattle.at_engine.proofs.PostedFor.{posted_on, pushed_for, sparing_on}
+use Rattle.at_engine.proofs.PostedForLemmas.{posted_on, pushed_for, sparing_on}
 use Rattle.at_engine.proofs.Storing.{sound_push}
 use Rattle.at_engine.proofs.engine.Engine.post.Goals as goal
 

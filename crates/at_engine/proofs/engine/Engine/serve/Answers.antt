@@ -2,7 +2,7 @@ use Rattle.std.proofs.Common.{◌∙◌, ◌++◌, ap, refl}
 use Rattle.at_model.specs.Replies.{reply_text}
 use Rattle.at_engine.specs.Engines.{rules_of, state_of}
 use Rattle.at_engine.proofs.Attempting.{answered, said_form, stays_unless, writable_so}
-use Rattle.at_engine.proofs.Keeping.{kept_served, spare_line}
+use Rattle.at_engine.proofs.of_keeping.KeepingLemmas.{kept_served, spare_line}
 use Rattle.at_engine.proofs.Typing.{typed_served}
 use Rattle.at_engine.proofs.engine.Engine.serve.Goals as goal
 

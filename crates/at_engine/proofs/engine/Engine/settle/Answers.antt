@@ -8,9 +8,9 @@ use Rattle.at_engine.specs.Turning.{Begins, BeginsSparing}
 use Rattle.at_engine.specs.declared.engine.turning.Begun.{Begun}
 use Rattle.at_engine.specs.declared.posts.Posted.{Posted}
 use Rattle.at_engine.proofs.Positions.{there_at, within_set}
-use Rattle.at_engine.proofs.Trying.{bare, refused_answer, settled_err, settled_so, sound_more, sound_taken, spare_more, spare_taken, there_asked, there_still, told_answer, was_begun, was_sparing}
+use Rattle.at_engine.proofs.of_turns.Trying.{bare, refused_answer, settled_err, settled_so, sound_more, sound_taken, spare_more, spare_taken, there_asked, there_still, told_answer, was_begun, was_sparing}
 use Rattle.at_model.specs.Machine.{line_of}
-use Rattle.at_model.proofs.WellAsked.{well_asked}
+use Rattle.at_model.proofs.of_machines.WellAsked.{well_asked}
 use Rattle.at_engine.specs.Posted.{posted_view}
 use Rattle.at_engine.proofs.engine.Engine.settle.Goals as goal
 

@@ -7,7 +7,7 @@ use Rattle.at_engine.specs.Posted.{posted_view}
 use Rattle.at_engine.specs.Telling.{IsSaid}
 use Rattle.at_engine.specs.Turning.{told_of}
 use Rattle.at_engine.specs.declared.posts.Posted.{Posted}
-use Rattle.at_engine.proofs.Finishing.{first_stands, first_there, removed_anew, settles_so, some_posted, stands_open, typed_end, typed_rest, writable_all}
+use Rattle.at_engine.proofs.of_turns.Finishing.{first_stands, first_there, removed_anew, settles_so, some_posted, stands_open, typed_end, typed_rest, writable_all}
 use Rattle.at_engine.proofs.Positions.{one_less}
 use Rattle.at_engine.proofs.engine.Engine.settle_first.Goals as goal
 

@@ -4,7 +4,7 @@ use Rattle.at_model.specs.Terms.{tree_text}
 use Rattle.at_protocol.specs.LineView.{place_view}
 use Rattle.at_engine.specs.Engines.{rules_of, state_of}
 use Rattle.at_engine.proofs.Commands.{show_nowhere, show_term}
-use Rattle.at_engine.proofs.Naming.{tree_there}
+use Rattle.at_engine.proofs.NamingLemmas.{tree_there}
 use Rattle.at_engine.proofs.engine.Engine.show.Goals as goal
 
 pub returns-in_default : goal.returns-in_default

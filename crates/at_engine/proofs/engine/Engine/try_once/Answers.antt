@@ -14,7 +14,7 @@ use Rattle.at_engine.proofs.Positions.{there_at, within_set}
 use Rattle.std.specs.Prelude.{IfSome}
 use Rattle.at_model.specs.Meaning.{Answers}
 use Rattle.at_demand.specs.declared.answer.Answer.{Answer as AnswerCode}
-use Rattle.at_engine.proofs.Trying.{bare, begun_after, reopened, sound_more, sound_put, sound_taken, spare_more, spare_put, spare_taken, there_asked, there_still, told_answer, tried_err, tried_refused, tried_silent, tried_told, tried_unread, was_begun, was_sparing}
+use Rattle.at_engine.proofs.of_turns.Trying.{bare, begun_after, reopened, sound_more, sound_put, sound_taken, spare_more, spare_put, spare_taken, there_asked, there_still, told_answer, tried_err, tried_refused, tried_silent, tried_told, tried_unread, was_begun, was_sparing}
 use Rattle.at_engine.proofs.engine.Engine.try_once.Goals as goal
 
 pub begin-requires-clause-sound : goal.begin-requires-clause-sound

@@ -4,7 +4,7 @@ use Rattle.at_protocol.specs.declared.reply.Form.{Form}
 use Rattle.at_store.specs.Shown.{path}
 use Rattle.at_engine.specs.Posted.{posted_view}
 use Rattle.at_engine.specs.Turning.{Tried, told_of}
-use Rattle.at_engine.proofs.Finishing.{first_stands, first_there, stands_open, takes_failed, takes_silent, takes_told, typed_end, typed_rest}
+use Rattle.at_engine.proofs.of_turns.Finishing.{first_stands, first_there, stands_open, takes_failed, takes_silent, takes_told, typed_end, typed_rest}
 use Rattle.std.proofs.lemmas.Option.{slice_get_within}
 use Rattle.at_engine.specs.Telling.{IsSaid}
 use Rattle.at_engine.proofs.engine.Engine.turn.Goals as goal

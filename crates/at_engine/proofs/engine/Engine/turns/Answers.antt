@@ -1,6 +1,6 @@
 use Rattle.std.proofs.Common.{◌∙◌}
 use Rattle.at_store.specs.Shown.{path}
-use Rattle.at_engine.proofs.Bounding.{few_found, turns_found}
+use Rattle.at_engine.proofs.of_turns.Bounding.{few_found, turns_found}
 use Rattle.at_engine.proofs.engine.Engine.turns.Goals as goal
 
 pub returns-clause-turns : goal.returns-clause-turns

@@ -4,7 +4,7 @@ use Rattle.at_store.specs.Shown.{path}
 use Rattle.at_engine.specs.Engines.{marks_of, rules_of, state_of}
 use Rattle.at_engine.specs.Marks.{Mark, AreThere, is_named, marks_view}
 use Rattle.at_engine.proofs.Commands.{unmarked}
-use Rattle.at_engine.proofs.Marked.{filtered, there_filtered}
+use Rattle.at_engine.proofs.of_marks.Marked.{filtered, there_filtered}
 use Rattle.at_engine.proofs.Storing.{sound_marks}
 use Rattle.at_engine.proofs.engine.Engine.unmark.Goals as goal
 

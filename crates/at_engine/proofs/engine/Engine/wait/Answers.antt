@@ -1,5 +1,5 @@
 use Rattle.std.proofs.lemmas.Option.{slice_get_within}
-use Rattle.at_engine.proofs.Finishing.{closed_so, rest_end, stands_open}
+use Rattle.at_engine.proofs.of_turns.Finishing.{closed_so, rest_end, stands_open}
 use Rattle.at_engine.proofs.Positions.{there_at}
 use Rattle.at_engine.proofs.engine.Engine.wait.Goals as goal
 

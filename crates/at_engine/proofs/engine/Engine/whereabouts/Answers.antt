@@ -3,7 +3,7 @@ use Rattle.at_model.specs.Machine.{marked}
 use Rattle.at_engine.specs.Engines.{marks_of, rules_of, state_of}
 use Rattle.at_engine.specs.Naming.{IsNumberOf}
 use Rattle.at_engine.proofs.Commands.{where_nowhere, where_found}
-use Rattle.at_engine.proofs.Naming.{marked_number}
+use Rattle.at_engine.proofs.NamingLemmas.{marked_number}
 use Rattle.at_engine.proofs.engine.Engine.whereabouts.Goals as goal
 
 pub returns-in_ok-path_to-in-Some : goal.returns-in_ok-path_to-in-Some

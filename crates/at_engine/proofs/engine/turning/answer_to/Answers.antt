@@ -13,7 +13,7 @@ use Rattle.at_demand.specs.Turns.{HasGiven, under_way}
 use Rattle.at_demand.proofs.Gaining.{worthy_none}
 use Rattle.at_demand.proofs.Standing.{worthy_both}
 use Rattle.at_engine.specs.Turning.{IsAskedOf}
-use Rattle.at_engine.proofs.Settling.{answer_right, fewer_left, still_asked}
+use Rattle.at_engine.proofs.of_turns.Settling.{answer_right, fewer_left, still_asked}
 use Rattle.at_engine.proofs.engine.turning.answer_to.Goals as goal
 
 pub loop-question-init : goal.loop-question-init

@@ -7,7 +7,7 @@ use Rattle.at_demand.specs.Known.{kept_values, meaning}
 use Rattle.at_demand.specs.Right.{AreRight, IsThere}
 use Rattle.at_demand.specs.Sparing.{AddsWorthy, AreSpare}
 use Rattle.at_demand.specs.Turns.{IsSparingTurns, IsStanding, under_way}
-use Rattle.at_engine.proofs.Settling.{most_turns}
+use Rattle.at_engine.proofs.of_turns.Settling.{most_turns}
 use Rattle.at_engine.proofs.engine.turning.answer_to.Given as goal
 
 abbrev pub invariant-loop-question : goal.invariant-loop-question

@@ -3,7 +3,7 @@ use Rattle.std.specs.List.{flat_map}
 use Rattle.at_model.specs.Machine.{marks_in, marks_in_argument}
 use Rattle.at_protocol.specs.LineView.{arguments_view, place_view}
 use Rattle.at_engine.specs.Marks.{listed}
-use Rattle.at_engine.proofs.Copying.{copied_all, copied_first, copied_more}
+use Rattle.at_engine.proofs.of_marks.Copying.{copied_all, copied_first, copied_more}
 use Rattle.at_engine.proofs.marks.Marks.asked.Goals as goal
 
 pub loop-argument-init : goal.loop-argument-init

@@ -3,7 +3,7 @@ use Rattle.std.specs.List.{flat_map}
 use Rattle.at_model.specs.Machine.{marks_in, marks_in_argument}
 use Rattle.at_protocol.specs.LineView.{arguments_view, place_view}
 use Rattle.at_engine.specs.Marks.{listed}
-use Rattle.at_engine.proofs.Copying.{CopiedUpTo}
+use Rattle.at_engine.proofs.of_marks.Copying.{CopiedUpTo}
 use Rattle.at_engine.proofs.marks.Marks.asked.Given as goal
 
 -- the marks before the rest are copied

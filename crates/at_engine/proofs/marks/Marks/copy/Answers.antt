@@ -1,6 +1,6 @@
 use Rattle.std.proofs.Common.{◌∙◌, refl, string_bytes, sym}
 use Rattle.at_engine.specs.Marks.{listed}
-use Rattle.at_engine.proofs.Copying.{copied_none, copied_one}
+use Rattle.at_engine.proofs.of_marks.Copying.{copied_none, copied_one}
 use Rattle.at_engine.proofs.marks.Marks.copy.Goals as goal
 
 pub returns-in_ok-push-in-Some : goal.returns-in_ok-push-in-Some

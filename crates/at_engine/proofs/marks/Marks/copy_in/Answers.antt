@@ -1,6 +1,6 @@
 use Rattle.std.proofs.Common.{◌∷◌, [], List, ℕ, OnOk, refl, subst}
 use Rattle.at_engine.specs.Marks.{Copies, listed}
-use Rattle.at_engine.proofs.Copying.{copied_nothing}
+use Rattle.at_engine.proofs.of_marks.Copying.{copied_nothing}
 use Rattle.at_engine.proofs.marks.Marks.copy_in.Goals as goal
 
 pub returns-in-FromRoot : goal.returns-in-FromRoot

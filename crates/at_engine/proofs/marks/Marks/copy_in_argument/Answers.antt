@@ -1,6 +1,6 @@
 use Rattle.std.proofs.Common.{refl}
 use Rattle.at_engine.specs.Marks.{listed}
-use Rattle.at_engine.proofs.Copying.{copied_nothing}
+use Rattle.at_engine.proofs.of_marks.Copying.{copied_nothing}
 use Rattle.at_engine.proofs.marks.Marks.copy_in_argument.Goals as goal
 
 pub returns-in-Node : goal.returns-in-Node

@@ -1,6 +1,6 @@
 use Rattle.std.proofs.Common.{◌∙◌, ap, nat_eq, nat_lt}
 use Rattle.at_engine.specs.Marks.{Mark, has_node, listed}
-use Rattle.at_engine.proofs.Tallies.{some_counted}
+use Rattle.at_engine.proofs.of_marks.Tallies.{some_counted}
 use Rattle.at_engine.proofs.marks.Marks.is_marked.Goals as goal
 
 pub returns : goal.returns

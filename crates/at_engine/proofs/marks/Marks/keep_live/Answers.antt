@@ -1,7 +1,7 @@
 use Rattle.std.proofs.Common.{sym}
 use Rattle.at_store.specs.Shown.{path}
 use Rattle.at_engine.specs.Marks.{listed}
-use Rattle.at_engine.proofs.Leaving.{all_live}
+use Rattle.at_engine.proofs.of_marks.Leaving.{all_live}
 use Rattle.at_engine.proofs.marks.Marks.keep_live.Goals as goal
 
 pub returns-else-any_gone : goal.returns-else-any_gone

@@ -1,7 +1,7 @@
 use Rattle.std.proofs.Common.{◌≡◌, ◌∙◌, ℕ, Option, ap, subst, sym}
 use Rattle.std.specs.Option.{option_copied}
 use Rattle.at_engine.specs.Marks.{listed, number_marked}
-use Rattle.at_engine.proofs.Keys.{found_by}
+use Rattle.at_engine.proofs.of_marks.Keys.{found_by}
 use Rattle.at_engine.proofs.marks.MarksLookup.get.Goals as goal
 
 pub returns-in_err-node : goal.returns-in_err-node

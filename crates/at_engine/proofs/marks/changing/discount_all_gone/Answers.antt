@@ -2,8 +2,8 @@ use Rattle.std.proofs.Common.{◌≤◌, length, arith, subst, sym}
 use Rattle.at_store.specs.Shown.{path}
 use Rattle.at_engine.specs.Marks.{listed}
 use Rattle.at_engine.specs.Tallied.{AreTallied}
-use Rattle.at_engine.proofs.Keys.{listed_all}
-use Rattle.at_engine.proofs.Tallies.{kept_first, kept_last}
+use Rattle.at_engine.proofs.of_marks.Keys.{listed_all}
+use Rattle.at_engine.proofs.of_marks.Tallies.{kept_first, kept_last}
 use Rattle.at_engine.proofs.marks.changing.discount_all_gone.Goals as goal
 
 pub loop-position-init : goal.loop-position-init

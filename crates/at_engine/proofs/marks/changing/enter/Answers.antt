@@ -2,7 +2,7 @@ use Rattle.std.proofs.Common.{◌∙◌, ap}
 use Rattle.indexmap.proofs.MapLemmas.{absent_from_lookup, insert_entry-absent}
 use Rattle.at_engine.specs.Marks.{listed}
 use Rattle.at_engine.specs.contracts.marks.KeyPartialEq.TheImpl.{ghosts}
-use Rattle.at_engine.proofs.Keys.{absent, listed_more}
+use Rattle.at_engine.proofs.of_marks.Keys.{absent, listed_more}
 use Rattle.at_engine.proofs.marks.changing.enter.Goals as goal
 
 pub returns-clause-ok : goal.returns-clause-ok

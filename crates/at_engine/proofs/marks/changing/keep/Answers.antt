@@ -2,7 +2,7 @@ use Rattle.std.proofs.Common.{◌∙◌, ap, is_some, rules}
 use Rattle.indexmap.proofs.CallerLemmas.{filter-RetainsPairs}
 use Rattle.at_store.specs.Shown.{path}
 use Rattle.at_engine.specs.Marks.{listed}
-use Rattle.at_engine.proofs.Keys.{listed_live}
+use Rattle.at_engine.proofs.of_marks.Keys.{listed_live}
 use Rattle.at_engine.proofs.marks.changing.keep.Goals as goal
 
 pub returns : goal.returns

@@ -1,4 +1,4 @@
-use Rattle.at_engine.proofs.Keys.{placed_for}
+use Rattle.at_engine.proofs.of_marks.Keys.{placed_for}
 use Rattle.at_engine.proofs.marks.changing.place_of.Goals as goal
 
 pub returns : goal.returns

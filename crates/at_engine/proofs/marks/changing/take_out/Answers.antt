@@ -1,5 +1,5 @@
 use Rattle.std.proofs.Common.{sym}
-use Rattle.at_engine.proofs.Keys.{place_left, place_taken, place_there}
+use Rattle.at_engine.proofs.of_marks.Keys.{place_left, place_taken, place_there}
 use Rattle.at_engine.proofs.marks.changing.take_out.Goals as goal
 
 pub returns-in_err-node-clause-left : goal.returns-in_err-node-clause-left

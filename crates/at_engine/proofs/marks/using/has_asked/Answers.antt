@@ -1,7 +1,7 @@
 use Rattle.std.proofs.Common.{◌∙◌, sym}
 use Rattle.at_protocol.specs.LineView.{place_view}
 use Rattle.at_engine.specs.Marks.{has_mark}
-use Rattle.at_engine.proofs.Marking.{both, neither, of_question}
+use Rattle.at_engine.proofs.of_marks.Marking.{both, neither, of_question}
 use Rattle.at_engine.proofs.marks.using.has_asked.Goals as goal
 
 pub returns-then-not-has_in : goal.returns-then-not-has_in

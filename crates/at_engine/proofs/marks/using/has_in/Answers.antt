@@ -1,6 +1,6 @@
 use Rattle.std.proofs.Common.{◌∙◌, ap, sym}
 use Rattle.at_engine.specs.Marks.{has_mark}
-use Rattle.at_engine.proofs.Marking.{alone}
+use Rattle.at_engine.proofs.of_marks.Marking.{alone}
 use Rattle.at_engine.proofs.marks.using.has_in.Goals as goal
 
 pub returns-in-FromMark : goal.returns-in-FromMark

@@ -1,7 +1,7 @@
 use Rattle.std.proofs.Common.{◌∙◌, ◌≤◌, length, arith, refl}
 use Rattle.std.specs.Prelude.{slice_get}
 use Rattle.at_store.specs.Shown.{path}
-use Rattle.at_engine.proofs.Beginning.{all_begun_anew, next_renewed}
+use Rattle.at_engine.proofs.of_turns.Beginning.{all_begun_anew, next_renewed}
 use Rattle.at_engine.proofs.posts.Posts.begin_anew.Goals as goal
 
 pub loop-position-preserved : goal.loop-position-preserved

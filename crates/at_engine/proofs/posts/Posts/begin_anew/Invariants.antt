@@ -1,6 +1,6 @@
 use Rattle.std.proofs.Common.{◌≡◌}
 use Rattle.at_store.specs.Shown.{path}
-use Rattle.at_engine.proofs.Beginning.{HaveBegunAnew}
+use Rattle.at_engine.proofs.of_turns.Beginning.{HaveBegunAnew}
 use Rattle.at_engine.proofs.posts.Posts.begin_anew.Given as goal
 
 -- the questions before have begun anew

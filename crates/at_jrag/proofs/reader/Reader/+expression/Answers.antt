@@ -10,14 +10,14 @@ use Rattle.at_text.specs.Rows.{Row, left, sign, is_sign, next_is}
 use Rattle.at_jrag.specs.Grammar.{Arguments, Opens, deepest}
 use Rattle.at_jrag.specs.Read.{Reads, StandsBefore, LinksTo}
 use Rattle.at_jrag.specs.Runs.{Goes, IsOther, Moves, Stays, Halts, reason_of}
-use Rattle.at_jrag.proofs.Expressions.{Wanted, wanted_next, wanted_end, next_shorter, deepest_push, call_of_reads, fold_reads, prefix_reads, choice_reads, operation_reads, instance_reads, paren_reads, call_reads, called_unary, wanted_first}
+use Rattle.at_jrag.proofs.of_expressions.Expressions.{Wanted, wanted_next, wanted_end, next_shorter, deepest_push, call_of_reads, fold_reads, prefix_reads, choice_reads, operation_reads, instance_reads, paren_reads, call_reads, called_unary, wanted_first}
 use Rattle.at_jrag.specs.Wants.{Binary, Links, Unary, Calls}
-use Rattle.at_jrag.proofs.ExpressionRuns.{expression_plain, choice_goes, then_moves, arguments_go, no_arguments_go, paren_goes}
-use Rattle.at_jrag.proofs.ExpressionsTaken.{next_first, deep}
-use Rattle.at_jrag.proofs.OperatorStops.{at_error, if_err_weaker, if_ok_both, by_rows, condition_halts, choice_too_deep, chosen_halts, colon_halts, other_halts, unary_goes, unary_halts}
-use Rattle.at_jrag.proofs.OperatorStops.{operand_goes, operand_halts, operands_end, link_too_deep, linked_halts, operator_moves, operator_stays, instance_goes, instance_stays}
-use Rattle.at_jrag.proofs.OperatorStops.{unary_too_deep, negative_stops, negative_moves, negative_halts, prefix_goes, inner_halts, prefix_stops, IsPlain, post_goes, primary_halts}
-use Rattle.at_jrag.proofs.OperatorStops.{calls_halt}
+use Rattle.at_jrag.proofs.of_expressions.ExpressionRuns.{expression_plain, choice_goes, then_moves, arguments_go, no_arguments_go, paren_goes}
+use Rattle.at_jrag.proofs.of_expressions.ExpressionsTaken.{next_first, deep}
+use Rattle.at_jrag.proofs.of_expressions.OperatorStops.{at_error, if_err_weaker, if_ok_both, by_rows, condition_halts, choice_too_deep, chosen_halts, colon_halts, other_halts, unary_goes, unary_halts}
+use Rattle.at_jrag.proofs.of_expressions.OperatorStops.{operand_goes, operand_halts, operands_end, link_too_deep, linked_halts, operator_moves, operator_stays, instance_goes, instance_stays}
+use Rattle.at_jrag.proofs.of_expressions.OperatorStops.{unary_too_deep, negative_stops, negative_moves, negative_halts, prefix_goes, inner_halts, prefix_stops, IsPlain, post_goes, primary_halts}
+use Rattle.at_jrag.proofs.of_expressions.OperatorStops.{calls_halt}
 use Rattle.at_jrag.specs.Table.{begins_fold}
 use Rattle.at_jrag.proofs.PartStops.{reach_goes, reach_stays, reach_halts, mark_missing, name_missing, reach_sign, reach_name, calls_too_deep, calls_no_name, calls_arguments, calls_more}
 use Rattle.at_jrag.proofs.PartStops.{calls_done, among_start, among_next, among_end, among_halts, among_no_comma, arguments_halt, not_opened, literal_missing, primary_missing, no_literal}

@@ -8,7 +8,7 @@ use Rattle.at_jrag.specs.View.{expr_view}
 use Rattle.at_jrag.specs.Grammar.{deepest}
 use Rattle.at_jrag.specs.Runs.{Goes}
 use Rattle.at_jrag.specs.Wants.{Binary, Links}
-use Rattle.at_jrag.proofs.Expressions.{Wanted}
+use Rattle.at_jrag.proofs.of_expressions.Expressions.{Wanted}
 use Rattle.at_jrag.proofs.PartStops.{AreCalls, Among}
 use Rattle.at_jrag.proofs.reader.Reader.+expression.Given as goal
 

@@ -5,7 +5,7 @@ use Rattle.at_text.specs.Place.{first_place}
 use Rattle.at_jrag.specs.Grammar.{number}
 use Rattle.at_jrag.specs.Table.{is_number_within}
 use Rattle.at_jrag.proofs.Numbers.{negative_reads, no_negative}
-use Rattle.at_jrag.proofs.ExpressionsTaken.{number_is}
+use Rattle.at_jrag.proofs.of_expressions.ExpressionsTaken.{number_is}
 use Rattle.at_jrag.proofs.Tokens.{negative_left}
 use Rattle.at_jrag.proofs.reader.Reader.negative.Goals as goal
 

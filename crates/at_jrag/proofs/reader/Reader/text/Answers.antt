@@ -8,10 +8,10 @@ use Rattle.at_jrag.specs.declared.syntax.Form.TheOpen.{Form-F}
 use Rattle.at_jrag.specs.declared.syntax.Form.TheVariants.{rolls-Text}
 use Rattle.at_jrag.specs.declared.syntax.Form.TheFolds.{fold-roll-Form}
 use Rattle.at_jrag.specs.Grammar.{quotation}
-use Rattle.at_jrag.proofs.Expressions.{reads_made}
+use Rattle.at_jrag.proofs.of_expressions.Expressions.{reads_made}
 use Rattle.at_jrag.specs.Table.{is_quoted}
 use Rattle.at_jrag.proofs.Quotations.{no_text}
-use Rattle.at_jrag.proofs.ExpressionsTaken.{quoted_is}
+use Rattle.at_jrag.proofs.of_expressions.ExpressionsTaken.{quoted_is}
 use Rattle.at_jrag.proofs.reader.Reader.text.Goals as goal
 
 pub returns-in-Ok-clause-found : goal.returns-in-Ok-clause-found

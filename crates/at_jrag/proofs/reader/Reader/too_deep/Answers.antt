@@ -1,8 +1,8 @@
 use Rattle.std.proofs.Common.{sym, ◌∙◌}
 use denote.Enum.Bare.{same_true}
 use Rattle.at_text.specs.contracts.token.TokenKind.{the_type}
-use Rattle.at_jrag.proofs.OperatorStops.{text_is_deep, no_text}
-use Rattle.at_text.proofs.Rows.{next_left}
+use Rattle.at_jrag.proofs.of_expressions.OperatorStops.{text_is_deep, no_text}
+use Rattle.at_text.proofs.RowsLemmas.{next_left}
 use Rattle.at_jrag.proofs.reader.Reader.too_deep.Goals as goal
 use Rattle.at_jrag.proofs.reader.Reader.too_deep.Goals.{in-Ok, in-Err}
 

@@ -1,5 +1,5 @@
 use Rattle.at_text.specs.Symbols.{placed}
-use Rattle.at_jrag.proofs.OperatorStops.{number_opens}
+use Rattle.at_jrag.proofs.of_expressions.OperatorStops.{number_opens}
 use Rattle.at_jrag.proofs.reader.operators.opens_expression.Goals as goal
 
 pub returns-in-Number : goal.returns-in-Number

@@ -2,7 +2,7 @@ use Rattle.std.proofs.Common.{◌≡◌, true, false, Some, None, lit<}
 use Rattle.std.specs.Prelude.{slice_index}
 use Rattle.std.proofs.lemmas.Result.{err_from_is_err_and}
 use Rattle.std.proofs.lemmas.Str.Pattern.{split_parts, starts_char}
-use Rattle.at_protocol.proofs.Calls.{comma_fails, end_fails}
+use Rattle.at_protocol.proofs.CallsLemmas.{comma_fails, end_fails}
 use Rattle.at_protocol.proofs.line.arguments.next_argument.Goals as goal
 
 pub returns-in_err-read_bare-in-Some : goal.returns-in_err-read_bare-in-Some

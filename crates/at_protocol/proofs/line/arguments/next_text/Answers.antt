@@ -2,7 +2,7 @@ use Rattle.std.proofs.Common.{None, sym, ◌∙◌, lit<}
 use Rattle.std.proofs.lemmas.Result.{err_from_is_err_and}
 use Rattle.std.proofs.lemmas.Str.Pattern.{strip_prefix_char}
 use Rattle.at_protocol.proofs.Places.{is_filled}
-use Rattle.at_protocol.proofs.Calls.{quote_fails, no_comma}
+use Rattle.at_protocol.proofs.CallsLemmas.{quote_fails, no_comma}
 use Rattle.at_protocol.proofs.line.arguments.next_text.Goals as goal
 
 pub returns-in_err-value : goal.returns-in_err-value

@@ -1,7 +1,7 @@
 use Rattle.std.proofs.Common.{◌≡◌, [], ◌∷◌, ◌++◌, ap, ◌∙◌}
 use Rattle.std.proofs.lemmas.Result.{err_from_is_err_and}
 use Rattle.at_protocol.specs.LineView.{argument_view, arguments_view}
-use Rattle.at_protocol.proofs.Calls.{first_fails, next_fails, wanted_first, wanted_next, wanted_some, wanted_pushed, smaller}
+use Rattle.at_protocol.proofs.CallsLemmas.{first_fails, next_fails, wanted_first, wanted_next, wanted_some, wanted_pushed, smaller}
 use Rattle.at_protocol.proofs.line.arguments.read_arguments.Goals as goal
 
 pub returns-in_err-first : goal.returns-in_err-first

@@ -1,6 +1,6 @@
 use Rattle.std.proofs.Common.{option_map}
 use Rattle.at_protocol.specs.LineView.{arguments_view}
-use Rattle.at_protocol.proofs.Calls.{Wanted, left}
+use Rattle.at_protocol.proofs.CallsLemmas.{Wanted, left}
 use Rattle.at_protocol.proofs.line.arguments.read_arguments.Given as goal
 
 abbrev pub invariant-loop-rest : goal.invariant-loop-rest

@@ -1,7 +1,7 @@
 use Rattle.std.proofs.Common.{sym, ◌∙◌}
 use Rattle.std.proofs.lemmas.Result.{err_from_is_err_and}
 use Rattle.at_protocol.proofs.Places.{is_filled}
-use Rattle.at_protocol.proofs.Calls.{no_call, name_fails, arguments_fail}
+use Rattle.at_protocol.proofs.CallsLemmas.{no_call, name_fails, arguments_fail}
 use Rattle.at_protocol.proofs.line.arguments.read_call.Goals as goal
 
 pub returns-in_err-name : goal.returns-in_err-name

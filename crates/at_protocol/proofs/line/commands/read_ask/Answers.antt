@@ -3,7 +3,7 @@ use Rattle.std.proofs.lemmas.Result.{err_from_is_err_and}
 use Rattle.at_protocol.specs.Words.{IsPlaceText}
 use Rattle.at_protocol.specs.Calls.{IsCallText}
 use Rattle.at_protocol.proofs.Answering.{Is, fails_is, fails_first, fails_rest, fails_whole}
-use Rattle.at_protocol.proofs.Commands.{Behind, asked, BehindAsk}
+use Rattle.at_protocol.proofs.CommandsLemmas.{Behind, asked, BehindAsk}
 use Rattle.at_protocol.proofs.Parts.{ask_text}
 use Rattle.at_protocol.proofs.line.commands.read_ask.Goals as goal
 

@@ -3,7 +3,7 @@ use Rattle.std.proofs.lemmas.Result.{err_from_is_err_and}
 use Rattle.at_protocol.specs.Words.{IsPlaceText}
 use Rattle.at_protocol.specs.Calls.{IsCallText}
 use Rattle.at_protocol.proofs.Answering.{Is, fails_is, fails_first, fails_rest, fails_whole}
-use Rattle.at_protocol.proofs.Commands.{Behind, posted, BehindAsk}
+use Rattle.at_protocol.proofs.CommandsLemmas.{Behind, posted, BehindAsk}
 use Rattle.at_protocol.proofs.Parts.{post_text}
 use Rattle.at_protocol.proofs.line.commands.read_post.Goals as goal
 

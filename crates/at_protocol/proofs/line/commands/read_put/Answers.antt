@@ -2,7 +2,7 @@ use Rattle.std.specs.Prelude.{codes}
 use Rattle.std.proofs.lemmas.Result.{err_from_is_err_and}
 use Rattle.at_protocol.specs.Words.{IsNameText, IsPlaceText, IsTermText}
 use Rattle.at_protocol.proofs.Answering.{Is, fails_is, fails_first, fails_rest, fails_whole}
-use Rattle.at_protocol.proofs.Commands.{Behind, put, BehindPut, NamedTerm}
+use Rattle.at_protocol.proofs.CommandsLemmas.{Behind, put, BehindPut, NamedTerm}
 use Rattle.at_protocol.proofs.Parts.{put_text}
 use Rattle.at_protocol.proofs.line.commands.read_put.Goals as goal
 

@@ -2,7 +2,7 @@ use Rattle.std.specs.Prelude.{codes}
 use Rattle.std.proofs.lemmas.Result.{err_from_is_err_and}
 use Rattle.at_protocol.specs.Words.{IsPlaceText, IsTermText}
 use Rattle.at_protocol.proofs.Answering.{Is, fails_is, fails_first, fails_rest, fails_whole}
-use Rattle.at_protocol.proofs.Commands.{Behind, set, BehindSet}
+use Rattle.at_protocol.proofs.CommandsLemmas.{Behind, set, BehindSet}
 use Rattle.at_protocol.proofs.Parts.{set_text}
 use Rattle.at_protocol.proofs.line.commands.read_set.Goals as goal
 

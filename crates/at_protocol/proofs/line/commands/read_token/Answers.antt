@@ -2,7 +2,7 @@ use Rattle.std.specs.Prelude.{codes}
 use Rattle.std.proofs.lemmas.Result.{err_from_is_err_and}
 use Rattle.at_protocol.specs.Words.{IsNameText, IsPlaceText, IsValueText}
 use Rattle.at_protocol.proofs.Answering.{Is, fails_is, fails_first, fails_rest, fails_whole}
-use Rattle.at_protocol.proofs.Commands.{Behind, set_token, BehindToken, NamedValue}
+use Rattle.at_protocol.proofs.CommandsLemmas.{Behind, set_token, BehindToken, NamedValue}
 use Rattle.at_protocol.proofs.Parts.{token_text_of}
 use Rattle.at_protocol.proofs.line.commands.read_token.Goals as goal
 

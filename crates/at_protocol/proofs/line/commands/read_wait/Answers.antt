@@ -2,7 +2,7 @@ use Rattle.std.specs.Prelude.{codes}
 use Rattle.std.proofs.lemmas.Result.{err_from_is_err_and}
 use Rattle.at_protocol.specs.Words.{IsQuestionNumber}
 use Rattle.at_protocol.proofs.Answering.{Is, fails_is, fails_whole}
-use Rattle.at_protocol.proofs.Commands.{Behind, waited}
+use Rattle.at_protocol.proofs.CommandsLemmas.{Behind, waited}
 use Rattle.at_protocol.proofs.Parts.{wait_text}
 use Rattle.at_protocol.proofs.line.commands.read_wait.Goals as goal
 

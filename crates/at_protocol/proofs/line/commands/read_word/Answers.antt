@@ -1,5 +1,5 @@
 use Rattle.at_text.proofs.Decimals.{never_unequal}
-use Rattle.at_protocol.proofs.Commands.{no_word}
+use Rattle.at_protocol.proofs.CommandsLemmas.{no_word}
 use Rattle.at_protocol.proofs.line.commands.read_word.Goals as goal
 
 pub returns-else-eq : goal.returns-else-eq

@@ -1,4 +1,4 @@
-use Rattle.at_rules.proofs.Holding.{holders_right}
+use Rattle.at_rules.proofs.HoldingLemmas.{holders_right}
 use Rattle.at_rules.proofs.holders.Holders.over.Goals as goal
 
 pub returns : goal.returns

@@ -1,7 +1,7 @@
 use Rattle.std.proofs.Common.{◌∙◌, ap, sym, Some}
 use Rattle.at_model.specs.Classes.{chain}
 use Rattle.at_model.specs.Rules.{Rules, attribute_named}
-use Rattle.at_rules.proofs.Upward.{declared_by_name, none_by_name}
+use Rattle.at_rules.proofs.UpwardLemmas.{declared_by_name, none_by_name}
 use Rattle.at_rules.proofs.rules.Rules.attribute.Goals as goal
 
 pub returns-in_err-name-clause-named : goal.returns-in_err-name-clause-named

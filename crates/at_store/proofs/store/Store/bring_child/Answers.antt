@@ -3,7 +3,7 @@ use Rattle.at_tree.specs.TreeView.{tree_view}
 use Rattle.at_store.specs.Memory.{Info, top}
 use Rattle.at_store.specs.Planting.{IsPlanted}
 use Rattle.at_store.specs.View.{memory_of}
-use Rattle.at_store.proofs.Gains.{tree_freed}
+use Rattle.at_store.proofs.of_planting.Gains.{tree_freed}
 use Rattle.at_store.proofs.store.Store.bring_child.Goals as goal
 
 pub returns-in-Ok-clause-brought : goal.returns-in-Ok-clause-brought

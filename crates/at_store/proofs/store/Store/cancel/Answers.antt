@@ -4,7 +4,7 @@ use Rattle.at_store.specs.Marking.{IsUnmarking}
 use Rattle.at_store.specs.Memory.{Info}
 use Rattle.at_store.specs.View.{memory_of}
 use Rattle.at_store.specs.Preparing.{Does, IsGivenUp}
-use Rattle.at_store.proofs.Committed.{cancelled}
+use Rattle.at_store.proofs.of_edits.Committed.{cancelled}
 use Rattle.at_store.proofs.store.Store.cancel.Goals as goal
 
 pub returns : goal.returns

@@ -1,5 +1,5 @@
 use Rattle.std.proofs.Common.{None, refl}
-use Rattle.at_store.proofs.Taken.{drop_committed}
+use Rattle.at_store.proofs.of_edits.Taken.{drop_committed}
 use Rattle.at_store.proofs.store.Store.commit_drop.Goals as goal
 
 pub returns : goal.returns

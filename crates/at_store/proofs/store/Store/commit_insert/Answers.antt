@@ -1,5 +1,5 @@
 use Rattle.std.proofs.Common.{None, refl}
-use Rattle.at_store.proofs.Committed.{insert_committed}
+use Rattle.at_store.proofs.of_edits.Committed.{insert_committed}
 use Rattle.at_store.proofs.store.Store.commit_insert.Goals as goal
 
 pub returns : goal.returns

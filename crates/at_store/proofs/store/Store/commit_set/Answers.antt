@@ -1,5 +1,5 @@
 use Rattle.std.proofs.Common.{None, refl}
-use Rattle.at_store.proofs.Replaced.{set_committed}
+use Rattle.at_store.proofs.of_edits.Replaced.{set_committed}
 use Rattle.at_store.proofs.store.Store.commit_set.Goals as goal
 
 pub returns : goal.returns

@@ -1,6 +1,6 @@
 use Rattle.std.proofs.Common.{None, refl}
 use Rattle.at_tree.specs.Token.{token_view}
-use Rattle.at_store.proofs.Committed.{token_committed}
+use Rattle.at_store.proofs.of_edits.Committed.{token_committed}
 use Rattle.at_store.proofs.store.Store.commit_token.Goals as goal
 
 pub returns : goal.returns

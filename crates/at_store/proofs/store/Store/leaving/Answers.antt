@@ -1,7 +1,7 @@
 use Rattle.std.proofs.Common.{◌∙◌, ap, nat_eq}
 use Rattle.std.specs.List.{list_any}
-use Rattle.at_store.proofs.Departing.{marked_where_gone}
-use Rattle.at_store.proofs.Spared.{listed_in}
+use Rattle.at_store.proofs.of_planting.Departing.{marked_where_gone}
+use Rattle.at_store.proofs.of_edits.Spared.{listed_in}
 use Rattle.at_store.proofs.store.Store.leaving.Goals as goal
 
 pub returns : goal.returns

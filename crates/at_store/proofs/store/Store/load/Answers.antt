@@ -3,8 +3,8 @@ use Rattle.at_tree.specs.TreeView.{tree_view}
 use Rattle.at_tree.specs.declared.token.TokVal.TheVariants as token
 use Rattle.at_store.specs.Shown.{Shown}
 use Rattle.at_store.specs.View.{memory_of}
-use Rattle.at_store.proofs.Loaded.{loaded_tree, loaded_idle, empty_memory, empty_unmarked}
-use Rattle.at_store.proofs.Marked.{unmarked_still}
+use Rattle.at_store.proofs.of_planting.Loaded.{loaded_tree, loaded_idle, empty_memory, empty_unmarked}
+use Rattle.at_store.proofs.of_planting.MarkedLemmas.{unmarked_still}
 use Rattle.at_store.proofs.store.Store.load.Goals as goal
 
 pub returns-clause-loaded : goal.returns-clause-loaded

@@ -4,8 +4,8 @@ use Rattle.at_model.specs.Touches.{node_of}
 use Rattle.at_model.specs.Alike.{Names}
 use Rattle.at_store.specs.Shown.{numbers, path}
 use Rattle.at_store.specs.View.{leaves_in, memory_of}
-use Rattle.at_store.proofs.Spared.{child_there, listed_in}
-use Rattle.at_store.proofs.TouchesTold.{are_marked, node_there, touches_told}
+use Rattle.at_store.proofs.of_edits.Spared.{child_there, listed_in}
+use Rattle.at_store.proofs.of_edits.TouchesTold.{are_marked, node_there, touches_told}
 use Rattle.at_store.proofs.store.Store.places.Goals as goal
 
 pub returns : goal.returns

@@ -1,5 +1,5 @@
 use Rattle.at_tree.specs.TreeView.{tree_view}
-use Rattle.at_store.proofs.Checked.{brings, insert_prepared}
+use Rattle.at_store.proofs.of_edits.Checked.{brings, insert_prepared}
 use Rattle.at_store.proofs.store.Store.prepare_insert.Goals as goal
 
 pub returns-clause-prepared : goal.returns-clause-prepared

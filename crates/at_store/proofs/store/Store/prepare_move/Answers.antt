@@ -1,6 +1,6 @@
 use Rattle.std.proofs.Common.{refl, sym, ◌∙◌}
-use Rattle.at_store.proofs.Checked.{move_prepared}
-use Rattle.at_store.proofs.Gains.{at_err}
+use Rattle.at_store.proofs.of_edits.Checked.{move_prepared}
+use Rattle.at_store.proofs.of_planting.Gains.{at_err}
 use Rattle.at_store.proofs.store.Store.prepare_move.Goals as goal
 
 pub returns-clause-prepared : goal.returns-clause-prepared

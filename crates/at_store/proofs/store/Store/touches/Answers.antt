@@ -1,7 +1,7 @@
 use Rattle.std.proofs.Common.{◌∙◌}
 use Rattle.at_store.specs.Located.{loc_view}
 use Rattle.at_store.specs.View.{leaves_in}
-use Rattle.at_store.proofs.TouchesTold.{are_marked, touches_told}
+use Rattle.at_store.proofs.of_edits.TouchesTold.{are_marked, touches_told}
 use Rattle.at_store.proofs.store.Store.touches.Goals as goal
 
 pub returns : goal.returns

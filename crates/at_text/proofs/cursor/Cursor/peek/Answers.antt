@@ -1,4 +1,4 @@
-use Rattle.at_text.proofs.Rows.{next_left}
+use Rattle.at_text.proofs.RowsLemmas.{next_left}
 use Rattle.at_text.proofs.cursor.Cursor.peek.Goals as goal
 
 pub returns-in-len1-up : goal.returns-in-len1-up

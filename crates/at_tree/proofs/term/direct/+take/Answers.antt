@@ -2,7 +2,7 @@ use Rattle.std.proofs.Common.{◌∙◌, [], ◌∷◌, ◌++◌, ap, sym, arith
 use Rattle.std.proofs.lemmas.List.{map-append}
 use Rattle.at_model.specs.Terms.{IsCellWithin, cell_text, term_text}
 use Rattle.at_tree.specs.View.{term_view, cell_view}
-use Rattle.at_tree.proofs.TermFronts.{HasCells, HasList, all_cells, all_terms, first_one, first_term, made_term, no_cell, no_term, one_more, one_term_more, shorter, term_front}
+use Rattle.at_tree.proofs.TermFrontsLemmas.{HasCells, HasList, all_cells, all_terms, first_one, first_term, made_term, no_cell, no_term, one_more, one_term_more, shorter, term_front}
 use Rattle.at_tree.proofs.term.direct.+take.Goals as goal
 
 pub take_term-returns : goal.take_term-returns

@@ -1,6 +1,6 @@
 use Rattle.std.proofs.Common.{◌+◌, ◌*◌, map, length}
 use Rattle.at_tree.specs.View.{term_view, cell_view}
-use Rattle.at_tree.proofs.TermFronts.{HasCells, HasList}
+use Rattle.at_tree.proofs.TermFrontsLemmas.{HasCells, HasList}
 use Rattle.at_tree.proofs.term.direct.+take.Given as goal
 
 abbrev pub decreases-take_term : goal.decreases-take_term

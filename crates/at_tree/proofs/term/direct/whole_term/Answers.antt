@@ -1,5 +1,5 @@
 use Rattle.at_tree.specs.View.{term_view}
-use Rattle.at_tree.proofs.TermFronts.{whole}
+use Rattle.at_tree.proofs.TermFrontsLemmas.{whole}
 use Rattle.at_tree.proofs.term.direct.whole_term.Goals as goal
 
 pub returns-then-is_empty : goal.returns-then-is_empty

@@ -4,7 +4,7 @@ use Rattle.at_class.specs.View.{part_view}
 use Rattle.at_model.specs.Trees.{to_cells}
 use Rattle.at_tree.specs.TreeView.{tree_view, cell_view}
 use Rattle.at_tree.proofs.Made.{made_tree}
-use Rattle.at_tree.proofs.Fronts.{tree_front, HasCells, HasTrees, has_none, one_cell_more, all_cells, empty_list, first_tree, one_tree_more, whole_list, shorter}
+use Rattle.at_tree.proofs.FrontsLemmas.{tree_front, HasCells, HasTrees, has_none, one_cell_more, all_cells, empty_list, first_tree, one_tree_more, whole_list, shorter}
 use Rattle.at_tree.proofs.tree.direct.+take.Goals as goal
 
 pub take_tree-returns : goal.take_tree-returns

@@ -1,5 +1,5 @@
 use Rattle.at_tree.specs.TreeView.{tree_view}
-use Rattle.at_tree.proofs.ReadTrees.{read_whole}
+use Rattle.at_tree.proofs.ReadTreesLemmas.{read_whole}
 use Rattle.at_tree.proofs.tree.direct.whole_tree.Goals as goal
 
 pub returns-then-is_empty : goal.returns-then-is_empty

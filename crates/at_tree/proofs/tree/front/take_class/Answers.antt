@@ -1,6 +1,6 @@
 use Rattle.std.proofs.Common.{◌++◌, ◌∷◌, Some, sym, ap, ◌∙◌, lit<}
 use Rattle.std.proofs.lemmas.Str.Pattern.{split_parts}
-use Rattle.at_tree.proofs.Fronts.{name_found}
+use Rattle.at_tree.proofs.FrontsLemmas.{name_found}
 use Rattle.at_tree.proofs.ShapeLaws.{name_of-named}
 use Rattle.at_tree.proofs.tree.front.take_class.Goals as goal
 

@@ -1,5 +1,5 @@
 use Rattle.at_model.specs.Terms.{max_depth}
-use Rattle.at_model.proofs.WrittenTrees.{tree_term}
+use Rattle.at_model.proofs.of_texts.WrittenTrees.{tree_term}
 use Rattle.at_tree.proofs.tree.laws.trees_are_terms.Goals as goal
 
 pub returns : goal.returns

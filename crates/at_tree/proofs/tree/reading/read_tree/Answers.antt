@@ -1,5 +1,5 @@
 use Rattle.at_tree.specs.TreeView.{tree_view}
-use Rattle.at_tree.proofs.ReadTrees.{again_found}
+use Rattle.at_tree.proofs.ReadTreesLemmas.{again_found}
 use Rattle.at_tree.proofs.tree.reading.read_tree.Goals as goal
 
 pub returns-in-Ok-clause-again : goal.returns-in-Ok-clause-again

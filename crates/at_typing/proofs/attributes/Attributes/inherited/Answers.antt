@@ -1,5 +1,5 @@
 use Rattle.std.proofs.Common.{◌∙◌}
-use Rattle.at_typing.proofs.AttributesFound.{finds_inherited}
+use Rattle.at_typing.proofs.of_attributes.AttributesFound.{finds_inherited}
 use Rattle.at_typing.proofs.attributes.Attributes.inherited.Goals as goal
 
 pub returns : goal.returns

@@ -1,7 +1,7 @@
 use Rattle.std.proofs.Common.{arith, refl, sym, ap, subst, length, take, ◌∙◌, ◌+◌}
 use Rattle.std.proofs.lemmas.List.{take_all}
 use Rattle.at_typing.specs.AttributeKeys.{AreAttributes}
-use Rattle.at_typing.proofs.AttributesFound.{none_noted, one_noted, still_noted, counted, with_none}
+use Rattle.at_typing.proofs.of_attributes.AttributesFound.{none_noted, one_noted, still_noted, counted, with_none}
 use Rattle.at_typing.proofs.attributes.Attributes.of.Goals as goal
 use Rattle.at_typing.proofs.attributes.Attributes.of.Goals.{then-is_attribute+in_ok-note, else-is_attribute}
 

@@ -1,7 +1,7 @@
 use Rattle.std.proofs.Common.{◌∙◌, ◌+◌, ap, sym, arith}
 use Rattle.at_rules.specs.Upward.{earlier}
 use Rattle.at_typing.specs.Numbering.{parent_class}
-use Rattle.at_typing.proofs.AttributesFound.{first_on, finds_synthesized, found_above, found_last}
+use Rattle.at_typing.proofs.of_attributes.AttributesFound.{first_on, finds_synthesized, found_above, found_last}
 use Rattle.at_typing.proofs.Lines.{line_begins, line_end, line_from, line_on_top}
 use Rattle.at_typing.proofs.attributes.Attributes.synthesized.Goals as goal
 

@@ -1,7 +1,7 @@
 use Rattle.std.proofs.Common.{◌≡◌}
 use Rattle.at_rules.specs.Upward.{earlier}
 use Rattle.at_typing.specs.Numbering.{line}
-use Rattle.at_typing.proofs.AttributesFound.{first_on}
+use Rattle.at_typing.proofs.of_attributes.AttributesFound.{first_on}
 use Rattle.at_typing.proofs.Lines.{line_from}
 use Rattle.at_typing.proofs.attributes.Attributes.synthesized.Given as goal
 

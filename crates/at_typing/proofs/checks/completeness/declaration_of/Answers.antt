@@ -1,6 +1,6 @@
 use Rattle.std.proofs.Common.{arith, refl, sym, ap, length, ◌∙◌}
-use Rattle.at_typing.proofs.AttributesDeclared.{declared_here, declared_nowhere}
-use Rattle.at_typing.proofs.AttributesFound.{counted, with_none}
+use Rattle.at_typing.proofs.of_attributes.AttributesDeclared.{declared_here, declared_nowhere}
+use Rattle.at_typing.proofs.of_attributes.AttributesFound.{counted, with_none}
 use Rattle.at_typing.proofs.checks.completeness.declaration_of.Goals as goal
 
 pub loop-numbered-init : goal.loop-numbered-init

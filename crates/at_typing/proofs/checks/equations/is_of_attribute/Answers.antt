@@ -1,7 +1,7 @@
 use Rattle.std.proofs.Common.{refl, ap, map, ◌∙◌}
 use Rattle.at_jrag.specs.View.{decl_form_view}
 use Rattle.at_typing.specs.Numbering.{numbered_view}
-use Rattle.at_typing.proofs.AttributesFound.{of_equation, of_inherited}
+use Rattle.at_typing.proofs.of_attributes.AttributesFound.{of_equation, of_inherited}
 use Rattle.at_typing.proofs.checks.equations.is_of_attribute.Goals as goal
 
 pub returns-in-Equation : goal.returns-in-Equation

@@ -3,7 +3,7 @@ use Rattle.std.specs.Prelude.{not}
 use Rattle.at_typing.specs.Declaring.{undeclared_at}
 use Rattle.at_typing.specs.Numbering.{numbered_view}
 use Rattle.at_kinds.specs.declared.code.RuleCode.TheVariants as code
-use Rattle.at_typing.proofs.AttributesFound.{among_all}
+use Rattle.at_typing.proofs.of_attributes.AttributesFound.{among_all}
 use Rattle.at_typing.proofs.FirstFaults.{fault_where, fault_nowhere}
 use Rattle.at_typing.proofs.checks.equations.without_attribute.Goals as goal
 use Rattle.at_class.proofs.Firsts.{none_more, first_here, none_at_all}

@@ -2,7 +2,7 @@ use Rattle.std.proofs.Common.{arith, refl, sym, ap, ◌∙◌, map, length, take
 use Rattle.std.specs.Prelude.{true, false}
 use Rattle.at_typing.specs.Declaring.{attributes, limit_at, max_attributes}
 use Rattle.at_typing.specs.Numbering.{numbered_view, limit_of}
-use Rattle.at_typing.proofs.AttributesCounted.{is_full, room, attributes_more}
+use Rattle.at_typing.proofs.of_attributes.AttributesCounted.{is_full, room, attributes_more}
 use Rattle.at_typing.proofs.checks.limits.over_limit.Goals as goal
 use Rattle.at_typing.proofs.checks.limits.over_limit.Goals.{then-is_attribute, else-is_attribute}
 use Rattle.at_class.proofs.Firsts.{none_more, first_here, none_at_all}

@@ -5,8 +5,8 @@ use Rattle.std.proofs.lemmas.List.{take-map}
 use Rattle.at_typing.specs.Declaring.{is_attribute, binds_twice, clashes, twice_at}
 use Rattle.at_typing.specs.Numbering.{numbered_view}
 use Rattle.at_kinds.specs.declared.code.RuleCode.TheVariants as code
-use Rattle.at_typing.proofs.AttributesFound.{among_before}
-use Rattle.at_typing.proofs.Clashing.{fits, none_added, one_added}
+use Rattle.at_typing.proofs.of_attributes.AttributesFound.{among_before}
+use Rattle.at_typing.proofs.of_attributes.Clashing.{fits, none_added, one_added}
 use Rattle.at_typing.proofs.FirstFaults.{fault_where, fault_nowhere}
 use Rattle.at_typing.proofs.checks.twice.declared_twice.Goals as goal
 use Rattle.at_class.proofs.Firsts.{none_more, first_here, none_at_all}

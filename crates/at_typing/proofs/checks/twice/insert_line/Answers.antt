@@ -1,4 +1,4 @@
-use Rattle.at_typing.proofs.Clashing.{inserts_first, inserts_more, inserts_last}
+use Rattle.at_typing.proofs.of_attributes.Clashing.{inserts_first, inserts_more, inserts_last}
 use Rattle.std.proofs.Common.{arith}
 use Rattle.at_typing.proofs.Lines.{line_end, line_on_top}
 use Rattle.at_typing.proofs.checks.twice.insert_line.Goals as goal

@@ -2,7 +2,7 @@ use Rattle.std.proofs.Common.{◌∙◌, ◌+◌, ap, sym, refl, drop, map}
 use Rattle.std.proofs.lemmas.List.{at_drop_all, at_drop_more}
 use Rattle.clap.specs.Words.{app_of, with_rule}
 use Rattle.attrd.specs.CommandLine.{rule, with_words}
-use Rattle.attrd.proofs.CommandLine.{one_more, none_more}
+use Rattle.attrd.proofs.CommandLineLemmas.{one_more, none_more}
 use Rattle.attrd.proofs.options.words.with_words.Goals as goal
 
 pub loop-word-init : goal.loop-word-init

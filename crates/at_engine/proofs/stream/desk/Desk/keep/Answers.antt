@@ -1,6 +1,6 @@
 use Rattle.std.proofs.Common.{◌≡◌, ◌∙◌, sym, ap, arith, rules, ◌+◌, ◌-◌, ◌++◌, length, min, take}
 use Rattle.std.proofs.lemmas.List.{take_min}
-use Rattle.at_engine.proofs.Kept.{kept-room}
+use Rattle.at_engine.proofs.of_keeping.Kept.{kept-room}
 use Rattle.at_engine.proofs.stream.desk.Desk.keep.Goals as goal
 
 pub returns-clause-line : goal.returns-clause-line

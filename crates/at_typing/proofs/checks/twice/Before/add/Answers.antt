@@ -1,5 +1,5 @@
 use Rattle.std.proofs.Common.{refl, sym, ◌∙◌}
-use Rattle.at_typing.proofs.Clashing.{adds_none, adds_one}
+use Rattle.at_typing.proofs.of_attributes.Clashing.{adds_none, adds_one}
 use Rattle.at_typing.proofs.checks.twice.Before.add.Goals as goal
 
 pub returns-then-not-is_attribute : goal.returns-then-not-is_attribute

@@ -4,7 +4,7 @@ use Rattle.std.specs.List.{list_any}
 use Rattle.at_typing.specs.Declaring.{clashes}
 use Rattle.at_typing.specs.Numbering.{numbered_view}
 use Rattle.at_typing.specs.Twice.{has_key}
-use Rattle.at_typing.proofs.Clashing.{declared_above, is_declared_above, tells_clash}
+use Rattle.at_typing.proofs.of_attributes.Clashing.{declared_above, is_declared_above, tells_clash}
 use Rattle.at_typing.proofs.Keys.{contained}
 use Rattle.at_typing.proofs.checks.twice.Before.clashes.Goals as goal
 

@@ -1,0 +1,7 @@
+pub mod Staying
+pub mod StayingRight
+pub mod StayingSpare
+pub mod SparedLemmas
+pub mod CalledAsked
+pub mod CalledEdited
+pub mod CalledLemmas

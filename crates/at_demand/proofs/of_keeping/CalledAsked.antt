@@ -1,0 +1,88 @@
+-- What a question adds to what is kept, by paths.
+use Rattle.std.proofs.Common.{◌≡◌, ◌⊎◌, ◌↔◌, ℕ, nat_eq, List, length, Option, inl, inr, refl, sym, ap, ◌∙◌, subst}
+use Rattle.at_model.specs.Trees.{Tree}
+use Rattle.at_model.specs.Paths.{Node, node_eq}
+use Rattle.at_model.specs.Run.{Instance, Location, Contents}
+use Rattle.at_model.specs.Rules.{Rules, is_lazy}
+use Rattle.at_model.specs.Meaning.{Equations, Among, Distinct, content, equations}
+use Rattle.at_model.specs.Alike.{InstanceLike, Names, IsInjective, EquationsLike, AlikeAt}
+use Rattle.at_model.specs.Sparing.{IsWorthKeeping, AreAdded}
+use Rattle.at_demand.specs.Known.{meaning}
+use Rattle.at_demand.specs.Sparing.{IsWorthKeeping as IsWorth}
+use Rattle.at_model.proofs.of_likeness.CarryingCircles.{instance-agrees, names_agree}
+use Rattle.at_model.proofs.of_likeness.EquationsAlike.{evaluation-like}
+use Rattle.at_model.proofs.Nodes.{same_like, nat_eq-is, node_eq-is}
+use Rattle.at_model.proofs.of_likeness.AlikeBack.{value_on, value_back, leads_on, leads_back}
+use Rattle.at_demand.proofs.Naming.{AreNamed, name_all}
+
+-- what instances by numbers are called
+abbrev pub Called : (ℕ → Option Node) → (Instance ℕ → Type 0) → Instance Node → Type 0
+Called path Kept j = (i : Instance ℕ) × Kept i × InstanceLike (Names path) i j
+
+module _ (rules : Rules) (look : Contents ℕ) (t : Tree) (path : ℕ → Option Node) (named_once : IsInjective path) (alike : (l : Location ℕ) → AlikeAt (Names path) look (content t) l) where
+  abbrev means : Equations ℕ
+  means = meaning rules
+
+  abbrev Like : Instance ℕ → Instance Node → Type 0
+  Like = InstanceLike (Names path)
+
+  like : EquationsLike (Names path) means (equations rules)
+  like = evaluation-like rules nat_eq node_eq (same_like nat_eq node_eq nat_eq-is node_eq-is path named_once)
+
+  pub one_path : (i : Instance ℕ) (j k : Instance Node) → Like i j → Like i k → j ≡ k
+  one_path i j k s u = (instance-agrees (names_agree path named_once) i i j k s u).0 refl
+
+  pub one_number : (i j : Instance ℕ) (k : Instance Node) → Like i k → Like j k → i ≡ j
+  one_number i j k s u = (instance-agrees (names_agree path named_once) i j k k s u).1 refl
+
+  -- one question, by number and by path
+  module _ (q : Instance ℕ) (p : Instance Node) (asked : Like q p) where
+    pub worth_on : (i : Instance ℕ) → IsWorth rules look q i → (j : Instance Node) × Like i j × IsWorthKeeping rules t p j
+    worth_on i w =
+        let (j, s, leads) = leads_on look (content t) means (equations rules) like alike q p i asked w.reached in
+        let (v, has, same) = value_on look (content t) means (equations rules) like alike i j w.value s w.has in
+        (j, s, record { reached = leads; lazy = ap (is_lazy rules) (sym s.attribute) ∙ w.lazy; value = v; has = has })
+
+    pub worth_back : (j : Instance Node) → IsWorthKeeping rules t p j → (i : Instance ℕ) × Like i j × IsWorth rules look q i
+    worth_back j w =
+        let (i, s, leads) = leads_back look (content t) means (equations rules) like alike q p j asked w.reached in
+        let (v, has, same) = value_back look (content t) means (equations rules) like alike i j w.value s w.has in
+        (i, s, record { reached = leads; lazy = ap (is_lazy rules) s.attribute ∙ w.lazy; value = v; has = has })
+
+    module _ (Old New : Instance ℕ → Type 0) where
+      -- where just what is worth it comes, so it does by paths
+      pub called_after : ((i : Instance ℕ) → New i ↔ (Old i ⊎ IsWorth rules look q i)) → (j : Instance Node) → Called path New j ↔ (Called path Old j ⊎ IsWorthKeeping rules t p j)
+      called_after just j = (on, back)
+        where
+          on : Called path New j → Called path Old j ⊎ IsWorthKeeping rules t p j
+          on (i, new, s) = elim ((just i).0 new) [
+            | inl old ↦ inl (i, old, s)
+            | inr w ↦ (let (k, u, worth) = worth_on i w in inr (subst (IsWorthKeeping rules t p) (one_path i k j u s) worth))
+          ]
+
+          back : Called path Old j ⊎ IsWorthKeeping rules t p j → Called path New j
+          back (inl (i, old, s)) = (i, (just i).1 (inl old), s)
+          back (inr worth) = let (i, s, w) = worth_back j worth in (i, (just i).1 (inr w), s)
+
+    -- as many are added by paths
+    pub called_added : (Old : Instance ℕ → Type 0) → ((i : Instance ℕ) → Old i ⊎ (¬ (Old i))) → (added : List (Instance ℕ)) → Distinct added → ((i : Instance ℕ) → Among i added ↔ (IsWorth rules look q i × (¬ (Old i)))) →
+        (js : List (Instance Node)) × AreAdded rules t p (Called path Old) js × (length js ≡ length added)
+    called_added Old decides added distinct exactly =
+        let called : (i : Instance ℕ) → Among i added → (j : Instance Node) × Like i j = λ i h. (let (w, new) = (exactly i).0 h in let (j, s, worth) = worth_on i w in (j, s)) in
+        let (js, c) = name_all path one_path one_number added called in (
+          js,
+          record { distinct = c.distinct distinct; exactly = λ j. (on js c j, back js c j) },
+          c.size,
+        )
+      where
+        on : (js : List (Instance Node)) → AreNamed path added js → (j : Instance Node) → Among j js → IsWorthKeeping rules t p j × (¬ (Called path Old j))
+        on js c j h =
+            let (i, a, s) = c.of_one j h in
+            let (w, new) = (exactly i).0 a in
+            let (k, u, worth) = worth_on i w in
+            (subst (IsWorthKeeping rules t p) (one_path i k j u s) worth, λ (m, old, v). new (subst Old (one_number m i j v s) old))
+
+        back : (js : List (Instance Node)) → AreNamed path added js → (j : Instance Node) → IsWorthKeeping rules t p j × (¬ (Called path Old j)) → Among j js
+        back js c j (worth, new) =
+            let (i, s, w) = worth_back j worth in
+            elim (decides i) [ inl old ↦ absurd (new (i, old, s)) | inr none ↦ c.each i j ((exactly i).1 (w, none)) s ]

@@ -1,0 +1,13 @@
+pub mod Giving
+pub mod Numberings
+pub mod Wordings
+pub mod Turnings
+pub mod Openings
+pub mod Trying
+pub mod Opened
+pub mod Beginning
+pub mod Finishing
+pub mod Reading
+pub mod Bounding
+pub mod Awaiting
+pub mod Settling

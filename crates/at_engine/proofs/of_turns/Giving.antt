@@ -1,0 +1,294 @@
+-- What turns do, and how much can be counted of lines and turns.
+use Rattle.std.proofs.Common.{◌≡◌, ◌⊎◌, ℕ, suc, ◌+◌, ◌-◌, ◌^◌, ◌≤◌, ◌<◌, Bool, true, false, cond, not, nat_eq, if◌then◌else◌, List, [], ◌∷◌, ◌++◌, map, filter, length, inl, inr, refl, sym, ap, ◌∙◌, append_assoc, append-nil, subst, arith, length-append, Option, Some, None, Result, Ok, Err, true≢false}
+use Rattle.std.proofs.lemmas.Bool.Decides.{eqb_tells}
+use Rattle.std.proofs.lemmas.List.{length-map}
+use Rattle.std.proofs.KnownBytes.{Appends-nil, Appends-trans}
+use Rattle.std.specs.Io.KnownBytes.{Appends}
+use Rattle.at_model.specs.Effects.{is_post}
+use Rattle.at_model.specs.Lines.{Line, Spells}
+use Rattle.at_model.specs.Rules.{Rules}
+use Rattle.at_model.specs.Replies.{Reply, reply_text}
+use Rattle.at_model.specs.Machine.{State, Posted, Verdict, Refuses, Tells, Leaves, Edits, Asks, Posts, Waits, Handles, obeys, waits, refuses, Serves, handles, runs_out, Turns, stays, answers, Given, spent, none_open, silent, telling, first_of, after, verdict, text_of, carried_posted, counted}
+use Rattle.at_model.proofs.of_machines.Commanded.{none_after}
+use Rattle.at_model.proofs.of_machines.Machines.{none_given, waited}
+use Rattle.at_model.proofs.of_machines.Runs.{given_on}
+use Rattle.at_store.specs.Shown.{path}
+use Rattle.at_engine.specs.Engines.{state_of}
+use Rattle.at_engine.specs.Posted.{posted_view}
+use Rattle.at_engine.specs.declared.engine.Engine.{Engine}
+use Rattle.at_engine.specs.declared.engine.turning.Spent.{Spent}
+use Rattle.at_engine.specs.declared.stream.desk.Desk.{Desk}
+use Rattle.at_engine.specs.KeptOver.{NonePosts}
+use Rattle.at_engine.specs.declared.stream.desk.RunFault.{RunFault}
+use Rattle.at_engine.specs.Serving.{Settles, Spends, listed}
+use Rattle.at_engine.specs.Taking.{in_line, in_turn, Gives, GivesInPart, GivesTurns, Halts, Served, ServedOrHalts, SettlesOne, countable, wants}
+use Rattle.at_engine.proofs.Takings.{both_counted, both_written, no_count, written_behind}
+
+-- so many questions are open at most
+pub few_open : {K : Type 0} (e : Engine K) → length (state_of e).posted < 2 ^ 63
+few_open e = omega (arith, length-map e.posts.items.items (posted_view (path e.store)), e.posts.items.ok.0, e.posts.items.ok.1, e.posts.items.small)
+
+-- some are fewer than all
+fewer_kept : {A : Type 0} (test : A → Bool) (xs : List A) → length (filter test xs) ≤ length xs
+fewer_kept test [] = omega arith
+fewer_kept test (x ∷ xs) = by (test x) (fewer_kept test xs)
+  where
+    by : (b : Bool) → length (filter test xs) ≤ length xs → length (cond b (x ∷ filter test xs) (filter test xs)) ≤ suc (length xs)
+    by true few = omega (arith, few)
+    by false few = omega (arith, few)
+
+-- a question that is told is open no longer
+first_gone : (qs : List Posted) (q : Posted) → first_of qs ≡ Some q → length (filter (λ p. not (nat_eq q.number p.number)) qs) + 1 ≤ length qs
+first_gone [] q e = absurd cc
+first_gone (x ∷ qs) q e =
+    let same : x ≡ q = cc in
+    let its : not (nat_eq q.number x.number) ≡ false = ap (λ (p : Posted). not (nat_eq q.number p.number)) same ∙ ap not (elim (eqb_tells q.number q.number) [ inl p ↦ p.0 | inr p ↦ absurd (p.1 refl) ]) in
+    let few = fewer_kept (λ (p : Posted). not (nat_eq q.number p.number)) qs in
+    let all : length (filter (λ (p : Posted). not (nat_eq q.number p.number)) (x ∷ qs)) ≡ length (filter (λ (p : Posted). not (nat_eq q.number p.number)) qs) =
+    ap (λ b. length (cond b (x ∷ filter (λ (p : Posted). not (nat_eq q.number p.number)) qs) (filter (λ (p : Posted). not (nat_eq q.number p.number)) qs))) its in
+    omega (arith, few, all)
+
+silent_turn : (rules : Rules) (s : State) (number : ℕ) (new : State) → Turns rules s number new None → length new.posted ≡ length s.posted
+silent_turn rules s number _ (stays q e) = length-map s.posted (counted number)
+
+telling_turn : (rules : Rules) (s : State) (q : Posted) (new : State) (said : Bool × Reply) → first_of s.posted ≡ Some q → Turns rules s q.number new (Some said) → length new.posted + 1 ≤ length s.posted
+telling_turn rules s q _ _ first (answers p form e a) = first_gone s.posted q first
+telling_turn rules s q _ _ first (runs_out p e) = first_gone s.posted q first
+
+-- by turns as many questions fewer are open at least as answers are told
+pub fewer_given : (rules : Rules) (limit : ℕ) (s : State) (told : List (Bool × Reply)) (new : State) → Given rules limit s told new → length told + length new.posted ≤ length s.posted
+fewer_given rules _ _ _ _ (spent s) = omega arith
+fewer_given rules _ _ _ _ (none_open limit s e) = omega arith
+fewer_given rules _ _ _ new (silent {limit = limit} {s = s} {mid = mid} {told = told} q first turn given) = omega (arith, silent_turn rules s q.number mid turn, fewer_given rules limit mid told new given)
+fewer_given rules _ _ _ new (telling {limit = limit} {s = s} {mid = mid} {said = said} {told = told} q first turn given) = omega (arith, telling_turn rules s q mid said first turn, fewer_given rules limit mid told new given)
+
+-- by a line at most one more is
+more_after : (s : State) (v : Verdict) → length (after s v).posted ≤ length s.posted + 1
+more_after s (Refuses refusal) = omega arith
+more_after s (Tells shown) = omega arith
+more_after s (Leaves marks) = omega arith
+more_after s (Edits e t) = omega (arith, length-map s.posted (carried_posted e))
+more_after s (Asks q) = omega arith
+more_after s (Posts q) = omega (arith, length-append s.posted (q ∷ []))
+more_after s (Waits number) = omega arith
+
+more_handled : (rules : Rules) (old : State) (line : List ℕ) (new : State) (said : Bool × Reply) → Handles rules old line new said → length new.posted ≤ length old.posted + 1
+more_handled rules old line new _ (obeys l s step) = omega (arith, ap (λ (x : State). length x.posted) step.state, more_after old (verdict rules old l))
+more_handled rules old line new said (waits l number s is answered) =
+    let gone = ap (λ (x : State). length x.posted) (waited rules number old new said answered).state in
+    omega (arith, gone, fewer_kept (λ (q : Posted). not (nat_eq number q.number)) old.posted)
+more_handled rules old line _ _ (refuses none session) = omega arith
+
+pub more_served : (rules : Rules) (old : State) (line : List ℕ) (new : State) (said : Bool × Reply) → Serves rules old line new said → length new.posted ≤ length old.posted + 1
+more_served rules old line new said (handles h) = more_handled rules old line new said h
+more_served rules old line _ _ (runs_out session) = omega arith
+
+-- what is told for want of memory is a part of what is told
+one_want : (b : Bool) → (if b then 1 else 0) ≤ 1
+one_want true = omega arith
+one_want false = omega arith
+
+-- where no question is open and the line posts none, none is open behind it
+none_handled : (rules : Rules) (old : State) (line : List ℕ) (new : State) (said : Bool × Reply) → old.posted ≡ [] → ((l : Line) → Spells line l → is_post l.command ≡ false) → Handles rules old line new said → new.posted ≡ []
+none_handled rules old line new _ none no_post (obeys l s step) = ap (λ (x : State). x.posted) step.state ∙ none_after rules old l none (no_post l s)
+none_handled rules old line new said none no_post (waits l number s is answered) =
+    ap (λ (x : State). x.posted) (waited rules number old new said answered).state ∙ ap (filter (λ (q : Posted). not (nat_eq number q.number))) none
+none_handled rules old line _ _ none no_post (refuses no_line session) = none
+
+pub none_served : (rules : Rules) (old : State) (line : List ℕ) (new : State) (said : Bool × Reply) → old.posted ≡ [] → NonePosts (line ∷ []) → Serves rules old line new said → new.posted ≡ []
+none_served rules old line new said none no_post (handles h) = none_handled rules old line new said none no_post.0 h
+none_served rules old line _ _ none no_post (runs_out session) = none
+
+pub none_behind : (rules : Rules) (limit : ℕ) (old : State) (told : List (Bool × Reply)) (new : State) → old.posted ≡ [] → Given rules limit old told new → new.posted ≡ []
+none_behind rules limit old told new none given = ap (λ (x : State). x.posted) (none_given rules limit old told new none given).1 ∙ none
+
+-- turns that had no answer are as many as there may be, or no question is open
+quiet : (rules : Rules) (turns limit : ℕ) (old new : State) → turns ≤ limit → (new.posted ≡ []) ⊎ (turns ≡ limit) → Given rules turns old [] new → Given rules limit old [] new
+quiet rules turns limit old new few (inl none) given =
+    let rest = limit - turns in
+    let whole : turns + rest ≡ limit = omega (arith, few) in
+    subst (λ n. Given rules n old [] new) whole (given_on rules turns rest old new new [] [] given (none_open rest new none))
+quiet rules turns limit old new few (inr same) given = subst (λ n. Given rules n old [] new) same given
+
+-- what was told is one thing, or nothing
+nothing_told : (told : List (Bool × Reply)) → map (λ (x : Bool × Reply). x.0) told ≡ [] → told ≡ []
+nothing_told [] e = refl
+nothing_told (x ∷ told) e = absurd cc
+
+pub record IsOne (told : List (Bool × Reply)) (wants : Bool) : Type 0 where
+  pub said : Bool × Reply
+  pub only : told ≡ said ∷ []
+  pub names : said.0 ≡ wants
+
+one_told : (told : List (Bool × Reply)) (wants : Bool) → map (λ (x : Bool × Reply). x.0) told ≡ wants ∷ [] → IsOne told wants
+one_told [] wants e = absurd cc
+one_told (x ∷ []) wants e = record { said = x; only = refl; names = cc }
+one_told (x ∷ y ∷ told) wants e = absurd cc
+
+-- the turns spent, of which the last one had an answer
+pub record Answers (rules : Rules) (limit : ℕ) (old new : State) (wants : Bool) (turns : ℕ) (before after : List ℕ) : Type 0 where
+  pub said : Bool × Reply
+  pub names : said.0 ≡ wants
+  pub given : Given rules turns old (said ∷ []) new
+  pub text : after ≡ before ++ reply_text said.1
+  pub some : 0 < turns
+  pub within : turns ≤ limit
+
+pub has_answer : (rules : Rules) (limit : ℕ) (old new : State) (before after : List ℕ) (it : Spent) (wants : Bool) → it.told ≡ Some wants → Spends rules limit old new before after it → Answers rules limit old new wants it.turns before after
+has_answer rules limit old new before after it wants is s =
+    let one = one_told s.told wants (s.named ∙ ap listed is) in
+    record {
+      said = one.said;
+      names = one.names;
+      given = subst (λ (told : List (Bool × Reply)). Given rules it.turns old told new) one.only s.given;
+      text = s.appended ∙ ap (λ (told : List (Bool × Reply)). before ++ text_of told) one.only ∙ ap (λ l. before ++ l) (append-nil (reply_text one.said.1));
+      some = s.some wants is;
+      within = s.within;
+    }
+
+pub has_none : (rules : Rules) (limit : ℕ) (old new : State) (before after : List ℕ) (it : Spent) → it.told ≡ None → Spends rules limit old new before after it → Given rules limit old [] new
+has_none rules limit old new before after it is s =
+    let none = nothing_told s.told (s.named ∙ ap listed is) in
+    quiet rules it.turns limit old new s.within (s.whole is) (subst (λ (told : List (Bool × Reply)). Given rules it.turns old told new) none s.given)
+
+-- the question was answered, or none was open
+pub has_settled : (rules : Rules) (old new : State) (before after : List ℕ) (o : Option Bool) (wants : Bool) → o ≡ Some wants → Settles rules old new before after o → Settles rules old new before after (Some wants)
+has_settled rules old new before after o wants is s = subst (λ (x : Option Bool). Settles rules old new before after x) is s
+
+pub none_settled : (rules : Rules) (old new : State) (before after : List ℕ) (o : Option Bool) → o ≡ None → Settles rules old new before after o → Settles rules old new before after None
+none_settled rules old new before after o is s = subst (λ (x : Option Bool). Settles rules old new before after x) is s
+
+module _ (rules : Rules) where
+  pub gave_nothing : (old new : State) (desk next : Desk) (before : Option (List ℕ)) → new ≡ old → next.lines ≡ desk.lines → next.memory ≡ desk.memory → Gives rules 0 old new desk next before before
+  gave_nothing old new desk next before same l m = record { told = []; given = subst (λ (x : State). Given rules 0 old [] x) (sym same) (spent old); counts = no_count desk next l m; written = Appends-nil before }
+
+  -- no turn, and turns that had no answer
+  pub gave_none : (limit : ℕ) (old new : State) (desk next : Desk) (before : Option (List ℕ)) → Given rules limit old [] new → next.lines ≡ desk.lines → next.memory ≡ desk.memory → Gives rules limit old new desk next before before
+  gave_none limit old new desk next before given l m = record { told = []; given = given; counts = no_count desk next l m; written = Appends-nil before }
+
+  -- the last one had an answer
+  pub gave_one : (turns : ℕ) (old new : State) (desk next : Desk) (before after : Option (List ℕ)) (said : Bool × Reply) → Given rules turns old (said ∷ []) new → next.lines ≡ desk.lines → next.memory ≡ desk.memory + (if said.0 then 1 else 0)
+      → Appends before after (reply_text said.1) → Gives rules turns old new desk next before after
+  gave_one turns old new desk next before after said given l m written = record {
+    told = said ∷ [];
+    given = given;
+    counts = record { lines' = omega (arith, l); memory = omega (arith, m) };
+    written = subst (Appends before after) (sym (append-nil (reply_text said.1))) written;
+  }
+
+  -- which could not be written whole
+  pub stops_at_one : (turns limit : ℕ) (old new : State) (before after : Option (List ℕ)) (said : Bool × Reply) (done undone : List ℕ) → turns ≤ limit → Given rules turns old (said ∷ []) new → reply_text said.1 ≡ done ++ undone → Appends before after done
+      → GivesInPart rules limit old new before after
+  stops_at_one turns limit old new before after said done undone few given split written = record {
+    turns = turns;
+    within = few;
+    told = [];
+    said = said;
+    given = given;
+    done = done;
+    undone = undone;
+    split = split;
+    written = written;
+  }
+
+  -- turns and then others
+  pub gave_more : (m n : ℕ) (old mid new : State) (desk next last : Desk) (before between after : Option (List ℕ)) → Gives rules m old mid desk next before between → Gives rules n mid new next last between after → Gives rules (m + n) old new desk last before after
+  gave_more m n old mid new desk next last before between after g h = record {
+    told = g.told ++ h.told;
+    given = given_on rules m n old mid new g.told h.told g.given h.given;
+    counts = both_counted desk next last 0 0 g.told h.told g.counts h.counts;
+    written = both_written before between after g.told h.told g.written h.written;
+  }
+
+  pub stops_later : (m n : ℕ) (old mid new : State) (desk next : Desk) (before between after : Option (List ℕ)) → Gives rules m old mid desk next before between → GivesInPart rules n mid new between after → GivesInPart rules (m + n) old new before after
+  stops_later m n old mid new desk next before between after g h = record {
+    turns = m + h.turns;
+    within = omega (arith, h.within);
+    told = g.told ++ h.told;
+    said = h.said;
+    given = subst (λ (told : List (Bool × Reply)). Given rules (m + h.turns) old told new) (sym (append_assoc g.told h.told (h.said ∷ []))) (given_on rules m h.turns old mid new g.told (h.told ++ h.said ∷ []) g.given h.given);
+    done = h.done;
+    undone = h.undone;
+    split = h.split;
+    written = written_behind before between after g.told h.told h.done g.written h.written;
+  }
+
+  pub counts_one : (turns : ℕ) (old new : State) (said : Bool × Reply) → Given rules turns old (said ∷ []) new → (if said.0 then 1 else 0) + length new.posted ≤ length old.posted
+  counts_one turns old new said given = omega (arith, one_want said.0, fewer_given rules turns old (said ∷ []) new given)
+
+  -- a line, and then turns
+  pub served_then : (slice : ℕ) (old mid new : State) (line : List ℕ) (said : Bool × Reply) (desk next last : Desk) (before between after : Option (List ℕ)) → Serves rules old line mid said → next.lines ≡ desk.lines + 1 → next.memory ≡ desk.memory + (if said.0 then 1 else 0)
+      → Appends before between (reply_text said.1) → Gives rules slice mid new next last between after → Served rules slice old line new desk last before after
+  served_then slice old mid new line said desk next last before between after serves l m written g = record {
+    mid = mid;
+    said = said;
+    serves = serves;
+    told = g.told;
+    given = g.given;
+    counts = record { lines' = omega (arith, l, g.counts.lines'); memory = omega (arith, m, g.counts.memory) };
+    written = Appends-trans before between after (reply_text said.1) (text_of g.told) written g.written;
+  }
+
+  -- what was told last could not be written: in the line, or by a turn behind it
+  pub halts_in_line : (slice : ℕ) (old new : State) (line : List ℕ) (said : Bool × Reply) (before after : Option (List ℕ)) (done undone : List ℕ) → Serves rules old line new said → reply_text said.1 ≡ done ++ undone → Appends before after done → Halts rules slice old line new before after
+  halts_in_line slice old new line said before after done undone serves split written = record {
+    told = [];
+    said = said;
+    ends = in_line serves;
+    done = done;
+    undone = undone;
+    split = split;
+    written = written;
+  }
+
+  pub halts_behind : (slice : ℕ) (old mid new : State) (line : List ℕ) (first : Bool × Reply) (before between after : Option (List ℕ)) → Serves rules old line mid first → Appends before between (reply_text first.1) → GivesInPart rules slice mid new between after → Halts rules slice old line new before after
+  halts_behind slice old mid new line first before between after serves written g = record {
+    told = first ∷ g.told;
+    said = g.said;
+    ends = in_turn g.turns g.within serves g.given;
+    done = g.done;
+    undone = g.undone;
+    split = g.split;
+    written = written_behind before between after (first ∷ []) g.told g.done (subst (Appends before between) (sym (append-nil (reply_text first.1))) written) g.written;
+  }
+
+  -- by a line and the turns behind it at most three more can be counted
+  pub counts_served : (old mid : State) (line : List ℕ) (said : Bool × Reply) (desk next : Desk) → Serves rules old line mid said → next.lines ≡ desk.lines + 1 → next.memory ≡ desk.memory + (if said.0 then 1 else 0) → countable next mid ≤ countable desk old + 3
+  counts_served old mid line said desk next serves l m = omega (arith, l, m, one_want said.0, more_served rules old line mid said serves)
+
+-- the first ones are given by turns of which some are left
+pub as_many_given : (rules : Rules) (m n : ℕ) (old new : State) (desk next : Desk) (before after : Option (List ℕ)) → m ≡ n → Gives rules m old new desk next before after → Gives rules n old new desk next before after
+as_many_given rules m n old new desk next before after e g = subst (λ k. Gives rules k old new desk next before after) e g
+
+pub as_many_in_part : (rules : Rules) (m n : ℕ) (old new : State) (before after : Option (List ℕ)) → m ≡ n → GivesInPart rules m old new before after → GivesInPart rules n old new before after
+as_many_in_part rules m n old new before after e g = subst (λ k. GivesInPart rules k old new before after) e g
+
+pub ruled : (rules others : Rules) (n : ℕ) (old new : State) (desk next : Desk) (before after : Option (List ℕ)) → others ≡ rules → Gives others n old new desk next before after → Gives rules n old new desk next before after
+ruled rules others n old new desk next before after e g = subst (λ (r : Rules). Gives r n old new desk next before after) e g
+
+pub ruled_in_part : (rules others : Rules) (n : ℕ) (old new : State) (before after : Option (List ℕ)) → others ≡ rules → GivesInPart others n old new before after → GivesInPart rules n old new before after
+ruled_in_part rules others n old new before after e g = subst (λ (r : Rules). GivesInPart r n old new before after) e g
+
+-- a line that was served, with the turns behind it, whatever became of these
+pub then_turns : (result : Result (Unit {0}) RunFault) (rules others : Rules) (slice turns : ℕ) (old mid new : State) (line : List ℕ) (said : Bool × Reply) (desk next last : Desk) (before between after : Option (List ℕ)) → GivesTurns result others turns mid new next last between after
+    → others ≡ rules → turns ≡ slice → Serves rules old line mid said → next.lines ≡ desk.lines + 1 → next.memory ≡ desk.memory + (if said.0 then 1 else 0) → Appends before between (reply_text said.1) → ServedOrHalts result rules slice old line new desk last before after
+then_turns (Ok u) rules others slice turns old mid new line said desk next last before between after g e n serves l m written =
+    served_then rules slice old mid new line said desk next last before between after serves l m written (as_many_given rules turns slice mid new next last between after n (ruled rules others turns mid new next last between after e g))
+then_turns (Err f) rules others slice turns old mid new line said desk next last before between after g e n serves l m written =
+    (g.0, halts_behind rules slice old mid new line said before between after serves written (as_many_in_part rules turns slice mid new between after n (ruled_in_part rules others turns mid new between after e g.1)))
+
+-- a question more was answered, or none was open
+pub drained_more : (found : Bool) (rules others : Rules) (old mid new : State) (desk next last : Desk) (before between after : Option (List ℕ)) → others ≡ rules → (turns : ℕ) × Gives rules turns old mid desk next before between → SettlesOne (Ok found) others mid new next last between after
+    → (turns : ℕ) × Gives rules turns old new desk last before after
+drained_more true rules others old mid new desk next last before between after e (turns, g) s = (turns + s.turns, gave_more rules turns s.turns old mid new desk next last before between after g (ruled rules others s.turns mid new next last between after e s.gives))
+drained_more false rules others old mid new desk next last before between after e (turns, g) s = (turns + 0, gave_more rules turns 0 old mid new desk next last before between after g (ruled rules others 0 mid new next last between after e s.1))
+
+pub closed_then : (found : Bool) (rules : Rules) (old new : State) (desk next : Desk) (before after : Option (List ℕ)) → SettlesOne (Ok found) rules old new desk next before after → found ≡ false → new.posted ≡ []
+closed_then true rules old new desk next before after s e = absurd (true≢false e)
+closed_then false rules old new desk next before after s e = s.0
+
+pub fewer_then : (was found : Bool) (rules : Rules) (old new : State) (desk next : Desk) (before after : Option (List ℕ)) → was ≡ true → SettlesOne (Ok found) rules old new desk next before after → length new.posted + (if found then 1 else 0) < length old.posted + (if was then 1 else 0)
+fewer_then true true rules old new desk next before after is s = omega (arith, s.fewer)
+fewer_then true false rules old new desk next before after is s = omega (arith, ap length s.0)
+fewer_then false true rules old new desk next before after is s = absurd (true≢false (sym is))
+fewer_then false false rules old new desk next before after is s = absurd (true≢false (sym is))

@@ -1,0 +1,10 @@
+pub mod ExpressionSteps
+pub mod Expressions
+pub mod ExpressionRanks
+pub mod ExpressionRuns
+pub mod ExpressionsTaken
+pub mod SoundExpressions
+pub mod OperatorStops
+pub mod ExpressionLinks
+pub mod ExpressionFronts
+pub mod OneExpression

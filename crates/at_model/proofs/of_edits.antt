@@ -1,0 +1,12 @@
+pub mod Changes
+pub mod Moving
+pub mod Ways
+pub mod Untouched
+pub mod Untouching
+pub mod Carried
+pub mod Moves
+pub mod Moved
+pub mod Edited
+pub mod Surviving
+pub mod Conforming
+pub mod CarriedInstances

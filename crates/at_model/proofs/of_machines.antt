@@ -1,0 +1,15 @@
+pub mod Steps
+pub mod Machines
+pub mod Runs
+pub mod OneOutput
+pub mod Sound
+pub mod WellKept
+pub mod Played
+pub mod Commanded
+pub mod Replying
+pub mod KeptOverLines
+pub mod WellAsked
+pub mod Orderly
+pub mod NothingLost
+pub mod TokensKept
+pub mod Bounded

@@ -1,0 +1,9 @@
+pub mod Cutting
+pub mod Words
+pub mod QuotedTexts
+pub mod OneTerm
+pub mod OneLine
+pub mod Shaped
+pub mod PlainLines
+pub mod Unread
+pub mod WrittenTrees

@@ -1,0 +1,9 @@
+pub mod TypedSteps
+pub mod TypedExpressions
+pub mod TypedLeads
+pub mod TypedContents
+pub mod TypedEquations
+pub mod TypedQuestions
+pub mod TypedNumbers
+pub mod TypedTogether
+pub mod Taken

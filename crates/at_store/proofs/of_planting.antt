@@ -1,0 +1,12 @@
+pub mod Composed
+pub mod Growing
+pub mod Freeing
+pub mod Freed
+pub mod Planted
+pub mod Filled
+pub mod Copied
+pub mod Gains
+pub mod Loaded
+pub mod MarkedLemmas
+pub mod Listed
+pub mod Departing
