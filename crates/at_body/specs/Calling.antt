@@ -17,4 +17,4 @@ IsReceiver look e old new None = new ≡ old
 IsReceiver look e old new (Some n) = (seen : List (Location ℕ)) × (new ≡ record old { reads = seen })
     × ((classes : Classes) → ComesTo look (ev classes e (place_of old)) (Back (value.Ref (Some n))))
     × ((classes : Classes) (further : Value ℕ → Run ℕ (Value ℕ))
-        → follow look old.reads (ev classes e (place_of old) >>= further) ≡ follow look seen (further (Ref (Some n))))
+    → follow look old.reads (ev classes e (place_of old) >>= further) ≡ follow look seen (further (Ref (Some n))))

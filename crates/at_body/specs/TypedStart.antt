@@ -24,7 +24,7 @@ abbrev pub HasEquation : {N : Type 0} → Rules → ClassAt N → Contents N →
 HasEquation rules at look name zero n = ⊥
 HasEquation rules at look name (suc h) n =
     AtParent (look (Up n)) (λ m part. (at m ≡ Some (look (Is m)))
-        × OrElse (inherited_equation rules (look (Is m)) part name) (HasEquation rules at look name h m))
+    × OrElse (inherited_equation rules (look (Is m)) part name) (HasEquation rules at look name h m))
 
 -- the trial stands at a node of the class, with arguments for the attribute, which has an equation there
 pub record Begins (rules : Rules) (at : ClassAt ℕ) (look : Contents ℕ) (t : Trial) (class attribute : ℕ) : Type 0 where

@@ -30,7 +30,7 @@ ComesBy entries old new p others i None =
 ComesBy entries old new p others i (Some (true, reply)) = Unit {0}
 ComesBy entries old new p others i (Some (false, reply)) =
     (u : UnderWay ℕ) × (a : Answer ℕ) × (b : Answer Node)
-        × Turned (contents old.store) (meaning (rules_of old)) (kept_values (entries old.demand.keeper)) (came_to p.question i) u (Some a)
+    × Turned (contents old.store) (meaning (rules_of old)) (kept_values (entries old.demand.keeper)) (came_to p.question i) u (Some a)
     × AnswerLike (Names (path old.store)) a b × (reply.form ≡ answer_form (rules_of old) (tree old.store) b)
 
 -- The turn tries the equation of the instance that the question had come to, at most, and at most that one comes to what is kept.
@@ -39,7 +39,7 @@ pub data TriesOnce {K : Type 0} (entries : K → Entries) (old new : Engine K) (
   tries : (i : Instance ℕ) (named : Instance Node) → words_verdict (rules_of old) (tree old.store) (posted_view (path old.store) p) ≡ Asks named
       → InstanceLike (Names (path old.store)) i named
       → MayAddLazy (rules_of old) (entries old.demand.keeper) (entries new.demand.keeper) (came_to p.question i).last → ComesBy entries old new p others i told
-          → TriesOnce entries old new p others told
+      → TriesOnce entries old new p others told
   tries_nothing : (said : Bool × Reply) → told ≡ Some said → new.demand ≡ old.demand → TriesOnce entries old new p others told
 
 -- The open question with the least number was given one turn, and its answer, where it has one, is appended.

@@ -70,9 +70,9 @@ HasCome entries e p now i (Ok None) = (q : Question) × (now ≡ Some q)
     × Turned (contents e.store) (meaning (rules_of e)) (kept_values (entries e.demand.keeper)) (came_to p.question i) (under_way q) None
 HasCome entries e p now i (Ok (Some f)) =
     (u : UnderWay ℕ) × (a : Answer ℕ) × (b : Answer Node)
-        × Turned (contents e.store) (meaning (rules_of e)) (kept_values (entries e.demand.keeper)) (came_to p.question i) u (Some a)
+    × Turned (contents e.store) (meaning (rules_of e)) (kept_values (entries e.demand.keeper)) (came_to p.question i) u (Some a)
     × AnswerLike (Names (path e.store)) a b × (said : IsAnswerTo (rules_of e) (state_of e) (posted_view (path e.store) p) f)
-        × (said.form ≡ answer_form (rules_of e) (tree e.store) b)
+    × (said.form ≡ answer_form (rules_of e) (tree e.store) b)
 HasCome entries e p now i (Err e') = Unit {0}
 
 -- it isn't silent
@@ -85,7 +85,7 @@ pub data TriedOnce {K E : Type 0} (entries : K → Entries) (old new : Engine K)
   tried : (i : Instance ℕ) (named : Instance Node) → words_verdict (rules_of old) (tree old.store) (posted_view (path old.store) p) ≡ Asks named
       → InstanceLike (Names (path old.store)) i named
       → MayAddLazy (rules_of old) (entries old.demand.keeper) (entries new.demand.keeper) (came_to p.question i).last → HasCome entries old p now i r
-          → TriedOnce entries old new p now r
+      → TriedOnce entries old new p now r
   tried_nothing : IsEnd r → new.demand ≡ old.demand → TriedOnce entries old new p now r
 
 -- what one turn of the question at the position has done

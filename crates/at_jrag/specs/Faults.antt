@@ -62,9 +62,9 @@ abbrev pub IsFault : List ℕ → Fault JragCode → Type 0
 IsFault text Memory = Unit {0}
 IsFault text (Refused Syntax at) = ((fault : ScanFault) × IsScanFaultAt text at fault)
     ⊎ ((front : List PlacedToken) × (rest : List PlacedToken) × StopsAt text front rest × (GoesOn IsFile front rest → ⊥) × (MeetsLeftOut front rest → ⊥)
-        × (at ≡ next_place text rest))
+    × (at ≡ next_place text rest))
 IsFault text (Refused LeftOut at) =
     (front : List PlacedToken) × (rest : List PlacedToken) × StopsAt text front rest × (GoesOn IsFile front rest → ⊥) × MeetsLeftOut front rest
-        × (at ≡ next_place text rest)
+    × (at ≡ next_place text rest)
 IsFault text (Refused Nesting at) = (front : List PlacedToken) × (rest : List PlacedToken) × StopsAt text front rest × GoesOn IsFile front rest
     × (at ≡ last_declaration front)

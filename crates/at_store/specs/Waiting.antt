@@ -18,7 +18,7 @@ IsStoreAsBefore before later = IsAsBefore (memory_of before.slab) (memory_of lat
 abbrev pub IsBrought : (before later : Shown) → Tree → ℕ → Type 0
 IsBrought before later t new =
     ((w : Tree) × (class_of w ≡ new) × IsPlanted (memory_of before.slab) (memory_of later.slab) top t w) × (later.waiting ≡ Some new)
-        × IsRestAsBefore before later
+    × IsRestAsBefore before later
 
 -- what waited is freed
 abbrev pub IsUnbrought : (before later : Shown) → Type 0
