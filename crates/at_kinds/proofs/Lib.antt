@@ -6,3 +6,4 @@ pub mod Holding
 pub mod KindsKnown
 pub mod KindsOfForms
 pub mod KindsOfCalls
+pub mod TableJudged

@@ -13,6 +13,7 @@
 pub mod accessors;
 mod code;
 pub mod components;
+pub mod laws;
 pub mod signatures;
 pub mod typing;
 
