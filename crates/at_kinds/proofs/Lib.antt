@@ -7,3 +7,4 @@ pub mod KindsKnown
 pub mod KindsOfForms
 pub mod KindsOfCalls
 pub mod TableJudged
+pub mod JudgedTable

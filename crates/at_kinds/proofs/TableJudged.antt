@@ -186,7 +186,7 @@ token_given at part k e [] m f = let same : kinded at (known k) (body.TokenOf e 
 token_given at part k e (x ∷ ks) m f = absurd cc
 
 -- what was made of a part came of one that was found
-made : {A B : Type 0} (f : A → Judgement B) (j : Judgement A) (b : B) → and_then f j ≡ Is b → (a : A) × (j ≡ Is a) × (f a ≡ Is b)
+pub made : {A B : Type 0} (f : A → Judgement B) (j : Judgement A) (b : B) → and_then f j ≡ Is b → (a : A) × (j ≡ Is a) × (f a ≡ Is b)
 made f (Is a) b e = (a, refl, e)
 made f (Wrong c at) b e = absurd cc
 
