@@ -1,5 +1,5 @@
 -- What is judged is given by the table.
-use Rattle.std.proofs.Common.{◌≡◌, ℕ, zero, suc, Bool, true, false, ◌&&◌, not, List, [], ◌∷◌, length, Option, Some, None, refl, sym, ap, ◌∙◌, subst, arith, true≢false}
+use Rattle.std.proofs.Common.{◌≡◌, ℕ, suc, Bool, true, false, List, [], ◌∷◌, length, Option, Some, None, refl, sym, ap, ◌∙◌, subst, arith, true≢false}
 use Rattle.std.specs.Prelude.{if◌then◌else◌, nat_eq, codes, slice_get}
 use Rattle.std.specs.Str.{bytes_eq}
 use Rattle.std.proofs.lemmas.Bool.Decides.{nat_tests}
@@ -11,8 +11,8 @@ use Rattle.at_jrag.specs.Syntax.{Word}
 use Rattle.at_jrag.specs.Syntax as written
 use Rattle.at_kinds.specs.Signatures.{Declared, declared_named}
 use Rattle.at_kinds.specs.Accessors.{accessor_named, listed}
-use Rattle.at_kinds.specs.Kinds.{known, of_written, is_int, is_truth, is_text, is_node, is_null, fits, only_if, upper, wider_class, wider, are_ints, are_truths, are_alike}
-use Rattle.at_kinds.specs.Judging.{Kinded, Judgement, Judged, Is, Wrong, and_then, of_kind, kind_if, Scope, bound_to, index_eq, within, index_named, named_by, named, this_node, negation, opposite, computed, ordered, text_joined, added, joined, of_wider, chosen, beside, class_beside, cast, tested, where_fit, one_argument, equal, alone, accessed, is_given_text, is_text_word, is_argument, misfit, bodies, bodies_or, fitted, demanded_of, demanded, asked_by, asked, asked_of, called, Listed, list_named, without, list_by, list_called, list_or, folded, placed, judged, judged_all, judged_list}
+use Rattle.at_kinds.specs.Kinds.{known, of_written, is_int, is_truth, is_text, is_node, is_null, fits, only_if, wider, are_ints, are_truths, are_alike}
+use Rattle.at_kinds.specs.Judging.{Kinded, Judged, Is, Wrong, and_then, of_kind, kind_if, Scope, bound_to, index_eq, within, index_named, named_by, named, this_node, negation, opposite, computed, text_joined, joined, of_wider, chosen, beside, class_beside, cast, tested, where_fit, one_argument, equal, alone, accessed, is_given_text, is_text_word, is_argument, misfit, bodies_or, fitted, demanded_of, demanded, asked_by, asked_of, called, Listed, list_named, without, list_by, list_called, list_or, folded, placed, judged, judged_all, judged_list}
 use Rattle.at_kinds.specs.KindTable.{IsNode, AreAlike, Wider, Fits, Computes, Orders, Compares, Decides, Gives, Answers, AreArguments, IsGiven, IsList}
 use Rattle.at_kinds.specs.KindTable as table
 use Rattle.at_kinds.specs.declared.code.RuleCode.TheVariants as code

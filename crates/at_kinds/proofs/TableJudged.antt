@@ -1,6 +1,6 @@
 -- What the table gives is judged so.
-use Rattle.std.proofs.Common.{◌≡◌, ℕ, zero, suc, Bool, true, false, ◌&&◌, not, List, [], ◌∷◌, length, Option, Some, None, refl, sym, ap, ◌∙◌, subst, arith, true≢false}
-use Rattle.std.specs.Prelude.{if◌then◌else◌, nat_eq, codes, slice_get}
+use Rattle.std.proofs.Common.{◌≡◌, ℕ, suc, Bool, true, false, List, [], ◌∷◌, length, Some, None, refl, sym, ap, ◌∙◌, subst, arith, true≢false}
+use Rattle.std.specs.Prelude.{nat_eq, codes, slice_get}
 use Rattle.std.specs.Str.{bytes_eq}
 use Rattle.std.proofs.lemmas.Bool.Decides.{nat_tests}
 use Rattle.at_model.specs.Classes.{Classes, is_sub, class_of_name}
@@ -10,12 +10,11 @@ use Rattle.at_text.specs.declared.place.Place.{Place}
 use Rattle.at_jrag.specs.Syntax.{Word}
 use Rattle.at_jrag.specs.Syntax as written
 use Rattle.at_kinds.specs.Signatures.{Declared, declared_named}
-use Rattle.at_kinds.specs.Accessors.{accessor_named, listed}
+use Rattle.at_kinds.specs.Accessors.{accessor_named}
 use Rattle.at_kinds.specs.Kinds.{known, of_written, is_int, is_truth, is_text, is_node, fits, wider, are_ints, are_truths, are_alike}
-use Rattle.at_kinds.specs.Judging.{Kinded, Judgement, Judged, Is, Wrong, and_then, of_kind, kind_if, Scope, bound_to, index_eq, within, named_by, named, this_node, negation, opposite, computed, ordered, text_joined, added, joined, of_wider, chosen, beside, class_beside, cast, tested, only, where_fit, one_argument, equal, alone, accessed, is_given_text, is_text_word, is_argument, misfit, bodies, bodies_or, fitted, demanded_of, demanded, asked_by, asked, asked_of, called, Listed, list_named, without, list_by, list_called, list_or, folded, placed, judged, judged_all, judged_list}
+use Rattle.at_kinds.specs.Judging.{Kinded, Judgement, Judged, Is, Wrong, and_then, of_kind, kind_if, Scope, bound_to, index_eq, within, named_by, named, this_node, negation, opposite, text_joined, added, joined, of_wider, chosen, beside, class_beside, cast, tested, one_argument, accessed, is_given_text, is_argument, misfit, bodies, bodies_or, fitted, demanded_of, demanded, asked_by, asked, asked_of, called, Listed, list_named, list_by, list_called, list_or, folded, placed, judged, judged_all, judged_list}
 use Rattle.at_kinds.specs.KindTable.{IsNode, AreAlike, Wider, Fits, Computes, Orders, Compares, Decides, Gives, Answers, AreArguments, IsGiven, IsList}
 use Rattle.at_kinds.specs.KindTable as table
-use Rattle.at_kinds.specs.declared.code.RuleCode.TheVariants as code
 use Rattle.at_rules.specs.declared.body.Kind.{Kind}
 use Rattle.at_rules.specs.declared.body.Kind.TheVariants as kind
 use Rattle.at_kinds.specs.declared.signatures.WrittenKind.{WrittenKind}
@@ -23,7 +22,7 @@ use Rattle.at_kinds.specs.declared.signatures.WrittenKind.TheVariants.{Known, St
 use Rattle.at_kinds.specs.declared.accessors.Accessor.{Accessor}
 use Rattle.at_kinds.specs.declared.accessors.Accessor.TheVariants as accessor
 use Rattle.at_kinds.specs.declared.typing.kinds.ExprKind.{ExprKind}
-use Rattle.at_kinds.specs.declared.typing.kinds.ExprKind.TheVariants.{Int, Bool as Truth, Text, Class, Strange, Null}
+use Rattle.at_kinds.specs.declared.typing.kinds.ExprKind.TheVariants.{Int, Bool as Truth, Text, Class, Null}
 
 -- tests ----------------------------------------------------------------------------------------------------------------
 

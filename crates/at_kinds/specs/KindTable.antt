@@ -1,6 +1,6 @@
 -- The table of kinds: which kind an expression has, by the kinds of its parts. There are no places here, no bodies, and no order in
 -- which faults are found; `Judging` has these.
-use Rattle.std.specs.Prelude.{◌≡◌, ℕ, ℤ, Bool, true, false, List, [], ◌∷◌, codes, Option, Some, None, slice_get}
+use Rattle.std.specs.Prelude.{◌≡◌, ℕ, ℤ, Bool, true, false, List, [], ◌∷◌, codes, Some, None, slice_get}
 use Rattle.std.specs.Str.{bytes_eq}
 use Rattle.at_model.specs.Classes.{Classes, class_of_name, is_sub}
 use Rattle.at_text.specs.declared.place.Place.{Place}
