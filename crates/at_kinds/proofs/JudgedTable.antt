@@ -145,16 +145,16 @@ module _ (s : Scope) (at between : Place) (a b : written.Expr) (j k m : Kinded) 
   of_texts Int f x is = subst (Gives s (written.Binary at written.Add between a b)) (kind_of at Text (body.JoinInt j.body k.body) m is) (table.joins_int (subst (Gives s a) x ga) (subst (Gives s b) f gb))
   of_texts r f x is = absurd cc
 
-  of_add : (t : Bool) → is_text j.kind ≡ t → (if t then text_joined at j.body k.kind k.body else computed at body.Plus j k) ≡ Is m → Whole written.Add
+  of_add : (t : Bool) → is_text j.kind ≡ t → (if t then text_joined at j.body k.kind k.body else computed at body.Add j k) ≡ Is m → Whole written.Add
   of_add true f is = of_texts k.kind refl (text_is j.kind f) is
-  of_add false f is = of_ints written.Add Int (λ x y. table.adds x y) (body.Arithmetic body.Plus j.body k.body) is
+  of_add false f is = of_ints written.Add Int (λ x y. table.adds x y) (body.Arithmetic body.Add j.body k.body) is
 
   of_operator : (o : written.Operator) → joined at o j k ≡ Is m → Whole o
   of_operator written.Add is = of_add (is_text j.kind) refl is
-  of_operator written.Subtract is = of_ints written.Subtract Int (λ x y. table.computes table.minus x y) (body.Arithmetic body.Minus j.body k.body) is
-  of_operator written.Multiply is = of_ints written.Multiply Int (λ x y. table.computes table.times x y) (body.Arithmetic body.Times j.body k.body) is
-  of_operator written.Divide is = of_ints written.Divide Int (λ x y. table.computes table.over x y) (body.Arithmetic body.Over j.body k.body) is
-  of_operator written.Remainder is = of_ints written.Remainder Int (λ x y. table.computes table.rest x y) (body.Arithmetic body.Modulo j.body k.body) is
+  of_operator written.Subtract is = of_ints written.Subtract Int (λ x y. table.computes table.subtract x y) (body.Arithmetic body.Subtract j.body k.body) is
+  of_operator written.Multiply is = of_ints written.Multiply Int (λ x y. table.computes table.multiply x y) (body.Arithmetic body.Multiply j.body k.body) is
+  of_operator written.Divide is = of_ints written.Divide Int (λ x y. table.computes table.divide x y) (body.Arithmetic body.Divide j.body k.body) is
+  of_operator written.Remainder is = of_ints written.Remainder Int (λ x y. table.computes table.remainder x y) (body.Arithmetic body.Remainder j.body k.body) is
   of_operator written.Below is = of_ints written.Below Truth (λ x y. table.orders table.below x y) (body.Compare body.Below j.body k.body) is
   of_operator written.AtMost is = of_ints written.AtMost Truth (λ x y. table.orders table.at_most x y) (body.Compare body.AtMost j.body k.body) is
   of_operator written.Above is = of_ints written.Above Truth (λ x y. table.orders table.above x y) (body.Compare body.Above j.body k.body) is
@@ -170,16 +170,16 @@ joined_text at a Text b m is = sym (body_of at Text (body.Join a b) m is)
 joined_text at a Int b m is = sym (body_of at Text (body.JoinInt a b) m is)
 joined_text at a r b m is = absurd cc
 
-added_given : (at : Place) (j k m : Kinded) (t : Bool) → (if t then text_joined at j.body k.kind k.body else computed at body.Plus j k) ≡ Is m → is_given_text m.body ≡ false
+added_given : (at : Place) (j k m : Kinded) (t : Bool) → (if t then text_joined at j.body k.kind k.body else computed at body.Add j k) ≡ Is m → is_given_text m.body ≡ false
 added_given at j k m true is = joined_text at j.body k.kind k.body m is
-added_given at j k m false is = sym (if_body (are_ints j.kind k.kind) at Int (body.Arithmetic body.Plus j.body k.body) m is)
+added_given at j k m false is = sym (if_body (are_ints j.kind k.kind) at Int (body.Arithmetic body.Add j.body k.body) m is)
 
 joined_given : (at : Place) (o : written.Operator) (j k m : Kinded) → joined at o j k ≡ Is m → is_given_text m.body ≡ false
 joined_given at written.Add j k m is = added_given at j k m (is_text j.kind) is
-joined_given at written.Subtract j k m is = sym (if_body (are_ints j.kind k.kind) at Int (body.Arithmetic body.Minus j.body k.body) m is)
-joined_given at written.Multiply j k m is = sym (if_body (are_ints j.kind k.kind) at Int (body.Arithmetic body.Times j.body k.body) m is)
-joined_given at written.Divide j k m is = sym (if_body (are_ints j.kind k.kind) at Int (body.Arithmetic body.Over j.body k.body) m is)
-joined_given at written.Remainder j k m is = sym (if_body (are_ints j.kind k.kind) at Int (body.Arithmetic body.Modulo j.body k.body) m is)
+joined_given at written.Subtract j k m is = sym (if_body (are_ints j.kind k.kind) at Int (body.Arithmetic body.Subtract j.body k.body) m is)
+joined_given at written.Multiply j k m is = sym (if_body (are_ints j.kind k.kind) at Int (body.Arithmetic body.Multiply j.body k.body) m is)
+joined_given at written.Divide j k m is = sym (if_body (are_ints j.kind k.kind) at Int (body.Arithmetic body.Divide j.body k.body) m is)
+joined_given at written.Remainder j k m is = sym (if_body (are_ints j.kind k.kind) at Int (body.Arithmetic body.Remainder j.body k.body) m is)
 joined_given at written.Below j k m is = sym (if_body (are_ints j.kind k.kind) at Truth (body.Compare body.Below j.body k.body) m is)
 joined_given at written.AtMost j k m is = sym (if_body (are_ints j.kind k.kind) at Truth (body.Compare body.AtMost j.body k.body) m is)
 joined_given at written.Above j k m is = sym (if_body (are_ints j.kind k.kind) at Truth (body.Compare body.Above j.body k.body) m is)

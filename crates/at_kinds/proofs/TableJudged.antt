@@ -97,10 +97,10 @@ both_truths : (j k : ExprKind) → j ≡ Truth → k ≡ Truth → are_truths j 
 both_truths j k e f = and_true (is_truth j) (is_truth k) (ap is_truth e) (ap is_truth f)
 
 computes_int : {o : written.Operator} → Computes o → (at : Place) (j k : Kinded) → are_ints j.kind k.kind ≡ true → Comes (joined at o j k) Int
-computes_int table.minus at j k e = comes_if (are_ints j.kind k.kind) at Int (body.Arithmetic body.Minus j.body k.body) e
-computes_int table.times at j k e = comes_if (are_ints j.kind k.kind) at Int (body.Arithmetic body.Times j.body k.body) e
-computes_int table.over at j k e = comes_if (are_ints j.kind k.kind) at Int (body.Arithmetic body.Over j.body k.body) e
-computes_int table.rest at j k e = comes_if (are_ints j.kind k.kind) at Int (body.Arithmetic body.Modulo j.body k.body) e
+computes_int table.subtract at j k e = comes_if (are_ints j.kind k.kind) at Int (body.Arithmetic body.Subtract j.body k.body) e
+computes_int table.multiply at j k e = comes_if (are_ints j.kind k.kind) at Int (body.Arithmetic body.Multiply j.body k.body) e
+computes_int table.divide at j k e = comes_if (are_ints j.kind k.kind) at Int (body.Arithmetic body.Divide j.body k.body) e
+computes_int table.remainder at j k e = comes_if (are_ints j.kind k.kind) at Int (body.Arithmetic body.Remainder j.body k.body) e
 
 orders_truth : {o : written.Operator} → Orders o → (at : Place) (j k : Kinded) → are_ints j.kind k.kind ≡ true → Comes (joined at o j k) Truth
 orders_truth table.below at j k e = comes_if (are_ints j.kind k.kind) at Truth (body.Compare body.Below j.body k.body) e
@@ -117,7 +117,7 @@ decides_truth table.and at j k e = comes_if (are_truths j.kind k.kind) at Truth 
 decides_truth table.or at j k e = comes_if (are_truths j.kind k.kind) at Truth (body.Or j.body k.body) e
 
 adds_int : (at : Place) (j k : Kinded) → j.kind ≡ Int → k.kind ≡ Int → Comes (added at j k) Int
-adds_int at j k e f = comes_by (rw (ap is_text e) refl) (comes_if (are_ints j.kind k.kind) at Int (body.Arithmetic body.Plus j.body k.body) (both_ints j.kind k.kind e f))
+adds_int at j k e f = comes_by (rw (ap is_text e) refl) (comes_if (are_ints j.kind k.kind) at Int (body.Arithmetic body.Add j.body k.body) (both_ints j.kind k.kind e f))
 
 joins_text : (at : Place) (j k : Kinded) → j.kind ≡ Text → k.kind ≡ Text → Comes (added at j k) Text
 joins_text at j k e f = comes_by (rw (ap is_text e) (ap (λ z. text_joined at j.body z k.body) f)) (comes at Text (body.Join j.body k.body))

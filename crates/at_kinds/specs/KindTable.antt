@@ -56,10 +56,10 @@ pub data Fits (classes : Classes) : ExprKind → WrittenKind → Type 0 where
 
 -- `-`, `*`, `/` and `%`
 pub data Computes : written.Operator → Type 0 where
-  minus : Computes written.Subtract
-  times : Computes written.Multiply
-  over : Computes written.Divide
-  rest : Computes written.Remainder
+  subtract : Computes written.Subtract
+  multiply : Computes written.Multiply
+  divide : Computes written.Divide
+  remainder : Computes written.Remainder
 
 -- `<`, `<=`, `>` and `>=`
 pub data Orders : written.Operator → Type 0 where
