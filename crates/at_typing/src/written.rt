@@ -34,10 +34,7 @@ pub fn signatures_of(
 }
 
 /// The words with which the values of attributes are declared, in order, or want of memory.
-fn results_of<'a>(
-    alloc: Global,
-    declared: &[Numbered<'a>],
-) -> Result<Vec<&'a KindWord>, AllocError>
+fn results_of<'a>(alloc: Global, declared: &[Numbered<'a>]) -> Result<Vec<&'a KindWord>, AllocError>
     ensures { IfOk result (λ words. words_view words.items ≡ results (map numbered_view declared.now)) }
 {
     let mut words = Vec::new(alloc);
@@ -182,9 +179,9 @@ fn position_named(words: &[&KindWord], name: &str) -> Option<usize>
     ensures { result ≡ position (λ w. names_class name.now (kind_word_view w.now).kind) words.now }
 {
     words.iter().position(
-        |word| -> bool ensures { result ≡ names_class name.entry.now (kind_word_view word.now.now).kind } {
-            names_class(&word.kind, name)
-        },
+        |word| -> bool
+            ensures { result ≡ names_class name.entry.now (kind_word_view word.now.now).kind }
+        { names_class(&word.kind, name) },
     )
 }
 

@@ -97,13 +97,7 @@ impl Scope<'_> {
     }
 
     /// `exists (NAME : LIST) { E }`
-    fn exists(
-        &self,
-        list: List,
-        part: usize,
-        body: Typed,
-        at: Place,
-    ) -> Result<Typed, TypeFault>
+    fn exists(&self, list: List, part: usize, body: Typed, at: Place) -> Result<Typed, TypeFault>
         ensures { Judges typed_view (folded_over_by at written.Exists (list_view list) part (typed_view body)) result }
     {
         let whole = Body::Exists(list.node, part, body.body);
@@ -111,13 +105,7 @@ impl Scope<'_> {
     }
 
     /// `first (NAME : LIST) { E }`
-    fn first(
-        &self,
-        list: List,
-        part: usize,
-        body: Typed,
-        at: Place,
-    ) -> Result<Typed, TypeFault>
+    fn first(&self, list: List, part: usize, body: Typed, at: Place) -> Result<Typed, TypeFault>
         ensures { Judges typed_view (folded_over_by at written.First (list_view list) part (typed_view body)) result }
     {
         let whole = Body::First(list.node, part, body.body);
@@ -125,13 +113,7 @@ impl Scope<'_> {
     }
 
     /// `sum (NAME : LIST) { E }`
-    fn sum(
-        &self,
-        list: List,
-        part: usize,
-        body: Typed,
-        at: Place,
-    ) -> Result<Typed, TypeFault>
+    fn sum(&self, list: List, part: usize, body: Typed, at: Place) -> Result<Typed, TypeFault>
         ensures { Judges typed_view (folded_over_by at written.Sum (list_view list) part (typed_view body)) result }
     {
         let whole = Body::Sum(list.node, part, body.body);
