@@ -110,6 +110,7 @@ bench: build
 	python3 bench/clients.py
 	python3 bench/editor.py
 	python3 bench/hub.py
+	python3 bench/evaluation.py
 	python3 bench/kept.py
 
 tools:
