@@ -101,8 +101,8 @@ tries: tools python
 	cd crates/tries && rt run < stdin -- data/calc.ast data/calc.jrag data/tree.txt
 	@python3 tools/examples.py docs/TRIES.md
 
-# Speed, by the proved program, as ratios in one run; what edits cost where everything is kept, which fails where a bound doesn't
-# hold; and what the program takes at its limits.
+# Speed, by the proved program, as ratios in one run; what the program takes at its limits; and what evaluations, loading, lines and
+# edits cost where everything is kept, which fails where a bound doesn't hold.
 bench: build
 	cd crates/tries && rt run < stdin -- data/calc.ast data/calc.jrag data/tree.txt > /dev/null
 	python3 bench/bench.py
@@ -110,8 +110,7 @@ bench: build
 	python3 bench/clients.py
 	python3 bench/editor.py
 	python3 bench/hub.py
-	python3 bench/evaluation.py
-	python3 bench/kept.py
+	@status=0; for it in evaluation kept; do python3 bench/$$it.py || status=1; done; exit $$status
 
 tools:
 	@command -v rt > /dev/null || { echo "attrd is written in Rattle: install the Rattle kit, so that the command 'rt' is on the PATH."; exit 1; }
