@@ -1,8 +1,8 @@
 -- What a cell that is given stands for.
-use Rattle.std.proofs.Common.{◌≡◌, ◌∙◌, map, ap, sym, None}
+use Rattle.std.proofs.Common.{◌≡◌, ◌∙◌, map, ap, sym}
 use Rattle.std.specs.Prelude.{Vec}
 use Rattle.std.specs.Global.{Global}
-use Rattle.at_model.specs.Trees.{Tree, Cell, One, Many, Empty, Holds, to_trees}
+use Rattle.at_model.specs.Trees.{Tree, Cell, One, Many, Holds, to_trees}
 use Rattle.at_tree.specs.Token.{token_view}
 use Rattle.at_tree.specs.TreeView.{see_tree, see_cell, tree_view, cell_view}
 use Rattle.at_tree.specs.declared.token.TokVal.{TokVal}
@@ -16,9 +16,6 @@ made_one t = ap cell_view (sym (value.rolls-One t)) ∙ fold-roll-Cell Cell Tree
 
 pub made_many : (ts : Vec TreeValue Global) → cell_view (value.Many ts) ≡ Many (to_trees (map tree_view ts.items))
 made_many ts = ap cell_view (sym (value.rolls-Many ts)) ∙ fold-roll-Cell Cell Tree see_cell see_tree (Cell-F.Many ts)
-
-pub made_empty : cell_view (value.Maybe None) ≡ Empty
-made_empty = ap cell_view (sym (value.rolls-Maybe None)) ∙ fold-roll-Cell Cell Tree see_cell see_tree (Cell-F.Maybe None)
 
 pub made_token : (v : TokVal) → cell_view (value.Tok v) ≡ Holds (token_view v)
 made_token v = ap cell_view (sym (value.rolls-Tok v)) ∙ fold-roll-Cell Cell Tree see_cell see_tree (Cell-F.Tok v)

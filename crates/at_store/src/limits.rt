@@ -48,8 +48,8 @@ fn left_after_cell(cell: &Cell, room: usize, levels: usize) -> Option<usize>
     match cell {
         Cell::One(tree) => left_after(tree, room, levels),
         Cell::Many(trees) => left_after_list(trees, room, levels),
-        Cell::Maybe(Some(tree)) => left_after(tree, room, levels),
-        Cell::Maybe(None) => Some(room),
+        Cell::Filled(tree) => left_after(tree, room, levels),
+        Cell::Empty => Some(room),
         Cell::Tok(value) => left_after_token(value, room),
     }
 }
@@ -91,8 +91,8 @@ fn cell_has_long_token(cell: &Cell) -> bool
     match cell {
         Cell::One(tree) => has_long_token(tree),
         Cell::Many(trees) => list_has_long_token(trees),
-        Cell::Maybe(Some(tree)) => has_long_token(tree),
-        Cell::Maybe(None) => false,
+        Cell::Filled(tree) => has_long_token(tree),
+        Cell::Empty => false,
         Cell::Tok(value) => is_long(value),
     }
 }

@@ -168,10 +168,8 @@ fn plant_cell(
     match cell {
         Cell::One(tree) => plant_child(alloc, slab, node, part, Form::Plain, tree),
         Cell::Many(trees) => plant_list(alloc, slab, node, part, trees),
-        Cell::Maybe(held) => match held {
-            None => push_slot(slab, node, Slot::Kids(Form::Optional, Children::new(alloc))),
-            Some(tree) => plant_child(alloc, slab, node, part, Form::Optional, tree),
-        },
+        Cell::Empty => push_slot(slab, node, Slot::Kids(Form::Optional, Children::new(alloc))),
+        Cell::Filled(tree) => plant_child(alloc, slab, node, part, Form::Optional, tree),
         Cell::Tok(value) => push_slot(slab, node, Slot::Token(value)),
     }
 }

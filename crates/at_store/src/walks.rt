@@ -192,11 +192,11 @@ fn kids_cell(
         Form::List => Ok(Cell::Many(trees_at(alloc, slab, kids, levels)?)),
         Form::Plain => match kids.first() {
             Some(kid) => Ok(Cell::One(tree_at(alloc, slab, *kid, levels)?)),
-            None => Ok(Cell::Maybe(None)),
+            None => Ok(Cell::Empty),
         },
         Form::Optional => match kids.first() {
-            Some(kid) => Ok(Cell::Maybe(Some(tree_at(alloc, slab, *kid, levels)?))),
-            None => Ok(Cell::Maybe(None)),
+            Some(kid) => Ok(Cell::Filled(tree_at(alloc, slab, *kid, levels)?)),
+            None => Ok(Cell::Empty),
         },
     }
 }

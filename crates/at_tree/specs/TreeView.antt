@@ -1,15 +1,10 @@
 -- What a tree stands for.
-use Rattle.std.specs.Prelude.{Option, Some, None}
 use Rattle.at_model.specs.Trees.{Tree, Node, Cell, One, Many, Empty, Filled, Holds, to_cells, to_trees}
 use Rattle.at_tree.specs.Token.{token_view}
 use Rattle.at_tree.specs.declared.tree.Tree.{Tree as TreeValue}
 use Rattle.at_tree.specs.declared.tree.Cell.{Cell as CellValue}
 use Rattle.at_tree.specs.declared.tree.Cell.TheOpen.{Cell-F, Tree-F}
 use Rattle.at_tree.specs.declared.tree.Cell.TheFolds.{fold-Tree, fold-Cell}
-
-abbrev pub optional : Option Tree → Cell
-optional None = Empty
-optional (Some t) = Filled t
 
 -- one level, with the trees and cells inside already seen
 abbrev pub see_tree : Tree-F Cell Tree → Tree
@@ -18,7 +13,8 @@ see_tree t = Node t.class (to_cells t.cells.items)
 abbrev pub see_cell : Cell-F Cell Tree → Cell
 see_cell (Cell-F.One t) = One t
 see_cell (Cell-F.Many ts) = Many (to_trees ts.items)
-see_cell (Cell-F.Maybe t) = optional t
+see_cell Cell-F.Empty = Empty
+see_cell (Cell-F.Filled t) = Filled t
 see_cell (Cell-F.Tok v) = Holds (token_view v)
 
 abbrev pub tree_view : TreeValue → Tree

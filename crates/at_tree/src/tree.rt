@@ -24,12 +24,13 @@ pub struct Tree {
     pub cells: Vec<Cell>,
 }
 
-/// What a component holds: one tree, a list of trees, at most one tree, or the value of a token.
+/// What a component holds: one tree, a list of trees, none or one where it is optional, or the value of a token.
 #[cycle(tree)]
 #[derive(Drop)]
 pub enum Cell {
     One(Tree),
     Many(Vec<Tree>),
-    Maybe(Option<Tree>),
+    Empty,
+    Filled(Tree),
     Tok(TokVal),
 }

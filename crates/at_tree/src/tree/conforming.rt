@@ -48,8 +48,8 @@ fn cell_fits(classes: &ClassTable, cell: &Cell, shape: PartShape) -> bool
     match (cell, shape) {
         (Cell::One(tree), PartShape::One(class)) => fits(classes, tree, class),
         (Cell::Many(trees), PartShape::Many(class)) => all_fit(classes, trees, class),
-        (Cell::Maybe(None), PartShape::Maybe(_)) => true,
-        (Cell::Maybe(Some(tree)), PartShape::Maybe(class)) => fits(classes, tree, class),
+        (Cell::Empty, PartShape::Maybe(_)) => true,
+        (Cell::Filled(tree), PartShape::Maybe(class)) => fits(classes, tree, class),
         (Cell::Tok(value), PartShape::Tok(kind)) => is_of_kind(value, kind),
         _ => false,
     }

@@ -23,8 +23,8 @@ fn cell_nodes(cell: &Cell) -> usize
     match cell {
         Cell::One(tree) => nodes(tree),
         Cell::Many(trees) => list_nodes(trees),
-        Cell::Maybe(Some(tree)) => nodes(tree),
-        Cell::Maybe(None) => 0,
+        Cell::Filled(tree) => nodes(tree),
+        Cell::Empty => 0,
         Cell::Tok(_) => 0,
     }
 }
@@ -59,8 +59,8 @@ fn cell_depth(cell: &Cell) -> usize
     match cell {
         Cell::One(tree) => depth(tree),
         Cell::Many(trees) => list_depth(trees),
-        Cell::Maybe(Some(tree)) => depth(tree),
-        Cell::Maybe(None) => 0,
+        Cell::Filled(tree) => depth(tree),
+        Cell::Empty => 0,
         Cell::Tok(_) => 0,
     }
 }

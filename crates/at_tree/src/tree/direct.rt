@@ -1,10 +1,10 @@
 //! A tree in one pass over its text, with no term in between.
-ghost use Rattle.std.specs.Prelude.{◌≡◌, ◌++◌, IfOk, OnOk, map, option_map};
+ghost use Rattle.std.specs.Prelude.{◌≡◌, ◌++◌, IfOk, OnOk, map};
 ghost use Rattle.at_model.specs.Classes.{Many, Maybe};
 ghost use Rattle.at_model.specs.Trees.{to_cells, to_trees};
 ghost use Rattle.at_model.specs.Trees as tree;
 ghost use Rattle.at_class.specs.View.{part_view, shape_view};
-ghost use Rattle.at_tree.specs.TreeView.{tree_view, cell_view, optional};
+ghost use Rattle.at_tree.specs.TreeView.{tree_view, cell_view};
 ghost use Rattle.at_tree.specs.Separated.{separator};
 ghost use Rattle.at_tree.specs.ReadTrees.{IsReadAs};
 ghost use Rattle.at_tree.specs.Fronts.{IsTreeFront, IsCellFront, AreCellsFront};
@@ -99,14 +99,12 @@ fn take_cell(
     match shape {
         PartShape::One(class) => Ok(Cell::One(take_tree(alloc, classes, front, class, levels)?)),
         PartShape::Many(class) => Ok(Cell::Many(take_list(alloc, classes, front, class, levels)?)),
-        PartShape::Maybe(class) => Ok(Cell::Maybe(take_optional(
-            alloc, classes, front, class, levels,
-        )?)),
+        PartShape::Maybe(class) => take_optional(alloc, classes, front, class, levels),
         PartShape::Tok(kind) => Ok(Cell::Tok(take_value(alloc, front, kind)?)),
     }
 }
 
-/// Takes a tree, or the sign that there is none.
+/// Takes what an optional component holds: a tree, or the sign that there is none.
 #[cycle(take)]
 fn take_optional(
     alloc: Global,
@@ -114,14 +112,14 @@ fn take_optional(
     front: &mut Front<'_>,
     under: ClassId,
     levels: usize,
-) -> Result<Option<Tree>, Untaken>
-    ensures { IfOk result (λ held. IsCellFront classes.now front.old.rest.now front.new.rest.now (Maybe under) levels (optional (option_map tree_view held))) }
+) -> Result<Cell, Untaken>
+    ensures { IfOk result (λ held. IsCellFront classes.now front.old.rest.now front.new.rest.now (Maybe under) levels (cell_view held)) }
 {
     if takes(front, '-') {
-        return Ok(None);
+        return Ok(Cell::Empty);
     }
     let tree = take_tree(alloc, classes, front, under, levels)?;
-    Ok(Some(tree))
+    Ok(Cell::Filled(tree))
 }
 
 /// Takes the trees of a list between brackets.

@@ -160,13 +160,13 @@ fn shape_cell(
         (TermCell::One(term), PartShape::One(class)) => Ok(Cell::One(shape_tree(
             alloc, classes, term, class,
         )?)),
-        (TermCell::One(term), PartShape::Maybe(class)) => Ok(Cell::Maybe(Some(shape_tree(
+        (TermCell::One(term), PartShape::Maybe(class)) => Ok(Cell::Filled(shape_tree(
             alloc, classes, term, class,
-        )?))),
+        )?)),
         (TermCell::Many(terms), PartShape::Many(class)) => Ok(Cell::Many(shape_list(
             alloc, classes, terms, class,
         )?)),
-        (TermCell::Empty, PartShape::Maybe(_)) => Ok(Cell::Maybe(None)),
+        (TermCell::Empty, PartShape::Maybe(_)) => Ok(Cell::Empty),
         (TermCell::Holds(value), PartShape::Tok(kind)) => {
             if !is_of_kind(value, kind) {
                 return Err(ShapeFault::Fit);

@@ -92,8 +92,8 @@ fn append_cell(classes: &ClassTable, cell: &Cell, out: &mut Vec<u8>) -> Result<(
     match cell {
         Cell::One(tree) => append_tree(classes, tree, out),
         Cell::Many(trees) => append_list(classes, trees, out),
-        Cell::Maybe(Some(tree)) => append_tree(classes, tree, out),
-        Cell::Maybe(None) => Ok(out.push(b'-')?),
+        Cell::Filled(tree) => append_tree(classes, tree, out),
+        Cell::Empty => Ok(out.push(b'-')?),
         Cell::Tok(value) => append_value(value, out),
     }
 }

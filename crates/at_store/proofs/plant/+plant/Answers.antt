@@ -4,16 +4,15 @@ use Rattle.std.specs.Iterator.Adapters.{enumerate_source, enumerate_count}
 use Rattle.std.specs.Vec.Iter.{into_iter_items, into_iter_len}
 use Rattle.std.proofs.lemmas.List.{nil_from_length}
 use Rattle.at_model.specs.Trees.{Cell, Empty, Holds}
-use Rattle.at_tree.specs.declared.tree.Cell.TheVariants as value
 use Rattle.at_tree.specs.Token.{token_view}
-use Rattle.at_tree.proofs.Made.{made_filled}
+use Rattle.at_tree.proofs.Made.{made_empty, made_filled}
 use Rattle.at_tree.specs.TreeView.{cell_view, tree_view}
 use Rattle.at_store.specs.Memory.{Kids, List_of, Optional}
 use Rattle.at_store.specs.Planting.{GainsCell, GainsTree, StaysPlanted}
 use Rattle.at_tree.specs.declared.tree.Tree.{out-Tree}
 use Rattle.at_tree.proofs.TreeLoops.{tree_view_out}
 use Rattle.at_store.specs.View.{form_view, memory_of}
-use Rattle.at_store.proofs.Cells.{made_one, made_many, made_empty, made_token}
+use Rattle.at_store.proofs.Cells.{made_one, made_many, made_token}
 use Rattle.at_store.proofs.of_planting.Gains.{on_ok, on_err, at_err, stays_same, gains_childless, gains_child, gains_tree, tree_freed, HasFirstCells, HasFirstTrees, cells_begun, cells_on, cells_given_up, cells_whole, trees_begun, trees_on, trees_given_up, trees_whole}
 use Rattle.at_store.proofs.plant.+plant.Goals as goal
 
@@ -134,18 +133,18 @@ plant_list-returns-clause-planted t c =
     let none = ap (map tree_view) (nil_from_length (into_iter_items (enumerate_source c.loop-index.index-iterator)) (sym inv.len ∙ c.in-None.ensures.steps.0.0)) in
     trees_whole c.args.node c.args.part (map tree_view c.args.trees.items) (map tree_view (into_iter_items (enumerate_source c.loop-index.index-iterator))) (enumerate_count c.loop-index.index-iterator) (memory_of c.args.slab.now) (memory_of c.loop-index.slab) none inv.has
 
-pub plant_cell-returns-in-None-clause-planted : goal.plant_cell-returns-in-None-clause-planted
-plant_cell-returns-in-None-clause-planted t c =
-    on_ok c.push_slot.result (λ p. subst (λ (x : Cell). GainsCell c.args.node c.args.part x (memory_of c.args.slab.now) (memory_of c.push_slot.new.slab)) (sym (ap cell_view (c.in-Maybe.is ∙ ap value.Maybe c.in-None.is) ∙ made_empty))
+pub plant_cell-returns-in-Empty-clause-planted : goal.plant_cell-returns-in-Empty-clause-planted
+plant_cell-returns-in-Empty-clause-planted t c =
+    on_ok c.push_slot.result (λ p. subst (λ (x : Cell). GainsCell c.args.node c.args.part x (memory_of c.args.slab.now) (memory_of c.push_slot.new.slab)) (sym (ap cell_view c.in-Empty.is ∙ made_empty))
     (gains_childless c.args.node c.args.part Empty (Kids Optional c.new.result.items) (memory_of c.args.slab.now) (memory_of c.push_slot.new.slab) (ap (Kids Optional) c.new.ensures.items) refl (λ f. refl) p)) c.push_slot.ensures.pushed
 
-pub plant_cell-returns-in-None-clause-stays : goal.plant_cell-returns-in-None-clause-stays
-plant_cell-returns-in-None-clause-stays t c = on_err c.push_slot.result (stays_same c.args.node c.args.part (memory_of c.args.slab.now) (memory_of c.push_slot.new.slab)) c.push_slot.ensures.kept
+pub plant_cell-returns-in-Empty-clause-stays : goal.plant_cell-returns-in-Empty-clause-stays
+plant_cell-returns-in-Empty-clause-stays t c = on_err c.push_slot.result (stays_same c.args.node c.args.part (memory_of c.args.slab.now) (memory_of c.push_slot.new.slab)) c.push_slot.ensures.kept
 
-pub plant_cell-returns-in-Some-clause-planted : goal.plant_cell-returns-in-Some-clause-planted
-plant_cell-returns-in-Some-clause-planted t c =
-    on_ok c.plant_child-in-Some.result (subst (λ (x : Cell). GainsCell c.args.node c.args.part x (memory_of c.args.slab.now) (memory_of c.plant_child-in-Some.new.slab))
-    (sym (ap cell_view (c.in-Maybe.is ∙ ap value.Maybe c.in-Some.is) ∙ made_filled c.in-Some.tree))) c.plant_child-in-Some.ensures.planted
+pub plant_cell-returns-in-Filled-clause-planted : goal.plant_cell-returns-in-Filled-clause-planted
+plant_cell-returns-in-Filled-clause-planted t c =
+    on_ok c.plant_child-in-Filled.result (subst (λ (x : Cell). GainsCell c.args.node c.args.part x (memory_of c.args.slab.now) (memory_of c.plant_child-in-Filled.new.slab))
+    (sym (ap cell_view c.in-Filled.is ∙ made_filled c.in-Filled.tree))) c.plant_child-in-Filled.ensures.planted
 
-pub plant_cell-returns-in-Some-clause-stays : goal.plant_cell-returns-in-Some-clause-stays
-plant_cell-returns-in-Some-clause-stays t c = on_err c.plant_child-in-Some.result (stays_same c.args.node c.args.part (memory_of c.args.slab.now) (memory_of c.plant_child-in-Some.new.slab)) c.plant_child-in-Some.ensures.kept
+pub plant_cell-returns-in-Filled-clause-stays : goal.plant_cell-returns-in-Filled-clause-stays
+plant_cell-returns-in-Filled-clause-stays t c = on_err c.plant_child-in-Filled.result (stays_same c.args.node c.args.part (memory_of c.args.slab.now) (memory_of c.plant_child-in-Filled.new.slab)) c.plant_child-in-Filled.ensures.kept

@@ -1,9 +1,11 @@
 use Rattle.std.proofs.Common.{◌+◌, ◌∙◌, [], ◌∷◌, ◌++◌, ap, sym, arith, map, refl, subst}
 use Rattle.std.proofs.lemmas.List.{map-append}
 use Rattle.at_class.specs.View.{part_view}
-use Rattle.at_model.specs.Trees.{to_cells}
+use Rattle.at_model.specs.Classes.{Maybe}
+use Rattle.at_model.specs.Trees.{Cell, to_cells}
 use Rattle.at_tree.specs.TreeView.{tree_view, cell_view}
-use Rattle.at_tree.proofs.Made.{made_tree}
+use Rattle.at_tree.specs.Fronts.{IsCellFront}
+use Rattle.at_tree.proofs.Made.{made_tree, made_empty, made_filled}
 use Rattle.at_tree.proofs.FrontsLemmas.{tree_front, HasCells, HasTrees, has_none, one_cell_more, all_cells, empty_list, first_tree, one_tree_more, whole_list, shorter}
 use Rattle.at_tree.proofs.tree.direct.+take.Goals as goal
 
@@ -30,10 +32,13 @@ take_cells-returns t c =
     all_cells c.args.classes.now c.args.front.now.rest.now c.loop-i.front.rest.now c.take.new.front.rest.now c.args.parts.now c.args.levels c.loop-i.i (map cell_view c.loop-i.cells.items) c.loop-i-test.false c.loop-i.invariant c.in_ok-take.ensures
 
 pub take_optional-returns-then-takes : goal.take_optional-returns-then-takes
-take_optional-returns-then-takes t c = (c.takes.ensures.taken c.if-takes.true, refl, tt)
+take_optional-returns-then-takes t c =
+    subst (λ (x : Cell). IsCellFront c.args.classes.now c.args.front.now.rest.now c.takes.new.front.rest.now (Maybe c.args.under) c.args.levels x) (sym made_empty) (c.takes.ensures.taken c.if-takes.true, refl, tt)
 
 pub take_optional-returns : goal.take_optional-returns
-take_optional-returns t c = let (text, whole, within) = c.in_ok-tree.ensures in (sym (c.takes.ensures.stays c.if-takes.false) ∙ text, whole, within)
+take_optional-returns t c =
+    let (text, whole, within) = c.in_ok-tree.ensures in
+    subst (λ (x : Cell). IsCellFront c.args.classes.now c.args.front.now.rest.now c.take_tree.new.front.rest.now (Maybe c.args.under) c.args.levels x) (sym (made_filled c.in_ok-tree.tree)) (sym (c.takes.ensures.stays c.if-takes.false) ∙ text, whole, within)
 
 pub take_list-returns-then-takes : goal.take_list-returns-then-takes
 take_list-returns-then-takes t c =
