@@ -6,5 +6,3 @@ pub mod Holding
 pub mod KindsKnown
 pub mod KindsOfForms
 pub mod KindsOfCalls
-pub mod TableJudged
-pub mod JudgedTable

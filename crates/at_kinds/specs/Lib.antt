@@ -3,4 +3,3 @@ pub mod Accessors
 pub mod Kinds
 pub mod Judging
 pub mod Typed
-pub mod KindTable
