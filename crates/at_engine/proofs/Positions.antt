@@ -1,8 +1,15 @@
 -- Elements of lists at their positions.
-use Rattle.std.proofs.Common.{◌≡◌, ℕ, zero, suc, ◌+◌, ◌<◌, List, [], ◌∷◌, ◌++◌, length, Some, refl, sym, ap, ◌∙◌, subst, arith, length-append}
+use Rattle.std.proofs.Common.{◌≡◌, ℕ, zero, suc, ◌+◌, ◌<◌, List, [], ◌∷◌, ◌++◌, length, drop, get_or, Some, refl, sym, ap, ◌∙◌, subst, arith, length-append}
+use Rattle.std.proofs.Math.Seq.{drop-cons}
 use Rattle.std.proofs.lemmas.Option.{slice_get_within}
 use Rattle.std.specs.Prelude.{slice_get, slice_set, remove}
 use Rattle.std.specs.List.{AllByRecursion}
+
+-- what is left from the position on begins with its element
+pub drop_next : {A : Type 0} (xs : List A) (i : ℕ) (a : A) → i < length xs → a ≡ get_or xs i a → drop i xs ≡ a ∷ drop (i + 1) xs
+drop_next xs i a less is =
+    let next : suc i ≡ i + 1 = omega arith in
+    drop-cons xs i a less ∙ ap (λ y. y ∷ drop (suc i) xs) (sym is) ∙ ap (λ n. a ∷ drop n xs) next
 
 -- what stands before the element at the position, and behind it
 pub record IsAt {A : Type 0} (xs : List A) (i : ℕ) (a : A) : Type 0 where

@@ -1,6 +1,6 @@
 -- Values that arguments name.
-use Rattle.std.proofs.Common.{◌≡◌, ℕ, List, [], ◌∷◌, ◌++◌, map, length, Option, Some, None, option_map, sym, ap, ◌∙◌, subst}
-use Rattle.std.proofs.lemmas.List.{map-append}
+use Rattle.std.proofs.Common.{◌≡◌, ℕ, ◌+◌, ◌<◌, ◌≤◌, List, [], ◌∷◌, ◌++◌, map, length, drop, get_or, Option, Some, None, option_map, sym, ap, ◌∙◌, subst}
+use Rattle.std.proofs.lemmas.List.{drop_all, map-append}
 use Rattle.at_model.specs.Paths.{Node}
 use Rattle.at_model.specs.Run.{Value, Text}
 use Rattle.at_model.specs.Lines.{Argument}
@@ -13,6 +13,7 @@ use Rattle.at_protocol.specs.declared.line.Argument.{Argument as ArgumentValue}
 use Rattle.at_engine.specs.Answered.{AreValuesOf, IsValueOf}
 use Rattle.at_engine.specs.Collected.{Collected}
 use Rattle.at_engine.proofs.Collecting.{collected_none, collected_more, collected_stop, collected_all}
+use Rattle.at_engine.proofs.Positions.{drop_next}
 
 pub text_like : (path : ℕ → Option Node) (a b : List ℕ) → a ≡ b → ValueLike (Names path) (Text a) (Text b)
 text_like path a b e = subst (λ (x : List ℕ). ValueLike (Names path) (Text a) (Text x)) e (text a)
@@ -25,26 +26,22 @@ module _ (path : ℕ → Option Node) (named : Argument → Option (Value Node))
   pub so_first : (vs : List ValueCode) (rest : List ArgumentValue) → vs ≡ [] → all ≡ map named (arguments_view rest) → So vs rest
   so_first vs rest e f = subst (λ (xs : List (Option (Value Node))). Collected (ValueLike (Names path)) all (map value_view vs) xs) f (subst (λ (xs : List ValueCode). Collected (ValueLike (Names path)) all (map value_view xs) all) (sym e) (collected_none (ValueLike (Names path)) all))
 
-  module _ (vs : List ValueCode) (rest : List ArgumentValue) (so : So vs rest) where
-    pub so_all : length rest ≡ 0 → AreValuesOf path (each all) (Some vs)
-    so_all none = at_end rest none so
-      where
-        at_end : (xs : List ArgumentValue) → length xs ≡ 0 → So vs xs → AreValuesOf path (each all) (Some vs)
-        at_end [] e h = collected_all (ValueLike (Names path)) all (map value_view vs) h
-        at_end (x ∷ xs) e h = absurd cc
+  module _ (vs : List ValueCode) (arguments : List ArgumentValue) (i : ℕ) (so : So vs (drop i arguments)) where
+    pub so_all : length arguments ≤ i → AreValuesOf path (each all) (Some vs)
+    so_all past = collected_all (ValueLike (Names path)) all (map value_view vs) (subst (λ (xs : List ArgumentValue). So vs xs) (drop_all i arguments past) so)
 
-    module _ (a : ArgumentValue) (others : List ArgumentValue) (e : rest ≡ a ∷ others) where
-      so_now : So vs (a ∷ others)
-      so_now = subst (λ (xs : List ArgumentValue). So vs xs) e so
+    module _ (a : ArgumentValue) (less : i < length arguments) (is : a ≡ get_or arguments i a) where
+      so_now : So vs (a ∷ drop (i + 1) arguments)
+      so_now = subst (λ (xs : List ArgumentValue). So vs xs) (drop_next arguments i a less is) so
 
-      pub so_more : (o : Option ValueCode) (v : ValueCode) → o ≡ Some v → IsValueOf path (named (argument_view a)) o → (more : List ValueCode) → more ≡ vs ++ v ∷ [] → So more others
+      pub so_more : (o : Option ValueCode) (v : ValueCode) → o ≡ Some v → IsValueOf path (named (argument_view a)) o → (more : List ValueCode) → more ≡ vs ++ v ∷ [] → So more (drop (i + 1) arguments)
       so_more o v there h more same =
           let (w, is, like) : IsValueOf path (named (argument_view a)) (Some v) = subst (λ (x : Option ValueCode). IsValueOf path (named (argument_view a)) x) there h in
-          subst (λ (xs : List (Value ℕ)). Collected (ValueLike (Names path)) all xs (map named (arguments_view others))) (sym (ap (map value_view) same ∙ map-append value_view vs (v ∷ [])))
-          (collected_more (ValueLike (Names path)) all (map value_view vs) (value_view v) w (named (argument_view a)) (map named (arguments_view others)) is like so_now)
+          subst (λ (xs : List (Value ℕ)). Collected (ValueLike (Names path)) all xs (map named (arguments_view (drop (i + 1) arguments)))) (sym (ap (map value_view) same ∙ map-append value_view vs (v ∷ [])))
+          (collected_more (ValueLike (Names path)) all (map value_view vs) (value_view v) w (named (argument_view a)) (map named (arguments_view (drop (i + 1) arguments))) is like so_now)
 
       pub so_stop : (o : Option ValueCode) → o ≡ None → IsValueOf path (named (argument_view a)) o → each all ≡ None
-      so_stop o there h = collected_stop (ValueLike (Names path)) all (map value_view vs) (named (argument_view a)) (map named (arguments_view others)) (subst (λ (x : Option ValueCode). IsValueOf path (named (argument_view a)) x) there h) so_now
+      so_stop o there h = collected_stop (ValueLike (Names path)) all (map value_view vs) (named (argument_view a)) (map named (arguments_view (drop (i + 1) arguments))) (subst (λ (x : Option ValueCode). IsValueOf path (named (argument_view a)) x) there h) so_now
 
 -- what is said of an option of values that is, or isn't, there
 module _ {A : Type 0} (items : A → List ValueCode) (path : ℕ → Option Node) (named : Option (List (Value Node))) where

@@ -1,14 +1,16 @@
 -- Copies of marks: they stand for the marks that the session has under these names.
-use Rattle.std.proofs.Common.{◌≡◌, ℕ, Bool, true, false, cond, nat_eq, List, [], ◌∷◌, ◌++◌, length, Option, Some, None, is_some, option_map, option_and_then, refl, sym, ap, ◌∙◌, subst, append_assoc, append-nil}
+use Rattle.std.proofs.Common.{◌≡◌, ℕ, ◌+◌, ◌<◌, ◌≤◌, Bool, true, false, cond, nat_eq, List, [], ◌∷◌, ◌++◌, length, drop, get_or, Option, Some, None, is_some, option_map, option_and_then, refl, sym, ap, ◌∙◌, subst, append_assoc, append-nil}
 use Rattle.std.specs.List.{find, cons_option, flat_map}
 use Rattle.std.specs.Str.{bytes_eq}
 use Rattle.std.proofs.lemmas.Bool.{and_parts, eqb-true}
+use Rattle.std.proofs.lemmas.List.{drop_all}
 use Rattle.at_model.specs.Paths.{Node}
 use Rattle.at_model.specs.Machine.{Marked, is_mark, marks_in_argument, marks_named}
 use Rattle.at_model.proofs.of_texts.Shaped.{same_bytes}
 use Rattle.at_protocol.specs.LineView.{argument_view, arguments_view}
 use Rattle.at_protocol.specs.declared.line.Argument.{Argument}
 use Rattle.at_engine.specs.Marks.{Mark, AreThere, Copies, is_named, mark_at, marks_view, number_marked}
+use Rattle.at_engine.proofs.Positions.{drop_next}
 use Rattle.at_engine.proofs.of_marks.Marked.{path_there, pushed, there_pushed}
 
 module _ (look : ℕ → Option Node) (session : ℕ) (name : List ℕ) where
@@ -103,13 +105,15 @@ module _ (session : ℕ) (all : List (List ℕ)) (marks : List Mark) where
   pub copied_first : (names : List (List ℕ)) (start copies : List Mark) (rest : List Argument) → start ≡ [] → Copies session names marks start copies → all ≡ names ++ flat_map marks_in_argument (arguments_view rest) → CopiedUpTo session all marks copies rest
   copied_first names start copies rest none c split = record { names = names; copied = subst (λ (l : List Mark). Copies session names marks l copies) none c; split = split }
 
-  pub copied_more : (copies more : List Mark) (rest : List Argument) (a : Argument) (others : List Argument) → rest ≡ a ∷ others → CopiedUpTo session all marks copies rest → Copies session (marks_in_argument (argument_view a)) marks copies more → CopiedUpTo session all marks more others
-  copied_more copies more rest a others e c d = record {
-    names = c.names ++ marks_in_argument (argument_view a);
-    copied = copied_then session c.names (marks_in_argument (argument_view a)) marks [] copies more c.copied d;
-    split = c.split ∙ ap (λ (l : List Argument). c.names ++ flat_map marks_in_argument (arguments_view l)) e ∙ sym (append_assoc c.names (marks_in_argument (argument_view a)) (flat_map marks_in_argument (arguments_view others)));
-  }
+  module _ (copies : List Mark) (arguments : List Argument) (i : ℕ) (c : CopiedUpTo session all marks copies (drop i arguments)) where
+    pub copied_more : (more : List Mark) (a : Argument) → i < length arguments → a ≡ get_or arguments i a → Copies session (marks_in_argument (argument_view a)) marks copies more → CopiedUpTo session all marks more (drop (i + 1) arguments)
+    copied_more more a less is d = record {
+      names = c.names ++ marks_in_argument (argument_view a);
+      copied = copied_then session c.names (marks_in_argument (argument_view a)) marks [] copies more c.copied d;
+      split = c.split ∙ ap (λ (l : List Argument). c.names ++ flat_map marks_in_argument (arguments_view l)) (drop_next arguments i a less is) ∙ sym (append_assoc c.names (marks_in_argument (argument_view a)) (flat_map marks_in_argument (arguments_view (drop (i + 1) arguments))));
+    }
 
-  pub copied_all : (copies : List Mark) (rest : List Argument) → length rest ≡ 0 → CopiedUpTo session all marks copies rest → Copies session all marks [] copies
-  copied_all copies [] none c = subst (λ (ns : List (List ℕ)). Copies session ns marks [] copies) (sym (c.split ∙ append-nil c.names)) c.copied
-  copied_all copies (a ∷ rest) none c = absurd cc
+    pub copied_all : length arguments ≤ i → Copies session all marks [] copies
+    copied_all past =
+        let split : all ≡ c.names ++ [] = c.split ∙ ap (λ (l : List Argument). c.names ++ flat_map marks_in_argument (arguments_view l)) (drop_all i arguments past) in
+        subst (λ (ns : List (List ℕ)). Copies session ns marks [] copies) (sym (split ∙ append-nil c.names)) c.copied

@@ -141,13 +141,11 @@ impl<K: Keeper> Engine<K> {
         ensures { IfOk result (λ o. AreValuesOf (path_shown self.now.store) (each (map (value_named (rules_of self.now).classes (state_by self.now (M.marks marks.now)) session) (arguments_view arguments.now))) (option_map (λ vs. vs.items) o)) }
     {
         let mut values = Arguments::new(self.alloc);
-        let mut rest = arguments;
-        while let Some((argument, others)) = rest.split_first() {
+        for argument in arguments {
             let Some(value) = self.value_named(marks, session, argument)? else {
                 return Ok(None);
             };
             values.push(value)?;
-            rest = others;
         }
         Ok(Some(values))
     }

@@ -111,10 +111,8 @@ impl Marks {
     {
         let mut copies = Noted::new(alloc);
         self.copy_in(alloc, session, place, &mut copies)?;
-        let mut rest = arguments;
-        while let Some((argument, others)) = rest.split_first() {
+        for argument in arguments {
             self.copy_in_argument(alloc, session, argument, &mut copies)?;
-            rest = others;
         }
         Ok(copies)
     }

@@ -1,4 +1,4 @@
-use Rattle.std.proofs.Common.{map, refl}
+use Rattle.std.proofs.Common.{arith, map, refl}
 use Rattle.at_model.specs.Machine.{value_named}
 use Rattle.at_protocol.specs.LineView.{arguments_view}
 use Rattle.at_store.specs.Shown.{path}
@@ -16,18 +16,18 @@ pub loop-argument-preserved : goal.loop-argument-preserved
 loop-argument-preserved g c =
     let e = c.args.self.now in
     let named = value_named (rules_of e).classes (state_by e (g.M.Lookup.marks c.args.marks.now)) c.args.session in
-    so_more (path e.store) named (map named (arguments_view c.args.arguments.now)) c.loop-argument.values.items c.loop-argument.rest.now c.loop-argument.invariant c.in-Some.argument.now c.in-Some.others.now c.in-Some.ensures.cases.0
-    c.in_ok-value.field-0 c.in-Some-2.value c.in-Some-2.is c.in_ok-value.ensures c.push.new.self.items c.in_ok-push.ensures.items
+    so_more (path e.store) named (map named (arguments_view c.args.arguments.now)) c.loop-argument.values.items c.args.arguments.now c.loop-argument.argument-index c.loop-argument.invariant c.argument-item.result (omega arith) c.argument-item.is
+    c.in_ok-value.field-0 c.in-Some.value c.in-Some.is c.in_ok-value.ensures c.push.new.self.items c.in_ok-push.ensures.items
 
-pub returns-in_default-2 : goal.returns-in_default-2
-returns-in_default-2 g c =
+pub returns-in_default : goal.returns-in_default
+returns-in_default g c =
     let e = c.args.self.now in
     let named = value_named (rules_of e).classes (state_by e (g.M.Lookup.marks c.args.marks.now)) c.args.session in
-    so_stop (path e.store) named (map named (arguments_view c.args.arguments.now)) c.loop-argument.values.items c.loop-argument.rest.now c.loop-argument.invariant c.in-Some.argument.now c.in-Some.others.now c.in-Some.ensures.cases.0
-    c.in_ok-value.field-0 c.in_default-2.is c.in_ok-value.ensures
+    so_stop (path e.store) named (map named (arguments_view c.args.arguments.now)) c.loop-argument.values.items c.args.arguments.now c.loop-argument.argument-index c.loop-argument.invariant c.argument-item.result (omega arith) c.argument-item.is
+    c.in_ok-value.field-0 c.in_default.is c.in_ok-value.ensures
 
 pub returns : goal.returns
 returns g c =
     let e = c.args.self.now in
     let named = value_named (rules_of e).classes (state_by e (g.M.Lookup.marks c.args.marks.now)) c.args.session in
-    so_all (path e.store) named (map named (arguments_view c.args.arguments.now)) c.loop-argument.values.items c.loop-argument.rest.now c.loop-argument.invariant c.in_default.ensures.cases
+    so_all (path e.store) named (map named (arguments_view c.args.arguments.now)) c.loop-argument.values.items c.args.arguments.now c.loop-argument.argument-index c.loop-argument.invariant (omega arith)

@@ -1,4 +1,4 @@
-use Rattle.std.proofs.Common.{length, map}
+use Rattle.std.proofs.Common.{drop, map}
 use Rattle.at_model.specs.Alike.{ValueLike, Names}
 use Rattle.at_model.specs.Machine.{value_named}
 use Rattle.at_body.specs.Values.{value_view}
@@ -13,7 +13,4 @@ abbrev pub invariant-loop-argument : goal.invariant-loop-argument
 invariant-loop-argument g l =
     let e = l.fn.self in
     let named = value_named (rules_of e).classes (state_by e (g.M.Lookup.marks l.marks)) l.session in
-    Collected (ValueLike (Names (path e.store))) (map named (arguments_view l.fn.arguments)) (map value_view l.values.items) (map named (arguments_view l.rest))
-
-abbrev pub decreases-loop-argument : goal.decreases-loop-argument
-decreases-loop-argument g l = length l.rest
+    Collected (ValueLike (Names (path e.store))) (map named (arguments_view l.fn.arguments)) (map value_view l.values.items) (map named (arguments_view (drop l.argument-index l.arguments)))

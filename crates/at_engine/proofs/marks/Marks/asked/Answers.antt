@@ -1,4 +1,4 @@
-use Rattle.std.proofs.Common.{◌++◌, refl}
+use Rattle.std.proofs.Common.{◌++◌, arith, refl}
 use Rattle.std.specs.List.{flat_map}
 use Rattle.at_model.specs.Machine.{marks_in, marks_in_argument}
 use Rattle.at_protocol.specs.LineView.{arguments_view, place_view}
@@ -13,9 +13,9 @@ loop-argument-init c =
 
 pub loop-argument-preserved : goal.loop-argument-preserved
 loop-argument-preserved c =
-    copied_more c.args.session (marks_in (place_view c.args.place.now) ++ flat_map marks_in_argument (arguments_view c.args.arguments.now)) (listed c.args.self.now.items.entries) c.loop-argument.copies.items.items c.copy_in_argument.new.copies.items.items c.loop-argument.rest.now c.in-Some.argument.now c.in-Some.others.now
-    c.in-Some.ensures.cases.0 c.loop-argument.invariant c.in_ok-copy_in_argument.ensures
+    copied_more c.args.session (marks_in (place_view c.args.place.now) ++ flat_map marks_in_argument (arguments_view c.args.arguments.now)) (listed c.args.self.now.items.entries) c.loop-argument.copies.items.items c.args.arguments.now c.loop-argument.argument-index c.loop-argument.invariant
+    c.copy_in_argument.new.copies.items.items c.argument-item.result (omega arith) c.argument-item.is c.in_ok-copy_in_argument.ensures
 
 pub returns : goal.returns
 returns c =
-    copied_all c.args.session (marks_in (place_view c.args.place.now) ++ flat_map marks_in_argument (arguments_view c.args.arguments.now)) (listed c.args.self.now.items.entries) c.loop-argument.copies.items.items c.loop-argument.rest.now c.in_default.ensures.cases c.loop-argument.invariant
+    copied_all c.args.session (marks_in (place_view c.args.place.now) ++ flat_map marks_in_argument (arguments_view c.args.arguments.now)) (listed c.args.self.now.items.entries) c.loop-argument.copies.items.items c.args.arguments.now c.loop-argument.argument-index c.loop-argument.invariant (omega arith)
