@@ -157,7 +157,7 @@ def against_java(bounds, folder, trees, least):
     if java is None:
         print("no Java row: there is no javac")
         return
-    for what, levels, wanted in (("a token edit, 4 values anew", 3, 25), ("a token edit, 16 values anew", 15, 12)):
+    for what, levels, wanted in (("a token edit, 4 values anew", 3, 50), ("a token edit, 16 values anew", 15, 25)):
         ratios = []
         for tree, times in zip(trees, least):
             spent = java.spent(tree, levels)
@@ -184,7 +184,7 @@ def filling(bounds, program, folder):
         print("filling the keeper isn't counted: there is no valgrind")
         return
     each = (counts[1] - counts[0]) / tree.entries
-    print(f"filling the keeper: {each:,.0f} instructions an entry, against {BEFORE['fill']:,.0f} before: {bounds.at_most('filling', each / BEFORE['fill'], 1.4)}")
+    print(f"filling the keeper: {each:,.0f} instructions an entry, against {BEFORE['fill']:,.0f} before: {bounds.at_most('filling', each / BEFORE['fill'], 1.0)}")
 
 
 STROKES, NESTED, DECLARED = 20_000, 4, 60
