@@ -74,7 +74,8 @@ then classes (And b) p v = cond (truth_of v) (ev classes (body_view b.now) p) (G
 then classes (Or b) p v = cond (truth_of v) (Gives (Truth true)) (ev classes (body_view b.now) p)
 then classes (Choose a b) p v = cond (truth_of v) (ev classes (body_view a.now) p) (ev classes (body_view b.now) p)
 then classes (Arguments a bs) p v = ev_all classes (bodies_view bs.now) p >>= demand_of a v
-then classes (Argument call bs) p w = ev_all classes (bodies_view bs.now) p >>= λ ws. demand_of call.value.attribute (Ref call.value.node) (map value_view call.value.done.items ++ w ∷ ws)
+then classes (Argument call bs) p w =
+    ev_all classes (bodies_view bs.now) p >>= λ ws. demand_of call.value.attribute (Ref call.value.node) (map value_view call.value.done.items ++ w ∷ ws)
 then classes (Elements f part b) p v = elements_of part v >>= over classes f (body_view b.now) p
 then classes (Element f b n ns) p v = settled classes f (body_view b.now) (outside p) n ns.now v
 

@@ -63,7 +63,11 @@ turned : (v w : Value ℕ) → Decides (same_value w v) (v ≡ w)
 turned v w = (λ h. sym (values_agree w v h), λ e. (values_decided w v).1 (sym e))
 
 pub values_equiv : IsEquivalence same_value
-values_equiv = record { refl = value_itself; symm = λ v w. one_answer (same_value v w) (same_value w v) (values_decided v w) (turned v w); congr = λ v w x h. ap (λ u. same_value u x) (values_agree v w h) }
+values_equiv = record {
+  refl = value_itself;
+  symm = λ v w. one_answer (same_value v w) (same_value w v) (values_decided v w) (turned v w);
+  congr = λ v w x h. ap (λ u. same_value u x) (values_agree v w h);
+}
 
 numbers_fed : Alike nat_eq fed.usize
 numbers_fed = same_Alike fed.usize unsigned_Decides
@@ -72,7 +76,11 @@ pub values_fed : Alike same_value value_writes
 values_fed = same_Alike value_writes values_decided
 
 pub instances_equiv : IsEquivalence same_instance
-instances_equiv = and_equiv (on_equiv (λ i. i.node) nat_eq_equiv) (and_equiv (on_equiv (λ i. i.attribute) nat_eq_equiv) (on_equiv (λ i. i.arguments) (lists_equiv values_equiv)))
+instances_equiv =
+    and_equiv (on_equiv (λ i. i.node) nat_eq_equiv)
+    (and_equiv (on_equiv (λ i. i.attribute) nat_eq_equiv) (on_equiv (λ i. i.arguments) (lists_equiv values_equiv)))
 
 pub instances_fed : Alike same_instance instance_writes
-instances_fed = and-Alike (on_Alike (λ i. i.node) numbers_fed) (and-Alike (on_Alike (λ i. i.attribute) numbers_fed) (on_Alike (λ i. i.arguments) (items_Alike values_fed)))
+instances_fed =
+    and-Alike (on_Alike (λ i. i.node) numbers_fed)
+    (and-Alike (on_Alike (λ i. i.attribute) numbers_fed) (on_Alike (λ i. i.arguments) (items_Alike values_fed)))

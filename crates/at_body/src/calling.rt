@@ -33,7 +33,8 @@ impl<'a> Trial<'a> {
     ) -> Result<Now<'a>, AllocError>
         requires idle_store { IsIdle store.now }
         ensures same { (classes : Classes)
-            → IfOk result (λ now. GoesOn (contents store.now) classes self.old.reads (evaluated_for classes self.old (Arguments attribute arguments.entry) (body_view receiver.now)) now self.new) }
+            → IfOk result (λ now. GoesOn (contents store.now) classes self.old.reads
+            (evaluated_for classes self.old (Arguments attribute arguments.entry) (body_view receiver.now)) now self.new) }
         ensures less { IfOk result (λ now. weight now self.new < size (body_view receiver.now) + sizes (bodies_view arguments.now) + 3 + load self.old.todo) }
         ensures typed { (meant : Meant) (at : ClassAt ℕ) → IsOver meant at (contents store.now)
             → Enters meant at (record self.old { todo = Arguments attribute arguments.entry ∷ self.old.todo }) receiver.now

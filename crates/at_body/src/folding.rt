@@ -36,7 +36,8 @@ impl<'a> Trial<'a> {
     ) -> Result<Now<'a>, AllocError>
         requires idle_store { IsIdle store.now }
         ensures same { (classes : Classes)
-            → IfOk result (λ now. GoesOn (contents store.now) classes self.old.reads (folded classes self.old fold part (body_view body.now) node) now self.new) }
+            → IfOk result (λ now. GoesOn (contents store.now) classes self.old.reads
+            (folded classes self.old fold part (body_view body.now) node) now self.new) }
         ensures less { IfOk result (λ now. weight now self.new < tests (size (body_view body.now)) most + load self.old.todo + 1) }
         ensures typed { (meant : Meant) (at : ClassAt ℕ) → IsOver meant at (contents store.now) → Folds meant at self.old fold part body.now node
             → IfOk result (λ now. IsTypedNow meant at now self.new) }

@@ -6,16 +6,18 @@ ghost use Rattle.at_model.specs.Follow.{follow, Ends, Stops, Waits, Past, Has};
 
 /// An evaluation that has come past some demands and looks, and then waits and is told a value, has come past one more demand.
 pub fn passes()
-    ensures { (tree : Contents ℕ) (known : Known ℕ) (r s : Run ℕ (Value ℕ)) (js : List (Instance ℕ)) (ls seen end : List (Location ℕ)) (j : Instance ℕ) (k : Value ℕ
-        → Run ℕ (Value ℕ)) (v : Value ℕ) → Past tree (Has known) r js ls s → follow tree seen s ≡ (Waits j k, end) → Has known j v → (new : List (Location ℕ))
-        × (end ≡ seen ++ new) × Past tree (Has known) r (js ++ j ∷ []) (ls ++ new) (k v) }
+    ensures { (tree : Contents ℕ) (known : Known ℕ) (r s : Run ℕ (Value ℕ)) (js : List (Instance ℕ))
+        (ls seen end : List (Location ℕ)) (j : Instance ℕ) (k : Value ℕ → Run ℕ (Value ℕ)) (v : Value ℕ)
+        → Past tree (Has known) r js ls s → follow tree seen s ≡ (Waits j k, end) → Has known j v
+        → (new : List (Location ℕ)) × (end ≡ seen ++ new) × Past tree (Has known) r (js ++ j ∷ []) (ls ++ new) (k v) }
 {}
 
 /// An evaluation that has come past some demands and looks, and then waits, has come to that demand.
 pub fn comes()
-    ensures { (tree : Contents ℕ) (known : Known ℕ) (r s : Run ℕ (Value ℕ)) (js : List (Instance ℕ)) (ls seen end : List (Location ℕ)) (j : Instance ℕ) (k : Value ℕ
-        → Run ℕ (Value ℕ)) → Past tree (Has known) r js ls s → follow tree seen s ≡ (Waits j k, end) → (new : List (Location ℕ)) × (end ≡ seen ++ new)
-        × Past tree (Has known) r js (ls ++ new) (Demands j k) }
+    ensures { (tree : Contents ℕ) (known : Known ℕ) (r s : Run ℕ (Value ℕ)) (js : List (Instance ℕ))
+        (ls seen end : List (Location ℕ)) (j : Instance ℕ) (k : Value ℕ → Run ℕ (Value ℕ))
+        → Past tree (Has known) r js ls s → follow tree seen s ≡ (Waits j k, end)
+        → (new : List (Location ℕ)) × (end ≡ seen ++ new) × Past tree (Has known) r js (ls ++ new) (Demands j k) }
 {}
 
 /// An evaluation that has come past some demands and looks, and then ends, has come to that value.

@@ -102,7 +102,8 @@ impl<'a> Trial<'a> {
         requires formed { AreTyped rules.now }
         requires over { IsOver rules.now (class_shown store.now) (contents store.now) }
         requires typed { Begins rules.now (class_shown store.now) (contents store.now) self.old class attribute }
-        ensures same { IfOk result (λ now. GoesOn (contents store.now) rules.now.classes self.old.reads (by_rule rules.now self.old.this attribute (map value_view self.old.arguments.items) class) now self.new) }
+        ensures same { IfOk result (λ now. GoesOn (contents store.now) rules.now.classes self.old.reads
+            (by_rule rules.now self.old.this attribute (map value_view self.old.arguments.items) class) now self.new) }
         ensures typed { IfOk result (λ now. IsTypedNow rules.now (class_shown store.now) now self.new) }
     {
         if rules.is_inherited(attribute) {
@@ -142,7 +143,8 @@ impl<'a> Trial<'a> {
         requires inherited { is_inherited rules.now attribute ≡ true }
         requires typed { (class : ℕ) × Begins rules.now (class_shown store.now) (contents store.now) self.old class attribute }
         requires above { HasEquation rules.now (class_shown store.now) (contents store.now) (attribute_name rules.now attribute) height self.old.this }
-        ensures same { IfOk result (λ now. GoesOn (contents store.now) rules.now.classes self.old.reads (by_inherited rules.now nat_eq (attribute_name rules.now attribute) (map value_view self.old.arguments.items) height self.old.this) now self.new) }
+        ensures same { IfOk result (λ now. GoesOn (contents store.now) rules.now.classes self.old.reads
+            (by_inherited rules.now nat_eq (attribute_name rules.now attribute) (map value_view self.old.arguments.items) height self.old.this) now self.new) }
         ensures typed { IfOk result (λ now. IsTypedNow rules.now (class_shown store.now) now self.new) }
     {
         while height > 0 {

@@ -162,7 +162,8 @@ impl<'a> Trial<'a> {
         requires idle_store { IsIdle store.now }
         requires over { IsOver rules.now (class_shown store.now) (contents store.now) }
         requires typed { Enters rules.now (class_shown store.now) self.old body.now }
-        ensures same { IfOk result (λ now. GoesOn (contents store.now) rules.now.classes self.old.reads (begun rules.now.classes self.old (body_view body.now)) now self.new) }
+        ensures same { IfOk result (λ now. GoesOn (contents store.now) rules.now.classes self.old.reads
+            (begun rules.now.classes self.old (body_view body.now)) now self.new) }
         ensures less { IfOk result (λ now. weight now self.new < size (body_view body.now) + load self.old.todo) }
         ensures typed { IfOk result (λ now. IsTypedNow rules.now (class_shown store.now) now self.new) }
     {
@@ -186,7 +187,8 @@ impl<'a> Trial<'a> {
         requires idle_store { IsIdle store.now }
         requires over { IsOver rules.now (class_shown store.now) (contents store.now) }
         requires typed { Enters rules.now (class_shown store.now) self.old body.now }
-        ensures same { IfOk result (λ now. GoesOn (contents store.now) rules.now.classes self.old.reads (begun rules.now.classes self.old (body_view body.now)) now self.new) }
+        ensures same { IfOk result (λ now. GoesOn (contents store.now) rules.now.classes self.old.reads
+            (begun rules.now.classes self.old (body_view body.now)) now self.new) }
         ensures less { IfOk result (λ now. weight now self.new < size (body_view body.now) + load self.old.todo) }
         ensures typed { IfOk result (λ now. IsTypedNow rules.now (class_shown store.now) now self.new) }
     {
@@ -243,7 +245,8 @@ impl<'a> Trial<'a> {
         requires idle_store { IsIdle store.now }
         requires over { IsOver rules.now (class_shown store.now) (contents store.now) }
         requires typed { Enters rules.now (class_shown store.now) (record self.old { todo = Use unary ∷ self.old.todo }) operand.now }
-        ensures same { IfOk result (λ now. GoesOn (contents store.now) rules.now.classes self.old.reads (evaluated_for rules.now.classes self.old (Use unary) (body_view operand.now)) now self.new) }
+        ensures same { IfOk result (λ now. GoesOn (contents store.now) rules.now.classes self.old.reads
+            (evaluated_for rules.now.classes self.old (Use unary) (body_view operand.now)) now self.new) }
         ensures less { IfOk result (λ now. weight now self.new < size (body_view operand.now) + 2 + load self.old.todo) }
         ensures typed { IfOk result (λ now. IsTypedNow rules.now (class_shown store.now) now self.new) }
     {
@@ -265,7 +268,8 @@ impl<'a> Trial<'a> {
         requires typed { (meant : Meant) × (at : ClassAt ℕ) × IsOver meant at (contents store.now)
             × Enters meant at (record self.old { todo = Right binary right ∷ self.old.todo }) left.now }
         ensures same { (classes : Classes)
-            → IfOk result (λ now. GoesOn (contents store.now) classes self.old.reads (evaluated_for classes self.old (Right binary right.entry) (body_view left.now)) now self.new) }
+            → IfOk result (λ now. GoesOn (contents store.now) classes self.old.reads
+            (evaluated_for classes self.old (Right binary right.entry) (body_view left.now)) now self.new) }
         ensures less { IfOk result (λ now. weight now self.new < size (body_view left.now) + size (body_view right.now) + 3 + load self.old.todo) }
         ensures typed { (meant : Meant) (at : ClassAt ℕ) → IsOver meant at (contents store.now)
             → Enters meant at (record self.old { todo = Right binary right.entry ∷ self.old.todo }) left.now
@@ -289,7 +293,8 @@ impl<'a> Trial<'a> {
         requires typed { (meant : Meant) × (at : ClassAt ℕ) × IsOver meant at (contents store.now)
             × Uses meant at self.old (Right binary right) (value_view left) }
         ensures same { (classes : Classes)
-            → IfOk result (λ now. GoesOn (contents store.now) classes self.old.reads (used classes (Right binary right.entry) self.old (value_view left)) now self.new) }
+            → IfOk result (λ now. GoesOn (contents store.now) classes self.old.reads
+            (used classes (Right binary right.entry) self.old (value_view left)) now self.new) }
         ensures less { IfOk result (λ now. weight now self.new < size (body_view right.now) + 2 + load self.old.todo) }
         ensures typed { (meant : Meant) (at : ClassAt ℕ) → IsOver meant at (contents store.now)
             → Uses meant at self.old (Right binary right.entry) (value_view left) → IfOk result (λ now. IsTypedNow meant at now self.new) }
@@ -312,7 +317,8 @@ impl<'a> Trial<'a> {
         requires typed { (meant : Meant) × (at : ClassAt ℕ) × IsOver meant at (contents store.now)
             × Uses meant at self.old (Right binary right) (value_view left) }
         ensures same { (classes : Classes)
-            → IfOk result (λ now. GoesOn (contents store.now) classes self.old.reads (used classes (Right binary right.entry) self.old (value_view left)) now self.new) }
+            → IfOk result (λ now. GoesOn (contents store.now) classes self.old.reads
+            (used classes (Right binary right.entry) self.old (value_view left)) now self.new) }
         ensures less { IfOk result (λ now. weight now self.new < size (body_view right.now) + 2 + load self.old.todo) }
         ensures typed { (meant : Meant) (at : ClassAt ℕ) → IsOver meant at (contents store.now)
             → Uses meant at self.old (Right binary right.entry) (value_view left) → IfOk result (λ now. IsTypedNow meant at now self.new) }
@@ -422,7 +428,8 @@ impl<'a> Trial<'a> {
         requires idle_store { IsIdle store.now }
         requires over { IsOver rules.now (class_shown store.now) (contents store.now) }
         requires typed { Uses rules.now (class_shown store.now) self.old todo (value_view value) }
-        ensures same { IfOk result (λ now. GoesOn (contents store.now) rules.now.classes self.old.reads (used rules.now.classes todo.entry self.old (value_view value)) now self.new) }
+        ensures same { IfOk result (λ now. GoesOn (contents store.now) rules.now.classes self.old.reads
+            (used rules.now.classes todo.entry self.old (value_view value)) now self.new) }
         ensures less { IfOk result (λ now. weight now self.new < cost todo.entry + load self.old.todo) }
         ensures typed { IfOk result (λ now. IsTypedNow rules.now (class_shown store.now) now self.new) }
     {
@@ -484,12 +491,14 @@ impl<'a> Trial<'a> {
         others: &'a [Body],
     ) -> Result<Now<'a>, AllocError>
         ensures same { (classes : Classes)
-            → IfOk result (λ now. called classes self.old call.value.attribute (Ref call.value.node) (map value_view call.value.done.items ++ value_view value ∷ []) (bodies_view others.now)
+            → IfOk result (λ now. called classes self.old call.value.attribute (Ref call.value.node)
+            (map value_view call.value.done.items ++ value_view value ∷ []) (bodies_view others.now)
             ≡ rest classes now self.new) }
         ensures less { IfOk result (λ now. weight now self.new < sizes (bodies_view others.now) + 2 + load self.old.todo) }
         ensures reads { IfOk result (λ now. self.new.reads ≡ self.old.reads) }
         ensures typed { (meant : Meant) (at : ClassAt ℕ)
-            → Calls meant at self.old call.value.attribute call.value.node (map value_view call.value.done.items ++ value_view value ∷ []) (bodies_view others.now)
+            → Calls meant at self.old call.value.attribute call.value.node
+            (map value_view call.value.done.items ++ value_view value ∷ []) (bodies_view others.now)
             → IfOk result (λ now. IsTypedNow meant at now self.new) }
     {
         call.done.push(value)?;
@@ -503,7 +512,8 @@ impl<'a> Trial<'a> {
         others: &'a [Body],
     ) -> Result<Now<'a>, AllocError>
         ensures same { (classes : Classes)
-            → IfOk result (λ now. called classes self.old call.value.attribute (Ref call.value.node) (map value_view call.value.done.items) (bodies_view others.now)
+            → IfOk result (λ now. called classes self.old call.value.attribute (Ref call.value.node)
+            (map value_view call.value.done.items) (bodies_view others.now)
             ≡ rest classes now self.new) }
         ensures less { IfOk result (λ now. weight now self.new < sizes (bodies_view others.now) + 2 + load self.old.todo) }
         ensures reads { IfOk result (λ now. self.new.reads ≡ self.old.reads) }

@@ -26,8 +26,10 @@ pub fn what_is_told_is_taken()
 
 /// A well-typed instance has an equation: of its node's class or a class above that one, or of a node above its node.
 pub fn an_instance_has_an_equation()
-    ensures own { (rules : Rules) (s : Shown) → IsIdle s → AreWellFormed rules → IsTreeSound rules.classes (tree s) → (i : Instance ℕ) (w : IsWellTyped rules (class_shown s) AnyText i)
+    ensures own { (rules : Rules) (s : Shown) → IsIdle s → AreWellFormed rules → IsTreeSound rules.classes (tree s)
+        → (i : Instance ℕ) (w : IsWellTyped rules (class_shown s) AnyText i)
         → w.declaration.is_inherited ≡ false → (e : Expr) × (own_equation rules w.class i.attribute ≡ Some e) }
-    ensures above { (rules : Rules) (s : Shown) → IsIdle s → AreWellFormed rules → IsTreeSound rules.classes (tree s) → (i : Instance ℕ) (w : IsWellTyped rules (class_shown s) AnyText i)
+    ensures above { (rules : Rules) (s : Shown) → IsIdle s → AreWellFormed rules → IsTreeSound rules.classes (tree s)
+        → (i : Instance ℕ) (w : IsWellTyped rules (class_shown s) AnyText i)
         → w.declaration.is_inherited ≡ true → HasEquation rules (class_shown s) (contents s) w.declaration.name max_depth i.node }
 {}

@@ -36,7 +36,8 @@ impl<'a> Trial<'a> {
     ) -> Result<Now<'a>, AllocError>
         requires idle_store { IsIdle store.now }
         requires operand { IsOperand unary (value_view value.now) }
-        ensures same { IfOk result (λ now. GoesOn (contents store.now) rules.now.classes self.old.reads (onto rules.now.classes self.old (with_one rules.now.classes unary (value_view value.now))) now self.new) }
+        ensures same { IfOk result (λ now. GoesOn (contents store.now) rules.now.classes self.old.reads
+            (onto rules.now.classes self.old (with_one rules.now.classes unary (value_view value.now))) now self.new) }
         ensures less { IfOk result (λ now. weight now self.new ≡ load self.old.todo) }
         ensures told { IfOk result (λ now. ComesTo (contents store.now) (with_one rules.now.classes unary (value_view value.now)) now
             × OnlyReads self.old self.new) }
@@ -64,7 +65,8 @@ impl<'a> Trial<'a> {
         requires idle_store { IsIdle store.now }
         requires operands { AreOperands binary (value_view left) (value_view right.now) }
         ensures same { (classes : Classes)
-            → IfOk result (λ now. GoesOn (contents store.now) classes self.old.reads (onto classes self.old (with_two binary (value_view left) (value_view right.now))) now self.new) }
+            → IfOk result (λ now. GoesOn (contents store.now) classes self.old.reads
+            (onto classes self.old (with_two binary (value_view left) (value_view right.now))) now self.new) }
         ensures less { IfOk result (λ now. weight now self.new ≡ load self.old.todo) }
         ensures told { IfOk result (λ now. ComesTo (contents store.now) (with_two binary (value_view left) (value_view right.now)) now
             × OnlyReads self.old self.new) }
@@ -94,7 +96,8 @@ impl<'a> Trial<'a> {
         requires idle_store { IsIdle store.now }
         requires operands { AreOperands binary (value_view left) (Int right.now) }
         ensures same { (classes : Classes)
-            → IfOk result (λ now. GoesOn (contents store.now) classes self.old.reads (onto classes self.old (with_two binary (value_view left) (Int right.now))) now self.new) }
+            → IfOk result (λ now. GoesOn (contents store.now) classes self.old.reads
+            (onto classes self.old (with_two binary (value_view left) (Int right.now))) now self.new) }
         ensures less { IfOk result (λ now. weight now self.new ≡ load self.old.todo) }
         ensures told { IfOk result (λ now. ComesTo (contents store.now) (with_two binary (value_view left) (Int right.now)) now × OnlyReads self.old self.new) }
     {
@@ -119,7 +122,8 @@ impl<'a> Trial<'a> {
         node: Option<Node>,
     ) -> Result<Now<'a>, AllocError>
         requires idle_store { IsIdle store.now }
-        ensures same { IfOk result (λ now. GoesOn (contents store.now) rules.now.classes self.old.reads (onto rules.now.classes self.old (is_instance rules.now.classes class node)) now self.new) }
+        ensures same { IfOk result (λ now. GoesOn (contents store.now) rules.now.classes self.old.reads
+            (onto rules.now.classes self.old (is_instance rules.now.classes class node)) now self.new) }
         ensures less { IfOk result (λ now. weight now self.new ≡ load self.old.todo) }
         ensures told { IfOk result (λ now. ComesTo (contents store.now) (is_instance rules.now.classes class node) now × OnlyReads self.old self.new) }
     {
@@ -141,7 +145,8 @@ impl<'a> Trial<'a> {
         node: Option<Node>,
     ) -> Result<Now<'a>, AllocError>
         requires idle_store { IsIdle store.now }
-        ensures same { IfOk result (λ now. GoesOn (contents store.now) rules.now.classes self.old.reads (onto rules.now.classes self.old (cast_to rules.now.classes class node)) now self.new) }
+        ensures same { IfOk result (λ now. GoesOn (contents store.now) rules.now.classes self.old.reads
+            (onto rules.now.classes self.old (cast_to rules.now.classes class node)) now self.new) }
         ensures less { IfOk result (λ now. weight now self.new ≡ load self.old.todo) }
         ensures told { IfOk result (λ now. ComesTo (contents store.now) (cast_to rules.now.classes class node) now × OnlyReads self.old self.new) }
     {
@@ -260,7 +265,8 @@ impl<'a> Trial<'a> {
         requires node { IsRef (value_view node.now) }
         requires index { IsInt (value_view index.now) }
         ensures same { (classes : Classes)
-            → IfOk result (λ now. GoesOn (contents store.now) classes self.old.reads (onto classes self.old (element_of part (value_view node.now) (value_view index.now))) now self.new) }
+            → IfOk result (λ now. GoesOn (contents store.now) classes self.old.reads
+            (onto classes self.old (element_of part (value_view node.now) (value_view index.now))) now self.new) }
         ensures less { IfOk result (λ now. weight now self.new ≡ load self.old.todo) }
         ensures told { IfOk result (λ now. ComesTo (contents store.now) (element_of part (value_view node.now) (value_view index.now)) now
             × OnlyReads self.old self.new) }

@@ -37,7 +37,16 @@ pub record Info : Type 0 where
   pub next : Option ℕ
 
 abbrev pub info : Instance ℕ × Entry → Info
-info e = record { instance = e.0; value = value_view e.1.value; reads = map loc_view e.1.reads.items; links = e.1.links.items; stamp = e.1.stamp; users = e.1.users.items; going = is_going e.1.mark; next = next_of e.1.mark }
+info e = record {
+  instance = e.0;
+  value = value_view e.1.value;
+  reads = map loc_view e.1.reads.items;
+  links = e.1.links.items;
+  stamp = e.1.stamp;
+  users = e.1.users.items;
+  going = is_going e.1.mark;
+  next = next_of e.1.mark;
+}
 
 -- the entry in each slot
 abbrev pub Memory : Type 0

@@ -61,7 +61,8 @@ KeepsAll old new = (i : Instance ℕ) → new i ≡ old i
 
 -- `new` has one entry more: i with the value, standing for the reads and all that the uses stand for, and, where the keeper
 -- is exact, for no other location
-pub record Puts (exact : Bool) (old : Entries) (i : Instance ℕ) (v : Value ℕ) (reads : List (Location ℕ)) (uses : List (Instance ℕ)) (new : Entries) : Type 0 where
+pub record Puts (exact : Bool) (old : Entries) (i : Instance ℕ) (v : Value ℕ) (reads : List (Location ℕ)) (uses : List (Instance ℕ))
+    (new : Entries) : Type 0 where
   pub entry : Kept
   pub value : entry.value ≡ v
   pub covers : (l : Location ℕ) → covered old reads uses l ≡ true → entry.covers l ≡ true

@@ -50,7 +50,16 @@ AreTaken m uses = (u : ℕ) → Contains uses u → IsSome (m u)
 
 -- what an entry is when it comes
 abbrev pub fresh_entry : (instance : Instance ℕ) (value : Value ℕ) (reads : List (Location ℕ)) (links : List ℕ) (stamp : ℕ) → Info
-fresh_entry instance value reads links stamp = record { instance = instance; value = value; reads = reads; links = links; stamp = stamp; users = []; going = false; next = None }
+fresh_entry instance value reads links stamp = record {
+  instance = instance;
+  value = value;
+  reads = reads;
+  links = links;
+  stamp = stamp;
+  users = [];
+  going = false;
+  next = None;
+}
 
 -- the entry comes into the slot, which was free
 pub record Enters (old : Memory) (slot : ℕ) (e : Info) (new : Memory) : Type 0 where

@@ -19,7 +19,8 @@ covers m (suc far) s l = elim (m s) [ None ↦ false | Some e ↦ list_any (same
 
 -- what is kept of an instance, after so many calls of `put`
 abbrev pub kept_in : Table → (puts : ℕ) → Entries
-kept_in t puts i = option_map (λ e. record { value = value_view e.value; covers = covers (memory_of t) puts e.slot }) (lookup (same_instance i) t.entries.entries)
+kept_in t puts i =
+    option_map (λ e. record { value = value_view e.value; covers = covers (memory_of t) puts e.slot }) (lookup (same_instance i) t.entries.entries)
 
 -- the entries of the slots stand for the same locations as those of the instances
 abbrev pub AreOf : Table → List (Instance ℕ) → (slots : List ℕ) → Type 0

@@ -65,7 +65,8 @@ pub fn begin_at<F: Fn(Loc) -> bool>(
     touched: &F,
 ) -> Option<usize>
     requires { F.IsAlwaysCallable touched.now }
-    ensures { GoesOn (Answers (F.post touched.now)) (looks_at scope) (edges_among node readers.now) first (memory_of entries.old) result (memory_of entries.new) }
+    ensures { GoesOn (Answers (F.post touched.now)) (looks_at scope) (edges_among node readers.now) first
+        (memory_of entries.old) result (memory_of entries.new) }
 {
     let mut first = first;
     for reader in readers {

@@ -44,7 +44,8 @@ fn begin_nodes<F: Fn(Loc) -> bool>(
     touched: &F,
 ) -> Option<usize>
     requires { F.IsAlwaysCallable touched.now }
-    ensures { GoesOn (Answers (F.post touched.now)) (λ l. list_any (λ n. sees scope n l) nodes.now) (edges_at readers.now) first (memory_of entries.old) result (memory_of entries.new) }
+    ensures { GoesOn (Answers (F.post touched.now)) (λ l. list_any (λ n. sees scope n l) nodes.now) (edges_at readers.now) first
+        (memory_of entries.old) result (memory_of entries.new) }
 {
     let mut first = first;
     for node in nodes {
@@ -65,7 +66,8 @@ fn begin_children<F: Fn(Loc) -> bool>(
 ) -> Option<usize>
     requires callable { F.IsAlwaysCallable touched.now }
     requires noted { AreNoted (edges_at readers.now) index_read.now }
-    ensures goes_on { GoesOn (Answers (F.post touched.now)) (is_index_among children.now) (edges_at readers.now) first (memory_of entries.old) result (memory_of entries.new) }
+    ensures goes_on { GoesOn (Answers (F.post touched.now)) (is_index_among children.now) (edges_at readers.now) first
+        (memory_of entries.old) result (memory_of entries.new) }
 {
     let fewer = if index_read.len() < children.len() {
         index_read
@@ -86,7 +88,8 @@ fn begin_around<F: Fn(Loc) -> bool>(
 ) -> Option<usize>
     requires callable { F.IsAlwaysCallable touched.now }
     requires noted { AreNoted (edges_at readers.now) index_read.now }
-    ensures goes_on { GoesOn (Answers (F.post touched.now)) (names_around changing.now) (edges_at readers.now) first (memory_of entries.old) result (memory_of entries.new) }
+    ensures goes_on { GoesOn (Answers (F.post touched.now)) (names_around changing.now) (edges_at readers.now) first
+        (memory_of entries.old) result (memory_of entries.new) }
 {
     match changing {
         Some(changing) => {
@@ -106,7 +109,8 @@ fn begin_moved<F: Fn(Loc) -> bool>(
     touched: &F,
 ) -> Option<usize>
     requires { F.IsAlwaysCallable touched.now }
-    ensures { GoesOn (Answers (F.post touched.now)) (λ l. is_node moved (node_of l)) (edges_at readers.now) first (memory_of entries.old) result (memory_of entries.new) }
+    ensures { GoesOn (Answers (F.post touched.now)) (λ l. is_node moved (node_of l)) (edges_at readers.now) first
+        (memory_of entries.old) result (memory_of entries.new) }
 {
     match moved {
         Some(node) => begin_node(entries, first, readers, node, Scope::All, touched),
@@ -124,7 +128,8 @@ fn begin_named<F: Fn(Loc) -> bool>(
 ) -> Option<usize>
     requires callable { F.IsAlwaysCallable touched.now }
     requires noted { AreNoted (edges_at readers.now) index_read.now }
-    ensures goes_on { GoesOn (Answers (F.post touched.now)) (named places.now) (edges_at readers.now) None (memory_of entries.old) result (memory_of entries.new) }
+    ensures goes_on { GoesOn (Answers (F.post touched.now)) (named places.now) (edges_at readers.now) None
+        (memory_of entries.old) result (memory_of entries.new) }
 {
     let left = begin_nodes(entries, None, readers, places.leaving, Scope::All, touched);
     let moved = begin_moved(entries, left, readers, places.moved, touched);

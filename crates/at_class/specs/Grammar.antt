@@ -23,7 +23,13 @@ abbrev pub part_declaration_view : PartDecl → PartDeclaration
 part_declaration_view p = record { name = string_bytes p.name; kind = string_bytes p.kind; form = form_view p.shape; at = place_view p.at }
 
 abbrev pub declaration_view : ClassDecl → Declaration
-declaration_view d = record { name = string_bytes d.name; is_abstract = d.is_abstract; parent = option_map string_bytes d.parent; parts = map part_declaration_view d.parts.items; at = place_view d.at }
+declaration_view d = record {
+  name = string_bytes d.name;
+  is_abstract = d.is_abstract;
+  parent = option_map string_bytes d.parent;
+  parts = map part_declaration_view d.parts.items;
+  at = place_view d.at;
+}
 
 abbrev pub declarations_view : List ClassDecl → Declarations
 declarations_view ds = map declaration_view ds

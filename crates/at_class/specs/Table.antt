@@ -14,7 +14,12 @@ inherited_count es e = unwrap_or (option_map (λ (above : Entry). length above.p
 
 -- the class that an entry and its name stand for: its own components are those behind the inherited ones
 abbrev pub entry_view : {A : Type 0} → List Entry → String A → Entry → ModelClass
-entry_view es name e = record { name = string_bytes name; is_abstract = e.is_abstract; parent = e.parent; own = drop (inherited_count es e) (map part_view e.parts.items) }
+entry_view es name e = record {
+  name = string_bytes name;
+  is_abstract = e.is_abstract;
+  parent = e.parent;
+  own = drop (inherited_count es e) (map part_view e.parts.items);
+}
 
 abbrev pub table_view : {A : Type 0} → List (String A) → List Entry → Classes
 table_view names es = map (λ p. entry_view es p.0 p.1) (zip names es)

@@ -59,7 +59,8 @@ is_among (Some w) (Some c) = has_met w.met.items c
 
 -- the class of the trees in a component for which the class has no equation
 abbrev pub passed : Rules → List ℕ → (c part : ℕ) → Option ℕ
-passed rules name c part = if is_none (inherited_equation rules c part name) then option_and_then (λ p. class_in p.shape) (slice_get (parts rules.classes c) part) else None
+passed rules name c part =
+    if is_none (inherited_equation rules c part name) then option_and_then (λ p. class_in p.shape) (slice_get (parts rules.classes c) part) else None
 
 -- trees of class d are in one of the first components of c for which c has no equation
 abbrev pub is_passed : Rules → List ℕ → (count c d : ℕ) → Bool
@@ -109,4 +110,5 @@ is_met_concrete classes met c = has_met met c && is_concrete classes c
 
 -- the walk met those classes and those above them
 abbrev pub IsMarking : Classes → Walk → Walk → Type 0
-IsMarking classes exposed w = Walked (length classes) (is_met_concrete classes exposed.met.items) (leads_up classes) (λ c. true) (HasBelow classes exposed.met.items) w.met.items
+IsMarking classes exposed w =
+    Walked (length classes) (is_met_concrete classes exposed.met.items) (leads_up classes) (λ c. true) (HasBelow classes exposed.met.items) w.met.items

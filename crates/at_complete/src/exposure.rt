@@ -152,7 +152,8 @@ fn meet_within(
     walk: &mut Walk,
 ) -> Result<(), AllocError>
     requires { class < length rules.now.classes }
-    ensures { OnOk result (MeetsFrom (is_passed rules.now (attribute_name rules.now attribute) (length (parts rules.now.classes class)) class) walk.old walk.new) }
+    ensures { OnOk result
+        (MeetsFrom (is_passed rules.now (attribute_name rules.now attribute) (length (parts rules.now.classes class)) class) walk.old walk.new) }
 {
     let count = rules.classes().parts(class).len();
     for part in 0..count {
@@ -190,7 +191,8 @@ fn with_those_above(alloc: Global, classes: &ClassTable, exposed: &Walk) -> Resu
 
 /// Those that were met and aren't abstract.
 fn concrete_among(alloc: Global, classes: &ClassTable, exposed: &Walk) -> Result<Walk, AllocError>
-    ensures { IfOk result (λ w. Meets (is_met_concrete classes.now exposed.now.met.items) (replicate (length classes.now) false) w.met.items [] w.pending.items) }
+    ensures { IfOk result
+        (λ w. Meets (is_met_concrete classes.now exposed.now.met.items) (replicate (length classes.now) false) w.met.items [] w.pending.items) }
 {
     let count = classes.len();
     let mut walk = Walk::new(alloc, count)?;

@@ -170,7 +170,8 @@ NumberOf at n old rest =
 -- a reserved word that makes a cast of the `( NAME )` before it
 abbrev pub is_opening : List ℕ → Bool
 is_opening text =
-    bytes_eq text (codes "this") || bytes_eq text (codes "null") || bytes_eq text (codes "exists") || bytes_eq text (codes "first") || bytes_eq text (codes "sum")
+    bytes_eq text (codes "this") || bytes_eq text (codes "null")
+    || bytes_eq text (codes "exists") || bytes_eq text (codes "first") || bytes_eq text (codes "sum")
 
 -- what makes a cast of the `( NAME )` before it
 abbrev pub follows_cast : PlacedToken → Bool

@@ -94,7 +94,8 @@ primary_answer b None = Refuses
 primary_answer b (Some t) =
     on (is_literal t) (Takes (nat_lt 0 b) [] 1)
     (on (is_sign (codes "(") t) (Takes (nat_lt 1 b) (Expression (b - 1) ∷ Mark (codes ")") ∷ Deeper ∷ []) 0)
-    (on (begins_fold t) (Takes (nat_lt 1 b) (Mark (codes "(") ∷ Name ∷ Mark (codes ":") ∷ Primary (b - 1) ∷ Calls (b - 1) ∷ Mark (codes ")") ∷ FoldBody b ∷ []) 0)
+    (on (begins_fold t)
+    (Takes (nat_lt 1 b) (Mark (codes "(") ∷ Name ∷ Mark (codes ":") ∷ Primary (b - 1) ∷ Calls (b - 1) ∷ Mark (codes ")") ∷ FoldBody b ∷ []) 0)
     (on (is_name_token t) (Takes (nat_lt 0 b) (Named (is_get_child t) b ∷ []) 0) Refuses)))
 
 abbrev pub unary_answer : ℕ → Option PlacedToken → Answer Want
@@ -105,7 +106,8 @@ unary_answer b s =
 
 -- behind a `-`
 abbrev pub minus_answer : ℕ → Option PlacedToken → Answer Want
-minus_answer b s = on (next is_number s) (expects (is_number_within 2147483648) (Takes true (Calls b ∷ []) 1) s) (and_then (unary_answer (b - 1) s) (Deeper ∷ []))
+minus_answer b s =
+    on (next is_number s) (expects (is_number_within 2147483648) (Takes true (Calls b ∷ []) 1) s) (and_then (unary_answer (b - 1) s) (Deeper ∷ []))
 
 -- operands of this rank at most
 abbrev pub binary_answer : ℕ → ℕ → Option PlacedToken → Answer Want
@@ -118,7 +120,9 @@ expression_answer b s = and_then (binary_answer 6 b s) (Choice b ∷ [])
 
 -- behind a left operand of this depth
 abbrev pub link_answer : ℕ → ℕ → ℕ → PlacedToken → Answer Want
-link_answer rank b d t = cond (is_word_kind t.kind) (Takes (nat_lt d b) (Name ∷ Counts (1 + d) ∷ Links rank b ∷ []) 0) (Takes (nat_lt d b) (Binary rank (b - 1) ∷ Join d ∷ Links rank b ∷ []) 0)
+link_answer rank b d t =
+    cond (is_word_kind t.kind) (Takes (nat_lt d b) (Name ∷ Counts (1 + d) ∷ Links rank b ∷ []) 0)
+    (Takes (nat_lt d b) (Binary rank (b - 1) ∷ Join d ∷ Links rank b ∷ []) 0)
 
 abbrev pub links_answer : ℕ → ℕ → ℕ → Option PlacedToken → Answer Want
 links_answer rank b d None = Skips d
@@ -139,10 +143,13 @@ named_answer g b s = on (next (is_sign (codes "(")) s) (Takes true (FirstArgumen
 
 -- `int` behind the `(` of `getChild` begins what is left out
 abbrev pub first_argument_answer : Bool → ℕ → Option PlacedToken → Answer Want
-first_argument_answer g b s = on (next (is_sign (codes ")")) s) (Takes true [] 0) (on (g && next (is_word (codes "int")) s) LeavesOut (and_then (expression_answer b s) (MoreArguments b ∷ [])))
+first_argument_answer g b s =
+    on (next (is_sign (codes ")")) s) (Takes true [] 0)
+    (on (g && next (is_word (codes "int")) s) LeavesOut (and_then (expression_answer b s) (MoreArguments b ∷ [])))
 
 abbrev pub more_arguments_answer : ℕ → ℕ → Option PlacedToken → Answer Want
-more_arguments_answer b d s = on (next (is_sign (codes ")")) s) (Takes true [] d) (expects (is_sign (codes ",")) (Takes true (Expression b ∷ Deepest d ∷ MoreArguments b ∷ []) 0) s)
+more_arguments_answer b d s =
+    on (next (is_sign (codes ")")) s) (Takes true [] d) (expects (is_sign (codes ",")) (Takes true (Expression b ∷ Deepest d ∷ MoreArguments b ∷ []) 0) s)
 
 -- ---- a parenthesis in the place of a unary, which may be a cast's
 
@@ -172,11 +179,14 @@ enclosed_rest g b d s =
     tails_answer 6 b behind (λ y. or_else (choice_answer b y s) (Mark (codes ")") ∷ []) (λ z. Refuses)) x s))
 
 abbrev pub enclosed_answer : Bool → ℕ → ℕ → Option PlacedToken → Answer Want
-enclosed_answer g b d s = on (next (is_sign (codes ")")) s) (Takes true (Parenthesized b ∷ []) 2) (and_then (enclosed_rest g (b - 1) d s) (Deeper ∷ Calls b ∷ []))
+enclosed_answer g b d s =
+    on (next (is_sign (codes ")")) s) (Takes true (Parenthesized b ∷ []) 2) (and_then (enclosed_rest g (b - 1) d s) (Deeper ∷ Calls b ∷ []))
 
 abbrev pub opened_answer : ℕ → Option PlacedToken → Answer Want
 opened_answer b None = Refuses
-opened_answer b (Some t) = on (is_name_token t) (Takes (nat_lt 0 (b - 1)) (Enclosed (is_get_child t) b ∷ []) 0) (and_then (expression_answer (b - 1) (Some t)) (Mark (codes ")") ∷ Deeper ∷ Calls b ∷ []))
+opened_answer b (Some t) =
+    on (is_name_token t) (Takes (nat_lt 0 (b - 1)) (Enclosed (is_get_child t) b ∷ []) 0)
+    (and_then (expression_answer (b - 1) (Some t)) (Mark (codes ")") ∷ Deeper ∷ Calls b ∷ []))
 
 -- behind `( NAME )`: a cast's operand, or what may stand behind a parenthesis
 abbrev pub parenthesized_answer : ℕ → ℕ → Option PlacedToken → Answer Want

@@ -253,7 +253,8 @@ abbrev mutual
   eval classes same (Negate a) scope = eval classes same a scope >>= λ v. Gives (Int (int_wrapping_neg w32 (int_of v)))
   eval classes same (Not a) scope = eval classes same a scope >>= λ v. Gives (Truth (not (truth_of v)))
   eval classes same (Arithmetic o a b) scope = eval classes same a scope >>= λ v. eval classes same b scope >>= λ w. computed o (int_of v) (int_of w)
-  eval classes same (Compare o a b) scope = eval classes same a scope >>= λ v. eval classes same b scope >>= λ w. Gives (Truth (is_in_order o (int_of v) (int_of w)))
+  eval classes same (Compare o a b) scope =
+      eval classes same a scope >>= λ v. eval classes same b scope >>= λ w. Gives (Truth (is_in_order o (int_of v) (int_of w)))
   eval classes same (Join a b) scope = eval classes same a scope >>= λ v. eval classes same b scope >>= λ w. joined (text_of v ++ text_of w)
   eval classes same (JoinInt a b) scope = eval classes same a scope >>= λ v. eval classes same b scope >>= λ w. joined (text_of v ++ signed_decimal (int_of w))
   eval classes same (Same a b) scope = eval classes same a scope >>= λ v. eval classes same b scope >>= λ w. Gives (Truth (value_eq same v w))

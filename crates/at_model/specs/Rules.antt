@@ -75,7 +75,8 @@ inherited_in rules name part c = option_map (λ e. e.body) (find (λ e. nat_eq e
 -- (JastAdd2 reference manual, "Attributes"). In one class the one for the component comes before the one for every component:
 -- this order is the project's own.
 abbrev pub inherited_equation : Rules → (class part : ℕ) → List ℕ → Option Expr
-inherited_equation rules c part name = first_answer (λ b. option_or (inherited_in rules name (Some part) b) (inherited_in rules name None b)) (chain rules.classes c)
+inherited_equation rules c part name =
+    first_answer (λ b. option_or (inherited_in rules name (Some part) b) (inherited_in rules name None b)) (chain rules.classes c)
 
 -- the proper prefixes of the path to a node, the longest first, each with the step behind it
 abbrev pub prefixes : Node → List (Node × (ℕ × ℕ))
@@ -124,7 +125,8 @@ abbrev pub by_inherited : {N : Type 0} → Rules → (N → N → Bool) → List
 by_inherited rules same name vs zero n = Fails Null
 by_inherited rules same name vs (suc height) n = Looks (Up n) (elim [
   | None ↦ Fails Null
-  | Some p ↦ Looks (Is p.0) (λ c. by_equation rules same (record { this = p.0; names = vs; child = Some n }) (by_inherited rules same name vs height p.0) (inherited_equation rules c p.1 name))
+  | Some p ↦ Looks (Is p.0) (λ c. by_equation rules same (record { this = p.0; names = vs; child = Some n }) (by_inherited rules same name vs height p.0)
+      (inherited_equation rules c p.1 name))
 ])
 
 -- by the node's own equation; with complete rules there is one

@@ -41,7 +41,8 @@ abbrev mutual
   cells_shaped classes no_cells [] = Some tree.no_cells
   cells_shaped classes no_cells (p ∷ ps) = None
   cells_shaped classes (cell c cs) [] = None
-  cells_shaped classes (cell c cs) (p ∷ ps) = option_and_then (λ d. option_map (λ ds. tree.cell d ds) (cells_shaped classes cs ps)) (cell_shaped classes c p.shape)
+  cells_shaped classes (cell c cs) (p ∷ ps) =
+      option_and_then (λ d. option_map (λ ds. tree.cell d ds) (cells_shaped classes cs ps)) (cell_shaped classes c p.shape)
 
   pub cell_shaped : Classes → Cell → Shape → Option tree.Cell
   cell_shaped classes (One t) (class.One b) = option_map (λ u. tree.One u) (shaped classes t b)

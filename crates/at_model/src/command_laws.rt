@@ -22,7 +22,8 @@ ghost use Rattle.at_model.specs.Effects.{IsEditOf, is_about_mark, is_marking, is
 pub fn an_accepted_edit_is_that_of_its_command()
     ensures { (rules : Rules) (old : State) (l : Line) (new : State) (reply : Reply) (version : ℕ) → is_edit l.command ≡ true
         → Step rules old l new reply → reply.form ≡ Done version
-        → (e : Edit) × IsEditOf rules.classes old l.session l.command e × (edited rules.classes old.tree e ≡ Ok new.tree) × (new.marks ≡ carried_marks e old.marks)
+        → (e : Edit) × IsEditOf rules.classes old l.session l.command e × (edited rules.classes old.tree e ≡ Ok new.tree)
+        × (new.marks ≡ carried_marks e old.marks)
         × (new.posted ≡ map (carried_posted e) old.posted) }
 {}
 
@@ -32,13 +33,15 @@ pub fn other_commands_change_their_mark_alone()
     ensures marks { (rules : Rules) (old : State) (l : Line) (new : State) (reply : Reply) → is_edit l.command ≡ false
         → Step rules old l new reply
         → (session : ℕ) (name : List ℕ) → is_about_mark l session name ≡ false → marked new.marks session name ≡ marked old.marks session name }
-    ensures nothing { (rules : Rules) (old : State) (l : Line) (new : State) (reply : Reply) → is_edit l.command ≡ false → is_marking l.command ≡ false → is_post l.command ≡ false
+    ensures nothing { (rules : Rules) (old : State) (l : Line) (new : State) (reply : Reply) → is_edit l.command ≡ false
+        → is_marking l.command ≡ false → is_post l.command ≡ false
         → Step rules old l new reply → new ≡ old }
 {}
 
 /// A mark that is made leads to the node that its place names, and one that is forgotten is gone.
 pub fn marks_are_made_and_forgotten()
-    ensures made { (rules : Rules) (old : State) (l : Line) (new : State) (reply : Reply) (version : ℕ) (name : List ℕ) (place : Place) → l.command ≡ Mark name place
+    ensures made { (rules : Rules) (old : State) (l : Line) (new : State) (reply : Reply) (version : ℕ) (name : List ℕ) (place : Place)
+        → l.command ≡ Mark name place
         → Step rules old l new reply → reply.form ≡ Done version → marked new.marks l.session name ≡ node_named rules.classes old l.session place }
     ensures forgotten { (rules : Rules) (old : State) (l : Line) (new : State) (reply : Reply) (version : ℕ) (name : List ℕ) → l.command ≡ Unmark name
         → Step rules old l new reply → reply.form ≡ Done version → marked new.marks l.session name ≡ None }
@@ -47,7 +50,8 @@ pub fn marks_are_made_and_forgotten()
 /// A question that is posted gets the next number, sees the session's marks as they are, and is one more that is open; nothing else
 /// changes.
 pub fn a_posted_question_is_open()
-    ensures { (rules : Rules) (old : State) (l : Line) (new : State) (reply : Reply) (number : ℕ) (place : Place) (attribute : List ℕ) (arguments : List Argument)
+    ensures { (rules : Rules) (old : State) (l : Line) (new : State) (reply : Reply) (number : ℕ) (place : Place)
+        (attribute : List ℕ) (arguments : List Argument)
         → l.command ≡ Post place attribute arguments → Step rules old l new reply → reply.form ≡ Opened number
         → (number ≡ old.posts + 1) × (new ≡ record old {
           posts = old.posts + 1;
@@ -71,7 +75,8 @@ pub fn every_line_has_a_reply()
         → ((number : ℕ) → verdict rules old l ≡ Waits number → ⊥)
         → (reply : Reply) × Handles rules old bytes (after old (verdict rules old l)) (false, reply) }
     ensures waits { (rules : Rules) (old : State) (bytes : List ℕ) (l : Line) (number : ℕ) → Spells bytes l → verdict rules old l ≡ Waits number
-        → ((q : Posted) → numbered old number ≡ Some q → (i : Instance Node) → verdict rules (seen_by q old) (line_of q) ≡ Asks i → (a : Answer Node) × AnswersIn rules old.tree i a)
+        → ((q : Posted) → numbered old number ≡ Some q → (i : Instance Node) → verdict rules (seen_by q old) (line_of q) ≡ Asks i
+        → (a : Answer Node) × AnswersIn rules old.tree i a)
         → (reply : Reply) × Handles rules old bytes (without number old) (false, reply) }
     ensures turn { (rules : Rules) (old : State) (number : ℕ) (q : Posted) → numbered old number ≡ Some q
         → ((i : Instance Node) → verdict rules (seen_by q old) (line_of q) ≡ Asks i → (a : Answer Node) × AnswersIn rules old.tree i a)

@@ -12,9 +12,11 @@ ghost use Rattle.at_model.specs.Samples.{bare_tree, block, calc_classes, calc_tr
 pub fn what_a_set_touches()
     ensures child { list_all (touches (Set (init_of 0) (num (pos 7)))) (Slot (statement 0) 1 ∷ Is (init_of 0) ∷ Tok (init_of 0) 0 ∷ Up (init_of 0) ∷ [])
         ≡ true }
-    ensures beside { list_any (touches (Set (init_of 0) (num (pos 7)))) (Is (statement 0) ∷ Tok (statement 0) 0 ∷ Slot block 0 ∷ Idx (statement 0) ∷ Is (statement 1) ∷ [])
+    ensures beside { list_any (touches (Set (init_of 0) (num (pos 7))))
+        (Is (statement 0) ∷ Tok (statement 0) 0 ∷ Slot block 0 ∷ Idx (statement 0) ∷ Is (statement 1) ∷ [])
         ≡ false }
-    ensures element { list_all (touches (Set (statement 0) print_sum)) (Slot block 0 ∷ Is (statement 0) ∷ Slot (statement 0) 1 ∷ Idx (statement 0) ∷ Is (init_of 0) ∷ [])
+    ensures element { list_all (touches (Set (statement 0) print_sum))
+        (Slot block 0 ∷ Is (statement 0) ∷ Slot (statement 0) 1 ∷ Idx (statement 0) ∷ Is (init_of 0) ∷ [])
         ≡ true }
     ensures others { list_any (touches (Set (statement 0) print_sum)) (Idx (statement 1) ∷ Up (statement 1) ∷ Is (statement 1) ∷ Is block ∷ Slot root 0 ∷ [])
         ≡ false }
@@ -25,7 +27,8 @@ pub fn what_a_set_touches()
 /// Filling an optional touches its slot alone, emptying it also all that was in it.
 pub fn what_an_optional_touches()
     ensures filled { touches (Put (statement 0) 1 (num (pos 7))) (Slot (statement 0) 1) ≡ true }
-    ensures unfilled { list_any (touches (Put (statement 0) 1 (num (pos 7)))) (Is (statement 0) ∷ Tok (statement 0) 0 ∷ Slot block 0 ∷ Slot (statement 0) 0 ∷ Slot (statement 1) 1 ∷ [])
+    ensures unfilled { list_any (touches (Put (statement 0) 1 (num (pos 7))))
+        (Is (statement 0) ∷ Tok (statement 0) 0 ∷ Slot block 0 ∷ Slot (statement 0) 0 ∷ Slot (statement 1) 1 ∷ [])
         ≡ false }
     ensures emptied { list_all (touches (Drop (init_of 0))) (Slot (statement 0) 1 ∷ Is (init_of 0) ∷ Tok (init_of 0) 0 ∷ Up (init_of 0) ∷ []) ≡ true }
     ensures unemptied { list_any (touches (Drop (init_of 0))) (Is (statement 0) ∷ Tok (statement 0) 0 ∷ Idx (statement 0) ∷ Slot block 0 ∷ []) ≡ false }
@@ -35,9 +38,11 @@ pub fn what_an_optional_touches()
 /// does so too.
 pub fn what_a_list_touches()
     ensures inserted { list_all (touches (Insert block 0 1 print_sum)) (Slot block 0 ∷ Idx (statement 0) ∷ Idx (statement 1) ∷ []) ≡ true }
-    ensures beside { list_any (touches (Insert block 0 1 print_sum)) (Is (statement 0) ∷ Is (statement 1) ∷ Up (statement 1) ∷ Slot (statement 0) 1 ∷ Idx (init_of 0) ∷ Is block ∷ Idx block ∷ [])
+    ensures beside { list_any (touches (Insert block 0 1 print_sum))
+        (Is (statement 0) ∷ Is (statement 1) ∷ Up (statement 1) ∷ Slot (statement 0) 1 ∷ Idx (init_of 0) ∷ Is block ∷ Idx block ∷ [])
         ≡ false }
-    ensures dropped { list_all (touches (Drop (statement 1))) (Slot block 0 ∷ Idx (statement 0) ∷ Idx (statement 1) ∷ Is (statement 1) ∷ Tok (right_of 1) 0 ∷ [])
+    ensures dropped { list_all (touches (Drop (statement 1)))
+        (Slot block 0 ∷ Idx (statement 0) ∷ Idx (statement 1) ∷ Is (statement 1) ∷ Tok (right_of 1) 0 ∷ [])
         ≡ true }
     ensures left { list_any (touches (Drop (statement 1))) (Is (statement 0) ∷ Up (statement 0) ∷ Tok (init_of 0) 0 ∷ Idx (init_of 0) ∷ []) ≡ false }
 {}
@@ -45,7 +50,8 @@ pub fn what_a_list_touches()
 /// A token touches itself alone.
 pub fn what_a_token_touches()
     ensures itself { touches (Token (statement 0) 0 (Text (codes "y"))) (Tok (statement 0) 0) ≡ true }
-    ensures others { list_any (touches (Token (statement 0) 0 (Text (codes "y")))) (Tok (statement 0) 1 ∷ Tok (statement 1) 0 ∷ Tok (init_of 0) 0 ∷ Is (statement 0) ∷ Slot (statement 0) 0 ∷ Slot block 0 ∷ [])
+    ensures others { list_any (touches (Token (statement 0) 0 (Text (codes "y"))))
+        (Tok (statement 0) 1 ∷ Tok (statement 1) 0 ∷ Tok (init_of 0) 0 ∷ Is (statement 0) ∷ Slot (statement 0) 0 ∷ Slot block 0 ∷ [])
         ≡ false }
 {}
 

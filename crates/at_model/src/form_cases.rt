@@ -140,6 +140,7 @@ pub fn what_folds_read()
     ensures instance { looked calc_tree (statement 0) (InstanceOf This 4) ≡ Is (statement 0) ∷ [] }
     ensures cast { looked calc_tree (statement 0) (CastTo 1 This) ≡ Is (statement 0) ∷ [] }
     ensures fault { looked calc_tree block (Arithmetic Add one_by_zero (Count This 0)) ≡ [] }
-    ensures arguments { reads (content calc_tree) (λ i. None) (equations calc_with_argument (record { node = printed 1; attribute = 17; arguments = Ref (Some (left_of 1)) ∷ Ref None ∷ [] }))
+    ensures arguments { reads (content calc_tree) (λ i. None)
+        (equations calc_with_argument (record { node = printed 1; attribute = 17; arguments = Ref (Some (left_of 1)) ∷ Ref None ∷ [] }))
         ≡ Is (printed 1) ∷ Is (left_of 1) ∷ Slot (printed 1) 0 ∷ [] }
 {}

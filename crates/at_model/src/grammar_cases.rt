@@ -39,9 +39,11 @@ pub fn classes_that_are_named()
 pub fn circles_of_superclasses()
     ensures itself { first_fault (class_in 1 (codes "A") (Some (codes "A")) [] ∷ []) ≡ at SuperclassCircle (1, 1) }
     ensures two { first_fault (class_in 1 (codes "A") (Some (codes "B")) [] ∷ class_in 2 (codes "B") (Some (codes "A")) [] ∷ []) ≡ at SuperclassCircle (1, 1) }
-    ensures below { first_fault (class_in 1 (codes "C") (Some (codes "A")) [] ∷ class_in 2 (codes "A") (Some (codes "B")) [] ∷ class_in 3 (codes "B") (Some (codes "A")) [] ∷ [])
+    ensures below { first_fault
+        (class_in 1 (codes "C") (Some (codes "A")) [] ∷ class_in 2 (codes "A") (Some (codes "B")) [] ∷ class_in 3 (codes "B") (Some (codes "A")) [] ∷ [])
         ≡ at SuperclassCircle (2, 1) }
-    ensures line { first_fault (class_in 1 (codes "C") (Some (codes "A")) [] ∷ class_in 2 (codes "A") (Some (codes "B")) [] ∷ class_in 3 (codes "B") None [] ∷ [])
+    ensures line { first_fault
+        (class_in 1 (codes "C") (Some (codes "A")) [] ∷ class_in 2 (codes "A") (Some (codes "B")) [] ∷ class_in 3 (codes "B") None [] ∷ [])
         ≡ None }
 {}
 
@@ -50,7 +52,8 @@ pub fn kinds_of_tokens()
     ensures kinds { first_fault (class_in 1 (codes "A") None (part Tok (codes "X") (codes "String") (1, 8) ∷ part Tok (codes "Y") (codes "int") (1, 19)
         ∷ part Tok (codes "Z") (codes "boolean") (1, 27) ∷ []) ∷ []) ≡ None }
     ensures other { first_fault (class_in 1 (codes "A") None (part Tok (codes "X") (codes "bool") (1, 8) ∷ []) ∷ []) ≡ at TokenKindCode (1, 8) }
-    ensures before { first_fault (class_in 1 (codes "A") None (part Tok (codes "X") (codes "int") (1, 8) ∷ part Tok (codes "X") (codes "float") (1, 16) ∷ []) ∷ [])
+    ensures before { first_fault
+        (class_in 1 (codes "A") None (part Tok (codes "X") (codes "int") (1, 8) ∷ part Tok (codes "X") (codes "float") (1, 16) ∷ []) ∷ [])
         ≡ at TokenKindCode (1, 16) }
 {}
 
@@ -59,15 +62,20 @@ pub fn kinds_of_tokens()
 pub fn names_of_components()
     ensures twice { first_fault (class_in 1 (codes "A") None (part One (codes "X") (codes "A") (1, 7) ∷ part Tok (codes "X") (codes "int") (1, 12) ∷ []) ∷ [])
         ≡ at ComponentTwice (1, 12) }
-    ensures inherited { first_fault (class_in 1 (codes "B") (Some (codes "A")) (part Tok (codes "X") (codes "int") (1, 12) ∷ []) ∷ class_in 2 (codes "A") None (part One (codes "X") (codes "A") (2, 7) ∷ []) ∷ [])
+    ensures inherited { first_fault (class_in 1 (codes "B") (Some (codes "A")) (part Tok (codes "X") (codes "int") (1, 12) ∷ [])
+        ∷ class_in 2 (codes "A") None (part One (codes "X") (codes "A") (2, 7) ∷ []) ∷ [])
         ≡ at ComponentTwice (1, 12) }
-    ensures beside { first_fault (class_in 1 (codes "B") None (part Tok (codes "X") (codes "int") (1, 8) ∷ []) ∷ class_in 2 (codes "A") None (part One (codes "X") (codes "A") (2, 7) ∷ []) ∷ [])
+    ensures beside { first_fault (class_in 1 (codes "B") None (part Tok (codes "X") (codes "int") (1, 8) ∷ [])
+        ∷ class_in 2 (codes "A") None (part One (codes "X") (codes "A") (2, 7) ∷ []) ∷ [])
         ≡ None }
-    ensures number { first_fault (class_in 1 (codes "A") None (part Many (codes "X") (codes "A") (1, 7) ∷ part Tok (codes "NumX") (codes "int") (1, 13) ∷ []) ∷ [])
+    ensures number { first_fault
+        (class_in 1 (codes "A") None (part Many (codes "X") (codes "A") (1, 7) ∷ part Tok (codes "NumX") (codes "int") (1, 13) ∷ []) ∷ [])
         ≡ at ComponentTwice (1, 13) }
-    ensures list { first_fault (class_in 1 (codes "A") None (part Tok (codes "XList") (codes "int") (1, 8) ∷ part Many (codes "X") (codes "A") (1, 20) ∷ []) ∷ [])
+    ensures list { first_fault
+        (class_in 1 (codes "A") None (part Tok (codes "XList") (codes "int") (1, 8) ∷ part Many (codes "X") (codes "A") (1, 20) ∷ []) ∷ [])
         ≡ at ComponentTwice (1, 20) }
-    ensures plain { first_fault (class_in 1 (codes "A") None (part One (codes "X") (codes "A") (1, 7) ∷ part Tok (codes "NumX") (codes "int") (1, 12) ∷ []) ∷ [])
+    ensures plain { first_fault
+        (class_in 1 (codes "A") None (part One (codes "X") (codes "A") (1, 7) ∷ part Tok (codes "NumX") (codes "int") (1, 12) ∷ []) ∷ [])
         ≡ None }
     ensures every { first_fault (class_in 1 (codes "A") None (part One (codes "Child") (codes "A") (1, 7) ∷ []) ∷ []) ≡ at ComponentTwice (1, 7) }
 {}
@@ -76,6 +84,7 @@ pub fn names_of_components()
 pub fn numbers_of_components()
     ensures most { first_fault (class_in 1 (codes "A") None (many_parts (codes "A") 32) ∷ []) ≡ None }
     ensures more { first_fault (class_in 1 (codes "A") None (many_parts (codes "A") 33) ∷ []) ≡ at Limit (1, 1) }
-    ensures inherited { first_fault (class_in 1 (codes "A") None (many_parts (codes "A") 32) ∷ class_in 2 (codes "B") (Some (codes "A")) (part Tok (codes "Y") (codes "int") (2, 12) ∷ []) ∷ [])
+    ensures inherited { first_fault (class_in 1 (codes "A") None (many_parts (codes "A") 32)
+        ∷ class_in 2 (codes "B") (Some (codes "A")) (part Tok (codes "Y") (codes "int") (2, 12) ∷ []) ∷ [])
         ≡ at Limit (2, 1) }
 {}

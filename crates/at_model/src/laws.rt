@@ -192,7 +192,8 @@ pub fn carried_support()
         → AlikeBelow (Names carry) (content before) (content after) (equations rules) i
         → Supports (content before) (equations rules) l i
         → (m : Location Node) × LocationLike (Names carry) l m × Supports (content after) (equations rules) m j }
-    ensures no_others { (carry : Node → Option Node) → IsInjective carry → (rules : Rules) (before after : Tree) (i j : Instance Node) (m : Location Node) (o : Outcome Node)
+    ensures no_others { (carry : Node → Option Node) → IsInjective carry
+        → (rules : Rules) (before after : Tree) (i j : Instance Node) (m : Location Node) (o : Outcome Node)
         → InstanceLike (Names carry) i j
         → AlikeBelow (Names carry) (content before) (content after) (equations rules) i
         → Holds (content before) (equations rules) i o

@@ -14,7 +14,8 @@ ghost use Rattle.at_model.specs.SampleSessions.{letters, renaming};
 pub fn token_lengths()
     ensures longest { (text : List ℕ) → length text ≡ 4096 → is_short (Text text) ≡ true }
     ensures too_long { (text : List ℕ) → length text ≡ 4097 → is_short (Text text) ≡ false }
-    ensures played { Plays calc opened (record { line = renaming 4096; reply = codes "0 ok 1" } ∷ record { line = renaming 4097; reply = codes "0 refused 12 limit" } ∷ []) }
+    ensures played { Plays calc opened
+        (record { line = renaming 4096; reply = codes "0 ok 1" } ∷ record { line = renaming 4097; reply = codes "0 refused 12 limit" } ∷ []) }
 {}
 
 /// A tree has at most 65,536 nodes and is at most 512 deep.

@@ -88,15 +88,18 @@ pub fn an_insert_moves_what_is_behind()
     ensures first { carried (edit.Insert block 0 0 decl_y) (statement 0) ≡ Some (statement 1) }
     ensures second { carried (edit.Insert block 0 0 decl_y) (statement 1) ≡ Some (statement 2) }
     ensures above { carried (edit.Insert block 0 0 decl_y) block ≡ Some block }
-    ensures state { after (record opened { marks = mark 1 "u" (statement 1) ∷ [] }) (verdict calc (record opened { marks = mark 1 "u" (statement 1) ∷ [] }) (says (Insert (From_root block_path) (codes "Stmt") 0 decl_y_term)))
+    ensures state { after (record opened { marks = mark 1 "u" (statement 1) ∷ [] })
+        (verdict calc (record opened { marks = mark 1 "u" (statement 1) ∷ [] }) (says (Insert (From_root block_path) (codes "Stmt") 0 decl_y_term)))
         ≡ record opened { tree = program (decl_y ∷ decl_x ∷ print_sum ∷ []); version = 1; marks = mark 1 "u" (statement 2) ∷ [] } }
 {}
 
 /// A mark is asked where its node is now, and only by the session that made it.
 pub fn a_mark_is_asked_where_it_is()
-    ensures own { verdict calc (record opened { tree = program (decl_y ∷ decl_x ∷ print_sum ∷ []); version = 1; marks = mark 1 "u" (statement 2) ∷ [] }) (record { session = 1; expected = None; command = Where (codes "u") })
+    ensures own { verdict calc (record opened { tree = program (decl_y ∷ decl_x ∷ print_sum ∷ []); version = 1; marks = mark 1 "u" (statement 2) ∷ [] })
+        (record { session = 1; expected = None; command = Where (codes "u") })
         ≡ Tells (At (statement_path 2)) }
-    ensures other { verdict calc (record opened { tree = program (decl_y ∷ decl_x ∷ print_sum ∷ []); version = 1; marks = mark 1 "u" (statement 2) ∷ [] }) (record { session = 2; expected = None; command = Where (codes "u") })
+    ensures other { verdict calc (record opened { tree = program (decl_y ∷ decl_x ∷ print_sum ∷ []); version = 1; marks = mark 1 "u" (statement 2) ∷ [] })
+        (record { session = 2; expected = None; command = Where (codes "u") })
         ≡ Refuses code.Mark }
 {}
 
@@ -104,9 +107,11 @@ pub fn a_mark_is_asked_where_it_is()
 pub fn marks()
     ensures made { after opened (verdict calc opened (says (Mark (codes "u") (From_root (statement_path 1)))))
         ≡ record opened { marks = mark 0 "u" (statement 1) ∷ [] } }
-    ensures used { verdict calc (record opened { marks = mark 0 "u" (statement 1) ∷ [] }) (says (Show (From_mark (codes "u") (plain_step "Expr" ∷ plain_step "Right" ∷ []))))
+    ensures used { verdict calc (record opened { marks = mark 0 "u" (statement 1) ∷ [] })
+        (says (Show (From_mark (codes "u") (plain_step "Expr" ∷ plain_step "Right" ∷ []))))
         ≡ Tells (Written (num_term (pos 2))) }
-    ensures forgotten { after (record opened { marks = mark 0 "u" (statement 1) ∷ [] }) (verdict calc (record opened { marks = mark 0 "u" (statement 1) ∷ [] }) (says (Unmark (codes "u"))))
+    ensures forgotten { after (record opened { marks = mark 0 "u" (statement 1) ∷ [] })
+        (verdict calc (record opened { marks = mark 0 "u" (statement 1) ∷ [] }) (says (Unmark (codes "u"))))
         ≡ opened }
     ensures unknown { verdict calc opened (says (Unmark (codes "u"))) ≡ Refuses code.Mark }
     ensures taken { verdict calc (record opened { marks = replicate 100 (mark 0 "u" []) }) (says (Mark (codes "u") (From_root []))) ≡ Refuses code.Taken }
@@ -119,7 +124,8 @@ pub fn a_drop_moves_what_is_behind()
     ensures below { carried (edit.Drop (statement 0)) (init_of 0) ≡ None }
     ensures behind { carried (edit.Drop (statement 0)) (statement 1) ≡ Some (statement 0) }
     ensures before { carried (edit.Drop (statement 1)) (statement 0) ≡ Some (statement 0) }
-    ensures state { after (record opened { marks = mark 1 "u" (statement 1) ∷ mark 1 "v" (init_of 0) ∷ [] }) (verdict calc (record opened { marks = mark 1 "u" (statement 1) ∷ mark 1 "v" (init_of 0) ∷ [] }) (says (Drop (From_root (statement_path 0)))))
+    ensures state { after (record opened { marks = mark 1 "u" (statement 1) ∷ mark 1 "v" (init_of 0) ∷ [] })
+        (verdict calc (record opened { marks = mark 1 "u" (statement 1) ∷ mark 1 "v" (init_of 0) ∷ [] }) (says (Drop (From_root (statement_path 0)))))
         ≡ record opened { tree = program (print_sum ∷ []); version = 1; marks = mark 1 "u" (statement 0) ∷ [] } }
 {}
 
@@ -151,9 +157,11 @@ pub fn the_deepest_tree()
 
 /// A line that expects another version is refused, whatever else it says; one that expects this version is not.
 pub fn a_stale_line()
-    ensures stale { verdict calc (record opened { version = 1 }) (record { session = 1; expected = Some 0; command = Token (From_root (statement_path 0)) (codes "ID") (tree.Int (pos 5)) })
+    ensures stale { verdict calc (record opened { version = 1 })
+        (record { session = 1; expected = Some 0; command = Token (From_root (statement_path 0)) (codes "ID") (tree.Int (pos 5)) })
         ≡ Refuses (code.Stale 1) }
-    ensures current_edit { verdict calc (record opened { version = 1 }) (record { session = 1; expected = Some 1; command = Drop (From_root (statement_path 0)) })
+    ensures current_edit { verdict calc (record opened { version = 1 })
+        (record { session = 1; expected = Some 1; command = Drop (From_root (statement_path 0)) })
         ≡ Edits (edit.Drop (statement 0)) (program (print_sum ∷ [])) }
     ensures stale_edit { verdict calc (record opened { version = 1 }) (record { session = 1; expected = Some 0; command = Drop (From_root (statement_path 0)) })
         ≡ Refuses (code.Stale 1) }
@@ -178,7 +186,8 @@ pub fn questions()
 /// The drop of the first statement touches the slot, the indexes of both statements and all of the
 /// first one, and neither the class nor the parent of the second.
 pub fn what_a_drop_touches()
-    ensures yes { map (touches (edit.Drop (statement 0))) (Slot block 0 ∷ Idx (statement 0) ∷ Idx (statement 1) ∷ Is (statement 0) ∷ Tok (statement 0) 0 ∷ Slot (statement 0) 1 ∷ Up (statement 0) ∷ Is (init_of 0) ∷ Tok (init_of 0) 0 ∷ Up (init_of 0) ∷ Idx (init_of 0) ∷ [])
+    ensures yes { map (touches (edit.Drop (statement 0))) (Slot block 0 ∷ Idx (statement 0) ∷ Idx (statement 1) ∷ Is (statement 0) ∷ Tok (statement 0) 0
+        ∷ Slot (statement 0) 1 ∷ Up (statement 0) ∷ Is (init_of 0) ∷ Tok (init_of 0) 0 ∷ Up (init_of 0) ∷ Idx (init_of 0) ∷ [])
         ≡ true ∷ true ∷ true ∷ true ∷ true ∷ true ∷ true ∷ true ∷ true ∷ true ∷ true ∷ [] }
     ensures no { map (touches (edit.Drop (statement 0))) (Is (statement 1) ∷ Up (statement 1) ∷ Slot (statement 1) 0 ∷ Is block ∷ Up block ∷ Slot [] 0 ∷ [])
         ≡ false ∷ false ∷ false ∷ false ∷ false ∷ false ∷ [] }
@@ -186,7 +195,12 @@ pub fn what_a_drop_touches()
 
 /// The text of a line with every kind of argument.
 pub fn a_line_as_text()
-    ensures { line_text (record { session = 0; expected = Some 3; command = Ask (From_root block_path) (codes "local") (line.Text (codes "a\"b") ∷ line.Ref (From_mark (codes "u") (plain_step "Left" ∷ [])) ∷ line.Null ∷ []) })
+    ensures { line_text (record {
+      session = 0;
+      expected = Some 3;
+      command = Ask (From_root block_path) (codes "local")
+          (line.Text (codes "a\"b") ∷ line.Ref (From_mark (codes "u") (plain_step "Left" ∷ [])) ∷ line.Null ∷ []);
+    })
         ≡ codes "0 at 3 ask /Block local(\"a\\\"b\",$u/Left,null)" }
 {}
 

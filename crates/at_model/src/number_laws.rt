@@ -96,7 +96,8 @@ pub fn carried_by_numbers()
         → InstanceLike (Names carry) i j → AlikeBelow (Names carry) before after (evaluation rules nat_eq) i
         → Supports before (evaluation rules nat_eq) l i
         → (m : Location ℕ) × LocationLike (Names carry) l m × Supports after (evaluation rules nat_eq) m j }
-    ensures no_other_support { (carry : ℕ → Option ℕ) → IsInjective carry → (rules : Rules) (before after : Contents ℕ) (i j : Instance ℕ) (m : Location ℕ) (o : Outcome ℕ)
+    ensures no_other_support { (carry : ℕ → Option ℕ) → IsInjective carry
+        → (rules : Rules) (before after : Contents ℕ) (i j : Instance ℕ) (m : Location ℕ) (o : Outcome ℕ)
         → InstanceLike (Names carry) i j → AlikeBelow (Names carry) before after (evaluation rules nat_eq) i
         → Holds before (evaluation rules nat_eq) i o → Supports after (evaluation rules nat_eq) m j
         → (l : Location ℕ) × LocationLike (Names carry) l m × Supports before (evaluation rules nat_eq) l i }

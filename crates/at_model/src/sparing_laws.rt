@@ -30,7 +30,8 @@ pub fn what_is_kept_over_lines()
     ensures there { (rules : Rules) (s : State) (ls : List (Option Line)) (i : Instance Node) → IsSound rules.classes s
         → KeptOver rules s ls NothingKept i → IsInstanceThere (state_after rules s ls).tree i }
     ensures next { (rules : Rules) (s : State) (ls : List (Option Line)) (l : Option Line) (i : Instance Node)
-        → KeptOver rules s (ls ++ l ∷ []) NothingKept i ↔ KeptAfter rules (state_after rules s ls) (heard rules (state_after rules s ls) l) (KeptOver rules s ls NothingKept) i }
+        → KeptOver rules s (ls ++ l ∷ []) NothingKept i
+        ↔ KeptAfter rules (state_after rules s ls) (heard rules (state_after rules s ls) l) (KeptOver rules s ls NothingKept) i }
     ensures edit { (rules : Rules) (s : State) (ls : List (Option Line)) (l : Option Line) (e : Edit) (t : Tree) (i : Instance Node) → IsSound rules.classes s
         → heard rules (state_after rules s ls) l ≡ Edits e t → KeptOver rules s ls NothingKept i → IsUntouched rules (state_after rules s ls).tree e i
         → (j : Instance Node) × InstanceLike (Names (carried e)) i j × KeptOver rules s (ls ++ l ∷ []) NothingKept j }

@@ -23,7 +23,8 @@ pub fn turns_as_text()
         ≡ codes "0 done 1 1 refused 4 path\n" }
     ensures circle { reply_text (record { session = Some 0; done = Some (record { number = 1; version = 0 }); form = Circular [] (codes "circ") })
         ≡ codes "0 done 1 0 circular /.circ\n" }
-    ensures memory { reply_text (record { session = Some 999; done = Some (record { number = 18446744073709551615; version = 18446744073709551615 }); form = Memory })
+    ensures memory { reply_text
+        (record { session = Some 999; done = Some (record { number = 18446744073709551615; version = 18446744073709551615 }); form = Memory })
         ≡ codes "999 done 18446744073709551615 18446744073709551615 memory\n" }
     ensures longest { length (codes "999 done 18446744073709551615 18446744073709551615 memory\n") ≡ 58 }
 {}
@@ -61,7 +62,9 @@ pub fn what_is_not_posted()
 pub fn turns_are_counted()
     ensures posted { after opened (verdict calc opened (says posting)) ≡ with_questions 1 }
     ensures turn { map (λ q. q.turns) (given_one 1 (with_questions 2)).posted ≡ 1 ∷ 0 ∷ [] }
-    ensures edit { map (λ q. q.turns) (after (given_one 1 (with_questions 2)) (verdict calc (given_one 1 (with_questions 2)) (says (Token (From_root (printed_path ++ plain_step "Right" ∷ [])) (codes "Value") (tree.Int (pos 5)))))).posted
+    ensures edit { map (λ q. q.turns)
+        (after (given_one 1 (with_questions 2)) (verdict calc (given_one 1 (with_questions 2))
+        (says (Token (From_root (printed_path ++ plain_step "Right" ∷ [])) (codes "Value") (tree.Int (pos 5)))))).posted
         ≡ 0 ∷ 0 ∷ [] }
 {}
 
@@ -137,6 +140,8 @@ pub fn marks_of_a_question()
 
 /// Behind the last line a question that is open is answered, or for want of memory.
 pub fn outputs_of_questions()
-    ensures answered { Writes calc 1 opened (codes "0 post /Block/Stmt:1/Expr value()\n") (false ∷ false ∷ []) (codes "0 open 1\n0 done 1 0 = 3\n") (record opened { posts = 1 }) }
-    ensures memory { Writes calc 1 opened (codes "0 post /Block/Stmt:1/Expr value()\n") (false ∷ true ∷ []) (codes "0 open 1\n0 done 1 0 memory\n") (record opened { posts = 1 }) }
+    ensures answered { Writes calc 1 opened (codes "0 post /Block/Stmt:1/Expr value()\n") (false ∷ false ∷ []) (codes "0 open 1\n0 done 1 0 = 3\n")
+        (record opened { posts = 1 }) }
+    ensures memory { Writes calc 1 opened (codes "0 post /Block/Stmt:1/Expr value()\n") (false ∷ true ∷ []) (codes "0 open 1\n0 done 1 0 memory\n")
+        (record opened { posts = 1 }) }
 {}

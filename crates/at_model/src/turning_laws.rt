@@ -22,7 +22,8 @@ pub fn a_question_has_few_turns()
 /// in it.
 pub fn a_turn_leaves_a_question_on_its_tree()
     ensures begun { (look : Contents Node) (equation : Equations Node) (q : Instance Node) → IsOn look equation q (posted q) }
-    ensures stays { (look : Contents Node) (equation : Equations Node) (q : Instance Node) (kept : Known Node) (u new : UnderWay Node) (o : Option (Answer Node))
+    ensures stays { (look : Contents Node) (equation : Equations Node) (q : Instance Node) (kept : Known Node)
+        (u new : UnderWay Node) (o : Option (Answer Node))
         → IsOn look equation q u → Turned look equation kept u new o → IsOn look equation q new }
 {}
 

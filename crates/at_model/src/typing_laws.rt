@@ -126,5 +126,6 @@ pub fn evaluations_by_numbers_are_typed()
     ensures { (path : ℕ → Option Node) → IsInjective path → (rules : Rules) → AreWellFormed rules → (t : Tree) → IsTreeSound rules.classes t
         → (numbers : Contents ℕ) → ((l : Location ℕ) → AlikeAt (Names path) numbers (content t) l)
         → (i : Instance ℕ) (j : Instance Node) → InstanceLike (Names path) i j → IsWellFormed rules t j
-        → IsTypedRun rules (class_numbered path (class_at t)) (IsGiven rules t j.arguments) numbers (IsOfItsKind rules (class_numbered path (class_at t)) i) (evaluation rules nat_eq i) }
+        → IsTypedRun rules (class_numbered path (class_at t)) (IsGiven rules t j.arguments) numbers
+        (IsOfItsKind rules (class_numbered path (class_at t)) i) (evaluation rules nat_eq i) }
 {}

@@ -160,15 +160,21 @@ mutual
   read_marks IndexName tail = refl
   read_marks (Negate a) tail = ap (read (plain_mark 7)) (read_marks a tail)
   read_marks (Not a) tail = ap (read (plain_mark 8)) (read_marks a tail)
-  read_marks (Arithmetic o a b) tail = ap (read (9, (operator_number o ∷ [], pos 0))) (read_marks a (marks b tail) ∙ ap (λ ps. of_expr a ∷ ps) (read_marks b tail)) ∙ ap (λ x. of_expr (Arithmetic x a b) ∷ read_all tail) (same_operator o)
-  read_marks (Compare o a b) tail = ap (read (10, (order_number o ∷ [], pos 0))) (read_marks a (marks b tail) ∙ ap (λ ps. of_expr a ∷ ps) (read_marks b tail)) ∙ ap (λ x. of_expr (Compare x a b) ∷ read_all tail) (same_order o)
+  read_marks (Arithmetic o a b) tail =
+      ap (read (9, (operator_number o ∷ [], pos 0))) (read_marks a (marks b tail) ∙ ap (λ ps. of_expr a ∷ ps) (read_marks b tail))
+      ∙ ap (λ x. of_expr (Arithmetic x a b) ∷ read_all tail) (same_operator o)
+  read_marks (Compare o a b) tail =
+      ap (read (10, (order_number o ∷ [], pos 0))) (read_marks a (marks b tail) ∙ ap (λ ps. of_expr a ∷ ps) (read_marks b tail))
+      ∙ ap (λ x. of_expr (Compare x a b) ∷ read_all tail) (same_order o)
   read_marks (Join a b) tail = ap (read (plain_mark 11)) (read_marks a (marks b tail) ∙ ap (λ ps. of_expr a ∷ ps) (read_marks b tail))
   read_marks (JoinInt a b) tail = ap (read (plain_mark 12)) (read_marks a (marks b tail) ∙ ap (λ ps. of_expr a ∷ ps) (read_marks b tail))
   read_marks (Same a b) tail = ap (read (plain_mark 13)) (read_marks a (marks b tail) ∙ ap (λ ps. of_expr a ∷ ps) (read_marks b tail))
   read_marks (Differ a b) tail = ap (read (plain_mark 14)) (read_marks a (marks b tail) ∙ ap (λ ps. of_expr a ∷ ps) (read_marks b tail))
   read_marks (And a b) tail = ap (read (plain_mark 15)) (read_marks a (marks b tail) ∙ ap (λ ps. of_expr a ∷ ps) (read_marks b tail))
   read_marks (Or a b) tail = ap (read (plain_mark 16)) (read_marks a (marks b tail) ∙ ap (λ ps. of_expr a ∷ ps) (read_marks b tail))
-  read_marks (Choose a b c) tail = ap (read (plain_mark 17)) (read_marks a (marks b (marks c tail)) ∙ ap (λ ps. of_expr a ∷ ps) (read_marks b (marks c tail) ∙ ap (λ ps. of_expr b ∷ ps) (read_marks c tail)))
+  read_marks (Choose a b c) tail =
+      ap (read (plain_mark 17))
+      (read_marks a (marks b (marks c tail)) ∙ ap (λ ps. of_expr a ∷ ps) (read_marks b (marks c tail) ∙ ap (λ ps. of_expr b ∷ ps) (read_marks c tail)))
   read_marks (Equals a b) tail = ap (read (plain_mark 18)) (read_marks a (marks b tail) ∙ ap (λ ps. of_expr a ∷ ps) (read_marks b tail))
   read_marks (InstanceOf a n) tail = ap (read (19, (n ∷ [], pos 0))) (read_marks a tail)
   read_marks (CastTo n a) tail = ap (read (20, (n ∷ [], pos 0))) (read_marks a tail)

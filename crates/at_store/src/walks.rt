@@ -51,7 +51,8 @@ fn way_by(classes: &ClassTable, class: ClassId, step: &Step<'_>) -> Option<(usiz
 /// The node to which one step leads.
 fn step_from(slab: &Slab<Entry>, classes: &ClassTable, node: Node, step: &Step<'_>) -> Option<Node>
     ensures { result
-        ≡ option_and_then (λ way. slice_get (kids_in (memory_of slab.now node) way.0) way.1) (step_in classes.now (bare (class_in (memory_of slab.now) node) no_cells) (step_view step.now)) }
+        ≡ option_and_then (λ way. slice_get (kids_in (memory_of slab.now node) way.0) way.1)
+        (step_in classes.now (bare (class_in (memory_of slab.now) node) no_cells) (step_view step.now)) }
 {
     let (part, index) = way_by(classes, class_at(slab, node), step)?;
     kid_at(slab, node, part, index)

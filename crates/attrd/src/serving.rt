@@ -105,7 +105,8 @@ impl Served {
 /// ends that connection alone; one that isn't accepted counts, too.
 pub fn serve<K: Keeper, D: Door>(engine: &mut Engine<K>, door: &mut D, n: u16) -> Served
     requires sound { IsSound K.contents engine.old }
-    ensures serves { ServesAll (rules_of engine.old) (slice_of engine.old) (state_of engine.old) (D.coming door.old) n (state_of engine.new) (D.coming door.new) }
+    ensures serves { ServesAll (rules_of engine.old) (slice_of engine.old) (state_of engine.old) (D.coming door.old) n
+        (state_of engine.new) (D.coming door.new) }
     ensures spare { IsTrue K.exact → IsSpare K.contents engine.old → IsSpare K.contents engine.new }
     ensures ended { result.ended ≡ n }
     ensures faults { faults result ≤ n }
@@ -127,7 +128,8 @@ fn serve_next<K: Keeper, D: Door>(
     door: &mut D,
 ) -> Result<(), ConnectionFault>
     requires sound { IsSound K.contents engine.old }
-    ensures serves { ServesNext (rules_of engine.old) (slice_of engine.old) (state_of engine.old) (state_of engine.new) (D.coming door.old) (D.coming door.new) }
+    ensures serves { ServesNext (rules_of engine.old) (slice_of engine.old) (state_of engine.old) (state_of engine.new)
+        (D.coming door.old) (D.coming door.new) }
     ensures spare { IsTrue K.exact → IsSpare K.contents engine.old → IsSpare K.contents engine.new }
     ensures rules { rules_of engine.new ≡ rules_of engine.old }
     ensures slice { slice_of engine.new ≡ slice_of engine.old }

@@ -173,7 +173,8 @@ impl<'a> Reader<'a> {
         ensures found { IfOk result (λ d. (old : Row) → old ≡ word (codes "syn") at ∷ left self.old.cursor.rest.now
             → DeclOf (decl_view d) old (left self.new.cursor.rest.now)) }
         ensures within { IfOk result (λ d. NestsWithin (decl_view d)) }
-        ensures stays { IfErr result (λ e. Stay (declared (want.Ending ∷ want.Decls ∷ [])) (reason_of e) (left self.old.cursor.rest.now) (left self.new.cursor.rest.now)) }
+        ensures stays { IfErr result
+            (λ e. Stay (declared (want.Ending ∷ want.Decls ∷ [])) (reason_of e) (left self.old.cursor.rest.now) (left self.new.cursor.rest.now)) }
     {
         let head = self.head()?;
         let ending = self.ending()?;
@@ -193,7 +194,8 @@ impl<'a> Reader<'a> {
         ensures found { IfOk result (λ d. (old : Row) → old ≡ word (codes "inh") at ∷ left self.old.cursor.rest.now
             → DeclOf (decl_view d) old (left self.new.cursor.rest.now)) }
         ensures within { IfOk result (λ d. NestsWithin (decl_view d)) }
-        ensures stays { IfErr result (λ e. Stay (declared (want.Mark (codes ";") ∷ want.Decls ∷ [])) (reason_of e) (left self.old.cursor.rest.now) (left self.new.cursor.rest.now)) }
+        ensures stays { IfErr result
+            (λ e. Stay (declared (want.Mark (codes ";") ∷ want.Decls ∷ [])) (reason_of e) (left self.old.cursor.rest.now) (left self.new.cursor.rest.now)) }
     {
         let head = self.head()?;
         self.expects(";")?;
@@ -302,7 +304,8 @@ impl<'a> Reader<'a> {
     /// `"(" [kind name { "," kind name }] ")"`, behind this name.
     fn params(&mut self, name: &str) -> Result<Params, ReadFault>
         ensures found { IfOk result (λ p. ParamsOf name.now (params_view p) (left self.old.cursor.rest.now) (left self.new.cursor.rest.now)) }
-        ensures stays { IfErr result (λ e. Stay (want.Opening (bytes_eq name.now (codes "getChild")) ∷ []) (reason_of e) (left self.old.cursor.rest.now) (left self.new.cursor.rest.now)) }
+        ensures stays { IfErr result (λ e. Stay (want.Opening (bytes_eq name.now (codes "getChild")) ∷ []) (reason_of e)
+            (left self.old.cursor.rest.now) (left self.new.cursor.rest.now)) }
     {
         self.opens(name)?;
         let mut items = Vec::new(self.alloc);
@@ -323,7 +326,8 @@ impl<'a> Reader<'a> {
     fn skips_getter(&mut self, params: &Params) -> bool
         ensures { MatchBool result
             ((is_getter (params_view params.now).items ≡ true) × Sign (codes ".") (left self.old.cursor.rest.now) (left self.new.cursor.rest.now))
-            ((self.new.cursor ≡ self.old.cursor) × (is_getter (params_view params.now).items && next_is (is_sign (codes ".")) (left self.old.cursor.rest.now) ≡ false)) }
+            ((self.new.cursor ≡ self.old.cursor)
+            × (is_getter (params_view params.now).items && next_is (is_sign (codes ".")) (left self.old.cursor.rest.now) ≡ false)) }
     {
         if is_getter(params) {
             self.skips(".")
@@ -337,7 +341,8 @@ impl<'a> Reader<'a> {
         ensures found { IfOk result (λ d. (old : Row) → old ≡ word (codes "eq") at ∷ left self.old.cursor.rest.now
             → DeclOf (decl_view d) old (left self.new.cursor.rest.now)) }
         ensures within { IfOk result (λ d. NestsWithin (decl_view d)) }
-        ensures stays { IfErr result (λ e. Stay (want.Name ∷ want.Mark (codes ".") ∷ want.Signed ∷ want.Defined ∷ want.Decls ∷ []) (reason_of e) (left self.old.cursor.rest.now) (left self.new.cursor.rest.now)) }
+        ensures stays { IfErr result (λ e. Stay (want.Name ∷ want.Mark (codes ".") ∷ want.Signed ∷ want.Defined ∷ want.Decls ∷ []) (reason_of e)
+            (left self.old.cursor.rest.now) (left self.new.cursor.rest.now)) }
     {
         let target = self.target()?;
         if self.skips_getter(&target.params) {
@@ -356,10 +361,12 @@ impl<'a> Reader<'a> {
     /// An equation of an inherited attribute, whose `eq` has this place, behind its getter and the `.` there.
     fn inherited_equation(&mut self, at: Place, getter: Target) -> Result<Decl, ReadFault>
         requires { is_getter (params_view getter.params).items ≡ true }
-        ensures found { IfOk result (λ d. (old named mid : Row) → old ≡ word (codes "eq") at ∷ named → TargetOf getter named mid → Sign (codes ".") mid (left self.old.cursor.rest.now)
+        ensures found { IfOk result (λ d. (old named mid : Row) → old ≡ word (codes "eq") at ∷ named → TargetOf getter named mid
+            → Sign (codes ".") mid (left self.old.cursor.rest.now)
             → DeclOf (decl_view d) old (left self.new.cursor.rest.now)) }
         ensures within { IfOk result (λ d. NestsWithin (decl_view d)) }
-        ensures stays { IfErr result (λ e. Stay (want.Signed ∷ want.Body ∷ want.Decls ∷ []) (reason_of e) (left self.old.cursor.rest.now) (left self.new.cursor.rest.now)) }
+        ensures stays { IfErr result
+            (λ e. Stay (want.Signed ∷ want.Body ∷ want.Decls ∷ []) (reason_of e) (left self.old.cursor.rest.now) (left self.new.cursor.rest.now)) }
     {
         let name = self.name()?;
         let params = self.params(name.text.as_str())?;

@@ -48,7 +48,8 @@ impl<'a> Reader<'a> {
         ensures depth { IfOk result (λ m. m.depth ≤ budget) }
         ensures found { IfOk result (λ m. Reads level m (left self.old.cursor.rest.now) (left self.new.cursor.rest.now)) }
         ensures goes { IfOk result (λ m. Goes (want.Binary (7 - level)) (λ b. []) m.depth (left self.old.cursor.rest.now) (left self.new.cursor.rest.now)) }
-        ensures halts { IfErr result (λ e. Halts (want.Binary (7 - level) budget) (reason_of e) (left self.old.cursor.rest.now) (left self.new.cursor.rest.now)) }
+        ensures halts { IfErr result
+            (λ e. Halts (want.Binary (7 - level) budget) (reason_of e) (left self.old.cursor.rest.now) (left self.new.cursor.rest.now)) }
     {
         if level >= UNARY {
             return self.unary(budget);
@@ -124,8 +125,10 @@ impl<'a> Reader<'a> {
         ensures depth { IfOk result (λ m. m.depth ≤ budget) }
         ensures deeper { IfOk result (λ m. first.depth ≤ m.depth) }
         ensures found { IfOk result (λ m. (old : Row) → Reads 8 first old (left self.old.cursor.rest.now) → Reads 8 m old (left self.new.cursor.rest.now)) }
-        ensures goes { IfOk result (λ m. Moves (λ b. want.Calls b ∷ []) (λ b. []) first.depth m.depth (left self.old.cursor.rest.now) (left self.new.cursor.rest.now)) }
-        ensures halts { IfErr result (λ e. Stays (want.Calls budget ∷ []) first.depth (reason_of e) (left self.old.cursor.rest.now) (left self.new.cursor.rest.now)) }
+        ensures goes { IfOk result
+            (λ m. Moves (λ b. want.Calls b ∷ []) (λ b. []) first.depth m.depth (left self.old.cursor.rest.now) (left self.new.cursor.rest.now)) }
+        ensures halts { IfErr result
+            (λ e. Stays (want.Calls budget ∷ []) first.depth (reason_of e) (left self.old.cursor.rest.now) (left self.new.cursor.rest.now)) }
     {
         let mut receiver = first;
         while let Some(_) = self.takes_within(".", receiver.depth, budget)? {
@@ -142,8 +145,10 @@ impl<'a> Reader<'a> {
         requires limit { budget ≤ 64 }
         ensures depth { IfOk result (λ a. a.depth ≤ budget) }
         ensures found { IfOk result (λ a. HasArguments name.now a (left self.old.cursor.rest.now) (left self.new.cursor.rest.now)) }
-        ensures goes { IfOk result (λ m. Goes (want.Arguments (bytes_eq name.now (codes "getChild"))) (λ b. []) m.depth (left self.old.cursor.rest.now) (left self.new.cursor.rest.now)) }
-        ensures halts { IfErr result (λ e. Halts (want.Arguments (bytes_eq name.now (codes "getChild")) budget) (reason_of e) (left self.old.cursor.rest.now) (left self.new.cursor.rest.now)) }
+        ensures goes { IfOk result (λ m. Goes (want.Arguments (bytes_eq name.now (codes "getChild"))) (λ b. []) m.depth
+            (left self.old.cursor.rest.now) (left self.new.cursor.rest.now)) }
+        ensures halts { IfErr result (λ e. Halts (want.Arguments (bytes_eq name.now (codes "getChild")) budget) (reason_of e)
+            (left self.old.cursor.rest.now) (left self.new.cursor.rest.now)) }
     {
         self.opens(name)?;
         let mut items = Vec::new(self.alloc);

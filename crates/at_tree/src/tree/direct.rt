@@ -63,7 +63,8 @@ fn take_cells(
     parts: &[Part],
     levels: usize,
 ) -> Result<Vec<Cell>, Untaken>
-    ensures { IfOk result (λ cells. AreCellsFront classes.now front.old.rest.now front.new.rest.now (map part_view parts.now) levels (to_cells (map cell_view cells.items))) }
+    ensures { IfOk result
+        (λ cells. AreCellsFront classes.now front.old.rest.now front.new.rest.now (map part_view parts.now) levels (to_cells (map cell_view cells.items))) }
 {
     let mut cells = Vec::with_capacity(alloc, parts.len())?;
     for (i, part) in parts.iter().enumerate() {
@@ -131,7 +132,8 @@ fn take_list(
     under: ClassId,
     levels: usize,
 ) -> Result<Vec<Tree>, Untaken>
-    ensures { IfOk result (λ trees. IsCellFront classes.now front.old.rest.now front.new.rest.now (Many under) levels (tree.Many (to_trees (map tree_view trees.items)))) }
+    ensures { IfOk result
+        (λ trees. IsCellFront classes.now front.old.rest.now front.new.rest.now (Many under) levels (tree.Many (to_trees (map tree_view trees.items)))) }
 {
     take(front, '[')?;
     let mut trees = Vec::new(alloc);
