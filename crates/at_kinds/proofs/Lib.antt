@@ -6,3 +6,5 @@ pub mod Holding
 pub mod KindsKnown
 pub mod KindsOfForms
 pub mod KindsOfCalls
+pub mod TableJudged
+pub mod JudgedTable

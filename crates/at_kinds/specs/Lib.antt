@@ -3,3 +3,4 @@ pub mod Accessors
 pub mod Kinds
 pub mod Judging
 pub mod Typed
+pub mod KindTable

@@ -3,6 +3,7 @@
 //!
 //! **Its specs:** `Judging` has the kind of each form and the body that it means, `Accessors` which accessor a name
 //! stands for, `Signatures` what is declared of attributes, `Kinds` the kinds; `Typed` says what results stand for.
+//! `KindTable` is the table of kinds, without places and bodies; `laws.rt` has that `Judging` goes by it.
 //!
 //! **Where to begin:** `typing.rt` and its folder, a recursion over the form with parts before the whole.
 //!
@@ -13,6 +14,7 @@
 pub mod accessors;
 mod code;
 pub mod components;
+pub mod laws;
 pub mod signatures;
 pub mod typing;
 
