@@ -22,6 +22,8 @@ mod samples;
 #[cfg(test)]
 mod sessions;
 #[cfg(test)]
+mod stores;
+#[cfg(test)]
 mod trees;
 #[cfg(test)]
 mod turns;

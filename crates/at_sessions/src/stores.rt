@@ -1,0 +1,283 @@
+//! A store by itself: edits that are refused, done and given up, what they touch, and the numbers of nodes behind them.
+
+ghost use Rattle.std.specs.Prelude.{◌≡◌, IfOk, is_some, true};
+ghost use Rattle.at_model.specs.Trees.{conforms};
+ghost use Rattle.at_store.specs.Refusing.{node_of, target_of};
+ghost use Rattle.at_store.specs.Shown.{IsIdle, path as path_shown, tree as tree_shown};
+
+use crate::samples::{GRAMMAR, TREE};
+use at_class::{ClassTable, are_named};
+use at_grammar::parse_ast;
+use at_store::{Edit, Loc, Node, Ready, Refusal, Store};
+use at_tree::path::{read_path, write_path};
+use at_tree::tree::read_tree;
+use std::alloc::{AllocError, Global};
+use std::str::from_utf8;
+use std::test::Fail;
+
+/// More than the nodes of the tree.
+const NUMBERS: usize = 12;
+
+/// How an edit that is accepted ends.
+#[derive(Clone, Copy)]
+enum End {
+    Done,
+    GivenUp,
+}
+
+fn classes(alloc: Global) -> Result<ClassTable, Fail> {
+    let Ok(text) = from_utf8(GRAMMAR) else {
+        return Err(Fail::new("no text"));
+    };
+    let Ok(grammar) = parse_ast(alloc, text) else {
+        return Err(Fail::new("no grammar"));
+    };
+    if !are_named(&grammar) {
+        return Err(Fail::new("a class without a name"));
+    }
+    match ClassTable::build(alloc, &grammar) {
+        Ok(classes) => Ok(classes),
+        Err(_) => Err(Fail::new("no classes")),
+    }
+}
+
+/// The store of the calculator's tree.
+fn loaded(alloc: Global, classes: &ClassTable) -> Result<Store, Fail>
+    ensures idle { IfOk result (λ s. IsIdle s) }
+    ensures conforming { IfOk result (λ s. conforms classes.now (tree_shown s) 0 ≡ true) }
+{
+    let Ok(tree) = read_tree(alloc, classes, TREE, classes.start()) else {
+        return Err(Fail::new("no tree"));
+    };
+    match Store::load(alloc, classes, tree) {
+        Ok(store) => Ok(store),
+        Err(_) => Err(Fail::new("no store")),
+    }
+}
+
+/// The node of that path.
+fn node_at(alloc: Global, classes: &ClassTable, store: &Store, text: &str) -> Result<Node, Fail>
+    requires idle { IsIdle store.now }
+    ensures { IfOk result (λ n. is_some (path_shown store.now n) ≡ true) }
+{
+    let Ok(path) = read_path(alloc, text) else {
+        return Err(Fail::new("no path"));
+    };
+    match store.resolve(classes, store.root(), path.steps.as_slice()) {
+        Some(node) if store.live(node) => Ok(node),
+        _ => Err(Fail::new("no node")),
+    }
+}
+
+/// The term of the root, and each node's number with its path.
+fn shown(alloc: Global, classes: &ClassTable, store: &Store) -> Result<Vec<u8>, AllocError>
+    requires { IsIdle store.now }
+{
+    let mut text = Vec::new(alloc);
+    store.write_term(classes, store.root(), &mut text)?;
+    for number in 0..NUMBERS {
+        if store.live(Node::new(number)) {
+            text.push(number as u8)?;
+            let path = store.path_of(alloc, classes, Node::new(number))?;
+            write_path(&path, &mut text)?;
+        }
+    }
+    Ok(text)
+}
+
+/// Which of the locations the edit touches.
+fn touched(
+    alloc: Global,
+    store: &Store,
+    ready: &Ready,
+    locations: &[Loc],
+) -> Result<Vec<bool>, AllocError> {
+    let mut all = Vec::new(alloc);
+    for location in locations {
+        all.push(store.touches(ready, *location))?;
+    }
+    Ok(all)
+}
+
+/// Which of the locations the edit touches, before it is done or given up; or why it is refused.
+fn tried(
+    alloc: Global,
+    classes: &ClassTable,
+    store: &mut Store,
+    edit: Edit,
+    locations: &[Loc],
+    end: End,
+) -> Result<Vec<bool>, Refusal>
+    requires idle { IsIdle store.old }
+    requires conforming { conforms classes.now (tree_shown store.old) 0 ≡ true }
+    requires there { is_some (path_shown store.old (node_of edit)) ≡ true }
+    requires target { is_some (path_shown store.old (target_of edit)) ≡ true }
+    ensures idle { IsIdle store.new }
+    ensures conforming { conforms classes.now (tree_shown store.new) 0 ≡ true }
+{
+    let ready = store.check(alloc, classes, edit)?;
+    let all = touched(alloc, store, &ready, locations);
+    match end {
+        End::Done => store.commit(ready),
+        End::GivenUp => store.cancel(ready),
+    }
+    Ok(all?)
+}
+
+/// Why the store refuses the edit, which leaves the tree and all numbers as they were.
+fn reason(
+    alloc: Global,
+    classes: &ClassTable,
+    store: &mut Store,
+    edit: Edit,
+) -> Result<Refusal, Fail>
+    requires idle { IsIdle store.old }
+    requires conforming { conforms classes.now (tree_shown store.old) 0 ≡ true }
+    requires there { is_some (path_shown store.old (node_of edit)) ≡ true }
+    requires target { is_some (path_shown store.old (target_of edit)) ≡ true }
+{
+    let before = shown(alloc, classes, store)?;
+    let Err(reason) = tried(alloc, classes, store, edit, &[], End::Done) else {
+        return Err(Fail::new("the edit isn't refused"));
+    };
+    if shown(alloc, classes, store)? != before {
+        return Err(Fail::new("a refusal leaves a trace"));
+    }
+    Ok(reason)
+}
+
+/// A number as an element of a block, or in the declaration, which has one.
+fn number_refused(alloc: Global, under: &str, is_element: bool) -> Result<Refusal, Fail> {
+    let classes = classes(alloc)?;
+    let mut store = loaded(alloc, &classes)?;
+    let node = node_at(alloc, &classes, &store, under)?;
+    let number = node_at(alloc, &classes, &store, "/Block/Stmt:0/Init")?;
+    let tree = store.tree_of(alloc, number)?;
+    let edit = if is_element {
+        Edit::Insert {
+            node,
+            part: 0,
+            index: 0,
+            tree,
+        }
+    } else {
+        Edit::Put {
+            node,
+            part: 1,
+            tree,
+        }
+    };
+    reason(alloc, &classes, &mut store, edit)
+}
+
+/// A drop of the block, which is a plain child.
+fn drop_refused(alloc: Global) -> Result<Refusal, Fail> {
+    let classes = classes(alloc)?;
+    let mut store = loaded(alloc, &classes)?;
+    let node = node_at(alloc, &classes, &store, "/Block")?;
+    reason(alloc, &classes, &mut store, Edit::Drop { node })
+}
+
+/// A declaration more, behind an element that isn't there.
+fn index_refused(alloc: Global) -> Result<Refusal, Fail> {
+    let classes = classes(alloc)?;
+    let mut store = loaded(alloc, &classes)?;
+    let node = node_at(alloc, &classes, &store, "/Block")?;
+    let declaration = node_at(alloc, &classes, &store, "/Block/Stmt:0")?;
+    let tree = store.tree_of(alloc, declaration)?;
+    let edit = Edit::Insert {
+        node,
+        part: 0,
+        index: 3,
+        tree,
+    };
+    reason(alloc, &classes, &mut store, edit)
+}
+
+#[test]
+fn the_store_refuses_edits_and_stays_as_it_was(rt: HostRuntime) -> Result<(), Fail> {
+    let alloc = rt.alloc();
+    assert_eq!(rt; number_refused(alloc, "/Block", true)?, Refusal::Fit);
+    assert_eq!(rt; drop_refused(alloc)?, Refusal::Fixed);
+    assert_eq!(rt; number_refused(alloc, "/Block/Stmt:0", false)?, Refusal::Taken);
+    assert_eq!(rt; index_refused(alloc)?, Refusal::Index);
+    Ok(())
+}
+
+/// A drop of the first statement: what it touched, and what the store shows before and behind it.
+#[derive(Drop)]
+struct Dropped {
+    touched: Vec<bool>,
+    before: Vec<u8>,
+    behind: Vec<u8>,
+    /// The number of the other statement, and the one of the first statement behind the drop.
+    other: Node,
+    first: Node,
+}
+
+/// Drops the declaration, or gives that up. Where it is dropped, the children of the block, the indexes of its elements, and all of
+/// the declaration and its number is touched; and the other statement's class and parent aren't.
+fn dropped(alloc: Global, end: End) -> Result<Dropped, Fail> {
+    let classes = classes(alloc)?;
+    let mut store = loaded(alloc, &classes)?;
+    let before = shown(alloc, &classes, &store)?;
+    let block = node_at(alloc, &classes, &store, "/Block")?;
+    let number = node_at(alloc, &classes, &store, "/Block/Stmt:0/Init")?;
+    let other = node_at(alloc, &classes, &store, "/Block/Stmt:1")?;
+    let node = node_at(alloc, &classes, &store, "/Block/Stmt:0")?;
+    let locations = [
+        Loc::Slot(block, 0),
+        Loc::Idx(node),
+        Loc::Idx(other),
+        Loc::Is(node),
+        Loc::Up(node),
+        Loc::Tok(node, 0),
+        Loc::Slot(node, 1),
+        Loc::Is(number),
+        Loc::Up(number),
+        Loc::Tok(number, 0),
+        Loc::Is(other),
+        Loc::Up(other),
+    ];
+    let Ok(touched) = tried(alloc, &classes, &mut store, Edit::Drop { node }, &locations, end)
+    else {
+        return Err(Fail::new("the drop is refused"));
+    };
+    let behind = shown(alloc, &classes, &store)?;
+    let first = node_at(alloc, &classes, &store, "/Block/Stmt:0")?;
+    Ok(Dropped {
+        touched,
+        before,
+        behind,
+        other,
+        first,
+    })
+}
+
+/// What a drop of the declaration touches of these locations.
+const TOUCHED: &[bool] = &[
+    true, true, true, true, true, true, true, true, true, true, false, false,
+];
+
+#[test]
+fn a_drop_leaves_the_numbers_of_the_others(rt: HostRuntime) -> Result<(), Fail> {
+    let Dropped {
+        touched,
+        before: _,
+        behind,
+        other,
+        first,
+    } = dropped(rt.alloc(), End::Done)?;
+    assert_eq!(rt; touched.as_slice(), TOUCHED);
+    assert_eq!(rt; first, other);
+    assert!(rt; behind.starts_with(b"Program(Block([Print(Add(Use(\"x\"),Num(2)))]))"));
+    Ok(())
+}
+
+#[test]
+fn an_edit_that_is_given_up_leaves_all_as_it_was(rt: HostRuntime) -> Result<(), Fail> {
+    let dropped = dropped(rt.alloc(), End::GivenUp)?;
+    assert_eq!(rt; dropped.touched.as_slice(), TOUCHED);
+    assert_eq!(rt; dropped.before, dropped.behind);
+    Ok(())
+}
