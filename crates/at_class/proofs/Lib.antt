@@ -7,7 +7,6 @@ pub mod Order
 pub mod Sound
 pub mod Acyclic
 pub mod Whole
-pub mod Led
 pub mod Descents
 pub mod Entries
 pub mod Places

@@ -17,7 +17,7 @@ use Rattle.at_class.specs.Table.{AreEntries, IsTable, table_view}
 use Rattle.at_class.specs.Ways.{AreLed}
 use Rattle.at_class.proofs.Apart.{parts_apart}
 use Rattle.at_class.proofs.Entries.{table-declared}
-use Rattle.at_class.proofs.Led.{led}
+use Rattle.at_model.proofs.LedUp.{led}
 use Rattle.at_class.proofs.Places.{as_many}
 
 pub none_declared : (xs : List ClassDecl) → (length xs == 0) ≡ true → no_class (declarations_view xs) ≡ Some (1, 1)

@@ -51,6 +51,65 @@ pub enum PartShape {
     Tok(TokenKind),
 }
 
+impl PartShape {
+    ghost use Rattle.std.specs.Prelude.{◌≡◌, option_map};
+    ghost use Rattle.at_model.specs.Classes.{class_in};
+    ghost use Rattle.at_model.specs.Edits.{list_class, optional_class, plain_class, token_kind};
+    ghost use Rattle.at_class.specs.View.{shape_view, token_kind_view};
+
+    /// The class of the trees, where the component isn't a token.
+    pub fn class_in(self) -> Option<ClassId>
+        ensures { result ≡ class_in (shape_view self) }
+    {
+        match self {
+            PartShape::One(class) => Some(class),
+            PartShape::Many(class) => Some(class),
+            PartShape::Maybe(class) => Some(class),
+            PartShape::Tok(_) => None,
+        }
+    }
+
+    /// The class of the child, where the component is a plain child.
+    pub fn plain_class(self) -> Option<ClassId>
+        ensures { result ≡ plain_class (shape_view self) }
+    {
+        match self {
+            PartShape::One(class) => Some(class),
+            PartShape::Many(_) | PartShape::Maybe(_) | PartShape::Tok(_) => None,
+        }
+    }
+
+    /// The class of the elements, where the component is a list.
+    pub fn list_class(self) -> Option<ClassId>
+        ensures { result ≡ list_class (shape_view self) }
+    {
+        match self {
+            PartShape::Many(class) => Some(class),
+            PartShape::One(_) | PartShape::Maybe(_) | PartShape::Tok(_) => None,
+        }
+    }
+
+    /// The class of what it may hold, where the component is an optional.
+    pub fn optional_class(self) -> Option<ClassId>
+        ensures { result ≡ optional_class (shape_view self) }
+    {
+        match self {
+            PartShape::Maybe(class) => Some(class),
+            PartShape::One(_) | PartShape::Many(_) | PartShape::Tok(_) => None,
+        }
+    }
+
+    /// The kind of the token, where the component is one.
+    pub fn token_kind(self) -> Option<TokenKind>
+        ensures { option_map token_kind_view result ≡ token_kind (shape_view self) }
+    {
+        match self {
+            PartShape::Tok(kind) => Some(kind),
+            PartShape::One(_) | PartShape::Many(_) | PartShape::Maybe(_) => None,
+        }
+    }
+}
+
 /// A component of a class.
 #[derive(Debug, Drop)]
 pub struct Part {

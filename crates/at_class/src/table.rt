@@ -55,6 +55,7 @@ impl ClassTable {
         requires { AreNamed (grammar_view grammar.now) }
         ensures faultless { IfOk result (λ t. first_fault (grammar_view grammar.now) ≡ None) }
         ensures built { IfOk result (λ t. t ≡ classes_of (grammar_view grammar.now)) }
+        ensures hierarchy { IfOk result IsHierarchy }
         ensures refused { IfErr result (IsRefusedFor (grammar_view grammar.now)) }
     {
         table_of(alloc, &grammar.classes)
@@ -160,6 +161,7 @@ impl ClassTable {
 
 ghost use Rattle.std.specs.Prelude.{◌≡◌, IfOk, IfErr, None};
 ghost use Rattle.at_model.specs.Declarations.{AreNamed, classes_of, first_fault};
+ghost use Rattle.at_model.specs.WellFormed.{IsHierarchy};
 ghost use Rattle.at_class.specs.Grammar.{declarations_view};
 ghost use Rattle.at_class.specs.Faults.{IsRefusedFor};
 
@@ -167,6 +169,7 @@ fn table_of(alloc: Global, declarations: &[ClassDecl]) -> Result<ClassTable, Cla
     requires { AreNamed (declarations_view declarations.now) }
     ensures faultless { IfOk result (λ t. first_fault (declarations_view declarations.now) ≡ None) }
     ensures built { IfOk result (λ t. t ≡ classes_of (declarations_view declarations.now)) }
+    ensures hierarchy { IfOk result IsHierarchy }
     ensures refused { IfErr result (IsRefusedFor (declarations_view declarations.now)) }
 {
     let names = known_names(alloc, declarations)?;

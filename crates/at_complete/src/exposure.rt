@@ -1,7 +1,7 @@
 //! Classes that may stand where no class above has an equation for an inherited attribute.
 
 ghost use Rattle.std.specs.Prelude.{◌≡◌, ℕ, ◌<◌, true, false, [], length, map, option_map, option_and_then, slice_get, is_some, replicate, None, Some, IfOk, OnOk, if◌then◌else◌};
-ghost use Rattle.at_class.specs.View.{part_view, shape_view};
+ghost use Rattle.at_class.specs.View.{part_view};
 ghost use Rattle.at_model.specs.Classes.{AreSound, class_in, parts};
 ghost use Rattle.at_model.specs.Rules.{attribute_name};
 ghost use Rattle.at_complete.specs.Completing.{leads, is_passed, passed, is_met_concrete, is_among, walk_for, IsExposedBelow, IsExposedWalk, IsFirst, IsMarking, LacksInherited, MeetExposed, Tells};
@@ -10,7 +10,7 @@ ghost use Rattle.at_complete.specs.Walks.{has_met, Meets, MeetsFrom};
 
 use crate::hierarchy::{Hierarchy, is_concrete};
 use crate::walk::Walk;
-use at_class::{ClassId, ClassTable, Part, PartShape};
+use at_class::{ClassId, ClassTable, Part};
 use at_rules::{AttrId, Rules};
 use indexmap::IndexMap;
 use std::alloc::{AllocError, Global};
@@ -220,17 +220,7 @@ fn class_at(parts: &[Part], position: usize) -> Option<ClassId>
     ensures { result ≡ option_and_then (λ p. class_in p.shape) (slice_get (map part_view parts.now) position) }
 {
     match parts.get(position) {
-        Some(part) => class_in(&part.shape),
+        Some(part) => part.shape.class_in(),
         None => None,
-    }
-}
-
-/// The class of the trees in a component.
-fn class_in(shape: &PartShape) -> Option<ClassId>
-    ensures { result ≡ class_in (shape_view shape.now) }
-{
-    match shape {
-        PartShape::One(class) | PartShape::Many(class) | PartShape::Maybe(class) => Some(*class),
-        PartShape::Tok(_) => None,
     }
 }

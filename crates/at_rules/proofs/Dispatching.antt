@@ -11,7 +11,7 @@ use Rattle.at_model.specs.Bodies.{Expr}
 use Rattle.at_model.specs.Rules.{Rules, OwnEquation, first_answer, own_in, own_equation}
 use Rattle.at_model.specs.WellFormed.{IsHierarchy}
 use Rattle.at_class.proofs.Chains.{chain_within-none}
-use Rattle.at_class.proofs.Led.{led}
+use Rattle.at_model.proofs.LedUp.{led}
 use Rattle.at_class.proofs.Named.{position-map}
 use Rattle.at_model.proofs.of_machines.WellAsked.{element_at}
 use Rattle.at_rules.specs.declared.dispatch.Cell.{Cell}

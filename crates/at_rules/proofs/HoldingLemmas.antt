@@ -15,7 +15,7 @@ use Rattle.at_model.specs.Rules.{first_answer}
 use Rattle.at_model.specs.WellFormed.{IsHierarchy}
 use Rattle.at_model.proofs.of_machines.WellAsked.{element_at}
 use Rattle.at_class.proofs.Chains.{chain_within-none}
-use Rattle.at_class.proofs.Led.{led}
+use Rattle.at_model.proofs.LedUp.{led}
 use Rattle.at_class.proofs.Named.{position-map}
 use Rattle.at_rules.specs.declared.body.Body.{Body}
 use Rattle.at_rules.specs.declared.dispatch.Cell.{Cell}

@@ -42,8 +42,14 @@ impl Drop for Equations {
 }
 
 impl Equations {
+    ghost use Rattle.std.specs.Prelude.{◌≡◌, []};
+
     /// None.
-    pub fn new(alloc: Global) -> Equations {
+    pub fn new(alloc: Global) -> Equations
+        ensures attributes { result.attributes.entries ≡ [] }
+        ensures own { result.own.entries ≡ [] }
+        ensures inherited { result.inherited.entries ≡ [] }
+    {
         Equations {
             attributes: IndexMap::new(alloc),
             own: IndexMap::new(alloc),

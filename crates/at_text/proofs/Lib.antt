@@ -16,3 +16,4 @@ pub mod Found
 pub mod Scanned
 pub mod Decimals
 pub mod RowsLemmas
+pub mod Recoded

@@ -6,3 +6,4 @@ pub mod Rows
 pub mod Pieces
 pub mod Faults
 pub mod Front
+pub mod Recoding

@@ -15,6 +15,24 @@ pub enum Fault<C> {
     Memory,
 }
 
+impl<C> Fault<C> {
+    ghost use Rattle.at_text.specs.Recoding.{ForCode, IsRecoded};
+
+    /// The same fault at the same place, by the code that the function gives for its own.
+    pub fn map_code<D, F: FnOnce(C) -> D>(self, code_for: F) -> Fault<D>
+        requires { ForCode self (F.pre code_for) }
+        ensures { IsRecoded (F.post code_for) self result }
+    {
+        match self {
+            Fault::Refused { code, at } => Fault::Refused {
+                code: code_for(code),
+                at,
+            },
+            Fault::Memory => Fault::Memory,
+        }
+    }
+}
+
 impl<C> From<AllocError> for Fault<C> {
     ghost from_gives = { λ _ e. e ≡ fault.Memory };
 

@@ -1,5 +1,6 @@
 //! The tree that a text is written of.
 ghost use Rattle.std.specs.Prelude.{◌≡◌, IfOk, IfErr, true};
+ghost use Rattle.at_model.specs.Classes.{AreSound};
 ghost use Rattle.at_model.specs.Terms.{IsTerm, term_of, tree_text};
 ghost use Rattle.at_model.specs.Trees.{Tree as Nodes, conforms};
 ghost use Rattle.at_tree.specs.TreeView.{tree_view};
@@ -77,8 +78,8 @@ pub fn read_tree(
     ensures again { (u : Nodes) → conforms classes.now u under ≡ true → IsTerm (term_of classes.now u) → tree_text classes.now u ≡ text.now
         → ReadsTree result u }
 {
-    // the classes of a table have a name each, so that a tree is known from its term
-    let _ = classes.len();
+    // `len` says that the classes are sound: each has a name of its own, so that a tree is known from its term.
+    let _count = classes.len();
     match whole_tree(alloc, classes, text, under) {
         Ok(tree) => Ok(tree),
         Err(Untaken::Memory) => Err(ReadFault::Memory),
@@ -93,12 +94,12 @@ fn read_by_term(
     text: &str,
     under: ClassId,
 ) -> Result<Tree, ReadFault>
+    requires { AreSound classes.now }
     ensures found { IfOk result (λ t. IsReadAs classes.now text.now under (tree_view t)) }
     ensures refused { IfErr result (IsUnread classes.now text.now under) }
     ensures again { (u : Nodes) → conforms classes.now u under ≡ true → IsTerm (term_of classes.now u) → tree_text classes.now u ≡ text.now
         → ReadsTree result u }
 {
-    let _ = classes.len();
     let term = read_term(alloc, text)?;
     Ok(shape(alloc, classes, &term, under)?)
 }

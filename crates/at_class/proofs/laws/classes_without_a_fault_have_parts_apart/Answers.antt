@@ -1,7 +1,7 @@
 use Rattle.at_model.specs.Declarations.{classes_of}
 use Rattle.at_class.proofs.Acyclic.{hierarchy}
 use Rattle.at_class.proofs.Apart.{parts_apart}
-use Rattle.at_class.proofs.Led.{led}
+use Rattle.at_model.proofs.LedUp.{led}
 use Rattle.at_class.proofs.Order.{none_broken}
 use Rattle.at_class.proofs.laws.classes_without_a_fault_have_parts_apart.Goals as goal
 

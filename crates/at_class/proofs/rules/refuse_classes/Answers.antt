@@ -10,7 +10,7 @@ use Rattle.at_class.specs.Faults.{IsAt, IsRefusedFor}
 use Rattle.at_class.proofs.Named.{circle-declared, twice-declared, over-declared}
 use Rattle.at_class.proofs.Order.{refused_for, fault_circle, fault_token_kind, fault_component_twice, fault_limit}
 use Rattle.at_class.proofs.Acyclic.{hierarchy}
-use Rattle.at_class.proofs.Led.{led}
+use Rattle.at_model.proofs.LedUp.{led}
 use Rattle.at_class.proofs.Places.{as_many, found_of}
 use Rattle.at_class.proofs.rules.refuse_classes.Goals as goal
 

@@ -1,4 +1,5 @@
-use Rattle.std.proofs.Common.{◌∙◌, ap}
+use Rattle.std.proofs.Common.{◌∙◌, ap, subst, sym}
+use Rattle.at_model.specs.WellFormed.{IsHierarchy}
 use Rattle.at_class.specs.View.{classes_view}
 use Rattle.at_class.specs.Grammar.{declarations_view}
 use Rattle.at_class.proofs.Named.{classes-declared}
@@ -47,3 +48,10 @@ returns-clause-built c =
     let e = classes-declared c.in_ok-names.names.keys xs (classes_view ks) names.0 c.in_ok-classes.ensures in
     let sound = classes_sound ds (longer xs names.1.some) c.requires (view_texts xs) names.1.once in
     table_of_declared c.in_ok-names.names.keys ks c.deref-2.result.now c.in_ok-entries.entries.items xs names.0 e c.deref-2.ensures.value c.in_ok-entries.ensures sound (hierarchy ds sound c.in_ok-refuse_classes.ensures.regular.circle)
+
+pub returns-clause-hierarchy : goal.returns-clause-hierarchy
+returns-clause-hierarchy c =
+    let ds = declarations_view c.args.declarations.now in
+    let names = c.in_ok-names.ensures.known.1 in
+    let sound = classes_sound ds (longer c.args.declarations.now names.some) c.requires (view_texts c.args.declarations.now) names.once in
+    subst IsHierarchy (sym (returns-clause-built c)) (hierarchy ds sound c.in_ok-refuse_classes.ensures.regular.circle)
