@@ -1,5 +1,5 @@
 -- Numbers that are parsed are those that are spelled.
-use Rattle.std.proofs.Common.{◌≡◌, ℕ, ℤ, ◌<◌, ◌^◌, Bool, true, false, List, Result, Ok, pos, negsuc, sym, ◌∙◌, arith}
+use Rattle.std.proofs.Common.{◌≡◌, ℕ, ℤ, ◌<◌, ◌+◌, ◌^◌, [], ◌∷◌, Bool, true, false, List, Result, Ok, pos, negsuc, sym, ◌∙◌, arith}
 use lib.Signed.{mag}
 use mir.Val.{to_z, of_z}
 use Rattle.std.proofs.lemmas.Int.{to_z-of_z}
@@ -8,9 +8,12 @@ use Rattle.std.proofs.lemmas.Slice.Eq.{bytes_eq-Decides}
 use Rattle.std.specs.Prelude.{FitsSigned}
 use Rattle.std.specs.Fmt.{decimal, signed_decimal}
 use Rattle.std.specs.Str.Parse.{ParsesUnsigned, ParsesSigned}
-use Rattle.std.proofs.lemmas.Fmt.{parse-decimal, parse-signed_decimal}
+use Rattle.std.proofs.lemmas.Fmt.{decimal_digit, parse-decimal, parse-signed_decimal}
 use Rattle.std.specs.Int.{w32}
 use Rattle.at_model.specs.Terms.{IsInt32}
+
+pub one_digit : (word : List ℕ) (n : ℕ) → (n < 10) × (word ≡ (48 + n) ∷ []) → word ≡ decimal n
+one_digit word n h = h.1 ∙ sym (decimal_digit n h.0)
 
 pub parsed : {E : Type 0} (word : List ℕ) (r : Result ℕ E) (n : ℕ) → n < 2 ^ 64 → ParsesUnsigned 64 10 word r → word ≡ decimal n → r ≡ Ok n
 parsed word r n small parses is = parse-decimal 64 n word r small small is parses

@@ -1,12 +1,12 @@
--- A word is compared with those of the reserved words alone that share a property with it.
-use Rattle.std.proofs.Common.{◌≡◌, ◌≢◌, ℕ, Bool, true, false, ◌||◌, ◌==◌, not, nat_lt, List, [], ◌∷◌, get_or, length, filter, refl, sym, ap, ◌∙◌, arith}
+-- A word is compared with those of the reserved words alone that begin with the same letter.
+use Rattle.std.proofs.Common.{◌≡◌, ◌≢◌, ℕ, Bool, true, false, ◌||◌, ◌==◌, not, List, [], ◌∷◌, get_or, length, filter, refl, sym, ap, ◌∙◌, arith}
 use Rattle.std.proofs.lemmas.Bool.Decides.{nat_tests}
 use Rattle.std.specs.Prelude.{codes}
 use Rattle.std.specs.List.{list_all, list_any}
 use Rattle.std.specs.Str.{bytes_eq}
 use Rattle.std.proofs.lemmas.Slice.Eq.{bytes_eq-Decides}
 use Rattle.at_model.specs.Names.{is_reserved, reserved_words}
-use Rattle.at_model.proofs.Options.{both, or_false}
+use Rattle.at_model.proofs.Options.{both}
 use Rattle.at_text.proofs.Fronts.{clash, not_false}
 
 -- the text is one of the words
@@ -29,89 +29,96 @@ left has text h (word ∷ words) = decide (has word) refl (left has text h words
     decide true e rest = rw e (ap (λ b. bytes_eq word text || b) rest)
     decide false e rest = rw (e, differs has word text e h) rest
 
-same_either_way : (a b : List ℕ) → bytes_eq a b ≡ bytes_eq b a
-same_either_way a b = decide (bytes_eq a b) (bytes_eq b a) refl refl
-  where
-    decide : (x y : Bool) → bytes_eq a b ≡ x → bytes_eq b a ≡ y → x ≡ y
-    decide true true e f = refl
-    decide true false e f = absurd (clash (bytes_eq b a) ((bytes_eq-Decides b a).1 (sym ((bytes_eq-Decides a b).0 e))) f)
-    decide false true e f = absurd (clash (bytes_eq a b) ((bytes_eq-Decides a b).1 (sym ((bytes_eq-Decides b a).0 f))) e)
-    decide false false e f = refl
+-- the text begins with the byte
+abbrev pub begins_with : ℕ → List ℕ → Bool
+begins_with c text = get_or text 0 0 == c
 
--- the text begins before the small letters
-abbrev pub begins_early : List ℕ → Bool
-begins_early text = nat_lt (get_or text 0 97) 97
+reserved_with : (c : ℕ) (text : List ℕ) → get_or text 0 0 ≡ c → is_among (filter (begins_with c) reserved_words) text ≡ is_reserved text
+reserved_with c text e = let begins : begins_with c text ≡ true = grind (arith, nat_tests, e) in left (begins_with c) text begins reserved_words
 
-early_words : filter begins_early reserved_words ≡ codes "String" ∷ []
+words_with_a : filter (begins_with 97) reserved_words ≡ codes "abstract" ∷ codes "aspect" ∷ []
 unfolding reserved_words
-early_words = refl
+words_with_a = refl
 
-pub reserved_early : (text : List ℕ) → begins_early text ≡ true → bytes_eq text (codes "String") ≡ is_reserved text
-reserved_early text early =
-    same_either_way text (codes "String") ∙ sym (or_false (bytes_eq (codes "String") text)) ∙ ap (λ words. is_among words text) (sym early_words) ∙ left begins_early text early reserved_words
-
--- the text has so many bytes
-abbrev pub is_long : ℕ → List ℕ → Bool
-is_long n text = length text == n
-
-reserved_long : (n : ℕ) (text : List ℕ) → length text ≡ n → is_among (filter (is_long n) reserved_words) text ≡ is_reserved text
-reserved_long n text e = let long : is_long n text ≡ true = grind (arith, nat_tests, e) in left (is_long n) text long reserved_words
-
-two_bytes : filter (is_long 2) reserved_words ≡ codes "eq" ∷ []
+words_with_b : filter (begins_with 98) reserved_words ≡ codes "boolean" ∷ []
 unfolding reserved_words
-two_bytes = refl
+words_with_b = refl
 
-three_bytes : filter (is_long 3) reserved_words ≡ codes "syn" ∷ codes "inh" ∷ codes "nta" ∷ codes "sum" ∷ codes "int" ∷ []
+words_with_c : filter (begins_with 99) reserved_words ≡ codes "circular" ∷ []
 unfolding reserved_words
-three_bytes = refl
+words_with_c = refl
 
-four_bytes : filter (is_long 4) reserved_words ≡ codes "lazy" ∷ codes "true" ∷ codes "null" ∷ codes "this" ∷ []
+words_with_e : filter (begins_with 101) reserved_words ≡ codes "eq" ∷ codes "exists" ∷ []
 unfolding reserved_words
-four_bytes = refl
+words_with_e = refl
 
-five_bytes : filter (is_long 5) reserved_words ≡ codes "false" ∷ codes "first" ∷ []
+words_with_f : filter (begins_with 102) reserved_words ≡ codes "false" ∷ codes "first" ∷ []
 unfolding reserved_words
-five_bytes = refl
+words_with_f = refl
 
-six_bytes : filter (is_long 6) reserved_words ≡ codes "aspect" ∷ codes "return" ∷ codes "exists" ∷ codes "String" ∷ []
+words_with_i : filter (begins_with 105) reserved_words ≡ codes "inh" ∷ codes "instanceof" ∷ codes "int" ∷ []
 unfolding reserved_words
-six_bytes = refl
+words_with_i = refl
 
-seven_bytes : filter (is_long 7) reserved_words ≡ codes "boolean" ∷ []
+words_with_l : filter (begins_with 108) reserved_words ≡ codes "lazy" ∷ []
 unfolding reserved_words
-seven_bytes = refl
+words_with_l = refl
 
-eight_bytes : filter (is_long 8) reserved_words ≡ codes "abstract" ∷ codes "circular" ∷ []
+words_with_n : filter (begins_with 110) reserved_words ≡ codes "nta" ∷ codes "null" ∷ []
 unfolding reserved_words
-eight_bytes = refl
+words_with_n = refl
 
-ten_bytes : filter (is_long 10) reserved_words ≡ codes "instanceof" ∷ []
+words_with_r : filter (begins_with 114) reserved_words ≡ codes "return" ∷ []
 unfolding reserved_words
-ten_bytes = refl
+words_with_r = refl
 
-pub reserved_of_two : (text : List ℕ) → length text ≡ 2 → is_among (codes "eq" ∷ []) text ≡ is_reserved text
-reserved_of_two text e = ap (λ words. is_among words text) (sym two_bytes) ∙ reserved_long 2 text e
+words_with_s : filter (begins_with 115) reserved_words ≡ codes "syn" ∷ codes "sum" ∷ []
+unfolding reserved_words
+words_with_s = refl
 
-pub reserved_of_three : (text : List ℕ) → length text ≡ 3 → is_among (codes "syn" ∷ codes "inh" ∷ codes "nta" ∷ codes "sum" ∷ codes "int" ∷ []) text ≡ is_reserved text
-reserved_of_three text e = ap (λ words. is_among words text) (sym three_bytes) ∙ reserved_long 3 text e
+words_with_t : filter (begins_with 116) reserved_words ≡ codes "true" ∷ codes "this" ∷ []
+unfolding reserved_words
+words_with_t = refl
 
-pub reserved_of_four : (text : List ℕ) → length text ≡ 4 → is_among (codes "lazy" ∷ codes "true" ∷ codes "null" ∷ codes "this" ∷ []) text ≡ is_reserved text
-reserved_of_four text e = ap (λ words. is_among words text) (sym four_bytes) ∙ reserved_long 4 text e
+words_with_capital_s : filter (begins_with 83) reserved_words ≡ codes "String" ∷ []
+unfolding reserved_words
+words_with_capital_s = refl
 
-pub reserved_of_five : (text : List ℕ) → length text ≡ 5 → is_among (codes "false" ∷ codes "first" ∷ []) text ≡ is_reserved text
-reserved_of_five text e = ap (λ words. is_among words text) (sym five_bytes) ∙ reserved_long 5 text e
+pub reserved_with_a : (text : List ℕ) → get_or text 0 0 ≡ 97 → is_among (codes "abstract" ∷ codes "aspect" ∷ []) text ≡ is_reserved text
+reserved_with_a text e = ap (λ words. is_among words text) (sym words_with_a) ∙ reserved_with 97 text e
 
-pub reserved_of_six : (text : List ℕ) → length text ≡ 6 → is_among (codes "aspect" ∷ codes "return" ∷ codes "exists" ∷ codes "String" ∷ []) text ≡ is_reserved text
-reserved_of_six text e = ap (λ words. is_among words text) (sym six_bytes) ∙ reserved_long 6 text e
+pub reserved_with_b : (text : List ℕ) → get_or text 0 0 ≡ 98 → is_among (codes "boolean" ∷ []) text ≡ is_reserved text
+reserved_with_b text e = ap (λ words. is_among words text) (sym words_with_b) ∙ reserved_with 98 text e
 
-pub reserved_of_seven : (text : List ℕ) → length text ≡ 7 → is_among (codes "boolean" ∷ []) text ≡ is_reserved text
-reserved_of_seven text e = ap (λ words. is_among words text) (sym seven_bytes) ∙ reserved_long 7 text e
+pub reserved_with_c : (text : List ℕ) → get_or text 0 0 ≡ 99 → is_among (codes "circular" ∷ []) text ≡ is_reserved text
+reserved_with_c text e = ap (λ words. is_among words text) (sym words_with_c) ∙ reserved_with 99 text e
 
-pub reserved_of_eight : (text : List ℕ) → length text ≡ 8 → is_among (codes "abstract" ∷ codes "circular" ∷ []) text ≡ is_reserved text
-reserved_of_eight text e = ap (λ words. is_among words text) (sym eight_bytes) ∙ reserved_long 8 text e
+pub reserved_with_e : (text : List ℕ) → get_or text 0 0 ≡ 101 → is_among (codes "eq" ∷ codes "exists" ∷ []) text ≡ is_reserved text
+reserved_with_e text e = ap (λ words. is_among words text) (sym words_with_e) ∙ reserved_with 101 text e
 
-pub reserved_of_ten : (text : List ℕ) → length text ≡ 10 → is_among (codes "instanceof" ∷ []) text ≡ is_reserved text
-reserved_of_ten text e = ap (λ words. is_among words text) (sym ten_bytes) ∙ reserved_long 10 text e
+pub reserved_with_f : (text : List ℕ) → get_or text 0 0 ≡ 102 → is_among (codes "false" ∷ codes "first" ∷ []) text ≡ is_reserved text
+reserved_with_f text e = ap (λ words. is_among words text) (sym words_with_f) ∙ reserved_with 102 text e
+
+pub reserved_with_i : (text : List ℕ) → get_or text 0 0 ≡ 105 → is_among (codes "inh" ∷ codes "instanceof" ∷ codes "int" ∷ []) text ≡ is_reserved text
+reserved_with_i text e = ap (λ words. is_among words text) (sym words_with_i) ∙ reserved_with 105 text e
+
+pub reserved_with_l : (text : List ℕ) → get_or text 0 0 ≡ 108 → is_among (codes "lazy" ∷ []) text ≡ is_reserved text
+reserved_with_l text e = ap (λ words. is_among words text) (sym words_with_l) ∙ reserved_with 108 text e
+
+pub reserved_with_n : (text : List ℕ) → get_or text 0 0 ≡ 110 → is_among (codes "nta" ∷ codes "null" ∷ []) text ≡ is_reserved text
+reserved_with_n text e = ap (λ words. is_among words text) (sym words_with_n) ∙ reserved_with 110 text e
+
+pub reserved_with_r : (text : List ℕ) → get_or text 0 0 ≡ 114 → is_among (codes "return" ∷ []) text ≡ is_reserved text
+reserved_with_r text e = ap (λ words. is_among words text) (sym words_with_r) ∙ reserved_with 114 text e
+
+pub reserved_with_s : (text : List ℕ) → get_or text 0 0 ≡ 115 → is_among (codes "syn" ∷ codes "sum" ∷ []) text ≡ is_reserved text
+reserved_with_s text e = ap (λ words. is_among words text) (sym words_with_s) ∙ reserved_with 115 text e
+
+pub reserved_with_t : (text : List ℕ) → get_or text 0 0 ≡ 116 → is_among (codes "true" ∷ codes "this" ∷ []) text ≡ is_reserved text
+reserved_with_t text e = ap (λ words. is_among words text) (sym words_with_t) ∙ reserved_with 116 text e
+
+pub reserved_with_capital_s : (text : List ℕ) → get_or text 0 0 ≡ 83 → is_among (codes "String" ∷ []) text ≡ is_reserved text
+reserved_with_capital_s text e = ap (λ words. is_among words text) (sym words_with_capital_s) ∙ reserved_with 83 text e
 
 none_among : (has : List ℕ → Bool) (text : List ℕ) → has text ≡ true → (words : List (List ℕ)) → list_all (λ w. not (has w)) words ≡ true → is_among words text ≡ false
 none_among has text h [] e = refl
@@ -119,15 +126,17 @@ none_among has text h (word ∷ words) e =
     let f = both (not (has word)) (list_all (λ w. not (has w)) words) e in
     rw (differs has word text (not_false (has word) f.0) h) (none_among has text h words f.1)
 
-no_bytes : (n : ℕ) → (2 == n) ≡ false → (3 == n) ≡ false → (4 == n) ≡ false → (5 == n) ≡ false → (6 == n) ≡ false → (7 == n) ≡ false → (8 == n) ≡ false → (10 == n) ≡ false → list_all (λ w. not (is_long n w)) reserved_words ≡ true
+no_letter : (c : ℕ) → (97 == c) ≡ false → (98 == c) ≡ false → (99 == c) ≡ false → (101 == c) ≡ false → (102 == c) ≡ false → (105 == c) ≡ false → (108 == c) ≡ false → (110 == c) ≡ false → (114 == c) ≡ false → (115 == c) ≡ false → (116 == c) ≡ false → (83 == c) ≡ false
+    → list_all (λ w. not (begins_with c w)) reserved_words ≡ true
 unfolding reserved_words
-no_bytes n e2 e3 e4 e5 e6 e7 e8 e10 = rw (e2, e3, e4, e5, e6, e7, e8, e10) refl
+no_letter c e97 e98 e99 e101 e102 e105 e108 e110 e114 e115 e116 e83 = rw (e97, e98, e99, e101, e102, e105, e108, e110, e114, e115, e116, e83) refl
 
 other : (k n : ℕ) → n ≢ k → (k == n) ≡ false
 other k n e = grind (arith, nat_tests)
 
-pub reserved_of_no_other : (text : List ℕ) → length text ≢ 2 → length text ≢ 3 → length text ≢ 4 → length text ≢ 5 → length text ≢ 6 → length text ≢ 7 → length text ≢ 8 → length text ≢ 10 → false ≡ is_reserved text
-reserved_of_no_other text e2 e3 e4 e5 e6 e7 e8 e10 =
-    let n = length text in
-    let long : is_long n text ≡ true = grind (arith, nat_tests) in
-    sym (none_among (is_long n) text long reserved_words (no_bytes n (other 2 n e2) (other 3 n e3) (other 4 n e4) (other 5 n e5) (other 6 n e6) (other 7 n e7) (other 8 n e8) (other 10 n e10)))
+pub reserved_with_no_other : (text : List ℕ) → get_or text 0 0 ≢ 97 → get_or text 0 0 ≢ 98 → get_or text 0 0 ≢ 99 → get_or text 0 0 ≢ 101 → get_or text 0 0 ≢ 102 → get_or text 0 0 ≢ 105 → get_or text 0 0 ≢ 108 → get_or text 0 0 ≢ 110 → get_or text 0 0 ≢ 114 → get_or text 0 0 ≢ 115 → get_or text 0 0 ≢ 116 → get_or text 0 0 ≢ 83
+    → false ≡ is_reserved text
+reserved_with_no_other text e97 e98 e99 e101 e102 e105 e108 e110 e114 e115 e116 e83 =
+    let c = get_or text 0 0 in
+    let begins : begins_with c text ≡ true = grind (arith, nat_tests) in
+    sym (none_among (begins_with c) text begins reserved_words (no_letter c (other 97 c e97) (other 98 c e98) (other 99 c e99) (other 101 c e101) (other 102 c e102) (other 105 c e105) (other 108 c e108) (other 110 c e110) (other 114 c e114) (other 115 c e115) (other 116 c e116) (other 83 c e83)))

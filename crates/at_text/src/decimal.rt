@@ -1,5 +1,5 @@
 //! Numbers as texts: one spelling for each number.
-ghost use Rattle.std.specs.Prelude.{◌≡◌, ◌≢◌, ◌≤◌, ◌<◌, ◌^◌, ◌++◌, ℕ, ℤ, OnOk, OnErr, MatchOption, vec_capacity};
+ghost use Rattle.std.specs.Prelude.{◌≡◌, ◌≢◌, ◌≤◌, ◌<◌, ◌^◌, ◌+◌, ◌++◌, ◌∷◌, [], ℕ, ℤ, IfSome, OnOk, OnErr, MatchOption, vec_capacity};
 ghost use Rattle.std.specs.Fmt.{decimal, signed_decimal};
 ghost use Rattle.at_model.specs.Terms.{IsInt32};
 
@@ -16,6 +16,16 @@ pub fn write_int(n: i64, out: &mut Vec<u8>) -> Result<(), AllocError>
     out.extend_from_slice(Buffer::new().format(n).as_bytes())
 }
 
+/// The number that the word spells, where it is a single digit.
+fn single_digit(word: &str) -> Option<u64>
+    ensures { IfSome result (λ n. (n < 10) × (word.now ≡ (48 + n) ∷ [])) }
+{
+    match word.as_bytes() {
+        [digit] if digit.is_ascii_digit() => Some(u64::from(*digit - b'0')),
+        _ => None,
+    }
+}
+
 /// The number of 64 bits whose decimal the word is. The decimal has no sign, and no zero before
 /// another digit.
 pub fn read_number(word: &str) -> Option<u64>
@@ -23,6 +33,9 @@ pub fn read_number(word: &str) -> Option<u64>
         ((n : ℕ) → n < 2 ^ 64 → word.now ≢ decimal n)
         (λ n. word.now ≡ decimal n) }
 {
+    if let Some(digit) = single_digit(word) {
+        return Some(digit);
+    }
     let Ok(number) = word.parse::<u64>() else {
         return None;
     };

@@ -1,23 +1,31 @@
 //! Names: what may name a class, a component, an attribute or a mark.
-ghost use Rattle.std.specs.Prelude.{◌≡◌, chars, nat_lt, get_or};
+ghost use Rattle.std.specs.Prelude.{◌≡◌, chars, get_or};
 ghost use Rattle.at_model.specs.Names.{starts_name, continues_name, is_reserved, is_word, is_name};
 
-// The words that have a meaning of their own in grammars and aspects, by how many bytes they have.
-const OF_TWO: [&str; 1] = ["eq"];
+// The words that have a meaning of their own in grammars and aspects, by the letter with which they begin.
+const WITH_A: [&str; 2] = ["abstract", "aspect"];
 
-const OF_THREE: [&str; 5] = ["syn", "inh", "nta", "sum", "int"];
+const WITH_B: [&str; 1] = ["boolean"];
 
-const OF_FOUR: [&str; 4] = ["lazy", "true", "null", "this"];
+const WITH_C: [&str; 1] = ["circular"];
 
-const OF_FIVE: [&str; 2] = ["false", "first"];
+const WITH_E: [&str; 2] = ["eq", "exists"];
 
-const OF_SIX: [&str; 4] = ["aspect", "return", "exists", "String"];
+const WITH_F: [&str; 2] = ["false", "first"];
 
-const OF_SEVEN: [&str; 1] = ["boolean"];
+const WITH_I: [&str; 3] = ["inh", "instanceof", "int"];
 
-const OF_EIGHT: [&str; 2] = ["abstract", "circular"];
+const WITH_L: [&str; 1] = ["lazy"];
 
-const OF_TEN: [&str; 1] = ["instanceof"];
+const WITH_N: [&str; 2] = ["nta", "null"];
+
+const WITH_R: [&str; 1] = ["return"];
+
+const WITH_S: [&str; 2] = ["syn", "sum"];
+
+const WITH_T: [&str; 2] = ["true", "this"];
+
+const WITH_CAPITAL_S: [&str; 1] = ["String"];
 
 /// Whether a name may begin with the character (Unicode Standard Annex 31, and the underscore).
 pub fn starts_name(c: char) -> bool
@@ -33,14 +41,13 @@ pub fn continues_name(c: char) -> bool
     unicode_ident::is_xid_continue(c)
 }
 
-/// Whether the word begins with a character before the small letters, as names of classes and components mostly do.
-fn begins_before_a(word: &str) -> bool
-    // 97 is the first small letter
-    ensures { result ≡ nat_lt (get_or word.now 0 97) 97 }
+/// The first byte of the word; 0 where it has none.
+fn first_byte(word: &str) -> u8
+    ensures { result ≡ get_or word.now 0 0 }
 {
     match word.as_bytes() {
-        [first, ..] => *first < b'a',
-        [] => false,
+        [first, ..] => *first,
+        [] => 0,
     }
 }
 
@@ -48,19 +55,19 @@ fn begins_before_a(word: &str) -> bool
 pub fn is_reserved(word: &str) -> bool
     ensures { result ≡ is_reserved word.now }
 {
-    if begins_before_a(word) {
-        // the only such word of them
-        return word == "String";
-    }
-    match word.len() {
-        2 => OF_TWO.contains(&word),
-        3 => OF_THREE.contains(&word),
-        4 => OF_FOUR.contains(&word),
-        5 => OF_FIVE.contains(&word),
-        6 => OF_SIX.contains(&word),
-        7 => OF_SEVEN.contains(&word),
-        8 => OF_EIGHT.contains(&word),
-        10 => OF_TEN.contains(&word),
+    match first_byte(word) {
+        b'a' => WITH_A.contains(&word),
+        b'b' => WITH_B.contains(&word),
+        b'c' => WITH_C.contains(&word),
+        b'e' => WITH_E.contains(&word),
+        b'f' => WITH_F.contains(&word),
+        b'i' => WITH_I.contains(&word),
+        b'l' => WITH_L.contains(&word),
+        b'n' => WITH_N.contains(&word),
+        b'r' => WITH_R.contains(&word),
+        b's' => WITH_S.contains(&word),
+        b't' => WITH_T.contains(&word),
+        b'S' => WITH_CAPITAL_S.contains(&word),
         _ => false,
     }
 }

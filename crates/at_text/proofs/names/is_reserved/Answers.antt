@@ -1,33 +1,42 @@
 use Rattle.std.proofs.Common.{◌∙◌, sym, arith}
-use Rattle.at_text.proofs.Reserved.{reserved_early, reserved_of_two, reserved_of_three, reserved_of_four, reserved_of_five, reserved_of_six, reserved_of_seven, reserved_of_eight, reserved_of_ten, reserved_of_no_other}
+use Rattle.at_text.proofs.Reserved.{reserved_with_a, reserved_with_b, reserved_with_c, reserved_with_e, reserved_with_f, reserved_with_i, reserved_with_l, reserved_with_n, reserved_with_r, reserved_with_s, reserved_with_t, reserved_with_capital_s, reserved_with_no_other}
 use Rattle.at_text.proofs.names.is_reserved.Goals as goal
 
-pub returns-then-begins_before_a : goal.returns-then-begins_before_a
-returns-then-begins_before_a c = c.eq.ensures ∙ reserved_early c.args.word.now (sym c.begins_before_a.ensures ∙ c.if-begins_before_a.true)
+pub returns-in-97 : goal.returns-in-97
+returns-in-97 c = c.contains.ensures.value ∙ reserved_with_a c.args.word.now (sym c.first_byte.ensures ∙ c.in-97.is)
 
-pub returns-in-2 : goal.returns-in-2
-returns-in-2 c = c.contains.ensures.value ∙ reserved_of_two c.args.word.now c.in-2.is
+pub returns-in-98 : goal.returns-in-98
+returns-in-98 c = c.contains-in-98.ensures.value ∙ reserved_with_b c.args.word.now (sym c.first_byte.ensures ∙ c.in-98.is)
 
-pub returns-in-3 : goal.returns-in-3
-returns-in-3 c = c.contains-in-3.ensures.value ∙ reserved_of_three c.args.word.now c.in-3.is
+pub returns-in-99 : goal.returns-in-99
+returns-in-99 c = c.contains-in-99.ensures.value ∙ reserved_with_c c.args.word.now (sym c.first_byte.ensures ∙ c.in-99.is)
 
-pub returns-in-4 : goal.returns-in-4
-returns-in-4 c = c.contains-in-4.ensures.value ∙ reserved_of_four c.args.word.now c.in-4.is
+pub returns-in-101 : goal.returns-in-101
+returns-in-101 c = c.contains-in-101.ensures.value ∙ reserved_with_e c.args.word.now (sym c.first_byte.ensures ∙ c.in-101.is)
 
-pub returns-in-5 : goal.returns-in-5
-returns-in-5 c = c.contains-in-5.ensures.value ∙ reserved_of_five c.args.word.now c.in-5.is
+pub returns-in-102 : goal.returns-in-102
+returns-in-102 c = c.contains-in-102.ensures.value ∙ reserved_with_f c.args.word.now (sym c.first_byte.ensures ∙ c.in-102.is)
 
-pub returns-in-6 : goal.returns-in-6
-returns-in-6 c = c.contains-in-6.ensures.value ∙ reserved_of_six c.args.word.now c.in-6.is
+pub returns-in-105 : goal.returns-in-105
+returns-in-105 c = c.contains-in-105.ensures.value ∙ reserved_with_i c.args.word.now (sym c.first_byte.ensures ∙ c.in-105.is)
 
-pub returns-in-7 : goal.returns-in-7
-returns-in-7 c = c.contains-in-7.ensures.value ∙ reserved_of_seven c.args.word.now c.in-7.is
+pub returns-in-108 : goal.returns-in-108
+returns-in-108 c = c.contains-in-108.ensures.value ∙ reserved_with_l c.args.word.now (sym c.first_byte.ensures ∙ c.in-108.is)
 
-pub returns-in-8 : goal.returns-in-8
-returns-in-8 c = c.contains-in-8.ensures.value ∙ reserved_of_eight c.args.word.now c.in-8.is
+pub returns-in-110 : goal.returns-in-110
+returns-in-110 c = c.contains-in-110.ensures.value ∙ reserved_with_n c.args.word.now (sym c.first_byte.ensures ∙ c.in-110.is)
 
-pub returns-in-10 : goal.returns-in-10
-returns-in-10 c = c.contains-in-10.ensures.value ∙ reserved_of_ten c.args.word.now c.in-10.is
+pub returns-in-114 : goal.returns-in-114
+returns-in-114 c = c.contains-in-114.ensures.value ∙ reserved_with_r c.args.word.now (sym c.first_byte.ensures ∙ c.in-114.is)
+
+pub returns-in-115 : goal.returns-in-115
+returns-in-115 c = c.contains-in-115.ensures.value ∙ reserved_with_s c.args.word.now (sym c.first_byte.ensures ∙ c.in-115.is)
+
+pub returns-in-116 : goal.returns-in-116
+returns-in-116 c = c.contains-in-116.ensures.value ∙ reserved_with_t c.args.word.now (sym c.first_byte.ensures ∙ c.in-116.is)
+
+pub returns-in-83 : goal.returns-in-83
+returns-in-83 c = c.contains-in-83.ensures.value ∙ reserved_with_capital_s c.args.word.now (sym c.first_byte.ensures ∙ c.in-83.is)
 
 pub returns-in_default : goal.returns-in_default
-returns-in_default c = reserved_of_no_other c.args.word.now (omega arith) (omega arith) (omega arith) (omega arith) (omega arith) (omega arith) (omega arith) (omega arith)
+returns-in_default c = reserved_with_no_other c.args.word.now (omega arith) (omega arith) (omega arith) (omega arith) (omega arith) (omega arith) (omega arith) (omega arith) (omega arith) (omega arith) (omega arith) (omega arith)
