@@ -130,7 +130,7 @@ def declarations(bench):
     for where, lines in (("at its end", f"0 ask /Block/Stmt:{count - 1} value()\n"),
                          ("from the front", "".join(f"0 ask /Block/Stmt:{k} value()\n" for k in range(count)))):
         time, peak = bench.spent(words, lines)
-        bench.told(f"a chain of {count:,} declarations asked {where}, in MiB", peak / 1024)
+        bench.told(f"a chain of {count:,} declarations asked {where}, in MiB", peak / 1024, 260)
         bench.told("the same, in seconds", time)
 
 

@@ -9,7 +9,7 @@ use Rattle.at_store.specs.Located.{loc_view}
 use Rattle.at_body.specs.Values.{value_view}
 use Rattle.at_body.specs.declared.value.Value.{Value as ValueCode}
 use Rattle.at_body.specs.declared.trial.Step.TheVariants as step
-use Rattle.at_cache.specs.Kept.{Entries, AreKept}
+use Rattle.at_cache.specs.Kept.{Entries}
 use Rattle.at_demand.specs.declared.answer.Answer.{Answer as AnswerCode}
 use Rattle.at_demand.specs.declared.answer.Answer.TheVariants as answer
 use Rattle.at_demand.specs.declared.evaluation.Find.{Find}
@@ -18,6 +18,7 @@ use Rattle.at_demand.specs.declared.evaluation.Advance.{Advance}
 use Rattle.at_demand.specs.declared.evaluation.Advance.TheVariants as advance
 use Rattle.at_demand.specs.Known.{meaning, MayAdd, answer_view}
 use Rattle.at_demand.specs.UnderWay.{IsOrderlyIn, IsAdvance, HasAscended, IsTrueIn, IsRightAdvance}
+use Rattle.at_demand.specs.Stacked.{IsStackedIn}
 use Rattle.at_demand.specs.Covering.{IsCoveringIn, IsCoveringAdvance}
 use Rattle.at_demand.specs.Sparing.{AreOnly, MayAddLazy, IsSparing, IsSparingAdvance}
 use Rattle.at_demand.specs.Typing.{AreTypedWaiting, IsTypedIn, IsTypedAdvance}
@@ -28,10 +29,10 @@ use Rattle.at_demand.proofs.SparingOn.{ends_all, settles_sparing}
 use Rattle.at_demand.proofs.TypingLemmas.{settles_typed}
 
 module _ (entries more : Entries) (old new : Evaluation) (d : Find) where
-  pub ascends : (v : Value ℕ) → IsOrderlyIn entries old → MayAdd entries more old.inst v → AreKept entries d.demanded.kept.items → (t : Advance) → HasAscended old d new t → IsAdvance more old new t
-  ascends v q adds kept (advance.GoesOn s) a = let (up, same) = a in settles entries more old new v q adds new.inst new.frame d up.waits kept up.settled same refl refl up.few up.finds up.counts
-  ascends v q adds kept (advance.Fails k) a = absurd a
-  ascends v q adds kept (advance.Answers x) a = tt
+  pub ascends : (v : Value ℕ) → IsOrderlyIn entries old → IsStackedIn old → MayAdd entries more old.inst v → d.demanded ≡ old.frame.demanded → (t : Advance) → HasAscended old d new t → IsAdvance more old new t
+  ascends v q stacked adds demanded (advance.GoesOn s) a = let (up, same) = a in settles entries more old new v q stacked adds new.inst new.frame d up.waits demanded up.settled same refl refl up.few up.finds up.counts
+  ascends v q stacked adds demanded (advance.Fails k) a = absurd a
+  ascends v q stacked adds demanded (advance.Answers x) a = tt
 
   module _ (rules : Rules) (look : Contents ℕ) (v : ValueCode) (q : IsOrderlyIn entries old) where
     pub ascends_true : (asked : Instance ℕ) → IsTrueIn rules look asked entries old (step.Value v) → MayAdd entries more old.inst (value_view v) → d.value ≡ v → (t : Advance) → HasAscended old d new t → IsRightAdvance rules look asked more new t

@@ -2,6 +2,7 @@ pub mod Sameness
 pub mod Coming
 pub mod Chains
 pub mod Keys
+pub mod of_cutting
 pub mod Orderly
 pub mod Recalling
 pub mod Truth

@@ -1,5 +1,5 @@
 -- A question stays orderly while it goes on.
-use Rattle.std.proofs.Common.{◌≡◌, ◌⊎◌, ℕ, suc, ◌+◌, ◌*◌, ◌^◌, ◌<◌, OnOk, Ok, Err, List, [], ◌∷◌, ◌++◌, length, Option, Some, None, inl, inr, refl, sym, ap, ◌∙◌, subst, arith}
+use Rattle.std.proofs.Common.{◌≡◌, ◌⊎◌, ℕ, suc, ◌+◌, ◌*◌, ◌^◌, ◌<◌, OnOk, Ok, Err, List, [], ◌∷◌, ◌++◌, length, take, Option, Some, None, inl, inr, refl, sym, ap, ◌∙◌, subst, arith}
 use Rattle.std.specs.Prelude.{IsSome, Result}
 use Rattle.std.proofs.lemmas.List.Elements.{Contains-append_cases, Contains-push_cases}
 use Rattle.std.specs.Option.{option_map}
@@ -12,11 +12,15 @@ use Rattle.at_model.proofs.Members.{among_last, among_push, distinct_push, disti
 use Rattle.at_body.specs.Same.{same_instance}
 use Rattle.at_body.specs.Values.{value_view}
 use Rattle.at_cache.specs.Kept.{Kept, Entries, AreKept}
+use Rattle.at_demand.specs.declared.evaluation.Demanded.{Demanded}
 use Rattle.at_demand.specs.declared.evaluation.Find.{Find}
 use Rattle.at_demand.specs.declared.evaluation.Frame.{Frame}
 use Rattle.at_demand.specs.declared.evaluation.Evaluation.{Evaluation}
 use Rattle.at_demand.specs.Known.{found_values, known_in, MayAdd, WaitingKept, FoundKept}
 use Rattle.at_demand.specs.UnderWay.{chain_of, IsOrderly, IsOrderlyIn, GoesOn, progress}
+use Rattle.at_demand.specs.Stacked.{IsStacked, IsStackedIn, HasCut}
+use Rattle.at_demand.proofs.of_cutting.Firsts.{open_cut, kept_cut}
+use Rattle.at_demand.proofs.of_cutting.Stacking.{deepens_stacked, settles_stacked, passes_stacked}
 use Rattle.at_demand.proofs.Keys.{lookup_push, lookup_other, goes_last, no_key, keys_push, length_push}
 
 pub some_value : (o : Option Kept) (v : Value ℕ) → option_map (λ (k : Kept). k.value) o ≡ Some v → IsSome o
@@ -165,51 +169,56 @@ further m k n m' k' n' a b c = omega (arith, a, b, c)
 further_found : (m k n m' k' n' : ℕ) → m' ≡ suc m → k' ≡ k → n ≡ suc n' → 2 * (m + k) + n < 2 * (m' + k') + n'
 further_found m k n m' k' n' a b c = omega (arith, a, b, c)
 
-further_kept : (m k n m' k' n' : ℕ) → m' ≡ m → k' ≡ k + 1 → n ≡ suc n' → 2 * (m + k) + n < 2 * (m' + k') + n'
-further_kept m k n m' k' n' a b c = omega (arith, a, b, c)
+further_kept : (m k n m' k' n' : ℕ) → m' + k' ≡ m + k + 1 → n ≡ suc n' → 2 * (m + k) + n < 2 * (m' + k') + n'
+further_kept m k n m' k' n' a b = omega (arith, a, b)
 
 few : (m k n : ℕ) → m < 2 ^ 64 → k < 2 ^ 64 → n < 2 ^ 64 → 2 * (m + k) + n < 2 ^ 67
 few m k n a b c = omega (arith, a, b, c)
 
-pub deepens : (entries : Entries) (old new : Evaluation) (j : Instance ℕ) → IsOrderlyIn entries old → lookup (same_instance j) old.found.entries ≡ None → entries j ≡ None → (Among j (chain_of old.waiting.entries old.inst) → ⊥) →
-    new.waiting.entries ≡ insert_entry same_instance old.waiting.entries old.inst old.frame → new.found.entries ≡ old.found.entries → new.kept ≡ old.kept → new.inst ≡ j → new.frame.demanded.kept.items ≡ [] →
-    length new.waiting.entries < 2 ^ 64 → length new.found.entries < 2 ^ 64 → new.kept < 2 ^ 64 → GoesOn entries (progress old) new
-deepens entries old new j q found kept fresh waiting same counted last none a b c =
+pub deepens : (entries : Entries) (old new : Evaluation) (j : Instance ℕ) → IsOrderlyIn entries old → IsStackedIn old → lookup (same_instance j) old.found.entries ≡ None → entries j ≡ None → (Among j (chain_of old.waiting.entries old.inst) → ⊥) →
+    new.waiting.entries ≡ insert_entry same_instance old.waiting.entries old.inst old.frame → new.found.entries ≡ old.found.entries → new.gone ≡ old.gone → new.inst ≡ j → new.frame.start ≡ length old.found.entries → new.frame.demanded.kept.items ≡ [] → new.frame.demanded.finds.items ≡ [] →
+    length new.waiting.entries < 2 ^ 64 → length new.found.entries < 2 ^ 64 → new.gone < 2 ^ 64 → GoesOn entries (progress old) new
+deepens entries old new j q stacked found kept fresh waiting same counted last start none unfound a b c =
     let ws = old.waiting.entries in
     let fs = old.found.entries in
     let goes = waiting ∙ waits_last entries ws fs old.inst _ q old.frame in
     record {
       orderly = moved entries _ _ _ _ _ _ _ _ (descended entries ws fs old.inst _ q j old.frame found kept fresh q.last_kept) (sym goes) (sym same) (sym last) (sym none);
-      further = further (length fs) old.kept (length ws) (length new.found.entries) new.kept (length new.waiting.entries) (ap length same) counted (ap length goes ∙ length_push ws (old.inst, old.frame));
-      few = few (length new.found.entries) new.kept (length new.waiting.entries) b c a;
+      stacked = deepens_stacked ws fs old.inst old.frame stacked new.waiting.entries new.found.entries new.frame goes same start unfound;
+      further = further (length fs) old.gone (length ws) (length new.found.entries) new.gone (length new.waiting.entries) (ap length same) counted (ap length goes ∙ length_push ws (old.inst, old.frame));
+      few = few (length new.found.entries) new.gone (length new.waiting.entries) b c a;
     }
 
-pub settles : (entries more : Entries) (old new : Evaluation) (v : Value ℕ) → IsOrderlyIn entries old → MayAdd entries more old.inst v → (b : Instance ℕ) (f : Frame) (d : Find) →
-    old.waiting.entries ≡ new.waiting.entries ++ (b, f) ∷ [] → AreKept entries d.demanded.kept.items → new.found.entries ≡ insert_entry same_instance old.found.entries old.inst d → new.kept ≡ old.kept → new.inst ≡ b → new.frame ≡ f →
-    length new.waiting.entries < 2 ^ 64 → length new.found.entries < 2 ^ 64 → new.kept < 2 ^ 64 → GoesOn more (progress old) new
-settles entries more old new v q adds b f d waiting kept found counted last same few_wait few_found few_kept =
+pub settles : (entries more : Entries) (old new : Evaluation) (v : Value ℕ) → IsOrderlyIn entries old → IsStackedIn old → MayAdd entries more old.inst v → (b : Instance ℕ) (f : Frame) (d : Find) →
+    old.waiting.entries ≡ new.waiting.entries ++ (b, f) ∷ [] → d.demanded ≡ old.frame.demanded → new.found.entries ≡ insert_entry same_instance old.found.entries old.inst d → new.gone ≡ old.gone → new.inst ≡ b → new.frame ≡ f →
+    length new.waiting.entries < 2 ^ 64 → length new.found.entries < 2 ^ 64 → new.gone < 2 ^ 64 → GoesOn more (progress old) new
+settles entries more old new v q stacked adds b f d waiting demanded found counted last same few_wait few_found few_kept =
     let ws = old.waiting.entries in
     let fs = old.found.entries in
     let goes = found ∙ found_last entries ws fs old.inst _ q d in
+    let kept = subst (λ (x : Demanded). AreKept entries x.kept.items) (sym demanded) q.last_kept in
     record {
       orderly = moved more _ _ _ _ _ _ _ _ (settled entries ws fs old.inst _ q more v adds b f new.waiting.entries waiting d kept) refl (sym goes) (sym last) (sym (ap (λ (x : Frame). x.demanded.kept.items) same));
-      further = further_found (length fs) old.kept (length ws) (length new.found.entries) new.kept (length new.waiting.entries) (ap length goes ∙ length_push fs (old.inst, d)) counted (ap length waiting ∙ length_push new.waiting.entries (b, f));
-      few = few (length new.found.entries) new.kept (length new.waiting.entries) few_found few_kept few_wait;
+      stacked = subst (IsStacked new.waiting.entries new.found.entries) (sym same) (settles_stacked ws fs old.inst old.frame stacked new.waiting.entries b f waiting new.found.entries d goes demanded);
+      further = further_found (length fs) old.gone (length ws) (length new.found.entries) new.gone (length new.waiting.entries) (ap length goes ∙ length_push fs (old.inst, d)) counted (ap length waiting ∙ length_push new.waiting.entries (b, f));
+      few = few (length new.found.entries) new.gone (length new.waiting.entries) few_found few_kept few_wait;
     }
 
 -- the last one came to be kept, and the one that waited for it took it
-pub passes : (entries more : Entries) (old new : Evaluation) (v : Value ℕ) (f : Frame) → IsOrderlyIn entries old → MayAdd entries more old.inst v → IsSome (more old.inst) → old.waiting.entries ≡ new.waiting.entries ++ (new.inst, f) ∷ [] →
-    new.frame.demanded.kept.items ≡ f.demanded.kept.items ++ old.inst ∷ [] → new.found.entries ≡ old.found.entries → new.kept ≡ old.kept + 1 → length new.waiting.entries < 2 ^ 64 → length new.found.entries < 2 ^ 64 → new.kept < 2 ^ 64 → GoesOn more (progress old) new
-passes entries more old new v f q adds some waiting took found counted few_wait few_found few_kept =
+pub passes : (entries more : Entries) (old new : Evaluation) (v : Value ℕ) (f : Frame) → IsOrderlyIn entries old → IsStackedIn old → MayAdd entries more old.inst v → IsSome (more old.inst) → old.waiting.entries ≡ new.waiting.entries ++ (new.inst, f) ∷ [] →
+    new.frame.demanded.kept.items ≡ f.demanded.kept.items ++ old.inst ∷ [] → new.frame.demanded.finds.items ≡ f.demanded.finds.items → new.frame.start ≡ f.start → HasCut old.frame.start old.found.entries new.found.entries →
+    length new.found.entries + new.gone ≡ length old.found.entries + old.gone + 1 → length new.waiting.entries < 2 ^ 64 → length new.found.entries < 2 ^ 64 → new.gone < 2 ^ 64 → GoesOn more (progress old) new
+passes entries more old new v f q stacked adds some waiting took finds start (n, least, cut) counted few_wait few_found few_kept =
     let ws = old.waiting.entries in
     let fs = old.found.entries in
     let up = risen entries ws fs old.inst _ q more v adds new.inst f new.waiting.entries waiting in
     let P : List (Instance ℕ × Find) → Type 0 = λ x. IsOrderly more new.waiting.entries x new.inst new.frame.demanded.kept.items in
-    let there : P fs = record { distinct = up.distinct; open_ones = up.open_ones; unkept = up.unkept; waiting_kept = up.waiting_kept; found_kept = up.found_kept; last_kept = subst (AreKept more) (sym took) (kept_more more f.demanded.kept.items old.inst up.last_kept some) } in
+    let there : P (take n fs) = record { distinct = up.distinct; open_ones = λ j h. open_cut n fs j (up.open_ones j h); unkept = up.unkept; waiting_kept = up.waiting_kept; found_kept = kept_cut n fs more up.found_kept; last_kept = subst (AreKept more) (sym took) (kept_more more f.demanded.kept.items old.inst up.last_kept some) } in
     record {
-      orderly = subst P (sym found) there;
-      further = further_kept (length fs) old.kept (length ws) (length new.found.entries) new.kept (length new.waiting.entries) (ap length found) counted (ap length waiting ∙ length_push new.waiting.entries (new.inst, f));
-      few = few (length new.found.entries) new.kept (length new.waiting.entries) few_found few_kept few_wait;
+      orderly = subst P (sym cut) there;
+      stacked = passes_stacked ws fs old.inst old.frame stacked new.waiting.entries new.inst f waiting new.found.entries new.frame (n, least, cut) start finds;
+      further = further_kept (length fs) old.gone (length ws) (length new.found.entries) new.gone (length new.waiting.entries) counted (ap length waiting ∙ length_push new.waiting.entries (new.inst, f));
+      few = few (length new.found.entries) new.gone (length new.waiting.entries) few_found few_kept few_wait;
     }
 
 -- what isn't known is neither kept nor found

@@ -6,6 +6,7 @@ pub mod Touched
 pub mod Covering
 pub mod Only
 pub mod Sparing
+pub mod Stacked
 pub mod Spared
 pub mod Called
 pub mod Turns

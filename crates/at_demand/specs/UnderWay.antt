@@ -22,6 +22,7 @@ use Rattle.at_demand.specs.declared.evaluation.Evaluation.{Evaluation}
 use Rattle.at_demand.specs.declared.evaluation.Advance.{Advance}
 use Rattle.at_demand.specs.declared.evaluation.Advance.TheVariants as advance
 use Rattle.at_demand.specs.declared.answer.Answer.TheVariants as answer
+use Rattle.at_demand.specs.Stacked.{IsStackedIn, HasCut}
 use Rattle.at_demand.specs.Known.{meaning, kept_values, found_values, WaitingKept, FoundKept, answer_view}
 
 -- what is left of an evaluation that has come so far
@@ -70,13 +71,14 @@ pub record IsOrderly (entries : Entries) (waiting : List (Instance ℕ × Frame)
 abbrev pub IsOrderlyIn : Entries → Evaluation → Type 0
 IsOrderlyIn entries q = IsOrderly entries q.waiting.entries q.found.entries q.inst q.frame.demanded.kept.items
 
--- how far a question has come: an instance counts once when it waits, and twice when it is found or came to be kept
+-- how far a question has come: an instance counts once when it waits, and twice when it was found or came to be kept
 abbrev pub progress : Evaluation → ℕ
-progress q = 2 * (length q.found.entries + q.kept) + length q.waiting.entries
+progress q = 2 * (length q.found.entries + q.gone) + length q.waiting.entries
 
 -- the question goes on, further than it was
 pub record GoesOn (entries : Entries) (done : ℕ) (new : Evaluation) : Type 0 where
   pub orderly : IsOrderlyIn entries new
+  pub stacked : IsStackedIn new
   pub further : done < progress new
   pub few : progress new < 2 ^ 67
 
@@ -93,11 +95,11 @@ pub record IsAscended (waiting : List (Instance ℕ × Frame)) (found : List (In
   pub needs : s ≡ step.Need i
   pub few : length new.waiting.entries < 2 ^ 64
   pub finds : length new.found.entries < 2 ^ 64
-  pub counts : new.kept < 2 ^ 64
+  pub counts : new.gone < 2 ^ 64
 
 -- so it is, or none waited, and its value is the answer
 abbrev pub HasAscended : Evaluation → Find → Evaluation → Advance → Type 0
-HasAscended old find new (advance.GoesOn s) = IsAscended old.waiting.entries old.found.entries old.inst find new s × (new.kept ≡ old.kept)
+HasAscended old find new (advance.GoesOn s) = IsAscended old.waiting.entries old.found.entries old.inst find new s × (new.gone ≡ old.gone)
 HasAscended old find new (advance.Fails kind) = ⊥
 HasAscended old find new (advance.Answers a) = (old.waiting.entries ≡ []) × (a ≡ answer.Value find.value)
 
@@ -105,25 +107,26 @@ HasAscended old find new (advance.Answers a) = (old.waiting.entries ≡ []) × (
 pub record IsToldTo (rules : Rules) (s : Shown) (old new : Frame) (i : Instance ℕ) (v : ValueCode) (r : Step) : Type 0 where
   pub kept : new.demanded.kept.items ≡ old.demanded.kept.items ++ i ∷ []
   pub finds : new.demanded.finds.items ≡ old.demanded.finds.items
+  pub start : new.start ≡ old.start
   pub follows : follow (contents s) old.trial.reads (resumed rules.classes old.trial (value_view v)) ≡ (reached rules.classes r new.trial, new.trial.reads)
   pub typed : IsTypedStep rules (class_shown s) r new.trial
 
 -- The last instance is off the chain as one more that came to be kept, and the one that waited for it is the last, and was told
--- its value.
+-- its value; what was found since its evaluation began may be gone.
 pub record IsPassedBack (rules : Rules) (s : Shown) (waiting : List (Instance ℕ × Frame)) (found : List (Instance ℕ
-    × Find)) (kept : ℕ) (i : Instance ℕ) (v : ValueCode) (new : Evaluation) (r : Step) : Type 0 where
+    × Find)) (gone start : ℕ) (i : Instance ℕ) (v : ValueCode) (new : Evaluation) (r : Step) : Type 0 where
   pub waited : Frame
   pub waits : waiting ≡ new.waiting.entries ++ (new.inst, waited) ∷ []
   pub told : IsToldTo rules s waited new.frame i v r
-  pub same : new.found.entries ≡ found
-  pub counted : new.kept ≡ kept + 1
+  pub cut : HasCut start found new.found.entries
+  pub counted : length new.found.entries + new.gone ≡ length found + gone + 1
   pub few : length new.waiting.entries < 2 ^ 64
   pub finds : length new.found.entries < 2 ^ 64
-  pub counts : new.kept < 2 ^ 64
+  pub counts : new.gone < 2 ^ 64
 
 -- so it is, or none waited, and this value is the answer
 abbrev pub HasPassedBack : Rules → Shown → Evaluation → ValueCode → Evaluation → Advance → Type 0
-HasPassedBack rules s old v new (advance.GoesOn r) = IsPassedBack rules s old.waiting.entries old.found.entries old.kept old.inst v new r
+HasPassedBack rules s old v new (advance.GoesOn r) = IsPassedBack rules s old.waiting.entries old.found.entries old.gone old.frame.start old.inst v new r
 HasPassedBack rules s old v new (advance.Fails kind) = ⊥
 HasPassedBack rules s old v new (advance.Answers a) = (old.waiting.entries ≡ []) × (a ≡ answer.Value v)
 

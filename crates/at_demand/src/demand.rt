@@ -22,6 +22,7 @@ ghost use Rattle.at_demand.specs.Typing.{AreTypedWaiting, IsTypedIn, IsTypedAdva
 ghost use Rattle.at_model.specs.Rules.{is_lazy};
 ghost use Rattle.at_demand.specs.Only.{AreLean, IsLean};
 ghost use Rattle.at_demand.specs.Sparing.{AddsWorthy, AreOnly, AreSpare, Counts, HasWorthy, IsSparing, IsSparingAdvance, IsWork, MayAddLazy};
+ghost use Rattle.at_demand.specs.Stacked.{IsStackedIn};
 ghost use Rattle.at_demand.specs.Covering.{AreCovered, AreWhole, IsCoveringIn, IsCoveringAdvance, IsWhole};
 
 mod turning;
@@ -173,6 +174,7 @@ impl<K: Keeper> Demand<K> {
         requires typed { IsTypedIn rules.now (class_shown store.now) evaluation.old step }
         requires stepped { HasStepped rules.now (contents store.now) evaluation.old.inst evaluation.old.frame.trial step }
         requires orderly { IsOrderlyIn (K.contents self.old.keeper) evaluation.old }
+        requires stacked { IsStackedIn evaluation.old }
         ensures advance { IfOk result (IsAdvance (K.contents self.new.keeper) evaluation.old evaluation.new) }
         ensures typed { IfOk result (IsTypedAdvance rules.now (class_shown store.now) evaluation.new) }
         ensures answers { (asked : Instance ℕ) → IsTrueIn rules.now (contents store.now) asked (K.contents self.old.keeper) evaluation.old step
@@ -229,6 +231,7 @@ impl<K: Keeper> Demand<K> {
         requires sound { IsTreeSound rules.now.classes (tree store.now) }
         requires typed { IsTypedIn rules.now (class_shown store.now) evaluation.old (step_code.Need needed) }
         requires orderly { IsOrderlyIn (K.contents self.now.keeper) evaluation.old }
+        requires stacked { IsStackedIn evaluation.old }
         requires found { lookup (same_instance needed) evaluation.old.found.entries ≡ None }
         requires kept { K.contents self.now.keeper needed ≡ None }
         ensures advance { IfOk result (IsAdvance (K.contents self.now.keeper) evaluation.old evaluation.new) }
@@ -265,6 +268,7 @@ impl<K: Keeper> Demand<K> {
         requires typed { AreTypedWaiting rules.now (class_shown store.now) evaluation.old.waiting.entries evaluation.old.inst }
         requires has { HasValue (contents store.now) (meaning rules.now) evaluation.old.inst (value_view value) }
         requires orderly { IsOrderlyIn (K.contents self.old.keeper) evaluation.old }
+        requires stacked { IsStackedIn evaluation.old }
         ensures advance { IfOk result (IsAdvance (K.contents self.new.keeper) evaluation.old evaluation.new) }
         ensures typed { IfOk result (IsTypedAdvance rules.now (class_shown store.now) evaluation.new) }
         ensures answers { (asked : Instance ℕ)

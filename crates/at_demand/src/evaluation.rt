@@ -1,6 +1,6 @@
 //! A question under way: a chain of instances, each of which waits for the next, and what was found.
 
-ghost use Rattle.std.specs.Prelude.{◌≡◌, ◌<◌, ◌^◌, List, [], length, map, IfOk, OnOk, MatchBool, ℕ};
+ghost use Rattle.std.specs.Prelude.{◌≡◌, ◌+◌, ◌<◌, ◌^◌, List, [], length, map, IfOk, OnOk, MatchBool, ℕ};
 ghost use Rattle.at_model.specs.Run.{Instance};
 ghost use Rattle.at_model.specs.Instances.{AnyText};
 ghost use Rattle.at_model.specs.Meaning.{Among, HasValue, Right};
@@ -16,6 +16,7 @@ ghost use Rattle.indexmap.specs.IndexMap.{insert_entry};
 ghost use Rattle.at_demand.specs.Known.{meaning, known_in, IsRecalled};
 ghost use Rattle.at_demand.specs.UnderWay.{chain_of, HasAscended, HasPassedBack, HasStepped, IsOpen, IsToldTo};
 ghost use Rattle.at_demand.specs.Typing.{AreTypedWaiting};
+ghost use Rattle.at_demand.specs.Stacked.{HasCut, TakesBelow};
 ghost use Rattle.at_demand.specs.Covering.{HasPassedTo, Takes};
 ghost use Rattle.at_demand.specs.Only.{TakesOne, TakesOnly};
 ghost use Rattle.at_demand.specs.declared.evaluation.Find.{Find as FindCode};
@@ -28,6 +29,9 @@ use at_store::{Loc, Store};
 use indexmap::IndexMap;
 use std::alloc::{AllocError, Global};
 use std::mem;
+
+// How many finds stay in any case, so that what a few thousand values share is evaluated once: they take about ten megabytes.
+const MANY: usize = 16_384;
 
 // The instances whose values an evaluation took: the kept ones, and the positions of the others among the finds.
 pub struct Demanded {
@@ -42,10 +46,12 @@ impl Drop for Demanded {
     }
 }
 
-// An evaluation under way, and the instances whose values it took.
+// An evaluation under way, the instances whose values it took, and how many finds there were when it began: where it waits for another
+// one, it took none of those that were made since that one began.
 pub struct Frame<'a> {
     pub trial: Trial<'a>,
     pub demanded: Demanded,
+    pub start: usize,
 }
 
 /// One call, as that of `Demanded` is.
@@ -54,6 +60,7 @@ impl Drop for Frame<'_> {
         let Frame {
             trial: _,
             demanded: _,
+            start: _,
         } = self;
     }
 }
@@ -77,12 +84,12 @@ impl Drop for Find {
 }
 
 // A question under way. `inst` is the last instance of the chain, and `frame` its evaluation; each of `waiting` waits for
-// the next, and the last one for `inst`. What came to be kept isn't among what was `found`: `kept` counts it. A trial begins in
-// the `room` of one that ended.
+// the next, and the last one for `inst`. What came to be kept isn't among what was `found`, and a find that nobody took may go
+// from there: `gone` counts both. A trial begins in the `room` of one that ended.
 pub struct Evaluation<'a> {
     pub waiting: IndexMap<Inst, Frame<'a>>,
     pub found: IndexMap<Inst, Find>,
-    pub kept: u64,
+    pub gone: u64,
     pub room: Room<'a>,
     pub inst: Inst,
     pub frame: Frame<'a>,
@@ -94,7 +101,7 @@ impl Drop for Evaluation<'_> {
         let Evaluation {
             waiting: _,
             found: _,
-            kept: _,
+            gone: _,
             room: _,
             inst: _,
             frame: _,
@@ -140,6 +147,7 @@ impl<'a> Evaluation<'a> {
         ensures alone { IfOk result (λ r. r.0.waiting.entries ≡ []) }
         ensures nothing { IfOk result (λ r. r.0.found.entries ≡ []) }
         ensures inst { IfOk result (λ r. r.0.inst ≡ inst) }
+        ensures start { IfOk result (λ r. r.0.frame.start ≡ 0) }
         ensures fresh { IfOk result (λ r. r.0.frame.demanded.kept.items ≡ []) }
         ensures unfound { IfOk result (λ r. r.0.frame.demanded.finds.items ≡ []) }
         ensures stepped { IfOk result (λ r. HasStepped rules.now (contents store.now) inst r.0.frame.trial r.1) }
@@ -150,7 +158,7 @@ impl<'a> Evaluation<'a> {
         let evaluation = Evaluation {
             waiting: IndexMap::new(alloc),
             found: IndexMap::new(alloc),
-            kept: 0,
+            gone: 0,
             room: Room::new(alloc),
             inst,
             frame,
@@ -181,23 +189,25 @@ impl<'a> Evaluation<'a> {
         ensures waiting { OnOk result (self.new.waiting.entries ≡ insert_entry same_instance self.old.waiting.entries self.old.inst self.old.frame) }
         ensures found { OnOk result (self.new.found.entries ≡ self.old.found.entries) }
         ensures inst { OnOk result (self.new.inst ≡ needed) }
+        ensures start { OnOk result (self.new.frame.start ≡ length self.old.found.entries) }
         ensures fresh { OnOk result (self.new.frame.demanded.kept.items ≡ []) }
         ensures unfound { OnOk result (self.new.frame.demanded.finds.items ≡ []) }
         ensures few { OnOk result (length self.new.waiting.entries < 2 ^ 64) }
         ensures finds { OnOk result (length self.new.found.entries < 2 ^ 64) }
-        ensures counted { self.new.kept ≡ self.old.kept }
-        ensures counts { OnOk result (self.new.kept < 2 ^ 64) }
+        ensures counted { self.new.gone ≡ self.old.gone }
+        ensures counts { OnOk result (self.new.gone < 2 ^ 64) }
         ensures stepped { IfOk result (HasStepped rules.now (contents store.now) needed self.new.frame.trial) }
         ensures passed { (finds : List (Instance ℕ × FindCode)) → IfOk result (HasPassedTo rules.now (contents store.now) finds needed self.new.frame) }
         ensures typed { IfOk result (λ s. IsTypedStep rules.now (class_shown store.now) s self.new.frame.trial) }
     {
         let room = mem::replace(&mut self.room, Room::new(alloc));
-        let (frame, step) = Frame::start_in(alloc, rules, store, &needed, room)?;
+        let start = self.found.len();
+        let (frame, step) = Frame::start_in(alloc, rules, store, &needed, start, room)?;
         let frame = mem::replace(&mut self.frame, frame);
         let inst = mem::replace(&mut self.inst, needed);
         put(&mut self.waiting, inst, frame)?;
         // The calls say that they are fewer than 2^64.
-        let _counts = (self.waiting.len(), self.found.len(), self.kept());
+        let _counts = (self.waiting.len(), self.found.len(), self.gone());
         Ok(step)
     }
 
@@ -213,12 +223,13 @@ impl<'a> Evaluation<'a> {
         let needed = inst.copy(alloc)?;
         put(&mut self.found, inst, find)?;
         // The calls say that they are fewer than 2^64.
-        let _counts = (self.waiting.len(), self.found.len(), self.kept());
+        let _counts = (self.waiting.len(), self.found.len(), self.gone());
         Ok(Advance::GoesOn(Step::Need(needed)))
     }
 
-    // Goes back so from the last instance, which is kept with this value; the one that waits for it is told that at once. Their
-    // count ends at the greatest number, as if memory were wanting.
+    // Goes back so from the last instance, which is kept with this value; the one that waits for it is told that at once. What was
+    // found since its evaluation began was taken by nobody else, and may go. The count of what is gone ends at the greatest number,
+    // as if memory were wanting.
     pub fn pass(
         &mut self,
         alloc: Global,
@@ -233,26 +244,31 @@ impl<'a> Evaluation<'a> {
         requires has { HasValue (contents store.now) (meaning rules.now) self.old.inst (value_view value) }
         ensures { IfOk result (HasPassedBack rules.now store.now self.old value self.new) }
     {
-        let Some(kept) = self.kept.checked_add(1) else {
+        let Some(kept) = self.gone.checked_add(1) else {
             return Err(AllocError);
         };
         let Some((below, mut frame)) = self.waiting.pop() else {
             return Ok(Advance::Answers(Answer::Value(value)));
         };
-        self.kept = kept;
         let inst = mem::replace(&mut self.inst, below);
         let step = frame.tell(alloc, rules, store, inst, value)?;
+        let start = self.frame.start;
         self.room = mem::replace(&mut self.frame, frame).into_room();
+        let cut = cut_back(&mut self.found, start);
+        let Some(gone) = kept.checked_add(cut) else {
+            return Err(AllocError);
+        };
+        self.gone = gone;
         // The calls say that they are fewer than 2^64.
-        let _counts = (self.waiting.len(), self.found.len(), self.kept());
+        let _counts = (self.waiting.len(), self.found.len(), self.gone());
         Ok(Advance::GoesOn(step))
     }
 
-    // How many came to be kept.
-    fn kept(&self) -> u64
-        ensures { result ≡ self.now.kept }
+    // How many came to be kept, or were found and are gone.
+    fn gone(&self) -> u64
+        ensures { result ≡ self.now.gone }
     {
-        self.kept
+        self.gone
     }
 
     // The last instance of the chain.
@@ -262,13 +278,28 @@ impl<'a> Evaluation<'a> {
         let Evaluation {
             waiting: _,
             found: _,
-            kept: _,
+            gone: _,
             room: _,
             inst,
             frame: _,
         } = self;
         inst
     }
+}
+
+// Lets those go that were found since there were `start` of them, where there are many in all, and says how many they were. Each of
+// them was gathered for the value that came to be kept, so those that are evaluated anew for others are no more than those that each
+// of these gathers anyway.
+fn cut_back(found: &mut IndexMap<Inst, Find>, start: usize) -> u64
+    ensures cut { HasCut start found.old.entries found.new.entries }
+    ensures counted { length found.new.entries + result ≡ length found.old.entries }
+{
+    let many = found.len();
+    if many < MANY {
+        return 0;
+    }
+    found.truncate(start);
+    (many - found.len()) as u64
 }
 
 // Puts the value by the instance, or finds memory wanting.
@@ -291,13 +322,14 @@ impl<'a> Frame<'a> {
         requires formed { AreWellFormed rules.now }
         requires sound { IsTreeSound rules.now.classes (tree store.now) }
         requires typed { IsWellTyped rules.now (class_shown store.now) AnyText inst.now }
+        ensures start { IfOk result (λ r. r.0.start ≡ 0) }
         ensures fresh { IfOk result (λ r. r.0.demanded.kept.items ≡ []) }
         ensures unfound { IfOk result (λ r. r.0.demanded.finds.items ≡ []) }
         ensures stepped { IfOk result (λ r. HasStepped rules.now (contents store.now) inst.now r.0.trial r.1) }
         ensures passed { (finds : List (Instance ℕ × FindCode)) → IfOk result (λ r. HasPassedTo rules.now (contents store.now) finds inst.now r.0 r.1) }
         ensures typed { IfOk result (λ r. IsTypedStep rules.now (class_shown store.now) r.1 r.0.trial) }
     {
-        Frame::start_in(alloc, rules, store, inst, Room::new(alloc))
+        Frame::start_in(alloc, rules, store, inst, 0, Room::new(alloc))
     }
 
     // The same, in the room of a trial that ended.
@@ -306,12 +338,14 @@ impl<'a> Frame<'a> {
         rules: &'a Rules,
         store: &'a Store,
         inst: &Inst,
+        start: usize,
         room: Room<'a>,
     ) -> Result<(Frame<'a>, Step), AllocError>
         requires idle { IsIdle store.now }
         requires formed { AreWellFormed rules.now }
         requires sound { IsTreeSound rules.now.classes (tree store.now) }
         requires typed { IsWellTyped rules.now (class_shown store.now) AnyText inst.now }
+        ensures start { IfOk result (λ r. r.0.start ≡ start) }
         ensures fresh { IfOk result (λ r. r.0.demanded.kept.items ≡ []) }
         ensures unfound { IfOk result (λ r. r.0.demanded.finds.items ≡ []) }
         ensures stepped { IfOk result (λ r. HasStepped rules.now (contents store.now) inst.now r.0.trial r.1) }
@@ -320,12 +354,21 @@ impl<'a> Frame<'a> {
     {
         let (trial, step) = Trial::start_in(alloc, rules, store, inst, room)?;
         let demanded = Demanded::new(alloc);
-        Ok((Frame { trial, demanded }, step))
+        let frame = Frame {
+            trial,
+            demanded,
+            start,
+        };
+        Ok((frame, step))
     }
 
     // The memory of its trial.
     fn into_room(self) -> Room<'a> {
-        let Frame { trial, demanded: _ } = self;
+        let Frame {
+            trial,
+            demanded: _,
+            start: _,
+        } = self;
         trial.into_room()
     }
 
@@ -354,6 +397,9 @@ impl<'a> Frame<'a> {
             → TakesOnly rules.now (contents store.now) found.now.entries i self.old.demanded
             → IfOk result (λ r. TakesOnly rules.now (contents store.now) found.now.entries i self.new.demanded) }
         ensures typed { IfOk result (λ r. IsTypedStep rules.now (class_shown store.now) r self.new.trial) }
+        ensures start { OnOk result (self.new.start ≡ self.old.start) }
+        ensures below { TakesBelow (length found.now.entries) self.old.demanded
+            → OnOk result (TakesBelow (length found.now.entries) self.new.demanded) }
         ensures unknown { IfOk result (IsOpen (known_in (K.contents keeper.now) found.now.entries)) }
     {
         let mut step = step;
@@ -396,6 +442,7 @@ impl<'a> Frame<'a> {
         ensures value { result.value ≡ value }
         ensures demanded { result.demanded ≡ self.old.demanded }
         ensures reads { map loc_view result.reads.items ≡ self.old.trial.reads }
+        ensures start { self.new.start ≡ self.old.start }
     {
         let reads = self.trial.take_reads(alloc);
         let demanded = mem::replace(&mut self.demanded, Demanded::new(alloc));

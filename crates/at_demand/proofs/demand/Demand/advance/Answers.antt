@@ -10,6 +10,7 @@ use Rattle.at_demand.proofs.Truth.{steps_on, fails, value_of}
 use Rattle.at_demand.specs.Covering.{HasPassedTo}
 use Rattle.at_demand.specs.declared.evaluation.Evaluation.{Evaluation}
 use Rattle.at_demand.proofs.Passing.{covers_on}
+use Rattle.at_demand.proofs.of_cutting.Stacking.{stacked_on}
 use Rattle.at_demand.proofs.Gaining.{failed_all}
 use Rattle.at_demand.proofs.Counting.{counts_none}
 use Rattle.at_demand.proofs.SparingOn.{sparing_on}
@@ -120,7 +121,7 @@ returns-in-Value-clause-sparing g c asked exact h stands sparing =
     let on = steps_on rules look asked entries q.waiting.entries q.found.entries q.inst q.frame.trial trial c.args.step (step.Value c.in-Value.value) h last in
     let passed = subst (λ (s : Step). HasPassedTo rules look q.found.entries q.inst c.go_on.new.self s) c.in-Value.is (c.in_ok-step.ensures.passed q.inst stands.last) in
     let stands' = covers_on rules look q.waiting.entries q.found.entries q.inst q.frame c.go_on.new.self c.args.step (step.Value c.in-Value.value) stands passed in
-    let next : Evaluation = record { waiting = q.waiting; found = q.found; kept = q.kept; room = q.room; inst = q.inst; frame = c.go_on.new.self } in
+    let next : Evaluation = record { waiting = q.waiting; found = q.found; gone = q.gone; room = q.room; inst = q.inst; frame = c.go_on.new.self } in
     let goes = sparing_on rules look entries q next sparing refl refl refl (c.in_ok-step.ensures.only q.inst h.last sparing.last) in
     c.settle.ensures.sparing asked exact on stands' goes
 
@@ -135,7 +136,7 @@ returns-in-Value-clause-spare g c asked exact h stands sparing =
     let on = steps_on rules look asked entries q.waiting.entries q.found.entries q.inst q.frame.trial trial c.args.step (step.Value c.in-Value.value) h last in
     let passed = subst (λ (s : Step). HasPassedTo rules look q.found.entries q.inst c.go_on.new.self s) c.in-Value.is (c.in_ok-step.ensures.passed q.inst stands.last) in
     let stands' = covers_on rules look q.waiting.entries q.found.entries q.inst q.frame c.go_on.new.self c.args.step (step.Value c.in-Value.value) stands passed in
-    let next : Evaluation = record { waiting = q.waiting; found = q.found; kept = q.kept; room = q.room; inst = q.inst; frame = c.go_on.new.self } in
+    let next : Evaluation = record { waiting = q.waiting; found = q.found; gone = q.gone; room = q.room; inst = q.inst; frame = c.go_on.new.self } in
     let goes = sparing_on rules look entries q next sparing refl refl refl (c.in_ok-step.ensures.only q.inst h.last sparing.last) in
     c.settle.ensures.spare asked exact on stands' goes
 
@@ -150,7 +151,7 @@ returns-in-Fault-clause-sparing g c asked exact h stands sparing =
     let on = steps_on rules look asked entries q.waiting.entries q.found.entries q.inst q.frame.trial trial c.args.step (step.Fault c.in-Fault.kind) h last in
     let passed = subst (λ (s : Step). HasPassedTo rules look q.found.entries q.inst c.go_on.new.self s) c.in-Fault.is (c.in_ok-step.ensures.passed q.inst stands.last) in
     let stands' = covers_on rules look q.waiting.entries q.found.entries q.inst q.frame c.go_on.new.self c.args.step (step.Fault c.in-Fault.kind) stands passed in
-    let next : Evaluation = record { waiting = q.waiting; found = q.found; kept = q.kept; room = q.room; inst = q.inst; frame = c.go_on.new.self } in
+    let next : Evaluation = record { waiting = q.waiting; found = q.found; gone = q.gone; room = q.room; inst = q.inst; frame = c.go_on.new.self } in
     let goes = sparing_on rules look entries q next sparing refl refl refl (c.in_ok-step.ensures.only q.inst h.last sparing.last) in
     let o = c.requires.orderly in
     let orderly : IsOrderlyIn entries next = record { distinct = o.distinct; open_ones = o.open_ones; unkept = o.unkept; waiting_kept = o.waiting_kept; found_kept = o.found_kept; last_kept = c.in_ok-step.ensures.kept } in
@@ -167,7 +168,7 @@ returns-in-Need-clause-sparing g c asked exact h stands sparing =
     let on = steps_on rules look asked entries q.waiting.entries q.found.entries q.inst q.frame.trial trial c.args.step (step.Need c.in-Need.needed) h last in
     let passed = subst (λ (s : Step). HasPassedTo rules look q.found.entries q.inst c.go_on.new.self s) c.in-Need.is (c.in_ok-step.ensures.passed q.inst stands.last) in
     let stands' = covers_on rules look q.waiting.entries q.found.entries q.inst q.frame c.go_on.new.self c.args.step (step.Need c.in-Need.needed) stands passed in
-    let next : Evaluation = record { waiting = q.waiting; found = q.found; kept = q.kept; room = q.room; inst = q.inst; frame = c.go_on.new.self } in
+    let next : Evaluation = record { waiting = q.waiting; found = q.found; gone = q.gone; room = q.room; inst = q.inst; frame = c.go_on.new.self } in
     let goes = sparing_on rules look entries q next sparing refl refl refl (c.in_ok-step.ensures.only q.inst h.last sparing.last) in
     c.deepen.ensures.sparing asked on stands' goes
 
@@ -230,6 +231,18 @@ settle-requires-clause-has g c =
     let trial = c.go_on.new.self.trial in
     let last = subst (λ (s : Step). HasStepped c.args.rules.now look q.inst trial s) c.in-Value.is (c.in_ok-step.ensures.stepped q.inst c.requires.stepped) in
     value_of c.args.rules.now look q.inst trial c.in-Value.value last
+
+pub settle-requires-clause-stacked : goal.settle-requires-clause-stacked
+settle-requires-clause-stacked g c =
+    let q = c.args.evaluation.now in
+    let e = c.in_ok-step.ensures in
+    stacked_on q.waiting.entries q.found.entries q.inst q.frame c.requires.stacked c.go_on.new.self e.start (e.below c.requires.stacked.last.takes)
+
+pub deepen-requires-clause-stacked : goal.deepen-requires-clause-stacked
+deepen-requires-clause-stacked g c =
+    let q = c.args.evaluation.now in
+    let e = c.in_ok-step.ensures in
+    stacked_on q.waiting.entries q.found.entries q.inst q.frame c.requires.stacked c.go_on.new.self e.start (e.below c.requires.stacked.last.takes)
 
 pub deepen-requires-clause-orderly : goal.deepen-requires-clause-orderly
 deepen-requires-clause-orderly g c =

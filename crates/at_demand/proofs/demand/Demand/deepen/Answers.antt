@@ -18,8 +18,8 @@ returns-then-has-clause-answers g c asked h =
 pub returns-clause-advance : goal.returns-clause-advance
 returns-clause-advance g c =
     let e = c.in_ok-step.ensures in
-    deepens (g.K.Keeper.contents c.args.self.now.keeper) c.args.evaluation.now c.descend.new.self c.args.needed c.requires.orderly c.requires.found c.requires.kept c.if-has.ensures
-    e.waiting e.found e.counted e.inst e.fresh e.few e.finds e.counts
+    deepens (g.K.Keeper.contents c.args.self.now.keeper) c.args.evaluation.now c.descend.new.self c.args.needed c.requires.orderly c.requires.stacked c.requires.found c.requires.kept c.if-has.ensures
+    e.waiting e.found e.counted e.inst e.start e.fresh e.unfound e.few e.finds e.counts
 
 pub returns-clause-answers : goal.returns-clause-answers
 returns-clause-answers g c asked h =

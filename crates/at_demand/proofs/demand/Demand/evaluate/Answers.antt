@@ -10,6 +10,7 @@ use Rattle.at_demand.specs.declared.evaluation.Advance.{Advance}
 use Rattle.at_demand.specs.Known.{meaning, answer_view}
 use Rattle.at_demand.specs.UnderWay.{HasStepped, IsAdvance, IsRightAdvance}
 use Rattle.at_demand.proofs.Orderly.{begun}
+use Rattle.at_demand.proofs.of_cutting.Stacking.{begun_stacked}
 use Rattle.at_demand.specs.Typing.{IsTypedAdvance}
 use Rattle.at_demand.proofs.Truth.{begun_true, right_known}
 use Rattle.at_demand.proofs.TypingLemmas.{begun_typed}
@@ -30,6 +31,7 @@ loop-evaluation-init g c =
     let asked = e.inst ∙ c.in_ok-copy.ensures in
     record {
       orderly = begun entries q.waiting.entries q.found.entries q.inst c.args.inst.now q.frame.demanded.kept.items e.alone e.nothing asked e.fresh c.requires.unkept;
+      stacked = begun_stacked q.waiting.entries q.found.entries q.frame e.alone e.nothing e.start e.unfound;
       holds = begun_true c.args.rules.now look c.args.inst.now entries q.waiting.entries q.found.entries q.inst q.frame.trial c.in_ok-begun.begun.1 e.alone e.nothing asked
           (subst (λ x. HasStepped c.args.rules.now look x q.frame.trial c.in_ok-begun.begun.1) (sym e.inst) e.stepped) c.requires.right;
       covering = begun_covering c.args.rules.now look q.waiting.entries q.found.entries q.inst q.frame c.in_ok-begun.begun.1 e.alone e.nothing
@@ -75,6 +77,7 @@ loop-evaluation-preserved g c =
     let goes = subst (λ (t : Advance). IsAdvance entries c.loop-evaluation.evaluation c.advance.new.evaluation t) c.in-GoesOn.is c.in_ok-reached.ensures.advance in
     record {
       orderly = goes.orderly;
+      stacked = goes.stacked;
       holds = subst (λ (t : Advance). IsRightAdvance c.args.rules.now (contents c.args.store.now) c.args.inst.now entries c.advance.new.evaluation t) c.in-GoesOn.is (c.in_ok-reached.ensures.answers c.args.inst.now c.loop-evaluation.invariant.holds);
       covering = subst (λ (t : Advance). IsCoveringAdvance c.args.rules.now (contents c.args.store.now) c.advance.new.evaluation t) c.in-GoesOn.is (c.in_ok-reached.ensures.covering c.args.inst.now c.loop-evaluation.invariant.holds c.loop-evaluation.invariant.covering);
       typed = subst (λ (t : Advance). IsTypedAdvance c.args.rules.now (class_shown c.args.store.now) c.advance.new.evaluation t) c.in-GoesOn.is c.in_ok-reached.ensures.typed;

@@ -2,6 +2,7 @@ use Rattle.std.proofs.Common.{◌-◌, ◌^◌}
 use Rattle.at_store.specs.Shown.{contents}
 use Rattle.at_demand.specs.UnderWay.{IsOrderlyIn, IsTrueIn, progress}
 use Rattle.at_body.specs.Typed.{class_shown}
+use Rattle.at_demand.specs.Stacked.{IsStackedIn}
 use Rattle.at_demand.specs.Covering.{IsCoveringIn}
 use Rattle.at_demand.specs.Typing.{IsTypedIn}
 use Rattle.std.specs.Prelude.{IsTrue}
@@ -12,6 +13,7 @@ use Rattle.at_demand.proofs.demand.Demand.evaluate.Given as goal
 abbrev pub invariant-loop-evaluation : goal.invariant-loop-evaluation
 invariant-loop-evaluation g l = record {
   orderly : IsOrderlyIn (g.K.Keeper.contents l.self.keeper) l.evaluation;
+  stacked : IsStackedIn l.evaluation;
   holds : IsTrueIn l.rules (contents l.store) l.inst (g.K.Keeper.contents l.self.keeper) l.evaluation l.step;
   covering : IsCoveringIn l.rules (contents l.store) l.evaluation l.step;
   typed : IsTypedIn l.rules (class_shown l.store) l.evaluation l.step;

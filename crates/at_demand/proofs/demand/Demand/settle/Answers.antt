@@ -22,7 +22,7 @@ use Rattle.at_demand.proofs.There.{settles_right}
 use Rattle.at_demand.proofs.Gaining.{worthy_more, worth_last}
 use Rattle.at_demand.proofs.SparingOn.{last_lean, settles_spare}
 use Rattle.at_demand.proofs.Ascending.{ascends, ascends_true, ascends_covering, ascends_sparing, ascends_typed}
-use Rattle.at_demand.proofs.Rising.{passes_on, passes_true, passes_covering, passes_sparing, passes_typed}
+use Rattle.at_demand.proofs.Rising.{passed_from, passes_on, passes_true, passes_covering, passes_sparing, passes_typed}
 use Rattle.at_demand.proofs.demand.Demand.settle.Goals as goal
 
 pub keep-requires-clause-absent : goal.keep-requires-clause-absent
@@ -85,13 +85,14 @@ returns-in-Kept g c =
     let w = c.in-Kept.value in
     let becomes = subst (λ (r : Settled). Becomes more q.inst d r) c.in-Kept.is c.in_ok-settled.ensures.becomes in
     let value = becomes.0 ∙ e.value in
+    let passed = IfOk-weaker c.pass.result _ _ (passed_from c.args.rules.now s q new c.find-find.new.self w e.start) c.pass.ensures in
     let has = subst (λ (x : ValueCode). HasValue look (meaning c.args.rules.now) q.inst (value_view x)) (sym value) c.requires.has in
     record {
-      advance = IfOk-weaker c.pass.result _ _ (passes_on c.args.rules.now s old more q new w (value_view d.value) orderly c.keep.ensures.adds (some_value (more q.inst) (value_view w) becomes.1)) c.pass.ensures;
-      typed = IfOk-weaker c.pass.result _ _ (passes_typed c.args.rules.now s old more q new w c.requires.typed) c.pass.ensures;
-      answers = λ asked h. IfOk-weaker c.pass.result _ _ (passes_true c.args.rules.now s old more q new w c.args.value has asked h (adds c.args.value e.value) value) c.pass.ensures;
-      covering = λ h. IfOk-weaker c.pass.result _ _ (passes_covering c.args.rules.now s old more q new w c.args.value has h) c.pass.ensures;
-      sparing = λ asked exact h stands sparing. IfOk-weaker c.pass.result _ _ (passes_sparing c.args.rules.now s old more q new w c.args.value has d orderly asked h stands sparing e.reads e.demanded c.keep.ensures.lazy (c.in_ok-settled.ensures.keeps exact) (only look asked exact h stands sparing)) c.pass.ensures;
+      advance = IfOk-weaker c.pass.result _ _ (passes_on c.args.rules.now s old more q new w (value_view d.value) orderly c.requires.stacked c.keep.ensures.adds (some_value (more q.inst) (value_view w) becomes.1)) passed;
+      typed = IfOk-weaker c.pass.result _ _ (passes_typed c.args.rules.now s old more q new w c.requires.typed) passed;
+      answers = λ asked h. IfOk-weaker c.pass.result _ _ (passes_true c.args.rules.now s old more q new w c.args.value has asked h (adds c.args.value e.value) value) passed;
+      covering = λ h. IfOk-weaker c.pass.result _ _ (passes_covering c.args.rules.now s old more q new w c.args.value has c.requires.stacked h) passed;
+      sparing = λ asked exact h stands sparing. IfOk-weaker c.pass.result _ _ (passes_sparing c.args.rules.now s old more q new w c.args.value has d orderly c.requires.stacked asked h stands sparing e.reads e.demanded c.keep.ensures.lazy (c.in_ok-settled.ensures.keeps exact) (only look asked exact h stands sparing)) passed;
       right = λ asked h. right_after c.args.rules.now look asked old more q c.args.value h (adds c.args.value e.value);
       stays = λ asked is h stands right. settles_right c.args.rules.now s c.requires.idle asked old more q c.args.value d e.value e.reads e.demanded c.keep.ensures.adds c.keep.ensures.covers is h stands right;
       worthy = λ asked first h adds. worthy_more c.args.rules.now look old more q.inst c.keep.ensures.lazy asked first (last_unkept old q.waiting.entries q.found.entries q.inst q.frame.demanded.kept.items orderly) (worth_last c.args.rules.now look asked old q c.args.value h) adds;
@@ -119,7 +120,7 @@ returns-in-Found g c =
     let reads = becomes.reads ∙ e.reads in
     let demanded = becomes.demanded ∙ e.demanded in
     record {
-      advance = IfOk-weaker c.ascend.result _ _ (ascends old more q new f (value_view d.value) orderly c.keep.ensures.adds (subst (λ (x : Demanded). AreKept old x.kept.items) (sym demanded) orderly.last_kept)) c.ascend.ensures;
+      advance = IfOk-weaker c.ascend.result _ _ (ascends old more q new f (value_view d.value) orderly c.requires.stacked c.keep.ensures.adds demanded) c.ascend.ensures;
       typed = IfOk-weaker c.ascend.result _ _ (ascends_typed c.args.rules.now (class_shown s) q new f c.requires.typed) c.ascend.ensures;
       answers = λ asked h. IfOk-weaker c.ascend.result _ _ (ascends_true old more q new f c.args.rules.now look c.args.value orderly asked h (adds c.args.value e.value) value) c.ascend.ensures;
       covering = λ h. IfOk-weaker c.ascend.result _ _ (ascends_covering old more q new f c.args.rules.now look c.args.value orderly reads demanded h) c.ascend.ensures;

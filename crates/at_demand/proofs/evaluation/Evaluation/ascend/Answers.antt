@@ -29,7 +29,7 @@ returns c =
         needs = ap (λ (i : Instance ℕ). step.Need i) (c.in_ok-needed.ensures ∙ is.value);
         few = subst (λ n. n < 2 ^ 64) c.len.ensures.len c.len.type_inv;
         finds = subst (λ n. n < 2 ^ 64) c.len-2.ensures.len c.len-2.type_inv;
-        counts = subst (λ n. n < 2 ^ 64) c.kept.ensures c.kept.type_inv;
+        counts = subst (λ n. n < 2 ^ 64) c.gone.ensures c.gone.type_inv;
       },
       refl,
     )

@@ -13,12 +13,12 @@ use Rattle.at_demand.proofs.evaluation.Evaluation.descend.Goals as goal
 pub returns-in_err-frame : goal.returns-in_err-frame
 returns-in_err-frame c =
     let is = (err_from_is_err_and c.from_residual.result c.from_residual.ensures.1).1 in
-    record { waiting = rw is tt; found = rw is tt; inst = rw is tt; fresh = rw is tt; unfound = rw is tt; few = rw is tt; finds = rw is tt; counted = refl; counts = rw is tt; stepped = rw is tt; passed = λ finds. rw is tt; typed = rw is tt }
+    record { waiting = rw is tt; found = rw is tt; inst = rw is tt; start = rw is tt; fresh = rw is tt; unfound = rw is tt; few = rw is tt; finds = rw is tt; counted = refl; counts = rw is tt; stepped = rw is tt; passed = λ finds. rw is tt; typed = rw is tt }
 
 pub returns-in_err-put : goal.returns-in_err-put
 returns-in_err-put c =
     let is = (err_from_is_err_and c.from_residual-in_err-put.result c.from_residual-in_err-put.ensures.1).1 in
-    record { waiting = rw is tt; found = rw is tt; inst = rw is tt; fresh = rw is tt; unfound = rw is tt; few = rw is tt; finds = rw is tt; counted = refl; counts = rw is tt; stepped = rw is tt; passed = λ finds. rw is tt; typed = rw is tt }
+    record { waiting = rw is tt; found = rw is tt; inst = rw is tt; start = rw is tt; fresh = rw is tt; unfound = rw is tt; few = rw is tt; finds = rw is tt; counted = refl; counts = rw is tt; stepped = rw is tt; passed = λ finds. rw is tt; typed = rw is tt }
 
 pub returns : goal.returns
 returns c =
@@ -31,12 +31,13 @@ returns c =
       waiting = subst (λ (i : Instance ℕ). c.put.new.map.entries ≡ insert_entry same_instance old i c.args.self.now.frame) c.replace-inst.ensures.value (subst (λ (f : Frame). c.put.new.map.entries ≡ insert_entry same_instance old c.replace-inst.result f) is.value c.in_ok-put.ensures);
       found = refl;
       inst = c.replace-inst.ensures.after;
+      start = ap (λ (f : Frame). f.start) is.after ∙ e.start ∙ c.len-start.ensures.len;
       fresh = ap (λ (f : Frame). f.demanded.kept.items) is.after ∙ e.fresh;
       unfound = ap (λ (f : Frame). f.demanded.finds.items) is.after ∙ e.unfound;
       few = subst (λ n. n < 2 ^ 64) c.len.ensures.len c.len.type_inv;
       finds = subst (λ n. n < 2 ^ 64) c.len-2.ensures.len c.len-2.type_inv;
       counted = refl;
-      counts = subst (λ n. n < 2 ^ 64) c.kept.ensures c.kept.type_inv;
+      counts = subst (λ n. n < 2 ^ 64) c.gone.ensures c.gone.type_inv;
       stepped = subst (λ (f : Frame). HasStepped rules (contents store) c.args.needed f.trial c.in_ok-frame.step) (sym is.after) e.stepped;
       passed = λ finds. subst (λ (f : Frame). HasPassedTo rules (contents store) finds c.args.needed f c.in_ok-frame.step) (sym is.after) (e.passed finds);
       typed = subst (λ (f : Frame). IsTypedStep rules (class_shown store) c.in_ok-frame.step f.trial) (sym is.after) e.typed;

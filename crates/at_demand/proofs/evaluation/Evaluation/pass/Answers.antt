@@ -1,4 +1,4 @@
-use Rattle.std.proofs.Common.{◌≡◌, ℕ, List, ◌<◌, ◌^◌, [], ◌∷◌, ◌++◌, refl, sym, subst, true≢false}
+use Rattle.std.proofs.Common.{◌≡◌, ℕ, List, ◌<◌, ◌^◌, [], ◌∷◌, ◌++◌, arith, refl, sym, subst, true≢false}
 use Rattle.std.proofs.lemmas.Result.{err_from_is_err_and}
 use Rattle.at_model.specs.Run.{Instance}
 use Rattle.at_model.specs.Meaning.{HasValue}
@@ -45,9 +45,9 @@ returns c =
       waits = subst (λ (i : Instance ℕ). c.args.self.now.waiting.entries ≡ c.pop.new.self.entries ++ (i, frame) ∷ []) (sym c.replace-inst.ensures.after) c.in-Some-pop.ensures.entries;
       told = subst (λ (f : Frame). IsToldTo rules s frame f c.args.self.now.inst c.args.value step) (sym c.replace.ensures.after)
           (subst (λ (i : Instance ℕ). IsToldTo rules s frame c.tell.new.self i c.args.value step) c.replace-inst.ensures.value c.in_ok-step.ensures);
-      same = refl;
-      counted = c.in-Some.ensures.1;
+      cut = c.cut_back-cut.ensures.cut;
+      counted = let a = c.in-Some.ensures.1 in let b = c.in-Some-checked_add.ensures.1 in let d = c.cut_back-cut.ensures.counted in omega (arith, a, b, d);
       few = subst (λ n. n < 2 ^ 64) c.len.ensures.len c.len.type_inv;
       finds = subst (λ n. n < 2 ^ 64) c.len-2.ensures.len c.len-2.type_inv;
-      counts = subst (λ n. n < 2 ^ 64) c.kept.ensures c.kept.type_inv;
+      counts = subst (λ n. n < 2 ^ 64) c.gone.ensures c.gone.type_inv;
     }

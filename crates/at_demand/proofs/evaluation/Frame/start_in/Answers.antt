@@ -7,4 +7,4 @@ pub returns-clause-stepped : goal.returns-clause-stepped
 returns-clause-stepped c = started c.args.rules.now (contents c.args.store.now) c.args.inst.now c.in_ok-trial.trial c.in_ok-trial.step c.in_ok-trial.ensures.found
 
 pub returns-clause-passed : goal.returns-clause-passed
-returns-clause-passed c finds = passed_start c.args.rules.now (contents c.args.store.now) finds c.args.inst.now (record { trial = c.in_ok-trial.trial; demanded = c.new-demanded.result }) c.in_ok-trial.step c.in_ok-trial.ensures.found
+returns-clause-passed c finds = passed_start c.args.rules.now (contents c.args.store.now) finds c.args.inst.now (record { trial = c.in_ok-trial.trial; demanded = c.new-demanded.result; start = c.args.start }) c.in_ok-trial.step c.in_ok-trial.ensures.found

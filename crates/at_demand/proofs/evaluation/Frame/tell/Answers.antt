@@ -11,4 +11,4 @@ pub resume-requires-clause-takes : goal.resume-requires-clause-takes
 resume-requires-clause-takes c = told_value c.args.rules.now c.requires.formed c.args.store.now c.requires.idle c.requires.sound c.args.self.now.trial c.args.needed (value_view c.args.value) c.requires.typed c.requires.has
 
 pub returns : goal.returns
-returns c = record { kept = c.in_ok-push.ensures.items; finds = refl; follows = c.in_ok-step.ensures.found; typed = c.in_ok-step.ensures.typed }
+returns c = record { kept = c.in_ok-push.ensures.items; finds = refl; start = refl; follows = c.in_ok-step.ensures.found; typed = c.in_ok-step.ensures.typed }
