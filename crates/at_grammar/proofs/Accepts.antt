@@ -9,7 +9,9 @@ use Rattle.std.specs.Prelude.{not, chars}
 use Rattle.at_model.specs.Names.{is_name, is_reserved, reserved_words}
 use Rattle.at_model.specs.Names as names
 use Rattle.at_model.proofs.Options.{and_off}
-use Rattle.at_text.specs.Reading.{first, LeftOut, Takes, Refuses, and_then, Whole, Stuck, run}
+use Rattle.at_text.specs.Machine as machine
+use Rattle.at_text.specs.Machine.{LeftOut, Refuses, and_then, Whole, Stuck}
+use Rattle.at_text.specs.Reading.{first, takes, run}
 use Rattle.at_text.specs.Symbols.{Symbol, sign, is_sign, is_word}
 use Rattle.at_text.proofs.ReadingLaws.{run-takes, run-leaves_out, many_none}
 use Rattle.at_text.specs.declared.place.Place.{Place}
@@ -145,7 +147,7 @@ file_goes (d ∷ ds) more is ws =
     ap (run table (want.File ∷ ws)) text ∙ file_begins (grammar.declaration d ++ rest) some ws ∙ (declaration_spelled d rest is.0).goes (want.File ∷ ws) ∙ file_goes ds more is.1 ws
 
 ends_whole : run table (want.File ∷ []) [] ≡ Whole
-unfolding run table
+unfolding machine.run table
 ends_whole = refl
 
 pub file_taken : (ds : List Declaration) → IsFile ds → run table (want.File ∷ []) (grammar.file ds) ≡ Whole
@@ -169,9 +171,9 @@ unfolding table
 token_met name kind rest ws is isk h =
     parts_begin (sign (codes "<") ∷ grammar.name name ∷ sign (codes ":") ∷ grammar.name kind ∷ rest) refl refl ws
     ∙ run-takes table want.Part (want.Token ∷ []) (want.Parts ∷ ws) (sign (codes "<")) (grammar.name name ∷ sign (codes ":") ∷ grammar.name kind ∷ rest) refl
-    ∙ run-takes table want.Token (want.TokenKind ∷ []) (want.Parts ∷ ws) (grammar.name name) (sign (codes ":") ∷ grammar.name kind ∷ rest) (ap (λ b. and_then (cond b (Takes []) Refuses) (want.TokenKind ∷ [])) is)
+    ∙ run-takes table want.Token (want.TokenKind ∷ []) (want.Parts ∷ ws) (grammar.name name) (sign (codes ":") ∷ grammar.name kind ∷ rest) (ap (λ b. and_then (cond b (takes []) Refuses) (want.TokenKind ∷ [])) is)
     ∙ run-takes table want.TokenKind (want.KindName ∷ want.Close ∷ []) (want.Parts ∷ ws) (sign (codes ":")) (grammar.name kind ∷ rest) refl
-    ∙ run-takes table want.KindName [] (want.Close ∷ want.Parts ∷ ws) (grammar.name kind) rest (ap (λ b. cond b (Takes []) Refuses) isk)
+    ∙ run-takes table want.KindName [] (want.Close ∷ want.Parts ∷ ws) (grammar.name kind) rest (ap (λ b. cond b (takes []) Refuses) isk)
     ∙ more_kind_met rest (want.Parts ∷ ws) h
 
 slash_met : (rest : List Symbol) (ws : List Want) → first rest ≡ Some (sign (codes "/")) → run table (want.Parts ∷ ws) rest ≡ Stuck LeftOut rest

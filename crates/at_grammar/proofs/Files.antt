@@ -10,7 +10,8 @@ use Rattle.at_text.specs.declared.scan.ScanFault.TheVariants as scan
 use Rattle.at_text.specs.Faults.{FaultsAt}
 use Rattle.at_text.specs.Place.{place_of}
 use Rattle.at_text.specs.Pieces.{Piece, Cut, Spelled, spelled_at}
-use Rattle.at_text.specs.Reading.{first, Reason, Refused, LeftOut, IsFirstFault, Stuck, run}
+use Rattle.at_text.specs.Machine.{Reason, Refused, LeftOut, Stuck}
+use Rattle.at_text.specs.Reading.{first, IsFirstFault, run}
 use Rattle.at_text.specs.Symbols.{HasTokens, next_place, Symbol, PlacedToken, placed, placed_in, symbol, symbols, words_keep}
 use Rattle.at_text.proofs.ReadingLaws.{first_fault}
 use Rattle.at_text.specs.declared.place.Place.{Place}

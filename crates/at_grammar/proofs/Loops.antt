@@ -5,7 +5,8 @@ use Rattle.std.specs.List.{flat_map}
 use Rattle.std.proofs.lemmas.List.{append-nil}
 use Rattle.std.proofs.lemmas.Grind.{flat_map-append}
 use lib.Chars.{codes}
-use Rattle.at_text.specs.Reading.{first, Reason, LeftOut, Takes, Skips, Refuses, LeavesOut, and_then, is_skip, run}
+use Rattle.at_text.specs.Machine.{Reason, LeftOut, Refuses, LeavesOut, and_then, is_skip}
+use Rattle.at_text.specs.Reading.{first, takes, skips, run}
 use Rattle.at_text.specs.Symbols.{Symbol, word, sign, is_sign, is_word, is_name_next, symbols, words_keep}
 use Rattle.at_text.specs.Rows as rows
 use Rattle.at_text.proofs.ReadingLaws.{run-takes, run-skips, run-begins, leaves_here, stops_within, Many, all_push, all_append, one_more}
@@ -22,7 +23,7 @@ use Rattle.at_grammar.proofs.Tokens.{same_left, next_word}
 
 -- ---- { part } ";"
 
-part_never_skips : (a b c : Bool) → is_skip {W = Want} (cond a (Takes (want.Token ∷ [])) (cond b (Takes (want.Optional ∷ [])) (and_then (and_then (cond c (Takes []) Refuses) (want.Kind ∷ [])) (want.Star ∷ [])))) ≡ false
+part_never_skips : (a b c : Bool) → is_skip {W = Want} (cond a (takes (want.Token ∷ [])) (cond b (takes (want.Optional ∷ [])) (and_then (and_then (cond c (takes []) Refuses) (want.Kind ∷ [])) (want.Star ∷ [])))) ≡ false
 part_never_skips true b c = refl
 part_never_skips false true c = refl
 part_never_skips false false true = refl
@@ -31,7 +32,7 @@ part_never_skips false false false = refl
 pub parts_begin : (ss : List Symbol) → is_sign (codes ";") (first ss) ≡ false → is_sign (codes "/") (first ss) ≡ false → Goes (want.Parts ∷ []) ss (want.Part ∷ want.Parts ∷ []) ss
 unfolding table
 parts_begin ss e f ws = run-begins table want.Parts want.Part (want.Parts ∷ []) ws ss
-    (ap (λ b. cond b (Takes []) (more_parts_answer (first ss))) e ∙ ap (λ b. cond b LeavesOut (and_then (part_answer (first ss)) (want.Parts ∷ []))) f)
+    (ap (λ b. cond b (takes []) (more_parts_answer (first ss))) e ∙ ap (λ b. cond b LeavesOut (and_then (part_answer (first ss)) (want.Parts ∷ []))) f)
     (part_never_skips (is_sign (codes "<") (first ss)) (is_sign (codes "[") (first ss)) (is_name_next (first ss)))
 
 pub parts_end : (old mid rest : List Symbol) → (m : Many table part want.Parts old mid) → mid ≡ sign (codes ";") ∷ rest → Reads parts m.items old rest
@@ -84,7 +85,7 @@ part_shorter (grammar.Token t) old rest r = let l = ap length r.text in omega (a
 
 body_goes : (old : List Symbol) → is_sign (codes ";") (first old) ≡ false → Goes (want.Body ∷ []) old (want.Mark (codes "::=") ∷ want.Parts ∷ []) old
 unfolding table
-body_goes old e ws = run-begins table want.Body (want.Mark (codes "::=")) (want.Parts ∷ []) ws old (ap (λ b. cond b (Takes []) (and_then (mark_answer (codes "::=") (first old)) (want.Parts ∷ []))) e) (on_never_skips (is_sign (codes "::=") (first old)))
+body_goes old e ws = run-begins table want.Body (want.Mark (codes "::=")) (want.Parts ∷ []) ws old (ap (λ b. cond b (takes []) (and_then (mark_answer (codes "::=") (first old)) (want.Parts ∷ []))) e) (on_never_skips (is_sign (codes "::=") (first old)))
 
 pub body_none : (old rest : List Symbol) → old ≡ sign (codes ";") ∷ rest → Reads body None old rest
 unfolding table
@@ -103,7 +104,7 @@ body_stops_parts q old mid rest e m s = stops_within table parts body q old mid 
 
 pub modifier_none : (old rest : List Symbol) → rest ≡ old → is_word (codes "abstract") (first old) ≡ false → Reads modifier None old rest
 unfolding table
-modifier_none old rest same e = record { is = tt; text = sym same; goes = λ ws. run-skips table want.Modifier ws old (ap (λ b. cond b (Takes []) Skips) e) ∙ ap (run table ws) (sym same) }
+modifier_none old rest same e = record { is = tt; text = sym same; goes = λ ws. run-skips table want.Modifier ws old (ap (λ b. cond b (takes []) skips) e) ∙ ap (run table ws) (sym same) }
 
 pub modifier_some : (at : Place) (old rest : List Symbol) → old ≡ word (codes "abstract") at ∷ rest → Reads modifier (Some at) old rest
 unfolding table
@@ -122,14 +123,14 @@ abstract_goes : (old : List Symbol) → is_word (codes "abstract") (first old) �
 unfolding table
 abstract_goes [] e ws = absurd cc
 abstract_goes (s ∷ ss) e ws =
-    run-takes table want.Declaration (after_modifier []) ws s ss (ap (λ b. cond b (Takes (after_modifier [])) (and_then (name_answer (Some s)) (want.Kind ∷ want.Body ∷ []))) e)
-    ∙ sym (run-takes table want.Modifier [] (after_modifier ws) s ss (ap (λ b. cond b (Takes []) Skips) e))
+    run-takes table want.Declaration (after_modifier []) ws s ss (ap (λ b. cond b (takes (after_modifier [])) (and_then (name_answer (Some s)) (want.Kind ∷ want.Body ∷ []))) e)
+    ∙ sym (run-takes table want.Modifier [] (after_modifier ws) s ss (ap (λ b. cond b (takes []) skips) e))
 
 plain_goes : (old : List Symbol) → is_word (codes "abstract") (first old) ≡ false → Goes (want.Declaration ∷ []) old (want.Modifier ∷ after_modifier []) old
 unfolding table
 plain_goes old e ws =
-    run-begins table want.Declaration want.Name (want.Kind ∷ want.Body ∷ []) ws old (ap (λ b. cond b (Takes (after_modifier [])) (and_then (name_answer (first old)) (want.Kind ∷ want.Body ∷ []))) e) (on_never_skips (is_name_next (first old)))
-    ∙ sym (run-skips table want.Modifier (after_modifier ws) old (ap (λ b. cond b (Takes []) Skips) e))
+    run-begins table want.Declaration want.Name (want.Kind ∷ want.Body ∷ []) ws old (ap (λ b. cond b (takes (after_modifier [])) (and_then (name_answer (first old)) (want.Kind ∷ want.Body ∷ []))) e) (on_never_skips (is_name_next (first old)))
+    ∙ sym (run-skips table want.Modifier (after_modifier ws) old (ap (λ b. cond b (takes []) skips) e))
 
 goes_either : (b : Bool) (old : List Symbol) → is_word (codes "abstract") (first old) ≡ b → Goes (want.Declaration ∷ []) old (want.Modifier ∷ after_modifier []) old
 goes_either true old e = abstract_goes old e
@@ -179,7 +180,7 @@ declaration_stops_body m n p q old mid rest h s = stops_within table body declar
 
 -- ---- { decl }
 
-declaration_never_skips : (a b : Bool) → is_skip {W = Want} (cond a (Takes (after_modifier [])) (and_then (cond b (Takes []) Refuses) (want.Kind ∷ want.Body ∷ []))) ≡ false
+declaration_never_skips : (a b : Bool) → is_skip {W = Want} (cond a (takes (after_modifier [])) (and_then (cond b (takes []) Refuses) (want.Kind ∷ want.Body ∷ []))) ≡ false
 declaration_never_skips true b = refl
 declaration_never_skips false true = refl
 declaration_never_skips false false = refl

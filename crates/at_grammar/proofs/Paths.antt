@@ -9,7 +9,8 @@ use Rattle.std.proofs.Common.{lit<, rules}
 use Rattle.unicode_ident.proofs.IdentLemmas.{is_xid_start-ascii}
 use lib.Chars.{codes}
 use Rattle.at_model.specs.Names.{is_name, reserved_words}
-use Rattle.at_text.specs.Reading.{first, Reason, Refused, LeftOut, Answer, Takes, Skips, Refuses, LeavesOut, and_then, is_skip, Form, run}
+use Rattle.at_text.specs.Machine.{Reason, Refused, LeftOut, Answer, Takes, Skips, Refuses, LeavesOut, and_then, is_skip}
+use Rattle.at_text.specs.Reading.{first, takes, skips, Form, run}
 use Rattle.at_text.specs.Reading as reading
 use Rattle.at_text.specs.Symbols.{Symbol, sign, is_sign, is_name_next}
 use Rattle.at_text.proofs.ReadingLaws.{run-takes, run-skips, run-same, run-begins, stops_here, leaves_here, stops_within}
@@ -37,11 +38,11 @@ same_bytes text = (bytes_eq-Decides text text).1 refl
 
 pub reads_mark : (text : List ℕ) (old rest : List Symbol) → old ≡ sign text ∷ rest → Reads (mark text) tt old rest
 unfolding table
-reads_mark text old rest e = record { is = tt; text = e; goes = λ ws. ap (run table (want.Mark text ∷ ws)) e ∙ run-takes table (want.Mark text) [] ws (sign text) rest (ap (λ b. cond b (Takes []) Refuses) (same_bytes text)) }
+reads_mark text old rest e = record { is = tt; text = e; goes = λ ws. ap (run table (want.Mark text ∷ ws)) e ∙ run-takes table (want.Mark text) [] ws (sign text) rest (ap (λ b. cond b (takes []) Refuses) (same_bytes text)) }
 
 pub stops_mark : (text : List ℕ) (old rest : List Symbol) → rest ≡ old → is_sign text (first old) ≡ false → Stops (mark text) Refused old rest
 unfolding table
-stops_mark text old rest same e = rw same (stops_here table (mark text) tt old tt (ap (λ b. cond b (Takes []) Refuses) e))
+stops_mark text old rest same e = rw same (stops_here table (mark text) tt old tt (ap (λ b. cond b (takes []) Refuses) e))
 
 -- a name, to complete what was read
 some_name : Word
@@ -53,15 +54,15 @@ is_some_name = rw (chars-IsAscii (codes "_") (search rules), is_xid_start-ascii 
 
 pub reads_name : (w : Word) (old rest : List Symbol) → old ≡ grammar.name w ∷ rest → IsName w → Reads name w old rest
 unfolding table
-reads_name w old rest e is = record { is = is; text = e; goes = λ ws. ap (run table (want.Name ∷ ws)) e ∙ run-takes table want.Name [] ws (grammar.name w) rest (ap (λ b. cond b (Takes []) Refuses) is) }
+reads_name w old rest e is = record { is = is; text = e; goes = λ ws. ap (run table (want.Name ∷ ws)) e ∙ run-takes table want.Name [] ws (grammar.name w) rest (ap (λ b. cond b (takes []) Refuses) is) }
 
 pub stops_name : (old rest : List Symbol) → rest ≡ old → is_name_next (first old) ≡ false → Stops name Refused old rest
 unfolding table some_name
-stops_name old rest same e = rw same (stops_here table name some_name old is_some_name (ap (λ b. cond b (Takes []) Refuses) e))
+stops_name old rest same e = rw same (stops_here table name some_name old is_some_name (ap (λ b. cond b (takes []) Refuses) e))
 
 pub reads_kind_name : (w : Word) (old rest : List Symbol) → old ≡ grammar.name w ∷ rest → IsTokenKind w → Reads kind_name w old rest
 unfolding table
-reads_kind_name w old rest e is = record { is = is; text = e; goes = λ ws. ap (run table (want.KindName ∷ ws)) e ∙ run-takes table want.KindName [] ws (grammar.name w) rest (ap (λ b. cond b (Takes []) Refuses) is) }
+reads_kind_name w old rest e is = record { is = is; text = e; goes = λ ws. ap (run table (want.KindName ∷ ws)) e ∙ run-takes table want.KindName [] ws (grammar.name w) rest (ap (λ b. cond b (takes []) Refuses) is) }
 
 either : (a b : Bool) → a ≡ true → a || b ≡ true
 either a b e = ap (λ x. x || b) e
@@ -72,13 +73,13 @@ some_name_is_kind = either (is_name (codes "_")) (is_basic_kind (codes "_")) is_
 
 pub stops_kind_name : (old rest : List Symbol) → rest ≡ old → is_kind_next (first old) ≡ false → Stops kind_name Refused old rest
 unfolding table some_name
-stops_kind_name old rest same e = rw same (stops_here table kind_name some_name old some_name_is_kind (ap (λ b. cond b (Takes []) Refuses) e))
+stops_kind_name old rest same e = rw same (stops_here table kind_name some_name old some_name_is_kind (ap (λ b. cond b (takes []) Refuses) e))
 
 -- ---- [":" name]
 
 pub kind_none : (old rest : List Symbol) → rest ≡ old → is_sign (codes ":") (first old) ≡ false → Reads kind None old rest
 unfolding table
-kind_none old rest same e = record { is = tt; text = sym same; goes = λ ws. run-skips table want.Kind ws old (ap (λ b. cond b (Takes (want.Name ∷ [])) Skips) e) ∙ ap (run table ws) (sym same) }
+kind_none old rest same e = record { is = tt; text = sym same; goes = λ ws. run-skips table want.Kind ws old (ap (λ b. cond b (takes (want.Name ∷ [])) skips) e) ∙ ap (run table ws) (sym same) }
 
 kind_goes : (old mid : List Symbol) → old ≡ sign (codes ":") ∷ mid → Goes (want.Kind ∷ []) old (want.Name ∷ []) mid
 unfolding table
@@ -92,13 +93,13 @@ kind_stops q old mid rest e s = stops_within table name kind q old mid rest (sig
 
 -- ---- name [":" name]
 
-pub on_never_skips : (b : Bool) → is_skip {W = Want} (cond b (Takes []) Refuses) ≡ false
+pub on_never_skips : (b : Bool) → is_skip {W = Want} (cond b (takes []) Refuses) ≡ false
 on_never_skips true = refl
 on_never_skips false = refl
 
 pub and_then_never_skips : (a : Answer Want) (us : List Want) → is_skip (and_then a us) ≡ false
-and_then_never_skips (Takes vs) us = refl
-and_then_never_skips Skips us = refl
+and_then_never_skips (Takes within vs d) us = refl
+and_then_never_skips (Skips d) us = refl
 and_then_never_skips Refuses us = refl
 and_then_never_skips LeavesOut us = refl
 
@@ -123,7 +124,7 @@ child_goes old ws = run-begins table want.Child want.Typed (want.Star ∷ []) ws
 
 star_skips : (mid : List Symbol) (ws : List Want) → is_sign (codes "*") (first mid) ≡ false → run table (want.Star ∷ ws) mid ≡ run table ws mid
 unfolding table
-star_skips mid ws e = run-skips table want.Star ws mid (ap (λ b. cond b (Takes []) Skips) e)
+star_skips mid ws e = run-skips table want.Star ws mid (ap (λ b. cond b (takes []) skips) e)
 
 star_takes : (mid rest : List Symbol) (ws : List Want) → mid ≡ sign (codes "*") ∷ rest → run table (want.Star ∷ ws) mid ≡ run table ws rest
 unfolding table
@@ -186,7 +187,7 @@ close_leaves text old rest same e (inr f) =
 
 token_kind_goes : (old : List Symbol) → is_sign (codes ">") (first old) ≡ false → Goes (want.TokenKind ∷ []) old (want.Mark (codes ":") ∷ want.KindName ∷ want.Close ∷ []) old
 unfolding table
-token_kind_goes old e ws = run-begins table want.TokenKind (want.Mark (codes ":")) (want.KindName ∷ want.Close ∷ []) ws old (ap (λ b. cond b (Takes []) (and_then (mark_answer (codes ":") (first old)) (want.KindName ∷ want.Close ∷ []))) e) (on_never_skips (is_sign (codes ":") (first old)))
+token_kind_goes old e ws = run-begins table want.TokenKind (want.Mark (codes ":")) (want.KindName ∷ want.Close ∷ []) ws old (ap (λ b. cond b (takes []) (and_then (mark_answer (codes ":") (first old)) (want.KindName ∷ want.Close ∷ []))) e) (on_never_skips (is_sign (codes ":") (first old)))
 
 pub token_kind_none : (old rest : List Symbol) → old ≡ sign (codes ">") ∷ rest → Reads token_kind None old rest
 unfolding table
@@ -244,7 +245,7 @@ part_optional_goes old mid e ws = ap (run table (want.Part ∷ ws)) e ∙ run-ta
 
 part_child_goes : (old : List Symbol) → is_sign (codes "<") (first old) ≡ false → is_sign (codes "[") (first old) ≡ false → Goes (want.Part ∷ []) old (want.Child ∷ []) old
 unfolding table
-part_child_goes old l b ws = run-same table want.Part want.Child ws old (ap (λ x. cond x (Takes (want.Token ∷ [])) (cond (is_sign (codes "[") (first old)) (Takes (want.Optional ∷ [])) (child_answer (first old)))) l ∙ ap (λ x. cond x (Takes (want.Optional ∷ [])) (child_answer (first old))) b)
+part_child_goes old l b ws = run-same table want.Part want.Child ws old (ap (λ x. cond x (takes (want.Token ∷ [])) (cond (is_sign (codes "[") (first old)) (takes (want.Optional ∷ [])) (child_answer (first old)))) l ∙ ap (λ x. cond x (takes (want.Optional ∷ [])) (child_answer (first old))) b)
 
 pub part_token : (t : Typed) (old mid rest : List Symbol) → old ≡ sign (codes "<") ∷ mid → Reads token t mid rest → Reads part (grammar.Token t) old rest
 part_token t old mid rest e r = record { is = r.is; text = e ∙ ap (λ l. sign (codes "<") ∷ l) r.text; goes = λ ws. part_token_goes old mid e ws ∙ r.goes ws }

@@ -3,7 +3,8 @@ use Rattle.std.specs.Prelude.{◌≡◌, ℕ, List, [], ◌∷◌, ◌++◌, Opt
 use lib.Chars.{codes}
 use Rattle.at_text.specs.declared.placed.Placed.{Placed}
 use Rattle.at_text.specs.Reading as reading
-use Rattle.at_text.specs.Reading.{Reason, Refused, LeftOut, Form}
+use Rattle.at_text.specs.Machine.{Reason, Refused, LeftOut}
+use Rattle.at_text.specs.Reading.{Form}
 use Rattle.at_text.specs.Symbols.{Symbol, sign, symbols, words_keep}
 use Rattle.at_text.specs.Rows as rows
 use Rattle.at_text.specs.declared.place.Place.{Place}

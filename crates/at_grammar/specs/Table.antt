@@ -1,7 +1,8 @@
 -- What may come next in a grammar, by the next token: the reader's decisions as a table, from which its contracts follow.
 use Rattle.std.specs.Prelude.{ℕ, List, [], ◌∷◌, Bool, false, cond, ◌||◌, ◌&&◌, Option, Some, None}
 use lib.Chars.{codes}
-use Rattle.at_text.specs.Reading.{Answer, Takes, Skips, Refuses, LeavesOut, and_then, Table}
+use Rattle.at_text.specs.Machine.{Answer, Refuses, LeavesOut, and_then}
+use Rattle.at_text.specs.Reading.{Table, takes, skips}
 use Rattle.at_text.specs.Symbols.{Symbol, is_sign, is_word, is_name_next, is_word_kind}
 use Rattle.at_grammar.specs.Grammar.{is_token_kind}
 
@@ -39,7 +40,7 @@ is_kind_next (Some s) = is_word_kind s.kind && is_token_kind s.text
 
 -- it takes the next symbol and wants more, or else
 abbrev pub on : Bool → List Want → Answer Want → Answer Want
-on test more other = cond test (Takes more) other
+on test more other = cond test (takes more) other
 
 abbrev pub name_answer : Option Symbol → Answer Want
 name_answer s = on (is_name_next s) [] Refuses
@@ -63,25 +64,25 @@ abbrev pub declaration_answer : Option Symbol → Answer Want
 declaration_answer s = on (is_word (codes "abstract") s) (Name ∷ Kind ∷ Body ∷ []) (and_then (name_answer s) (Kind ∷ Body ∷ []))
 
 abbrev pub file_answer : Option Symbol → Answer Want
-file_answer None = Skips
+file_answer None = skips
 file_answer (Some s) = and_then (declaration_answer (Some s)) (File ∷ [])
 
 -- each form by its first symbol
 unfoldable pub table : Table Symbol Want
 table File s = file_answer s
 table Declaration s = declaration_answer s
-table Modifier s = on (is_word (codes "abstract") s) [] Skips
+table Modifier s = on (is_word (codes "abstract") s) [] skips
 table Body s = on (is_sign (codes ";") s) [] (and_then (mark_answer (codes "::=") s) (Parts ∷ []))
 table Parts s = on (is_sign (codes ";") s) [] (more_parts_answer s)
 table Part s = part_answer s
 table Child s = child_answer s
-table Star s = on (is_sign (codes "*") s) [] Skips
+table Star s = on (is_sign (codes "*") s) [] skips
 table Optional s = and_then (typed_answer s) (Mark (codes "]") ∷ [])
 table Token s = and_then (name_answer s) (TokenKind ∷ [])
 table TokenKind s = on (is_sign (codes ">") s) [] (and_then (mark_answer (codes ":") s) (KindName ∷ Close ∷ []))
 table Close s = cond (is_sign (codes ".") s || is_sign (codes "<") s) LeavesOut (mark_answer (codes ">") s)
 table Typed s = typed_answer s
-table Kind s = on (is_sign (codes ":") s) (Name ∷ []) Skips
+table Kind s = on (is_sign (codes ":") s) (Name ∷ []) skips
 table KindName s = on (is_kind_next s) [] Refuses
 table Name s = name_answer s
 table (Mark text) s = mark_answer text s

@@ -3,11 +3,11 @@ use Rattle.std.proofs.Common.{◌≡◌, ℕ, List, [], ◌∷◌, ◌++◌, Boo
 use Rattle.at_text.specs.Reading.{first}
 use Rattle.at_text.specs.Symbols.{PlacedToken}
 use Rattle.at_text.specs.Rows.{Row}
-use Rattle.at_jrag.specs.Machine.{Reason, TooDeep, Move, Goes, Halts, after, may_end, Whole, Stuck, run}
+use Rattle.at_text.specs.Machine.{Reason, TooDeep, Move, Goes, Halts, after, may_end, Whole, Stuck, run}
 use Rattle.at_jrag.specs.Wants as want
 use Rattle.at_jrag.specs.Wants.{Want}
 use Rattle.at_jrag.specs.Table.{table}
-use Rattle.at_jrag.proofs.MachineLaws.{goes_on, run-cons, stuck_is, none_longer, none_grows, after_alike, deep_after, never_at_end}
+use Rattle.at_text.proofs.MachineLaws.{goes_on, run-cons, stuck_is, none_longer, none_grows, after_alike, deep_after, never_at_end}
 use Rattle.at_jrag.proofs.Completions.{closing, Needs, Open, completed}
 use Rattle.at_jrag.proofs.CompletionSteps.{Completes, GoesOpen, symbol_keeps}
 

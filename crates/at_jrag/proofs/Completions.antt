@@ -15,12 +15,12 @@ use Rattle.at_text.specs.declared.place.Place.{Place}
 use Rattle.at_text.specs.Place.{first_place}
 use Rattle.at_text.specs.Rows.{Row, sign, word, is_sign, is_word}
 use Rattle.at_jrag.specs.Grammar.{number, max_nesting}
-use Rattle.at_jrag.specs.Machine.{Takes, Skips, Refuses, LeavesOut, and_then, Whole, run}
+use Rattle.at_text.specs.Machine.{Takes, Skips, Refuses, LeavesOut, and_then, Whole, run}
 use Rattle.at_jrag.specs.Wants.{Want, Expression, Binary, Links, Choice, Otherwise, Unary, Minus, Opened, Enclosed, Parenthesized, Calls, Called, Arguments, FirstArgument, MoreArguments, Primary, Named, FoldBody, Deeper, Join, Deepest, Counts, Name, Mark, File, Decls, Lazy, NotNta, Kind, Signed, Opening, Params, OneParam, MoreParams, NotCircular, Ending, Body, Defined, Return, Close}
 use Rattle.at_jrag.specs.Table.{table, next, on, is_number_within, expression_answer, link_rank, link_answer, links_answer, choice_answer, calls_answer, named_answer, parenthesized_answer, file_answer, lazy_answer, not_nta_answer, body_answer}
 use Rattle.at_jrag.specs.Runs.{Pass}
-use Rattle.at_jrag.proofs.MachineLaws.{run-takes, run-skips}
-use Rattle.at_jrag.proofs.MachineLaws.{run-begins}
+use Rattle.at_text.proofs.MachineLaws.{run-takes, run-skips}
+use Rattle.at_text.proofs.MachineLaws.{run-begins}
 use Rattle.at_jrag.proofs.of_expressions.ExpressionSteps.{sign_is, binary_stays}
 use Rattle.at_jrag.proofs.DeclarationRuns.{pass_none, pass_then, pass_skips}
 

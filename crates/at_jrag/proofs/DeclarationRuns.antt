@@ -16,7 +16,7 @@ use Rattle.at_jrag.specs.Grammar as grammar
 use Rattle.at_text.specs.Rows.{Row, sign, word, is_sign, is_word, is_name_token, next_is}
 use Rattle.at_jrag.specs.Grammar.{kind_text, IsKind, Sign, Keyword, Lazy, KindOf, MoreParams, Listed, Opens, Signature, Owner, Index, Declared, BodyOf, EndingOf, Behind, File, Spells, depth, nesting, ending_depth, max_nesting, NestsWithin, IsWithin}
 use Rattle.at_jrag.specs.Heads.{is_int, is_getter}
-use Rattle.at_jrag.specs.Machine.{Reason, Refused, LeftOut, Answer, Takes, Skips, Refuses, LeavesOut, Whole, Stuck, run}
+use Rattle.at_text.specs.Machine.{Reason, Refused, LeftOut, Answer, Takes, Skips, Refuses, LeavesOut, Whole, Stuck, run}
 use Rattle.at_jrag.specs.Wants as want
 use Rattle.at_jrag.specs.Wants.{Want}
 use Rattle.at_jrag.specs.Table.{table, next, on, is_kind, body_answer, declared}
@@ -25,7 +25,7 @@ use Rattle.at_text.specs.declared.fault.Failure.{Failure}
 use Rattle.at_text.specs.declared.fault.Failure.TheVariants as failure
 use Rattle.at_jrag.specs.declared.JragCode.{JragCode}
 use Rattle.at_jrag.specs.declared.JragCode.TheVariants as code
-use Rattle.at_jrag.proofs.MachineLaws.{run-takes, run-skips, run-refuses, run-leaves_out}
+use Rattle.at_text.proofs.MachineLaws.{run-takes, run-skips, run-refuses, run-leaves_out}
 use Rattle.at_jrag.proofs.of_expressions.ExpressionSteps.{no_word}
 use Rattle.at_jrag.proofs.of_expressions.ExpressionRanks.{EndsWhole}
 use Rattle.at_jrag.proofs.of_expressions.ExpressionsTaken.{accepted}

@@ -12,7 +12,7 @@ use Rattle.at_jrag.specs.Grammar as grammar
 use Rattle.at_text.specs.Rows.{Row, sign, word, is_sign, is_word, is_name_token, next_is}
 use Rattle.at_jrag.specs.Grammar.{Sign, Keyword, Lazy, KindOf, Signature, Owner, Declared, max_nesting}
 use Rattle.at_jrag.specs.Heads.{is_getter}
-use Rattle.at_jrag.specs.Machine.{Reason, Refused, LeftOut, Takes, Skips, Refuses, LeavesOut, Stuck, run}
+use Rattle.at_text.specs.Machine.{Reason, Refused, LeftOut, Takes, Skips, Refuses, LeavesOut, Stuck, run}
 use Rattle.at_jrag.specs.Wants as want
 use Rattle.at_jrag.specs.Wants.{Want}
 use Rattle.at_jrag.specs.Table.{table, next, on, is_kind, body_answer, declared, alone}
@@ -21,7 +21,7 @@ use Rattle.at_text.specs.declared.fault.Failure.{Failure}
 use Rattle.at_text.specs.declared.fault.Failure.TheVariants as failure
 use Rattle.at_jrag.specs.declared.JragCode.{JragCode}
 use Rattle.at_jrag.specs.declared.JragCode.TheVariants as code
-use Rattle.at_jrag.proofs.MachineLaws.{run-takes, run-refuses}
+use Rattle.at_text.proofs.MachineLaws.{run-takes, run-refuses}
 use Rattle.at_jrag.proofs.DeclarationRuns.{next_same, dot_row, signed_row, aspect_row, synthesized_row, inherited_row, equation_row, pass_none, lazy_pass, kind_pass, name_pass, mark_pass, return_pass, signed_pass, signature_goes, declared_then, stay_then, stay_first, stay_takes, stay_refuses, stay_leaves_out, name_missing, mark_missing}
 use Rattle.at_jrag.proofs.ParamStops.{kind_missing, signed_missing, last_row}
 

@@ -8,7 +8,7 @@ use Rattle.at_jrag.specs.Grammar.{File, IsWithin}
 use Rattle.at_text.specs.Pieces.{Piece, Cut, Spelled, spelled_at}
 use Rattle.at_text.specs.Symbols.{HasTokens, PlacedToken, placed, placed_in}
 use Rattle.at_text.specs.declared.place.Place.{Place}
-use Rattle.at_jrag.specs.Machine.{Reason, Refused, LeftOut, Stuck, Whole, run}
+use Rattle.at_text.specs.Machine.{Reason, Refused, LeftOut, Stuck, Whole, run}
 use Rattle.at_jrag.specs.Wants as want
 use Rattle.at_jrag.specs.Table.{table}
 use Rattle.at_text.specs.Rows.{left}
@@ -17,7 +17,7 @@ use Rattle.at_jrag.specs.Faults.{StopsAt, IsFault, fault_place}
 use Rattle.at_text.specs.declared.fault.Fault.TheVariants as fault
 use Rattle.at_jrag.specs.declared.JragCode.{JragCode}
 use Rattle.at_jrag.specs.declared.JragCode.TheVariants as code
-use Rattle.at_jrag.proofs.MachineLaws.{stuck_behind}
+use Rattle.at_text.proofs.MachineLaws.{stuck_behind}
 use Rattle.at_jrag.proofs.FirstFaults.{first_fault, none_at_all, one_deeper, one_left_out, none_left_out_there}
 use Rattle.at_jrag.proofs.DeclarationRuns.{file_taken}
 use Rattle.at_jrag.proofs.Unambiguous.{one_file}

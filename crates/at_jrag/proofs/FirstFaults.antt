@@ -2,11 +2,11 @@
 use Rattle.std.proofs.Common.{◌≡◌, ℕ, List, [], ◌∷◌, ◌++◌, Bool, true, false, cond, refl, sym, ◌∙◌}
 use Rattle.at_text.specs.Symbols.{PlacedToken}
 use Rattle.at_jrag.specs.FirstFault.{Begins, GoesOn, IsFirstFault}
-use Rattle.at_jrag.specs.Machine.{Reason, Refused, LeftOut, TooDeep, Stuck, Whole, after, may_end, run}
+use Rattle.at_text.specs.Machine.{Reason, Refused, LeftOut, TooDeep, Stuck, Whole, after, may_end, run}
 use Rattle.at_jrag.specs.Wants as want
 use Rattle.at_jrag.specs.Table.{table}
 use Rattle.at_jrag.specs.Forms.{IsFile, IsFileWithin, MeetsLeftOut}
-use Rattle.at_jrag.proofs.MachineLaws.{one_ahead, run-unlimited, none_grows}
+use Rattle.at_text.proofs.MachineLaws.{one_ahead, run-unlimited, none_grows}
 use Rattle.at_jrag.proofs.DeclarationRuns.{file_taken}
 use Rattle.at_jrag.proofs.Completed.{begins_whole, goes_deeper}
 use Rattle.at_jrag.proofs.Sound.{sound}

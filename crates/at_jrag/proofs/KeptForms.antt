@@ -12,7 +12,7 @@ use Rattle.at_text.specs.declared.place.Place.{Place}
 use Rattle.at_text.specs.Place.{first_place}
 use Rattle.at_text.specs.Rows.{Row, sign, word, is_sign, is_word}
 use Rattle.at_jrag.specs.Grammar.{is_opening}
-use Rattle.at_jrag.specs.Machine.{Answer, Takes, Skips, Refuses, LeavesOut, Move, Goes, Halts, Refused, answered, after}
+use Rattle.at_text.specs.Machine.{Answer, Takes, Skips, Refuses, LeavesOut, Move, Goes, Halts, Refused, answered, after}
 use Rattle.at_jrag.specs.Wants.{Want, Links, Choice, Parenthesized, Calls, FirstArgument, Named, Deeper, Join, Deepest, Counts, Mark, File, Decls, Lazy, NotNta, Params, NotCircular, Ending, Return, Close}
 use Rattle.at_jrag.specs.Table.{table, is_constant, begins_fold}
 use Rattle.at_jrag.specs.Forms.{IsLeftOut, no_aspect, no_declaration, nta, circular, no_return, no_close, get_child}

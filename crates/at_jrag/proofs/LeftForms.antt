@@ -8,7 +8,7 @@ use Rattle.at_text.specs.Symbols.{PlacedToken, is_word_kind}
 use Rattle.at_text.specs.declared.place.Place.{Place}
 use Rattle.at_text.specs.Place.{first_place}
 use Rattle.at_text.specs.Rows.{Row, sign, word, is_sign, is_word}
-use Rattle.at_jrag.specs.Machine.{Goes, Halts, LeftOut, after}
+use Rattle.at_text.specs.Machine.{Goes, Halts, LeftOut, after}
 use Rattle.at_jrag.specs.Wants.{Want, Enclosed, Arguments, FirstArgument, Named, Name, Mark, File, Decls, Lazy, NotNta, Opening, Params, NotCircular, Ending, Return, Close}
 use Rattle.at_jrag.specs.Table.{table, is_get_child, declared}
 use Rattle.at_jrag.specs.Forms.{IsLeftOut, no_aspect, no_declaration, nta, circular, no_return, no_close, get_child}

@@ -1,4 +1,3 @@
-pub mod MachineLaws
 pub mod of_expressions
 pub mod Tokens
 pub mod Declarations

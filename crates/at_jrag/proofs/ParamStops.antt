@@ -14,7 +14,7 @@ use Rattle.at_jrag.specs.Grammar as grammar
 use Rattle.at_text.specs.Rows.{Row, sign, word, is_sign, is_word, is_name_token, next_is}
 use Rattle.at_jrag.specs.Grammar.{kind_text, Sign, KindOf, ParamOf, Opens}
 use Rattle.at_jrag.specs.Heads.{is_int}
-use Rattle.at_jrag.specs.Machine.{Reason, LeftOut, Answer, Takes, Refuses, LeavesOut, run}
+use Rattle.at_text.specs.Machine.{Reason, LeftOut, Answer, Takes, Refuses, LeavesOut, run}
 use Rattle.at_jrag.specs.Wants as want
 use Rattle.at_jrag.specs.Wants.{Want}
 use Rattle.at_jrag.specs.Table.{table, next, on, is_kind, is_get_child, more_params_answer}
@@ -23,7 +23,7 @@ use Rattle.at_text.specs.declared.fault.Failure.{Failure}
 use Rattle.at_text.specs.declared.fault.Failure.TheVariants as failure
 use Rattle.at_jrag.specs.declared.JragCode.{JragCode}
 use Rattle.at_jrag.specs.declared.JragCode.TheVariants as code
-use Rattle.at_jrag.proofs.MachineLaws.{run-takes}
+use Rattle.at_text.proofs.MachineLaws.{run-takes}
 use Rattle.at_jrag.proofs.DeclarationRuns.{Comes, next_same, kind_cases, int_row, kind_row, kind_pass, name_pass, stay_then, stay_first, stay_takes, stay_refuses, stay_leaves_out, missing_stays, name_missing}
 use Rattle.at_model.proofs.Options.{and_off}
 

@@ -17,7 +17,7 @@ use Rattle.at_text.specs.Rows.{Row, sign, word, is_sign, is_word, is_name_token,
 use Rattle.at_jrag.specs.Grammar.{Spells, NumberOf, depth, fold_text, number, quotation}
 use Rattle.at_jrag.specs.Syntax as syntax
 use Rattle.at_jrag.specs.Syntax.{Word, Expr, FoldForm}
-use Rattle.at_jrag.specs.Machine.{Answer, Takes, Skips, Refuses, LeavesOut, Reason, Refused, LeftOut, TooDeep, Stuck, and_then, is_skip, run}
+use Rattle.at_text.specs.Machine.{Answer, Takes, Skips, Refuses, LeavesOut, Reason, Refused, LeftOut, TooDeep, Stuck, and_then, is_skip, run}
 use Rattle.at_jrag.specs.Read.{is_literal}
 use Rattle.at_jrag.specs.Wants.{Want, Expression, Choice, Calls, Called, Arguments, FirstArgument, MoreArguments, Primary, Named, FoldBody, Deeper, Deepest, Join, Name, Mark}
 use Rattle.at_jrag.specs.Table as tables
@@ -27,8 +27,8 @@ use Rattle.at_text.specs.declared.fault.Failure.{Failure}
 use Rattle.at_text.specs.declared.fault.Failure.TheVariants as failure
 use Rattle.at_jrag.specs.declared.JragCode.{JragCode}
 use Rattle.at_jrag.specs.declared.JragCode.TheVariants as code
-use Rattle.at_jrag.proofs.MachineLaws.{run-takes, run-skips, run-refuses, run-too_deep, run-leaves_out}
-use Rattle.at_jrag.proofs.MachineLaws.{run-begins}
+use Rattle.at_text.proofs.MachineLaws.{run-takes, run-skips, run-refuses, run-too_deep, run-leaves_out}
+use Rattle.at_text.proofs.MachineLaws.{run-begins}
 use Rattle.at_jrag.proofs.of_expressions.ExpressionSteps.{then_stays, sign_is, name_is_no_literal}
 use Rattle.at_jrag.proofs.of_expressions.ExpressionRuns.{moves_on, calls_end, call_moves, more_none, literal_goes, name_goes, named_taken, fold_taken, fold_goes}
 use Rattle.at_jrag.proofs.of_expressions.ExpressionsTaken.{next_first, deep, number_is, number_literal, quoted_is}

@@ -3,13 +3,13 @@ use Rattle.std.proofs.Common.{◌≡◌, ℕ, List, [], ◌∷◌, ◌++◌, Boo
 use Rattle.at_text.specs.Reading.{first}
 use Rattle.at_text.specs.Symbols.{PlacedToken}
 use Rattle.at_text.specs.Rows.{Row}
-use Rattle.at_jrag.specs.Machine.{Reason, Move, Goes, Halts, after, Whole, Stuck, run}
+use Rattle.at_text.specs.Machine.{Reason, Move, Goes, Halts, after, Whole, Stuck, run}
 use Rattle.at_jrag.specs.Wants as want
 use Rattle.at_jrag.specs.Wants.{Want}
 use Rattle.at_jrag.specs.Table.{table}
 use Rattle.at_jrag.specs.FirstFault.{GoesOn}
 use Rattle.at_jrag.specs.Forms.{IsFile}
-use Rattle.at_jrag.proofs.MachineLaws.{goes_on, run-cons, stuck_is, none_longer}
+use Rattle.at_text.proofs.MachineLaws.{goes_on, run-cons, stuck_is, none_longer}
 use Rattle.at_jrag.proofs.Completions.{closing, completed}
 use Rattle.at_jrag.proofs.CompletionSteps.{Completes, GoesOpen, symbol_keeps}
 use Rattle.at_jrag.proofs.Completed.{move_of_both, file_wanted, open_unlimited}

@@ -6,7 +6,7 @@ use lib.Chars.{codes}
 use Rattle.at_text.specs.Symbols.{PlacedToken, is_word_kind}
 use Rattle.at_text.specs.Rows.{is_sign, is_word, is_name_token}
 use Rattle.at_jrag.specs.Grammar.{is_number, follows_cast}
-use Rattle.at_jrag.specs.Machine.{Answer, Takes, Skips, Refuses, LeavesOut, and_then, Move, Goes, Halts, answered, after}
+use Rattle.at_text.specs.Machine.{Answer, Takes, Skips, Refuses, LeavesOut, and_then, Move, Goes, Halts, answered, after}
 use Rattle.at_jrag.specs.Wants.{Want, Expression, Binary, Links, Choice, Otherwise, Unary, Minus, Opened, Enclosed, Parenthesized, Calls, Called, Arguments, FirstArgument, MoreArguments, Primary, Named, FoldBody, Deeper, Join, Deepest, Counts, Name, Mark, File, Decls, Lazy, NotNta, Kind, Signed, Opening, Params, OneParam, MoreParams, NotCircular, Ending, Body, Defined, Return, Close}
 use Rattle.at_jrag.specs.Table.{table, next, is_literal, begins_fold, is_number_within, is_kind, link_rank, or_else, links_from, tails_answer, primary_answer, unary_answer, binary_answer, expression_answer, links_answer, choice_answer, calls_answer, named_answer, enclosed_rest, body_answer, more_params_answer, no_keyword}
 use Rattle.at_jrag.proofs.Reached.{Reached, start, step}

@@ -8,7 +8,7 @@ use Rattle.at_text.specs.Symbols.{PlacedToken}
 use Rattle.at_text.specs.declared.place.Place.{Place}
 use Rattle.at_text.specs.Rows.{sign, word, is_name_token}
 use Rattle.at_jrag.specs.Grammar.{follows_cast}
-use Rattle.at_jrag.specs.Machine.{Answer, Takes, Skips, Refuses, LeavesOut, and_then, Goes, Halts, TooDeep, answered, after}
+use Rattle.at_text.specs.Machine.{Answer, Takes, Skips, Refuses, LeavesOut, and_then, Goes, Halts, TooDeep, answered, after}
 use Rattle.at_jrag.specs.Wants.{Want, Expression, Binary, Links, Choice, Unary, Minus, Opened, Enclosed, Parenthesized, Calls, Called, Arguments, FirstArgument, MoreArguments, Primary, Named, Deeper, Join, Deepest, Counts, Name, Mark, Decls, Lazy, NotNta, Kind, Signed, Opening, Params, NotCircular, Ending, Defined, Close}
 use Rattle.at_jrag.specs.Table.{table, is_kind, link_answer, primary_answer, unary_answer, binary_answer, expression_answer}
 use Rattle.at_jrag.proofs.Shapes.{loose, firm}

@@ -3,7 +3,7 @@ use Rattle.std.proofs.Common.{◌≡◌, ℕ, ◌≤◌, List, [], ◌∷◌, Bo
 use Rattle.at_jrag.specs.Syntax.{Aspect, Expr}
 use Rattle.at_text.specs.Rows.{Row}
 use Rattle.at_jrag.specs.Grammar.{File, Spells, depth, IsWithin}
-use Rattle.at_jrag.specs.Machine.{Whole, run}
+use Rattle.at_text.specs.Machine.{Whole, run}
 use Rattle.at_jrag.specs.Wants as want
 use Rattle.at_jrag.specs.Table.{table}
 use Rattle.at_jrag.proofs.SoundSays.{Means, only_says, whole_said}

@@ -13,7 +13,7 @@ use Rattle.at_jrag.specs.Syntax as syntax
 use Rattle.at_jrag.specs.Syntax.{Word, place}
 use Rattle.at_text.specs.Rows.{Row, sign, word, is_sign, is_word, is_name_token, next_is}
 use Rattle.at_jrag.specs.Grammar.{follows_cast, Sign, deepest}
-use Rattle.at_jrag.specs.Machine.{Answer, Takes, Skips, Refuses, LeavesOut, and_then}
+use Rattle.at_text.specs.Machine.{Answer, Takes, Skips, Refuses, LeavesOut, and_then}
 use Rattle.at_jrag.specs.Wants.{Want, Expression, Links, Choice, Enclosed, Parenthesized, Calls, Called, Arguments, FirstArgument, MoreArguments, Deeper, Join, Deepest, Mark}
 use Rattle.at_jrag.specs.Table.{next, or_else, is_get_child, expects, unary_answer, expression_answer, links_answer, choice_answer, calls_answer, called_answer, named_answer, first_argument_answer, more_arguments_answer, links_from, tails_answer, enclosed_rest, enclosed_answer, opened_answer, parenthesized_answer}
 use Rattle.at_jrag.proofs.of_expressions.ExpressionSteps.{name_is}

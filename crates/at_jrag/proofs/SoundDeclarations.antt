@@ -12,7 +12,7 @@ use Rattle.at_jrag.specs.Syntax.{Word, KindWord, Ending, Body, Decl, Aspect}
 use Rattle.at_jrag.specs.Grammar as grammar
 use Rattle.at_text.specs.Rows.{Row, sign, word, is_sign, is_word, is_name_token, next_is}
 use Rattle.at_jrag.specs.Grammar.{kind_text, IsKind, Sign, Keyword, KindOf, Listed, Signature, Owner, EndingOf, DeclOf, ending_depth, max_nesting, NestsWithin, IsWithin}
-use Rattle.at_jrag.specs.Machine.{Takes, Skips, Refuses, LeavesOut}
+use Rattle.at_text.specs.Machine.{Takes, Skips, Refuses, LeavesOut}
 use Rattle.at_jrag.specs.Wants as want
 use Rattle.at_jrag.specs.Table.{next, on, expects, is_get_child, is_kind, no_keyword, declared, file_answer, decls_answer, not_nta_answer, lazy_answer, signed_answer, more_params_answer, params_answer, body_answer, ending_answer, defined_answer, alone}
 use Rattle.at_jrag.proofs.of_expressions.ExpressionSteps.{name_is}

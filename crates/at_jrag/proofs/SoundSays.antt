@@ -13,11 +13,11 @@ use Rattle.at_jrag.specs.Syntax.{Word, Param, KindWord, Ending, Body, Decl, Aspe
 use Rattle.at_jrag.specs.Grammar as grammar
 use Rattle.at_text.specs.Rows.{Row, sign, word, is_sign, is_word, next_is}
 use Rattle.at_jrag.specs.Grammar.{Sign, Keyword, Opens, KindOf, Listed, Index, Signature, BodyOf, EndingOf, Spells, level, depth, deepest, ending_depth, max_nesting, NestsWithin, IsWithin}
-use Rattle.at_jrag.specs.Machine.{Answer, Takes, Skips, Refuses, LeavesOut, and_then, Goes, Halts, answered, after, ended, may_end, Outcome, Whole, Stuck, Refused, TooDeep, run}
+use Rattle.at_text.specs.Machine.{Answer, Takes, Skips, Refuses, LeavesOut, and_then, Goes, Halts, answered, after, ended, may_end, Outcome, Whole, Stuck, Refused, TooDeep, run}
 use Rattle.at_jrag.specs.Wants as want
 use Rattle.at_jrag.specs.Wants.{Want}
 use Rattle.at_jrag.specs.Table.{table, or_else}
-use Rattle.at_jrag.proofs.MachineLaws.{goes_on}
+use Rattle.at_text.proofs.MachineLaws.{goes_on}
 
 -- ---- what a want says
 

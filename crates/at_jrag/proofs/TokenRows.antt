@@ -7,7 +7,7 @@ use Rattle.at_text.specs.Symbols.{PlacedToken}
 use Rattle.at_text.specs.declared.place.Place.{Place}
 use Rattle.at_text.specs.Rows.{word, is_word, is_name_token}
 use Rattle.at_jrag.specs.Grammar.{follows_cast}
-use Rattle.at_jrag.specs.Machine.{Answer, Skips, Refuses, LeavesOut, and_then}
+use Rattle.at_text.specs.Machine.{Answer, Skips, Refuses, LeavesOut, and_then}
 use Rattle.at_jrag.specs.Wants.{Want, Expression, Binary, Links, Choice, Unary, Minus, Opened, Enclosed, Parenthesized, Calls, Called, FirstArgument, MoreArguments, Primary, Named, Deeper, Join, Deepest, Counts, Name, Mark, File, Decls, Lazy, NotNta, Kind, Signed, Params, NotCircular, Defined, Return}
 use Rattle.at_jrag.specs.Table.{table, is_literal, begins_fold, is_kind, link_rank, link_answer, or_else, tails_answer, primary_answer, unary_answer, binary_answer, expression_answer, links_answer}
 use Rattle.at_jrag.proofs.Shapes.{loose}

@@ -5,7 +5,7 @@ use Rattle.std.specs.Str.{bytes_eq}
 use Rattle.std.proofs.lemmas.Slice.Eq.{bytes_eq-Decides}
 use lib.Chars.{codes}
 use Rattle.at_text.specs.Symbols.{PlacedToken}
-use Rattle.at_jrag.specs.Machine.{Answer, Takes, Skips, Refuses, LeavesOut, Move, Goes, Halts, Reason, Refused, LeftOut, TooDeep, answered, after}
+use Rattle.at_text.specs.Machine.{Answer, Takes, Skips, Refuses, LeavesOut, Move, Goes, Halts, Reason, Refused, LeftOut, TooDeep, answered, after}
 use Rattle.at_jrag.specs.Wants.{Want, FirstArgument, Mark, File, Decls, Lazy, NotNta, Params, NotCircular, Ending, Return, Close}
 use Rattle.at_jrag.specs.Table.{table}
 use Rattle.at_jrag.proofs.Shapes.{loose, firm, second, next_firm, next_second, next_ends, follows, Stands}

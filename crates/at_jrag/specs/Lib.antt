@@ -2,7 +2,6 @@ pub mod Syntax
 pub mod View
 pub mod Grammar
 pub mod FirstFault
-pub mod Machine
 pub mod Wants
 pub mod Table
 pub mod Runs

@@ -7,7 +7,7 @@ use Rattle.at_text.specs.declared.place.Place.{Place}
 use Rattle.at_jrag.specs.Syntax.{KindWord}
 use Rattle.at_text.specs.Rows.{Row, sign, is_sign, is_word, is_name_token, next_is}
 use Rattle.at_jrag.specs.Grammar.{Sign, KindOf, number, is_number}
-use Rattle.at_jrag.specs.Machine.{Reason, Refused, LeftOut, TooDeep, Stuck, run}
+use Rattle.at_text.specs.Machine.{Reason, Refused, LeftOut, TooDeep, Stuck, run}
 use Rattle.at_jrag.specs.Wants.{Want}
 use Rattle.at_jrag.specs.Table.{table, is_literal, is_plain, is_quoted, is_kind, is_decimal_within, is_number_within, begins_fold}
 use Rattle.at_text.specs.declared.fault.Failure.{Failure}

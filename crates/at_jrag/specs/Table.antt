@@ -8,7 +8,7 @@ use Rattle.at_text.specs.Faults.{makes_escape}
 use Rattle.at_text.specs.Symbols.{PlacedToken, is_word_kind, is_sign_kind}
 use Rattle.at_text.specs.Rows.{is_sign, is_word, is_name_token}
 use Rattle.at_jrag.specs.Grammar.{is_number, follows_cast, max_nesting}
-use Rattle.at_jrag.specs.Machine.{Answer, Takes, Skips, Refuses, LeavesOut, and_then, Table}
+use Rattle.at_text.specs.Machine.{Answer, Takes, Skips, Refuses, LeavesOut, and_then, Table}
 use Rattle.at_jrag.specs.Wants.{Want, Expression, Binary, Links, Choice, Otherwise, Unary, Minus, Opened, Enclosed, Parenthesized, Calls, Called, Arguments, FirstArgument, MoreArguments, Primary, Named, FoldBody, Deeper, Join, Deepest, Counts, Name, Mark, File, Decls, Lazy, NotNta, Kind, Signed, Opening, Params, OneParam, MoreParams, NotCircular, Ending, Body, Defined, Return, Close}
 
 -- ---- the next token

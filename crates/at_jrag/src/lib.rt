@@ -3,8 +3,8 @@
 //! **Its specs:** `Syntax` is what is written, with its places, and `View` relates the types to it; `Grammar` says
 //! which tokens spell each form and how deep it nests; `Forms` which forms are left out; `Faults` the fault of a
 //! text, over `FirstFault`, where a language's texts can't go on. That reading stops at the first fault is shown by
-//! a machine with a stack of wants (`Machine`, `Wants`, `Table`); `Runs`, `Heads` and `Read` say where each method
-//! of the reader leaves it.
+//! `at_text`'s machine with a stack of wants (`Wants`, `Table`); `Runs`, `Heads` and `Read` say where each method of the
+//! reader leaves it.
 //!
 //! **Where to begin:** `parse_jrag`, below, and `reader.rt`.
 //!

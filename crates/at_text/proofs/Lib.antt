@@ -1,6 +1,7 @@
 pub mod Spelling
 pub mod Characters
 pub mod ReadingLemmas
+pub mod MachineLaws
 pub mod ReadingLaws
 pub mod Placing
 pub mod Fronts

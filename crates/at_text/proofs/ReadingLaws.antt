@@ -5,94 +5,40 @@ use Rattle.std.specs.List.{flat_map, AllByRecursion}
 use Rattle.std.proofs.lemmas.List.{append-nil, map_push}
 use Rattle.std.proofs.lemmas.Grind.{flat_map-append}
 use Rattle.std.proofs.lemmas.List.Concat.{flat_map-cons}
-use Rattle.at_text.specs.Reading.{first, Reason, Refused, LeftOut, Begins, IsFirstFault, Answer, Takes, Skips, Refuses, LeavesOut, Table, Move, Goes, Halts, answered, after, is_skip, may_end, and_then, Outcome, Whole, Stuck, run, Form, Reads, IsReason, Stops, Fails, Parses}
+use Rattle.at_text.specs.Machine.{Reason, Refused, LeftOut, TooDeep, Refuses, LeavesOut, and_then, is_skip, Whole, Stuck}
+use Rattle.at_text.specs.Reading.{first, Begins, IsFirstFault, Table, takes, skips, by_next, run, Form, Reads, IsReason, Stops, Fails, Parses}
+use Rattle.at_text.proofs.MachineLaws as machine
 
 -- ---- one step of a run
 
--- a run goes on by what is wanted after the symbol
-abbrev pub goes_on : {S W : Type 0} → Table S W → Move W → S → List S → Outcome S
-goes_on table m s ss = elim m [ Goes more ↦ run table more ss | Halts reason ↦ Stuck reason (s ∷ ss) ]
-
-run-cons : {S W : Type 0} (table : Table S W) (ws : List W) (s : S) (ss : List S) → run table ws (s ∷ ss) ≡ goes_on table (after table ws s) s ss
-unfolding run
-run-cons table ws s ss = refl
-
 -- the form takes the next symbol
-pub run-takes : {S W : Type 0} (table : Table S W) (w : W) (more ws : List W) (s : S) (ss : List S) → table w (Some s) ≡ Takes more → run table (w ∷ ws) (s ∷ ss) ≡ run table (more ++ ws) ss
-run-takes table w more ws s ss e = run-cons table (w ∷ ws) s ss ∙ ap (λ a. goes_on table (answered a ws (after table ws s)) s ss) e
+pub run-takes : {S W : Type 0} (table : Table S W) (w : W) (more ws : List W) (s : S) (ss : List S) → table w (Some s) ≡ takes more → run table (w ∷ ws) (s ∷ ss) ≡ run table (more ++ ws) ss
+run-takes table w more ws s ss e = machine.run-takes true (by_next table) w true more ws 0 0 s ss e (λ _. refl)
 
 -- the form is there without it
-pub run-skips : {S W : Type 0} (table : Table S W) (w : W) (ws : List W) (ss : List S) → table w (first ss) ≡ Skips → run table (w ∷ ws) ss ≡ run table ws ss
-unfolding run
-run-skips table w ws [] e = ap (λ a. cond (is_skip a && may_end table ws) Whole (Stuck Refused [])) e
-run-skips table w ws (s ∷ ss) e = ap (λ a. goes_on table (answered a ws (after table ws s)) s ss) e
-
--- the form can't go on
-pub run-refuses : {S W : Type 0} (table : Table S W) (w : W) (ws : List W) (ss : List S) → table w (first ss) ≡ Refuses → run table (w ∷ ws) ss ≡ Stuck Refused ss
-unfolding run
-run-refuses table w ws [] e = ap (λ a. cond (is_skip a && may_end table ws) Whole (Stuck Refused [])) e
-run-refuses table w ws (s ∷ ss) e = ap (λ a. goes_on table (answered a ws (after table ws s)) s ss) e
+pub run-skips : {S W : Type 0} (table : Table S W) (w : W) (ws : List W) (ss : List S) → table w (first ss) ≡ skips → run table (w ∷ ws) ss ≡ run table ws ss
+run-skips table w ws ss e = machine.run-skips true (by_next table) w ws 0 0 ss e
 
 -- here begins what is left out
 pub run-leaves_out : {S W : Type 0} (table : Table S W) (w : W) (ws : List W) (s : S) (ss : List S) → table w (Some s) ≡ LeavesOut → run table (w ∷ ws) (s ∷ ss) ≡ Stuck LeftOut (s ∷ ss)
-run-leaves_out table w ws s ss e = run-cons table (w ∷ ws) s ss ∙ ap (λ a. goes_on table (answered a ws (after table ws s)) s ss) e
+run-leaves_out table w ws s ss e = machine.run-leaves_out true (by_next table) w ws 0 s ss e
 
--- the text ends where the form wants more
-pub run-ended : {S W : Type 0} (table : Table S W) (w : W) (ws : List W) → is_skip (table w None) ≡ false → run table (w ∷ ws) [] ≡ Stuck Refused []
-unfolding run
-run-ended table w ws e = ap (λ b. cond (b && may_end table ws) Whole (Stuck Refused [])) e
+-- two forms with one answer go on alike
+pub run-same : {S W : Type 0} (table : Table S W) (w v : W) (ws : List W) (ss : List S) → table w (first ss) ≡ table v (first ss) → run table (w ∷ ws) ss ≡ run table (v ∷ ws) ss
+run-same table w v ws ss e = machine.run-same true (by_next table) w v ws 0 ss e
 
--- ---- where a run is stuck, it has looked at no more than the next symbol
+-- a form that begins with another and goes on with us
+pub run-begins : {S W : Type 0} (table : Table S W) (w v : W) (us ws : List W) (ss : List S) → table w (first ss) ≡ and_then (table v (first ss)) us → is_skip (table v (first ss)) ≡ false → run table (w ∷ ws) ss ≡ run table (v ∷ (us ++ ws)) ss
+run-begins table w v us ws ss e h = machine.run-begins true (by_next table) w v us ws 0 ss e h
 
-none_longer : {S : Type 0} (f : S) (front rest : List S) → f ∷ (front ++ rest) ≡ rest → ⊥
-none_longer f front rest e = let l : suc (length (front ++ rest)) ≡ length rest = ap length e in omega (arith, length-append front rest)
-
-stuck_is : {S : Type 0} (r q : Reason) (xs ys : List S) → Stuck r xs ≡ Stuck q ys → xs ≡ ys
-stuck_is r q xs ys e = cc
-
-halts_alike : {S : Type 0} (r q : Reason) (xs ys : List S) → Stuck r xs ≡ Stuck q ys → r ≡ q
-halts_alike r q xs ys e = cc
-
-ahead : {S W : Type 0} (table : Table S W) (r : Reason) (m : Move W) (f : S) (front rest other : List S)
-    → ((ws : List W) → run table ws (front ++ rest) ≡ Stuck r rest → run table ws (front ++ other) ≡ Stuck r other)
-    → goes_on table m f (front ++ rest) ≡ Stuck r rest → goes_on table m f (front ++ other) ≡ Stuck r other
-ahead table r (Halts q) f front rest other ih h = absurd (none_longer f front rest (stuck_is q r _ _ h))
-ahead table r (Goes more) f front rest other ih h = ih more h
-
-ends_within : {S : Type 0} (b : Bool) (r : Reason) (left : List S) → cond b Whole (Stuck Refused []) ≡ Stuck r left → length left ≤ 0
-ends_within true r left h = absurd cc
-ends_within false r left h = let l : 0 ≡ length left = ap length (stuck_is Refused r _ _ h) in omega arith
-
-left_within : {S W : Type 0} (table : Table S W) (r : Reason) (m : Move W) (s : S) (ss left : List S) → ((ws : List W) (xs : List S) → run table ws ss ≡ Stuck r xs → length xs ≤ length ss) → goes_on table m s ss ≡ Stuck r left → length left ≤ suc (length ss)
-left_within table r (Halts q) s ss left ih h = let l : suc (length ss) ≡ length left = ap length (stuck_is q r _ _ h) in omega arith
-left_within table r (Goes more) s ss left ih h = let l = ih more left h in omega arith
-
-stuck_within : {S W : Type 0} (table : Table S W) (r : Reason) (ws : List W) (ss left : List S) → run table ws ss ≡ Stuck r left → length left ≤ length ss
-unfolding run
-stuck_within table r ws [] left h = ends_within (may_end table ws) r left h
-stuck_within table r ws (s ∷ ss) left h = left_within table r (after table ws s) s ss left (λ vs xs e. stuck_within table r vs ss xs e) h
-
-none_grows : {S W : Type 0} (table : Table S W) (r : Reason) (s : S) (rest : List S) (m : Move W) → goes_on table m s rest ≡ Stuck r (s ∷ rest) → m ≡ Halts r
-none_grows table r s rest (Halts q) h = ap (λ x. Halts x) (halts_alike q r _ _ h)
-none_grows table r s rest (Goes more) h = let l : suc (length rest) ≤ length rest = stuck_within table r more rest (s ∷ rest) h in absurd (omega arith)
-
-pub one_ahead : {S W : Type 0} (table : Table S W) (r : Reason) (ws : List W) (front rest other : List S) → first other ≡ first rest → run table ws (front ++ rest) ≡ Stuck r rest → run table ws (front ++ other) ≡ Stuck r other
-one_ahead table r ws [] [] [] e h = h
-one_ahead table r ws [] [] (o ∷ os) e h = absurd cc
-one_ahead table r ws [] (s ∷ rest) [] e h = absurd cc
-one_ahead {S = S} table r ws [] (s ∷ rest) (o ∷ os) e h =
-    let same : o ≡ s = cc in
-    let none = none_grows table r s rest (after table ws s) (sym (run-cons table ws s rest) ∙ h) in
-    run-cons table ws o os ∙ ap (λ a. goes_on table (after table ws a) a os) same ∙ ap (λ a. goes_on table a s os) none ∙ ap (λ (x : S). Stuck r (x ∷ os)) (sym same)
-one_ahead table r ws (f ∷ front) rest other e h =
-    run-cons table ws f (front ++ other) ∙ ahead table r (after table ws f) f front rest other (λ vs. one_ahead table r vs front rest other e) (sym (run-cons table ws f (front ++ rest)) ∙ h)
+-- ---- the first fault
 
 -- where reading a form stops, is its first fault, if what it spells is taken whole
 pub first_fault : {S W V : Type 0} (table : Table S W) (form : Form S W V) (r : Reason) (old rest : List S) → ((v : V) → form.Is v → run table (form.want ∷ []) (form.spell v) ≡ Whole) → (s : Stops table form r old rest) → IsFirstFault form.Is form.spell s.front rest
 first_fault table form r old rest accepts s = record {
   begins = s.begins;
   ends = λ v other is same text.
-      let stuck : run table (form.want ∷ []) (s.front ++ other) ≡ Stuck r other = one_ahead table r (form.want ∷ []) s.front rest other same (sym (ap (run table (form.want ∷ [])) s.split) ∙ s.stuck []) in
+      let stuck : run table (form.want ∷ []) (s.front ++ other) ≡ Stuck r other = machine.one_ahead true (by_next table) r (form.want ∷ []) 0 s.front rest other same (sym (ap (run table (form.want ∷ [])) s.split) ∙ s.stuck []) in
       let whole : run table (form.want ∷ []) (s.front ++ other) ≡ Whole = sym (ap (run table (form.want ∷ [])) text) ∙ accepts v is in
       absurd cc;
 }
@@ -142,7 +88,7 @@ cut_once (s ∷ a) (t ∷ b) x y l e =
 
 -- The form stops at once, since its next symbol begins none.
 pub stops_here : {S W V : Type 0} (table : Table S W) (form : Form S W V) (v : V) (old : List S) → form.Is v → table form.want (first old) ≡ Refuses → Stops table form Refused old old
-stops_here table form v old is e = record { front = []; split = refl; begins = (v, form.spell v, is, refl); why = tt; stuck = λ ws. run-refuses table form.want ws old e }
+stops_here table form v old is e = record { front = []; split = refl; begins = (v, form.spell v, is, refl); why = tt; stuck = λ ws. machine.run-refuses true (by_next table) form.want ws 0 old e }
 
 -- The form stops at once, since its next symbol begins what is left out.
 pub leaves_here : {S W V : Type 0} (table : Table S W) (form : Form S W V) (v : V) (old : List S) (s : S) → first old ≡ Some s → form.Is v → table form.want (Some s) ≡ LeavesOut → form.LeavesAt [] (Some s) → Stops table form LeftOut old old
@@ -160,6 +106,7 @@ leaves_here {S = S} table form v (x ∷ rest) s e is leaves at =
 reason_within : {S W U V : Type 0} (inner : Form S W U) (form : Form S W V) (r : Reason) (before front rest : List S) → ((xs : List S) (s : Option S) → inner.LeavesAt xs s → form.LeavesAt (before ++ xs) s) → IsReason inner r front rest → IsReason form r (before ++ front) rest
 reason_within inner form Refused before front rest leaves why = tt
 reason_within inner form LeftOut before front rest leaves why = leaves front (first rest) why
+reason_within inner form TooDeep before front rest leaves why = why
 
 -- A form stops where a part of it does: before the part stood this, and a value of the part is made to one of the form.
 pub stops_within : {S W U V : Type 0} (table : Table S W) (inner : Form S W U) (form : Form S W V) (r : Reason) (old mid rest before : List S) (us : List W) (make : U → V) (tail : List S)
@@ -197,32 +144,6 @@ stops_at {S} {W} {V} table form r mid old rest e s = subst (λ (x : List S). Sto
 
 pub reads_at : {S W V : Type 0} (table : Table S W) (form : Form S W V) (v : V) (mid old rest : List S) → mid ≡ old → Reads table form v mid rest → Reads table form v old rest
 reads_at {S} {W} {V} table form v mid old rest e s = subst (λ (x : List S). Reads table form v x rest) e s
-
--- ---- one form for another
-
-same : {S W : Type 0} (table : Table S W) (a : Answer W) (w v : W) (ws : List W) (ss : List S) → table w (first ss) ≡ a → table v (first ss) ≡ a → run table (w ∷ ws) ss ≡ run table (v ∷ ws) ss
-same table Skips w v ws ss e f = run-skips table w ws ss e ∙ sym (run-skips table v ws ss f)
-same table Refuses w v ws ss e f = run-refuses table w ws ss e ∙ sym (run-refuses table v ws ss f)
-same table LeavesOut w v ws [] e f = run-ended table w ws (ap is_skip e) ∙ sym (run-ended table v ws (ap is_skip f))
-same table LeavesOut w v ws (s ∷ ss) e f = run-leaves_out table w ws s ss e ∙ sym (run-leaves_out table v ws s ss f)
-same table (Takes more) w v ws [] e f = run-ended table w ws (ap is_skip e) ∙ sym (run-ended table v ws (ap is_skip f))
-same table (Takes more) w v ws (s ∷ ss) e f = run-takes table w more ws s ss e ∙ sym (run-takes table v more ws s ss f)
-
--- two forms with one answer go on alike
-pub run-same : {S W : Type 0} (table : Table S W) (w v : W) (ws : List W) (ss : List S) → table w (first ss) ≡ table v (first ss) → run table (w ∷ ws) ss ≡ run table (v ∷ ws) ss
-run-same table w v ws ss e = same table (table v (first ss)) w v ws ss e refl
-
-begins : {S W : Type 0} (table : Table S W) (a : Answer W) (w v : W) (us ws : List W) (ss : List S) → table w (first ss) ≡ and_then a us → table v (first ss) ≡ a → is_skip a ≡ false → run table (w ∷ ws) ss ≡ run table (v ∷ (us ++ ws)) ss
-begins table Skips w v us ws ss e f h = absurd cc
-begins table Refuses w v us ws ss e f h = run-refuses table w ws ss e ∙ sym (run-refuses table v (us ++ ws) ss f)
-begins table LeavesOut w v us ws [] e f h = run-ended table w ws (ap is_skip e) ∙ sym (run-ended table v (us ++ ws) (ap is_skip f))
-begins table LeavesOut w v us ws (s ∷ ss) e f h = run-leaves_out table w ws s ss e ∙ sym (run-leaves_out table v (us ++ ws) s ss f)
-begins table (Takes more) w v us ws [] e f h = run-ended table w ws (ap is_skip e) ∙ sym (run-ended table v (us ++ ws) (ap is_skip f))
-begins table (Takes more) w v us ws (s ∷ ss) e f h = run-takes table w (more ++ us) ws s ss e ∙ ap (λ l. run table l ss) (append_assoc more us ws) ∙ sym (run-takes table v more (us ++ ws) s ss f)
-
--- a form that begins with another and goes on with us
-pub run-begins : {S W : Type 0} (table : Table S W) (w v : W) (us ws : List W) (ss : List S) → table w (first ss) ≡ and_then (table v (first ss)) us → is_skip (table v (first ss)) ≡ false → run table (w ∷ ws) ss ≡ run table (v ∷ (us ++ ws)) ss
-run-begins table w v us ws ss e h = begins table (table v (first ss)) w v us ws ss e refl h
 
 -- ---- one form after another, as a loop reads them
 

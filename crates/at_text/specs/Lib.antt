@@ -1,5 +1,6 @@
 pub mod Place
 pub mod Quoted
+pub mod Machine
 pub mod Reading
 pub mod Symbols
 pub mod Rows

@@ -1,17 +1,14 @@
 -- Reading a text from the left, with one symbol of look ahead. Symbols are what a grammar sees of tokens, and its
 -- forms are told apart by the next symbol alone (LL(1): Knuth, "Top-down syntax analysis", 1971).
-use Rattle.std.specs.Prelude.{◌≡◌, List, [], ◌∷◌, ◌++◌, Bool, true, false, cond, ◌&&◌, Option, Some, None, Result, Ok, Err}
+use Rattle.std.specs.Prelude.{◌≡◌, List, [], ◌∷◌, ◌++◌, true, Option, Some, None, Result, Ok, Err}
+use Rattle.at_text.specs.Machine as machine
+use Rattle.at_text.specs.Machine.{Reason, Refused, LeftOut, TooDeep, Answer, Outcome, Stuck}
 
 abbrev pub first : {S : Type 0} → List S → Option S
 first [] = None
 first (s ∷ ss) = Some s
 
--- ---- the grammar: its forms, and where reading stops
-
--- why reading stops: the next symbol doesn't go on, or a form begins there that the profile leaves out
-pub data Reason : Type 0 where
-  Refused : Reason
-  LeftOut : Reason
+-- ---- the grammar: its values, and where reading stops
 
 -- some value is spelled with this front
 abbrev pub Begins : {S V : Type 0} → (V → Type 0) → (V → List S) → List S → Type 0
@@ -22,60 +19,25 @@ pub record IsFirstFault {S V : Type 0} (Is : V → Type 0) (spell : V → List S
   pub begins : Begins Is spell front
   pub ends : (value : V) (other : List S) → Is value → first other ≡ first rest → spell value ≡ front ++ other → ⊥
 
--- ---- the machine: what is wanted, and what each form does at the next symbol
-
--- what a form does at the next symbol: it takes it and wants more, it's there without it, it can't go on,
--- or a form begins there that the profile leaves out
-pub data Answer (W : Type 0) : Type 0 where
-  Takes : List W → Answer W
-  Skips : Answer W
-  Refuses : Answer W
-  LeavesOut : Answer W
-
--- the answer, with more that is wanted behind what it takes
-abbrev pub and_then : {W : Type 0} → Answer W → List W → Answer W
-and_then (Takes ws) vs = Takes (ws ++ vs)
-and_then Skips vs = Refuses
-and_then Refuses vs = Refuses
-and_then LeavesOut vs = LeavesOut
+-- ---- the machine, with a table that goes by the next symbol alone: its register stays 0, and nothing is beyond a limit
 
 -- the answer of each form to the next symbol, or to the end of the text
 abbrev pub Table : Type 0 → Type 0 → Type 0
 Table S W = W → Option S → Answer W
 
--- what is wanted after a symbol
-pub data Move (W : Type 0) : Type 0 where
-  Goes : List W → Move W
-  Halts : Reason → Move W
+-- it takes the symbol, and wants more
+abbrev pub takes : {W : Type 0} → List W → Answer W
+takes more = machine.Takes true more 0
 
-abbrev pub answered : {W : Type 0} → Answer W → List W → Move W → Move W
-answered (Takes more) ws skipped = Goes (more ++ ws)
-answered Skips ws skipped = skipped
-answered Refuses ws skipped = Halts Refused
-answered LeavesOut ws skipped = Halts LeftOut
+-- it's there without the symbol
+abbrev pub skips : {W : Type 0} → Answer W
+skips = machine.Skips 0
 
-abbrev pub after : {S W : Type 0} → Table S W → List W → S → Move W
-after table [] s = Halts Refused
-after table (w ∷ ws) s = answered (table w (Some s)) ws (after table ws s)
+abbrev pub by_next : {S W : Type 0} → Table S W → machine.Table S W
+by_next table w d s = table w s
 
-abbrev pub is_skip : {W : Type 0} → Answer W → Bool
-is_skip (Takes ws) = false
-is_skip Skips = true
-is_skip Refuses = false
-is_skip LeavesOut = false
-
-abbrev pub may_end : {S W : Type 0} → Table S W → List W → Bool
-may_end table [] = true
-may_end table (w ∷ ws) = is_skip (table w None) && may_end table ws
-
--- all of the symbols were taken, or these are left where reading stops
-pub data Outcome (S : Type 0) : Type 0 where
-  Whole : Outcome S
-  Stuck : (reason : Reason) → (rest : List S) → Outcome S
-
-unfoldable pub run : {S W : Type 0} → Table S W → List W → List S → Outcome S
-run table ws [] = cond (may_end table ws) Whole (Stuck Refused [])
-run table ws (s ∷ ss) = elim (after table ws s) [ Goes more ↦ run table more ss | Halts reason ↦ Stuck reason (s ∷ ss) ]
+abbrev pub run : {S W : Type 0} → Table S W → List W → List S → Outcome S
+run table ws ss = machine.run true (by_next table) ws 0 ss
 
 -- ---- what reading a form says
 
@@ -97,6 +59,7 @@ pub record Reads {S W V : Type 0} (table : Table S W) (form : Form S W V) (value
 abbrev pub IsReason : {S W V : Type 0} → Form S W V → Reason → List S → List S → Type 0
 IsReason form Refused front rest = Unit {0}
 IsReason form LeftOut front rest = form.LeavesAt front (first rest)
+IsReason form TooDeep front rest = ⊥
 
 -- The symbols from old up to rest begin a value, and with the next symbol they begin none.
 pub record Stops {S W V : Type 0} (table : Table S W) (form : Form S W V) (reason : Reason) (old rest : List S) : Type 0 where

@@ -10,12 +10,12 @@ use Rattle.at_text.specs.Rows.{Row, sign, is_sign}
 use Rattle.at_jrag.specs.Grammar.{follows_cast, operator_text, operator_level}
 use Rattle.at_jrag.specs.Syntax as syntax
 use Rattle.at_jrag.specs.Syntax.{Operator}
-use Rattle.at_jrag.specs.Machine.{Takes, Skips, run}
+use Rattle.at_text.specs.Machine.{Takes, Skips, run}
 use Rattle.at_jrag.specs.Wants.{Want, Expression, Binary, Links, Choice, Otherwise, Join}
 use Rattle.at_jrag.specs.Table.{next, next_rank, link_rank, table, link_answer, links_answer}
 use Rattle.at_jrag.specs.Runs.{Goes}
-use Rattle.at_jrag.proofs.MachineLaws.{run-takes, run-skips}
-use Rattle.at_jrag.proofs.MachineLaws.{run-begins}
+use Rattle.at_text.proofs.MachineLaws.{run-takes, run-skips}
+use Rattle.at_text.proofs.MachineLaws.{run-begins}
 use Rattle.at_jrag.proofs.of_expressions.ExpressionSteps.{binary_stays}
 
 -- An operand ends here: nothing goes on with it that is a call, or an operator of this rank at most, or makes a cast of it.

@@ -11,13 +11,13 @@ use Rattle.at_text.specs.Rows.{Row, sign, word, is_sign, is_word, is_name_token}
 use Rattle.at_jrag.specs.Grammar.{is_number, follows_cast, number, operator_text, fold_text}
 use Rattle.at_jrag.specs.Syntax as syntax
 use Rattle.at_jrag.specs.Syntax.{Operator, FoldForm}
-use Rattle.at_jrag.specs.Machine.{Answer, Takes, Skips, Refuses, LeavesOut, and_then, run}
+use Rattle.at_text.specs.Machine.{Answer, Takes, Skips, Refuses, LeavesOut, and_then, run}
 use Rattle.at_jrag.specs.Read.{opens_cast}
 use Rattle.at_jrag.specs.Wants.{Want, Expression, Binary, Links, Choice, Otherwise, Unary, Minus, Opened, Enclosed, Parenthesized, Calls, Called, Arguments, FirstArgument, MoreArguments, Primary, Named, FoldBody, Deeper, Join, Deepest, Counts, Name, Mark}
 use Rattle.at_jrag.specs.Table.{next, on, table, is_get_child, is_literal, is_number_within, primary_answer, unary_answer, binary_answer, expression_answer}
 use Rattle.at_jrag.specs.Runs.{Goes, Moves}
-use Rattle.at_jrag.proofs.MachineLaws.{run-takes, run-skips}
-use Rattle.at_jrag.proofs.MachineLaws.{run-begins}
+use Rattle.at_text.proofs.MachineLaws.{run-takes, run-skips}
+use Rattle.at_text.proofs.MachineLaws.{run-begins}
 use Rattle.at_jrag.proofs.of_expressions.ExpressionSteps.{run-acts, takes_alike, sign_is, NoCast, opened, name_primary, primary_stays, unary_stays, binary_stays, then_stays}
 use Rattle.at_jrag.proofs.of_expressions.ExpressionRanks.{Facts, operator_taken}
 

@@ -14,10 +14,10 @@ use Rattle.at_text.specs.Symbols.{PlacedToken, is_word_kind, is_sign_kind}
 use Rattle.at_text.specs.declared.place.Place.{Place}
 use Rattle.at_text.specs.Rows.{Row, sign, word, is_sign, is_name_token}
 use Rattle.at_jrag.specs.Grammar.{follows_cast}
-use Rattle.at_jrag.specs.Machine.{Answer, Takes, Skips, Refuses, LeavesOut, and_then, is_skip, Goes, Halts, answered, after, ended, may_end, Outcome, Whole, Stuck, Refused, TooDeep, run}
+use Rattle.at_text.specs.Machine.{Answer, Takes, Skips, Refuses, LeavesOut, and_then, is_skip, Goes, Halts, answered, after, ended, may_end, Outcome, Whole, Stuck, Refused, TooDeep, run}
 use Rattle.at_jrag.specs.Wants.{Want, Expression, Links, Choice, Opened, Enclosed, Parenthesized, Calls, Primary, Named, FoldBody, Deeper, Name, Mark}
 use Rattle.at_jrag.specs.Table.{next, is_get_child, table, or_else, primary_answer, unary_answer, binary_answer, expression_answer, links_answer, calls_answer, choice_answer, named_answer, links_from, tails_answer, enclosed_rest, is_literal, begins_fold}
-use Rattle.at_jrag.proofs.MachineLaws.{goes_on, run-answer, run-ends, run-takes, run-skips, run-ended}
+use Rattle.at_text.proofs.MachineLaws.{goes_on, run-answer, run-ends, run-takes, run-skips, run-ended}
 
 -- ---- names are no reserved words
 

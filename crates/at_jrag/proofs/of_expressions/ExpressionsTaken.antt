@@ -17,12 +17,12 @@ use Rattle.at_text.specs.Rows.{Row, sign, word, is_sign, is_word, next_is}
 use Rattle.at_jrag.specs.Grammar.{is_number, follows_cast, number, quotation, Spells, level, depth, deepest}
 use Rattle.at_jrag.specs.Syntax as syntax
 use Rattle.at_jrag.specs.Syntax.{Expr, Exprs}
-use Rattle.at_jrag.specs.Machine.{Stuck, Refused, run}
+use Rattle.at_text.specs.Machine.{Stuck, Refused, run}
 use Rattle.at_jrag.specs.Wants as want
 use Rattle.at_jrag.specs.Wants.{Want, Expression, Binary, Links, Unary, Calls, FirstArgument, MoreArguments, Primary}
 use Rattle.at_jrag.specs.Table.{next, table, is_get_child, is_literal, is_number_within, is_quoted, ends_quoted}
 use Rattle.at_jrag.specs.Runs.{Goes, Moves}
-use Rattle.at_jrag.proofs.MachineLaws.{run-same}
+use Rattle.at_text.proofs.MachineLaws.{run-same}
 use Rattle.at_jrag.proofs.of_expressions.ExpressionSteps.{no_word, reserved_is_no_name, name_is, sign_is}
 use Rattle.at_jrag.proofs.of_expressions.ExpressionRanks.{Ends, EndsWhole, Taken, taken_unary, taken_link, expression_of, Facts, operator_facts, ends_operator}
 use Rattle.at_jrag.proofs.of_expressions.ExpressionRuns.{NoCastBehind, unary_is_primary, calls_end, then_moves, moves_on, operation_moves, instance_moves, choice_goes, not_goes, minus_goes, negative_goes, cast_goes, call_moves, arguments_go, no_arguments_go, first_goes, more_none, more_moves, literal_goes, name_goes, call_goes, paren_goes, fold_goes}

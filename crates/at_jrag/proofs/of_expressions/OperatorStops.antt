@@ -13,7 +13,7 @@ use Rattle.at_text.specs.Rows.{Row, sign, word, is_sign, is_name_token, next_is}
 use Rattle.at_jrag.specs.Grammar.{Name, is_number, follows_cast, operator_text, operator_level}
 use Rattle.at_jrag.specs.Syntax as syntax
 use Rattle.at_jrag.specs.Syntax.{Operator}
-use Rattle.at_jrag.specs.Machine.{Reason, Refused, TooDeep, Answer, Takes, Skips, Refuses, and_then, Stuck, run}
+use Rattle.at_text.specs.Machine.{Reason, Refused, TooDeep, Answer, Takes, Skips, Refuses, and_then, Stuck, run}
 use Rattle.at_jrag.specs.Read.{opens_cast, StandsBefore, NestsWithin, IsNumber}
 use Rattle.at_jrag.specs.View.{word_view}
 use Rattle.at_jrag.specs.Wants.{Want, Expression, Binary, Links, Choice, Otherwise, Unary, Minus, Opened, Enclosed, Parenthesized, Calls, Called, Primary, Named, FoldBody, Deeper, Join, Deepest, Counts, Name as NameWant, Mark}
@@ -25,8 +25,8 @@ use Rattle.at_jrag.specs.declared.JragCode.{JragCode}
 use Rattle.at_jrag.specs.declared.JragCode.TheVariants as code
 use Rattle.at_jrag.specs.declared.reader.operators.Prefix.{Prefix}
 use Rattle.at_jrag.specs.declared.reader.operators.Prefix.TheVariants as prefix
-use Rattle.at_jrag.proofs.MachineLaws.{run-takes, run-refuses, run-too_deep}
-use Rattle.at_jrag.proofs.MachineLaws.{run-begins, run-same}
+use Rattle.at_text.proofs.MachineLaws.{run-takes, run-refuses, run-too_deep}
+use Rattle.at_text.proofs.MachineLaws.{run-begins, run-same}
 use Rattle.at_jrag.proofs.of_expressions.ExpressionSteps.{sign_is, unary_stays, binary_stays}
 use Rattle.at_jrag.proofs.of_expressions.ExpressionRanks.{Facts, operator_facts, operator_taken, links_skip, up}
 use Rattle.at_jrag.proofs.of_expressions.ExpressionRuns.{no_cast, unary_is_primary, then_moves, operation_moves, instance_moves, not_goes, minus_goes, negative_goes, cast_goes}

@@ -12,7 +12,7 @@ use Rattle.at_jrag.specs.Syntax.{Word, Expr, Exprs, place}
 use Rattle.at_jrag.specs.Grammar as grammar
 use Rattle.at_text.specs.Rows.{Row, sign, word, is_sign, is_word, is_name_token, next_is}
 use Rattle.at_jrag.specs.Grammar.{number, is_number, follows_cast, Sign, Spells, level, depth, deepest, operator_text, operator_level, fold_text, Keyword}
-use Rattle.at_jrag.specs.Machine.{Takes, Skips, Refuses, and_then}
+use Rattle.at_text.specs.Machine.{Takes, Skips, Refuses, and_then}
 use Rattle.at_jrag.specs.Wants.{Expression, Binary, Links, Choice, Otherwise, Unary, Minus, Opened, Calls, Primary, Named, FoldBody, Deeper, Join, Deepest, Counts, Name, Mark}
 use Rattle.at_jrag.specs.Table.{next, link_rank, is_get_child, is_literal, is_number_within, begins_fold, expects, primary_answer, unary_answer, minus_answer, binary_answer, expression_answer, link_answer, links_answer, choice_answer}
 use Rattle.at_jrag.proofs.of_expressions.ExpressionSteps.{name_is, sign_is}

@@ -9,7 +9,7 @@ use Rattle.at_grammar.specs.Table as want
 use Rattle.at_grammar.specs.Table.{table}
 use Rattle.at_grammar.specs.Forms.{left, part, parts}
 use Rattle.at_grammar.proofs.Loops.{parts_begin, parts_end, parts_stop, parts_leave, part_shorter}
-use Rattle.at_text.specs.Reading.{LeftOut}
+use Rattle.at_text.specs.Machine.{LeftOut}
 use Rattle.at_grammar.proofs.Paths.{Stops}
 use Rattle.at_grammar.proofs.reader.Reader.parts.Goals as goal
 

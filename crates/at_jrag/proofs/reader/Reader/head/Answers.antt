@@ -1,5 +1,5 @@
 use Rattle.std.proofs.Common.{◌∷◌, Some, sym, ◌∙◌}
-use Rattle.at_jrag.specs.Machine.{LeftOut}
+use Rattle.at_text.specs.Machine.{LeftOut}
 use lib.Chars.{codes}
 use Rattle.std.proofs.lemmas.Result.{err_from_is_err_and}
 use Rattle.at_text.specs.Rows.{left}

@@ -1,5 +1,5 @@
--- The machine of a reader of tokens, as at_text's Reading has it, with a limit for nesting: one symbol of look ahead, a
--- stack of what is wanted, and one register, the depth of what was read last. A want carries how deep it may nest.
+-- The machine of the readers of tokens: one symbol of look ahead, a stack of what is wanted, and one register, a number that
+-- each want may read and set (the depth of what was read last, in at_jrag; 0 for readers without one); with a limit, or none.
 use Rattle.std.specs.Prelude.{ℕ, List, [], ◌∷◌, ◌++◌, Bool, true, false, cond, not, ◌||◌, Option, Some, None}
 
 -- why reading stops: the next symbol doesn't go on, a form begins there that the profile leaves out, or the symbol goes

@@ -3,7 +3,7 @@
 use Rattle.std.proofs.Common.{◌≡◌, ℕ, suc, ◌≤◌, List, [], ◌∷◌, ◌++◌, Bool, true, false, cond, Some, None, length, refl, sym, ap, ◌∙◌, length-append, append_assoc, arith, inl, inr}
 use Rattle.std.specs.Prelude.{◌||◌, not, ◌⊎◌}
 use Rattle.at_text.specs.Reading.{first}
-use Rattle.at_jrag.specs.Machine.{Reason, Refused, LeftOut, TooDeep, Answer, Takes, Skips, Refuses, LeavesOut, and_then, is_skip, Table, Move, Goes, Halts, answered, after, ended, may_end, Outcome, Whole, Stuck, run}
+use Rattle.at_text.specs.Machine.{Reason, Refused, LeftOut, TooDeep, Answer, Takes, Skips, Refuses, LeavesOut, and_then, is_skip, Table, Move, Goes, Halts, answered, after, ended, may_end, Outcome, Whole, Stuck, run}
 
 -- ---- one step of a run
 
