@@ -1,4 +1,5 @@
 mod Dispatching
+mod Guessed
 mod HoldingLemmas
 mod Lookups
 mod Numbers

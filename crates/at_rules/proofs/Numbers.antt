@@ -21,7 +21,7 @@ use Rattle.at_rules.specs.Bodies.{body_view}
 use Rattle.at_rules.specs.RulesView.{text_of, name_in, attribute_view, inherited_view, by_number, numbered_in, named, LacksText}
 use Rattle.at_rules.proofs.Lookups.{same_either}
 
-differs : {Z : Type 0} (s : String Z) (names : List (String Z)) → AllByRecursion (λ y. string_eq s y ≡ false) names → (j : ℕ) → j < length names → bytes_eq (string_bytes s) (text_of names j) ≡ false
+pub differs : {Z : Type 0} (s : String Z) (names : List (String Z)) → AllByRecursion (λ y. string_eq s y ≡ false) names → (j : ℕ) → j < length names → bytes_eq (string_bytes s) (text_of names j) ≡ false
 differs s [] all j less = absurd (omega arith)
 differs s (t ∷ ts) all zero less = all.0
 differs s (t ∷ ts) all (suc j) less = differs s ts all.1 j (omega arith)

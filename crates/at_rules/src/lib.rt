@@ -14,6 +14,7 @@
 mod attribute;
 mod body;
 mod dispatch;
+mod guesses;
 mod holders;
 mod rules;
 

@@ -3,6 +3,7 @@
 use crate::attribute::AttrId;
 use crate::body::{Body, Kind};
 use crate::dispatch::{Dispatch, Precedence, earlier};
+use crate::guesses::Guesses;
 use crate::holders::Holders;
 use at_class::{ClassId, ClassTable};
 use indexmap::{IndexMap, IndexSet};
@@ -62,6 +63,7 @@ impl Equations {
 pub struct Rules {
     classes: ClassTable,
     names: IndexSet<String>,
+    guesses: Guesses,
     equations: Equations,
     // By class and attribute the position of the body, and by class and name that of the attribute.
     bodies: Dispatch,
@@ -75,6 +77,7 @@ impl Drop for Rules {
         let Rules {
             classes: _,
             names: _,
+            guesses: _,
             equations: _,
             bodies: _,
             declared: _,
@@ -139,9 +142,11 @@ impl Rules {
             Precedence::Earliest,
         );
         let holders = Holders::of(alloc, &classes, &equations.inherited, names.len());
+        let guesses = Guesses::of(alloc, &names);
         Rules {
             classes,
             names,
+            guesses,
             equations,
             bodies,
             declared,
@@ -169,7 +174,7 @@ impl Rules {
         ensures within { IfSome result (λ a. a < length self.now.attributes) }
         ensures named { (name.now ≡ [] → ⊥) → result ≡ attribute_named self.now class name.now }
     {
-        let name = number_named(&self.names, name)?;
+        let name = number_named(&self.names, &self.guesses, name)?;
         let position = declared_up(
             &self.declared,
             &self.classes,
@@ -291,7 +296,7 @@ impl Rules {
     }
 }
 
-ghost use Rattle.std.specs.Prelude.{◌≡◌, ◌<◌, length, option_map, option_and_then, IfNone, IfSome};
+ghost use Rattle.std.specs.Prelude.{◌≡◌, ◌<◌, true, false, Some, length, option_map, option_and_then, IfNone, IfSome};
 ghost use Rattle.std.specs.List.{IsDistinct};
 ghost use Rattle.std.specs.String.{string_eq};
 ghost use Rattle.at_model.specs.Classes.{chain};
@@ -306,8 +311,45 @@ ghost use Rattle.std.specs.Map.{keys_of};
 ghost use Rattle.std.specs.Prelude.{position, is_some, string_bytes, bytes_eq};
 ghost use Rattle.std.specs.List.{list_any};
 
-/// The number of the name, where it is one.
-fn number_named(names: &IndexSet<String>, name: &str) -> Option<usize>
+/// The number of the name, where it is one: most are guessed.
+fn number_named(names: &IndexSet<String>, guesses: &Guesses, name: &str) -> Option<usize>
+    ensures index { result ≡ position (λ k. bytes_eq name.now (string_bytes k)) names.now.keys }
+    ensures found { IfNone result (false ≡ list_any (λ k. bytes_eq name.now (string_bytes k)) names.now.keys) }
+    ensures distinct { IsDistinct string_eq names.now.keys }
+{
+    match guessed(names, guesses, name) {
+        Some(number) => Some(number),
+        None => number_sought(names, name),
+    }
+}
+
+/// The number that is guessed for the name, where it is the name's.
+fn guessed(names: &IndexSet<String>, guesses: &Guesses, name: &str) -> Option<usize>
+    ensures { IfSome result (λ n. (position (λ k. bytes_eq name.now (string_bytes k)) names.now.keys ≡ Some n) × IsDistinct string_eq names.now.keys) }
+{
+    let number = guesses.number(name)?;
+    if is_number(names, number, name) {
+        Some(number)
+    } else {
+        None
+    }
+}
+
+/// Whether this is the number of the name.
+fn is_number(names: &IndexSet<String>, number: usize, name: &str) -> bool
+    ensures { result ≡ true → (position (λ k. bytes_eq name.now (string_bytes k)) names.now.keys ≡ Some number) × IsDistinct string_eq names.now.keys }
+{
+    if number >= names.len() {
+        return false;
+    }
+    match names.get_index(number) {
+        Some(known) => known.as_str() == name,
+        None => false,
+    }
+}
+
+/// The number of the name, where it is one, with no guess.
+fn number_sought(names: &IndexSet<String>, name: &str) -> Option<usize>
     ensures index { result ≡ position (λ k. bytes_eq name.now (string_bytes k)) names.now.keys }
     ensures found { is_some result ≡ list_any (λ k. bytes_eq name.now (string_bytes k)) names.now.keys }
     ensures distinct { IsDistinct string_eq names.now.keys }
