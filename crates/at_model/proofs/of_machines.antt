@@ -13,3 +13,4 @@ pub mod Orderly
 pub mod NothingLost
 pub mod TokensKept
 pub mod Bounded
+pub mod MarkPaths

@@ -1,6 +1,6 @@
 -- Small grammars, each with a fault, beside others that have none.
-use Rattle.std.specs.Prelude.{ℕ, zero, suc, false, List, [], ◌∷◌, Option, Some, None}
-use Rattle.at_model.specs.Declarations.{Place, Form, One, PartDeclaration, Declaration, Declarations, Code, Fault}
+use Rattle.std.specs.Prelude.{ℕ, zero, suc, false, List, [], ◌∷◌, Option, Some}
+use Rattle.at_model.specs.Declarations.{Place, Form, One, PartDeclaration, Declaration, Code, Fault}
 
 -- a component at its place
 abbrev pub part : Form → (name kind : List ℕ) → Place → PartDeclaration

@@ -6,16 +6,24 @@ ghost use Rattle.at_model.specs.Trees.{Tree, conforms};
 ghost use Rattle.at_model.specs.Terms.{IsTerm, term_of};
 ghost use Rattle.at_model.specs.Rules.{Rules};
 ghost use Rattle.at_model.specs.Edits.{Edit, edited, is_within_limits};
-ghost use Rattle.at_model.specs.Lines.{Argument, Line, Mark, Place, Post, Spells, Unmark};
-ghost use Rattle.at_model.specs.Replies.{Done, Form, Opened, Reply};
-ghost use Rattle.at_model.specs.Paths.{Node};
+ghost use Rattle.at_model.specs.Lines.{Argument, Line, Mark, Place, Post, Spells, Unmark, Where};
+ghost use Rattle.at_model.specs.Replies.{At, Done, Form, Opened, Reply, Shows};
+ghost use Rattle.at_model.specs.Paths.{ArePartsApart, Node, Path, node_at};
 ghost use Rattle.at_model.specs.Run.{Instance};
 ghost use Rattle.at_model.specs.Meaning.{Answer};
 ghost use Rattle.at_model.specs.Support.{IsInstanceThere};
-ghost use Rattle.at_model.specs.Machine.{Asks, AnswersIn, Given, Handles, Posted, Serves, State, Step, Turns, Waits, after, carried_marks, carried_posted, done_reply, is_edit, line_of, marked, marks_named, marks_used, node_named, numbered, seen_by, verdict, without};
+ghost use Rattle.at_model.specs.Machine.{Asks, AnswersIn, Given, Handles, IsSound, Posted, Serves, State, Step, Turns, Waits, after, carried_marks, carried_posted, done_reply, is_edit, line_of, marked, marks_named, marks_used, node_named, numbered, seen_by, verdict, without};
 ghost use Rattle.at_model.specs.Enduring.{AreTokens, IsOrderly};
 ghost use Rattle.at_model.specs.Asking.{IsWellFormed};
 ghost use Rattle.at_model.specs.Effects.{IsEditOf, is_about_mark, is_marking, is_post, is_question};
+
+/// Where each component is the first one of its name in its class, the path that is told of a mark leads to the marked node.
+pub fn the_path_of_a_mark_leads_back()
+    ensures { (rules : Rules) (old : State) (l : Line) (new : State) (reply : Reply) (name : List ℕ) (path : Path)
+        → ArePartsApart rules.classes → IsSound rules.classes old → l.command ≡ Where name
+        → Step rules old l new reply → reply.form ≡ Shows (At path)
+        → (n : Node) × (marked old.marks l.session name ≡ Some n) × (node_at rules.classes old.tree path ≡ Some n) }
+{}
 
 /// An edit that is accepted is that of its command, and leaves the marks where their nodes are, those of open questions, too; what
 /// was done for these is dropped.

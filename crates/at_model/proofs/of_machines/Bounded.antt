@@ -1,8 +1,8 @@
 -- A question that is given turns: what it has come to holds, its answer is right, and its turns are bounded by the instances there are.
 use Rattle.std.proofs.Common.{◌≡◌, ℕ, suc, ◌+◌, ◌*◌, ◌≤◌, get_or, List, [], ◌∷◌, ◌++◌, length, Option, Some, None, ◌⊎◌, inl, inr, refl, sym, ap, ◌∙◌, subst, arith}
 use Rattle.at_model.specs.Run.{Value, Instance, Contents, Known}
-use Rattle.at_model.specs.Meaning.{Equations, HasValue, Comes, Walks, Leads, Among, Distinct, Circular, Answer, Answers, Faults}
-use Rattle.at_model.specs.Turning.{UnderWay, posted, chain, asked, keys, Turned, is_kept, finds, faults, closes, deepens, ascends, IsOneMore, between, Chains, IsOn, Silent, none, one_more}
+use Rattle.at_model.specs.Meaning.{Equations, HasValue, Comes, Walks, Leads, Among, Distinct, Circular, Answer, Answers}
+use Rattle.at_model.specs.Turning.{UnderWay, posted, chain, keys, Turned, is_kept, finds, faults, closes, deepens, ascends, IsOneMore, between, Chains, IsOn, Silent, none, one_more}
 use Rattle.at_model.proofs.Listed.{among_left, among_right}
 use Rattle.at_model.proofs.Members.{among_last, among_either, among_push, distinct_between, distinct_push, distinct_pop, distinct_both, length_both, no_more}
 use Rattle.at_model.proofs.Spreading.{led_fault}

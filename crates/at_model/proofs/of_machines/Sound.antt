@@ -83,7 +83,7 @@ leads-carried classes t u e ok is (m ∷ ms) h = at_mark (carried e m.node) refl
         (some_is (tree_at u n) there.now there.there, rest)
 
 -- and so do those that a question copies
-leads-found : (t : Tree) (test : Marked → Bool) (ms : List Marked) (m : Marked) → AllByRecursion (Leads t) ms → find test ms ≡ Some m → Leads t m
+pub leads-found : (t : Tree) (test : Marked → Bool) (ms : List Marked) (m : Marked) → AllByRecursion (Leads t) ms → find test ms ≡ Some m → Leads t m
 leads-found t test [] m h e = absurd cc
 leads-found t test (x ∷ ms) m h e = at_mark (test x) e (leads-found t test ms m h.1)
   where

@@ -1,0 +1,49 @@
+-- The path that is told of a mark leads back to its node.
+use Rattle.std.proofs.Common.{◌≡◌, List, [], Option, Some, None, refl, sym, ap, ◌∙◌, subst}
+use Rattle.std.specs.Prelude.{ℕ, IsSome, unwrap_or}
+use Rattle.std.specs.List.{find}
+use Rattle.at_model.specs.Trees.{Tree}
+use Rattle.at_model.specs.Paths.{Path, Node, ArePartsApart, tree_at, node_at}
+use Rattle.at_model.specs.Rules.{Rules}
+use Rattle.at_model.specs.Lines.{Line, Command, Where}
+use Rattle.at_model.specs.Replies.{Reply, Form, Code, Shows, At}
+use Rattle.at_model.specs.Replies as code
+use Rattle.at_model.specs.Machine.{State, Marked, Verdict, Refuses, Tells, IsSound, Says, Step, is_mark, marked, obeyed, path_to}
+use Rattle.at_model.proofs.Options.{mapped}
+use Rattle.at_model.proofs.PathsBack.{path_back}
+use Rattle.at_model.proofs.of_edits.Changes.{whole}
+use Rattle.at_model.proofs.of_machines.Sound.{leads-found}
+
+some_tree : (o : Option Tree) → IsSome o → (u : Tree) × (o ≡ Some u)
+some_tree None h = absurd cc
+some_tree (Some u) h = (u, refl)
+
+module _ (rules : Rules) (s : State) (apart : ArePartsApart rules.classes) (sound : IsSound rules.classes s) (session : ℕ) (name : List ℕ) where
+  -- where it tells a path, that path leads to the marked node
+  abbrev TellsBack : Verdict → Type 0
+  TellsBack v = (form : Form) (path : Path) → Says rules s v form → form ≡ Shows (At path) → (n : Node) × (marked s.marks session name ≡ Some n) × (node_at rules.classes s.tree path ≡ Some n)
+
+  told_nothing : (c : Code) → TellsBack (Refuses c)
+  told_nothing c form path says e = absurd cc
+
+  -- the node of a mark is there
+  marked_there : (n : Node) → marked s.marks session name ≡ Some n → (u : Tree) × (tree_at s.tree n ≡ Some u)
+  marked_there n is =
+      let (m, found, same) = mapped (λ (m : Marked). m.node) (find (is_mark session name) s.marks) n is in
+      some_tree (tree_at s.tree n) (subst (λ (x : Node). IsSome (tree_at s.tree x)) same (leads-found s.tree (is_mark session name) s.marks m sound.marks_lead found))
+
+  where_tells : (o : Option Node) → marked s.marks session name ≡ o → TellsBack (elim o [ None ↦ Refuses code.Mark | Some n ↦ Tells (At (path_to rules.classes s.tree n)) ])
+  where_tells None is form path says e = absurd cc
+  where_tells (Some n) is form path says e =
+      let (u, found) = marked_there n is in
+      let (p, written, read) = path_back rules.classes apart s.tree 0 n u sound.tree_conforms found in
+      let same : path_to rules.classes s.tree n ≡ path = cc in
+      let back : p ≡ path = sym (ap (λ o. unwrap_or o []) written) ∙ same in
+      (n, is, subst (λ (x : Path). node_at rules.classes s.tree x ≡ Some n) back read)
+
+pub where_step : (rules : Rules) (old : State) (l : Line) (new : State) (reply : Reply) (name : List ℕ) (path : Path) → ArePartsApart rules.classes → IsSound rules.classes old → l.command ≡ Where name → Step rules old l new reply →
+    reply.form ≡ Shows (At path) → (n : Node) × (marked old.marks l.session name ≡ Some n) × (node_at rules.classes old.tree path ≡ Some n)
+where_step rules old l new reply name path apart sound is h form =
+    let Q : Command → Type 0 = λ c. TellsBack rules old apart sound l.session name (obeyed rules old l.session c) in
+    whole (TellsBack rules old apart sound l.session name) (told_nothing rules old apart sound l.session name) rules old l
+    (subst Q (sym is) (where_tells rules old apart sound l.session name (marked old.marks l.session name) refl)) reply.form path h.says form
