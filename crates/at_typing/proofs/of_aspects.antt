@@ -7,3 +7,4 @@ pub mod EquationsApart
 pub mod MeaningsFound
 pub mod CodesMeant
 pub mod FaultsTold
+pub mod LackingSamples

@@ -14,3 +14,4 @@ pub mod Completing
 pub mod Single
 pub mod AspectRules
 pub mod Samples
+pub mod SampleAspects

@@ -15,6 +15,7 @@
 //! `laws.rt` declarations make rules exactly where they keep every rule, and what is told is the first that they break.
 #![tactic(auto)]
 
+pub mod aspect_cases;
 mod attributes;
 mod building;
 pub mod cases;

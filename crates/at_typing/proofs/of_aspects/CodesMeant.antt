@@ -168,12 +168,12 @@ module _ (classes : Classes) (ds : List Located) where
   form_tells i d (Inherited lazy result class name params) h is at = then_tells declared_alone (attribute_meant classes d result) (attribute_tells d result) (λ a. tt)
   form_tells i d (Equation class name params body) h is at =
       let there : is_synthesized classes ds (class_text d) (name_text d) ≡ true =
-          ap (λ f. is_synthesized classes ds (class_word f).text (name_word f).text) at ∙ there_synthesized classes ds class.text name.text (h.own i d class name params body is at) in
+      ap (λ f. is_synthesized classes ds (class_word f).text (name_word f).text) at ∙ there_synthesized classes ds class.text name.text (h.own i d class name params body is at) in
       then_tells (λ c. and_then own_alone (own_meant classes ds d body c)) (class_named classes class) (unknown_tells class.at _)
       (λ c. then_tells own_alone (own_meant classes ds d body c) (own_tells d body c there) (λ e. tt))
   form_tells i d (InheritedEquation class getter index name params body) h is at =
       let there : is_inherited_name ds (name_text d) ≡ true =
-          ap (λ f. is_inherited_name ds (name_word f).text) at ∙ there_inherited classes ds name.text (h.inherited i d class getter name index params body is at) in
+      ap (λ f. is_inherited_name ds (name_word f).text) at ∙ there_inherited classes ds name.text (h.inherited i d class getter name index params body is at) in
       then_tells (below_class classes ds d getter index body) (class_named classes class) (unknown_tells class.at _)
       (λ c. then_tells (below_component classes ds d index body c) (component_got classes c getter) (got_tells classes c getter)
       (λ part. then_tells inherited_alone (inherited_meant classes ds d index body c part) (below_tells d index body c part there) (λ e. tt)))

@@ -64,11 +64,11 @@ module _ (classes : Classes) (ds : List Located) where
   test_by_once h i d is =
       off_or (again i d) (binds_twice d.decl.form)
       (not_true (again i d) (λ so.
-          let (declares, any) = both (is_attribute d.decl.form) (list_any (clashes classes d) (take i ds)) so in
-          let (k, e, less, at, clash) = before_any (clashes classes d) ds i any in
-          let (one, two) = both (is_attribute e.decl.form && bytes_eq (name_text d) (name_text e)) (differs d.decl.form e.decl.form || is_on_one_line classes (class_text d) (class_text e)) clash in
-          let (other, same) = both (is_attribute e.decl.form) (bytes_eq (name_text d) (name_text e)) one in
-          off_on (differs d.decl.form e.decl.form || is_on_one_line classes (class_text d) (class_text e)) (not_apart classes d e (h.attributes k i e d less at is other declares (same_text (name_text d) (name_text e) same))) two))
+      let (declares, any) = both (is_attribute d.decl.form) (list_any (clashes classes d) (take i ds)) so in
+      let (k, e, less, at, clash) = before_any (clashes classes d) ds i any in
+      let (one, two) = both (is_attribute e.decl.form && bytes_eq (name_text d) (name_text e)) (differs d.decl.form e.decl.form || is_on_one_line classes (class_text d) (class_text e)) clash in
+      let (other, same) = both (is_attribute e.decl.form) (bytes_eq (name_text d) (name_text e)) one in
+      off_on (differs d.decl.form e.decl.form || is_on_one_line classes (class_text d) (class_text e)) (not_apart classes d e (h.attributes k i e d less at is other declares (same_text (name_text d) (name_text e) same))) two))
       (h.names i d is)
 
 pub declared_once : (classes : Classes) (ds : List Located) → (declared_twice classes ds ≡ None) ↔ AreDeclaredOnce classes ds

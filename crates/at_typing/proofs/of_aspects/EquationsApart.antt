@@ -118,8 +118,8 @@ equations_once ds = (
       (and_true (have_same_words e d) (are_own e d || are_below e d) (and_true (bytes_eq (class_text e) (class_text d)) (bytes_eq (name_text e) (name_text d)) (text_same (class_text e) (class_text d) class) (text_same (name_text e) (name_text d) name)) (same_for e d same))),
   λ h. none_anywhere (equation_at ds) ds (λ j e at. faultless (list_any (is_same_equation e) (take j ds)) code.EquationTwice e
       (not_true (list_any (is_same_equation e) (take j ds)) (λ any.
-          let (i, d, less, is, same) = before_any (is_same_equation e) ds j any in
-          let (one, two) = both (have_same_words e d) (are_own e d || are_below e d) same in
-          let (class, name) = both (bytes_eq (class_text e) (class_text d)) (bytes_eq (name_text e) (name_text d)) one in
-          h i j d e less is at (same_text (class_text e) (class_text d) class) (same_text (name_text e) (name_text d) name) (for_same e d two)))),
+      let (i, d, less, is, same) = before_any (is_same_equation e) ds j any in
+      let (one, two) = both (have_same_words e d) (are_own e d || are_below e d) same in
+      let (class, name) = both (bytes_eq (class_text e) (class_text d)) (bytes_eq (name_text e) (name_text d)) one in
+      h i j d e less is at (same_text (class_text e) (class_text d) class) (same_text (name_text e) (name_text d) name) (for_same e d two)))),
 )

@@ -58,9 +58,9 @@ module _ (classes : Classes) (name : List ℕ) where
       (text_other name (codes "equals") (λ s. h (rule.of_texts s))) (text_other name (codes "getParent") (λ s. h (rule.of_parents s))))
       (text_other name (codes "getChild") (λ s. h (rule.of_children s)))) (text_other name (codes "getNumChild") (λ s. h (rule.of_numbers s))))
       (not_true (is_accessed classes name) (λ is.
-          let (a, found) = some_there (first_given by_class 0 classes) is in
-          let (c, k, at, gives) = given_at by_class classes a found in
-          h (rule.of_class c k a at gives)))
+      let (a, found) = some_there (first_given by_class 0 classes) is in
+      let (c, k, at, gives) = given_at by_class classes a found in
+      h (rule.of_class c k a at gives)))
 
 pub names_free : (classes : Classes) (ds : List Located) → (accessors_named classes ds ≡ None) ↔ AreNoAccessors classes ds
 names_free classes ds = (
@@ -69,8 +69,8 @@ names_free classes ds = (
   λ h. none_anywhere (accessor_at classes) ds (λ i d at.
       faultless (is_attribute d.decl.form && is_accessor classes (name_text d)) code.NameOfAccessor d
       (not_true (is_attribute d.decl.form && is_accessor classes (name_text d)) (λ is.
-          let (one, two) = both (is_attribute d.decl.form) (is_accessor classes (name_text d)) is in
-          off_on (is_accessor classes (name_text d)) (not_free classes (name_text d) (h i d at one)) two))),
+      let (one, two) = both (is_attribute d.decl.form) (is_accessor classes (name_text d)) is in
+      off_on (is_accessor classes (name_text d)) (not_free classes (name_text d) (h i d at one)) two))),
 )
   where
     second : (a b : Bool) → a ≡ true → (a && b) ≡ false → b ≡ false
