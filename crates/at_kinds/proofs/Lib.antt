@@ -8,3 +8,4 @@ pub mod KindsOfForms
 pub mod KindsOfCalls
 pub mod TableJudged
 pub mod JudgedTable
+pub mod CodesJudged

@@ -84,7 +84,7 @@ declared_there R (d ∷ ds) (b ∷ bs) zero a zip is = refl
 declared_there R (d ∷ ds) (b ∷ bs) (suc k) a zip is = declared_there R ds bs k a zip.1 is
 
 -- no fault is told only where no attribute has one
-no_first : (c : RuleCode) (Lacks : ℕ → Type 0) (rules : Rules) (ds : List Located) → ((k : ℕ) → Lacks k → (a : Attribute) × (slice_get rules.attributes k ≡ Some a)) → AreDeclared rules ds → IsFirstFault c Lacks ds None → IsFirst Lacks None
+pub no_first : (c : RuleCode) (Lacks : ℕ → Type 0) (rules : Rules) (ds : List Located) → ((k : ℕ) → Lacks k → (a : Attribute) × (slice_get rules.attributes k ≡ Some a)) → AreDeclared rules ds → IsFirstFault c Lacks ds None → IsFirst Lacks None
 no_first c Lacks rules ds there declared (None, first, is) = first
 no_first c Lacks rules ds there declared (Some k, first, is) =
     let found = there k first.0 in

@@ -25,4 +25,5 @@ mod KindsJudged
 mod KindsOfBodies
 mod Singles
 mod EquationsOfKinds
+mod of_aspects
 pub mod BuiltWellFormed

@@ -12,4 +12,6 @@ pub mod Building
 pub mod Seen
 pub mod Completing
 pub mod Single
+pub mod AspectRules
 pub mod Samples
+pub mod SampleAspects

@@ -5,15 +5,17 @@
 //! `Meanings` and `Ruling` what each means by itself, `Completing` where a missing equation is told; `Located` and
 //! `Numbering` list and number the declarations; `AccessorNames`, `AttributeKeys`, `EquationKeys`, `Twice` and
 //! `Bound` are what the checks keep, `Seen` what their values stand for; `Single` says what is declared once;
-//! `Samples` are the declarations of the cases.
+//! `AspectRules` has what each code's rule says, `Samples` the declarations of the cases.
 //!
 //! **Where to begin:** `building.rt`. `numbered.rt` numbers the declarations' classes and names, `attributes.rt`
 //! finds attributes, `checks.rt` has the faults of declarations together, `meaning.rt` what each means.
 //!
 //! **What it keeps true:** rules that are made are complete and well formed, so evaluation never meets a value of
-//! another kind and never a missing equation; and each attribute and each equation is declared once.
+//! another kind and never a missing equation; and each attribute and each equation is declared once. By the laws of
+//! `laws.rt` declarations make rules exactly where they keep every rule, and what is told is the first that they break.
 #![tactic(auto)]
 
+pub mod aspect_cases;
 mod attributes;
 mod building;
 pub mod cases;

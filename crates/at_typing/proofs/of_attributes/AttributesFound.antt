@@ -154,7 +154,7 @@ finds_inherited a name found is = λ ds d are alike same_name.
 
 -- equations -----------------------------------------------------------------------------------------------------------
 
-synthesized_there : (classes : Classes) (ds : List Located) (class name : List ℕ) → is_some (synthesized_named classes ds class name) ≡ is_synthesized classes ds class name
+pub synthesized_there : (classes : Classes) (ds : List Located) (class name : List ℕ) → is_some (synthesized_named classes ds class name) ≡ is_synthesized classes ds class name
 synthesized_there classes ds class name =
     is_found (is_synthesized_by classes class name) (λ d. is_attribute d.decl.form) ds
     ∙ list_any-same _ _ ds (λ d. by (is_attribute d.decl.form) (not (is_inherited d.decl.form)) (bytes_eq name (name_text d) && is_below classes class (class_text d)))
@@ -163,7 +163,7 @@ synthesized_there classes ds class name =
     by true n r = refl
     by false n r = refl
 
-inherited_there : (ds : List Located) (name : List ℕ) → is_some (inherited_named ds name) ≡ is_inherited_name ds name
+pub inherited_there : (ds : List Located) (name : List ℕ) → is_some (inherited_named ds name) ≡ is_inherited_name ds name
 inherited_there ds name =
     is_found (λ d. is_inherited d.decl.form && bytes_eq name (name_text d)) (λ d. is_attribute d.decl.form) ds
     ∙ list_any-same _ _ ds (λ d. by d.decl.form (bytes_eq name (name_text d)))

@@ -1,0 +1,10 @@
+pub mod FaultNowhere
+pub mod TextsShort
+pub mod AttributesFew
+pub mod NamesFree
+pub mod DeclaredApart
+pub mod EquationsApart
+pub mod MeaningsFound
+pub mod CodesMeant
+pub mod FaultsTold
+pub mod LackingSamples

@@ -1,0 +1,86 @@
+-- Declarations over the classes of calc.ast, one row for each code, as they stand in one line of one file.
+use Rattle.std.specs.Prelude.{ℕ, pos, true, List, [], ◌∷◌, None, codes}
+use Rattle.at_jrag.specs.Syntax.{Bool', DeclForm, Equation, Expr, Inherited, InheritedEquation, Int, Kind, KindWord, Number, Semicolon, Synthesized, TextLiteral, Truth, With}
+use Rattle.at_jrag.specs.Syntax as written
+use Rattle.at_typing.specs.Located.{Located}
+use Rattle.at_typing.specs.Samples.{call, column, declared, equals, no_params, word}
+
+abbrev pub kind : Kind → ℕ → KindWord
+kind k n = record { kind = k; at = column n }
+
+abbrev pub one : ℕ → Expr
+one n = Number (column n) (pos 1)
+
+-- syn int Program.a() = E;
+abbrev pub program_int : Expr → DeclForm
+program_int e = Synthesized None (kind Int 16) (word (codes "Program") 20) (word (codes "a") 28) (no_params 30) (With (equals 32 e))
+
+-- syn int Program.a() = b();
+abbrev pub calls_nothing : List Located
+calls_nothing = declared 12 (program_int (call (codes "b") 34 [])) ∷ []
+
+-- syn int Program.a(int n) = 1;
+abbrev pub passes_an_int : List Located
+passes_an_int =
+    declared 12 (Synthesized None (kind Int 16) (word (codes "Program") 20) (word (codes "a") 28)
+    (record { items = record { kind = kind Int 30; name = word (codes "n") 34 } ∷ []; end = column 35 }) (With (equals 37 (one 39)))) ∷ []
+
+-- syn int Program.a() = true;
+abbrev pub is_a_boolean : List Located
+is_a_boolean = declared 12 (program_int (Truth (column 34) true)) ∷ []
+
+-- syn boolean Use.a() = getID() == "x";
+abbrev pub compares_texts : List Located
+compares_texts =
+    declared 12 (Synthesized None (kind Bool' 16) (word (codes "Use") 24) (word (codes "a") 28) (no_params 30)
+    (With (equals 32 (written.Binary (column 34) written.Same (column 42) (call (codes "getID") 34 []) (TextLiteral (column 45) (codes "x")))))) ∷ []
+
+-- syn int Program.a() = 1; eq Program.a() = 2;
+abbrev pub has_two_equations : List Located
+has_two_equations =
+    declared 12 (program_int (one 34))
+    ∷ declared 37 (Equation (word (codes "Program") 40) (word (codes "a") 48) (no_params 50) (equals 52 (Number (column 54) (pos 2))))
+    ∷ []
+
+-- syn int Program.a() = 1; syn int Program.a() = 1;
+abbrev pub is_declared_twice : List Located
+is_declared_twice =
+    declared 12 (program_int (one 34))
+    ∷ declared 37 (Synthesized None (kind Int 41) (word (codes "Program") 45) (word (codes "a") 53) (no_params 55) (With (equals 57 (one 59))))
+    ∷ []
+
+-- eq Program.a() = 1;
+abbrev pub is_of_no_attribute : List Located
+is_of_no_attribute = declared 12 (Equation (word (codes "Program") 15) (word (codes "a") 23) (no_params 25) (equals 27 (one 29))) ∷ []
+
+-- syn int Program.getBlock() = 1;
+abbrev pub is_an_accessor : List Located
+is_an_accessor =
+    declared 12 (Synthesized None (kind Int 16) (word (codes "Program") 20) (word (codes "getBlock") 28) (no_params 37) (With (equals 39 (one 41)))) ∷ []
+
+-- inh int Expr.q();
+abbrev pub inherits : Located
+inherits = declared 12 (Inherited None (kind Int 16) (word (codes "Expr") 20) (word (codes "q") 25) (no_params 27))
+
+-- inh int Expr.q(); eq Stmt.getExpr().q() = 1;
+abbrev pub is_of_no_component : List Located
+is_of_no_component =
+    inherits
+    ∷ declared 30 (InheritedEquation (word (codes "Stmt") 33) (word (codes "getExpr") 38) None (word (codes "q") 48) (no_params 50) (equals 52 (one 54)))
+    ∷ []
+
+-- syn int Stmt.a();
+abbrev pub has_no_equation : List Located
+has_no_equation =
+    declared 12 (Synthesized None (kind Int 16) (word (codes "Stmt") 20) (word (codes "a") 25) (no_params 27) (Semicolon (column 28))) ∷ []
+
+-- inh int Expr.q();
+abbrev pub has_none_above : List Located
+has_none_above = inherits ∷ []
+
+-- inh int Expr.q(); eq Program.getChild().q() = 1;
+abbrev pub has_one_above : List Located
+has_one_above =
+    inherits
+    ∷ declared 30 (InheritedEquation (word (codes "Program") 33) (word (codes "getChild") 41) None (word (codes "q") 52) (no_params 54) (equals 56 (one 58)))
+    ∷ []

@@ -1,0 +1,47 @@
+//! Worked aspects over calc.ast: the fault of each, and its place. Each is the contract of a function that does nothing.
+
+ghost use Rattle.std.specs.Prelude.{◌≡◌, None, Some, Err, Ok};
+ghost use Rattle.at_model.specs.Samples.{calc_classes};
+ghost use Rattle.at_text.specs.declared.fault.Failure.TheVariants.{For};
+ghost use Rattle.at_kinds.specs.declared.code.RuleCode.TheVariants as code;
+ghost use Rattle.at_typing.specs.Building.{first_fault, rules_of, Builds};
+ghost use Rattle.at_typing.specs.SampleAspects.{
+  calls_nothing,
+  compares_texts,
+  has_no_equation,
+  has_none_above,
+  has_one_above,
+  has_two_equations,
+  is_a_boolean,
+  is_an_accessor,
+  is_declared_twice,
+  is_of_no_attribute,
+  is_of_no_component,
+  passes_an_int,
+};
+ghost use Rattle.at_typing.specs.Samples.{column};
+
+/// An attribute with an accessor's name, one that is declared twice, an equation of none, and one that is there twice: each is told at the declaration.
+pub fn faults_of_several_declarations()
+    ensures accessor { first_fault calc_classes is_an_accessor ≡ Some (record { code = code.NameOfAccessor; file = 1; at = column 12 }) }
+    ensures twice { first_fault calc_classes is_declared_twice ≡ Some (record { code = code.AttributeTwice; file = 1; at = column 37 }) }
+    ensures of_none { first_fault calc_classes is_of_no_attribute ≡ Some (record { code = code.EquationWithoutAttribute; file = 1; at = column 12 }) }
+    ensures equation { first_fault calc_classes has_two_equations ≡ Some (record { code = code.EquationTwice; file = 1; at = column 37 }) }
+{}
+
+/// A name that isn't there, a parameter and an expression that are of a wrong kind: each is told where it stands.
+pub fn faults_of_one_declaration()
+    ensures name { first_fault calc_classes calls_nothing ≡ Some (record { code = code.UnknownName; file = 1; at = column 34 }) }
+    ensures component { first_fault calc_classes is_of_no_component ≡ Some (record { code = code.UnknownName; file = 1; at = column 38 }) }
+    ensures parameter { first_fault calc_classes passes_an_int ≡ Some (record { code = code.Argument; file = 1; at = column 30 }) }
+    ensures kind { first_fault calc_classes is_a_boolean ≡ Some (record { code = code.Kind; file = 1; at = column 34 }) }
+    ensures texts { first_fault calc_classes compares_texts ≡ Some (record { code = code.Kind; file = 1; at = column 34 }) }
+{}
+
+/// A class without an equation is told at the attribute's declaration: a statement of a synthesized one, an expression of an
+/// inherited one; and with an equation of the program for each of its components no expression is without.
+pub fn equations_that_classes_lack()
+    ensures own { Builds calc_classes has_no_equation (Err (For (record { code = code.ClassWithoutEquation; file = 1; at = column 12 }))) }
+    ensures above { Builds calc_classes has_none_above (Err (For (record { code = code.InheritedWithoutEquation; file = 1; at = column 12 }))) }
+    ensures accepted { Builds calc_classes has_one_above (Ok (rules_of calc_classes has_one_above)) }
+{}
