@@ -7,6 +7,8 @@ pub mod Covering
 pub mod Only
 pub mod Sparing
 pub mod Stacked
+pub mod Advancing
+pub mod Answered
 pub mod Spared
 pub mod Called
 pub mod Turns
