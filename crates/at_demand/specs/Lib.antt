@@ -8,10 +8,10 @@ pub mod Only
 pub mod Sparing
 pub mod Stacked
 pub mod Advancing
-pub mod Answered
 pub mod Spared
 pub mod Called
 pub mod Turns
+pub mod Answered
 pub mod ChainSteps
 pub mod Attempts
 pub mod KeptTrials

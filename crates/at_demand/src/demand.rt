@@ -75,17 +75,8 @@ impl<K: Keeper> Demand<K> {
         requires sound { IsTreeSound rules.now.classes (tree store.now) }
         requires typed { IsWellTyped rules.now (class_shown store.now) AnyText inst.now }
         requires right { Right (contents store.now) (meaning rules.now) (kept_values (K.contents self.old.keeper)) }
-        ensures answers { IfOk result (λ a. HasAnswer (contents store.now) (meaning rules.now) inst.now (answer_view a)) }
-        ensures worthy { AddsWorthy rules.now (contents store.now) inst.now (K.contents self.old.keeper) (K.contents self.new.keeper) }
-        ensures spare { IsTrue K.exact → AreSpare rules.now (contents store.now) (K.contents self.old.keeper)
-            → AreSpare rules.now (contents store.now) (K.contents self.new.keeper) }
-        ensures all { IsTrue K.exact → AreSpare rules.now (contents store.now) (K.contents self.old.keeper)
-            → IfOk result (λ a. HasWorthy rules.now (contents store.now) inst.now (K.contents self.new.keeper)) }
-        ensures counts { IsTrue K.exact → Counts (K.contents self.old.keeper) (K.contents self.new.keeper) self.old.work self.new.work }
-        ensures work { IsTrue K.exact → AreSpare rules.now (contents store.now) (K.contents self.old.keeper)
-            → IfOk result (λ a. IsWork rules.now (contents store.now) inst.now (K.contents self.old.keeper) self.old.work self.new.work) }
-        ensures right { IsThere store.now inst.now → AreRight rules.now store.now (K.contents self.old.keeper)
-            → AreRight rules.now store.now (K.contents self.new.keeper) }
+        ensures { HasAnswered rules.now store.now K.exact (K.contents self.old.keeper) (K.contents self.new.keeper)
+            self.old.work self.new.work inst.now result }
     {
         // The call says that it is less than 2^64.
         let _work = self.work();

@@ -1,5 +1,5 @@
 -- What a step comes to from where the last evaluation has gone on to, it comes to from where that was.
-use Rattle.std.proofs.Common.{◌≡◌, ℕ, Bool, refl}
+use Rattle.std.proofs.Common.{ℕ, Bool, refl}
 use Rattle.std.specs.Prelude.{Result}
 use Rattle.at_model.specs.Run.{Instance, Contents}
 use Rattle.at_model.specs.Rules.{Rules}
@@ -9,7 +9,7 @@ use Rattle.at_cache.specs.Kept.{Entries}
 use Rattle.at_demand.specs.declared.evaluation.Evaluation.{Evaluation}
 use Rattle.at_demand.specs.declared.evaluation.Frame.{Frame}
 use Rattle.at_demand.specs.declared.evaluation.Advance.{Advance}
-use Rattle.at_demand.specs.UnderWay.{HasStepped, IsOrderlyIn, IsTrueIn}
+use Rattle.at_demand.specs.UnderWay.{HasStepped, IsTrueIn}
 use Rattle.at_demand.specs.Covering.{HasPassedTo, IsCoveringIn}
 use Rattle.at_demand.specs.Only.{TakesOnly}
 use Rattle.at_demand.specs.Sparing.{IsSparing}

@@ -1,5 +1,5 @@
 -- What a question comes to at its last step.
-use Rattle.std.proofs.Common.{ℕ, ◌<◌, ◌^◌, Bool}
+use Rattle.std.proofs.Common.{ℕ, Bool}
 use Rattle.std.specs.Prelude.{IfOk, IsTrue, Result}
 use Rattle.std.proofs.lemmas.Result.{IfOk-weaker}
 use Rattle.at_model.specs.Run.{Instance}

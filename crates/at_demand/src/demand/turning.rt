@@ -18,6 +18,7 @@ ghost use Rattle.at_demand.specs.Covering.{AreWhole};
 ghost use Rattle.at_demand.specs.Only.{AreLean};
 ghost use Rattle.at_demand.specs.Sparing.{AddsWorthy, AreSettled, AreSpare, Counts, MayAddLazy};
 ghost use Rattle.at_demand.specs.Turns.{HasGiven, IsStanding, IsSparingTurns, under_way};
+ghost use Rattle.at_demand.specs.Answered.{HasTurned, HasTurnedOften};
 ghost use Rattle.at_demand.specs.Attempts.{HasAttempted, HasComeTo};
 ghost use Rattle.at_demand.specs.KeptTrials.{Fit, FitAfter};
 
@@ -58,23 +59,8 @@ impl<K: Keeper> Demand<K> {
         requires sound { IsTreeSound rules.now.classes (tree store.now) }
         requires right { Right (contents store.now) (meaning rules.now) (kept_values (K.contents self.old.keeper)) }
         requires standing { IsStanding rules.now store.now (K.contents self.old.keeper) question.old }
-        ensures turned { IfOk result (λ o. Turned (contents store.now) (meaning rules.now) (kept_values (K.contents self.old.keeper))
-            (under_way question.old) (under_way question.new) (option_map answer_view o)) }
-        ensures answers { IfOk result (λ o. IfSome o
-            (λ a. HasAnswer (contents store.now) (meaning rules.now) (asked (under_way question.old)) (answer_view a))) }
-        ensures standing { IfOk result (λ o. IsStanding rules.now store.now (K.contents self.new.keeper) question.new) }
-        ensures right { Right (contents store.now) (meaning rules.now) (kept_values (K.contents self.new.keeper)) }
-        ensures stays { IsThere store.now (asked (under_way question.old)) → AreRight rules.now store.now (K.contents self.old.keeper)
-            → AreRight rules.now store.now (K.contents self.new.keeper) }
-        ensures last { MayAddLazy rules.now (K.contents self.old.keeper) (K.contents self.new.keeper) question.old.inst }
-        ensures worthy { AddsWorthy rules.now (contents store.now) (asked (under_way question.old)) (K.contents self.old.keeper) (K.contents self.new.keeper) }
-        ensures sparing { IsTrue K.exact → AreSpare rules.now (contents store.now) (K.contents self.old.keeper)
-            → IsSparingTurns rules.now (contents store.now) (K.contents self.old.keeper) question.old
-            → IfOk result (λ o. IsSparingTurns rules.now (contents store.now) (K.contents self.new.keeper) question.new) }
-        ensures spare { IsTrue K.exact → AreSpare rules.now (contents store.now) (K.contents self.old.keeper)
-            → IsSparingTurns rules.now (contents store.now) (K.contents self.old.keeper) question.old
-            → AreSpare rules.now (contents store.now) (K.contents self.new.keeper) }
-        ensures counts { IsTrue K.exact → Counts (K.contents self.old.keeper) (K.contents self.new.keeper) self.old.work self.new.work }
+        ensures { HasTurned rules.now store.now K.exact (K.contents self.old.keeper) (K.contents self.new.keeper)
+            self.old.work self.new.work question.old question.new result }
     {
         // The call says that it is less than 2^64.
         let _work = self.work();
@@ -97,20 +83,8 @@ impl<K: Keeper> Demand<K> {
         requires sound { IsTreeSound rules.now.classes (tree store.now) }
         requires right { Right (contents store.now) (meaning rules.now) (kept_values (K.contents self.old.keeper)) }
         requires standing { IsStanding rules.now store.now (K.contents self.old.keeper) question.old }
-        ensures given { IfOk result (λ r. HasGiven (contents store.now) (meaning rules.now) limit r.0
-            (under_way question.old) (under_way question.new) (option_map answer_view r.1)) }
-        ensures standing { IfOk result (λ r. IsStanding rules.now store.now (K.contents self.new.keeper) question.new) }
-        ensures right { Right (contents store.now) (meaning rules.now) (kept_values (K.contents self.new.keeper)) }
-        ensures worthy { AddsWorthy rules.now (contents store.now) (asked (under_way question.old)) (K.contents self.old.keeper) (K.contents self.new.keeper) }
-        ensures stays { IsThere store.now (asked (under_way question.old)) → AreRight rules.now store.now (K.contents self.old.keeper)
-            → AreRight rules.now store.now (K.contents self.new.keeper) }
-        ensures spare { IsTrue K.exact → AreSpare rules.now (contents store.now) (K.contents self.old.keeper)
-            → IsSparingTurns rules.now (contents store.now) (K.contents self.old.keeper) question.old
-            → AreSpare rules.now (contents store.now) (K.contents self.new.keeper) }
-        ensures sparing { IsTrue K.exact → AreSpare rules.now (contents store.now) (K.contents self.old.keeper)
-            → IsSparingTurns rules.now (contents store.now) (K.contents self.old.keeper) question.old
-            → IfOk result (λ r. IsSparingTurns rules.now (contents store.now) (K.contents self.new.keeper) question.new) }
-        ensures counts { IsTrue K.exact → Counts (K.contents self.old.keeper) (K.contents self.new.keeper) self.old.work self.new.work }
+        ensures { HasTurnedOften rules.now store.now K.exact (K.contents self.old.keeper) (K.contents self.new.keeper)
+            self.old.work self.new.work limit question.old question.new result }
     {
         // The call says that it is less than 2^64.
         let _work = self.work();
