@@ -1,10 +1,9 @@
 //! Questions for the values of instances.
 
-ghost use Rattle.std.specs.Prelude.{◌≡◌, ◌<◌, ◌^◌, ℕ, true, map, IfOk, OnErr, OnOk, IsSome, IsTrue, None};
+ghost use Rattle.std.specs.Prelude.{◌≡◌, ◌<◌, ◌^◌, map, IfOk, OnErr, IsTrue, None};
 ghost use Rattle.std.specs.Map.{lookup};
-ghost use Rattle.at_model.specs.Run.{Contents, Instance};
 ghost use Rattle.at_model.specs.Instances.{AnyText};
-ghost use Rattle.at_model.specs.Meaning.{Answers as HasAnswer, HasValue, Right};
+ghost use Rattle.at_model.specs.Meaning.{HasValue, Right};
 ghost use Rattle.at_model.specs.TypedRuns.{IsWellTyped};
 ghost use Rattle.at_model.specs.WellFormed.{AreWellFormed, IsTreeSound};
 ghost use Rattle.at_body.specs.declared.trial.Step.TheVariants as step_code;
@@ -13,19 +12,16 @@ ghost use Rattle.at_store.specs.Shown.{IsIdle, contents, tree};
 ghost use Rattle.at_body.specs.Same.{same_instance};
 ghost use Rattle.at_body.specs.Typed.{class_shown};
 ghost use Rattle.at_body.specs.Values.{value_view};
-ghost use Rattle.at_cache.specs.Kept.{AreKept, AreNamed, Entries, HasPut, KeepsAll, Answers as Says, LeavesUntouched, LosesTouched};
-ghost use Rattle.at_demand.specs.Known.{meaning, kept_values, known_in, answer_view, MayAdd, FoundKept};
+ghost use Rattle.at_cache.specs.Kept.{AreKept, AreNamed, HasPut, KeepsAll, Answers as Says, LeavesUntouched, LosesTouched};
+ghost use Rattle.at_demand.specs.Known.{meaning, kept_values, known_in, FoundKept};
 ghost use Rattle.at_demand.specs.Keeping.{HasPlaced, HasPlacedAll, KeepsWhereLazy};
-ghost use Rattle.at_demand.specs.Right.{AreRight, IsThere};
 ghost use Rattle.at_demand.specs.Advancing.{HasAdvanced};
 ghost use Rattle.at_demand.specs.Answered.{HasAnswered};
 ghost use Rattle.at_demand.specs.UnderWay.{HasStepped, IsOrderlyIn};
 ghost use Rattle.at_demand.specs.Typing.{AreTypedWaiting, IsTypedIn};
 ghost use Rattle.at_model.specs.Rules.{is_lazy};
-ghost use Rattle.at_demand.specs.Only.{AreLean, IsLean};
-ghost use Rattle.at_demand.specs.Sparing.{AddsWorthy, AreOnly, AreSpare, Counts, HasWorthy, IsWork, MayAddLazy};
+ghost use Rattle.at_demand.specs.Sparing.{Counts};
 ghost use Rattle.at_demand.specs.Stacked.{IsStackedIn};
-ghost use Rattle.at_demand.specs.Covering.{AreCovered, AreWhole, IsWhole};
 
 mod turning;
 

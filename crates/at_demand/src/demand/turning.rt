@@ -1,10 +1,10 @@
 //! Turns of a question: each tries one equation, once.
 
-ghost use Rattle.std.specs.Prelude.{◌≡◌, ◌<◌, ◌^◌, ℕ, IfOk, IfSome, IsTrue, None};
+ghost use Rattle.std.specs.Prelude.{◌≡◌, ◌<◌, ◌^◌, ℕ, IfOk, IsTrue, None};
 ghost use Rattle.std.specs.Option.{option_map};
 ghost use Rattle.at_model.specs.Run.{Contents};
 ghost use Rattle.at_model.specs.Instances.{AnyText};
-ghost use Rattle.at_model.specs.Meaning.{Answers as HasAnswer, Right};
+ghost use Rattle.at_model.specs.Meaning.{Right};
 ghost use Rattle.at_model.specs.Rules.{Rules};
 ghost use Rattle.at_model.specs.TypedRuns.{IsWellTyped};
 ghost use Rattle.at_model.specs.Turning.{Turned, asked, posted};
@@ -15,9 +15,8 @@ ghost use Rattle.at_cache.specs.Kept.{Entries};
 ghost use Rattle.at_demand.specs.Known.{meaning, kept_values, known_in, answer_view, FoundKept};
 ghost use Rattle.at_demand.specs.Right.{AreRight, IsThere};
 ghost use Rattle.at_demand.specs.Covering.{AreWhole};
-ghost use Rattle.at_demand.specs.Only.{AreLean};
-ghost use Rattle.at_demand.specs.Sparing.{AddsWorthy, AreSettled, AreSpare, Counts, MayAddLazy};
-ghost use Rattle.at_demand.specs.Turns.{HasGiven, IsStanding, IsSparingTurns, under_way};
+ghost use Rattle.at_demand.specs.Sparing.{AddsWorthy, AreSpare, Counts, MayAddLazy};
+ghost use Rattle.at_demand.specs.Turns.{IsStanding, IsSparingTurns, under_way};
 ghost use Rattle.at_demand.specs.Answered.{HasTurned, HasTurnedOften};
 ghost use Rattle.at_demand.specs.Attempts.{HasAttempted, HasComeTo};
 ghost use Rattle.at_demand.specs.KeptTrials.{Fit, FitAfter};
