@@ -17,7 +17,7 @@ pub mod OnlyLemmas
 pub mod Gaining
 pub mod Counting
 pub mod SparingOn
-pub mod Ascending
+pub mod of_steps
 pub mod Naming
 pub mod TypedKnown
 pub mod TypingLemmas
@@ -27,4 +27,3 @@ pub mod Standing
 pub mod Few
 mod Fitting
 mod Putting
-mod Rising

@@ -1,13 +1,14 @@
 -- What one try of an instance comes to.
-use Rattle.std.specs.Prelude.{◌≡◌, ℕ, List, [], ◌∷◌, ◌++◌, Some, None}
+use Rattle.std.specs.Prelude.{◌≡◌, ℕ, ◌<◌, ◌^◌, Bool, List, [], ◌∷◌, ◌++◌, Some, None, IsTrue, IfOk, Result}
 use Rattle.std.specs.Map.{lookup}
 use Rattle.at_model.specs.Run.{Instance, Contents}
 use Rattle.at_model.specs.Rules.{Rules}
 use Rattle.at_model.specs.Instances.{AnyText}
-use Rattle.at_model.specs.Meaning.{HasValue, Holds, Faults, Comes}
+use Rattle.at_model.specs.Meaning.{HasValue, Holds, Faults, Comes, Right}
 use Rattle.at_model.specs.TypedRuns.{ClassAt, IsWellTyped}
 use Rattle.at_body.specs.Same.{same_instance}
-use Rattle.at_body.specs.Typed.{IsTypedStep}
+use Rattle.at_store.specs.Shown.{Shown, contents}
+use Rattle.at_body.specs.Typed.{IsTypedStep, class_shown}
 use Rattle.at_body.specs.Values.{value_view, fault_view}
 use Rattle.at_body.specs.declared.trial.Step.{Step}
 use Rattle.at_body.specs.declared.trial.Step.TheVariants as step
@@ -19,8 +20,9 @@ use Rattle.at_demand.specs.declared.trials.Attempt.TheVariants as attempt
 use Rattle.at_demand.specs.Known.{kept_values, meaning}
 use Rattle.at_demand.specs.UnderWay.{HasStepped}
 use Rattle.at_demand.specs.Covering.{HasPassedTo, IsWhole}
-use Rattle.at_demand.specs.Only.{IsLean, TakesOnly}
-use Rattle.at_demand.specs.Sparing.{AreSettled}
+use Rattle.at_demand.specs.Only.{AreLean, IsLean, TakesOnly}
+use Rattle.at_demand.specs.Right.{AreRight, IsThere}
+use Rattle.at_demand.specs.Sparing.{AddsWorthy, AreSettled, AreSpare, Counts, MayAddLazy}
 
 -- The trial of an instance has come to this step, past values that hold; what it looked at and took is what its evaluation sees and
 -- comes to, all values are of their kinds, and what it took of what is kept is kept.
@@ -74,3 +76,19 @@ IsKeptAs entries i (attempt.Kept v) = kept_values entries i ≡ Some (value_view
 IsKeptAs entries i (attempt.Found f) = Unit {0}
 IsKeptAs entries i (attempt.Fails kind) = Unit {0}
 IsKeptAs entries i (attempt.Needs j) = Unit {0}
+
+-- One try of an instance has come to this. What is kept stays right; with an exact keeper it stays spare, and the work counts what
+-- is added.
+pub record HasAttempted {E : Type 0} (rules : Rules) (s : Shown) (exact : Bool) (before after : Entries) (earlier later : ℕ)
+    (found : List (Instance ℕ × Find)) (i : Instance ℕ) (f : Frame) (r : Result Attempt E) : Type 0 where
+  pub tried : IfOk r (HasTried rules (class_shown s) (contents s) before found i)
+  pub right : Right (contents s) (meaning rules) (kept_values after)
+  pub stays : IsThere s i → AreRight rules s before → AreRight rules s after
+  pub lazy : MayAddLazy rules before after i
+  pub worthy : AddsWorthy rules (contents s) i before after
+  pub spare : IsTrue exact → AreSpare rules (contents s) before → AreLean rules (contents s) found → AreSettled rules before found
+      → AreSpare rules (contents s) after
+  pub settles : IsTrue exact → AreSpare rules (contents s) before → AreSettled rules before found → IfOk r (SettlesOn rules after found i)
+  pub counts : IsTrue exact → earlier < 2 ^ 64 → Counts before after earlier later
+  pub keeps : IfOk r (IsKeptAs after i)
+  pub waits : IfOk r (Awaits rules (class_shown s) (contents s) before found i f)

@@ -57,7 +57,8 @@ pub record AreTrials (rules : Rules) (at : ClassAt ℕ) (look : Contents ℕ) (e
 -- They are those of a question's chain, without its last instance; or with it, where that one waits.
 abbrev pub FitAt : Rules → Shown → Entries → Question → List Frame → Option (Instance ℕ) → Type 0
 FitAt rules s entries q frames None = AreTrials rules (class_shown s) (contents s) entries q.found.entries (keys_of q.waiting.entries) q.inst frames
-FitAt rules s entries q frames (Some j) = AreTrials rules (class_shown s) (contents s) entries q.found.entries (keys_of q.waiting.entries ++ q.inst ∷ []) j frames
+FitAt rules s entries q frames (Some j) = AreTrials rules (class_shown s) (contents s) entries q.found.entries
+    (keys_of q.waiting.entries ++ q.inst ∷ []) j frames
 
 abbrev pub Fit : Rules → Shown → Entries → Question → Trials → Type 0
 Fit rules s entries q t = FitAt rules s entries q t.frames.items t.awaited

@@ -7,9 +7,11 @@ pub mod Covering
 pub mod Only
 pub mod Sparing
 pub mod Stacked
+pub mod Advancing
 pub mod Spared
 pub mod Called
 pub mod Turns
+pub mod Answered
 pub mod ChainSteps
 pub mod Attempts
 pub mod KeptTrials

@@ -1,10 +1,9 @@
 //! Questions for the values of instances.
 
-ghost use Rattle.std.specs.Prelude.{◌≡◌, ◌<◌, ◌^◌, ℕ, true, map, IfOk, OnErr, OnOk, IsSome, IsTrue, None};
+ghost use Rattle.std.specs.Prelude.{◌≡◌, ◌<◌, ◌^◌, map, IfOk, OnErr, IsTrue, None};
 ghost use Rattle.std.specs.Map.{lookup};
-ghost use Rattle.at_model.specs.Run.{Contents, Instance};
 ghost use Rattle.at_model.specs.Instances.{AnyText};
-ghost use Rattle.at_model.specs.Meaning.{Answers as HasAnswer, HasValue, Right};
+ghost use Rattle.at_model.specs.Meaning.{HasValue, Right};
 ghost use Rattle.at_model.specs.TypedRuns.{IsWellTyped};
 ghost use Rattle.at_model.specs.WellFormed.{AreWellFormed, IsTreeSound};
 ghost use Rattle.at_body.specs.declared.trial.Step.TheVariants as step_code;
@@ -13,17 +12,16 @@ ghost use Rattle.at_store.specs.Shown.{IsIdle, contents, tree};
 ghost use Rattle.at_body.specs.Same.{same_instance};
 ghost use Rattle.at_body.specs.Typed.{class_shown};
 ghost use Rattle.at_body.specs.Values.{value_view};
-ghost use Rattle.at_cache.specs.Kept.{AreKept, AreNamed, Entries, HasPut, KeepsAll, Answers as Says, LeavesUntouched, LosesTouched};
-ghost use Rattle.at_demand.specs.Known.{meaning, kept_values, known_in, answer_view, MayAdd, FoundKept};
-ghost use Rattle.at_demand.specs.Keeping.{Becomes, HasPlaced, HasPlacedAll};
-ghost use Rattle.at_demand.specs.Right.{AreRight, IsThere};
-ghost use Rattle.at_demand.specs.UnderWay.{HasStepped, IsOrderlyIn, IsTrueIn, IsAdvance, IsRightAdvance};
-ghost use Rattle.at_demand.specs.Typing.{AreTypedWaiting, IsTypedIn, IsTypedAdvance};
+ghost use Rattle.at_cache.specs.Kept.{AreKept, AreNamed, HasPut, KeepsAll, Answers as Says, LeavesUntouched, LosesTouched};
+ghost use Rattle.at_demand.specs.Known.{meaning, kept_values, known_in, FoundKept};
+ghost use Rattle.at_demand.specs.Keeping.{HasPlaced, HasPlacedAll, KeepsWhereLazy};
+ghost use Rattle.at_demand.specs.Advancing.{HasAdvanced};
+ghost use Rattle.at_demand.specs.Answered.{HasAnswered};
+ghost use Rattle.at_demand.specs.UnderWay.{HasStepped, IsOrderlyIn};
+ghost use Rattle.at_demand.specs.Typing.{AreTypedWaiting, IsTypedIn};
 ghost use Rattle.at_model.specs.Rules.{is_lazy};
-ghost use Rattle.at_demand.specs.Only.{AreLean, IsLean};
-ghost use Rattle.at_demand.specs.Sparing.{AddsWorthy, AreOnly, AreSpare, Counts, HasWorthy, IsSparing, IsSparingAdvance, IsWork, MayAddLazy};
+ghost use Rattle.at_demand.specs.Sparing.{Counts};
 ghost use Rattle.at_demand.specs.Stacked.{IsStackedIn};
-ghost use Rattle.at_demand.specs.Covering.{AreCovered, AreWhole, IsCoveringIn, IsCoveringAdvance, IsWhole};
 
 mod turning;
 
@@ -73,17 +71,8 @@ impl<K: Keeper> Demand<K> {
         requires sound { IsTreeSound rules.now.classes (tree store.now) }
         requires typed { IsWellTyped rules.now (class_shown store.now) AnyText inst.now }
         requires right { Right (contents store.now) (meaning rules.now) (kept_values (K.contents self.old.keeper)) }
-        ensures answers { IfOk result (λ a. HasAnswer (contents store.now) (meaning rules.now) inst.now (answer_view a)) }
-        ensures worthy { AddsWorthy rules.now (contents store.now) inst.now (K.contents self.old.keeper) (K.contents self.new.keeper) }
-        ensures spare { IsTrue K.exact → AreSpare rules.now (contents store.now) (K.contents self.old.keeper)
-            → AreSpare rules.now (contents store.now) (K.contents self.new.keeper) }
-        ensures all { IsTrue K.exact → AreSpare rules.now (contents store.now) (K.contents self.old.keeper)
-            → IfOk result (λ a. HasWorthy rules.now (contents store.now) inst.now (K.contents self.new.keeper)) }
-        ensures counts { IsTrue K.exact → Counts (K.contents self.old.keeper) (K.contents self.new.keeper) self.old.work self.new.work }
-        ensures work { IsTrue K.exact → AreSpare rules.now (contents store.now) (K.contents self.old.keeper)
-            → IfOk result (λ a. IsWork rules.now (contents store.now) inst.now (K.contents self.old.keeper) self.old.work self.new.work) }
-        ensures right { IsThere store.now inst.now → AreRight rules.now store.now (K.contents self.old.keeper)
-            → AreRight rules.now store.now (K.contents self.new.keeper) }
+        ensures { HasAnswered rules.now store.now K.exact (K.contents self.old.keeper) (K.contents self.new.keeper)
+            self.old.work self.new.work inst.now result }
     {
         // The call says that it is less than 2^64.
         let _work = self.work();
@@ -102,17 +91,8 @@ impl<K: Keeper> Demand<K> {
         requires typed { IsWellTyped rules.now (class_shown store.now) AnyText inst.now }
         requires right { Right (contents store.now) (meaning rules.now) (kept_values (K.contents self.old.keeper)) }
         requires unkept { K.contents self.old.keeper inst.now ≡ None }
-        ensures answers { IfOk result (λ a. HasAnswer (contents store.now) (meaning rules.now) inst.now (answer_view a)) }
-        ensures worthy { AddsWorthy rules.now (contents store.now) inst.now (K.contents self.old.keeper) (K.contents self.new.keeper) }
-        ensures spare { IsTrue K.exact → AreSpare rules.now (contents store.now) (K.contents self.old.keeper)
-            → AreSpare rules.now (contents store.now) (K.contents self.new.keeper) }
-        ensures all { IsTrue K.exact → AreSpare rules.now (contents store.now) (K.contents self.old.keeper)
-            → IfOk result (λ a. HasWorthy rules.now (contents store.now) inst.now (K.contents self.new.keeper)) }
-        ensures counts { IsTrue K.exact → Counts (K.contents self.old.keeper) (K.contents self.new.keeper) self.old.work self.new.work }
-        ensures work { IsTrue K.exact → AreSpare rules.now (contents store.now) (K.contents self.old.keeper)
-            → IfOk result (λ a. IsWork rules.now (contents store.now) inst.now (K.contents self.old.keeper) self.old.work self.new.work) }
-        ensures right { IsThere store.now inst.now → AreRight rules.now store.now (K.contents self.old.keeper)
-            → AreRight rules.now store.now (K.contents self.new.keeper) }
+        ensures { HasAnswered rules.now store.now K.exact (K.contents self.old.keeper) (K.contents self.new.keeper)
+            self.old.work self.new.work inst.now result }
     {
         // The call says that it is less than 2^64.
         let _work = self.work();
@@ -175,33 +155,8 @@ impl<K: Keeper> Demand<K> {
         requires stepped { HasStepped rules.now (contents store.now) evaluation.old.inst evaluation.old.frame.trial step }
         requires orderly { IsOrderlyIn (K.contents self.old.keeper) evaluation.old }
         requires stacked { IsStackedIn evaluation.old }
-        ensures advance { IfOk result (IsAdvance (K.contents self.new.keeper) evaluation.old evaluation.new) }
-        ensures typed { IfOk result (IsTypedAdvance rules.now (class_shown store.now) evaluation.new) }
-        ensures answers { (asked : Instance ℕ) → IsTrueIn rules.now (contents store.now) asked (K.contents self.old.keeper) evaluation.old step
-            → IfOk result (IsRightAdvance rules.now (contents store.now) asked (K.contents self.new.keeper) evaluation.new) }
-        ensures right { (asked : Instance ℕ) → IsTrueIn rules.now (contents store.now) asked (K.contents self.old.keeper) evaluation.old step
-            → Right (contents store.now) (meaning rules.now) (kept_values (K.contents self.new.keeper)) }
-        ensures covering { (asked : Instance ℕ) → IsTrueIn rules.now (contents store.now) asked (K.contents self.old.keeper) evaluation.old step
-            → IsCoveringIn rules.now (contents store.now) evaluation.old step → IfOk result (IsCoveringAdvance rules.now (contents store.now) evaluation.new) }
-        ensures stays { (asked : Instance ℕ) → IsThere store.now asked
-            → IsTrueIn rules.now (contents store.now) asked (K.contents self.old.keeper) evaluation.old step
-            → IsCoveringIn rules.now (contents store.now) evaluation.old step → AreRight rules.now store.now (K.contents self.old.keeper)
-            → AreRight rules.now store.now (K.contents self.new.keeper) }
-        ensures worthy { (asked : Instance ℕ) (first : Entries)
-            → IsTrueIn rules.now (contents store.now) asked (K.contents self.old.keeper) evaluation.old step
-            → AddsWorthy rules.now (contents store.now) asked first (K.contents self.old.keeper)
-            → AddsWorthy rules.now (contents store.now) asked first (K.contents self.new.keeper) }
-        ensures sparing { (asked : Instance ℕ) → IsTrue K.exact
-            → IsTrueIn rules.now (contents store.now) asked (K.contents self.old.keeper) evaluation.old step
-            → IsCoveringIn rules.now (contents store.now) evaluation.old step
-            → IsSparing rules.now (contents store.now) (K.contents self.old.keeper) evaluation.old
-            → IfOk result (IsSparingAdvance rules.now (contents store.now) asked (K.contents self.new.keeper) evaluation.new) }
-        ensures spare { (asked : Instance ℕ) → IsTrue K.exact → IsTrueIn rules.now (contents store.now) asked (K.contents self.old.keeper) evaluation.old step
-            → IsCoveringIn rules.now (contents store.now) evaluation.old step
-            → IsSparing rules.now (contents store.now) (K.contents self.old.keeper) evaluation.old
-            → AreSpare rules.now (contents store.now) (K.contents self.new.keeper) }
-        ensures counts { IsTrue K.exact → self.old.work < 2 ^ 64
-            → Counts (K.contents self.old.keeper) (K.contents self.new.keeper) self.old.work self.new.work }
+        ensures { HasAdvanced rules.now store.now K.exact (K.contents self.old.keeper) (K.contents self.new.keeper)
+            self.old.work self.new.work evaluation.old step evaluation.new result }
     {
         let step = evaluation.frame.go_on(
             self.alloc,
@@ -234,18 +189,8 @@ impl<K: Keeper> Demand<K> {
         requires stacked { IsStackedIn evaluation.old }
         requires found { lookup (same_instance needed) evaluation.old.found.entries ≡ None }
         requires kept { K.contents self.now.keeper needed ≡ None }
-        ensures advance { IfOk result (IsAdvance (K.contents self.now.keeper) evaluation.old evaluation.new) }
-        ensures typed { IfOk result (IsTypedAdvance rules.now (class_shown store.now) evaluation.new) }
-        ensures answers { (asked : Instance ℕ)
-            → IsTrueIn rules.now (contents store.now) asked (K.contents self.now.keeper) evaluation.old (step_code.Need needed)
-            → IfOk result (IsRightAdvance rules.now (contents store.now) asked (K.contents self.now.keeper) evaluation.new) }
-        ensures covering { IsCoveringIn rules.now (contents store.now) evaluation.old (step_code.Need needed)
-            → IfOk result (IsCoveringAdvance rules.now (contents store.now) evaluation.new) }
-        ensures sparing { (asked : Instance ℕ)
-            → IsTrueIn rules.now (contents store.now) asked (K.contents self.now.keeper) evaluation.old (step_code.Need needed)
-            → IsCoveringIn rules.now (contents store.now) evaluation.old (step_code.Need needed)
-            → IsSparing rules.now (contents store.now) (K.contents self.now.keeper) evaluation.old
-            → IfOk result (IsSparingAdvance rules.now (contents store.now) asked (K.contents self.now.keeper) evaluation.new) }
+        ensures { HasAdvanced rules.now store.now K.exact (K.contents self.now.keeper) (K.contents self.now.keeper)
+            self.now.work self.now.work evaluation.old (step_code.Need needed) evaluation.new result }
     {
         if evaluation.has(&needed) {
             return Ok(Advance::Answers(Answer::Circular { at: needed }));
@@ -269,36 +214,8 @@ impl<K: Keeper> Demand<K> {
         requires has { HasValue (contents store.now) (meaning rules.now) evaluation.old.inst (value_view value) }
         requires orderly { IsOrderlyIn (K.contents self.old.keeper) evaluation.old }
         requires stacked { IsStackedIn evaluation.old }
-        ensures advance { IfOk result (IsAdvance (K.contents self.new.keeper) evaluation.old evaluation.new) }
-        ensures typed { IfOk result (IsTypedAdvance rules.now (class_shown store.now) evaluation.new) }
-        ensures answers { (asked : Instance ℕ)
-            → IsTrueIn rules.now (contents store.now) asked (K.contents self.old.keeper) evaluation.old (step_code.Value value)
-            → IfOk result (IsRightAdvance rules.now (contents store.now) asked (K.contents self.new.keeper) evaluation.new) }
-        ensures right { (asked : Instance ℕ)
-            → IsTrueIn rules.now (contents store.now) asked (K.contents self.old.keeper) evaluation.old (step_code.Value value)
-            → Right (contents store.now) (meaning rules.now) (kept_values (K.contents self.new.keeper)) }
-        ensures covering { IsCoveringIn rules.now (contents store.now) evaluation.old (step_code.Value value)
-            → IfOk result (IsCoveringAdvance rules.now (contents store.now) evaluation.new) }
-        ensures stays { (asked : Instance ℕ) → IsThere store.now asked
-            → IsTrueIn rules.now (contents store.now) asked (K.contents self.old.keeper) evaluation.old (step_code.Value value)
-            → IsCoveringIn rules.now (contents store.now) evaluation.old (step_code.Value value) → AreRight rules.now store.now (K.contents self.old.keeper)
-            → AreRight rules.now store.now (K.contents self.new.keeper) }
-        ensures worthy { (asked : Instance ℕ) (first : Entries)
-            → IsTrueIn rules.now (contents store.now) asked (K.contents self.old.keeper) evaluation.old (step_code.Value value)
-            → AddsWorthy rules.now (contents store.now) asked first (K.contents self.old.keeper)
-            → AddsWorthy rules.now (contents store.now) asked first (K.contents self.new.keeper) }
-        ensures sparing { (asked : Instance ℕ) → IsTrue K.exact
-            → IsTrueIn rules.now (contents store.now) asked (K.contents self.old.keeper) evaluation.old (step_code.Value value)
-            → IsCoveringIn rules.now (contents store.now) evaluation.old (step_code.Value value)
-            → IsSparing rules.now (contents store.now) (K.contents self.old.keeper) evaluation.old
-            → IfOk result (IsSparingAdvance rules.now (contents store.now) asked (K.contents self.new.keeper) evaluation.new) }
-        ensures spare { (asked : Instance ℕ) → IsTrue K.exact
-            → IsTrueIn rules.now (contents store.now) asked (K.contents self.old.keeper) evaluation.old (step_code.Value value)
-            → IsCoveringIn rules.now (contents store.now) evaluation.old (step_code.Value value)
-            → IsSparing rules.now (contents store.now) (K.contents self.old.keeper) evaluation.old
-            → AreSpare rules.now (contents store.now) (K.contents self.new.keeper) }
-        ensures counts { IsTrue K.exact → self.old.work < 2 ^ 64
-            → Counts (K.contents self.old.keeper) (K.contents self.new.keeper) self.old.work self.new.work }
+        ensures { HasAdvanced rules.now store.now K.exact (K.contents self.old.keeper) (K.contents self.new.keeper)
+            self.old.work self.new.work evaluation.old (step_code.Value value) evaluation.new result }
     {
         let find = evaluation.frame.find(self.alloc, value);
         let settled = self.keep(rules, &evaluation.found, &evaluation.inst, find)?;
@@ -319,16 +236,8 @@ impl<K: Keeper> Demand<K> {
         requires absent { K.contents self.old.keeper inst.now ≡ None }
         requires kept { AreKept (K.contents self.old.keeper) find.demanded.kept.items }
         requires found { FoundKept (K.contents self.old.keeper) found.now.entries }
-        ensures adds { MayAdd (K.contents self.old.keeper) (K.contents self.new.keeper) inst.now (value_view find.value) }
-        ensures covers { (look : Contents ℕ) → AreWhole rules.now look found.now.entries → IsWhole rules.now look found.now.entries inst.now find
-            → AreCovered rules.now look (K.contents self.old.keeper) → AreCovered rules.now look (K.contents self.new.keeper) }
-        ensures lazy { MayAddLazy rules.now (K.contents self.old.keeper) (K.contents self.new.keeper) inst.now }
-        ensures keeps { IsTrue K.exact → is_lazy rules.now inst.now.attribute ≡ true → OnOk result (IsSome (K.contents self.new.keeper inst.now)) }
-        ensures only { (look : Contents ℕ) → IsTrue K.exact → AreLean rules.now look found.now.entries → IsLean rules.now look found.now.entries inst.now find
-            → AreOnly rules.now look (K.contents self.old.keeper) → AreOnly rules.now look (K.contents self.new.keeper) }
-        ensures counts { IsTrue K.exact → self.old.work < 2 ^ 64
-            → Counts (K.contents self.old.keeper) (K.contents self.new.keeper) self.old.work self.new.work }
-        ensures becomes { IfOk result (Becomes (K.contents self.new.keeper) inst.now find) }
+        ensures { KeepsWhereLazy rules.now K.exact (K.contents self.old.keeper) (K.contents self.new.keeper) self.old.work self.new.work
+            found.now.entries inst.now find result }
     {
         if !rules.is_lazy(inst.attribute()) {
             return Ok(Settled::Found(find));
@@ -343,7 +252,8 @@ impl<K: Keeper> Demand<K> {
     fn keep_alone(&mut self, inst: &Inst, mut find: Find) -> Result<Settled, AllocError>
         requires absent { K.contents self.old.keeper inst.now ≡ None }
         requires kept { AreKept (K.contents self.old.keeper) find.demanded.kept.items }
-        ensures placed { IfOk result (HasPlaced K.exact (K.contents self.old.keeper) inst.now find (map loc_view find.reads.items) find.demanded.kept.items (K.contents self.new.keeper)) }
+        ensures placed { IfOk result (HasPlaced K.exact (K.contents self.old.keeper) inst.now find
+            (map loc_view find.reads.items) find.demanded.kept.items (K.contents self.new.keeper)) }
         ensures err { OnErr result (KeepsAll (K.contents self.old.keeper) (K.contents self.new.keeper)) }
         ensures counts { IsTrue K.exact → self.old.work < 2 ^ 64
             → Counts (K.contents self.old.keeper) (K.contents self.new.keeper) self.old.work self.new.work }

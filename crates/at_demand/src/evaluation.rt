@@ -14,11 +14,12 @@ ghost use Rattle.at_body.specs.Values.{value_view};
 ghost use Rattle.at_body.specs.Typed.{IsTypedStep, WaitsFor, class_shown};
 ghost use Rattle.indexmap.specs.IndexMap.{insert_entry};
 ghost use Rattle.at_demand.specs.Known.{meaning, known_in, IsRecalled};
-ghost use Rattle.at_demand.specs.UnderWay.{chain_of, HasAscended, HasPassedBack, HasStepped, IsOpen, IsToldTo};
+ghost use Rattle.at_demand.specs.UnderWay.{chain_of, HasAscended, HasPassedBack, HasStepped, IsToldTo};
 ghost use Rattle.at_demand.specs.Typing.{AreTypedWaiting};
-ghost use Rattle.at_demand.specs.Stacked.{HasCut, TakesBelow};
+ghost use Rattle.at_demand.specs.Advancing.{HasDescended, HasGoneOn};
+ghost use Rattle.at_demand.specs.Stacked.{HasCut};
 ghost use Rattle.at_demand.specs.Covering.{HasPassedTo, Takes};
-ghost use Rattle.at_demand.specs.Only.{TakesOne, TakesOnly};
+ghost use Rattle.at_demand.specs.Only.{TakesOne};
 ghost use Rattle.at_demand.specs.declared.evaluation.Find.{Find as FindCode};
 
 use crate::answer::Answer;
@@ -168,8 +169,8 @@ impl<'a> Evaluation<'a> {
 
     // Whether the instance is under way.
     pub fn has(&self, inst: &Inst) -> bool
-        ensures { MatchBool result (Among inst.now (chain_of self.now.waiting.entries self.now.inst)) (Among inst.now (chain_of self.now.waiting.entries self.now.inst)
-            → ⊥) }
+        ensures { MatchBool result (Among inst.now (chain_of self.now.waiting.entries self.now.inst))
+            (Among inst.now (chain_of self.now.waiting.entries self.now.inst) → ⊥) }
     {
         self.inst == *inst || self.waiting.contains_key(inst)
     }
@@ -186,19 +187,7 @@ impl<'a> Evaluation<'a> {
         requires formed { AreWellFormed rules.now }
         requires sound { IsTreeSound rules.now.classes (tree store.now) }
         requires typed { IsWellTyped rules.now (class_shown store.now) AnyText needed }
-        ensures waiting { OnOk result (self.new.waiting.entries ≡ insert_entry same_instance self.old.waiting.entries self.old.inst self.old.frame) }
-        ensures found { OnOk result (self.new.found.entries ≡ self.old.found.entries) }
-        ensures inst { OnOk result (self.new.inst ≡ needed) }
-        ensures start { OnOk result (self.new.frame.start ≡ length self.old.found.entries) }
-        ensures fresh { OnOk result (self.new.frame.demanded.kept.items ≡ []) }
-        ensures unfound { OnOk result (self.new.frame.demanded.finds.items ≡ []) }
-        ensures few { OnOk result (length self.new.waiting.entries < 2 ^ 64) }
-        ensures finds { OnOk result (length self.new.found.entries < 2 ^ 64) }
-        ensures counted { self.new.gone ≡ self.old.gone }
-        ensures counts { OnOk result (self.new.gone < 2 ^ 64) }
-        ensures stepped { IfOk result (HasStepped rules.now (contents store.now) needed self.new.frame.trial) }
-        ensures passed { (finds : List (Instance ℕ × FindCode)) → IfOk result (HasPassedTo rules.now (contents store.now) finds needed self.new.frame) }
-        ensures typed { IfOk result (λ s. IsTypedStep rules.now (class_shown store.now) s self.new.frame.trial) }
+        ensures { IfOk result (HasDescended rules.now store.now self.old needed self.new) }
     {
         let room = mem::replace(&mut self.room, Room::new(alloc));
         let start = self.found.len();
@@ -287,9 +276,9 @@ impl<'a> Evaluation<'a> {
     }
 }
 
-// Lets those go that were found since there were `start` of them, where there are many in all, and says how many they were. Each of
-// them was gathered for the value that came to be kept, so those that are evaluated anew for others are no more than those that each
-// of these gathers anyway.
+// Lets those go that were found since there were `start` of them, where there are many in all, and says how many they were. Whatever
+// goes so may be evaluated anew once for the question and once for each value that comes to be kept with it, which has to gather it
+// anyway.
 fn cut_back(found: &mut IndexMap<Inst, Find>, start: usize) -> u64
     ensures cut { HasCut start found.old.entries found.new.entries }
     ensures counted { length found.new.entries + result ≡ length found.old.entries }
@@ -388,19 +377,7 @@ impl<'a> Frame<'a> {
         requires right { Right (contents store.now) (meaning rules.now) (known_in (K.contents keeper.now) found.now.entries) }
         requires typed { IsTypedStep rules.now (class_shown store.now) step self.old.trial }
         requires kept { AreKept (K.contents keeper.now) self.old.demanded.kept.items }
-        ensures kept { OnOk result (AreKept (K.contents keeper.now) self.new.demanded.kept.items) }
-        ensures stepped { (i : Instance ℕ) → HasStepped rules.now (contents store.now) i self.old.trial step
-            → IfOk result (HasStepped rules.now (contents store.now) i self.new.trial) }
-        ensures passed { (i : Instance ℕ) → HasPassedTo rules.now (contents store.now) found.now.entries i self.old step
-            → IfOk result (HasPassedTo rules.now (contents store.now) found.now.entries i self.new) }
-        ensures only { (i : Instance ℕ) → HasStepped rules.now (contents store.now) i self.old.trial step
-            → TakesOnly rules.now (contents store.now) found.now.entries i self.old.demanded
-            → IfOk result (λ r. TakesOnly rules.now (contents store.now) found.now.entries i self.new.demanded) }
-        ensures typed { IfOk result (λ r. IsTypedStep rules.now (class_shown store.now) r self.new.trial) }
-        ensures start { OnOk result (self.new.start ≡ self.old.start) }
-        ensures below { TakesBelow (length found.now.entries) self.old.demanded
-            → OnOk result (TakesBelow (length found.now.entries) self.new.demanded) }
-        ensures unknown { IfOk result (IsOpen (known_in (K.contents keeper.now) found.now.entries)) }
+        ensures { IfOk result (HasGoneOn rules.now store.now (K.contents keeper.now) found.now.entries self.old step self.new) }
     {
         let mut step = step;
         loop {

@@ -20,15 +20,19 @@ ghost use Rattle.at_demand.specs.Touched.{Touches};
 
 /// Over an edit that is done, what is kept stays right where it stands for no location that the edit touches.
 pub fn what_is_kept_stays_right()
-    ensures { (rules : Rules) (old new : Shown) (e : Edit) (t : Tree) → IsIdle old → conforms rules.classes (tree old) 0 ≡ true → edited rules.classes (tree old) e ≡ Ok t → IsCommitted old e new
+    ensures { (rules : Rules) (old new : Shown) (e : Edit) (t : Tree) → IsIdle old → conforms rules.classes (tree old) 0 ≡ true
+        → edited rules.classes (tree old) e ≡ Ok t → IsCommitted old e new
         → (before later : Entries) → AreRight rules old before → LeavesUntouched (Touches old e) before later → AreRight rules new later }
 {}
 
 /// Over an edit that is done, what is left of what is kept is just what rests on nothing that the edit touches, and that is
 /// spare, where an entry goes only for a location that the edit touches.
 pub fn what_is_kept_stays_spare()
-    ensures { (rules : Rules) (old new : Shown) (e : Edit) (t : Tree) → IsIdle old → conforms rules.classes (tree old) 0 ≡ true → edited rules.classes (tree old) e ≡ Ok t → IsCommitted old e new
-        → (before later : Entries) → AreRight rules old before → AreSpare rules (contents old) before → LeavesUntouched (Touches old e) before later → LosesTouched (Touches old e) before later → LeavesJust rules old e before later × AreSpare rules (contents new) later }
+    ensures { (rules : Rules) (old new : Shown) (e : Edit) (t : Tree) → IsIdle old → conforms rules.classes (tree old) 0 ≡ true
+        → edited rules.classes (tree old) e ≡ Ok t → IsCommitted old e new
+        → (before later : Entries) → AreRight rules old before → AreSpare rules (contents old) before
+        → LeavesUntouched (Touches old e) before later → LosesTouched (Touches old e) before later
+        → LeavesJust rules old e before later × AreSpare rules (contents new) later }
 {}
 
 /// What is kept right and spare is well kept, by the paths of nodes.
@@ -40,12 +44,16 @@ pub fn what_is_kept_spare_is_well_kept()
 /// A question that adds just what is worth keeping, and counts it, adds by the paths of nodes what the model says, and has that
 /// much work.
 pub fn a_question_adds_what_is_worth_keeping()
-    ensures { (rules : Rules) (s : Shown) → IsIdle s → (q : Instance ℕ) (p : Instance Node) → InstanceLike (Names (path s)) q p → (old new : Entries) (work later : ℕ) → AddsWorthy rules (contents s) q old new → HasWorthy rules (contents s) q new → Counts old new work later
+    ensures { (rules : Rules) (s : Shown) → IsIdle s → (q : Instance ℕ) (p : Instance Node) → InstanceLike (Names (path s)) q p
+        → (old new : Entries) (work later : ℕ) → AddsWorthy rules (contents s) q old new → HasWorthy rules (contents s) q new
+        → Counts old new work later
         → (state : State) → state.tree ≡ tree s → Keeps rules state (Asks p) (KeptBy s old) (KeptBy s new) work later }
 {}
 
 /// An edit that is done and leaves just what is untouched leaves by the paths of nodes what the model says, and has no work.
 pub fn an_edit_leaves_what_it_does_not_touch()
-    ensures { (rules : Rules) (old new : Shown) (e : Edit) (t : Tree) → IsIdle old → conforms rules.classes (tree old) 0 ≡ true → edited rules.classes (tree old) e ≡ Ok t → IsCommitted old e new
-        → (before later : Entries) → AreRight rules old before → LeavesJust rules old e before later → (state : State) → state.tree ≡ tree old → (work : ℕ) → Keeps rules state (Edits e t) (KeptBy old before) (KeptBy new later) work work }
+    ensures { (rules : Rules) (old new : Shown) (e : Edit) (t : Tree) → IsIdle old → conforms rules.classes (tree old) 0 ≡ true
+        → edited rules.classes (tree old) e ≡ Ok t → IsCommitted old e new
+        → (before later : Entries) → AreRight rules old before → LeavesJust rules old e before later
+        → (state : State) → state.tree ≡ tree old → (work : ℕ) → Keeps rules state (Edits e t) (KeptBy old before) (KeptBy new later) work work }
 {}

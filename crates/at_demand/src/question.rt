@@ -112,8 +112,8 @@ impl Question {
 
     // Whether the instance is under way.
     fn has(&self, inst: &Inst) -> bool
-        ensures { MatchBool result (Among inst.now (keys_of self.now.waiting.entries ++ self.now.inst ∷ [])) (Among inst.now (keys_of self.now.waiting.entries ++ self.now.inst ∷ [])
-            → ⊥) }
+        ensures { MatchBool result (Among inst.now (keys_of self.now.waiting.entries ++ self.now.inst ∷ []))
+            (Among inst.now (keys_of self.now.waiting.entries ++ self.now.inst ∷ []) → ⊥) }
     {
         self.inst == *inst || self.waiting.contains_key(inst)
     }

@@ -18,9 +18,11 @@ ghost use Rattle.at_demand.specs.Turns.{IsSparingTurns, IsStanding, under_way};
 /// Twice the number of all instances is two more than the turns that a question is given without an answer, whatever is kept
 /// at each of them; and all that is under way and was found are that many instances at most.
 pub fn a_question_has_few_turns()
-    ensures turns { (rules : Rules) (s : Shown) → IsIdle s → (q : Instance ℕ) (p : Instance Node) → InstanceLike (Names (path s)) q p → AreWellFormed rules → IsTreeSound rules.classes (tree s) → IsWellFormed rules (tree s) p
+    ensures turns { (rules : Rules) (s : Shown) → IsIdle s → (q : Instance ℕ) (p : Instance Node) → InstanceLike (Names (path s)) q p
+        → AreWellFormed rules → IsTreeSound rules.classes (tree s) → IsWellFormed rules (tree s) p
         → (n : ℕ) (u : UnderWay ℕ) → Silent (contents s) (meaning rules) n (posted q) u → n + 2 ≤ 2 * length (instances rules (tree s) p.arguments) }
-    ensures found { (rules : Rules) (s : Shown) → IsIdle s → (q : Instance ℕ) (p : Instance Node) → InstanceLike (Names (path s)) q p → AreWellFormed rules → IsTreeSound rules.classes (tree s) → IsWellFormed rules (tree s) p
+    ensures found { (rules : Rules) (s : Shown) → IsIdle s → (q : Instance ℕ) (p : Instance Node) → InstanceLike (Names (path s)) q p
+        → AreWellFormed rules → IsTreeSound rules.classes (tree s) → IsWellFormed rules (tree s) p
         → (u : UnderWay ℕ) → IsOn (contents s) (meaning rules) q u → length u.waiting + 1 + length u.found ≤ length (instances rules (tree s) p.arguments) }
 {}
 

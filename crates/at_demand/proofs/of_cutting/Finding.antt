@@ -1,5 +1,5 @@
 -- What an evaluation took is found still, once finds are cut back that it didn't take.
-use Rattle.std.proofs.Common.{◌≡◌, ℕ, ◌<◌, ◌≤◌, List, [], ◌∷◌, take, slice_get, Some, inl, inr, ◌∙◌, arith}
+use Rattle.std.proofs.Common.{◌≡◌, ℕ, ◌≤◌, List, [], ◌∷◌, take, slice_get, Some, inl, inr, ◌∙◌, arith}
 use Rattle.at_model.specs.Run.{Value, Instance, Contents, Run, Demands}
 use Rattle.at_model.specs.Rules.{Rules}
 use Rattle.at_body.specs.Rest.{resumed}

@@ -1,10 +1,10 @@
 //! Turns of a question: each tries one equation, once.
 
-ghost use Rattle.std.specs.Prelude.{◌≡◌, ◌<◌, ◌^◌, ℕ, IfOk, IfSome, IsTrue, None};
+ghost use Rattle.std.specs.Prelude.{◌≡◌, ◌<◌, ◌^◌, ℕ, IfOk, IsTrue, None};
 ghost use Rattle.std.specs.Option.{option_map};
 ghost use Rattle.at_model.specs.Run.{Contents};
 ghost use Rattle.at_model.specs.Instances.{AnyText};
-ghost use Rattle.at_model.specs.Meaning.{Answers as HasAnswer, Right};
+ghost use Rattle.at_model.specs.Meaning.{Right};
 ghost use Rattle.at_model.specs.Rules.{Rules};
 ghost use Rattle.at_model.specs.TypedRuns.{IsWellTyped};
 ghost use Rattle.at_model.specs.Turning.{Turned, asked, posted};
@@ -15,10 +15,10 @@ ghost use Rattle.at_cache.specs.Kept.{Entries};
 ghost use Rattle.at_demand.specs.Known.{meaning, kept_values, known_in, answer_view, FoundKept};
 ghost use Rattle.at_demand.specs.Right.{AreRight, IsThere};
 ghost use Rattle.at_demand.specs.Covering.{AreWhole};
-ghost use Rattle.at_demand.specs.Only.{AreLean};
-ghost use Rattle.at_demand.specs.Sparing.{AddsWorthy, AreSettled, AreSpare, Counts, MayAddLazy};
-ghost use Rattle.at_demand.specs.Turns.{HasGiven, IsStanding, IsSparingTurns, under_way};
-ghost use Rattle.at_demand.specs.Attempts.{HasComeTo, HasTried, IsKeptAs, SettlesOn, Awaits};
+ghost use Rattle.at_demand.specs.Sparing.{AddsWorthy, AreSpare, Counts, MayAddLazy};
+ghost use Rattle.at_demand.specs.Turns.{IsStanding, IsSparingTurns, under_way};
+ghost use Rattle.at_demand.specs.Answered.{HasTurned, HasTurnedOften};
+ghost use Rattle.at_demand.specs.Attempts.{HasAttempted, HasComeTo};
 ghost use Rattle.at_demand.specs.KeptTrials.{Fit, FitAfter};
 
 use super::Demand;
@@ -58,21 +58,8 @@ impl<K: Keeper> Demand<K> {
         requires sound { IsTreeSound rules.now.classes (tree store.now) }
         requires right { Right (contents store.now) (meaning rules.now) (kept_values (K.contents self.old.keeper)) }
         requires standing { IsStanding rules.now store.now (K.contents self.old.keeper) question.old }
-        ensures turned { IfOk result (λ o. Turned (contents store.now) (meaning rules.now) (kept_values (K.contents self.old.keeper)) (under_way question.old) (under_way question.new) (option_map answer_view o)) }
-        ensures answers { IfOk result (λ o. IfSome o (λ a. HasAnswer (contents store.now) (meaning rules.now) (asked (under_way question.old)) (answer_view a))) }
-        ensures standing { IfOk result (λ o. IsStanding rules.now store.now (K.contents self.new.keeper) question.new) }
-        ensures right { Right (contents store.now) (meaning rules.now) (kept_values (K.contents self.new.keeper)) }
-        ensures stays { IsThere store.now (asked (under_way question.old)) → AreRight rules.now store.now (K.contents self.old.keeper)
-            → AreRight rules.now store.now (K.contents self.new.keeper) }
-        ensures last { MayAddLazy rules.now (K.contents self.old.keeper) (K.contents self.new.keeper) question.old.inst }
-        ensures worthy { AddsWorthy rules.now (contents store.now) (asked (under_way question.old)) (K.contents self.old.keeper) (K.contents self.new.keeper) }
-        ensures sparing { IsTrue K.exact → AreSpare rules.now (contents store.now) (K.contents self.old.keeper)
-            → IsSparingTurns rules.now (contents store.now) (K.contents self.old.keeper) question.old
-            → IfOk result (λ o. IsSparingTurns rules.now (contents store.now) (K.contents self.new.keeper) question.new) }
-        ensures spare { IsTrue K.exact → AreSpare rules.now (contents store.now) (K.contents self.old.keeper)
-            → IsSparingTurns rules.now (contents store.now) (K.contents self.old.keeper) question.old
-            → AreSpare rules.now (contents store.now) (K.contents self.new.keeper) }
-        ensures counts { IsTrue K.exact → Counts (K.contents self.old.keeper) (K.contents self.new.keeper) self.old.work self.new.work }
+        ensures { HasTurned rules.now store.now K.exact (K.contents self.old.keeper) (K.contents self.new.keeper)
+            self.old.work self.new.work question.old question.new result }
     {
         // The call says that it is less than 2^64.
         let _work = self.work();
@@ -95,19 +82,8 @@ impl<K: Keeper> Demand<K> {
         requires sound { IsTreeSound rules.now.classes (tree store.now) }
         requires right { Right (contents store.now) (meaning rules.now) (kept_values (K.contents self.old.keeper)) }
         requires standing { IsStanding rules.now store.now (K.contents self.old.keeper) question.old }
-        ensures given { IfOk result (λ r. HasGiven (contents store.now) (meaning rules.now) limit r.0 (under_way question.old) (under_way question.new) (option_map answer_view r.1)) }
-        ensures standing { IfOk result (λ r. IsStanding rules.now store.now (K.contents self.new.keeper) question.new) }
-        ensures right { Right (contents store.now) (meaning rules.now) (kept_values (K.contents self.new.keeper)) }
-        ensures worthy { AddsWorthy rules.now (contents store.now) (asked (under_way question.old)) (K.contents self.old.keeper) (K.contents self.new.keeper) }
-        ensures stays { IsThere store.now (asked (under_way question.old)) → AreRight rules.now store.now (K.contents self.old.keeper)
-            → AreRight rules.now store.now (K.contents self.new.keeper) }
-        ensures spare { IsTrue K.exact → AreSpare rules.now (contents store.now) (K.contents self.old.keeper)
-            → IsSparingTurns rules.now (contents store.now) (K.contents self.old.keeper) question.old
-            → AreSpare rules.now (contents store.now) (K.contents self.new.keeper) }
-        ensures sparing { IsTrue K.exact → AreSpare rules.now (contents store.now) (K.contents self.old.keeper)
-            → IsSparingTurns rules.now (contents store.now) (K.contents self.old.keeper) question.old
-            → IfOk result (λ r. IsSparingTurns rules.now (contents store.now) (K.contents self.new.keeper) question.new) }
-        ensures counts { IsTrue K.exact → Counts (K.contents self.old.keeper) (K.contents self.new.keeper) self.old.work self.new.work }
+        ensures { HasTurnedOften rules.now store.now K.exact (K.contents self.old.keeper) (K.contents self.new.keeper)
+            self.old.work self.new.work limit question.old question.new result }
     {
         // The call says that it is less than 2^64.
         let _work = self.work();
@@ -137,7 +113,8 @@ impl<K: Keeper> Demand<K> {
         requires right { Right (contents store.now) (meaning rules.now) (kept_values (K.contents self.old.keeper)) }
         requires standing { IsStanding rules.now store.now (K.contents self.old.keeper) question.old }
         requires fit { Fit rules.now store.now (K.contents self.old.keeper) question.old trials.old }
-        ensures turned { IfOk result (λ o. Turned (contents store.now) (meaning rules.now) (kept_values (K.contents self.old.keeper)) (under_way question.old) (under_way question.new) (option_map answer_view o)) }
+        ensures turned { IfOk result (λ o. Turned (contents store.now) (meaning rules.now) (kept_values (K.contents self.old.keeper))
+            (under_way question.old) (under_way question.new) (option_map answer_view o)) }
         ensures standing { IfOk result (λ o. IsStanding rules.now store.now (K.contents self.new.keeper) question.new) }
         ensures fit { IfOk result (FitAfter rules.now store.now (K.contents self.new.keeper) question.new trials.new) }
         ensures right { Right (contents store.now) (meaning rules.now) (kept_values (K.contents self.new.keeper)) }
@@ -203,7 +180,8 @@ impl<K: Keeper> Demand<K> {
         requires sound { IsTreeSound rules.now.classes (tree store.now) }
         requires typed { IsWellTyped rules.now (class_shown store.now) AnyText question.now.inst }
         requires fit { Fit rules.now store.now (K.contents self.now.keeper) question.now trials.old }
-        ensures standing { IfOk result (λ r. HasComeTo rules.now (class_shown store.now) (contents store.now) (K.contents self.now.keeper) question.now.found.entries question.now.inst r.0 r.1) }
+        ensures standing { IfOk result (λ r. HasComeTo rules.now (class_shown store.now) (contents store.now) (K.contents self.now.keeper)
+            question.now.found.entries question.now.inst r.0 r.1) }
         ensures none { trials.new.awaited ≡ None }
         ensures fit { Fit rules.now store.now (K.contents self.now.keeper) question.now trials.new }
     {
@@ -230,28 +208,15 @@ impl<K: Keeper> Demand<K> {
         requires idle { IsIdle store.now }
         requires formed { AreWellFormed rules.now }
         requires sound { IsTreeSound rules.now.classes (tree store.now) }
-        requires standing { HasComeTo rules.now (class_shown store.now) (contents store.now) (K.contents self.old.keeper) found.now.entries inst.now frame.old step }
+        requires standing { HasComeTo rules.now (class_shown store.now) (contents store.now) (K.contents self.old.keeper)
+            found.now.entries inst.now frame.old step }
         requires right { Right (contents store.now) (meaning rules.now) (known_in (K.contents self.old.keeper) found.now.entries) }
         requires kept_right { Right (contents store.now) (meaning rules.now) (kept_values (K.contents self.old.keeper)) }
         requires kept { FoundKept (K.contents self.old.keeper) found.now.entries }
         requires absent { K.contents self.old.keeper inst.now ≡ None }
         requires whole { AreWhole rules.now (contents store.now) found.now.entries }
-        ensures tried { IfOk result (HasTried rules.now (class_shown store.now) (contents store.now) (K.contents self.old.keeper) found.now.entries inst.now) }
-        ensures right { Right (contents store.now) (meaning rules.now) (kept_values (K.contents self.new.keeper)) }
-        ensures stays { IsThere store.now inst.now → AreRight rules.now store.now (K.contents self.old.keeper)
-            → AreRight rules.now store.now (K.contents self.new.keeper) }
-        ensures lazy { MayAddLazy rules.now (K.contents self.old.keeper) (K.contents self.new.keeper) inst.now }
-        ensures worthy { AddsWorthy rules.now (contents store.now) inst.now (K.contents self.old.keeper) (K.contents self.new.keeper) }
-        ensures spare { IsTrue K.exact → AreSpare rules.now (contents store.now) (K.contents self.old.keeper)
-            → AreLean rules.now (contents store.now) found.now.entries → AreSettled rules.now (K.contents self.old.keeper) found.now.entries
-            → AreSpare rules.now (contents store.now) (K.contents self.new.keeper) }
-        ensures settles { IsTrue K.exact → AreSpare rules.now (contents store.now) (K.contents self.old.keeper)
-            → AreSettled rules.now (K.contents self.old.keeper) found.now.entries
-            → IfOk result (SettlesOn rules.now (K.contents self.new.keeper) found.now.entries inst.now) }
-        ensures counts { IsTrue K.exact → self.old.work < 2 ^ 64
-            → Counts (K.contents self.old.keeper) (K.contents self.new.keeper) self.old.work self.new.work }
-        ensures keeps { IfOk result (IsKeptAs (K.contents self.new.keeper) inst.now) }
-        ensures waits { IfOk result (Awaits rules.now (class_shown store.now) (contents store.now) (K.contents self.old.keeper) found.now.entries inst.now frame.new) }
+        ensures { HasAttempted rules.now store.now K.exact (K.contents self.old.keeper) (K.contents self.new.keeper) self.old.work self.new.work
+            found.now.entries inst.now frame.new result }
     {
         let step = frame.go_on(self.alloc, &self.keeper, found, rules, store, step)?;
         match step {

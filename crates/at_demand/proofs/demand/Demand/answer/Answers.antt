@@ -1,5 +1,6 @@
-use Rattle.std.proofs.Common.{◌<◌, ◌^◌, sym, subst}
+use Rattle.std.proofs.Common.{◌<◌, ◌^◌, ℕ, Some, sym, ap, ◌∙◌, subst}
 use Rattle.std.proofs.lemmas.Result.{err_from_is_err_and}
+use Rattle.at_model.specs.Run.{Value}
 use Rattle.at_store.specs.Shown.{contents}
 use Rattle.at_body.specs.Values.{value_view}
 use Rattle.at_demand.proofs.Orderly.{no_value}
@@ -24,31 +25,23 @@ returns-in_err-copy g c =
     }
 
 pub returns : goal.returns
-returns g c =
-    let e = c.evaluate.ensures in
-    record { answers = e.answers; worthy = e.worthy; spare = e.spare; all = e.all; counts = e.counts; work = e.work; right = e.right }
+returns g c = c.evaluate.ensures
 
-pub returns-in-Some-clause-worthy : goal.returns-in-Some-clause-worthy
-returns-in-Some-clause-worthy g c = worthy_none c.args.rules.now (contents c.args.store.now) c.args.inst.now (g.K.Keeper.contents c.args.self.now.keeper)
-
-pub returns-in-Some-clause-spare : goal.returns-in-Some-clause-spare
-returns-in-Some-clause-spare g c exact spare = spare
-
-pub returns-in-Some-clause-counts : goal.returns-in-Some-clause-counts
-returns-in-Some-clause-counts g c exact = counts_none (g.K.Keeper.contents c.args.self.now.keeper) c.args.self.now.work (subst (λ n. n < 2 ^ 64) c.work-work.ensures c.work-work.type_inv)
-
-pub returns-in-Some-clause-work : goal.returns-in-Some-clause-work
-returns-in-Some-clause-work g c exact spare =
+pub returns-in-Some : goal.returns-in-Some
+returns-in-Some g c =
     let rules = c.args.rules.now in
     let look = contents c.args.store.now in
     let asked = c.args.inst.now in
     let entries = g.K.Keeper.contents c.args.self.now.keeper in
     let w = c.args.self.now.work in
     let some = got_kept rules look (entries asked) (value_view c.in-Some.value.now) c.in-Some.ensures in
-    work_is rules look asked entries entries w w (counts_none entries w (subst (λ n. n < 2 ^ 64) c.work-work.ensures c.work-work.type_inv)) (worthy_none rules look asked entries) (asked_kept rules look asked entries some spare.deep)
-
-pub returns-in-Some-clause-all : goal.returns-in-Some-clause-all
-returns-in-Some-clause-all g c exact spare =
-    let asked = c.args.inst.now in
-    let entries = g.K.Keeper.contents c.args.self.now.keeper in
-    asked_kept c.args.rules.now (contents c.args.store.now) asked entries (got_kept c.args.rules.now (contents c.args.store.now) (entries asked) (value_view c.in-Some.value.now) c.in-Some.ensures) spare.deep
+    let counts = counts_none entries w (subst (λ n. n < 2 ^ 64) c.work-work.ensures c.work-work.type_inv) in
+    record {
+      answers = c.requires.right asked (value_view c.in_ok-copy.field-0) (sym c.in-Some.ensures ∙ ap (λ (v : Value ℕ). Some v) (sym c.in_ok-copy.ensures));
+      worthy = worthy_none rules look asked entries;
+      spare = λ exact spare. spare;
+      all = λ exact spare. asked_kept rules look asked entries some spare.deep;
+      counts = λ exact. counts;
+      work = λ exact spare. work_is rules look asked entries entries w w counts (worthy_none rules look asked entries) (asked_kept rules look asked entries some spare.deep);
+      right = λ there right. right;
+    }

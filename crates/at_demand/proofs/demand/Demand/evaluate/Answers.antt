@@ -1,4 +1,5 @@
 use Rattle.std.proofs.Common.{◌<◌, ◌^◌, sym, ◌∙◌, subst}
+use Rattle.std.specs.Prelude.{IsTrue}
 use Rattle.std.proofs.lemmas.Result.{err_from_is_err_and}
 use Rattle.at_model.specs.Instances.{AnyText}
 use Rattle.at_model.specs.Meaning.{Answers}
@@ -15,9 +16,10 @@ use Rattle.at_demand.specs.Typing.{IsTypedAdvance}
 use Rattle.at_demand.proofs.Truth.{begun_true, right_known}
 use Rattle.at_demand.proofs.TypingLemmas.{begun_typed}
 use Rattle.at_demand.specs.Covering.{HasPassedTo, IsCoveringAdvance}
-use Rattle.at_demand.specs.Sparing.{IsSparingAdvance}
+use Rattle.at_demand.specs.Sparing.{AreSpare, IsSparingAdvance}
 use Rattle.at_demand.proofs.Passing.{begun_covering}
-use Rattle.at_demand.proofs.Counting.{counts_none, counts_more, counted_small, work_is}
+use Rattle.at_demand.proofs.Counting.{counts_none, counts_more, counted_small}
+use Rattle.at_demand.proofs.of_steps.Ending.{IsUnderWay, ends_so}
 use Rattle.at_demand.proofs.Gaining.{worthy_none}
 use Rattle.at_demand.proofs.SparingOn.{begun_sparing}
 use Rattle.at_demand.proofs.demand.Demand.evaluate.Goals as goal
@@ -58,19 +60,6 @@ advance-requires-clause-typed g c = c.loop-evaluation.invariant.typed
 pub new-requires-clause-typed : goal.new-requires-clause-typed
 new-requires-clause-typed g c = subst (IsWellTyped c.args.rules.now (class_shown c.args.store.now) AnyText) (sym c.in_ok-copy.ensures) c.requires.typed
 
-pub returns-in_err-reached : goal.returns-in_err-reached
-returns-in_err-reached g c =
-    let is = (err_from_is_err_and c.from_residual-in_err-reached.result c.from_residual-in_err-reached.ensures.1).1 in
-    record {
-      answers = rw is tt;
-      worthy = c.advance.ensures.worthy c.args.inst.now (g.K.Keeper.contents c.args.self.now.keeper) c.loop-evaluation.invariant.holds c.loop-evaluation.invariant.worthy;
-      spare = λ exact spare. c.advance.ensures.spare c.args.inst.now exact c.loop-evaluation.invariant.holds c.loop-evaluation.invariant.covering (c.loop-evaluation.invariant.sparing exact spare);
-      all = λ exact spare. rw is tt;
-      counts = λ exact. counts_more (g.K.Keeper.contents c.args.self.now.keeper) (g.K.Keeper.contents c.loop-evaluation.self.keeper) (g.K.Keeper.contents c.advance.new.self.keeper) c.args.self.now.work c.loop-evaluation.self.work c.advance.new.self.work (c.loop-evaluation.invariant.counts exact) (c.advance.ensures.counts exact (counted_small _ _ c.args.self.now.work c.loop-evaluation.self.work (c.loop-evaluation.invariant.counts exact)));
-      work = λ exact spare. rw is tt;
-      right = λ there right. c.advance.ensures.stays c.args.inst.now there c.loop-evaluation.invariant.holds c.loop-evaluation.invariant.covering (c.loop-evaluation.invariant.stays there right);
-    }
-
 pub loop-evaluation-preserved : goal.loop-evaluation-preserved
 loop-evaluation-preserved g c =
     let entries = g.K.Keeper.contents c.advance.new.self.keeper in
@@ -87,36 +76,6 @@ loop-evaluation-preserved g c =
           (c.in_ok-reached.ensures.sparing c.args.inst.now exact c.loop-evaluation.invariant.holds c.loop-evaluation.invariant.covering (c.loop-evaluation.invariant.sparing exact spare));
       counts = λ exact. counts_more (g.K.Keeper.contents c.args.self.now.keeper) (g.K.Keeper.contents c.loop-evaluation.self.keeper) entries c.args.self.now.work c.loop-evaluation.self.work c.advance.new.self.work (c.loop-evaluation.invariant.counts exact) (c.advance.ensures.counts exact (counted_small _ _ c.args.self.now.work c.loop-evaluation.self.work (c.loop-evaluation.invariant.counts exact)));
     }
-
-pub returns-in-Answers-clause-answers : goal.returns-in-Answers-clause-answers
-returns-in-Answers-clause-answers g c =
-    let entries = g.K.Keeper.contents c.advance.new.self.keeper in
-    subst (λ (t : Advance). IsRightAdvance c.args.rules.now (contents c.args.store.now) c.args.inst.now entries c.advance.new.evaluation t) c.in-Answers.is (c.in_ok-reached.ensures.answers c.args.inst.now c.loop-evaluation.invariant.holds)
-
-pub returns-in-Answers-clause-right : goal.returns-in-Answers-clause-right
-returns-in-Answers-clause-right g c is right = c.advance.ensures.stays c.args.inst.now is c.loop-evaluation.invariant.holds c.loop-evaluation.invariant.covering (c.loop-evaluation.invariant.stays is right)
-
-pub returns-in-Answers-clause-worthy : goal.returns-in-Answers-clause-worthy
-returns-in-Answers-clause-worthy g c = c.advance.ensures.worthy c.args.inst.now (g.K.Keeper.contents c.args.self.now.keeper) c.loop-evaluation.invariant.holds c.loop-evaluation.invariant.worthy
-
-pub returns-in-Answers-clause-spare : goal.returns-in-Answers-clause-spare
-returns-in-Answers-clause-spare g c exact spare = c.advance.ensures.spare c.args.inst.now exact c.loop-evaluation.invariant.holds c.loop-evaluation.invariant.covering (c.loop-evaluation.invariant.sparing exact spare)
-
-pub returns-in-Answers-clause-counts : goal.returns-in-Answers-clause-counts
-returns-in-Answers-clause-counts g c exact = counts_more (g.K.Keeper.contents c.args.self.now.keeper) (g.K.Keeper.contents c.loop-evaluation.self.keeper) (g.K.Keeper.contents c.advance.new.self.keeper) c.args.self.now.work c.loop-evaluation.self.work c.advance.new.self.work (c.loop-evaluation.invariant.counts exact) (c.advance.ensures.counts exact (counted_small _ _ c.args.self.now.work c.loop-evaluation.self.work (c.loop-evaluation.invariant.counts exact)))
-
-pub returns-in-Answers-clause-work : goal.returns-in-Answers-clause-work
-returns-in-Answers-clause-work g c exact spare =
-    let rules = c.args.rules.now in
-    let look = contents c.args.store.now in
-    let asked = c.args.inst.now in
-    let old = g.K.Keeper.contents c.args.self.now.keeper in
-    let new = g.K.Keeper.contents c.advance.new.self.keeper in
-    let counts = counts_more old (g.K.Keeper.contents c.loop-evaluation.self.keeper) new c.args.self.now.work c.loop-evaluation.self.work c.advance.new.self.work (c.loop-evaluation.invariant.counts exact) (c.advance.ensures.counts exact (counted_small _ _ c.args.self.now.work c.loop-evaluation.self.work (c.loop-evaluation.invariant.counts exact))) in
-    let adds = c.advance.ensures.worthy asked old c.loop-evaluation.invariant.holds c.loop-evaluation.invariant.worthy in
-    let all = subst (λ (t : Advance). IsSparingAdvance rules look asked new c.advance.new.evaluation t) c.in-Answers.is
-    (c.in_ok-reached.ensures.sparing asked exact c.loop-evaluation.invariant.holds c.loop-evaluation.invariant.covering (c.loop-evaluation.invariant.sparing exact spare)) in
-    work_is rules look asked old new c.args.self.now.work c.advance.new.self.work counts adds all
 
 pub returns-in_err-copy : goal.returns-in_err-copy
 returns-in_err-copy g c =
@@ -144,47 +103,66 @@ returns-in_err-begun g c =
       right = λ there right. right;
     }
 
-pub returns-in-Answers-clause-all : goal.returns-in-Answers-clause-all
-returns-in-Answers-clause-all g c exact spare =
-    let look = contents c.args.store.now in
-    let new = g.K.Keeper.contents c.advance.new.self.keeper in
-    subst (λ (t : Advance). IsSparingAdvance c.args.rules.now look c.args.inst.now new c.advance.new.evaluation t) c.in-Answers.is
-    (c.in_ok-reached.ensures.sparing c.args.inst.now exact c.loop-evaluation.invariant.holds c.loop-evaluation.invariant.covering (c.loop-evaluation.invariant.sparing exact spare))
-
-pub returns-in-Fails-clause-answers : goal.returns-in-Fails-clause-answers
-returns-in-Fails-clause-answers g c =
-    let entries = g.K.Keeper.contents c.advance.new.self.keeper in
-    let at = subst (λ (t : Advance). IsRightAdvance c.args.rules.now (contents c.args.store.now) c.args.inst.now entries c.advance.new.evaluation t) c.in-Fails.is (c.in_ok-reached.ensures.answers c.args.inst.now c.loop-evaluation.invariant.holds) in
-    subst (λ i. Answers (contents c.args.store.now) (meaning c.args.rules.now) c.args.inst.now (answer_view (answer.Fault c.in-Fails.kind i))) (sym c.into_inst-at.ensures) at
-
-pub returns-in-Fails-clause-right : goal.returns-in-Fails-clause-right
-returns-in-Fails-clause-right g c is right = c.advance.ensures.stays c.args.inst.now is c.loop-evaluation.invariant.holds c.loop-evaluation.invariant.covering (c.loop-evaluation.invariant.stays is right)
-
-pub returns-in-Fails-clause-worthy : goal.returns-in-Fails-clause-worthy
-returns-in-Fails-clause-worthy g c = c.advance.ensures.worthy c.args.inst.now (g.K.Keeper.contents c.args.self.now.keeper) c.loop-evaluation.invariant.holds c.loop-evaluation.invariant.worthy
-
-pub returns-in-Fails-clause-spare : goal.returns-in-Fails-clause-spare
-returns-in-Fails-clause-spare g c exact spare = c.advance.ensures.spare c.args.inst.now exact c.loop-evaluation.invariant.holds c.loop-evaluation.invariant.covering (c.loop-evaluation.invariant.sparing exact spare)
-
-pub returns-in-Fails-clause-counts : goal.returns-in-Fails-clause-counts
-returns-in-Fails-clause-counts g c exact = counts_more (g.K.Keeper.contents c.args.self.now.keeper) (g.K.Keeper.contents c.loop-evaluation.self.keeper) (g.K.Keeper.contents c.advance.new.self.keeper) c.args.self.now.work c.loop-evaluation.self.work c.advance.new.self.work (c.loop-evaluation.invariant.counts exact) (c.advance.ensures.counts exact (counted_small _ _ c.args.self.now.work c.loop-evaluation.self.work (c.loop-evaluation.invariant.counts exact)))
-
-pub returns-in-Fails-clause-work : goal.returns-in-Fails-clause-work
-returns-in-Fails-clause-work g c exact spare =
+pub returns-in_err-reached : goal.returns-in_err-reached
+returns-in_err-reached g c =
     let rules = c.args.rules.now in
-    let look = contents c.args.store.now in
+    let s = c.args.store.now in
+    let look = contents s in
     let asked = c.args.inst.now in
-    let old = g.K.Keeper.contents c.args.self.now.keeper in
-    let new = g.K.Keeper.contents c.advance.new.self.keeper in
-    let counts = counts_more old (g.K.Keeper.contents c.loop-evaluation.self.keeper) new c.args.self.now.work c.loop-evaluation.self.work c.advance.new.self.work (c.loop-evaluation.invariant.counts exact) (c.advance.ensures.counts exact (counted_small _ _ c.args.self.now.work c.loop-evaluation.self.work (c.loop-evaluation.invariant.counts exact))) in
-    let adds = c.advance.ensures.worthy asked old c.loop-evaluation.invariant.holds c.loop-evaluation.invariant.worthy in
-    let all = subst (λ (t : Advance). IsSparingAdvance rules look asked new c.advance.new.evaluation t) c.in-Fails.is
-    (c.in_ok-reached.ensures.sparing asked exact c.loop-evaluation.invariant.holds c.loop-evaluation.invariant.covering (c.loop-evaluation.invariant.sparing exact spare)) in
-    work_is rules look asked old new c.args.self.now.work c.advance.new.self.work counts adds all
+    let before = g.K.Keeper.contents c.args.self.now.keeper in
+    let now = g.K.Keeper.contents c.loop-evaluation.self.keeper in
+    let after = g.K.Keeper.contents c.advance.new.self.keeper in
+    let q = c.loop-evaluation.evaluation in
+    let new = c.advance.new.evaluation in
+    let e = c.advance.ensures in
+    let h = c.loop-evaluation.invariant in
+    let so : IsUnderWay rules s g.K.Keeper.exact before now c.args.self.now.work c.loop-evaluation.self.work asked q c.loop-evaluation.step =
+    record { holds = h.holds; covering = h.covering; stays = h.stays; worthy = h.worthy; sparing = h.sparing; counts = h.counts } in
+    let is = (err_from_is_err_and c.from_residual-in_err-reached.result c.from_residual-in_err-reached.ensures.1).1 in
+    ends_so rules s g.K.Keeper.exact before now after c.args.self.now.work c.loop-evaluation.self.work c.advance.new.self.work asked q new c.loop-evaluation.step _ _ so e
+    (rw is tt)
+    (λ k spare. rw is tt)
 
-pub returns-in-Fails-clause-all : goal.returns-in-Fails-clause-all
-returns-in-Fails-clause-all g c exact spare =
-    let look = contents c.args.store.now in
-    let new = g.K.Keeper.contents c.advance.new.self.keeper in
-    subst (λ (t : Advance). IsSparingAdvance c.args.rules.now look c.args.inst.now new c.advance.new.evaluation t) c.in-Fails.is
-    (c.in_ok-reached.ensures.sparing c.args.inst.now exact c.loop-evaluation.invariant.holds c.loop-evaluation.invariant.covering (c.loop-evaluation.invariant.sparing exact spare))
+pub returns-in-Answers : goal.returns-in-Answers
+returns-in-Answers g c =
+    let rules = c.args.rules.now in
+    let s = c.args.store.now in
+    let look = contents s in
+    let asked = c.args.inst.now in
+    let before = g.K.Keeper.contents c.args.self.now.keeper in
+    let now = g.K.Keeper.contents c.loop-evaluation.self.keeper in
+    let after = g.K.Keeper.contents c.advance.new.self.keeper in
+    let q = c.loop-evaluation.evaluation in
+    let new = c.advance.new.evaluation in
+    let e = c.advance.ensures in
+    let h = c.loop-evaluation.invariant in
+    let so : IsUnderWay rules s g.K.Keeper.exact before now c.args.self.now.work c.loop-evaluation.self.work asked q c.loop-evaluation.step =
+    record { holds = h.holds; covering = h.covering; stays = h.stays; worthy = h.worthy; sparing = h.sparing; counts = h.counts } in
+    let right = subst (λ (t : Advance). IsRightAdvance rules look asked after new t) c.in-Answers.is (c.in_ok-reached.ensures.answers asked h.holds) in
+    let has = λ (k : IsTrue g.K.Keeper.exact) (spare : AreSpare rules look before). subst (λ (t : Advance). IsSparingAdvance rules look asked after new t) c.in-Answers.is
+    (c.in_ok-reached.ensures.sparing asked k h.holds h.covering (h.sparing k spare)) in
+    ends_so rules s g.K.Keeper.exact before now after c.args.self.now.work c.loop-evaluation.self.work c.advance.new.self.work asked q new c.loop-evaluation.step _ _ so e
+    (right)
+    (has)
+
+pub returns-in-Fails : goal.returns-in-Fails
+returns-in-Fails g c =
+    let rules = c.args.rules.now in
+    let s = c.args.store.now in
+    let look = contents s in
+    let asked = c.args.inst.now in
+    let before = g.K.Keeper.contents c.args.self.now.keeper in
+    let now = g.K.Keeper.contents c.loop-evaluation.self.keeper in
+    let after = g.K.Keeper.contents c.advance.new.self.keeper in
+    let q = c.loop-evaluation.evaluation in
+    let new = c.advance.new.evaluation in
+    let e = c.advance.ensures in
+    let h = c.loop-evaluation.invariant in
+    let so : IsUnderWay rules s g.K.Keeper.exact before now c.args.self.now.work c.loop-evaluation.self.work asked q c.loop-evaluation.step =
+    record { holds = h.holds; covering = h.covering; stays = h.stays; worthy = h.worthy; sparing = h.sparing; counts = h.counts } in
+    let right = subst (λ (t : Advance). IsRightAdvance rules look asked after new t) c.in-Fails.is (c.in_ok-reached.ensures.answers asked h.holds) in
+    let has = λ (k : IsTrue g.K.Keeper.exact) (spare : AreSpare rules look before). subst (λ (t : Advance). IsSparingAdvance rules look asked after new t) c.in-Fails.is
+    (c.in_ok-reached.ensures.sparing asked k h.holds h.covering (h.sparing k spare)) in
+    ends_so rules s g.K.Keeper.exact before now after c.args.self.now.work c.loop-evaluation.self.work c.advance.new.self.work asked q new c.loop-evaluation.step _ _ so e
+    (subst (λ i. Answers look (meaning rules) asked (answer_view (answer.Fault c.in-Fails.kind i))) (sym c.into_inst-at.ensures) right)
+    (has)

@@ -21,8 +21,8 @@ use Rattle.at_demand.proofs.Truth.{right_after}
 use Rattle.at_demand.proofs.There.{settles_right}
 use Rattle.at_demand.proofs.Gaining.{worthy_more, worth_last}
 use Rattle.at_demand.proofs.SparingOn.{last_lean, settles_spare}
-use Rattle.at_demand.proofs.Ascending.{ascends, ascends_true, ascends_covering, ascends_sparing, ascends_typed}
-use Rattle.at_demand.proofs.Rising.{passed_from, passes_on, passes_true, passes_covering, passes_sparing, passes_typed}
+use Rattle.at_demand.proofs.of_steps.Ascending.{ascends, ascends_true, ascends_covering, ascends_sparing, ascends_typed}
+use Rattle.at_demand.proofs.of_steps.Rising.{passed_from, passes_on, passes_true, passes_covering, passes_sparing, passes_typed}
 use Rattle.at_demand.proofs.demand.Demand.settle.Goals as goal
 
 pub keep-requires-clause-absent : goal.keep-requires-clause-absent
@@ -59,7 +59,7 @@ returns-in_err-settled g c =
       advance = rw is tt;
       typed = rw is tt;
       answers = λ asked h. rw is tt;
-      covering = λ h. rw is tt;
+      covering = λ asked t h. rw is tt;
       sparing = λ asked exact h stands sparing. rw is tt;
       right = λ asked h. right_after c.args.rules.now look asked old more q c.args.value h (adds c.args.value e.value);
       stays = λ asked is h stands right. settles_right c.args.rules.now s c.requires.idle asked old more q c.args.value d e.value e.reads e.demanded c.keep.ensures.adds c.keep.ensures.covers is h stands right;
@@ -91,7 +91,7 @@ returns-in-Kept g c =
       advance = IfOk-weaker c.pass.result _ _ (passes_on c.args.rules.now s old more q new w (value_view d.value) orderly c.requires.stacked c.keep.ensures.adds (some_value (more q.inst) (value_view w) becomes.1)) passed;
       typed = IfOk-weaker c.pass.result _ _ (passes_typed c.args.rules.now s old more q new w c.requires.typed) passed;
       answers = λ asked h. IfOk-weaker c.pass.result _ _ (passes_true c.args.rules.now s old more q new w c.args.value has asked h (adds c.args.value e.value) value) passed;
-      covering = λ h. IfOk-weaker c.pass.result _ _ (passes_covering c.args.rules.now s old more q new w c.args.value has c.requires.stacked h) passed;
+      covering = λ asked t h. IfOk-weaker c.pass.result _ _ (passes_covering c.args.rules.now s old more q new w c.args.value has c.requires.stacked h) passed;
       sparing = λ asked exact h stands sparing. IfOk-weaker c.pass.result _ _ (passes_sparing c.args.rules.now s old more q new w c.args.value has d orderly c.requires.stacked asked h stands sparing e.reads e.demanded c.keep.ensures.lazy (c.in_ok-settled.ensures.keeps exact) (only look asked exact h stands sparing)) passed;
       right = λ asked h. right_after c.args.rules.now look asked old more q c.args.value h (adds c.args.value e.value);
       stays = λ asked is h stands right. settles_right c.args.rules.now s c.requires.idle asked old more q c.args.value d e.value e.reads e.demanded c.keep.ensures.adds c.keep.ensures.covers is h stands right;
@@ -123,7 +123,7 @@ returns-in-Found g c =
       advance = IfOk-weaker c.ascend.result _ _ (ascends old more q new f (value_view d.value) orderly c.requires.stacked c.keep.ensures.adds demanded) c.ascend.ensures;
       typed = IfOk-weaker c.ascend.result _ _ (ascends_typed c.args.rules.now (class_shown s) q new f c.requires.typed) c.ascend.ensures;
       answers = λ asked h. IfOk-weaker c.ascend.result _ _ (ascends_true old more q new f c.args.rules.now look c.args.value orderly asked h (adds c.args.value e.value) value) c.ascend.ensures;
-      covering = λ h. IfOk-weaker c.ascend.result _ _ (ascends_covering old more q new f c.args.rules.now look c.args.value orderly reads demanded h) c.ascend.ensures;
+      covering = λ asked t h. IfOk-weaker c.ascend.result _ _ (ascends_covering old more q new f c.args.rules.now look c.args.value orderly reads demanded h) c.ascend.ensures;
       sparing = λ asked exact h stands sparing. IfOk-weaker c.ascend.result _ _ (ascends_sparing old more q new f c.args.rules.now look c.args.value orderly reads demanded asked h stands sparing c.keep.ensures.lazy (c.in_ok-settled.ensures.keeps exact) (only look asked exact h stands sparing)) c.ascend.ensures;
       right = λ asked h. right_after c.args.rules.now look asked old more q c.args.value h (adds c.args.value e.value);
       stays = λ asked is h stands right. settles_right c.args.rules.now s c.requires.idle asked old more q c.args.value d e.value e.reads e.demanded c.keep.ensures.adds c.keep.ensures.covers is h stands right;

@@ -11,14 +11,10 @@ use Rattle.at_demand.specs.Covering.{HasPassedTo}
 use Rattle.at_demand.proofs.evaluation.Evaluation.descend.Goals as goal
 
 pub returns-in_err-frame : goal.returns-in_err-frame
-returns-in_err-frame c =
-    let is = (err_from_is_err_and c.from_residual.result c.from_residual.ensures.1).1 in
-    record { waiting = rw is tt; found = rw is tt; inst = rw is tt; start = rw is tt; fresh = rw is tt; unfound = rw is tt; few = rw is tt; finds = rw is tt; counted = refl; counts = rw is tt; stepped = rw is tt; passed = λ finds. rw is tt; typed = rw is tt }
+returns-in_err-frame c = rw ((err_from_is_err_and c.from_residual.result c.from_residual.ensures.1).1) tt
 
 pub returns-in_err-put : goal.returns-in_err-put
-returns-in_err-put c =
-    let is = (err_from_is_err_and c.from_residual-in_err-put.result c.from_residual-in_err-put.ensures.1).1 in
-    record { waiting = rw is tt; found = rw is tt; inst = rw is tt; start = rw is tt; fresh = rw is tt; unfound = rw is tt; few = rw is tt; finds = rw is tt; counted = refl; counts = rw is tt; stepped = rw is tt; passed = λ finds. rw is tt; typed = rw is tt }
+returns-in_err-put c = rw ((err_from_is_err_and c.from_residual-in_err-put.result c.from_residual-in_err-put.ensures.1).1) tt
 
 pub returns : goal.returns
 returns c =

@@ -1,4 +1,4 @@
-use Rattle.std.proofs.Common.{ℕ, length, refl, sym, subst}
+use Rattle.std.proofs.Common.{◌≡◌, ℕ, length, None, refl, sym, subst}
 use Rattle.std.proofs.lemmas.Result.{err_from_is_err_and}
 use Rattle.at_model.specs.Run.{Instance}
 use Rattle.at_store.specs.Shown.{contents}
@@ -64,50 +64,31 @@ resume-requires-clause-takes g c =
     let waits = subst (λ (x : Step). IsTypedStep rules (class_shown s) x c.loop-step.self.trial) c.in-Need.is c.loop-step.invariant.typed in
     told_value rules c.requires.formed s c.requires.idle c.requires.sound c.loop-step.self.trial c.in-Need.needed (value_view c.in-Value.value) waits (c.requires.right c.in-Need.needed (value_view c.in-Value.value) told)
 
-pub returns-in-Unknown-clause-typed : goal.returns-in-Unknown-clause-typed
-returns-in-Unknown-clause-typed g c =
+pub returns-in-Unknown : goal.returns-in-Unknown
+returns-in-Unknown g c =
     let rules = c.args.rules.now in
     let at = class_shown c.args.store.now in
-    let known = known_in (g.K.Keeper.contents c.args.keeper.now) c.args.found.now.entries in
-    let told = subst (λ (r : Recalled). IsRecalled known c.in-Need.needed r) c.in-Unknown.is c.in_ok-value-in-Need.ensures.recalled in
-    let waits = subst (λ (x : Step). IsTypedStep rules at x c.loop-step.self.trial) c.in-Need.is c.loop-step.invariant.typed in
-    subst (λ j. IsTypedStep rules at (step.Need j) c.loop-step.self.trial) (sym told.0) waits
-
-pub returns-in-Unknown-clause-stepped : goal.returns-in-Unknown-clause-stepped
-returns-in-Unknown-clause-stepped g c i h =
-    let rules = c.args.rules.now in
-    let look = contents c.args.store.now in
-    let known = known_in (g.K.Keeper.contents c.args.keeper.now) c.args.found.now.entries in
-    let told = subst (λ (r : Recalled). IsRecalled known c.in-Need.needed r) c.in-Unknown.is c.in_ok-value-in-Need.ensures.recalled in
-    let waits = subst (λ (s : Step). HasStepped rules look i c.loop-step.self.trial s) c.in-Need.is (c.loop-step.invariant.stepped i h) in
-    subst (λ j. HasStepped rules look i c.loop-step.self.trial (step.Need j)) (sym told.0) waits
-
-pub returns-in-Unknown-clause-passed : goal.returns-in-Unknown-clause-passed
-returns-in-Unknown-clause-passed g c i h =
-    let rules = c.args.rules.now in
     let look = contents c.args.store.now in
     let found = c.args.found.now.entries in
     let known = known_in (g.K.Keeper.contents c.args.keeper.now) found in
-    let told = subst (λ (r : Recalled). IsRecalled known c.in-Need.needed r) c.in-Unknown.is c.in_ok-value-in-Need.ensures.recalled in
-    let same = subst (λ (r : Recalled). Takes found c.loop-step.self.demanded c.recall.new.self c.in-Need.needed r) c.in-Unknown.is c.in_ok-value-in-Need.ensures.takes in
-    let waits = subst (λ (s : Step). HasPassedTo rules look found i c.loop-step.self s) c.in-Need.is (c.loop-step.invariant.passed i h) in
-    let P : Demanded → Instance ℕ → Type 0 = λ d j. HasPassedTo rules look found i (record { trial = c.loop-step.self.trial; demanded = d; start = c.loop-step.self.start }) (step.Need j) in
-    subst (λ d. P d c.in-Unknown.needed) (sym same) (subst (λ j. P c.loop-step.self.demanded j) (sym told.0) waits)
-
-pub returns-in-Unknown-clause-only : goal.returns-in-Unknown-clause-only
-returns-in-Unknown-clause-only g c i h takes =
-    let found = c.args.found.now.entries in
-    let same = subst (λ (r : Recalled). TakesOne found c.loop-step.self.demanded c.recall.new.self c.in-Need.needed r) c.in-Unknown.is c.in_ok-value-in-Need.ensures.one in
-    subst (TakesOnly c.args.rules.now (contents c.args.store.now) found i) (sym same) (c.loop-step.invariant.only i h takes)
-
-pub returns-in-Unknown-clause-start : goal.returns-in-Unknown-clause-start
-returns-in-Unknown-clause-start g c = c.loop-step.invariant.start
-
-pub returns-in-Unknown-clause-below : goal.returns-in-Unknown-clause-below
-returns-in-Unknown-clause-below g c h =
-    let found = c.args.found.now.entries in
-    let same = subst (λ (r : Recalled). TakesOne found c.loop-step.self.demanded c.recall.new.self c.in-Need.needed r) c.in-Unknown.is c.in_ok-value-in-Need.ensures.one in
-    subst (TakesBelow (length found)) (sym same) (c.loop-step.invariant.below h)
+    let recalls = c.in_ok-value-in-Need.ensures in
+    let told = subst (λ (r : Recalled). IsRecalled known c.in-Need.needed r) c.in-Unknown.is recalls.recalled in
+    let old = c.loop-step.self in
+    let same = subst (λ (r : Recalled). TakesOne found old.demanded c.recall.new.self c.in-Need.needed r) c.in-Unknown.is recalls.one in
+    let P : Demanded → Instance ℕ → Instance ℕ → Type 0 = λ d i j. HasPassedTo rules look found i (record { trial = old.trial; demanded = d; start = old.start }) (step.Need j) in
+    record {
+      kept = recalls.kept;
+      stepped = λ i h. subst (λ j. HasStepped rules look i old.trial (step.Need j)) (sym told.0)
+          (subst (λ (s : Step). HasStepped rules look i old.trial s) c.in-Need.is (c.loop-step.invariant.stepped i h));
+      passed = λ i h.
+          let waits = subst (λ (s : Step). HasPassedTo rules look found i old s) c.in-Need.is (c.loop-step.invariant.passed i h) in
+          subst (λ d. P d i c.in-Unknown.needed) (sym same) (subst (λ j. P old.demanded i j) (sym told.0) waits);
+      only = λ i h takes. subst (TakesOnly rules look found i) (sym same) (c.loop-step.invariant.only i h takes);
+      typed = subst (λ j. IsTypedStep rules at (step.Need j) old.trial) (sym told.0) (subst (λ (x : Step). IsTypedStep rules at x old.trial) c.in-Need.is c.loop-step.invariant.typed);
+      start = c.loop-step.invariant.start;
+      below = λ h. subst (TakesBelow (length found)) (sym same) (c.loop-step.invariant.below h);
+      unknown = subst (λ j. known j ≡ None) (sym told.0) told.1;
+    }
 
 pub returns-in_default : goal.returns-in_default
 returns-in_default g c =
@@ -128,9 +109,9 @@ loop-step-init g c = record { kept = c.requires.kept; stepped = λ i h. h; passe
 pub returns-in_err-value-in-Need : goal.returns-in_err-value-in-Need
 returns-in_err-value-in-Need g c =
     let is = (err_from_is_err_and c.from_residual.result c.from_residual.ensures.1).1 in
-    record { kept = rw is tt; stepped = λ i h. rw is tt; passed = λ i h. rw is tt; only = λ i h takes. rw is tt; start = rw is tt; below = λ h. rw is tt; typed = rw is tt; unknown = rw is tt }
+    rw is tt
 
 pub returns-in_err-step-in-Value : goal.returns-in_err-step-in-Value
 returns-in_err-step-in-Value g c =
     let is = (err_from_is_err_and c.from_residual-in_err-step-in-Value.result c.from_residual-in_err-step-in-Value.ensures.1).1 in
-    record { kept = rw is tt; stepped = λ i h. rw is tt; passed = λ i h. rw is tt; only = λ i h takes. rw is tt; start = rw is tt; below = λ h. rw is tt; typed = rw is tt; unknown = rw is tt }
+    rw is tt

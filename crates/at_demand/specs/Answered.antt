@@ -1,0 +1,56 @@
+-- What a question is answered, and what becomes of what is kept.
+use Rattle.std.specs.Prelude.{ℕ, Bool, Option, IsTrue, IfOk, IfSome, Result}
+use Rattle.std.specs.Option.{option_map}
+use Rattle.at_model.specs.Run.{Instance}
+use Rattle.at_model.specs.Rules.{Rules}
+use Rattle.at_model.specs.Meaning.{Answers, Right}
+use Rattle.at_model.specs.Turning.{Turned, asked}
+use Rattle.at_store.specs.Shown.{Shown, contents}
+use Rattle.at_cache.specs.Kept.{Entries}
+use Rattle.at_demand.specs.declared.answer.Answer.{Answer}
+use Rattle.at_demand.specs.declared.question.Question.{Question}
+use Rattle.at_demand.specs.Known.{meaning, kept_values, answer_view}
+use Rattle.at_demand.specs.Right.{AreRight, IsThere}
+use Rattle.at_demand.specs.Sparing.{AddsWorthy, AreSpare, Counts, HasWorthy, IsWork, MayAddLazy}
+use Rattle.at_demand.specs.Turns.{HasGiven, IsSparingTurns, IsStanding, under_way}
+
+-- The instance has its answer. What is kept stays right; with an exact keeper it stays spare, has all that is worth keeping, and the
+-- work counts that.
+pub record HasAnswered {E : Type 0} (rules : Rules) (s : Shown) (exact : Bool) (before after : Entries) (earlier later : ℕ) (i : Instance ℕ)
+    (r : Result Answer E) : Type 0 where
+  pub answers : IfOk r (λ a. Answers (contents s) (meaning rules) i (answer_view a))
+  pub worthy : AddsWorthy rules (contents s) i before after
+  pub spare : IsTrue exact → AreSpare rules (contents s) before → AreSpare rules (contents s) after
+  pub all : IsTrue exact → AreSpare rules (contents s) before → IfOk r (λ a. HasWorthy rules (contents s) i after)
+  pub counts : IsTrue exact → Counts before after earlier later
+  pub work : IsTrue exact → AreSpare rules (contents s) before → IfOk r (λ a. IsWork rules (contents s) i before earlier later)
+  pub right : IsThere s i → AreRight rules s before → AreRight rules s after
+
+-- The question was given a turn, and what answers it is right; where none does, it stands. At most its last instance came to what is
+-- kept, which stays right and, with an exact keeper, spare.
+pub record HasTurned {E : Type 0} (rules : Rules) (s : Shown) (exact : Bool) (before after : Entries) (earlier later : ℕ)
+    (old new : Question) (r : Result (Option Answer) E) : Type 0 where
+  pub turned : IfOk r (λ o. Turned (contents s) (meaning rules) (kept_values before) (under_way old) (under_way new) (option_map answer_view o))
+  pub answers : IfOk r (λ o. IfSome o (λ a. Answers (contents s) (meaning rules) (asked (under_way old)) (answer_view a)))
+  pub standing : IfOk r (λ o. IsStanding rules s after new)
+  pub right : Right (contents s) (meaning rules) (kept_values after)
+  pub stays : IsThere s (asked (under_way old)) → AreRight rules s before → AreRight rules s after
+  pub last : MayAddLazy rules before after old.inst
+  pub worthy : AddsWorthy rules (contents s) (asked (under_way old)) before after
+  pub sparing : IsTrue exact → AreSpare rules (contents s) before → IsSparingTurns rules (contents s) before old
+      → IfOk r (λ o. IsSparingTurns rules (contents s) after new)
+  pub spare : IsTrue exact → AreSpare rules (contents s) before → IsSparingTurns rules (contents s) before old → AreSpare rules (contents s) after
+  pub counts : IsTrue exact → Counts before after earlier later
+
+-- It was given as many turns as it may be, or fewer where one of them answered it; so it is then, too.
+pub record HasTurnedOften {E : Type 0} (rules : Rules) (s : Shown) (exact : Bool) (before after : Entries) (earlier later limit : ℕ)
+    (old new : Question) (r : Result (ℕ × Option Answer) E) : Type 0 where
+  pub given : IfOk r (λ g. HasGiven (contents s) (meaning rules) limit g.0 (under_way old) (under_way new) (option_map answer_view g.1))
+  pub standing : IfOk r (λ g. IsStanding rules s after new)
+  pub right : Right (contents s) (meaning rules) (kept_values after)
+  pub worthy : AddsWorthy rules (contents s) (asked (under_way old)) before after
+  pub stays : IsThere s (asked (under_way old)) → AreRight rules s before → AreRight rules s after
+  pub spare : IsTrue exact → AreSpare rules (contents s) before → IsSparingTurns rules (contents s) before old → AreSpare rules (contents s) after
+  pub sparing : IsTrue exact → AreSpare rules (contents s) before → IsSparingTurns rules (contents s) before old
+      → IfOk r (λ g. IsSparingTurns rules (contents s) after new)
+  pub counts : IsTrue exact → Counts before after earlier later
