@@ -68,13 +68,12 @@ pub(crate) fn walk(
     ensures { (s : Numbered) (n : Place) (u : Numbered) → Keeps (memory_of slab.now) s None → path_in from s ≡ Some n → tree_at s n ≡ Some u
         → Led s classes.now n (relabel (class_in (memory_of slab.now)) u) (steps_view steps.now) result }
 {
-    match steps {
-        [] => Some(from),
-        [step, rest @ ..] => {
-            let next = step_from(slab, classes, from, step)?;
-            walk(slab, classes, next, rest)
-        }
+    let mut node = from;
+    for step in steps {
+        let next = step_from(slab, classes, node, step)?;
+        node = next;
     }
+    Some(node)
 }
 
 /// The index that a step has.

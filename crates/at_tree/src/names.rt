@@ -37,10 +37,13 @@ fn name_len(text: &str) -> usize
     }
 }
 
-/// Whether a name goes on with the byte as a character of ASCII.
+/// Whether a name goes on with the byte as a character of ASCII. Most of them are small letters.
 fn is_name_byte(b: u8) -> bool
     ensures { result ≡ is_name_byte b }
 {
+    if b.is_ascii_lowercase() {
+        return true;
+    }
     b.is_ascii_alphanumeric() || b == b'_'
 }
 

@@ -10,18 +10,23 @@ use crate::names::name_first;
 use std::alloc::Global;
 use std::borrow::CowStr;
 
+/// About how many bytes a step has, for the room that a path's steps take.
+const STEP_LENGTH: usize = 6;
+
 /// The path that the whole text is written of. What isn't read so (a name that is not of ASCII alone, for one) may
 /// still be a path's text, of which the reader by characters tells the path, or where it stops.
 pub(super) fn whole_path<'a>(alloc: Global, text: &'a str) -> Result<Path<'a>, Untaken>
     ensures { IfOk result (λ p. IsPath (path_view p) × (path_text (path_view p) ≡ text.now)) }
 {
-    let mut steps = Vec::new(alloc);
     if text.is_empty() {
         return Err(Untaken::For(Misfit::Form));
     }
     if text == "/" {
-        return Ok(Path { steps });
+        return Ok(Path {
+            steps: Vec::new(alloc),
+        });
     }
+    let mut steps = Vec::with_capacity(alloc, text.len() / STEP_LENGTH + 1)?;
     let mut rest = text;
     while !rest.is_empty() {
         let (step, behind) = step_first(rest)?;

@@ -6,7 +6,7 @@ use Rattle.at_tree.proofs.PathFronts.{HasSteps, no_steps, some_text, one_step_mo
 use Rattle.at_tree.proofs.path.direct.whole_path.Goals as goal
 
 pub loop-rest-init : goal.loop-rest-init
-loop-rest-init c = (c.utf8.text, some_text c.args.text.now c.is_empty.result c.is_empty.ensures c.if-is_empty.false, no_steps c.args.text.now (steps_view c.new-steps.result.items) (ap steps_view c.new-steps.ensures.items))
+loop-rest-init c = (c.utf8.text, some_text c.args.text.now c.is_empty.result c.is_empty.ensures c.if-is_empty.false, no_steps c.args.text.now (steps_view c.in_ok-steps.steps.items) (ap steps_view c.in_ok-steps.ensures.items))
 
 pub loop-rest-preserved : goal.loop-rest-preserved
 loop-rest-preserved c =
