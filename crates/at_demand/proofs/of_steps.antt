@@ -3,3 +3,4 @@ pub mod Ascending
 pub mod Rising
 pub mod Advanced
 pub mod Ending
+pub mod Turning

@@ -1,5 +1,5 @@
 -- What a question is answered, and what becomes of what is kept.
-use Rattle.std.specs.Prelude.{ℕ, Bool, Option, IsTrue, IfOk, IfSome, Result}
+use Rattle.std.specs.Prelude.{ℕ, ◌<◌, ◌^◌, Bool, Option, IsTrue, IfOk, IfSome, Result}
 use Rattle.std.specs.Option.{option_map}
 use Rattle.at_model.specs.Run.{Instance}
 use Rattle.at_model.specs.Rules.{Rules}
@@ -9,9 +9,11 @@ use Rattle.at_store.specs.Shown.{Shown, contents}
 use Rattle.at_cache.specs.Kept.{Entries}
 use Rattle.at_demand.specs.declared.answer.Answer.{Answer}
 use Rattle.at_demand.specs.declared.question.Question.{Question}
+use Rattle.at_demand.specs.declared.trials.Trials.{Trials}
 use Rattle.at_demand.specs.Known.{meaning, kept_values, answer_view}
 use Rattle.at_demand.specs.Right.{AreRight, IsThere}
 use Rattle.at_demand.specs.Sparing.{AddsWorthy, AreSpare, Counts, HasWorthy, IsWork, MayAddLazy}
+use Rattle.at_demand.specs.KeptTrials.{FitAfter}
 use Rattle.at_demand.specs.Turns.{HasGiven, IsSparingTurns, IsStanding, under_way}
 
 -- The instance has its answer. What is kept stays right; with an exact keeper it stays spare, has all that is worth keeping, and the
@@ -25,6 +27,26 @@ pub record HasAnswered {E : Type 0} (rules : Rules) (s : Shown) (exact : Bool) (
   pub counts : IsTrue exact → Counts before after earlier later
   pub work : IsTrue exact → AreSpare rules (contents s) before → IfOk r (λ a. IsWork rules (contents s) i before earlier later)
   pub right : IsThere s i → AreRight rules s before → AreRight rules s after
+
+-- A turn of the question lets at most its last instance come to what is kept, which stays right and, with an exact keeper, spare; the
+-- work counts that.
+pub record GainsAtMost (rules : Rules) (s : Shown) (exact : Bool) (before after : Entries) (earlier later : ℕ) (q : Question) : Type 0 where
+  pub right : Right (contents s) (meaning rules) (kept_values after)
+  pub stays : IsThere s (asked (under_way q)) → AreRight rules s before → AreRight rules s after
+  pub last : MayAddLazy rules before after q.inst
+  pub worthy : AddsWorthy rules (contents s) (asked (under_way q)) before after
+  pub spare : IsTrue exact → AreSpare rules (contents s) before → IsSparingTurns rules (contents s) before q → AreSpare rules (contents s) after
+  pub counts : IsTrue exact → earlier < 2 ^ 64 → Counts before after earlier later
+
+-- It was given a turn so; where that doesn't answer it, it stands, and its trials are those of its chain.
+pub record HasTurnedWith {E : Type 0} (rules : Rules) (s : Shown) (exact : Bool) (before after : Entries) (earlier later : ℕ)
+    (old new : Question) (t : Trials) (r : Result (Option Answer) E) : Type 0 where
+  pub turned : IfOk r (λ o. Turned (contents s) (meaning rules) (kept_values before) (under_way old) (under_way new) (option_map answer_view o))
+  pub standing : IfOk r (λ o. IsStanding rules s after new)
+  pub fit : IfOk r (FitAfter rules s after new t)
+  pub sparing : IsTrue exact → AreSpare rules (contents s) before → IsSparingTurns rules (contents s) before old
+      → IfOk r (λ o. IsSparingTurns rules (contents s) after new)
+  pub gains : GainsAtMost rules s exact before after earlier later old
 
 -- The question was given a turn, and what answers it is right; where none does, it stands. At most its last instance came to what is
 -- kept, which stays right and, with an exact keeper, spare.

@@ -11,8 +11,8 @@ pub mod Advancing
 pub mod Spared
 pub mod Called
 pub mod Turns
-pub mod Answered
 pub mod ChainSteps
 pub mod Attempts
 pub mod KeptTrials
+pub mod Answered
 pub mod Keeping

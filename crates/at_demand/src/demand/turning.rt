@@ -1,25 +1,22 @@
 //! Turns of a question: each tries one equation, once.
 
-ghost use Rattle.std.specs.Prelude.{◌≡◌, ◌<◌, ◌^◌, ℕ, IfOk, IsTrue, None};
-ghost use Rattle.std.specs.Option.{option_map};
+ghost use Rattle.std.specs.Prelude.{◌≡◌, ◌<◌, ◌^◌, ℕ, IfOk, None};
 ghost use Rattle.at_model.specs.Run.{Contents};
 ghost use Rattle.at_model.specs.Instances.{AnyText};
 ghost use Rattle.at_model.specs.Meaning.{Right};
 ghost use Rattle.at_model.specs.Rules.{Rules};
 ghost use Rattle.at_model.specs.TypedRuns.{IsWellTyped};
-ghost use Rattle.at_model.specs.Turning.{Turned, asked, posted};
+ghost use Rattle.at_model.specs.Turning.{asked, posted};
 ghost use Rattle.at_model.specs.WellFormed.{AreWellFormed, IsTreeSound};
 ghost use Rattle.at_store.specs.Shown.{IsIdle, Shown, contents, tree};
 ghost use Rattle.at_body.specs.Typed.{class_shown};
 ghost use Rattle.at_cache.specs.Kept.{Entries};
-ghost use Rattle.at_demand.specs.Known.{meaning, kept_values, known_in, answer_view, FoundKept};
-ghost use Rattle.at_demand.specs.Right.{AreRight, IsThere};
+ghost use Rattle.at_demand.specs.Known.{meaning, kept_values, known_in, FoundKept};
 ghost use Rattle.at_demand.specs.Covering.{AreWhole};
-ghost use Rattle.at_demand.specs.Sparing.{AddsWorthy, AreSpare, Counts, MayAddLazy};
 ghost use Rattle.at_demand.specs.Turns.{IsStanding, IsSparingTurns, under_way};
-ghost use Rattle.at_demand.specs.Answered.{HasTurned, HasTurnedOften};
+ghost use Rattle.at_demand.specs.Answered.{HasTurned, HasTurnedOften, HasTurnedWith};
 ghost use Rattle.at_demand.specs.Attempts.{HasAttempted, HasComeTo};
-ghost use Rattle.at_demand.specs.KeptTrials.{Fit, FitAfter};
+ghost use Rattle.at_demand.specs.KeptTrials.{Fit};
 
 use super::Demand;
 use crate::answer::Answer;
@@ -113,23 +110,8 @@ impl<K: Keeper> Demand<K> {
         requires right { Right (contents store.now) (meaning rules.now) (kept_values (K.contents self.old.keeper)) }
         requires standing { IsStanding rules.now store.now (K.contents self.old.keeper) question.old }
         requires fit { Fit rules.now store.now (K.contents self.old.keeper) question.old trials.old }
-        ensures turned { IfOk result (λ o. Turned (contents store.now) (meaning rules.now) (kept_values (K.contents self.old.keeper))
-            (under_way question.old) (under_way question.new) (option_map answer_view o)) }
-        ensures standing { IfOk result (λ o. IsStanding rules.now store.now (K.contents self.new.keeper) question.new) }
-        ensures fit { IfOk result (FitAfter rules.now store.now (K.contents self.new.keeper) question.new trials.new) }
-        ensures right { Right (contents store.now) (meaning rules.now) (kept_values (K.contents self.new.keeper)) }
-        ensures stays { IsThere store.now (asked (under_way question.old)) → AreRight rules.now store.now (K.contents self.old.keeper)
-            → AreRight rules.now store.now (K.contents self.new.keeper) }
-        ensures last { MayAddLazy rules.now (K.contents self.old.keeper) (K.contents self.new.keeper) question.old.inst }
-        ensures worthy { AddsWorthy rules.now (contents store.now) (asked (under_way question.old)) (K.contents self.old.keeper) (K.contents self.new.keeper) }
-        ensures sparing { IsTrue K.exact → AreSpare rules.now (contents store.now) (K.contents self.old.keeper)
-            → IsSparingTurns rules.now (contents store.now) (K.contents self.old.keeper) question.old
-            → IfOk result (λ o. IsSparingTurns rules.now (contents store.now) (K.contents self.new.keeper) question.new) }
-        ensures spare { IsTrue K.exact → AreSpare rules.now (contents store.now) (K.contents self.old.keeper)
-            → IsSparingTurns rules.now (contents store.now) (K.contents self.old.keeper) question.old
-            → AreSpare rules.now (contents store.now) (K.contents self.new.keeper) }
-        ensures counts { IsTrue K.exact → self.old.work < 2 ^ 64
-            → Counts (K.contents self.old.keeper) (K.contents self.new.keeper) self.old.work self.new.work }
+        ensures { HasTurnedWith rules.now store.now K.exact (K.contents self.old.keeper) (K.contents self.new.keeper)
+            self.old.work self.new.work question.old question.new trials.new result }
     {
         if let Some(value) = self.keeper.get(question.asked()) {
             return Ok(Some(Answer::Value(value.copy()?)));

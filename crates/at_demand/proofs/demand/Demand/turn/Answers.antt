@@ -29,11 +29,11 @@ returns g c =
       turned = e.turned;
       answers = IfOk-weaker c.turn_with.result _ _ (told_right rules s old old (λ i some. refl) c.args.question.now c.requires.standing (under_way c.turn_with.new.question)) e.turned;
       standing = e.standing;
-      right = e.right;
-      stays = e.stays;
-      last = e.last;
-      worthy = e.worthy;
+      right = e.gains.right;
+      stays = e.gains.stays;
+      last = e.gains.last;
+      worthy = e.gains.worthy;
       sparing = e.sparing;
-      spare = e.spare;
-      counts = λ exact. e.counts exact (subst (λ n. n < 2 ^ 64) c.work-work.ensures c.work-work.type_inv);
+      spare = e.gains.spare;
+      counts = λ exact. e.gains.counts exact (subst (λ n. n < 2 ^ 64) c.work-work.ensures c.work-work.type_inv);
     }

@@ -56,14 +56,14 @@ loop-given-preserved g c =
     record {
       standing = e.standing;
       fit = subst (λ (o : Option AnswerCode). FitAfter rules s new p c.turn_with.new.trials o) c.in_default.is e.fit;
-      right = c.turn_with.ensures.right;
+      right = c.turn_with.ensures.gains.right;
       silent = one_up (λ n. Silent (contents s) (meaning rules) n (under_way c.args.question.now) (under_way p)) c.loop-given.given (one_more (kept_values old) inv.silent turned);
       same = asked_same rules s old q inv.standing (under_way p) None turned ∙ inv.same;
       within = omega (arith, c.loop-given-test.true);
-      worthy = worthy_both rules (contents s) (asked (under_way c.args.question.now)) first old new inv.worthy (subst (λ (i : Instance ℕ). AddsWorthy rules (contents s) i old new) inv.same c.turn_with.ensures.worthy);
-      stays = λ there right. c.turn_with.ensures.stays (subst (λ (i : Instance ℕ). IsThere s i) (sym inv.same) there) (inv.stays there right);
-      spare = λ exact spare sparing. let both = inv.spare exact spare sparing in (c.turn_with.ensures.spare exact both.0 both.1, e.sparing exact both.0 both.1);
-      counts = λ exact. let before = inv.counts exact in counts_more first old new c.args.self.now.work c.loop-given.self.work c.turn_with.new.self.work before (c.turn_with.ensures.counts exact (counted_small first old c.args.self.now.work c.loop-given.self.work before));
+      worthy = worthy_both rules (contents s) (asked (under_way c.args.question.now)) first old new inv.worthy (subst (λ (i : Instance ℕ). AddsWorthy rules (contents s) i old new) inv.same c.turn_with.ensures.gains.worthy);
+      stays = λ there right. c.turn_with.ensures.gains.stays (subst (λ (i : Instance ℕ). IsThere s i) (sym inv.same) there) (inv.stays there right);
+      spare = λ exact spare sparing. let both = inv.spare exact spare sparing in (c.turn_with.ensures.gains.spare exact both.0 both.1, e.sparing exact both.0 both.1);
+      counts = λ exact. let before = inv.counts exact in counts_more first old new c.args.self.now.work c.loop-given.self.work c.turn_with.new.self.work before (c.turn_with.ensures.gains.counts exact (counted_small first old c.args.self.now.work c.loop-given.self.work before));
     }
 
 pub returns-in_err-told : goal.returns-in_err-told
@@ -78,12 +78,12 @@ returns-in_err-told g c =
     record {
       given = rw is tt;
       standing = rw is tt;
-      right = c.turn_with.ensures.right;
-      worthy = worthy_both rules (contents s) (asked (under_way c.args.question.now)) first old new inv.worthy (subst (λ (i : Instance ℕ). AddsWorthy rules (contents s) i old new) inv.same c.turn_with.ensures.worthy);
-      stays = λ there right. c.turn_with.ensures.stays (subst (λ (i : Instance ℕ). IsThere s i) (sym inv.same) there) (inv.stays there right);
-      spare = λ exact spare sparing. let both = inv.spare exact spare sparing in c.turn_with.ensures.spare exact both.0 both.1;
+      right = c.turn_with.ensures.gains.right;
+      worthy = worthy_both rules (contents s) (asked (under_way c.args.question.now)) first old new inv.worthy (subst (λ (i : Instance ℕ). AddsWorthy rules (contents s) i old new) inv.same c.turn_with.ensures.gains.worthy);
+      stays = λ there right. c.turn_with.ensures.gains.stays (subst (λ (i : Instance ℕ). IsThere s i) (sym inv.same) there) (inv.stays there right);
+      spare = λ exact spare sparing. let both = inv.spare exact spare sparing in c.turn_with.ensures.gains.spare exact both.0 both.1;
       sparing = λ exact spare sparing. rw is tt;
-      counts = λ exact. let before = inv.counts exact in counts_more first old new c.args.self.now.work c.loop-given.self.work c.turn_with.new.self.work before (c.turn_with.ensures.counts exact (counted_small first old c.args.self.now.work c.loop-given.self.work before));
+      counts = λ exact. let before = inv.counts exact in counts_more first old new c.args.self.now.work c.loop-given.self.work c.turn_with.new.self.work before (c.turn_with.ensures.gains.counts exact (counted_small first old c.args.self.now.work c.loop-given.self.work before));
     }
 
 pub returns-in-Some : goal.returns-in-Some
@@ -101,12 +101,12 @@ returns-in-Some g c =
     record {
       given = (c.loop-given.given, under_way q, kept_values old, refl, omega (arith, c.loop-given-test.true), inv.silent, turned);
       standing = e.standing;
-      right = c.turn_with.ensures.right;
-      worthy = worthy_both rules (contents s) (asked (under_way c.args.question.now)) first old new inv.worthy (subst (λ (i : Instance ℕ). AddsWorthy rules (contents s) i old new) inv.same c.turn_with.ensures.worthy);
-      stays = λ there right. c.turn_with.ensures.stays (subst (λ (i : Instance ℕ). IsThere s i) (sym inv.same) there) (inv.stays there right);
-      spare = λ exact spare sparing. let both = inv.spare exact spare sparing in c.turn_with.ensures.spare exact both.0 both.1;
+      right = c.turn_with.ensures.gains.right;
+      worthy = worthy_both rules (contents s) (asked (under_way c.args.question.now)) first old new inv.worthy (subst (λ (i : Instance ℕ). AddsWorthy rules (contents s) i old new) inv.same c.turn_with.ensures.gains.worthy);
+      stays = λ there right. c.turn_with.ensures.gains.stays (subst (λ (i : Instance ℕ). IsThere s i) (sym inv.same) there) (inv.stays there right);
+      spare = λ exact spare sparing. let both = inv.spare exact spare sparing in c.turn_with.ensures.gains.spare exact both.0 both.1;
       sparing = λ exact spare sparing. let both = inv.spare exact spare sparing in e.sparing exact both.0 both.1;
-      counts = λ exact. let before = inv.counts exact in counts_more first old new c.args.self.now.work c.loop-given.self.work c.turn_with.new.self.work before (c.turn_with.ensures.counts exact (counted_small first old c.args.self.now.work c.loop-given.self.work before));
+      counts = λ exact. let before = inv.counts exact in counts_more first old new c.args.self.now.work c.loop-given.self.work c.turn_with.new.self.work before (c.turn_with.ensures.gains.counts exact (counted_small first old c.args.self.now.work c.loop-given.self.work before));
     }
 
 pub returns : goal.returns
