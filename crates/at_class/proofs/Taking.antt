@@ -10,6 +10,7 @@ use Rattle.std.proofs.lemmas.Bool.{eqb-true, ltb-true, ltb-false, or_left, or_ri
 use Rattle.std.proofs.lemmas.List.{map_more, take_all, take-append-drop, take-map}
 use Rattle.std.proofs.lemmas.List.Folds.{list_any-append}
 use Rattle.indexmap.specs.IndexSet.{insert_key}
+use Rattle.at_text.proofs.TextTokens.{take_front}
 use Rattle.at_model.specs.Classes.{Component}
 use Rattle.at_model.specs.Declarations.{clash, is_list, is_taken, takes}
 use Rattle.at_model.proofs.Options.{both, or_false}
@@ -155,10 +156,6 @@ takes_two p old mid new n count list e first second f g =
     by false b c = refl
 
 -- names that come behind others -------------------------------------------------------------------------------------
-
-take_front : {A : Type 0} (xs ys : List A) → take (length xs) (xs ++ ys) ≡ xs
-take_front [] ys = refl
-take_front (x ∷ xs) ys = ap (λ zs. x ∷ zs) (take_front xs ys)
 
 pub begins_same : {A : Type 0} (xs : List A) → Begins xs xs
 begins_same xs = take_all (length xs) xs (omega arith)

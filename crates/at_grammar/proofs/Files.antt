@@ -9,11 +9,11 @@ use Rattle.at_text.specs.declared.scan.ScanFault.{ScanFault}
 use Rattle.at_text.specs.declared.scan.ScanFault.TheVariants as scan
 use Rattle.at_text.specs.Faults.{FaultsAt}
 use Rattle.at_text.specs.Place.{place_of}
-use Rattle.at_text.specs.Pieces.{Piece, Cut, Spelled, spelled_at}
 use Rattle.at_text.specs.Machine.{Reason, Refused, LeftOut, Stuck}
 use Rattle.at_text.specs.Reading.{first, IsFirstFault, run}
-use Rattle.at_text.specs.Symbols.{HasTokens, next_place, Symbol, PlacedToken, placed, placed_in, symbol, symbols, words_keep}
+use Rattle.at_text.specs.Symbols.{HasTokens, next_place, Symbol, PlacedToken, placed, symbol, symbols, words_keep}
 use Rattle.at_text.proofs.ReadingLaws.{first_fault}
+use Rattle.at_text.proofs.TextTokens.{drop_front}
 use Rattle.at_text.specs.declared.place.Place.{Place}
 use Rattle.at_grammar.specs.Grammar as grammar
 use Rattle.at_grammar.specs.Grammar.{IsFile, Declaration}
@@ -42,10 +42,6 @@ front_of (t ∷ ts) (f ∷ front) rest e =
     let head : symbol words_keep (placed t) ≡ f = cc in
     let more = front_of ts front rest tail in
     (t ∷ more.0, more.1, ap (λ l. t ∷ l) more.2, (λ i. head i ∷ more.3 i), more.4)
-
-pub drop_front : (fs rs : List Placed) → drop (length fs) (fs ++ rs) ≡ rs
-drop_front [] rs = refl
-drop_front (f ∷ fs) rs = drop_front fs rs
 
 pub left_within : (r : Reason) (ts rest : List Placed) → Stops file r (left ts) (left rest) → length rest ≤ length ts
 left_within r ts rest s = omega (arith, length_left ts, length_left rest, ap length s.split, length-append s.front (left rest))
@@ -109,10 +105,6 @@ read_whole ts rest ds r e = (r.is, r.text ∙ ap (λ l. grammar.file ds ++ l) e 
 
 pub same_classes : (ts us : List PlacedToken) (ds es : List Declaration) → ts ≡ us → Spells ts ds → Spells us es → map class_means ds ≡ map class_means es
 same_classes ts us ds es e a b = ap (map class_means) (file_unique ds es a.0 b.0 (sym a.1 ∙ ap (symbols words_keep) e ∙ b.1))
-
--- the tokens that the program has are those of the text
-pub has_tokens : (text : List ℕ) (ps : List Piece) (ss : List Spelled) (ts : List PlacedToken) → Cut text ps [] → ss ≡ spelled_at 0 ps → ts ≡ map (placed_in text) ss → HasTokens text ts
-has_tokens text ps ss ts cut e f = (ps, cut, f ∙ ap (map (placed_in text)) e)
 
 -- ---- a text that can't be cut into tokens
 

@@ -1,13 +1,13 @@
 -- A text spells one grammar or has one fault, and not both.
-use Rattle.std.proofs.Common.{◌≡◌, ℕ, List, ◌++◌, map, refl, sym, ap, subst, ◌∙◌, inl, inr}
+use Rattle.std.proofs.Common.{◌≡◌, ℕ, List, ◌++◌, refl, sym, ap, subst, ◌∙◌, inl, inr}
 use Rattle.std.specs.Prelude.{◌⊎◌}
 use Rattle.std.proofs.lemmas.List.{map-append, length-map}
 use Rattle.at_text.specs.declared.scan.ScanFault.{ScanFault}
 use Rattle.at_text.specs.declared.scan.ScanFault.TheVariants as scan
 use Rattle.at_text.specs.Faults as scanning
-use Rattle.at_text.specs.Pieces.{spelled_at}
-use Rattle.at_text.specs.Symbols.{HasTokens, next_place, PlacedToken, placed_in, symbol, symbols, words_keep}
+use Rattle.at_text.specs.Symbols.{HasTokens, next_place, PlacedToken, symbol, symbols, words_keep}
 use Rattle.at_text.proofs.ReadingLaws.{one_first_fault, cut_once}
+use Rattle.at_text.proofs.TextTokens.{one_row}
 use Rattle.at_text.proofs.Scanned as scanned
 use Rattle.at_text.specs.declared.place.Place.{Place}
 use Rattle.at_text.specs.declared.fault.Fault.{Fault}
@@ -17,11 +17,6 @@ use Rattle.at_grammar.specs.declared.AstCode.TheVariants.{Syntax, LeftOut}
 use Rattle.at_grammar.specs.Grammar as grammar
 use Rattle.at_grammar.specs.Grammar.{IsFile, Declaration}
 use Rattle.at_grammar.specs.Faults.{Spells, MeetsLeftOut, StopsAt, IsScanFaultAt, IsFault}
-
--- ---- a text has one row of tokens
-
-pub one_row : (text : List ℕ) (ts us : List PlacedToken) → HasTokens text ts → HasTokens text us → ts ≡ us
-one_row text ts us h k = h.2 ∙ ap (λ ps. map (placed_in text) (spelled_at 0 ps)) (scanned.cut_only text h.0 k.0 h.1 k.1) ∙ sym k.2
 
 -- a fault of scanning, and its place
 scan_fault_of : (text : List ℕ) (at : Place) (fault : ScanFault) → IsScanFaultAt text at fault → (fault ≡ scan.Memory → ⊥) × scanning.FaultsAt text fault

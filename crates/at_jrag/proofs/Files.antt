@@ -1,12 +1,10 @@
 -- A text's tokens, and where reading them stops.
-use Rattle.std.proofs.Common.{◌≡◌, ℕ, ◌-◌, ◌≤◌, List, [], ◌∷◌, ◌++◌, true, length, map, take, drop, refl, sym, ap, subst, subst₂, ◌∙◌, length-append, arith, inr}
+use Rattle.std.proofs.Common.{◌≡◌, ℕ, ◌-◌, ◌≤◌, List, [], ◌∷◌, ◌++◌, true, length, take, drop, refl, sym, ap, subst, subst₂, ◌∙◌, length-append, arith, inr}
 use Rattle.std.proofs.lemmas.List.{length-map}
 use Rattle.at_text.specs.declared.placed.Placed.{Placed}
-use Rattle.at_text.proofs.Scanned as scanned
 use Rattle.at_jrag.specs.Syntax.{Aspect}
 use Rattle.at_jrag.specs.Grammar.{File, IsWithin}
-use Rattle.at_text.specs.Pieces.{Piece, Cut, Spelled, spelled_at}
-use Rattle.at_text.specs.Symbols.{HasTokens, PlacedToken, placed, placed_in}
+use Rattle.at_text.specs.Symbols.{HasTokens, PlacedToken, placed}
 use Rattle.at_text.specs.declared.place.Place.{Place}
 use Rattle.at_text.specs.Machine.{Reason, Refused, LeftOut, Stuck, Whole, run}
 use Rattle.at_jrag.specs.Wants as want
@@ -18,23 +16,12 @@ use Rattle.at_text.specs.declared.fault.Fault.TheVariants as fault
 use Rattle.at_jrag.specs.declared.JragCode.{JragCode}
 use Rattle.at_jrag.specs.declared.JragCode.TheVariants as code
 use Rattle.at_text.proofs.MachineLaws.{stuck_behind}
+use Rattle.at_text.proofs.TextTokens.{one_row, take_front, drop_front}
 use Rattle.at_jrag.proofs.FirstFaults.{first_fault, none_at_all, one_deeper, one_left_out, none_left_out_there}
 use Rattle.at_jrag.proofs.DeclarationRuns.{file_taken}
 use Rattle.at_jrag.proofs.Unambiguous.{one_file}
 
 -- ---- tokens
-
--- the tokens that the program has are those of the text
-pub has_tokens : (text : List ℕ) (ps : List Piece) (ss : List Spelled) (ts : List PlacedToken) → Cut text ps [] → ss ≡ spelled_at 0 ps → ts ≡ map (placed_in text) ss → HasTokens text ts
-has_tokens text ps ss ts cut e f = (ps, cut, f ∙ ap (map (placed_in text)) e)
-
-take_front : (fs rs : List Placed) → take (length fs) (fs ++ rs) ≡ fs
-take_front [] rs = refl
-take_front (f ∷ fs) rs = ap (λ l. f ∷ l) (take_front fs rs)
-
-drop_front : (fs rs : List Placed) → drop (length fs) (fs ++ rs) ≡ rs
-drop_front [] rs = refl
-drop_front (f ∷ fs) rs = drop_front fs rs
 
 -- the tokens of a front of what is left
 front_of : (ts : List Placed) (front rest : List PlacedToken) → left ts ≡ front ++ rest → (fs : List Placed) × (rs : List Placed) × (ts ≡ fs ++ rs) × (left fs ≡ front) × (left rs ≡ rest)
@@ -75,21 +62,18 @@ met text r ts rest has h =
       rest_is = ap left (ap (λ k. drop k ts) count ∙ ap (drop (length p.0)) p.2 ∙ drop_front p.0 p.1) ∙ p.4;
     }
 
--- ---- a text has one row of tokens
-
-tokens_same : (text : List ℕ) (ts us : List PlacedToken) → HasTokens text ts → HasTokens text us → ts ≡ us
-tokens_same text ts us h k = h.2 ∙ ap (λ ps. map (placed_in text) (spelled_at 0 ps)) (scanned.cut_only text h.0 k.0 h.1 k.1) ∙ sym k.2
+-- ---- what the tokens of a text spell
 
 -- a text that spells a file within the limit doesn't stop
 pub file_only : (text : List ℕ) (r : Reason) (ts us rest : List PlacedToken) (aspects : List Aspect) → HasTokens text ts → HasTokens text us → run true table (want.File ∷ []) 0 ts ≡ Stuck r rest → File aspects us [] → IsWithin aspects → ⊥
 file_only text r ts us rest aspects h k stuck file within =
-    let same = tokens_same text ts us h k in
+    let same = one_row text ts us h k in
     let whole : run true table (want.File ∷ []) 0 us ≡ Whole = file_taken true aspects us (λ e. within) file 0 in
     absurd (let q : Stuck r rest ≡ Whole = sym stuck ∙ ap (run true table (want.File ∷ []) 0) same ∙ whole in cc)
 
 -- what the tokens of a text spell, is what was read
 pub file_same : (text : List ℕ) (ts us rest : List PlacedToken) (read aspects : List Aspect) → HasTokens text ts → HasTokens text us → File read ts rest → rest ≡ [] → File aspects us [] → read ≡ aspects
-file_same text ts us rest read aspects h k found end file = one_file read aspects us (subst₂ (λ (x y : List PlacedToken). File read x y) (tokens_same text ts us h k) end found) file
+file_same text ts us rest read aspects h k found end file = one_file read aspects us (subst₂ (λ (x y : List PlacedToken). File read x y) (one_row text ts us h k) end found) file
 
 -- ---- places
 

@@ -1,6 +1,6 @@
 -- What a token is that passes a test of the table.
 use Rattle.std.proofs.Common.{◌≡◌, ℕ, suc, ◌+◌, ◌≤◌, pos, List, ◌∷◌, Bool, true, false, cond, refl, sym, ap, subst, ◌∙◌, arith, inl}
-use Rattle.std.specs.Prelude.{◌&&◌, ◌||◌, decimal}
+use Rattle.std.specs.Prelude.{◌||◌, decimal}
 use Rattle.std.specs.Str.{bytes_eq}
 use Rattle.std.proofs.lemmas.Slice.Eq.{bytes_eq-Decides}
 use lib.Chars.{codes}

@@ -15,6 +15,7 @@ pub mod Breaks
 pub mod Signs
 pub mod Found
 pub mod Scanned
+pub mod TextTokens
 pub mod Decimals
 pub mod RowsLemmas
 pub mod Recoded

@@ -1,5 +1,5 @@
 -- What holds of a fault, and what then holds of the same fault by another code.
-use Rattle.std.proofs.Common.{◌≡◌, sym, subst}
+use Rattle.std.proofs.Common.{sym, subst}
 use Rattle.at_text.specs.declared.place.Place.{Place}
 use Rattle.at_text.specs.declared.fault.Fault.{Fault}
 use Rattle.at_text.specs.declared.fault.Fault.TheVariants.{Refused, Memory}

@@ -1,5 +1,5 @@
 -- The signs, the longer ones first.
-use Rattle.std.proofs.Common.{◌≡◌, ℕ, zero, suc, ◌≤◌, ◌<◌, ◌≢◌, List, [], ◌∷◌, ◌++◌, length, get_or, Bool, true, false, ◌||◌, nat_lt, nat_le, refl, sym, ap, ◌∙◌, ltb-true, ltb-false, leb-true, eqb-true, arith, length-append, encode_utf8, codes, Option, Some, None, MatchOption, IsUtf8, Bor}
+use Rattle.std.proofs.Common.{◌≡◌, ℕ, zero, suc, ◌≤◌, ◌<◌, ◌≢◌, List, [], ◌∷◌, ◌++◌, length, get_or, Bool, true, false, ◌||◌, nat_lt, nat_le, refl, sym, ap, ◌∙◌, ltb-true, ltb-false, leb-true, eqb-true, arith, length-append, encode_utf8, codes, IsUtf8}
 use Rattle.std.specs.List.{list_any, list_all}
 use Rattle.std.specs.Prelude.{nat_eq, ◌&&◌}
 use Rattle.std.proofs.lemmas.Str.{encode_ascii, encode_same, length-encode, len_utf8_bounds}

@@ -1,13 +1,10 @@
 -- Characters of one sort at the front of a text.
-use Rattle.std.specs.Prelude.{◌≡◌, ℕ, List, ◌++◌, Bool, true, ◌&&◌, ◌||◌, ◌==◌, nat_le, not, encode_utf8_all}
+use Rattle.std.specs.Prelude.{◌≡◌, ℕ, List, ◌++◌, Bool, true, ◌&&◌, ◌||◌, ◌==◌, nat_le, encode_utf8_all}
 use Rattle.std.specs.List.{AllByRecursion}
 use Rattle.at_model.specs.Names.{continues_name}
+use Rattle.at_text.specs.Front.{stands_for_itself}
 use Rattle.at_tree.specs.declared.runs.Run.{Run}
 use Rattle.at_tree.specs.declared.runs.Run.TheVariants as run
-
--- the character stands for itself between quotes
-abbrev pub is_plain : ℕ → Bool
-is_plain c = not (c == 34) && not (c == 92) && not (c == 10) && not (c == 9)
 
 -- the character is a minus sign or a digit
 abbrev pub is_of_number : ℕ → Bool
@@ -16,7 +13,7 @@ is_of_number c = (c == 45) || (nat_le 48 c && nat_le c 57)
 -- the test that a character passes where the run goes on with it
 abbrev pub takes : Run → ℕ → Bool
 takes run.Name = continues_name
-takes run.Plain = is_plain
+takes run.Plain = stands_for_itself
 takes run.Number = is_of_number
 
 -- the text is characters that pass the test, and then the rest

@@ -2,8 +2,9 @@ use Rattle.std.proofs.Common.{ap, ◌∙◌, sym, map, length, arith}
 use Rattle.at_text.specs.Pieces.{spelled}
 use Rattle.at_text.specs.Symbols.{placed, placed_in}
 use Rattle.at_grammar.specs.Forms.{reason}
-use Rattle.at_grammar.proofs.Files.{has_tokens, read_whole, same_classes, is_met, left_within, place_behind}
-use Rattle.at_grammar.proofs.OneFault.{one_row, fault_only, fault_same}
+use Rattle.at_text.proofs.TextTokens.{has_tokens, one_row}
+use Rattle.at_grammar.proofs.Files.{read_whole, same_classes, is_met, left_within, place_behind}
+use Rattle.at_grammar.proofs.OneFault.{fault_only, fault_same}
 use Rattle.at_grammar.proofs.parse_ast.Goals as goal
 
 -- ---- what is read

@@ -4,7 +4,8 @@ use Rattle.at_text.specs.Symbols.{placed, placed_in}
 use Rattle.at_text.specs.Rows.{left}
 use Rattle.at_jrag.specs.Runs.{reason}
 use Rattle.at_jrag.specs.View.{aspect_view}
-use Rattle.at_jrag.proofs.Files.{has_tokens, met, is_met, file_only, file_same, place_met}
+use Rattle.at_text.proofs.TextTokens.{has_tokens}
+use Rattle.at_jrag.proofs.Files.{met, is_met, file_only, file_same, place_met}
 use Rattle.at_jrag.proofs.parse_jrag.Goals as goal
 
 -- ---- what is read

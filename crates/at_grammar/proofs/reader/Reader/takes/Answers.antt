@@ -1,4 +1,3 @@
-use Rattle.std.proofs.Common.{sym}
 use Rattle.at_grammar.proofs.Tokens.{took_sign}
 use Rattle.at_grammar.proofs.reader.Reader.takes.Goals as goal
 
