@@ -22,7 +22,7 @@ abbrev pub value_writes : Value ℕ → HashWrites
 value_writes (Int n) = fed.u8 0 ++ fed.i32 n
 value_writes (Truth b) = fed.u8 1 ++ fed.bool b
 value_writes (Text s) = fed.u8 2 ++ fed.str s
-value_writes (Ref n) = fed.u8 3 ++ fed.option fed.usize n
+value_writes (Ref n) = fed.u8 3 ++ fed.option fed.u32 n
 
 abbrev pub instance_writes : Instance ℕ → HashWrites
 instance_writes i = fed.usize i.node ++ (fed.usize i.attribute ++ fed.slice value_writes i.arguments)

@@ -9,10 +9,13 @@ use smallvec::SmallVec;
 /// Slots of entries; two stand inline.
 pub type Links = SmallVec<usize, 2>;
 
+/// Locations; three stand inline, so that few entries have a list on the heap.
+pub type Locations = SmallVec<Loc, 3>;
+
 /// A value with the locations that its evaluation read, the slots of the entries that it used, and edges to those that used it.
 pub struct Entry {
     pub value: Value,
-    pub reads: Vec<Loc>,
+    pub reads: Locations,
     pub links: Links,
     pub slot: usize,
     /// The number of its `put`.

@@ -1,6 +1,6 @@
 //! What is looked at of nodes, and by which entries.
 
-ghost use Rattle.std.specs.Prelude.{◌≡◌, ℕ};
+ghost use Rattle.std.specs.Prelude.{◌≡◌, ℕ, IfOk};
 ghost use Rattle.at_store.specs.Located.{loc_view};
 ghost use Rattle.at_cache.specs.Asking.{is_index};
 ghost use Rattle.at_cache.specs.Kept.{node_at};
@@ -8,13 +8,14 @@ ghost use Rattle.at_cache.specs.Readers.{facet_at};
 
 use crate::edge::Edges;
 use at_store::{Loc, Node};
+use std::alloc::AllocError;
 
-/// What one can look at of a node: a location without its node.
+/// What one can look at of a node: a location without its node, in eight bytes.
 #[derive(Clone, Copy, PartialEq, Eq)]
 pub enum Facet {
     Is,
-    Tok(usize),
-    Slot(usize),
+    Tok(u32),
+    Slot(u32),
     Up,
     Idx,
 }
@@ -26,17 +27,27 @@ pub struct Readers {
     pub edges: Edges,
 }
 
+// The number in four bytes; want of memory where it is too great for that.
+fn small(number: usize) -> Result<u32, AllocError>
+    ensures { IfOk result (λ n. n ≡ number) }
+{
+    if number > u32::MAX as usize {
+        return Err(AllocError);
+    }
+    Ok(number as u32)
+}
+
 impl Facet {
-    /// The location without its node.
-    pub fn of(location: Loc) -> Facet
-        ensures { facet_at (node_at (loc_view location)) result ≡ loc_view location }
+    /// The location without its node; want of memory where its part is too great a number for a facet.
+    pub fn of(location: Loc) -> Result<Facet, AllocError>
+        ensures { IfOk result (λ facet. facet_at (node_at (loc_view location)) facet ≡ loc_view location) }
     {
         match location {
-            Loc::Is(_) => Facet::Is,
-            Loc::Tok(_, part) => Facet::Tok(part),
-            Loc::Slot(_, part) => Facet::Slot(part),
-            Loc::Up(_) => Facet::Up,
-            Loc::Idx(_) => Facet::Idx,
+            Loc::Is(_) => Ok(Facet::Is),
+            Loc::Tok(_, part) => Ok(Facet::Tok(small(part)?)),
+            Loc::Slot(_, part) => Ok(Facet::Slot(small(part)?)),
+            Loc::Up(_) => Ok(Facet::Up),
+            Loc::Idx(_) => Ok(Facet::Idx),
         }
     }
 
@@ -46,8 +57,8 @@ impl Facet {
     {
         match self {
             Facet::Is => Loc::Is(node),
-            Facet::Tok(part) => Loc::Tok(node, part),
-            Facet::Slot(part) => Loc::Slot(node, part),
+            Facet::Tok(part) => Loc::Tok(node, part as usize),
+            Facet::Slot(part) => Loc::Slot(node, part as usize),
             Facet::Up => Loc::Up(node),
             Facet::Idx => Loc::Idx(node),
         }

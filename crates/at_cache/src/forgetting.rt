@@ -1,6 +1,6 @@
 //! What stands for a touched location is taken out.
 
-ghost use Rattle.std.specs.Prelude.{◌≡◌, ◌<◌, ◌⊎◌, ℕ, List, [], ◌++◌, Option, None, Some, MatchBool, true, false};
+ghost use Rattle.std.specs.Prelude.{◌≡◌, ◌<◌, ◌≤◌, ◌⊎◌, ◌^◌, ℕ, List, [], ◌++◌, Option, None, Some, MatchBool, length, true, false};
 ghost use Rattle.at_model.specs.Run.{Location};
 ghost use Rattle.at_cache.specs.declared.edge.Edge.{Edge};
 ghost use Rattle.at_cache.specs.Info.{Memory, memory_of, table_len};
@@ -83,7 +83,8 @@ fn begin<F: Fn(Loc) -> bool>(
     readers: &[Vec<Readers>],
     touched: &F,
 ) -> Option<usize>
-    requires { F.IsAlwaysCallable touched.now }
+    requires callable { F.IsAlwaysCallable touched.now }
+    requires short { length readers.now ≤ 2 ^ 32 }
     ensures { IsIdle (memory_of entries.old) → (start : List Edge) × Work (memory_of entries.old) start [] result (memory_of entries.new)
         × Begins (Answers (F.post touched.now)) (edges_at readers.now) start }
 {
@@ -92,7 +93,7 @@ fn begin<F: Fn(Loc) -> bool>(
         first = begin_at(
             entries,
             first,
-            Node::new(number),
+            Node::new(number as u32),
             readers[number].as_slice(),
             Scope::All,
             touched,
@@ -125,7 +126,8 @@ pub fn forget_all(entries: &mut Table, first: Option<usize>)
 
 /// All that stands for a touched location is taken out.
 pub fn take_out<F: Fn(Loc) -> bool>(entries: &mut Table, readers: &[Vec<Readers>], touched: &F)
-    requires { F.IsAlwaysCallable touched.now }
+    requires callable { F.IsAlwaysCallable touched.now }
+    requires short { length readers.now ≤ 2 ^ 32 }
     ensures indexed { (puts : ℕ) → IsIndexed (edges_at readers.now) puts (memory_of entries.old)
         → IsIndexed (edges_at readers.now) puts (memory_of entries.new) }
     ensures leaves { (puts : ℕ) → IsIndexed (edges_at readers.now) puts (memory_of entries.old)

@@ -1,6 +1,6 @@
 //! The keeper that forgets at an edit what the edit touches.
 
-ghost use Rattle.std.specs.Prelude.{◌≡◌, ◌-◌, ◌^◌, ℕ, min, None, true};
+ghost use Rattle.std.specs.Prelude.{◌≡◌, ◌≤◌, ◌-◌, ◌^◌, ℕ, length, min, None, true};
 ghost use Rattle.at_cache.specs.Asking.{AreNoted};
 ghost use Rattle.at_cache.specs.Info.{memory_of, table_len};
 ghost use Rattle.at_cache.specs.Kept.{KeepsAll};
@@ -31,6 +31,7 @@ pub struct KeepRecorded {
     puts: u64,
     ghost indexed: { IsIndexed (edges_at readers.items) puts (memory_of entries) },
     ghost noted: { AreNoted (edges_at readers.items) index_read.items },
+    ghost short: { length readers.items ≤ 2 ^ 32 },
 }
 
 /// One call, where each exit that lets it go would else have a case for each field.

@@ -1,6 +1,6 @@
 //! One edge more of what an entry rests on.
 
-ghost use Rattle.std.specs.Prelude.{◌≡◌, ◌≢◌, ◌<◌, ℕ, List, Option, None, Some, IsSome, Contains, IfOk, IfSome, OnOk, length, map, slice_get};
+ghost use Rattle.std.specs.Prelude.{◌≡◌, ◌≢◌, ◌<◌, ◌≤◌, ◌^◌, ℕ, List, Option, None, Some, IsSome, Contains, IfOk, IfSome, OnOk, length, map, slice_get};
 ghost use Rattle.std.specs.Map.{lookup};
 ghost use Rattle.at_model.specs.Run.{Instance, Location};
 ghost use Rattle.at_body.specs.Same.{same_instance};
@@ -135,15 +135,13 @@ fn add_among(
     add_at(entries, readers, place, edge)
 }
 
-// A list for the node of that number, where there is none yet.
-fn make_list(
-    alloc: Global,
-    readers: &mut Vec<Vec<Readers>>,
-    number: usize,
-) -> Result<(), AllocError>
+// A list for the node, where there is none yet.
+fn make_list(alloc: Global, readers: &mut Vec<Vec<Readers>>, node: Node) -> Result<(), AllocError>
     ensures same { (l : Location ℕ) → edges_at readers.new.items l ≡ edges_at readers.old.items l }
-    ensures there { OnOk result (number < length readers.new.items) }
+    ensures there { OnOk result (node < length readers.new.items) }
+    ensures short { length readers.old.items ≤ 2 ^ 32 → length readers.new.items ≤ 2 ^ 32 }
 {
+    let number = node.number() as usize;
     while readers.len() <= number {
         readers.push(Vec::new(alloc))?;
     }
@@ -161,11 +159,13 @@ fn add_reader(
     ensures lists { (l : Location ℕ) → Lists (memory_of entries.now) edge (edges_at readers.old.items l) (edges_at readers.new.items l) }
     ensures has { OnOk result (Contains (edges_at readers.new.items (loc_view location)) edge) }
     ensures others { (l : Location ℕ) → l ≢ loc_view location → edges_at readers.new.items l ≡ edges_at readers.old.items l }
+    ensures short { length readers.old.items ≤ 2 ^ 32 → length readers.new.items ≤ 2 ^ 32 }
 {
-    let number = location.node().index();
-    make_list(alloc, readers, number)?;
-    let list = &mut readers[number];
-    add_among(alloc, entries, list, Facet::of(location), edge)
+    let facet = Facet::of(location)?;
+    let node = location.node();
+    make_list(alloc, readers, node)?;
+    let list = &mut readers[node.index()];
+    add_among(alloc, entries, list, facet, edge)
 }
 
 // One more edge to an entry that used this one.
@@ -195,6 +195,7 @@ pub fn add_readers(
     ensures reads { Reads (memory_of entries.now) edge (map loc_view locations.now) (edges_at readers.old.items) (edges_at readers.new.items) }
     ensures listed { OnOk result (AreListed edge (map loc_view locations.now) (edges_at readers.new.items)) }
     ensures noted { AreNoted (edges_at readers.old.items) index_read.old.items → AreNoted (edges_at readers.new.items) index_read.new.items }
+    ensures short { length readers.old.items ≤ 2 ^ 32 → length readers.new.items ≤ 2 ^ 32 }
 {
     for location in locations {
         note(readers.as_slice(), index_read, *location)?;

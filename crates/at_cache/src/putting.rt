@@ -1,6 +1,6 @@
 //! One entry more.
 
-ghost use Rattle.std.specs.Prelude.{◌≡◌, ◌+◌, ℕ, true, None, IfOk, OnErr, map};
+ghost use Rattle.std.specs.Prelude.{◌≡◌, ◌≤◌, ◌+◌, ◌^◌, ℕ, true, None, IfOk, OnErr, length, map};
 ghost use Rattle.std.specs.Map.{lookup};
 ghost use Rattle.at_model.specs.Run.{Instance};
 ghost use Rattle.at_body.specs.Same.{same_instance};
@@ -14,7 +14,7 @@ ghost use Rattle.at_cache.specs.Readers.{edges_at};
 ghost use Rattle.at_cache.specs.Recorded.{AreOf, IsIndexed, kept_in};
 
 use crate::edge::{Edge, Edges};
-use crate::entry::{Entry, Links};
+use crate::entry::{Entry, Links, Locations};
 use crate::facet::Readers;
 use crate::keeper::Put;
 use crate::linking::{add_readers, add_users};
@@ -38,8 +38,15 @@ fn slots_of(alloc: Global, entries: &Table, uses: &[Inst]) -> Result<Links, Allo
     Ok(slots)
 }
 
+// The locations in an entry's own list. What they took is given back, and serves the next evaluation.
+fn moved_in(alloc: Global, reads: Vec<Loc>) -> Result<Locations, AllocError>
+    ensures { IfOk result (λ locations. locations.items ≡ reads.items) }
+{
+    Locations::from_slice(alloc, reads.as_slice())
+}
+
 // An entry that is to come, which that edge tells of.
-fn fresh(alloc: Global, value: Value, reads: Vec<Loc>, links: Links, edge: Edge) -> Entry
+fn fresh(alloc: Global, value: Value, reads: Locations, links: Links, edge: Edge) -> Entry
     ensures entry { (i : Instance ℕ) → info (i, result) ≡ fresh_entry i (value_view value) (map loc_view reads.items) links.items edge.stamp }
     ensures slot { result.slot ≡ edge.slot }
 {
@@ -70,18 +77,27 @@ pub fn enter_with(
     ensures indexed { IsIndexed (edges_at readers.old.items) stamp (memory_of entries.old)
         → IsIndexed (edges_at readers.new.items) (stamp + 1) (memory_of entries.new) }
     ensures noted { AreNoted (edges_at readers.old.items) index_read.old.items → AreNoted (edges_at readers.new.items) index_read.new.items }
+    ensures short { length readers.old.items ≤ 2 ^ 32 → length readers.new.items ≤ 2 ^ 32 }
     ensures puts { IsIndexed (edges_at readers.old.items) stamp (memory_of entries.old)
         → IfOk result (HasPut true (kept_in entries.old stamp) inst (value_view value) reads uses.now (kept_in entries.new (stamp + 1))) }
     ensures err { IsIndexed (edges_at readers.old.items) stamp (memory_of entries.old)
         → OnErr result (KeepsAll (kept_in entries.old stamp) (kept_in entries.new (stamp + 1))) }
 {
+    let locations = moved_in(alloc, reads)?;
     let links = slots_of(alloc, entries, uses)?;
     let edge = Edge {
         slot: entries.next(),
         stamp,
     };
-    add_readers(alloc, entries, readers, index_read, reads.as_slice(), edge)?;
+    add_readers(
+        alloc,
+        entries,
+        readers,
+        index_read,
+        locations.as_slice(),
+        edge,
+    )?;
     add_users(alloc, entries, links.as_slice(), edge)?;
-    entries.enter(inst, fresh(alloc, value, reads, links, edge))?;
+    entries.enter(inst, fresh(alloc, value, locations, links, edge))?;
     Ok(Put::Kept)
 }

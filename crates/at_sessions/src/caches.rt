@@ -10,14 +10,19 @@ use at_store::{Loc, Node};
 use std::alloc::{AllocError, Global};
 use std::test::Fail;
 
+/// The node of that number.
+fn numbered(number: usize) -> Node {
+    Node::of(number).unwrap_or_default()
+}
+
 /// The first attribute of that node.
 fn inst(alloc: Global, node: usize) -> Inst {
-    Inst::new(Node::new(node), AttrId::new(0), Arguments::new(alloc))
+    Inst::new(numbered(node), AttrId::new(0), Arguments::new(alloc))
 }
 
 /// A location of its own for each node.
 fn own(node: usize) -> Loc {
-    Loc::Tok(Node::new(node), 0)
+    Loc::Tok(numbered(node), 0)
 }
 
 /// The instances of these nodes.
@@ -145,7 +150,7 @@ const NODES: usize = 9;
 
 /// A location of one of the nodes.
 fn location(chance: &mut Chance) -> Loc {
-    let node = Node::new(chance.below(NODES));
+    let node = numbered(chance.below(NODES));
     match chance.below(6) {
         0 => Loc::Is(node),
         1 => Loc::Tok(node, 0),

@@ -21,8 +21,8 @@ pub enum Form {
     Optional,
 }
 
-/// The children in a component. One alone, as a plain component has, takes no memory of its own.
-pub type Children = SmallVec<Node, 1>;
+/// The children in a component. Up to four take no memory of their own, and no more room in the node than one.
+pub type Children = SmallVec<Node, 4>;
 
 /// What is kept of a component: the children, or the value of a token.
 #[derive(Drop)]

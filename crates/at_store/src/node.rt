@@ -3,7 +3,7 @@ use std::marker::Model;
 
 /// A node of a store, by its number. The number stays as long as the node does.
 #[derive(Clone, Copy, PartialEq, Eq, Hash, Debug, Default)]
-pub struct Node(usize);
+pub struct Node(u32);
 
 impl Model for Node {
     ghost use Rattle.std.specs.Prelude.{ℕ};
@@ -16,20 +16,37 @@ impl Model for Node {
 }
 
 impl Node {
-    ghost use Rattle.std.specs.Prelude.{◌≡◌};
+    ghost use Rattle.std.specs.Prelude.{◌≡◌, IfSome};
 
     /// The node of that number.
-    pub fn new(number: usize) -> Self
+    pub fn new(number: u32) -> Self
         ensures { result ≡ number }
     {
         Node(number)
+    }
+
+    /// The node of that number; `None` where the number is too great for one.
+    pub fn of(number: usize) -> Option<Node>
+        ensures { IfSome result (λ node. node ≡ number) }
+    {
+        if number > u32::MAX as usize {
+            return None;
+        }
+        Some(Node(number as u32))
+    }
+
+    /// Its number, as it is kept.
+    pub fn number(self) -> u32
+        ensures { result ≡ self }
+    {
+        self.0
     }
 
     /// Its number.
     pub fn index(self) -> usize
         ensures { result ≡ self }
     {
-        self.0
+        self.0 as usize
     }
 }
 
@@ -46,6 +63,12 @@ pub enum Loc {
     Up(Node),
     /// The index among the elements of a list.
     Idx(Node),
+}
+
+impl Default for Loc {
+    fn default() -> Loc {
+        Loc::Is(Node::default())
+    }
 }
 
 impl Loc {

@@ -55,6 +55,9 @@ fn add(
     ensures kept { OnErr result (IsAsBefore (memory_of slab.old) (memory_of slab.new)) }
     ensures marks { MarksNoMore slab.old slab.new }
 {
+    let Some(node) = Node::of(slab.vacant_key()) else {
+        return Err(AllocError)
+    };
     let entry = Entry {
         class,
         up,
@@ -62,7 +65,8 @@ fn add(
         leaves: false,
         cells: Vec::with_capacity(alloc, parts)?,
     };
-    Ok(Node::new(slab.insert(entry)?))
+    slab.insert(entry)?;
+    Ok(node)
 }
 
 /// One more component of a node.

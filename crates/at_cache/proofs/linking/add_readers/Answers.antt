@@ -10,7 +10,7 @@ use Rattle.at_cache.proofs.Noted.{noted_on}
 use Rattle.at_cache.proofs.linking.add_readers.Goals as goal
 
 pub loop-location-init : goal.loop-location-init
-loop-location-init c = record { reads = reads_none _ _ _; listed = λ l d. absurd (omega (arith, d.1)); noted = λ n. n }
+loop-location-init c = record { reads = reads_none _ _ _; listed = λ l d. absurd (omega (arith, d.1)); noted = λ n. n; short = λ h. h }
 
 pub loop-location-preserved : goal.loop-location-preserved
 loop-location-preserved c =
@@ -22,6 +22,7 @@ loop-location-preserved c =
       noted = λ n. let was = l.invariant.noted n in
           noted_on (edges_at l.readers.items) new c.note.new.index_read.items _ ((rw c.as_slice.ensures.value at c.note.ensures.stay) was) ((rw c.as_slice.ensures.value at c.in_ok-note.ensures.noted) was) c.add_reader.ensures.others;
       listed = subst (λ ls. AreListed c.args.edge ls new) on (listed_more cases_location _ _ l.invariant.listed (rw c.in_ok-add_reader.was at c.add_reader.ensures.has) c.add_reader.ensures.others);
+      short = λ h. c.add_reader.ensures.short (l.invariant.short h);
     }
 
 pub returns-in_err-add_reader-clause-reads : goal.returns-in_err-add_reader-clause-reads

@@ -1,4 +1,4 @@
-use Rattle.std.proofs.Common.{map, take}
+use Rattle.std.proofs.Common.{◌≤◌, ◌^◌, length, map, take}
 use Rattle.at_store.specs.Located.{loc_view}
 use Rattle.at_cache.specs.Asking.{AreNoted}
 use Rattle.at_cache.specs.Info.{memory_of}
@@ -11,4 +11,5 @@ invariant-loop-location l = record {
   reads : Reads (memory_of l.entries) l.edge (map loc_view (take l.location-index l.locations)) (edges_at l.initial.readers.items) (edges_at l.readers.items);
   noted : AreNoted (edges_at l.initial.readers.items) l.initial.index_read.items → AreNoted (edges_at l.readers.items) l.index_read.items;
   listed : AreListed l.edge (map loc_view (take l.location-index l.locations)) (edges_at l.readers.items);
+  short : length l.initial.readers.items ≤ 2 ^ 32 → length l.readers.items ≤ 2 ^ 32;
 }

@@ -7,6 +7,7 @@ pub invariant_of-self : goal.invariant_of-self
 invariant_of-self g c = record {
   indexed = rw c.as_slice.ensures.value at (c.take_out_at.ensures.indexed c.args.self.now.puts (rw c.as_slice.ensures.value c.args.self.now.indexed));
   noted = c.args.self.now.noted;
+  short = c.args.self.now.short;
 }
 
 pub returns-clause-leaves : goal.returns-clause-leaves

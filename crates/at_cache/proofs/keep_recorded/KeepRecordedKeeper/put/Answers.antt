@@ -5,7 +5,7 @@ pub enter_with-requires : goal.enter_with-requires
 enter_with-requires c = record { absent = absent_entry c.args.self.now.entries c.args.self.now.puts c.args.inst c.requires.absent }
 
 pub invariant_of-self : goal.invariant_of-self
-invariant_of-self c = record { indexed = c.enter_with.ensures.indexed c.args.self.now.indexed; noted = c.enter_with.ensures.noted c.args.self.now.noted }
+invariant_of-self c = record { indexed = c.enter_with.ensures.indexed c.args.self.now.indexed; noted = c.enter_with.ensures.noted c.args.self.now.noted; short = c.enter_with.ensures.short c.args.self.now.short }
 
 pub returns-clause-puts : goal.returns-clause-puts
 returns-clause-puts c = c.enter_with.ensures.puts c.args.self.now.indexed
