@@ -16,7 +16,7 @@ use std::str::from_utf8;
 use std::test::Fail;
 
 /// More than the nodes of the tree.
-const NUMBERS: usize = 12;
+const NUMBERS: u32 = 12;
 
 /// How an edit that is accepted ends.
 #[derive(Clone, Copy)]
