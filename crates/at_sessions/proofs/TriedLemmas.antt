@@ -1,5 +1,5 @@
 -- What becomes of an idle store of a conforming tree over an edit that is tried: it is idle again, and its tree conforms.
-use Rattle.std.proofs.Common.{◌≡◌, ◌∙◌, true, is_some, sym, subst}
+use Rattle.std.proofs.Common.{◌≡◌, ◌∙◌, true, is_some, sym, subst, Some}
 use Rattle.at_model.specs.Classes.{Classes}
 use Rattle.at_model.specs.Edits.{Edit as EditOf}
 use Rattle.at_model.specs.Paths.{Node}

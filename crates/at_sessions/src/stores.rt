@@ -121,7 +121,7 @@ fn tried(
         End::Done => store.commit(ready),
         End::GivenUp => store.cancel(ready),
     }
-    Ok(all?)
+    all.or(Err(Refusal::Memory))
 }
 
 /// Why the store refuses the edit, which leaves the tree and all numbers as they were.
