@@ -1,7 +1,7 @@
 -- What becomes of an idle store of a conforming tree over an edit that is tried: it is idle again, and its tree conforms.
-use Rattle.std.proofs.Common.{◌≡◌, ◌∙◌, true, is_some, sym, subst, Some}
+use Rattle.std.proofs.Common.{◌≡◌, ◌∙◌, true, is_some, sym, subst, Option, None, Some, Ok, refl}
 use Rattle.at_model.specs.Classes.{Classes}
-use Rattle.at_model.specs.Edits.{Edit as EditOf}
+use Rattle.at_model.specs.Edits.{Edit as EditOf, edited, left_by}
 use Rattle.at_model.specs.Paths.{Node}
 use Rattle.at_model.specs.Trees.{Tree, conforms}
 use Rattle.at_model.proofs.of_edits.Edited.{accepted_conforms}
@@ -12,12 +12,20 @@ use Rattle.at_store.specs.Checking.{IsAsked, IsRefused}
 use Rattle.at_store.specs.Preparing.{Does, IsCancelled, IsCommitted, IsPrepared}
 use Rattle.at_store.specs.Refusing.{edit_at, node_of, target_of}
 use Rattle.at_store.specs.Shown.{IsIdle, Shown, path, tree}
-use Rattle.at_engine.proofs.of_marks.Marked.{path_there}
-use Rattle.at_engine.proofs.Verdicts.{left_is}
+use Rattle.at_model.proofs.of_edits.Conforming.{accepted}
 
 -- the store is idle, and its tree conforms
 abbrev pub Stands : Classes → Shown → Type 0
 Stands classes s = IsIdle s × (conforms classes (tree s) 0 ≡ true)
+
+-- what is there has a path
+path_there : (o : Option Node) → is_some o ≡ true → (n : Node) × (o ≡ Some n)
+path_there None e = absurd cc
+path_there (Some n) e = (n, refl)
+
+-- what is left of an accepted edit is what the edit leaves
+left_is : (classes : Classes) (t : Tree) (e : EditOf) (u : Tree) → edited classes t e ≡ Ok u → u ≡ left_by t e
+left_is classes t e u h = sym (accepted classes t e u h).left
 
 module _ (classes : Classes) (old : Shown) (edit : Edit) (idle : IsIdle old) (conforming : conforms classes (tree old) 0 ≡ true)
     (there : is_some (path old (node_of edit)) ≡ true) (target : is_some (path old (target_of edit)) ≡ true) where
