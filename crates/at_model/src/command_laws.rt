@@ -8,7 +8,7 @@ ghost use Rattle.at_model.specs.Rules.{Rules};
 ghost use Rattle.at_model.specs.Edits.{Edit, edited, is_within_limits};
 ghost use Rattle.at_model.specs.Lines.{Argument, Line, Mark, Place, Post, Spells, Unmark, Where};
 ghost use Rattle.at_model.specs.Replies.{At, Done, Form, Opened, Reply, Shows};
-ghost use Rattle.at_model.specs.Paths.{ArePartsApart, Node, Path, node_at};
+ghost use Rattle.at_model.specs.Paths.{ArePartsApart, IsPath, Node, Path, node_at, path_text};
 ghost use Rattle.at_model.specs.Run.{Instance};
 ghost use Rattle.at_model.specs.Meaning.{Answer};
 ghost use Rattle.at_model.specs.Support.{IsInstanceThere};
@@ -17,12 +17,17 @@ ghost use Rattle.at_model.specs.Enduring.{AreTokens, IsOrderly};
 ghost use Rattle.at_model.specs.Asking.{IsWellFormed};
 ghost use Rattle.at_model.specs.Effects.{IsEditOf, is_about_mark, is_marking, is_post, is_question};
 
-/// Where each component is the first one of its name in its class, the path that is told of a mark leads to the marked node.
+/// Where each component is the first one of its name in its class, the path that is told of a mark leads to the marked node; with
+/// sound classes so does whatever path is read of its text.
 pub fn the_path_of_a_mark_leads_back()
-    ensures { (rules : Rules) (old : State) (l : Line) (new : State) (reply : Reply) (name : List ℕ) (path : Path)
+    ensures path { (rules : Rules) (old : State) (l : Line) (new : State) (reply : Reply) (name : List ℕ) (path : Path)
         → ArePartsApart rules.classes → IsSound rules.classes old → l.command ≡ Where name
         → Step rules old l new reply → reply.form ≡ Shows (At path)
         → (n : Node) × (marked old.marks l.session name ≡ Some n) × (node_at rules.classes old.tree path ≡ Some n) }
+    ensures text { (rules : Rules) (old : State) (l : Line) (new : State) (reply : Reply) (name : List ℕ) (path : Path)
+        → AreSound rules.classes → ArePartsApart rules.classes → IsSound rules.classes old → l.command ≡ Where name
+        → Step rules old l new reply → reply.form ≡ Shows (At path)
+        → (q : Path) → IsPath q → path_text q ≡ path_text path → node_at rules.classes old.tree q ≡ marked old.marks l.session name }
 {}
 
 /// An edit that is accepted is that of its command, and leaves the marks where their nodes are, those of open questions, too; what

@@ -56,7 +56,7 @@ ends_nameless r [] s hr hn hu e = no_empty_name hn
 ends_nameless r (b ∷ name) s hr hn hu e = ends_wordless r name s b hr (name_inner (b ∷ name) hn hu) e
 
 -- places
-same_path : (p q : Path) (r s : List ℕ) → IsPath p → IsPath q → Ends r → Ends s → path_text p ++ r ≡ path_text q ++ s → (p ≡ q) × (r ≡ s)
+pub same_path : (p q : Path) (r s : List ℕ) → IsPath p → IsPath q → Ends r → Ends s → path_text p ++ r ≡ path_text q ++ s → (p ≡ q) × (r ≡ s)
 same_path [] [] r s hp hq hr hs e = (refl, ap tail e)
 same_path [] (q ∷ qs) r s hp hq hr hs e = absurd (ends_nameless r q.part _ hr hq.0.0.0 hq.0.0.1 (ap tail (e ∙ step_flat q qs s)))
 same_path (p ∷ ps) [] r s hp hq hr hs e = absurd (ends_nameless s p.part _ hs hp.0.0.0 hp.0.0.1 (ap tail (sym e ∙ step_flat p ps r)))

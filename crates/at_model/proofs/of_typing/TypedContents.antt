@@ -116,14 +116,14 @@ cell_fewer : (cells : Cells) (part : ℕ) (o : Option Cell) → slice_get (from_
 cell_fewer cells part None e = omega arith
 cell_fewer cells part (Some c) e = omega (arith, child_many c, cell_many cells part c e)
 
-children_few : (t : Tree) (part : ℕ) → length (children_at t part) < nodes t
+pub children_few : (t : Tree) (part : ℕ) → length (children_at t part) < nodes t
 children_few (Branch c cells) part = let h = cell_fewer cells part (slice_get (from_cells cells) part) refl in omega arith
 
 one_fewer : (cells : Cells) (part i : ℕ) (u : Tree) (o : Option Cell) → slice_get (from_cells cells) part ≡ o → slice_get (elim o [ None ↦ [] | Some c ↦ children c ]) i ≡ Some u → nodes u ≤ held.cells_nodes cells
 one_fewer cells part i u None f e = absurd (cc)
 one_fewer cells part i u (Some c) f e = omega (arith, child_fewer c i u e, cell_many cells part c f)
 
-child_smaller : (t u : Tree) (part i : ℕ) → slice_get (children_at t part) i ≡ Some u → nodes u ≤ nodes t
+pub child_smaller : (t u : Tree) (part i : ℕ) → slice_get (children_at t part) i ≡ Some u → nodes u ≤ nodes t
 child_smaller (Branch c cells) u part i e = let h = one_fewer cells part i u (slice_get (from_cells cells) part) refl e in omega arith
 
 pub nodes_inside : (t : Tree) (n : Node) (u : Tree) → tree_at t n ≡ Some u → nodes u ≤ nodes t
