@@ -5,7 +5,7 @@ use Rattle.std.specs.List.{slice_get}
 use Rattle.at_model.specs.Classes.{Class, Classes, fits}
 use Rattle.at_model.specs.Rules.{Rules, Attribute, Exposed, own_equation}
 use Rattle.at_text.specs.declared.place.Place.{Place}
-use Rattle.at_jrag.specs.Syntax.{Word, Params, Body, DeclForm, Equation, InheritedEquation}
+use Rattle.at_jrag.specs.Syntax.{Word, Params, Body, Equation, InheritedEquation}
 use Rattle.at_jrag.specs.Syntax as written
 use Rattle.at_kinds.specs.Accessors.{accessor_named}
 use Rattle.at_kinds.specs.Judging.{Is}

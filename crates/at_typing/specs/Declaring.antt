@@ -138,7 +138,9 @@ abbrev pub is_too_many : List Located → Located → Bool
 is_too_many before d = is_attribute d.decl.form && not (nat_lt (length (attributes before)) max_attributes)
 
 abbrev pub limit_at : List Located → ℕ → Located → Option Breach
-limit_at ds i d = option_or (fault_if (is_too_many (take i ds) d) code.Limit d) (option_map (fault_at code.Limit d) (option_and_then (λ b. long_text b.expr) (body_in d.decl.form)))
+limit_at ds i d =
+    option_or (fault_if (is_too_many (take i ds) d) code.Limit d)
+    (option_map (fault_at code.Limit d) (option_and_then (λ b. long_text b.expr) (body_in d.decl.form)))
 
 -- an attribute too many, or a text too long
 abbrev pub over_limit : List Located → Option Breach
@@ -187,7 +189,9 @@ is_on_one_line classes v w = is_below classes v w || is_below classes w v
 
 -- attributes of one name that can't both be declared
 abbrev pub clashes : Classes → Located → Located → Bool
-clashes classes d e = (is_attribute e.decl.form && bytes_eq (name_text d) (name_text e)) && (differs d.decl.form e.decl.form || is_on_one_line classes (class_text d) (class_text e))
+clashes classes d e =
+    (is_attribute e.decl.form && bytes_eq (name_text d) (name_text e))
+    && (differs d.decl.form e.decl.form || is_on_one_line classes (class_text d) (class_text e))
 
 abbrev mutual
   -- a fold in the expression has a name that is bound where it stands: by one of these, or by a fold around it in its braces
@@ -207,7 +211,8 @@ abbrev mutual
   is_bound_again names (written.InstanceOf at e behind class) = is_bound_again names e
   is_bound_again names (written.Binary at o between a b) = is_bound_again names a || is_bound_again names b
   is_bound_again names (written.Choose at c behind a b) = is_bound_again names c || (is_bound_again names a || is_bound_again names b)
-  is_bound_again names (written.Fold at form name list body) = is_bound_again names list || (list_any (bytes_eq name.text) names || is_bound_again (name.text ∷ names) body)
+  is_bound_again names (written.Fold at form name list body) =
+      is_bound_again names list || (list_any (bytes_eq name.text) names || is_bound_again (name.text ∷ names) body)
 
   pub is_bound_among : List (List ℕ) → written.Exprs → Bool
   is_bound_among names written.no_exprs = false
@@ -226,7 +231,9 @@ param_names form = map (λ p. p.name.text) (params_in form).items
 
 -- a parameter or a fold has a name that is bound where it stands
 abbrev pub binds_twice : DeclForm → Bool
-binds_twice form = is_repeated (index_names form) (param_names form) || elim (body_in form) [ None ↦ false | Some b ↦ is_bound_again (param_names form ++ index_names form) b.expr ]
+binds_twice form =
+    is_repeated (index_names form) (param_names form)
+    || elim (body_in form) [ None ↦ false | Some b ↦ is_bound_again (param_names form ++ index_names form) b.expr ]
 
 abbrev pub twice_at : Classes → List Located → ℕ → Located → Option Breach
 twice_at classes ds i d = fault_if ((is_attribute d.decl.form && list_any (clashes classes d) (take i ds)) || binds_twice d.decl.form) code.AttributeTwice d
@@ -239,7 +246,9 @@ declared_twice classes ds = first_given (twice_at classes ds) 0 ds
 
 -- the class of that word, or one above it, has a synthesized attribute of that name
 abbrev pub is_synthesized : Classes → List Located → List ℕ → List ℕ → Bool
-is_synthesized classes ds class name = list_any (λ d. (is_attribute d.decl.form && not (is_inherited d.decl.form)) && (bytes_eq name (name_text d) && is_below classes class (class_text d))) ds
+is_synthesized classes ds class name =
+    list_any (λ d. (is_attribute d.decl.form && not (is_inherited d.decl.form))
+    && (bytes_eq name (name_text d) && is_below classes class (class_text d))) ds
 
 -- what declares an attribute: a synthesized one of that name, of the class of that word or of one above it
 abbrev pub is_synthesized_by : Classes → (class name : List ℕ) → Located → Bool
@@ -284,7 +293,9 @@ is_same_getter None w = false
 
 -- equations of one class for one attribute, or for one component and one attribute
 abbrev pub is_same_equation : Located → Located → Bool
-is_same_equation d e = (bytes_eq (class_text d) (class_text e) && bytes_eq (name_text d) (name_text e)) && ((is_own_equation d.decl.form && is_own_equation e.decl.form) || is_same_getter (getter_in d.decl.form) (getter_in e.decl.form))
+is_same_equation d e =
+    (bytes_eq (class_text d) (class_text e) && bytes_eq (name_text d) (name_text e))
+    && ((is_own_equation d.decl.form && is_own_equation e.decl.form) || is_same_getter (getter_in d.decl.form) (getter_in e.decl.form))
 
 abbrev pub equation_at : List Located → ℕ → Located → Option Breach
 equation_at ds i d = fault_if (list_any (is_same_equation d) (take i ds)) code.EquationTwice d

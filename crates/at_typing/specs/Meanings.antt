@@ -61,7 +61,9 @@ scope classes declared c form = record {
 
 -- the body of an equation of class c for an attribute of which that is declared
 abbrev pub body_for : Classes → List Declared → ℕ → Located → Body → Declared → Judgement Expr
-body_for classes declared c d body s = and_then (λ u. body_judged (scope classes declared c d.decl.form) body.expr s.result) (as_declared classes s.parameters (params_in d.decl.form).end 0 (params_in d.decl.form).items)
+body_for classes declared c d body s =
+    and_then (λ u. body_judged (scope classes declared c d.decl.form) body.expr s.result)
+    (as_declared classes s.parameters (params_in d.decl.form).end 0 (params_in d.decl.form).items)
 
 abbrev pub body_if : Classes → List Declared → ℕ → Located → Body → Option Declared → Judgement Expr
 body_if classes declared c d body None = Wrong code.EquationWithoutAttribute d.decl.at
@@ -105,14 +107,19 @@ own_equation c e = record { class = c; attribute = e.0; body = e.1 }
 
 -- the equation of class c for its own nodes
 abbrev pub own_meant : Classes → List Located → Located → Body → ℕ → Judgement OwnEquation
-own_meant classes ds d body c = and_then (λ e. Is (own_equation c e)) (body_meant classes (signatures classes ds) c d body (synthesized_named classes ds (class_text d) (name_text d)))
+own_meant classes ds d body c =
+    and_then (λ e. Is (own_equation c e))
+    (body_meant classes (signatures classes ds) c d body (synthesized_named classes ds (class_text d) (name_text d)))
 
 abbrev pub inherited_equation : Located → ℕ → Option ℕ → Expr → model.InheritedEquation
 inherited_equation d c part body = record { class = c; part = part; name = name_text d; body = body }
 
 -- the equation of class c for the nodes in the component, or in each one
 abbrev pub inherited_meant : Classes → List Located → Located → Option Word → Body → ℕ → Option ℕ → Judgement model.InheritedEquation
-inherited_meant classes ds d index body c part = and_then (λ u. and_then (λ e. Is (inherited_equation d c part e.1)) (body_meant classes (signatures classes ds) c d body (inherited_named ds (name_text d)))) (index_of_list classes c part index)
+inherited_meant classes ds d index body c part =
+    and_then (λ u. and_then (λ e. Is (inherited_equation d c part e.1))
+    (body_meant classes (signatures classes ds) c d body (inherited_named ds (name_text d))))
+    (index_of_list classes c part index)
 
 abbrev pub declared_alone : Attribute → Judgement Meaning
 declared_alone a = Is (record { attribute = Some a; own = None; inherited = None })

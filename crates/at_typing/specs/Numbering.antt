@@ -92,4 +92,6 @@ pub record HasNumbers {Y Z : Type 0} (classes : Classes) (unknown : List (String
 
 -- the fault of a declaration before which there are as many attributes as there may be, or not
 abbrev pub limit_of : Bool → Located → Option Breach
-limit_of is_full d = option_or (fault_if (is_attribute d.decl.form && is_full) code.Limit d) (option_map (fault_at code.Limit d) (option_and_then (λ b. long_text b.expr) (body_in d.decl.form)))
+limit_of is_full d =
+    option_or (fault_if (is_attribute d.decl.form && is_full) code.Limit d)
+    (option_map (fault_at code.Limit d) (option_and_then (λ b. long_text b.expr) (body_in d.decl.form)))

@@ -59,4 +59,5 @@ TellsClash classes b d answer = (ds : List NumberedValue) → AreBefore classes 
 abbrev pub TellsTwice : Classes → Before → NumberedValue → Bool → Type 0
 TellsTwice classes b d answer = (ds : List NumberedValue) → AreBefore classes ds b → IsAmong classes ds d
     → answer
-    ≡ ((is_attribute (numbered_view d).decl.form && list_any (clashes classes (numbered_view d)) (map numbered_view ds)) || binds_twice (numbered_view d).decl.form)
+    ≡ ((is_attribute (numbered_view d).decl.form && list_any (clashes classes (numbered_view d)) (map numbered_view ds))
+    || binds_twice (numbered_view d).decl.form)

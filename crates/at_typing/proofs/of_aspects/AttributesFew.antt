@@ -9,8 +9,8 @@ use Rattle.at_model.proofs.GrammarKept.{off_not}
 use Rattle.at_model.proofs.Options.{unmapped}
 use Rattle.at_jrag.specs.Syntax.{Body}
 use Rattle.at_kinds.specs.declared.code.RuleCode.TheVariants as code
-use Rattle.at_typing.specs.AspectRules.{AreFew, HasText}
-use Rattle.at_typing.specs.Declaring.{attributes, body_in, fault_at, fault_if, is_attribute, is_too_many, limit_at, long_text, max_attributes, max_text, over_limit}
+use Rattle.at_typing.specs.AspectRules.{AreFew}
+use Rattle.at_typing.specs.Declaring.{attributes, body_in, fault_at, fault_if, is_attribute, is_too_many, limit_at, long_text, max_attributes, over_limit}
 use Rattle.at_typing.specs.Located.{Located}
 use Rattle.at_typing.proofs.Gathering.{first_none, other_none}
 use Rattle.at_typing.proofs.of_aspects.FaultNowhere.{unfaulted, faultless, both_none}

@@ -1,11 +1,10 @@
 -- What is told of a declaration by itself is a name that isn't there, a wrong argument or a wrong kind: that its attribute isn't declared
 -- is told before.
-use Rattle.std.proofs.Common.{◌≡◌, ℕ, zero, suc, ◌+◌, Bool, true, false, ◌&&◌, ◌||◌, not, List, [], ◌∷◌, ◌++◌, length, Option, Some, None, refl, sym, ap, ◌∙◌, subst, true≢false}
-use Rattle.std.specs.Prelude.{⊤, cond, codes, is_some, nat_lt, option_and_then, position, slice_get, if◌then◌else◌}
-use Rattle.std.specs.List.{flat_map}
+use Rattle.std.proofs.Common.{◌≡◌, ℕ, zero, suc, ◌+◌, Bool, true, false, ◌&&◌, ◌||◌, not, List, [], ◌∷◌, ◌++◌, length, Option, Some, None, refl, sym, ap, ◌∙◌, true≢false}
+use Rattle.std.specs.Prelude.{cond, codes, is_some, nat_lt, option_and_then, position, slice_get, if◌then◌else◌}
 use Rattle.std.specs.Str.{bytes_eq}
 use Rattle.std.proofs.lemmas.Option.{none-some}
-use Rattle.at_model.specs.Classes.{Classes, Shape, class_of_name, parts}
+use Rattle.at_model.specs.Classes.{Classes, class_of_name, parts}
 use Rattle.at_model.specs.Rules.{Attribute}
 use Rattle.at_model.proofs.FirstGiven.{any_there}
 use Rattle.at_model.proofs.GrammarKept.{text_same}
@@ -14,7 +13,7 @@ use Rattle.at_text.specs.declared.place.Place.{Place}
 use Rattle.at_jrag.specs.Syntax.{Word, KindWord, Param, Body, DeclForm, Synthesized, Inherited, Equation, InheritedEquation}
 use Rattle.at_rules.specs.declared.body.Kind.{Kind}
 use Rattle.at_kinds.specs.Accessors.{accessed, shape_of}
-use Rattle.at_kinds.specs.Judging.{Judgement, Is, Wrong, and_then, body_of}
+use Rattle.at_kinds.specs.Judging.{Is, Wrong, and_then, body_of}
 use Rattle.at_kinds.specs.Signatures.{Declared}
 use Rattle.at_kinds.specs.declared.code.RuleCode.TheVariants as code
 use Rattle.at_kinds.specs.declared.signatures.WrittenKind.{WrittenKind}
@@ -23,7 +22,7 @@ use Rattle.at_kinds.proofs.KindsKnown.{element_found}
 use Rattle.at_typing.specs.AspectRules.{AreOfAttributes}
 use Rattle.at_typing.specs.Declaring.{attributes, body_in, class_text, inherited_named, is_attribute, is_below, is_inherited, is_inherited_name, is_sub_or_none, is_synthesized, is_synthesized_by, name_text, params_in, result_in, synthesized_named}
 use Rattle.at_typing.specs.Located.{Located, class_word, name_word}
-use Rattle.at_typing.specs.Meanings.{attribute, attribute_for, attribute_meant, attribute_with, below_class, below_component, body_for, body_if, body_meant, declared_alone, declared_with, equation_meant, equation_below_meant, form_meant, inherited_alone, inherited_equation, inherited_meant, meant, own_alone, own_equation, own_meant, results, scope, signature_if, signatures, signatures_among, synthesized_meant, with_body}
+use Rattle.at_typing.specs.Meanings.{attribute, attribute_for, attribute_meant, attribute_with, below_class, below_component, body_for, body_if, body_meant, declared_alone, declared_with, form_meant, inherited_alone, inherited_equation, inherited_meant, meant, own_alone, own_equation, own_meant, results, scope, signature_if, signatures, signatures_among, with_body}
 use Rattle.at_typing.specs.Ruling.{as_declared, can_be_passed, class_named, component_at, component_got, index_of_list, is_component, is_kind, is_many, kind_named, max_parameters, or_unknown, param_as_declared, param_named, params_named, passed_if}
 use Rattle.at_typing.proofs.of_attributes.AttributesFound.{synthesized_there, inherited_there}
 use Rattle.at_typing.proofs.of_aspects.EquationsApart.{there_synthesized, there_inherited}

@@ -1,12 +1,12 @@
 -- J9 and J6: their tests find nothing exactly where each equation is of an attribute that is declared, and is there once.
-use Rattle.std.proofs.Common.{◌≡◌, ℕ, ◌<◌, ◌↔◌, inl, inr, Bool, true, false, ◌&&◌, ◌||◌, not, List, take, Option, Some, None, refl, sym, ap, ◌∙◌, subst, true≢false}
+use Rattle.std.proofs.Common.{◌≡◌, ℕ, ◌↔◌, inl, inr, Bool, true, false, ◌&&◌, ◌||◌, not, List, take, Option, Some, None, refl, sym, ap, ◌∙◌}
 use Rattle.std.specs.List.{slice_get, list_any}
 use Rattle.std.specs.Str.{bytes_eq}
 use Rattle.at_model.specs.Classes.{Classes}
 use Rattle.at_model.proofs.FirstGiven.{none_at, none_anywhere, off_on, any_before, before_any, any_there, there_any}
 use Rattle.at_model.proofs.GrammarKept.{off_not, not_off, same_text, text_same}
 use Rattle.at_model.proofs.Options.{both, and_true, not_true, either_true, or_right}
-use Rattle.at_jrag.specs.Syntax.{Word, Params, Body, DeclForm, Synthesized, Inherited, Equation, InheritedEquation}
+use Rattle.at_jrag.specs.Syntax.{Word, DeclForm, Synthesized, Inherited, Equation, InheritedEquation}
 use Rattle.at_kinds.specs.declared.code.RuleCode.TheVariants as code
 use Rattle.at_typing.specs.AspectRules.{AreEquationsOnce, AreForSame, AreOfAttributes, IsInheritedName, IsSynthesized}
 use Rattle.at_typing.specs.AspectRules as rule

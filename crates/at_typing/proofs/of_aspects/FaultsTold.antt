@@ -13,9 +13,9 @@ use Rattle.at_kinds.specs.declared.code.RuleCode.{RuleCode}
 use Rattle.at_kinds.specs.declared.code.RuleCode.TheVariants as code
 use Rattle.at_kinds.proofs.CodesJudged.{IsOfOne, TellsOne}
 use Rattle.at_typing.specs.AspectRules.{AreCovered, AreDeclaredOnce, AreEquationsOnce, AreFew, AreNoAccessors, AreOfAttributes, HaveMeanings, HaveOwnEquations, Keeps, order}
-use Rattle.at_typing.specs.Building.{Builds, IsFault, IsLack, IsLackBehind, first_fault, refusal, refused, refused_at, rules_of}
-use Rattle.at_typing.specs.Completing.{AreDeclared, IsFirstFault, fault_of}
-use Rattle.at_typing.specs.Declaring.{accessor_at, accessor_named, attributes, body_in, declared_twice, equation_at, equation_twice, fault_at, fault_if, fault_together, is_too_many, limit_at, long_text, over_limit, twice_at, undeclared_at, without_attribute}
+use Rattle.at_typing.specs.Building.{Builds, IsFault, IsLack, first_fault, refusal, refused, refused_at, rules_of}
+use Rattle.at_typing.specs.Completing.{IsFirstFault, fault_of}
+use Rattle.at_typing.specs.Declaring.{accessor_at, accessor_named, attributes, body_in, declared_twice, equation_at, equation_twice, fault_at, fault_if, fault_together, limit_at, long_text, over_limit, twice_at, undeclared_at, without_attribute}
 use Rattle.at_typing.specs.Located.{Located}
 use Rattle.at_typing.specs.Meanings.{Meaning, meant}
 use Rattle.at_typing.specs.declared.fault.Breach.{Breach}

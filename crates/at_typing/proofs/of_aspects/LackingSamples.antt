@@ -1,21 +1,19 @@
 -- The samples in which a class lacks an equation, and the one in which none does.
-use Rattle.std.proofs.Common.{◌≡◌, ℕ, zero, suc, ◌<◌, Bool, true, false, List, [], ◌∷◌, Option, Some, None, Ok, Err, refl, sym, ap, ◌∙◌, subst, true≢false, arith}
+use Rattle.std.proofs.Common.{◌≡◌, ℕ, zero, suc, ◌<◌, true, false, List, [], ◌∷◌, Option, Some, None, Ok, Err, refl, sym, ap, ◌∙◌, subst, true≢false, arith}
 use Rattle.std.specs.Prelude.{codes, slice_get}
 use Rattle.std.proofs.lemmas.Option.{none-some}
 use Rattle.at_model.specs.Bodies.{Expr}
 use Rattle.at_model.specs.Classes.{chain, fits}
-use Rattle.at_model.specs.Rules.{Rules, Attribute, Exposed, PassesDown, as_root, below, inherited_equation}
+use Rattle.at_model.specs.Rules.{Rules, Attribute, Exposed, as_root, below, inherited_equation}
 use Rattle.at_model.specs.Samples.{calc_classes}
 use Rattle.at_complete.specs.Completing.{LacksInherited, LacksOwn}
 use Rattle.at_text.specs.declared.fault.Failure.TheVariants.{For}
 use Rattle.at_kinds.specs.declared.code.RuleCode.TheVariants as code
 use Rattle.at_typing.specs.Building.{Builds, rules_of}
 use Rattle.at_typing.specs.Declaring.{max_attributes, max_text}
-use Rattle.at_typing.specs.Located.{Located}
 use Rattle.at_typing.specs.Ruling.{max_parameters}
 use Rattle.at_typing.specs.SampleAspects.{has_no_equation, has_none_above, has_one_above}
 use Rattle.at_typing.specs.Samples.{column}
-use Rattle.at_typing.specs.declared.fault.Breach.{Breach}
 
 none_before : (j : ℕ) → j < 0 → ⊥
 none_before j l = omega (arith, l)

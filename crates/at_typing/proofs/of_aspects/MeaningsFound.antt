@@ -1,8 +1,7 @@
 -- J3, J5 and J4: no declaration has a fault by itself exactly where each means something. J7 and J8: no class lacks an equation exactly
 -- where each has one.
-use Rattle.std.proofs.Common.{◌≡◌, ℕ, ◌<◌, ◌↔◌, List, Option, Some, None, refl, sym, ap, ◌∙◌, subst, true≢false}
+use Rattle.std.proofs.Common.{◌≡◌, ◌↔◌, List, Option, Some, None, refl, sym, ap, true≢false}
 use Rattle.std.specs.Prelude.{IsSome}
-use Rattle.std.specs.List.{slice_get}
 use Rattle.at_model.specs.Classes.{Classes}
 use Rattle.at_model.specs.Rules.{Rules, own_equation}
 use Rattle.at_model.proofs.FirstGiven.{none_at, none_anywhere}

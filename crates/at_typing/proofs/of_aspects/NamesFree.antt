@@ -1,13 +1,12 @@
 -- J12: its test finds nothing exactly where no attribute has the name of an accessor.
-use Rattle.std.proofs.Common.{◌≡◌, ℕ, ◌↔◌, ◌⊎◌, inl, inr, Bool, true, false, ◌&&◌, ◌||◌, List, Option, Some, None, refl, sym, ap, ◌∙◌, subst, true≢false}
+use Rattle.std.proofs.Common.{◌≡◌, ℕ, ◌↔◌, Bool, true, false, ◌&&◌, ◌||◌, List, Option, Some, None, refl, sym, true≢false}
 use Rattle.std.specs.Prelude.{codes, is_some}
-use Rattle.std.specs.List.{slice_get}
 use Rattle.std.specs.Str.{bytes_eq}
 use Rattle.at_model.specs.Classes.{Class, Classes}
 use Rattle.at_model.specs.Declarations.{first_given}
 use Rattle.at_model.proofs.FirstGiven.{none_at, none_anywhere, off_on}
 use Rattle.at_model.proofs.GrammarKept.{or_off, off_or, other_text, text_other}
-use Rattle.at_model.proofs.Options.{both, and_true, not_true, either_true}
+use Rattle.at_model.proofs.Options.{both, not_true}
 use Rattle.at_kinds.specs.Accessors.{accessor_named, is_accessed, is_accessor, is_common}
 use Rattle.at_kinds.specs.declared.accessors.Accessor.{Accessor}
 use Rattle.at_kinds.specs.declared.code.RuleCode.TheVariants as code
