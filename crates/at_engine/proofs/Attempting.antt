@@ -4,7 +4,7 @@ use Rattle.std.specs.declared.alloc.AllocError.{AllocError}
 use Rattle.at_model.specs.Rules.{Rules}
 use Rattle.at_model.specs.Lines.{Line, Spells}
 use Rattle.at_model.specs.Replies.{Memory, Reply, reply_text}
-use Rattle.at_model.specs.Machine.{State, Posted, Serves, Waits, Answered, last, Turns, answers, runs_out, done_reply, verdict, without, obeys, waits}
+use Rattle.at_model.specs.Machine.{State, Posted, Serves, Waits, last, answers, runs_out, done_reply, verdict, obeys, waits}
 use Rattle.at_model.specs.Machine as machine
 use Rattle.at_protocol.specs.ReplyView.{IsForm, posting_view}
 use Rattle.at_protocol.specs.Writable.{IsShort, IsWritable}
@@ -118,3 +118,8 @@ pub stepped : (rules : Rules) (old new : State) (line : List ℕ) (wants : Bool)
     → (reply : Reply) × Serves rules old line new (wants, reply) × (after ≡ before ++ reply_text reply) → Steps rules old line new before after
 stepped rules old new [] wants before after some s = absurd (omega (arith, some))
 stepped rules old new (b ∷ bs) wants before after some s = (wants, s.0, s.1, s.2)
+
+-- an empty one changes nothing
+pub stepped_nowhere : (rules : Rules) (s : State) (line : List ℕ) (before after : List ℕ) → length line ≡ 0 → after ≡ before → Steps rules s line s before after
+stepped_nowhere rules s [] before after none same = (refl, same)
+stepped_nowhere rules s (b ∷ bs) before after none same = absurd (omega (arith, none))

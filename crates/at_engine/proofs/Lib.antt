@@ -19,6 +19,7 @@ pub mod Pieces
 pub mod Newlines
 pub mod Progressing
 pub mod Remembering
+pub mod GoingLemmas
 pub mod Takings
 pub mod of_turns
 pub mod Runnings

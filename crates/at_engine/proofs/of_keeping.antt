@@ -5,3 +5,4 @@ pub mod Growing
 pub mod Gained
 pub mod KeepingLemmas
 pub mod KeepingBytes
+pub mod Fulfilling

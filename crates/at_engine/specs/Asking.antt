@@ -1,5 +1,5 @@
 -- What the words of a question ask for.
-use Rattle.std.specs.Prelude.{◌≡◌, ℕ}
+use Rattle.std.specs.Prelude.{◌≡◌, ℕ, List}
 use Rattle.at_model.specs.Alike.{InstanceLike, Names}
 use Rattle.at_model.specs.Instances.{AnyText}
 use Rattle.at_model.specs.Paths.{Node}
@@ -9,7 +9,11 @@ use Rattle.at_model.specs.TypedRuns.{IsWellTyped}
 use Rattle.at_model.specs.Machine.{Verdict, Asks, Refuses}
 use Rattle.at_protocol.specs.ReplyView.{code_view}
 use Rattle.at_store.specs.Shown.{Shown, path}
+use Rattle.at_cache.specs.Kept.{Entries}
 use Rattle.at_body.specs.Typed.{class_shown}
+use Rattle.at_engine.specs.Engines.{IsHeld}
+use Rattle.at_engine.specs.Marks.{Mark, AreThere}
+use Rattle.at_engine.specs.declared.engine.Engine.{Engine}
 use Rattle.at_engine.specs.declared.engine.asking.Asked.{Asked}
 use Rattle.at_engine.specs.declared.engine.asking.Asked.TheVariants as asked
 
@@ -24,3 +28,8 @@ pub record IsInstanceOf (rules : Rules) (s : Shown) (v : Verdict) (i : Instance 
 abbrev pub IsAskedBy : Rules → Shown → Verdict → Asked → Type 0
 IsAskedBy rules s v (asked.Instance i) = IsInstanceOf rules s v i
 IsAskedBy rules s v (asked.Refused r) = v ≡ Refuses (code_view r)
+
+-- places can be looked up by these marks: the engine is held, and the node of each mark is there
+pub record CanLookUp {K : Type 0} (entries : K → Entries) (e : Engine K) (marks : List Mark) : Type 0 where
+  pub sound : IsHeld entries e
+  pub there : AreThere (path e.store) marks

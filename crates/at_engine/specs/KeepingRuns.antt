@@ -13,7 +13,8 @@ use Rattle.at_engine.specs.declared.stream.desk.Desk.{Desk}
 
 -- just what lines leave and add, one after the other, is kept
 abbrev pub KeepsAll : {K : Type 0} → (entries : K → Entries) → List (List ℕ) → (old new : Engine K) → Type 0
-KeepsAll entries served old new = KeepsLines (rules_of old) (state_of old) served (state_of new) (kept_of entries old) (kept_of entries new) (work_of old) (work_of new)
+KeepsAll entries served old new =
+    KeepsLines (rules_of old) (state_of old) served (state_of new) (kept_of entries old) (kept_of entries new) (work_of old) (work_of new)
 
 -- From the old engine, with the front of a line before them, the bytes lead to the new one and to the front of the next line,
 -- and just what their lines leave and add is kept, where no question is open, none of them posts one, and none was answered

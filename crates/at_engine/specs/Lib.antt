@@ -22,4 +22,6 @@ pub mod Running
 pub mod RunFaults
 pub mod KeptOver
 pub mod Keeping
+pub mod Commanding
 pub mod KeepingRuns
+pub mod Going

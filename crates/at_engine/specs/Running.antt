@@ -1,10 +1,15 @@
 -- What a run has done at its end.
-use Rattle.std.specs.Prelude.{◌≡◌, ℕ, ◌-◌, ◌≤◌, ⊤, Bool, true, false, List, [], ◌∷◌, ◌++◌, length, filter, Option, Result, Ok, Err}
+use Rattle.std.specs.Prelude.{◌≡◌, ℕ, ◌-◌, ◌≤◌, ⊤, Bool, true, false, List, [], ◌∷◌, ◌++◌, length, filter, Option, Result, Ok, Err, IfOk, IsTrue}
 use Rattle.std.specs.Io.KnownBytes.{Appends, Consumes, IsAtEnd}
 use Rattle.at_model.specs.Lines.{lines, pieces, is_filled}
 use Rattle.at_model.specs.Rules.{Rules}
 use Rattle.at_model.specs.Replies.{Reply, reply_text}
 use Rattle.at_model.specs.Machine.{State, Given, Runs, Outputs, text_of}
+use Rattle.at_cache.specs.Kept.{Entries}
+use Rattle.at_engine.specs.Engines.{rules_of, slice_of, state_of, IsSound}
+use Rattle.at_engine.specs.Keeping.{IsSpare, work_of}
+use Rattle.at_engine.specs.KeepingRuns.{KeepsRun}
+use Rattle.at_engine.specs.declared.engine.Engine.{Engine}
 use Rattle.at_engine.specs.declared.stream.desk.Report.{Report}
 use Rattle.at_engine.specs.declared.stream.desk.RunFault.{RunFault}
 use Rattle.at_engine.specs.declared.stream.desk.RunFault.TheVariants.{Read, Write, TooManyReads, Memory}
@@ -135,3 +140,21 @@ TellsEnd (Err Memory) before after = Remembers before after false
 -- unless a write failed, all that was written is sent on, where nothing waited before
 abbrev pub SendsAll : Result Report RunFault → (waited waits : Bool) → Type 0
 SendsAll result waited waits = write_fails result ≡ false → waited ≡ false → waits ≡ false
+
+-- What a run of at most so many reads promises, by what is known of the reader and of the writer: what it has done, which of its
+-- calls failed, and what is kept.
+pub record RunsFor {K R W : Type 0} (exact : Bool) (entries : K → Entries) (remaining : R → Option (List ℕ)) (misread ending : R → Option Bool)
+    (count : R → Option ℕ) (contents : W → Option (List ℕ)) (failure : W → Option Bool) (waiting : W → Bool) (most_reads : ℕ)
+    (old new : Engine K) (reader left : R) (writer later : W) (result : Result Report RunFault) : Type 0 where
+  pub ran : Ran most_reads result (rules_of old) (slice_of old) (state_of old) (state_of new) (remaining reader) (remaining left)
+      (contents writer) (contents later)
+  pub failed : TellsFailures result (misread reader) (misread left) (failure writer) (failure later)
+  pub reads : MakesReads most_reads result (count reader) (count left)
+  pub ended : TellsEnd result (ending reader) (ending left)
+  pub sent : SendsAll result (waiting writer) (waiting later)
+  pub keeps : IsTrue exact → IsSpare entries old → IfOk result (λ report. report.memory ≡ 0 → KeepsRun entries old new (remaining reader) (remaining left))
+  pub work : IfOk result (λ report. report.work ≡ work_of new)
+  pub spare : IsTrue exact → IsSpare entries old → IsSpare entries new
+  pub rules : rules_of new ≡ rules_of old
+  pub slice : slice_of new ≡ slice_of old
+  pub sound : IsSound entries new

@@ -1,8 +1,13 @@
 -- What one call of the engine does.
-use Rattle.std.specs.Prelude.{◌≡◌, ◌⊎◌, ℕ, ◌≤◌, ◌<◌, Bool, List, [], ◌∷◌, ◌++◌, map, Option, Some, None}
+use Rattle.std.specs.Prelude.{◌≡◌, ◌⊎◌, ℕ, ◌+◌, ◌≤◌, ◌<◌, Bool, List, [], ◌∷◌, ◌++◌, length, map, Option, Some, None, Result, Vec, vec_capacity, vec_len, IfOk, IfSome, IsTrue, OnErr}
+use Rattle.std.specs.Global.{Global}
 use Rattle.at_model.specs.Rules.{Rules}
 use Rattle.at_model.specs.Machine.{State, Given, Serves, text_of}
 use Rattle.at_model.specs.Replies.{Reply, reply_text}
+use Rattle.at_cache.specs.Kept.{Entries}
+use Rattle.at_engine.specs.Engines.{rules_of, slice_of, state_of, IsSound}
+use Rattle.at_engine.specs.Keeping.{IsSpare, KeepsServed, KeepsStep}
+use Rattle.at_engine.specs.declared.engine.Engine.{Engine}
 use Rattle.at_engine.specs.declared.engine.turning.Spent.{Spent}
 
 -- An empty line changes and appends nothing. Any other one is a step of the machine, and its reply is appended.
@@ -32,3 +37,39 @@ abbrev pub Settles : Rules → State → State → (before after : List ℕ) →
 Settles rules old new before after None = (old.posted ≡ []) × (new ≡ old) × (after ≡ before)
 Settles rules old new before after (Some wants) = (turns : ℕ) × (reply : Reply) × Given rules turns old ((wants, reply) ∷ []) new
     × (after ≡ before ++ reply_text reply)
+
+-- A call that appends to `out` has done that; or room for 64 bytes was refused, and nothing has changed. The engine is sound, its
+-- rules and how many turns follow each line are as they were, and what was kept spare is so still.
+pub record Calls {K T E : Type 0} (exact : Bool) (entries : K → Entries) (old new : Engine K) (out next : Vec ℕ Global)
+    (Done : T → Type 0) (result : Result T E) : Type 0 where
+  pub done : IfOk result Done
+  pub same : OnErr result (new ≡ old)
+  pub full : OnErr result (vec_capacity out < vec_len out + 64)
+  pub err : OnErr result (next.items ≡ out.items)
+  pub room : vec_capacity out ≤ vec_capacity next
+  pub spare : IsTrue exact → IsSpare entries old → IsSpare entries new
+  pub rules : rules_of new ≡ rules_of old
+  pub slice : slice_of new ≡ slice_of old
+  pub sound : IsSound entries new
+
+-- a line was taken, and where what is kept was spare, just what the line leaves and adds is kept
+pub record TakesLine {K : Type 0} (exact : Bool) (entries : K → Entries) (line : List ℕ) (old new : Engine K) (before after : List ℕ) : Type 0 where
+  pub steps : Steps (rules_of old) (state_of old) line (state_of new) before after
+  pub keeps : IsTrue exact → IsSpare entries old → KeepsStep entries line old new before after
+
+-- so it was of a line that isn't empty, which may be answered `memory`
+pub record IsServed {K : Type 0} (exact : Bool) (entries : K → Entries) (line : List ℕ) (old new : Engine K) (before after : List ℕ)
+    (wants : Bool) : Type 0 where
+  pub served : (reply : Reply) × Serves (rules_of old) (state_of old) line (state_of new) (wants, reply) × (after ≡ before ++ reply_text reply)
+  pub keeps : IsTrue exact → IsSpare entries old → KeepsServed entries wants line old new
+
+-- turns were given; where no question is open, nothing has changed
+pub record HasGiven {K : Type 0} (limit : ℕ) (old new : Engine K) (before after : List ℕ) (spent : Spent) : Type 0 where
+  pub spends : Spends (rules_of old) limit (state_of old) (state_of new) before after spent
+  pub none : (state_of old).posted ≡ [] → new ≡ old
+
+-- a question was answered, and is open no longer; where none is, nothing has changed
+pub record HasSettledFirst {K : Type 0} (old new : Engine K) (before after : List ℕ) (told : Option Bool) : Type 0 where
+  pub settles : Settles (rules_of old) (state_of old) (state_of new) before after told
+  pub none : (state_of old).posted ≡ [] → new ≡ old
+  pub fewer : IfSome told (λ wants. length new.posts.items.items + 1 ≡ length old.posts.items.items)

@@ -72,7 +72,8 @@ SettlesOne (Err e) rules old new desk next before after = (e ≡ fault.Write) ×
 
 -- All of the bytes were taken: what was written answers the whole lines and the questions that were answered behind them, and of
 -- the next line its front is kept.
-pub record Takes (rules : Rules) (slice : ℕ) (old : State) (front bytes : List ℕ) (new : State) (desk next : Desk) (before after : Option (List ℕ)) : Type 0 where
+pub record Takes (rules : Rules) (slice : ℕ) (old : State) (front bytes : List ℕ) (new : State) (desk next : Desk)
+    (before after : Option (List ℕ)) : Type 0 where
   pub told : List (Bool × Reply)
   pub rest : List ℕ
   pub progress : Progress rules slice old front bytes told new rest

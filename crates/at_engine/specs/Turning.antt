@@ -1,25 +1,30 @@
 -- What turns come to, by the position of their question.
 use Rattle.std.specs.declared.alloc.AllocError.{AllocError}
-use Rattle.std.specs.Prelude.{◌≡◌, ℕ, ◌+◌, ◌<◌, ◌≤◌, List, Option, Some, None, Result, Ok, Err, IfOk, slice_get, slice_set}
+use Rattle.std.specs.Prelude.{◌≡◌, ℕ, ◌+◌, ◌<◌, ◌≤◌, Bool, List, Option, Some, None, Result, Ok, Err, IfOk, IsTrue, length, remove, slice_get, slice_set}
 use Rattle.at_model.specs.Alike.{AnswerLike, InstanceLike, Names}
 use Rattle.at_model.specs.Asking.{IsWellFormed}
 use Rattle.at_model.specs.Lines.{Command}
 use Rattle.at_model.specs.Machine.{State, Asks, Refuses, Waits, answer_form, obeyed}
-use Rattle.at_model.specs.Meaning.{Answer}
+use Rattle.at_model.specs.Meaning.{Answer, Right}
+use Rattle.at_model.specs.Meaning.{Answers as HasAnswer}
 use Rattle.at_model.specs.Paths.{Node}
 use Rattle.at_model.specs.Rules.{Rules}
 use Rattle.at_model.specs.Run.{Contents, Instance}
 use Rattle.at_model.specs.Turning.{Turned, UnderWay, asked}
+use Rattle.at_model.specs.WellFormed.{AreWellFormed, IsTreeSound}
 use Rattle.at_protocol.specs.ReplyView.{code_view}
 use Rattle.at_protocol.specs.declared.reply.Form.{Form}
-use Rattle.at_store.specs.Shown.{Shown, contents, path, tree}
+use Rattle.at_store.specs.Shown.{Shown, contents, path, tree, IsIdle}
 use Rattle.at_cache.specs.Kept.{Entries}
-use Rattle.at_demand.specs.Known.{kept_values, meaning}
-use Rattle.at_demand.specs.Sparing.{MayAddLazy}
-use Rattle.at_demand.specs.Turns.{IsSparingTurns, under_way}
+use Rattle.at_demand.specs.Known.{answer_view, kept_values, meaning}
+use Rattle.at_demand.specs.Right.{AreRight, IsThere}
+use Rattle.at_demand.specs.Sparing.{AddsWorthy, AreSpare, MayAddLazy}
+use Rattle.at_demand.specs.Turns.{IsSparingTurns, IsStanding, under_way}
+use Rattle.at_demand.specs.declared.answer.Answer.{Answer as AnswerCode}
 use Rattle.at_demand.specs.declared.question.Question.{Question}
-use Rattle.at_engine.specs.Engines.{rules_of, state_of}
+use Rattle.at_engine.specs.Engines.{rules_of, state_of, IsHeld, IsTyped}
 use Rattle.at_engine.specs.Holding.{IsBegunFor, words_verdict}
+use Rattle.at_engine.specs.Keeping.{IsSpare}
 use Rattle.at_engine.specs.Posted.{came_to, posted_view, turns_given}
 use Rattle.at_engine.specs.Telling.{IsAnswerTo}
 use Rattle.at_engine.specs.declared.engine.Engine.{Engine}
@@ -122,3 +127,47 @@ pub record IsAwaited (rules : Rules) (s : State) (session : ℕ) (c : Command) (
   pub question : Posted
   pub there : StandsAt items position question
   pub waits : obeyed rules s session c ≡ Waits question.number
+
+-- the engine is held, and a question stands at the position
+pub record IsHeldAt {K : Type 0} (entries : K → Entries) (e : Engine K) (position : ℕ) : Type 0 where
+  pub sound : IsHeld entries e
+  pub within : position < length e.posts.items.items
+
+-- that question can be given turns
+pub record CanTurn {K : Type 0} (entries : K → Entries) (e : Engine K) (position : ℕ) : Type 0 where
+  pub sound : IsHeld entries e
+  pub typed : IsTyped (rules_of e) (state_of e)
+  pub within : position < length e.posts.items.items
+
+-- That was done with the question at the position: nothing but questions and what is kept has changed, the engine is held, and
+-- what was kept spare is so still.
+pub record Attends {K : Type 0} (exact : Bool) (entries : K → Entries) (old new : Engine K) (position : ℕ) (Done : Posted → Type 0) : Type 0 where
+  pub done : (p : Posted) → StandsAt old.posts.items.items position p → Done p
+  pub rest : new ≡ record old { demand = new.demand; posts = new.posts }
+  pub spare : IsTrue exact → IsSpare entries old → IsSpare entries new
+  pub sound : IsHeld entries new
+
+-- The question at the position was taken off, and that was told of it.
+pub record TakesOff {K : Type 0} (exact : Bool) (entries : K → Entries) (old new : Engine K) (position : ℕ) (IsTold : Posted → Type 0) : Type 0 where
+  pub told : (p : Posted) → StandsAt old.posts.items.items position p → IsTold p
+  pub items : new.posts.items.items ≡ remove old.posts.items.items position
+  pub rest : new ≡ record old { posts = record new.posts { count = old.posts.count } }
+  pub spare : IsTrue exact → IsSpare entries old → IsSpare entries new
+  pub sound : IsHeld entries new
+
+-- what is done for the question stands on the tree, and its answer can be found
+pub record CanAnswer (rules : Rules) (s : Shown) (entries : Entries) (q : Question) : Type 0 where
+  pub idle : IsIdle s
+  pub formed : AreWellFormed rules
+  pub sound : IsTreeSound rules.classes (tree s)
+  pub right : Right (contents s) (meaning rules) (kept_values entries)
+  pub standing : IsStanding rules s entries q
+  pub named : IsAskedOf rules s (asked (under_way q))
+
+-- The question was answered, unless memory ran out. Only what is worth keeping for it was added; what is kept is right still, and
+-- spare.
+pub record AnswersIt {E : Type 0} (exact : Bool) (rules : Rules) (s : Shown) (q : Question) (old new : Entries) (result : Result AnswerCode E) : Type 0 where
+  pub answers : IfOk result (λ a. HasAnswer (contents s) (meaning rules) (asked (under_way q)) (answer_view a))
+  pub worthy : AddsWorthy rules (contents s) (asked (under_way q)) old new
+  pub stays : IsThere s (asked (under_way q)) → AreRight rules s old → AreRight rules s new
+  pub spare : IsTrue exact → AreSpare rules (contents s) old → IsSparingTurns rules (contents s) old q → AreSpare rules (contents s) new

@@ -1,11 +1,12 @@
 //! The engine: it holds a tree, its rules and marks, answers questions line by line, and takes edits.
 //!
-//! **Its specs.** Of the loop, from above: `Running` (what a run has done), `Loop` and `Taking` (pieces of any
-//! size), `Serving` (one call), `Ends` and `RunFaults` (streams that fail). Of a line: `Holding` and `Engines`
-//! (which state of the machine an engine holds, and when it is sound), `Following` and `Telling` (what a verdict
-//! leads to, in the program's words). By numbers for nodes: `Naming`, `Marks`, `Asking`, `Answered`, `Fitting`,
-//! `Collected`. Open questions: `Posted`, `PostedFor`, `Turning`, `Turned`. What is kept: `Keeping`, `KeptOver`,
-//! `KeepingRuns`.
+//! **Its specs.** Each function promises one record. Of the loop, from above: `Running` (what a run has done, and
+//! what it promises), `Going` (what each function of the loop promises), `Loop` and `Taking` (pieces of any size),
+//! `Serving` (one call of the engine), `Ends` and `RunFaults` (streams that fail). Of a line: `Holding` and
+//! `Engines` (which state of the machine an engine holds, and when it is sound), `Commanding` (what a command
+//! promises), `Following` and `Telling` (what a verdict leads to, in the program's words). By numbers for nodes:
+//! `Naming`, `Marks`, `Asking`, `Answered`, `Fitting`, `Collected`. Open questions: `Posted`, `PostedFor`,
+//! `Turning`, `Turned`. What is kept: `Keeping`, `KeptOver`, `KeepingRuns`.
 //!
 //! **Where to begin:** `engine.rt` serves one line, `engine/` has its commands; `stream.rt` serves all, between an
 //! `Input` and an `Output`.

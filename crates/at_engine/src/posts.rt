@@ -79,6 +79,8 @@ pub struct Posts {
 }
 
 impl Posts {
+    ghost use Rattle.at_engine.specs.Turning.{Reopens};
+
     /// None, and none was posted.
     pub fn new(alloc: Global) -> Posts
         ensures count { result.count ≡ 0 }
@@ -158,9 +160,8 @@ impl Posts {
 
     /// What was done for the question at the position, which has nothing of it any more.
     pub fn take(&mut self, position: usize) -> Option<Question>
-        ensures count { self.new.count ≡ self.old.count }
-        ensures taken { (p : Posted) → slice_get self.old.items.items position ≡ Some p
-            → (result ≡ p.question) × (self.new.items.items ≡ slice_set self.old.items.items position (record p { question = None })) }
+        ensures { (p : Posted) → slice_get self.old.items.items position ≡ Some p
+            → (result ≡ p.question) × Reopens position self.old self.new p None }
     {
         match self.items.get_mut(position) {
             Some(posted) => posted.question.take(),
@@ -170,9 +171,7 @@ impl Posts {
 
     /// The question at the position has come so far.
     pub fn keep(&mut self, position: usize, question: Question)
-        ensures count { self.new.count ≡ self.old.count }
-        ensures kept { (p : Posted) → slice_get self.old.items.items position ≡ Some p
-            → self.new.items.items ≡ slice_set self.old.items.items position (record p { question = Some question }) }
+        ensures { (p : Posted) → slice_get self.old.items.items position ≡ Some p → Reopens position self.old self.new p (Some question) }
     {
         if let Some(posted) = self.items.get_mut(position) {
             posted.question = Some(question);

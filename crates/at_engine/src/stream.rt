@@ -1,15 +1,12 @@
 //! The loop over lines: bytes come in pieces of any size, each line is served whole, and its reply is written before the
 //! next line is looked at.
-ghost use Rattle.std.specs.Prelude.{◌≡◌, ◌∷◌, ◌++◌, ◌≤◌, ◌<◌, ◌+◌, ◌*◌, ◌^◌, ℕ, List, [], false, filter, vec_len, length, is_err, IfOk, IsTrue, MatchOption, OnOk};
-ghost use Rattle.at_model.specs.Lines.{is_filled};
-ghost use Rattle.at_engine.specs.Engines.{state_of, rules_of, slice_of, IsSound};
-ghost use Rattle.at_engine.specs.Ends.{Remembers, SendsOn};
-ghost use Rattle.at_engine.specs.Loop.{kept, newline_at, IsOpen};
-ghost use Rattle.at_engine.specs.Keeping.{IsSpare, KeepsLine, work_of};
-ghost use Rattle.at_engine.specs.KeepingRuns.{KeepsAll, KeepsBytes, KeepsRun};
-ghost use Rattle.at_engine.specs.KeptOver.{NonePosts};
-ghost use Rattle.at_engine.specs.Taking.{countable, Drains, Finishes, GivesTurns, LeavesTurns, ServedOrHalts, SettlesOne, TakesOrStops, Written};
-ghost use Rattle.at_engine.specs.Running.{MakesReads, Ran, SendsAll, TellsEnd, TellsFailures, max_reads};
+ghost use Rattle.std.specs.Prelude.{◌≡◌, ◌∷◌, ◌++◌, ◌<◌, ◌+◌, [], false, vec_len, length, is_err, MatchOption, OnOk};
+ghost use Rattle.at_engine.specs.Engines.{rules_of, slice_of, IsSound};
+ghost use Rattle.at_engine.specs.Ends.{Remembers};
+ghost use Rattle.at_engine.specs.Loop.{newline_at, IsOpen};
+ghost use Rattle.at_engine.specs.Going.{CanServe, FinishesAll, ServesLine, TakesBytes, Works};
+ghost use Rattle.at_engine.specs.Taking.{Drains, GivesTurns, LeavesTurns, SettlesOne, Written};
+ghost use Rattle.at_engine.specs.Running.{RunsFor, max_reads};
 
 mod desk;
 mod ends;
@@ -52,20 +49,9 @@ fn serve<K: Keeper, W: Output>(
     desk: &mut Desk,
     writer: &mut W,
 ) -> Result<(), RunFault>
-    requires sound { IsSound K.contents engine.old }
+    requires ready { CanServe K.contents engine.old desk.old 1 }
     requires line { 0 < vec_len desk.old.line }
-    requires few { countable desk.old (state_of engine.old) + 3 < 2 ^ 128 }
-    ensures served { ServedOrHalts result (rules_of engine.old) (slice_of engine.old) (state_of engine.old) desk.old.line.items (state_of engine.new) desk.old desk.new (W.contents writer.old) (W.contents writer.new) }
-    ensures failed { Remembers (W.failed writer.old) (W.failed writer.new) (is_err result) }
-    ensures sent { SendsOn result (W.waits writer.old) (W.waits writer.new) }
-    ensures keeps { IsTrue K.exact → IsSpare K.contents engine.old → OnOk result ((state_of engine.old).posted ≡ [] → NonePosts (desk.old.line.items ∷ [])
-        → desk.new.memory ≡ desk.old.memory → KeepsLine K.contents desk.old.line.items engine.old engine.new) }
-    ensures spare { IsTrue K.exact → IsSpare K.contents engine.old → IsSpare K.contents engine.new }
-    ensures rules { rules_of engine.new ≡ rules_of engine.old }
-    ensures slice { slice_of engine.new ≡ slice_of engine.old }
-    ensures line { desk.new.line.items ≡ desk.old.line.items }
-    ensures grows { countable desk.new (state_of engine.new) ≤ countable desk.old (state_of engine.old) + 3 }
-    ensures sound { IsSound K.contents engine.new }
+    ensures { ServesLine K.exact K.contents W.contents W.failed W.waits engine.old engine.new desk.old desk.new writer.old writer.new result }
 {
     desk.reply.clear();
     match engine.serve(desk.line.as_slice(), &mut desk.reply) {
@@ -84,18 +70,9 @@ fn give_turns<K: Keeper, W: Output>(
     desk: &mut Desk,
     writer: &mut W,
 ) -> Result<(), RunFault>
-    requires sound { IsSound K.contents engine.old }
-    requires few { countable desk.old (state_of engine.old) < 2 ^ 128 }
-    ensures gives { GivesTurns result (rules_of engine.old) (slice_of engine.old) (state_of engine.old) (state_of engine.new) desk.old desk.new (W.contents writer.old) (W.contents writer.new) }
-    ensures failed { Remembers (W.failed writer.old) (W.failed writer.new) (is_err result) }
-    ensures sent { SendsOn result (W.waits writer.old) (W.waits writer.new) }
-    ensures none { (state_of engine.old).posted ≡ [] → engine.new ≡ engine.old }
-    ensures spare { IsTrue K.exact → IsSpare K.contents engine.old → IsSpare K.contents engine.new }
-    ensures rules { rules_of engine.new ≡ rules_of engine.old }
-    ensures slice { slice_of engine.new ≡ slice_of engine.old }
-    ensures line { desk.new.line.items ≡ desk.old.line.items }
-    ensures grows { countable desk.new (state_of engine.new) ≤ countable desk.old (state_of engine.old) }
-    ensures sound { IsSound K.contents engine.new }
+    requires { CanServe K.contents engine.old desk.old 0 }
+    ensures { Works K.exact K.contents W.contents W.failed W.waits engine.old engine.new desk.old desk.new writer.old writer.new
+        (GivesTurns result (rules_of engine.old) (slice_of engine.old)) result }
 {
     let mut left = u64::from(engine.slice());
     while left > 0 {
@@ -112,19 +89,10 @@ fn give_some<K: Keeper, W: Output>(
     writer: &mut W,
     limit: u64,
 ) -> Result<u64, RunFault>
-    requires sound { IsSound K.contents engine.old }
+    requires ready { CanServe K.contents engine.old desk.old 0 }
     requires some { 0 < limit }
-    requires few { countable desk.old (state_of engine.old) < 2 ^ 128 }
-    ensures gives { LeavesTurns result (rules_of engine.old) limit (state_of engine.old) (state_of engine.new) desk.old desk.new (W.contents writer.old) (W.contents writer.new) }
-    ensures failed { Remembers (W.failed writer.old) (W.failed writer.new) (is_err result) }
-    ensures sent { SendsOn result (W.waits writer.old) (W.waits writer.new) }
-    ensures none { (state_of engine.old).posted ≡ [] → engine.new ≡ engine.old }
-    ensures spare { IsTrue K.exact → IsSpare K.contents engine.old → IsSpare K.contents engine.new }
-    ensures rules { rules_of engine.new ≡ rules_of engine.old }
-    ensures slice { slice_of engine.new ≡ slice_of engine.old }
-    ensures line { desk.new.line.items ≡ desk.old.line.items }
-    ensures grows { countable desk.new (state_of engine.new) ≤ countable desk.old (state_of engine.old) }
-    ensures sound { IsSound K.contents engine.new }
+    ensures { Works K.exact K.contents W.contents W.failed W.waits engine.old engine.new desk.old desk.new writer.old writer.new
+        (LeavesTurns result (rules_of engine.old) limit) result }
 {
     desk.reply.clear();
     match engine.give(limit, &mut desk.reply) {
@@ -146,16 +114,9 @@ fn drain<K: Keeper, W: Output>(
     desk: &mut Desk,
     writer: &mut W,
 ) -> Result<(), RunFault>
-    requires sound { IsSound K.contents engine.old }
-    requires few { countable desk.old (state_of engine.old) < 2 ^ 128 }
-    ensures drains { Drains result (rules_of engine.old) (state_of engine.old) (state_of engine.new) desk.old desk.new (W.contents writer.old) (W.contents writer.new) }
-    ensures failed { Remembers (W.failed writer.old) (W.failed writer.new) (is_err result) }
-    ensures sent { SendsOn result (W.waits writer.old) (W.waits writer.new) }
-    ensures none { (state_of engine.old).posted ≡ [] → engine.new ≡ engine.old }
-    ensures spare { IsTrue K.exact → IsSpare K.contents engine.old → IsSpare K.contents engine.new }
-    ensures rules { rules_of engine.new ≡ rules_of engine.old }
-    ensures slice { slice_of engine.new ≡ slice_of engine.old }
-    ensures sound { IsSound K.contents engine.new }
+    requires { CanServe K.contents engine.old desk.old 0 }
+    ensures { Works K.exact K.contents W.contents W.failed W.waits engine.old engine.new desk.old desk.new writer.old writer.new
+        (Drains result (rules_of engine.old)) result }
 {
     let mut is_open = true;
     while is_open {
@@ -170,17 +131,9 @@ fn settle_one<K: Keeper, W: Output>(
     desk: &mut Desk,
     writer: &mut W,
 ) -> Result<bool, RunFault>
-    requires sound { IsSound K.contents engine.old }
-    requires few { countable desk.old (state_of engine.old) < 2 ^ 128 }
-    ensures settles { SettlesOne result (rules_of engine.old) (state_of engine.old) (state_of engine.new) desk.old desk.new (W.contents writer.old) (W.contents writer.new) }
-    ensures failed { Remembers (W.failed writer.old) (W.failed writer.new) (is_err result) }
-    ensures sent { SendsOn result (W.waits writer.old) (W.waits writer.new) }
-    ensures none { (state_of engine.old).posted ≡ [] → engine.new ≡ engine.old }
-    ensures spare { IsTrue K.exact → IsSpare K.contents engine.old → IsSpare K.contents engine.new }
-    ensures rules { rules_of engine.new ≡ rules_of engine.old }
-    ensures slice { slice_of engine.new ≡ slice_of engine.old }
-    ensures grows { countable desk.new (state_of engine.new) ≤ countable desk.old (state_of engine.old) }
-    ensures sound { IsSound K.contents engine.new }
+    requires { CanServe K.contents engine.old desk.old 0 }
+    ensures { Works K.exact K.contents W.contents W.failed W.waits engine.old engine.new desk.old desk.new writer.old writer.new
+        (SettlesOne result (rules_of engine.old)) result }
 {
     desk.reply.clear();
     match engine.settle_first(&mut desk.reply) {
@@ -202,19 +155,8 @@ fn take_newline<K: Keeper, W: Output>(
     desk: &mut Desk,
     writer: &mut W,
 ) -> Result<(), RunFault>
-    requires sound { IsSound K.contents engine.old }
-    requires few { countable desk.old (state_of engine.old) + 3 < 2 ^ 128 }
-    ensures taken { (front : List ℕ) → IsOpen front → desk.old.line.items ≡ kept front
-        → TakesOrStops result (rules_of engine.old) (slice_of engine.old) (state_of engine.old) front (10 ∷ []) (state_of engine.new) desk.old desk.new (W.contents writer.old) (W.contents writer.new) }
-    ensures failed { Remembers (W.failed writer.old) (W.failed writer.new) (is_err result) }
-    ensures sent { SendsOn result (W.waits writer.old) (W.waits writer.new) }
-    ensures keeps { IsTrue K.exact → IsSpare K.contents engine.old → (front : List ℕ) → IsOpen front → desk.old.line.items ≡ kept front
-        → OnOk result (KeepsBytes K.contents front (10 ∷ []) engine.old engine.new desk.old desk.new) }
-    ensures spare { IsTrue K.exact → IsSpare K.contents engine.old → IsSpare K.contents engine.new }
-    ensures rules { rules_of engine.new ≡ rules_of engine.old }
-    ensures slice { slice_of engine.new ≡ slice_of engine.old }
-    ensures grows { countable desk.new (state_of engine.new) ≤ countable desk.old (state_of engine.old) + 3 }
-    ensures sound { IsSound K.contents engine.new }
+    requires { CanServe K.contents engine.old desk.old 1 }
+    ensures { TakesBytes K.exact K.contents W.contents W.failed W.waits (10 ∷ []) 1 engine.old engine.new desk.old desk.new writer.old writer.new result }
 {
     if !desk.line.is_empty() {
         serve(engine, desk, writer)?;
@@ -230,19 +172,9 @@ fn take_piece<K: Keeper, W: Output>(
     piece: &[u8],
     writer: &mut W,
 ) -> Result<(), RunFault>
-    requires sound { IsSound K.contents engine.old }
-    requires few { countable desk.old (state_of engine.old) + 3 * length piece.now < 2 ^ 128 }
-    ensures taken { (front : List ℕ) → IsOpen front → desk.old.line.items ≡ kept front
-        → TakesOrStops result (rules_of engine.old) (slice_of engine.old) (state_of engine.old) front piece.now (state_of engine.new) desk.old desk.new (W.contents writer.old) (W.contents writer.new) }
-    ensures failed { Remembers (W.failed writer.old) (W.failed writer.new) (is_err result) }
-    ensures sent { SendsOn result (W.waits writer.old) (W.waits writer.new) }
-    ensures keeps { IsTrue K.exact → IsSpare K.contents engine.old → (front : List ℕ) → IsOpen front → desk.old.line.items ≡ kept front
-        → OnOk result (KeepsBytes K.contents front piece.now engine.old engine.new desk.old desk.new) }
-    ensures spare { IsTrue K.exact → IsSpare K.contents engine.old → IsSpare K.contents engine.new }
-    ensures rules { rules_of engine.new ≡ rules_of engine.old }
-    ensures slice { slice_of engine.new ≡ slice_of engine.old }
-    ensures grows { countable desk.new (state_of engine.new) ≤ countable desk.old (state_of engine.old) + 3 * length piece.now }
-    ensures sound { IsSound K.contents engine.new }
+    requires { CanServe K.contents engine.old desk.old (length piece.now) }
+    ensures { TakesBytes K.exact K.contents W.contents W.failed W.waits piece.now (length piece.now)
+        engine.old engine.new desk.old desk.new writer.old writer.new result }
 {
     let mut rest = piece;
     while let Some((line, behind)) = at_newline(rest) {
@@ -276,19 +208,8 @@ fn finish<K: Keeper, W: Output>(
     desk: &mut Desk,
     writer: &mut W,
 ) -> Result<(), RunFault>
-    requires sound { IsSound K.contents engine.old }
-    requires few { countable desk.old (state_of engine.old) + 3 < 2 ^ 128 }
-    ensures finished { (front : List ℕ) → desk.old.line.items ≡ kept front
-        → Finishes result (rules_of engine.old) (slice_of engine.old) (state_of engine.old) front (state_of engine.new) desk.old desk.new (W.contents writer.old) (W.contents writer.new) }
-    ensures failed { Remembers (W.failed writer.old) (W.failed writer.new) (is_err result) }
-    ensures sent { SendsOn result (W.waits writer.old) (W.waits writer.new) }
-    ensures keeps { IsTrue K.exact → IsSpare K.contents engine.old → (front : List ℕ) → desk.old.line.items ≡ kept front
-        → OnOk result ((state_of engine.old).posted ≡ [] → NonePosts (filter is_filled (front ∷ [])) → desk.new.memory ≡ desk.old.memory
-        → KeepsAll K.contents (filter is_filled (front ∷ [])) engine.old engine.new) }
-    ensures spare { IsTrue K.exact → IsSpare K.contents engine.old → IsSpare K.contents engine.new }
-    ensures rules { rules_of engine.new ≡ rules_of engine.old }
-    ensures slice { slice_of engine.new ≡ slice_of engine.old }
-    ensures sound { IsSound K.contents engine.new }
+    requires { CanServe K.contents engine.old desk.old 1 }
+    ensures { FinishesAll K.exact K.contents W.contents W.failed W.waits engine.old engine.new desk.old desk.new writer.old writer.new result }
 {
     if desk.line.is_empty() {
         return drain(engine, desk, writer);
@@ -312,18 +233,8 @@ pub fn run<K: Keeper, R: Input, W: Output>(
     writer: &mut W,
 ) -> Result<Report, RunFault>
     requires sound { IsSound K.contents engine.old }
-    ensures ran { Ran max_reads result (rules_of engine.old) (slice_of engine.old) (state_of engine.old) (state_of engine.new) (R.remaining reader.old) (R.remaining reader.new) (W.contents writer.old) (W.contents writer.new) }
-    ensures failed { TellsFailures result (R.failed reader.old) (R.failed reader.new) (W.failed writer.old) (W.failed writer.new) }
-    ensures reads { MakesReads max_reads result (R.reads reader.old) (R.reads reader.new) }
-    ensures ended { TellsEnd result (R.ended reader.old) (R.ended reader.new) }
-    ensures sent { SendsAll result (W.waits writer.old) (W.waits writer.new) }
-    ensures keeps { IsTrue K.exact → IsSpare K.contents engine.old
-        → IfOk result (λ report. report.memory ≡ 0 → KeepsRun K.contents engine.old engine.new (R.remaining reader.old) (R.remaining reader.new)) }
-    ensures work { IfOk result (λ report. report.work ≡ work_of engine.new) }
-    ensures spare { IsTrue K.exact → IsSpare K.contents engine.old → IsSpare K.contents engine.new }
-    ensures rules { rules_of engine.new ≡ rules_of engine.old }
-    ensures slice { slice_of engine.new ≡ slice_of engine.old }
-    ensures sound { IsSound K.contents engine.new }
+    ensures { RunsFor K.exact K.contents R.remaining R.failed R.ended R.reads W.contents W.failed W.waits max_reads
+        engine.old engine.new reader.old reader.new writer.old writer.new result }
 {
     run_for(engine, reader, writer, READS)
 }
@@ -340,18 +251,8 @@ pub fn run_for<K: Keeper, R: Input, W: Output>(
     limit: u64,
 ) -> Result<Report, RunFault>
     requires sound { IsSound K.contents engine.old }
-    ensures ran { Ran limit result (rules_of engine.old) (slice_of engine.old) (state_of engine.old) (state_of engine.new) (R.remaining reader.old) (R.remaining reader.new) (W.contents writer.old) (W.contents writer.new) }
-    ensures failed { TellsFailures result (R.failed reader.old) (R.failed reader.new) (W.failed writer.old) (W.failed writer.new) }
-    ensures reads { MakesReads limit result (R.reads reader.old) (R.reads reader.new) }
-    ensures ended { TellsEnd result (R.ended reader.old) (R.ended reader.new) }
-    ensures sent { SendsAll result (W.waits writer.old) (W.waits writer.new) }
-    ensures keeps { IsTrue K.exact → IsSpare K.contents engine.old
-        → IfOk result (λ report. report.memory ≡ 0 → KeepsRun K.contents engine.old engine.new (R.remaining reader.old) (R.remaining reader.new)) }
-    ensures work { IfOk result (λ report. report.work ≡ work_of engine.new) }
-    ensures spare { IsTrue K.exact → IsSpare K.contents engine.old → IsSpare K.contents engine.new }
-    ensures rules { rules_of engine.new ≡ rules_of engine.old }
-    ensures slice { slice_of engine.new ≡ slice_of engine.old }
-    ensures sound { IsSound K.contents engine.new }
+    ensures { RunsFor K.exact K.contents R.remaining R.failed R.ended R.reads W.contents W.failed W.waits limit
+        engine.old engine.new reader.old reader.new writer.old writer.new result }
 {
     let version = engine.version();
     let Ok(mut desk) = Desk::new(engine.alloc) else {

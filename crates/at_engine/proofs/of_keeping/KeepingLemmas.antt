@@ -1,7 +1,6 @@
 -- What is kept over the verdict of each command.
 use Rattle.std.proofs.Common.{◌≡◌, ◌↔◌, ℕ, ◌+◌, ◌<◌, Bool, true, false, nat_eq, nat_le, count_by, if◌then◌else◌, List, [], ◌∷◌, ◌++◌, length, Option, Some, None, Result, Ok, Err, IfOk, refl, sym, ap, ◌∙◌, subst, arith}
 use Rattle.std.specs.Prelude.{IsSome}
-use Rattle.std.specs.List.{list_any}
 use Rattle.std.specs.declared.alloc.AllocError.{AllocError}
 use Rattle.at_model.specs.Trees.{Tree}
 use Rattle.at_model.specs.Paths.{Node, tree_at}
@@ -11,8 +10,8 @@ use Rattle.at_model.specs.Meaning.{Answer, Outcomes, Finds, Faults, Circle}
 use Rattle.at_model.specs.Alike.{InstanceLike, Names}
 use Rattle.at_model.specs.Edits.{Edit as EditOf}
 use Rattle.at_model.specs.Terms.{term_of}
-use Rattle.at_model.specs.Lines.{Argument, Line, Place, Show, Mark, Where, Post, Wait, Spells, last_post}
-use Rattle.at_model.specs.Machine.{State, Posted, Verdict, Refuses, Tells, Leaves, Edits, Asks, Posts, Waits, Serves, after, is_posted, marks_named, marks_used, max_posted, answer_form, at_node, obeyed, verdict, node_named, marked, path_to, with_mark, is_marked, max_marks}
+use Rattle.at_model.specs.Lines.{Argument, Line, Place, Show, Mark, Where, Post, Spells, last_post}
+use Rattle.at_model.specs.Machine.{State, Posted, Verdict, Refuses, Tells, Leaves, Edits, Asks, Posts, Waits, Serves, after, marks_named, marks_used, max_posted, answer_form, at_node, obeyed, verdict, node_named, marked, path_to, with_mark, is_marked, max_marks}
 use Rattle.at_model.specs.Replies.{Done, Refused, Reply, At, Written, reply_text}
 use Rattle.at_model.specs.Replies as code
 use Rattle.at_protocol.specs.ReplyView.{code_view}
@@ -308,13 +307,6 @@ module _ (rules : Rules) (s : State) (session : ℕ) where
       by true b = tt
       by false true = tt
       by false false = tt
-
-  pub wait_quiet : (number : ℕ) → IsQuiet (obeyed rules s session (Wait number))
-  wait_quiet number = by (list_any (is_posted session number) s.posted)
-    where
-      by : (b : Bool) → IsQuiet (if b then Waits number else Refuses code.Question)
-      by true = tt
-      by false = tt
 
 -- what is answered `true` is touched, where the answer is whether it is
 pub touched_by : (answer touched : Bool) → answer ≡ touched → true ≡ answer → touched ≡ true

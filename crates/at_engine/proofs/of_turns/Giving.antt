@@ -25,6 +25,9 @@ use Rattle.at_engine.specs.Taking.{in_line, in_turn, Gives, GivesInPart, GivesTu
 use Rattle.at_engine.proofs.Takings.{both_counted, both_written, no_count, written_behind}
 
 -- so many questions are open at most
+pub as_many_open : {K : Type 0} (e : Engine K) → length (state_of e).posted ≡ length e.posts.items.items
+as_many_open e = length-map e.posts.items.items (posted_view (path e.store))
+
 pub few_open : {K : Type 0} (e : Engine K) → length (state_of e).posted < 2 ^ 63
 few_open e = omega (arith, length-map e.posts.items.items (posted_view (path e.store)), e.posts.items.ok.0, e.posts.items.ok.1, e.posts.items.small)
 

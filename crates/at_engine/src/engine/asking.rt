@@ -32,29 +32,26 @@ fn is_text(value: &Value) -> bool
 }
 
 impl<K: Keeper> Engine<K> {
-    ghost use Rattle.std.specs.Prelude.{◌≡◌, map, option_map, IfOk, IsTrue};
+    ghost use Rattle.std.specs.Prelude.{◌≡◌, map, option_map, IfOk};
     ghost use Rattle.at_model.specs.Paths.{Node as NodeOf};
     ghost use Rattle.at_model.specs.Run.{Instance};
     ghost use Rattle.at_model.specs.Instances.{AnyText};
     ghost use Rattle.at_model.specs.TypedRuns.{IsWellTyped};
-    ghost use Rattle.at_model.specs.Meaning.{Answer as AnswerOf};
     ghost use Rattle.at_model.specs.Alike.{InstanceLike, Names};
     ghost use Rattle.at_model.specs.Lines.{Ask};
     ghost use Rattle.at_model.specs.Names.{IsName};
-    ghost use Rattle.at_model.specs.Machine.{Asks, AnswersIn, each, obeyed, parameters_of, value_named};
+    ghost use Rattle.at_model.specs.Machine.{Asks, each, obeyed, parameters_of, value_named};
     ghost use Rattle.at_protocol.specs.LineView.{argument_view, arguments_view, place_view};
     ghost use Rattle.at_rules.specs.Bodies.{kind_view};
     ghost use Rattle.at_store.specs.Shown.{contents, path as path_shown};
     ghost use Rattle.at_body.specs.Typed.{class_shown};
     ghost use Rattle.at_body.specs.Values.{value_view};
     ghost use Rattle.at_demand.specs.Right.{IsThere};
-    ghost use Rattle.at_engine.specs.Engines.{rules_of, slice_of, state_by, state_of, IsHeld, IsTyped};
+    ghost use Rattle.at_engine.specs.Commanding.{Commands, Fulfils};
+    ghost use Rattle.at_engine.specs.Engines.{rules_of, state_by, IsHeld, IsSound};
     ghost use Rattle.at_engine.specs.Answered.{AreValuesOf, IsValueOf};
-    ghost use Rattle.at_engine.specs.Asking.{IsAskedBy};
-    ghost use Rattle.at_engine.specs.Marks.{AreThere};
+    ghost use Rattle.at_engine.specs.Asking.{CanLookUp, IsAskedBy};
     ghost use Rattle.at_engine.specs.Fitting.{fits_number, fit_numbers, is_of_class};
-    ghost use Rattle.at_engine.specs.Keeping.{IsSpare, Spares};
-    ghost use Rattle.at_engine.specs.Telling.{IsToldAs, Obeys};
 
     /// What the attribute of the node is, or why there is no answer.
     pub(super) fn ask(
@@ -64,16 +61,9 @@ impl<K: Keeper> Engine<K> {
         attribute: &str,
         arguments: &[Argument<'_>],
     ) -> Result<Form, AllocError>
-        requires sound { IsHeld K.contents self.old }
-        requires typed { IsTyped (rules_of self.old) (state_of self.old) }
+        requires sound { IsSound K.contents self.old }
         requires named { IsName attribute.now }
-        ensures obeys { IfOk result (λ f. Obeys (rules_of self.old) (state_of self.old) session (Ask (place_view place.now) attribute.now (arguments_view arguments.now)) f (state_of self.new)) }
-        ensures kept { state_of self.new ≡ state_of self.old }
-        ensures spares { IsTrue K.exact → IsSpare K.contents self.old
-            → Spares K.contents (obeyed (rules_of self.old) (state_of self.old) session (Ask (place_view place.now) attribute.now (arguments_view arguments.now))) result self.old self.new }
-        ensures rules { rules_of self.new ≡ rules_of self.old }
-        ensures slice { slice_of self.new ≡ slice_of self.old }
-        ensures sound { IsHeld K.contents self.new }
+        ensures { Commands K.exact K.contents self.old session (Ask (place_view place.now) attribute.now (arguments_view arguments.now)) result self.new }
     {
         match self.asked(&self.marks, session, place, attribute, arguments)? {
             Asked::Instance(inst) => self.answer(&inst),
@@ -83,18 +73,11 @@ impl<K: Keeper> Engine<K> {
 
     /// The answer to the question for an instance.
     fn answer(&mut self, inst: &Inst) -> Result<Form, AllocError>
-        requires sound { IsHeld K.contents self.old }
-        requires typed { IsTyped (rules_of self.old) (state_of self.old) }
+        requires sound { IsSound K.contents self.old }
         requires there { IsThere self.old.store inst.now }
         requires well_typed { IsWellTyped (rules_of self.old) (class_shown self.old.store) AnyText inst.now }
-        ensures answered { (q : Instance NodeOf) → InstanceLike (Names (path_shown self.old.store)) inst.now q
-            → IfOk result (λ f. (a : AnswerOf NodeOf) × AnswersIn (rules_of self.old) (state_of self.old).tree q a × IsToldAs (rules_of self.old) (state_of self.old).tree a f) }
-        ensures kept { state_of self.new ≡ state_of self.old }
-        ensures spares { (q : Instance NodeOf) → InstanceLike (Names (path_shown self.old.store)) inst.now q → IsTrue K.exact → IsSpare K.contents self.old
-            → Spares K.contents (Asks q) result self.old self.new }
-        ensures rules { rules_of self.new ≡ rules_of self.old }
-        ensures slice { slice_of self.new ≡ slice_of self.old }
-        ensures sound { IsHeld K.contents self.new }
+        ensures { (q : Instance NodeOf) → InstanceLike (Names (path_shown self.old.store)) inst.now q
+            → Fulfils K.exact K.contents self.old (Asks q) result self.new }
     {
         let answer = self.demand.answer(&self.rules, &self.store, inst)?;
         self.told(answer)
@@ -109,10 +92,11 @@ impl<K: Keeper> Engine<K> {
         attribute: &str,
         arguments: &[Argument<'_>],
     ) -> Result<Asked, AllocError>
-        requires sound { IsHeld K.contents self.now }
-        requires there { AreThere (path_shown self.now.store) (M.marks marks.now) }
+        requires looks { CanLookUp K.contents self.now (M.marks marks.now) }
         requires named { IsName attribute.now }
-        ensures { IfOk result (IsAskedBy (rules_of self.now) self.now.store (obeyed (rules_of self.now) (state_by self.now (M.marks marks.now)) session (Ask (place_view place.now) attribute.now (arguments_view arguments.now)))) }
+        ensures { IfOk result (IsAskedBy (rules_of self.now) self.now.store
+            (obeyed (rules_of self.now) (state_by self.now (M.marks marks.now)) session
+            (Ask (place_view place.now) attribute.now (arguments_view arguments.now)))) }
     {
         let Some(node) = self.node_by(marks, session, place) else {
             return Ok(Asked::Refused(Refusal::Path));
@@ -136,9 +120,10 @@ impl<K: Keeper> Engine<K> {
         session: u16,
         arguments: &[Argument<'_>],
     ) -> Result<Option<Arguments>, AllocError>
-        requires sound { IsHeld K.contents self.now }
-        requires there { AreThere (path_shown self.now.store) (M.marks marks.now) }
-        ensures { IfOk result (λ o. AreValuesOf (path_shown self.now.store) (each (map (value_named (rules_of self.now).classes (state_by self.now (M.marks marks.now)) session) (arguments_view arguments.now))) (option_map (λ vs. vs.items) o)) }
+        requires { CanLookUp K.contents self.now (M.marks marks.now) }
+        ensures { IfOk result (λ o. AreValuesOf (path_shown self.now.store)
+            (each (map (value_named (rules_of self.now).classes (state_by self.now (M.marks marks.now)) session) (arguments_view arguments.now)))
+            (option_map (λ vs. vs.items) o)) }
     {
         let mut values = Arguments::new(self.alloc);
         for argument in arguments {
@@ -157,9 +142,9 @@ impl<K: Keeper> Engine<K> {
         session: u16,
         argument: &Argument<'_>,
     ) -> Result<Option<Value>, AllocError>
-        requires sound { IsHeld K.contents self.now }
-        requires there { AreThere (path_shown self.now.store) (M.marks marks.now) }
-        ensures { IfOk result (IsValueOf (path_shown self.now.store) (value_named (rules_of self.now).classes (state_by self.now (M.marks marks.now)) session (argument_view argument.now))) }
+        requires { CanLookUp K.contents self.now (M.marks marks.now) }
+        ensures { IfOk result (IsValueOf (path_shown self.now.store)
+            (value_named (rules_of self.now).classes (state_by self.now (M.marks marks.now)) session (argument_view argument.now))) }
     {
         match argument {
             Argument::Text(text) => {

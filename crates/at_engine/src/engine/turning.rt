@@ -1,15 +1,6 @@
 //! Turns of open questions.
 
-ghost use Rattle.std.specs.Prelude.{◌≡◌, IfOk, IsTrue};
-ghost use Rattle.at_model.specs.Meaning.{Answers as HasAnswer, Right};
-ghost use Rattle.at_model.specs.Turning.{asked};
-ghost use Rattle.at_model.specs.WellFormed.{AreWellFormed, IsTreeSound};
-ghost use Rattle.at_store.specs.Shown.{IsIdle, contents, tree};
-ghost use Rattle.at_demand.specs.Known.{answer_view, kept_values, meaning};
-ghost use Rattle.at_demand.specs.Right.{AreRight, IsThere};
-ghost use Rattle.at_demand.specs.Sparing.{AddsWorthy, AreSpare};
-ghost use Rattle.at_demand.specs.Turns.{IsSparingTurns, IsStanding, under_way};
-ghost use Rattle.at_engine.specs.Turning.{IsAskedOf};
+ghost use Rattle.at_engine.specs.Turning.{AnswersIt, CanAnswer};
 
 use super::asking::Asked;
 use super::saying::{Told, say};
@@ -43,19 +34,8 @@ fn answer_to<K: Keeper>(
     store: &Store,
     mut question: Question,
 ) -> Result<Answer, AllocError>
-    requires idle { IsIdle store.now }
-    requires formed { AreWellFormed rules.now }
-    requires sound { IsTreeSound rules.now.classes (tree store.now) }
-    requires right { Right (contents store.now) (meaning rules.now) (kept_values (K.contents demand.old.keeper)) }
-    requires standing { IsStanding rules.now store.now (K.contents demand.old.keeper) question }
-    requires named { IsAskedOf rules.now store.now (asked (under_way question)) }
-    ensures answers { IfOk result (λ a. HasAnswer (contents store.now) (meaning rules.now) (asked (under_way question)) (answer_view a)) }
-    ensures worthy { AddsWorthy rules.now (contents store.now) (asked (under_way question)) (K.contents demand.old.keeper) (K.contents demand.new.keeper) }
-    ensures stays { IsThere store.now (asked (under_way question)) → AreRight rules.now store.now (K.contents demand.old.keeper)
-        → AreRight rules.now store.now (K.contents demand.new.keeper) }
-    ensures spare { IsTrue K.exact → AreSpare rules.now (contents store.now) (K.contents demand.old.keeper)
-        → IsSparingTurns rules.now (contents store.now) (K.contents demand.old.keeper) question
-        → AreSpare rules.now (contents store.now) (K.contents demand.new.keeper) }
+    requires { CanAnswer rules.now store.now (K.contents demand.old.keeper) question }
+    ensures { AnswersIt K.exact rules.now store.now question (K.contents demand.old.keeper) (K.contents demand.new.keeper) result }
 {
     loop {
         let (_, answer) = demand.turns(rules, store, &mut question, u64::MAX)?;
@@ -66,18 +46,18 @@ fn answer_to<K: Keeper>(
 }
 
 impl<K: Keeper> Engine<K> {
-    ghost use Rattle.std.specs.Prelude.{◌≡◌, ◌+◌, ◌<◌, ◌≤◌, [], IfOk, IfSome, IsTrue, OnErr, OnOk, None, remove, vec_len, vec_capacity, length};
+    ghost use Rattle.std.specs.Prelude.{◌≡◌, ◌+◌, ◌<◌, ◌≤◌, IfOk, IsTrue, None, vec_len, vec_capacity};
     ghost use Rattle.at_store.specs.Shown.{contents, path as path_shown};
-    ghost use Rattle.at_engine.specs.Engines.{rules_of, slice_of, state_of, IsHeld, IsSound, IsTyped};
+    ghost use Rattle.at_engine.specs.Engines.{rules_of, state_of, IsSound};
     ghost use Rattle.at_engine.specs.Holding.{HasBegun};
-    ghost use Rattle.at_engine.specs.Keeping.{IsSpare, IsSparingOn};
+    ghost use Rattle.at_engine.specs.Keeping.{IsSparingOn};
     ghost use Rattle.at_engine.specs.Posted.{posted_view};
     ghost use Rattle.at_engine.specs.declared.posts.Posted.{Posted};
-    ghost use Rattle.at_engine.specs.Serving.{Spends, Settles};
     ghost use Rattle.at_engine.specs.Telling.{IsClosed, IsSaid};
     ghost use Rattle.at_protocol.specs.Writable.{IsWritable};
+    ghost use Rattle.at_engine.specs.Serving.{Calls, HasGiven, HasSettledFirst};
     ghost use Rattle.at_engine.specs.Turned.{HasTurned};
-    ghost use Rattle.at_engine.specs.Turning.{Begins, BeginsSparing, HasGone, HasSettled, StandsAt, Tried, told_of};
+    ghost use Rattle.at_engine.specs.Turning.{Attends, Begins, BeginsSparing, CanTurn, HasGone, HasSettled, IsHeldAt, StandsAt, TakesOff, Tried, told_of};
 
     /// Gives one turn to the open question with the least number, and appends the line with its answer, where it has one.
     /// Whether a question is open.
@@ -87,14 +67,7 @@ impl<K: Keeper> Engine<K> {
     /// Where room for 64 bytes is refused, and then nothing has changed. Every other want of memory is an answer.
     pub fn turn(&mut self, out: &mut Vec<u8>) -> Result<bool, AllocError>
         requires sound { IsSound K.contents self.old }
-        ensures turned { IfOk result (HasTurned K.contents self.old self.new out.old.items out.new.items) }
-        ensures spare { IsTrue K.exact → IsSpare K.contents self.old → IsSpare K.contents self.new }
-        ensures same { OnErr result (self.new ≡ self.old) }
-        ensures full { OnErr result (vec_capacity out.old < vec_len out.old + 64) }
-        ensures err { OnErr result (out.new.items ≡ out.old.items) }
-        ensures rules { rules_of self.new ≡ rules_of self.old }
-        ensures slice { slice_of self.new ≡ slice_of self.old }
-        ensures sound { IsSound K.contents self.new }
+        ensures { Calls K.exact K.contents self.old self.new out.old out.new (HasTurned K.contents self.old self.new out.old.items out.new.items) result }
     {
         out.reserve(REPLY_ROOM)?;
         if self.posts.is_empty() {
@@ -118,16 +91,7 @@ impl<K: Keeper> Engine<K> {
     pub(crate) fn give(&mut self, limit: u64, out: &mut Vec<u8>) -> Result<Spent, AllocError>
         requires sound { IsSound K.contents self.old }
         requires some { 0 < limit }
-        ensures spends { IfOk result (Spends (rules_of self.old) limit (state_of self.old) (state_of self.new) out.old.items out.new.items) }
-        ensures none { (state_of self.old).posted ≡ [] → OnOk result (self.new ≡ self.old) }
-        ensures spare { IsTrue K.exact → IsSpare K.contents self.old → IsSpare K.contents self.new }
-        ensures same { OnErr result (self.new ≡ self.old) }
-        ensures err { OnErr result (out.new.items ≡ out.old.items) }
-        ensures room { vec_capacity out.old ≤ vec_capacity out.new }
-        ensures full { OnErr result (vec_capacity out.old < vec_len out.old + 64) }
-        ensures rules { rules_of self.new ≡ rules_of self.old }
-        ensures slice { slice_of self.new ≡ slice_of self.old }
-        ensures sound { IsSound K.contents self.new }
+        ensures { Calls K.exact K.contents self.old self.new out.old out.new (HasGiven limit self.old self.new out.old.items out.new.items) result }
     {
         out.reserve(REPLY_ROOM)?;
         if self.posts.is_empty() {
@@ -156,17 +120,7 @@ impl<K: Keeper> Engine<K> {
     /// whether that is `memory`; none where no question is open.
     pub(crate) fn settle_first(&mut self, out: &mut Vec<u8>) -> Result<Option<bool>, AllocError>
         requires sound { IsSound K.contents self.old }
-        ensures settles { IfOk result (Settles (rules_of self.old) (state_of self.old) (state_of self.new) out.old.items out.new.items) }
-        ensures none { (state_of self.old).posted ≡ [] → OnOk result (self.new ≡ self.old) }
-        ensures fewer { IfOk result (λ o. IfSome o (λ wants. length self.new.posts.items.items + 1 ≡ length self.old.posts.items.items)) }
-        ensures spare { IsTrue K.exact → IsSpare K.contents self.old → IsSpare K.contents self.new }
-        ensures same { OnErr result (self.new ≡ self.old) }
-        ensures err { OnErr result (out.new.items ≡ out.old.items) }
-        ensures room { vec_capacity out.old ≤ vec_capacity out.new }
-        ensures full { OnErr result (vec_capacity out.old < vec_len out.old + 64) }
-        ensures rules { rules_of self.new ≡ rules_of self.old }
-        ensures slice { slice_of self.new ≡ slice_of self.old }
-        ensures sound { IsSound K.contents self.new }
+        ensures { Calls K.exact K.contents self.old self.new out.old out.new (HasSettledFirst self.old self.new out.old.items out.new.items) result }
     {
         out.reserve(REPLY_ROOM)?;
         if self.posts.is_empty() {
@@ -178,14 +132,9 @@ impl<K: Keeper> Engine<K> {
 
     /// What is told of a line that waits for the question at the position, which is given turns until it is answered.
     pub(super) fn wait(&mut self, position: usize) -> Told
-        requires sound { IsHeld K.contents self.old }
-        requires typed { IsTyped (rules_of self.old) (state_of self.old) }
-        requires within { position < length self.old.posts.items.items }
-        ensures closed { (p : Posted) → StandsAt self.old.posts.items.items position p
-            → IsClosed (rules_of self.old) (state_of self.old) (posted_view (path_shown self.old.store) p) (state_of self.new) result }
-        ensures rest { self.new ≡ record self.old { demand = self.new.demand; posts = self.new.posts } }
-        ensures spare { IsTrue K.exact → IsSpare K.contents self.old → IsSpare K.contents self.new }
-        ensures sound { IsHeld K.contents self.new }
+        requires { CanTurn K.contents self.old position }
+        ensures { Attends K.exact K.contents self.old self.new position
+            (λ p. IsClosed (rules_of self.old) (state_of self.old) (posted_view (path_shown self.old.store) p) (state_of self.new) result) }
     {
         let form = self.settle(position);
         self.close(position, form)
@@ -193,30 +142,20 @@ impl<K: Keeper> Engine<K> {
 
     /// Takes the question at the position off, and appends the line with its answer; whether that is `memory`.
     fn tell(&mut self, position: usize, form: Result<Form, AllocError>, out: &mut Vec<u8>) -> bool
-        requires sound { IsHeld K.contents self.old }
-        requires within { position < length self.old.posts.items.items }
+        requires there { IsHeldAt K.contents self.old position }
         requires writable { IfOk form IsWritable }
         requires room { vec_len out.old + 64 ≤ vec_capacity out.old }
-        ensures said { (p : Posted) → StandsAt self.old.posts.items.items position p
-            → IsSaid (told_of p self.old.version form) result out.old.items out.new.items }
-        ensures items { self.new.posts.items.items ≡ remove self.old.posts.items.items position }
-        ensures rest { self.new ≡ record self.old { posts = record self.new.posts { count = self.old.posts.count } } }
+        ensures off { TakesOff K.exact K.contents self.old self.new position
+            (λ p. IsSaid (told_of p self.old.version form) result out.old.items out.new.items) }
         ensures room { vec_capacity out.old ≤ vec_capacity out.new }
-        ensures spare { IsTrue K.exact → IsSpare K.contents self.old → IsSpare K.contents self.new }
-        ensures sound { IsHeld K.contents self.new }
     {
         say(self.close(position, form), out)
     }
 
     /// Takes the question at the position off; what is told of it.
     fn close(&mut self, position: usize, form: Result<Form, AllocError>) -> Told
-        requires sound { IsHeld K.contents self.old }
-        requires within { position < length self.old.posts.items.items }
-        ensures told { (p : Posted) → StandsAt self.old.posts.items.items position p → result ≡ told_of p self.old.version form }
-        ensures items { self.new.posts.items.items ≡ remove self.old.posts.items.items position }
-        ensures rest { self.new ≡ record self.old { posts = record self.new.posts { count = self.old.posts.count } } }
-        ensures spare { IsTrue K.exact → IsSpare K.contents self.old → IsSpare K.contents self.new }
-        ensures sound { IsHeld K.contents self.new }
+        requires { IsHeldAt K.contents self.old position }
+        ensures { TakesOff K.exact K.contents self.old self.new position (λ p. result ≡ told_of p self.old.version form) }
     {
         let posted = self.posts.remove(position);
         let done = Posting {
@@ -232,13 +171,8 @@ impl<K: Keeper> Engine<K> {
 
     /// One turn of the question at the position: its answer, where it has one.
     fn try_once(&mut self, position: usize) -> Result<Option<Form>, AllocError>
-        requires sound { IsHeld K.contents self.old }
-        requires typed { IsTyped (rules_of self.old) (state_of self.old) }
-        requires within { position < length self.old.posts.items.items }
-        ensures tried { (p : Posted) → StandsAt self.old.posts.items.items position p → Tried K.contents self.old self.new position p result }
-        ensures rest { self.new ≡ record self.old { demand = self.new.demand; posts = self.new.posts } }
-        ensures spare { IsTrue K.exact → IsSpare K.contents self.old → IsSpare K.contents self.new }
-        ensures sound { IsHeld K.contents self.new }
+        requires { CanTurn K.contents self.old position }
+        ensures { Attends K.exact K.contents self.old self.new position (λ p. Tried K.contents self.old self.new position p result) }
     {
         let begun = self.posts.take(position);
         let mut question = match self.begin(position, begun)? {
@@ -256,14 +190,9 @@ impl<K: Keeper> Engine<K> {
 
     /// So many turns of the question at the position, or fewer where it is answered: how many they were, and its answer.
     fn go_on(&mut self, position: usize, limit: u64) -> Result<(u64, Option<Form>), AllocError>
-        requires sound { IsHeld K.contents self.old }
-        requires typed { IsTyped (rules_of self.old) (state_of self.old) }
-        requires within { position < length self.old.posts.items.items }
+        requires ready { CanTurn K.contents self.old position }
         requires some { 0 < limit }
-        ensures gone { (p : Posted) → StandsAt self.old.posts.items.items position p → HasGone self.old self.new position limit p result }
-        ensures rest { self.new ≡ record self.old { demand = self.new.demand; posts = self.new.posts } }
-        ensures spare { IsTrue K.exact → IsSpare K.contents self.old → IsSpare K.contents self.new }
-        ensures sound { IsHeld K.contents self.new }
+        ensures { Attends K.exact K.contents self.old self.new position (λ p. HasGone self.old self.new position limit p result) }
     {
         let begun = self.posts.take(position);
         let mut question = match self.begin(position, begun)? {
@@ -284,13 +213,8 @@ impl<K: Keeper> Engine<K> {
 
     /// Turns of the question at the position until it is answered: its answer.
     fn settle(&mut self, position: usize) -> Result<Form, AllocError>
-        requires sound { IsHeld K.contents self.old }
-        requires typed { IsTyped (rules_of self.old) (state_of self.old) }
-        requires within { position < length self.old.posts.items.items }
-        ensures settled { (p : Posted) → StandsAt self.old.posts.items.items position p → HasSettled self.old self.new position p result }
-        ensures rest { self.new ≡ record self.old { demand = self.new.demand; posts = self.new.posts } }
-        ensures spare { IsTrue K.exact → IsSpare K.contents self.old → IsSpare K.contents self.new }
-        ensures sound { IsHeld K.contents self.new }
+        requires { CanTurn K.contents self.old position }
+        ensures { Attends K.exact K.contents self.old self.new position (λ p. HasSettled self.old self.new position p result) }
     {
         let begun = self.posts.take(position);
         let question = match self.begin(position, begun)? {
@@ -303,9 +227,9 @@ impl<K: Keeper> Engine<K> {
 
     /// What was done for the question at the position; where nothing was, its words are looked at.
     fn begin(&self, position: usize, begun: Option<Question>) -> Result<Begun, AllocError>
-        requires sound { IsHeld K.contents self.now }
-        requires within { position < length self.now.posts.items.items }
-        ensures begins { (p : Posted) → StandsAt self.now.posts.items.items position p → HasBegun (rules_of self.now) self.now.store (K.contents self.now.demand.keeper) p begun
+        requires { IsHeldAt K.contents self.now position }
+        ensures begins { (p : Posted) → StandsAt self.now.posts.items.items position p
+            → HasBegun (rules_of self.now) self.now.store (K.contents self.now.demand.keeper) p begun
             → IfOk result (Begins (rules_of self.now) self.now.store (K.contents self.now.demand.keeper) p begun) }
         ensures sparing { IsSparingOn (rules_of self.now) (contents self.now.store) (K.contents self.now.demand.keeper) begun
             → IfOk result (BeginsSparing (rules_of self.now) (contents self.now.store) (K.contents self.now.demand.keeper)) }
@@ -318,8 +242,7 @@ impl<K: Keeper> Engine<K> {
 
     /// A question for the words at the position, or why they are refused.
     fn begin_anew(&self, position: usize) -> Result<Begun, AllocError>
-        requires sound { IsHeld K.contents self.now }
-        requires within { position < length self.now.posts.items.items }
+        requires { IsHeldAt K.contents self.now position }
         ensures begins { (p : Posted) → StandsAt self.now.posts.items.items position p
             → IfOk result (Begins (rules_of self.now) self.now.store (K.contents self.now.demand.keeper) p None) }
         ensures sparing { IfOk result (BeginsSparing (rules_of self.now) (contents self.now.store) (K.contents self.now.demand.keeper)) }

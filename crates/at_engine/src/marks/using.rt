@@ -107,7 +107,8 @@ impl Marks {
         place: &Place<'_>,
         arguments: &[Argument<'_>],
     ) -> Result<Noted, AllocError>
-        ensures { IfOk result (λ ms. Copies session (marks_in (place_view place.now) ++ flat_map marks_in_argument (arguments_view arguments.now)) (listed self.now.items.entries) [] ms.items.items) }
+        ensures { IfOk result (λ ms. Copies session
+            (marks_in (place_view place.now) ++ flat_map marks_in_argument (arguments_view arguments.now)) (listed self.now.items.entries) [] ms.items.items) }
     {
         let mut copies = Noted::new(alloc);
         self.copy_in(alloc, session, place, &mut copies)?;
@@ -125,7 +126,8 @@ impl Marks {
         argument: &Argument<'_>,
         copies: &mut Noted,
     ) -> Result<(), AllocError>
-        ensures { OnOk result (Copies session (marks_in_argument (argument_view argument.now)) (listed self.now.items.entries) copies.old.items.items copies.new.items.items) }
+        ensures { OnOk result (Copies session (marks_in_argument (argument_view argument.now)) (listed self.now.items.entries)
+            copies.old.items.items copies.new.items.items) }
     {
         match argument {
             Argument::Node(place) => self.copy_in(alloc, session, place, copies),

@@ -30,50 +30,139 @@ loop-turn-init g c = record {
   open_few = few_open c.args.engine.now;
 }
 
-pub returns-in_err-finish-clause-ran : goal.returns-in_err-finish-clause-ran
-returns-in_err-finish-clause-ran g c =
-    let p = err_from_is_err_and c.from_residual.result c.from_residual.ensures.1 in
-    let contents = g.W.Output.contents in
-    let inv = c.loop-turn.invariant.so_far in
-    let rules = rules_of c.args.engine.now in
-    let slice = slice_of c.args.engine.now in
-    let t = inv.3 in
-    let f = c.in_err-finish.ensures.finished t.rest t.line in
-    let h = finish_stops_under rules _ slice _ (state_of c.loop-turn.engine) (state_of c.finish.new.engine) t.rest (contents c.loop-turn.writer) (contents c.finish.new.writer) c.loop-turn.invariant.rules c.loop-turn.invariant.slice f.1 in
-    let read = at_end _ _ _ inv.0 c.in-Ok-read.count c.read.new.piece c.if-count-eq0.true inv.1 c.in-Ok-read.ensures.bytes.0 in
-    let room : 0 < length c.read.new.piece = omega (arith, c.read.auto.piece) in
-    rw (p.1, p.2, f.0) (cut_off_at_end rules slice _ _ _ inv.0 _ _ _ _ _ c.in-Ok.desk c.loop-turn.desk t h read (c.in-Ok-read.ensures.bytes.1 c.if-count-eq0.true room))
+pub returns-in_err-finish : goal.returns-in_err-finish
+returns-in_err-finish g c = record {
+  ran =
+      let p = err_from_is_err_and c.from_residual.result c.from_residual.ensures.1 in
+      let contents = g.W.Output.contents in
+      let inv = c.loop-turn.invariant.so_far in
+      let rules = rules_of c.args.engine.now in
+      let slice = slice_of c.args.engine.now in
+      let t = inv.3 in
+      let f = c.in_err-finish.ensures.finished t.rest t.line in
+      let h = finish_stops_under rules _ slice _ (state_of c.loop-turn.engine) (state_of c.finish.new.engine) t.rest (contents c.loop-turn.writer) (contents c.finish.new.writer) c.loop-turn.invariant.rules c.loop-turn.invariant.slice f.1 in
+      let read = at_end _ _ _ inv.0 c.in-Ok-read.count c.read.new.piece c.if-count-eq0.true inv.1 c.in-Ok-read.ensures.bytes.0 in
+      let room : 0 < length c.read.new.piece = omega (arith, c.read.auto.piece) in
+      rw (p.1, p.2, f.0) (cut_off_at_end rules slice _ _ _ inv.0 _ _ _ _ _ c.in-Ok.desk c.loop-turn.desk t h read (c.in-Ok-read.ensures.bytes.1 c.if-count-eq0.true room));
+  failed =
+      let p = err_from_is_err_and c.from_residual.result c.from_residual.ensures.1 in
+      let t = c.loop-turn.invariant.so_far.3 in
+      let f = c.in_err-finish.ensures.finished t.rest t.line in
+      rw (p.1, p.2, f.0) (then_calls _ _ _ false c.loop-turn.invariant.read c.in-Ok-read.ensures.failed, then_calls _ _ _ true c.loop-turn.invariant.written c.in_err-finish.ensures.goes.failed);
+  reads =
+      let p = err_from_is_err_and c.from_residual.result c.from_residual.ensures.1 in
+      let t = c.loop-turn.invariant.so_far.3 in
+      let f = c.in_err-finish.ensures.finished t.rest t.line in
+      rw (p.1, p.2, f.0) (c.loop-turn.turn + 1, omega arith, counted_on _ _ _ c.loop-turn.turn 1 c.loop-turn.invariant.reads c.in-Ok-read.ensures.counted);
+  ended =
+      let p = err_from_is_err_and c.from_residual.result c.from_residual.ensures.1 in
+      let t = c.loop-turn.invariant.so_far.3 in
+      let f = c.in_err-finish.ensures.finished t.rest t.line in
+      rw (p.1, p.2, f.0) tt;
+  sent =
+      let p = err_from_is_err_and c.from_residual.result c.from_residual.ensures.1 in
+      let t = c.loop-turn.invariant.so_far.3 in
+      let f = c.in_err-finish.ensures.finished t.rest t.line in
+      rw (p.1, p.2, f.0) (λ well none. absurd (true≢false well));
+  keeps = λ exact spare. let p = err_from_is_err_and c.from_residual.result c.from_residual.ensures.1 in rw p.1 tt;
+  work = let p = err_from_is_err_and c.from_residual.result c.from_residual.ensures.1 in rw p.1 tt;
+  spare = λ exact spare. c.in_err-finish.ensures.goes.spare exact (c.loop-turn.invariant.spare exact spare);
+  rules = c.in_err-finish.ensures.goes.rules ∙ c.loop-turn.invariant.rules;
+  slice = c.in_err-finish.ensures.goes.slice ∙ c.loop-turn.invariant.slice;
+  sound = c.in_err-finish.ensures.goes.sound;
+}
 
-pub returns-then-count-eq0-clause-ran : goal.returns-then-count-eq0-clause-ran
-returns-then-count-eq0-clause-ran g c =
-    let contents = g.W.Output.contents in
-    let inv = c.loop-turn.invariant.so_far in
-    let rules = rules_of c.args.engine.now in
-    let slice = slice_of c.args.engine.now in
-    let t = inv.3 in
-    let f = finished_under rules _ slice _ (state_of c.loop-turn.engine) (state_of c.finish.new.engine) t.rest c.loop-turn.desk c.finish.new.desk (contents c.loop-turn.writer) (contents c.finish.new.writer) c.loop-turn.invariant.rules c.loop-turn.invariant.slice (c.in_ok-finish.ensures.finished t.rest t.line) in
-    let read = at_end _ _ _ inv.0 c.in-Ok-read.count c.read.new.piece c.if-count-eq0.true inv.1 c.in-Ok-read.ensures.bytes.0 in
-    let room : 0 < length c.read.new.piece = omega (arith, c.read.auto.piece) in
-    ended rules slice _ _ _ inv.0 _ _ _ _ _ c.in-Ok.desk c.loop-turn.desk c.finish.new.desk c.report.result t f read (c.in-Ok-read.ensures.bytes.1 c.if-count-eq0.true room)
-    c.in-Ok.ensures.lines c.in-Ok.ensures.memory c.report.ensures.lines c.report.ensures.memory (omega (arith, c.report.ensures.accepted, c.saturating_sub-accepted.ensures, c.version.ensures, c.version-version.ensures))
+pub returns-then-count-eq0 : goal.returns-then-count-eq0
+returns-then-count-eq0 g c = record {
+  ran =
+      let contents = g.W.Output.contents in
+      let inv = c.loop-turn.invariant.so_far in
+      let rules = rules_of c.args.engine.now in
+      let slice = slice_of c.args.engine.now in
+      let t = inv.3 in
+      let f = finished_under rules _ slice _ (state_of c.loop-turn.engine) (state_of c.finish.new.engine) t.rest c.loop-turn.desk c.finish.new.desk (contents c.loop-turn.writer) (contents c.finish.new.writer) c.loop-turn.invariant.rules c.loop-turn.invariant.slice (c.in_ok-finish.ensures.finished t.rest t.line) in
+      let read = at_end _ _ _ inv.0 c.in-Ok-read.count c.read.new.piece c.if-count-eq0.true inv.1 c.in-Ok-read.ensures.bytes.0 in
+      let room : 0 < length c.read.new.piece = omega (arith, c.read.auto.piece) in
+      ended rules slice _ _ _ inv.0 _ _ _ _ _ c.in-Ok.desk c.loop-turn.desk c.finish.new.desk c.report.result t f read (c.in-Ok-read.ensures.bytes.1 c.if-count-eq0.true room)
+      c.in-Ok.ensures.lines c.in-Ok.ensures.memory c.report.ensures.lines c.report.ensures.memory (omega (arith, c.report.ensures.accepted, c.saturating_sub-accepted.ensures, c.version.ensures, c.version-version.ensures));
+  failed = (then_calls _ _ _ false c.loop-turn.invariant.read c.in-Ok-read.ensures.failed, then_calls _ _ _ false c.loop-turn.invariant.written c.in_ok-finish.ensures.goes.failed);
+  reads = (c.loop-turn.turn + 1, omega arith, counted_on _ _ _ c.loop-turn.turn 1 c.loop-turn.invariant.reads c.in-Ok-read.ensures.counted);
+  ended =
+      then_calls _ _ _ true c.loop-turn.invariant.ended (subst (Remembers _ _) (ap (λ (n : ℕ). nat_eq n 0) c.if-count-eq0.true) c.in-Ok-read.ensures.ended);
+  sent = λ well none. c.in_ok-finish.ensures.goes.sent (c.loop-turn.invariant.sent none);
+  keeps = λ exact spare none.
+      let inv = c.loop-turn.invariant.so_far in
+      let t = inv.3 in
+      let f = c.in_ok-finish.ensures.finished t.rest t.line in
+      let p = inv.4 exact spare in
+      let later : c.finish.new.desk.memory ≡ c.loop-turn.desk.memory = omega (arith, none, c.report.ensures.memory, f.counts.memory, t.counts.memory) in
+      let first : c.loop-turn.desk.memory ≡ c.in-Ok.desk.memory = omega (arith, none, c.report.ensures.memory, f.counts.memory, t.counts.memory) in
+      let read = at_end _ _ _ inv.0 c.in-Ok-read.count c.read.new.piece c.if-count-eq0.true inv.1 c.in-Ok-read.ensures.bytes.0 in
+      keeps_run g.K.Keeper.contents c.args.engine.now c.loop-turn.engine c.finish.new.engine inv.0 _ _ c.in-Ok.desk c.loop-turn.desk read c.loop-turn.invariant.rules first p (λ open_none no_post. c.in_ok-finish.ensures.keeps exact (c.loop-turn.invariant.spare exact spare) p.rest p.line open_none no_post later);
+  work = c.report.ensures.work ∙ c.work.ensures;
+  spare = λ exact spare. c.in_ok-finish.ensures.goes.spare exact (c.loop-turn.invariant.spare exact spare);
+  rules = c.in_ok-finish.ensures.goes.rules ∙ c.loop-turn.invariant.rules;
+  slice = c.in_ok-finish.ensures.goes.slice ∙ c.loop-turn.invariant.slice;
+  sound = c.in_ok-finish.ensures.goes.sound;
+}
 
-pub returns-in_err-take_piece-clause-ran : goal.returns-in_err-take_piece-clause-ran
-returns-in_err-take_piece-clause-ran g c =
-    let p = err_from_is_err_and c.from_residual-in_err-take_piece.result c.from_residual-in_err-take_piece.ensures.1 in
-    let contents = g.W.Output.contents in
-    let inv = c.loop-turn.invariant.so_far in
-    let rules = rules_of c.args.engine.now in
-    let slice = slice_of c.args.engine.now in
-    let piece = take c.in-Ok-read.count c.read.new.piece in
-    let t = inv.3 in
-    let u = c.in_err-take_piece.ensures.taken t.rest t.progress.open' t.line in
-    let v = stops_under rules _ slice _ (state_of c.loop-turn.engine) (state_of c.take_piece.new.engine) t.rest piece (contents c.loop-turn.writer) (contents c.take_piece.new.writer) c.loop-turn.invariant.rules c.loop-turn.invariant.slice u.1 in
-    rw (p.1, p.2, u.0) (cut_off rules slice _ _ (inv.0 ++ piece) _ _ _ _ (stopped_later rules slice _ _ _ [] inv.0 piece _ _ _ _ _ t v) (Consumes-trans _ _ _ _ _ inv.1 c.in-Ok-read.ensures.bytes.0))
+pub returns-in_err-take_piece : goal.returns-in_err-take_piece
+returns-in_err-take_piece g c = record {
+  ran =
+      let p = err_from_is_err_and c.from_residual-in_err-take_piece.result c.from_residual-in_err-take_piece.ensures.1 in
+      let contents = g.W.Output.contents in
+      let inv = c.loop-turn.invariant.so_far in
+      let rules = rules_of c.args.engine.now in
+      let slice = slice_of c.args.engine.now in
+      let piece = take c.in-Ok-read.count c.read.new.piece in
+      let t = inv.3 in
+      let u = c.in_err-take_piece.ensures.taken t.rest t.progress.open' t.line in
+      let v = stops_under rules _ slice _ (state_of c.loop-turn.engine) (state_of c.take_piece.new.engine) t.rest piece (contents c.loop-turn.writer) (contents c.take_piece.new.writer) c.loop-turn.invariant.rules c.loop-turn.invariant.slice u.1 in
+      rw (p.1, p.2, u.0) (cut_off rules slice _ _ (inv.0 ++ piece) _ _ _ _ (stopped_later rules slice _ _ _ [] inv.0 piece _ _ _ _ _ t v) (Consumes-trans _ _ _ _ _ inv.1 c.in-Ok-read.ensures.bytes.0));
+  failed =
+      let p = err_from_is_err_and c.from_residual-in_err-take_piece.result c.from_residual-in_err-take_piece.ensures.1 in
+      let t = c.loop-turn.invariant.so_far.3 in
+      let u = c.in_err-take_piece.ensures.taken t.rest t.progress.open' t.line in
+      rw (p.1, p.2, u.0) (then_calls _ _ _ false c.loop-turn.invariant.read c.in-Ok-read.ensures.failed, then_calls _ _ _ true c.loop-turn.invariant.written c.in_err-take_piece.ensures.goes.failed);
+  reads =
+      let p = err_from_is_err_and c.from_residual-in_err-take_piece.result c.from_residual-in_err-take_piece.ensures.1 in
+      let t = c.loop-turn.invariant.so_far.3 in
+      let u = c.in_err-take_piece.ensures.taken t.rest t.progress.open' t.line in
+      rw (p.1, p.2, u.0) (c.loop-turn.turn + 1, omega arith, counted_on _ _ _ c.loop-turn.turn 1 c.loop-turn.invariant.reads c.in-Ok-read.ensures.counted);
+  ended =
+      let p = err_from_is_err_and c.from_residual-in_err-take_piece.result c.from_residual-in_err-take_piece.ensures.1 in
+      let t = c.loop-turn.invariant.so_far.3 in
+      let u = c.in_err-take_piece.ensures.taken t.rest t.progress.open' t.line in
+      rw (p.1, p.2, u.0) tt;
+  sent =
+      let p = err_from_is_err_and c.from_residual-in_err-take_piece.result c.from_residual-in_err-take_piece.ensures.1 in
+      let t = c.loop-turn.invariant.so_far.3 in
+      let u = c.in_err-take_piece.ensures.taken t.rest t.progress.open' t.line in
+      rw (p.1, p.2, u.0) (λ well none. absurd (true≢false well));
+  keeps = λ exact spare. let p = err_from_is_err_and c.from_residual-in_err-take_piece.result c.from_residual-in_err-take_piece.ensures.1 in rw p.1 tt;
+  work = let p = err_from_is_err_and c.from_residual-in_err-take_piece.result c.from_residual-in_err-take_piece.ensures.1 in rw p.1 tt;
+  spare = λ exact spare. c.in_err-take_piece.ensures.goes.spare exact (c.loop-turn.invariant.spare exact spare);
+  rules = c.in_err-take_piece.ensures.goes.rules ∙ c.loop-turn.invariant.rules;
+  slice = c.in_err-take_piece.ensures.goes.slice ∙ c.loop-turn.invariant.slice;
+  sound = c.in_err-take_piece.ensures.goes.sound;
+}
 
-pub returns-in-Err-clause-ran : goal.returns-in-Err-clause-ran
-returns-in-Err-clause-ran g c =
-    let inv = c.loop-turn.invariant.so_far in
-    broke_off (rules_of c.args.engine.now) (slice_of c.args.engine.now) (state_of c.args.engine.now) (state_of c.loop-turn.engine) inv.0 _ _ _ _ c.in-Ok.desk c.loop-turn.desk 0 inv.3 (Consumes-kept _ _ _ inv.0 inv.1 c.in-Err.ensures.bytes) (omega arith)
+pub returns-in-Err : goal.returns-in-Err
+returns-in-Err g c = record {
+  ran =
+      let inv = c.loop-turn.invariant.so_far in
+      broke_off (rules_of c.args.engine.now) (slice_of c.args.engine.now) (state_of c.args.engine.now) (state_of c.loop-turn.engine) inv.0 _ _ _ _ c.in-Ok.desk c.loop-turn.desk 0 inv.3 (Consumes-kept _ _ _ inv.0 inv.1 c.in-Err.ensures.bytes) (omega arith);
+  failed = (then_calls _ _ _ true c.loop-turn.invariant.read c.in-Err.ensures.failed, c.loop-turn.invariant.written);
+  reads = (c.loop-turn.turn + 1, omega arith, counted_on _ _ _ c.loop-turn.turn 1 c.loop-turn.invariant.reads c.in-Err.ensures.counted);
+  ended = then_calls _ _ _ false c.loop-turn.invariant.ended c.in-Err.ensures.ended;
+  sent = λ well none. c.loop-turn.invariant.sent none;
+  keeps = λ exact spare. tt;
+  work = tt;
+  spare = c.loop-turn.invariant.spare;
+  rules = c.loop-turn.invariant.rules;
+  slice = c.loop-turn.invariant.slice;
+  sound = c.loop-turn.invariant.sound;
+}
 
 pub loop-turn-preserved : goal.loop-turn-preserved
 loop-turn-preserved g c =
@@ -96,134 +185,29 @@ loop-turn-preserved g c =
       read = then_calls _ _ _ false c.loop-turn.invariant.read c.in-Ok-read.ensures.failed;
       ended = then_calls _ _ _ false c.loop-turn.invariant.ended (subst (Remembers _ _) (not_zero c.in-Ok-read.count brought) c.in-Ok-read.ensures.ended);
       reads = counted_on _ _ _ c.loop-turn.turn 1 c.loop-turn.invariant.reads c.in-Ok-read.ensures.counted;
-      written = then_calls _ _ _ false c.loop-turn.invariant.written c.in_ok-take_piece.ensures.failed;
-      sent = λ none. c.in_ok-take_piece.ensures.sent (c.loop-turn.invariant.sent none);
-      spare = λ exact spare. c.in_ok-take_piece.ensures.spare exact (c.loop-turn.invariant.spare exact spare);
-      rules = c.in_ok-take_piece.ensures.rules ∙ c.loop-turn.invariant.rules;
-      slice = c.in_ok-take_piece.ensures.slice ∙ c.loop-turn.invariant.slice;
-      sound = c.in_ok-take_piece.ensures.sound;
+      written = then_calls _ _ _ false c.loop-turn.invariant.written c.in_ok-take_piece.ensures.goes.failed;
+      sent = λ none. c.in_ok-take_piece.ensures.goes.sent (c.loop-turn.invariant.sent none);
+      spare = λ exact spare. c.in_ok-take_piece.ensures.goes.spare exact (c.loop-turn.invariant.spare exact spare);
+      rules = c.in_ok-take_piece.ensures.goes.rules ∙ c.loop-turn.invariant.rules;
+      slice = c.in_ok-take_piece.ensures.goes.slice ∙ c.loop-turn.invariant.slice;
+      sound = c.in_ok-take_piece.ensures.goes.sound;
       open_few = c.loop-turn.invariant.open_few;
-      few = omega (arith, c.in_ok-take_piece.ensures.grows, c.loop-turn.invariant.few, c.in-Ok-read.ensures.bound.1, c.in-Ok-read.ensures.bound.0, c.read.auto.piece);
+      few = omega (arith, c.in_ok-take_piece.ensures.goes.grows, c.loop-turn.invariant.few, c.in-Ok-read.ensures.bound.1, c.in-Ok-read.ensures.bound.0, c.read.auto.piece);
     }
 
-pub returns-then-count-eq0-clause-keeps : goal.returns-then-count-eq0-clause-keeps
-returns-then-count-eq0-clause-keeps g c exact spare none =
-    let inv = c.loop-turn.invariant.so_far in
-    let t = inv.3 in
-    let f = c.in_ok-finish.ensures.finished t.rest t.line in
-    let p = inv.4 exact spare in
-    let later : c.finish.new.desk.memory ≡ c.loop-turn.desk.memory = omega (arith, none, c.report.ensures.memory, f.counts.memory, t.counts.memory) in
-    let first : c.loop-turn.desk.memory ≡ c.in-Ok.desk.memory = omega (arith, none, c.report.ensures.memory, f.counts.memory, t.counts.memory) in
-    let read = at_end _ _ _ inv.0 c.in-Ok-read.count c.read.new.piece c.if-count-eq0.true inv.1 c.in-Ok-read.ensures.bytes.0 in
-    keeps_run g.K.Keeper.contents c.args.engine.now c.loop-turn.engine c.finish.new.engine inv.0 _ _ c.in-Ok.desk c.loop-turn.desk read c.loop-turn.invariant.rules first p (λ open_none no_post. c.in_ok-finish.ensures.keeps exact (c.loop-turn.invariant.spare exact spare) p.rest p.line open_none no_post later)
-
-pub returns-in_err-finish-clause-keeps : goal.returns-in_err-finish-clause-keeps
-returns-in_err-finish-clause-keeps g c exact spare = let p = err_from_is_err_and c.from_residual.result c.from_residual.ensures.1 in rw p.1 tt
-
-pub returns-in_err-take_piece-clause-keeps : goal.returns-in_err-take_piece-clause-keeps
-returns-in_err-take_piece-clause-keeps g c exact spare = let p = err_from_is_err_and c.from_residual-in_err-take_piece.result c.from_residual-in_err-take_piece.ensures.1 in rw p.1 tt
-
-pub returns-then-count-eq0-clause-work : goal.returns-then-count-eq0-clause-work
-returns-then-count-eq0-clause-work g c = c.report.ensures.work ∙ c.work.ensures
-
-pub returns-in_err-finish-clause-spare : goal.returns-in_err-finish-clause-spare
-returns-in_err-finish-clause-spare g c exact spare = c.in_err-finish.ensures.spare exact (c.loop-turn.invariant.spare exact spare)
-
-pub returns-then-count-eq0-clause-spare : goal.returns-then-count-eq0-clause-spare
-returns-then-count-eq0-clause-spare g c exact spare = c.in_ok-finish.ensures.spare exact (c.loop-turn.invariant.spare exact spare)
-
-pub returns-in_err-take_piece-clause-spare : goal.returns-in_err-take_piece-clause-spare
-returns-in_err-take_piece-clause-spare g c exact spare = c.in_err-take_piece.ensures.spare exact (c.loop-turn.invariant.spare exact spare)
-
-pub returns-in_err-finish-clause-failed : goal.returns-in_err-finish-clause-failed
-returns-in_err-finish-clause-failed g c =
-    let p = err_from_is_err_and c.from_residual.result c.from_residual.ensures.1 in
-    let t = c.loop-turn.invariant.so_far.3 in
-    let f = c.in_err-finish.ensures.finished t.rest t.line in
-    rw (p.1, p.2, f.0) (then_calls _ _ _ false c.loop-turn.invariant.read c.in-Ok-read.ensures.failed, then_calls _ _ _ true c.loop-turn.invariant.written c.in_err-finish.ensures.failed)
-
-pub returns-then-count-eq0-clause-failed : goal.returns-then-count-eq0-clause-failed
-returns-then-count-eq0-clause-failed g c = (then_calls _ _ _ false c.loop-turn.invariant.read c.in-Ok-read.ensures.failed, then_calls _ _ _ false c.loop-turn.invariant.written c.in_ok-finish.ensures.failed)
-
-pub returns-in_err-take_piece-clause-failed : goal.returns-in_err-take_piece-clause-failed
-returns-in_err-take_piece-clause-failed g c =
-    let p = err_from_is_err_and c.from_residual-in_err-take_piece.result c.from_residual-in_err-take_piece.ensures.1 in
-    let t = c.loop-turn.invariant.so_far.3 in
-    let u = c.in_err-take_piece.ensures.taken t.rest t.progress.open' t.line in
-    rw (p.1, p.2, u.0) (then_calls _ _ _ false c.loop-turn.invariant.read c.in-Ok-read.ensures.failed, then_calls _ _ _ true c.loop-turn.invariant.written c.in_err-take_piece.ensures.failed)
-
-pub returns-in-Err-clause-failed : goal.returns-in-Err-clause-failed
-returns-in-Err-clause-failed g c = (then_calls _ _ _ true c.loop-turn.invariant.read c.in-Err.ensures.failed, c.loop-turn.invariant.written)
-
-pub returns-clause-failed : goal.returns-clause-failed
-returns-clause-failed g c = (c.loop-turn.invariant.read, c.loop-turn.invariant.written)
-
-pub returns-in_err-finish-clause-reads : goal.returns-in_err-finish-clause-reads
-returns-in_err-finish-clause-reads g c =
-    let p = err_from_is_err_and c.from_residual.result c.from_residual.ensures.1 in
-    let t = c.loop-turn.invariant.so_far.3 in
-    let f = c.in_err-finish.ensures.finished t.rest t.line in
-    rw (p.1, p.2, f.0) (c.loop-turn.turn + 1, omega arith, counted_on _ _ _ c.loop-turn.turn 1 c.loop-turn.invariant.reads c.in-Ok-read.ensures.counted)
-
-pub returns-then-count-eq0-clause-reads : goal.returns-then-count-eq0-clause-reads
-returns-then-count-eq0-clause-reads g c = (c.loop-turn.turn + 1, omega arith, counted_on _ _ _ c.loop-turn.turn 1 c.loop-turn.invariant.reads c.in-Ok-read.ensures.counted)
-
-pub returns-in_err-take_piece-clause-reads : goal.returns-in_err-take_piece-clause-reads
-returns-in_err-take_piece-clause-reads g c =
-    let p = err_from_is_err_and c.from_residual-in_err-take_piece.result c.from_residual-in_err-take_piece.ensures.1 in
-    let t = c.loop-turn.invariant.so_far.3 in
-    let u = c.in_err-take_piece.ensures.taken t.rest t.progress.open' t.line in
-    rw (p.1, p.2, u.0) (c.loop-turn.turn + 1, omega arith, counted_on _ _ _ c.loop-turn.turn 1 c.loop-turn.invariant.reads c.in-Ok-read.ensures.counted)
-
-pub returns-in-Err-clause-reads : goal.returns-in-Err-clause-reads
-returns-in-Err-clause-reads g c = (c.loop-turn.turn + 1, omega arith, counted_on _ _ _ c.loop-turn.turn 1 c.loop-turn.invariant.reads c.in-Err.ensures.counted)
-
-pub returns-clause-reads : goal.returns-clause-reads
-returns-clause-reads g c = (c.loop-turn.turn, omega arith, c.loop-turn.invariant.reads)
-
-pub returns-in_err-finish-clause-ended : goal.returns-in_err-finish-clause-ended
-returns-in_err-finish-clause-ended g c =
-    let p = err_from_is_err_and c.from_residual.result c.from_residual.ensures.1 in
-    let t = c.loop-turn.invariant.so_far.3 in
-    let f = c.in_err-finish.ensures.finished t.rest t.line in
-    rw (p.1, p.2, f.0) tt
-
-pub returns-then-count-eq0-clause-ended : goal.returns-then-count-eq0-clause-ended
-returns-then-count-eq0-clause-ended g c =
-    then_calls _ _ _ true c.loop-turn.invariant.ended (subst (Remembers _ _) (ap (λ (n : ℕ). nat_eq n 0) c.if-count-eq0.true) c.in-Ok-read.ensures.ended)
-
-pub returns-in_err-take_piece-clause-ended : goal.returns-in_err-take_piece-clause-ended
-returns-in_err-take_piece-clause-ended g c =
-    let p = err_from_is_err_and c.from_residual-in_err-take_piece.result c.from_residual-in_err-take_piece.ensures.1 in
-    let t = c.loop-turn.invariant.so_far.3 in
-    let u = c.in_err-take_piece.ensures.taken t.rest t.progress.open' t.line in
-    rw (p.1, p.2, u.0) tt
-
-pub returns-in-Err-clause-ended : goal.returns-in-Err-clause-ended
-returns-in-Err-clause-ended g c = then_calls _ _ _ false c.loop-turn.invariant.ended c.in-Err.ensures.ended
-
-pub returns-clause-ended : goal.returns-clause-ended
-returns-clause-ended g c = c.loop-turn.invariant.ended
-
-pub returns-in_err-finish-clause-sent : goal.returns-in_err-finish-clause-sent
-returns-in_err-finish-clause-sent g c =
-    let p = err_from_is_err_and c.from_residual.result c.from_residual.ensures.1 in
-    let t = c.loop-turn.invariant.so_far.3 in
-    let f = c.in_err-finish.ensures.finished t.rest t.line in
-    rw (p.1, p.2, f.0) (λ well none. absurd (true≢false well))
-
-pub returns-then-count-eq0-clause-sent : goal.returns-then-count-eq0-clause-sent
-returns-then-count-eq0-clause-sent g c well none = c.in_ok-finish.ensures.sent (c.loop-turn.invariant.sent none)
-
-pub returns-in_err-take_piece-clause-sent : goal.returns-in_err-take_piece-clause-sent
-returns-in_err-take_piece-clause-sent g c =
-    let p = err_from_is_err_and c.from_residual-in_err-take_piece.result c.from_residual-in_err-take_piece.ensures.1 in
-    let t = c.loop-turn.invariant.so_far.3 in
-    let u = c.in_err-take_piece.ensures.taken t.rest t.progress.open' t.line in
-    rw (p.1, p.2, u.0) (λ well none. absurd (true≢false well))
-
-pub returns-in-Err-clause-sent : goal.returns-in-Err-clause-sent
-returns-in-Err-clause-sent g c well none = c.loop-turn.invariant.sent none
-
-pub returns-clause-sent : goal.returns-clause-sent
-returns-clause-sent g c well none = c.loop-turn.invariant.sent none
+pub returns : goal.returns
+returns g c = record {
+  ran =
+      let inv = c.loop-turn.invariant.so_far in
+      broke_off (rules_of c.args.engine.now) (slice_of c.args.engine.now) (state_of c.args.engine.now) (state_of c.loop-turn.engine) inv.0 _ _ _ _ c.in-Ok.desk c.loop-turn.desk c.args.limit inv.3 inv.1 (omega (arith, inv.2));
+  failed = (c.loop-turn.invariant.read, c.loop-turn.invariant.written);
+  reads = (c.loop-turn.turn, omega arith, c.loop-turn.invariant.reads);
+  ended = c.loop-turn.invariant.ended;
+  sent = λ well none. c.loop-turn.invariant.sent none;
+  keeps = λ exact spare. tt;
+  work = tt;
+  spare = c.loop-turn.invariant.spare;
+  rules = c.loop-turn.invariant.rules;
+  slice = c.loop-turn.invariant.slice;
+  sound = c.loop-turn.invariant.sound;
+}

@@ -1,11 +1,11 @@
-use Rattle.std.specs.Prelude.{IsTrue, false}
-use Rattle.std.proofs.Common.{◌≡◌, ◌+◌, ◌*◌, ◌≤◌, ◌++◌, List, ℕ, length}
-use Rattle.at_engine.specs.Ends.{Remembers}
+use Rattle.std.specs.Prelude.{IsTrue}
+use Rattle.std.proofs.Common.{◌≡◌, ◌++◌, List, ℕ, Ok, length}
+use Rattle.at_engine.specs.Going.{Goes}
 use Rattle.at_engine.specs.Loop.{IsOpen, kept}
-use Rattle.at_engine.specs.Taking.{Takes, countable}
+use Rattle.at_engine.specs.Taking.{Takes}
 use Rattle.at_engine.specs.Keeping.{IsSpare}
 use Rattle.at_engine.specs.KeepingRuns.{KeepsBytes}
-use Rattle.at_engine.specs.Engines.{state_of, rules_of, slice_of, IsSound}
+use Rattle.at_engine.specs.Engines.{state_of, rules_of, slice_of}
 use Rattle.at_engine.proofs.stream.take_piece.Given as goal
 
 -- the bytes so far were taken
@@ -18,13 +18,7 @@ invariant-loop-line g l =
           → Takes (rules_of l.fn.engine) (slice_of l.fn.engine) (state_of l.fn.engine) front done (state_of l.engine) l.fn.desk l.desk (contents l.fn.writer) (contents l.writer);
       keeps : IsTrue g.K.Keeper.exact → IsSpare g.K.Keeper.contents l.fn.engine → (front : List ℕ) → IsOpen front → l.fn.desk.line.items ≡ kept front
           → KeepsBytes g.K.Keeper.contents front done l.fn.engine l.engine l.fn.desk l.desk;
-      failed : Remembers (g.W.Output.failed l.fn.writer) (g.W.Output.failed l.writer) false;
-      sent : g.W.Output.waits l.fn.writer ≡ false → g.W.Output.waits l.writer ≡ false;
-      spare : IsTrue g.K.Keeper.exact → IsSpare g.K.Keeper.contents l.fn.engine → IsSpare g.K.Keeper.contents l.engine;
-      rules : rules_of l.engine ≡ rules_of l.fn.engine;
-      slice : slice_of l.engine ≡ slice_of l.fn.engine;
-      sound : IsSound g.K.Keeper.contents l.engine;
-      grows : countable l.desk (state_of l.engine) ≤ countable l.fn.desk (state_of l.fn.engine) + 3 * length done;
+      goes : Goes {T = Unit {0}} g.K.Keeper.exact g.K.Keeper.contents g.W.Output.failed g.W.Output.waits l.fn.engine l.engine l.fn.desk l.desk l.fn.writer l.writer (length done) (Ok tt);
     }
 
 abbrev pub decreases-loop-line : goal.decreases-loop-line

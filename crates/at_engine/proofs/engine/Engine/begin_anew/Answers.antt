@@ -29,10 +29,13 @@ returns-then-not-has_asked-clause-begins g c p there =
     subst (λ (x : Posted). words_verdict e.rules (tree e.store) (posted_view (path e.store) x) ≡ Refuses code.Mark) (same_there e.posts.items.items c.args.position q p c.at-posted.ensures there)
     (read_unmarked e.rules e.store e.version e.posts q marked none)
 
-pub asked-requires-clause-there : goal.asked-requires-clause-there
-asked-requires-clause-there g c =
-    let e = c.args.self.now in
-    (holds_at (IsPostedOn e.rules e.store (g.K.Keeper.contents e.demand.keeper)) e.posts.items.items c.args.position c.at-posted.result.now c.at-posted.ensures c.requires.sound.posted).marked
+pub asked-requires-clause-looks : goal.asked-requires-clause-looks
+asked-requires-clause-looks g c = record {
+  sound = c.requires.sound;
+  there =
+      let e = c.args.self.now in
+      (holds_at (IsPostedOn e.rules e.store (g.K.Keeper.contents e.demand.keeper)) e.posts.items.items c.args.position c.at-posted.result.now c.at-posted.ensures c.requires.sound.posted).marked;
+}
 
 pub asked-requires-clause-named : goal.asked-requires-clause-named
 asked-requires-clause-named g c =

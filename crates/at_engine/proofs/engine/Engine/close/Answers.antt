@@ -6,20 +6,17 @@ use Rattle.at_engine.proofs.of_turns.Openings.{sound_gone, spare_gone}
 use Rattle.at_engine.proofs.Positions.{same_there}
 use Rattle.at_engine.proofs.engine.Engine.close.Goals as goal
 
-pub returns-clause-told : goal.returns-clause-told
-returns-clause-told g c p there =
-    let e = c.args.self.now in
-    ap (λ (q : Posted). told_of q e.version c.args.form) (same_there e.posts.items.items c.args.position c.remove-posted.result p c.remove-posted.ensures.posted there)
-
-pub returns-clause-spare : goal.returns-clause-spare
-returns-clause-spare g c exact spare =
-    let e = c.args.self.now in
-    spare_gone e.rules e.store (marks_of e) e.posts c.remove-posted.new.self _ c.args.position c.requires.within c.remove-posted.ensures.items spare
-
-pub returns-clause-sound : goal.returns-clause-sound
-returns-clause-sound g c =
-    let e = c.args.self.now in
-    sound_gone e.rules e.store (marks_of e) e.posts c.remove-posted.new.self _ c.args.position c.requires.within c.remove-posted.ensures.items c.remove-posted.ensures.count c.requires.sound
-
-pub returns-clause-rest : goal.returns-clause-rest
-returns-clause-rest g c = λ i. record c.args.self.now { posts = record c.remove-posted.new.self { count = c.remove-posted.ensures.count i } }
+pub returns : goal.returns
+returns g c = record {
+  told = λ p there.
+      let e = c.args.self.now in
+      ap (λ (q : Posted). told_of q e.version c.args.form) (same_there e.posts.items.items c.args.position c.remove-posted.result p c.remove-posted.ensures.posted there);
+  items = c.remove-posted.ensures.items;
+  rest = λ i. record c.args.self.now { posts = record c.remove-posted.new.self { count = c.remove-posted.ensures.count i } };
+  spare = λ exact spare.
+      let e = c.args.self.now in
+      spare_gone e.rules e.store (marks_of e) e.posts c.remove-posted.new.self _ c.args.position c.requires.within c.remove-posted.ensures.items spare;
+  sound =
+      let e = c.args.self.now in
+      sound_gone e.rules e.store (marks_of e) e.posts c.remove-posted.new.self _ c.args.position c.requires.within c.remove-posted.ensures.items c.remove-posted.ensures.count c.requires.sound;
+}

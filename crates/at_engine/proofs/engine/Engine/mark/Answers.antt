@@ -1,62 +1,80 @@
-use Rattle.std.proofs.Common.{◌∙◌, ◌++◌, ◌∷◌, [], nat_le, List, sym, ap, subst, string_bytes, is_some}
-use Rattle.at_model.specs.Machine.{is_marked}
+use Rattle.std.proofs.Common.{◌∙◌, ◌++◌, ◌∷◌, [], nat_le, List, Ok, refl, sym, ap, subst, string_bytes, is_some}
+use Rattle.std.proofs.lemmas.Result.{err_from_is_err_and}
 use Rattle.at_protocol.specs.LineView.{place_view}
+use Rattle.at_protocol.specs.declared.reply.Form.TheVariants as form
+use Rattle.at_protocol.specs.declared.reply.Refusal.TheVariants as refusal
 use Rattle.at_store.specs.Shown.{path}
+use Rattle.at_engine.specs.Commanding.{Continues}
 use Rattle.at_engine.specs.Engines.{marks_of, rules_of, state_of}
 use Rattle.at_engine.specs.Marks.{Mark, AreThere, has_mark, marks_view}
 use Rattle.at_engine.proofs.Commands.{mark_nowhere, mark_taken, mark_full, mark_made}
 use Rattle.at_engine.proofs.of_marks.Marked.{counted, pushed, there_pushed}
 use Rattle.at_engine.proofs.NamingLemmas.{marked_as}
 use Rattle.at_engine.proofs.Storing.{on_err, sound_marks}
+use Rattle.at_engine.proofs.of_keeping.Fulfilling.{failed_so, quiet_so, refused_so}
+use Rattle.at_engine.proofs.of_keeping.KeepingLemmas.{if_any, mark_quiet, spare_stays}
 use Rattle.at_engine.proofs.engine.Engine.mark.Goals as goal
 
-pub returns-in_default-clause-obeys : goal.returns-in_default-clause-obeys
-returns-in_default-clause-obeys g c =
+pub returns-in_default : goal.returns-in_default
+returns-in_default g c =
     let e = c.args.self.now in
-    mark_nowhere (rules_of e) (state_of e) c.args.session (place_view c.args.place.now) c.args.name.now c.in_default.ensures
+    refused_so g.K.Keeper.exact g.K.Keeper.contents e c.requires.sound _ refusal.Path (mark_nowhere (rules_of e) (state_of e) c.args.session (place_view c.args.place.now) c.args.name.now c.in_default.ensures)
 
-pub returns-then-has_mark-clause-obeys : goal.returns-then-has_mark-clause-obeys
-returns-then-has_mark-clause-obeys g c =
+pub returns-then-has_mark : goal.returns-then-has_mark
+returns-then-has_mark g c =
     let e = c.args.self.now in
     let (n, named, p) = c.in-Some.ensures in
     let taken = sym (marked_as e.store c.args.session c.args.name.now (marks_of e) c.requires.sound.marked) ∙ sym c.has_mark.ensures ∙ c.if-has_mark.true in
-    mark_taken (rules_of e) (state_of e) c.args.session (place_view c.args.place.now) c.args.name.now n named taken
+    refused_so g.K.Keeper.exact g.K.Keeper.contents e c.requires.sound _ refusal.Taken (mark_taken (rules_of e) (state_of e) c.args.session (place_view c.args.place.now) c.args.name.now n named taken)
 
-pub returns-then-is_full-clause-obeys : goal.returns-then-is_full-clause-obeys
-returns-then-is_full-clause-obeys g c =
+pub returns-then-is_full : goal.returns-then-is_full
+returns-then-is_full g c =
     let e = c.args.self.now in
     let (n, named, p) = c.in-Some.ensures in
     let free = sym (marked_as e.store c.args.session c.args.name.now (marks_of e) c.requires.sound.marked) ∙ sym c.has_mark.ensures ∙ c.if-has_mark.false in
     let full = ap (nat_le 100) (counted (path e.store) c.args.session (marks_of e) c.requires.sound.marked) ∙ sym c.is_full.ensures ∙ c.if-is_full.true in
-    mark_full (rules_of e) (state_of e) c.args.session (place_view c.args.place.now) c.args.name.now n named free full
+    refused_so g.K.Keeper.exact g.K.Keeper.contents e c.requires.sound _ refusal.Limit (mark_full (rules_of e) (state_of e) c.args.session (place_view c.args.place.now) c.args.name.now n named free full)
+
+pub returns-in_err-name : goal.returns-in_err-name
+returns-in_err-name g c =
+    let p = err_from_is_err_and c.from_residual.result c.from_residual.ensures.1 in
+    failed_so g.K.Keeper.exact g.K.Keeper.contents c.args.self.now c.requires.sound _ c.from_residual.result p.0 p.1
 
 -- the session has no mark of that name yet
 pub push-requires : goal.push-requires
 push-requires g c = ap (has_mark (marks_of c.args.self.now) c.args.session) c.in_ok-name.ensures.ok ∙ sym c.has_mark.ensures ∙ c.if-has_mark.false
 
-pub returns-in_err-push-clause-err : goal.returns-in_err-push-clause-err
-returns-in_err-push-clause-err g c =
+pub returns-in_err-push : goal.returns-in_err-push
+returns-in_err-push g c =
     let e = c.args.self.now in
-    on_err c.from_residual-in_err-push.result _ (ap (λ (l : List Mark). record (state_of e) { marks = marks_view (path e.store) l }) c.in_err-push.ensures.err)
+    let new = record e { marks = c.push.new.self } in
+    let result = c.from_residual-in_err-push.result in
+    let p = err_from_is_err_and result c.from_residual-in_err-push.ensures.1 in
+    let stays : Continues g.K.Keeper.contents e new = record {
+      rules = refl;
+      slice = refl;
+      sound = sound_marks (rules_of e) e.store (marks_of e) _ e.posts _ (subst (AreThere (path e.store)) (sym c.in_err-push.ensures.err) c.requires.sound.marked) c.requires.sound;
+    } in
+    let err = on_err result _ (ap (λ (l : List Mark). record (state_of e) { marks = marks_view (path e.store) l }) c.in_err-push.ensures.err) in
+    quiet_so g.K.Keeper.exact g.K.Keeper.contents e new _ result refl refl refl stays (if_any result _ (mark_quiet (rules_of e) (state_of e) c.args.session c.args.name.now (place_view c.args.place.now))) (rw p.1 tt) err
+    (spare_stays g.K.Keeper.contents e new refl refl refl refl refl)
 
-pub returns-in_err-push-clause-sound : goal.returns-in_err-push-clause-sound
-returns-in_err-push-clause-sound g c =
+pub returns : goal.returns
+returns g c =
     let e = c.args.self.now in
-    sound_marks (rules_of e) e.store (marks_of e) _ e.posts _ (subst (AreThere (path e.store)) (sym c.in_err-push.ensures.err) c.requires.sound.marked) c.requires.sound
-
-pub returns-clause-obeys : goal.returns-clause-obeys
-returns-clause-obeys g c =
-    let e = c.args.self.now in
+    let name = c.args.name.now in
+    let place = place_view c.args.place.now in
+    let new = record e { marks = c.push.new.self } in
     let (n, named, p) = c.in-Some.ensures in
-    let free = sym (marked_as e.store c.args.session c.args.name.now (marks_of e) c.requires.sound.marked) ∙ sym c.has_mark.ensures ∙ c.if-has_mark.false in
+    let free = sym (marked_as e.store c.args.session name (marks_of e) c.requires.sound.marked) ∙ sym c.has_mark.ensures ∙ c.if-has_mark.false in
     let few = ap (nat_le 100) (counted (path e.store) c.args.session (marks_of e) c.requires.sound.marked) ∙ sym c.is_full.ensures ∙ c.if-is_full.false in
-    let m : Mark = record { session = c.args.session; name = c.args.name.now; node = c.in-Some.node } in
+    let m : Mark = record { session = c.args.session; name = name; node = c.in-Some.node } in
     let more = ap (marks_view (path e.store)) (c.in_ok-push.ensures.more ∙ ap (λ x. marks_of e ++ (record { session = c.args.session; name = x; node = c.in-Some.node }) ∷ []) c.in_ok-name.ensures.ok) ∙ pushed (path e.store) (marks_of e) m n p in
-    rw c.done.ensures (mark_made (rules_of e) (state_of e) c.args.session (place_view c.args.place.now) c.args.name.now n named free few _ more)
-
-pub returns-clause-sound : goal.returns-clause-sound
-returns-clause-sound g c =
-    let e = c.args.self.now in
-    let (n, named, p) = c.in-Some.ensures in
-    let m : Mark = record { session = c.args.session; name = string_bytes c.in_ok-name.name; node = c.in-Some.node } in
-    sound_marks (rules_of e) e.store (marks_of e) _ e.posts _ (subst (AreThere (path e.store)) (sym c.in_ok-push.ensures.more) (there_pushed (path e.store) (marks_of e) m (ap is_some p) c.requires.sound.marked)) c.requires.sound
+    let made : Mark = record { session = c.args.session; name = string_bytes c.in_ok-name.name; node = c.in-Some.node } in
+    let stays : Continues g.K.Keeper.contents e new = record {
+      rules = refl;
+      slice = refl;
+      sound = sound_marks (rules_of e) e.store (marks_of e) _ e.posts _ (subst (AreThere (path e.store)) (sym c.in_ok-push.ensures.more) (there_pushed (path e.store) (marks_of e) made (ap is_some p) c.requires.sound.marked)) c.requires.sound;
+    } in
+    rw c.done.ensures (quiet_so g.K.Keeper.exact g.K.Keeper.contents e new _ (Ok (form.Ok e.version)) refl refl refl stays (mark_quiet (rules_of e) (state_of e) c.args.session name place) (mark_made (rules_of e) (state_of e) c.args.session place name n named free few _ more) tt
+    (spare_stays g.K.Keeper.contents e new refl refl refl refl refl))

@@ -31,14 +31,18 @@ returns-in-Some-clause-spares g c exact spare =
     let all : SparesVerdict {T = Form} {E = AllocError} k v (Ok (form.Refused c.in-Some.refusal)) e e = at_once_spares {E = AllocError} k e e v (Ok (form.Refused c.in-Some.refusal)) (refused_spares k e v spare c.in-Some.refusal c.in-Some.ensures) in
     subst (λ (x : Result Form AllocError). SparesVerdict k v x e e) (sym is) all
 
-pub wait-requires-clause-within : goal.wait-requires-clause-within
-wait-requires-clause-within g c = slice_get_within c.args.self.now.posts.items.items c.in-Some-awaited.position c.in-Some-awaited.ensures.question c.in-Some-awaited.ensures.there
+pub wait-requires : goal.wait-requires
+wait-requires g c = record {
+  sound = c.requires.sound.held;
+  typed = c.requires.sound.typed;
+  within = slice_get_within c.args.self.now.posts.items.items c.in-Some-awaited.position c.in-Some-awaited.ensures.question c.in-Some-awaited.ensures.there;
+}
 
 pub returns-in-Some-awaited-clause-hears : goal.returns-in-Some-awaited-clause-hears
 returns-in-Some-awaited-clause-hears g c =
     let e = c.args.self.now in
     let q = c.in-Some-awaited.ensures.question in
-    by_turns (posted_view (path e.store) q) (c.in_default.ensures ∙ c.in-Some-awaited.ensures.waits) (c.wait.ensures.closed q c.in-Some-awaited.ensures.there)
+    by_turns (posted_view (path e.store) q) (c.in_default.ensures ∙ c.in-Some-awaited.ensures.waits) (c.wait.ensures.done q c.in-Some-awaited.ensures.there)
 
 pub returns-in-Some-awaited-clause-spares : goal.returns-in-Some-awaited-clause-spares
 returns-in-Some-awaited-clause-spares g c exact spare =

@@ -14,79 +14,98 @@ use Rattle.at_model.proofs.of_machines.WellAsked.{well_asked}
 use Rattle.at_engine.specs.Posted.{posted_view}
 use Rattle.at_engine.proofs.engine.Engine.settle.Goals as goal
 
-pub begin-requires-clause-sound : goal.begin-requires-clause-sound
-begin-requires-clause-sound g c =
-    let e = c.args.self.now in
-    let k = g.K.Keeper.contents in
-    let (p, there) = there_at e.posts.items.items c.args.position c.requires.within in
-    let t = c.take-begun.new.self in
-    let at = c.take-begun.ensures.taken p there in
-    sound_taken k e c.requires.sound c.args.position p there t c.take-begun.ensures.count at.1
+pub begin-requires : goal.begin-requires
+begin-requires g c = record {
+  sound =
+      let e = c.args.self.now in
+      let k = g.K.Keeper.contents in
+      let (p, there) = there_at e.posts.items.items c.args.position c.requires.within in
+      let t = c.take-begun.new.self in
+      let at = c.take-begun.ensures p there in
+      sound_taken k e c.requires.sound c.args.position p there t at.1.count at.1.items;
+  within =
+      let e = c.args.self.now in
+      let (p, there) = there_at e.posts.items.items c.args.position c.requires.within in
+      let at = c.take-begun.ensures p there in
+      subst (λ (l : List Posted). c.args.position < length l) (sym at.1.items) (within_set e.posts.items.items c.args.position p (record p { question = None }) there);
+}
 
-pub begin-requires-clause-within : goal.begin-requires-clause-within
-begin-requires-clause-within g c =
-    let e = c.args.self.now in
-    let (p, there) = there_at e.posts.items.items c.args.position c.requires.within in
-    let at = c.take-begun.ensures.taken p there in
-    subst (λ (l : List Posted). c.args.position < length l) (sym at.1) (within_set e.posts.items.items c.args.position p (record p { question = None }) there)
+pub returns-in_err-question : goal.returns-in_err-question
+returns-in_err-question g c = record {
+  done = λ p there.
+      let e = c.args.self.now in
+      let k = g.K.Keeper.contents in
+      let t = c.take-begun.new.self in
+      let at = c.take-begun.ensures p there in
+      let r = err_from_is_err_and c.from_residual.result c.from_residual.ensures.1 in
+      settled_err k e c.requires.sound c.args.position p there t at.1.count at.1.items (record e { posts = t }) c.from_residual.result r.0 r.1 refl;
+  rest = refl;
+  spare = λ exact spare.
+      let e = c.args.self.now in
+      let k = g.K.Keeper.contents in
+      let (p, there) = there_at e.posts.items.items c.args.position c.requires.within in
+      let t = c.take-begun.new.self in
+      let at = c.take-begun.ensures p there in
+      spare_taken k e c.requires.sound c.args.position p there t at.1.count at.1.items spare;
+  sound =
+      let e = c.args.self.now in
+      let k = g.K.Keeper.contents in
+      let (p, there) = there_at e.posts.items.items c.args.position c.requires.within in
+      let t = c.take-begun.new.self in
+      let at = c.take-begun.ensures p there in
+      sound_taken k e c.requires.sound c.args.position p there t at.1.count at.1.items;
+}
 
-pub returns-in_err-question-clause-spare : goal.returns-in_err-question-clause-spare
-returns-in_err-question-clause-spare g c exact spare =
-    let e = c.args.self.now in
-    let k = g.K.Keeper.contents in
-    let (p, there) = there_at e.posts.items.items c.args.position c.requires.within in
-    let t = c.take-begun.new.self in
-    let at = c.take-begun.ensures.taken p there in
-    spare_taken k e c.requires.sound c.args.position p there t c.take-begun.ensures.count at.1 spare
+pub returns-in-Refused : goal.returns-in-Refused
+returns-in-Refused g c = record {
+  done = λ p there.
+      let e = c.args.self.now in
+      let k = g.K.Keeper.contents in
+      let t = c.take-begun.new.self in
+      let at = c.take-begun.ensures p there in
+      let words = subst (λ (x : Begun). Begins (rules_of e) e.store (k e.demand.keeper) (bare k e c.requires.sound c.args.position p there t at.1.count at.1.items) c.take-begun.result x) c.in-Refused.is (c.in_ok-question.ensures.begins (bare k e c.requires.sound c.args.position p there t at.1.count at.1.items) (there_still k e c.requires.sound c.args.position p there t at.1.count at.1.items) (was_begun k e c.requires.sound c.args.position p there t at.1.count at.1.items c.take-begun.result at.0)) in
+      settled_so k e c.requires.sound c.args.position p there t at.1.count at.1.items (record e { posts = t }) (Ok (form.Refused c.in-Refused.refusal)) refl (refused_answer k e c.requires.sound c.args.position p there t at.1.count at.1.items c.in-Refused.refusal words);
+  rest = refl;
+  spare = λ exact spare.
+      let e = c.args.self.now in
+      let k = g.K.Keeper.contents in
+      let (p, there) = there_at e.posts.items.items c.args.position c.requires.within in
+      let t = c.take-begun.new.self in
+      let at = c.take-begun.ensures p there in
+      spare_taken k e c.requires.sound c.args.position p there t at.1.count at.1.items spare;
+  sound =
+      let e = c.args.self.now in
+      let k = g.K.Keeper.contents in
+      let (p, there) = there_at e.posts.items.items c.args.position c.requires.within in
+      let t = c.take-begun.new.self in
+      let at = c.take-begun.ensures p there in
+      sound_taken k e c.requires.sound c.args.position p there t at.1.count at.1.items;
+}
 
-pub returns-in_err-question-clause-sound : goal.returns-in_err-question-clause-sound
-returns-in_err-question-clause-sound g c =
-    let e = c.args.self.now in
-    let k = g.K.Keeper.contents in
-    let (p, there) = there_at e.posts.items.items c.args.position c.requires.within in
-    let t = c.take-begun.new.self in
-    let at = c.take-begun.ensures.taken p there in
-    sound_taken k e c.requires.sound c.args.position p there t c.take-begun.ensures.count at.1
-
-pub returns-in-Refused-clause-spare : goal.returns-in-Refused-clause-spare
-returns-in-Refused-clause-spare g c exact spare =
-    let e = c.args.self.now in
-    let k = g.K.Keeper.contents in
-    let (p, there) = there_at e.posts.items.items c.args.position c.requires.within in
-    let t = c.take-begun.new.self in
-    let at = c.take-begun.ensures.taken p there in
-    spare_taken k e c.requires.sound c.args.position p there t c.take-begun.ensures.count at.1 spare
-
-pub returns-in-Refused-clause-sound : goal.returns-in-Refused-clause-sound
-returns-in-Refused-clause-sound g c =
-    let e = c.args.self.now in
-    let k = g.K.Keeper.contents in
-    let (p, there) = there_at e.posts.items.items c.args.position c.requires.within in
-    let t = c.take-begun.new.self in
-    let at = c.take-begun.ensures.taken p there in
-    sound_taken k e c.requires.sound c.args.position p there t c.take-begun.ensures.count at.1
-
-pub answer_to-requires-clause-idle : goal.answer_to-requires-clause-idle
-answer_to-requires-clause-idle g c = c.requires.sound.idle
-
-pub answer_to-requires-clause-formed : goal.answer_to-requires-clause-formed
-answer_to-requires-clause-formed g c = c.requires.typed.formed
-
-pub answer_to-requires-clause-sound : goal.answer_to-requires-clause-sound
-answer_to-requires-clause-sound g c = record { conform = c.requires.sound.conforming; within = c.requires.sound.idle.limits; tokens = c.requires.typed.tokens }
-
-pub answer_to-requires-clause-right : goal.answer_to-requires-clause-right
-answer_to-requires-clause-right g c = c.requires.sound.right.values
-
-pub answer_to-requires-clause-standing : goal.answer_to-requires-clause-standing
-answer_to-requires-clause-standing g c =
-    let e = c.args.self.now in
-    let k = g.K.Keeper.contents in
-    let (p, there) = there_at e.posts.items.items c.args.position c.requires.within in
-    let t = c.take-begun.new.self in
-    let at = c.take-begun.ensures.taken p there in
-    let b = subst (λ (x : Begun). Begins (rules_of e) e.store (k e.demand.keeper) (bare k e c.requires.sound c.args.position p there t c.take-begun.ensures.count at.1) c.take-begun.result x) c.in-Question.is (c.in_ok-question.ensures.begins (bare k e c.requires.sound c.args.position p there t c.take-begun.ensures.count at.1) (there_still k e c.requires.sound c.args.position p there t c.take-begun.ensures.count at.1) (was_begun k e c.requires.sound c.args.position p there t c.take-begun.ensures.count at.1 c.take-begun.result at.0)) in
-    b.begun.standing
+pub answer_to-requires : goal.answer_to-requires
+answer_to-requires g c = record {
+  idle = c.requires.sound.idle;
+  formed = c.requires.typed.formed;
+  sound = record { conform = c.requires.sound.conforming; within = c.requires.sound.idle.limits; tokens = c.requires.typed.tokens };
+  right = c.requires.sound.right.values;
+  standing =
+      let e = c.args.self.now in
+      let k = g.K.Keeper.contents in
+      let (p, there) = there_at e.posts.items.items c.args.position c.requires.within in
+      let t = c.take-begun.new.self in
+      let at = c.take-begun.ensures p there in
+      let b = subst (λ (x : Begun). Begins (rules_of e) e.store (k e.demand.keeper) (bare k e c.requires.sound c.args.position p there t at.1.count at.1.items) c.take-begun.result x) c.in-Question.is (c.in_ok-question.ensures.begins (bare k e c.requires.sound c.args.position p there t at.1.count at.1.items) (there_still k e c.requires.sound c.args.position p there t at.1.count at.1.items) (was_begun k e c.requires.sound c.args.position p there t at.1.count at.1.items c.take-begun.result at.0)) in
+      b.begun.standing;
+  named =
+      let e = c.args.self.now in
+      let k = g.K.Keeper.contents in
+      let (p, there) = there_at e.posts.items.items c.args.position c.requires.within in
+      let t = c.take-begun.new.self in
+      let at = c.take-begun.ensures p there in
+      let b = subst (λ (x : Begun). Begins (rules_of e) e.store (k e.demand.keeper) (bare k e c.requires.sound c.args.position p there t at.1.count at.1.items) c.take-begun.result x) c.in-Question.is (c.in_ok-question.ensures.begins (bare k e c.requires.sound c.args.position p there t at.1.count at.1.items) (there_still k e c.requires.sound c.args.position p there t at.1.count at.1.items) (was_begun k e c.requires.sound c.args.position p there t at.1.count at.1.items c.take-begun.result at.0)) in
+      let v = posted_view (path e.store) (bare k e c.requires.sound c.args.position p there t at.1.count at.1.items) in
+      record { named = b.begun.named; like = b.begun.like; formed = well_asked (rules_of e) (record { tree = tree e.store; version = 0; marks = v.marks; posts = 0; posted = [] }) (line_of v) b.begun.named b.begun.asks };
+}
 
 pub told-requires : goal.told-requires
 told-requires g c =
@@ -94,101 +113,70 @@ told-requires g c =
     let k = g.K.Keeper.contents in
     let (p, there) = there_at e.posts.items.items c.args.position c.requires.within in
     let t = c.take-begun.new.self in
-    let at = c.take-begun.ensures.taken p there in
-    let b = subst (λ (x : Begun). Begins (rules_of e) e.store (k e.demand.keeper) (bare k e c.requires.sound c.args.position p there t c.take-begun.ensures.count at.1) c.take-begun.result x) c.in-Question.is (c.in_ok-question.ensures.begins (bare k e c.requires.sound c.args.position p there t c.take-begun.ensures.count at.1) (there_still k e c.requires.sound c.args.position p there t c.take-begun.ensures.count at.1) (was_begun k e c.requires.sound c.args.position p there t c.take-begun.ensures.count at.1 c.take-begun.result at.0)) in
+    let at = c.take-begun.ensures p there in
+    let b = subst (λ (x : Begun). Begins (rules_of e) e.store (k e.demand.keeper) (bare k e c.requires.sound c.args.position p there t at.1.count at.1.items) c.take-begun.result x) c.in-Question.is (c.in_ok-question.ensures.begins (bare k e c.requires.sound c.args.position p there t at.1.count at.1.items) (there_still k e c.requires.sound c.args.position p there t at.1.count at.1.items) (was_begun k e c.requires.sound c.args.position p there t at.1.count at.1.items c.take-begun.result at.0)) in
     let d = c.answer_to.ensures in
-    record { sound = sound_more k e c.requires.sound c.args.position p there t c.take-begun.ensures.count at.1 (k c.answer_to.new.demand.keeper) d.worthy.stays (d.stays (there_asked k e c.requires.sound c.args.position p there t c.take-begun.ensures.count at.1 c.take-begun.result at.0 c.in-Question.question b) c.requires.sound.right) }
+    record { sound = sound_more k e c.requires.sound c.args.position p there t at.1.count at.1.items (k c.answer_to.new.demand.keeper) d.worthy.stays (d.stays (there_asked k e c.requires.sound c.args.position p there t at.1.count at.1.items c.take-begun.result at.0 c.in-Question.question b) c.requires.sound.right) }
 
-pub returns-in_err-answer-clause-sound : goal.returns-in_err-answer-clause-sound
-returns-in_err-answer-clause-sound g c =
-    let e = c.args.self.now in
-    let k = g.K.Keeper.contents in
-    let (p, there) = there_at e.posts.items.items c.args.position c.requires.within in
-    let t = c.take-begun.new.self in
-    let at = c.take-begun.ensures.taken p there in
-    let b = subst (λ (x : Begun). Begins (rules_of e) e.store (k e.demand.keeper) (bare k e c.requires.sound c.args.position p there t c.take-begun.ensures.count at.1) c.take-begun.result x) c.in-Question.is (c.in_ok-question.ensures.begins (bare k e c.requires.sound c.args.position p there t c.take-begun.ensures.count at.1) (there_still k e c.requires.sound c.args.position p there t c.take-begun.ensures.count at.1) (was_begun k e c.requires.sound c.args.position p there t c.take-begun.ensures.count at.1 c.take-begun.result at.0)) in
-    let d = c.answer_to.ensures in
-    sound_more k e c.requires.sound c.args.position p there t c.take-begun.ensures.count at.1 (k c.answer_to.new.demand.keeper) d.worthy.stays (d.stays (there_asked k e c.requires.sound c.args.position p there t c.take-begun.ensures.count at.1 c.take-begun.result at.0 c.in-Question.question b) c.requires.sound.right)
+pub returns-in_err-answer : goal.returns-in_err-answer
+returns-in_err-answer g c = record {
+  done = λ p there.
+      let e = c.args.self.now in
+      let k = g.K.Keeper.contents in
+      let t = c.take-begun.new.self in
+      let at = c.take-begun.ensures p there in
+      let r = err_from_is_err_and c.from_residual-in_err-answer.result c.from_residual-in_err-answer.ensures.1 in
+      settled_err k e c.requires.sound c.args.position p there t at.1.count at.1.items (record e { posts = t; demand = c.answer_to.new.demand }) c.from_residual-in_err-answer.result r.0 r.1 refl;
+  rest = refl;
+  spare = λ exact spare.
+      let e = c.args.self.now in
+      let k = g.K.Keeper.contents in
+      let (p, there) = there_at e.posts.items.items c.args.position c.requires.within in
+      let t = c.take-begun.new.self in
+      let at = c.take-begun.ensures p there in
+      let d = c.answer_to.ensures in
+      let was = was_sparing k e c.requires.sound c.args.position p there t at.1.count at.1.items c.take-begun.result at.0 spare in
+      let sparing = subst (λ (x : Begun). BeginsSparing (rules_of e) (contents e.store) (k e.demand.keeper) x) c.in-Question.is (c.in_ok-question.ensures.sparing was) in
+      spare_more k e c.requires.sound c.args.position p there t at.1.count at.1.items (k c.answer_to.new.demand.keeper) d.worthy.stays (d.spare exact spare.kept sparing) spare;
+  sound =
+      let e = c.args.self.now in
+      let k = g.K.Keeper.contents in
+      let (p, there) = there_at e.posts.items.items c.args.position c.requires.within in
+      let t = c.take-begun.new.self in
+      let at = c.take-begun.ensures p there in
+      let b = subst (λ (x : Begun). Begins (rules_of e) e.store (k e.demand.keeper) (bare k e c.requires.sound c.args.position p there t at.1.count at.1.items) c.take-begun.result x) c.in-Question.is (c.in_ok-question.ensures.begins (bare k e c.requires.sound c.args.position p there t at.1.count at.1.items) (there_still k e c.requires.sound c.args.position p there t at.1.count at.1.items) (was_begun k e c.requires.sound c.args.position p there t at.1.count at.1.items c.take-begun.result at.0)) in
+      let d = c.answer_to.ensures in
+      sound_more k e c.requires.sound c.args.position p there t at.1.count at.1.items (k c.answer_to.new.demand.keeper) d.worthy.stays (d.stays (there_asked k e c.requires.sound c.args.position p there t at.1.count at.1.items c.take-begun.result at.0 c.in-Question.question b) c.requires.sound.right);
+}
 
-pub returns-in_err-answer-clause-spare : goal.returns-in_err-answer-clause-spare
-returns-in_err-answer-clause-spare g c exact spare =
-    let e = c.args.self.now in
-    let k = g.K.Keeper.contents in
-    let (p, there) = there_at e.posts.items.items c.args.position c.requires.within in
-    let t = c.take-begun.new.self in
-    let at = c.take-begun.ensures.taken p there in
-    let d = c.answer_to.ensures in
-    let was = was_sparing k e c.requires.sound c.args.position p there t c.take-begun.ensures.count at.1 c.take-begun.result at.0 spare in
-    let sparing = subst (λ (x : Begun). BeginsSparing (rules_of e) (contents e.store) (k e.demand.keeper) x) c.in-Question.is (c.in_ok-question.ensures.sparing was) in
-    spare_more k e c.requires.sound c.args.position p there t c.take-begun.ensures.count at.1 (k c.answer_to.new.demand.keeper) d.worthy.stays (d.spare exact spare.kept sparing) spare
-
-pub answer_to-requires-clause-named : goal.answer_to-requires-clause-named
-answer_to-requires-clause-named g c =
-    let e = c.args.self.now in
-    let k = g.K.Keeper.contents in
-    let (p, there) = there_at e.posts.items.items c.args.position c.requires.within in
-    let t = c.take-begun.new.self in
-    let at = c.take-begun.ensures.taken p there in
-    let b = subst (λ (x : Begun). Begins (rules_of e) e.store (k e.demand.keeper) (bare k e c.requires.sound c.args.position p there t c.take-begun.ensures.count at.1) c.take-begun.result x) c.in-Question.is (c.in_ok-question.ensures.begins (bare k e c.requires.sound c.args.position p there t c.take-begun.ensures.count at.1) (there_still k e c.requires.sound c.args.position p there t c.take-begun.ensures.count at.1) (was_begun k e c.requires.sound c.args.position p there t c.take-begun.ensures.count at.1 c.take-begun.result at.0)) in
-    let v = posted_view (path e.store) (bare k e c.requires.sound c.args.position p there t c.take-begun.ensures.count at.1) in
-    record { named = b.begun.named; like = b.begun.like; formed = well_asked (rules_of e) (record { tree = tree e.store; version = 0; marks = v.marks; posts = 0; posted = [] }) (line_of v) b.begun.named b.begun.asks }
-
-pub returns-in_err-question-clause-settled : goal.returns-in_err-question-clause-settled
-returns-in_err-question-clause-settled g c p there =
-    let e = c.args.self.now in
-    let k = g.K.Keeper.contents in
-    let t = c.take-begun.new.self in
-    let at = c.take-begun.ensures.taken p there in
-    let r = err_from_is_err_and c.from_residual.result c.from_residual.ensures.1 in
-    settled_err k e c.requires.sound c.args.position p there t c.take-begun.ensures.count at.1 (record e { posts = t }) c.from_residual.result r.0 r.1 refl
-
-pub returns-in_err-answer-clause-settled : goal.returns-in_err-answer-clause-settled
-returns-in_err-answer-clause-settled g c p there =
-    let e = c.args.self.now in
-    let k = g.K.Keeper.contents in
-    let t = c.take-begun.new.self in
-    let at = c.take-begun.ensures.taken p there in
-    let r = err_from_is_err_and c.from_residual-in_err-answer.result c.from_residual-in_err-answer.ensures.1 in
-    settled_err k e c.requires.sound c.args.position p there t c.take-begun.ensures.count at.1 (record e { posts = t; demand = c.answer_to.new.demand }) c.from_residual-in_err-answer.result r.0 r.1 refl
-
-pub returns-in-Refused-clause-settled : goal.returns-in-Refused-clause-settled
-returns-in-Refused-clause-settled g c p there =
-    let e = c.args.self.now in
-    let k = g.K.Keeper.contents in
-    let t = c.take-begun.new.self in
-    let at = c.take-begun.ensures.taken p there in
-    let words = subst (λ (x : Begun). Begins (rules_of e) e.store (k e.demand.keeper) (bare k e c.requires.sound c.args.position p there t c.take-begun.ensures.count at.1) c.take-begun.result x) c.in-Refused.is (c.in_ok-question.ensures.begins (bare k e c.requires.sound c.args.position p there t c.take-begun.ensures.count at.1) (there_still k e c.requires.sound c.args.position p there t c.take-begun.ensures.count at.1) (was_begun k e c.requires.sound c.args.position p there t c.take-begun.ensures.count at.1 c.take-begun.result at.0)) in
-    settled_so k e c.requires.sound c.args.position p there t c.take-begun.ensures.count at.1 (record e { posts = t }) (Ok (form.Refused c.in-Refused.refusal)) refl (refused_answer k e c.requires.sound c.args.position p there t c.take-begun.ensures.count at.1 c.in-Refused.refusal words)
-
-pub returns-clause-sound : goal.returns-clause-sound
-returns-clause-sound g c =
-    let e = c.args.self.now in
-    let k = g.K.Keeper.contents in
-    let (p, there) = there_at e.posts.items.items c.args.position c.requires.within in
-    let t = c.take-begun.new.self in
-    let at = c.take-begun.ensures.taken p there in
-    let b = subst (λ (x : Begun). Begins (rules_of e) e.store (k e.demand.keeper) (bare k e c.requires.sound c.args.position p there t c.take-begun.ensures.count at.1) c.take-begun.result x) c.in-Question.is (c.in_ok-question.ensures.begins (bare k e c.requires.sound c.args.position p there t c.take-begun.ensures.count at.1) (there_still k e c.requires.sound c.args.position p there t c.take-begun.ensures.count at.1) (was_begun k e c.requires.sound c.args.position p there t c.take-begun.ensures.count at.1 c.take-begun.result at.0)) in
-    let d = c.answer_to.ensures in
-    sound_more k e c.requires.sound c.args.position p there t c.take-begun.ensures.count at.1 (k c.answer_to.new.demand.keeper) d.worthy.stays (d.stays (there_asked k e c.requires.sound c.args.position p there t c.take-begun.ensures.count at.1 c.take-begun.result at.0 c.in-Question.question b) c.requires.sound.right)
-
-pub returns-clause-spare : goal.returns-clause-spare
-returns-clause-spare g c exact spare =
-    let e = c.args.self.now in
-    let k = g.K.Keeper.contents in
-    let (p, there) = there_at e.posts.items.items c.args.position c.requires.within in
-    let t = c.take-begun.new.self in
-    let at = c.take-begun.ensures.taken p there in
-    let d = c.answer_to.ensures in
-    let was = was_sparing k e c.requires.sound c.args.position p there t c.take-begun.ensures.count at.1 c.take-begun.result at.0 spare in
-    let sparing = subst (λ (x : Begun). BeginsSparing (rules_of e) (contents e.store) (k e.demand.keeper) x) c.in-Question.is (c.in_ok-question.ensures.sparing was) in
-    spare_more k e c.requires.sound c.args.position p there t c.take-begun.ensures.count at.1 (k c.answer_to.new.demand.keeper) d.worthy.stays (d.spare exact spare.kept sparing) spare
-
-pub returns-clause-settled : goal.returns-clause-settled
-returns-clause-settled g c p there =
-    let e = c.args.self.now in
-    let k = g.K.Keeper.contents in
-    let t = c.take-begun.new.self in
-    let at = c.take-begun.ensures.taken p there in
-    let b = subst (λ (x : Begun). Begins (rules_of e) e.store (k e.demand.keeper) (bare k e c.requires.sound c.args.position p there t c.take-begun.ensures.count at.1) c.take-begun.result x) c.in-Question.is (c.in_ok-question.ensures.begins (bare k e c.requires.sound c.args.position p there t c.take-begun.ensures.count at.1) (there_still k e c.requires.sound c.args.position p there t c.take-begun.ensures.count at.1) (was_begun k e c.requires.sound c.args.position p there t c.take-begun.ensures.count at.1 c.take-begun.result at.0)) in
-    let told = told_answer k e c.requires.sound c.args.position p there t c.take-begun.ensures.count at.1 c.take-begun.result at.0 c.in-Question.question b (answer_view c.in_ok-answer.answer) c.in_ok-answer.ensures.answers c.told.result (λ x like. c.told.ensures x like) in
-    settled_so k e c.requires.sound c.args.position p there t c.take-begun.ensures.count at.1 (record e { posts = t; demand = c.answer_to.new.demand }) c.told.result refl (IfOk-weaker c.told.result _ _ (λ f y. y.0) told.2)
+pub returns : goal.returns
+returns g c = record {
+  done = λ p there.
+      let e = c.args.self.now in
+      let k = g.K.Keeper.contents in
+      let t = c.take-begun.new.self in
+      let at = c.take-begun.ensures p there in
+      let b = subst (λ (x : Begun). Begins (rules_of e) e.store (k e.demand.keeper) (bare k e c.requires.sound c.args.position p there t at.1.count at.1.items) c.take-begun.result x) c.in-Question.is (c.in_ok-question.ensures.begins (bare k e c.requires.sound c.args.position p there t at.1.count at.1.items) (there_still k e c.requires.sound c.args.position p there t at.1.count at.1.items) (was_begun k e c.requires.sound c.args.position p there t at.1.count at.1.items c.take-begun.result at.0)) in
+      let told = told_answer k e c.requires.sound c.args.position p there t at.1.count at.1.items c.take-begun.result at.0 c.in-Question.question b (answer_view c.in_ok-answer.answer) c.in_ok-answer.ensures.answers c.told.result (λ x like. c.told.ensures x like) in
+      settled_so k e c.requires.sound c.args.position p there t at.1.count at.1.items (record e { posts = t; demand = c.answer_to.new.demand }) c.told.result refl (IfOk-weaker c.told.result _ _ (λ f y. y.0) told.2);
+  rest = refl;
+  spare = λ exact spare.
+      let e = c.args.self.now in
+      let k = g.K.Keeper.contents in
+      let (p, there) = there_at e.posts.items.items c.args.position c.requires.within in
+      let t = c.take-begun.new.self in
+      let at = c.take-begun.ensures p there in
+      let d = c.answer_to.ensures in
+      let was = was_sparing k e c.requires.sound c.args.position p there t at.1.count at.1.items c.take-begun.result at.0 spare in
+      let sparing = subst (λ (x : Begun). BeginsSparing (rules_of e) (contents e.store) (k e.demand.keeper) x) c.in-Question.is (c.in_ok-question.ensures.sparing was) in
+      spare_more k e c.requires.sound c.args.position p there t at.1.count at.1.items (k c.answer_to.new.demand.keeper) d.worthy.stays (d.spare exact spare.kept sparing) spare;
+  sound =
+      let e = c.args.self.now in
+      let k = g.K.Keeper.contents in
+      let (p, there) = there_at e.posts.items.items c.args.position c.requires.within in
+      let t = c.take-begun.new.self in
+      let at = c.take-begun.ensures p there in
+      let b = subst (λ (x : Begun). Begins (rules_of e) e.store (k e.demand.keeper) (bare k e c.requires.sound c.args.position p there t at.1.count at.1.items) c.take-begun.result x) c.in-Question.is (c.in_ok-question.ensures.begins (bare k e c.requires.sound c.args.position p there t at.1.count at.1.items) (there_still k e c.requires.sound c.args.position p there t at.1.count at.1.items) (was_begun k e c.requires.sound c.args.position p there t at.1.count at.1.items c.take-begun.result at.0)) in
+      let d = c.answer_to.ensures in
+      sound_more k e c.requires.sound c.args.position p there t at.1.count at.1.items (k c.answer_to.new.demand.keeper) d.worthy.stays (d.stays (there_asked k e c.requires.sound c.args.position p there t at.1.count at.1.items c.take-begun.result at.0 c.in-Question.question b) c.requires.sound.right);
+}

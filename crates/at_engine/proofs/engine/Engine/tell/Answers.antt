@@ -7,9 +7,15 @@ use Rattle.at_engine.proofs.engine.Engine.tell.Goals as goal
 
 pub say-requires-clause-writable : goal.say-requires-clause-writable
 say-requires-clause-writable g c =
-    let (p, there) = there_at c.args.self.now.posts.items.items c.args.position c.requires.within in
+    let (p, there) = there_at c.args.self.now.posts.items.items c.args.position c.requires.there.within in
     subst (λ (t : Told). IfOk t.form IsWritable) (sym (c.close.ensures.told p there)) c.requires.writable
 
-pub returns-clause-said : goal.returns-clause-said
-returns-clause-said g c p there =
-    subst (λ (t : Told). IsSaid t c.say.result c.args.out.now.items c.say.new.out.items) (c.close.ensures.told p there) c.say.ensures.said
+pub returns-clause-off : goal.returns-clause-off
+returns-clause-off g c = record {
+  told = λ p there.
+      subst (λ (t : Told). IsSaid t c.say.result c.args.out.now.items c.say.new.out.items) (c.close.ensures.told p there) c.say.ensures.said;
+  items = c.close.ensures.items;
+  rest = c.close.ensures.rest;
+  spare = c.close.ensures.spare;
+  sound = c.close.ensures.sound;
+}
