@@ -2,6 +2,7 @@
 
 ghost use Rattle.std.specs.Prelude.{◌≡◌, IfOk, IfErr};
 ghost use Rattle.at_model.specs.Declarations.{AreNamed};
+ghost use Rattle.at_model.specs.WellFormed.{IsHierarchy};
 ghost use Rattle.at_class.specs.Grammar.{grammar_view};
 ghost use Rattle.at_start.specs.Files.{IsText};
 ghost use Rattle.at_start.specs.GrammarFiles.{GivesClasses, Declares, IsGrammarFault, ast_code, class_code};
@@ -22,6 +23,7 @@ use std::alloc::Global;
 /// grammar, the first rule that is broken. `Memory` for want of memory.
 pub fn classes_of(alloc: Global, bytes: &[u8]) -> Result<ClassTable, Fault<Code>>
     ensures given { IfOk result (GivesClasses bytes.now) }
+    ensures hierarchy { IfOk result IsHierarchy }
     ensures refused { IfErr result (IsGrammarFault bytes.now) }
 {
     let text = match text_of(bytes, Code::GrammarLimit, Code::GrammarSyntax) {
@@ -36,11 +38,7 @@ pub fn classes_of(alloc: Global, bytes: &[u8]) -> Result<ClassTable, Fault<Code>
     let grammar = parse(alloc, text)?;
     match ClassTable::build(alloc, &grammar) {
         Ok(classes) => Ok(classes),
-        Err(Fault::Refused { code, at }) => Err(Fault::Refused {
-            code: class_code(code),
-            at,
-        }),
-        Err(Fault::Memory) => Err(Fault::Memory),
+        Err(fault) => Err(fault.map_code(class_code)),
     }
 }
 
@@ -52,11 +50,7 @@ fn parse(alloc: Global, text: &str) -> Result<Grammar, Fault<Code>>
 {
     match parse_ast(alloc, text) {
         Ok(grammar) => Ok(grammar),
-        Err(Fault::Refused { code, at }) => Err(Fault::Refused {
-            code: ast_code(code),
-            at,
-        }),
-        Err(Fault::Memory) => Err(Fault::Memory),
+        Err(fault) => Err(fault.map_code(ast_code)),
     }
 }
 

@@ -1,15 +1,18 @@
-use Rattle.std.proofs.Common.{subst, List, ℕ}
+use Rattle.std.proofs.Common.{subst, sym, List, ℕ}
 use Rattle.at_class.specs.Faults.{IsRefusedFor}
 use Rattle.at_class.specs.Grammar.{grammar_view}
-use Rattle.at_start.specs.GrammarFiles.{Declares, no_text, breaks}
+use Rattle.at_text.proofs.Recoded.{recoded}
+use Rattle.at_start.specs.GrammarFiles.{Declares, RefusesGrammar, IsGrammarFault, no_text, breaks}
+use Rattle.at_start.specs.declared.code.Code.{Code}
 use Rattle.at_start.proofs.grammar.classes_of.Goals as goal
 
 pub returns-in-Err-clause-refused : goal.returns-in-Err-clause-refused
 returns-in-Err-clause-refused c = no_text c.in-Err.code c.in-Err.ensures
 
-pub returns-in-Err-Refused-clause-refused : goal.returns-in-Err-Refused-clause-refused
-returns-in-Err-Refused-clause-refused c =
+pub returns-clause-refused : goal.returns-clause-refused
+returns-clause-refused c =
+    let bytes = c.args.bytes.now in
     let ds = grammar_view c.in_ok-grammar.grammar in
     let declares = subst (λ (t : List ℕ). Declares t ds) c.in-Ok.ensures.1 c.in_ok-grammar.ensures.declares in
-    let at = c.in-Err-Refused.at in
-    rw c.class_code.ensures (breaks ds c.in-Err-Refused.code at c.in-Ok.ensures.0 declares (subst (IsRefusedFor ds) c.in-Err-Refused.field-0-is c.in-Err-Refused.ensures.refused))
+    recoded _ (IsRefusedFor ds) (IsGrammarFault bytes) c.in-Err-build.fault c.map_code.result c.map_code.ensures c.in-Err-build.ensures.refused
+    (λ k d at is first. subst (λ (x : Code). RefusesGrammar bytes x at) (sym is) (breaks ds k at c.in-Ok.ensures.0 declares first)) tt

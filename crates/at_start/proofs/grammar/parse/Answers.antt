@@ -1,6 +1,8 @@
-use Rattle.std.proofs.Common.{subst}
+use Rattle.std.proofs.Common.{subst, sym}
 use Rattle.at_grammar.specs.Faults.{IsFault}
-use Rattle.at_start.specs.GrammarFiles.{no_grammar}
+use Rattle.at_text.proofs.Recoded.{recoded}
+use Rattle.at_start.specs.GrammarFiles.{RefusesGrammar, IsGrammarFault, no_grammar}
+use Rattle.at_start.specs.declared.code.Code.{Code}
 use Rattle.at_start.proofs.Declaring.{read_declared}
 use Rattle.at_start.proofs.Naming.{classes_named}
 use Rattle.at_start.proofs.grammar.parse.Goals as goal
@@ -13,7 +15,8 @@ returns-in-Ok-clause-declares c =
     let read = c.in-Ok.ensures.found in
     record { tokens = read.0; grammar = read.2.0; cut = read.1; spells = read.2.1; means = read_declared c.in-Ok.grammar.classes.items read.2.0 read.2.2 }
 
-pub returns-in-Err-Refused-clause-refused : goal.returns-in-Err-Refused-clause-refused
-returns-in-Err-Refused-clause-refused c =
-    let f = subst (IsFault c.args.text.now) c.in-Err-Refused.field-0-is c.in-Err-Refused.ensures.fault in
-    rw c.ast_code.ensures (no_grammar c.in-Err-Refused.code c.in-Err-Refused.at c.requires f)
+pub returns-in-Err-clause-refused : goal.returns-in-Err-clause-refused
+returns-in-Err-clause-refused c =
+    let text = c.args.text.now in
+    recoded _ (IsFault text) (IsGrammarFault text) c.in-Err.fault c.map_code.result c.map_code.ensures c.in-Err.ensures.fault
+    (λ k d at is fault. subst (λ (x : Code). RefusesGrammar text x at) (sym is) (no_grammar k at c.requires fault)) tt
