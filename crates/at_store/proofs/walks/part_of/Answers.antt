@@ -1,6 +1,6 @@
 use Rattle.std.proofs.Common.{sym, ap, ◌∙◌, arith}
 use Rattle.std.specs.List.{slice_get}
-use Rattle.at_store.proofs.Named.{component_named}
+use Rattle.at_model.proofs.PathsWritten.{component_named}
 use Rattle.at_store.proofs.Parts.{no_parts}
 use Rattle.at_store.proofs.walks.part_of.Goals as goal
 
