@@ -319,7 +319,8 @@ abbrev mutual
   judged s (written.InstanceOf at e behind class) = and_then (tested s.classes at class) (judged s e)
   judged s (written.Binary at o between a b) = and_then (λ j. and_then (joined at o j) (judged s b)) (judged s a)
   judged s (written.Choose at c behind a b) = and_then (λ i. and_then (λ j. and_then (chosen s.classes at i j) (judged s b)) (judged s a)) (judged s c)
-  judged s (written.Fold at form name list e) = and_then (λ l. and_then (folded at form l) (judged (within s name.text l.class) e)) (list_or at (judged s list) (judged_list s at list))
+  judged s (written.Fold at form name list e) =
+      and_then (λ l. and_then (folded at form l) (judged (within s name.text l.class) e)) (list_or at (judged s list) (judged_list s at list))
 
   -- the arguments of a call, from left to right
   pub judged_all : Scope → written.Exprs → Judgement (List Kinded)

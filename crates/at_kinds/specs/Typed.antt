@@ -28,7 +28,13 @@ abbrev pub bound_view : BoundValue → Bound
 bound_view b = record { name = string_bytes b.name.value; kind = b.kind }
 
 abbrev pub scope_view : ScopeValue → Scope
-scope_view s = record { classes = s.classes.now; declared = s.signatures.now; this = s.this; names = map bound_view s.names.now; index = option_map (λ n. n.now) s.index }
+scope_view s = record {
+  classes = s.classes.now;
+  declared = s.signatures.now;
+  this = s.this;
+  names = map bound_view s.names.now;
+  index = option_map (λ n. n.now) s.index;
+}
 
 -- it is what is judged, or its first fault; of want of memory nothing is said
 abbrev pub Judges : {A T : Type 0} → (T → A) → Judgement A → Result T (Fault RuleCode) → Type 0

@@ -23,8 +23,6 @@ pub struct Signature {
     pub class: Option<ClassId>,
     pub params: Vec<WrittenKind>,
     pub result: WrittenKind,
-    pub lazy: bool,
-    pub inherited: bool,
 }
 
 /// All attributes that are declared, in order.

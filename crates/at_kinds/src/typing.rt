@@ -170,7 +170,8 @@ impl Scope<'_> {
         at: Place,
     ) -> Result<Typed, TypeFault>
         ensures { (l : Judgement Listed) → Judges list_view l list
-            → Judges typed_view (and_then (λ l. and_then (folded_by at (fold_view form) l) (judged (within_of (scope_view self.now) (word_view name.now).text l.class) (expr_view body.now))) l) result }
+            → Judges typed_view (and_then (λ l. and_then (folded_by at (fold_view form) l)
+            (judged (within_of (scope_view self.now) (word_view name.now).text l.class) (expr_view body.now))) l) result }
     {
         let list = list?;
         let names = within(self.alloc, name.text.as_str(), list.class, self.names)?;
@@ -189,7 +190,8 @@ impl Scope<'_> {
     /// The list of the fold that stands at that place.
     #[cycle(typed)]
     fn list(&self, list: &Expr, fold: Place) -> Result<List, TypeFault>
-        ensures { Judges list_view (list_or fold (judged (scope_view self.now) (expr_view list.now)) (judged_list (scope_view self.now) fold (expr_view list.now))) result }
+        ensures { Judges list_view (list_or fold (judged (scope_view self.now) (expr_view list.now))
+            (judged_list (scope_view self.now) fold (expr_view list.now))) result }
     {
         match &list.form {
             Form::Call(name, arguments) => {

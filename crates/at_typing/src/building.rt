@@ -144,7 +144,8 @@ fn no_equations(alloc: Global) -> Equations
 /// Adds what the declaration means.
 fn add(among: &Among, numbered: &Numbered, meant: &mut Equations) -> Result<(), RuleFault>
     ensures { (ds : List NumberedValue) → IsAbout ds among.now numbered.now
-        → AddsOrTells (numbered_view numbered.now) numbered.now.name (meant_by_itself among.now.classes.now (map numbered_view ds) (numbered_view numbered.now)) meant.old meant.new result }
+        → AddsOrTells (numbered_view numbered.now) numbered.now.name
+        (meant_by_itself among.now.classes.now (map numbered_view ds) (numbered_view numbered.now)) meant.old meant.new result }
 {
     match among.add(numbered, meant) {
         Ok(()) => Ok(()),

@@ -58,7 +58,9 @@ impl Among<'_> {
     /// parameters, of its body. `Memory` for want of memory.
     pub fn add(&self, numbered: &Numbered, meant: &mut Equations) -> Result<(), TypeFault>
         ensures { (ds : List NumberedValue) → IsAbout ds self.now numbered.now
-            → Adds (numbered_view numbered.now) numbered.now.name (meant_by_itself self.now.classes.now (map numbered_view ds) (numbered_view numbered.now)) meant.old meant.new result }
+            → Adds (numbered_view numbered.now) numbered.now.name
+            (meant_by_itself self.now.classes.now (map numbered_view ds) (numbered_view numbered.now))
+            meant.old meant.new result }
     {
         self.add_form(&numbered.decl.form, numbered, meant)
     }
@@ -71,7 +73,9 @@ impl Among<'_> {
         meant: &mut Equations,
     ) -> Result<(), TypeFault>
         ensures { (ds : List NumberedValue) → IsAbout ds self.now numbered.now
-            → Adds (numbered_view numbered.now) numbered.now.name (form_meant self.now.classes.now (map numbered_view ds) (numbered_view numbered.now) (decl_form_view form.now)) meant.old meant.new result }
+            → Adds (numbered_view numbered.now) numbered.now.name
+            (form_meant self.now.classes.now (map numbered_view ds) (numbered_view numbered.now) (decl_form_view form.now))
+            meant.old meant.new result }
     {
         match form {
             DeclForm::Synthesized { kind, .. } => self.add_synthesized(numbered, kind, meant),
@@ -97,7 +101,9 @@ impl Among<'_> {
         meant: &mut Equations,
     ) -> Result<(), TypeFault>
         ensures { (ds : List NumberedValue) → IsAbout ds self.now numbered.now
-            → Adds (numbered_view numbered.now) numbered.now.name (synthesized_meant self.now.classes.now (map numbered_view ds) (numbered_view numbered.now) (kind_word_view kind.now)) meant.old meant.new result }
+            → Adds (numbered_view numbered.now) numbered.now.name
+            (synthesized_meant self.now.classes.now (map numbered_view ds) (numbered_view numbered.now) (kind_word_view kind.now))
+            meant.old meant.new result }
     {
         let class = self.declare(numbered, kind, meant)?;
         match body_in(&numbered.decl.form) {
@@ -113,7 +119,9 @@ impl Among<'_> {
         kind: &KindWord,
         meant: &mut Equations,
     ) -> Result<(), TypeFault>
-        ensures { Adds (numbered_view numbered.now) numbered.now.name (and_then declared_alone (attribute_meant self.now.classes.now (numbered_view numbered.now) (kind_word_view kind.now))) meant.old meant.new result }
+        ensures { Adds (numbered_view numbered.now) numbered.now.name
+            (and_then declared_alone (attribute_meant self.now.classes.now (numbered_view numbered.now) (kind_word_view kind.now)))
+            meant.old meant.new result }
     {
         self.declare(numbered, kind, meant)?;
         Ok(())
@@ -128,7 +136,9 @@ impl Among<'_> {
         meant: &mut Equations,
     ) -> Result<(), TypeFault>
         ensures { (ds : List NumberedValue) → IsAbout ds self.now numbered.now
-            → Adds (numbered_view numbered.now) numbered.now.name (equation_meant self.now.classes.now (map numbered_view ds) (numbered_view numbered.now) (word_view class.now) (written_body body.now)) meant.old meant.new result }
+            → Adds (numbered_view numbered.now) numbered.now.name
+            (equation_meant self.now.classes.now (map numbered_view ds) (numbered_view numbered.now) (word_view class.now) (written_body body.now))
+            meant.old meant.new result }
     {
         let class = self.class_named(class)?;
         self.add_own(class, self.synthesized(numbered), numbered, body, meant)
@@ -145,7 +155,10 @@ impl Among<'_> {
         meant: &mut Equations,
     ) -> Result<(), TypeFault>
         ensures { (ds : List NumberedValue) → IsAbout ds self.now numbered.now
-            → Adds (numbered_view numbered.now) numbered.now.name (equation_below_meant self.now.classes.now (map numbered_view ds) (numbered_view numbered.now) (word_view class.now) (word_view getter.now) (option_map (λ w. word_view w.now) index.entry) (written_body body.now)) meant.old meant.new result }
+            → Adds (numbered_view numbered.now) numbered.now.name
+            (equation_below_meant self.now.classes.now (map numbered_view ds) (numbered_view numbered.now) (word_view class.now) (word_view getter.now)
+            (option_map (λ w. word_view w.now) index.entry) (written_body body.now))
+            meant.old meant.new result }
     {
         let class = self.class_named(class)?;
         let part = self.component_got(class, getter)?;
@@ -177,7 +190,9 @@ impl Among<'_> {
         kind: &KindWord,
         meant: &mut Equations,
     ) -> Result<ClassId, TypeFault>
-        ensures declared { Declares (numbered_view numbered.now) numbered.now.name (attribute_meant self.now.classes.now (numbered_view numbered.now) (kind_word_view kind.now)) meant.old.attributes.entries meant.new.attributes.entries result }
+        ensures declared { Declares (numbered_view numbered.now) numbered.now.name
+            (attribute_meant self.now.classes.now (numbered_view numbered.now) (kind_word_view kind.now))
+            meant.old.attributes.entries meant.new.attributes.entries result }
         ensures own { meant.new.own ≡ meant.old.own }
         ensures inherited { meant.new.inherited ≡ meant.old.inherited }
     {
@@ -199,7 +214,9 @@ impl Among<'_> {
         body: &Written,
         meant: &mut Equations,
     ) -> Result<(), TypeFault>
-        ensures added { AddsOwn class (body_meant self.now.classes.now self.now.signatures.now class (numbered_view numbered.now) (written_body body.now) attribute) meant.old.own.entries meant.new.own.entries result }
+        ensures added { AddsOwn class
+            (body_meant self.now.classes.now self.now.signatures.now class (numbered_view numbered.now) (written_body body.now) attribute)
+            meant.old.own.entries meant.new.own.entries result }
         ensures attributes { meant.new.attributes ≡ meant.old.attributes }
         ensures inherited { meant.new.inherited ≡ meant.old.inherited }
     {
@@ -218,7 +235,9 @@ impl Among<'_> {
         body: &Written,
         meant: &mut Equations,
     ) -> Result<(), TypeFault>
-        ensures added { AddsInherited class part numbered.now.name (body_meant self.now.classes.now self.now.signatures.now class (numbered_view numbered.now) (written_body body.now) attribute) meant.old.inherited.entries meant.new.inherited.entries result }
+        ensures added { AddsInherited class part numbered.now.name
+            (body_meant self.now.classes.now self.now.signatures.now class (numbered_view numbered.now) (written_body body.now) attribute)
+            meant.old.inherited.entries meant.new.inherited.entries result }
         ensures attributes { meant.new.attributes ≡ meant.old.attributes }
         ensures own { meant.new.own ≡ meant.old.own }
     {
@@ -237,7 +256,8 @@ impl Among<'_> {
         numbered: &Numbered,
         kind: &KindWord,
     ) -> Result<(ClassId, Attribute), TypeFault>
-        ensures { Judges (attribute_of (numbered_view numbered.now)) (attribute_meant self.now.classes.now (numbered_view numbered.now) (kind_word_view kind.now)) result }
+        ensures { Judges (attribute_of (numbered_view numbered.now))
+            (attribute_meant self.now.classes.now (numbered_view numbered.now) (kind_word_view kind.now)) result }
     {
         let form = &numbered.decl.form;
         let result = self.kind_named(kind)?;
@@ -260,7 +280,8 @@ impl Among<'_> {
         numbered: &Numbered,
         body: &Written,
     ) -> Result<(AttrId, Body), TypeFault>
-        ensures { Judges equation_view (body_meant self.now.classes.now self.now.signatures.now class (numbered_view numbered.now) (written_body body.now) attribute) result }
+        ensures { Judges equation_view
+            (body_meant self.now.classes.now self.now.signatures.now class (numbered_view numbered.now) (written_body body.now) attribute) result }
     {
         let Some(attribute) = attribute else {
             return Err(undeclared(numbered));
@@ -278,7 +299,9 @@ impl Among<'_> {
         numbered: &Numbered,
         body: &Written,
     ) -> Result<Body, TypeFault>
-        ensures { Judges body_view (body_if self.now.classes.now self.now.signatures.now class (numbered_view numbered.now) (written_body body.now) (option_map (λ s. declared_view s.now) signature.entry)) result }
+        ensures { Judges body_view
+            (body_if self.now.classes.now self.now.signatures.now class (numbered_view numbered.now) (written_body body.now)
+            (option_map (λ s. declared_view s.now) signature.entry)) result }
     {
         let Some(signature) = signature else {
             return Err(undeclared(numbered));

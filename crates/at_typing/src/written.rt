@@ -8,7 +8,7 @@ ghost use Rattle.at_typing.specs.Meanings.{results, signature, signature_if, sig
 ghost use Rattle.at_typing.specs.Ruling.{known_kind, as_written, first_named, first_unless, names_class, words_view, written_kind};
 ghost use Rattle.at_kinds.specs.Signatures.{declared_view};
 
-use crate::located::{is_inherited, is_lazy, name_word, params_in, result_in};
+use crate::located::{name_word, params_in, result_in};
 use crate::numbered::{NamedClass, Numbered};
 use at_class::{ClassId, ClassTable};
 use at_jrag::{Kind as KindForm, KindWord, Param};
@@ -93,8 +93,6 @@ fn signature_of(
         class: known_class(numbered.class),
         params: kinds_of(alloc, classes, words, &params_in(form).items)?,
         result: written_kind(classes, words, &kind.kind),
-        lazy: is_lazy(form),
-        inherited: is_inherited(form),
     })
 }
 

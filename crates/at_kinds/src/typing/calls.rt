@@ -166,7 +166,8 @@ impl Scope<'_> {
         arguments: Vec<Typed>,
         at: Place,
     ) -> Result<Typed, TypeFault>
-        ensures { Judges typed_view (demanded_of self.now.classes.now at attribute (slice_get self.now.signatures.now attribute) (body_view node.value) (map typed_view arguments.items)) result }
+        ensures { Judges typed_view (demanded_of self.now.classes.now at attribute (slice_get self.now.signatures.now attribute)
+            (body_view node.value) (map typed_view arguments.items)) result }
     {
         let Some(signature) = self.signatures.get(attribute) else {
             return Err(refused(RuleCode::UnknownName, at));

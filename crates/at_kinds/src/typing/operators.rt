@@ -126,7 +126,8 @@ impl Scope<'_> {
 
     /// `==`
     fn same(&self, left: Typed, right: Typed, at: Place) -> Result<Typed, TypeFault>
-        ensures { Judges typed_view (kind_if (are_alike left.kind right.kind) at ExprKind.Bool (model.Same (body_view left.body.value) (body_view right.body.value))) result }
+        ensures { Judges typed_view (kind_if (are_alike left.kind right.kind) at ExprKind.Bool
+            (model.Same (body_view left.body.value) (body_view right.body.value))) result }
     {
         self.kind_if(
             are_alike(left.kind, right.kind),
@@ -138,7 +139,8 @@ impl Scope<'_> {
 
     /// `!=`
     fn different(&self, left: Typed, right: Typed, at: Place) -> Result<Typed, TypeFault>
-        ensures { Judges typed_view (kind_if (are_alike left.kind right.kind) at ExprKind.Bool (model.Differ (body_view left.body.value) (body_view right.body.value))) result }
+        ensures { Judges typed_view (kind_if (are_alike left.kind right.kind) at ExprKind.Bool
+            (model.Differ (body_view left.body.value) (body_view right.body.value))) result }
     {
         self.kind_if(
             are_alike(left.kind, right.kind),
@@ -150,7 +152,8 @@ impl Scope<'_> {
 
     /// `&&`
     fn both(&self, left: Typed, right: Typed, at: Place) -> Result<Typed, TypeFault>
-        ensures { Judges typed_view (kind_if (are_truths left.kind right.kind) at ExprKind.Bool (model.And (body_view left.body.value) (body_view right.body.value))) result }
+        ensures { Judges typed_view (kind_if (are_truths left.kind right.kind) at ExprKind.Bool
+            (model.And (body_view left.body.value) (body_view right.body.value))) result }
     {
         self.kind_if(
             are_truths(left.kind, right.kind),
@@ -162,7 +165,8 @@ impl Scope<'_> {
 
     /// `||`
     fn either(&self, left: Typed, right: Typed, at: Place) -> Result<Typed, TypeFault>
-        ensures { Judges typed_view (kind_if (are_truths left.kind right.kind) at ExprKind.Bool (model.Or (body_view left.body.value) (body_view right.body.value))) result }
+        ensures { Judges typed_view (kind_if (are_truths left.kind right.kind) at ExprKind.Bool
+            (model.Or (body_view left.body.value) (body_view right.body.value))) result }
     {
         self.kind_if(
             are_truths(left.kind, right.kind),

@@ -134,7 +134,8 @@ impl<'a> Names<'a> {
     #[cycle(again)]
     fn is_bound_within(&mut self, name: &'a Word, body: &'a Expr) -> Result<bool, AllocError>
         ensures within { IfOk result (λ b. b
-            ≡ list_any (bytes_eq (word_view name.now).text) (names_view self.old) || is_bound_again ((word_view name.now).text ∷ names_view self.old) (expr_view body.now)) }
+            ≡ list_any (bytes_eq (word_view name.now).text) (names_view self.old)
+            || is_bound_again ((word_view name.now).text ∷ names_view self.old) (expr_view body.now)) }
         ensures kept { IfOk result (λ b. b ≡ false → names_view self.new ≡ names_view self.old) }
     {
         if !self.bind(name)? {
