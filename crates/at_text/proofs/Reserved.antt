@@ -1,5 +1,5 @@
 -- A word is compared with those of the reserved words alone that begin with the same letter.
-use Rattle.std.proofs.Common.{◌≡◌, ◌≢◌, ℕ, Bool, true, false, ◌||◌, ◌==◌, not, List, [], ◌∷◌, get_or, length, filter, refl, sym, ap, ◌∙◌, arith}
+use Rattle.std.proofs.Common.{◌≡◌, ◌≢◌, ℕ, Bool, true, false, ◌||◌, ◌==◌, not, List, [], ◌∷◌, get_or, length, filter, map, refl, sym, ap, ◌∙◌, arith}
 use Rattle.std.proofs.lemmas.Bool.Decides.{nat_tests}
 use Rattle.std.specs.Prelude.{codes}
 use Rattle.std.specs.List.{list_all, list_any}
@@ -12,6 +12,11 @@ use Rattle.at_text.proofs.Fronts.{clash, not_false}
 -- the text is one of the words
 abbrev pub is_among : List (List ℕ) → List ℕ → Bool
 is_among words text = list_any (λ w. bytes_eq w text) words
+
+-- one of those that are seen through a function
+pub any_seen : {A B : Type 0} (p : B → Bool) (f : A → B) (xs : List A) → list_any (λ x. p (f x)) xs ≡ list_any p (map f xs)
+any_seen p f [] = refl
+any_seen p f (x ∷ xs) = ap (λ b. p (f x) || b) (any_seen p f xs)
 
 differs : (has : List ℕ → Bool) (word text : List ℕ) → has word ≡ false → has text ≡ true → bytes_eq word text ≡ false
 differs has word text lacks h = decide (bytes_eq word text) refl

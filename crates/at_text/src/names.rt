@@ -1,5 +1,7 @@
 //! Names: what may name a class, a component, an attribute or a mark.
-ghost use Rattle.std.specs.Prelude.{◌≡◌, chars, get_or};
+ghost use Rattle.std.specs.Prelude.{◌≡◌, chars, get_or, map};
+ghost use Rattle.std.specs.List.{list_any};
+ghost use Rattle.std.specs.Str.{bytes_eq};
 ghost use Rattle.at_model.specs.Names.{starts_name, continues_name, is_reserved, is_word, is_name};
 
 // The words that have a meaning of their own in grammars and aspects, by the letter with which they begin.
@@ -51,23 +53,32 @@ fn first_byte(word: &str) -> u8
     }
 }
 
+/// Whether the word is one of those. By itself, so that most words, which none of them is like, cost no more than a look at their
+/// first byte.
+#[inline(never)]
+fn is_one_of(words: &[&str], word: &str) -> bool
+    ensures { result ≡ list_any (λ w. bytes_eq w word.now) (map (λ w. w.now) words.now) }
+{
+    words.contains(&word)
+}
+
 /// Whether the word has a meaning of its own in grammars and aspects, so that it names nothing.
 pub fn is_reserved(word: &str) -> bool
     ensures { result ≡ is_reserved word.now }
 {
     match first_byte(word) {
-        b'a' => WITH_A.contains(&word),
-        b'b' => WITH_B.contains(&word),
-        b'c' => WITH_C.contains(&word),
-        b'e' => WITH_E.contains(&word),
-        b'f' => WITH_F.contains(&word),
-        b'i' => WITH_I.contains(&word),
-        b'l' => WITH_L.contains(&word),
-        b'n' => WITH_N.contains(&word),
-        b'r' => WITH_R.contains(&word),
-        b's' => WITH_S.contains(&word),
-        b't' => WITH_T.contains(&word),
-        b'S' => WITH_CAPITAL_S.contains(&word),
+        b'a' => is_one_of(&WITH_A, word),
+        b'b' => is_one_of(&WITH_B, word),
+        b'c' => is_one_of(&WITH_C, word),
+        b'e' => is_one_of(&WITH_E, word),
+        b'f' => is_one_of(&WITH_F, word),
+        b'i' => is_one_of(&WITH_I, word),
+        b'l' => is_one_of(&WITH_L, word),
+        b'n' => is_one_of(&WITH_N, word),
+        b'r' => is_one_of(&WITH_R, word),
+        b's' => is_one_of(&WITH_S, word),
+        b't' => is_one_of(&WITH_T, word),
+        b'S' => is_one_of(&WITH_CAPITAL_S, word),
         _ => false,
     }
 }
