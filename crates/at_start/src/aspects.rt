@@ -65,11 +65,7 @@ fn read(alloc: Global, bytes: &[u8]) -> Result<Vec<Aspect>, Fault<Code>>
     };
     match parse_jrag(alloc, text) {
         Ok(aspects) => Ok(aspects),
-        Err(Fault::Refused { code, at }) => Err(Fault::Refused {
-            code: jrag_code(code),
-            at,
-        }),
-        Err(Fault::Memory) => Err(Fault::Memory),
+        Err(fault) => Err(fault.map_code(jrag_code)),
     }
 }
 

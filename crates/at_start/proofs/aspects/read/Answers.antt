@@ -1,15 +1,16 @@
-use Rattle.std.proofs.Common.{ℕ, List, subst}
+use Rattle.std.proofs.Common.{ℕ, List, subst, sym}
 use Rattle.at_jrag.specs.Faults.{IsFault}
-use Rattle.at_text.specs.declared.fault.Fault.TheVariants as fault
-use Rattle.at_start.specs.AspectFiles.{no_text, no_aspects}
+use Rattle.at_text.proofs.Recoded.{recoded}
+use Rattle.at_start.specs.AspectFiles.{IsReadingFaultOf, RefusesReading, no_text, no_aspects}
+use Rattle.at_start.specs.declared.code.Code.{Code}
 use Rattle.at_start.proofs.aspects.read.Goals as goal
 
 pub returns-in-Err-clause-refused : goal.returns-in-Err-clause-refused
 returns-in-Err-clause-refused c = no_text c.in-Err.code c.in-Err.ensures
 
-pub returns-in-Err-Refused-clause-refused : goal.returns-in-Err-Refused-clause-refused
-returns-in-Err-Refused-clause-refused c =
-    let k = c.in-Err-Refused.code in
-    let at = c.in-Err-Refused.at in
-    let f = subst (λ (x : List ℕ). IsFault x (fault.Refused k at)) c.in-Ok.ensures.1 (subst (IsFault c.in-Ok.text.now) c.in-Err-Refused.field-0-is c.in-Err-Refused.ensures.fault) in
-    rw c.jrag_code.ensures (no_aspects k at c.in-Ok.ensures.0 f)
+pub returns-in-Err-parse_jrag-clause-refused : goal.returns-in-Err-parse_jrag-clause-refused
+returns-in-Err-parse_jrag-clause-refused c =
+    let bytes = c.args.bytes.now in
+    let given = subst (λ (x : List ℕ). IsFault x c.in-Err-parse_jrag.fault) c.in-Ok.ensures.1 c.in-Err-parse_jrag.ensures.fault in
+    recoded _ (IsFault bytes) (IsReadingFaultOf bytes) c.in-Err-parse_jrag.fault c.map_code.result c.map_code.ensures given
+    (λ k d at is fault. subst (λ (x : Code). RefusesReading bytes x at) (sym is) (no_aspects k at c.in-Ok.ensures.0 fault)) tt
