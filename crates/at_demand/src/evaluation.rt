@@ -31,8 +31,8 @@ use indexmap::IndexMap;
 use std::alloc::{AllocError, Global};
 use std::mem;
 
-// How many finds stay in any case, so that what a few thousand values share is evaluated once: they take about ten megabytes.
-const MANY: usize = 16_384;
+// How many finds stay in any case, so that what many values share is evaluated once: they take about thirty megabytes.
+const MANY: usize = 65_536;
 
 // The instances whose values an evaluation took: the kept ones, and the positions of the others among the finds.
 pub struct Demanded {
