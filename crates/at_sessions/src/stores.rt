@@ -199,7 +199,10 @@ fn the_store_refuses_edits_and_stays_as_it_was(rt: HostRuntime) -> Result<(), Fa
     let alloc = rt.alloc();
     assert_eq!(rt; number_refused(alloc, "/Block", true)?, Refusal::Fit);
     assert_eq!(rt; drop_refused(alloc)?, Refusal::Fixed);
-    assert_eq!(rt; number_refused(alloc, "/Block/Stmt:0", false)?, Refusal::Taken);
+    assert_eq!(rt;
+        number_refused(alloc, "/Block/Stmt:0", false)?,
+        Refusal::Taken
+    );
     assert_eq!(rt; index_refused(alloc)?, Refusal::Index);
     Ok(())
 }
@@ -239,8 +242,14 @@ fn dropped(alloc: Global, end: End) -> Result<Dropped, Fail> {
         Loc::Is(other),
         Loc::Up(other),
     ];
-    let Ok(touched) = tried(alloc, &classes, &mut store, Edit::Drop { node }, &locations, end)
-    else {
+    let Ok(touched) = tried(
+        alloc,
+        &classes,
+        &mut store,
+        Edit::Drop { node },
+        &locations,
+        end,
+    ) else {
         return Err(Fail::new("the drop is refused"));
     };
     let behind = shown(alloc, &classes, &store)?;
