@@ -8,6 +8,7 @@ ghost use Rattle.at_start.specs.declared.files.Files.{Files};
 /// From the bytes of the files and of the lines to the bytes written: where all bytes of the lines are known, and those that
 /// were written, a run that came to its end has written the output that the files mean for them, and nothing else.
 pub fn whole()
-    ensures { (files : Files) (slice : ℕ) (report : Report) (input : List ℕ) (left after : Option (List ℕ)) → Answers files slice (Ok report) (Some input) left (Some []) after
+    ensures { (files : Files) (slice : ℕ) (report : Report) (input : List ℕ) (left after : Option (List ℕ))
+        → Answers files slice (Ok report) (Some input) left (Some []) after
         → (output : List ℕ) × (after ≡ Some output) × MeansOutput files slice input output }
 {}
