@@ -78,8 +78,6 @@ pub fn start_with<K: Keeper>(
         Ok(classes) => classes,
         Err(fault) => return Err(of_file(0, fault)),
     };
-    // `len` says that the classes are a hierarchy.
-    let _count = classes.len();
     let rules = rules_of(alloc, classes, &files.aspects)?;
     let file = files.aspects.len() + 1;
     let tree = match tree_of(alloc, rules.classes(), &files.tree.bytes) {

@@ -2,7 +2,7 @@
 
 ghost use Rattle.std.specs.Prelude.{map, IfOk};
 ghost use Rattle.at_model.specs.Enduring.{AreTokens};
-ghost use Rattle.at_model.specs.WellFormed.{AreWellFormed};
+ghost use Rattle.at_model.specs.WellFormed.{AreWellFormed, IsHierarchy};
 ghost use Rattle.at_tree.specs.TreeView.{tree_view};
 ghost use Rattle.at_jrag.specs.View.{aspect_view};
 ghost use Rattle.at_typing.specs.Located.{IsSpelled};
@@ -62,8 +62,6 @@ fn rules(alloc: Global, grammar: &str, aspects: &str) -> Result<Rules, Failure>
     ensures { IfOk result AreWellFormed }
 {
     let classes = classes(alloc, grammar)?;
-    // `len` says that the classes are a hierarchy.
-    let _count = classes.len();
     let aspects = aspects_of(alloc, aspects)?;
     match build(alloc, classes, from_ref(&aspects)) {
         Ok(rules) => Ok(rules),
@@ -72,7 +70,9 @@ fn rules(alloc: Global, grammar: &str, aspects: &str) -> Result<Rules, Failure>
     }
 }
 
-fn classes(alloc: Global, text: &str) -> Result<ClassTable, Failure> {
+fn classes(alloc: Global, text: &str) -> Result<ClassTable, Failure>
+    ensures { IfOk result IsHierarchy }
+{
     let grammar = match parse_ast(alloc, text) {
         Ok(grammar) => grammar,
         Err(AstFault::Memory) => return Err(Failure::Memory),
