@@ -1,6 +1,6 @@
 //! Rules of declarations.
 
-ghost use Rattle.std.specs.Prelude.{◌≡◌, List, [], None, map, IfOk};
+ghost use Rattle.std.specs.Prelude.{◌≡◌, List, None, map, IfOk};
 ghost use Rattle.at_model.specs.Rules.{AreComplete};
 ghost use Rattle.at_model.specs.WellFormed.{AreWellFormed, IsHierarchy};
 ghost use Rattle.at_typing.specs.AttributeKeys.{AreAttributes};
@@ -27,7 +27,6 @@ use at_kinds::RuleCode;
 use at_kinds::typing::TypeFault;
 use at_rules::{AttrId, Equations, Rules};
 use at_text::fault::{Failure, Fault};
-use indexmap::IndexMap;
 use std::alloc::Global;
 
 /// The rules of the declarations of the aspect files over the classes.
@@ -124,21 +123,11 @@ fn meant_by(
         attributes,
         signatures: &signatures,
     };
-    let mut meant = no_equations(alloc);
+    let mut meant = Equations::new(alloc);
     for numbered in declared {
         add(&among, numbered, &mut meant)?;
     }
     Ok(meant)
-}
-
-fn no_equations(alloc: Global) -> Equations
-    ensures { (result.attributes.entries ≡ []) × (result.own.entries ≡ []) × (result.inherited.entries ≡ []) }
-{
-    Equations {
-        attributes: IndexMap::new(alloc),
-        own: IndexMap::new(alloc),
-        inherited: IndexMap::new(alloc),
-    }
 }
 
 /// Adds what the declaration means.

@@ -11,9 +11,9 @@ pub loop-numbered-init : goal.loop-numbered-init
 loop-numbered-init c = (
   refl,
   λ names all. record {
-    attributes = ap (map (attribute_view names)) c.no_equations-meant.ensures.0;
-    own = ap (map own_view) c.no_equations-meant.ensures.1;
-    inherited = ap (λ es. map (inherited_view names) (named names es)) c.no_equations-meant.ensures.2;
+    attributes = ap (map (attribute_view names)) c.new-meant.ensures.attributes;
+    own = ap (map own_view) c.new-meant.ensures.own;
+    inherited = ap (λ es. map (inherited_view names) (named names es)) c.new-meant.ensures.inherited;
   },
 )
 
