@@ -38,7 +38,7 @@ module _ (classes : Classes) (s : Shown) (k : ℕ) (n : Node) (name : List ℕ) 
   pub component_missing : part_named classes (contents s (Is k)) name ≡ None → IsComponentOf classes (tree s) n name None
   component_missing e = by_class None e
 
-  pub component_found : (i : ℕ) (c : Part) → part_named classes (contents s (Is k)) name ≡ Some i → slice_get (parts classes (contents s (Is k))) i ≡ Some (part_view c) → IsComponentOf classes (tree s) n name (Some (i, c.shape))
+  pub component_found : (i : ℕ) (c : Part) → part_named classes (contents s (Is k)) name ≡ Some i → slice_get (parts classes (contents s (Is k))) i ≡ Some (part_view c) → IsComponentOf classes (tree s) n name (Some (record { position = i; shape = c.shape }))
   component_found i c e is =
       let (u, at') = tree_there s k n p in (
         by_class (Some i) e,

@@ -18,6 +18,6 @@ returns g c =
     let (m, target, q) = c.in-Some-node_named.ensures in
     let found = c.in-Some-component.found in
     let some = ap is_some (sym c.list_class.ensures) ∙ c.is_none.ensures ∙ ap not c.if-is_none.false in
-    let (b, is_list) = some_of (list_class (shape_view found.1)) some in
-    let is = move_is (rules_of e) (state_of e) c.args.session (place_view c.args.place.now) (place_view c.args.to.now) c.args.part.now c.args.index n named m target found.0 found.1 b (c.in-Some-component.ensures m q) is_list in
+    let (b, is_list) = some_of (list_class (shape_view found.shape)) some in
+    let is = move_is (rules_of e) (state_of e) c.args.session (place_view c.args.place.now) (place_view c.args.to.now) c.args.part.now c.args.index n named m target found.position found.shape b (c.in-Some-component.ensures m q) is_list in
     turned_so g.K.Keeper.exact g.K.Keeper.contents e c.edit.new.self _ _ c.edit.result is (c.edit.ensures n m p q)
