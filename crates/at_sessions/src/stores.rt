@@ -220,7 +220,7 @@ struct Dropped {
 
 /// Drops the declaration, or gives that up. Where it is dropped, the children of the block, the indexes of its elements, and all of
 /// the declaration and its number is touched; and the other statement's class and parent aren't.
-fn dropped(alloc: Global, end: End) -> Result<Dropped, Fail> {
+fn drop_declaration(alloc: Global, end: End) -> Result<Dropped, Fail> {
     let classes = classes(alloc)?;
     let mut store = loaded(alloc, &classes)?;
     let before = shown(alloc, &classes, &store)?;
@@ -276,7 +276,7 @@ fn a_drop_leaves_the_numbers_of_the_others(rt: HostRuntime) -> Result<(), Fail> 
         behind,
         other,
         first,
-    } = dropped(rt.alloc(), End::Done)?;
+    } = drop_declaration(rt.alloc(), End::Done)?;
     assert_eq!(rt; touched.as_slice(), TOUCHED);
     assert_eq!(rt; first, other);
     assert!(rt; behind.starts_with(b"Program(Block([Print(Add(Use(\"x\"),Num(2)))]))"));
@@ -285,8 +285,8 @@ fn a_drop_leaves_the_numbers_of_the_others(rt: HostRuntime) -> Result<(), Fail> 
 
 #[test]
 fn an_edit_that_is_given_up_leaves_all_as_it_was(rt: HostRuntime) -> Result<(), Fail> {
-    let dropped = dropped(rt.alloc(), End::GivenUp)?;
-    assert_eq!(rt; dropped.touched.as_slice(), TOUCHED);
-    assert_eq!(rt; dropped.before, dropped.behind);
+    let all = drop_declaration(rt.alloc(), End::GivenUp)?;
+    assert_eq!(rt; all.touched.as_slice(), TOUCHED);
+    assert_eq!(rt; all.before, all.behind);
     Ok(())
 }
