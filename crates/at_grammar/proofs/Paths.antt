@@ -4,15 +4,13 @@ use Rattle.std.specs.Prelude.{◌||◌, ◌⊎◌}
 use Rattle.std.specs.Str.{bytes_eq}
 use Rattle.std.proofs.lemmas.Slice.Eq.{bytes_eq-Decides}
 use Rattle.std.proofs.lemmas.List.{append-nil}
-use Rattle.std.proofs.lemmas.Str.{chars-IsAscii}
-use Rattle.std.proofs.Common.{lit<, rules}
-use Rattle.unicode_ident.proofs.IdentLemmas.{is_xid_start-ascii}
 use lib.Chars.{codes}
-use Rattle.at_model.specs.Names.{is_name, reserved_words}
+use Rattle.at_model.specs.Names.{is_name}
 use Rattle.at_text.specs.Machine.{Reason, Refused, LeftOut, Answer, Takes, Skips, Refuses, LeavesOut, and_then, is_skip}
 use Rattle.at_text.specs.Reading.{first, takes, skips, Form, run}
 use Rattle.at_text.specs.Reading as reading
 use Rattle.at_text.specs.Symbols.{Symbol, sign, is_sign, is_name_next}
+use Rattle.at_text.proofs.SomeName.{is_some_name}
 use Rattle.at_text.proofs.ReadingLaws.{run-takes, run-skips, run-same, run-begins, stops_here, leaves_here, stops_within}
 use Rattle.at_text.specs.Place.{first_place}
 use Rattle.at_grammar.specs.Grammar as grammar
@@ -47,10 +45,6 @@ stops_mark text old rest same e = rw same (stops_here table (mark text) tt old t
 -- a name, to complete what was read
 some_name : Word
 some_name = record { text = codes "_"; at = first_place }
-
-is_some_name : is_name (codes "_") ≡ true
-unfolding reserved_words
-is_some_name = rw (chars-IsAscii (codes "_") (search rules), is_xid_start-ascii 95 (lit< tt)) refl
 
 pub reads_name : (w : Word) (old rest : List Symbol) → old ≡ grammar.name w ∷ rest → IsName w → Reads name w old rest
 unfolding table

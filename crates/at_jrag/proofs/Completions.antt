@@ -3,12 +3,8 @@ use Rattle.std.proofs.Common.{arith, ◌≡◌, ℕ, zero, suc, ◌+◌, ◌-◌
 use Rattle.std.specs.Prelude.{◌&&◌, ◌||◌, ◌==◌, nat_lt}
 use Rattle.std.proofs.lemmas.Bool.{lt-ltb, eqb-true}
 use Rattle.std.proofs.lemmas.Slice.Eq.{bytes_eq-Decides}
-use Rattle.std.proofs.lemmas.Str.{chars-IsAscii}
-use Rattle.std.proofs.Common.{lit<, rules}
-use Rattle.unicode_ident.proofs.IdentLemmas.{is_xid_start-ascii}
 use Rattle.std.specs.Fmt.{digits}
 use lib.Chars.{codes}
-use Rattle.at_model.specs.Names.{is_name, reserved_words}
 use Rattle.at_text.specs.Reading.{first}
 use Rattle.at_text.specs.Symbols.{PlacedToken}
 use Rattle.at_text.specs.declared.place.Place.{Place}
@@ -19,6 +15,7 @@ use Rattle.at_text.specs.Machine.{Takes, Skips, Refuses, LeavesOut, and_then, Wh
 use Rattle.at_jrag.specs.Wants.{Want, Expression, Binary, Links, Choice, Otherwise, Unary, Minus, Opened, Enclosed, Parenthesized, Calls, Called, Arguments, FirstArgument, MoreArguments, Primary, Named, FoldBody, Deeper, Join, Deepest, Counts, Name, Mark, File, Decls, Lazy, NotNta, Kind, Signed, Opening, Params, OneParam, MoreParams, NotCircular, Ending, Body, Defined, Return, Close}
 use Rattle.at_jrag.specs.Table.{table, next, on, is_number_within, expression_answer, link_rank, link_answer, links_answer, choice_answer, calls_answer, named_answer, parenthesized_answer, file_answer, lazy_answer, not_nta_answer, body_answer}
 use Rattle.at_jrag.specs.Runs.{Pass}
+use Rattle.at_text.proofs.SomeName.{is_some_name}
 use Rattle.at_text.proofs.MachineLaws.{run-takes, run-skips}
 use Rattle.at_text.proofs.MachineLaws.{run-begins}
 use Rattle.at_jrag.proofs.of_expressions.ExpressionSteps.{sign_is, binary_stays}
@@ -289,10 +286,6 @@ absent (Some t) e =
     (one_of (is_sign (codes "}") t) _ (absent_sign (codes "}") t absent_brace)
     (one_of (is_sign (codes ":") t) _ (absent_sign (codes ":") t absent_colon)
     (one_of (is_sign (codes ";") t) (is_sign (codes "{") t) (absent_sign (codes ";") t absent_semicolon) (absent_sign (codes "{") t absent_block)))) e
-
-is_some_name : is_name (codes "_") ≡ true
-unfolding reserved_words
-is_some_name = rw (chars-IsAscii (codes "_") (search rules), is_xid_start-ascii 95 (lit< tt)) refl
 
 is_zero : is_number_within 2147483648 (number (codes "0") first_place) ≡ true
 unfolding digits

@@ -7,6 +7,8 @@ pub mod Placing
 pub mod Fronts
 pub mod Reserved
 pub mod Quotes
+pub mod BehindQuote
+pub mod SomeName
 pub mod Openings
 pub mod Same
 pub mod Stuck

@@ -62,8 +62,10 @@ fn is_one_of(words: &[&str], word: &str) -> bool
     words.contains(&word)
 }
 
-/// Whether the word has a meaning of its own in grammars and aspects, so that it names nothing.
-pub fn is_reserved(word: &str) -> bool
+/// Whether the word has a meaning of its own in grammars and aspects, by its first byte. By itself, so that a name that begins with
+/// a capital, as most do, costs no call.
+#[inline(never)]
+fn is_reserved_by_first(word: &str) -> bool
     ensures { result ≡ is_reserved word.now }
 {
     match first_byte(word) {
@@ -81,6 +83,17 @@ pub fn is_reserved(word: &str) -> bool
         b'S' => is_one_of(&WITH_CAPITAL_S, word),
         _ => false,
     }
+}
+
+/// Whether the word has a meaning of its own in grammars and aspects, so that it names nothing.
+pub fn is_reserved(word: &str) -> bool
+    ensures { result ≡ is_reserved word.now }
+{
+    let first = first_byte(word);
+    if first.is_ascii_lowercase() || first == b'S' {
+        return is_reserved_by_first(word);
+    }
+    false
 }
 
 /// Whether the text has the form of a name.
