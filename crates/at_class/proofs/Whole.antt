@@ -50,14 +50,15 @@ table_of_declared keys ks lent es xs same e is are sound hierarchy =
     let f : classes_view lent ≡ classes_of (declarations_view xs) = ap classes_view is ∙ e in
     table-declared keys lent es (same ∙ sym (ap (map (λ (k : ModelClass). k.name)) f ∙ names_declared xs)) are (subst AreLed (sym f) (led (classes_of (declarations_view xs)) hierarchy sound.some)) (subst IsHierarchy (sym f) hierarchy) ∙ f
 
-pub is_table : {A : Type 0} (keys : List (String A)) (ks lent : List Class) (es : List Entry) (xs : List ClassDecl) → map string_bytes keys ≡ map (λ d. string_bytes d.name) xs → classes_view ks ≡ classes_of (declarations_view xs)
-    → lent ≡ ks → AreEntries lent es (length lent) → AreSound (classes_of (declarations_view xs)) → IsHierarchy (classes_of (declarations_view xs)) → component_twice (declarations_view xs) ≡ None → IsTable keys es
-is_table keys ks lent es xs same e is are sound hierarchy once =
+pub is_table : {A : Type 0} (keys : List (String A)) (ks lent : List Class) (es : List Entry) (start : ℕ) (xs : List ClassDecl) → start ≡ 0 → map string_bytes keys ≡ map (λ d. string_bytes d.name) xs → classes_view ks ≡ classes_of (declarations_view xs)
+    → lent ≡ ks → AreEntries lent es (length lent) → AreSound (classes_of (declarations_view xs)) → IsHierarchy (classes_of (declarations_view xs)) → component_twice (declarations_view xs) ≡ None → IsTable keys es start
+is_table keys ks lent es start xs first same e is are sound hierarchy once =
     let t : table_view keys es ≡ classes_of (declarations_view xs) = table_of_declared keys ks lent es xs same e is are sound hierarchy in
     let f : classes_view lent ≡ table_view keys es = ap classes_view is ∙ e ∙ sym t in
     record {
       count = sym (length-map keys string_bytes) ∙ ap length same ∙ length-map xs (λ (d : ClassDecl). string_bytes d.name) ∙ sym (as_many lent xs (ap classes_view is ∙ e)) ∙ sym are.count;
       parts = λ c d less. subst (λ classes. map part_view (get_or es c d).parts.items ≡ parts classes c) f (are.each c (spare lent c (subst (λ n. c < n) are.count less)) d (subst (λ n. c < n) are.count less)).parts;
+      first = first;
       sound = subst AreSound (sym t) sound;
       hierarchy = subst IsHierarchy (sym t) hierarchy;
       apart = subst ArePartsApart (sym t) (parts_apart (declarations_view xs) (led (classes_of (declarations_view xs)) hierarchy sound.some) once);

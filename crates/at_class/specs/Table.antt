@@ -35,11 +35,12 @@ pub record AreEntries (ks : List Class) (es : List Entry) (n : ℕ) : Type 0 whe
   pub count : length es ≡ n
   pub each : (c : ℕ) (k : Class) (e : Entry) → c < n → IsEntry (classes_view ks) c (get_or ks c k) (get_or es c e)
 
--- there is a name for each entry, each entry has all components of its class, and the classes are as a grammar without faults
--- declares them
-pub record IsTable {A : Type 0} (names : List (String A)) (es : List Entry) : Type 0 where
+-- there is a name for each entry, each entry has all components of its class, the start is the first class, and the classes are as
+-- a grammar without faults declares them
+pub record IsTable {A : Type 0} (names : List (String A)) (es : List Entry) (start : ℕ) : Type 0 where
   pub count : length names ≡ length es
   pub parts : (c : ℕ) (e : Entry) → c < length es → map part_view (get_or es c e).parts.items ≡ parts (table_view names es) c
+  pub first : start ≡ 0
   pub sound : AreSound (table_view names es)
   pub hierarchy : IsHierarchy (table_view names es)
   pub apart : ArePartsApart (table_view names es)

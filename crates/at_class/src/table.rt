@@ -15,6 +15,8 @@ pub struct ClassTable {
     names: IndexSet<String>,
     // What is kept of each class, in the order of the names.
     entries: Vec<Entry>,
+    // The class of whole trees.
+    start: ClassId,
 }
 
 /// One call, where each exit that lets it go would else have a case for each collection.
@@ -23,6 +25,7 @@ impl Drop for ClassTable {
         let ClassTable {
             names: _,
             entries: _,
+            start: _,
         } = self;
     }
 }
@@ -36,7 +39,7 @@ impl Model for ClassTable {
 
     ghost view = { λ t. table_view t.names.keys t.entries.items };
 
-    ghost invariant = { λ t. IsTable t.names.keys t.entries.items };
+    ghost invariant = { λ t. IsTable t.names.keys t.entries.items t.start };
 }
 
 impl ClassTable {
@@ -77,8 +80,7 @@ impl ClassTable {
         ensures first { result ≡ 0 }
         ensures within { result < length self.now }
     {
-        let _ = &self.entries;
-        ClassId::new(0)
+        self.start
     }
 
     /// The class of that name.
@@ -176,5 +178,9 @@ fn table_of(alloc: Global, declarations: &[ClassDecl]) -> Result<ClassTable, Cla
     let classes = classes_declared(alloc, &names, declarations)?;
     refuse_classes(alloc, &classes, declarations)?;
     let entries = entries_of(alloc, &classes)?;
-    Ok(ClassTable { names, entries })
+    Ok(ClassTable {
+        names,
+        entries,
+        start: ClassId::new(0),
+    })
 }
