@@ -8,7 +8,8 @@ use Rattle.at_model.specs.Lines.{Place, place_text, IsPlace, Command, Ask, Set, 
 use Rattle.at_model.specs.Names.{IsName}
 use Rattle.at_model.proofs.of_texts.Words.{apart_bytes}
 use Rattle.at_model.proofs.of_texts.OneLine.{two}
-use Rattle.at_protocol.specs.Words.{HasNoSpace, IsPlaceText, IsToText, IsNameText, IsIndexText, IsQuestionNumber, IsTermText, IsValueText}
+use Rattle.at_tree.specs.ReadTrees.{IsTermOf}
+use Rattle.at_protocol.specs.Words.{HasNoSpace, IsPlaceText, IsToText, IsNameText, IsIndexText, IsQuestionNumber, IsValueText}
 use Rattle.at_protocol.specs.Calls.{IsCallText}
 use Rattle.at_protocol.specs.Commands.{IsCommandText}
 use Rattle.at_protocol.proofs.Answering.{Is, Then}
@@ -42,25 +43,25 @@ asked text (Ask place attribute arguments) h = place_then place text _ (Is IsCal
 asked text c h = absurd (apart_bytes (two (codes "ask" ++ 32 ∷ text)) (two (text_of c)) refl (ap two h.is_text))
 
 abbrev pub BehindSet : List ℕ → Type 0
-BehindSet = Then IsPlaceText (Is IsTermText)
+BehindSet = Then IsPlaceText (Is IsTermOf)
 
 pub set : (text : List ℕ) (c : Command) → Behind (codes "set") text c → BehindSet text
-set text (Set place t) h = place_then place text _ (Is IsTermText) h.is_command.0 (ap (drop 4) h.is_text) (t, (h.is_command.1, refl))
+set text (Set place t) h = place_then place text _ (Is IsTermOf) h.is_command.0 (ap (drop 4) h.is_text) (t, (h.is_command.1, refl))
 set text c h = absurd (apart_bytes (two (codes "set" ++ 32 ∷ text)) (two (text_of c)) refl (ap two h.is_text))
 
 abbrev pub NamedTerm : List ℕ → Type 0
-NamedTerm = Then IsNameText (Is IsTermText)
+NamedTerm = Then IsNameText (Is IsTermOf)
 
 abbrev pub BehindPut : List ℕ → Type 0
 BehindPut = Then IsPlaceText NamedTerm
 
 pub put : (text : List ℕ) (c : Command) → Behind (codes "put") text c → BehindPut text
 put text (Put place part t) h =
-    place_then place text _ NamedTerm h.is_command.0 (ap (drop 4) h.is_text) (name_then part _ _ (Is IsTermText) h.is_command.1 refl (t, (h.is_command.2, refl)))
+    place_then place text _ NamedTerm h.is_command.0 (ap (drop 4) h.is_text) (name_then part _ _ (Is IsTermOf) h.is_command.1 refl (t, (h.is_command.2, refl)))
 put text c h = absurd (apart_bytes (two (codes "put" ++ 32 ∷ text)) (two (text_of c)) refl (ap two h.is_text))
 
 abbrev pub IndexedTerm : List ℕ → Type 0
-IndexedTerm = Then IsIndexText (Is IsTermText)
+IndexedTerm = Then IsIndexText (Is IsTermOf)
 
 abbrev pub NamedIndexedTerm : List ℕ → Type 0
 NamedIndexedTerm = Then IsNameText IndexedTerm
@@ -71,7 +72,7 @@ BehindInsert = Then IsPlaceText NamedIndexedTerm
 pub inserted : (text : List ℕ) (c : Command) → Behind (codes "insert") text c → BehindInsert text
 inserted text (Insert place part index t) h =
     place_then place text _ NamedIndexedTerm h.is_command.0 (ap (drop 7) h.is_text)
-    (name_then part _ _ IndexedTerm h.is_command.1 refl (index_then index _ _ (Is IsTermText) h.is_command.2 refl (t, (h.is_command.3, refl))))
+    (name_then part _ _ IndexedTerm h.is_command.1 refl (index_then index _ _ (Is IsTermOf) h.is_command.2 refl (t, (h.is_command.3, refl))))
 inserted text c h = absurd (apart_bytes (two (codes "insert" ++ 32 ∷ text)) (two (text_of c)) refl (ap two h.is_text))
 
 abbrev pub NamedValue : List ℕ → Type 0

@@ -1,5 +1,5 @@
 -- Where a text is cut at the first byte of a kind.
-use Rattle.std.proofs.Common.{◌≡◌, ◌≢◌, ℕ, ◌+◌, ◌<◌, Bool, true, ◌==◌, List, ◌∷◌, ◌++◌, length, take, drop, get_or, suc, Option, Some, None, ap, sym, ◌∙◌, subst, arith}
+use Rattle.std.proofs.Common.{◌≡◌, ◌≢◌, ℕ, ◌+◌, ◌<◌, true, ◌==◌, List, ◌∷◌, ◌++◌, length, take, drop, suc, Option, Some, None, ap, sym, ◌∙◌, subst, arith}
 use Rattle.std.specs.Prelude.{IsUtf8, MatchOption}
 use Rattle.std.specs.List.{slice_index}
 use Rattle.std.specs.Str.{IsCharBoundary}

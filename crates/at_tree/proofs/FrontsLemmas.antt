@@ -1,18 +1,14 @@
 -- Trees and cells that are taken from the front of a text.
-use Rattle.std.proofs.Common.{◌≡◌, ℕ, ◌+◌, ◌-◌, ◌<◌, ◌≤◌, zero, List, [], ◌∷◌, ◌++◌, length, take, get_or, map, refl, ap, sym, ◌∙◌, subst, append_assoc, arith, suc, drop, take_all, Some, None, Option}
+use Rattle.std.proofs.Common.{◌≡◌, ℕ, ◌+◌, ◌-◌, ◌<◌, ◌≤◌, zero, List, [], ◌∷◌, ◌++◌, length, take, get_or, map, refl, ap, sym, ◌∙◌, subst, append_assoc, arith, suc, take_all, Some, None, Option}
 use Rattle.std.specs.Prelude.{Bool, true, false, ◌&&◌}
-use lib.Seq.{drop_at, get_or-append_seam}
-use Rattle.std.specs.List.{flat_map}
-use Rattle.std.specs.Str.{bytes_eq, IsUtf8, IsCharBoundary}
+use Rattle.std.specs.Str.{bytes_eq}
 use Rattle.std.proofs.lemmas.List.{length-append, length-map, map_more, take-map}
 use Rattle.std.proofs.lemmas.List.Quantifiers.{position-Some}
 use Rattle.std.proofs.lemmas.Option.{slice_get-get_or}
-use Rattle.std.proofs.lemmas.Str.{IsCharBoundary-after_ascii}
 use Rattle.at_model.specs.Classes.{Classes, Class, Component, Shape, class_of_name, name_of, fits, parts}
 use Rattle.at_model.specs.Classes as class
 use Rattle.at_model.specs.Names.{IsName}
 use Rattle.at_model.specs.Terms.{IsTermWithin, AreCellsWithin, IsCellWithin, AreTermsWithin, term_of, cells_of, cell_of, terms_of, tree_text, cell_text, cell_texts, term_texts, with_commas}
-use Rattle.at_model.specs.Texts.{escaped, quoted}
 use Rattle.at_model.specs.Trees.{Tree, Node, Cells, Cell, Many, to_cells, to_trees, conforms, cells_conform, cell_conforms, trees_conform}
 use Rattle.at_model.proofs.Options.{both as and_both}
 use Rattle.at_model.proofs.of_texts.Shaped.{same_bytes}
@@ -155,19 +151,5 @@ empty_list classes text mid new b levels ts begins ends none = subst (λ (us : L
 -- what is left is shorter
 pub shorter : (classes : Classes) (old mid new : List ℕ) (b levels : ℕ) (t : Tree) → old ≡ 44 ∷ mid → IsTreeFront classes mid new b levels t → length new < length old
 shorter classes old mid new b levels t comma one = omega (arith, ap length comma, ap length one.0, length-append (tree_text classes t) new)
-
--- texts ---------------------------------------------------------------------------------------------------------------
-
--- a text may be cut behind a closing quote
-pub cut_behind : (text value rest : List ℕ) (n : ℕ) → IsUtf8 text → text ≡ quoted value ++ rest → n ≡ length (quoted value) → IsCharBoundary text n
-cut_behind text value rest n u e is =
-    let front = 34 ∷ flat_map escaped value in
-    let flat : text ≡ front ++ 34 ∷ rest = e ∙ append_assoc front (34 ∷ []) rest in
-    let size : n ≡ length front + 1 = omega (arith, is, length-append front (34 ∷ [])) in
-    let byte : get_or text (length front) 0 ≡ 34 = ap (λ y. get_or y (length front) 0) flat ∙ get_or-append_seam front 34 rest 0 in
-    subst (IsCharBoundary text) (sym size) (IsCharBoundary-after_ascii text (length front) u (omega (arith, ap length flat, length-append front (34 ∷ rest), length-append (34 ∷ []) rest)) (omega (arith, byte)))
-
-pub behind_quote : (text value rest : List ℕ) (n : ℕ) → text ≡ quoted value ++ rest → n ≡ length (quoted value) → quoted value ++ drop n text ≡ text
-behind_quote text value rest n e is = ap (λ y. quoted value ++ y) (ap (drop n) e ∙ drop_at (quoted value) rest n (sym is)) ∙ sym e
 
 -- numbers -------------------------------------------------------------------------------------------------------------

@@ -5,6 +5,7 @@ pub mod Passing
 pub mod Finished
 pub mod PathMachine
 pub mod PathRuns
+pub mod NameBytes
 pub mod PlainNamesLemmas
 pub mod PathFronts
 pub mod Escapes

@@ -55,5 +55,8 @@ whole_path text rest ss some none so_far = (so_far.0, whole ss (so_far.1 ∙ ap 
 pub less : (old new : List ℕ) (s : Step) → old ≡ step_text s ++ new → length new < length old
 less old new s e = omega (arith, ap length e, length-append (step_text s) new)
 
+pub behind_low : (text : List ℕ) → IsUtf8 text → 1 ≤ length text → get_or text 0 0 < 128 → IsCharBoundary text 1
+behind_low text u some low = IsCharBoundary-after_ascii text 0 u (omega (arith, some)) low
+
 pub behind_digit : (text : List ℕ) → IsUtf8 text → 1 ≤ length text → is_ascii_digit (get_or text 0 0) ≡ true → IsCharBoundary text 1
-behind_digit text u some h = let low : get_or text 0 0 < 128 = grind (arith, nat_tests, h) in IsCharBoundary-after_ascii text 0 u (omega (arith, some)) low
+behind_digit text u some h = behind_low text u some (grind (arith, nat_tests, h))

@@ -72,7 +72,8 @@ place_found p n i e = decide (ltb p n) e
     decide true f = cc
     decide false f = cc
 
-place_past : (p n : ℕ) → None ≡ cond (ltb p n) (Some p) None → n ≤ p
+-- and none
+pub place_past : (p n : ℕ) → None ≡ cond (ltb p n) (Some p) None → n ≤ p
 place_past p n e = decide (ltb p n) refl e
   where
     decide : (r : Bool) → ltb p n ≡ r → None ≡ cond r (Some p) None → n ≤ p

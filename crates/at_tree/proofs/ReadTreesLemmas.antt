@@ -42,6 +42,11 @@ shaped_of classes text b u t whole written is = record { conforms = whole; writt
 pub again_found : (classes : Classes) → AreSound classes → (text : List ℕ) (b : ℕ) (u t : Tree) → conforms classes u b ≡ true → IsTermOf text (term_of classes u) → IsReadAs classes text b t → t ≡ u
 again_found classes sound text b u t whole written (w, is, s) = one_tree classes sound t u b s.conforms whole (s.written ∙ one_term w (term_of classes u) text is written)
 
+-- where there is no term, no tree was written as the text
+pub again_no_term : (classes : Classes) (text : List ℕ) (b : ℕ) (u : Tree) (f : TermFault) → IsTermOf text (term_of classes u) → IsUnread classes text b (of_term f) → of_term f ≡ Memory
+again_no_term classes text b u (term.Syntax place) written none = absurd (none.0 (term_of classes u, written.0, written.1))
+again_no_term classes text b u term.Memory written none = refl
+
 pub again_refused : (classes : Classes) → AreSound classes → (text : List ℕ) (b : ℕ) (u : Tree) (e : ReadFault) → conforms classes u b ≡ true → IsTermOf text (term_of classes u) → IsUnread classes text b e → e ≡ Memory
 again_refused classes sound text b u (Syntax place) whole written none = absurd (none.0 (term_of classes u, written.0, written.1))
 again_refused classes sound text b u Class whole written (t, is, unknown) =

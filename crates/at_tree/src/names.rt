@@ -6,6 +6,29 @@ ghost use Rattle.at_tree.specs.PlainNames.{is_name_byte, name_len, begins_name};
 use crate::fault::{Misfit, Untaken};
 use at_text::names::is_reserved;
 
+/// Which bytes are letters or digits of ASCII, or the underscore.
+const NAME_BYTES: [bool; 256] = [
+    false, false, false, false, false, false, false, false, false, false, false, false, false,
+    false, false, false, false, false, false, false, false, false, false, false, false, false,
+    false, false, false, false, false, false, false, false, false, false, false, false, false,
+    false, false, false, false, false, false, false, false, false, true, true, true, true, true,
+    true, true, true, true, true, false, false, false, false, false, false, false, true, true,
+    true, true, true, true, true, true, true, true, true, true, true, true, true, true, true, true,
+    true, true, true, true, true, true, true, true, false, false, false, false, true, false, true,
+    true, true, true, true, true, true, true, true, true, true, true, true, true, true, true, true,
+    true, true, true, true, true, true, true, true, true, false, false, false, false, false, false,
+    false, false, false, false, false, false, false, false, false, false, false, false, false,
+    false, false, false, false, false, false, false, false, false, false, false, false, false,
+    false, false, false, false, false, false, false, false, false, false, false, false, false,
+    false, false, false, false, false, false, false, false, false, false, false, false, false,
+    false, false, false, false, false, false, false, false, false, false, false, false, false,
+    false, false, false, false, false, false, false, false, false, false, false, false, false,
+    false, false, false, false, false, false, false, false, false, false, false, false, false,
+    false, false, false, false, false, false, false, false, false, false, false, false, false,
+    false, false, false, false, false, false, false, false, false, false, false, false, false,
+    false, false, false, false, false, false, false, false, false, false,
+];
+
 /// Whether the word is a name of ASCII alone. It may be another name where it isn't.
 pub fn is_plain_name(word: &str) -> bool
     ensures { result ≡ true → IsName word.now }
@@ -37,14 +60,11 @@ fn name_len(text: &str) -> usize
     }
 }
 
-/// Whether a name goes on with the byte as a character of ASCII. Most of them are small letters.
+/// Whether a name goes on with the byte as a character of ASCII.
 fn is_name_byte(b: u8) -> bool
     ensures { result ≡ is_name_byte b }
 {
-    if b.is_ascii_lowercase() {
-        return true;
-    }
-    b.is_ascii_alphanumeric() || b == b'_'
+    NAME_BYTES[b as usize]
 }
 
 /// Whether such bytes are some, and no digit is the first.

@@ -11,7 +11,7 @@ use std::alloc::Global;
 use std::borrow::CowStr;
 
 /// About how many bytes a step has, for the room that a path's steps take.
-const STEP_LENGTH: usize = 6;
+const STEP_LENGTH: usize = 5;
 
 /// The path that the whole text is written of. What isn't read so (a name that is not of ASCII alone, for one) may
 /// still be a path's text, of which the reader by characters tells the path, or where it stops.
@@ -40,12 +40,12 @@ pub(super) fn whole_path<'a>(alloc: Global, text: &'a str) -> Result<Path<'a>, U
 fn step_first<'a>(text: &'a str) -> Result<(Step<'a>, &'a str), Untaken>
     ensures { IfOk result (λ r. IsStep (step_view r.0) × (text.now ≡ step_text (step_view r.0) ++ r.1.now)) }
 {
-    let Some(behind) = text.strip_prefix('/') else {
+    let Some(behind) = behind_sign(text, b'/') else {
         return Err(Untaken::For(Misfit::Form));
     };
     let (name, rest) = name_first(behind)?;
     let part = CowStr::Borrowed(name);
-    let Some(digits) = rest.strip_prefix(':') else {
+    let Some(digits) = behind_sign(rest, b':') else {
         return Ok((Step { part, index: None }, rest));
     };
     let Some((index, rest)) = index_first(digits) else {
@@ -53,6 +53,17 @@ fn step_first<'a>(text: &'a str) -> Result<(Step<'a>, &'a str), Untaken>
     };
     let index = Some(index);
     Ok((Step { part, index }, rest))
+}
+
+/// What follows the sign of ASCII at the front.
+fn behind_sign(text: &str, sign: u8) -> Option<&str>
+    requires { sign < 128 }
+    ensures { IfSome result (λ rest. text.now ≡ sign ∷ rest.now) }
+{
+    match text.as_bytes() {
+        [first, ..] if *first == sign => Some(text.split_at(1).1),
+        _ => None,
+    }
 }
 
 /// The index whose decimal stands at the front, and what follows it.

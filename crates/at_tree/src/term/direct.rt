@@ -80,11 +80,11 @@ fn take_name(alloc: Global, front: &mut Front<'_>) -> Result<String, Untaken>
 fn take_cells(alloc: Global, front: &mut Front<'_>, levels: usize) -> Result<Vec<TermCell>, Untaken>
     ensures { IfOk result (λ cells. AreCellsFront front.old.rest.now front.new.rest.now levels (map cell_view cells.items)) }
 {
+    if takes(front, ')') {
+        return Ok(Vec::new(alloc));
+    }
     // most terms have two cells at most
     let mut cells = Vec::with_capacity(alloc, 2)?;
-    if takes(front, ')') {
-        return Ok(cells);
-    }
     let first = take_cell(alloc, front, levels)?;
     cells.push(first)?;
     while takes(front, ',') {

@@ -1,6 +1,6 @@
 //! A tree in one pass over its text, with no term in between.
 ghost use Rattle.std.specs.Prelude.{◌≡◌, ◌++◌, IfOk, OnOk, map};
-ghost use Rattle.at_model.specs.Classes.{Many, Maybe};
+ghost use Rattle.at_model.specs.Classes.{AreSound, Many, Maybe};
 ghost use Rattle.at_model.specs.Trees.{to_cells, to_trees};
 ghost use Rattle.at_model.specs.Trees as tree;
 ghost use Rattle.at_class.specs.View.{part_view, shape_view};
@@ -24,7 +24,8 @@ pub(super) fn whole_tree(
     text: &str,
     under: ClassId,
 ) -> Result<Tree, Untaken>
-    ensures { IfOk result (λ t. IsReadAs classes.now text.now under (tree_view t)) }
+    ensures found { IfOk result (λ t. IsReadAs classes.now text.now under (tree_view t)) }
+    ensures sound { OnOk result (AreSound classes.now) }
 {
     let mut front = Front { rest: text };
     let tree = take_tree(alloc, classes, &mut front, under, MAX_DEPTH)?;
@@ -44,7 +45,8 @@ pub(super) fn take_tree(
     under: ClassId,
     levels: usize,
 ) -> Result<Tree, Untaken>
-    ensures { IfOk result (λ t. IsTreeFront classes.now front.old.rest.now front.new.rest.now under levels (tree_view t)) }
+    ensures front { IfOk result (λ t. IsTreeFront classes.now front.old.rest.now front.new.rest.now under levels (tree_view t)) }
+    ensures sound { OnOk result (AreSound classes.now) }
 {
     if levels == 0 {
         return Err(Untaken::For(Misfit::Form));

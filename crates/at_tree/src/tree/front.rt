@@ -2,7 +2,7 @@
 ghost use Rattle.std.specs.Prelude.{◌≡◌, ◌<◌, ◌++◌, ◌∷◌, true, false, length, string_bytes, IfOk, OnOk};
 ghost use Rattle.std.specs.Fmt.{signed_decimal};
 ghost use Rattle.std.specs.Str.{IsUtf8};
-ghost use Rattle.at_model.specs.Classes.{fits, name_of};
+ghost use Rattle.at_model.specs.Classes.{AreSound, fits, name_of};
 ghost use Rattle.at_model.specs.Names.{IsName};
 ghost use Rattle.at_model.specs.Terms.{IsToken, IsInt32, token_text};
 ghost use Rattle.at_model.specs.Texts.{quoted};
@@ -57,6 +57,7 @@ pub(super) fn take_class(
     front: &mut Front<'_>,
     under: ClassId,
 ) -> Result<ClassId, Untaken>
+    ensures sound { OnOk result (AreSound classes.now) }
     ensures fits { IfOk result (λ c. fits classes.now c under ≡ true) }
     ensures within { IfOk result (λ c. c < length classes.now) }
     ensures named { IfOk result (λ c. IsName (name_of classes.now c)) }

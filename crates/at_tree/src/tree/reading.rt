@@ -1,6 +1,5 @@
 //! The tree that a text is written of.
 ghost use Rattle.std.specs.Prelude.{◌≡◌, IfOk, IfErr, true};
-ghost use Rattle.at_model.specs.Classes.{AreSound};
 ghost use Rattle.at_model.specs.Terms.{IsTerm, term_of, tree_text};
 ghost use Rattle.at_model.specs.Trees.{Tree as Nodes, conforms};
 ghost use Rattle.at_tree.specs.TreeView.{tree_view};
@@ -78,8 +77,6 @@ pub fn read_tree(
     ensures again { (u : Nodes) → conforms classes.now u under ≡ true → IsTerm (term_of classes.now u) → tree_text classes.now u ≡ text.now
         → ReadsTree result u }
 {
-    // `len` says that the classes are sound: each has a name of its own, so that a tree is known from its term.
-    let _count = classes.len();
     match whole_tree(alloc, classes, text, under) {
         Ok(tree) => Ok(tree),
         Err(Untaken::Memory) => Err(ReadFault::Memory),
@@ -94,7 +91,6 @@ fn read_by_term(
     text: &str,
     under: ClassId,
 ) -> Result<Tree, ReadFault>
-    requires { AreSound classes.now }
     ensures found { IfOk result (λ t. IsReadAs classes.now text.now under (tree_view t)) }
     ensures refused { IfErr result (IsUnread classes.now text.now under) }
     ensures again { (u : Nodes) → conforms classes.now u under ≡ true → IsTerm (term_of classes.now u) → tree_text classes.now u ≡ text.now

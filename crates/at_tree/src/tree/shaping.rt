@@ -59,14 +59,23 @@ pub fn shape(
     term: &Term,
     under: ClassId,
 ) -> Result<Tree, ShapeFault>
+    // The table's classes are sound: each has a name of its own, so that a tree is known from its term.
+    ensures sound { AreSound classes.now }
     ensures known { OnOk result (names_classes classes.now (term_view term.now) ≡ true) }
     ensures found { IfOk result (λ t. IsShaped classes.now (term_view term.now) under (tree_view t)) }
     ensures refused { IfErr result (IsMisshaped classes.now (term_view term.now) under) }
 {
-    if !is_known(classes, term) {
-        return Err(ShapeFault::Class);
+    match shape_tree(alloc, classes, term, under) {
+        Ok(tree) => Ok(tree),
+        // A name that is no class's counts before all else, and is looked for only where there is no tree.
+        Err(fault) => {
+            if is_known(classes, term) {
+                Err(fault)
+            } else {
+                Err(ShapeFault::Class)
+            }
+        }
     }
-    shape_tree(alloc, classes, term, under)
 }
 
 fn is_known_name(classes: &ClassTable, name: &str) -> bool

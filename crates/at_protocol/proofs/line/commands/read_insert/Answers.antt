@@ -1,6 +1,7 @@
 use Rattle.std.specs.Prelude.{codes}
 use Rattle.std.proofs.lemmas.Result.{err_from_is_err_and}
-use Rattle.at_protocol.specs.Words.{IsIndexText, IsNameText, IsPlaceText, IsTermText}
+use Rattle.at_tree.specs.ReadTrees.{IsTermOf}
+use Rattle.at_protocol.specs.Words.{IsIndexText, IsNameText, IsPlaceText}
 use Rattle.at_protocol.proofs.Answering.{Is, fails_is, fails_first, fails_rest, fails_whole}
 use Rattle.at_protocol.proofs.CommandsLemmas.{Behind, inserted, BehindInsert, IndexedTerm, NamedIndexedTerm}
 use Rattle.at_protocol.proofs.Parts.{insert_text}
@@ -19,12 +20,12 @@ returns-in_err-part c =
 pub returns-in_err-index : goal.returns-in_err-index
 returns-in_err-index c =
     let p = err_from_is_err_and c.from_residual-in_err-index.result c.from_residual-in_err-index.ensures.1 in
-    rw (p.1, p.2) (fails_whole (BehindInsert c.args.text.now) (Behind (codes "insert") c.args.text.now) _ (inserted c.args.text.now) (fails_rest IsPlaceText NamedIndexedTerm _ _ _ c.in_ok-place.ensures (fails_rest IsNameText IndexedTerm _ _ _ c.in_ok-part.ensures (fails_first IsIndexText (Is IsTermText) _ _ c.in_err-index.ensures))))
+    rw (p.1, p.2) (fails_whole (BehindInsert c.args.text.now) (Behind (codes "insert") c.args.text.now) _ (inserted c.args.text.now) (fails_rest IsPlaceText NamedIndexedTerm _ _ _ c.in_ok-place.ensures (fails_rest IsNameText IndexedTerm _ _ _ c.in_ok-part.ensures (fails_first IsIndexText (Is IsTermOf) _ _ c.in_err-index.ensures))))
 
 pub returns-in_err-term : goal.returns-in_err-term
 returns-in_err-term c =
     let p = err_from_is_err_and c.from_residual-in_err-term.result c.from_residual-in_err-term.ensures.1 in
-    rw (p.1, p.2) (fails_whole (BehindInsert c.args.text.now) (Behind (codes "insert") c.args.text.now) _ (inserted c.args.text.now) (fails_rest IsPlaceText NamedIndexedTerm _ _ _ c.in_ok-place.ensures (fails_rest IsNameText IndexedTerm _ _ _ c.in_ok-part.ensures (fails_rest IsIndexText (Is IsTermText) _ _ _ c.in_ok-index.ensures (fails_is IsTermText _ _ c.in_err-term.ensures)))))
+    rw (p.1, p.2) (fails_whole (BehindInsert c.args.text.now) (Behind (codes "insert") c.args.text.now) _ (inserted c.args.text.now) (fails_rest IsPlaceText NamedIndexedTerm _ _ _ c.in_ok-place.ensures (fails_rest IsNameText IndexedTerm _ _ _ c.in_ok-part.ensures (fails_rest IsIndexText (Is IsTermOf) _ _ _ c.in_ok-index.ensures (fails_is IsTermOf _ _ c.in_err-term.ensures)))))
 
 pub returns : goal.returns
 returns c = insert_text _ _ _ _ _ _ _ _ c.in_ok-place.ensures c.in_ok-part.ensures c.in_ok-index.ensures c.in_ok-term.ensures

@@ -1,6 +1,7 @@
 use Rattle.std.specs.Prelude.{codes}
 use Rattle.std.proofs.lemmas.Result.{err_from_is_err_and}
-use Rattle.at_protocol.specs.Words.{IsNameText, IsPlaceText, IsTermText}
+use Rattle.at_tree.specs.ReadTrees.{IsTermOf}
+use Rattle.at_protocol.specs.Words.{IsNameText, IsPlaceText}
 use Rattle.at_protocol.proofs.Answering.{Is, fails_is, fails_first, fails_rest, fails_whole}
 use Rattle.at_protocol.proofs.CommandsLemmas.{Behind, put, BehindPut, NamedTerm}
 use Rattle.at_protocol.proofs.Parts.{put_text}
@@ -14,12 +15,12 @@ returns-in_err-place c =
 pub returns-in_err-part : goal.returns-in_err-part
 returns-in_err-part c =
     let p = err_from_is_err_and c.from_residual-in_err-part.result c.from_residual-in_err-part.ensures.1 in
-    rw (p.1, p.2) (fails_whole (BehindPut c.args.text.now) (Behind (codes "put") c.args.text.now) _ (put c.args.text.now) (fails_rest IsPlaceText NamedTerm _ _ _ c.in_ok-place.ensures (fails_first IsNameText (Is IsTermText) _ _ c.in_err-part.ensures)))
+    rw (p.1, p.2) (fails_whole (BehindPut c.args.text.now) (Behind (codes "put") c.args.text.now) _ (put c.args.text.now) (fails_rest IsPlaceText NamedTerm _ _ _ c.in_ok-place.ensures (fails_first IsNameText (Is IsTermOf) _ _ c.in_err-part.ensures)))
 
 pub returns-in_err-term : goal.returns-in_err-term
 returns-in_err-term c =
     let p = err_from_is_err_and c.from_residual-in_err-term.result c.from_residual-in_err-term.ensures.1 in
-    rw (p.1, p.2) (fails_whole (BehindPut c.args.text.now) (Behind (codes "put") c.args.text.now) _ (put c.args.text.now) (fails_rest IsPlaceText NamedTerm _ _ _ c.in_ok-place.ensures (fails_rest IsNameText (Is IsTermText) _ _ _ c.in_ok-part.ensures (fails_is IsTermText _ _ c.in_err-term.ensures))))
+    rw (p.1, p.2) (fails_whole (BehindPut c.args.text.now) (Behind (codes "put") c.args.text.now) _ (put c.args.text.now) (fails_rest IsPlaceText NamedTerm _ _ _ c.in_ok-place.ensures (fails_rest IsNameText (Is IsTermOf) _ _ _ c.in_ok-part.ensures (fails_is IsTermOf _ _ c.in_err-term.ensures))))
 
 pub returns : goal.returns
 returns c = put_text _ _ _ _ _ _ c.in_ok-place.ensures c.in_ok-part.ensures c.in_ok-term.ensures

@@ -1,4 +1,4 @@
-use Rattle.std.proofs.Common.{◌≡◌, ap, ◌∙◌, subst}
+use Rattle.std.proofs.Common.{subst}
 use Rattle.at_protocol.specs.Words.{HasNoSpace}
 use Rattle.at_protocol.proofs.Cuts.{IsSpaceAt, before_space, behind_space, cut_there}
 use Rattle.at_protocol.proofs.line.words.cut_far.Goals as goal

@@ -11,7 +11,7 @@ take_term-returns t c =
     (made_term c.in_ok-name.name c.in_ok-cells.cells)
 
 pub take_cells-returns-then-takes : goal.take_cells-returns-then-takes
-take_cells-returns-then-takes t c = no_cell c.args.front.now.rest.now c.takes.new.front.rest.now c.args.levels _ (c.takes.ensures.taken c.if-takes.true) (ap (map cell_view) c.in_ok-cells.ensures.items)
+take_cells-returns-then-takes t c = no_cell c.args.front.now.rest.now c.takes.new.front.rest.now c.args.levels _ (c.takes.ensures.taken c.if-takes.true) (ap (map cell_view) c.new.ensures.items)
 
 pub take_cells-loop-alloc-init : goal.take_cells-loop-alloc-init
 take_cells-loop-alloc-init t c =

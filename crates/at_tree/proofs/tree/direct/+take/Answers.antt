@@ -9,8 +9,8 @@ use Rattle.at_tree.proofs.Made.{made_tree, made_empty, made_filled}
 use Rattle.at_tree.proofs.FrontsLemmas.{tree_front, HasCells, HasTrees, has_none, one_cell_more, all_cells, empty_list, first_tree, one_tree_more, whole_list, shorter}
 use Rattle.at_tree.proofs.tree.direct.+take.Goals as goal
 
-pub take_tree-returns : goal.take_tree-returns
-take_tree-returns t c =
+pub take_tree-returns-clause-front : goal.take_tree-returns-clause-front
+take_tree-returns-clause-front t c =
     tree_front c.args.classes.now c.args.front.now.rest.now c.take_class.new.front.rest.now c.take_cells.new.front.rest.now c.args.under c.in_ok-class.class c.args.levels (map part_view c.parts.result.now)
     (to_cells (map cell_view c.in_ok-cells.cells.items)) _ (omega (arith, c.if-levels-eq0.false)) c.in_ok-class.ensures.named c.in_ok-class.ensures.fits c.in_ok-class.ensures.taken c.parts.ensures c.in_ok-cells.ensures
     (made_tree c.in_ok-class.class c.in_ok-cells.cells)
@@ -37,7 +37,7 @@ take_optional-returns-then-takes t c =
 
 pub take_optional-returns : goal.take_optional-returns
 take_optional-returns t c =
-    let (text, whole, within) = c.in_ok-tree.ensures in
+    let (text, whole, within) = c.in_ok-tree.ensures.front in
     subst (λ (x : Cell). IsCellFront c.args.classes.now c.args.front.now.rest.now c.take_tree.new.front.rest.now (Maybe c.args.under) c.args.levels x) (sym (made_filled c.in_ok-tree.tree)) (sym (c.takes.ensures.stays c.if-takes.false) ∙ text, whole, within)
 
 pub take_list-returns-then-takes : goal.take_list-returns-then-takes
@@ -48,17 +48,17 @@ pub take_list-loop-alloc-init : goal.take_list-loop-alloc-init
 take_list-loop-alloc-init t c =
     let pushed = ap (map tree_view) (c.in_ok-push.ensures.items ∙ ap (λ ts. ts ++ c.in_ok-first.first ∷ []) c.new-trees.ensures.items) in
     first_tree c.args.classes.now c.args.front.now.rest.now c.takes.new.front.rest.now _ c.args.under c.args.levels _ (tree_view c.in_ok-first.first)
-    (c.in_ok-take.ensures ∙ ap (λ ys. 91 ∷ ys) (sym (c.takes.ensures.stays c.if-takes.false))) c.in_ok-first.ensures pushed
+    (c.in_ok-take.ensures ∙ ap (λ ys. 91 ∷ ys) (sym (c.takes.ensures.stays c.if-takes.false))) c.in_ok-first.ensures.front pushed
 
 pub take_list-loop-alloc-preserved : goal.take_list-loop-alloc-preserved
 take_list-loop-alloc-preserved t c =
     let pushed = ap (map tree_view) c.in_ok-push-2.ensures.items ∙ map-append tree_view c.loop-alloc.trees.items (c.in_ok-tree.tree ∷ []) in
     subst (HasTrees c.args.classes.now c.args.front.now.rest.now _ c.args.under c.args.levels) (sym pushed)
     (one_tree_more c.args.classes.now c.args.front.now.rest.now c.loop-alloc.front.rest.now _ _ c.args.under c.args.levels (map tree_view c.loop-alloc.trees.items) (tree_view c.in_ok-tree.tree) c.loop-alloc.invariant
-    (c.loop-alloc-test.ensures.taken refl) c.in_ok-tree.ensures)
+    (c.loop-alloc-test.ensures.taken refl) c.in_ok-tree.ensures.front)
 
 pub take_list-loop-alloc-smaller : goal.take_list-loop-alloc-smaller
-take_list-loop-alloc-smaller t c = shorter c.args.classes.now c.loop-alloc.front.rest.now _ _ c.args.under c.args.levels (tree_view c.in_ok-tree.tree) (c.loop-alloc-test.ensures.taken refl) c.in_ok-tree.ensures
+take_list-loop-alloc-smaller t c = shorter c.args.classes.now c.loop-alloc.front.rest.now _ _ c.args.under c.args.levels (tree_view c.in_ok-tree.tree) (c.loop-alloc-test.ensures.taken refl) c.in_ok-tree.ensures.front
 
 pub take_list-returns : goal.take_list-returns
 take_list-returns t c =

@@ -2,7 +2,7 @@ use Rattle.std.proofs.Common.{◌++◌, sym, ap, ◌∙◌}
 use Rattle.std.specs.Prelude.{string_bytes}
 use Rattle.std.proofs.lemmas.Str.{IsUtf8-string_bytes}
 use Rattle.at_model.specs.Texts.{quoted}
-use Rattle.at_tree.proofs.FrontsLemmas.{cut_behind, behind_quote}
+use Rattle.at_text.proofs.BehindQuote.{cut_behind, behind_quote}
 use Rattle.at_tree.proofs.tree.front.text_first.Goals as goal
 
 pub split_at-requires : goal.split_at-requires
