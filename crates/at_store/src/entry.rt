@@ -1,5 +1,5 @@
 //! What is kept of a node, and how it is read.
-ghost use Rattle.std.specs.Prelude.{◌≡◌, Some, false, is_some, map, option_map};
+ghost use Rattle.std.specs.Prelude.{◌≡◌, IfOk, Some, false, is_some, map, option_map};
 ghost use Rattle.std.specs.List.{slice_get};
 ghost use Rattle.std.specs.Option.{option_copied};
 ghost use Rattle.at_model.specs.Trees.{Truth};
@@ -12,6 +12,7 @@ use at_class::ClassId;
 use at_tree::token::TokVal;
 use slab::Slab;
 use smallvec::SmallVec;
+use std::alloc::AllocError;
 
 /// How many children may stand in a component: one, any number, or at most one.
 #[derive(Clone, Copy, PartialEq, Eq, Debug)]
@@ -31,18 +32,38 @@ pub enum Slot {
     Token(TokVal),
 }
 
-/// What is kept of a node.
+/// What is kept of a node. Two bytes hold a class or a component, since a grammar has at most 1,000 classes of at most 32 components.
 #[derive(Drop)]
 pub struct Entry {
-    pub class: ClassId,
+    pub class: u16,
+    /// Whether the edit that is prepared takes the node away.
+    pub leaves: bool,
     /// The parent, and the component of it.
-    pub up: Option<(Node, usize)>,
+    pub up: Option<(Node, u16)>,
     /// The position among the children of that component, kept here so that it is read in constant time: an insert into a
     /// list and a drop rewrite it in each element behind.
     pub index: usize,
-    /// Whether the edit that is prepared takes the node away.
-    pub leaves: bool,
     pub cells: Vec<Slot>,
+}
+
+/// The number in two bytes; want of memory where it is too great for that.
+pub(crate) fn small(number: usize) -> Result<u16, AllocError>
+    ensures { IfOk result (λ n. n ≡ number) }
+{
+    if number > u16::MAX as usize {
+        return Err(AllocError);
+    }
+    Ok(number as u16)
+}
+
+/// A parent and a component of it, as they are kept; want of memory where the component's number is too great for that.
+pub(crate) fn small_place(up: Option<(Node, usize)>) -> Result<Option<(Node, u16)>, AllocError>
+    ensures { IfOk result (λ place. place ≡ up) }
+{
+    match up {
+        Some(place) => Ok(Some((place.0, small(place.1)?))),
+        None => Ok(None),
+    }
 }
 
 /// Whether there is such a node.
@@ -60,8 +81,18 @@ pub(crate) fn class_at(slab: &Slab<Entry>, node: Node) -> ClassId
     ensures { result ≡ class_in (memory_of slab.now) node }
 {
     match slab.get(node.index()) {
-        Some(entry) => entry.class,
+        Some(entry) => ClassId::new(entry.class as usize),
         None => ClassId::new(0),
+    }
+}
+
+/// The parent of a node, and the component of it, as they are kept.
+pub(crate) fn place_at(slab: &Slab<Entry>, node: Node) -> Option<(Node, u16)>
+    ensures { result ≡ up_in (memory_of slab.now node) }
+{
+    match slab.get(node.index()) {
+        Some(entry) => entry.up,
+        None => None,
     }
 }
 
@@ -69,8 +100,8 @@ pub(crate) fn class_at(slab: &Slab<Entry>, node: Node) -> ClassId
 pub(crate) fn up_at(slab: &Slab<Entry>, node: Node) -> Option<(Node, usize)>
     ensures { result ≡ up_in (memory_of slab.now node) }
 {
-    match slab.get(node.index()) {
-        Some(entry) => entry.up,
+    match place_at(slab, node) {
+        Some(place) => Some((place.0, place.1 as usize)),
         None => None,
     }
 }

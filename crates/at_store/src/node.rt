@@ -16,7 +16,7 @@ impl Model for Node {
 }
 
 impl Node {
-    ghost use Rattle.std.specs.Prelude.{◌≡◌, IfSome};
+    ghost use Rattle.std.specs.Prelude.{◌≡◌, ◌≤◌, ◌^◌, IfNone, IfSome};
 
     /// The node of that number.
     pub fn new(number: u32) -> Self
@@ -25,9 +25,10 @@ impl Node {
         Node(number)
     }
 
-    /// The node of that number; `None` where the number is too great for one.
+    /// The node of that number; `None` exactly where the number is 2^32 or more.
     pub fn of(number: usize) -> Option<Node>
-        ensures { IfSome result (λ node. node ≡ number) }
+        ensures found { IfSome result (λ node. node ≡ number) }
+        ensures too_great { IfNone result (2 ^ 32 ≤ number) }
     {
         if number > u32::MAX as usize {
             return None;

@@ -105,7 +105,7 @@ pub(crate) fn places_of<'a>(
         Prepared::Insert { node, part, .. } => Places {
             leaving,
             moved: None,
-            target: Some(component(slab, *node, *part)),
+            target: Some(component(slab, *node, *part as usize)),
             source: None,
         },
         Prepared::Token { node, .. } => Places {
@@ -117,7 +117,7 @@ pub(crate) fn places_of<'a>(
         Prepared::Move { node, to, part, .. } => Places {
             leaving,
             moved: Some(*node),
-            target: Some(component(slab, *to, *part)),
+            target: Some(component(slab, *to, *part as usize)),
             source: around(slab, *node),
         },
     }

@@ -1,10 +1,10 @@
 //! Paths to nodes and from them, and the trees below nodes.
-ghost use Rattle.std.specs.Prelude.{◌≡◌, ◌<◌, ◌≤◌, ℕ, IfOk, None, Some, length, map, option_and_then, option_map, string_bytes};
+ghost use Rattle.std.specs.Prelude.{◌≡◌, ◌<◌, ◌≤◌, ◌⊎◌, ℕ, IfOk, [], None, Some, length, map, option_and_then, option_map, string_bytes};
 ghost use Rattle.std.specs.Option.{option_copied};
 ghost use Rattle.at_model.specs.Classes.{Component, parts};
 ghost use Rattle.at_model.specs.Names.{IsName};
 ghost use Rattle.std.specs.List.{slice_get};
-ghost use Rattle.at_model.specs.Paths.{IsPath, Node as Place, Path, index_in as index_of, path_of, place_in, step_in, tree_at};
+ghost use Rattle.at_model.specs.Paths.{ArePartsApart, IsPath, Node as Place, Path, index_in as index_of, path_of, place_in, step_in, tree_at};
 ghost use Rattle.at_model.specs.Trees.{Tree as Numbered, Node as bare, no_cells};
 ghost use Rattle.at_class.specs.View.{part_view, shape_view};
 ghost use Rattle.at_tree.specs.PathView.{step_view, steps_view};
@@ -97,6 +97,7 @@ fn part_in(parts: &[Part], part: usize) -> Option<&Part>
 pub(crate) fn part_of(classes: &ClassTable, class: ClassId, part: usize) -> Option<&Part>
     ensures found { option_map part_view (option_copied result) ≡ slice_get (parts classes.now class) part }
     ensures named { (p : Component) → slice_get (parts classes.now class) part ≡ Some p → IsName p.name }
+    ensures apart { ArePartsApart classes.now }
 {
     if class.index() >= classes.len() {
         return None;
@@ -127,6 +128,8 @@ pub(crate) fn steps_to(
     ensures written { IfOk result (λ steps. IsPath (steps_view steps.items)) }
     ensures led { IfOk result (λ steps. (s : Numbered) (n : Place) (p : Path) → Keeps (memory_of slab.now) s None → path_in node s ≡ Some n → length n ≤ most
         → path_of classes.now (relabel (class_in (memory_of slab.now)) s) n ≡ Some p → steps_view steps.items ≡ p) }
+    ensures apart { IfOk result (λ steps. (s : Numbered) (n : Place) → Keeps (memory_of slab.now) s None → path_in node s ≡ Some n → length n ≤ most
+        → (n ≡ []) ⊎ ArePartsApart classes.now) }
 {
     if most == 0 {
         return Ok(Vec::new(alloc));

@@ -1,6 +1,6 @@
-use Rattle.std.proofs.Common.{◌≡◌, ◌<◌, subst, ◌++◌, [], ◌∷◌, Some, sym, ap, ◌∙◌, arith}
+use Rattle.std.proofs.Common.{◌≡◌, ◌<◌, subst, ◌++◌, [], ◌∷◌, Some, inl, inr, sym, ap, ◌∙◌, arith}
 use Rattle.std.specs.List.{slice_get}
-use Rattle.std.proofs.lemmas.List.{map-append}
+use Rattle.std.proofs.lemmas.List.{map-append, nil_from_length}
 use Rattle.at_class.specs.View.{part_view}
 use Rattle.at_model.specs.Paths.{Step, index_in as index_of, path_of}
 use Rattle.at_model.specs.Classes.{parts}
@@ -41,3 +41,15 @@ returns-clause-written t c =
     let front = steps_view c.in_ok-steps.steps.items in
     subst IsPath (sym (ap steps_view c.in_ok-push.ensures.items ∙ map-append step_view c.in_ok-steps.steps.items (c.in_ok-step_by.field-0 ∷ [])))
     (step_written front p c.index_at.result (step_view c.in_ok-step_by.field-0) c.in_ok-steps.ensures.written (c.in-Some-part_of.ensures.named p (sym c.in-Some-part_of.ensures.found)) (subst (λ i. i < 65536) (sym c.index_at.ensures) (c.requires c.args.node)) c.in_ok-step_by.ensures)
+
+pub returns-then-most-eq0-clause-apart : goal.returns-then-most-eq0-clause-apart
+returns-then-most-eq0-clause-apart t c s n h found short = inl (nil_from_length n (omega (arith, short, c.if-most-eq0.true)))
+
+pub returns-in_default-clause-apart : goal.returns-in_default-clause-apart
+returns-in_default-clause-apart t c s n h found short = inl (up_none (memory_of c.args.slab.now) s h c.args.node n found (sym c.up_at.ensures ∙ c.in_default.is))
+
+pub returns-in_default-part_of-clause-apart : goal.returns-in_default-part_of-clause-apart
+returns-in_default-part_of-clause-apart t c s n h found short = inr c.in_default-part_of.ensures.apart
+
+pub returns-clause-apart : goal.returns-clause-apart
+returns-clause-apart t c s n h found short = inr c.in-Some-part_of.ensures.apart

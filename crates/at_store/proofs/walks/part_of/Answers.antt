@@ -15,3 +15,9 @@ returns-then-index-len-clause-named c p is = component_named c.args.classes.now 
 
 pub returns-clause-named : goal.returns-clause-named
 returns-clause-named c p is = component_named c.args.classes.now c.len.ensures.sound c.args.class c.args.part p is
+
+pub returns-then-index-len-clause-apart : goal.returns-then-index-len-clause-apart
+returns-then-index-len-clause-apart c = c.len.ensures.apart
+
+pub returns-clause-apart : goal.returns-clause-apart
+returns-clause-apart c = c.len.ensures.apart

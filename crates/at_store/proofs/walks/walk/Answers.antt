@@ -1,4 +1,4 @@
-use Rattle.std.proofs.Common.{◌≡◌, [], ◌∷◌, ◌+◌, drop, ap, arith}
+use Rattle.std.proofs.Common.{◌+◌, drop, ap, arith}
 use Rattle.std.proofs.lemmas.List.{drop_all}
 use Rattle.at_tree.specs.PathView.{step_view, steps_view}
 use Rattle.at_store.specs.View.{memory_of}
