@@ -1,11 +1,12 @@
 -- What is declared of attributes.
-use Rattle.std.specs.Prelude.{◌≡◌, ℕ, Bool, false, ◌&&◌, nat_eq, List, [], ◌∷◌, ◌++◌, cond, is_some, position, Option, Some, None, option_and_then, slice_get, String, string_bytes}
+use Rattle.std.specs.Prelude.{◌≡◌, ℕ, Bool, false, ◌&&◌, List, map, position, Option, Some, None, String, string_bytes}
 use Rattle.std.specs.List.{list_any}
-use Rattle.std.specs.Map.{lookup}
 use Rattle.std.specs.Str.{bytes_eq}
 use Rattle.at_model.specs.Classes.{Classes, is_sub}
+use Rattle.at_rules.specs.FirstNamed.{AreNoted}
+use Rattle.at_rules.specs.Names.{number_in}
 use Rattle.at_rules.specs.RulesView.{LacksText}
-use Rattle.at_rules.specs.Upward.{earlier}
+use Rattle.at_rules.specs.declared.first_named.FirstNamed.{FirstNamed}
 use Rattle.at_kinds.specs.declared.signatures.WrittenKind.{WrittenKind}
 use Rattle.at_kinds.specs.declared.signatures.Signature.{Signature}
 
@@ -30,35 +31,16 @@ declared_named classes ds c name = position (λ d. bytes_eq d.name name && is_be
 
 -- the index --------------------------------------------------------------------------------------------------------------
 
-abbrev pub is_class : ℕ → Option ℕ → Bool
-is_class c None = false
-is_class c (Some b) = nat_eq b c
+abbrev pub keyed : Option ℕ → Option ℕ → Option (ℕ × ℕ)
+keyed None n = None
+keyed (Some c) None = None
+keyed (Some c) (Some n) = Some (c, n)
 
--- the first attribute of that name that the class itself declares
-abbrev pub declared_at : List Declared → ℕ → List ℕ → Option ℕ
-declared_at ds c name = position (λ d. bytes_eq d.name name && is_class c d.class) ds
+-- the attribute's class, where that is there, and the number of its name
+abbrev pub key_in : {Z : Type 0} → List (String Z) → Declared → Option (ℕ × ℕ)
+key_in names d = keyed d.class (number_in names d.name)
 
--- what stands by a class and the number of a name
-abbrev pub first_at : List ((ℕ × ℕ) × ℕ) → (c n : ℕ) → Option ℕ
-first_at es c n = lookup (λ k. nat_eq c k.0 && nat_eq n k.1) es
-
--- the earliest of what stands by one of the classes
-abbrev pub first_in : List ((ℕ × ℕ) × ℕ) → ℕ → List ℕ → Option ℕ
-first_in es n [] = None
-first_in es n (c ∷ cs) = earlier (first_at es c n) (first_in es n cs)
-
--- by each class and the number of a name stands the first attribute of that name that the class declares, and each attribute has
--- one of the names
-pub record IsIndexed {Z : Type 0} (names : List (String Z)) (es : List ((ℕ × ℕ) × ℕ)) (ds : List Declared) : Type 0 where
-  pub first : (c n : ℕ) → first_at es c n ≡ option_and_then (λ text. declared_at ds c (string_bytes text)) (slice_get names n)
+-- each attribute is noted by its class and the number of its name, and each has one of the names
+pub record IsIndexed {Z : Type 0} (names : List (String Z)) (first : FirstNamed) (ds : List Declared) : Type 0 where
+  pub noted : AreNoted (map (key_in names) ds) first
   pub named : (text : List ℕ) → LacksText names text → list_any (λ d. bytes_eq d.name text) ds ≡ false
-
--- the name has that number
-pub record IsNumber {Z : Type 0} (names : List (String Z)) (name : List ℕ) (n : ℕ) : Type 0 where
-  pub text : String Z
-  pub there : slice_get names n ≡ Some text
-  pub same : name ≡ string_bytes text
-
--- with one more: the attribute stands by its class and the number of its name, where nothing stands there
-abbrev pub noted : List ((ℕ × ℕ) × ℕ) → (c n a : ℕ) → List ((ℕ × ℕ) × ℕ)
-noted es c n a = cond (is_some (first_at es c n)) es (es ++ ((c, n), a) ∷ [])

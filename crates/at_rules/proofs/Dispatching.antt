@@ -1,6 +1,6 @@
 -- What a dispatch table says is what climbing finds.
 use Rattle.std.proofs.Common.{◌≡◌, ℕ, ◌+◌, ◌<◌, List, [], ◌∷◌, ◌++◌, length, refl, ap, sym, ◌∙◌, subst, arith, Option, Some, None, suc, zero}
-use Rattle.std.specs.Prelude.{Bool, true, false, ◌&&◌, cond, nat_eq, map, option_map, option_and_then, find, Vec}
+use Rattle.std.specs.Prelude.{Bool, true, false, ◌&&◌, cond, nat_eq, map, option_map, option_and_then, find, slice_get, Vec}
 use Rattle.std.specs.List.{position_from}
 use Rattle.std.specs.Map.{lookup, keys_of}
 use Rattle.std.specs.Option.{option_or}
@@ -84,24 +84,28 @@ one_later p i (x ∷ xs) = by (p x) (one_later p (i + 1) xs)
     by true rest = ap Some (sym next)
     by false rest = rest
 
-found_from : (test : ℕ × ℕ → Bool) (es : List ((ℕ × ℕ) × Body)) → option_map body_view (lookup test es) ≡ option_and_then (body_at es) (position_from test 0 (keys_of es))
-found_from test [] = refl
-found_from test (e ∷ es) = by (test e.0) (found_from test es)
+-- what is seen of the value at a position
+abbrev pub value_at : {A B : Type 0} → (A → B) → List ((ℕ × ℕ) × A) → ℕ → Option B
+value_at view es p = option_map (λ e. view e.1) (slice_get es p)
+
+pub found_from : {A B : Type 0} (view : A → B) (test : ℕ × ℕ → Bool) (es : List ((ℕ × ℕ) × A)) → option_map view (lookup test es) ≡ option_and_then (value_at view es) (position_from test 0 (keys_of es))
+found_from view test [] = refl
+found_from view test (e ∷ es) = by (test e.0) (found_from view test es)
   where
-    shifted : (o : Option ℕ) → option_and_then (body_at es) o ≡ option_and_then (body_at (e ∷ es)) (option_map suc o)
+    shifted : (o : Option ℕ) → option_and_then (value_at view es) o ≡ option_and_then (value_at view (e ∷ es)) (option_map suc o)
     shifted None = refl
     shifted (Some p) = refl
 
-    by : (b : Bool) → option_map body_view (lookup test es) ≡ option_and_then (body_at es) (position_from test 0 (keys_of es))
-        → option_map body_view (cond b (Some e.1) (lookup test es)) ≡ option_and_then (body_at (e ∷ es)) (cond b (Some 0) (position_from test (0 + 1) (keys_of es)))
+    by : (b : Bool) → option_map view (lookup test es) ≡ option_and_then (value_at view es) (position_from test 0 (keys_of es))
+        → option_map view (cond b (Some e.1) (lookup test es)) ≡ option_and_then (value_at view (e ∷ es)) (cond b (Some 0) (position_from test (0 + 1) (keys_of es)))
     by true rest = refl
-    by false rest = rest ∙ shifted (position_from test 0 (keys_of es)) ∙ ap (option_and_then (body_at (e ∷ es))) (sym (one_later test 0 (keys_of es)))
+    by false rest = rest ∙ shifted (position_from test 0 (keys_of es)) ∙ ap (option_and_then (value_at view (e ∷ es))) (sym (one_later test 0 (keys_of es)))
 
 found_by_key : (es : List ((ℕ × ℕ) × Body)) (rules : Rules) → map own_view es ≡ rules.own → (a c : ℕ) → own_in rules a c ≡ option_and_then (body_at es) (key_at (keys_of es) a c)
 found_by_key es rules same a c =
     ap (λ equations. option_map (λ (e : OwnEquation). e.body) (find (λ e. nat_eq e.class c && nat_eq e.attribute a) equations)) (sym same)
     ∙ sym (own_found c a es)
-    ∙ found_from (λ key. nat_eq c key.0 && nat_eq a key.1) es
+    ∙ found_from body_view (λ key. nat_eq c key.0 && nat_eq a key.1) es
     ∙ ap (option_and_then (body_at es)) (sym (position_from-zero (λ key. nat_eq c key.0 && nat_eq a key.1) (keys_of es)))
 
 has_body : (es : List ((ℕ × ℕ) × Body)) (a c p : ℕ) → key_at (keys_of es) a c ≡ Some p → (b : Expr) × (body_at es p ≡ Some b)

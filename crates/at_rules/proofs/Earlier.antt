@@ -1,7 +1,8 @@
 -- The first element that passes one of several tests.
-use Rattle.std.proofs.Common.{◌≡◌, ℕ, ◌+◌, ◌≤◌, min, List, [], ◌∷◌, refl, ap, ap₂, sym, ◌∙◌, arith, Option, Some, None}
-use Rattle.std.specs.Prelude.{Bool, true, false, ◌||◌, cond, position}
-use Rattle.std.specs.List.{position_from}
+use Rattle.std.proofs.Common.{◌≡◌, ℕ, ◌+◌, ◌≤◌, min, List, [], ◌∷◌, ◌++◌, length, refl, ap, ap₂, sym, ◌∙◌, arith, Option, Some, None}
+use Rattle.std.specs.Prelude.{Bool, true, false, ◌||◌, cond, position, is_some}
+use Rattle.std.specs.List.{list_any, position_from}
+use Rattle.std.specs.Option.{option_or}
 use Rattle.std.proofs.lemmas.Iterator.Adapters.{position_from-zero}
 use Rattle.at_rules.specs.Upward.{earlier}
 
@@ -44,3 +45,32 @@ earlier_assoc (Some i) (Some j) (Some k) = let same : min (min i j) k ≡ min i 
 pub earlier_none : (o : Option ℕ) → earlier o None ≡ o
 earlier_none None = refl
 earlier_none (Some i) = refl
+
+-- one more element
+push_from : {A : Type 0} (p : A → Bool) (i : ℕ) (xs : List A) (x : A) → position_from p i (xs ++ x ∷ []) ≡ option_or (position_from p i xs) (cond (p x) (Some (i + length xs)) None)
+push_from p i [] x = let n : i ≡ i + 0 = omega arith in ap (λ m. cond (p x) (Some m) None) n
+push_from p i (y ∷ ys) x = by (p y) (push_from p (i + 1) ys x)
+  where
+    by : (b : Bool) → position_from p (i + 1) (ys ++ x ∷ []) ≡ option_or (position_from p (i + 1) ys) (cond (p x) (Some ((i + 1) + length ys)) None)
+        → cond b (Some i) (position_from p (i + 1) (ys ++ x ∷ [])) ≡ option_or (cond b (Some i) (position_from p (i + 1) ys)) (cond (p x) (Some (i + length (y ∷ ys))) None)
+    by true rest = refl
+    by false rest =
+        let n : (i + 1) + length ys ≡ i + length (y ∷ ys) = omega arith in
+        rest ∙ ap (λ m. option_or (position_from p (i + 1) ys) (cond (p x) (Some m) None)) n
+
+pub position_push : {A : Type 0} (p : A → Bool) (xs : List A) (x : A) → position p (xs ++ x ∷ []) ≡ option_or (position p xs) (cond (p x) (Some (length xs)) None)
+position_push p xs x =
+    let n : 0 + length xs ≡ length xs = omega arith in
+    position_from-zero p (xs ++ x ∷ []) ∙ push_from p 0 xs x ∙ ap₂ (λ o m. option_or o (cond (p x) (Some m) None)) (sym (position_from-zero p xs)) n
+
+any_from : {A : Type 0} (p : A → Bool) (i : ℕ) (xs : List A) → is_some (position_from p i xs) ≡ list_any p xs
+any_from p i [] = refl
+any_from p i (x ∷ xs) = by (p x) (any_from p (i + 1) xs)
+  where
+    by : (b : Bool) → is_some (position_from p (i + 1) xs) ≡ list_any p xs → is_some (cond b (Some i) (position_from p (i + 1) xs)) ≡ (b || list_any p xs)
+    by true rest = refl
+    by false rest = rest
+
+-- there is one
+pub any_found : {A : Type 0} (p : A → Bool) (xs : List A) → is_some (position p xs) ≡ list_any p xs
+any_found p xs = ap is_some (position_from-zero p xs) ∙ any_from p 0 xs

@@ -1,6 +1,6 @@
 -- A name that stands at a number is found there, since names are apart.
-use Rattle.std.proofs.Common.{◌≡◌, ℕ, ◌+◌, ◌<◌, List, [], ◌∷◌, length, ap, sym, ◌∙◌, arith, Option, Some, None, suc, zero, add-zero, String, string_bytes, refl}
-use Rattle.std.specs.Prelude.{Bool, true, false, cond, position, is_some}
+use Rattle.std.proofs.Common.{◌≡◌, ℕ, ◌+◌, ◌<◌, List, [], ◌∷◌, length, ap, sym, ◌∙◌, arith, Option, Some, None, suc, zero, add-zero, String, string_bytes}
+use Rattle.std.specs.Prelude.{Bool, true, false, position, is_some}
 use Rattle.std.specs.List.{slice_get, position_from, IsDistinct}
 use Rattle.std.specs.Option.{IfNone}
 use Rattle.std.specs.Str.{bytes_eq}

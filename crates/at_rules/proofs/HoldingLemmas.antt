@@ -1,11 +1,9 @@
 -- From a class to the first one upward that has an equation for a name, and to what is found from there.
 use Rattle.std.proofs.Common.{◌≡◌, ℕ, ◌+◌, ◌<◌, List, [], ◌∷◌, ◌++◌, length, take, drop, refl, ap, sym, ◌∙◌, subst, arith, Option, Some, None, suc, zero, true≢false}
 use Rattle.std.specs.Prelude.{Bool, true, false, ◌&&◌, ◌||◌, cond, nat_eq, option_map, option_and_then, is_some, slice_get, Vec}
-use Rattle.std.specs.List.{list_any, position_from}
 use Rattle.std.specs.Map.{lookup, keys_of}
 use Rattle.std.specs.Option.{option_eq, option_or}
 use Rattle.std.proofs.lemmas.Bool.{eqb-true}
-use Rattle.std.proofs.lemmas.Iterator.Adapters.{position_from-zero}
 use Rattle.std.proofs.lemmas.List.Folds.{list_any-append}
 use Rattle.std.proofs.lemmas.Option.{none-some}
 use Rattle.indexmap.specs.IndexMap.{insert_entry}
@@ -25,6 +23,7 @@ use Rattle.at_rules.specs.Dispatch.{key_at, found_up, AreRight}
 use Rattle.at_rules.specs.Holding.{is_held, has_equation, class_at, Leads, AreHolders}
 use Rattle.at_rules.specs.RulesView.{by_number, numbered_in}
 use Rattle.at_rules.proofs.Dispatching.{found_first}
+use Rattle.at_rules.proofs.Earlier.{any_found}
 
 -- keys that are put in -----------------------------------------------------------------------------------------------------
 
@@ -64,18 +63,8 @@ held_more (e ∷ es) k v c n = by (same_key k e.0) refl (held_more es k v c n)
 
 -- a class that isn't held has no equation -----------------------------------------------------------------------------------
 
-any_from : {A : Type 0} (p : A → Bool) (i : ℕ) (xs : List A) → is_some (position_from p i xs) ≡ list_any p xs
-any_from p i [] = refl
-any_from p i (x ∷ xs) = by (p x) (any_from p (i + 1) xs)
-  where
-    by : (b : Bool) → is_some (position_from p (i + 1) xs) ≡ list_any p xs → is_some (cond b (Some i) (position_from p (i + 1) xs)) ≡ (b || list_any p xs)
-    by true rest = refl
-    by false rest = rest
-
 none_held : (ks : List (ℕ × ℕ)) (n c : ℕ) → key_at ks n c ≡ None → is_held ks c n ≡ false
-none_held ks n c none =
-    let test = λ (key : ℕ × ℕ). nat_eq c key.0 && nat_eq n key.1 in
-    sym (any_from test 0 ks) ∙ ap is_some (sym (position_from-zero test ks)) ∙ ap is_some none
+none_held ks n c none = sym (any_found (λ key. nat_eq c key.0 && nat_eq n key.1) ks) ∙ ap is_some none
 
 neither : (a b : Bool) → (a || b) ≡ false → (a ≡ false) × (b ≡ false)
 neither false b is = (refl, is)

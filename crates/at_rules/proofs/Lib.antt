@@ -1,7 +1,9 @@
 mod Dispatching
+pub mod FirstNaming
 mod Guessed
 mod HoldingLemmas
 mod Lookups
+pub mod NameNumbers
 mod Numbers
 pub mod Earlier
-mod UpwardLemmas
+pub mod UpwardLemmas

@@ -53,7 +53,8 @@ is_within p xs None is = tt
 is_within p [] (Some i) is = absurd (none-some i (sym is))
 is_within p (x ∷ xs) (Some i) is = (position-Some p (x ∷ xs) i x (sym is)).0
 
-any_both : (a : Bool) (c : ℕ) (cs : List ℕ) → list_any (λ b. nat_eq b c && a) cs ≡ (a && list_any (nat_eq c) cs)
+-- a class that is among some, and one thing more
+pub any_both : (a : Bool) (c : ℕ) (cs : List ℕ) → list_any (λ b. nat_eq b c && a) cs ≡ (a && list_any (nat_eq c) cs)
 any_both a c [] = sym (and_off a false refl)
 any_both a c (b ∷ cs) = ap (λ x. (x && a) || list_any (λ b. nat_eq b c && a) cs) (same_either b c) ∙ ap (λ x. (nat_eq c b && a) || x) (any_both a c cs) ∙ by (nat_eq c b) a (list_any (nat_eq c) cs)
   where

@@ -1,7 +1,9 @@
 pub mod Bodies
 pub mod Dispatch
+pub mod FirstNamed
 pub mod Holding
 pub mod Marks
+pub mod Names
 pub mod RulesView
 pub mod Tables
 pub mod Upward

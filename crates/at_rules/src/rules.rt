@@ -2,9 +2,11 @@
 
 use crate::attribute::AttrId;
 use crate::body::{Body, Kind};
-use crate::dispatch::{Dispatch, Precedence, earlier};
+use crate::dispatch::{Dispatch, Precedence};
+use crate::first_named::declared_above;
 use crate::guesses::Guesses;
 use crate::holders::Holders;
+use crate::names::number_of;
 use at_class::{ClassId, ClassTable};
 use indexmap::{IndexMap, IndexSet};
 use std::alloc::Global;
@@ -306,9 +308,9 @@ ghost use Rattle.at_rules.specs.RulesView.{text_of, name_in, numbered_in, LacksT
 ghost use Rattle.at_rules.specs.declared.dispatch.Precedence.TheVariants.{Earliest};
 ghost use Rattle.at_rules.specs.Dispatch.{body_at, found_up, AreRight};
 ghost use Rattle.at_rules.specs.Holding.{AreHolders};
-ghost use Rattle.at_rules.specs.Upward.{earlier, declared_in};
+ghost use Rattle.at_rules.specs.Upward.{declared_in};
 ghost use Rattle.std.specs.Map.{keys_of};
-ghost use Rattle.std.specs.Prelude.{position, is_some, string_bytes, bytes_eq};
+ghost use Rattle.std.specs.Prelude.{position, string_bytes, bytes_eq};
 ghost use Rattle.std.specs.List.{list_any};
 
 /// The number of the name, where it is one: most are guessed.
@@ -319,7 +321,7 @@ fn number_named(names: &IndexSet<String>, guesses: &Guesses, name: &str) -> Opti
 {
     match guessed(names, guesses, name) {
         Some(number) => Some(number),
-        None => number_sought(names, name),
+        None => number_of(names, name),
     }
 }
 
@@ -348,18 +350,6 @@ fn is_number(names: &IndexSet<String>, number: usize, name: &str) -> bool
     }
 }
 
-/// The number of the name, where it is one, with no guess.
-fn number_sought(names: &IndexSet<String>, name: &str) -> Option<usize>
-    ensures index { result ≡ position (λ k. bytes_eq name.now (string_bytes k)) names.now.keys }
-    ensures found { is_some result ≡ list_any (λ k. bytes_eq name.now (string_bytes k)) names.now.keys }
-    ensures distinct { IsDistinct string_eq names.now.keys }
-{
-    if names.len() == 0 {
-        return None;
-    }
-    names.get_index_of(name)
-}
-
 /// The body at the position, if there is one.
 fn body_at(own: &IndexMap<(usize, usize), Body>, position: Option<usize>) -> Option<&Body>
     ensures { option_map (λ b. body_view b.now) result ≡ option_and_then (body_at own.now.entries) position }
@@ -386,25 +376,6 @@ fn declared_up(
         Some(cell) => cell.position(),
         None => declared_above(classes, attributes, class, name),
     }
-}
-
-/// The position of the first attribute of the name of that number that the class or one above it declares.
-fn declared_above(
-    classes: &ClassTable,
-    attributes: &IndexMap<(usize, usize), Attribute>,
-    class: ClassId,
-    name: usize,
-) -> Option<usize>
-    ensures { result ≡ declared_in (keys_of attributes.now.entries) name (chain classes.now class) }
-{
-    let mut found = None;
-    let mut next = Some(class);
-    for step in 0..classes.len() {
-        let Some(class) = next else { return found };
-        found = earlier(found, attributes.get_index_of(&(class.index(), name)));
-        next = classes.parent(class);
-    }
-    found
 }
 
 /// The number of the attribute's name. A number that no attribute has stands for the name without characters.

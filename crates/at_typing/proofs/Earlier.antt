@@ -1,40 +1,9 @@
 -- The first element that passes one of several tests.
-use Rattle.std.proofs.Common.{◌≡◌, ℕ, ◌+◌, List, [], ◌∷◌, ◌++◌, length, filter, map, refl, ap, sym, ◌∙◌, arith, Some, None}
-use Rattle.std.specs.Prelude.{Bool, true, false, ◌&&◌, ◌||◌, cond, position, is_some, if◌then◌else◌, All}
+use Rattle.std.proofs.Common.{◌≡◌, ℕ, ◌+◌, List, [], ◌∷◌, filter, map, refl, ap, sym, ◌∙◌, arith, Some}
+use Rattle.std.specs.Prelude.{Bool, true, false, ◌&&◌, ◌||◌, cond, position, is_some, All}
 use Rattle.std.specs.List.{list_any, position_from}
-use Rattle.std.specs.Option.{option_or}
 use Rattle.std.proofs.lemmas.Iterator.Adapters.{position_from-zero}
 use Rattle.std.proofs.lemmas.List.Elements.{All-tail}
-
-none_from : {A : Type 0} (i : ℕ) (xs : List A) → position_from (λ x. false) i xs ≡ None
-none_from i [] = refl
-none_from i (x ∷ xs) = none_from (i + 1) xs
-
-pub nowhere : {A : Type 0} (xs : List A) → position (λ x. false) xs ≡ None
-nowhere xs = position_from-zero (λ x. false) xs ∙ none_from 0 xs
-
--- one more element ----------------------------------------------------------------------------------------------------
-
-last_from : {A : Type 0} (p : A → Bool) (i : ℕ) (xs : List A) (y : A) → position_from p i (xs ++ y ∷ []) ≡ option_or (position_from p i xs) (if p y then Some (i + length xs) else None)
-last_from p i [] y = let same : i ≡ i + 0 = omega arith in ap (λ n. if p y then Some n else None) same
-last_from p i (x ∷ xs) y = by (p x) (last_from p (i + 1) xs y)
-  where
-    same : i + 1 + length xs ≡ i + length (x ∷ xs)
-    same = omega arith
-
-    by : (b : Bool) → position_from p (i + 1) (xs ++ y ∷ []) ≡ option_or (position_from p (i + 1) xs) (if p y then Some (i + 1 + length xs) else None)
-        → cond b (Some i) (position_from p (i + 1) (xs ++ y ∷ [])) ≡ option_or (cond b (Some i) (position_from p (i + 1) xs)) (if p y then Some (i + length (x ∷ xs)) else None)
-    by true rest = refl
-    by false rest = rest ∙ ap (λ n. option_or (position_from p (i + 1) xs) (if p y then Some n else None)) same
-
-pub with_last : {A : Type 0} (p : A → Bool) (xs : List A) (y : A) → position p (xs ++ y ∷ []) ≡ option_or (position p xs) (if p y then Some (length xs) else None)
-with_last p xs y =
-    position_from-zero p (xs ++ y ∷ []) ∙ last_from p 0 xs y
-    ∙ ap (λ o. option_or o (if p y then Some (0 + length xs) else None)) (sym (position_from-zero p xs))
-    ∙ ap (λ n. option_or (position p xs) (if p y then Some n else None)) same
-  where
-    same : 0 + length xs ≡ length xs
-    same = omega arith
 
 -- among those that pass another test ----------------------------------------------------------------------------------
 

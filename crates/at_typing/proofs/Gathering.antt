@@ -17,6 +17,7 @@ use Rattle.at_model.specs.Classes.{Classes, class_of_name}
 use Rattle.at_model.specs.Declarations.{first_given}
 use Rattle.at_model.specs.Rules.{Attribute, OwnEquation, InheritedEquation}
 use Rattle.at_model.proofs.Options.{and_true, or_right}
+use Rattle.at_rules.specs.Names.{number_in}
 use Rattle.at_rules.specs.RulesView.{attribute_view, own_view, inherited_view, named, text_of}
 use Rattle.at_rules.specs.declared.body.Body.{Body as BodyValue}
 use Rattle.at_rules.specs.declared.rules.Attribute.{Attribute as AttributeValue}
@@ -26,7 +27,6 @@ use Rattle.at_typing.specs.Declaring.{fault_if, is_attribute, is_own_equation, g
 use Rattle.at_kinds.specs.Judging.{Judgement, Is, Wrong}
 use Rattle.at_typing.specs.Located.{Located}
 use Rattle.at_typing.specs.Meanings.{Meaning, meant}
-use Rattle.at_typing.specs.Numbering.{text_number}
 use Rattle.at_typing.specs.Ruling.{component_got}
 use Rattle.at_typing.specs.Seen.{attribute_of, same_key, same_place, Added, inherited_of, meaning_of, attribute_by, inherited_by, with_entry, Inserts, Stands}
 use Rattle.at_kinds.specs.declared.code.RuleCode.{RuleCode}
@@ -155,7 +155,7 @@ module _ {K V A : Type 0} (eq : K → K → Bool) (view : K × V → A) where
 -- names ----------------------------------------------------------------------------------------------------------------
 
 module _ {Z : Type 0} where
-  name_at : (names : List (String Z)) (text : List ℕ) (n : ℕ) → text_number names text ≡ Some n → (n < length names) × (text_of names n ≡ text)
+  name_at : (names : List (String Z)) (text : List ℕ) (n : ℕ) → number_in names text ≡ Some n → (n < length names) × (text_of names n ≡ text)
   name_at [] text n is = absurd (none-some n is)
   name_at (s ∷ ss) text n is =
       let p = position-Some (λ k. bytes_eq text (string_bytes k)) (s ∷ ss) n s is in
@@ -257,7 +257,7 @@ any_kept p keep too (x ∷ xs) none = by (keep x) refl (p x) refl (any_kept p ke
     by false kept true is rest off = absurd (true≢false (sym (too x is) ∙ kept))
     by false kept false is rest off = rest off
 
-module _ (classes : Classes) (ds : List Located) (i : ℕ) (d : Located) (n : ℕ) (names : List (String Global)) (less : i < length ds) (at : d ≡ get_or ds i d) (named_so : text_number names (name_text d) ≡ Some n) where
+module _ (classes : Classes) (ds : List Located) (i : ℕ) (d : Located) (n : ℕ) (names : List (String Global)) (less : i < length ds) (at : d ≡ get_or ds i d) (named_so : number_in names (name_text d) ≡ Some n) where
   same_text : text_of names n ≡ name_text d
   same_text = (name_at names (name_text d) n named_so).1
 

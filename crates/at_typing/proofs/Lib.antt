@@ -5,7 +5,6 @@ mod FirstFaults
 mod FirstValues
 mod LongTexts
 mod of_attributes
-mod Positions
 mod WordNumbers
 mod AccessorNaming
 mod SameKinds

@@ -55,7 +55,7 @@ none_known u [] = refl
 none_known u (c ∷ cs) = none_known u cs
 
 -- the class itself is on its chain
-itself : (classes : Classes) (c b : ℕ) → 0 < length classes → is_sub classes c b ≡ (nat_eq c b || is_sub classes c b)
+pub itself : (classes : Classes) (c b : ℕ) → 0 < length classes → is_sub classes c b ≡ (nat_eq c b || is_sub classes c b)
 unfolding chain
 itself [] c b less = absurd (omega (arith, less))
 itself (k ∷ classes) c b less = ap (λ t. t || list_any (nat_eq b) (chain_within (length classes) (k ∷ classes) (parent_of (k ∷ classes) c))) (nat_eq_equiv.symm b c) ∙ twice (nat_eq c b) (nat_eq b c) _ (nat_eq_equiv.symm b c)

@@ -1,40 +1,20 @@
 -- Numbers that are positions of words: they are the same exactly where the words are.
-use Rattle.std.proofs.Common.{◌≡◌, ℕ, ◌<◌, List, [], ◌∷◌, ◌++◌, ◌+◌, subst, length, get_or, refl, ap, sym, ◌∙◌, Option, Some, None, true≢false, String, string_bytes}
-use Rattle.std.specs.Prelude.{Bool, true, false, nat_eq, position, option_map, unwrap_or, map, take, All}
+use Rattle.std.proofs.Common.{◌≡◌, ℕ, ◌<◌, List, [], ◌∷◌, ◌++◌, ◌+◌, subst, length, get_or, refl, ap, sym, ◌∙◌, Option, Some, None, String, string_bytes}
+use Rattle.std.specs.Prelude.{Bool, true, false, option_map, map, take, All}
 use Rattle.std.specs.Str.{bytes_eq}
-use Rattle.std.proofs.lemmas.Bool.{eqb-true, eqb-false}
 use Rattle.std.proofs.lemmas.Cmp.{nat_list_eq_equiv}
-use Rattle.std.proofs.lemmas.List.Quantifiers.{position-Some}
 use Rattle.std.proofs.lemmas.List.{map-append, map_more}
 use Rattle.std.proofs.lemmas.List.Elements.{All-push}
 use Rattle.std.proofs.lemmas.Option.{none-some}
 use Rattle.at_text.proofs.Openings.{bytes_same}
 use Rattle.at_model.specs.Classes.{Classes, class_of_name}
+use Rattle.at_rules.specs.Names.{number_in, Keeps}
+use Rattle.at_rules.proofs.NameNumbers.{agree, injective}
 use Rattle.at_typing.specs.Declaring.{class_text, name_text}
-use Rattle.at_typing.specs.Numbering.{numbered_view, same_class, known_class, text_number, class_or_unknown, Keeps, IsOfItsClass, AreAlike, AreNumbered, HasNumbers}
+use Rattle.at_typing.specs.Numbering.{numbered_view, same_class, known_class, class_or_unknown, IsOfItsClass, AreAlike, AreNumbered, HasNumbers}
 use Rattle.at_typing.specs.declared.numbered.NamedClass.{NamedClass}
 use Rattle.at_typing.specs.declared.numbered.NamedClass.TheVariants.{Known, Unknown}
 use Rattle.at_typing.specs.declared.numbered.Numbered.{Numbered as NumberedValue}
-
-injective : {A : Type 0} {x y : A} → Some x ≡ Some y → x ≡ y
-injective {x} is = ap (λ o. unwrap_or o x) is
-
-same_word : {A : Type 0} (f : A → List ℕ) (xs : List A) (v w : List ℕ) (m : ℕ) → position (λ k. bytes_eq v (f k)) xs ≡ Some m → position (λ k. bytes_eq w (f k)) xs ≡ Some m → bytes_eq v w ≡ true
-same_word f [] v w m first second = absurd (none-some _ first)
-same_word f (x ∷ xs) v w m first second = by (f (get_or (x ∷ xs) m x)) (position-Some (λ k. bytes_eq v (f k)) (x ∷ xs) m x first).1 (position-Some (λ k. bytes_eq w (f k)) (x ∷ xs) m x second).1
-  where
-    by : (t : List ℕ) → bytes_eq v t ≡ true → bytes_eq w t ≡ true → bytes_eq v w ≡ true
-    by t first second = ap (λ u. bytes_eq v u) (bytes_same w t second) ∙ first
-
--- positions of words are the same where the words are
-pub agree : {A : Type 0} (f : A → List ℕ) (xs : List A) (v w : List ℕ) (m n : ℕ) → position (λ k. bytes_eq v (f k)) xs ≡ Some m → position (λ k. bytes_eq w (f k)) xs ≡ Some n → nat_eq m n ≡ bytes_eq v w
-agree f xs v w m n first second = by (nat_eq m n) (bytes_eq v w) refl refl
-  where
-    by : (a b : Bool) → nat_eq m n ≡ a → bytes_eq v w ≡ b → a ≡ b
-    by true true is other = refl
-    by false false is other = refl
-    by true false is other = absurd (true≢false (sym (same_word f xs v w m first (second ∙ ap Some (sym (eqb-true m n is)))) ∙ other))
-    by false true is other = absurd (eqb-false m n is (injective (sym first ∙ ap (λ u. position (λ k. bytes_eq u (f k)) xs) (bytes_same v w other) ∙ second)))
 
 moved : (d e c b : NamedClass) (t : Bool) → Some d ≡ Some c → Some e ≡ Some b → same_class d e ≡ t → same_class c b ≡ t
 moved d e c b t first second is = sym (ap (λ x. same_class d x) (injective second) ∙ ap (λ x. same_class x b) (injective first)) ∙ is
@@ -46,7 +26,7 @@ apart classes v w m first second = by (bytes_eq v w) refl
     by false is = refl
     by true is = absurd (none-some _ (sym second ∙ ap (class_of_name classes) (sym (bytes_same v w is)) ∙ first))
 
-alike_class : {Z : Type 0} (classes : Classes) (unknown : List (String Z)) (v w : List ℕ) (o p q r : Option ℕ) → class_of_name classes v ≡ o → class_of_name classes w ≡ p → text_number unknown v ≡ q → text_number unknown w ≡ r
+alike_class : {Z : Type 0} (classes : Classes) (unknown : List (String Z)) (v w : List ℕ) (o p q r : Option ℕ) → class_of_name classes v ≡ o → class_of_name classes w ≡ p → number_in unknown v ≡ q → number_in unknown w ≡ r
     → (c b : NamedClass) → class_or_unknown o q ≡ Some c → class_or_unknown p r ≡ Some b → same_class c b ≡ bytes_eq v w
 alike_class classes unknown v w (Some m) (Some n) q r first second here there c b is js = moved (Known m) (Known n) c b (bytes_eq v w) is js (agree (λ k. k.name) classes v w m n first second)
 alike_class classes unknown v w (Some m) None q (Some n) first second here there c b is js = moved (Known m) (Unknown n) c b (bytes_eq v w) is js (sym (apart classes v w m first second))
@@ -70,7 +50,7 @@ kept_class None (Some m) n c keeps is = ap (option_map Unknown) (keeps m refl) �
 -- a declaration keeps its numbers
 pub kept : {Y Z : Type 0} (classes : Classes) (u v : List (String Y)) (ms ns : List (String Z)) (d : NumberedValue) → Keeps u v → Keeps ms ns → HasNumbers classes u ms d → HasNumbers classes v ns d
 kept classes u v ms ns d words names has = record {
-  class = kept_class (class_of_name classes w) (text_number u w) (text_number v w) d.class (words w) has.class;
+  class = kept_class (class_of_name classes w) (number_in u w) (number_in v w) d.class (words w) has.class;
   name = names (name_text (numbered_view d)) d.name has.name;
 }
   where
@@ -85,7 +65,7 @@ numbered classes unknown names ds all = record {
 }
   where
     at : (d : NumberedValue) → HasNumbers classes unknown names d → IsOfItsClass classes d
-    at d has = known (class_of_name classes (class_text (numbered_view d))) (text_number unknown (class_text (numbered_view d))) d.class has.class
+    at d has = known (class_of_name classes (class_text (numbered_view d))) (number_in unknown (class_text (numbered_view d))) d.class has.class
 
     pair : (d e : NumberedValue) → HasNumbers classes unknown names d → HasNumbers classes unknown names e → AreAlike d e
     pair d e has other = record {

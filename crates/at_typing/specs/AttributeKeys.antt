@@ -1,12 +1,12 @@
 -- The attributes among declarations, by the numbers of their classes and names.
-use Rattle.std.specs.Prelude.{◌≡◌, ℕ, Bool, ◌&&◌, not, nat_eq, List, All, filter, map, position, Option, Some, None, if◌then◌else◌}
-use Rattle.std.specs.Option.{option_or}
-use Rattle.indexmap.specs.IndexMap.{get, get_by}
+use Rattle.std.specs.Prelude.{◌≡◌, ℕ, Bool, true, false, ◌&&◌, nat_eq, List, [], ◌∷◌, ◌++◌, length, All, filter, map, Option, Some, None}
 use Rattle.at_model.specs.Classes.{Classes}
+use Rattle.at_rules.specs.FirstNamed.{AreNoted}
 use Rattle.at_typing.specs.Declaring.{is_attribute, is_inherited, is_of_attribute, class_text, name_text, synthesized_named, inherited_named}
 use Rattle.at_typing.specs.Numbering.{numbered_view, same_class, IsOfItsClass, AreAlike}
 use Rattle.at_typing.specs.declared.attributes.Attributes.{Attributes}
 use Rattle.at_typing.specs.declared.numbered.NamedClass.{NamedClass}
+use Rattle.at_typing.specs.declared.numbered.NamedClass.TheVariants as named
 use Rattle.at_typing.specs.declared.numbered.Numbered.{Numbered as NumberedValue}
 
 abbrev pub is_key : NamedClass → ℕ → NamedClass × ℕ → Bool
@@ -16,25 +16,45 @@ is_key class name k = same_class class k.0 && nat_eq name k.1
 abbrev pub attributes_in : List NumberedValue → List NumberedValue
 attributes_in ds = filter (λ d. is_attribute (numbered_view d).decl.form) ds
 
--- it declares a synthesized attribute of that name in the class itself
-abbrev pub is_synthesized_in : NamedClass → ℕ → NumberedValue → Bool
-is_synthesized_in class name d = not (is_inherited (numbered_view d).decl.form) && is_key class name (d.class, d.name)
+-- a synthesized attribute stands by its class, where that is there
+abbrev pub class_key : (inherits : Bool) → NamedClass → ℕ → Option (ℕ × ℕ)
+class_key true class name = None
+class_key false (named.Known c) name = Some (c, name)
+class_key false (named.Unknown u) name = None
 
--- it declares an inherited attribute of that name
-abbrev pub is_inherited_as : ℕ → NumberedValue → Bool
-is_inherited_as name d = is_inherited (numbered_view d).decl.form && nat_eq name d.name
+-- else by the word that names none
+abbrev pub word_key : (inherits : Bool) → NamedClass → ℕ → Option (ℕ × ℕ)
+word_key true class name = None
+word_key false (named.Known c) name = None
+word_key false (named.Unknown u) name = Some (u, name)
 
--- for each class and name the first synthesized attribute that is declared, for each name the first inherited one
-pub record AreAttributes (ds : List NumberedValue) (a : Attributes) : Type 0 where
-  pub synthesized : (class : NamedClass) (name : ℕ) → get_by (is_key class name) a.synthesized ≡ position (is_synthesized_in class name) (attributes_in ds)
-  pub inherited : (name : ℕ) → get nat_eq a.inherited name ≡ position (is_inherited_as name) (attributes_in ds)
+-- an inherited one stands by its name alone, as if of one class
+abbrev pub name_key : (inherits : Bool) → ℕ → Option (ℕ × ℕ)
+name_key true name = Some (0, name)
+name_key false name = None
 
--- the attribute of that number, which the declaration declares, is noted where it is the first
-pub record Notes (d : NumberedValue) (attribute : ℕ) (old new : Attributes) : Type 0 where
-  pub synthesized : (class : NamedClass) (name : ℕ) → get_by (is_key class name) new.synthesized
-      ≡ option_or (get_by (is_key class name) old.synthesized) (if is_synthesized_in class name d then Some attribute else None)
-  pub inherited : (name : ℕ)
-      → get nat_eq new.inherited name ≡ option_or (get nat_eq old.inherited name) (if is_inherited_as name d then Some attribute else None)
+abbrev pub by_class : NumberedValue → Option (ℕ × ℕ)
+by_class d = class_key (is_inherited (numbered_view d).decl.form) d.class d.name
+
+abbrev pub by_word : NumberedValue → Option (ℕ × ℕ)
+by_word d = word_key (is_inherited (numbered_view d).decl.form) d.class d.name
+
+abbrev pub by_name : NumberedValue → Option (ℕ × ℕ)
+by_name d = name_key (is_inherited (numbered_view d).decl.form) d.name
+
+-- the attributes that these declare are noted, each by one of the three
+pub record AreNotedAll (ds : List NumberedValue) (a : Attributes) : Type 0 where
+  pub classes : AreNoted (map by_class ds) a.of_classes
+  pub words : AreNoted (map by_word ds) a.of_words
+  pub names : AreNoted (map by_name ds) a.inherited
+
+-- the attributes among the declarations are noted
+abbrev pub AreAttributes : List NumberedValue → Attributes → Type 0
+AreAttributes ds a = AreNotedAll (attributes_in ds) a
+
+-- the attribute of that number, which the declaration declares, is noted behind those before it
+abbrev pub Notes : NumberedValue → ℕ → Attributes → Attributes → Type 0
+Notes d attribute old new = (ds : List NumberedValue) → attribute ≡ length ds → AreNotedAll ds old → AreNotedAll (ds ++ d ∷ []) new
 
 -- the declaration's numbers stand for its words, and are the same as those of these where the words are
 pub record IsAmong (classes : Classes) (ds : List NumberedValue) (d : NumberedValue) : Type 0 where

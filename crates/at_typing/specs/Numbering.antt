@@ -1,9 +1,10 @@
 -- The declarations with numbers for their classes and their attributes' names: what the numbers say of the words.
-use Rattle.std.specs.Prelude.{◌≡◌, ℕ, zero, suc, Bool, false, ◌||◌, ◌&&◌, nat_eq, List, [], ◌∷◌, length, All, Option, Some, None, option_map, option_and_then, position, String, string_bytes}
+use Rattle.std.specs.Prelude.{◌≡◌, ℕ, zero, suc, Bool, false, ◌||◌, ◌&&◌, nat_eq, List, [], ◌∷◌, length, All, Option, Some, None, option_map, option_and_then, String}
 use Rattle.std.specs.Option.{option_or}
 use Rattle.std.specs.Str.{bytes_eq}
 use Rattle.at_model.specs.Classes.{Classes, class_of_name, parent_of}
 use Rattle.at_jrag.specs.View.{decl_view}
+use Rattle.at_rules.specs.Names.{number_in}
 use Rattle.at_typing.specs.Declaring.{class_text, name_text, is_sub_or_none, fault_if, fault_at, is_attribute, long_text, body_in}
 use Rattle.at_typing.specs.Located.{Located}
 use Rattle.at_typing.specs.declared.fault.Breach.{Breach}
@@ -49,17 +50,13 @@ is_class_below classes c b = same_class c b || is_sub_or_none classes (known_cla
 
 -- numbers for words --------------------------------------------------------------------------------------------------
 
--- the number of the text is its position
-abbrev pub text_number : {Z : Type 0} → List (String Z) → List ℕ → Option ℕ
-text_number texts text = position (λ s. bytes_eq text (string_bytes s)) texts
-
 -- the class is the one that its word names, if any
 abbrev pub IsOfItsClass : Classes → NumberedValue → Type 0
 IsOfItsClass classes d = known_class d.class ≡ class_of_name classes (class_text (numbered_view d))
 
 -- the name's number is its position among the names
 abbrev pub IsNamed : {Z : Type 0} → List (String Z) → NumberedValue → Type 0
-IsNamed names d = text_number names (name_text (numbered_view d)) ≡ Some d.name
+IsNamed names d = number_in names (name_text (numbered_view d)) ≡ Some d.name
 
 -- the numbers of the two are the same exactly where the words are
 pub record AreAlike (d e : NumberedValue) : Type 0 where
@@ -71,22 +68,18 @@ pub record AreNumbered (classes : Classes) (ds : List NumberedValue) : Type 0 wh
   pub class : All (IsOfItsClass classes) ds
   pub alike : All (λ d. All (AreAlike d) ds) ds
 
--- while they are numbered: what has a number keeps it
-abbrev pub Keeps : {Z : Type 0} → List (String Z) → List (String Z) → Type 0
-Keeps old new = (text : List ℕ) (n : ℕ) → text_number old text ≡ Some n → text_number new text ≡ Some n
-
 abbrev pub class_or_unknown : Option ℕ → Option ℕ → Option NamedClass
 class_or_unknown (Some c) n = Some (named.Known c)
 class_or_unknown None n = option_map named.Unknown n
 
 -- the class that a word names, where these are the words that name none
 abbrev pub class_number : {Z : Type 0} → Classes → List (String Z) → List ℕ → Option NamedClass
-class_number classes unknown word = class_or_unknown (class_of_name classes word) (text_number unknown word)
+class_number classes unknown word = class_or_unknown (class_of_name classes word) (number_in unknown word)
 
 -- the numbers are the positions among these
 pub record HasNumbers {Y Z : Type 0} (classes : Classes) (unknown : List (String Y)) (names : List (String Z)) (d : NumberedValue) : Type 0 where
   pub class : class_number classes unknown (class_text (numbered_view d)) ≡ Some d.class
-  pub name : text_number names (name_text (numbered_view d)) ≡ Some d.name
+  pub name : number_in names (name_text (numbered_view d)) ≡ Some d.name
 
 -- limits -------------------------------------------------------------------------------------------------------------
 

@@ -2,12 +2,14 @@
 //! compared again.
 
 ghost use Rattle.std.specs.Prelude.{◌≡◌, map, All, Some, IfOk, OnOk};
+ghost use Rattle.at_rules.specs.Names.{Keeps};
 ghost use Rattle.at_typing.specs.Located.{declarations_in, located_view};
-ghost use Rattle.at_typing.specs.Numbering.{numbered_view, parent_class, class_number, text_number, AreNumbered, HasNumbers, IsNamed, Keeps};
+ghost use Rattle.at_typing.specs.Numbering.{numbered_view, parent_class, class_number, AreNumbered, HasNumbers, IsNamed};
 
 use crate::located::{Located, class_word, locate, name_word};
 use at_class::{ClassId, ClassTable};
 use at_jrag::{Aspect, Decl};
+use at_rules::number_for;
 use indexmap::IndexSet;
 use std::alloc::{AllocError, Global};
 
@@ -136,7 +138,7 @@ impl Words {
         let class = class_word(&decl.form).text.as_str();
         let class = class_of(alloc, classes, &mut self.unknown, class)?;
         let name = name_word(&decl.form).text.as_str();
-        let name = number_of(alloc, &mut self.names, name)?;
+        let name = number_for(alloc, &mut self.names, name)?;
         Ok(Numbered {
             file: located.file,
             decl,
@@ -159,18 +161,6 @@ fn class_of(
     if let Some(class) = classes.id_of(word) {
         return Ok(NamedClass::Known(class.index()));
     }
-    let number = number_of(alloc, unknown, word)?;
+    let number = number_for(alloc, unknown, word)?;
     Ok(NamedClass::Unknown(number))
-}
-
-/// The number of the text among these, which it joins where it is new.
-fn number_of(alloc: Global, texts: &mut IndexSet<String>, text: &str) -> Result<usize, AllocError>
-    ensures number { IfOk result (λ n. text_number texts.new.keys text.now ≡ Some n) }
-    ensures keeps { OnOk result (Keeps texts.old.keys texts.new.keys) }
-{
-    if let Some(number) = texts.get_index_of(text) {
-        return Ok(number);
-    }
-    let (number, _) = texts.insert_full(String::from_str(alloc, text)?)?;
-    Ok(number)
 }

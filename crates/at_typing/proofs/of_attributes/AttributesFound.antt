@@ -1,28 +1,27 @@
 -- The attributes that are found by numbers are those that words name.
-use Rattle.std.proofs.Common.{◌≡◌, ℕ, suc, ◌+◌, ◌<◌, List, [], ◌∷◌, ◌++◌, length, take, get_or, refl, ap, ap₂, sym, subst, ◌∙◌, arith, append-nil, Option, Some, None}
-use Rattle.std.specs.Prelude.{Bool, true, false, ◌&&◌, ◌||◌, not, nat_eq, cond, position, is_some, if◌then◌else◌, All}
+use Rattle.std.proofs.Common.{◌≡◌, ℕ, suc, ◌+◌, ◌<◌, List, [], ◌∷◌, ◌++◌, length, take, get_or, map, refl, ap, ap₂, sym, subst, ◌∙◌, arith, append-nil, Option}
+use Rattle.std.specs.Prelude.{Bool, true, false, ◌&&◌, ◌||◌, not, nat_eq, cond, position, is_some, All}
 use Rattle.std.specs.List.{list_any}
-use Rattle.std.specs.Map.{lookup}
-use Rattle.std.specs.Option.{option_or}
 use Rattle.std.specs.Str.{bytes_eq}
-use Rattle.std.proofs.lemmas.Iterator.Adapters.{position_from-zero}
 use Rattle.std.proofs.lemmas.List.Elements.{filter_more, All-take}
-use Rattle.indexmap.specs.IndexMap.{get_by}
-use Rattle.at_model.specs.Classes.{Classes}
+use Rattle.at_class.proofs.Named.{position-map}
+use Rattle.at_model.specs.Classes.{Classes, chain, is_sub}
 use Rattle.at_jrag.specs.Syntax.{Word, Params, Body, DeclForm, Synthesized, Inherited, Equation, InheritedEquation}
-use Rattle.at_rules.specs.Upward.{earlier}
-use Rattle.at_typing.specs.AttributeKeys.{is_key, attributes_in, is_synthesized_in, is_inherited_as, AreAttributes, Notes, IsAmong, FindsSynthesized, FindsInherited}
+use Rattle.at_rules.specs.FirstNamed.{is_named, IsFirst}
+use Rattle.at_rules.proofs.UpwardLemmas.{any_both}
+use Rattle.at_typing.specs.AttributeKeys.{attributes_in, class_key, word_key, name_key, by_class, by_word, by_name, AreNotedAll, AreAttributes, Notes, IsAmong, FindsSynthesized, FindsInherited}
 use Rattle.at_typing.specs.Declaring.{is_attribute, is_inherited, is_of_attribute, is_synthesized, is_synthesized_by, is_inherited_name, is_below, class_text, name_text, synthesized_named, inherited_named}
 use Rattle.at_typing.specs.Located.{Located, class_word, name_word}
-use Rattle.at_typing.specs.Numbering.{numbered_view, parent_class, same_class, is_class_below, line, IsOfItsClass, AreAlike, AreNumbered}
+use Rattle.at_typing.specs.Numbering.{numbered_view, known_class, is_class_below, IsOfItsClass, AreAlike, AreNumbered}
 use Rattle.at_typing.specs.declared.attributes.Attributes.{Attributes}
 use Rattle.at_typing.specs.declared.numbered.NamedClass.{NamedClass}
+use Rattle.at_typing.specs.declared.numbered.NamedClass.TheVariants as named
 use Rattle.at_typing.specs.declared.numbered.Numbered.{Numbered as NumberedValue}
 use Rattle.at_typing.proofs.ClassesBelow.{below}
-use Rattle.at_typing.proofs.Earlier.{nowhere, with_last, same_first, is_found}
+use Rattle.at_typing.proofs.Earlier.{same_first, is_found}
 use Rattle.at_typing.proofs.EquationsBefore.{list_any-same}
-use Rattle.at_typing.proofs.Lines.{line_from, line_step, on_line}
-use Rattle.at_rules.proofs.Earlier.{either, earlier_assoc, earlier_none}
+use Rattle.at_typing.proofs.Lines.{itself}
+use Rattle.at_typing.proofs.of_attributes.KindsDeclared.{class_there}
 
 -- among declarations --------------------------------------------------------------------------------------------------
 
@@ -61,50 +60,12 @@ with_none ds k d less is test = one_more ds k d less is ∙ ap (λ b. attributes
 pub counted : (ds : List NumberedValue) (k : ℕ) (d : NumberedValue) (n : ℕ) → k < length ds → d ≡ get_or ds k d → is_attribute (numbered_view d).decl.form ≡ true → n ≡ length (attributes_in (take k ds)) → n + 1 ≡ length (attributes_in (take (k + 1) ds))
 counted ds k d n less is test count = next n ∙ ap suc count ∙ sym (length_last (attributes_in (take k ds)) d) ∙ ap length (sym (with_attribute ds k d less is test))
 
-pub none_noted : (ds : List NumberedValue) (a : Attributes) → a.synthesized.entries ≡ [] → a.inherited.entries ≡ [] → AreAttributes (take 0 ds) a
-none_noted ds a synthesized inherited = record {
-  synthesized = λ class name. ap (lookup (is_key class name)) synthesized ∙ sym (position_from-zero (is_synthesized_in class name) []);
-  inherited = λ name. ap (lookup (nat_eq name)) inherited ∙ sym (position_from-zero (is_inherited_as name) []);
-}
-
 pub one_noted : (ds : List NumberedValue) (k : ℕ) (d : NumberedValue) (n : ℕ) (old new : Attributes) → k < length ds → d ≡ get_or ds k d → is_attribute (numbered_view d).decl.form ≡ true → n ≡ length (attributes_in (take k ds))
     → AreAttributes (take k ds) old → Notes d n old new → AreAttributes (take (k + 1) ds) new
-one_noted ds k d n old new less is test count are notes = record {
-  synthesized = λ class name. notes.synthesized class name ∙ ap (λ o. option_or o (if is_synthesized_in class name d then Some n else None)) (are.synthesized class name) ∙ on (is_synthesized_in class name);
-  inherited = λ name. notes.inherited name ∙ ap (λ o. option_or o (if is_inherited_as name d then Some n else None)) (are.inherited name) ∙ on (is_inherited_as name);
-}
-  where
-    on : (p : NumberedValue → Bool) → option_or (position p (attributes_in (take k ds))) (if p d then Some n else None) ≡ position p (attributes_in (take (k + 1) ds))
-    on p =
-        ap (λ m. option_or (position p (attributes_in (take k ds))) (if p d then Some m else None)) count
-        ∙ sym (with_last p (attributes_in (take k ds)) d)
-        ∙ ap (position p) (sym (with_attribute ds k d less is test))
+one_noted ds k d n old new less is test count are notes = subst (λ xs. AreNotedAll xs new) (sym (with_attribute ds k d less is test)) (notes (attributes_in (take k ds)) count are)
 
 pub still_noted : (ds : List NumberedValue) (k : ℕ) (d : NumberedValue) (a : Attributes) → k < length ds → d ≡ get_or ds k d → is_attribute (numbered_view d).decl.form ≡ false → AreAttributes (take k ds) a → AreAttributes (take (k + 1) ds) a
-still_noted ds k d a less is test are = record {
-  synthesized = λ class name. are.synthesized class name ∙ ap (position (is_synthesized_in class name)) (sym (with_none ds k d less is test));
-  inherited = λ name. are.inherited name ∙ ap (position (is_inherited_as name)) (sym (with_none ds k d less is test));
-}
-
--- upward --------------------------------------------------------------------------------------------------------------
-
--- the first one of these classes' own
-abbrev pub first_on : Attributes → ℕ → List NamedClass → Option ℕ
-first_on a name [] = None
-first_on a name (c ∷ cs) = earlier (get_by (is_key c name) a.synthesized) (first_on a name cs)
-
-pub found_above : (a : Attributes) (name : ℕ) (classes : Classes) (k : ℕ) (c : NamedClass) (o : Option NamedClass) (found : Option ℕ) → k < length classes → o ≡ Some c
-    → earlier found (first_on a name (line_from classes k o)) ≡ earlier (earlier found (get_by (is_key c name) a.synthesized)) (first_on a name (line_from classes (k + 1) (parent_class classes c)))
-found_above a name classes k c o found less is =
-    ap (λ cs. earlier found (first_on a name cs)) (line_step classes k c o less is)
-    ∙ sym (earlier_assoc found (get_by (is_key c name) a.synthesized) (first_on a name (line_from classes (k + 1) (parent_class classes c))))
-
-pub found_last : (a : Attributes) (name : ℕ) (cs : List NamedClass) (found : Option ℕ) → cs ≡ [] → earlier found (first_on a name cs) ≡ found
-found_last a name cs found is = ap (λ l. earlier found (first_on a name l)) is ∙ earlier_none found
-
-first_among : (ds : List NumberedValue) (a : Attributes) → AreAttributes ds a → (name : ℕ) (cs : List NamedClass) → first_on a name cs ≡ position (λ d. list_any (λ c. is_synthesized_in c name d) cs) (attributes_in ds)
-first_among ds a are name [] = sym (nowhere (attributes_in ds))
-first_among ds a are name (c ∷ cs) = ap₂ earlier (are.synthesized c name) (first_among ds a are name cs) ∙ either (is_synthesized_in c name) (λ d. list_any (λ c. is_synthesized_in c name d) cs) (attributes_in ds)
+still_noted ds k d a less is test are = subst (λ xs. AreNotedAll xs a) (sym (with_none ds k d less is test)) are
 
 -- by words ------------------------------------------------------------------------------------------------------------
 
@@ -126,31 +87,78 @@ switched true false = refl
 switched false true = refl
 switched false false = refl
 
-synthesized_by : (classes : Classes) → 0 < length classes → (d e : NumberedValue) (class : NamedClass) (name : ℕ) → IsOfItsClass classes d → IsOfItsClass classes e → AreAlike d e → class ≡ d.class → name ≡ d.name
-    → list_any (λ c. is_synthesized_in c name e) (line classes class) ≡ is_synthesized_by classes (class_text (numbered_view d)) (name_text (numbered_view d)) (numbered_view e)
-synthesized_by classes some d e class name own other alike of_class same_name =
-    ap (λ m. list_any (λ c. is_synthesized_in c m e) (line classes class)) same_name
-    ∙ drawn here (nat_eq d.name e.name) (λ c. same_class c e.class) (line classes class)
-    ∙ ap (λ b. here && (b && nat_eq d.name e.name)) (on_line classes some class e.class ∙ ap (λ c. is_class_below classes c e.class) of_class ∙ below classes d e own other alike)
+-- a synthesized attribute of that name, of the class or one above it
+abbrev is_found_for : Classes → NamedClass → ℕ → NumberedValue → Bool
+is_found_for classes class name e = not (is_inherited (numbered_view e).decl.form) && (is_class_below classes class e.class && nat_eq name e.name)
+
+synthesized_by : (classes : Classes) (d e : NumberedValue) (class : NamedClass) (name : ℕ) → IsOfItsClass classes d → IsOfItsClass classes e → AreAlike d e → class ≡ d.class → name ≡ d.name
+    → is_found_for classes class name e ≡ is_synthesized_by classes (class_text (numbered_view d)) (name_text (numbered_view d)) (numbered_view e)
+synthesized_by classes d e class name own other alike of_class same_name =
+    ap₂ (λ c m. here && (is_class_below classes c e.class && nat_eq m e.name)) of_class same_name
+    ∙ ap (λ b. here && (b && nat_eq d.name e.name)) (below classes d e own other alike)
     ∙ ap (λ b. here && (is_below classes (class_text (numbered_view d)) (class_text (numbered_view e)) && b)) alike.name
     ∙ ap (λ b. here && b) (switched (is_below classes (class_text (numbered_view d)) (class_text (numbered_view e))) (bytes_eq (name_text (numbered_view d)) (name_text (numbered_view e))))
   where
     here : Bool
     here = not (is_inherited (numbered_view e).decl.form)
 
-pub finds_synthesized : (classes : Classes) → 0 < length classes → (a : Attributes) (class : NamedClass) (name : ℕ) (found : Option ℕ) → found ≡ first_on a name (line classes class) → FindsSynthesized a classes class name found
-finds_synthesized classes some a class name found is = λ ds d are among of_class same_name.
-    is ∙ first_among ds a are name (line classes class)
-    ∙ same_first (λ e. IsOfItsClass classes e × AreAlike d e) numbered_view (λ (e : Located). is_attribute e.decl.form)
-    (λ e. list_any (λ c. is_synthesized_in c name e) (line classes class)) (is_synthesized_by classes (class_text (numbered_view d)) (name_text (numbered_view d))) ds
-    (λ k x less. (among.others k x less, among.alike k x less)) (λ e h. synthesized_by classes some d e class name among.class h.0 h.1 of_class same_name)
+found_for : (classes : Classes) (ds : List NumberedValue) (d : NumberedValue) (class : NamedClass) (name : ℕ) → IsAmong classes ds d → class ≡ d.class → name ≡ d.name
+    → position (is_found_for classes class name) (attributes_in ds) ≡ synthesized_named classes (map numbered_view ds) (class_text (numbered_view d)) (name_text (numbered_view d))
+found_for classes ds d class name among of_class same_name =
+    same_first (λ e. IsOfItsClass classes e × AreAlike d e) numbered_view (λ (e : Located). is_attribute e.decl.form)
+    (is_found_for classes class name) (is_synthesized_by classes (class_text (numbered_view d)) (name_text (numbered_view d))) ds
+    (λ k x less. (among.others k x less, among.alike k x less)) (λ e h. synthesized_by classes d e class name among.class h.0 h.1 of_class same_name)
 
-pub finds_inherited : (a : Attributes) (name : ℕ) (found : Option ℕ) → found ≡ get_by (nat_eq name) a.inherited → FindsInherited a name found
-finds_inherited a name found is = λ ds d are alike same_name.
-    is ∙ are.inherited name
+-- a class that is there
+class_test : (classes : Classes) → 0 < length classes → (c n : ℕ) (inherits : Bool) (class : NamedClass) (m : ℕ) → is_named n (chain classes c) (class_key inherits class m) ≡ (not inherits && (is_class_below classes (named.Known c) class && nat_eq n m))
+class_test classes some c n true class m = refl
+class_test classes some c n false (named.Unknown u) m = refl
+class_test classes some c n false (named.Known b) m = any_both (nat_eq n m) b (chain classes c) ∙ switched (nat_eq n m) (is_sub classes c b) ∙ ap (λ t. t && nat_eq n m) (itself classes c b some)
+
+pub finds_of_class : (classes : Classes) (a : Attributes) (class : NamedClass) (c name : ℕ) (found : Option ℕ) → class ≡ named.Known c → IsFirst a.of_classes name (chain classes c) found → FindsSynthesized a classes class name found
+finds_of_class classes a class c name found is first = λ ds d are among of_class same_name.
+    let there = class_there classes (class_text (numbered_view d)) c (sym among.class ∙ ap known_class (sym of_class ∙ is)) in
+    first (map by_class (attributes_in ds)) are.classes
+    ∙ position-map (is_named name (chain classes c)) by_class (attributes_in ds)
+    ∙ ap (λ test. position test (attributes_in ds)) (λ i e. class_test classes (omega (arith, there)) c name (is_inherited (numbered_view e).decl.form) e.class e.name i)
+    ∙ ap (λ k. position (is_found_for classes k name) (attributes_in ds)) (sym is)
+    ∙ found_for classes ds d class name among of_class same_name
+
+-- a word that names none
+word_test : (classes : Classes) (u n : ℕ) (inherits : Bool) (class : NamedClass) (m : ℕ) → is_named n (u ∷ []) (word_key inherits class m) ≡ (not inherits && (is_class_below classes (named.Unknown u) class && nat_eq n m))
+word_test classes u n true class m = refl
+word_test classes u n false (named.Known b) m = refl
+word_test classes u n false (named.Unknown v) m = by (nat_eq u v) (nat_eq n m)
+  where
+    by : (x y : Bool) → ((x && y) || false) ≡ ((x || false) && y)
+    by true true = refl
+    by true false = refl
+    by false y = refl
+
+pub finds_of_word : (classes : Classes) (a : Attributes) (class : NamedClass) (u name : ℕ) (found : Option ℕ) → class ≡ named.Unknown u → IsFirst a.of_words name (u ∷ []) found → FindsSynthesized a classes class name found
+finds_of_word classes a class u name found is first = λ ds d are among of_class same_name.
+    first (map by_word (attributes_in ds)) are.words
+    ∙ position-map (is_named name (u ∷ [])) by_word (attributes_in ds)
+    ∙ ap (λ test. position test (attributes_in ds)) (λ i e. word_test classes u name (is_inherited (numbered_view e).decl.form) e.class e.name i)
+    ∙ ap (λ k. position (is_found_for classes k name) (attributes_in ds)) (sym is)
+    ∙ found_for classes ds d class name among of_class same_name
+
+name_test : (n : ℕ) (inherits : Bool) (m : ℕ) → is_named n (0 ∷ []) (name_key inherits m) ≡ (inherits && nat_eq n m)
+name_test n false m = refl
+name_test n true m = by (nat_eq n m)
+  where
+    by : (x : Bool) → (x || false) ≡ x
+    by true = refl
+    by false = refl
+
+pub finds_inherited : (a : Attributes) (name : ℕ) (found : Option ℕ) → IsFirst a.inherited name (0 ∷ []) found → FindsInherited a name found
+finds_inherited a name found first = λ ds d are alike same_name.
+    first (map by_name (attributes_in ds)) are.names
+    ∙ position-map (is_named name (0 ∷ [])) by_name (attributes_in ds)
+    ∙ ap (λ test. position test (attributes_in ds)) (λ i e. name_test name (is_inherited (numbered_view e).decl.form) e.name i)
     ∙ same_first (AreAlike d) numbered_view (λ (e : Located). is_attribute e.decl.form)
-    (is_inherited_as name) (λ e. is_inherited e.decl.form && bytes_eq (name_text (numbered_view d)) (name_text e)) ds alike
-    (λ e like. ap (λ m. is_inherited_as m e) same_name ∙ ap (λ b. is_inherited (numbered_view e).decl.form && b) like.name)
+    (λ e. is_inherited (numbered_view e).decl.form && nat_eq name e.name) (λ e. is_inherited e.decl.form && bytes_eq (name_text (numbered_view d)) (name_text e)) ds alike
+    (λ e like. ap (λ m. is_inherited (numbered_view e).decl.form && nat_eq m e.name) same_name ∙ ap (λ b. is_inherited (numbered_view e).decl.form && b) like.name)
 
 -- equations -----------------------------------------------------------------------------------------------------------
 

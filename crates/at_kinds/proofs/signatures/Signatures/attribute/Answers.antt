@@ -1,5 +1,5 @@
 use Rattle.std.proofs.Common.{◌∙◌, ap, sym, map}
-use Rattle.at_kinds.specs.Signatures.{declared_view, declared_named, is_below}
+use Rattle.at_kinds.specs.Signatures.{declared_view, declared_named, is_below, key_in}
 use Rattle.at_kinds.proofs.Signing.{found_by_name, none_by_name}
 use Rattle.at_kinds.proofs.signatures.Signatures.attribute.Goals as goal
 
@@ -14,7 +14,8 @@ returns-in_err-name c =
 pub returns : goal.returns
 returns c =
     let ds = map declared_view c.self.inside.items.items in
+    let names = c.self.inside.names.keys in
     let classes = c.args.classes.now in
-    c.first_above.ensures
-    ∙ found_by_name c.self.inside.names.keys c.self.inside.first.entries ds c.self.invariant c.args.name.now c.in_ok-name.name (sym c.in_ok-name.ensures.index) classes c.args.class
+    c.upward.ensures (map (key_in names) ds) c.self.invariant.noted
+    ∙ found_by_name names ds c.args.name.now c.in_ok-name.name (sym c.in_ok-name.ensures.number) classes c.args.class
     ∙ ap (λ ds. declared_named classes ds c.args.class c.args.name.now) c.self.view_is

@@ -1,12 +1,12 @@
 use Rattle.std.proofs.Common.{arith, refl, sym, ap, subst, length, take, ◌∙◌, ◌+◌}
 use Rattle.std.proofs.lemmas.List.{take_all}
 use Rattle.at_typing.specs.AttributeKeys.{AreAttributes}
-use Rattle.at_typing.proofs.of_attributes.AttributesFound.{none_noted, one_noted, still_noted, counted, with_none}
+use Rattle.at_typing.proofs.of_attributes.AttributesFound.{one_noted, still_noted, counted, with_none}
 use Rattle.at_typing.proofs.attributes.Attributes.of.Goals as goal
 use Rattle.at_typing.proofs.attributes.Attributes.of.Goals.{then-is_attribute+in_ok-note, else-is_attribute}
 
 pub loop-numbered-init : goal.loop-numbered-init
-loop-numbered-init c = (none_noted c.args.declared.now _ c.new.ensures.empty c.new-2.ensures.empty, refl, omega arith)
+loop-numbered-init c = (record { classes = c.new.ensures; words = c.new-2.ensures; names = c.new-3.ensures }, refl, omega arith)
 
 pub loop-numbered-preserved : goal.loop-numbered-preserved
 loop-numbered-preserved c =

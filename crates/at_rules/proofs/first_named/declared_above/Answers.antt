@@ -4,19 +4,19 @@ use Rattle.std.specs.Map.{keys_of}
 use Rattle.at_model.specs.Classes.{chain, chain_within, parent_of}
 use Rattle.at_rules.specs.Upward.{earlier, declared_in}
 use Rattle.at_rules.proofs.UpwardLemmas.{found_above, found_on_top, found_at_end}
-use Rattle.at_rules.proofs.rules.declared_above.Goals as goal
+use Rattle.at_rules.proofs.first_named.declared_above.Goals as goal
 
 pub returns-in_default : goal.returns-in_default
 unfolding chain
-returns-in_default c =
-    let ks = keys_of c.args.attributes.now.entries in
+returns-in_default g c =
+    let ks = keys_of c.args.keys.now.entries in
     let classes = c.args.classes.now in
     let n = length classes - c.loop-step.step in
     sym (c.loop-step.invariant ∙ ap (λ o. earlier c.loop-step.found (declared_in ks c.args.name (chain_within n classes o))) c.in_default.is ∙ found_on_top ks c.args.name classes n c.loop-step.found)
 
 pub loop-step-preserved : goal.loop-step-preserved
-loop-step-preserved c =
-    let ks = keys_of c.args.attributes.now.entries in
+loop-step-preserved g c =
+    let ks = keys_of c.args.keys.now.entries in
     let name = c.args.name in
     let classes = c.args.classes.now in
     let n = length classes in
@@ -32,7 +32,7 @@ loop-step-preserved c =
 
 pub returns : goal.returns
 unfolding chain
-returns c =
-    let ks = keys_of c.args.attributes.now.entries in
+returns g c =
+    let ks = keys_of c.args.keys.now.entries in
     let classes = c.args.classes.now in
     sym (c.loop-step.invariant ∙ found_at_end ks c.args.name classes (length classes) c.loop-step.step c.loop-step.next c.loop-step.found (omega arith))

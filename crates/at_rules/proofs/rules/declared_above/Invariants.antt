@@ -1,8 +1,0 @@
-use Rattle.std.proofs.Common.{◌≡◌, length, ◌-◌, Some}
-use Rattle.std.specs.Map.{keys_of}
-use Rattle.at_model.specs.Classes.{chain_within}
-use Rattle.at_rules.specs.Upward.{earlier, declared_in}
-use Rattle.at_rules.proofs.rules.declared_above.Given as goal
-
-abbrev pub invariant-loop-step : goal.invariant-loop-step
-invariant-loop-step l = declared_in (keys_of l.attributes.entries) l.name (chain_within (length l.classes) l.classes (Some l.fn.class)) ≡ earlier l.found (declared_in (keys_of l.attributes.entries) l.name (chain_within (length l.classes - l.step) l.classes l.next))
