@@ -6,7 +6,6 @@ use Rattle.at_model.specs.Bodies.{Expr, ref_of, eval}
 use Rattle.at_model.specs.Rules.{Rules, by_inherited, by_equation, inherited_equation, past_arguments, evaluation}
 use Rattle.at_model.specs.Support.{argument_classes}
 use Rattle.at_body.specs.declared.trial.Trial.{Trial}
-use Rattle.at_body.specs.declared.value.Value.{Value as ValueCode}
 use Rattle.at_body.specs.Values.{value_view}
 use Rattle.at_body.specs.Standing.{scope}
 use Rattle.at_model.specs.Follow.{Reached, follow}
@@ -15,17 +14,13 @@ use Rattle.at_body.specs.Rest.{begun, place_of, ev}
 use Rattle.at_body.proofs.Runs.{to_its_end}
 
 -- nothing else is left to do, and no node is bound
-pub alone : (classes : Classes) (t : Trial) (e : Expr) (n : ℕ) (vs : List (Value ℕ)) (child : Option ℕ) → t.todo ≡ [] → t.bound ≡ [] → t.this ≡ n → map value_view t.arguments.items ≡ vs → t.child ≡ child →
+pub alone : (classes : Classes) (t : Trial) (e : Expr) (n : ℕ) (vs : List (Value ℕ)) (child : Option ℕ) → t.todo ≡ [] → t.bound ≡ [] → t.this ≡ n → map value_view t.arguments ≡ vs → t.child ≡ child →
     begun classes t e ≡ eval classes nat_eq e (record { this = n; names = vs; child = child })
 alone classes t e n vs child idle unbound this passed down =
     let r : Run ℕ (Value ℕ) = ev classes e (place_of t) in
     let s : begun classes t e ≡ r = rw idle (to_its_end r) in
     let p : scope (place_of t) ≡ record { this = n; names = vs; child = child } = rw (unbound, this, passed, down) refl in
     s ∙ ap (eval classes nat_eq e) p
-
--- values that are put behind none
-pub put_behind_none : (old new : List ValueCode) (vs all : List (Value ℕ)) → old ≡ [] → map value_view new ≡ map value_view old ++ vs → vs ≡ all → map value_view new ≡ all
-put_behind_none old new vs all none is same = is ∙ rw none same
 
 -- one argument more, where it is a node or none
 past_with : {A : Type 0} (tree : Contents ℕ) (seen : List (Location ℕ)) (vs : List (Value ℕ)) (r : Run ℕ A) →
@@ -41,7 +36,7 @@ past tree seen (v ∷ vs) r = past_with tree seen vs r (past tree seen vs r) (λ
 
 -- the equation stands at the parent
 pub found : (rules : Rules) (tree : Contents ℕ) (seen : List (Location ℕ)) (name : List ℕ) (vs : List (Value ℕ)) (height h n p part : ℕ) (e : Expr) (t : Trial) →
-    height ≡ suc h → Some (p, part) ≡ tree (Up n) → Some e ≡ inherited_equation rules (tree (Is p)) part name → t.todo ≡ [] → t.bound ≡ [] → t.this ≡ p → map value_view t.arguments.items ≡ vs → t.child ≡ Some n →
+    height ≡ suc h → Some (p, part) ≡ tree (Up n) → Some e ≡ inherited_equation rules (tree (Is p)) part name → t.todo ≡ [] → t.bound ≡ [] → t.this ≡ p → map value_view t.arguments ≡ vs → t.child ≡ Some n →
     follow tree seen (by_inherited rules nat_eq name vs height n) ≡ follow tree ((seen ++ Up n ∷ []) ++ Is p ∷ []) (begun rules.classes t e)
 found rules tree seen name vs height h n p part e t high up is idle unbound this passed down =
     let above : Option (ℕ × ℕ) → Run ℕ (Value ℕ) = elim [ None ↦ Fails Null | Some q ↦ Looks (Is q.0) (λ c. by_equation rules nat_eq (record { this = q.0; names = vs; child = Some n }) (by_inherited rules nat_eq name vs h q.0) (inherited_equation rules c q.1 name)) ] in

@@ -7,6 +7,8 @@ pub mod Waiting
 pub mod OneTry
 pub mod Few
 pub mod Joining
+pub mod TextsCompared
+pub mod Steps
 pub mod SamenessLemmas
 pub mod TypedParts
 pub mod TypedUses

@@ -39,7 +39,7 @@ is_none (w ∷ vs) zero e = absurd (cc)
 is_none (w ∷ vs) (suc j) e = is_none vs j e
 
 pub behind : {E : Type 0} (classes : Classes) (t : Trial) (i : ℕ) (res : Result Now E) → slice_get t.bound i ≡ None →
-    IfOk res (λ now. resumed classes t (named (map value_view t.arguments.items) (i - length t.bound)) ≡ rest classes now t) →
+    IfOk res (λ now. resumed classes t (named (map value_view t.arguments) (i - length t.bound)) ≡ rest classes now t) →
     IfOk res (λ now. resumed classes t (named (scope (place_of t)).names i) ≡ rest classes now t)
-behind classes t i (Ok now) e h = ap (resumed classes t) (is_behind t.bound (map value_view t.arguments.items) i (i - length t.bound) e refl) ∙ h
+behind classes t i (Ok now) e h = ap (resumed classes t) (is_behind t.bound (map value_view t.arguments) i (i - length t.bound) e refl) ∙ h
 behind classes t i (Err e') e h = tt

@@ -26,7 +26,7 @@ module _ (rules : Rules) (s : Shown) (idle : IsIdle s) (ok : AreWellFormed rules
   some_own : (e : Expr) × (own_equation rules w.class i.attribute ≡ Some e) → IsSome (own_equation rules w.class i.attribute)
   some_own (e, h) = subst (λ o. IsSome o) (sym h) refl
 
-  begins_there : (t : Trial) → t.this ≡ i.node → map value_view t.arguments.items ≡ i.arguments → Begins rules (class_shown s) (contents s) t w.class i.attribute
+  begins_there : (t : Trial) → t.this ≡ i.node → map value_view t.arguments ≡ i.arguments → Begins rules (class_shown s) (contents s) t w.class i.attribute
   begins_there t this arguments = record {
     declaration = w.declaration;
     node = subst (λ n. class_shown s n ≡ Some w.class) (sym this) w.node;
@@ -37,7 +37,7 @@ module _ (rules : Rules) (s : Shown) (idle : IsIdle s) (ok : AreWellFormed rules
         (subst (λ name. HasEquation rules (class_shown s) (contents s) name max_depth i.node) (sym named) (above_there rules s idle ok sound i w (sym inherits ∙ e)));
   }
 
-  pub begins : (t : Trial) (class attribute : ℕ) → t.this ≡ i.node → map value_view t.arguments.items ≡ i.arguments → class ≡ contents s (Is i.node) → attribute ≡ i.attribute → Begins rules (class_shown s) (contents s) t class attribute
+  pub begins : (t : Trial) (class attribute : ℕ) → t.this ≡ i.node → map value_view t.arguments ≡ i.arguments → class ≡ contents s (Is i.node) → attribute ≡ i.attribute → Begins rules (class_shown s) (contents s) t class attribute
   begins t class attribute this arguments is same =
       let over = shown_typed rules s idle ok sound in
       let there : class ≡ w.class = is ∙ over.contents.class i.node w.class w.node in

@@ -110,7 +110,7 @@ module _ (rules : Rules) (are : AreTyped rules) where
             place = record {
               this = (c, there, passed.above);
               bound = subst (λ ns. AreBound rules.classes at ns []) (sym unbound) tt;
-              passed = subst (λ vs. AreArguments rules.classes at AnyText (map value_view vs.items) d.parameters) (sym same) begins.arguments;
+              passed = subst (λ vs. AreArguments rules.classes at AnyText (map value_view vs) d.parameters) (sym same) begins.arguments;
               child = subst (λ o. IfSome o (λ n. IsSome (at n))) (sym below) child_there;
               index = λ e. subst (λ o. IsSome o) (sym below) refl;
             };

@@ -54,7 +54,7 @@ one_more classes t a v w done es =
     ap (λ k. (ev_all classes es (place_of t) >>= k) >>= resumed classes t) e
 
 -- a reference to a node
-refers : (v : Value ℕ) (n : ℕ) → ref_of v ≡ Some n → v ≡ Ref (Some n)
+pub refers : (v : Value ℕ) (n : ℕ) → ref_of v ≡ Some n → v ≡ Ref (Some n)
 refers (Int z) n e = absurd (cc)
 refers (Truth b) n e = absurd (cc)
 refers (Text s) n e = absurd (cc)

@@ -1,4 +1,5 @@
 pub mod Values
+pub mod Shared
 pub mod ValueKinds
 pub mod Same
 pub mod Sameness
@@ -7,6 +8,7 @@ pub mod Stacked
 pub mod Standing
 pub mod Rest
 pub mod Calling
+pub mod Comparing
 pub mod Starting
 pub mod Trying
 pub mod Typed

@@ -90,7 +90,7 @@ after classes [] p v = Gives v
 after classes (k ∷ ks) p v = then classes k p v >>= after classes ks (outer k p)
 
 abbrev pub place_of : Trial → Place
-place_of t = record { this = t.this; bound = t.bound; passed = t.arguments.items; child = t.child }
+place_of t = record { this = t.this; bound = t.bound; passed = t.arguments; child = t.child }
 
 -- what a trial that waits for a value does with it
 abbrev pub resumed : Classes → Trial → Value ℕ → Run ℕ (Value ℕ)

@@ -31,6 +31,6 @@ pub record Begins (rules : Rules) (at : ClassAt ℕ) (look : Contents ℕ) (t : 
   pub declaration : Attribute
   pub node : at t.this ≡ Some class
   pub attribute_is : slice_get rules.attributes attribute ≡ Some declaration
-  pub arguments : AreArguments rules.classes at AnyText (map value_view t.arguments.items) declaration.parameters
+  pub arguments : AreArguments rules.classes at AnyText (map value_view t.arguments) declaration.parameters
   pub own : is_inherited rules attribute ≡ false → IsSome (own_equation rules class attribute)
   pub above : is_inherited rules attribute ≡ true → HasEquation rules at look (attribute_name rules attribute) max_depth t.this

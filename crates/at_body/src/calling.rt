@@ -78,7 +78,7 @@ impl<'a> Trial<'a> {
 }
 
 /// The component whose child of `this` the expression stands for; none for another expression.
-fn own_part(body: &Body) -> Option<usize>
+pub(crate) fn own_part(body: &Body) -> Option<usize>
     ensures { IfSome result (λ part. body_view body.now ≡ Child This part) }
 {
     match body {

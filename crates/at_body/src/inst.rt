@@ -1,17 +1,15 @@
 //! Instances: attributes of nodes, with arguments.
 
-ghost use Rattle.std.specs.Prelude.{◌≡◌, ◌++◌, IfOk, OnOk, map};
+ghost use Rattle.std.specs.Prelude.{◌≡◌, IfOk, map};
 ghost use Rattle.at_body.specs.Values.{value_view};
 
+use super::arguments::Arguments;
 use super::value::Value;
 use at_rules::AttrId;
 use at_store::Node;
 use std::alloc::{AllocError, Global};
 use std::hash::{Hash, Hasher};
 use std::marker::Model;
-
-/// What is passed to an attribute. None of them take no memory.
-pub type Arguments = Vec<Value>;
 
 /// The question for an attribute of a node, with arguments: texts, nodes and null.
 #[derive(Debug)]
@@ -39,13 +37,13 @@ impl Model for Inst {
 
     ghost Value = { Instance ℕ };
 
-    ghost view = { λ i. record { node = i.node; attribute = i.attribute; arguments = map value_view i.arguments.items } };
+    ghost view = { λ i. record { node = i.node; attribute = i.attribute; arguments = map value_view i.arguments } };
 }
 
 impl Inst {
     /// The instance of an attribute at a node, with these arguments.
     pub fn new(node: Node, attribute: AttrId, arguments: Arguments) -> Self
-        ensures { result ≡ record { node = node; attribute = attribute; arguments = map value_view arguments.items } }
+        ensures { result ≡ record { node = node; attribute = attribute; arguments = map value_view arguments } }
     {
         Inst {
             node,
@@ -75,14 +73,21 @@ impl Inst {
         self.arguments.as_slice()
     }
 
+    /// The arguments once more, shared with the instance. An error where memory is wanting.
+    pub(crate) fn shared_arguments(&self) -> Result<Arguments, AllocError>
+        ensures { IfOk result (λ vs. map value_view vs ≡ self.now.arguments) }
+    {
+        self.arguments.share()
+    }
+
     /// The instance once more. An error where memory is wanting.
-    pub fn copy(&self, alloc: Global) -> Result<Inst, AllocError>
+    pub fn copy(&self, _alloc: Global) -> Result<Inst, AllocError>
         ensures { IfOk result (λ i. i ≡ self.now) }
     {
         Ok(Inst {
             node: self.node,
             attribute: self.attribute,
-            arguments: copied(alloc, self.arguments.as_slice())?,
+            arguments: self.arguments.share()?,
         })
     }
 }
@@ -123,25 +128,4 @@ impl Hash for Inst {
         self.attribute.index().hash(state);
         self.arguments.as_slice().hash(state);
     }
-}
-
-/// The values once more. An error where memory is wanting.
-pub fn copied(alloc: Global, values: &[Value]) -> Result<Arguments, AllocError>
-    ensures { IfOk result (λ vs. map value_view vs.items ≡ map value_view values.now) }
-{
-    let mut copies = Arguments::new(alloc);
-    copy_behind(&mut copies, values)?;
-    Ok(copies)
-}
-
-/// Puts the values once more behind those that are there. An error where memory is wanting.
-pub fn copy_behind(copies: &mut Arguments, values: &[Value]) -> Result<(), AllocError>
-    ensures { OnOk result (map value_view copies.new.items ≡ map value_view copies.old.items ++ map value_view values.now) }
-{
-    let mut rest = values;
-    while let Some((value, others)) = rest.split_first() {
-        copies.push(value.copy()?)?;
-        rest = others;
-    }
-    Ok(())
 }

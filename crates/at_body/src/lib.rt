@@ -1,20 +1,23 @@
 //! One try of one equation: the evaluation of an instance, which can be put aside at a demand and goes on with its
 //! value.
 //!
-//! **Its specs:** `Values`, `Same` and `Sameness` are values and instances; `Rest` says what is left of an
+//! **Its specs:** `Values`, `Shared`, `Same` and `Sameness` are values and instances; `Rest` says what is left of an
 //! evaluation under way, `Size` how much that is; `Starting` and `Stacked`, `Standing` where it stands; `Calling`
-//! which receivers of calls are taken at once; `Trying` what one try finds; `Typed`, `TypedStart` and `ValueKinds`
-//! of what kinds the values are that are there and that are waited for.
+//! which receivers of calls are taken at once, `Comparing` which texts are compared where they stand; `Trying` what
+//! one try finds; `Typed`, `TypedStart` and `ValueKinds` of what kinds the values are that are there and that are
+//! waited for.
 //!
-//! **Where to begin:** `trial.rt` has the steps, `calling.rt` the receivers of calls, `using.rt` and `folding.rt`
-//! what is done with values, `starting.rt` the way up to an inherited equation, `room.rt` the lists that the next
-//! trial uses again; `trying.rt` is one try with what is known.
+//! **Where to begin:** `trial.rt` has the steps, `calling.rt` the receivers of calls, `comparing.rt` the texts of
+//! which no copy is made, `using.rt` and `folding.rt` what is done with values, `starting.rt` the way up to an
+//! inherited equation, `room.rt` the lists that the next trial uses again; `trying.rt` is one try with what is known.
 //!
 //! **What it keeps true:** a trial goes exactly as far as `at_model`'s `Run` of the instance, notes just the
 //! locations that this looks at, and keeps to the kinds, so no code answers for a value of another one.
 #![tactic(auto)]
 
+mod arguments;
 mod calling;
+mod comparing;
 mod folding;
 mod inst;
 mod laws;
@@ -29,7 +32,8 @@ mod typing_laws;
 mod using;
 mod value;
 
-pub use inst::{Arguments, Inst};
+pub use arguments::Arguments;
+pub use inst::Inst;
 pub use laws::{comes, fails, gives, passes};
 pub use reads::Reads;
 pub use room::Room;

@@ -30,6 +30,20 @@ impl Reads {
         }
     }
 
+    /// Those of a list.
+    pub(crate) fn of(items: Vec<Loc>) -> Self
+        ensures { result ≡ map loc_view items.items }
+    {
+        Reads { items }
+    }
+
+    /// Takes all out; their memory stays.
+    pub(crate) fn clear(&mut self)
+        ensures { self.new ≡ [] }
+    {
+        self.items.clear();
+    }
+
     /// One more. An error where memory is wanting; then they are as they were.
     pub fn push(&mut self, loc: Loc) -> Result<(), AllocError>
         ensures gained { OnOk result (self.new ≡ self.old ++ loc_view loc ∷ []) }

@@ -17,7 +17,7 @@ ghost use Rattle.at_body.specs.Starting.{own_of, by_rule};
 ghost use Rattle.at_body.specs.Typed.{IsOver, IsTypedNow, IsTypedStep, class_shown};
 ghost use Rattle.at_body.specs.TypedStart.{Begins, HasEquation};
 
-use super::inst::{Inst, copy_behind};
+use super::inst::Inst;
 use super::reads::Reads;
 use super::room::Room;
 use super::todo::Now;
@@ -66,11 +66,10 @@ impl<'a> Trial<'a> {
             ≡ (reached rules.now.classes r.1 r.0, r.0.reads)) }
         ensures typed { IfOk result (λ r. IsTypedStep rules.now (class_shown store.now) r.1 r.0) }
     {
-        let (bound, mut arguments, todo) = room.into_lists();
+        let (bound, todo, mut reads) = room.into_lists();
         let node = inst.node();
         let attribute = inst.attribute();
-        copy_behind(&mut arguments, inst.arguments())?;
-        let mut reads = Reads::new(alloc);
+        let arguments = inst.shared_arguments()?;
         reads.push(Loc::Is(node))?;
         look_at(arguments.as_slice(), &mut reads)?;
         let class = store.class(node);
@@ -103,7 +102,7 @@ impl<'a> Trial<'a> {
         requires over { IsOver rules.now (class_shown store.now) (contents store.now) }
         requires typed { Begins rules.now (class_shown store.now) (contents store.now) self.old class attribute }
         ensures same { IfOk result (λ now. GoesOn (contents store.now) rules.now.classes self.old.reads
-            (by_rule rules.now self.old.this attribute (map value_view self.old.arguments.items) class) now self.new) }
+            (by_rule rules.now self.old.this attribute (map value_view self.old.arguments) class) now self.new) }
         ensures typed { IfOk result (λ now. IsTypedNow rules.now (class_shown store.now) now self.new) }
     {
         if rules.is_inherited(attribute) {
@@ -118,7 +117,7 @@ impl<'a> Trial<'a> {
         requires unbound { self.now.bound ≡ [] }
         requires top { self.now.child ≡ None }
         requires there { IsSome (own_equation rules.now class attribute) }
-        ensures same { own_of rules.now self.now.this attribute (map value_view self.now.arguments.items) class ≡ rest rules.now.classes result self.now }
+        ensures same { own_of rules.now self.now.this attribute (map value_view self.now.arguments) class ≡ rest rules.now.classes result self.now }
         ensures typed { (at : ClassAt ℕ) (look : Contents ℕ) → AreTyped rules.now → Begins rules.now at look self.now class attribute
             → IsTypedNow rules.now at result self.now }
     {
@@ -144,7 +143,7 @@ impl<'a> Trial<'a> {
         requires typed { (class : ℕ) × Begins rules.now (class_shown store.now) (contents store.now) self.old class attribute }
         requires above { HasEquation rules.now (class_shown store.now) (contents store.now) (attribute_name rules.now attribute) height self.old.this }
         ensures same { IfOk result (λ now. GoesOn (contents store.now) rules.now.classes self.old.reads
-            (by_inherited rules.now nat_eq (attribute_name rules.now attribute) (map value_view self.old.arguments.items) height self.old.this) now self.new) }
+            (by_inherited rules.now nat_eq (attribute_name rules.now attribute) (map value_view self.old.arguments) height self.old.this) now self.new) }
         ensures typed { IfOk result (λ now. IsTypedNow rules.now (class_shown store.now) now self.new) }
     {
         while height > 0 {

@@ -1,6 +1,5 @@
 //! What is left to do.
 
-use super::inst::Arguments;
 use super::value::{FaultKind, Value};
 use at_class::ClassId;
 use at_rules::{AttrId, Body, Operator, Order};
@@ -45,7 +44,7 @@ pub enum Fold {
 pub struct Asking {
     pub(crate) attribute: AttrId,
     pub(crate) node: Option<Node>,
-    pub(crate) done: Arguments,
+    pub(crate) done: Vec<Value>,
 }
 
 /// What is left to do with the value of an expression.

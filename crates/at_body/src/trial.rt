@@ -21,7 +21,8 @@ ghost use Rattle.at_body.specs.declared.todo.Todo.TheVariants.{And, Choose, Elem
 ghost use Rattle.at_body.specs.declared.trial.Trial.{Trial};
 ghost use Rattle.at_body.specs.Rest.{GoesOn, OnlyReads, ev, evaluated_for, rest, weight, place_of, onto, begun, resumed, used, called, reached, left, load, cost};
 
-use super::inst::{Arguments, Inst};
+use super::arguments::Arguments;
+use super::inst::Inst;
 use super::reads::Reads;
 use super::room::Room;
 use super::stack::Stack;
@@ -109,15 +110,11 @@ impl<'a> Trial<'a> {
             this: _,
             child: _,
             bound,
-            arguments,
+            arguments: _,
             todo,
-            reads: _,
+            reads,
         } = self;
-        Room {
-            bound,
-            arguments,
-            todo,
-        }
+        Room { bound, todo, reads }
     }
 
     /// Goes on up to the end or to a demand.
@@ -144,8 +141,8 @@ impl<'a> Trial<'a> {
                     None => return Ok(Step::Value(value)),
                 },
                 Now::Fail(kind) => return Ok(Step::Fault(kind)),
-                Now::Ask(attribute, node) => return Ok(asked(alloc, attribute, node)),
-                Now::Call(call) => return Ok(asked_with_arguments(call)),
+                Now::Ask(attribute, node) => return Ok(asked(attribute, node)),
+                Now::Call(call) => return asked_with_arguments(call),
             };
         }
     }
@@ -206,12 +203,12 @@ impl<'a> Trial<'a> {
             Body::Compare(o, a, b) => self.operands(store, Binary::Compare(*o), a, b),
             Body::Join(a, b) => self.operands(store, Binary::Join, a, b),
             Body::JoinInt(a, b) => self.operands(store, Binary::JoinInt, a, b),
-            Body::Same(a, b) => self.operands(store, Binary::Same, a, b),
-            Body::Differ(a, b) => self.operands(store, Binary::Differ, a, b),
+            Body::Same(a, b) => self.compared(store, Binary::Same, a, b),
+            Body::Differ(a, b) => self.compared(store, Binary::Differ, a, b),
             Body::And(a, b) => self.then(Todo::And(b), a),
             Body::Or(a, b) => self.then(Todo::Or(b), a),
             Body::Choose(test, yes, no) => self.then(Todo::Choose(yes, no), test),
-            Body::Equals(a, b) => self.operands(store, Binary::Equals, a, b),
+            Body::Equals(a, b) => self.compared(store, Binary::Equals, a, b),
             Body::InstanceOf(a, class) => self.operand(rules, store, Unary::InstanceOf(*class), a),
             Body::CastTo(class, a) => self.operand(rules, store, Unary::CastTo(*class), a),
             Body::Child(a, part) => self.operand(rules, store, Unary::Child(*part), a),
@@ -257,7 +254,7 @@ impl<'a> Trial<'a> {
     }
 
     /// Evaluates the operands, the left one first, for a use of both values.
-    fn operands(
+    pub(crate) fn operands(
         &mut self,
         store: &'a Store,
         binary: Binary,
@@ -383,13 +380,13 @@ impl<'a> Trial<'a> {
 
     /// What a name behind those of the folds stands for.
     fn argument(&self, position: usize) -> Result<Now<'a>, AllocError>
-        requires there { IsSome (slice_get self.now.arguments.items (position - length self.now.bound)) }
+        requires there { IsSome (slice_get self.now.arguments (position - length self.now.bound)) }
         ensures same { (classes : Classes)
-            → IfOk result (λ now. resumed classes self.now (named (map value_view self.now.arguments.items) (position - length self.now.bound))
+            → IfOk result (λ now. resumed classes self.now (named (map value_view self.now.arguments) (position - length self.now.bound))
             ≡ rest classes now self.now) }
         ensures less { IfOk result (λ now. weight now self.now ≡ load self.now.todo) }
         ensures told { (look : Contents ℕ)
-            → IfOk result (λ now. ComesTo look (Gives (named (map value_view self.now.arguments.items) (position - length self.now.bound))) now) }
+            → IfOk result (λ now. ComesTo look (Gives (named (map value_view self.now.arguments) (position - length self.now.bound))) now) }
     {
         let passed = position.saturating_sub(self.bound.len());
         match at(self.arguments.as_slice(), passed) {
@@ -474,7 +471,7 @@ impl<'a> Trial<'a> {
                 let call = Asking {
                     attribute,
                     node,
-                    done: Arguments::new(alloc),
+                    done: Vec::with_capacity(alloc, arguments.len())?,
                 };
                 let boxed = Box::new(alloc, call)?;
                 self.then(Todo::Argument(boxed, others), argument)
@@ -541,24 +538,23 @@ fn without_arguments<'a>(attribute: AttrId, node: Option<Node>) -> Now<'a>
 }
 
 /// The demand of an attribute of a node, without arguments.
-fn asked(alloc: Global, attribute: AttrId, node: Node) -> Step
+fn asked(attribute: AttrId, node: Node) -> Step
     ensures same { (tree : Contents ℕ) (seen : List (Location ℕ)) (classes : Classes) (t : Trial)
         → follow tree seen (rest classes (Ask attribute node) t) ≡ (reached classes result t, seen) }
     ensures less { (t : Trial) → left result t ≤ weight (Ask attribute node) t }
     ensures typed { (meant : Meant) (at : ClassAt ℕ) (t : Trial) → IsHierarchy meant.classes → IsTypedNow meant at (Ask attribute node) t
         → IsTypedStep meant at result t }
 {
-    let none = Arguments::new(alloc);
-    Step::Need(Inst::new(node, attribute, none))
+    Step::Need(Inst::new(node, attribute, Arguments::none()))
 }
 
 /// The demand of a call, or the fault of one that is asked of null.
-fn asked_with_arguments(call: Box<Asking>) -> Step
+fn asked_with_arguments(call: Box<Asking>) -> Result<Step, AllocError>
     ensures same { (tree : Contents ℕ) (seen : List (Location ℕ)) (classes : Classes) (t : Trial)
-        → follow tree seen (rest classes (Call call) t) ≡ (reached classes result t, seen) }
-    ensures less { (t : Trial) → left result t ≤ weight (Call call) t }
+        → IfOk result (λ step. follow tree seen (rest classes (Call call) t) ≡ (reached classes step t, seen)) }
+    ensures less { (t : Trial) → IfOk result (λ step. left step t ≤ weight (Call call) t) }
     ensures typed { (meant : Meant) (at : ClassAt ℕ) (t : Trial) → IsHierarchy meant.classes → IsTypedNow meant at (Call call) t
-        → IsTypedStep meant at result t }
+        → IfOk result (λ step. IsTypedStep meant at step t) }
 {
     let Asking {
         attribute,
@@ -566,13 +562,13 @@ fn asked_with_arguments(call: Box<Asking>) -> Step
         done,
     } = Box::into_inner(call);
     match node {
-        Some(node) => Step::Need(Inst::new(node, attribute, done)),
-        None => Step::Fault(FaultKind::Null),
+        Some(node) => Ok(Step::Need(Inst::new(node, attribute, Arguments::of(done)?))),
+        None => Ok(Step::Fault(FaultKind::Null)),
     }
 }
 
 /// The argument at a position.
-fn at(arguments: &[Value], position: usize) -> Option<&Value>
+pub(crate) fn at(arguments: &[Value], position: usize) -> Option<&Value>
     ensures { option_copied result ≡ slice_get arguments.now position }
 {
     arguments.iter().nth(position)

@@ -51,7 +51,7 @@ pub fn instance(world: &World, call: &str) -> Result<Inst, Refusal>
     if !are_of(world, world.rules.params(attribute), values.as_slice()) {
         return Err(Refusal::Arguments);
     }
-    Ok(Inst::new(node, attribute, values))
+    Ok(Inst::new(node, attribute, Arguments::of(values)?))
 }
 
 /// The value that the text names, where it is of the kind of the instance's attribute.
@@ -123,11 +123,11 @@ fn node(world: &World, place: &Place<'_>) -> Result<Node, Refusal>
 }
 
 /// The values of the arguments.
-fn values(world: &World, arguments: &[Argument<'_>]) -> Result<Arguments, Refusal>
+fn values(world: &World, arguments: &[Argument<'_>]) -> Result<Vec<Value>, Refusal>
     requires { IsSound world.now }
     ensures { IfOk result (λ vs. AllByRecursion (RefersThere world.now) (map value_view vs.items)) }
 {
-    let mut values = Arguments::new(world.alloc);
+    let mut values = Vec::new(world.alloc);
     for argument in arguments {
         values.push(value_of(world, argument)?)?;
     }

@@ -15,8 +15,8 @@ invariant-loop-height l = record {
   arguments : l.self.arguments ≡ l.initial.self.arguments;
   there : IsSome (class_shown l.store l.self.this);
   above : HasEquation l.rules (class_shown l.store) (contents l.store) (attribute_name l.rules l.attribute) l.height l.self.this;
-  same : follow (contents l.store) l.initial.self.reads (by_inherited l.rules nat_eq (attribute_name l.rules l.attribute) (map value_view l.initial.self.arguments.items) l.initial.height l.initial.self.this)
-      ≡ follow (contents l.store) l.self.reads (by_inherited l.rules nat_eq (attribute_name l.rules l.attribute) (map value_view l.self.arguments.items) l.height l.self.this);
+  same : follow (contents l.store) l.initial.self.reads (by_inherited l.rules nat_eq (attribute_name l.rules l.attribute) (map value_view l.initial.self.arguments) l.initial.height l.initial.self.this)
+      ≡ follow (contents l.store) l.self.reads (by_inherited l.rules nat_eq (attribute_name l.rules l.attribute) (map value_view l.self.arguments) l.height l.self.this);
 }
 
 abbrev pub decreases-loop-height : goal.decreases-loop-height

@@ -42,10 +42,10 @@ pub returns-in-JoinInt-clause-same : goal.returns-in-JoinInt-clause-same
 returns-in-JoinInt-clause-same c = brought c.args.rules.now.classes _ _ c.args.self.now _ (body_view c.args.body.now) (body_view c.deref-in-JoinInt.result.now) (Right binary.JoinInt c.deref-in-JoinInt-2.result) (c.operands-in-JoinInt.ensures.same c.args.rules.now.classes) refl (rw (c.in-JoinInt.is, ← c.deref-in-JoinInt.ensures, ← c.deref-in-JoinInt-2.ensures) refl)
 
 pub returns-in-Same-clause-same : goal.returns-in-Same-clause-same
-returns-in-Same-clause-same c = brought c.args.rules.now.classes _ _ c.args.self.now _ (body_view c.args.body.now) (body_view c.deref-in-Same.result.now) (Right binary.Same c.deref-in-Same-2.result) (c.operands-in-Same.ensures.same c.args.rules.now.classes) refl (rw (c.in-Same.is, ← c.deref-in-Same.ensures, ← c.deref-in-Same-2.ensures) refl)
+returns-in-Same-clause-same c = brought c.args.rules.now.classes _ _ c.args.self.now _ (body_view c.args.body.now) (body_view c.deref-in-Same.result.now) (Right binary.Same c.deref-in-Same-2.result) (c.compared.ensures.same c.args.rules.now.classes) refl (rw (c.in-Same.is, ← c.deref-in-Same.ensures, ← c.deref-in-Same-2.ensures) refl)
 
 pub returns-in-Differ-clause-same : goal.returns-in-Differ-clause-same
-returns-in-Differ-clause-same c = brought c.args.rules.now.classes _ _ c.args.self.now _ (body_view c.args.body.now) (body_view c.deref-in-Differ.result.now) (Right binary.Differ c.deref-in-Differ-2.result) (c.operands-in-Differ.ensures.same c.args.rules.now.classes) refl (rw (c.in-Differ.is, ← c.deref-in-Differ.ensures, ← c.deref-in-Differ-2.ensures) refl)
+returns-in-Differ-clause-same c = brought c.args.rules.now.classes _ _ c.args.self.now _ (body_view c.args.body.now) (body_view c.deref-in-Differ.result.now) (Right binary.Differ c.deref-in-Differ-2.result) (c.compared-in-Differ.ensures.same c.args.rules.now.classes) refl (rw (c.in-Differ.is, ← c.deref-in-Differ.ensures, ← c.deref-in-Differ-2.ensures) refl)
 
 pub returns-in-And-clause-same : goal.returns-in-And-clause-same
 returns-in-And-clause-same c = entered c.args.rules.now.classes _ _ c.args.self.now _ (body_view c.args.body.now) c.deref-in-And-2.result (And c.deref-in-And.result) c.then.ensures refl (rw (c.in-And.is, ← c.deref-in-And.ensures, ← c.deref-in-And-2.ensures) refl)
@@ -57,7 +57,7 @@ pub returns-in-Choose-clause-same : goal.returns-in-Choose-clause-same
 returns-in-Choose-clause-same c = entered c.args.rules.now.classes _ _ c.args.self.now _ (body_view c.args.body.now) c.deref-in-Choose-3.result (Choose c.deref-in-Choose.result c.deref-in-Choose-2.result) c.then-in-Choose.ensures refl (rw (c.in-Choose.is, ← c.deref-in-Choose.ensures, ← c.deref-in-Choose-2.ensures, ← c.deref-in-Choose-3.ensures) refl)
 
 pub returns-in-Equals-clause-same : goal.returns-in-Equals-clause-same
-returns-in-Equals-clause-same c = brought c.args.rules.now.classes _ _ c.args.self.now _ (body_view c.args.body.now) (body_view c.deref-in-Equals.result.now) (Right binary.Equals c.deref-in-Equals-2.result) (c.operands-in-Equals.ensures.same c.args.rules.now.classes) refl (rw (c.in-Equals.is, ← c.deref-in-Equals.ensures, ← c.deref-in-Equals-2.ensures) refl)
+returns-in-Equals-clause-same c = brought c.args.rules.now.classes _ _ c.args.self.now _ (body_view c.args.body.now) (body_view c.deref-in-Equals.result.now) (Right binary.Equals c.deref-in-Equals-2.result) (c.compared-in-Equals.ensures.same c.args.rules.now.classes) refl (rw (c.in-Equals.is, ← c.deref-in-Equals.ensures, ← c.deref-in-Equals-2.ensures) refl)
 
 pub returns-in-InstanceOf-clause-same : goal.returns-in-InstanceOf-clause-same
 returns-in-InstanceOf-clause-same c = brought c.args.rules.now.classes _ _ c.args.self.now _ (body_view c.args.body.now) (body_view c.deref-in-InstanceOf.result.now) (Use (unary.InstanceOf c.in-InstanceOf.class)) c.operand-in-InstanceOf.ensures.same refl (rw (c.in-InstanceOf.is, ← c.deref-in-InstanceOf.ensures) refl)
@@ -119,13 +119,13 @@ pub returns-in-JoinInt-clause-less : goal.returns-in-JoinInt-clause-less
 returns-in-JoinInt-clause-less c = bounded _ _ (load c.args.self.now.todo) (size (body_view c.deref-in-JoinInt.result.now) + size (body_view c.deref-in-JoinInt-2.result.now) + 3) (size (body_view c.args.body.now)) c.operands-in-JoinInt.ensures.less (rw (c.in-JoinInt.is, ← c.deref-in-JoinInt.ensures, ← c.deref-in-JoinInt-2.ensures) refl)
 
 pub returns-in-Same-clause-less : goal.returns-in-Same-clause-less
-returns-in-Same-clause-less c = bounded _ _ (load c.args.self.now.todo) (size (body_view c.deref-in-Same.result.now) + size (body_view c.deref-in-Same-2.result.now) + 3) (size (body_view c.args.body.now)) c.operands-in-Same.ensures.less (rw (c.in-Same.is, ← c.deref-in-Same.ensures, ← c.deref-in-Same-2.ensures) refl)
+returns-in-Same-clause-less c = bounded _ _ (load c.args.self.now.todo) (size (body_view c.deref-in-Same.result.now) + size (body_view c.deref-in-Same-2.result.now) + 3) (size (body_view c.args.body.now)) c.compared.ensures.less (rw (c.in-Same.is, ← c.deref-in-Same.ensures, ← c.deref-in-Same-2.ensures) refl)
 
 pub returns-in-Differ-clause-less : goal.returns-in-Differ-clause-less
-returns-in-Differ-clause-less c = bounded _ _ (load c.args.self.now.todo) (size (body_view c.deref-in-Differ.result.now) + size (body_view c.deref-in-Differ-2.result.now) + 3) (size (body_view c.args.body.now)) c.operands-in-Differ.ensures.less (rw (c.in-Differ.is, ← c.deref-in-Differ.ensures, ← c.deref-in-Differ-2.ensures) refl)
+returns-in-Differ-clause-less c = bounded _ _ (load c.args.self.now.todo) (size (body_view c.deref-in-Differ.result.now) + size (body_view c.deref-in-Differ-2.result.now) + 3) (size (body_view c.args.body.now)) c.compared-in-Differ.ensures.less (rw (c.in-Differ.is, ← c.deref-in-Differ.ensures, ← c.deref-in-Differ-2.ensures) refl)
 
 pub returns-in-Equals-clause-less : goal.returns-in-Equals-clause-less
-returns-in-Equals-clause-less c = bounded _ _ (load c.args.self.now.todo) (size (body_view c.deref-in-Equals.result.now) + size (body_view c.deref-in-Equals-2.result.now) + 3) (size (body_view c.args.body.now)) c.operands-in-Equals.ensures.less (rw (c.in-Equals.is, ← c.deref-in-Equals.ensures, ← c.deref-in-Equals-2.ensures) refl)
+returns-in-Equals-clause-less c = bounded _ _ (load c.args.self.now.todo) (size (body_view c.deref-in-Equals.result.now) + size (body_view c.deref-in-Equals-2.result.now) + 3) (size (body_view c.args.body.now)) c.compared-in-Equals.ensures.less (rw (c.in-Equals.is, ← c.deref-in-Equals.ensures, ← c.deref-in-Equals-2.ensures) refl)
 
 pub returns-in-InstanceOf-clause-less : goal.returns-in-InstanceOf-clause-less
 returns-in-InstanceOf-clause-less c = bounded _ _ (load c.args.self.now.todo) (size (body_view c.deref-in-InstanceOf.result.now) + 2) (size (body_view c.args.body.now)) c.operand-in-InstanceOf.ensures.less (rw (c.in-InstanceOf.is, ← c.deref-in-InstanceOf.ensures) refl)
@@ -178,17 +178,17 @@ operands-requires-in-JoinInt-clause-typed c = (c.args.rules.now, class_shown c.a
 pub returns-in-JoinInt-clause-typed : goal.returns-in-JoinInt-clause-typed
 returns-in-JoinInt-clause-typed c = c.operands-in-JoinInt.ensures.typed c.args.rules.now (class_shown c.args.store.now) c.requires.over (part_enters c.args.rules.now (class_shown c.args.store.now) c.args.self.now c.args.body.now c.deref-in-JoinInt.result.now (Right binary.JoinInt c.deref-in-JoinInt-2.result) (JoinInt (body_view c.deref-in-JoinInt.result.now) (body_view c.deref-in-JoinInt-2.result.now)) (rw (c.in-JoinInt.is, ← c.deref-in-JoinInt.ensures, ← c.deref-in-JoinInt-2.ensures) refl) (λ s k x h. joins_int c.args.rules.now (class_shown c.args.store.now) s (body_view c.deref-in-JoinInt.result.now) c.deref-in-JoinInt-2.result k c.args.self.now.todo x h) c.requires.typed)
 
-pub operands-requires-in-Same-clause-typed : goal.operands-requires-in-Same-clause-typed
-operands-requires-in-Same-clause-typed c = (c.args.rules.now, class_shown c.args.store.now, c.requires.over, part_enters c.args.rules.now (class_shown c.args.store.now) c.args.self.now c.args.body.now c.deref-in-Same.result.now (Right binary.Same c.deref-in-Same-2.result) (Same (body_view c.deref-in-Same.result.now) (body_view c.deref-in-Same-2.result.now)) (rw (c.in-Same.is, ← c.deref-in-Same.ensures, ← c.deref-in-Same-2.ensures) refl) (λ s k x h. same c.args.rules.now (class_shown c.args.store.now) s (body_view c.deref-in-Same.result.now) c.deref-in-Same-2.result k c.args.self.now.todo x h) c.requires.typed)
+pub compared-requires-clause-typed : goal.compared-requires-clause-typed
+compared-requires-clause-typed c = (c.args.rules.now, class_shown c.args.store.now, c.requires.over, part_enters c.args.rules.now (class_shown c.args.store.now) c.args.self.now c.args.body.now c.deref-in-Same.result.now (Right binary.Same c.deref-in-Same-2.result) (Same (body_view c.deref-in-Same.result.now) (body_view c.deref-in-Same-2.result.now)) (rw (c.in-Same.is, ← c.deref-in-Same.ensures, ← c.deref-in-Same-2.ensures) refl) (λ s k x h. same c.args.rules.now (class_shown c.args.store.now) s (body_view c.deref-in-Same.result.now) c.deref-in-Same-2.result k c.args.self.now.todo x h) c.requires.typed)
 
 pub returns-in-Same-clause-typed : goal.returns-in-Same-clause-typed
-returns-in-Same-clause-typed c = c.operands-in-Same.ensures.typed c.args.rules.now (class_shown c.args.store.now) c.requires.over (part_enters c.args.rules.now (class_shown c.args.store.now) c.args.self.now c.args.body.now c.deref-in-Same.result.now (Right binary.Same c.deref-in-Same-2.result) (Same (body_view c.deref-in-Same.result.now) (body_view c.deref-in-Same-2.result.now)) (rw (c.in-Same.is, ← c.deref-in-Same.ensures, ← c.deref-in-Same-2.ensures) refl) (λ s k x h. same c.args.rules.now (class_shown c.args.store.now) s (body_view c.deref-in-Same.result.now) c.deref-in-Same-2.result k c.args.self.now.todo x h) c.requires.typed)
+returns-in-Same-clause-typed c = c.compared.ensures.typed c.args.rules.now (class_shown c.args.store.now) c.requires.over (part_enters c.args.rules.now (class_shown c.args.store.now) c.args.self.now c.args.body.now c.deref-in-Same.result.now (Right binary.Same c.deref-in-Same-2.result) (Same (body_view c.deref-in-Same.result.now) (body_view c.deref-in-Same-2.result.now)) (rw (c.in-Same.is, ← c.deref-in-Same.ensures, ← c.deref-in-Same-2.ensures) refl) (λ s k x h. same c.args.rules.now (class_shown c.args.store.now) s (body_view c.deref-in-Same.result.now) c.deref-in-Same-2.result k c.args.self.now.todo x h) c.requires.typed)
 
-pub operands-requires-in-Differ-clause-typed : goal.operands-requires-in-Differ-clause-typed
-operands-requires-in-Differ-clause-typed c = (c.args.rules.now, class_shown c.args.store.now, c.requires.over, part_enters c.args.rules.now (class_shown c.args.store.now) c.args.self.now c.args.body.now c.deref-in-Differ.result.now (Right binary.Differ c.deref-in-Differ-2.result) (Differ (body_view c.deref-in-Differ.result.now) (body_view c.deref-in-Differ-2.result.now)) (rw (c.in-Differ.is, ← c.deref-in-Differ.ensures, ← c.deref-in-Differ-2.ensures) refl) (λ s k x h. differs c.args.rules.now (class_shown c.args.store.now) s (body_view c.deref-in-Differ.result.now) c.deref-in-Differ-2.result k c.args.self.now.todo x h) c.requires.typed)
+pub compared-requires-in-Differ-clause-typed : goal.compared-requires-in-Differ-clause-typed
+compared-requires-in-Differ-clause-typed c = (c.args.rules.now, class_shown c.args.store.now, c.requires.over, part_enters c.args.rules.now (class_shown c.args.store.now) c.args.self.now c.args.body.now c.deref-in-Differ.result.now (Right binary.Differ c.deref-in-Differ-2.result) (Differ (body_view c.deref-in-Differ.result.now) (body_view c.deref-in-Differ-2.result.now)) (rw (c.in-Differ.is, ← c.deref-in-Differ.ensures, ← c.deref-in-Differ-2.ensures) refl) (λ s k x h. differs c.args.rules.now (class_shown c.args.store.now) s (body_view c.deref-in-Differ.result.now) c.deref-in-Differ-2.result k c.args.self.now.todo x h) c.requires.typed)
 
 pub returns-in-Differ-clause-typed : goal.returns-in-Differ-clause-typed
-returns-in-Differ-clause-typed c = c.operands-in-Differ.ensures.typed c.args.rules.now (class_shown c.args.store.now) c.requires.over (part_enters c.args.rules.now (class_shown c.args.store.now) c.args.self.now c.args.body.now c.deref-in-Differ.result.now (Right binary.Differ c.deref-in-Differ-2.result) (Differ (body_view c.deref-in-Differ.result.now) (body_view c.deref-in-Differ-2.result.now)) (rw (c.in-Differ.is, ← c.deref-in-Differ.ensures, ← c.deref-in-Differ-2.ensures) refl) (λ s k x h. differs c.args.rules.now (class_shown c.args.store.now) s (body_view c.deref-in-Differ.result.now) c.deref-in-Differ-2.result k c.args.self.now.todo x h) c.requires.typed)
+returns-in-Differ-clause-typed c = c.compared-in-Differ.ensures.typed c.args.rules.now (class_shown c.args.store.now) c.requires.over (part_enters c.args.rules.now (class_shown c.args.store.now) c.args.self.now c.args.body.now c.deref-in-Differ.result.now (Right binary.Differ c.deref-in-Differ-2.result) (Differ (body_view c.deref-in-Differ.result.now) (body_view c.deref-in-Differ-2.result.now)) (rw (c.in-Differ.is, ← c.deref-in-Differ.ensures, ← c.deref-in-Differ-2.ensures) refl) (λ s k x h. differs c.args.rules.now (class_shown c.args.store.now) s (body_view c.deref-in-Differ.result.now) c.deref-in-Differ-2.result k c.args.self.now.todo x h) c.requires.typed)
 
 pub returns-in-And-clause-typed : goal.returns-in-And-clause-typed
 returns-in-And-clause-typed c = put_typed c.args.rules.now (class_shown c.args.store.now) _ c.args.self.now _ c.deref-in-And-2.result (And c.deref-in-And.result) c.then.ensures (part_enters c.args.rules.now (class_shown c.args.store.now) c.args.self.now c.args.body.now c.deref-in-And-2.result.now (And c.deref-in-And.result) (model.And (body_view c.deref-in-And-2.result.now) (body_view c.deref-in-And.result.now)) (rw (c.in-And.is, ← c.deref-in-And.ensures, ← c.deref-in-And-2.ensures) refl) (λ s k x h. conjoins c.args.rules.now (class_shown c.args.store.now) s (body_view c.deref-in-And-2.result.now) c.deref-in-And.result k c.args.self.now.todo x h) c.requires.typed)
@@ -199,11 +199,11 @@ returns-in-Or-clause-typed c = put_typed c.args.rules.now (class_shown c.args.st
 pub returns-in-Choose-clause-typed : goal.returns-in-Choose-clause-typed
 returns-in-Choose-clause-typed c = put_typed c.args.rules.now (class_shown c.args.store.now) _ c.args.self.now _ c.deref-in-Choose-3.result (Choose c.deref-in-Choose.result c.deref-in-Choose-2.result) c.then-in-Choose.ensures (part_enters c.args.rules.now (class_shown c.args.store.now) c.args.self.now c.args.body.now c.deref-in-Choose-3.result.now (Choose c.deref-in-Choose.result c.deref-in-Choose-2.result) (model.Choose (body_view c.deref-in-Choose-3.result.now) (body_view c.deref-in-Choose.result.now) (body_view c.deref-in-Choose-2.result.now)) (rw (c.in-Choose.is, ← c.deref-in-Choose.ensures, ← c.deref-in-Choose-2.ensures, ← c.deref-in-Choose-3.ensures) refl) (λ s k x h. chooses c.args.rules.now (class_shown c.args.store.now) s (body_view c.deref-in-Choose-3.result.now) c.deref-in-Choose.result c.deref-in-Choose-2.result k c.args.self.now.todo x h) c.requires.typed)
 
-pub operands-requires-in-Equals-clause-typed : goal.operands-requires-in-Equals-clause-typed
-operands-requires-in-Equals-clause-typed c = (c.args.rules.now, class_shown c.args.store.now, c.requires.over, part_enters c.args.rules.now (class_shown c.args.store.now) c.args.self.now c.args.body.now c.deref-in-Equals.result.now (Right binary.Equals c.deref-in-Equals-2.result) (Equals (body_view c.deref-in-Equals.result.now) (body_view c.deref-in-Equals-2.result.now)) (rw (c.in-Equals.is, ← c.deref-in-Equals.ensures, ← c.deref-in-Equals-2.ensures) refl) (λ s k x h. equals c.args.rules.now (class_shown c.args.store.now) s (body_view c.deref-in-Equals.result.now) c.deref-in-Equals-2.result k c.args.self.now.todo x h) c.requires.typed)
+pub compared-requires-in-Equals-clause-typed : goal.compared-requires-in-Equals-clause-typed
+compared-requires-in-Equals-clause-typed c = (c.args.rules.now, class_shown c.args.store.now, c.requires.over, part_enters c.args.rules.now (class_shown c.args.store.now) c.args.self.now c.args.body.now c.deref-in-Equals.result.now (Right binary.Equals c.deref-in-Equals-2.result) (Equals (body_view c.deref-in-Equals.result.now) (body_view c.deref-in-Equals-2.result.now)) (rw (c.in-Equals.is, ← c.deref-in-Equals.ensures, ← c.deref-in-Equals-2.ensures) refl) (λ s k x h. equals c.args.rules.now (class_shown c.args.store.now) s (body_view c.deref-in-Equals.result.now) c.deref-in-Equals-2.result k c.args.self.now.todo x h) c.requires.typed)
 
 pub returns-in-Equals-clause-typed : goal.returns-in-Equals-clause-typed
-returns-in-Equals-clause-typed c = c.operands-in-Equals.ensures.typed c.args.rules.now (class_shown c.args.store.now) c.requires.over (part_enters c.args.rules.now (class_shown c.args.store.now) c.args.self.now c.args.body.now c.deref-in-Equals.result.now (Right binary.Equals c.deref-in-Equals-2.result) (Equals (body_view c.deref-in-Equals.result.now) (body_view c.deref-in-Equals-2.result.now)) (rw (c.in-Equals.is, ← c.deref-in-Equals.ensures, ← c.deref-in-Equals-2.ensures) refl) (λ s k x h. equals c.args.rules.now (class_shown c.args.store.now) s (body_view c.deref-in-Equals.result.now) c.deref-in-Equals-2.result k c.args.self.now.todo x h) c.requires.typed)
+returns-in-Equals-clause-typed c = c.compared-in-Equals.ensures.typed c.args.rules.now (class_shown c.args.store.now) c.requires.over (part_enters c.args.rules.now (class_shown c.args.store.now) c.args.self.now c.args.body.now c.deref-in-Equals.result.now (Right binary.Equals c.deref-in-Equals-2.result) (Equals (body_view c.deref-in-Equals.result.now) (body_view c.deref-in-Equals-2.result.now)) (rw (c.in-Equals.is, ← c.deref-in-Equals.ensures, ← c.deref-in-Equals-2.ensures) refl) (λ s k x h. equals c.args.rules.now (class_shown c.args.store.now) s (body_view c.deref-in-Equals.result.now) c.deref-in-Equals-2.result k c.args.self.now.todo x h) c.requires.typed)
 
 pub operand-requires-in-InstanceOf-clause-typed : goal.operand-requires-in-InstanceOf-clause-typed
 operand-requires-in-InstanceOf-clause-typed c = part_enters c.args.rules.now (class_shown c.args.store.now) c.args.self.now c.args.body.now c.deref-in-InstanceOf.result.now (Use (unary.InstanceOf c.in-InstanceOf.class)) (InstanceOf (body_view c.deref-in-InstanceOf.result.now) c.in-InstanceOf.class) (rw (c.in-InstanceOf.is, ← c.deref-in-InstanceOf.ensures) refl) (λ s k x h. tests c.args.rules.now (class_shown c.args.store.now) s (body_view c.deref-in-InstanceOf.result.now) c.in-InstanceOf.class k c.args.self.now.todo x h) c.requires.typed

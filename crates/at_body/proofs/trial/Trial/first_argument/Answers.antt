@@ -14,11 +14,11 @@ pub returns-in-None-clause-same : goal.returns-in-None-clause-same
 returns-in-None-clause-same c = λ classes. none_left classes c.args.self.now c.args.attribute (Ref c.args.node) [] c.args.arguments.now c.in-None.ensures.cases ∙ c.without_arguments.ensures.same classes c.args.self.now
 
 pub returns-in_ok-boxed-in-Some-clause-same : goal.returns-in_ok-boxed-in-Some-clause-same
-returns-in_ok-boxed-in-Some-clause-same c = λ classes. enters classes _ c.args.self.now _ _ c.in-Some.argument (Argument c.in_ok-boxed-in-Some.boxed c.in-Some.others) c.then.ensures (rw (c.in-Some.ensures.cases.0, c.in_ok-boxed-in-Some.ensures.ok) (first_of_all classes c.args.self.now c.args.attribute (Ref c.args.node) (map value_view c.new.result.items) (body_view c.in-Some.argument.now) (bodies_view c.in-Some.others.now) (ap (map value_view) c.new.ensures.items)))
+returns-in_ok-boxed-in-Some-clause-same c = λ classes. enters classes _ c.args.self.now _ _ c.in-Some.argument (Argument c.in_ok-boxed-in-Some.boxed c.in-Some.others) c.then.ensures (rw (c.in-Some.ensures.cases.0, c.in_ok-boxed-in-Some.ensures.ok) (first_of_all classes c.args.self.now c.args.attribute (Ref c.args.node) (map value_view c.in_ok-with_capacity-in-Some.field-0.items) (body_view c.in-Some.argument.now) (bodies_view c.in-Some.others.now) (ap (map value_view) c.in_ok-with_capacity-in-Some.ensures.items)))
 
 pub returns-in-None-clause-typed : goal.returns-in-None-clause-typed
 returns-in-None-clause-typed c = λ r a h. c.without_arguments.ensures.typed r a c.args.self.now (subst (λ es. Calls r a c.args.self.now c.args.attribute c.args.node [] (bodies_view es)) (none_more _ c.in-None.ensures.cases) h)
 
 pub returns-in_ok-boxed-in-Some-clause-typed : goal.returns-in_ok-boxed-in-Some-clause-typed
 returns-in_ok-boxed-in-Some-clause-typed c = λ r a h. put_typed r a _ c.args.self.now _ c.in-Some.argument (Argument c.in_ok-boxed-in-Some.boxed c.in-Some.others) c.then.ensures
-    (next_enters r a c.args.self.now c.in_ok-boxed-in-Some.boxed c.in-Some.argument.now c.in-Some.others (rw (c.in_ok-boxed-in-Some.ensures.ok, c.new.ensures.items) (subst (λ es. Calls r a c.args.self.now c.args.attribute c.args.node [] (bodies_view es)) c.in-Some.ensures.cases.0 h)))
+    (next_enters r a c.args.self.now c.in_ok-boxed-in-Some.boxed c.in-Some.argument.now c.in-Some.others (rw (c.in_ok-boxed-in-Some.ensures.ok, c.in_ok-with_capacity-in-Some.ensures.items) (subst (λ es. Calls r a c.args.self.now c.args.attribute c.args.node [] (bodies_view es)) c.in-Some.ensures.cases.0 h)))
