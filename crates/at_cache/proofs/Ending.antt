@@ -1,6 +1,7 @@
 -- Where a flush has ended: just what stands for none of the locations is left, and is found as before.
-use Rattle.std.proofs.Common.{◌≡◌, ◌⊎◌, inl, inr, ℕ, zero, suc, ◌<◌, List, [], ◌∷◌, ◌||◌, Bool, true, false, Option, None, Some, option_map, Contains, refl, sym, ap, ◌∙◌, subst, arith}
+use Rattle.std.proofs.Common.{◌≡◌, ◌⊎◌, inl, inr, ℕ, zero, suc, ◌<◌, List, [], ◌∷◌, ◌&&◌, ◌||◌, Bool, true, false, Option, None, Some, option_map, Contains, refl, sym, ap, ◌∙◌, subst, arith, eqb-true}
 use Rattle.std.specs.List.{list_any}
+use Rattle.std.proofs.lemmas.Bool.{eq-eqb}
 use Rattle.std.proofs.lemmas.Option.{none-some, same_Some}
 use Rattle.slab.proofs.SlabLemmas.{Contains-cons, Contains-cons_cases}
 use Rattle.at_model.specs.Run.{Location}
@@ -9,11 +10,9 @@ use Rattle.at_cache.specs.Info.{Info}
 use Rattle.at_cache.specs.Info.{Memory}
 use Rattle.at_cache.specs.Flushing.{Reached, Work, IsChain, IsDoomed, IsSame}
 use Rattle.at_cache.specs.Flushing as flushing
-use Rattle.at_cache.specs.Recorded.{covers, edge_to}
+use Rattle.at_cache.specs.Recorded.{covers, edge_to, is_listed, same_edge}
 use Rattle.at_cache.specs.Flushing.{Begins}
-use Rattle.at_cache.specs.Kept.{same_location}
 use Rattle.at_cache.proofs.Index.{Index, LeavesSlots, LosesSlots, Standing, kept_at, standing}
-use Rattle.at_cache.proofs.Locations.{same_location-is, same_location-itself}
 use Rattle.at_cache.proofs.Dooming.{head_of}
 use Rattle.at_cache.proofs.Taking.{none_in}
 
@@ -47,33 +46,55 @@ module _ {X : Type 0} where
   any_same p q [] h = refl
   any_same p q (x ∷ xs) h = ap (λ b. b || list_any p xs) (h x (head_of x xs)) ∙ ap (λ b. q x || b) (any_same p q xs (λ y c. h y (Contains-cons x y xs c)))
 
--- what an entry covers
-pub opened : (m : Memory) (far s : ℕ) (e : Info) → m s ≡ Some e → (l : Location ℕ) → covers m (suc far) s l ≡ (list_any (same_location l) e.reads || list_any (λ p. covers m far p l) e.links)
-opened m far s e there l = ap (λ (o : Option Info). elim o as (λ _. Bool) [ None ↦ false | Some e ↦ list_any (same_location l) e.reads || list_any (λ p. covers m far p l) e.links ]) there
+pub both : (a b : Bool) → (a && b) ≡ true → (a ≡ true) × (b ≡ true)
+both true b h = (refl, h)
+both false b h = absurd (cc)
+
+pub and : (a b : Bool) → a ≡ true → b ≡ true → (a && b) ≡ true
+and a b h k = ap (λ c. c && b) h ∙ k
+
+pub has : (xs : List Edge) (x : Edge) → Contains xs x → list_any (same_edge x) xs ≡ true
+has xs x c = any_of (same_edge x) xs x c (and _ _ (eq-eqb x.slot x.slot refl) (eq-eqb x.stamp x.stamp refl))
+
+pub is_in : (xs : List Edge) (x : Edge) → list_any (same_edge x) xs ≡ true → Contains xs x
+is_in xs x h =
+    let (y, c, is) = some_of (same_edge x) xs h in
+    let (slots, stamps) = both _ _ is in
+    let same : x ≡ y = λ i. record { slot = eqb-true x.slot y.slot slots i; stamp = eqb-true x.stamp y.stamp stamps i } in
+    subst (Contains xs) (sym same) c
+
+-- an edge of the location to the entry
+pub has_edge : (edges : List Edge) (x : Edge) (e : Info) → Contains edges x → e.stamp ≡ x.stamp → is_listed (edge_to x.slot e) edges ≡ true
+has_edge edges x e c same = any_of (same_edge (edge_to x.slot e)) edges x c (and _ _ (eq-eqb x.slot x.slot refl) (eq-eqb e.stamp x.stamp same))
+
+module _ (lists : Location ℕ → List Edge) where
+  -- what an entry covers
+  pub opened : (m : Memory) (far s : ℕ) (e : Info) → m s ≡ Some e → (l : Location ℕ) → covers lists m (suc far) s l ≡ (is_listed (edge_to s e) (lists l) || list_any (λ p. covers lists m far p l) e.links)
+  opened m far s e there l = ap (λ (o : Option Info). elim o as (λ _. Bool) [ None ↦ false | Some e ↦ is_listed (edge_to s e) (lists l) || list_any (λ p. covers lists m far p l) e.links ]) there
 
 module _ {lists : Location ℕ → List Edge} {puts : ℕ} {old : Memory} (indexed : Index lists puts old) where
   -- links lead to earlier entries, so that one doesn't have to look further than those
-  pub far_enough : (far s : ℕ) (e : Info) → old s ≡ Some e → e.stamp < far → (l : Location ℕ) → covers old (suc far) s l ≡ covers old far s l
+  pub far_enough : (far s : ℕ) (e : Info) → old s ≡ Some e → e.stamp < far → (l : Location ℕ) → covers lists old (suc far) s l ≡ covers lists old far s l
   far_enough zero s e there h l = absurd (omega arith)
   far_enough (suc far) s e there h l =
-      opened old (suc far) s e there l
-      ∙ ap (λ b. list_any (same_location l) e.reads || b) (any_same (λ p. covers old (suc far) p l) (λ p. covers old far p l) e.links (λ p c. let (f, found, before, edge) = indexed.used s e there p c in far_enough far p f found (omega arith) l))
-      ∙ sym (opened old far s e there l)
+      opened lists old (suc far) s e there l
+      ∙ ap (λ b. is_listed (edge_to s e) (lists l) || b) (any_same (λ p. covers lists old (suc far) p l) (λ p. covers lists old far p l) e.links (λ p c. let (f, found, before, edge) = indexed.used s e there p c in far_enough far p f found (omega arith) l))
+      ∙ sym (opened lists old far s e there l)
 
-  covers_more : (s : ℕ) (e : Info) → old s ≡ Some e → (l : Location ℕ) → covers old (suc puts) s l ≡ true → covers old puts s l ≡ true
+  covers_more : (s : ℕ) (e : Info) → old s ≡ Some e → (l : Location ℕ) → covers lists old (suc puts) s l ≡ true → covers lists old puts s l ≡ true
   covers_more s e there l h = sym (far_enough puts s e there (indexed.known s e there) l) ∙ h
 
   module _ (says : Location ℕ → Bool → Type 0) {start : List Edge} (begins : Begins says lists start) where
     -- what is reached stands for a location with the answer `true`
-    touches : (s : ℕ) → Reached old start s → (l : Location ℕ) × (covers old puts s l ≡ true) × says l true
+    touches : (s : ℕ) → Reached old start s → (l : Location ℕ) × (covers lists old puts s l ≡ true) × says l true
     touches _ (flushing.by_start x c e there same) =
         let (l, said, d) = begins.from x c in
-        let direct : list_any (same_location l) e.reads ≡ true = any_of (same_location l) e.reads l (indexed.reads l x d e there same) (same_location-itself l) in
-        (l, covers_more x.slot e there l (opened old puts x.slot e there l ∙ on_left _ (list_any (λ p. covers old puts p l) e.links) direct), said)
+        let direct = has_edge (lists l) x e d same in
+        (l, covers_more x.slot e there l (opened lists old puts x.slot e there l ∙ on_left _ (list_any (λ p. covers lists old puts p l) e.links) direct), said)
     touches _ (flushing.by_user p r f found x c e there same) =
         let (l, is, said) = touches p r in
-        let linked : list_any (λ p. covers old puts p l) e.links ≡ true = any_of (λ p. covers old puts p l) e.links p (indexed.uses p f found x c e there same) is in
-        (l, covers_more x.slot e there l (opened old puts x.slot e there l ∙ on_right (list_any (same_location l) e.reads) _ linked), said)
+        let linked : list_any (λ p. covers lists old puts p l) e.links ≡ true = any_of (λ p. covers lists old puts p l) e.links p (indexed.uses p f found x c e there same) is in
+        (l, covers_more x.slot e there l (opened lists old puts x.slot e there l ∙ on_right (is_listed (edge_to x.slot e) (lists l)) _ linked), said)
 
     module _ {m : Memory} (w : Work old start [] None m) where
       quiet : (s : ℕ) (e : Info) → m s ≡ Some e → e.going ≡ true → ⊥
@@ -107,17 +128,14 @@ module _ {lists : Location ℕ → List Edge} {puts : ℕ} {old : Memory} (index
               absurd (not_doomed s e o there alike.stamp (w.left p f found none (edge_to s o) edge))
 
       -- what is left stands for no location with another answer than `false`
-      pub safe : (far s : ℕ) (e : Info) → m s ≡ Some e → (l : Location ℕ) → covers old far s l ≡ true → says l false
+      pub safe : (far s : ℕ) (e : Info) → m s ≡ Some e → (l : Location ℕ) → covers lists old far s l ≡ true → says l false
       safe zero s e there l h = absurd (cc)
       safe (suc far) s e there l h =
           let (o, was, alike) = w.same s e there in
-          elim (either _ _ (sym (opened old far s o was l) ∙ h)) [
-            | inl direct ↦
-                let (k, in_reads, is) = some_of (same_location l) o.reads direct in
-                let edge = indexed.read s o was l (subst (Contains o.reads) (sym (same_location-is l k is)) in_reads) in
-                untouched l (edge_to s o) edge (λ c. not_doomed s e o there alike.stamp (w.started (edge_to s o) c))
+          elim (either _ _ (sym (opened lists old far s o was l) ∙ h)) [
+            | inl direct ↦ untouched l (edge_to s o) (is_in (lists l) (edge_to s o) direct) (λ c. not_doomed s e o there alike.stamp (w.started (edge_to s o) c))
             | inr linked ↦
-                let (p, in_links, is) = some_of (λ p. covers old far p l) o.links linked in
+                let (p, in_links, is) = some_of (λ p. covers lists old far p l) o.links linked in
                 let (f, found) = link_there s e there p (subst (λ ls. Contains ls p) (sym alike.links) in_links) in
                 safe far p f found l is
           ]
@@ -126,22 +144,20 @@ module _ {lists : Location ℕ → List Edge} {puts : ℕ} {old : Memory} (index
           untouched l x edge out = elim (begins.all l) [ inl said ↦ said | inr all ↦ absurd (out (all x edge)) ]
 
       -- and stands for the same locations
-      pub covers_same : (far s : ℕ) (e : Info) → m s ≡ Some e → (l : Location ℕ) → covers m far s l ≡ covers old far s l
+      pub covers_same : (far s : ℕ) (e : Info) → m s ≡ Some e → (l : Location ℕ) → covers lists m far s l ≡ covers lists old far s l
       covers_same zero s e there l = refl
       covers_same (suc far) s e there l =
           let (o, was, alike) = w.same s e there in
-          opened m far s e there l
-          ∙ ap (λ (ls : List (Location ℕ)). list_any (same_location l) ls || list_any (λ p. covers m far p l) e.links) alike.reads
-          ∙ ap (λ b. list_any (same_location l) o.reads || b) (any_same (λ p. covers m far p l) (λ p. covers old far p l) e.links (λ p c. let (f, found) = link_there s e there p c in covers_same far p f found l))
-          ∙ ap (λ (ls : List ℕ). list_any (same_location l) o.reads || list_any (λ p. covers old far p l) ls) alike.links
-          ∙ sym (opened old far s o was l)
+          opened lists m far s e there l
+          ∙ ap (λ n. is_listed (record { slot = s; stamp = n }) (lists l) || list_any (λ p. covers lists m far p l) e.links) alike.stamp
+          ∙ ap (λ b. is_listed (edge_to s o) (lists l) || b) (any_same (λ p. covers lists m far p l) (λ p. covers lists old far p l) e.links (λ p c. let (f, found) = link_there s e there p c in covers_same far p f found l))
+          ∙ ap (λ (ls : List ℕ). is_listed (edge_to s o) (lists l) || list_any (λ p. covers lists old far p l) ls) alike.links
+          ∙ sym (opened lists old far s o was l)
 
       pub indexed_after : Index lists puts m
       indexed_after = record {
         idle = quiet_false;
         known = λ s e there. let (o, was, alike) = w.same s e there in subst (λ n. n < puts) (sym alike.stamp) (indexed.known s o was);
-        read = λ s e there l c. let (o, was, alike) = w.same s e there in
-            subst (λ n. Contains (lists l) (record { slot = s; stamp = n })) (sym alike.stamp) (indexed.read s o was l (subst (λ v. Contains v l) alike.reads c));
         used = λ s e there p c.
             let (o, was, alike) = w.same s e there in
             let (f, found) = link_there s e there p c in
@@ -153,7 +169,6 @@ module _ {lists : Location ℕ → List Edge} {puts : ℕ} {old : Memory} (index
               let a : g.stamp < o.stamp = subst (λ (n : Info). n.stamp < o.stamp) same before in let b = alike.stamp in let d = alike_found.stamp in omega arith,
               subst (λ n. Contains f.users (record { slot = s; stamp = n })) (sym alike.stamp) (subst (λ v. Contains v (edge_to s o)) (sym alike_found.users) (subst (λ (n : Info). Contains n.users (edge_to s o)) same edge)),
             );
-        reads = λ l x c e there same. let (o, was, alike) = w.same x.slot e there in subst (λ v. Contains v l) (sym alike.reads) (indexed.reads l x c o was (sym alike.stamp ∙ same));
         uses = λ p f found x c e there same.
             let (o, was, alike) = w.same x.slot e there in
             let (g, was_found, alike_found) = w.same p f found in
@@ -162,29 +177,29 @@ module _ {lists : Location ℕ → List Edge} {puts : ℕ} {old : Memory} (index
         past_users = λ p f found x c. let (g, was_found, alike_found) = w.same p f found in indexed.past_users p g was_found x (subst (λ v. Contains v x) alike_found.users c);
       }
 
-      pub kept_same : (s : ℕ) (e : Info) → m s ≡ Some e → kept_at m puts s ≡ kept_at old puts s
+      pub kept_same : (s : ℕ) (e : Info) → m s ≡ Some e → kept_at lists m puts s ≡ kept_at lists old puts s
       kept_same s e there =
           let (o, was, alike) = w.same s e there in
-          ap (option_map (standing m puts s)) there ∙ ap Some (same_kept o alike) ∙ sym (ap (option_map (standing old puts s)) was)
+          ap (option_map (standing lists m puts s)) there ∙ ap Some (same_kept o alike) ∙ sym (ap (option_map (standing lists old puts s)) was)
         where
-          same_kept : (o : Info) → IsSame o e → standing m puts s e ≡ standing old puts s o
+          same_kept : (o : Info) → IsSame o e → standing lists m puts s e ≡ standing lists old puts s o
           same_kept o h i = record { instance = h.instance i; kept = record { value = h.value i; covers = λ l. covers_same puts s e there l i } }
 
-      entry_of : (m : Memory) (s : ℕ) (x : Standing) → kept_at m puts s ≡ Some x → (e : Info) × (m s ≡ Some e) × (x.kept.covers ≡ covers m puts s)
+      entry_of : (m : Memory) (s : ℕ) (x : Standing) → kept_at lists m puts s ≡ Some x → (e : Info) × (m s ≡ Some e) × (x.kept.covers ≡ covers lists m puts s)
       entry_of m s x h = by (m s) refl
         where
-          by : (o : Option Info) → m s ≡ o → (e : Info) × (m s ≡ Some e) × (x.kept.covers ≡ covers m puts s)
-          by None none = absurd (none-some x (sym (ap (option_map (standing m puts s)) none) ∙ h))
-          by (Some e) there = (e, there, sym (ap (λ (y : Standing). y.kept.covers) (same_Some (standing m puts s e) x (sym (ap (option_map (standing m puts s)) there) ∙ h))))
+          by : (o : Option Info) → m s ≡ o → (e : Info) × (m s ≡ Some e) × (x.kept.covers ≡ covers lists m puts s)
+          by None none = absurd (none-some x (sym (ap (option_map (standing lists m puts s)) none) ∙ h))
+          by (Some e) there = (e, there, sym (ap (λ (y : Standing). y.kept.covers) (same_Some (standing lists m puts s e) x (sym (ap (option_map (standing lists m puts s)) there) ∙ h))))
 
-      pub leaves : LeavesSlots says (kept_at old puts) (kept_at m puts)
+      pub leaves : LeavesSlots says (kept_at lists old puts) (kept_at lists m puts)
       leaves s x h =
           let (e, there, covers_is) = entry_of m s x h in
           (sym (kept_same s e there) ∙ h, λ l is. safe puts s e there l (sym (covers_same puts s e there l) ∙ ap (λ f. f l) (sym covers_is) ∙ is))
 
-      pub loses : LosesSlots says (kept_at old puts) (kept_at m puts)
+      pub loses : LosesSlots says (kept_at lists old puts) (kept_at lists m puts)
       loses s x h = let (o, was, covers_is) = entry_of old s x h in by o was covers_is (m s) refl
         where
-          by : (o : Info) → old s ≡ Some o → x.kept.covers ≡ covers old puts s → (n : Option Info) → m s ≡ n → (kept_at m puts s ≡ Some x) ⊎ ((l : Location ℕ) × (x.kept.covers l ≡ true) × says l true)
+          by : (o : Info) → old s ≡ Some o → x.kept.covers ≡ covers lists old puts s → (n : Option Info) → m s ≡ n → (kept_at lists m puts s ≡ Some x) ⊎ ((l : Location ℕ) × (x.kept.covers l ≡ true) × says l true)
           by o was covers_is (Some e) there = inl (kept_same s e there ∙ h)
           by o was covers_is None none = let (l, is, said) = touches s (w.gone s o was none) in inr (l, ap (λ f. f l) covers_is ∙ is, said)

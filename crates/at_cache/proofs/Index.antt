@@ -6,13 +6,11 @@ use Rattle.at_cache.specs.Info.{Info, Memory}
 use Rattle.at_cache.specs.Kept.{Kept}
 use Rattle.at_cache.specs.Recorded.{covers, edge_to}
 
--- each entry is found from all that it rests on, and what is found so rests on that; links lead to earlier entries
+-- each entry is found from all that it used, and what is found so used that; links lead to earlier entries
 pub record Index (lists : Location ℕ → List Edge) (puts : ℕ) (m : Memory) : Type 0 where
   pub idle : (s : ℕ) (e : Info) → m s ≡ Some e → e.going ≡ false
   pub known : (s : ℕ) (e : Info) → m s ≡ Some e → e.stamp < puts
-  pub read : (s : ℕ) (e : Info) → m s ≡ Some e → (l : Location ℕ) → Contains e.reads l → Contains (lists l) (edge_to s e)
   pub used : (s : ℕ) (e : Info) → m s ≡ Some e → (p : ℕ) → Contains e.links p → (f : Info) × (m p ≡ Some f) × (f.stamp < e.stamp) × Contains f.users (edge_to s e)
-  pub reads : (l : Location ℕ) (x : Edge) → Contains (lists l) x → (e : Info) → m x.slot ≡ Some e → e.stamp ≡ x.stamp → Contains e.reads l
   pub uses : (p : ℕ) (f : Info) → m p ≡ Some f → (x : Edge) → Contains f.users x → (e : Info) → m x.slot ≡ Some e → e.stamp ≡ x.stamp → Contains e.links p
   pub past_readers : (l : Location ℕ) (x : Edge) → Contains (lists l) x → x.stamp < puts
   pub past_users : (p : ℕ) (f : Info) → m p ≡ Some f → (x : Edge) → Contains f.users x → x.stamp < puts
@@ -22,12 +20,12 @@ pub record Standing : Type 0 where
   pub instance : Instance ℕ
   pub kept : Kept
 
-abbrev pub standing : Memory → (puts s : ℕ) → Info → Standing
-standing m puts s e = record { instance = e.instance; kept = record { value = e.value; covers = covers m puts s } }
+abbrev pub standing : (Location ℕ → List Edge) → Memory → (puts s : ℕ) → Info → Standing
+standing lists m puts s e = record { instance = e.instance; kept = record { value = e.value; covers = covers lists m puts s } }
 
 -- what is kept in a slot
-abbrev pub kept_at : Memory → (puts : ℕ) → ℕ → Option Standing
-kept_at m puts s = option_map (standing m puts s) (m s)
+abbrev pub kept_at : (Location ℕ → List Edge) → Memory → (puts : ℕ) → ℕ → Option Standing
+kept_at lists m puts s = option_map (standing lists m puts s) (m s)
 
 -- what is kept now was, and each location that it stands for has the answer `false`
 abbrev pub LeavesSlots : (says : Location ℕ → Bool → Type 0) → (old new : ℕ → Option Standing) → Type 0

@@ -1,10 +1,15 @@
 -- What a look-up that found a value says.
-use Rattle.std.proofs.Common.{◌≡◌, ℕ, ◌+◌, ◌<◌, ⊎_elim, List, length, take, get_or, Option, Some, None, Contains, refl, sym, ◌∙◌, subst}
+use Rattle.std.proofs.Common.{◌≡◌, ℕ, ◌+◌, ◌<◌, ⊎_elim, List, length, take, get_or, Option, Some, None, Bor, Contains, refl, sym, ◌∙◌, subst}
 use Rattle.std.specs.Prelude.{IsSome}
-use Rattle.std.specs.Option.{option_map}
+use Rattle.std.specs.Option.{option_copied, option_map}
 use Rattle.std.proofs.lemmas.Option.{none-some}
 use Rattle.std.proofs.lemmas.List.{take_more}
 use Rattle.std.proofs.lemmas.List.Elements.{Contains-push_cases}
+
+-- what is seen of what is lent
+pub lent : {A V : Type 0} (f : A → V) (o : Option (Bor A)) → option_map (λ r. f r.now) o ≡ option_map f (option_copied o)
+lent f None = refl
+lent f (Some r) = refl
 
 -- there is something where its value is looked up
 pub has_value : {A V : Type 0} (f : A → V) (v : V) (o : Option A) → Some v ≡ option_map f o → IsSome o

@@ -24,11 +24,10 @@ use Rattle.at_cache.specs.Info.{Memory}
 use Rattle.at_cache.specs.Kept.{Answers, AreNamed, node_at}
 use Rattle.at_cache.specs.Readers.{edges_among, edges_at}
 use Rattle.at_cache.proofs.Beginning.{among_others, begins_by}
-use Rattle.at_cache.proofs.Ending.{any_of, either, some_of}
+use Rattle.at_cache.proofs.Ending.{and, any_of, both, either, has, some_of}
 use Rattle.at_cache.proofs.Listed.{edges_are, no_edges}
 use Rattle.at_cache.proofs.Moving.{got}
 use Rattle.at_cache.proofs.Taking.{begun, none_in}
-use Rattle.at_cache.proofs.Testing.{and, both, has}
 
 -- what a list has at a number
 pub node_there : {X : Type 0} (xs : List X) (i node : ℕ) (x : X) → i ≡ node → true ≡ nat_lt i (length xs) → x ≡ get_or xs i x → slice_get xs node ≡ Some x

@@ -19,10 +19,9 @@ use Rattle.at_cache.specs.Recorded.{is_listed}
 use Rattle.at_cache.proofs.Beginning.{edges_of}
 use Rattle.at_cache.proofs.Dooming.{head_of}
 use Rattle.at_cache.proofs.Listed.{edges_are}
-use Rattle.at_cache.proofs.Ending.{any_of, either, on_left, on_right}
+use Rattle.at_cache.proofs.Ending.{any_of, either, has, on_left, on_right}
 use Rattle.at_cache.proofs.Locations.{cases_location, same_location-itself}
 use Rattle.at_cache.proofs.Taking.{none_in}
-use Rattle.at_cache.proofs.Testing.{has}
 
 pub first_edge : (es : List Edge) → nat_eq (length es) 0 ≡ false → (x : Edge) × Contains es x
 first_edge [] h = absurd (true≢false h)

@@ -1,17 +1,19 @@
 -- What is kept of instances is what is kept in slots.
 use Rattle.std.proofs.Common.{◌≡◌, inl, inr, ℕ, zero, suc, List, [], ◌∷◌, Bool, true, false, cond, Option, None, Some, option_map, IsSome, is_some, if◌then◌else◌, slice_get, refl, sym, ap, ◌∙◌, arith, true≢false}
 use Rattle.std.specs.Map.{lookup}
+use Rattle.std.specs.Option.{option_and_then}
 use Rattle.std.proofs.lemmas.Bool.{cases_eq}
 use Rattle.std.proofs.lemmas.Option.{none-some, same_Some}
 use Rattle.slab.specs.Slab.{get}
-use Rattle.at_model.specs.Run.{Instance, Location}
+use Rattle.at_model.specs.Run.{Instance, Location, Value}
 use Rattle.at_body.specs.Same.{same_instance}
 use Rattle.at_body.specs.Sameness.{instances_equiv}
 use Rattle.at_body.specs.Values.{value_view}
+use Rattle.at_cache.specs.declared.edge.Edge.{Edge}
 use Rattle.at_cache.specs.declared.entry.Entry.{Entry}
 use Rattle.at_cache.specs.declared.table.Table.{Table}
 use Rattle.at_cache.specs.Info.{info, memory_of}
-use Rattle.at_cache.specs.Kept.{Kept, KeepsAll, LeavesUntouched, LosesTouched, Puts, covered, covers_at}
+use Rattle.at_cache.specs.Kept.{Kept, KeepsAll, LeavesUntouched, LosesTouched, Puts, covered, covers_at, value_at}
 use Rattle.at_cache.specs.Recorded.{covers, kept_in}
 use Rattle.at_cache.proofs.Index.{LeavesSlots, LosesSlots, PutsSlot, Standing, kept_at, standing}
 use Rattle.at_cache.proofs.Moving.{at_none, at_some, table_by}
@@ -39,117 +41,128 @@ first_at test (x ∷ xs) (suc p) e h t only = by (test x.0) refl (first_at test 
 pub slot_taken : (t : Table) (p : ℕ) (e : Instance ℕ × Entry) → slice_get t.entries.entries p ≡ Some e → memory_of t e.1.slot ≡ Some (info e)
 slot_taken t p e there = ap (option_map info) (at_some t.entries.entries (get t.places) e.1.slot p (t.placed.to p e there) ∙ there)
 
-abbrev pub shape : Table → ℕ → Entry → Kept
-shape t puts e = record { value = value_view e.value; covers = covers (memory_of t) puts e.slot }
+abbrev pub shape : (Location ℕ → List Edge) → Table → ℕ → Entry → Kept
+shape lists t puts e = record { value = option_map value_view e.value; covers = covers lists (memory_of t) puts e.slot }
 
-module _ (t : Table) (puts : ℕ) where
+module _ (lists : Location ℕ → List Edge) (t : Table) (puts : ℕ) where
   abbrev es : List (Instance ℕ × Entry)
   es = t.entries.entries
 
   -- what is kept of an instance is in a slot
-  pub shows : (i : Instance ℕ) (k : Kept) → kept_in t puts i ≡ Some k → (s : ℕ) × (x : Standing) × (kept_at (memory_of t) puts s ≡ Some x) × (x.kept ≡ k) × (same_instance i x.instance ≡ true)
+  pub shows : (i : Instance ℕ) (k : Kept) → kept_in lists t puts i ≡ Some k → (s : ℕ) × (x : Standing) × (kept_at lists (memory_of t) puts s ≡ Some x) × (x.kept ≡ k) × (same_instance i x.instance ≡ true)
   shows i k h = by (lookup (same_instance i) es) refl
     where
-      by : (o : Option Entry) → lookup (same_instance i) es ≡ o → (s : ℕ) × (x : Standing) × (kept_at (memory_of t) puts s ≡ Some x) × (x.kept ≡ k) × (same_instance i x.instance ≡ true)
-      by None none = absurd (none-some k (sym (ap (option_map (shape t puts)) none) ∙ h))
+      by : (o : Option Entry) → lookup (same_instance i) es ≡ o → (s : ℕ) × (x : Standing) × (kept_at lists (memory_of t) puts s ≡ Some x) × (x.kept ≡ k) × (same_instance i x.instance ≡ true)
+      by None none = absurd (none-some k (sym (ap (option_map (shape lists t puts)) none) ∙ h))
       by (Some e) found =
           let (p, j, there, same) = entry_at (same_instance i) es e found in (
             e.slot,
-            standing (memory_of t) puts e.slot (info (j, e)),
-            ap (option_map (standing (memory_of t) puts e.slot)) (slot_taken t p (j, e) there),
-            same_Some (shape t puts e) k (sym (ap (option_map (shape t puts)) found) ∙ h),
+            standing lists (memory_of t) puts e.slot (info (j, e)),
+            ap (option_map (standing lists (memory_of t) puts e.slot)) (slot_taken t p (j, e) there),
+            same_Some (shape lists t puts e) k (sym (ap (option_map (shape lists t puts)) found) ∙ h),
             same,
           )
 
   -- and what is in a slot is kept of its instance
-  pub finds : (i : Instance ℕ) (s : ℕ) (x : Standing) → kept_at (memory_of t) puts s ≡ Some x → same_instance i x.instance ≡ true → kept_in t puts i ≡ Some x.kept
+  pub finds : (i : Instance ℕ) (s : ℕ) (x : Standing) → kept_at lists (memory_of t) puts s ≡ Some x → same_instance i x.instance ≡ true → kept_in lists t puts i ≡ Some x.kept
   finds i s x h same = by (get t.places s) refl
     where
-      by : (o : Option ℕ) → get t.places s ≡ o → kept_in t puts i ≡ Some x.kept
-      by None none = absurd (none-some x (sym (ap (λ o. option_map (standing (memory_of t) puts s) (option_map info o)) (at_none es (get t.places) s none)) ∙ h))
+      by : (o : Option ℕ) → get t.places s ≡ o → kept_in lists t puts i ≡ Some x.kept
+      by None none = absurd (none-some x (sym (ap (λ o. option_map (standing lists (memory_of t) puts s) (option_map info o)) (at_none es (get t.places) s none)) ∙ h))
       by (Some p) is =
           let (e, there, of_slot) = (table_by t.placed).from s p is in
-          let x_is : standing (memory_of t) puts s (info e) ≡ x = same_Some (standing (memory_of t) puts s (info e)) x (sym (ap (λ o. option_map (standing (memory_of t) puts s) (option_map info o)) (at_some es (get t.places) s p is ∙ there)) ∙ h) in
+          let x_is : standing lists (memory_of t) puts s (info e) ≡ x = same_Some (standing lists (memory_of t) puts s (info e)) x (sym (ap (λ o. option_map (standing lists (memory_of t) puts s) (option_map info o)) (at_some es (get t.places) s p is ∙ there)) ∙ h) in
           let passes : same_instance i e.0 ≡ true = ap (λ (y : Standing). same_instance i y.instance) x_is ∙ same in
           let found : lookup (same_instance i) es ≡ Some e.1 = first_at (same_instance i) es p e there passes (λ q f at_q its. t.placed.apart q p f e at_q there (sym (instances_equiv.congr i f.0 e.0 its) ∙ passes)) in
-          ap (option_map (shape t puts)) found
-          ∙ ap Some (ap (λ s. let k : Kept = record { value = value_view e.1.value; covers = covers (memory_of t) puts s } in k) of_slot ∙ ap (λ (y : Standing). y.kept) x_is)
+          ap (option_map (shape lists t puts)) found
+          ∙ ap Some (ap (λ s. let k : Kept = record { value = option_map value_view e.1.value; covers = covers lists (memory_of t) puts s } in k) of_slot ∙ ap (λ (y : Standing). y.kept) x_is)
 
 -- what is the same in each slot is the same of each instance
-pub same_kept : (old new : Table) (p q : ℕ) → ((s : ℕ) → kept_at (memory_of new) q s ≡ kept_at (memory_of old) p s) → KeepsAll (kept_in old p) (kept_in new q)
-same_kept old new p q same i = by (kept_in old p i) refl (kept_in new q i) refl
+pub same_kept : (lists later : Location ℕ → List Edge) (old new : Table) (p q : ℕ) → ((s : ℕ) → kept_at later (memory_of new) q s ≡ kept_at lists (memory_of old) p s) → KeepsAll (kept_in lists old p) (kept_in later new q)
+same_kept lists later old new p q same i = by (kept_in lists old p i) refl (kept_in later new q i) refl
   where
-    by : (o : Option Kept) → kept_in old p i ≡ o → (n : Option Kept) → kept_in new q i ≡ n → kept_in new q i ≡ kept_in old p i
-    by (Some k) was n is = let (s, x, at_s, kept, alike) = shows old p i k was in finds new q i s x (same s ∙ at_s) alike ∙ ap Some kept ∙ sym was
+    by : (o : Option Kept) → kept_in lists old p i ≡ o → (n : Option Kept) → kept_in later new q i ≡ n → kept_in later new q i ≡ kept_in lists old p i
+    by (Some k) was n is = let (s, x, at_s, kept, alike) = shows lists old p i k was in finds later new q i s x (same s ∙ at_s) alike ∙ ap Some kept ∙ sym was
     by None was None is = is ∙ sym was
-    by None was (Some k) is = let (s, x, at_s, kept, alike) = shows new q i k is in absurd (none-some x.kept (sym was ∙ finds old p i s x (sym (same s) ∙ at_s) alike))
+    by None was (Some k) is = let (s, x, at_s, kept, alike) = shows later new q i k is in absurd (none-some x.kept (sym was ∙ finds lists old p i s x (sym (same s) ∙ at_s) alike))
 
-module _ (says : Location ℕ → Bool → Type 0) (old new : Table) (puts : ℕ) where
-  pub leaves_kept : LeavesSlots says (kept_at (memory_of old) puts) (kept_at (memory_of new) puts) → LeavesUntouched says (kept_in old puts) (kept_in new puts)
+module _ (says : Location ℕ → Bool → Type 0) (lists : Location ℕ → List Edge) (old new : Table) (puts : ℕ) where
+  pub leaves_kept : LeavesSlots says (kept_at lists (memory_of old) puts) (kept_at lists (memory_of new) puts) → LeavesUntouched says (kept_in lists old puts) (kept_in lists new puts)
   leaves_kept leaves i k h =
-      let (s, x, at_s, kept, alike) = shows new puts i k h in
+      let (s, x, at_s, kept, alike) = shows lists new puts i k h in
       let (was, untouched) = leaves s x at_s in
-      (finds old puts i s x was alike ∙ ap Some kept, λ l is. untouched l (ap (λ (k : Kept). k.covers l) kept ∙ is))
+      (finds lists old puts i s x was alike ∙ ap Some kept, λ l is. untouched l (ap (λ (k : Kept). k.covers l) kept ∙ is))
 
-  pub loses_kept : LosesSlots says (kept_at (memory_of old) puts) (kept_at (memory_of new) puts) → LosesTouched says (kept_in old puts) (kept_in new puts)
+  pub loses_kept : LosesSlots says (kept_at lists (memory_of old) puts) (kept_at lists (memory_of new) puts) → LosesTouched says (kept_in lists old puts) (kept_in lists new puts)
   loses_kept loses i k h =
-      let (s, x, at_s, kept, alike) = shows old puts i k h in
+      let (s, x, at_s, kept, alike) = shows lists old puts i k h in
       elim (loses s x at_s) [
-        | inl stays ↦ inl (finds new puts i s x stays alike ∙ ap Some kept)
+        | inl stays ↦ inl (finds lists new puts i s x stays alike ∙ ap Some kept)
         | inr (l, is, said) ↦ inr (l, ap (λ (k : Kept). k.covers l) (sym kept) ∙ is, said)
       ]
 
 -- one entry more
-module _ (old new : Table) (p q slot : ℕ) (x : Standing) (one : PutsSlot (kept_at (memory_of old) p) slot x (kept_at (memory_of new) q)) where
-  pub adds_one : (j : Instance ℕ) → kept_in new q j ≡ (if same_instance x.instance j then Some x.kept else kept_in old p j)
-  adds_one j = by (same_instance x.instance j) refl (kept_in old p j) refl (kept_in new q j) refl
+module _ (lists later : Location ℕ → List Edge) (old new : Table) (p q slot : ℕ) (x : Standing) (one : PutsSlot (kept_at lists (memory_of old) p) slot x (kept_at later (memory_of new) q)) where
+  pub adds_one : (j : Instance ℕ) → kept_in later new q j ≡ (if same_instance x.instance j then Some x.kept else kept_in lists old p j)
+  adds_one j = by (same_instance x.instance j) refl (kept_in lists old p j) refl (kept_in later new q j) refl
     where
       turned : same_instance j x.instance ≡ same_instance x.instance j
       turned = instances_equiv.symm j x.instance
 
-      not_at : (s : ℕ) (y : Standing) → kept_at (memory_of old) p s ≡ Some y → s ≡ slot → ⊥
-      not_at s y h same = one.free y (ap (kept_at (memory_of old) p) (sym same) ∙ h)
+      not_at : (s : ℕ) (y : Standing) → kept_at lists (memory_of old) p s ≡ Some y → s ≡ slot → ⊥
+      not_at s y h same = one.free y (ap (kept_at lists (memory_of old) p) (sym same) ∙ h)
 
-      by : (b : Bool) → same_instance x.instance j ≡ b → (o : Option Kept) → kept_in old p j ≡ o → (n : Option Kept) → kept_in new q j ≡ n → kept_in new q j ≡ (if b then Some x.kept else kept_in old p j)
-      by true t o was n is = finds new q j slot x one.here (turned ∙ t)
+      by : (b : Bool) → same_instance x.instance j ≡ b → (o : Option Kept) → kept_in lists old p j ≡ o → (n : Option Kept) → kept_in later new q j ≡ n → kept_in later new q j ≡ (if b then Some x.kept else kept_in lists old p j)
+      by true t o was n is = finds later new q j slot x one.here (turned ∙ t)
       by false t (Some k) was n is =
-          let (s, y, at_s, kept, alike) = shows old p j k was in
-          finds new q j s y (one.others s (not_at s y at_s) ∙ at_s) alike ∙ ap Some kept ∙ sym was
+          let (s, y, at_s, kept, alike) = shows lists old p j k was in
+          finds later new q j s y (one.others s (not_at s y at_s) ∙ at_s) alike ∙ ap Some kept ∙ sym was
       by false t None was None is = is ∙ sym was
       by false t None was (Some k) is =
-          let (s, y, at_s, kept, alike) = shows new q j k is in
+          let (s, y, at_s, kept, alike) = shows later new q j k is in
           elim (cases_eq s slot) [
             | inl same ↦
-                let y_is : x ≡ y = same_Some x y (sym one.here ∙ ap (kept_at (memory_of new) q) (sym same) ∙ at_s) in
+                let y_is : x ≡ y = same_Some x y (sym one.here ∙ ap (kept_at later (memory_of new) q) (sym same) ∙ at_s) in
                 absurd (true≢false (sym alike ∙ ap (λ (z : Standing). same_instance j z.instance) (sym y_is) ∙ turned ∙ t))
-            | inr differs ↦ absurd (none-some y.kept (sym was ∙ finds old p j s y (sym (one.others s differs) ∙ at_s) alike))
+            | inr differs ↦ absurd (none-some y.kept (sym was ∙ finds lists old p j s y (sym (one.others s differs) ∙ at_s) alike))
           ]
 
-  pub puts_kept : (reads : List (Location ℕ)) (uses : List (Instance ℕ)) → ((l : Location ℕ) → x.kept.covers l ≡ covered (kept_in old p) reads uses l) → Puts true (kept_in old p) x.instance x.kept.value reads uses (kept_in new q)
+  pub puts_kept : (reads : List (Location ℕ)) (uses : List (Instance ℕ)) → ((l : Location ℕ) → x.kept.covers l ≡ covered (kept_in lists old p) reads uses l) → Puts true (kept_in lists old p) x.instance x.kept.value reads uses (kept_in later new q)
   puts_kept reads uses is = record { entry = x.kept; value = refl; covers = λ l h. is l ∙ h; only = λ t l h. sym (is l) ∙ h; adds = adds_one }
 
 -- what the entry of an instance stands for
-module _ (t : Table) (puts : ℕ) (i : Instance ℕ) where
-  pub covers_there : (e : Entry) → lookup (same_instance i) t.entries.entries ≡ Some e → (l : Location ℕ) → covers (memory_of t) puts e.slot l ≡ covers_at (kept_in t puts i) l
-  covers_there e found l = sym (ap (λ (o : Option Entry). covers_at (option_map (shape t puts) o) l) found)
+module _ (lists : Location ℕ → List Edge) (t : Table) (puts : ℕ) (i : Instance ℕ) where
+  pub covers_there : (e : Entry) → lookup (same_instance i) t.entries.entries ≡ Some e → (l : Location ℕ) → covers lists (memory_of t) puts e.slot l ≡ covers_at (kept_in lists t puts i) l
+  covers_there e found l = sym (ap (λ (o : Option Entry). covers_at (option_map (shape lists t puts) o) l) found)
 
-  pub covers_nothing : lookup (same_instance i) t.entries.entries ≡ None → (l : Location ℕ) → covers_at (kept_in t puts i) l ≡ false
-  covers_nothing none l = ap (λ (o : Option Entry). covers_at (option_map (shape t puts) o) l) none
+  pub covers_nothing : lookup (same_instance i) t.entries.entries ≡ None → (l : Location ℕ) → covers_at (kept_in lists t puts i) l ≡ false
+  covers_nothing none l = ap (λ (o : Option Entry). covers_at (option_map (shape lists t puts) o) l) none
 
 pub slot_there : (t : Table) (i : Instance ℕ) (e : Entry) → lookup (same_instance i) t.entries.entries ≡ Some e → IsSome (memory_of t e.slot)
 slot_there t i e found = let (p, j, there, same) = entry_at (same_instance i) t.entries.entries e found in ap is_some (slot_taken t p (j, e) there)
 
--- its value, and that it isn't there
-pub value_kept : (t : Table) (puts : ℕ) (i : Instance ℕ) → option_map (λ (k : Kept). k.value) (kept_in t puts i) ≡ option_map (λ (e : Entry). value_view e.value) (lookup (same_instance i) t.entries.entries)
-value_kept t puts i = by (lookup (same_instance i) t.entries.entries)
+-- the value that an entry has, if it has one
+abbrev pub value_of : Entry → Option (Value ℕ)
+value_of e = option_map value_view e.value
+
+-- its value, that it is there, and that it isn't
+pub value_kept : (lists : Location ℕ → List Edge) (t : Table) (puts : ℕ) (i : Instance ℕ) → value_at (kept_in lists t puts i) ≡ option_and_then value_of (lookup (same_instance i) t.entries.entries)
+value_kept lists t puts i = by (lookup (same_instance i) t.entries.entries)
   where
-    by : (o : Option Entry) → option_map (λ (k : Kept). k.value) (option_map (shape t puts) o) ≡ option_map (λ (e : Entry). value_view e.value) o
+    by : (o : Option Entry) → value_at (option_map (shape lists t puts) o) ≡ option_and_then value_of o
     by None = refl
     by (Some e) = refl
 
-pub absent_entry : (t : Table) (puts : ℕ) (i : Instance ℕ) → kept_in t puts i ≡ None → lookup (same_instance i) t.entries.entries ≡ None
-absent_entry t puts i h = by (lookup (same_instance i) t.entries.entries) refl
+pub kept_there : (lists : Location ℕ → List Edge) (t : Table) (puts : ℕ) (i : Instance ℕ) → is_some (kept_in lists t puts i) ≡ is_some (lookup (same_instance i) t.entries.entries)
+kept_there lists t puts i = by (lookup (same_instance i) t.entries.entries)
+  where
+    by : (o : Option Entry) → is_some (option_map (shape lists t puts) o) ≡ is_some o
+    by None = refl
+    by (Some e) = refl
+
+pub absent_entry : (lists : Location ℕ → List Edge) (t : Table) (puts : ℕ) (i : Instance ℕ) → kept_in lists t puts i ≡ None → lookup (same_instance i) t.entries.entries ≡ None
+absent_entry lists t puts i h = by (lookup (same_instance i) t.entries.entries) refl
   where
     by : (o : Option Entry) → lookup (same_instance i) t.entries.entries ≡ o → lookup (same_instance i) t.entries.entries ≡ None
     by None is = is
-    by (Some e) is = absurd (none-some (shape t puts e) (sym h ∙ ap (option_map (shape t puts)) is))
+    by (Some e) is = absurd (none-some (shape lists t puts e) (sym h ∙ ap (option_map (shape lists t puts)) is))

@@ -3,11 +3,11 @@ use Rattle.std.specs.Prelude.{◌<◌, ◌≤◌, ℕ, Bool, None}
 use Rattle.at_model.specs.Run.{Location}
 use Rattle.at_cache.specs.declared.keep_at_most.KeepAtMost.{KeepAtMost}
 use Rattle.at_cache.specs.Info.{table_len}
+use Rattle.at_cache.specs.Keeping.{recorded_by}
 use Rattle.at_cache.specs.Kept.{Entries, KeepsAll, LosesTouched}
-use Rattle.at_cache.specs.Recorded.{kept_in}
 
 abbrev pub kept_by : KeepAtMost → Entries
-kept_by k = kept_in k.keeper.entries k.keeper.puts
+kept_by k = recorded_by k.keeper
 
 -- where there are no more entries than the bound, only those that stand for a touched location; else all
 abbrev pub ForgetsOver : (says : Location ℕ → Bool → Type 0) (old new : KeepAtMost) → Type 0

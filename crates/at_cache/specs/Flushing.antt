@@ -33,7 +33,6 @@ IsChain m first (s ∷ ss) = (first ≡ Some s) × ((e : Info) × (m s ≡ Some 
 pub record IsSame (old new : Info) : Type 0 where
   pub instance : new.instance ≡ old.instance
   pub value : new.value ≡ old.value
-  pub reads : new.reads ≡ old.reads
   pub links : new.links ≡ old.links
   pub stamp : new.stamp ≡ old.stamp
   pub users : new.users ≡ old.users

@@ -1,10 +1,9 @@
 -- What is kept, by slots.
-use Rattle.std.specs.Prelude.{ℕ, List, Bool, true, false, Option, None, Some, map, option_map}
+use Rattle.std.specs.Prelude.{ℕ, List, Bool, true, false, Option, None, Some, option_map}
 use Rattle.slab.specs.Slab.{get}
 use Rattle.indexmap.specs.IndexMap.{index_map_len}
-use Rattle.at_model.specs.Run.{Value, Instance, Location}
+use Rattle.at_model.specs.Run.{Value, Instance}
 use Rattle.at_body.specs.Values.{value_view}
-use Rattle.at_store.specs.Located.{loc_view}
 use Rattle.at_cache.specs.declared.edge.Edge.{Edge}
 use Rattle.at_cache.specs.declared.entry.Entry.{Entry}
 use Rattle.at_cache.specs.declared.mark.Mark.{Mark}
@@ -24,12 +23,11 @@ next_of mark.Stays = None
 next_of mark.Last = None
 next_of (mark.Before s) = Some s
 
--- an entry: its instance and value, its direct reads, the slots of those that it used, the number of its `put`, the edges to
+-- an entry: its instance, its value, if that is kept, the slots of those that it used, the number of its `put`, the edges to
 -- those that used it, whether it goes, and which one goes next
 pub record Info : Type 0 where
   pub instance : Instance ℕ
-  pub value : Value ℕ
-  pub reads : List (Location ℕ)
+  pub value : Option (Value ℕ)
   pub links : List ℕ
   pub stamp : ℕ
   pub users : List Edge
@@ -39,8 +37,7 @@ pub record Info : Type 0 where
 abbrev pub info : Instance ℕ × Entry → Info
 info e = record {
   instance = e.0;
-  value = value_view e.1.value;
-  reads = map loc_view e.1.reads.items;
+  value = option_map value_view e.1.value;
   links = e.1.links.items;
   stamp = e.1.stamp;
   users = e.1.users.items;

@@ -1,6 +1,5 @@
 -- What a keeper keeps, and the laws of its calls.
-use Rattle.std.specs.Prelude.{◌≡◌, ℕ, List, map, Bool, true, false, ◌&&◌, ◌||◌, ◌⊎◌, Option, Some, None, IsSome, Contains, nat_eq, if◌then◌else◌}
-use Rattle.std.specs.Global.{Vec}
+use Rattle.std.specs.Prelude.{◌≡◌, ℕ, List, Bool, true, false, ◌&&◌, ◌||◌, ◌⊎◌, Option, Some, None, IsSome, Contains, nat_eq, option_and_then, if◌then◌else◌}
 use Rattle.std.specs.List.{list_any}
 use Rattle.at_model.specs.Run.{Value, Instance, Location, Is, Tok, Slot, Up, Idx}
 use Rattle.at_store.specs.declared.node.Loc.{Loc}
@@ -37,14 +36,18 @@ part_at (Idx n) = 0
 abbrev pub same_location : Location ℕ → Location ℕ → Bool
 same_location l m = nat_eq (form_of l) (form_of m) && (nat_eq (node_at l) (node_at m) && nat_eq (part_at l) (part_at m))
 
--- a kept value, and the locations that its entry stands for
+-- what stands ready of an instance: its value, where that is kept, and the locations that the entry stands for
 pub record Kept : Type 0 where
-  pub value : Value ℕ
+  pub value : Option (Value ℕ)
   pub covers : Location ℕ → Bool
 
 -- the entries of a keeper
 abbrev pub Entries : Type 0
 Entries = Instance ℕ → Option Kept
+
+-- the value that the entry has, if there is one
+abbrev pub value_at : Option Kept → Option (Value ℕ)
+value_at o = option_and_then (λ k. k.value) o
 
 -- whether the entry stands for the location
 abbrev pub covers_at : Option Kept → Location ℕ → Bool
@@ -59,9 +62,9 @@ covered entries reads uses l = list_any (same_location l) reads || list_any (λ 
 abbrev pub KeepsAll : (old new : Entries) → Type 0
 KeepsAll old new = (i : Instance ℕ) → new i ≡ old i
 
--- `new` has one entry more: i with the value, standing for the reads and all that the uses stand for, and, where the keeper
+-- `new` has one entry more: i with the value, or without one, standing for the reads and all that the uses stand for, and, where the keeper
 -- is exact, for no other location
-pub record Puts (exact : Bool) (old : Entries) (i : Instance ℕ) (v : Value ℕ) (reads : List (Location ℕ)) (uses : List (Instance ℕ))
+pub record Puts (exact : Bool) (old : Entries) (i : Instance ℕ) (v : Option (Value ℕ)) (reads : List (Location ℕ)) (uses : List (Instance ℕ))
     (new : Entries) : Type 0 where
   pub entry : Kept
   pub value : entry.value ≡ v
@@ -69,12 +72,13 @@ pub record Puts (exact : Bool) (old : Entries) (i : Instance ℕ) (v : Value ℕ
   pub only : exact ≡ true → (l : Location ℕ) → entry.covers l ≡ true → covered old reads uses l ≡ true
   pub adds : (j : Instance ℕ) → new j ≡ (if same_instance i j then Some entry else old j)
 
--- the value is kept so; or a keeper that isn't exact has left all as it was, and hands the locations back
-abbrev pub HasPut : (exact : Bool) (old : Entries) → Instance ℕ → Value ℕ → (reads : Vec Loc) (uses : List (Instance ℕ)) (new : Entries) → Put → Type 0
-HasPut exact old i v reads uses new put.Kept = Puts exact old i v (map loc_view reads.items) uses new
-HasPut exact old i v reads uses new (put.Left back) = (exact ≡ false) × KeepsAll old new × (map loc_view back.items ≡ map loc_view reads.items)
+-- the entry is there so; or a keeper that isn't exact has left all as it was
+abbrev pub HasPut : (exact : Bool) (old : Entries) → Instance ℕ → Option (Value ℕ) → (reads : List (Location ℕ)) (uses : List (Instance ℕ))
+    → (new : Entries) → Put → Type 0
+HasPut exact old i v reads uses new put.Kept = Puts exact old i v reads uses new
+HasPut exact old i v reads uses new put.Left = (exact ≡ false) × KeepsAll old new
 
--- the instances are all kept
+-- each of the instances has an entry
 abbrev pub AreKept : Entries → List (Instance ℕ) → Type 0
 AreKept entries uses = (u : Instance ℕ) → Contains uses u → IsSome (entries u)
 

@@ -8,4 +8,6 @@ pub mod Flushing
 pub mod Putting
 pub mod Slots
 pub mod Asking
+pub mod Keeping
+pub mod Stored
 pub mod Bound

@@ -1,7 +1,7 @@
 -- One more entry.
-use Rattle.std.specs.Prelude.{◌≡◌, ◌⊎◌, ℕ, List, [], Bool, false, None, Some, IsSome, option_map, nat_eq, if◌then◌else◌, Contains}
+use Rattle.std.specs.Prelude.{◌≡◌, ◌⊎◌, ℕ, List, [], Bool, false, Option, None, Some, IsSome, option_map, nat_eq, if◌then◌else◌, Contains}
 use Rattle.at_cache.specs.declared.edge.Edge.{Edge}
-use Rattle.at_model.specs.Run.{Value, Instance, Location}
+use Rattle.at_model.specs.Run.{Value, Instance}
 use Rattle.at_cache.specs.Info.{Info, Memory}
 
 -- the edge tells of an entry that is there
@@ -49,11 +49,10 @@ abbrev pub AreTaken : Memory → List ℕ → Type 0
 AreTaken m uses = (u : ℕ) → Contains uses u → IsSome (m u)
 
 -- what an entry is when it comes
-abbrev pub fresh_entry : (instance : Instance ℕ) (value : Value ℕ) (reads : List (Location ℕ)) (links : List ℕ) (stamp : ℕ) → Info
-fresh_entry instance value reads links stamp = record {
+abbrev pub fresh_entry : (instance : Instance ℕ) (value : Option (Value ℕ)) (links : List ℕ) (stamp : ℕ) → Info
+fresh_entry instance value links stamp = record {
   instance = instance;
   value = value;
-  reads = reads;
   links = links;
   stamp = stamp;
   users = [];

@@ -1,5 +1,5 @@
 -- What is kept until the next edit.
-use Rattle.std.specs.Prelude.{ℕ, List, Option, true}
+use Rattle.std.specs.Prelude.{ℕ, List, Option, Some, true}
 use Rattle.std.specs.Option.{option_map}
 use Rattle.std.specs.Map.{lookup}
 use Rattle.at_model.specs.Run.{Instance}
@@ -10,7 +10,7 @@ use Rattle.at_cache.specs.Kept.{Kept}
 
 -- the value, for all locations
 abbrev pub kept_for_all : Value → Kept
-kept_for_all v = record { value = value_view v; covers = λ l. true }
+kept_for_all v = record { value = Some (value_view v); covers = λ l. true }
 
 -- what the values keep
 abbrev pub values_kept : List (Instance ℕ × Value) → Instance ℕ → Option Kept

@@ -1,23 +1,19 @@
 //! Entries.
 
-use crate::edge::Edges;
+use crate::edge::{Edges, Slot};
 use crate::mark::Mark;
 use at_body::Value;
-use at_store::Loc;
 use smallvec::SmallVec;
 
-/// Slots of entries; two stand inline.
-pub type Links = SmallVec<usize, 2>;
+/// Slots of entries; four stand inline.
+pub type Links = SmallVec<Slot, 4>;
 
-/// Locations; three stand inline, so that few entries have a list on the heap.
-pub type Locations = SmallVec<Loc, 3>;
-
-/// A value with the locations that its evaluation read, the slots of the entries that it used, and edges to those that used it.
+/// A value, if it is kept, with the slots of the entries that it used, and edges to those that used it. What it read is found from the
+/// locations alone.
 pub struct Entry {
-    pub value: Value,
-    pub reads: Locations,
+    pub value: Option<Value>,
     pub links: Links,
-    pub slot: usize,
+    pub slot: Slot,
     /// The number of its `put`.
     pub stamp: u64,
     pub users: Edges,
@@ -29,7 +25,6 @@ impl Drop for Entry {
     fn drop(self) {
         let Entry {
             value: _,
-            reads: _,
             links: _,
             slot: _,
             stamp: _,

@@ -27,8 +27,8 @@ pub struct Readers {
     pub edges: Edges,
 }
 
-// The number in four bytes; want of memory where it is too great for that.
-fn small(number: usize) -> Result<u32, AllocError>
+/// The number in four bytes; want of memory where it is too great for that.
+pub fn small(number: usize) -> Result<u32, AllocError>
     ensures { IfOk result (λ n. n ≡ number) }
 {
     if number > u32::MAX as usize {

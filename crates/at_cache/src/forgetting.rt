@@ -10,14 +10,14 @@ ghost use Rattle.at_cache.specs.Readers.{edges_among, edges_at, facet_at};
 ghost use Rattle.at_cache.specs.Recorded.{IsIndexed, kept_in};
 ghost use Rattle.at_cache.specs.Kept.{Answers, LeavesUntouched, LosesTouched};
 
-use crate::edge::Edge;
+use crate::edge::{Edge, Slot};
 use crate::facet::{Facet, Readers};
 use crate::scope::Scope;
 use crate::table::Table;
 use at_store::{Loc, Node};
 
 // The entry that the edge tells of, if it is there, goes too: the first one that goes from now on.
-fn doom(entries: &mut Table, first: Option<usize>, edge: &Edge) -> Option<usize>
+fn doom(entries: &mut Table, first: Option<Slot>, edge: &Edge) -> Option<Slot>
     ensures written { (k : ℕ) → memory_of entries.new k ≡ dooms edge.now first (memory_of entries.old) k }
     ensures first { result ≡ first_after edge.now first (memory_of entries.old) }
     ensures len { table_len entries.new ≡ table_len entries.old }
@@ -31,7 +31,7 @@ fn doom(entries: &mut Table, first: Option<usize>, edge: &Edge) -> Option<usize>
 }
 
 // So do those that all these edges tell of.
-fn doom_all(entries: &mut Table, first: Option<usize>, edges: &[Edge]) -> Option<usize>
+fn doom_all(entries: &mut Table, first: Option<Slot>, edges: &[Edge]) -> Option<Slot>
     ensures works { (old : Memory) (start : List Edge) → Work old start edges.now first (memory_of entries.old)
         → Work old start [] result (memory_of entries.new) }
     ensures len { table_len entries.new ≡ table_len entries.old }
@@ -58,12 +58,12 @@ fn is_touched<F: Fn(Loc) -> bool>(node: Node, facet: Facet, scope: Scope, touche
 /// What reads a touched location in the scope of the node goes: the first one that goes.
 pub fn begin_at<F: Fn(Loc) -> bool>(
     entries: &mut Table,
-    first: Option<usize>,
+    first: Option<Slot>,
     node: Node,
     readers: &[Readers],
     scope: Scope,
     touched: &F,
-) -> Option<usize>
+) -> Option<Slot>
     requires { F.IsAlwaysCallable touched.now }
     ensures { GoesOn (Answers (F.post touched.now)) (looks_at scope) (edges_among node readers.now) first
         (memory_of entries.old) result (memory_of entries.new) }
@@ -82,7 +82,7 @@ fn begin<F: Fn(Loc) -> bool>(
     entries: &mut Table,
     readers: &[Vec<Readers>],
     touched: &F,
-) -> Option<usize>
+) -> Option<Slot>
     requires callable { F.IsAlwaysCallable touched.now }
     requires short { length readers.now ≤ 2 ^ 32 }
     ensures { IsIdle (memory_of entries.old) → (start : List Edge) × Work (memory_of entries.old) start [] result (memory_of entries.new)
@@ -103,7 +103,7 @@ fn begin<F: Fn(Loc) -> bool>(
 }
 
 // The first entry that goes is taken out, and those that used it go, too.
-fn forget(entries: &mut Table, slot: usize) -> Option<usize>
+fn forget(entries: &mut Table, slot: Slot) -> Option<Slot>
     ensures works { (old : Memory) (start : List Edge) → Work old start [] (Some slot) (memory_of entries.old)
         → Work old start [] result (memory_of entries.new) }
     ensures fewer { (table_len entries.new < table_len entries.old) ⊎ ((result ≡ None) × (table_len entries.new ≡ table_len entries.old)) }
@@ -115,7 +115,7 @@ fn forget(entries: &mut Table, slot: usize) -> Option<usize>
 }
 
 /// All that go are taken out.
-pub fn forget_all(entries: &mut Table, first: Option<usize>)
+pub fn forget_all(entries: &mut Table, first: Option<Slot>)
     ensures works { (old : Memory) (start : List Edge) → Work old start [] first (memory_of entries.old) → Work old start [] None (memory_of entries.new) }
 {
     let mut first = first;
@@ -131,9 +131,9 @@ pub fn take_out<F: Fn(Loc) -> bool>(entries: &mut Table, readers: &[Vec<Readers>
     ensures indexed { (puts : ℕ) → IsIndexed (edges_at readers.now) puts (memory_of entries.old)
         → IsIndexed (edges_at readers.now) puts (memory_of entries.new) }
     ensures leaves { (puts : ℕ) → IsIndexed (edges_at readers.now) puts (memory_of entries.old)
-        → LeavesUntouched (Answers (F.post touched.now)) (kept_in entries.old puts) (kept_in entries.new puts) }
+        → LeavesUntouched (Answers (F.post touched.now)) (kept_in (edges_at readers.now) entries.old puts) (kept_in (edges_at readers.now) entries.new puts) }
     ensures loses { (puts : ℕ) → IsIndexed (edges_at readers.now) puts (memory_of entries.old)
-        → LosesTouched (Answers (F.post touched.now)) (kept_in entries.old puts) (kept_in entries.new puts) }
+        → LosesTouched (Answers (F.post touched.now)) (kept_in (edges_at readers.now) entries.old puts) (kept_in (edges_at readers.now) entries.new puts) }
 {
     let first = begin(entries, readers, touched);
     forget_all(entries, first);

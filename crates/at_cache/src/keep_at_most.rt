@@ -1,11 +1,12 @@
 //! The keeper that takes no more than a number of entries through an edit.
 
-ghost use Rattle.std.specs.Prelude.{◌≡◌, ◌-◌, ◌^◌, min, None, OnErr, IfOk, false, true};
+ghost use Rattle.std.specs.Prelude.{◌≡◌, ◌-◌, ◌^◌, min, None, OnErr, IfOk, false, true, map, option_map};
 ghost use Rattle.at_body.specs.Values.{value_view};
-ghost use Rattle.at_cache.specs.Info.{table_len};
+ghost use Rattle.at_store.specs.Located.{loc_view};
+ghost use Rattle.at_cache.specs.Info.{memory_of, table_len};
+ghost use Rattle.at_cache.specs.Stored.{reads_held};
 ghost use Rattle.at_cache.specs.Bound.{ForgetsOver, kept_by};
 ghost use Rattle.at_cache.specs.Kept.{Answers, AreKept, AreNamed, HasPut, KeepsAll, LeavesUntouched};
-ghost use Rattle.at_cache.specs.Recorded.{reads_held};
 
 use crate::keep_recorded::KeepRecorded;
 use crate::keeper::{Keeper, Put};
@@ -52,9 +53,10 @@ impl KeepAtMost {
         self.keeper.len()
     }
 
-    /// How many direct reads the entries hold, or the greatest `usize` if there are more.
+    /// How many locations the entries read, a location once for each entry; or the greatest `usize` if they are more. It goes over all
+    /// that was ever read.
     pub fn stored(&self) -> usize
-        ensures { result ≡ min (reads_held self.now.keeper.entries.entries.entries) (2 ^ 64 - 1) }
+        ensures { result ≡ min (reads_held (memory_of self.now.keeper.entries) self.now.keeper.readers.items) (2 ^ 64 - 1) }
     {
         self.keeper.stored()
     }
@@ -69,16 +71,20 @@ impl Keeper for KeepAtMost {
         self.keeper.get(inst)
     }
 
+    fn stands(&self, inst: &Inst) -> bool {
+        self.keeper.stands(inst)
+    }
+
     fn put(
         &mut self,
         inst: Inst,
-        value: Value,
-        reads: Vec<Loc>,
+        value: Option<Value>,
+        reads: &[Loc],
         uses: &[Inst],
     ) -> Result<Put, AllocError>
         requires absent { kept_by self.old inst ≡ None }
         requires present { AreKept (kept_by self.old) uses.now }
-        ensures puts { IfOk result (HasPut true (kept_by self.old) inst (value_view value) reads uses.now (kept_by self.new)) }
+        ensures puts { IfOk result (HasPut true (kept_by self.old) inst (option_map value_view value) (map loc_view reads.now) uses.now (kept_by self.new)) }
         ensures err { OnErr result (KeepsAll (kept_by self.old) (kept_by self.new)) }
         ensures bound { self.new.most ≡ self.old.most }
     {

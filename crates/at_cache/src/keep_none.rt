@@ -27,14 +27,18 @@ impl Keeper for KeepNone {
         None
     }
 
+    fn stands(&self, _inst: &Inst) -> bool {
+        false
+    }
+
     fn put(
         &mut self,
         _inst: Inst,
-        _value: Value,
-        reads: Vec<Loc>,
+        _value: Option<Value>,
+        _reads: &[Loc],
         _uses: &[Inst],
     ) -> Result<Put, AllocError> {
-        Ok(Put::Left(reads))
+        Ok(Put::Left)
     }
 
     fn flush<F: Fn(Loc) -> bool>(&mut self, _touched: &F) {}

@@ -5,13 +5,15 @@ ghost use Rattle.at_cache.specs.Asking.{AreNoted};
 ghost use Rattle.at_cache.specs.Info.{memory_of, table_len};
 ghost use Rattle.at_cache.specs.Kept.{KeepsAll};
 ghost use Rattle.at_cache.specs.Readers.{edges_at};
-ghost use Rattle.at_cache.specs.Recorded.{IsIndexed, kept_in, reads_held};
+ghost use Rattle.at_cache.specs.Recorded.{IsIndexed, kept_in};
+ghost use Rattle.at_cache.specs.Stored.{reads_held};
 
 use crate::facet::Readers;
 use crate::forgetting::take_out;
 use crate::keeper::{Keeper, Put};
 use crate::places::take_out_at;
 use crate::putting::enter_with;
+use crate::stored::reads_held;
 use crate::table::Table;
 use at_body::{Inst, Value};
 use at_store::{Loc, Node, Places};
@@ -19,7 +21,8 @@ use indexmap::IndexMap;
 use slab::Slab;
 use std::alloc::{AllocError, Global};
 
-/// Keeps each value with its direct reads and with links to earlier entries, and finds from a location the entries that rest on it.
+/// Keeps each value with links to the entries that it used, and finds from a location the entries that read it, and from an entry those
+/// that used it.
 pub struct KeepRecorded {
     alloc: Global,
     entries: Table,
@@ -50,7 +53,7 @@ impl Drop for KeepRecorded {
 impl KeepRecorded {
     /// A keeper that keeps nothing yet.
     pub fn new(alloc: Global) -> KeepRecorded
-        ensures { KeepsAll (λ _. None) (kept_in result.entries result.puts) }
+        ensures { KeepsAll (λ _. None) (kept_in (edges_at result.readers.items) result.entries result.puts) }
     {
         KeepRecorded {
             alloc,
@@ -71,33 +74,34 @@ impl KeepRecorded {
         self.entries.entries.len()
     }
 
-    /// How many direct reads the entries hold, or the greatest `usize` if there are more.
+    /// How many locations the entries read, a location once for each entry; or the greatest `usize` if they are more. It goes over all
+    /// that was ever read.
     pub fn stored(&self) -> usize
-        ensures { result ≡ min (reads_held self.now.entries.entries.entries) (2 ^ 64 - 1) }
+        ensures { result ≡ min (reads_held (memory_of self.now.entries) self.now.readers.items) (2 ^ 64 - 1) }
     {
-        let mut count: usize = 0;
-        for entry in self.entries.entries.values() {
-            count = count.saturating_add(entry.reads.len());
-        }
-        count
+        reads_held(&self.entries, self.readers.as_slice())
     }
 }
 
 impl Keeper for KeepRecorded {
-    ghost contents = { λ k. kept_in k.entries k.puts };
+    ghost contents = { λ k. kept_in (edges_at k.readers.items) k.entries k.puts };
 
     ghost exact = { true };
 
     fn get(&self, inst: &Inst) -> Option<&Value> {
         let entry = self.entries.entries.get(inst)?;
-        Some(&entry.value)
+        entry.value.as_ref()
+    }
+
+    fn stands(&self, inst: &Inst) -> bool {
+        self.entries.entries.contains_key(inst)
     }
 
     fn put(
         &mut self,
         inst: Inst,
-        value: Value,
-        reads: Vec<Loc>,
+        value: Option<Value>,
+        reads: &[Loc],
         uses: &[Inst],
     ) -> Result<Put, AllocError> {
         let stamp = self.puts;

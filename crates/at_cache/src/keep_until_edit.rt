@@ -10,7 +10,7 @@ use at_store::{Loc, Places};
 use indexmap::IndexMap;
 use std::alloc::{AllocError, Global};
 
-/// Keeps each value until the next edit: an entry stands for every location.
+/// Keeps each value until the next edit: an entry stands for every location, and so none without a value is wanted.
 #[derive(Drop)]
 pub struct KeepUntilEdit {
     values: IndexMap<Inst, Value>,
@@ -36,13 +36,20 @@ impl Keeper for KeepUntilEdit {
         self.values.get(inst)
     }
 
+    fn stands(&self, inst: &Inst) -> bool {
+        self.values.contains_key(inst)
+    }
+
     fn put(
         &mut self,
         inst: Inst,
-        value: Value,
-        _reads: Vec<Loc>,
+        value: Option<Value>,
+        _reads: &[Loc],
         _uses: &[Inst],
     ) -> Result<Put, AllocError> {
+        let Some(value) = value else {
+            return Ok(Put::Left);
+        };
         self.values.insert(inst, value)?;
         Ok(Put::Kept)
     }

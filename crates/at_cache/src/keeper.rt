@@ -1,25 +1,27 @@
 //! What every keeper does.
 
-ghost use Rattle.std.specs.Prelude.{◌≡◌, ℕ, Option, None, Bool, IsTrue, IfOk, OnErr};
+ghost use Rattle.std.specs.Prelude.{◌≡◌, ℕ, Option, None, Bool, IsTrue, IfOk, OnErr, is_some, map};
 ghost use Rattle.std.specs.Option.{option_map};
 ghost use Rattle.at_model.specs.Run.{Instance};
 ghost use Rattle.at_body.specs.Values.{value_view};
-ghost use Rattle.at_cache.specs.Kept.{AreNamed, Kept, KeepsAll, HasPut, AreKept, Answers, LeavesUntouched, LosesTouched};
+ghost use Rattle.at_store.specs.Located.{loc_view};
+ghost use Rattle.at_cache.specs.Kept.{AreNamed, Kept, KeepsAll, HasPut, AreKept, Answers, LeavesUntouched, LosesTouched, value_at};
 
 use at_body::{Inst, Value};
 use at_store::{Loc, Places};
 use std::alloc::AllocError;
 
-/// What became of a value that was put.
-#[derive(Drop)]
+/// What became of an entry that was put.
+#[derive(Clone, Copy, PartialEq, Eq, Debug)]
 pub enum Put {
-    /// It is kept.
+    /// It is there.
     Kept,
-    /// It isn't, as a keeper that isn't exact may choose; its locations are handed back.
-    Left(Vec<Loc>),
+    /// It isn't, as a keeper that isn't exact may choose.
+    Left,
 }
 
-/// Keeps values of instances, each with the locations that it stands for.
+/// Keeps values of instances, each with the locations that it stands for. An entry may be without a value: then it only stands for
+/// what its instance rests on, for the entries that use it.
 pub trait Keeper: Drop {
     /// The entries, as a finite map.
     ghost contents: { Self → Instance ℕ → Option Kept };
@@ -29,20 +31,24 @@ pub trait Keeper: Drop {
 
     /// The kept value of the instance.
     fn get(&self, inst: &Inst) -> Option<&Value>
-        ensures { option_map (λ v. value_view v.now) result ≡ option_map (λ k. k.value) (contents self.now inst.now) };
+        ensures { option_map (λ v. value_view v.now) result ≡ value_at (contents self.now inst.now) };
 
-    /// Keeps the value of an instance that isn't kept, for the locations in `reads`, which the entry takes over, and those of the
+    /// Whether the instance has an entry, with a value or without one.
+    fn stands(&self, inst: &Inst) -> bool
+        ensures { result ≡ is_some (contents self.now inst.now) };
+
+    /// Makes the entry of an instance that has none, with its value where that is kept, for the locations in `reads` and those of the
     /// entries of `uses`; or leaves all as it is. An error where memory is wanting: all is then as it was.
     fn put(
         &mut self,
         inst: Inst,
-        value: Value,
-        reads: Vec<Loc>,
+        value: Option<Value>,
+        reads: &[Loc],
         uses: &[Inst],
     ) -> Result<Put, AllocError>
         requires absent { contents self.old inst ≡ None }
         requires present { AreKept (contents self.old) uses.now }
-        ensures puts { IfOk result (HasPut exact (contents self.old) inst (value_view value) reads uses.now (contents self.new)) }
+        ensures puts { IfOk result (HasPut exact (contents self.old) inst (option_map value_view value) (map loc_view reads.now) uses.now (contents self.new)) }
         ensures err { OnErr result (KeepsAll (contents self.old) (contents self.new)) };
 
     /// Forgets each entry that stands for a touched location.

@@ -1,16 +1,18 @@
-//! Keepers: what stands ready of the values of lazy attributes, each with the locations that it rests on.
+//! Keepers: what stands ready of the values of lazy attributes, each with the locations that it rests on. An entry
+//! without a value stands only for what its instance rests on: those that use it need no locations of their own for that.
 //!
 //! **Its specs:** `Kept` has the laws that every keeper meets. Of the recording one, `Info` is what is kept by
 //! slots, `Readers` who read which location, `Recorded` what an entry stands for and how it is found (`IsIndexed`),
-//! `Placed` where entries stand, `Putting` one more, `Flushing` a flush under way and `Asking` where one begins,
-//! `Slots` single writes. `UntilEdit` is the keeper that forgets all at an edit.
+//! `Keeping` what the keeper keeps, `Placed` where entries stand, `Putting` one more, `Flushing` a flush under way and
+//! `Asking` where one begins, `Slots` single writes, `Stored` how many locations are read. `UntilEdit` is the keeper that forgets all at an edit.
 //!
 //! **Where to begin:** the trait in `keeper.rt`, then `keep_recorded.rt`: `table.rt` holds the entries,
 //! `linking.rt` the edges; `putting.rt` is `put`, `forgetting.rt` a flush, `places.rt` one by places.
 //! `keep_at_most.rt` is a keeper over it, with a bound.
 //!
-//! **What it keeps true:** each entry is found from all that it rests on, and what is found so rests on that. An
-//! edge whose entry is gone means nothing: its `put`'s number is no other one's. A flush takes no memory.
+//! **What it keeps true:** what an entry read is said by the edges of locations alone; each entry is found from those
+//! that it used, and what is found so used them. An edge whose entry is gone means nothing: its `put`'s number is no other
+//! one's. A flush takes no memory.
 #![tactic(auto)]
 
 mod edge;
@@ -29,6 +31,7 @@ mod places;
 mod putting;
 mod scope;
 mod slots;
+mod stored;
 mod table;
 
 pub use keep_at_most::KeepAtMost;

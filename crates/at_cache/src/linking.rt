@@ -14,7 +14,7 @@ ghost use Rattle.at_cache.specs.Readers.{edges_among, edges_at, facet_at};
 ghost use Rattle.at_cache.specs.Slots.{HasChanged, ListsAt, with_edges};
 ghost use Rattle.smallvec.specs.SmallVec.{SmallVec};
 
-use crate::edge::{Edge, Edges};
+use crate::edge::{Edge, Edges, Slot};
 use crate::facet::{Facet, Readers};
 use crate::noting::note;
 use crate::table::Table;
@@ -36,14 +36,11 @@ fn purge(entries: &Table, edges: &mut Edges)
     }
 }
 
-// Makes room for one more edge: a list that is full loses the edges that tell of no entry first, and gets more room only where
-// half of it or less is left then.
+// Makes room for one more edge of a list that is full: it loses the edges that tell of no entry first, and gets more room only
+// where half of it or less is left then.
 fn make_room(entries: &Table, edges: &mut Edges) -> Result<(), AllocError>
     ensures { Keeps (memory_of entries.now) edges.old.items edges.new.items }
 {
-    if edges.len() < edges.capacity() {
-        return Ok(());
-    }
     purge(entries, edges);
     let count = edges.len();
     if count >= edges.capacity() / 2 {
@@ -52,14 +49,28 @@ fn make_room(entries: &Table, edges: &mut Edges) -> Result<(), AllocError>
     Ok(())
 }
 
-// One more edge of a list.
-fn add_edge(entries: &Table, edges: &mut Edges, edge: Edge) -> Result<(), AllocError>
+// One more edge of a list that is full.
+#[inline(never)]
+fn add_to_full(entries: &Table, edges: &mut Edges, edge: Edge) -> Result<(), AllocError>
     ensures lists { Lists (memory_of entries.now) edge edges.old.items edges.new.items }
     ensures has { OnOk result (Contains edges.new.items edge) }
 {
     make_room(entries, edges)?;
     edges.push(edge)?;
     Ok(())
+}
+
+// One more edge of a list.
+#[inline(always)]
+fn add_edge(entries: &Table, edges: &mut Edges, edge: Edge) -> Result<(), AllocError>
+    ensures lists { Lists (memory_of entries.now) edge edges.old.items edges.new.items }
+    ensures has { OnOk result (Contains edges.new.items edge) }
+{
+    if edges.len() < edges.capacity() {
+        edges.push_reserved(edge);
+        return Ok(());
+    }
+    add_to_full(entries, edges, edge)
 }
 
 // Where the facet stands among those of a node, if it does.
@@ -169,7 +180,7 @@ fn add_reader(
 }
 
 // One more edge to an entry that used this one.
-fn add_user(alloc: Global, entries: &mut Table, slot: usize, edge: Edge) -> Result<(), AllocError>
+fn add_user(alloc: Global, entries: &mut Table, slot: Slot, edge: Edge) -> Result<(), AllocError>
     requires there { IsSome (memory_of entries.old slot) }
     ensures lists { (users : List Edge) × ((k : ℕ) → memory_of entries.new k ≡ reused slot users (memory_of entries.old) k)
         × Lists (memory_of entries.old) edge (users_at (memory_of entries.old) slot) users × OnOk result (Contains users edge) }
@@ -208,7 +219,7 @@ pub fn add_readers(
 pub fn add_users(
     alloc: Global,
     entries: &mut Table,
-    slots: &[usize],
+    slots: &[Slot],
     edge: Edge,
 ) -> Result<(), AllocError>
     requires there { AreTaken (memory_of entries.old) slots.now }

@@ -3,6 +3,8 @@
 ghost use Rattle.std.specs.Prelude.{◌≡◌, true};
 ghost use Rattle.at_cache.specs.Info.{is_going, next_of};
 
+use crate::edge::Slot;
+
 /// Whether the flush under way takes an entry out, and which one it takes out next.
 #[derive(Clone, Copy)]
 pub enum Mark {
@@ -11,12 +13,12 @@ pub enum Mark {
     /// It goes, as the last one.
     Last,
     /// It goes before the one in this slot.
-    Before(usize),
+    Before(Slot),
 }
 
 impl Mark {
     /// The mark of an entry that goes before these, from the first one on.
-    pub fn before(first: Option<usize>) -> Mark
+    pub fn before(first: Option<Slot>) -> Mark
         ensures going { is_going result ≡ true }
         ensures next { next_of result ≡ first }
     {
@@ -38,7 +40,7 @@ impl Mark {
     }
 
     /// The slot of the one that goes next.
-    pub fn next(self) -> Option<usize>
+    pub fn next(self) -> Option<Slot>
         ensures { result ≡ next_of self }
     {
         match self {

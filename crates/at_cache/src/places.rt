@@ -10,6 +10,7 @@ ghost use Rattle.at_cache.specs.Kept.{Answers, AreNamed, LeavesUntouched, LosesT
 ghost use Rattle.at_cache.specs.Readers.{edges_at};
 ghost use Rattle.at_cache.specs.Recorded.{IsIndexed, kept_in};
 
+use crate::edge::Slot;
 use crate::facet::Readers;
 use crate::forgetting::{begin_at, forget_all};
 use crate::scope::Scope;
@@ -19,12 +20,12 @@ use at_store::{Changing, Loc, Node, Places};
 // What reads a touched location in the scope of the node goes: the first one that goes.
 fn begin_node<F: Fn(Loc) -> bool>(
     entries: &mut Table,
-    first: Option<usize>,
+    first: Option<Slot>,
     readers: &[Vec<Readers>],
     node: Node,
     scope: Scope,
     touched: &F,
-) -> Option<usize>
+) -> Option<Slot>
     requires { F.IsAlwaysCallable touched.now }
     ensures { GoesOn (Answers (F.post touched.now)) (sees scope node) (edges_at readers.now) first (memory_of entries.old) result (memory_of entries.new) }
 {
@@ -37,12 +38,12 @@ fn begin_node<F: Fn(Loc) -> bool>(
 // So does what reads one in that scope of any of the nodes.
 fn begin_nodes<F: Fn(Loc) -> bool>(
     entries: &mut Table,
-    first: Option<usize>,
+    first: Option<Slot>,
     readers: &[Vec<Readers>],
     nodes: &[Node],
     scope: Scope,
     touched: &F,
-) -> Option<usize>
+) -> Option<Slot>
     requires { F.IsAlwaysCallable touched.now }
     ensures { GoesOn (Answers (F.post touched.now)) (λ l. list_any (λ n. sees scope n l) nodes.now) (edges_at readers.now) first
         (memory_of entries.old) result (memory_of entries.new) }
@@ -58,12 +59,12 @@ fn begin_nodes<F: Fn(Loc) -> bool>(
 // looked at.
 fn begin_children<F: Fn(Loc) -> bool>(
     entries: &mut Table,
-    first: Option<usize>,
+    first: Option<Slot>,
     readers: &[Vec<Readers>],
     index_read: &[Node],
     children: &[Node],
     touched: &F,
-) -> Option<usize>
+) -> Option<Slot>
     requires callable { F.IsAlwaysCallable touched.now }
     requires noted { AreNoted (edges_at readers.now) index_read.now }
     ensures goes_on { GoesOn (Answers (F.post touched.now)) (is_index_among children.now) (edges_at readers.now) first
@@ -80,12 +81,12 @@ fn begin_children<F: Fn(Loc) -> bool>(
 // What reads a touched location of the node goes, or the touched index of one of its children there.
 fn begin_around<F: Fn(Loc) -> bool>(
     entries: &mut Table,
-    first: Option<usize>,
+    first: Option<Slot>,
     readers: &[Vec<Readers>],
     index_read: &[Node],
     changing: &Option<Changing<'_>>,
     touched: &F,
-) -> Option<usize>
+) -> Option<Slot>
     requires callable { F.IsAlwaysCallable touched.now }
     requires noted { AreNoted (edges_at readers.now) index_read.now }
     ensures goes_on { GoesOn (Answers (F.post touched.now)) (names_around changing.now) (edges_at readers.now) first
@@ -103,11 +104,11 @@ fn begin_around<F: Fn(Loc) -> bool>(
 // What reads a touched location of the node goes, if there is one.
 fn begin_moved<F: Fn(Loc) -> bool>(
     entries: &mut Table,
-    first: Option<usize>,
+    first: Option<Slot>,
     readers: &[Vec<Readers>],
     moved: Option<Node>,
     touched: &F,
-) -> Option<usize>
+) -> Option<Slot>
     requires { F.IsAlwaysCallable touched.now }
     ensures { GoesOn (Answers (F.post touched.now)) (λ l. is_node moved (node_of l)) (edges_at readers.now) first
         (memory_of entries.old) result (memory_of entries.new) }
@@ -125,7 +126,7 @@ fn begin_named<F: Fn(Loc) -> bool>(
     index_read: &[Node],
     places: &Places<'_>,
     touched: &F,
-) -> Option<usize>
+) -> Option<Slot>
     requires callable { F.IsAlwaysCallable touched.now }
     requires noted { AreNoted (edges_at readers.now) index_read.now }
     ensures goes_on { GoesOn (Answers (F.post touched.now)) (named places.now) (edges_at readers.now) None
@@ -152,9 +153,9 @@ pub fn take_out_at<F: Fn(Loc) -> bool>(
     ensures indexed { (puts : ℕ) → IsIndexed (edges_at readers.now) puts (memory_of entries.old)
         → IsIndexed (edges_at readers.now) puts (memory_of entries.new) }
     ensures leaves { (puts : ℕ) → IsIndexed (edges_at readers.now) puts (memory_of entries.old)
-        → LeavesUntouched (Answers (F.post touched.now)) (kept_in entries.old puts) (kept_in entries.new puts) }
+        → LeavesUntouched (Answers (F.post touched.now)) (kept_in (edges_at readers.now) entries.old puts) (kept_in (edges_at readers.now) entries.new puts) }
     ensures loses { (puts : ℕ) → IsIndexed (edges_at readers.now) puts (memory_of entries.old)
-        → LosesTouched (Answers (F.post touched.now)) (kept_in entries.old puts) (kept_in entries.new puts) }
+        → LosesTouched (Answers (F.post touched.now)) (kept_in (edges_at readers.now) entries.old puts) (kept_in (edges_at readers.now) entries.new puts) }
 {
     let first = begin_named(entries, readers, index_read, places, touched);
     forget_all(entries, first);

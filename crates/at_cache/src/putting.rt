@@ -1,6 +1,6 @@
 //! One entry more.
 
-ghost use Rattle.std.specs.Prelude.{◌≡◌, ◌≤◌, ◌+◌, ◌^◌, ℕ, true, None, IfOk, OnErr, length, map};
+ghost use Rattle.std.specs.Prelude.{◌≡◌, ◌≤◌, ◌+◌, ◌^◌, ℕ, true, None, IfOk, OnErr, length, map, option_map};
 ghost use Rattle.std.specs.Map.{lookup};
 ghost use Rattle.at_model.specs.Run.{Instance};
 ghost use Rattle.at_body.specs.Same.{same_instance};
@@ -14,7 +14,7 @@ ghost use Rattle.at_cache.specs.Readers.{edges_at};
 ghost use Rattle.at_cache.specs.Recorded.{AreOf, IsIndexed, kept_in};
 
 use crate::edge::{Edge, Edges};
-use crate::entry::{Entry, Links, Locations};
+use crate::entry::{Entry, Links};
 use crate::facet::Readers;
 use crate::keeper::Put;
 use crate::linking::{add_readers, add_users};
@@ -38,21 +38,13 @@ fn slots_of(alloc: Global, entries: &Table, uses: &[Inst]) -> Result<Links, Allo
     Ok(slots)
 }
 
-// The locations in an entry's own list. What they took is given back, and serves the next evaluation.
-fn moved_in(alloc: Global, reads: Vec<Loc>) -> Result<Locations, AllocError>
-    ensures { IfOk result (λ locations. locations.items ≡ reads.items) }
-{
-    Locations::from_slice(alloc, reads.as_slice())
-}
-
 // An entry that is to come, which that edge tells of.
-fn fresh(alloc: Global, value: Value, reads: Locations, links: Links, edge: Edge) -> Entry
-    ensures entry { (i : Instance ℕ) → info (i, result) ≡ fresh_entry i (value_view value) (map loc_view reads.items) links.items edge.stamp }
+fn fresh(alloc: Global, value: Option<Value>, links: Links, edge: Edge) -> Entry
+    ensures entry { (i : Instance ℕ) → info (i, result) ≡ fresh_entry i (option_map value_view value) links.items edge.stamp }
     ensures slot { result.slot ≡ edge.slot }
 {
     Entry {
         value,
-        reads,
         links,
         slot: edge.slot,
         stamp: edge.stamp,
@@ -69,8 +61,8 @@ pub fn enter_with(
     index_read: &mut Vec<Node>,
     stamp: u64,
     inst: Inst,
-    value: Value,
-    reads: Vec<Loc>,
+    value: Option<Value>,
+    reads: &[Loc],
     uses: &[Inst],
 ) -> Result<Put, AllocError>
     requires absent { lookup (same_instance inst) entries.old.entries.entries ≡ None }
@@ -79,25 +71,16 @@ pub fn enter_with(
     ensures noted { AreNoted (edges_at readers.old.items) index_read.old.items → AreNoted (edges_at readers.new.items) index_read.new.items }
     ensures short { length readers.old.items ≤ 2 ^ 32 → length readers.new.items ≤ 2 ^ 32 }
     ensures puts { IsIndexed (edges_at readers.old.items) stamp (memory_of entries.old)
-        → IfOk result (HasPut true (kept_in entries.old stamp) inst (value_view value) reads uses.now (kept_in entries.new (stamp + 1))) }
+        → IfOk result (HasPut true (kept_in (edges_at readers.old.items) entries.old stamp) inst (option_map value_view value) (map loc_view reads.now)
+        uses.now (kept_in (edges_at readers.new.items) entries.new (stamp + 1))) }
     ensures err { IsIndexed (edges_at readers.old.items) stamp (memory_of entries.old)
-        → OnErr result (KeepsAll (kept_in entries.old stamp) (kept_in entries.new (stamp + 1))) }
+        → OnErr result (KeepsAll (kept_in (edges_at readers.old.items) entries.old stamp) (kept_in (edges_at readers.new.items) entries.new (stamp + 1))) }
 {
-    let locations = moved_in(alloc, reads)?;
     let links = slots_of(alloc, entries, uses)?;
-    let edge = Edge {
-        slot: entries.next(),
-        stamp,
-    };
-    add_readers(
-        alloc,
-        entries,
-        readers,
-        index_read,
-        locations.as_slice(),
-        edge,
-    )?;
+    let slot = entries.next()?;
+    let edge = Edge { slot, stamp };
+    add_readers(alloc, entries, readers, index_read, reads, edge)?;
     add_users(alloc, entries, links.as_slice(), edge)?;
-    entries.enter(inst, fresh(alloc, value, locations, links, edge))?;
+    entries.enter(inst, fresh(alloc, value, links, edge))?;
     Ok(Put::Kept)
 }

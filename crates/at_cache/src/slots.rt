@@ -1,6 +1,6 @@
 //! What is done to entries by their slots.
 
-ghost use Rattle.std.specs.Prelude.{◌≡◌, ◌<◌, ◌+◌, ◌&&◌, ◌++◌, ◌∷◌, [], not, ℕ, Option, None, Some, IsSome, option_map, nat_eq, if◌then◌else◌, slice_get, OnSome, OnErr, OnOk, IfNone, IfSome, MatchBool, is_some, ◌≢◌};
+ghost use Rattle.std.specs.Prelude.{◌≡◌, ◌<◌, ◌+◌, ◌&&◌, ◌++◌, ◌∷◌, [], not, ℕ, Option, None, Some, IsSome, option_map, nat_eq, if◌then◌else◌, slice_get, OnSome, OnErr, OnOk, IfNone, IfOk, IfSome, MatchBool, is_some, ◌≢◌};
 ghost use Rattle.std.specs.Map.{lookup};
 ghost use Rattle.at_model.specs.Run.{Instance};
 ghost use Rattle.at_body.specs.Same.{same_instance};
@@ -12,8 +12,9 @@ ghost use Rattle.at_cache.specs.Flushing.{doomed, is_fresh};
 ghost use Rattle.at_cache.specs.Putting.{Enters, is_current, reused, users_at};
 ghost use Rattle.at_cache.specs.Slots.{HasWritten, with_list, with_mark};
 
-use crate::edge::{Edge, Edges};
+use crate::edge::{Edge, Edges, Slot};
 use crate::entry::Entry;
+use crate::facet::small;
 use crate::mark::Mark;
 use crate::table::Table;
 use at_body::Inst;
@@ -43,10 +44,10 @@ fn write_users(entries: &mut IndexMap<Inst, Entry>, place: usize, users: Edges) 
 
 impl Table {
     /// The entry in the slot.
-    fn pair(&self, slot: usize) -> Option<(&Inst, &Entry)>
+    fn pair(&self, slot: Slot) -> Option<(&Inst, &Entry)>
         ensures { option_map (λ e. (e.0.now, e.1.now)) result ≡ at self.now.entries.entries (get self.now.places) slot }
     {
-        let place = self.places.get(slot)?;
+        let place = self.places.get(slot as usize)?;
         self.entries.get_index(*place)
     }
 
@@ -71,18 +72,18 @@ impl Table {
     }
 
     /// The entry in the slot goes, before these.
-    pub fn set_going(&mut self, slot: usize, first: Option<usize>)
+    pub fn set_going(&mut self, slot: Slot, first: Option<Slot>)
         requires there { IsSome (memory_of self.old slot) }
         ensures written { (k : ℕ) → memory_of self.new k ≡ (if nat_eq k slot then option_map (doomed first) (memory_of self.old k) else memory_of self.old k) }
         ensures len { table_len self.new ≡ table_len self.old }
     {
-        if let Some(place) = self.places.get(slot) {
+        if let Some(place) = self.places.get(slot as usize) {
             write_mark(&mut self.entries, *place, Mark::before(first));
         }
     }
 
     /// The edges to those that used the entry in the slot, which has these then.
-    pub fn exchange_users(&mut self, slot: usize, users: Edges) -> Edges
+    pub fn exchange_users(&mut self, slot: Slot, users: Edges) -> Edges
         requires there { IsSome (memory_of self.old slot) }
         ensures written { (k : ℕ) → memory_of self.new k ≡ reused slot users.items (memory_of self.old) k }
         ensures was { result.items ≡ users_at (memory_of self.old) slot }
@@ -90,22 +91,21 @@ impl Table {
         ensures absent { (i : Instance ℕ) → lookup (same_instance i) self.old.entries.entries ≡ None
             → lookup (same_instance i) self.new.entries.entries ≡ None }
     {
-        match self.places.get(slot) {
+        match self.places.get(slot as usize) {
             Some(place) => write_users(&mut self.entries, *place, users),
             None => users,
         }
     }
 
-    /// The slot that the next entry gets.
-    pub fn next(&self) -> usize
-        ensures key { result ≡ self.now.places.vacant_key }
-        ensures free { memory_of self.now result ≡ None }
+    /// The slot that the next entry gets; want of memory where there are too many for one more.
+    pub fn next(&self) -> Result<Slot, AllocError>
+        ensures { IfOk result (λ slot. slot ≡ self.now.places.vacant_key) }
     {
-        self.places.vacant_key()
+        small(self.places.vacant_key())
     }
 
     /// Takes out what is in the slot.
-    pub fn remove(&mut self, slot: usize) -> Option<Entry>
+    pub fn remove(&mut self, slot: Slot) -> Option<Entry>
         ensures value { IfSome result (λ e. (i : Instance ℕ) × (memory_of self.old slot ≡ Some (info (i, e)))) }
         ensures none { IfNone result ((memory_of self.old slot ≡ None) × (table_len self.new ≡ table_len self.old)) }
         ensures gone { OnSome result (memory_of self.new slot ≡ None) }
@@ -134,7 +134,7 @@ impl Table {
 }
 
 // The slot of what stands at the place, if anything does.
-fn slot_at(entries: &IndexMap<Inst, Entry>, place: usize) -> Option<usize>
+fn slot_at(entries: &IndexMap<Inst, Entry>, place: usize) -> Option<Slot>
     ensures { result ≡ option_map (λ e. e.1.slot) (slice_get entries.now.entries place) }
 {
     match entries.get_index(place) {
@@ -144,10 +144,10 @@ fn slot_at(entries: &IndexMap<Inst, Entry>, place: usize) -> Option<usize>
 }
 
 // The slot is where that place is, if it is taken.
-fn set_place(slots: &mut Slab<usize>, slot: usize, place: usize)
+fn set_place(slots: &mut Slab<usize>, slot: Slot, place: usize)
     ensures { (k : ℕ) → get slots.new k ≡ (if nat_eq k slot then option_map (λ q. place) (get slots.old k) else get slots.old k) }
 {
-    if let Some(at) = slots.get_mut(slot) {
+    if let Some(at) = slots.get_mut(slot as usize) {
         *at = place;
     }
 }
@@ -162,14 +162,14 @@ fn note(entries: &IndexMap<Inst, Entry>, slots: &mut Slab<usize>, place: usize)
 }
 
 // Takes out what is in the slot. All others keep their slots.
-fn take(entries: &mut IndexMap<Inst, Entry>, slots: &mut Slab<usize>, slot: usize) -> Option<Entry>
+fn take(entries: &mut IndexMap<Inst, Entry>, slots: &mut Slab<usize>, slot: Slot) -> Option<Entry>
     ensures placed { IsPlaced entries.old.entries (get slots.old) → IsPlaced entries.new.entries (get slots.new) }
     ensures removed { IsPlaced entries.old.entries (get slots.old) → result ≡ option_map (λ e. e.1) (at entries.old.entries (get slots.old) slot) }
     ensures others { IsPlaced entries.old.entries (get slots.old) → (k : ℕ)
         → at entries.new.entries (get slots.new) k ≡ (if nat_eq k slot then None else at entries.old.entries (get slots.old) k) }
     ensures len { IsPlaced entries.old.entries (get slots.old) → index_map_len entries.new + (if is_some result then 1 else 0) ≡ index_map_len entries.old }
 {
-    let place = slots.try_remove(slot)?;
+    let place = slots.try_remove(slot as usize)?;
     let (_instance, entry) = entries.swap_remove_index(place)?;
     note(entries, slots, place);
     Some(entry)

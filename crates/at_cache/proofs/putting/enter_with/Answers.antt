@@ -1,23 +1,22 @@
-use Rattle.std.proofs.Common.{◌∙◌, ap, map, sym, subst, refl, rules}
+use Rattle.std.proofs.Common.{◌∙◌, option_map, sym, subst, refl, rules}
 use Rattle.at_body.specs.Values.{value_view}
-use Rattle.at_store.specs.Located.{loc_view}
 use Rattle.at_cache.specs.Info.{memory_of}
 use Rattle.at_cache.specs.Putting.{AreTaken}
 use Rattle.at_cache.proofs.Done.{kept_on, put_ends, stale}
 use Rattle.at_cache.proofs.Listing.{reads_none, uses_none}
 use Rattle.at_cache.proofs.putting.enter_with.Goals as goal
 
-pub returns-in_err-locations-clause-indexed : goal.returns-in_err-locations-clause-indexed
-returns-in_err-locations-clause-indexed c i = stale c.args.entries.now c.args.entries.now {x = record { slot = 0; stamp = c.args.stamp }} _ i refl (reads_none _ _ _) (uses_none _ _)
-
-pub returns-in_err-locations-clause-err : goal.returns-in_err-locations-clause-err
-returns-in_err-locations-clause-err c i = let k = kept_on c.args.entries.now c.args.entries.now {x = record { slot = 0; stamp = c.args.stamp }} _ i refl (reads_none _ _ _) (uses_none _ _) in search rules
-
 pub returns-in_err-links-clause-indexed : goal.returns-in_err-links-clause-indexed
 returns-in_err-links-clause-indexed c i = stale c.args.entries.now c.args.entries.now {x = record { slot = 0; stamp = c.args.stamp }} _ i refl (reads_none _ _ _) (uses_none _ _)
 
+pub returns-in_err-slot-clause-indexed : goal.returns-in_err-slot-clause-indexed
+returns-in_err-slot-clause-indexed c i = stale c.args.entries.now c.args.entries.now {x = record { slot = 0; stamp = c.args.stamp }} _ i refl (reads_none _ _ _) (uses_none _ _)
+
 pub returns-in_err-links-clause-err : goal.returns-in_err-links-clause-err
 returns-in_err-links-clause-err c i = let k = kept_on c.args.entries.now c.args.entries.now {x = record { slot = 0; stamp = c.args.stamp }} _ i refl (reads_none _ _ _) (uses_none _ _) in search rules
+
+pub returns-in_err-slot-clause-err : goal.returns-in_err-slot-clause-err
+returns-in_err-slot-clause-err c i = let k = kept_on c.args.entries.now c.args.entries.now {x = record { slot = 0; stamp = c.args.stamp }} _ i refl (reads_none _ _ _) (uses_none _ _) in search rules
 
 pub returns-in_err-add_readers-clause-indexed : goal.returns-in_err-add_readers-clause-indexed
 returns-in_err-add_readers-clause-indexed c i = stale c.args.entries.now c.args.entries.now _ i refl c.add_readers.ensures.reads (uses_none _ _)
@@ -33,40 +32,40 @@ returns-in_err-add_users-clause-err c i = let k = kept_on c.args.entries.now c.a
 
 pub returns-clause-indexed : goal.returns-clause-indexed
 returns-clause-indexed c i =
-    let done = put_ends c.args.entries.now c.add_users.new.entries _ i refl c.add_readers.ensures.reads c.add_users.ensures.uses c.enter.new.self c.args.inst (value_view c.args.value) c.args.uses.now _ _ c.enter.result _ _ (ap (map loc_view) (c.as_slice.ensures ∙ c.in_ok-locations.ensures)) c.as_slice-2.ensures (sym c.fresh.ensures.slot) (rw c.in_ok-locations.ensures at (c.fresh.ensures.entry c.args.inst)) c.enter.ensures.enters c.enter.ensures.err
+    let done = put_ends c.args.entries.now c.add_users.new.entries _ i refl c.add_readers.ensures.reads c.add_users.ensures.uses c.enter.new.self c.args.inst (option_map value_view c.args.value) c.args.uses.now _ _ c.enter.result _ c.as_slice.ensures (sym c.fresh.ensures.slot) (c.fresh.ensures.entry c.args.inst) c.enter.ensures.enters c.enter.ensures.err
     (rw c.in_ok-add_readers.was at c.add_readers.ensures.listed) (rw c.in_ok-add_users.was at c.add_users.ensures.listed) c.in_ok-links.ensures.taken c.in_ok-links.ensures.covers in
     done.0
 
 pub returns-clause-puts : goal.returns-clause-puts
 returns-clause-puts c i =
-    let done = put_ends c.args.entries.now c.add_users.new.entries _ i refl c.add_readers.ensures.reads c.add_users.ensures.uses c.enter.new.self c.args.inst (value_view c.args.value) c.args.uses.now _ _ c.enter.result _ _ (ap (map loc_view) (c.as_slice.ensures ∙ c.in_ok-locations.ensures)) c.as_slice-2.ensures (sym c.fresh.ensures.slot) (rw c.in_ok-locations.ensures at (c.fresh.ensures.entry c.args.inst)) c.enter.ensures.enters c.enter.ensures.err
+    let done = put_ends c.args.entries.now c.add_users.new.entries _ i refl c.add_readers.ensures.reads c.add_users.ensures.uses c.enter.new.self c.args.inst (option_map value_view c.args.value) c.args.uses.now _ _ c.enter.result _ c.as_slice.ensures (sym c.fresh.ensures.slot) (c.fresh.ensures.entry c.args.inst) c.enter.ensures.enters c.enter.ensures.err
     (rw c.in_ok-add_readers.was at c.add_readers.ensures.listed) (rw c.in_ok-add_users.was at c.add_users.ensures.listed) c.in_ok-links.ensures.taken c.in_ok-links.ensures.covers in
     rw c.in_ok-enter.was at done.1
 
 pub returns-in_err-enter-clause-indexed : goal.returns-in_err-enter-clause-indexed
 returns-in_err-enter-clause-indexed c i =
-    let done = put_ends c.args.entries.now c.add_users.new.entries _ i refl c.add_readers.ensures.reads c.add_users.ensures.uses c.enter.new.self c.args.inst (value_view c.args.value) c.args.uses.now _ _ c.enter.result _ _ (ap (map loc_view) (c.as_slice.ensures ∙ c.in_ok-locations.ensures)) c.as_slice-2.ensures (sym c.fresh.ensures.slot) (rw c.in_ok-locations.ensures at (c.fresh.ensures.entry c.args.inst)) c.enter.ensures.enters c.enter.ensures.err
+    let done = put_ends c.args.entries.now c.add_users.new.entries _ i refl c.add_readers.ensures.reads c.add_users.ensures.uses c.enter.new.self c.args.inst (option_map value_view c.args.value) c.args.uses.now _ _ c.enter.result _ c.as_slice.ensures (sym c.fresh.ensures.slot) (c.fresh.ensures.entry c.args.inst) c.enter.ensures.enters c.enter.ensures.err
     (rw c.in_ok-add_readers.was at c.add_readers.ensures.listed) (rw c.in_ok-add_users.was at c.add_users.ensures.listed) c.in_ok-links.ensures.taken c.in_ok-links.ensures.covers in
     done.0
 
 pub returns-in_err-enter-clause-err : goal.returns-in_err-enter-clause-err
 returns-in_err-enter-clause-err c i =
-    let done = put_ends c.args.entries.now c.add_users.new.entries _ i refl c.add_readers.ensures.reads c.add_users.ensures.uses c.enter.new.self c.args.inst (value_view c.args.value) c.args.uses.now _ _ c.enter.result _ _ (ap (map loc_view) (c.as_slice.ensures ∙ c.in_ok-locations.ensures)) c.as_slice-2.ensures (sym c.fresh.ensures.slot) (rw c.in_ok-locations.ensures at (c.fresh.ensures.entry c.args.inst)) c.enter.ensures.enters c.enter.ensures.err
+    let done = put_ends c.args.entries.now c.add_users.new.entries _ i refl c.add_readers.ensures.reads c.add_users.ensures.uses c.enter.new.self c.args.inst (option_map value_view c.args.value) c.args.uses.now _ _ c.enter.result _ c.as_slice.ensures (sym c.fresh.ensures.slot) (c.fresh.ensures.entry c.args.inst) c.enter.ensures.enters c.enter.ensures.err
     (rw c.in_ok-add_readers.was at c.add_readers.ensures.listed) (rw c.in_ok-add_users.was at c.add_users.ensures.listed) c.in_ok-links.ensures.taken c.in_ok-links.ensures.covers in
     let k = rw c.in_err-enter.was at done.2 in
     search rules
 
 pub enter-requires : goal.enter-requires
-enter-requires c = record { absent = c.add_users.ensures.absent c.args.inst c.requires.absent; slot = c.fresh.ensures.slot ∙ c.next.ensures.key ∙ sym c.add_users.ensures.key }
+enter-requires c = record { absent = c.add_users.ensures.absent c.args.inst c.requires.absent; slot = c.fresh.ensures.slot ∙ c.in_ok-slot.ensures ∙ sym c.add_users.ensures.key }
 
 pub add_users-requires : goal.add_users-requires
-add_users-requires c = record { there = subst (AreTaken (memory_of c.args.entries.now)) (sym c.as_slice-2.ensures) c.in_ok-links.ensures.taken }
-
-pub returns-in_err-locations-clause-noted : goal.returns-in_err-locations-clause-noted
-returns-in_err-locations-clause-noted c n = n
+add_users-requires c = record { there = subst (AreTaken (memory_of c.args.entries.now)) (sym c.as_slice.ensures) c.in_ok-links.ensures.taken }
 
 pub returns-in_err-links-clause-noted : goal.returns-in_err-links-clause-noted
 returns-in_err-links-clause-noted c n = n
+
+pub returns-in_err-slot-clause-noted : goal.returns-in_err-slot-clause-noted
+returns-in_err-slot-clause-noted c n = n
 
 pub returns-in_err-add_readers-clause-noted : goal.returns-in_err-add_readers-clause-noted
 returns-in_err-add_readers-clause-noted c = c.add_readers.ensures.noted

@@ -11,7 +11,7 @@ invariant_of-self g c = record {
 }
 
 pub returns-clause-leaves : goal.returns-clause-leaves
-returns-clause-leaves g c = c.take_out_at.ensures.leaves c.args.self.now.puts (rw c.as_slice.ensures.value c.args.self.now.indexed)
+returns-clause-leaves g c = rw c.as_slice.ensures.value at (c.take_out_at.ensures.leaves c.args.self.now.puts (rw c.as_slice.ensures.value c.args.self.now.indexed))
 
 pub returns-clause-loses : goal.returns-clause-loses
-returns-clause-loses g c t = c.take_out_at.ensures.loses c.args.self.now.puts (rw c.as_slice.ensures.value c.args.self.now.indexed)
+returns-clause-loses g c t = rw c.as_slice.ensures.value at (c.take_out_at.ensures.loses c.args.self.now.puts (rw c.as_slice.ensures.value c.args.self.now.indexed))

@@ -1,13 +1,15 @@
-use Rattle.std.proofs.Common.{refl}
+use Rattle.std.proofs.Common.{refl, sym, ap}
+use Rattle.std.specs.Option.{option_map}
+use Rattle.at_body.specs.Values.{value_view}
 use Rattle.at_cache.specs.UntilEdit.{kept_for_all}
 use Rattle.at_cache.proofs.Adding.{value_added}
 use Rattle.at_cache.proofs.keep_until_edit.KeepUntilEditKeeper.put.Goals as goal
 
 pub returns-clause-puts : goal.returns-clause-puts
 returns-clause-puts c = record {
-  entry = kept_for_all c.args.value;
-  value = refl;
+  entry = kept_for_all c.in-Some.value;
+  value = ap (option_map value_view) (sym c.in-Some.is);
   covers = λ l h. refl;
   only = λ t. cc;
-  adds = value_added _ _ c.args.inst c.args.value c.in_ok-insert.ensures.updates.0;
+  adds = value_added _ _ c.args.inst c.in-Some.value c.in_ok-insert.ensures.updates.0;
 }

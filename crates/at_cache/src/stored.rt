@@ -1,0 +1,42 @@
+//! How many locations the entries read.
+
+ghost use Rattle.std.specs.Prelude.{◌≡◌, ◌-◌, ◌^◌, min};
+ghost use Rattle.at_cache.specs.Info.{memory_of};
+ghost use Rattle.at_cache.specs.Stored.{current_of, held_of, reads_held};
+
+use crate::edge::Edge;
+use crate::facet::Readers;
+use crate::table::Table;
+
+/// How many locations the entries read, a location once for each of them; or the greatest `usize` if they are more.
+pub fn reads_held(entries: &Table, readers: &[Vec<Readers>]) -> usize
+    ensures { result ≡ min (reads_held (memory_of entries.now) readers.now) (2 ^ 64 - 1) }
+{
+    let mut count: usize = 0;
+    for facets in readers {
+        count = count.saturating_add(held_of(entries, facets.as_slice()));
+    }
+    count
+}
+
+// How many of these are of what is looked at of one node.
+fn held_of(entries: &Table, facets: &[Readers]) -> usize
+    ensures { result ≡ min (held_of (memory_of entries.now) facets.now) (2 ^ 64 - 1) }
+{
+    let mut count: usize = 0;
+    for facet in facets {
+        count = count.saturating_add(current_of(entries, facet.edges.as_slice()));
+    }
+    count
+}
+
+// How many of the edges tell of an entry that is there.
+fn current_of(entries: &Table, edges: &[Edge]) -> usize
+    ensures { result ≡ min (current_of (memory_of entries.now) edges.now) (2 ^ 64 - 1) }
+{
+    let mut count: usize = 0;
+    for edge in edges {
+        count = count.saturating_add(entries.is_current(edge) as usize);
+    }
+    count
+}
