@@ -1,6 +1,5 @@
 -- What one try of an instance has come to, and what it leaves kept.
-use Rattle.std.proofs.Common.{◌≡◌, ℕ, true, List, [], ◌∷◌, ◌++◌, map, Some, None, inl, inr, refl, sym, ap, ◌∙◌, subst}
-use Rattle.std.specs.Option.{option_map}
+use Rattle.std.proofs.Common.{◌≡◌, ℕ, true, List, [], ◌∷◌, ◌++◌, map, Some, inl, inr, refl, sym, ◌∙◌, subst}
 use Rattle.at_model.specs.Run.{Value, Instance, Contents}
 use Rattle.at_model.specs.Rules.{Rules, is_lazy}
 use Rattle.at_model.specs.Meaning.{Among, HasValue, Holds, Faults, Right}
@@ -13,46 +12,37 @@ use Rattle.at_body.specs.declared.value.FaultKind.{FaultKind as FaultCode}
 use Rattle.at_body.specs.declared.value.Value.{Value as ValueCode}
 use Rattle.at_body.specs.declared.trial.Trial.{Trial}
 use Rattle.at_body.specs.declared.trial.Step.TheVariants as step
-use Rattle.at_cache.specs.Kept.{Entries, AreKept}
+use Rattle.at_cache.specs.Kept.{Entries}
 use Rattle.at_demand.specs.declared.evaluation.Demanded.{Demanded}
 use Rattle.at_demand.specs.declared.evaluation.Find.{Find}
 use Rattle.at_demand.specs.declared.evaluation.Frame.{Frame}
-use Rattle.at_demand.specs.Known.{meaning, kept_values, known_in, MayAdd}
-use Rattle.at_demand.specs.Keeping.{IsSameFind}
-use Rattle.at_demand.specs.Right.{AreRight, IsThere}
+use Rattle.at_demand.specs.Known.{meaning, kept_values, known_in, ArePlain, AreValued, IsKept, MayAdd}
+use Rattle.at_demand.specs.Right.{AreRight, AreThere, IsThere, IsValued}
 use Rattle.at_demand.specs.UnderWay.{HasStepped, IsOpen}
-use Rattle.at_demand.specs.Covering.{HasPassedTo, IsDemanded, AreWhole, AreCovered}
+use Rattle.at_demand.specs.Covering.{HasPassedTo, AreWhole, AreCovered}
 use Rattle.at_demand.specs.Only.{TakesOnly}
 use Rattle.std.specs.Prelude.{IsSome}
-use Rattle.at_demand.specs.Sparing.{AddsWorthy, AreOnly, AreSettled, AreSpare, MayAddLazy}
+use Rattle.at_demand.specs.Sparing.{AddsWorthy, AreOnly, AreSettled, AreSpare, MayGain}
 use Rattle.at_demand.specs.Attempts.{HasFound, HasNeeded}
 use Rattle.at_demand.proofs.Coming.{has_value, has_fault}
 use Rattle.at_demand.proofs.Passing.{whole}
 use Rattle.at_demand.proofs.OnlyLemmas.{lean, needs_comes}
 use Rattle.at_demand.proofs.Orderly.{neither}
-use Rattle.at_demand.proofs.Gaining.{is_kept, worthy_none, worthy_more, lazy_more, deep_more, settled_push}
+use Rattle.at_demand.proofs.Entered.{entered}
+use Rattle.at_demand.proofs.Gaining.{came, is_kept, worthy_none, worthy_more, lazy_more, deep_more, settled_push}
 
 module _ (rules : Rules) (look : Contents ℕ) (entries : Entries) (found : List (Instance ℕ × Find)) (i : Instance ℕ) where
   valued : (t : Trial) (v : ValueCode) → HasStepped rules look i t (step.Value v) → HasValue look (meaning rules) i (value_view v)
   valued t v (js, past) = has_value look (meaning rules) i (value_view v) js t.reads past
 
   -- its value
-  pub has_found : (f : Frame) (v : ValueCode) (d : Find) → HasStepped rules look i f.trial (step.Value v) → HasPassedTo rules look found i f (step.Value v) → TakesOnly rules look found i f.demanded → AreKept entries f.demanded.kept.items →
+  pub has_found : (f : Frame) (v : ValueCode) (d : Find) → HasStepped rules look i f.trial (step.Value v) → HasPassedTo rules look found i f (step.Value v) → TakesOnly rules look found i f.demanded → AreValued entries f.demanded.kept.items →
       d.value ≡ v → map loc_view d.reads.items ≡ f.trial.reads → d.demanded ≡ f.demanded → HasFound rules look entries found i d
   has_found f v d stepped passed takes kept value reads demanded = record {
     value = subst (λ (w : ValueCode). HasValue look (meaning rules) i (value_view w)) (sym value) (valued f.trial v stepped);
     whole = whole rules look found i f v d passed reads demanded;
     lean = lean rules look found i f v d stepped takes reads demanded;
-    kept = subst (λ (x : Demanded). AreKept entries x.kept.items) (sym demanded) kept;
-  }
-
-  -- as one that is the same
-  pub found_same : (d g : Find) → IsSameFind d g → HasFound rules look entries found i d → HasFound rules look entries found i g
-  found_same d g same has = record {
-    value = subst (λ (w : ValueCode). HasValue look (meaning rules) i (value_view w)) (sym same.value) has.value;
-    whole = record { reads = λ l h. subst (Among l) (sym same.reads) (has.whole.reads l h); demands = λ j c. subst (λ (x : Demanded). IsDemanded found x j) (sym same.demanded) (has.whole.demands j c) };
-    lean = record { reads = λ l h. has.lean.reads l (subst (Among l) same.reads h); takes = subst (TakesOnly rules look found i) (sym same.demanded) has.lean.takes };
-    kept = subst (λ (x : Demanded). AreKept entries x.kept.items) (sym same.demanded) has.kept;
+    kept = subst (λ (x : Demanded). AreValued entries x.kept.items) (sym demanded) kept;
   }
 
   -- its fault
@@ -71,29 +61,32 @@ module _ (rules : Rules) (look : Contents ℕ) (entries : Entries) (found : List
 -- a value that holds may come to what is kept
 module _ (rules : Rules) (old new : Entries) (i : Instance ℕ) (v : Value ℕ) (adds : MayAdd old new i v) where
   pub right_added : (look : Contents ℕ) → HasValue look (meaning rules) i v → Right look (meaning rules) (kept_values old) → Right look (meaning rules) (kept_values new)
-  right_added look holds right j w e = elim (adds j) [
-    | inl f ↦ right j w (sym (ap (option_map (λ k. k.value)) f) ∙ e)
+  right_added look holds right j w e = elim (adds.values j) [
+    | inl f ↦ right j w (sym f ∙ e)
     | inr p ↦ let is : Some v ≡ Some w = sym p.1 ∙ e in let same : v ≡ w = cc in subst (λ x. HasValue look (meaning rules) j x) same (subst (λ x. HasValue look (meaning rules) x v) p.0 holds)
   ]
 
-  pub right_stays : (s : Shown) → HasValue (contents s) (meaning rules) i v → (AreCovered rules (contents s) old → AreCovered rules (contents s) new) → IsThere s i → AreRight rules s old → AreRight rules s new
-  right_stays s holds covers there right = record {
+  pub right_stays : (s : Shown) (found : List (Instance ℕ × Find)) → MayGain rules found old new i → ArePlain rules new → HasValue (contents s) (meaning rules) i v → (AreCovered rules (contents s) old → AreCovered rules (contents s) new) →
+      IsThere s i → AreThere rules s found → AreRight rules s old → AreRight rules s new
+  right_stays s found grows plain holds covers there finds right = record {
     values = right_added (contents s) holds right.values;
-    there = λ j k at. elim (adds j) [ inl same ↦ right.there j k (sym same ∙ at) | inr more ↦ subst (IsThere s) more.0 there ];
+    valued = came (IsValued rules s) rules old new i found grows right.valued (v, holds) (λ j f. (finds j f).1);
+    there = came (IsThere s) rules old new i found grows right.there there (λ j f. (finds j f).0);
     covers = covers right.covers;
+    plain = plain;
   }
 
-pub worthy_added : (rules : Rules) (look : Contents ℕ) (old new : Entries) (i : Instance ℕ) (v : Value ℕ) → MayAddLazy rules old new i → old i ≡ None → HasValue look (meaning rules) i v → AddsWorthy rules look i old new
-worthy_added rules look old new i v grows absent holds = worthy_more rules look old new i grows i old absent (λ lazy. record { reached = inl refl; lazy = lazy; value = v; has = holds }) (worthy_none rules look i old)
+pub worthy_added : (rules : Rules) (look : Contents ℕ) (old new : Entries) (i : Instance ℕ) (v : Value ℕ) (found : List (Instance ℕ × Find)) → MayGain rules found old new i → HasValue look (meaning rules) i v → AddsWorthy rules look i old new
+worthy_added rules look old new i v found grows holds = worthy_more rules look old new i found grows i old (λ lazy. record { reached = inl refl; lazy = lazy; value = v; has = holds }) (worthy_none rules look i old)
 
 -- what an exact keeper has stays spare, and what was found settled
-module _ (rules : Rules) (look : Contents ℕ) (old new : Entries) (found : List (Instance ℕ × Find)) (i : Instance ℕ) (d : Find) (grows : MayAddLazy rules old new i) (whole : AreWhole rules look found) (has : HasFound rules look old found i d)
+module _ (rules : Rules) (look : Contents ℕ) (old new : Entries) (found : List (Instance ℕ × Find)) (i : Instance ℕ) (d : Find) (grows : MayGain rules found old new i) (whole : AreWhole rules look found) (has : HasFound rules look old found i d)
     (settled : AreSettled rules old found) (spare : AreSpare rules look old) where
   took : (u : Instance ℕ) → Among u d.demanded.kept.items → IsSome (old u)
-  took u a = is_kept old d.demanded.kept.items u has.kept a
+  took u a = entered old u (is_kept old d.demanded.kept.items u has.kept a)
 
   pub spare_added : AreOnly rules look new → AreSpare rules look new
-  spare_added only = record { only = only; lazy = lazy_more rules look old new i grows spare.lazy; deep = deep_more rules look old new i grows found d whole has.whole settled took spare.deep }
+  spare_added only = record { only = only; lazy = lazy_more rules look old new i found grows spare.lazy; deep = deep_more rules look old new i found grows d whole has.whole settled took spare.deep }
 
-  pub settled_added : (is_lazy rules i.attribute ≡ true → IsSome (new i)) → AreSettled rules new (found ++ (i, d) ∷ [])
-  settled_added kept = settled_push rules look old new i grows found d whole has.whole settled took spare.deep kept
+  pub settled_added : (is_lazy rules i.attribute ≡ true → IsKept new i) → AreSettled rules new (found ++ (i, d) ∷ [])
+  settled_added kept = settled_push rules look old new i found grows d whole has.whole settled took spare.deep kept

@@ -25,7 +25,8 @@ use Rattle.at_demand.specs.KeptTrials.{AllWait, AreTrials, Fit, FitAfter, FitAt,
 use Rattle.at_demand.proofs.Keys.{goes_last, keys_push}
 use Rattle.at_demand.proofs.OnlyLemmas.{takes_more}
 use Rattle.at_demand.proofs.Passing.{passed_more}
-use Rattle.at_demand.proofs.Turned.{fresh_found, kept_found, last_two, waits_push}
+use Rattle.at_demand.proofs.Entered.{valued_on}
+use Rattle.at_demand.proofs.Turned.{fresh_found, last_two, waits_push}
 
 -- one element at the end of equal lists
 same_ends : {A : Type 0} (xs ys : List A) (x y : A) → xs ++ x ∷ [] ≡ ys ++ y ∷ [] → (xs ≡ ys) × (x ≡ y)
@@ -108,7 +109,7 @@ module _ (rules : Rules) (at : ClassAt ℕ) (look : Contents ℕ) (entries more 
     passed = passed_more rules look found all i f (left_of (reached rules.classes (step.Need j) f.trial)) extends h.passed;
     takes = takes_more rules look found all i f.demanded extends h.takes;
     typed = h.typed;
-    kept = kept_found entries more grown f.demanded.kept.items h.kept;
+    kept = valued_on entries more grown f.demanded.kept.items h.kept;
   }
 
   wait_more : (es : List (Instance ℕ × Frame)) (j : Instance ℕ) → AllWait rules at look entries found es j → AllWait rules at look more all es j

@@ -19,7 +19,7 @@ use Rattle.at_cache.proofs.Locations.{same_location-itself}
 use Rattle.at_demand.specs.declared.evaluation.Find.{Find}
 use Rattle.at_demand.specs.declared.gathering.Sources.{Sources}
 use Rattle.at_demand.specs.Known.{meaning}
-use Rattle.at_demand.specs.Covering.{IsWhole, AreWhole, AreCovered, Extends, IsAdded, Visits, Adds, AddsAt, AreGathered}
+use Rattle.at_demand.specs.Covering.{IsWhole, AreWhole, AreCovered, Extends, IsAdded, IsGathered, Visits, Adds, AddsAt, AreGathered}
 use Rattle.at_demand.proofs.Sameness.{same_true}
 use Rattle.at_demand.proofs.Supported.{supported}
 
@@ -117,6 +117,11 @@ adds f s t ps qs reads kept finds = record {
   };
 }
 
+-- or its instance is used
+pub gathered_on : (i : Instance ℕ) (f : Find) (s t : Sources) (ps qs : List ℕ) → Extends s.reads.items t.reads.items → Extends s.kept.items t.kept.items → Extends ps qs → IsGathered s ps i f → IsGathered t qs i f
+gathered_on i f s t ps qs reads kept finds (inl a) = inl (grown f s t ps qs reads kept finds a)
+gathered_on i f s t ps qs reads kept finds (inr u) = inr (among_more i s.kept.items t.kept.items kept u)
+
 below_next : (n m : ℕ) → n < suc m → (n < m) ⊎ (n ≡ m)
 below_next zero zero h = inr refl
 below_next zero (suc m) h = inl (omega arith)
@@ -151,13 +156,29 @@ module _ (found : List (Instance ℕ × Find)) where
     added = λ q j h there found_is.
         let same : p ≡ q = same_Some p q (at ∙ there) in
         let one : (i, g) ≡ (j, h) = same_Some (i, g) (j, h) (is ∙ ap (slice_get found) same ∙ found_is) in
-        subst (λ x. IsAdded t qs x) (ap (λ (x : Instance ℕ × Find). x.1) one) a.added;
+        inl (subst (λ x. IsAdded t qs x) (ap (λ (x : Instance ℕ × Find). x.1) one) a.added);
   }
+
+  -- where its instance is used
+  pub adds_used : (next p : ℕ) (i : Instance ℕ) (g : Find) (s t : Sources) (ps : List ℕ) → Some p ≡ slice_get ps next → Some (i, g) ≡ slice_get found p → t.reads.items ≡ s.reads.items → t.kept.items ≡ s.kept.items ++ i ∷ [] → AddsAt found next s t ps ps
+  adds_used next p i g s t ps at is reads kept = record {
+    reads = ([], reads ∙ sym (append-nil s.reads.items));
+    kept = (i ∷ [], kept);
+    finds = extends_self ps;
+    added = λ q j h there found_is.
+        let same : p ≡ q = same_Some p q (at ∙ there) in
+        let one : (i, g) ≡ (j, h) = same_Some (i, g) (j, h) (is ∙ ap (slice_get found) same ∙ found_is) in
+        inr (subst (λ (x : Instance ℕ × Find). Among x.0 t.kept.items) one (subst (Among i) (sym kept) (among_right i s.kept.items (i ∷ []) (inl refl))));
+  }
+
+  pub adds_used_after : {E : Type 0} (r : Result (Unit {0}) E) (next p : ℕ) (i : Instance ℕ) (g : Find) (s t : Sources) (ps : List ℕ) → Some p ≡ slice_get ps next → Some (i, g) ≡ slice_get found p → t.reads.items ≡ s.reads.items → OnOk r (t.kept.items ≡ s.kept.items ++ i ∷ []) → OnOk r (AddsAt found next s t ps ps)
+  adds_used_after (Ok u) next p i g s t ps at is reads kept = adds_used next p i g s t ps at is reads kept
+  adds_used_after (Err e) next p i g s t ps at is reads kept = tt
 
   -- how far it has come
   pub record IsVisited (f : Find) (s : Sources) (ps : List ℕ) (next : ℕ) : Type 0 where
     pub first : IsAdded s ps f
-    pub others : (n p : ℕ) (i : Instance ℕ) (g : Find) → n < next → slice_get ps n ≡ Some p → slice_get found p ≡ Some (i, g) → IsAdded s ps g
+    pub others : (n p : ℕ) (i : Instance ℕ) (g : Find) → n < next → slice_get ps n ≡ Some p → slice_get found p ≡ Some (i, g) → IsGathered s ps i g
 
   pub visited_first : (f : Find) (s t : Sources) (ps qs : List ℕ) → Adds f s t ps qs → IsVisited f t qs 0
   visited_first f s t ps qs a = record { first = a.added; others = λ n p i g less at is. absurd (omega (arith, less)) }
@@ -168,8 +189,8 @@ module _ (found : List (Instance ℕ × Find)) where
     others = λ n p i g under at is. by n p i g under (get_back ps qs n p a.finds (omega (arith, under, less)) at) is (below_next n next (omega (arith, under)));
   }
     where
-      by : (n p : ℕ) (i : Instance ℕ) (g : Find) → n < next + 1 → slice_get ps n ≡ Some p → slice_get found p ≡ Some (i, g) → (n < next) ⊎ (n ≡ next) → IsAdded t qs g
-      by n p i g under at is (inl h) = grown g s t ps qs a.reads a.kept a.finds (v.others n p i g h at is)
+      by : (n p : ℕ) (i : Instance ℕ) (g : Find) → n < next + 1 → slice_get ps n ≡ Some p → slice_get found p ≡ Some (i, g) → (n < next) ⊎ (n ≡ next) → IsGathered t qs i g
+      by n p i g under at is (inl h) = gathered_on i g s t ps qs a.reads a.kept a.finds (v.others n p i g h at is)
       by n p i g under at is (inr e) = a.added p i g (subst (λ x. slice_get ps x ≡ Some p) e at) is
 
   pub visited_all : (f : Find) (s : Sources) (ps : List ℕ) (next : ℕ) → length ps ≤ next → IsVisited f s ps next → AreGathered found f s
@@ -189,7 +210,7 @@ module _ (rules : Rules) (look : Contents ℕ) (entries : Entries) (found : List
   next : (i j : Instance ℕ) → Within i → Comes look (meaning rules) i j → Among j s.kept.items ⊎ Within j
   next i j (g, w, a) c = elim (w.demands j c) [
     | inl k ↦ inl (a.kept j k)
-    | inr (p, h, at, is) ↦ inr (h, whole p j h is, gathered.others p j h (a.finds p at) is)
+    | inr (p, h, at, is) ↦ elim (gathered.others p j h (a.finds p at) is) [ inl added ↦ inr (h, whole p j h is, added) | inr used ↦ inl used ]
   ]
 
   seen : (i : Instance ℕ) (l : Location ℕ) → Within i → Sees look (HasValue look (meaning rules)) (meaning rules i) l → covered entries reads s.kept.items l ≡ true
@@ -212,7 +233,7 @@ module _ (rules : Rules) (look : Contents ℕ) (entries : Entries) (found : List
   all_covered i l w h = supported look (meaning rules) Within (λ u. Among u s.kept.items) (λ m. covered entries reads s.kept.items m ≡ true) next seen below i l (f, w, gathered.first) h
 
   -- and so what is put
-  pub put_covers : (exact : Bool) (new : Entries) (i : Instance ℕ) (v : Value ℕ) → IsWhole rules look found i f → Puts exact entries i v reads s.kept.items new → AreCovered rules look new
+  pub put_covers : (exact : Bool) (new : Entries) (i : Instance ℕ) (v : Option (Value ℕ)) → IsWhole rules look found i f → Puts exact entries i v reads s.kept.items new → AreCovered rules look new
   put_covers exact new i v w p m k is l h = by (same_instance i m) refl (sym (p.adds m) ∙ is)
     where
       by : (t : Bool) → same_instance i m ≡ t → (if t then Some p.entry else entries m) ≡ Some k → k.covers l ≡ true

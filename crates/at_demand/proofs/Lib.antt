@@ -1,4 +1,5 @@
 pub mod Sameness
+pub mod Entered
 pub mod Coming
 pub mod Chains
 pub mod Keys
@@ -10,6 +11,7 @@ pub mod Seeing
 pub mod of_keeping
 pub mod Supported
 pub mod Gathered
+pub mod Entering
 pub mod Passing
 pub mod There
 pub mod Leading

@@ -27,7 +27,7 @@ use Rattle.at_demand.specs.declared.evaluation.Frame.{Frame}
 use Rattle.at_demand.specs.declared.gathering.Sources.{Sources}
 use Rattle.at_demand.specs.Known.{meaning}
 use Rattle.at_demand.specs.UnderWay.{HasStepped}
-use Rattle.at_demand.specs.Covering.{Extends}
+use Rattle.at_demand.specs.Covering.{Extends, IsDemanded}
 use Rattle.at_demand.specs.Only.{TakesOnly, TakeOnly, IsLean, AreLean, LeadsTo, itself, further, IsFrom, AreFrom, VisitsOnly, AddsOnly, AddsOnlyAt}
 use Rattle.at_demand.proofs.Sameness.{same_true}
 use Rattle.at_demand.proofs.Coming.{comes}
@@ -90,7 +90,7 @@ adds_only_after (Err e) f s t ps qs reads kept finds = tt
 
 -- the find there is added
 pub adds_only_one : {E : Type 0} (found : List (Instance ℕ × Find)) (r : Result (Unit {0}) E) (next p : ℕ) (i : Instance ℕ) (g : Find) (s t : Sources) (ps qs : List ℕ) → Some p ≡ slice_get ps next → Some (i, g) ≡ slice_get found p → OnOk r (AddsOnly g s t ps qs) → OnOk r (AddsOnlyAt found next s t ps qs)
-adds_only_one found (Ok u) next p i g s t ps qs at is adds = inr (g, (p, i, sym at, sym is), adds)
+adds_only_one found (Ok u) next p i g s t ps qs at is adds = inr (inl (g, (p, i, sym at, sym is), adds))
 adds_only_one found (Err e) next p i g s t ps qs at is adds = tt
 
 module _ (found : List (Instance ℕ × Find)) (f : Find) where
@@ -106,7 +106,7 @@ module _ (found : List (Instance ℕ × Find)) (f : Find) where
   pub from_more : (g : Find) (s t : Sources) (ps qs : List ℕ) → LeadsTo found f g → IsFrom found f s ps → AddsOnly g s t ps qs → IsFrom found f t qs
   from_more g s t ps qs leads from adds = record {
     reads = λ x h. elim (adds.reads x h) [ inl a ↦ from.reads x a | inr b ↦ (g, leads, b) ];
-    kept = λ u h. elim (adds.kept u h) [ inl a ↦ from.kept u a | inr b ↦ (g, leads, b) ];
+    kept = λ u h. elim (adds.kept u h) [ inl a ↦ from.kept u a | inr b ↦ (g, leads, inl b) ];
     finds = λ p h. elim (adds.finds p h) [ inl a ↦ from.finds p a | inr b ↦ (g, leads, b) ];
   }
 
@@ -117,9 +117,29 @@ module _ (found : List (Instance ℕ × Find)) (f : Find) where
   -- as the loop goes on
   pub from_next : (s t : Sources) (ps qs : List ℕ) (next : ℕ) → IsFrom found f s ps → AddsOnlyAt found next s t ps qs → IsFrom found f t qs
   from_next s t ps qs next from (inl (same, also)) = subst (λ x. IsFrom found f x qs) (sym same) (subst (IsFrom found f s) (sym also) from)
-  from_next s t ps qs next from (inr (g, (p, i, at, is), adds)) =
+  from_next s t ps qs next from (inr (inl (g, (p, i, at, is), adds))) =
       let (h, leads, among) = from.finds p (get_among ps next p at) in
       from_more g s t ps qs (further h g p i leads among is) from adds
+  from_next s t ps qs next from (inr (inr u)) =
+      let (h, leads, among) = from.finds u.position (get_among ps next u.position u.at) in
+      let taken : IsDemanded found h.demanded u.inst = inr (u.position, u.find, among, u.is) in
+      let there : IsFrom found f t ps = record {
+        reads = λ x a. from.reads x (subst (Among x) u.reads a);
+        kept = λ w a. elim (parts s.kept.items (u.inst ∷ []) w (subst (Among w) u.kept a)) [
+          | inl b ↦ from.kept w b
+          | inr b ↦ elim b [ inl e ↦ (h, leads, subst (IsDemanded found h.demanded) (sym e) taken) | inr z ↦ absurd z ]
+        ];
+        finds = from.finds;
+      } in
+      subst (IsFrom found f t) (sym u.same) there
+
+-- the instance of the find there is used
+pub adds_only_used : (found : List (Instance ℕ × Find)) (next p : ℕ) (i : Instance ℕ) (g : Find) (s t : Sources) (ps : List ℕ) → Some p ≡ slice_get ps next → Some (i, g) ≡ slice_get found p → t.reads.items ≡ s.reads.items → t.kept.items ≡ s.kept.items ++ i ∷ [] → AddsOnlyAt found next s t ps ps
+adds_only_used found next p i g s t ps at is reads kept = inr (inr (record { position = p; inst = i; find = g; at = sym at; is = sym is; reads = reads; kept = kept; same = refl }))
+
+pub adds_only_used_after : {E : Type 0} (found : List (Instance ℕ × Find)) (r : Result (Unit {0}) E) (next p : ℕ) (i : Instance ℕ) (g : Find) (s t : Sources) (ps : List ℕ) → Some p ≡ slice_get ps next → Some (i, g) ≡ slice_get found p → t.reads.items ≡ s.reads.items → OnOk r (t.kept.items ≡ s.kept.items ++ i ∷ []) → OnOk r (AddsOnlyAt found next s t ps ps)
+adds_only_used_after found (Ok u) next p i g s t ps at is reads kept = adds_only_used found next p i g s t ps at is reads kept
+adds_only_used_after found (Err e) next p i g s t ps at is reads kept = tt
 
 module _ (rules : Rules) (look : Contents ℕ) where
   -- evaluations that take only what they come to
@@ -211,8 +231,14 @@ module _ (rules : Rules) (look : Contents ℕ) where
       kept_supports u l h at =
           let (g, way, has) = from.1.kept u h in
           let (j, leads, lean) = led g way in
-          supports_on look (meaning rules) i u l (leads_next look (meaning rules) i j u leads (lean.takes.kept u has)) (by (entries u) refl at)
+          supports_on look (meaning rules) i u l (leads_next look (meaning rules) i j u leads (comes_to j g lean has)) (by (entries u) refl at)
         where
+          comes_to : (j : Instance ℕ) (g : Find) → IsLean rules look found j g → IsDemanded found g.demanded u → Comes look (meaning rules) j u
+          comes_to j g lean (inl a) = lean.takes.kept u a
+          comes_to j g lean (inr (p, h, among, is)) =
+              let (m, d, at, c) = lean.takes.finds p among in
+              subst (Comes look (meaning rules) j) (ap (λ (x : Instance ℕ × Find). x.0) (same_Some (m, d) (u, h) (sym at ∙ is))) c
+
           by : (o : Option Kept) → entries u ≡ o → covers_at o l ≡ true → Supports look (meaning rules) l u
           by None is c = absurd (true≢false (sym c))
           by (Some k) is c = only u k is l c
@@ -224,7 +250,7 @@ module _ (rules : Rules) (look : Contents ℕ) where
       ]
 
       -- and so what is put into an exact keeper
-      pub put_only : (exact : Bool) (new : Entries) (v : Value ℕ) → IsTrue exact → Puts exact entries i v (map loc_view s.reads.items) s.kept.items new → (m : Instance ℕ) (k : Kept) → new m ≡ Some k → (l : Location ℕ) → k.covers l ≡ true → Supports look (meaning rules) l m
+      pub put_only : (exact : Bool) (new : Entries) (v : Option (Value ℕ)) → IsTrue exact → Puts exact entries i v (map loc_view s.reads.items) s.kept.items new → (m : Instance ℕ) (k : Kept) → new m ≡ Some k → (l : Location ℕ) → k.covers l ≡ true → Supports look (meaning rules) l m
       put_only exact new v ex p m k is l h = by (same_instance i m) refl (sym (p.adds m) ∙ is)
         where
           by : (t : Bool) → same_instance i m ≡ t → (if t then Some p.entry else entries m) ≡ Some k → Supports look (meaning rules) l m
@@ -235,4 +261,4 @@ module _ (rules : Rules) (look : Contents ℕ) where
 
 -- where no other find stands below, nothing else is gathered
 pub from_alone : (found : List (Instance ℕ × Find)) (f : Find) → AreFrom found f (record { reads = f.reads; kept = f.demanded.kept })
-from_alone found f = ([], record { reads = λ x h. (f, itself, h); kept = λ u h. (f, itself, h); finds = λ p h. absurd h })
+from_alone found f = ([], record { reads = λ x h. (f, itself, h); kept = λ u h. (f, itself, inl h); finds = λ p h. absurd h })

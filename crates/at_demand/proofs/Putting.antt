@@ -1,29 +1,30 @@
 -- What a find that is to be kept leaves in what is kept.
-use Rattle.std.proofs.Common.{◌≡◌, ◌⊎◌, ℕ, Bool, true, false, List, [], map, Some, OnErr, OnOk, Ok, Err, inl, inr, refl, sym, ap, ◌∙◌, subst, if◌then◌else◌, true≢false, arith, length, nat_eq, vec_len, ◌∷◌}
+use Rattle.std.proofs.Common.{◌≡◌, ◌⊎◌, ℕ, Bool, true, false, List, [], map, Some, None, OnErr, OnOk, Ok, Err, inl, inr, refl, sym, ap, ◌∙◌, subst, if◌then◌else◌, true≢false, arith, length, nat_eq, vec_len, ◌∷◌}
 use Rattle.std.specs.Prelude.{IfOk, IsSome, IsTrue, Result, Vec}
 use Rattle.std.specs.Global.{Global}
-use Rattle.std.specs.Option.{option_map}
 use Rattle.std.proofs.lemmas.Bool.{eqb-true}
+use Rattle.std.proofs.lemmas.Option.{none-some, same_Some}
 use Rattle.at_model.specs.Run.{Value, Instance, Location, Contents}
 use Rattle.at_model.specs.Rules.{Rules, is_lazy}
-use Rattle.at_store.specs.declared.node.Loc.{Loc}
 use Rattle.at_store.specs.Located.{loc_view}
 use Rattle.at_body.specs.Same.{same_instance}
 use Rattle.at_body.specs.Values.{value_view}
-use Rattle.at_cache.specs.Kept.{Kept, Entries, AreKept, HasPut, KeepsAll, Puts}
+use Rattle.at_cache.specs.Kept.{Kept, Entries, AreKept, HasPut, KeepsAll, Puts, value_at}
 use Rattle.at_cache.specs.declared.keeper.Put.{Put}
 use Rattle.at_demand.specs.declared.evaluation.Find.{Find}
 use Rattle.at_demand.specs.declared.evaluation.Settled.{Settled}
 use Rattle.at_demand.specs.declared.evaluation.Settled.TheVariants as settled
 use Rattle.at_demand.specs.declared.gathering.Sources.{Sources}
-use Rattle.at_demand.specs.Known.{kept_values, MayAdd}
-use Rattle.at_demand.specs.Keeping.{Becomes, HasPlaced, HasPlacedAll}
-use Rattle.at_demand.specs.Covering.{AreCovered, AreGathered, AreWhole, IsWhole}
-use Rattle.at_demand.specs.Only.{AreFrom, AreLean, IsLean}
-use Rattle.at_demand.specs.Sparing.{AreOnly, MayAddLazy}
+use Rattle.at_demand.specs.Known.{kept_values, ArePlain, IsFound, IsKept, MayAdd}
+use Rattle.at_demand.specs.Keeping.{Becomes, HasGathered, HasPlaced, HasPlacedAll, Shares}
+use Rattle.at_demand.specs.Covering.{AreCovered, AreWhole, IsWhole}
+use Rattle.at_demand.specs.Only.{AreLean, IsLean}
+use Rattle.at_demand.specs.Sparing.{AreOnly, MayGain}
+use Rattle.at_demand.proofs.Entered.{entered_on, is_there, put_stays}
 use Rattle.at_demand.proofs.Gathered.{gathered_alone, put_covers}
 use Rattle.at_demand.proofs.OnlyLemmas.{from_alone, put_only}
 use Rattle.at_demand.proofs.Sameness.{same_true, same_refl}
+use Rattle.at_demand.proofs.Entering.{shares_none, shares_on}
 
 pub none_below : (positions : Vec ℕ Global) → nat_eq (vec_len positions) 0 ≡ true → positions.items ≡ []
 none_below positions is = empty positions.items (let e = eqb-true (vec_len positions) 0 is in omega (arith, e, positions.ok.0))
@@ -32,81 +33,99 @@ none_below positions is = empty positions.items (let e = eqb-true (vec_len posit
     empty [] e = refl
     empty (x ∷ xs) e = absurd (omega (arith, e))
 
-pub put_as : (exact : Bool) (old : Entries) (i : Instance ℕ) (v : Value ℕ) (rs ss : Vec Loc Global) (us ws : List (Instance ℕ)) (new : Entries) (p q : Put) → HasPut exact old i v rs us new p → rs ≡ ss → us ≡ ws → p ≡ q → HasPut exact old i v ss ws new q
+pub put_as : (exact : Bool) (old : Entries) (i : Instance ℕ) (v : Value ℕ) (rs ss : List (Location ℕ)) (us ws : List (Instance ℕ)) (new : Entries) (p q : Put) → HasPut exact old i (Some v) rs us new p → rs ≡ ss → us ≡ ws → p ≡ q → HasPut exact old i (Some v) ss ws new q
 put_as exact old i v rs ss us ws new p q puts a b c =
-    subst (λ x. HasPut exact old i v ss ws new x) c (subst (λ x. HasPut exact old i v ss x new p) b (subst (λ x. HasPut exact old i v x us new p) a puts))
+    subst (λ x. HasPut exact old i (Some v) ss ws new x) c (subst (λ x. HasPut exact old i (Some v) ss x new p) b (subst (λ x. HasPut exact old i (Some v) x us new p) a puts))
 
-module _ (exact : Bool) (old : Entries) (found : List (Instance ℕ × Find)) (i : Instance ℕ) (f : Find) (new : Entries) where
+module _ (rules : Rules) (exact : Bool) (old : Entries) (found : List (Instance ℕ × Find)) (i : Instance ℕ) (f : Find) (new : Entries) where
   abbrev V : Value ℕ
   V = value_view f.value
 
-  -- all is as it was, or the find's value is kept for all that it rests on
+  -- at most what is shared came, or the find's value came, too, for all that it rests on
   pub data IsPut : Type 0 where
-    nothing : KeepsAll old new → IsPut
-    kept : (s : Sources) → AreGathered found f s → AreFrom found f s → AreKept old s.kept.items → Puts exact old i V (map loc_view s.reads.items) s.kept.items new → IsPut
+    nothing : Shares rules exact found old new → IsPut
+    kept : (mid : Entries) → Shares rules exact found old mid → mid i ≡ None → (s : Sources) → HasGathered mid found f s → Puts exact mid i (Some V) (map loc_view s.reads.items) s.kept.items new → IsPut
 
-  from_placed : (s : Sources) → AreGathered found f s → AreFrom found f s → AreKept old s.kept.items → (r : Settled) → HasPlaced exact old i f (map loc_view s.reads.items) s.kept.items new r → IsPut
-  from_placed s g a k (settled.Kept v) (same, p) = kept s g a k p
-  from_placed s g a k (settled.Found d) (off, all, same) = nothing all
+  from_placed : (mid : Entries) → Shares rules exact found old mid → mid i ≡ None → (s : Sources) → HasGathered mid found f s → (r : Settled) → HasPlaced exact mid i f (map loc_view s.reads.items) s.kept.items new r → IsPut
+  from_placed mid sh absent s g (settled.Kept d) (same, p) = kept mid sh absent s g p
+  from_placed mid sh absent s g (settled.Found d) (same, off, all) = nothing (shares_on rules exact found old mid new sh (shares_none rules exact found mid new all))
 
-  pub placed_with : {E : Type 0} (r : Result Settled E) → IfOk r (HasPlacedAll exact old found i f new) → OnErr r (KeepsAll old new) → IsPut
-  placed_with (Ok r) (s, g, a, k, p) e = from_placed s g a k r p
-  placed_with (Err x) p e = nothing e
+  pub placed_with : {E : Type 0} (r : Result Settled E) → ((mid : Entries) → Shares rules exact found old mid → mid i ≡ None) → IfOk r (HasPlacedAll rules exact old found i f new) → OnErr r (Shares rules exact found old new) → IsPut
+  placed_with (Ok r) absent (mid, sh, s, g, p) e = from_placed mid sh (absent mid sh) s g r p
+  placed_with (Err x) absent p e = nothing e
 
-  pub placed_alone : {E : Type 0} (r : Result Settled E) → f.demanded.finds.items ≡ [] → AreKept old f.demanded.kept.items → IfOk r (HasPlaced exact old i f (map loc_view f.reads.items) f.demanded.kept.items new) → OnErr r (KeepsAll old new) → IsPut
-  placed_alone (Ok r) alone k p e = from_placed (record { reads = f.reads; kept = f.demanded.kept }) (gathered_alone found f alone) (from_alone found f) k r p
-  placed_alone (Err x) alone k p e = nothing e
+  pub placed_alone : {E : Type 0} (r : Result Settled E) → old i ≡ None → f.demanded.finds.items ≡ [] → AreKept old f.demanded.kept.items → IfOk r (HasPlaced exact old i f (map loc_view f.reads.items) f.demanded.kept.items new) → OnErr r (KeepsAll old new) → IsPut
+  placed_alone (Ok r) absent alone k p e = from_placed old (shares_none rules exact found old old (λ j. refl)) absent (record { reads = f.reads; kept = f.demanded.kept }) (record { gathered = gathered_alone found f alone; from = from_alone found f; kept = k }) r p
+  placed_alone (Err x) absent alone k p e = nothing (shares_none rules exact found old new e)
 
   pub adds : IsPut → MayAdd old new i V
-  adds (nothing all) j = inl (all j)
-  adds (kept s g a k p) j = by (same_instance i j) refl (p.adds j)
+  adds (nothing sh) = record { stays = sh.stays; values = λ j. inl (sh.same j) }
+  adds (kept mid sh absent s g p) = record {
+    stays = λ j some. put_stays exact mid new i p.entry absent p.adds j (entered_on old mid sh.stays j some) ∙ sh.stays j some;
+    values = λ j. by j (same_instance i j) refl (p.adds j);
+  }
     where
-      by : (b : Bool) → same_instance i j ≡ b → new j ≡ (if b then Some p.entry else old j) → (new j ≡ old j) ⊎ ((i ≡ j) × (kept_values new j ≡ Some V))
-      by true s e = inr (same_true i j s, ap (option_map (λ (k : Kept). k.value)) e ∙ ap Some p.value)
-      by false s e = inl e
+      by : (j : Instance ℕ) (b : Bool) → same_instance i j ≡ b → new j ≡ (if b then Some p.entry else mid j) → (kept_values new j ≡ kept_values old j) ⊎ ((i ≡ j) × (kept_values new j ≡ Some V))
+      by j true s e = inr (same_true i j s, ap value_at e ∙ p.value)
+      by j false s e = inl (ap value_at e ∙ sh.same j)
 
-  pub adds_lazy : (rules : Rules) → is_lazy rules i.attribute ≡ true → IsPut → MayAddLazy rules old new i
-  adds_lazy rules lazy (nothing all) j = inl (all j)
-  adds_lazy rules lazy (kept s g a k p) j = by (same_instance i j) refl (p.adds j)
+  pub gains : is_lazy rules i.attribute ≡ true → IsPut → MayGain rules found old new i
+  gains lazy put = let more = adds put in record {
+    stays = more.stays;
+    lazy = λ j. elim (more.values j) [ inl e ↦ inl e | inr p ↦ (let (same, v) = p in inr (same, is_there (kept_values new j) V v, lazy)) ];
+    comes = λ j some. came put j some;
+  }
     where
-      by : (b : Bool) → same_instance i j ≡ b → new j ≡ (if b then Some p.entry else old j) → (new j ≡ old j) ⊎ ((i ≡ j) × IsSome (new j) × (is_lazy rules i.attribute ≡ true))
-      by true s e = inr (same_true i j s, subst IsSome (sym e) refl, lazy)
-      by false s e = inl e
+      came : IsPut → (j : Instance ℕ) → IsSome (new j) → IsSome (old j) ⊎ (((i ≡ j) × IsKept new j) ⊎ IsFound found j)
+      came (nothing sh) j some = elim (sh.comes j some) [ inl was ↦ inl was | inr is ↦ inr (inr is) ]
+      came (kept mid sh absent s g p) j some = by (same_instance i j) refl (p.adds j)
+        where
+          by : (b : Bool) → same_instance i j ≡ b → new j ≡ (if b then Some p.entry else mid j) → IsSome (old j) ⊎ (((i ≡ j) × IsKept new j) ⊎ IsFound found j)
+          by true s e = inr (inl (same_true i j s, is_there (kept_values new j) V (ap value_at e ∙ p.value)))
+          by false s e = elim (sh.comes j (subst IsSome e some)) [ inl was ↦ inl was | inr is ↦ inr (inr is) ]
 
-  module _ (rules : Rules) (look : Contents ℕ) where
+  pub plain_after : ArePlain rules old → IsPut → ArePlain rules new
+  plain_after plain (nothing sh) m e is none = sh.plain plain m e is none
+  plain_after plain (kept mid sh absent s g p) m e is none = by (same_instance i m) refl (sym (p.adds m) ∙ is)
+    where
+      by : (b : Bool) → same_instance i m ≡ b → (if b then Some p.entry else mid m) ≡ Some e → is_lazy rules m.attribute ≡ false
+      by true s at = absurd (none-some V (sym none ∙ sym (ap (λ (x : Kept). x.value) (same_Some p.entry e at)) ∙ p.value))
+      by false s at = sh.plain plain m e at none
+
+  module _ (look : Contents ℕ) where
     pub covers_all : IsPut → AreWhole rules look found → IsWhole rules look found i f → AreCovered rules look old → AreCovered rules look new
-    covers_all (nothing all) whole one covers = λ m k is l h. covers m k (sym (all m) ∙ is) l h
-    covers_all (kept s g a k p) whole one covers = put_covers rules look old found f s g whole k covers exact new i V one p
+    covers_all (nothing sh) whole one covers = sh.covers look whole covers
+    covers_all (kept mid sh absent s g p) whole one covers = put_covers rules look mid found f s g.gathered whole g.kept (sh.covers look whole covers) exact new i (Some V) one p
 
     pub covers_only : IsTrue exact → IsPut → AreLean rules look found → IsLean rules look found i f → AreOnly rules look old → AreOnly rules look new
-    covers_only ex (nothing all) lean one only = λ m k is l h. only m k (sym (all m) ∙ is) l h
-    covers_only ex (kept s g a k p) lean one only = put_only rules look found f i lean one old s a only exact new V ex p
+    covers_only ex (nothing sh) lean one only = sh.only look ex lean only
+    covers_only ex (kept mid sh absent s g p) lean one only = put_only rules look found f i lean one mid s g.from (sh.only look ex lean only) exact new (Some V) ex p
 
-  -- the entry is there
-  module _ (reads : List (Location ℕ)) (uses : List (Instance ℕ)) where
-    there : (p : Puts exact old i V reads uses new) → new i ≡ Some p.entry
-    there p = p.adds i ∙ ap (λ (b : Bool). if b then Some p.entry else old i) (same_refl i)
+  -- the value is kept
+  module _ (mid : Entries) (reads : List (Location ℕ)) (uses : List (Instance ℕ)) where
+    valued : (p : Puts exact mid i (Some V) reads uses new) → kept_values new i ≡ Some V
+    valued p = ap value_at (p.adds i ∙ ap (λ (b : Bool). if b then Some p.entry else mid i) (same_refl i)) ∙ p.value
 
-    keeps_it : (r : Settled) → IsTrue exact → HasPlaced exact old i f reads uses new r → IsSome (new i)
-    keeps_it (settled.Kept v) ex (same, p) = subst IsSome (sym (there p)) refl
-    keeps_it (settled.Found g) ex (off, all, same) = absurd (true≢false (sym ex ∙ off))
+    keeps_it : (r : Settled) → IsTrue exact → HasPlaced exact mid i f reads uses new r → IsKept new i
+    keeps_it (settled.Kept d) ex (same, p) = is_there (kept_values new i) V (valued p)
+    keeps_it (settled.Found d) ex (same, off, all) = absurd (true≢false (sym ex ∙ off))
 
-    becomes_it : (r : Settled) → HasPlaced exact old i f reads uses new r → Becomes new i f r
-    becomes_it (settled.Kept v) (same, p) = (same, ap (option_map (λ (k : Kept). k.value)) (there p) ∙ ap Some (p.value ∙ ap value_view (sym same)))
-    becomes_it (settled.Found g) (off, all, same) = same
+    becomes_it : (r : Settled) → HasPlaced exact mid i f reads uses new r → Becomes new i f r
+    becomes_it (settled.Kept d) (same, p) = (same, valued p)
+    becomes_it (settled.Found d) (same, off, all) = same
 
-    pub keeps_alone : {E : Type 0} (r : Result Settled E) → IsTrue exact → IfOk r (HasPlaced exact old i f reads uses new) → OnOk r (IsSome (new i))
+    pub keeps_alone : {E : Type 0} (r : Result Settled E) → IsTrue exact → IfOk r (HasPlaced exact mid i f reads uses new) → OnOk r (IsKept new i)
     keeps_alone (Ok r) ex p = keeps_it r ex p
     keeps_alone (Err x) ex p = tt
 
-    pub becomes_alone : {E : Type 0} (r : Result Settled E) → IfOk r (HasPlaced exact old i f reads uses new) → IfOk r (Becomes new i f)
+    pub becomes_alone : {E : Type 0} (r : Result Settled E) → IfOk r (HasPlaced exact mid i f reads uses new) → IfOk r (Becomes new i f)
     becomes_alone (Ok r) p = becomes_it r p
     becomes_alone (Err x) p = tt
 
-  pub keeps_with : {E : Type 0} (r : Result Settled E) → IsTrue exact → IfOk r (HasPlacedAll exact old found i f new) → OnOk r (IsSome (new i))
-  keeps_with (Ok r) ex (s, g, a, k, p) = keeps_it (map loc_view s.reads.items) s.kept.items r ex p
+  pub keeps_with : {E : Type 0} (r : Result Settled E) → IsTrue exact → IfOk r (HasPlacedAll rules exact old found i f new) → OnOk r (IsKept new i)
+  keeps_with (Ok r) ex (mid, sh, s, g, p) = keeps_it mid (map loc_view s.reads.items) s.kept.items r ex p
   keeps_with (Err x) ex p = tt
 
-  pub becomes_with : {E : Type 0} (r : Result Settled E) → IfOk r (HasPlacedAll exact old found i f new) → IfOk r (Becomes new i f)
-  becomes_with (Ok r) (s, g, a, k, p) = becomes_it (map loc_view s.reads.items) s.kept.items r p
+  pub becomes_with : {E : Type 0} (r : Result Settled E) → IfOk r (HasPlacedAll rules exact old found i f new) → IfOk r (Becomes new i f)
+  becomes_with (Ok r) (mid, sh, s, g, p) = becomes_it mid (map loc_view s.reads.items) s.kept.items r p
   becomes_with (Err x) p = tt

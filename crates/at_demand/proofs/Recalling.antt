@@ -1,15 +1,15 @@
 -- What is known of an instance once it is recalled.
-use Rattle.std.proofs.Common.{◌≡◌, ℕ, List, [], ◌∷◌, ◌++◌, Option, Some, None, inl, inr, refl, sym, ap, ◌∙◌, subst, length, arith, IsSome}
+use Rattle.std.proofs.Common.{◌≡◌, ℕ, List, [], ◌∷◌, ◌++◌, Option, Some, None, inl, inr, refl, sym, ap, ◌∙◌, subst, length, arith}
 use Rattle.std.specs.Map.{lookup}
 use Rattle.std.specs.Option.{option_map}
 use Rattle.std.proofs.lemmas.List.Elements.{Contains-push_cases}
 use Rattle.at_model.specs.Run.{Value, Instance}
 use Rattle.at_body.specs.Same.{same_instance}
 use Rattle.at_body.specs.Values.{value_view}
-use Rattle.at_cache.specs.Kept.{Entries, AreKept}
+use Rattle.at_cache.specs.Kept.{Entries}
 use Rattle.at_demand.specs.declared.evaluation.Find.{Find}
-use Rattle.at_demand.specs.Known.{kept_values, found_values, known_in}
-use Rattle.at_demand.proofs.Orderly.{some_value}
+use Rattle.at_demand.specs.Known.{kept_values, found_values, known_in, AreValued, IsKept}
+use Rattle.at_demand.proofs.Entered.{is_there}
 
 module _ (entries : Entries) (found : List (Instance ℕ × Find)) (i : Instance ℕ) where
   abbrev or_found : Option (Value ℕ) → Option (Value ℕ)
@@ -33,6 +33,6 @@ none_found [] i e = refl
 none_found (f ∷ fs) i e = absurd (omega (arith, e))
 
 -- one more instance with a kept value
-pub kept_push : (entries : Entries) (old new : List (Instance ℕ)) (i : Instance ℕ) (v : Value ℕ) → AreKept entries old → new ≡ old ++ i ∷ [] → Some v ≡ kept_values entries i → AreKept entries new
+pub kept_push : (entries : Entries) (old new : List (Instance ℕ)) (i : Instance ℕ) (v : Value ℕ) → AreValued entries old → new ≡ old ++ i ∷ [] → Some v ≡ kept_values entries i → AreValued entries new
 kept_push entries old new i v all is kept =
-    subst (AreKept entries) (sym is) (λ u h. elim (Contains-push_cases old i u h) [ inl before ↦ all u before | inr same ↦ subst (λ x. IsSome (entries x)) same (some_value (entries i) v (sym kept)) ])
+    subst (AreValued entries) (sym is) (λ u h. elim (Contains-push_cases old i u h) [ inl before ↦ all u before | inr same ↦ subst (IsKept entries) same (is_there (kept_values entries i) v (sym kept)) ])

@@ -14,11 +14,12 @@ use Rattle.at_demand.specs.declared.evaluation.Demanded.{Demanded}
 use Rattle.at_demand.specs.declared.evaluation.Find.{Find}
 use Rattle.at_demand.specs.declared.evaluation.Frame.{Frame}
 use Rattle.at_demand.specs.declared.evaluation.Evaluation.{Evaluation}
-use Rattle.at_demand.specs.Known.{meaning}
+use Rattle.at_demand.specs.Known.{meaning, IsKept}
 use Rattle.at_demand.specs.UnderWay.{first_of, IsTrueIn, IsOrderlyIn}
 use Rattle.at_demand.specs.Covering.{IsWhole, IsCoveringIn, Extends}
 use Rattle.at_demand.specs.Only.{TakesOnly, TakeOnly, IsLean, AreLean}
-use Rattle.at_demand.specs.Sparing.{AreOnly, AreSpare, HasWorthy, MayAddLazy, AreSettled, IsSparing}
+use Rattle.at_demand.specs.Sparing.{AreOnly, AreSpare, HasWorthy, MayGain, AreSettled, IsSparing}
+use Rattle.at_demand.proofs.Entered.{entered}
 use Rattle.at_demand.proofs.Orderly.{waits_last, found_last}
 use Rattle.at_demand.proofs.Passing.{whole}
 use Rattle.at_demand.proofs.OnlyLemmas.{takes_none, lean, lean_push, take_push, take_pop, take_more, takes_more}
@@ -68,7 +69,7 @@ module _ (rules : Rules) (look : Contents ℕ) where
 
   -- the last one has a value
   module _ (asked : Instance ℕ) (entries more : Entries) (old : Evaluation) (v : ValueCode) (d : Find) (q : IsOrderlyIn entries old) (h : IsTrueIn rules look asked entries old (step.Value v)) (stands : IsCoveringIn rules look old (step.Value v))
-      (sparing : IsSparing rules look entries old) (reads : map loc_view d.reads.items ≡ old.frame.trial.reads) (demanded : d.demanded ≡ old.frame.demanded) (grows : MayAddLazy rules entries more old.inst) where
+      (sparing : IsSparing rules look entries old) (reads : map loc_view d.reads.items ≡ old.frame.trial.reads) (demanded : d.demanded ≡ old.frame.demanded) (grows : MayGain rules old.found.entries entries more old.inst) where
     -- the find is whole and lean
     pub last_lean : IsLean rules look old.found.entries old.inst d
     last_lean = lean rules look old.found.entries old.inst old.frame v d h.last sparing.last reads demanded
@@ -77,23 +78,23 @@ module _ (rules : Rules) (look : Contents ℕ) where
     last_whole = whole rules look old.found.entries old.inst old.frame v d stands.last reads demanded
 
     last_took : (u : Instance ℕ) → Among u d.demanded.kept.items → IsSome (entries u)
-    last_took u a = is_kept entries old.frame.demanded.kept.items u q.last_kept (subst (λ (x : Demanded). Among u x.kept.items) demanded a)
+    last_took u a = entered entries u (is_kept entries old.frame.demanded.kept.items u q.last_kept (subst (λ (x : Demanded). Among u x.kept.items) demanded a))
 
     -- what is kept stays spare, whether it was put or not
     pub settles_spare : AreOnly rules look more → AreSpare rules look more
     settles_spare only = record {
       only = only;
-      lazy = lazy_more rules look entries more old.inst grows sparing.spare.lazy;
-      deep = deep_more rules look entries more old.inst grows old.found.entries d stands.finds last_whole sparing.settled last_took sparing.spare.deep;
+      lazy = lazy_more rules look entries more old.inst old.found.entries grows sparing.spare.lazy;
+      deep = deep_more rules look entries more old.inst old.found.entries grows d stands.finds last_whole sparing.settled last_took sparing.spare.deep;
     }
 
     -- where none waits, that was the question
-    pub ends_all : old.waiting.entries ≡ [] → (is_lazy rules old.inst.attribute ≡ true → IsSome (more old.inst)) → HasWorthy rules look asked more
+    pub ends_all : old.waiting.entries ≡ [] → (is_lazy rules old.inst.attribute ≡ true → IsKept more old.inst) → HasWorthy rules look asked more
     ends_all alone kept i w =
         let same : old.inst ≡ asked = sym (ap (λ ws. first_of ws old.inst) alone) ∙ h.starts in
-        all_below rules look entries more old.inst grows old.found.entries d stands.finds last_whole sparing.settled last_took sparing.spare.deep kept i (subst (λ x. Leads look (meaning rules) x i) (sym same) w.reached) w.lazy
+        all_below rules look entries more old.inst old.found.entries grows d stands.finds last_whole sparing.settled last_took sparing.spare.deep kept i (subst (λ x. Leads look (meaning rules) x i) (sym same) w.reached) w.lazy
 
-    pub settles_sparing : (new : Evaluation) (b : Instance ℕ) (f : Frame) → (is_lazy rules old.inst.attribute ≡ true → IsSome (more old.inst)) → AreOnly rules look more →
+    pub settles_sparing : (new : Evaluation) (b : Instance ℕ) (f : Frame) → (is_lazy rules old.inst.attribute ≡ true → IsKept more old.inst) → AreOnly rules look more →
         old.waiting.entries ≡ new.waiting.entries ++ (b, f) ∷ [] → new.found.entries ≡ insert_entry same_instance old.found.entries old.inst d → new.inst ≡ b → new.frame ≡ f → IsSparing rules look more new
     settles_sparing new b f kept only waiting found last same =
         let fs = old.found.entries in
@@ -106,6 +107,6 @@ module _ (rules : Rules) (look : Contents ℕ) where
           waits = subst (λ x. TakeOnly rules look x rest) (sym goes) (take_more rules look fs all rest grown split.0);
           last = subst (λ x. TakesOnly rules look x new.inst new.frame.demanded) (sym goes) (subst (λ x. TakesOnly rules look all x new.frame.demanded) (sym last) (subst (λ (x : Frame). TakesOnly rules look all b x.demanded) (sym same) (takes_more rules look fs all b f.demanded grown split.1)));
           finds = subst (AreLean rules look) (sym goes) (lean_push rules look fs old.inst d sparing.finds last_lean);
-          settled = subst (AreSettled rules more) (sym goes) (settled_push rules look entries more old.inst grows fs d stands.finds last_whole sparing.settled last_took sparing.spare.deep kept);
+          settled = subst (AreSettled rules more) (sym goes) (settled_push rules look entries more old.inst fs grows d stands.finds last_whole sparing.settled last_took sparing.spare.deep kept);
           spare = settles_spare only;
         }

@@ -18,26 +18,27 @@ use Rattle.at_body.specs.Same.{same_instance}
 use Rattle.at_body.specs.Typed.{class_shown}
 use Rattle.at_body.specs.Values.{value_view}
 use Rattle.at_body.specs.declared.value.Value.{Value as ValueCode}
-use Rattle.at_cache.specs.Kept.{Kept, Entries, AreKept}
+use Rattle.at_cache.specs.Kept.{Entries}
 use Rattle.at_demand.specs.declared.answer.Answer.{Answer as AnswerCode}
 use Rattle.at_demand.specs.declared.evaluation.Find.{Find}
 use Rattle.at_demand.specs.declared.question.Question.{Question}
-use Rattle.at_demand.specs.Known.{meaning, kept_values, found_values, known_in, answer_view, FoundKept}
-use Rattle.at_demand.specs.Right.{IsThere}
+use Rattle.at_demand.specs.Known.{meaning, kept_values, found_values, known_in, answer_view, AreValued, FoundKept, IsKept}
+use Rattle.at_demand.specs.Right.{AreThere, IsThere}
 use Rattle.at_demand.specs.Covering.{AreWhole}
 use Rattle.at_demand.specs.Only.{AreLean}
 use Rattle.at_demand.specs.Sparing.{AddsWorthy, AreSettled, IsWorthKeeping}
 use Rattle.at_demand.specs.Turns.{IsStanding, IsSparingTurns, found_of, passed_of, under_way}
 use Rattle.at_demand.specs.ChainSteps.{HasSettled, HasPassedOn, HasDeepened}
 use Rattle.at_demand.specs.Attempts.{HasFound, HasNeeded}
+use Rattle.at_demand.proofs.Entered.{entered_on, is_there, kept_on, value_on, valued_on}
 use Rattle.at_demand.proofs.Keys.{goes_last, lookup_push}
 use Rattle.at_demand.proofs.Leading.{leads_on}
 use Rattle.at_demand.proofs.OnlyLemmas.{lean_push}
 use Rattle.at_demand.proofs.Passing.{whole_push}
 use Rattle.at_demand.proofs.Sameness.{same_true}
-use Rattle.at_demand.proofs.There.{led_there}
+use Rattle.at_demand.proofs.There.{found_once, led_there}
 use Rattle.at_demand.proofs.Truth.{right_known}
-use Rattle.at_demand.proofs.Turned.{fresh_found, fresh_passed, kept_found, waits_push, last_two}
+use Rattle.at_demand.proofs.Turned.{fresh_found, fresh_passed, found_among, waits_push, last_two}
 
 again : {N : Type 0} (look : Contents N) (equation : Equations N) (q : Instance N) (u : UnderWay N) → IsOn look equation q u → IsOn look equation (asked u) u
 again look equation q u on = subst (λ x. IsOn look equation x u) (sym on.starts) on
@@ -52,19 +53,15 @@ got (x ∷ fs) j f e = one (same_instance j x.0) refl e (got fs j f)
     one false is e more = inr (more e)
 
 module _ (rules : Rules) (s : Shown) (entries more : Entries) (grown : (i : Instance ℕ) → IsSome (entries i) → more i ≡ entries i) (old : Question) (st : IsStanding rules s entries old) where
-  some_kept : (o : Option Kept) (v : Value ℕ) → option_map (λ (k : Kept). k.value) o ≡ Some v → IsSome o
-  some_kept None v e = absurd cc
-  some_kept (Some k) v e = refl
-
   still_kept : (i : Instance ℕ) (v : Value ℕ) → kept_values entries i ≡ Some v → kept_values more i ≡ Some v
-  still_kept i v e = ap (option_map (λ (k : Kept). k.value)) (grown i (some_kept (entries i) v e)) ∙ e
+  still_kept = value_on entries more grown
 
   -- what is the same stands so
   pub stands_as : (new : Question) → under_way new ≡ under_way old → new.found.entries ≡ old.found.entries → new.passed.entries ≡ old.passed.entries → IsStanding rules s more new
   stands_as new same found passed = record {
     on = subst (λ (u : UnderWay ℕ). IsOn (contents s) (meaning rules) (asked u) u) (sym same) st.on;
     typed = subst (λ (u : UnderWay ℕ). AllByRecursion (IsWellTyped rules (class_shown s) AnyText) (chain u)) (sym same) st.typed;
-    kept = subst (λ fs. FoundKept more fs) (sym found) (λ i f e. kept_found entries more grown f.demanded.kept.items (st.kept i f e));
+    kept = subst (λ fs. FoundKept more fs) (sym found) (λ i f e. valued_on entries more grown f.demanded.kept.items (st.kept i f e));
     passed = λ i v a. still_kept i v (st.passed i v (subst (λ ps. Among (i, v) (passed_of ps)) passed a));
     whole = subst (AreWhole rules (contents s)) (sym found) st.whole;
   }
@@ -97,9 +94,9 @@ module _ (rules : Rules) (s : Shown) (entries more : Entries) (grown : (i : Inst
       record {
         on = on_next (under_way new) None turned;
         typed = fewer (chain (under_way new)) (last_two old.waiting.entries new.waiting.entries new.inst r.waits);
-        kept = subst (λ fs. FoundKept more fs) (sym goes) (λ i f e. kept_found entries more grown f.demanded.kept.items (elim (lookup_push old.found.entries old.inst i d f e) [
+        kept = subst (λ fs. FoundKept more fs) (sym goes) (λ i f e. valued_on entries more grown f.demanded.kept.items (elim (lookup_push old.found.entries old.inst i d f e) [
           | inl h ↦ st.kept i f h
-          | inr h ↦ subst (λ (x : Find). AreKept entries x.demanded.kept.items) h.1 has.kept
+          | inr h ↦ subst (λ (x : Find). AreValued entries x.demanded.kept.items) h.1 has.kept
         ]));
         passed = λ i v a. still_kept i v (st.passed i v (subst (λ ps. Among (i, v) (passed_of ps)) r.passed a));
         whole = subst (AreWhole rules (contents s)) (sym goes) (whole_push rules (contents s) old.found.entries old.inst d st.whole has.whole);
@@ -114,7 +111,7 @@ module _ (rules : Rules) (s : Shown) (entries more : Entries) (grown : (i : Inst
       record {
         on = on_next (under_way new) None turned;
         typed = fewer (chain (under_way new)) (last_two old.waiting.entries new.waiting.entries new.inst r.waits);
-        kept = subst (λ fs. FoundKept more fs) (sym r.found) (λ i f e. kept_found entries more grown f.demanded.kept.items (st.kept i f e));
+        kept = subst (λ fs. FoundKept more fs) (sym r.found) (λ i f e. valued_on entries more grown f.demanded.kept.items (st.kept i f e));
         passed = λ i w a. elim (pushed old.passed.entries i w (subst (λ ps. Among (i, w) (passed_of ps)) goes a)) [
           | inl b ↦ still_kept i w (st.passed i w b)
           | inr e ↦ subst (λ (p : Instance ℕ × Value ℕ). kept_values more p.0 ≡ Some p.1) (sym e) kept
@@ -137,7 +134,7 @@ module _ (rules : Rules) (s : Shown) (entries more : Entries) (grown : (i : Inst
       record {
         on = on_next (under_way new) None turned;
         typed = subst (λ x. Typed (keys_of new.waiting.entries ++ x ∷ [])) (sym r.inst) (subst (λ xs. Typed (xs ++ j ∷ [])) ws (all_both (IsWellTyped rules (class_shown s) AnyText) (chain (under_way old)) (j ∷ []) st.typed (n.typed, tt)));
-        kept = subst (λ fs. FoundKept more fs) (sym r.found) (λ i f e. kept_found entries more grown f.demanded.kept.items (st.kept i f e));
+        kept = subst (λ fs. FoundKept more fs) (sym r.found) (λ i f e. valued_on entries more grown f.demanded.kept.items (st.kept i f e));
         passed = λ i v a. still_kept i v (st.passed i v (subst (λ ps. Among (i, v) (passed_of ps)) r.passed a));
         whole = subst (AreWhole rules (contents s)) (sym r.found) st.whole;
       }
@@ -162,6 +159,15 @@ module _ (rules : Rules) (s : Shown) (entries more : Entries) (grown : (i : Inst
   pub last_there : IsIdle s → IsThere s (asked (under_way old)) → IsThere s old.inst
   last_there idle there = led_there rules s idle (asked (under_way old)) old.inst there last_led
 
+  -- and so are those that were found
+  pub found_there : IsIdle s → IsThere s (asked (under_way old)) → AreThere rules s old.found.entries
+  found_there idle there j (p, f, at) =
+      let (g, is) = found_once old.found.entries j (p, f, at) in
+      let among = got old.found.entries j g is in (
+        led_there rules s idle (asked (under_way old)) j there (st.on.led j (found_among rules s entries entries old st p j f at)),
+        (value_view g.value, st.on.holds j (value_view g.value) (among_left (j, value_view g.value) (found_of old.found.entries) (passed_of old.passed.entries) among)),
+      )
+
   pub worthy_asked : AddsWorthy rules (contents s) old.inst entries more → AddsWorthy rules (contents s) (asked (under_way old)) entries more
   worthy_asked adds = record {
     stays = adds.stays;
@@ -170,7 +176,7 @@ module _ (rules : Rules) (s : Shown) (entries more : Entries) (grown : (i : Inst
 
   -- and sparing
   settled_still : AreSettled rules entries old.found.entries → AreSettled rules more old.found.entries
-  settled_still settled p i f e = let x = settled p i f e in record { lazy = λ l. let some = x.lazy l in subst IsSome (sym (grown i some)) some; took = λ u a. let some = x.took u a in subst IsSome (sym (grown u some)) some }
+  settled_still settled p i f e = let x = settled p i f e in record { lazy = λ l. kept_on entries more grown i (x.lazy l); took = λ u a. entered_on entries more grown u (x.took u a) }
 
   pub spares_as : (new : Question) → new.found.entries ≡ old.found.entries → IsSparingTurns rules (contents s) entries old → IsSparingTurns rules (contents s) more new
   spares_as new found sparing = record { lean = subst (AreLean rules (contents s)) (sym found) sparing.lean; settled = subst (AreSettled rules more) (sym found) (settled_still sparing.settled) }
@@ -197,10 +203,10 @@ asked_same rules s entries q st u o turned = (stays_on (contents s) (meaning rul
 -- more comes, and more again
 pub worthy_both : (rules : Rules) (look : Contents ℕ) (q : Instance ℕ) (first next last : Entries) → AddsWorthy rules look q first next → AddsWorthy rules look q next last → AddsWorthy rules look q first last
 worthy_both rules look q first next last a b = record {
-  stays = λ i some. b.stays i (subst IsSome (sym (a.stays i some)) some) ∙ a.stays i some;
-  worthy = λ i none some. by i none some (next i) refl;
+  stays = λ i some. b.stays i (entered_on first next a.stays i some) ∙ a.stays i some;
+  worthy = λ i none some. by i none some (kept_values next i) refl;
 }
   where
-    by : (i : Instance ℕ) → first i ≡ None → IsSome (last i) → (o : Option Kept) → next i ≡ o → IsWorthKeeping rules look q i
+    by : (i : Instance ℕ) → kept_values first i ≡ None → IsKept last i → (o : Option (Value ℕ)) → kept_values next i ≡ o → IsWorthKeeping rules look q i
     by i none some None is = b.worthy i is some
-    by i none some (Some k) is = a.worthy i none (subst IsSome (sym is) refl)
+    by i none some (Some v) is = a.worthy i none (is_there (kept_values next i) v is)

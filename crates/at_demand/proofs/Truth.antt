@@ -1,12 +1,13 @@
 -- What a question has come to holds.
 use Rattle.std.proofs.Common.{◌≡◌, ℕ, List, [], ◌∷◌, ◌++◌, nat_eq, Option, Some, None, inl, inr, refl, sym, ap, ◌∙◌, subst}
 use Rattle.std.specs.Map.{lookup}
+use Rattle.std.proofs.lemmas.Option.{none-some}
 use Rattle.std.specs.Option.{option_map}
 use Rattle.indexmap.specs.IndexMap.{insert_entry}
 use Rattle.at_model.specs.Run.{Value, Instance, Contents, Known}
 use Rattle.at_model.specs.Follow.{follow}
 use Rattle.at_model.specs.Rules.{Rules, evaluation}
-use Rattle.at_model.specs.Meaning.{Among, Holds, HasValue, Right, Circular, Faults}
+use Rattle.at_model.specs.Meaning.{Among, Holds, HasValue, Leads, Right, Circular, Faults}
 use Rattle.at_body.specs.Same.{same_instance}
 use Rattle.at_body.specs.Values.{value_view, fault_view}
 use Rattle.at_body.specs.Rest.{reached, resumed}
@@ -16,14 +17,15 @@ use Rattle.at_body.specs.declared.trial.Step.{Step}
 use Rattle.at_body.specs.declared.trial.Step.TheVariants as step
 use Rattle.at_body.specs.declared.trial.Trial.{Trial}
 use Rattle.at_cache.specs.Kept.{Entries}
+use Rattle.at_cache.proofs.Lists.{get_push}
 use Rattle.at_demand.specs.declared.evaluation.Find.{Find}
 use Rattle.at_demand.specs.declared.evaluation.Frame.{Frame}
 use Rattle.at_demand.specs.declared.evaluation.Evaluation.{Evaluation}
-use Rattle.at_demand.specs.Known.{meaning, kept_values, found_values, known_in, MayAdd}
+use Rattle.at_demand.specs.Known.{meaning, kept_values, found_values, known_in, IsFound, MayAdd}
 use Rattle.at_demand.specs.UnderWay.{HasStepped, AreWaiting, first_of, chain_of, IsOrderlyIn, IsTrue, IsTrueIn, IsOpen}
 use Rattle.at_demand.proofs.Keys.{lookup_push}
 use Rattle.at_demand.proofs.Coming.{begins, goes_on, has_value, has_fault}
-use Rattle.at_demand.proofs.Chains.{first_push, wait_push, wait_pop, circle, fault_up}
+use Rattle.at_demand.proofs.Chains.{leads, first_push, wait_push, wait_pop, circle, fault_up}
 use Rattle.at_demand.proofs.Orderly.{waits_last, found_last}
 
 -- an evaluation at its end needs nothing
@@ -51,8 +53,8 @@ module _ (rules : Rules) (look : Contents ℕ) where
   value_of i t v (js, past) = has_value look (meaning rules) i (value_view v) js t.reads past
 
   adds_right : (old new : Entries) (i : Instance ℕ) (v : Value ℕ) → MayAdd old new i v → HasValue look (meaning rules) i v → Right look (meaning rules) (kept_values old) → Right look (meaning rules) (kept_values new)
-  adds_right old new i v adds holds right j w e = elim (adds j) [
-    | inl f ↦ right j w (sym (ap (option_map (λ k. k.value)) f) ∙ e)
+  adds_right old new i v adds holds right j w e = elim (adds.values j) [
+    | inl f ↦ right j w (sym f ∙ e)
     | inr p ↦ let is : Some v ≡ Some w = sym p.1 ∙ e in let same : v ≡ w = cc in subst (λ x. HasValue look (meaning rules) j x) same (subst (λ x. HasValue look (meaning rules) x v) p.0 holds)
   ]
 
@@ -65,6 +67,7 @@ module _ (rules : Rules) (look : Contents ℕ) where
       last = stepped;
       kept = right;
       finds = subst (λ x. Right look (meaning rules) (found_values x)) (sym nothing) (λ j v e. absurd (nothing_found v e));
+      led = subst (λ x. (j : Instance ℕ) → IsFound x j → Leads look (meaning rules) asked j) (sym nothing) (λ j (p, f, e). absurd (none-some (j, f) e));
     }
       where
         nothing_found : (v : Value ℕ) → ◌≡◌ {A = Option (Value ℕ)} None (Some v) → ⊥
@@ -72,7 +75,7 @@ module _ (rules : Rules) (look : Contents ℕ) where
 
     -- the last one has come further
     pub steps_on : (ws : List (Instance ℕ × Frame)) (fs : List (Instance ℕ × Find)) (i : Instance ℕ) (t u : Trial) (s r : Step) → IsTrue rules look asked entries ws fs i t s → HasStepped rules look i u r → IsTrue rules look asked entries ws fs i u r
-    steps_on ws fs i t u s r h stepped = record { starts = h.starts; waits = h.waits; last = stepped; kept = h.kept; finds = h.finds }
+    steps_on ws fs i t u s r h stepped = record { starts = h.starts; waits = h.waits; last = stepped; kept = h.kept; finds = h.finds; led = h.led }
 
     -- the last one needs an instance that isn't under way
     pub deepens_true : (old new : Evaluation) (j : Instance ℕ) (s : Step) → IsOrderlyIn entries old → IsTrueIn rules look asked entries old (step.Need j) →
@@ -87,6 +90,7 @@ module _ (rules : Rules) (look : Contents ℕ) where
           last = stepped;
           kept = h.kept;
           finds = h.finds;
+          led = h.led;
         } in
         let here : P new.waiting.entries = subst P (sym goes) there in
         let found : IsTrue rules look asked entries new.waiting.entries new.found.entries j new.frame.trial s = subst (λ x. IsTrue rules look asked entries new.waiting.entries x j new.frame.trial s) (sym same) here in
@@ -125,9 +129,16 @@ module _ (rules : Rules) (look : Contents ℕ) where
             last = split.1;
             kept = right_after adds;
             finds = finds;
+            led = led;
           } in
           subst (λ x. P x new.frame new.found.entries needed) (sym last) (subst (λ y. P b y new.found.entries needed) (sym same) (subst (λ z. P b f z needed) (sym goes) (subst (λ w. P b f (fs ++ (old.inst, d) ∷ []) w) (sym is) there)))
         where
+          led : (j : Instance ℕ) → IsFound (old.found.entries ++ (old.inst, d) ∷ []) j → Leads look (meaning rules) asked j
+          led j (p, f, e) = elim (get_push old.found.entries (old.inst, d) p (j, f) e) [
+            | inl before ↦ h.led j (p, f, before)
+            | inr last ↦ subst (λ (x : Instance ℕ × Find). Leads look (meaning rules) asked x.0) last.1 (subst (λ x. Leads look (meaning rules) x old.inst) h.starts (leads rules look old.waiting.entries old.inst h.waits))
+          ]
+
           finds : Right look (meaning rules) (found_values (old.found.entries ++ (old.inst, d) ∷ []))
           finds j w e = by (lookup (same_instance j) (old.found.entries ++ (old.inst, d) ∷ [])) refl e
             where

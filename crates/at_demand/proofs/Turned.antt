@@ -1,6 +1,5 @@
 -- One turn of a question, as its code has it, is a turn.
 use Rattle.std.proofs.Common.{◌≡◌, ℕ, zero, suc, List, [], ◌∷◌, ◌++◌, slice_get, Option, Some, None, inl, inr, refl, sym, ap, ◌∙◌, subst, append_assoc, append-nil}
-use Rattle.std.specs.Prelude.{IsSome}
 use Rattle.std.specs.Map.{keys_of}
 use Rattle.std.specs.Option.{option_map}
 use Rattle.indexmap.specs.IndexMap.{insert_entry}
@@ -17,7 +16,7 @@ use Rattle.at_body.specs.Typed.{class_shown}
 use Rattle.at_body.specs.Values.{value_view, fault_view}
 use Rattle.at_body.specs.declared.value.FaultKind.{FaultKind as FaultCode}
 use Rattle.at_body.specs.declared.value.Value.{Value as ValueCode}
-use Rattle.at_cache.specs.Kept.{Kept, Entries, AreKept}
+use Rattle.at_cache.specs.Kept.{Entries}
 use Rattle.at_demand.specs.declared.answer.Answer.{Answer as AnswerCode}
 use Rattle.at_demand.specs.declared.answer.Answer.TheVariants as answer
 use Rattle.at_demand.specs.declared.evaluation.Find.{Find}
@@ -26,6 +25,7 @@ use Rattle.at_demand.specs.Known.{meaning, kept_values, answer_view}
 use Rattle.at_demand.specs.Turns.{IsStanding, found_of, passed_of, under_way}
 use Rattle.at_demand.specs.ChainSteps.{HasSettled, HasPassedOn, HasDeepened}
 use Rattle.at_demand.specs.Attempts.{HasFound, HasNeeded}
+use Rattle.at_demand.proofs.Entered.{is_there, not_none, there as value_there}
 use Rattle.at_demand.proofs.Gaining.{is_kept as kept_one}
 use Rattle.at_demand.proofs.Keys.{no_key, goes_last, keys_push}
 
@@ -50,13 +50,6 @@ among_got [] p j g e = absurd cc
 among_got (f ∷ fs) zero j g e = let same : f ≡ (j, g) = cc in inl (sym (ap (λ (x : Instance ℕ × Find). x.0) same))
 among_got (f ∷ fs) (suc p) j g e = inr (among_got fs p j g e)
 
-value_there : (o : Option Kept) → IsSome o → (v : Value ℕ) × (option_map (λ (k : Kept). k.value) o ≡ Some v)
-value_there None some = absurd cc
-value_there (Some k) some = (k.value, refl)
-
-pub kept_found : (entries more : Entries) → ((i : Instance ℕ) → IsSome (entries i) → more i ≡ entries i) → (ks : List (Instance ℕ)) → AreKept entries ks → AreKept more ks
-kept_found entries more stays ks all u h = let some = all u h in subst IsSome (sym (stays u some)) some
-
 -- what stands of an equation of lists of instances that wait
 pub last_two : (ws vs : List (Instance ℕ × Unit {0})) (i : Instance ℕ) → ws ≡ vs ++ (i, tt) ∷ [] → keys_of ws ≡ keys_of vs ++ i ∷ []
 last_two ws vs i e = ap keys_of e ∙ keys_push vs i tt
@@ -80,6 +73,9 @@ module _ (rules : Rules) (s : Shown) (entries more : Entries) (old : Question) (
   is_passed : (j : Instance ℕ) → Among j (keys_of old.passed.entries) → Among j (keys (found_of old.found.entries ++ passed_of old.passed.entries))
   is_passed j a = subst (Among j) (sym in_keys) (among_right j (keys_of old.found.entries) (keys_of old.passed.entries) a)
 
+  pub found_among : (p : ℕ) (j : Instance ℕ) (g : Find) → slice_get old.found.entries p ≡ Some (j, g) → Among j (keys (found_of old.found.entries ++ passed_of old.passed.entries))
+  found_among p j g at = is_found j (among_got old.found.entries p j g at)
+
   at_end : Among old.inst (chain here)
   at_end = among_last (keys_of old.waiting.entries) old.inst
 
@@ -92,8 +88,8 @@ module _ (rules : Rules) (s : Shown) (entries more : Entries) (old : Question) (
   -- all that was demanded is known
   ready : (d : Find) → HasFound rules (contents s) entries old.found.entries old.inst d → (j : Instance ℕ) → Comes (contents s) (meaning rules) old.inst j → IsKnown (kept_values entries) (found_of old.found.entries ++ passed_of old.passed.entries) j
   ready d has j c = elim (has.whole.demands j c) [
-    | inl a ↦ inl (value_there (entries j) (kept_one entries d.demanded.kept.items j has.kept a))
-    | inr p ↦ (let (n, g, among, at) = p in inr (is_found j (among_got old.found.entries n j g at)))
+    | inl a ↦ inl (value_there (kept_values entries j) (kept_one entries d.demanded.kept.items j has.kept a))
+    | inr p ↦ (let (n, g, among, at) = p in inr (found_among n j g at))
   ]
 
   -- the values are one more
@@ -150,24 +146,16 @@ module _ (rules : Rules) (s : Shown) (entries more : Entries) (old : Question) (
   kept_turn v right kept = is_kept (value_view v) kept (right (asked here) (value_view v) kept)
 
   unknown : (j : Instance ℕ) → HasNeeded rules (class_shown s) (contents s) entries old.found.entries old.inst j → IsKnown (kept_values entries) (found_of old.found.entries ++ passed_of old.passed.entries) j → ⊥
-  unknown j n (inl (v, e)) = no_kept (entries j) v n.unkept e
-    where
-      no_kept : (o : Option Kept) (v : Value ℕ) → o ≡ None → option_map (λ (k : Kept). k.value) o ≡ Some v → ⊥
-      no_kept None v f g = absurd cc
-      no_kept (Some k) v f g = absurd cc
+  unknown j n (inl (v, e)) = not_none (kept_values entries j) (is_there (kept_values entries j) v e) n.unkept
   unknown j n (inr a) = elim (among_either (keys_of old.found.entries) (keys_of old.passed.entries) j (subst (Among j) in_keys a)) [
     | inl b ↦ no_key old.found.entries j n.unfound b
-    | inr b ↦ (let (v, e) = passed_value old.passed.entries b in no_kept (entries j) v n.unkept (st.passed j v e))
+    | inr b ↦ (let (v, e) = passed_value old.passed.entries b in not_none (kept_values entries j) (is_there (kept_values entries j) v (st.passed j v e)) n.unkept)
   ]
     where
       passed_value : (ps : List (Instance ℕ × ValueCode)) → Among j (keys_of ps) → (v : Value ℕ) × Among (j, v) (passed_of ps)
       passed_value [] h = absurd h
       passed_value (p ∷ ps) (inl e) = (value_view p.1, inl (ap (λ (x : Instance ℕ). (x, value_view p.1)) e))
       passed_value (p ∷ ps) (inr h) = let (v, a) = passed_value ps h in (v, inr a)
-
-      no_kept : (o : Option Kept) (v : Value ℕ) → o ≡ None → option_map (λ (k : Kept). k.value) o ≡ Some v → ⊥
-      no_kept None v f g = absurd cc
-      no_kept (Some k) v f g = absurd cc
 
   pub waits_push : keys_of (insert_entry same_instance old.waiting.entries old.inst tt) ≡ chain here
   waits_push = ap keys_of (goes_last old.waiting.entries old.inst tt (apart_last (keys_of old.waiting.entries) st.on.distinct)) ∙ keys_push old.waiting.entries old.inst tt

@@ -8,12 +8,12 @@ use Rattle.at_store.specs.Shown.{Shown, contents}
 use Rattle.at_body.specs.Same.{same_instance}
 use Rattle.at_body.specs.Typed.{IsTypedStep, class_shown}
 use Rattle.at_body.specs.declared.trial.Step.{Step}
-use Rattle.at_cache.specs.Kept.{AreKept, Entries}
+use Rattle.at_cache.specs.Kept.{Entries}
 use Rattle.at_demand.specs.declared.evaluation.Evaluation.{Evaluation}
 use Rattle.at_demand.specs.declared.evaluation.Find.{Find}
 use Rattle.at_demand.specs.declared.evaluation.Frame.{Frame}
 use Rattle.at_demand.specs.declared.evaluation.Advance.{Advance}
-use Rattle.at_demand.specs.Known.{meaning, kept_values, known_in}
+use Rattle.at_demand.specs.Known.{meaning, kept_values, known_in, ArePlain, AreValued}
 use Rattle.at_demand.specs.UnderWay.{HasStepped, IsOpen, IsTrueIn, IsAdvance, IsRightAdvance}
 use Rattle.at_demand.specs.Typing.{IsTypedAdvance}
 use Rattle.at_demand.specs.Right.{AreRight, IsThere}
@@ -26,7 +26,7 @@ use Rattle.at_demand.specs.Sparing.{AddsWorthy, AreSpare, Counts, IsSparing, IsS
 -- instance that isn't known.
 pub record HasGoneOn (rules : Rules) (s : Shown) (entries : Entries) (found : List (Instance ℕ × Find)) (old : Frame) (before : Step)
     (new : Frame) (after : Step) : Type 0 where
-  pub kept : AreKept entries new.demanded.kept.items
+  pub kept : AreValued entries new.demanded.kept.items
   pub stepped : (i : Instance ℕ) → HasStepped rules (contents s) i old.trial before → HasStepped rules (contents s) i new.trial after
   pub passed : (i : Instance ℕ) → HasPassedTo rules (contents s) found i old before → HasPassedTo rules (contents s) found i new after
   pub only : (i : Instance ℕ) → HasStepped rules (contents s) i old.trial before → TakesOnly rules (contents s) found i old.demanded
@@ -64,6 +64,7 @@ pub record HasAdvanced {E : Type 0} (rules : Rules) (s : Shown) (exact : Bool) (
       → IfOk r (IsCoveringAdvance rules (contents s) new)
   pub stays : (asked : Instance ℕ) → IsThere s asked → IsTrueIn rules (contents s) asked before old step → IsCoveringIn rules (contents s) old step
       → AreRight rules s before → AreRight rules s after
+  pub plain : ArePlain rules after
   pub worthy : (asked : Instance ℕ) (first : Entries) → IsTrueIn rules (contents s) asked before old step
       → AddsWorthy rules (contents s) asked first before → AddsWorthy rules (contents s) asked first after
   pub sparing : (asked : Instance ℕ) → IsTrue exact → IsTrueIn rules (contents s) asked before old step → IsCoveringIn rules (contents s) old step

@@ -10,7 +10,7 @@ use Rattle.at_cache.specs.Kept.{Entries}
 use Rattle.at_demand.specs.declared.answer.Answer.{Answer}
 use Rattle.at_demand.specs.declared.question.Question.{Question}
 use Rattle.at_demand.specs.declared.trials.Trials.{Trials}
-use Rattle.at_demand.specs.Known.{meaning, kept_values, answer_view}
+use Rattle.at_demand.specs.Known.{meaning, kept_values, ArePlain, answer_view}
 use Rattle.at_demand.specs.Right.{AreRight, IsThere}
 use Rattle.at_demand.specs.Sparing.{AddsWorthy, AreSpare, Counts, HasWorthy, IsWork, MayAddLazy}
 use Rattle.at_demand.specs.KeptTrials.{FitAfter}
@@ -27,12 +27,14 @@ pub record HasAnswered {E : Type 0} (rules : Rules) (s : Shown) (exact : Bool) (
   pub counts : IsTrue exact → Counts before after earlier later
   pub work : IsTrue exact → AreSpare rules (contents s) before → IfOk r (λ a. IsWork rules (contents s) i before earlier later)
   pub right : IsThere s i → AreRight rules s before → AreRight rules s after
+  pub plain : ArePlain rules after
 
 -- A turn of the question lets at most its last instance come to what is kept, which stays right and, with an exact keeper, spare; the
 -- work counts that.
 pub record GainsAtMost (rules : Rules) (s : Shown) (exact : Bool) (before after : Entries) (earlier later : ℕ) (q : Question) : Type 0 where
   pub right : Right (contents s) (meaning rules) (kept_values after)
   pub stays : IsThere s (asked (under_way q)) → AreRight rules s before → AreRight rules s after
+  pub plain : ArePlain rules after
   pub last : MayAddLazy rules before after q.inst
   pub worthy : AddsWorthy rules (contents s) (asked (under_way q)) before after
   pub spare : IsTrue exact → AreSpare rules (contents s) before → IsSparingTurns rules (contents s) before q → AreSpare rules (contents s) after
@@ -57,6 +59,7 @@ pub record HasTurned {E : Type 0} (rules : Rules) (s : Shown) (exact : Bool) (be
   pub standing : IfOk r (λ o. IsStanding rules s after new)
   pub right : Right (contents s) (meaning rules) (kept_values after)
   pub stays : IsThere s (asked (under_way old)) → AreRight rules s before → AreRight rules s after
+  pub plain : ArePlain rules after
   pub last : MayAddLazy rules before after old.inst
   pub worthy : AddsWorthy rules (contents s) (asked (under_way old)) before after
   pub sparing : IsTrue exact → AreSpare rules (contents s) before → IsSparingTurns rules (contents s) before old
@@ -72,6 +75,7 @@ pub record HasTurnedOften {E : Type 0} (rules : Rules) (s : Shown) (exact : Bool
   pub right : Right (contents s) (meaning rules) (kept_values after)
   pub worthy : AddsWorthy rules (contents s) (asked (under_way old)) before after
   pub stays : IsThere s (asked (under_way old)) → AreRight rules s before → AreRight rules s after
+  pub plain : ArePlain rules after
   pub spare : IsTrue exact → AreSpare rules (contents s) before → IsSparingTurns rules (contents s) before old → AreSpare rules (contents s) after
   pub sparing : IsTrue exact → AreSpare rules (contents s) before → IsSparingTurns rules (contents s) before old
       → IfOk r (λ g. IsSparingTurns rules (contents s) after new)

@@ -12,16 +12,16 @@ use Rattle.at_body.specs.Typed.{IsTypedStep, class_shown}
 use Rattle.at_body.specs.Values.{value_view, fault_view}
 use Rattle.at_body.specs.declared.trial.Step.{Step}
 use Rattle.at_body.specs.declared.trial.Step.TheVariants as step
-use Rattle.at_cache.specs.Kept.{Entries, AreKept}
+use Rattle.at_cache.specs.Kept.{Entries}
 use Rattle.at_demand.specs.declared.evaluation.Find.{Find}
 use Rattle.at_demand.specs.declared.evaluation.Frame.{Frame}
 use Rattle.at_demand.specs.declared.trials.Attempt.{Attempt}
 use Rattle.at_demand.specs.declared.trials.Attempt.TheVariants as attempt
-use Rattle.at_demand.specs.Known.{kept_values, meaning}
+use Rattle.at_demand.specs.Known.{kept_values, meaning, ArePlain, AreValued}
 use Rattle.at_demand.specs.UnderWay.{HasStepped}
 use Rattle.at_demand.specs.Covering.{HasPassedTo, IsWhole}
 use Rattle.at_demand.specs.Only.{AreLean, IsLean, TakesOnly}
-use Rattle.at_demand.specs.Right.{AreRight, IsThere}
+use Rattle.at_demand.specs.Right.{AreRight, AreThere, IsThere}
 use Rattle.at_demand.specs.Sparing.{AddsWorthy, AreSettled, AreSpare, Counts, MayAddLazy}
 
 -- The trial of an instance has come to this step, past values that hold; what it looked at and took is what its evaluation sees and
@@ -32,7 +32,7 @@ pub record HasComeTo (rules : Rules) (at : ClassAt ℕ) (look : Contents ℕ) (e
   pub passed : HasPassedTo rules look found i f s
   pub takes : TakesOnly rules look found i f.demanded
   pub typed : IsTypedStep rules at s f.trial
-  pub kept : AreKept entries f.demanded.kept.items
+  pub kept : AreValued entries f.demanded.kept.items
 
 -- where it needs another instance, its trial waits for that
 abbrev pub Awaits : Rules → ClassAt ℕ → Contents ℕ → Entries → List (Instance ℕ × Find) → Instance ℕ → Frame → Attempt → Type 0
@@ -46,13 +46,13 @@ pub record HasFound (rules : Rules) (look : Contents ℕ) (entries : Entries) (f
   pub value : HasValue look (meaning rules) i (value_view f.value)
   pub whole : IsWhole rules look found i f
   pub lean : IsLean rules look found i f
-  pub kept : AreKept entries f.demanded.kept.items
+  pub kept : AreValued entries f.demanded.kept.items
 
 -- it needs another instance, which is well typed, and neither kept nor found
 pub record HasNeeded (rules : Rules) (at : ClassAt ℕ) (look : Contents ℕ) (entries : Entries) (found : List (Instance ℕ
     × Find)) (i j : Instance ℕ) : Type 0 where
   pub comes : Comes look (meaning rules) i j
-  pub unkept : entries j ≡ None
+  pub unkept : kept_values entries j ≡ None
   pub unfound : lookup (same_instance j) found ≡ None
   pub typed : IsWellTyped rules at AnyText j
 
@@ -83,7 +83,8 @@ pub record HasAttempted {E : Type 0} (rules : Rules) (s : Shown) (exact : Bool) 
     (found : List (Instance ℕ × Find)) (i : Instance ℕ) (f : Frame) (r : Result Attempt E) : Type 0 where
   pub tried : IfOk r (HasTried rules (class_shown s) (contents s) before found i)
   pub right : Right (contents s) (meaning rules) (kept_values after)
-  pub stays : IsThere s i → AreRight rules s before → AreRight rules s after
+  pub stays : IsThere s i → AreThere rules s found → AreRight rules s before → AreRight rules s after
+  pub plain : ArePlain rules after
   pub lazy : MayAddLazy rules before after i
   pub worthy : AddsWorthy rules (contents s) i before after
   pub spare : IsTrue exact → AreSpare rules (contents s) before → AreLean rules (contents s) found → AreSettled rules before found

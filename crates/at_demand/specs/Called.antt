@@ -1,5 +1,5 @@
 -- What is kept, and the work, by the paths of nodes: as `at_model` speaks of them.
-use Rattle.std.specs.Prelude.{◌≡◌, ◌↔◌, ℕ, ◌+◌, ◌-◌, ◌^◌, ◌<◌, min, IsSome}
+use Rattle.std.specs.Prelude.{◌≡◌, ◌↔◌, ℕ, ◌+◌, ◌-◌, ◌^◌, ◌<◌, min}
 use Rattle.at_model.specs.Paths.{Node}
 use Rattle.at_model.specs.Run.{Instance}
 use Rattle.at_model.specs.Rules.{Rules}
@@ -8,10 +8,11 @@ use Rattle.at_model.specs.Machine.{State, Verdict}
 use Rattle.at_model.specs.Sparing.{KeptAfter, IsWork}
 use Rattle.at_store.specs.Shown.{Shown, path}
 use Rattle.at_cache.specs.Kept.{Entries}
+use Rattle.at_demand.specs.Known.{IsKept}
 
 -- the kept instances, with the path of each node
 abbrev pub KeptBy : Shown → Entries → Instance Node → Type 0
-KeptBy s entries j = (i : Instance ℕ) × IsSome (entries i) × InstanceLike (Names (path s)) i j
+KeptBy s entries j = (i : Instance ℕ) × IsKept entries i × InstanceLike (Names (path s)) i j
 
 -- Just what the verdict leaves and adds is kept after it, and the work grows by that of the verdict, up to the greatest number.
 pub record Keeps (rules : Rules) (s : State) (v : Verdict) (before after : Instance Node → Type 0) (work later : ℕ) : Type 0 where

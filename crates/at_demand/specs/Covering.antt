@@ -89,6 +89,10 @@ pub record IsAdded (s : Sources) (positions : List ℕ) (f : Find) : Type 0 wher
   pub kept : (u : Instance ℕ) → Among u f.demanded.kept.items → Among u s.kept.items
   pub finds : (p : ℕ) → Among p f.demanded.finds.items → Among p positions
 
+-- all that stands with the find is so, or its instance is among those that the sources use
+abbrev pub IsGathered : Sources → List ℕ → Instance ℕ → Find → Type 0
+IsGathered s positions i f = IsAdded s positions f ⊎ Among i s.kept.items
+
 -- the positions stand behind those that were visited
 abbrev pub Visits : (positions old new : List ℕ) → Type 0
 Visits positions old new = Extends old new × ((p : ℕ) → Among p positions → Among p new)
@@ -100,15 +104,15 @@ pub record Adds (f : Find) (old new : Sources) (positions more : List ℕ) : Typ
   pub finds : Extends positions more
   pub added : IsAdded new more f
 
--- So was the find at the position that is visited next, if there is one.
+-- So was the find at the position that is visited next, if there is one, or its instance is used.
 pub record AddsAt (found : List (Instance ℕ × Find)) (next : ℕ) (old new : Sources) (positions more : List ℕ) : Type 0 where
   pub reads : Extends old.reads.items new.reads.items
   pub kept : Extends old.kept.items new.kept.items
   pub finds : Extends positions more
-  pub added : (p : ℕ) (i : Instance ℕ) (g : Find) → slice_get positions next ≡ Some p → slice_get found p ≡ Some (i, g) → IsAdded new more g
+  pub added : (p : ℕ) (i : Instance ℕ) (g : Find) → slice_get positions next ≡ Some p → slice_get found p ≡ Some (i, g) → IsGathered new more i g
 
--- All that stands with the find and with those that it leads to by positions is among the sources.
+-- All that stands with the find and with those that it leads to by positions is among the sources, up to instances that they use.
 pub record AreGathered (found : List (Instance ℕ × Find)) (f : Find) (s : Sources) : Type 0 where
   pub positions : List ℕ
   pub first : IsAdded s positions f
-  pub others : (p : ℕ) (i : Instance ℕ) (g : Find) → Among p positions → slice_get found p ≡ Some (i, g) → IsAdded s positions g
+  pub others : (p : ℕ) (i : Instance ℕ) (g : Find) → Among p positions → slice_get found p ≡ Some (i, g) → IsGathered s positions i g

@@ -1,13 +1,13 @@
 -- What is known of values while a question is answered: what is kept, and what was found.
-use Rattle.std.specs.Prelude.{◌≡◌, ◌⊎◌, ℕ, nat_eq, List, [], ◌∷◌, Some, None}
+use Rattle.std.specs.Prelude.{◌≡◌, ◌⊎◌, ℕ, nat_eq, false, List, [], ◌∷◌, slice_get, Some, None, IsSome, Contains}
 use Rattle.std.specs.Option.{option_map}
 use Rattle.std.specs.Map.{lookup}
 use Rattle.at_model.specs.Run.{Value, Instance, Known}
-use Rattle.at_model.specs.Rules.{Rules, evaluation}
+use Rattle.at_model.specs.Rules.{Rules, evaluation, is_lazy}
 use Rattle.at_model.specs.Meaning.{Equations, Answer, Outcomes, Circle, Finds, Faults}
 use Rattle.at_body.specs.Same.{same_instance}
 use Rattle.at_body.specs.Values.{value_view, fault_view}
-use Rattle.at_cache.specs.Kept.{Entries, AreKept}
+use Rattle.at_cache.specs.Kept.{Kept, Entries, value_at}
 use Rattle.at_demand.specs.declared.evaluation.Find.{Find}
 use Rattle.at_demand.specs.declared.evaluation.Frame.{Frame}
 use Rattle.at_demand.specs.declared.evaluation.Recalled.{Recalled}
@@ -21,7 +21,19 @@ meaning rules i = evaluation rules nat_eq i
 
 -- the values that are kept
 abbrev pub kept_values : Entries → Known ℕ
-kept_values entries i = option_map (λ k. k.value) (entries i)
+kept_values entries i = value_at (entries i)
+
+-- a value of the instance is kept
+abbrev pub IsKept : Entries → Instance ℕ → Type 0
+IsKept entries i = IsSome (kept_values entries i)
+
+-- so it is of each of these
+abbrev pub AreValued : Entries → List (Instance ℕ) → Type 0
+AreValued entries is = (i : Instance ℕ) → Contains is i → IsKept entries i
+
+-- an entry without a value is of an attribute that isn't lazy
+abbrev pub ArePlain : Rules → Entries → Type 0
+ArePlain rules entries = (i : Instance ℕ) (k : Kept) → entries i ≡ Some k → k.value ≡ None → is_lazy rules i.attribute ≡ false
 
 -- the values that were found
 abbrev pub found_values : List (Instance ℕ × Find) → Known ℕ
@@ -36,18 +48,31 @@ abbrev pub IsRecalled : Known ℕ → Instance ℕ → Recalled → Type 0
 IsRecalled known i (recalled.Value v) = known i ≡ Some (value_view v)
 IsRecalled known i (recalled.Unknown j) = (j ≡ i) × (known i ≡ None)
 
--- `new` has what `old` has, and may have the value of i beside it
-abbrev pub MayAdd : (old new : Entries) → Instance ℕ → Value ℕ → Type 0
-MayAdd old new i v = (j : Instance ℕ) → (new j ≡ old j) ⊎ ((i ≡ j) × (kept_values new j ≡ Some v))
+-- `new` has the entries of `old`
+abbrev pub KeepsEntries : (old new : Entries) → Type 0
+KeepsEntries old new = (i : Instance ℕ) → IsSome (old i) → new i ≡ old i
 
--- what the evaluations that wait demanded of what is kept is kept
+-- `new` has what `old` has, and may have the value of i beside it
+pub record MayAdd (old new : Entries) (i : Instance ℕ) (v : Value ℕ) : Type 0 where
+  pub stays : KeepsEntries old new
+  pub values : (j : Instance ℕ) → (kept_values new j ≡ kept_values old j) ⊎ ((i ≡ j) × (kept_values new j ≡ Some v))
+
+-- the instance was found so
+abbrev pub FoundAs : List (Instance ℕ × Find) → Instance ℕ → Find → Type 0
+FoundAs found i f = (p : ℕ) × (slice_get found p ≡ Some (i, f))
+
+-- the instance was found
+abbrev pub IsFound : List (Instance ℕ × Find) → Instance ℕ → Type 0
+IsFound found i = (p : ℕ) × (f : Find) × (slice_get found p ≡ Some (i, f))
+
+-- what the evaluations that wait took of what is kept is kept
 abbrev pub WaitingKept : Entries → List (Instance ℕ × Frame) → Type 0
 WaitingKept entries [] = Unit {0}
-WaitingKept entries (w ∷ ws) = AreKept entries w.1.demanded.kept.items × WaitingKept entries ws
+WaitingKept entries (w ∷ ws) = AreValued entries w.1.demanded.kept.items × WaitingKept entries ws
 
--- and so what those demanded that found a value
+-- and so what those took that found a value
 abbrev pub FoundKept : Entries → List (Instance ℕ × Find) → Type 0
-FoundKept entries found = (i : Instance ℕ) (f : Find) → lookup (same_instance i) found ≡ Some f → AreKept entries f.demanded.kept.items
+FoundKept entries found = (i : Instance ℕ) (f : Find) → lookup (same_instance i) found ≡ Some f → AreValued entries f.demanded.kept.items
 
 -- an answer stands for one of the model
 abbrev pub answer_view : AnswerCode → Answer ℕ

@@ -13,6 +13,7 @@ use Rattle.at_demand.specs.declared.evaluation.Recalled.{Recalled}
 use Rattle.at_demand.specs.declared.evaluation.Recalled.TheVariants as recalled
 use Rattle.at_demand.specs.declared.gathering.Sources.{Sources}
 use Rattle.at_demand.specs.Known.{meaning}
+use Rattle.at_demand.specs.Covering.{IsDemanded}
 
 -- The evaluation of i comes to each instance that was taken, and each position is that of a find.
 pub record TakesOnly (rules : Rules) (look : Contents ℕ) (found : List (Instance ℕ × Find)) (i : Instance ℕ) (d : Demanded) : Type 0 where
@@ -44,10 +45,10 @@ pub data LeadsTo (found : List (Instance ℕ × Find)) (f : Find) : Find → Typ
   itself : LeadsTo found f f
   further : (g h : Find) (p : ℕ) (i : Instance ℕ) → LeadsTo found f g → Among p g.demanded.finds.items → slice_get found p ≡ Some (i, h) → LeadsTo found f h
 
--- All that is among the sources and the positions stands with a find to which the first one leads.
+-- All that is among the sources and the positions stands with a find to which the first one leads, or was taken by that.
 pub record IsFrom (found : List (Instance ℕ × Find)) (f : Find) (s : Sources) (positions : List ℕ) : Type 0 where
   pub reads : (x : Loc) → Among x s.reads.items → (g : Find) × LeadsTo found f g × Among x g.reads.items
-  pub kept : (u : Instance ℕ) → Among u s.kept.items → (g : Find) × LeadsTo found f g × Among u g.demanded.kept.items
+  pub kept : (u : Instance ℕ) → Among u s.kept.items → (g : Find) × LeadsTo found f g × IsDemanded found g.demanded u
   pub finds : (p : ℕ) → Among p positions → (g : Find) × LeadsTo found f g × Among p g.demanded.finds.items
 
 abbrev pub AreFrom : List (Instance ℕ × Find) → Find → Sources → Type 0
@@ -67,7 +68,18 @@ pub record AddsOnly (f : Find) (old new : Sources) (positions more : List ℕ) :
 abbrev pub IsNext : List (Instance ℕ × Find) → List ℕ → ℕ → Find → Type 0
 IsNext found positions next g = (p : ℕ) × (i : Instance ℕ) × (slice_get positions next ≡ Some p) × (slice_get found p ≡ Some (i, g))
 
--- nothing was added, or what stands with the find there
+-- The instance of the find there was added to those that are used.
+pub record AddsUse (found : List (Instance ℕ × Find)) (next : ℕ) (old new : Sources) (positions more : List ℕ) : Type 0 where
+  pub position : ℕ
+  pub inst : Instance ℕ
+  pub find : Find
+  pub at : slice_get positions next ≡ Some position
+  pub is : slice_get found position ≡ Some (inst, find)
+  pub reads : new.reads.items ≡ old.reads.items
+  pub kept : new.kept.items ≡ old.kept.items ++ inst ∷ []
+  pub same : more ≡ positions
+
+-- nothing was added, or what stands with the find there, or its instance
 abbrev pub AddsOnlyAt : List (Instance ℕ × Find) → ℕ → (old new : Sources) (positions more : List ℕ) → Type 0
 AddsOnlyAt found next old new positions more = ((new ≡ old) × (more ≡ positions))
-    ⊎ ((g : Find) × IsNext found positions next g × AddsOnly g old new positions more)
+    ⊎ (((g : Find) × IsNext found positions next g × AddsOnly g old new positions more) ⊎ AddsUse found next old new positions more)

@@ -10,22 +10,22 @@ use Rattle.at_demand.specs.declared.evaluation.Find.{Find}
 use Rattle.at_demand.specs.declared.evaluation.Evaluation.{Evaluation}
 use Rattle.at_demand.specs.declared.evaluation.Advance.{Advance}
 use Rattle.at_demand.specs.declared.evaluation.Advance.TheVariants as advance
-use Rattle.at_demand.specs.Known.{meaning}
+use Rattle.at_demand.specs.Known.{meaning, kept_values, IsFound, IsKept, KeepsEntries}
 use Rattle.at_demand.specs.Only.{TakesOnly, TakeOnly, AreLean}
 
--- with each of these instances all lazy ones to which it leads are among those
+-- with each entry of these all lazy instances to which its own leads are kept among those
 abbrev pub IsDeep : Rules → Contents ℕ → (these those : Entries) → Type 0
-IsDeep rules look these those = (i j : Instance ℕ) → IsSome (these i) → Leads look (meaning rules) i j → is_lazy rules j.attribute ≡ true → IsSome (those j)
+IsDeep rules look these those = (i j : Instance ℕ) → IsSome (these i) → Leads look (meaning rules) i j → is_lazy rules j.attribute ≡ true → IsKept those j
 
 -- each entry stands for no other locations than those that support its instance
 abbrev pub AreOnly : Rules → Contents ℕ → Entries → Type 0
 AreOnly rules look entries = (i : Instance ℕ) (k : Kept) → entries i ≡ Some k → (l : Location ℕ) → k.covers l ≡ true → Supports look (meaning rules) l i
 
--- Each kept instance is lazy, its entry stands for no location that doesn't support it, and all lazy instances to which it
--- leads are kept.
+-- Each entry stands for no location that doesn't support its instance, all lazy instances to which that leads are kept, and what
+-- is kept is lazy.
 pub record AreSpare (rules : Rules) (look : Contents ℕ) (entries : Entries) : Type 0 where
   pub only : AreOnly rules look entries
-  pub lazy : (i : Instance ℕ) → IsSome (entries i) → is_lazy rules i.attribute ≡ true
+  pub lazy : (i : Instance ℕ) → IsKept entries i → is_lazy rules i.attribute ≡ true
   pub deep : IsDeep rules look entries entries
 
 -- the question leads to the instance, which is lazy and has a value
@@ -35,22 +35,28 @@ pub record IsWorthKeeping (rules : Rules) (look : Contents ℕ) (q i : Instance 
   pub value : Value ℕ
   pub has : HasValue look (meaning rules) i value
 
--- `new` has what `old` has, and what it has beside that is worth keeping
+-- `new` has what `old` has, and what is kept beside that is worth keeping
 pub record AddsWorthy (rules : Rules) (look : Contents ℕ) (q : Instance ℕ) (old new : Entries) : Type 0 where
-  pub stays : (i : Instance ℕ) → IsSome (old i) → new i ≡ old i
-  pub worthy : (i : Instance ℕ) → old i ≡ None → IsSome (new i) → IsWorthKeeping rules look q i
+  pub stays : KeepsEntries old new
+  pub worthy : (i : Instance ℕ) → kept_values old i ≡ None → IsKept new i → IsWorthKeeping rules look q i
 
 -- all that is worth keeping is kept
 abbrev pub HasWorthy : Rules → Contents ℕ → Instance ℕ → Entries → Type 0
-HasWorthy rules look q entries = (i : Instance ℕ) → IsWorthKeeping rules look q i → IsSome (entries i)
+HasWorthy rules look q entries = (i : Instance ℕ) → IsWorthKeeping rules look q i → IsKept entries i
 
--- `new` has what `old` has, and may have i beside it, where it is lazy
+-- `new` keeps what `old` keeps, and may keep i beside it, where it is lazy
 abbrev pub MayAddLazy : Rules → (old new : Entries) → Instance ℕ → Type 0
-MayAddLazy rules old new i = (j : Instance ℕ) → (new j ≡ old j) ⊎ ((i ≡ j) × IsSome (new j) × (is_lazy rules i.attribute ≡ true))
+MayAddLazy rules old new i = (j : Instance ℕ) → (kept_values new j ≡ kept_values old j) ⊎ ((i ≡ j) × IsKept new j × (is_lazy rules i.attribute ≡ true))
 
--- The find's instance is kept where it is lazy, and what its evaluation took of what is kept is kept.
+-- `new` has what `old` has; beside that it may keep i, where it is lazy, and have entries of instances that were found
+pub record MayGain (rules : Rules) (found : List (Instance ℕ × Find)) (old new : Entries) (i : Instance ℕ) : Type 0 where
+  pub stays : KeepsEntries old new
+  pub lazy : MayAddLazy rules old new i
+  pub comes : (j : Instance ℕ) → IsSome (new j) → IsSome (old j) ⊎ (((i ≡ j) × IsKept new j) ⊎ IsFound found j)
+
+-- The find's instance is kept where it is lazy, and what its evaluation took of what is kept has an entry.
 pub record IsSettled (rules : Rules) (entries : Entries) (i : Instance ℕ) (f : Find) : Type 0 where
-  pub lazy : is_lazy rules i.attribute ≡ true → IsSome (entries i)
+  pub lazy : is_lazy rules i.attribute ≡ true → IsKept entries i
   pub took : (u : Instance ℕ) → Among u f.demanded.kept.items → IsSome (entries u)
 
 abbrev pub AreSettled : Rules → Entries → List (Instance ℕ × Find) → Type 0
@@ -71,11 +77,11 @@ IsSparingAdvance rules look asked entries q (advance.GoesOn s) = IsSparing rules
 IsSparingAdvance rules look asked entries q (advance.Fails kind) = HasWorthy rules look asked entries
 IsSparingAdvance rules look asked entries q (advance.Answers a) = HasWorthy rules look asked entries
 
--- the list has each instance once that `new` keeps and `old` doesn't; what `old` keeps stays
+-- the list has each instance once that `new` keeps and `old` doesn't; what `old` has stays
 pub record AreGained (old new : Entries) (gained : List (Instance ℕ)) : Type 0 where
   pub distinct : Distinct gained
-  pub exactly : (i : Instance ℕ) → Among i gained ↔ (IsSome (new i) × (old i ≡ None))
-  pub stays : (i : Instance ℕ) → IsSome (old i) → new i ≡ old i
+  pub exactly : (i : Instance ℕ) → Among i gained ↔ (IsKept new i × (kept_values old i ≡ None))
+  pub stays : KeepsEntries old new
 
 -- the work grows by the number of these instances, and stays at the greatest number
 abbrev pub Counts : (old new : Entries) (work later : ℕ) → Type 0
@@ -84,7 +90,7 @@ Counts old new work later = (gained : List (Instance ℕ)) × AreGained old new 
 -- the list has each instance once that is worth keeping and was not kept
 pub record AreAdded (rules : Rules) (look : Contents ℕ) (q : Instance ℕ) (old : Entries) (added : List (Instance ℕ)) : Type 0 where
   pub distinct : Distinct added
-  pub exactly : (i : Instance ℕ) → Among i added ↔ (IsWorthKeeping rules look q i × (old i ≡ None))
+  pub exactly : (i : Instance ℕ) → Among i added ↔ (IsWorthKeeping rules look q i × (kept_values old i ≡ None))
 
 -- the work grows by the number of these
 abbrev pub IsWork : Rules → Contents ℕ → Instance ℕ → (old : Entries) (work later : ℕ) → Type 0

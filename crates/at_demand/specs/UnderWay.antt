@@ -5,7 +5,7 @@ use Rattle.indexmap.specs.IndexMap.{insert_entry}
 use Rattle.at_model.specs.Run.{Value, Instance, Contents, Run, Gives, Fails, Demands, Known}
 use Rattle.at_model.specs.Follow.{follow, Reached, Ends, Stops, Waits, Past}
 use Rattle.at_model.specs.Rules.{Rules}
-use Rattle.at_model.specs.Meaning.{HasValue, Right, Among, Distinct, Answers}
+use Rattle.at_model.specs.Meaning.{HasValue, Right, Among, Distinct, Leads, Answers}
 use Rattle.at_store.specs.Shown.{Shown, contents}
 use Rattle.at_body.specs.Same.{same_instance}
 use Rattle.at_body.specs.Typed.{IsTypedStep, class_shown}
@@ -15,7 +15,8 @@ use Rattle.at_body.specs.declared.value.Value.{Value as ValueCode}
 use Rattle.at_body.specs.declared.trial.Step.{Step}
 use Rattle.at_body.specs.declared.trial.Step.TheVariants as step
 use Rattle.at_body.specs.declared.trial.Trial.{Trial}
-use Rattle.at_cache.specs.Kept.{Entries, AreKept}
+use Rattle.at_cache.specs.Kept.{Entries}
+use Rattle.at_demand.specs.declared.evaluation.Demanded.{Demanded}
 use Rattle.at_demand.specs.declared.evaluation.Find.{Find}
 use Rattle.at_demand.specs.declared.evaluation.Frame.{Frame}
 use Rattle.at_demand.specs.declared.evaluation.Evaluation.{Evaluation}
@@ -23,7 +24,7 @@ use Rattle.at_demand.specs.declared.evaluation.Advance.{Advance}
 use Rattle.at_demand.specs.declared.evaluation.Advance.TheVariants as advance
 use Rattle.at_demand.specs.declared.answer.Answer.TheVariants as answer
 use Rattle.at_demand.specs.Stacked.{IsStackedIn, HasCut}
-use Rattle.at_demand.specs.Known.{meaning, kept_values, found_values, WaitingKept, FoundKept, answer_view}
+use Rattle.at_demand.specs.Known.{meaning, kept_values, found_values, AreValued, IsFound, WaitingKept, FoundKept, answer_view}
 
 -- what is left of an evaluation that has come so far
 abbrev pub left_of : {N A : Type 0} → Reached N A → Run N A
@@ -62,10 +63,10 @@ pub record IsOrderly (entries : Entries) (waiting : List (Instance ℕ × Frame)
     × Find)) (i : Instance ℕ) (kept : List (Instance ℕ)) : Type 0 where
   pub distinct : Distinct (chain_of waiting i)
   pub open_ones : (j : Instance ℕ) → Among j (chain_of waiting i) → lookup (same_instance j) found ≡ None
-  pub unkept : (j : Instance ℕ) → Among j (chain_of waiting i) → entries j ≡ None
+  pub unkept : (j : Instance ℕ) → Among j (chain_of waiting i) → kept_values entries j ≡ None
   pub waiting_kept : WaitingKept entries waiting
   pub found_kept : FoundKept entries found
-  pub last_kept : AreKept entries kept
+  pub last_kept : AreValued entries kept
 
 -- so it is of a question
 abbrev pub IsOrderlyIn : Entries → Evaluation → Type 0
@@ -87,29 +88,38 @@ IsAdvance entries old new (advance.GoesOn s) = GoesOn entries (progress old) new
 IsAdvance entries old new (advance.Fails kind) = Unit {0}
 IsAdvance entries old new (advance.Answers a) = Unit {0}
 
--- the last instance is found, and the one that waited for it is the last
-pub record IsAscended (waiting : List (Instance ℕ × Frame)) (found : List (Instance ℕ
-    × Find)) (i : Instance ℕ) (find : Find) (new : Evaluation) (s : Step) : Type 0 where
-  pub waits : waiting ≡ new.waiting.entries ++ (new.inst, new.frame) ∷ []
+-- one more was taken: the kept instance i
+abbrev pub TookKept : (old : Demanded) → Instance ℕ → (new : Demanded) → Type 0
+TookKept old i new = (new.kept.items ≡ old.kept.items ++ i ∷ []) × (new.finds.items ≡ old.finds.items)
+
+-- or the find at this position
+abbrev pub TookFound : (old : Demanded) → ℕ → (new : Demanded) → Type 0
+TookFound old p new = (new.kept.items ≡ old.kept.items) × (new.finds.items ≡ old.finds.items ++ p ∷ [])
+
+-- A frame was told this value, and has come to a step of the right kinds.
+pub record IsToldTo (rules : Rules) (s : Shown) (old new : Frame) (v : Value ℕ) (r : Step) : Type 0 where
+  pub start : new.start ≡ old.start
+  pub follows : follow (contents s) old.trial.reads (resumed rules.classes old.trial v) ≡ (reached rules.classes r new.trial, new.trial.reads)
+  pub typed : IsTypedStep rules (class_shown s) r new.trial
+
+-- The last instance is found behind all others, and the one that waited for it is the last, and was told its value.
+pub record IsAscended (rules : Rules) (s : Shown) (waiting : List (Instance ℕ × Frame)) (found : List (Instance ℕ
+    × Find)) (gone : ℕ) (i : Instance ℕ) (find : Find) (new : Evaluation) (r : Step) : Type 0 where
+  pub waited : Frame
+  pub waits : waiting ≡ new.waiting.entries ++ (new.inst, waited) ∷ []
+  pub told : IsToldTo rules s waited new.frame (value_view find.value) r
+  pub took : TookFound waited.demanded (length found) new.frame.demanded
   pub settled : new.found.entries ≡ insert_entry same_instance found i find
-  pub needs : s ≡ step.Need i
+  pub counted : new.gone ≡ gone
   pub few : length new.waiting.entries < 2 ^ 64
   pub finds : length new.found.entries < 2 ^ 64
   pub counts : new.gone < 2 ^ 64
 
 -- so it is, or none waited, and its value is the answer
-abbrev pub HasAscended : Evaluation → Find → Evaluation → Advance → Type 0
-HasAscended old find new (advance.GoesOn s) = IsAscended old.waiting.entries old.found.entries old.inst find new s × (new.gone ≡ old.gone)
-HasAscended old find new (advance.Fails kind) = ⊥
-HasAscended old find new (advance.Answers a) = (old.waiting.entries ≡ []) × (a ≡ answer.Value find.value)
-
--- A frame was told the value of i, which is kept, and has come to a step of the right kinds.
-pub record IsToldTo (rules : Rules) (s : Shown) (old new : Frame) (i : Instance ℕ) (v : ValueCode) (r : Step) : Type 0 where
-  pub kept : new.demanded.kept.items ≡ old.demanded.kept.items ++ i ∷ []
-  pub finds : new.demanded.finds.items ≡ old.demanded.finds.items
-  pub start : new.start ≡ old.start
-  pub follows : follow (contents s) old.trial.reads (resumed rules.classes old.trial (value_view v)) ≡ (reached rules.classes r new.trial, new.trial.reads)
-  pub typed : IsTypedStep rules (class_shown s) r new.trial
+abbrev pub HasAscended : Rules → Shown → Evaluation → Find → Evaluation → Advance → Type 0
+HasAscended rules s old find new (advance.GoesOn r) = IsAscended rules s old.waiting.entries old.found.entries old.gone old.inst find new r
+HasAscended rules s old find new (advance.Fails kind) = ⊥
+HasAscended rules s old find new (advance.Answers a) = (old.waiting.entries ≡ []) × (a ≡ answer.Value find.value)
 
 -- The last instance is off the chain as one more that came to be kept, and the one that waited for it is the last, and was told
 -- its value; what was found since its evaluation began may be gone.
@@ -117,7 +127,8 @@ pub record IsPassedBack (rules : Rules) (s : Shown) (waiting : List (Instance �
     × Find)) (gone start : ℕ) (i : Instance ℕ) (v : ValueCode) (new : Evaluation) (r : Step) : Type 0 where
   pub waited : Frame
   pub waits : waiting ≡ new.waiting.entries ++ (new.inst, waited) ∷ []
-  pub told : IsToldTo rules s waited new.frame i v r
+  pub told : IsToldTo rules s waited new.frame (value_view v) r
+  pub took : TookKept waited.demanded i new.frame.demanded
   pub cut : HasCut start found new.found.entries
   pub counted : length new.found.entries + new.gone ≡ length found + gone + 1
   pub few : length new.waiting.entries < 2 ^ 64
@@ -131,7 +142,7 @@ HasPassedBack rules s old v new (advance.Fails kind) = ⊥
 HasPassedBack rules s old v new (advance.Answers a) = (old.waiting.entries ≡ []) × (a ≡ answer.Value v)
 
 -- The chain leads from what was asked by demands to the last instance, whose evaluation has come to this step; and what is
--- kept and what was found holds.
+-- kept and what was found holds, and demands lead from what was asked to what was found.
 pub record IsTrue (rules : Rules) (look : Contents ℕ) (asked : Instance ℕ) (entries : Entries) (waiting : List (Instance ℕ × Frame)) (found : List (Instance ℕ
     × Find)) (i : Instance ℕ) (t : Trial) (s : Step) : Type 0 where
   pub starts : first_of waiting i ≡ asked
@@ -139,6 +150,7 @@ pub record IsTrue (rules : Rules) (look : Contents ℕ) (asked : Instance ℕ) (
   pub last : HasStepped rules look i t s
   pub kept : Right look (meaning rules) (kept_values entries)
   pub finds : Right look (meaning rules) (found_values found)
+  pub led : (j : Instance ℕ) → IsFound found j → Leads look (meaning rules) asked j
 
 -- so it is of a question
 abbrev pub IsTrueIn : Rules → Contents ℕ → Instance ℕ → Entries → Evaluation → Step → Type 0

@@ -1,6 +1,6 @@
 //! Questions for the values of instances.
 
-ghost use Rattle.std.specs.Prelude.{◌≡◌, ◌<◌, ◌^◌, map, IfOk, OnErr, IsTrue, None};
+ghost use Rattle.std.specs.Prelude.{◌≡◌, ◌<◌, ◌^◌, map, IfOk, OnErr, IsTrue, None, Some, true};
 ghost use Rattle.std.specs.Map.{lookup};
 ghost use Rattle.at_model.specs.Instances.{AnyText};
 ghost use Rattle.at_model.specs.Meaning.{HasValue, Right};
@@ -13,8 +13,8 @@ ghost use Rattle.at_body.specs.Same.{same_instance};
 ghost use Rattle.at_body.specs.Typed.{class_shown};
 ghost use Rattle.at_body.specs.Values.{value_view};
 ghost use Rattle.at_cache.specs.Kept.{AreKept, AreNamed, HasPut, KeepsAll, Answers as Says, LeavesUntouched, LosesTouched};
-ghost use Rattle.at_demand.specs.Known.{meaning, kept_values, known_in, FoundKept};
-ghost use Rattle.at_demand.specs.Keeping.{HasPlaced, HasPlacedAll, KeepsWhereLazy};
+ghost use Rattle.at_demand.specs.Known.{meaning, kept_values, known_in, ArePlain, AreValued, FoundKept};
+ghost use Rattle.at_demand.specs.Keeping.{HasPlaced, HasPlacedAll, KeepsWhereLazy, Shares};
 ghost use Rattle.at_demand.specs.Advancing.{HasAdvanced};
 ghost use Rattle.at_demand.specs.Answered.{HasAnswered};
 ghost use Rattle.at_demand.specs.UnderWay.{HasStepped, IsOrderlyIn};
@@ -23,18 +23,18 @@ ghost use Rattle.at_model.specs.Rules.{is_lazy};
 ghost use Rattle.at_demand.specs.Sparing.{Counts};
 ghost use Rattle.at_demand.specs.Stacked.{IsStackedIn};
 
+mod shared;
 mod turning;
 
 use crate::answer::Answer;
 use crate::evaluation::{Advance, Evaluation, Find, Settled};
-use crate::gathering::Sources;
+use crate::sharing::Sharing;
 use at_body::{Inst, Step, Value};
 use at_cache::{Keeper, Put};
 use at_rules::Rules;
 use at_store::{Loc, Places, Store};
 use indexmap::IndexMap;
 use std::alloc::{AllocError, Global};
-use std::mem;
 
 /// Answers questions, and keeps the values of lazy attributes.
 #[derive(Drop)]
@@ -42,6 +42,7 @@ pub struct Demand<K> {
     alloc: Global,
     keeper: K,
     work: u64,
+    sharing: Sharing,
 }
 
 impl<K: Keeper> Demand<K> {
@@ -54,6 +55,7 @@ impl<K: Keeper> Demand<K> {
             alloc,
             keeper,
             work: 0,
+            sharing: Sharing::new(alloc),
         }
     }
 
@@ -71,6 +73,7 @@ impl<K: Keeper> Demand<K> {
         requires sound { IsTreeSound rules.now.classes (tree store.now) }
         requires typed { IsWellTyped rules.now (class_shown store.now) AnyText inst.now }
         requires right { Right (contents store.now) (meaning rules.now) (kept_values (K.contents self.old.keeper)) }
+        requires plain { ArePlain rules.now (K.contents self.old.keeper) }
         ensures { HasAnswered rules.now store.now K.exact (K.contents self.old.keeper) (K.contents self.new.keeper)
             self.old.work self.new.work inst.now result }
     {
@@ -90,12 +93,14 @@ impl<K: Keeper> Demand<K> {
         requires sound { IsTreeSound rules.now.classes (tree store.now) }
         requires typed { IsWellTyped rules.now (class_shown store.now) AnyText inst.now }
         requires right { Right (contents store.now) (meaning rules.now) (kept_values (K.contents self.old.keeper)) }
-        requires unkept { K.contents self.old.keeper inst.now ≡ None }
+        requires plain { ArePlain rules.now (K.contents self.old.keeper) }
+        requires unkept { kept_values (K.contents self.old.keeper) inst.now ≡ None }
         ensures { HasAnswered rules.now store.now K.exact (K.contents self.old.keeper) (K.contents self.new.keeper)
             self.old.work self.new.work inst.now result }
     {
         // The call says that it is less than 2^64.
         let _work = self.work();
+        self.sharing.clear();
         let begun = Evaluation::new(self.alloc, rules, store, inst.copy(self.alloc)?)?;
         let (mut evaluation, mut step) = begun;
         loop {
@@ -155,6 +160,7 @@ impl<K: Keeper> Demand<K> {
         requires stepped { HasStepped rules.now (contents store.now) evaluation.old.inst evaluation.old.frame.trial step }
         requires orderly { IsOrderlyIn (K.contents self.old.keeper) evaluation.old }
         requires stacked { IsStackedIn evaluation.old }
+        requires plain { ArePlain rules.now (K.contents self.old.keeper) }
         ensures { HasAdvanced rules.now store.now K.exact (K.contents self.old.keeper) (K.contents self.new.keeper)
             self.old.work self.new.work evaluation.old step evaluation.new result }
     {
@@ -188,7 +194,8 @@ impl<K: Keeper> Demand<K> {
         requires orderly { IsOrderlyIn (K.contents self.now.keeper) evaluation.old }
         requires stacked { IsStackedIn evaluation.old }
         requires found { lookup (same_instance needed) evaluation.old.found.entries ≡ None }
-        requires kept { K.contents self.now.keeper needed ≡ None }
+        requires kept { kept_values (K.contents self.now.keeper) needed ≡ None }
+        requires plain { ArePlain rules.now (K.contents self.now.keeper) }
         ensures { HasAdvanced rules.now store.now K.exact (K.contents self.now.keeper) (K.contents self.now.keeper)
             self.now.work self.now.work evaluation.old (step_code.Need needed) evaluation.new result }
     {
@@ -214,14 +221,19 @@ impl<K: Keeper> Demand<K> {
         requires has { HasValue (contents store.now) (meaning rules.now) evaluation.old.inst (value_view value) }
         requires orderly { IsOrderlyIn (K.contents self.old.keeper) evaluation.old }
         requires stacked { IsStackedIn evaluation.old }
+        requires plain { ArePlain rules.now (K.contents self.old.keeper) }
         ensures { HasAdvanced rules.now store.now K.exact (K.contents self.old.keeper) (K.contents self.new.keeper)
             self.old.work self.new.work evaluation.old (step_code.Value value) evaluation.new result }
     {
         let find = evaluation.frame.find(self.alloc, value);
         let settled = self.keep(rules, &evaluation.found, &evaluation.inst, find)?;
         match settled {
-            Settled::Kept(value) => evaluation.pass(self.alloc, rules, store, value),
-            Settled::Found(find) => evaluation.ascend(self.alloc, find),
+            Settled::Kept(find) => {
+                // What was found since its evaluation began may go, and other finds may come to its positions.
+                self.sharing.forget_from(evaluation.frame.start());
+                evaluation.pass(self.alloc, rules, store, find)
+            }
+            Settled::Found(find) => evaluation.ascend(self.alloc, rules, store, find),
         }
     }
 
@@ -233,9 +245,10 @@ impl<K: Keeper> Demand<K> {
         inst: &Inst,
         find: Find,
     ) -> Result<Settled, AllocError>
-        requires absent { K.contents self.old.keeper inst.now ≡ None }
-        requires kept { AreKept (K.contents self.old.keeper) find.demanded.kept.items }
+        requires unkept { kept_values (K.contents self.old.keeper) inst.now ≡ None }
+        requires kept { AreValued (K.contents self.old.keeper) find.demanded.kept.items }
         requires found { FoundKept (K.contents self.old.keeper) found.now.entries }
+        requires plain { ArePlain rules.now (K.contents self.old.keeper) }
         ensures { KeepsWhereLazy rules.now K.exact (K.contents self.old.keeper) (K.contents self.new.keeper) self.old.work self.new.work
             found.now.entries inst.now find result }
     {
@@ -245,51 +258,60 @@ impl<K: Keeper> Demand<K> {
         if find.demanded.finds.is_empty() {
             return self.keep_alone(inst, find);
         }
-        self.keep_with(found, inst, find)
+        self.keep_with(rules, found, inst, find)
     }
 
     // Keeps a find below which no other one stands, for its own reads and what it took of what is kept.
-    fn keep_alone(&mut self, inst: &Inst, mut find: Find) -> Result<Settled, AllocError>
+    fn keep_alone(&mut self, inst: &Inst, find: Find) -> Result<Settled, AllocError>
         requires absent { K.contents self.old.keeper inst.now ≡ None }
-        requires kept { AreKept (K.contents self.old.keeper) find.demanded.kept.items }
+        requires kept { AreValued (K.contents self.old.keeper) find.demanded.kept.items }
         ensures placed { IfOk result (HasPlaced K.exact (K.contents self.old.keeper) inst.now find
             (map loc_view find.reads.items) find.demanded.kept.items (K.contents self.new.keeper)) }
         ensures err { OnErr result (KeepsAll (K.contents self.old.keeper) (K.contents self.new.keeper)) }
         ensures counts { IsTrue K.exact → self.old.work < 2 ^ 64
             → Counts (K.contents self.old.keeper) (K.contents self.new.keeper) self.old.work self.new.work }
     {
-        let reads = mem::replace(&mut find.reads, Vec::new(self.alloc));
-        let put = self.put(inst, &find.value, reads, find.demanded.kept.as_slice())?;
+        let put = self.put(
+            inst,
+            &find.value,
+            find.reads.as_slice(),
+            find.demanded.kept.as_slice(),
+        )?;
         match put {
-            Put::Kept => Ok(Settled::Kept(find.into_value())),
-            Put::Left(reads) => {
-                find.reads = reads;
-                Ok(Settled::Found(find))
-            }
+            Put::Kept => Ok(Settled::Kept(find)),
+            Put::Left => Ok(Settled::Found(find)),
         }
     }
 
     // Keeps a find for all that it and those below it rest on.
     fn keep_with(
         &mut self,
+        rules: &Rules,
         found: &IndexMap<Inst, Find>,
         inst: &Inst,
         find: Find,
     ) -> Result<Settled, AllocError>
-        requires absent { K.contents self.old.keeper inst.now ≡ None }
-        requires kept { AreKept (K.contents self.old.keeper) find.demanded.kept.items }
+        requires lazy { is_lazy rules.now inst.now.attribute ≡ true }
+        requires unkept { kept_values (K.contents self.old.keeper) inst.now ≡ None }
+        requires kept { AreValued (K.contents self.old.keeper) find.demanded.kept.items }
         requires found { FoundKept (K.contents self.old.keeper) found.now.entries }
-        ensures placed { IfOk result (HasPlacedAll K.exact (K.contents self.old.keeper) found.now.entries inst.now find (K.contents self.new.keeper)) }
-        ensures err { OnErr result (KeepsAll (K.contents self.old.keeper) (K.contents self.new.keeper)) }
+        requires plain { ArePlain rules.now (K.contents self.old.keeper) }
+        ensures placed { IfOk result (HasPlacedAll rules.now K.exact (K.contents self.old.keeper) found.now.entries inst.now find
+            (K.contents self.new.keeper)) }
+        ensures err { OnErr result (Shares rules.now K.exact found.now.entries (K.contents self.old.keeper) (K.contents self.new.keeper)) }
         ensures counts { IsTrue K.exact → self.old.work < 2 ^ 64
             → Counts (K.contents self.old.keeper) (K.contents self.new.keeper) self.old.work self.new.work }
     {
-        let mut sources = Sources::of(self.alloc, found, &find)?;
-        let reads = mem::replace(&mut sources.reads, Vec::new(self.alloc));
-        let put = self.put(inst, &find.value, reads, sources.kept.as_slice())?;
+        let sources = self.gather(rules, found, &find)?;
+        let put = self.put(
+            inst,
+            &find.value,
+            sources.reads.as_slice(),
+            sources.kept.as_slice(),
+        )?;
         match put {
-            Put::Kept => Ok(Settled::Kept(find.into_value())),
-            Put::Left(_reads) => Ok(Settled::Found(find)),
+            Put::Kept => Ok(Settled::Kept(find)),
+            Put::Left => Ok(Settled::Found(find)),
         }
     }
 
@@ -298,19 +320,20 @@ impl<K: Keeper> Demand<K> {
         &mut self,
         inst: &Inst,
         value: &Value,
-        reads: Vec<Loc>,
+        reads: &[Loc],
         uses: &[Inst],
     ) -> Result<Put, AllocError>
         requires absent { K.contents self.old.keeper inst.now ≡ None }
         requires present { AreKept (K.contents self.old.keeper) uses.now }
-        ensures puts { IfOk result (HasPut K.exact (K.contents self.old.keeper) inst.now (value_view value.now) reads uses.now (K.contents self.new.keeper)) }
+        ensures puts { IfOk result (HasPut K.exact (K.contents self.old.keeper) inst.now (Some (value_view value.now)) (map loc_view reads.now)
+            uses.now (K.contents self.new.keeper)) }
         ensures err { OnErr result (KeepsAll (K.contents self.old.keeper) (K.contents self.new.keeper)) }
         ensures counts { IsTrue K.exact → self.old.work < 2 ^ 64
             → Counts (K.contents self.old.keeper) (K.contents self.new.keeper) self.old.work self.new.work }
     {
         let put = self
             .keeper
-            .put(inst.copy(self.alloc)?, value.copy()?, reads, uses)?;
+            .put(inst.copy(self.alloc)?, Some(value.copy()?), reads, uses)?;
         self.work = self.work.saturating_add(1);
         Ok(put)
     }

@@ -8,13 +8,12 @@ ghost use Rattle.at_model.specs.TypedRuns.{IsWellTyped};
 ghost use Rattle.at_model.specs.WellFormed.{AreWellFormed, IsTreeSound};
 ghost use Rattle.at_store.specs.Located.{loc_view};
 ghost use Rattle.at_store.specs.Shown.{IsIdle, contents, tree};
-ghost use Rattle.at_cache.specs.Kept.{AreKept};
 ghost use Rattle.at_body.specs.Same.{same_instance};
 ghost use Rattle.at_body.specs.Values.{value_view};
-ghost use Rattle.at_body.specs.Typed.{IsTypedStep, WaitsFor, class_shown};
+ghost use Rattle.at_body.specs.Typed.{IsTypedStep, Takes as Accepts, class_shown};
 ghost use Rattle.indexmap.specs.IndexMap.{insert_entry};
-ghost use Rattle.at_demand.specs.Known.{meaning, known_in, IsRecalled};
-ghost use Rattle.at_demand.specs.UnderWay.{chain_of, HasAscended, HasPassedBack, HasStepped, IsToldTo};
+ghost use Rattle.at_demand.specs.Known.{meaning, known_in, AreValued, IsRecalled};
+ghost use Rattle.at_demand.specs.UnderWay.{chain_of, HasAscended, HasPassedBack, HasStepped, IsToldTo, TookFound, TookKept};
 ghost use Rattle.at_demand.specs.Typing.{AreTypedWaiting};
 ghost use Rattle.at_demand.specs.Advancing.{HasDescended, HasGoneOn};
 ghost use Rattle.at_demand.specs.Stacked.{HasCut};
@@ -29,6 +28,7 @@ use at_rules::Rules;
 use at_store::{Loc, Store};
 use indexmap::IndexMap;
 use std::alloc::{AllocError, Global};
+use std::marker::Model;
 use std::mem;
 
 // How many finds stay in any case, so that what many values share is evaluated once: they take about thirty megabytes.
@@ -66,6 +66,30 @@ impl Drop for Frame<'_> {
     }
 }
 
+// A frame on the heap, so that it is moved by its address.
+pub struct Held<'a> {
+    frame: Box<Frame<'a>>,
+}
+
+impl<'a> Model for Held<'a> {
+    ghost use Rattle.at_demand.specs.declared.evaluation.Frame.{Frame as FrameCode};
+    ghost use Rattle.at_rules.specs.contracts.body.Body as body;
+    ghost use Rattle.std.specs.Coded.{codes};
+
+    ghost Value = { FrameCode };
+
+    ghost coded = { Prim.hlevel (codes, body.the_row.coded) };
+
+    ghost view = { λ h. h.frame.value };
+}
+
+/// One call, as that of `Demanded` is.
+impl Drop for Held<'_> {
+    fn drop(self) {
+        let Held { frame: _ } = self;
+    }
+}
+
 // The value of an instance, the locations that its own evaluation read, and the instances whose values that took.
 pub struct Find {
     pub value: Value,
@@ -86,14 +110,17 @@ impl Drop for Find {
 
 // A question under way. `inst` is the last instance of the chain, and `frame` its evaluation; each of `waiting` waits for
 // the next, and the last one for `inst`. What came to be kept isn't among what was `found`, and a find that nobody took may go
-// from there: `gone` counts both. A trial begins in the `room` of one that ended.
+// from there: `gone` counts both. A trial begins in the `room` of one that ended, in the place of the one that `ended` last, and notes
+// what it takes in `spare` lists of one that came to be kept; what is in them counts for nothing.
 pub struct Evaluation<'a> {
-    pub waiting: IndexMap<Inst, Frame<'a>>,
+    pub waiting: IndexMap<Inst, Held<'a>>,
     pub found: IndexMap<Inst, Find>,
     pub gone: u64,
     pub room: Room<'a>,
+    pub spare: Demanded,
     pub inst: Inst,
-    pub frame: Frame<'a>,
+    pub frame: Held<'a>,
+    pub ended: Option<Held<'a>>,
 }
 
 /// One call, as that of `Demanded` is.
@@ -104,8 +131,10 @@ impl Drop for Evaluation<'_> {
             found: _,
             gone: _,
             room: _,
+            spare: _,
             inst: _,
             frame: _,
+            ended: _,
         } = self;
     }
 }
@@ -122,7 +151,7 @@ pub enum Advance {
 // What became of a find that was to be kept: its value is kept, or it is found still.
 #[derive(Drop)]
 pub enum Settled {
-    Kept(Value),
+    Kept(Find),
     Found(Find),
 }
 
@@ -156,13 +185,16 @@ impl<'a> Evaluation<'a> {
         ensures typed { IfOk result (λ r. IsTypedStep rules.now (class_shown store.now) r.1 r.0.frame.trial) }
     {
         let (frame, step) = Frame::start(alloc, rules, store, &inst)?;
+        let held = Held::new(alloc, frame)?;
         let evaluation = Evaluation {
             waiting: IndexMap::new(alloc),
             found: IndexMap::new(alloc),
             gone: 0,
             room: Room::new(alloc),
+            spare: Demanded::new(alloc),
             inst,
-            frame,
+            frame: held,
+            ended: None,
         };
         Ok((evaluation, step))
     }
@@ -190,9 +222,16 @@ impl<'a> Evaluation<'a> {
         ensures { IfOk result (HasDescended rules.now store.now self.old needed self.new) }
     {
         let room = mem::replace(&mut self.room, Room::new(alloc));
+        let demanded = mem::replace(&mut self.spare, Demanded::new(alloc)).emptied();
         let start = self.found.len();
-        let (frame, step) = Frame::start_in(alloc, rules, store, &needed, start, room)?;
-        let frame = mem::replace(&mut self.frame, frame);
+        let (trial, step) = Trial::start_in(alloc, rules, store, &needed, room)?;
+        let frame = Frame {
+            trial,
+            demanded,
+            start,
+        };
+        let held = hold(alloc, &mut self.ended, &mut self.room, frame)?;
+        let frame = mem::replace(&mut self.frame, held);
         let inst = mem::replace(&mut self.inst, needed);
         put(&mut self.waiting, inst, frame)?;
         // The calls say that they are fewer than 2^64.
@@ -200,49 +239,66 @@ impl<'a> Evaluation<'a> {
         Ok(step)
     }
 
-    // Goes back to the one that waits for the last instance, which is found; where none waits, that was the question.
-    pub fn ascend(&mut self, alloc: Global, find: Find) -> Result<Advance, AllocError>
-        ensures { IfOk result (HasAscended self.old find self.new) }
+    // Goes back to the one that waits for the last instance, which is found, and tells it the value at once; where none waits, that was
+    // the question.
+    pub fn ascend(
+        &mut self,
+        alloc: Global,
+        rules: &'a Rules,
+        store: &'a Store,
+        find: Find,
+    ) -> Result<Advance, AllocError>
+        requires idle { IsIdle store.now }
+        requires formed { AreWellFormed rules.now }
+        requires sound { IsTreeSound rules.now.classes (tree store.now) }
+        requires typed { AreTypedWaiting rules.now (class_shown store.now) self.old.waiting.entries self.old.inst }
+        requires has { HasValue (contents store.now) (meaning rules.now) self.old.inst (value_view find.value) }
+        ensures { IfOk result (HasAscended rules.now store.now self.old find self.new) }
     {
         let Some((below, frame)) = self.waiting.pop() else {
             return Ok(Advance::Answers(Answer::Value(find.into_value())));
         };
-        self.room = mem::replace(&mut self.frame, frame).into_room();
         let inst = mem::replace(&mut self.inst, below);
-        let needed = inst.copy(alloc)?;
+        self.ended = Some(mem::replace(&mut self.frame, frame));
+        let value = find.value.copy()?;
+        let position = self.found.len();
+        let step = self.frame.tell_found(alloc, rules, store, position, value)?;
         put(&mut self.found, inst, find)?;
         // The calls say that they are fewer than 2^64.
         let _counts = (self.waiting.len(), self.found.len(), self.gone());
-        Ok(Advance::GoesOn(Step::Need(needed)))
+        Ok(Advance::GoesOn(step))
     }
 
-    // Goes back so from the last instance, which is kept with this value; the one that waits for it is told that at once. What was
-    // found since its evaluation began was taken by nobody else, and may go. The count of what is gone ends at the greatest number,
+    // Goes back so from the last instance, which is kept with this find's value; the one that waits for it is told that at once. What
+    // was found since its evaluation began was taken by nobody else, and may go. The count of what is gone ends at the greatest number,
     // as if memory were wanting.
     pub fn pass(
         &mut self,
         alloc: Global,
         rules: &'a Rules,
         store: &'a Store,
-        value: Value,
+        find: Find,
     ) -> Result<Advance, AllocError>
         requires idle { IsIdle store.now }
         requires formed { AreWellFormed rules.now }
         requires sound { IsTreeSound rules.now.classes (tree store.now) }
         requires typed { AreTypedWaiting rules.now (class_shown store.now) self.old.waiting.entries self.old.inst }
-        requires has { HasValue (contents store.now) (meaning rules.now) self.old.inst (value_view value) }
-        ensures { IfOk result (HasPassedBack rules.now store.now self.old value self.new) }
+        requires has { HasValue (contents store.now) (meaning rules.now) self.old.inst (value_view find.value) }
+        ensures { IfOk result (HasPassedBack rules.now store.now self.old find.value self.new) }
     {
         let Some(kept) = self.gone.checked_add(1) else {
             return Err(AllocError);
         };
-        let Some((below, mut frame)) = self.waiting.pop() else {
-            return Ok(Advance::Answers(Answer::Value(value)));
+        let Some((below, frame)) = self.waiting.pop() else {
+            return Ok(Advance::Answers(Answer::Value(find.into_value())));
         };
+        let start = self.frame.start();
         let inst = mem::replace(&mut self.inst, below);
-        let step = frame.tell(alloc, rules, store, inst, value)?;
-        let start = self.frame.start;
-        self.room = mem::replace(&mut self.frame, frame).into_room();
+        self.ended = Some(mem::replace(&mut self.frame, frame));
+        let (value, reads, demanded) = find.into_parts();
+        self.room.lend(reads);
+        self.spare = demanded;
+        let step = self.frame.tell_kept(alloc, rules, store, inst, value)?;
         let cut = cut_back(&mut self.found, start);
         let Some(gone) = kept.checked_add(cut) else {
             return Err(AllocError);
@@ -269,8 +325,10 @@ impl<'a> Evaluation<'a> {
             found: _,
             gone: _,
             room: _,
+            spare: _,
             inst,
             frame: _,
+            ended: _,
         } = self;
         inst
     }
@@ -299,6 +357,116 @@ pub fn put<V: Drop>(map: &mut IndexMap<Inst, V>, inst: Inst, value: V) -> Result
     Ok(())
 }
 
+// Puts the frame on the heap, in the place of one that ended, whose lists serve the next trial.
+fn hold<'a>(
+    alloc: Global,
+    ended: &mut Option<Held<'a>>,
+    room: &mut Room<'a>,
+    frame: Frame<'a>,
+) -> Result<Held<'a>, AllocError>
+    ensures { IfOk result (λ h. h ≡ frame.entry) }
+{
+    let Some(mut held) = mem::replace(ended, None) else {
+        return Held::new(alloc, frame);
+    };
+    *room = held.exchange(frame).into_room();
+    Ok(held)
+}
+
+impl<'a> Held<'a> {
+    // Puts a frame on the heap.
+    fn new(alloc: Global, frame: Frame<'a>) -> Result<Held<'a>, AllocError>
+        ensures { IfOk result (λ h. h ≡ frame.entry) }
+    {
+        let frame = Box::new(alloc, frame)?;
+        Ok(Held { frame })
+    }
+
+    // Puts another frame in its place.
+    fn exchange(&mut self, frame: Frame<'a>) -> Frame<'a>
+        ensures value { result ≡ self.old }
+        ensures after { self.new ≡ frame.entry }
+    {
+        mem::replace(&mut *self.frame, frame)
+    }
+
+    // How many finds there were when it began.
+    pub fn start(&self) -> usize
+        ensures { result ≡ self.now.start }
+    {
+        self.frame.start
+    }
+
+    // As a frame does.
+    pub fn go_on<K: Keeper>(
+        &mut self,
+        alloc: Global,
+        keeper: &K,
+        found: &IndexMap<Inst, Find>,
+        rules: &'a Rules,
+        store: &'a Store,
+        step: Step,
+    ) -> Result<Step, AllocError>
+        requires idle { IsIdle store.now }
+        requires formed { AreWellFormed rules.now }
+        requires sound { IsTreeSound rules.now.classes (tree store.now) }
+        requires right { Right (contents store.now) (meaning rules.now) (known_in (K.contents keeper.now) found.now.entries) }
+        requires typed { IsTypedStep rules.now (class_shown store.now) step self.old.trial }
+        requires kept { AreValued (K.contents keeper.now) self.old.demanded.kept.items }
+        ensures { IfOk result (HasGoneOn rules.now store.now (K.contents keeper.now) found.now.entries self.old step self.new) }
+    {
+        self.frame.go_on(alloc, keeper, found, rules, store, step)
+    }
+
+    // As a frame does.
+    fn tell_kept(
+        &mut self,
+        alloc: Global,
+        rules: &'a Rules,
+        store: &'a Store,
+        needed: Inst,
+        value: Value,
+    ) -> Result<Step, AllocError>
+        requires idle { IsIdle store.now }
+        requires formed { AreWellFormed rules.now }
+        requires sound { IsTreeSound rules.now.classes (tree store.now) }
+        requires takes { Accepts rules.now (class_shown store.now) self.old.trial (value_view value) }
+        ensures took { OnOk result (TookKept self.old.demanded needed self.new.demanded) }
+        ensures told { IfOk result (IsToldTo rules.now store.now self.old self.new (value_view value)) }
+    {
+        self.frame.tell_kept(alloc, rules, store, needed, value)
+    }
+
+    // As a frame does.
+    fn tell_found(
+        &mut self,
+        alloc: Global,
+        rules: &'a Rules,
+        store: &'a Store,
+        position: usize,
+        value: Value,
+    ) -> Result<Step, AllocError>
+        requires idle { IsIdle store.now }
+        requires formed { AreWellFormed rules.now }
+        requires sound { IsTreeSound rules.now.classes (tree store.now) }
+        requires takes { Accepts rules.now (class_shown store.now) self.old.trial (value_view value) }
+        ensures took { OnOk result (TookFound self.old.demanded position self.new.demanded) }
+        ensures told { IfOk result (IsToldTo rules.now store.now self.old self.new (value_view value)) }
+    {
+        self.frame.tell_found(alloc, rules, store, position, value)
+    }
+
+    // As a frame does.
+    pub fn find(&mut self, alloc: Global, value: Value) -> Find
+        ensures value { result.value ≡ value }
+        ensures demanded { result.demanded ≡ self.old.demanded }
+        ensures reads { map loc_view result.reads.items ≡ self.old.trial.reads }
+        ensures start { self.new.start ≡ self.old.start }
+    {
+        self.frame.find(alloc, value)
+    }
+}
+
 impl<'a> Frame<'a> {
     // Begins the evaluation of an instance.
     pub fn start(
@@ -318,35 +486,12 @@ impl<'a> Frame<'a> {
         ensures passed { (finds : List (Instance ℕ × FindCode)) → IfOk result (λ r. HasPassedTo rules.now (contents store.now) finds inst.now r.0 r.1) }
         ensures typed { IfOk result (λ r. IsTypedStep rules.now (class_shown store.now) r.1 r.0.trial) }
     {
-        Frame::start_in(alloc, rules, store, inst, 0, Room::new(alloc))
-    }
-
-    // The same, in the room of a trial that ended.
-    fn start_in(
-        alloc: Global,
-        rules: &'a Rules,
-        store: &'a Store,
-        inst: &Inst,
-        start: usize,
-        room: Room<'a>,
-    ) -> Result<(Frame<'a>, Step), AllocError>
-        requires idle { IsIdle store.now }
-        requires formed { AreWellFormed rules.now }
-        requires sound { IsTreeSound rules.now.classes (tree store.now) }
-        requires typed { IsWellTyped rules.now (class_shown store.now) AnyText inst.now }
-        ensures start { IfOk result (λ r. r.0.start ≡ start) }
-        ensures fresh { IfOk result (λ r. r.0.demanded.kept.items ≡ []) }
-        ensures unfound { IfOk result (λ r. r.0.demanded.finds.items ≡ []) }
-        ensures stepped { IfOk result (λ r. HasStepped rules.now (contents store.now) inst.now r.0.trial r.1) }
-        ensures passed { (finds : List (Instance ℕ × FindCode)) → IfOk result (λ r. HasPassedTo rules.now (contents store.now) finds inst.now r.0 r.1) }
-        ensures typed { IfOk result (λ r. IsTypedStep rules.now (class_shown store.now) r.1 r.0.trial) }
-    {
-        let (trial, step) = Trial::start_in(alloc, rules, store, inst, room)?;
+        let (trial, step) = Trial::start(alloc, rules, store, inst)?;
         let demanded = Demanded::new(alloc);
         let frame = Frame {
             trial,
             demanded,
-            start,
+            start: 0,
         };
         Ok((frame, step))
     }
@@ -376,7 +521,7 @@ impl<'a> Frame<'a> {
         requires sound { IsTreeSound rules.now.classes (tree store.now) }
         requires right { Right (contents store.now) (meaning rules.now) (known_in (K.contents keeper.now) found.now.entries) }
         requires typed { IsTypedStep rules.now (class_shown store.now) step self.old.trial }
-        requires kept { AreKept (K.contents keeper.now) self.old.demanded.kept.items }
+        requires kept { AreValued (K.contents keeper.now) self.old.demanded.kept.items }
         ensures { IfOk result (HasGoneOn rules.now store.now (K.contents keeper.now) found.now.entries self.old step self.new) }
     {
         let mut step = step;
@@ -393,8 +538,8 @@ impl<'a> Frame<'a> {
         }
     }
 
-    // Goes on with the value of the instance that it waits for, which is kept.
-    fn tell(
+    // Goes on with the value that it waits for, of an instance that is kept.
+    fn tell_kept(
         &mut self,
         alloc: Global,
         rules: &'a Rules,
@@ -405,11 +550,32 @@ impl<'a> Frame<'a> {
         requires idle { IsIdle store.now }
         requires formed { AreWellFormed rules.now }
         requires sound { IsTreeSound rules.now.classes (tree store.now) }
-        requires typed { WaitsFor rules.now (class_shown store.now) self.old.trial needed }
-        requires has { HasValue (contents store.now) (meaning rules.now) needed (value_view value) }
-        ensures { IfOk result (IsToldTo rules.now store.now self.old self.new needed value) }
+        requires takes { Accepts rules.now (class_shown store.now) self.old.trial (value_view value) }
+        ensures took { OnOk result (TookKept self.old.demanded needed self.new.demanded) }
+        ensures told { IfOk result (IsToldTo rules.now store.now self.old self.new (value_view value)) }
     {
         self.demanded.kept.push(needed)?;
+        let step = self.trial.resume(alloc, rules, store, value)?;
+        Ok(step)
+    }
+
+    // The same, of one that is found at this position.
+    fn tell_found(
+        &mut self,
+        alloc: Global,
+        rules: &'a Rules,
+        store: &'a Store,
+        position: usize,
+        value: Value,
+    ) -> Result<Step, AllocError>
+        requires idle { IsIdle store.now }
+        requires formed { AreWellFormed rules.now }
+        requires sound { IsTreeSound rules.now.classes (tree store.now) }
+        requires takes { Accepts rules.now (class_shown store.now) self.old.trial (value_view value) }
+        ensures took { OnOk result (TookFound self.old.demanded position self.new.demanded) }
+        ensures told { IfOk result (IsToldTo rules.now store.now self.old self.new (value_view value)) }
+    {
+        self.demanded.finds.push(position)?;
         let step = self.trial.resume(alloc, rules, store, value)?;
         Ok(step)
     }
@@ -432,6 +598,18 @@ impl<'a> Frame<'a> {
 }
 
 impl Find {
+    // Its value, and what its evaluation took.
+    fn into_parts(self) -> (Value, Vec<Loc>, Demanded)
+        ensures { result.0 ≡ self.value }
+    {
+        let Find {
+            value,
+            reads,
+            demanded,
+        } = self;
+        (value, reads, demanded)
+    }
+
     pub fn into_value(self) -> Value
         ensures { result ≡ self.value }
     {
@@ -455,6 +633,16 @@ impl Demanded {
         }
     }
 
+    // Its lists, with nothing in them.
+    fn emptied(mut self) -> Demanded
+        ensures kept { result.kept.items ≡ [] }
+        ensures finds { result.finds.items ≡ [] }
+    {
+        self.kept.clear();
+        self.finds.clear();
+        self
+    }
+
     // Takes the value of an instance, where it is known.
     fn recall<K: Keeper>(
         &mut self,
@@ -462,8 +650,8 @@ impl Demanded {
         found: &IndexMap<Inst, Find>,
         needed: Inst,
     ) -> Result<Recalled, AllocError>
-        requires kept { AreKept (K.contents keeper.now) self.old.kept.items }
-        ensures kept { OnOk result (AreKept (K.contents keeper.now) self.new.kept.items) }
+        requires kept { AreValued (K.contents keeper.now) self.old.kept.items }
+        ensures kept { OnOk result (AreValued (K.contents keeper.now) self.new.kept.items) }
         ensures takes { IfOk result (Takes found.now.entries self.old self.new needed) }
         ensures one { IfOk result (TakesOne found.now.entries self.old self.new needed) }
         ensures recalled { IfOk result (IsRecalled (known_in (K.contents keeper.now) found.now.entries) needed) }

@@ -1,18 +1,20 @@
 //! What a value rests on, gathered for the keeper.
 
-ghost use Rattle.std.specs.Prelude.{◌≡◌, ◌++◌, IfOk, OnOk};
-ghost use Rattle.at_cache.specs.Kept.{AreKept, Entries};
-ghost use Rattle.at_demand.specs.Known.{FoundKept};
+ghost use Rattle.std.specs.Prelude.{◌≡◌, ◌++◌, ◌∷◌, [], IfOk, OnOk};
+ghost use Rattle.at_cache.specs.Kept.{AreKept};
+ghost use Rattle.at_demand.specs.Known.{AreValued, FoundKept};
 ghost use Rattle.at_demand.specs.Covering.{Adds, AddsAt, AreGathered, Visits};
 ghost use Rattle.at_demand.specs.Only.{AddsOnly, AddsOnlyAt, AreFrom, VisitsOnly};
 
 use crate::evaluation::{Demanded, Find};
+use crate::sharing::Sharing;
 use at_body::Inst;
+use at_cache::Keeper;
 use at_store::Loc;
 use indexmap::{IndexMap, IndexSet};
 use std::alloc::{AllocError, Global};
 
-// The locations that an evaluation and the finds below it read, and the kept instances that they demanded.
+// The locations that an evaluation and the finds below it read, and the instances with an entry that they rest on.
 pub struct Sources {
     pub reads: Vec<Loc>,
     pub kept: Vec<Inst>,
@@ -26,14 +28,16 @@ impl Drop for Sources {
 }
 
 impl Sources {
-    // All that the find rests on, up to what is kept. Each find is visited once.
-    pub fn of(
+    // All that the find rests on, up to what is kept, and to what is gathered often and has an entry. Each find is visited once.
+    pub fn of<K: Keeper>(
         alloc: Global,
+        keeper: &K,
         found: &IndexMap<Inst, Find>,
         find: &Find,
+        sharing: &mut Sharing,
     ) -> Result<Sources, AllocError>
-        ensures kept { (entries : Entries) → FoundKept entries found.now.entries → AreKept entries find.now.demanded.kept.items
-            → IfOk result (λ s. AreKept entries s.kept.items) }
+        ensures kept { FoundKept (K.contents keeper.now) found.now.entries → AreValued (K.contents keeper.now) find.now.demanded.kept.items
+            → IfOk result (λ s. AreKept (K.contents keeper.now) s.kept.items) }
         ensures gathered { IfOk result (AreGathered found.now.entries find.now) }
         ensures only { IfOk result (AreFrom found.now.entries find.now) }
     {
@@ -45,32 +49,52 @@ impl Sources {
         sources.add(alloc, find, &mut visited)?;
         let mut next = 0;
         while next < visited.len() {
-            sources.add_at(alloc, found, next, &mut visited)?;
+            sources.add_at(alloc, keeper, found, next, &mut visited, sharing)?;
             next += 1;
         }
         Ok(sources)
     }
 
-    // Adds what stands in the find at the position that is visited next.
-    fn add_at(
+    // Adds what stands in the find at the position that is visited next, or its instance.
+    fn add_at<K: Keeper>(
         &mut self,
         alloc: Global,
+        keeper: &K,
         found: &IndexMap<Inst, Find>,
         next: usize,
         visited: &mut IndexSet<usize>,
+        sharing: &mut Sharing,
     ) -> Result<(), AllocError>
-        ensures kept { (entries : Entries) → FoundKept entries found.now.entries → AreKept entries self.old.kept.items
-            → OnOk result (AreKept entries self.new.kept.items) }
+        ensures kept { FoundKept (K.contents keeper.now) found.now.entries → AreKept (K.contents keeper.now) self.old.kept.items
+            → OnOk result (AreKept (K.contents keeper.now) self.new.kept.items) }
         ensures added { OnOk result (AddsAt found.now.entries next self.old self.new visited.old.keys visited.new.keys) }
         ensures only { OnOk result (AddsOnlyAt found.now.entries next self.old self.new visited.old.keys visited.new.keys) }
     {
         let Some(position) = visited.get_index(next) else {
             return Ok(());
         };
-        match found.get_index(*position) {
-            Some((_inst, find)) => self.add(alloc, find, visited),
-            None => Ok(()),
+        let position = *position;
+        let Some((inst, find)) = found.get_index(position) else {
+            return Ok(());
+        };
+        let often = sharing.count(position)?;
+        if !often {
+            return self.add(alloc, find, visited);
         }
+        if keeper.stands(inst) {
+            return self.add_use(alloc, inst);
+        }
+        sharing.note(position)?;
+        self.add(alloc, find, visited)
+    }
+
+    // Adds an instance that has an entry.
+    fn add_use(&mut self, alloc: Global, inst: &Inst) -> Result<(), AllocError>
+        ensures reads { self.new.reads.items ≡ self.old.reads.items }
+        ensures kept { OnOk result (self.new.kept.items ≡ self.old.kept.items ++ inst.now ∷ []) }
+    {
+        self.kept.push(inst.copy(alloc)?)?;
+        Ok(())
     }
 
     // Adds the reads of the find and the kept instances that it demanded; the other ones are to be visited.

@@ -10,7 +10,7 @@ use Rattle.at_body.specs.Same.{same_instance}
 use Rattle.at_body.specs.Values.{value_view}
 use Rattle.at_cache.specs.Kept.{Entries}
 use Rattle.at_demand.specs.declared.evaluation.Find.{Find}
-use Rattle.at_demand.specs.Known.{meaning, found_values, FoundKept}
+use Rattle.at_demand.specs.Known.{meaning, found_values, FoundKept, IsFound}
 use Rattle.at_demand.specs.Sparing.{AreSettled}
 use Rattle.at_demand.specs.Stacked.{TakeEarlier}
 
@@ -49,6 +49,9 @@ none_there (suc n) (g ∷ fs) j e = by (same_instance j g.0) e (none_there n fs 
 module _ (n : ℕ) (fs : List (Instance ℕ × Find)) where
   pub open_cut : (j : Instance ℕ) → lookup (same_instance j) fs ≡ None → lookup (same_instance j) (take n fs) ≡ None
   open_cut = none_there n fs
+
+  pub found_cut : (j : Instance ℕ) → IsFound (take n fs) j → IsFound fs j
+  found_cut j (p, f, e) = (p, f, there_get n fs p (j, f) e)
 
   pub kept_cut : (entries : Entries) → FoundKept entries fs → FoundKept entries (take n fs)
   kept_cut entries all i f e = all i f (found_there n fs i f e)

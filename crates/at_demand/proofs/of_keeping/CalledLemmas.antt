@@ -1,7 +1,6 @@
 -- What is kept by numbers, and the work, are what the model says of them by paths.
-use Rattle.std.proofs.Common.{◌≡◌, ◌⊎◌, ◌↔◌, ℕ, ◌+◌, ◌-◌, ◌^◌, min, nat_eq, true, length, Option, Some, None, Ok, inl, inr, refl, sym, ap, ◌∙◌, subst, arith, true≢false}
+use Rattle.std.proofs.Common.{◌≡◌, ◌⊎◌, ◌↔◌, ℕ, ◌+◌, ◌-◌, ◌^◌, min, nat_eq, true, length, Option, Some, None, Ok, inl, inr, refl, sym, ap, ◌∙◌, subst, arith}
 use Rattle.std.specs.Prelude.{IsSome}
-use Rattle.std.specs.Option.{option_map}
 use Rattle.at_model.specs.Trees.{Tree, conforms}
 use Rattle.at_model.specs.Paths.{Node, node_eq}
 use Rattle.at_model.specs.Run.{Value, Instance, Location}
@@ -19,29 +18,30 @@ use Rattle.at_store.specs.View.{memory_of}
 use Rattle.at_store.specs.Preparing.{IsCommitted}
 use Rattle.at_store.proofs.Found.{path_injective}
 use Rattle.at_store.proofs.Relabelled.{contents_alike}
-use Rattle.at_cache.specs.Kept.{Kept, Entries}
-use Rattle.at_demand.specs.Known.{meaning}
+use Rattle.at_cache.specs.Kept.{Kept, Entries, value_at}
+use Rattle.at_demand.specs.Known.{meaning, kept_values, IsKept}
 use Rattle.at_demand.specs.Right.{AreRight}
 use Rattle.at_demand.specs.Sparing.{AreSpare, IsWorthKeeping, AddsWorthy, HasWorthy, Counts}
 use Rattle.at_demand.specs.Spared.{IsUntouched, LeavesJust}
 use Rattle.at_demand.specs.Called.{KeptBy, Keeps}
 use Rattle.at_model.proofs.of_likeness.AlikeBack.{value_on, leads_back}
+use Rattle.at_demand.proofs.Entered.{entered, kept_on, not_none, there as value_kept}
 use Rattle.at_demand.proofs.of_keeping.CalledAsked.{called_after, called_added}
 use Rattle.at_demand.proofs.of_keeping.CalledEdited.{called_edited}
 use Rattle.at_demand.proofs.of_keeping.StayingSpare.{some_kept}
 
--- kept or not
-decided : (o : Option Kept) → IsSome o ⊎ (o ≡ None)
-decided None = inr refl
-decided (Some k) = inl refl
+-- there or not
+module _ {A : Type 0} where
+  decided : (o : Option A) → IsSome o ⊎ (o ≡ None)
+  decided None = inr refl
+  decided (Some a) = inl refl
 
-none_kept : (o : Option Kept) → o ≡ None → IsSome o → ⊥
-none_kept None e some = absurd (true≢false (sym some))
-none_kept (Some k) e some = absurd cc
+  none_kept : (o : Option A) → o ≡ None → IsSome o → ⊥
+  none_kept o e some = not_none o some e
 
-no_kept : (o : Option Kept) → (¬ (IsSome o)) → o ≡ None
-no_kept None h = refl
-no_kept (Some k) h = absurd (h refl)
+  no_kept : (o : Option A) → (¬ (IsSome o)) → o ≡ None
+  no_kept None h = refl
+  no_kept (Some a) h = absurd (h refl)
 
 module _ (rules : Rules) (s : Shown) (idle : IsIdle s) where
   once : IsInjective (path s)
@@ -62,37 +62,37 @@ module _ (rules : Rules) (s : Shown) (idle : IsIdle s) where
 
       valued : (j : Instance Node) → KeptBy s entries j → (w : Value Node) × HasValue (content (tree s)) (equations rules) j w
       valued j (i, some, u) =
-          let (k, is) = some_kept (entries i) some in
-          let (w, has, same) = value_on (contents s) (content (tree s)) (meaning rules) (equations rules) like alike i j k.value u (right.values i k.value (ap (option_map (λ k. k.value)) is)) in
+          let (v, is) = value_kept (kept_values entries i) some in
+          let (w, has, same) = value_on (contents s) (content (tree s)) (meaning rules) (equations rules) like alike i j v u (right.values i v is) in
           (w, has)
 
       deep : (j m : Instance Node) → KeptBy s entries j → Leads (content (tree s)) (equations rules) j m → is_lazy rules m.attribute ≡ true → KeptBy s entries m
       deep j m (i, some, u) leads is =
           let (k, v, led) = leads_back (contents s) (content (tree s)) (meaning rules) (equations rules) like alike i j m u leads in
-          (k, spare.deep i k some led (ap (is_lazy rules) v.attribute ∙ is), v)
+          (k, spare.deep i k (entered entries i some) led (ap (is_lazy rules) v.attribute ∙ is), v)
 
   -- a question adds what is worth keeping, and its work is the number of these
   module _ (q : Instance ℕ) (p : Instance Node) (asked : InstanceLike (Names (path s)) q p) (old new : Entries) (w x : ℕ) (adds : AddsWorthy rules (contents s) q old new) (all : HasWorthy rules (contents s) q new) (counts : Counts old new w x) where
-    just : (i : Instance ℕ) → IsSome (new i) ↔ (IsSome (old i) ⊎ IsWorthKeeping rules (contents s) q i)
+    just : (i : Instance ℕ) → IsKept new i ↔ (IsKept old i ⊎ IsWorthKeeping rules (contents s) q i)
     just i = (
-      λ now. elim (decided (old i)) [ inl was ↦ inl was | inr none ↦ inr (adds.worthy i none now) ],
-      λ h. elim h [ inl was ↦ subst IsSome (sym (adds.stays i was)) was | inr worth ↦ all i worth ],
+      λ now. elim (decided (kept_values old i)) [ inl was ↦ inl was | inr none ↦ inr (adds.worthy i none now) ],
+      λ h. elim h [ inl was ↦ kept_on old new adds.stays i was | inr worth ↦ all i worth ],
     )
 
-    exactly : (i : Instance ℕ) → Among i counts.0 ↔ (IsWorthKeeping rules (contents s) q i × (¬ (IsSome (old i))))
+    exactly : (i : Instance ℕ) → Among i counts.0 ↔ (IsWorthKeeping rules (contents s) q i × (¬ (IsKept old i)))
     exactly i =
         let (gained, g, e) = counts in (
-          λ a. (let y = (g.exactly i).0 a in (adds.worthy i y.1 y.0, none_kept (old i) y.1)),
-          λ h. (g.exactly i).1 (all i h.0, no_kept (old i) h.1),
+          λ a. (let y = (g.exactly i).0 a in (adds.worthy i y.1 y.0, none_kept (kept_values old i) y.1)),
+          λ h. (g.exactly i).1 (all i h.0, no_kept (kept_values old i) h.1),
         )
 
     pub keeps_asked : (state : State) → state.tree ≡ tree s → Keeps rules state (Asks p) (KeptBy s old) (KeptBy s new) w x
     keeps_asked state same =
         let (gained, g, e) = counts in
-        let (js, added, size) = called_added rules (contents s) (tree s) (path s) once alike q p asked (λ i. IsSome (old i)) (λ i. elim (decided (old i)) [ inl was ↦ inl was | inr none ↦ inr (none_kept (old i) none) ]) gained g.distinct exactly in
+        let (js, added, size) = called_added rules (contents s) (tree s) (path s) once alike q p asked (IsKept old) (λ i. elim (decided (kept_values old i)) [ inl was ↦ inl was | inr none ↦ inr (none_kept (kept_values old i) none) ]) gained g.distinct exactly in
         let P : Tree → Type 0 = λ t. Keeps rules (record state { tree = t }) (Asks p) (KeptBy s old) (KeptBy s new) w x in
         subst P (sym same) (record {
-          kept = called_after rules (contents s) (tree s) (path s) once alike q p asked (λ i. IsSome (old i)) (λ i. IsSome (new i)) just;
+          kept = called_after rules (contents s) (tree s) (path s) once alike q p asked (IsKept old) (IsKept new) just;
           more = length js;
           is_work = (js, added, refl);
           grows = λ small. e ∙ ap (λ n. min (w + n) (2 ^ 64 - 1)) (sym size);
@@ -101,19 +101,22 @@ module _ (rules : Rules) (s : Shown) (idle : IsIdle s) where
 -- an edit leaves what it doesn't touch, and has no work
 module _ (rules : Rules) (old new : Shown) (e : Edit) (t : Tree) (idle : IsIdle old) (ok : conforms rules.classes (tree old) 0 ≡ true) (accepted : edited rules.classes (tree old) e ≡ Ok t) (done : IsCommitted old e new)
     (before later : Entries) (right : AreRight rules old before) (leaves : LeavesJust rules old e before later) where
-  left : (i : Instance ℕ) → IsSome (later i) ↔ (IsSome (before i) × IsUntouched rules old e i)
+  left : (i : Instance ℕ) → IsKept later i ↔ (IsKept before i × IsUntouched rules old e i)
   left i = (
-    λ some. (let (k, is) = some_kept (later i) some in let (was, free) = (leaves i k).0 is in (subst IsSome (sym was) refl, free)),
-    λ h. (let (k, is) = some_kept (before i) h.0 in subst IsSome (sym ((leaves i k).1 (is, h.1))) refl),
+    λ some. (let (k, is) = some_kept (later i) (entered later i some) in let (was, free) = (leaves i k).0 is in (moved (is ∙ sym was) some, free)),
+    λ h. (let (k, is) = some_kept (before i) (entered before i h.0) in moved (is ∙ sym ((leaves i k).1 (is, h.1))) h.0),
   )
+    where
+      moved : {o p : Option Kept} → o ≡ p → IsSome (value_at o) → IsSome (value_at p)
+      moved e some = subst (λ x. IsSome (value_at x)) e some
 
   pub keeps_edited : (state : State) → state.tree ≡ tree old → (w : ℕ) → Keeps rules state (Edits e t) (KeptBy old before) (KeptBy new later) w w
   keeps_edited state same w =
       let P : Tree → Type 0 = λ u. Keeps rules (record state { tree = u }) (Edits e t) (KeptBy old before) (KeptBy new later) w w in
       subst P (sym same) (record {
-        kept = called_edited rules e (tree old) (contents old) (path old) (path new) (once rules old idle) (alike rules old idle) done.paths (λ i. IsSome (before i)) (λ i. IsSome (later i))
-            (λ i some. let (k, is) = some_kept (before i) some in right.there i k is)
-            (λ i some. let (k, is) = some_kept (before i) some in (k.value, right.values i k.value (ap (option_map (λ k. k.value)) is))) left;
+        kept = called_edited rules e (tree old) (contents old) (path old) (path new) (once rules old idle) (alike rules old idle) done.paths (IsKept before) (IsKept later)
+            (λ i some. let (k, is) = some_kept (before i) (entered before i some) in right.there i k is)
+            (λ i some. let (v, is) = value_kept (kept_values before i) some in (v, right.values i v is)) left;
         more = 0;
         is_work = refl;
         grows = λ small. omega (arith, small);

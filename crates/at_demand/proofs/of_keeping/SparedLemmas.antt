@@ -1,6 +1,5 @@
 -- Over an edit that is done, an exact keeper has just what rests on nothing that the edit touches, and that is spare.
-use Rattle.std.proofs.Common.{◌≡◌, true, Ok, ap}
-use Rattle.std.specs.Option.{option_map}
+use Rattle.std.proofs.Common.{◌≡◌, true, Ok}
 use Rattle.at_model.specs.Trees.{Tree, conforms}
 use Rattle.at_model.specs.Rules.{Rules}
 use Rattle.at_model.specs.Edits.{Edit, edited}
@@ -20,6 +19,6 @@ module _ (rules : Rules) (old new : Shown) (e : Edit) (t : Tree) (idle : IsIdle 
   pub kept_spare : LeavesJust rules old e before later × AreSpare rules (contents new) later
   kept_spare =
       let goes = over rules old new e t idle ok accepted done in (
-        leaves_just rules goes (path_injective (numbers old)) before later (λ i k at. right.values i k.value (ap (option_map (λ k. k.value)) at)) right.there right.covers spare leaves loses,
-        spare_after rules goes (path_injective (numbers old)) before later (λ i k at. right.values i k.value (ap (option_map (λ k. k.value)) at)) right.there right.covers spare leaves loses,
+        leaves_just rules goes (path_injective (numbers old)) before later right.valued right.there right.covers spare leaves loses,
+        spare_after rules goes (path_injective (numbers old)) before later right.valued right.there right.covers spare leaves loses,
       )

@@ -1,16 +1,14 @@
 -- What is kept stays right over an edit that is done, where it stands for no location that the edit touches.
-use Rattle.std.proofs.Common.{◌≡◌, ℕ, true, false, Bool, Some, Ok, sym, ap, ◌∙◌, subst, option_map}
+use Rattle.std.proofs.Common.{◌≡◌, ℕ, true, false, Bool, Some, Ok, sym, ap, ◌∙◌, subst}
 use Rattle.at_model.specs.Trees.{Tree, conforms}
 use Rattle.at_model.specs.Paths.{Node}
 use Rattle.at_model.specs.Run.{Instance, Location}
 use Rattle.at_model.specs.Rules.{Rules}
 use Rattle.at_model.specs.Classes.{Classes}
-use Rattle.at_model.specs.Meaning.{HasValue}
 use Rattle.at_model.specs.Support.{Supports}
 use Rattle.at_model.specs.Alike.{LocationLike, Names}
 use Rattle.at_model.specs.Edits.{Edit, edited, left_by}
 use Rattle.at_model.specs.Touches.{touches}
-use Rattle.at_model.proofs.Options.{mapped}
 use Rattle.at_model.proofs.of_edits.Conforming.{accepted}
 use Rattle.at_store.specs.Memory.{class_in}
 use Rattle.at_store.specs.View.{memory_of}
@@ -19,9 +17,10 @@ use Rattle.at_store.specs.Preparing.{IsCommitted}
 use Rattle.at_store.proofs.Found.{path_injective}
 use Rattle.at_store.proofs.Reading.{shown_there}
 use Rattle.at_store.proofs.Relabelled.{contents_alike}
-use Rattle.at_cache.specs.Kept.{Kept, Entries, LeavesUntouched}
-use Rattle.at_demand.specs.Known.{meaning}
-use Rattle.at_demand.specs.Right.{AreRight}
+use Rattle.at_cache.specs.Kept.{Kept, Entries, LeavesUntouched, value_at}
+use Rattle.at_demand.specs.Known.{meaning, kept_values}
+use Rattle.at_demand.specs.Right.{AreRight, IsValued}
+use Rattle.at_demand.proofs.Entered.{entered, is_there, there as is_entry}
 use Rattle.at_demand.proofs.of_keeping.Staying.{IsOver, there_later, value_later, support_before}
 
 -- what an accepted edit leaves is the tree that it is said to leave
@@ -50,15 +49,17 @@ module _ (rules : Rules) (old new : Shown) (e : Edit) (t : Tree) (idle : IsIdle 
       free : (l : Location ℕ) → Supports (contents old) (meaning rules) l i → (m : Location Node) → LocationLike (Names (path old)) l m → touches e m ≡ false
       free l rests m like = true_to l m ((leaves i k left).1 l (right.covers i k was l rests)) like
 
-      had : HasValue (contents old) (meaning rules) i k.value
-      had = right.values i k.value (ap (option_map (λ k. k.value)) was)
+      had : IsValued rules old i
+      had = right.valued i k was
 
     pub kept_right : AreRight rules new later
     kept_right = record {
-      values = λ i v kept. let (k, left, same) = mapped (λ k. k.value) (later i) v kept in
+      values = λ i v kept. let (k, left) = is_entry (later i) (entered later i (is_there (kept_values later i) v kept)) in
           let (j, like) = right.there i k (was i k left) in
-          subst (HasValue (contents new) (meaning rules) i) same (value_later rules over i j like (free i k left) k.value (had i k left));
+          value_later rules over i j like (free i k left) v (right.values i v (ap value_at (was i k left ∙ sym left) ∙ kept));
+      valued = λ i k left. let (v, has) = had i k left in let (j, like) = right.there i k (was i k left) in (v, value_later rules over i j like (free i k left) v has);
       there = λ i k left. let (j, like) = right.there i k (was i k left) in there_later rules over i j like (free i k left);
       covers = λ i k left l rests. let (j, like) = right.there i k (was i k left) in
-          right.covers i k (was i k left) l (support_before rules over i j like (free i k left) k.value (had i k left) l rests);
+          let (v, has) = had i k left in right.covers i k (was i k left) l (support_before rules over i j like (free i k left) v has l rests);
+      plain = λ i k left none. right.plain i k (was i k left) none;
     }

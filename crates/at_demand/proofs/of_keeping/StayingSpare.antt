@@ -3,16 +3,17 @@ use Rattle.std.proofs.Common.{◌≡◌, ◌↔◌, ℕ, Bool, true, false, Opti
 use Rattle.std.specs.Prelude.{IsSome}
 use Rattle.at_model.specs.Trees.{Tree}
 use Rattle.at_model.specs.Paths.{Node}
-use Rattle.at_model.specs.Run.{Instance, Location, Contents}
+use Rattle.at_model.specs.Run.{Value, Instance, Location, Contents}
 use Rattle.at_model.specs.Rules.{Rules}
 use Rattle.at_model.specs.Meaning.{HasValue, Leads}
 use Rattle.at_model.specs.Support.{Supports}
 use Rattle.at_model.specs.Alike.{InstanceLike, LocationLike, Names, IsInjective}
 use Rattle.at_model.specs.Edits.{Edit}
 use Rattle.at_model.specs.Touches.{touches}
-use Rattle.at_cache.specs.Kept.{Kept, Entries, LeavesUntouched, LosesTouched}
+use Rattle.at_cache.specs.Kept.{Kept, Entries, LeavesUntouched, LosesTouched, value_at}
 use Rattle.at_demand.specs.Known.{meaning}
 use Rattle.at_demand.specs.Sparing.{IsDeep, AreSpare}
+use Rattle.at_demand.proofs.Entered.{entered}
 use Rattle.at_demand.proofs.Leading.{supports_on}
 use Rattle.at_demand.proofs.of_keeping.Staying.{IsOver, support_later, led_before, located}
 
@@ -25,7 +26,7 @@ abbrev pub Says : (ℕ → Option Node) → Edit → Location ℕ → Bool → T
 Says path e l b = (m : Location Node) → LocationLike (Names path) l m → touches e m ≡ b
 
 module _ (rules : Rules) {e : Edit} {t u : Tree} {path later : ℕ → Option Node} {old new : Contents ℕ} (over : IsOver rules.classes e t u path later old new) (named_once : IsInjective path) (before after : Entries)
-    (values : (i : Instance ℕ) (k : Kept) → before i ≡ Some k → HasValue old (meaning rules) i k.value)
+    (valued : (i : Instance ℕ) (k : Kept) → before i ≡ Some k → (v : Value ℕ) × HasValue old (meaning rules) i v)
     (there : (i : Instance ℕ) (k : Kept) → before i ≡ Some k → (j : Instance Node) × InstanceLike (Names path) i j)
     (covers : (i : Instance ℕ) (k : Kept) → before i ≡ Some k → (l : Location ℕ) → Supports old (meaning rules) l i → k.covers l ≡ true)
     (spare : AreSpare rules old before) (leaves : LeavesUntouched (Says path e) before after) (loses : LosesTouched (Says path e) before after) where
@@ -44,7 +45,7 @@ module _ (rules : Rules) {e : Edit} {t u : Tree} {path later : ℕ → Option No
     only_after l has = let (j, like) = there i k was in support_later rules over i j like free l (spare.only i k was l has)
 
     led_was : (j : Instance ℕ) → Leads new (meaning rules) i j → Leads old (meaning rules) i j
-    led_was j led = let (m, like) = there i k was in led_before rules over i m like free k.value (values i k was) j led
+    led_was j led = let (m, like) = there i k was in let (v, has) = valued i k was in led_before rules over i m like free v has j led
 
   -- what was kept and isn't touched
   pub stays_free : (i : Instance ℕ) (k : Kept) → before i ≡ Some k → IsFree i → after i ≡ Some k
@@ -65,12 +66,13 @@ module _ (rules : Rules) {e : Edit} {t u : Tree} {path later : ℕ → Option No
   deep_after i j some leads lazy =
       let (k, left) = some_kept (after i) some in
       let led = led_was i k left j leads in
-      let (d, at) = some_kept (before j) (spare.deep i j (subst IsSome (sym (was i k left)) refl) led lazy) in
-      subst IsSome (sym (stays_free j d at (λ l rests. free i k left l (supports_on old (meaning rules) i j l led rests)))) refl
+      let kept = spare.deep i j (subst IsSome (sym (was i k left)) refl) led lazy in
+      let (d, at) = some_kept (before j) (entered before j kept) in
+      subst (λ o. IsSome (value_at o)) (at ∙ sym (stays_free j d at (λ l rests. free i k left l (supports_on old (meaning rules) i j l led rests)))) kept
 
   pub spare_after : AreSpare rules new after
   spare_after = record {
     only = λ i k left. only_after i k left;
-    lazy = λ i some. let (k, left) = some_kept (after i) some in spare.lazy i (subst IsSome (sym (was i k left)) refl);
+    lazy = λ i some. let (k, left) = some_kept (after i) (entered after i some) in spare.lazy i (subst (λ o. IsSome (value_at o)) (left ∙ sym (was i k left)) some);
     deep = deep_after;
   }

@@ -20,7 +20,7 @@ use Rattle.at_demand.proofs.SparingOn.{sparing_on}
 
 -- the question with another evaluation of its last instance
 abbrev pub with_frame : Evaluation → Frame → Evaluation
-with_frame q f = record { waiting = q.waiting; found = q.found; gone = q.gone; room = q.room; inst = q.inst; frame = f }
+with_frame q f = record { waiting = q.waiting; found = q.found; gone = q.gone; room = q.room; spare = q.spare; inst = q.inst; frame = f; ended = q.ended }
 
 pub true_on : (rules : Rules) (look : Contents ℕ) (before : Entries) (q : Evaluation) (f : Frame) (x y : Step) → ((i : Instance ℕ) → HasStepped rules look i q.frame.trial x → HasStepped rules look i f.trial y) →
     (asked : Instance ℕ) → IsTrueIn rules look asked before q x → IsTrueIn rules look asked before (with_frame q f) y
@@ -52,6 +52,7 @@ advances_on rules s exact before after work later q new f x y r stepped passed o
       right = λ asked h. a.right asked (on asked h);
       covering = λ asked h c. a.covering asked (on asked h) (stands c);
       stays = λ asked is h c right. a.stays asked is (on asked h) (stands c) right;
+      plain = a.plain;
       worthy = λ asked first h adds. a.worthy asked first (on asked h) adds;
       sparing = λ asked k h c spares. a.sparing asked k (on asked h) (stands c) (goes asked h spares);
       spare = λ asked k h c spares. a.spare asked k (on asked h) (stands c) (goes asked h spares);

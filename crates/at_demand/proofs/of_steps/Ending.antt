@@ -45,4 +45,5 @@ ends_so rules s exact before now after work mid later asked q new x r a h e answ
       counts = counts;
       work = λ k spare. IfOk-weaker a _ _ (λ v w. work_is rules look asked before after work later (counts k) worthy w) (all k spare);
       right = λ there right. e.stays asked there h.holds h.covering (h.stays there right);
+      plain = e.plain;
     }

@@ -1,6 +1,5 @@
 -- The last instance came to be kept, and the question goes back to the one that waits for it, or ends.
 use Rattle.std.proofs.Common.{◌≡◌, ℕ, ◌≤◌, true, List, [], ◌∷◌, ◌++◌, map, take, arith, inl, sym, ap, ◌∙◌, subst}
-use Rattle.std.specs.Prelude.{IsSome}
 use Rattle.at_model.specs.Run.{Value, Instance, Contents}
 use Rattle.at_model.specs.Rules.{Rules, is_lazy}
 use Rattle.at_model.specs.Meaning.{Answers, Among, HasValue}
@@ -19,16 +18,16 @@ use Rattle.at_demand.specs.declared.evaluation.Frame.{Frame}
 use Rattle.at_demand.specs.declared.evaluation.Evaluation.{Evaluation}
 use Rattle.at_demand.specs.declared.evaluation.Advance.{Advance}
 use Rattle.at_demand.specs.declared.evaluation.Advance.TheVariants as advance
-use Rattle.at_demand.specs.Known.{meaning, MayAdd, answer_view}
+use Rattle.at_demand.specs.Known.{meaning, IsKept, MayAdd, answer_view}
 use Rattle.at_demand.specs.UnderWay.{AreWaiting, IsOrderlyIn, IsAdvance, IsPassedBack, HasPassedBack, IsTrue, IsTrueIn, IsRightAdvance, first_of, left_of}
 use Rattle.at_demand.specs.Covering.{HavePassed, IsCovering, IsCoveringIn, IsCoveringAdvance}
 use Rattle.at_demand.specs.Only.{AreLean, TakeOnly, TakesOnly}
-use Rattle.at_demand.specs.Sparing.{AreOnly, AreSettled, MayAddLazy, IsSparing, IsSparingAdvance}
+use Rattle.at_demand.specs.Sparing.{AreOnly, AreSettled, MayGain, IsSparing, IsSparingAdvance}
 use Rattle.at_demand.specs.Typing.{AreTypedWaiting, IsTypedAdvance}
 use Rattle.at_demand.specs.Stacked.{TakesBelow, IsUpTo, AreStacked, IsStackedIn}
 use Rattle.at_demand.proofs.Chains.{first_push, wait_pop}
 use Rattle.at_demand.proofs.of_cutting.Finding.{passed_cut, all_passed_cut, finds_cut, takes_cut, all_take_cut, lean_cut}
-use Rattle.at_demand.proofs.of_cutting.Firsts.{right_cut, settled_cut}
+use Rattle.at_demand.proofs.of_cutting.Firsts.{found_cut, right_cut, settled_cut}
 use Rattle.at_demand.proofs.Gaining.{settled_still}
 use Rattle.at_demand.proofs.OnlyLemmas.{needs_comes, take_pop, takes_one}
 use Rattle.at_demand.proofs.Orderly.{passes}
@@ -40,7 +39,7 @@ use Rattle.at_demand.proofs.TypingLemmas.{typed_pop}
 
 -- what the last evaluation has given away doesn't matter
 pub passed_from : (rules : Rules) (s : Shown) (old new : Evaluation) (f : Frame) (w : ValueCode) → f.start ≡ old.frame.start → (t : Advance) →
-    HasPassedBack rules s (record { waiting = old.waiting; found = old.found; gone = old.gone; room = old.room; inst = old.inst; frame = f }) w new t → HasPassedBack rules s old w new t
+    HasPassedBack rules s (record { waiting = old.waiting; found = old.found; gone = old.gone; room = old.room; spare = old.spare; inst = old.inst; frame = f; ended = old.ended }) w new t → HasPassedBack rules s old w new t
 passed_from rules s old new f w same (advance.GoesOn r) a = subst (λ n. IsPassedBack rules s old.waiting.entries old.found.entries old.gone n old.inst w new r) same a
 passed_from rules s old new f w same (advance.Fails k) a = a
 passed_from rules s old new f w same (advance.Answers x) a = a
@@ -59,8 +58,8 @@ module _ (rules : Rules) (s : Shown) (entries more : Entries) (old new : Evaluat
   at_most : (n m : ℕ) → old.frame.start ≤ n → m ≤ old.frame.start → m ≤ n
   at_most n m a b = omega (arith, a, b)
 
-  pub passes_on : (v : Value ℕ) → IsOrderlyIn entries old → IsStackedIn old → MayAdd entries more old.inst v → IsSome (more old.inst) → (t : Advance) → HasPassedBack rules s old w new t → IsAdvance more old new t
-  passes_on v q stacked adds some (advance.GoesOn r) a = passes entries more old new v a.waited q stacked adds some a.waits a.told.kept a.told.finds a.told.start a.cut a.counted a.few a.finds a.counts
+  pub passes_on : (v : Value ℕ) → IsOrderlyIn entries old → IsStackedIn old → MayAdd entries more old.inst v → IsKept more old.inst → (t : Advance) → HasPassedBack rules s old w new t → IsAdvance more old new t
+  passes_on v q stacked adds some (advance.GoesOn r) a = passes entries more old new v a.waited q stacked adds some a.waits a.took.0 a.took.1 a.told.start a.cut a.counted a.few a.finds a.counts
   passes_on v q stacked adds some (advance.Fails k) a = absurd a
   passes_on v q stacked adds some (advance.Answers x) a = tt
 
@@ -83,6 +82,7 @@ module _ (rules : Rules) (s : Shown) (entries more : Entries) (old new : Evaluat
           last = resumed_step rules look new.inst old.inst a.waited.trial new.frame.trial (value_view w) r split.1 has a.told.follows;
           kept = right_after rules look asked entries more old v h adds;
           finds = right_cut n old.found.entries look rules h.finds;
+          led = λ j found. h.led j (found_cut n old.found.entries j found);
         } in
         subst P (sym cut) there
     passes_true asked h adds value (advance.Fails k) a = absurd a
@@ -94,11 +94,11 @@ module _ (rules : Rules) (s : Shown) (entries more : Entries) (old new : Evaluat
     passes_covering stacked h (advance.GoesOn r) a =
         let fs = old.found.entries in
         let split = passed_pop rules look fs new.waiting.entries new.inst old.inst a.waited (subst (λ ws. HavePassed rules look fs ws old.inst) a.waits h.waits) in
-        let takes = takes_kept fs a.waited.demanded new.frame.demanded old.inst a.told.kept a.told.finds in
+        let takes = takes_kept fs a.waited.demanded new.frame.demanded old.inst a.took.0 a.took.1 in
         let P : List (Instance ℕ × Find) → Type 0 = λ x. IsCovering rules look new.waiting.entries x new.inst new.frame r in
         let (n, least, cut) = a.cut in
         let under = stacked_below a.waited a.waits stacked in
-        let took = takes_told a.waited a.told.finds under.1.takes in
+        let took = takes_told a.waited a.took.1 under.1.takes in
         let last = passed_on rules look fs new.inst old.inst a.waited new.frame (value_view w) r split.1 takes.0 takes.1 has a.told.follows in
         let there : P (take n fs) = record {
           waits = all_passed_cut n fs rules look a.waited.start new.waiting.entries new.inst (at_most n a.waited.start least under.1.start) under.0 split.0;
@@ -111,21 +111,21 @@ module _ (rules : Rules) (s : Shown) (entries more : Entries) (old new : Evaluat
 
     -- with an exact keeper
     module _ (d : Find) (q : IsOrderlyIn entries old) (stacked : IsStackedIn old) (asked : Instance ℕ) (h : IsTrueIn rules look asked entries old (step.Value v)) (stands : IsCoveringIn rules look old (step.Value v)) (sparing : IsSparing rules look entries old)
-        (reads : map loc_view d.reads.items ≡ old.frame.trial.reads) (demanded : d.demanded ≡ old.frame.demanded) (grows : MayAddLazy rules entries more old.inst) where
-      pub passes_sparing : (is_lazy rules old.inst.attribute ≡ true → IsSome (more old.inst)) → AreOnly rules look more → (t : Advance) → HasPassedBack rules s old w new t → IsSparingAdvance rules look asked more new t
+        (reads : map loc_view d.reads.items ≡ old.frame.trial.reads) (demanded : d.demanded ≡ old.frame.demanded) (grows : MayGain rules old.found.entries entries more old.inst) where
+      pub passes_sparing : (is_lazy rules old.inst.attribute ≡ true → IsKept more old.inst) → AreOnly rules look more → (t : Advance) → HasPassedBack rules s old w new t → IsSparingAdvance rules look asked more new t
       passes_sparing keeps only (advance.GoesOn r) a =
           let fs = old.found.entries in
           let split = take_pop rules look fs new.waiting.entries new.inst a.waited (subst (λ ws. TakeOnly rules look fs ws) a.waits sparing.waits) in
           let waits = wait_pop rules look new.waiting.entries new.inst old.inst a.waited (subst (λ ws. AreWaiting rules look ws old.inst) a.waits h.waits) in
-          let takes = takes_one rules look fs new.inst old.inst a.waited.demanded new.frame.demanded (needs_comes rules look new.inst old.inst a.waited.trial waits.1) (inl (a.told.kept, a.told.finds)) split.1 in
+          let takes = takes_one rules look fs new.inst old.inst a.waited.demanded new.frame.demanded (needs_comes rules look new.inst old.inst a.waited.trial waits.1) (inl a.took) split.1 in
           let (n, least, cut) = a.cut in
           let under = stacked_below a.waited a.waits stacked in
-          let took = takes_told a.waited a.told.finds under.1.takes in
+          let took = takes_told a.waited a.took.1 under.1.takes in
           record {
             waits = subst (λ x. TakeOnly rules look x new.waiting.entries) (sym cut) (all_take_cut n fs rules look a.waited.start new.waiting.entries (at_most n a.waited.start least under.1.start) under.0 split.0);
             last = subst (λ x. TakesOnly rules look x new.inst new.frame.demanded) (sym cut) (takes_cut n fs rules look old.frame.start new.inst new.frame.demanded least took takes);
             finds = subst (AreLean rules look) (sym cut) (lean_cut n fs rules look stacked.finds sparing.finds);
-            settled = subst (AreSettled rules more) (sym cut) (settled_cut n fs rules more (settled_still rules look entries more old.inst grows fs sparing.settled));
+            settled = subst (AreSettled rules more) (sym cut) (settled_cut n fs rules more (settled_still rules look entries more old.inst fs grows fs sparing.settled));
             spare = settles_spare rules look asked entries more old v d q h stands sparing reads demanded grows only;
           }
       passes_sparing keeps only (advance.Fails k) a = absurd a

@@ -9,19 +9,20 @@ use Rattle.at_cache.specs.Kept.{Entries}
 use Rattle.at_demand.specs.declared.evaluation.Frame.{Frame}
 use Rattle.at_demand.specs.declared.question.Question.{Question}
 use Rattle.at_demand.specs.declared.trials.Attempt.{Attempt}
-use Rattle.at_demand.specs.Known.{meaning, kept_values}
+use Rattle.at_demand.specs.Known.{meaning, kept_values, ArePlain}
 use Rattle.at_demand.specs.Attempts.{HasAttempted}
 use Rattle.at_demand.specs.Turns.{IsStanding, under_way}
 use Rattle.at_demand.specs.Answered.{GainsAtMost}
 use Rattle.at_demand.proofs.Counting.{counts_none}
 use Rattle.at_demand.proofs.Gaining.{worthy_none}
-use Rattle.at_demand.proofs.Standing.{last_there, worthy_asked}
+use Rattle.at_demand.proofs.Standing.{found_there, last_there, worthy_asked}
 
 -- nothing came
-pub gains_none : (rules : Rules) (s : Shown) (exact : Bool) (entries : Entries) (work : ℕ) (q : Question) → Right (contents s) (meaning rules) (kept_values entries) → GainsAtMost rules s exact entries entries work work q
-gains_none rules s exact entries work q right = record {
+pub gains_none : (rules : Rules) (s : Shown) (exact : Bool) (entries : Entries) (work : ℕ) (q : Question) → Right (contents s) (meaning rules) (kept_values entries) → ArePlain rules entries → GainsAtMost rules s exact entries entries work work q
+gains_none rules s exact entries work q right plain = record {
   right = right;
   stays = λ there all. all;
+  plain = plain;
   last = λ j. inl refl;
   worthy = worthy_none rules (contents s) (asked (under_way q)) entries;
   spare = λ k spare sparing. spare;
@@ -32,7 +33,8 @@ gains_none rules s exact entries work q right = record {
 pub gains_tried : {E : Type 0} (rules : Rules) (s : Shown) (exact : Bool) (before after : Entries) (earlier later : ℕ) (q : Question) (f : Frame) (r : Result Attempt E) → IsIdle s → IsStanding rules s before q → HasAttempted rules s exact before after earlier later q.found.entries q.inst f r → GainsAtMost rules s exact before after earlier later q
 gains_tried rules s exact before after earlier later q f r idle st e = record {
   right = e.right;
-  stays = λ there all. e.stays (last_there rules s before after e.worthy.stays q st idle there) all;
+  stays = λ there all. e.stays (last_there rules s before after e.worthy.stays q st idle there) (found_there rules s before after e.worthy.stays q st idle there) all;
+  plain = e.plain;
   last = e.lazy;
   worthy = worthy_asked rules s before after e.worthy.stays q st e.worthy;
   spare = λ k spare sparing. e.spare k spare sparing.lean sparing.settled;

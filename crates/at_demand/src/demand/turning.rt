@@ -11,7 +11,7 @@ ghost use Rattle.at_model.specs.WellFormed.{AreWellFormed, IsTreeSound};
 ghost use Rattle.at_store.specs.Shown.{IsIdle, Shown, contents, tree};
 ghost use Rattle.at_body.specs.Typed.{class_shown};
 ghost use Rattle.at_cache.specs.Kept.{Entries};
-ghost use Rattle.at_demand.specs.Known.{meaning, kept_values, known_in, FoundKept};
+ghost use Rattle.at_demand.specs.Known.{meaning, kept_values, known_in, ArePlain, FoundKept};
 ghost use Rattle.at_demand.specs.Covering.{AreWhole};
 ghost use Rattle.at_demand.specs.Turns.{IsStanding, IsSparingTurns, under_way};
 ghost use Rattle.at_demand.specs.Answered.{HasTurned, HasTurnedOften, HasTurnedWith};
@@ -54,12 +54,15 @@ impl<K: Keeper> Demand<K> {
         requires formed { AreWellFormed rules.now }
         requires sound { IsTreeSound rules.now.classes (tree store.now) }
         requires right { Right (contents store.now) (meaning rules.now) (kept_values (K.contents self.old.keeper)) }
+        requires plain { ArePlain rules.now (K.contents self.old.keeper) }
         requires standing { IsStanding rules.now store.now (K.contents self.old.keeper) question.old }
         ensures { HasTurned rules.now store.now K.exact (K.contents self.old.keeper) (K.contents self.new.keeper)
             self.old.work self.new.work question.old question.new result }
     {
         // The call says that it is less than 2^64.
         let _work = self.work();
+        // Positions among the finds of one question say nothing of another one.
+        self.sharing.clear();
         let mut trials = Trials::new(self.alloc);
         self.turn_with(rules, store, question, &mut trials)
     }
@@ -78,12 +81,15 @@ impl<K: Keeper> Demand<K> {
         requires formed { AreWellFormed rules.now }
         requires sound { IsTreeSound rules.now.classes (tree store.now) }
         requires right { Right (contents store.now) (meaning rules.now) (kept_values (K.contents self.old.keeper)) }
+        requires plain { ArePlain rules.now (K.contents self.old.keeper) }
         requires standing { IsStanding rules.now store.now (K.contents self.old.keeper) question.old }
         ensures { HasTurnedOften rules.now store.now K.exact (K.contents self.old.keeper) (K.contents self.new.keeper)
             self.old.work self.new.work limit question.old question.new result }
     {
         // The call says that it is less than 2^64.
         let _work = self.work();
+        // As in one turn.
+        self.sharing.clear();
         let mut trials = Trials::new(self.alloc);
         let mut given = 0;
         while given < limit {
@@ -108,6 +114,7 @@ impl<K: Keeper> Demand<K> {
         requires formed { AreWellFormed rules.now }
         requires sound { IsTreeSound rules.now.classes (tree store.now) }
         requires right { Right (contents store.now) (meaning rules.now) (kept_values (K.contents self.old.keeper)) }
+        requires plain { ArePlain rules.now (K.contents self.old.keeper) }
         requires standing { IsStanding rules.now store.now (K.contents self.old.keeper) question.old }
         requires fit { Fit rules.now store.now (K.contents self.old.keeper) question.old trials.old }
         ensures { HasTurnedWith rules.now store.now K.exact (K.contents self.old.keeper) (K.contents self.new.keeper)
@@ -195,7 +202,8 @@ impl<K: Keeper> Demand<K> {
         requires right { Right (contents store.now) (meaning rules.now) (known_in (K.contents self.old.keeper) found.now.entries) }
         requires kept_right { Right (contents store.now) (meaning rules.now) (kept_values (K.contents self.old.keeper)) }
         requires kept { FoundKept (K.contents self.old.keeper) found.now.entries }
-        requires absent { K.contents self.old.keeper inst.now ≡ None }
+        requires unkept { kept_values (K.contents self.old.keeper) inst.now ≡ None }
+        requires plain { ArePlain rules.now (K.contents self.old.keeper) }
         requires whole { AreWhole rules.now (contents store.now) found.now.entries }
         ensures { HasAttempted rules.now store.now K.exact (K.contents self.old.keeper) (K.contents self.new.keeper) self.old.work self.new.work
             found.now.entries inst.now frame.new result }
@@ -206,7 +214,7 @@ impl<K: Keeper> Demand<K> {
                 let find = frame.find(self.alloc, value);
                 let settled = self.keep(rules, found, inst, find)?;
                 match settled {
-                    Settled::Kept(value) => Ok(Attempt::Kept(value)),
+                    Settled::Kept(find) => Ok(Attempt::Kept(find.into_value())),
                     Settled::Found(find) => Ok(Attempt::Found(find)),
                 }
             }

@@ -49,6 +49,7 @@ returns-in-Fault g c =
       right = λ asked h. h.kept;
       covering = λ asked h k. tt;
       stays = λ asked is h k right. right;
+      plain = c.requires.plain;
       worthy = λ asked first h adds. adds;
       sparing = λ asked exact h k spares. let goes = sparing_still rules look entries q f c.args.step e.only asked h spares in
           failed_all rules look asked entries (with_frame q f) y orderly (on asked h) (stands k) goes.settled goes.spare.deep c.in-Fault.kind refl;
@@ -80,6 +81,7 @@ returns-in_err-step g c =
       right = λ asked h. h.kept;
       covering = λ asked h k. rw is tt;
       stays = λ asked is h k right. right;
+      plain = c.requires.plain;
       worthy = λ asked first h adds. adds;
       sparing = λ asked exact h k spares. rw is tt;
       spare = λ asked exact h k spares. spares.spare;

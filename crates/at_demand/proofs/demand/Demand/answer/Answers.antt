@@ -3,13 +3,14 @@ use Rattle.std.proofs.lemmas.Result.{err_from_is_err_and}
 use Rattle.at_model.specs.Run.{Value}
 use Rattle.at_store.specs.Shown.{contents}
 use Rattle.at_body.specs.Values.{value_view}
-use Rattle.at_demand.proofs.Orderly.{no_value}
+use Rattle.at_demand.specs.Known.{kept_values}
+use Rattle.at_demand.proofs.Entered.{is_there}
 use Rattle.at_demand.proofs.Counting.{counts_none, work_is}
-use Rattle.at_demand.proofs.Gaining.{worthy_none, got_kept, asked_kept}
+use Rattle.at_demand.proofs.Gaining.{worthy_none, asked_kept}
 use Rattle.at_demand.proofs.demand.Demand.answer.Goals as goal
 
 pub evaluate-requires-clause-unkept : goal.evaluate-requires-clause-unkept
-evaluate-requires-clause-unkept g c = no_value (g.K.Keeper.contents c.args.self.now.keeper c.args.inst.now) (sym c.in_default.ensures)
+evaluate-requires-clause-unkept g c = sym c.in_default.ensures
 
 pub returns-in_err-copy : goal.returns-in_err-copy
 returns-in_err-copy g c =
@@ -22,6 +23,7 @@ returns-in_err-copy g c =
       counts = λ exact. counts_none (g.K.Keeper.contents c.args.self.now.keeper) c.args.self.now.work (subst (λ n. n < 2 ^ 64) c.work-work.ensures c.work-work.type_inv);
       work = λ exact spare. rw is tt;
       right = λ there right. right;
+      plain = c.requires.plain;
     }
 
 pub returns : goal.returns
@@ -34,7 +36,7 @@ returns-in-Some g c =
     let asked = c.args.inst.now in
     let entries = g.K.Keeper.contents c.args.self.now.keeper in
     let w = c.args.self.now.work in
-    let some = got_kept rules look (entries asked) (value_view c.in-Some.value.now) c.in-Some.ensures in
+    let some = is_there (kept_values entries asked) (value_view c.in-Some.value.now) (sym c.in-Some.ensures) in
     let counts = counts_none entries w (subst (λ n. n < 2 ^ 64) c.work-work.ensures c.work-work.type_inv) in
     record {
       answers = c.requires.right asked (value_view c.in_ok-copy.field-0) (sym c.in-Some.ensures ∙ ap (λ (v : Value ℕ). Some v) (sym c.in_ok-copy.ensures));
@@ -44,4 +46,5 @@ returns-in-Some g c =
       counts = λ exact. counts;
       work = λ exact spare. work_is rules look asked entries entries w w counts (worthy_none rules look asked entries) (asked_kept rules look asked entries some spare.deep);
       right = λ there right. right;
+      plain = c.requires.plain;
     }

@@ -40,6 +40,7 @@ loop-evaluation-init g c =
           (subst (λ x. HasPassedTo c.args.rules.now look q.found.entries x q.frame c.in_ok-begun.begun.1) (sym e.inst) (e.passed q.found.entries));
       typed = begun_typed c.args.rules.now (class_shown c.args.store.now) q c.in_ok-begun.begun.1 e.alone e.typed;
       stays = λ is right. right;
+      plain = c.requires.plain;
       worthy = worthy_none c.args.rules.now look c.args.inst.now entries;
       sparing = λ exact spare. begun_sparing c.args.rules.now look entries q e.alone e.nothing e.fresh e.unfound spare;
       counts = λ exact. counts_none entries c.args.self.now.work (subst (λ n. n < 2 ^ 64) c.work-work.ensures c.work-work.type_inv);
@@ -70,6 +71,7 @@ loop-evaluation-preserved g c =
       holds = subst (λ (t : Advance). IsRightAdvance c.args.rules.now (contents c.args.store.now) c.args.inst.now entries c.advance.new.evaluation t) c.in-GoesOn.is (c.in_ok-reached.ensures.answers c.args.inst.now c.loop-evaluation.invariant.holds);
       covering = subst (λ (t : Advance). IsCoveringAdvance c.args.rules.now (contents c.args.store.now) c.advance.new.evaluation t) c.in-GoesOn.is (c.in_ok-reached.ensures.covering c.args.inst.now c.loop-evaluation.invariant.holds c.loop-evaluation.invariant.covering);
       typed = subst (λ (t : Advance). IsTypedAdvance c.args.rules.now (class_shown c.args.store.now) c.advance.new.evaluation t) c.in-GoesOn.is c.in_ok-reached.ensures.typed;
+      plain = c.advance.ensures.plain;
       stays = λ is right. c.advance.ensures.stays c.args.inst.now is c.loop-evaluation.invariant.holds c.loop-evaluation.invariant.covering (c.loop-evaluation.invariant.stays is right);
       worthy = c.advance.ensures.worthy c.args.inst.now (g.K.Keeper.contents c.args.self.now.keeper) c.loop-evaluation.invariant.holds c.loop-evaluation.invariant.worthy;
       sparing = λ exact spare. subst (λ (t : Advance). IsSparingAdvance c.args.rules.now (contents c.args.store.now) c.args.inst.now entries c.advance.new.evaluation t) c.in-GoesOn.is
@@ -88,6 +90,7 @@ returns-in_err-copy g c =
       counts = λ exact. counts_none (g.K.Keeper.contents c.args.self.now.keeper) c.args.self.now.work (subst (λ n. n < 2 ^ 64) c.work-work.ensures c.work-work.type_inv);
       work = λ exact spare. rw is tt;
       right = λ there right. right;
+      plain = c.requires.plain;
     }
 
 pub returns-in_err-begun : goal.returns-in_err-begun
@@ -101,6 +104,7 @@ returns-in_err-begun g c =
       counts = λ exact. counts_none (g.K.Keeper.contents c.args.self.now.keeper) c.args.self.now.work (subst (λ n. n < 2 ^ 64) c.work-work.ensures c.work-work.type_inv);
       work = λ exact spare. rw is tt;
       right = λ there right. right;
+      plain = c.requires.plain;
     }
 
 pub returns-in_err-reached : goal.returns-in_err-reached

@@ -1,5 +1,6 @@
 use Rattle.std.proofs.Common.{◌-◌, ◌^◌}
 use Rattle.at_store.specs.Shown.{contents}
+use Rattle.at_demand.specs.Known.{ArePlain}
 use Rattle.at_demand.specs.UnderWay.{IsOrderlyIn, IsTrueIn, progress}
 use Rattle.at_body.specs.Typed.{class_shown}
 use Rattle.at_demand.specs.Stacked.{IsStackedIn}
@@ -18,6 +19,7 @@ invariant-loop-evaluation g l = record {
   covering : IsCoveringIn l.rules (contents l.store) l.evaluation l.step;
   typed : IsTypedIn l.rules (class_shown l.store) l.evaluation l.step;
   stays : IsThere l.store l.inst → AreRight l.rules l.store (g.K.Keeper.contents l.initial.self.keeper) → AreRight l.rules l.store (g.K.Keeper.contents l.self.keeper);
+  plain : ArePlain l.rules (g.K.Keeper.contents l.self.keeper);
   worthy : AddsWorthy l.rules (contents l.store) l.inst (g.K.Keeper.contents l.initial.self.keeper) (g.K.Keeper.contents l.self.keeper);
   sparing : IsTrue g.K.Keeper.exact → AreSpare l.rules (contents l.store) (g.K.Keeper.contents l.initial.self.keeper) → IsSparing l.rules (contents l.store) (g.K.Keeper.contents l.self.keeper) l.evaluation;
   counts : IsTrue g.K.Keeper.exact → Counts (g.K.Keeper.contents l.initial.self.keeper) (g.K.Keeper.contents l.self.keeper) l.initial.self.work l.self.work;

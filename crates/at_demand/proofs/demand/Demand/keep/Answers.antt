@@ -1,20 +1,30 @@
 use Rattle.std.proofs.Common.{true, false, inl, refl, sym, ◌∙◌, true≢false}
 use Rattle.at_demand.proofs.Counting.{counts_none}
-use Rattle.at_demand.proofs.Putting.{adds, adds_lazy, becomes_alone, becomes_with, covers_all, covers_only, keeps_alone, keeps_with, none_below, placed_alone, placed_with}
+use Rattle.at_demand.proofs.Entered.{absent, all_entered}
+use Rattle.at_demand.proofs.Putting.{adds, gains, becomes_alone, becomes_with, covers_all, covers_only, keeps_alone, keeps_with, none_below, placed_alone, placed_with, plain_after}
 use Rattle.at_demand.proofs.SparingOn.{told_lazy}
 use Rattle.at_demand.proofs.demand.Demand.keep.Goals as goal
+
+pub keep_alone-requires-clause-absent : goal.keep_alone-requires-clause-absent
+keep_alone-requires-clause-absent g c =
+    let lazy = told_lazy c.args.rules.now c.is_lazy.result true c.attribute.result c.args.inst.now.attribute c.is_lazy.ensures c.attribute.ensures c.if-not-is_lazy.false in
+    absent c.args.rules.now (g.K.Keeper.contents c.args.self.now.keeper) c.requires.plain c.args.inst.now lazy c.requires.unkept
+
+pub keep_with-requires-clause-lazy : goal.keep_with-requires-clause-lazy
+keep_with-requires-clause-lazy g c = told_lazy c.args.rules.now c.is_lazy.result true c.attribute.result c.args.inst.now.attribute c.is_lazy.ensures c.attribute.ensures c.if-not-is_lazy.false
 
 pub returns-then-not-is_lazy : goal.returns-then-not-is_lazy
 returns-then-not-is_lazy g c =
     let not = told_lazy c.args.rules.now c.is_lazy.result false c.attribute.result c.args.inst.now.attribute c.is_lazy.ensures c.attribute.ensures c.if-not-is_lazy.true in
     record {
-      adds = λ j. inl refl;
+      adds = record { stays = λ j some. refl; values = λ j. inl refl };
       covers = λ look whole one covers. covers;
-      lazy = λ j. inl refl;
+      gains = record { stays = λ j some. refl; lazy = λ j. inl refl; comes = λ j some. inl some };
       keeps = λ exact lazy. absurd (true≢false (sym lazy ∙ not));
       only = λ look exact all one only. only;
+      plain = c.requires.plain;
       counts = λ exact small. counts_none (g.K.Keeper.contents c.args.self.now.keeper) c.args.self.now.work small;
-      becomes = record { value = refl; reads = refl; demanded = refl };
+      becomes = refl;
     }
 
 pub returns-then-is_empty : goal.returns-then-is_empty
@@ -28,15 +38,17 @@ returns-then-is_empty g c =
     let i = c.args.inst.now in
     let f = c.args.find in
     let e = c.keep_alone.ensures in
-    let put = placed_alone exact old found i f new c.keep_alone.result (none_below f.demanded.finds (sym c.is_empty.ensures ∙ c.if-is_empty.true)) c.requires.kept e.placed e.err in
+    let none = absent rules old c.requires.plain i lazy c.requires.unkept in
+    let put = placed_alone rules exact old found i f new c.keep_alone.result none (none_below f.demanded.finds (sym c.is_empty.ensures ∙ c.if-is_empty.true)) (all_entered old f.demanded.kept.items c.requires.kept) e.placed e.err in
     record {
-      adds = adds exact old found i f new put;
-      covers = λ look. covers_all exact old found i f new rules look put;
-      lazy = adds_lazy exact old found i f new rules lazy put;
-      keeps = λ is lazy. keeps_alone exact old found i f new _ _ c.keep_alone.result is e.placed;
-      only = λ look is. covers_only exact old found i f new rules look is put;
+      adds = adds rules exact old found i f new put;
+      covers = λ look. covers_all rules exact old found i f new look put;
+      gains = gains rules exact old found i f new lazy put;
+      keeps = λ is lazy. keeps_alone rules exact old found i f new old _ _ c.keep_alone.result is e.placed;
+      only = λ look is. covers_only rules exact old found i f new look is put;
+      plain = plain_after rules exact old found i f new c.requires.plain put;
       counts = e.counts;
-      becomes = becomes_alone exact old found i f new _ _ c.keep_alone.result e.placed;
+      becomes = becomes_alone rules exact old found i f new old _ _ c.keep_alone.result e.placed;
     }
 
 pub returns : goal.returns
@@ -50,13 +62,14 @@ returns g c =
     let i = c.args.inst.now in
     let f = c.args.find in
     let e = c.keep_with.ensures in
-    let put = placed_with exact old found i f new c.keep_with.result e.placed e.err in
+    let put = placed_with rules exact old found i f new c.keep_with.result (λ mid shares. absent rules mid (shares.plain c.requires.plain) i lazy (shares.same i ∙ c.requires.unkept)) e.placed e.err in
     record {
-      adds = adds exact old found i f new put;
-      covers = λ look. covers_all exact old found i f new rules look put;
-      lazy = adds_lazy exact old found i f new rules lazy put;
-      keeps = λ is lazy. keeps_with exact old found i f new c.keep_with.result is e.placed;
-      only = λ look is. covers_only exact old found i f new rules look is put;
+      adds = adds rules exact old found i f new put;
+      covers = λ look. covers_all rules exact old found i f new look put;
+      gains = gains rules exact old found i f new lazy put;
+      keeps = λ is lazy. keeps_with rules exact old found i f new c.keep_with.result is e.placed;
+      only = λ look is. covers_only rules exact old found i f new look is put;
+      plain = plain_after rules exact old found i f new c.requires.plain put;
       counts = e.counts;
-      becomes = becomes_with exact old found i f new c.keep_with.result e.placed;
+      becomes = becomes_with rules exact old found i f new c.keep_with.result e.placed;
     }

@@ -1,41 +1,70 @@
-use Rattle.std.proofs.Common.{refl, sym, subst}
+use Rattle.std.proofs.Common.{ap, map, ◌∙◌, refl, sym, subst}
 use Rattle.std.proofs.lemmas.Result.{err_from_is_err_and}
+use Rattle.at_store.specs.Located.{loc_view}
 use Rattle.at_body.specs.Values.{value_view}
 use Rattle.at_cache.specs.Kept.{AreKept}
 use Rattle.at_cache.specs.declared.keeper.Put.TheVariants as put
-use Rattle.at_demand.proofs.Counting.{counts_none}
+use Rattle.at_demand.proofs.Counting.{counts_after, counts_shared}
+use Rattle.at_demand.proofs.Entered.{absent}
 use Rattle.at_demand.proofs.Putting.{put_as}
+use Rattle.at_demand.proofs.Entering.{shares_none, shares_on}
 use Rattle.at_demand.proofs.demand.Demand.keep_with.Goals as goal
 
 pub put-requires-clause-present : goal.put-requires-clause-present
-put-requires-clause-present g c =
-    let old = g.K.Keeper.contents c.args.self.now.keeper in
-    subst (AreKept old) (sym c.as_slice.ensures.value) (c.in_ok-sources.ensures.kept old c.requires.found c.requires.kept)
+put-requires-clause-present g c = subst (AreKept (g.K.Keeper.contents c.gather.new.self.keeper)) (sym c.as_slice-2.ensures.value) c.in_ok-sources.ensures.sources.kept
+
+pub put-requires-clause-absent : goal.put-requires-clause-absent
+put-requires-clause-absent g c =
+    let shares = c.gather.ensures.shares in
+    absent c.args.rules.now (g.K.Keeper.contents c.gather.new.self.keeper) (shares.plain c.requires.plain) c.args.inst.now c.requires.lazy (shares.same c.args.inst.now ∙ c.requires.unkept)
 
 pub returns-in_err-sources : goal.returns-in_err-sources
 returns-in_err-sources g c =
     let is = (err_from_is_err_and c.from_residual.result c.from_residual.ensures.1).1 in
-    record { placed = rw is tt; err = rw is (λ i. refl); counts = λ exact small. counts_none (g.K.Keeper.contents c.args.self.now.keeper) c.args.self.now.work small }
+    let e = c.gather.ensures in
+    let old = g.K.Keeper.contents c.args.self.now.keeper in
+    let mid = g.K.Keeper.contents c.gather.new.self.keeper in
+    record { placed = rw is tt; err = rw is e.shares; counts = λ exact small. counts_shared old mid c.args.self.now.work c.gather.new.self.work e.work small e.shares.stays e.shares.same }
 
 pub returns-in_err-put : goal.returns-in_err-put
 returns-in_err-put g c =
     let is = (err_from_is_err_and c.from_residual-in_err-put.result c.from_residual-in_err-put.ensures.1).1 in
-    record { placed = rw is tt; err = rw is c.in_err-put.ensures.err; counts = c.put.ensures.counts }
+    let e = c.gather.ensures in
+    let old = g.K.Keeper.contents c.args.self.now.keeper in
+    let mid = g.K.Keeper.contents c.gather.new.self.keeper in
+    let new = g.K.Keeper.contents c.put.new.self.keeper in
+    record {
+      placed = rw is tt;
+      err = rw is (shares_on c.args.rules.now g.K.Keeper.exact c.args.found.now.entries old mid new e.shares (shares_none c.args.rules.now g.K.Keeper.exact c.args.found.now.entries mid new c.in_err-put.ensures.err));
+      counts = λ exact small. counts_after old mid new c.args.self.now.work c.gather.new.self.work c.put.new.self.work e.work small e.shares.stays e.shares.same (c.put.ensures.counts exact);
+    }
 
 pub returns-in-Kept : goal.returns-in-Kept
 returns-in-Kept g c =
     let f = c.args.find in
     let s = c.in_ok-sources.sources in
-    let e = c.in_ok-sources.ensures in
+    let e = c.gather.ensures in
     let old = g.K.Keeper.contents c.args.self.now.keeper in
-    let puts = put_as g.K.Keeper.exact old c.args.inst.now (value_view f.value) _ s.reads _ s.kept.items (g.K.Keeper.contents c.put.new.self.keeper) _ put.Kept c.in_ok-put.ensures.puts c.replace-reads.ensures.value c.as_slice.ensures.value c.in-Kept.is in
-    record { placed = (s, e.gathered, e.only, e.kept old c.requires.found c.requires.kept, (c.into_value.ensures, puts)); err = tt; counts = c.put.ensures.counts }
+    let mid = g.K.Keeper.contents c.gather.new.self.keeper in
+    let new = g.K.Keeper.contents c.put.new.self.keeper in
+    let puts = put_as g.K.Keeper.exact mid c.args.inst.now (value_view f.value) _ (map loc_view s.reads.items) _ s.kept.items new _ put.Kept c.in_ok-put.ensures.puts (ap (map loc_view) c.as_slice.ensures.value) c.as_slice-2.ensures.value c.in-Kept.is in
+    record {
+      placed = (mid, e.shares, s, c.in_ok-sources.ensures.sources, (refl, puts));
+      err = tt;
+      counts = λ exact small. counts_after old mid new c.args.self.now.work c.gather.new.self.work c.put.new.self.work e.work small e.shares.stays e.shares.same (c.put.ensures.counts exact);
+    }
 
 pub returns : goal.returns
 returns g c =
     let f = c.args.find in
     let s = c.in_ok-sources.sources in
-    let e = c.in_ok-sources.ensures in
+    let e = c.gather.ensures in
     let old = g.K.Keeper.contents c.args.self.now.keeper in
-    let (off, all, same) = put_as g.K.Keeper.exact old c.args.inst.now (value_view f.value) _ s.reads _ s.kept.items (g.K.Keeper.contents c.put.new.self.keeper) _ (put.Left c.in-Left._reads) c.in_ok-put.ensures.puts c.replace-reads.ensures.value c.as_slice.ensures.value c.in-Left.is in
-    record { placed = (s, e.gathered, e.only, e.kept old c.requires.found c.requires.kept, (off, all, record { value = refl; reads = refl; demanded = refl })); err = tt; counts = c.put.ensures.counts }
+    let mid = g.K.Keeper.contents c.gather.new.self.keeper in
+    let new = g.K.Keeper.contents c.put.new.self.keeper in
+    let (off, all) = put_as g.K.Keeper.exact mid c.args.inst.now (value_view f.value) _ (map loc_view s.reads.items) _ s.kept.items new _ put.Left c.in_ok-put.ensures.puts (ap (map loc_view) c.as_slice.ensures.value) c.as_slice-2.ensures.value c.in-Left.is in
+    record {
+      placed = (mid, e.shares, s, c.in_ok-sources.ensures.sources, (refl, off, all));
+      err = tt;
+      counts = λ exact small. counts_after old mid new c.args.self.now.work c.gather.new.self.work c.put.new.self.work e.work small e.shares.stays e.shares.same (c.put.ensures.counts exact);
+    }

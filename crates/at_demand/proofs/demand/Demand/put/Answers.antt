@@ -1,6 +1,7 @@
-use Rattle.std.proofs.Common.{ℕ, refl, subst}
+use Rattle.std.proofs.Common.{ℕ, Some, map, refl, subst}
 use Rattle.std.proofs.lemmas.Result.{err_from_is_err_and}
 use Rattle.at_model.specs.Run.{Instance, Value}
+use Rattle.at_store.specs.Located.{loc_view}
 use Rattle.at_body.specs.Values.{value_view}
 use Rattle.at_cache.specs.Kept.{HasPut}
 use Rattle.at_demand.proofs.Counting.{counts_none, counts_put, counts_same}
@@ -11,11 +12,12 @@ returns g c =
     let exact = g.K.Keeper.exact in
     let old = g.K.Keeper.contents c.args.self.now.keeper in
     let new = g.K.Keeper.contents c.put.new.self in
-    let puts = subst (λ (v : Value ℕ). HasPut exact old c.args.inst.now v c.args.reads c.args.uses.now new c.in_ok-put.put) c.in_ok-copy-2.ensures (subst (λ (i : Instance ℕ). HasPut exact old i (value_view c.in_ok-copy-2.field-0) c.args.reads c.args.uses.now new c.in_ok-put.put) c.in_ok-copy.ensures c.in_ok-put.ensures.puts) in
+    let reads = map loc_view c.args.reads.now in
+    let puts = subst (λ (v : Value ℕ). HasPut exact old c.args.inst.now (Some v) reads c.args.uses.now new c.in_ok-put.put) c.in_ok-copy-2.ensures (subst (λ (i : Instance ℕ). HasPut exact old i (Some (value_view c.in_ok-copy-2.field-0)) reads c.args.uses.now new c.in_ok-put.put) c.in_ok-copy.ensures c.in_ok-put.ensures.puts) in
     record {
       puts = puts;
       err = tt;
-      counts = λ is small. counts_put old new exact c.args.inst.now _ c.args.reads c.args.uses.now c.args.self.now.work c.saturating_add-self.result is c.requires.absent c.in_ok-put.put puts c.saturating_add-self.ensures;
+      counts = λ is small. counts_put old new exact c.args.inst.now _ reads c.args.uses.now c.args.self.now.work c.saturating_add-self.result is c.requires.absent c.in_ok-put.put puts c.saturating_add-self.ensures;
     }
 
 pub returns-in_err-put : goal.returns-in_err-put

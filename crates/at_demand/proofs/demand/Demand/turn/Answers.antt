@@ -31,6 +31,7 @@ returns g c =
       standing = e.standing;
       right = e.gains.right;
       stays = e.gains.stays;
+      plain = e.gains.plain;
       last = e.gains.last;
       worthy = e.gains.worthy;
       sparing = e.sparing;

@@ -37,6 +37,7 @@ loop-given-init g c =
       within = omega arith;
       worthy = worthy_none rules (contents s) (asked (under_way q)) entries;
       stays = λ there right. right;
+      plain = c.requires.plain;
       spare = λ exact spare sparing. (spare, sparing);
       counts = λ exact. counts_none entries c.args.self.now.work (subst (λ n. n < 2 ^ 64) c.work-work.ensures c.work-work.type_inv);
     }
@@ -61,6 +62,7 @@ loop-given-preserved g c =
       same = asked_same rules s old q inv.standing (under_way p) None turned ∙ inv.same;
       within = omega (arith, c.loop-given-test.true);
       worthy = worthy_both rules (contents s) (asked (under_way c.args.question.now)) first old new inv.worthy (subst (λ (i : Instance ℕ). AddsWorthy rules (contents s) i old new) inv.same c.turn_with.ensures.gains.worthy);
+      plain = c.turn_with.ensures.gains.plain;
       stays = λ there right. c.turn_with.ensures.gains.stays (subst (λ (i : Instance ℕ). IsThere s i) (sym inv.same) there) (inv.stays there right);
       spare = λ exact spare sparing. let both = inv.spare exact spare sparing in (c.turn_with.ensures.gains.spare exact both.0 both.1, e.sparing exact both.0 both.1);
       counts = λ exact. let before = inv.counts exact in counts_more first old new c.args.self.now.work c.loop-given.self.work c.turn_with.new.self.work before (c.turn_with.ensures.gains.counts exact (counted_small first old c.args.self.now.work c.loop-given.self.work before));
@@ -80,6 +82,7 @@ returns-in_err-told g c =
       standing = rw is tt;
       right = c.turn_with.ensures.gains.right;
       worthy = worthy_both rules (contents s) (asked (under_way c.args.question.now)) first old new inv.worthy (subst (λ (i : Instance ℕ). AddsWorthy rules (contents s) i old new) inv.same c.turn_with.ensures.gains.worthy);
+      plain = c.turn_with.ensures.gains.plain;
       stays = λ there right. c.turn_with.ensures.gains.stays (subst (λ (i : Instance ℕ). IsThere s i) (sym inv.same) there) (inv.stays there right);
       spare = λ exact spare sparing. let both = inv.spare exact spare sparing in c.turn_with.ensures.gains.spare exact both.0 both.1;
       sparing = λ exact spare sparing. rw is tt;
@@ -103,6 +106,7 @@ returns-in-Some g c =
       standing = e.standing;
       right = c.turn_with.ensures.gains.right;
       worthy = worthy_both rules (contents s) (asked (under_way c.args.question.now)) first old new inv.worthy (subst (λ (i : Instance ℕ). AddsWorthy rules (contents s) i old new) inv.same c.turn_with.ensures.gains.worthy);
+      plain = c.turn_with.ensures.gains.plain;
       stays = λ there right. c.turn_with.ensures.gains.stays (subst (λ (i : Instance ℕ). IsThere s i) (sym inv.same) there) (inv.stays there right);
       spare = λ exact spare sparing. let both = inv.spare exact spare sparing in c.turn_with.ensures.gains.spare exact both.0 both.1;
       sparing = λ exact spare sparing. let both = inv.spare exact spare sparing in e.sparing exact both.0 both.1;
@@ -118,6 +122,7 @@ returns g c =
       right = inv.right;
       worthy = inv.worthy;
       stays = inv.stays;
+      plain = inv.plain;
       spare = λ exact spare sparing. (inv.spare exact spare sparing).0;
       sparing = λ exact spare sparing. (inv.spare exact spare sparing).1;
       counts = inv.counts;

@@ -3,7 +3,7 @@ use Rattle.std.specs.Prelude.{IsTrue}
 use Rattle.at_model.specs.Meaning.{Right}
 use Rattle.at_store.specs.Shown.{contents}
 use Rattle.at_model.specs.Turning.{asked, Silent}
-use Rattle.at_demand.specs.Known.{meaning, kept_values}
+use Rattle.at_demand.specs.Known.{meaning, kept_values, ArePlain}
 use Rattle.at_demand.specs.Right.{AreRight, IsThere}
 use Rattle.at_demand.specs.Sparing.{AddsWorthy, AreSpare, Counts}
 use Rattle.at_demand.specs.Turns.{IsSparingTurns, IsStanding, under_way}
@@ -18,6 +18,7 @@ invariant-loop-given g l = record {
   silent : Silent (contents l.store) (meaning l.rules) l.given (under_way l.initial.question) (under_way l.question);
   same : asked (under_way l.question) ≡ asked (under_way l.initial.question);
   within : l.given ≤ l.limit;
+  plain : ArePlain l.rules (g.K.Keeper.contents l.self.keeper);
   worthy : AddsWorthy l.rules (contents l.store) (asked (under_way l.initial.question)) (g.K.Keeper.contents l.initial.self.keeper) (g.K.Keeper.contents l.self.keeper);
   stays : IsThere l.store (asked (under_way l.initial.question)) → AreRight l.rules l.store (g.K.Keeper.contents l.initial.self.keeper) → AreRight l.rules l.store (g.K.Keeper.contents l.self.keeper);
   spare : IsTrue g.K.Keeper.exact → AreSpare l.rules (contents l.store) (g.K.Keeper.contents l.initial.self.keeper) → IsSparingTurns l.rules (contents l.store) (g.K.Keeper.contents l.initial.self.keeper) l.initial.question →

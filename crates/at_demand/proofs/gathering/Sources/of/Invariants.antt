@@ -1,16 +1,16 @@
 use Rattle.std.proofs.Common.{◌-◌, ◌^◌}
-use Rattle.at_cache.specs.Kept.{AreKept, Entries}
-use Rattle.at_demand.specs.Known.{FoundKept}
+use Rattle.at_cache.specs.Kept.{AreKept}
+use Rattle.at_demand.specs.Known.{AreValued, FoundKept}
 use Rattle.at_demand.specs.Only.{IsFrom}
 use Rattle.at_demand.proofs.Gathered.{IsVisited}
 use Rattle.at_demand.proofs.gathering.Sources.of.Given as goal
 
 abbrev pub invariant-loop-next : goal.invariant-loop-next
-invariant-loop-next l = record {
-  kept : (entries : Entries) → FoundKept entries l.found.entries → AreKept entries l.find.demanded.kept.items → AreKept entries l.sources.kept.items;
+invariant-loop-next g l = record {
+  kept : FoundKept (g.K.Keeper.contents l.keeper) l.found.entries → AreValued (g.K.Keeper.contents l.keeper) l.find.demanded.kept.items → AreKept (g.K.Keeper.contents l.keeper) l.sources.kept.items;
   visited : IsVisited l.found.entries l.find l.sources l.visited.keys l.next;
   from : IsFrom l.found.entries l.find l.sources l.visited.keys;
 }
 
 abbrev pub decreases-loop-next : goal.decreases-loop-next
-decreases-loop-next l = 2 ^ 64 - l.next
+decreases-loop-next g l = 2 ^ 64 - l.next

@@ -1,0 +1,29 @@
+use Rattle.std.proofs.Common.{false, refl, sym}
+use Rattle.at_demand.proofs.Entered.{none_entered}
+use Rattle.at_demand.proofs.Entering.{shares_none}
+use Rattle.at_demand.proofs.SparingOn.{told_lazy}
+use Rattle.at_demand.proofs.demand.Demand.share.Goals as goal
+
+pub enter-requires-clause-kept : goal.enter-requires-clause-kept
+enter-requires-clause-kept g c = c.requires.found _ _ c.in-Some.ensures.value
+
+pub enter-requires-clause-absent : goal.enter-requires-clause-absent
+enter-requires-clause-absent g c = none_entered (g.K.Keeper.contents c.args.self.now.keeper c.in-Some.inst.now) c.stands.result c.stands.ensures c.if-stands.false
+
+pub enter-requires-clause-plain : goal.enter-requires-clause-plain
+enter-requires-clause-plain g c = told_lazy c.args.rules.now c.is_lazy.result false c.attribute.result c.in-Some.inst.now.attribute c.is_lazy.ensures c.attribute.ensures c.if-is_lazy.false
+
+pub enter-requires-clause-at : goal.enter-requires-clause-at
+enter-requires-clause-at g c = (c.args.position, sym c.in-Some.ensures.entry)
+
+pub returns-then-is_lazy : goal.returns-then-is_lazy
+returns-then-is_lazy g c = let old = g.K.Keeper.contents c.args.self.now.keeper in record { shares = shares_none c.args.rules.now g.K.Keeper.exact c.args.found.now.entries old old (λ i. refl); work = refl }
+
+pub returns-then-stands : goal.returns-then-stands
+returns-then-stands g c = let old = g.K.Keeper.contents c.args.self.now.keeper in record { shares = shares_none c.args.rules.now g.K.Keeper.exact c.args.found.now.entries old old (λ i. refl); work = refl }
+
+pub returns-in_default : goal.returns-in_default
+returns-in_default g c = let old = g.K.Keeper.contents c.args.self.now.keeper in record { shares = shares_none c.args.rules.now g.K.Keeper.exact c.args.found.now.entries old old (λ i. refl); work = refl }
+
+pub returns : goal.returns
+returns g c = record { shares = c.enter.ensures.shares; work = c.enter.ensures.work }

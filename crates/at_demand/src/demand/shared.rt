@@ -1,0 +1,110 @@
+//! What many kept values rest on stands once: as an entry without a value, which they use.
+
+ghost use Rattle.std.specs.Prelude.{◌≡◌, IfOk, None, false};
+ghost use Rattle.at_model.specs.Rules.{is_lazy};
+ghost use Rattle.at_demand.specs.Known.{AreValued, FoundAs, FoundKept};
+ghost use Rattle.at_demand.specs.Keeping.{HasGathered, Shares};
+
+use super::Demand;
+use crate::evaluation::Find;
+use crate::gathering::Sources;
+use at_body::Inst;
+use at_cache::{Keeper, Put};
+use at_rules::Rules;
+use indexmap::IndexMap;
+use std::alloc::AllocError;
+
+impl<K: Keeper> Demand<K> {
+    // All that the find rests on. What is shared gets an entry of its own before.
+    pub(super) fn gather(
+        &mut self,
+        rules: &Rules,
+        found: &IndexMap<Inst, Find>,
+        find: &Find,
+    ) -> Result<Sources, AllocError>
+        requires kept { AreValued (K.contents self.old.keeper) find.now.demanded.kept.items }
+        requires found { FoundKept (K.contents self.old.keeper) found.now.entries }
+        ensures shares { Shares rules.now K.exact found.now.entries (K.contents self.old.keeper) (K.contents self.new.keeper) }
+        ensures work { self.new.work ≡ self.old.work }
+        ensures sources { IfOk result (HasGathered (K.contents self.new.keeper) found.now.entries find.now) }
+    {
+        let sources = Sources::of(self.alloc, &self.keeper, found, find, &mut self.sharing)?;
+        let due = self.sharing.take_due(self.alloc);
+        if due.is_empty() {
+            return Ok(sources);
+        }
+        let any = self.share_all(rules, found, due.as_slice())?;
+        if !any {
+            return Ok(sources);
+        }
+        let shared = Sources::of(self.alloc, &self.keeper, found, find, &mut self.sharing)?;
+        Ok(shared)
+    }
+
+    // Gives the finds at the positions entries of their own, up to one that gets none, and says whether any has one.
+    fn share_all(
+        &mut self,
+        rules: &Rules,
+        found: &IndexMap<Inst, Find>,
+        positions: &[usize],
+    ) -> Result<bool, AllocError>
+        requires found { FoundKept (K.contents self.old.keeper) found.now.entries }
+        ensures shares { Shares rules.now K.exact found.now.entries (K.contents self.old.keeper) (K.contents self.new.keeper) }
+        ensures work { self.new.work ≡ self.old.work }
+    {
+        let mut any = false;
+        for position in positions {
+            let stands = self.share(rules, found, *position)?;
+            if !stands {
+                return Ok(any);
+            }
+            any = true;
+        }
+        Ok(any)
+    }
+
+    // Gives the find at the position an entry without a value, where its attribute isn't lazy, and says whether it has one.
+    fn share(
+        &mut self,
+        rules: &Rules,
+        found: &IndexMap<Inst, Find>,
+        position: usize,
+    ) -> Result<bool, AllocError>
+        requires found { FoundKept (K.contents self.old.keeper) found.now.entries }
+        ensures shares { Shares rules.now K.exact found.now.entries (K.contents self.old.keeper) (K.contents self.new.keeper) }
+        ensures work { self.new.work ≡ self.old.work }
+    {
+        let Some((inst, find)) = found.get_index(position) else {
+            return Ok(false);
+        };
+        if rules.is_lazy(inst.attribute()) {
+            return Ok(false);
+        }
+        if self.keeper.stands(inst) {
+            return Ok(true);
+        }
+        self.enter(rules, found, inst, find)
+    }
+
+    // Puts an entry without a value for the find, and says whether it is there.
+    fn enter(
+        &mut self,
+        rules: &Rules,
+        found: &IndexMap<Inst, Find>,
+        inst: &Inst,
+        find: &Find,
+    ) -> Result<bool, AllocError>
+        requires found { FoundKept (K.contents self.old.keeper) found.now.entries }
+        requires kept { AreValued (K.contents self.old.keeper) find.now.demanded.kept.items }
+        requires absent { K.contents self.old.keeper inst.now ≡ None }
+        requires plain { is_lazy rules.now inst.now.attribute ≡ false }
+        requires at { FoundAs found.now.entries inst.now find.now }
+        ensures shares { Shares rules.now K.exact found.now.entries (K.contents self.old.keeper) (K.contents self.new.keeper) }
+        ensures work { self.new.work ≡ self.old.work }
+    {
+        let sources = Sources::of(self.alloc, &self.keeper, found, find, &mut self.sharing)?;
+        let uses = sources.kept.as_slice();
+        let put = self.keeper.put(inst.copy(self.alloc)?, None, sources.reads.as_slice(), uses)?;
+        Ok(put == Put::Kept)
+    }
+}
