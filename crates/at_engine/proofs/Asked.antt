@@ -18,11 +18,10 @@ use Rattle.at_store.specs.Shown.{IsIdle, Shown, contents, path}
 use Rattle.at_engine.specs.Marks.{Mark}
 use Rattle.at_engine.specs.Answered.{question, AreValuesOf}
 use Rattle.at_engine.specs.Fitting.{fit_numbers}
-use Rattle.at_engine.specs.Holding.{state_in}
 use Rattle.at_engine.specs.Naming.{IsNumberOf}
+use Rattle.at_engine.specs.Seen.{state_seen}
 use Rattle.at_engine.specs.Asking.{IsInstanceOf}
 use Rattle.at_engine.proofs.FittingAlike.{class_at, fit_like}
-use Rattle.at_engine.specs.declared.posts.Posts.{Posts}
 use Rattle.at_engine.proofs.Typing.{formed, numbered_typed}
 use Rattle.at_engine.proofs.NamingLemmas.{tree_there}
 use Rattle.at_engine.proofs.Numbered.{shown_alike}
@@ -59,9 +58,9 @@ module _ (rules : Rules) (s : State) (session : ℕ) (place : Place) (name : Lis
         fitly_formed e = let (u, there) = found k n p in formed rules s.tree n u name ws a there (by_class (Some a) is u there) (by_numbers a true e)
 
 -- the same, in the words of a store
-module _ (rules : Rules) (s : Shown) (idle : IsIdle s) (version : ℕ) (marks : List Mark) (posts : Posts) (session : ℕ) (place : Place) (name : List ℕ) (arguments : List Argument) where
+module _ (rules : Rules) (s : Shown) (idle : IsIdle s) (marks : List Mark) (session : ℕ) (place : Place) (name : List ℕ) (arguments : List Argument) where
   abbrev by_words : State
-  by_words = state_in s version marks posts
+  by_words = state_seen s marks
 
   abbrev given : Option (List (Value Node))
   given = each (map (value_named rules.classes by_words session) arguments)

@@ -13,6 +13,7 @@ pub mod NamingLemmas
 pub mod Storing
 pub mod Components
 pub mod Commands
+pub mod MeantLemmas
 pub mod Editing
 pub mod of_keeping
 pub mod Pieces

@@ -7,11 +7,13 @@ use Rattle.at_model.specs.Rules.{Rules}
 use Rattle.at_model.specs.Run.{Instance}
 use Rattle.at_model.specs.TypedRuns.{IsWellTyped}
 use Rattle.at_model.specs.Machine.{Verdict, Asks, Refuses}
+use Rattle.at_model.specs.Names.{IsName}
 use Rattle.at_protocol.specs.ReplyView.{code_view}
 use Rattle.at_store.specs.Shown.{Shown, path}
 use Rattle.at_cache.specs.Kept.{Entries}
 use Rattle.at_body.specs.Typed.{class_shown}
-use Rattle.at_engine.specs.Engines.{IsHeld}
+use Rattle.at_demand.specs.Right.{IsThere}
+use Rattle.at_engine.specs.Engines.{rules_of, IsHeld, IsSound}
 use Rattle.at_engine.specs.Marks.{Mark, AreThere}
 use Rattle.at_engine.specs.declared.engine.Engine.{Engine}
 use Rattle.at_engine.specs.declared.engine.asking.Asked.{Asked}
@@ -33,3 +35,14 @@ IsAskedBy rules s v (asked.Refused r) = v ≡ Refuses (code_view r)
 pub record CanLookUp {K : Type 0} (entries : K → Entries) (e : Engine K) (marks : List Mark) : Type 0 where
   pub sound : IsHeld entries e
   pub there : AreThere (path e.store) marks
+
+-- the instance can be evaluated: the engine is sound, and its tree has the instance, well typed
+pub record CanEvaluate {K : Type 0} (entries : K → Entries) (e : Engine K) (i : Instance ℕ) : Type 0 where
+  pub sound : IsSound entries e
+  pub there : IsThere e.store i
+  pub well_typed : IsWellTyped (rules_of e) (class_shown e.store) AnyText i
+
+-- an attribute can be asked for: the engine is sound, and the attribute can have that name
+pub record CanAsk {K : Type 0} (entries : K → Entries) (e : Engine K) (attribute : List ℕ) : Type 0 where
+  pub sound : IsSound entries e
+  pub named : IsName attribute

@@ -1,11 +1,11 @@
 -- What an engine does for a verdict, and for a command.
 use Rattle.std.specs.Prelude.{◌≡◌, ℕ, Bool, Result, IfOk, IsTrue, OnErr}
-use Rattle.at_model.specs.Lines.{Command}
+use Rattle.at_model.specs.Lines.{Command, IsCommand}
 use Rattle.at_model.specs.Machine.{Verdict, obeyed}
 use Rattle.at_protocol.specs.declared.reply.Form.{Form}
 use Rattle.at_cache.specs.Kept.{Entries}
-use Rattle.at_engine.specs.Engines.{rules_of, slice_of, state_of, IsHeld}
-use Rattle.at_engine.specs.Following.{Follows}
+use Rattle.at_engine.specs.Engines.{rules_of, slice_of, state_of, IsHeld, IsSound}
+use Rattle.at_engine.specs.Following.{Follows, IsAtOnce}
 use Rattle.at_engine.specs.Keeping.{IsSpare, Spares}
 use Rattle.at_engine.specs.declared.engine.Engine.{Engine}
 
@@ -26,3 +26,9 @@ pub record Fulfils {K E : Type 0} (exact : Bool) (entries : K → Entries) (old 
 -- so it is of the session's command
 abbrev pub Commands : {K E : Type 0} → (exact : Bool) → (entries : K → Entries) → Engine K → (session : ℕ) → Command → Result Form E → Engine K → Type 0
 Commands exact entries old session c result new = Fulfils exact entries old (obeyed (rules_of old) (state_of old) session c) result new
+
+-- the session's command can be obeyed at once by an engine that is sound
+pub record CanObey {K : Type 0} (entries : K → Entries) (e : Engine K) (session : ℕ) (c : Command) : Type 0 where
+  pub sound : IsSound entries e
+  pub is_command : IsCommand c
+  pub at_once : IsAtOnce (obeyed (rules_of e) (state_of e) session c)

@@ -1,5 +1,5 @@
 -- What each function of the loop over lines promises: what it has done, and what it leaves as it was.
-use Rattle.std.specs.Prelude.{◌≡◌, ℕ, ◌+◌, ◌*◌, ◌^◌, ◌<◌, ◌≤◌, Bool, List, [], ◌∷◌, Option, Result, filter, is_err, IsTrue, OnOk}
+use Rattle.std.specs.Prelude.{◌≡◌, ℕ, ◌+◌, ◌*◌, ◌^◌, ◌<◌, ◌≤◌, Bool, List, [], ◌∷◌, Option, Result, filter, is_err, vec_len, IsTrue, OnOk}
 use Rattle.at_model.specs.Lines.{is_filled}
 use Rattle.at_model.specs.Machine.{State}
 use Rattle.at_cache.specs.Kept.{Entries}
@@ -18,6 +18,16 @@ use Rattle.at_engine.specs.declared.stream.desk.RunFault.{RunFault}
 pub record CanServe {K : Type 0} (entries : K → Entries) (e : Engine K) (desk : Desk) (lines : ℕ) : Type 0 where
   pub sound : IsSound entries e
   pub few : countable desk (state_of e) + 3 * lines < 2 ^ 128
+
+-- and the line that was read isn't empty
+pub record CanServeLine {K : Type 0} (entries : K → Entries) (e : Engine K) (desk : Desk) : Type 0 where
+  pub ready : CanServe entries e desk 1
+  pub line : 0 < vec_len desk.line
+
+-- turns can be given: the engine is sound, and there are some to give
+pub record CanGive {K : Type 0} (entries : K → Entries) (e : Engine K) (desk : Desk) (limit : ℕ) : Type 0 where
+  pub ready : CanServe entries e desk 0
+  pub some : 0 < limit
 
 -- It is known of the writer whether a call failed, and where none did, all that was written is sent on. The engine is sound, its
 -- rules and how many turns follow each line are as they were, what was kept spare is so still, and no more than so many lines

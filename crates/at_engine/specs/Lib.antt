@@ -25,3 +25,6 @@ pub mod Keeping
 pub mod Commanding
 pub mod KeepingRuns
 pub mod Going
+pub mod OneProof
+pub mod Seen
+pub mod Meant

@@ -16,13 +16,13 @@ use Rattle.at_protocol.specs.ReplyView.{code_view}
 use Rattle.at_protocol.specs.declared.reply.Form.{Form}
 use Rattle.at_store.specs.Shown.{Shown, contents, path, tree, IsIdle}
 use Rattle.at_cache.specs.Kept.{Entries}
-use Rattle.at_demand.specs.Known.{answer_view, kept_values, meaning}
+use Rattle.at_demand.specs.Known.{answer_view, kept_values, meaning, ArePlain}
 use Rattle.at_demand.specs.Right.{AreRight, IsThere}
 use Rattle.at_demand.specs.Sparing.{AddsWorthy, AreSpare, MayAddLazy}
 use Rattle.at_demand.specs.Turns.{IsSparingTurns, IsStanding, under_way}
 use Rattle.at_demand.specs.declared.answer.Answer.{Answer as AnswerCode}
 use Rattle.at_demand.specs.declared.question.Question.{Question}
-use Rattle.at_engine.specs.Engines.{rules_of, state_of, IsHeld, IsTyped}
+use Rattle.at_engine.specs.Engines.{rules_of, state_of, IsHeld, IsSound, IsTyped}
 use Rattle.at_engine.specs.Holding.{IsBegunFor, words_verdict}
 use Rattle.at_engine.specs.Keeping.{IsSpare}
 use Rattle.at_engine.specs.Posted.{came_to, posted_view, turns_given}
@@ -139,6 +139,16 @@ pub record CanTurn {K : Type 0} (entries : K → Entries) (e : Engine K) (positi
   pub typed : IsTyped (rules_of e) (state_of e)
   pub within : position < length e.posts.items.items
 
+-- and there are some to give
+pub record CanGoOn {K : Type 0} (entries : K → Entries) (e : Engine K) (position limit : ℕ) : Type 0 where
+  pub ready : CanTurn entries e position
+  pub some : 0 < limit
+
+-- turns can be given to whichever question is the first
+pub record CanSpend {K : Type 0} (entries : K → Entries) (e : Engine K) (limit : ℕ) : Type 0 where
+  pub sound : IsSound entries e
+  pub some : 0 < limit
+
 -- That was done with the question at the position: nothing but questions and what is kept has changed, the engine is held, and
 -- what was kept spare is so still.
 pub record Attends {K : Type 0} (exact : Bool) (entries : K → Entries) (old new : Engine K) (position : ℕ) (Done : Posted → Type 0) : Type 0 where
@@ -161,6 +171,7 @@ pub record CanAnswer (rules : Rules) (s : Shown) (entries : Entries) (q : Questi
   pub formed : AreWellFormed rules
   pub sound : IsTreeSound rules.classes (tree s)
   pub right : Right (contents s) (meaning rules) (kept_values entries)
+  pub plain : ArePlain rules entries
   pub standing : IsStanding rules s entries q
   pub named : IsAskedOf rules s (asked (under_way q))
 

@@ -4,12 +4,13 @@
 //! what it promises), `Going` (what each function of the loop promises), `Loop` and `Taking` (pieces of any size),
 //! `Serving` (one call of the engine), `Ends` and `RunFaults` (streams that fail). Of a line: `Holding` and
 //! `Engines` (which state of the machine an engine holds, and when it is sound), `Commanding` (what a command
-//! promises), `Following` and `Telling` (what a verdict leads to, in the program's words). By numbers for nodes:
-//! `Naming`, `Marks`, `Asking`, `Answered`, `Fitting`, `Collected`. Open questions: `Posted`, `PostedFor`,
-//! `Turning`, `Turned`. What is kept: `Keeping`, `KeptOver`, `KeepingRuns`.
+//! promises), `Meant` (what its words come to), `Following` and `Telling` (what a verdict leads to, in the program's
+//! words). By numbers for nodes: `Seen`, `Naming`, `Marks`, `Asking`, `Answered`, `Fitting`, `Collected`. Open
+//! questions: `Posted`, `PostedFor`, `Turning`, `Turned`. What is kept: `Keeping`, `KeptOver`, `KeepingRuns`. What a
+//! value may carry: `OneProof`.
 //!
-//! **Where to begin:** `engine.rt` serves one line, `engine/` has its commands; `stream.rt` serves all, between an
-//! `Input` and an `Output`.
+//! **Where to begin:** `engine.rt` serves one line, `engine/` has its commands, whose words are read over a `View`;
+//! `stream.rt` serves all, between an `Input` and an `Output`.
 //!
 //! **What it keeps true:** `IsSound`: no edit waits, the tree conforms, the nodes of marks are there, what is kept
 //! is right, open questions stand on the tree, rules are well formed, tokens can be written. `new` gives it, and
@@ -18,6 +19,7 @@
 
 mod engine;
 mod marks;
+mod nodes;
 mod posts;
 mod stream;
 

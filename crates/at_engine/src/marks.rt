@@ -44,8 +44,7 @@ impl<'a> Key<'a> {
 
     /// The key of the session's mark of that name, to look it up.
     fn lent(session: u16, name: &'a str) -> Key<'a>
-        ensures session { result.session ≡ session }
-        ensures name { cow_str_bytes result.name ≡ name.now }
+        ensures { (result.session ≡ session) × (cow_str_bytes result.name ≡ name.now) }
     {
         Key {
             session,

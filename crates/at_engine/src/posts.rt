@@ -1,16 +1,16 @@
 //! Questions that are open: their words, the marks in these, and how far each has come.
 
-ghost use Rattle.std.specs.Prelude.{◌≡◌, ◌++◌, ◌∷◌, ◌<◌, ◌+◌, [], nat_eq, nat_le, count_by, position, find, slice_get, slice_set, remove, IfOk, OnErr, None, Some, MatchBool, MatchOption, length};
+ghost use Rattle.std.specs.Prelude.{◌≡◌, ◌++◌, ◌∷◌, ◌<◌, ◌+◌, [], nat_eq, nat_le, count_by, position, find, slice_get, remove, IfOk, OnErr, None, Some, MatchBool, MatchOption, length};
 ghost use Rattle.std.specs.Option.{option_map};
 ghost use Rattle.at_model.specs.Alike.{ListLike};
 ghost use Rattle.at_model.specs.Lines.{last_post};
-ghost use Rattle.at_store.specs.Shown.{IsIdle, path};
+ghost use Rattle.at_store.specs.Shown.{path};
 ghost use Rattle.at_engine.specs.Posted.{is_numbered, turns_given, IsBegunAnew, IsRenewed};
 
 use crate::marks::Noted;
+use crate::nodes::Nodes;
 use at_demand::Question;
 use at_protocol::line::{Argument, Place};
-use at_store::Store;
 use std::alloc::{AllocError, Global};
 
 /// How many questions a session may have open.
@@ -62,12 +62,11 @@ impl Posted {
     }
 
     /// Drops what was done for it, and forgets the marks of nodes that are gone.
-    fn begin_anew(&mut self, store: &Store)
-        requires { IsIdle store.now }
-        ensures { IsBegunAnew (path store.now) self.old self.new }
+    fn begin_anew(&mut self, there: &Nodes<'_>)
+        ensures { IsBegunAnew (path there.now.store.now) self.old self.new }
     {
         self.question = None;
-        self.marks.keep_live(store);
+        self.marks.keep_live(there);
     }
 }
 
@@ -160,8 +159,8 @@ impl Posts {
 
     /// What was done for the question at the position, which has nothing of it any more.
     pub fn take(&mut self, position: usize) -> Option<Question>
-        ensures { (p : Posted) → slice_get self.old.items.items position ≡ Some p
-            → (result ≡ p.question) × Reopens position self.old self.new p None }
+        ensures { (self.new.count ≡ self.old.count) × ((p : Posted) → slice_get self.old.items.items position ≡ Some p
+            → (result ≡ p.question) × Reopens position self.old self.new p None) }
     {
         match self.items.get_mut(position) {
             Some(posted) => posted.question.take(),
@@ -171,7 +170,8 @@ impl Posts {
 
     /// The question at the position has come so far.
     pub fn keep(&mut self, position: usize, question: Question)
-        ensures { (p : Posted) → slice_get self.old.items.items position ≡ Some p → Reopens position self.old self.new p (Some question) }
+        ensures { (self.new.count ≡ self.old.count) × ((p : Posted) → slice_get self.old.items.items position ≡ Some p
+            → Reopens position self.old self.new p (Some question)) }
     {
         if let Some(posted) = self.items.get_mut(position) {
             posted.question = Some(question);
@@ -189,26 +189,24 @@ impl Posts {
     }
 
     /// Drops what was done for the questions, and forgets the marks of nodes that are gone.
-    pub fn begin_anew(&mut self, store: &Store)
-        requires { IsIdle store.now }
+    pub fn begin_anew(&mut self, there: &Nodes<'_>)
         ensures count { self.new.count ≡ self.old.count }
-        ensures items { ListLike (IsBegunAnew (path store.now)) self.old.items.items self.new.items.items }
+        ensures items { ListLike (IsBegunAnew (path there.now.store.now)) self.old.items.items self.new.items.items }
     {
         for position in 0..self.items.len() {
-            self.renew(position, store);
+            self.renew(position, there);
         }
     }
 
     /// Drops what was done for the question at the position, and forgets its marks of nodes that are gone.
-    fn renew(&mut self, position: usize, store: &Store)
-        requires idle { IsIdle store.now }
+    fn renew(&mut self, position: usize, there: &Nodes<'_>)
         ensures count { self.new.count ≡ self.old.count }
         ensures renewed { (p : Posted) → slice_get self.old.items.items position ≡ Some p
-            → IsRenewed (path store.now) position p self.old.items.items self.new.items.items }
+            → IsRenewed (path there.now.store.now) position p self.old.items.items self.new.items.items }
         ensures none { slice_get self.old.items.items position ≡ None → self.new.items.items ≡ self.old.items.items }
     {
         if let Some(posted) = self.items.get_mut(position) {
-            posted.begin_anew(store);
+            posted.begin_anew(there);
         }
     }
 }

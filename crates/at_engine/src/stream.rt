@@ -1,10 +1,10 @@
 //! The loop over lines: bytes come in pieces of any size, each line is served whole, and its reply is written before the
 //! next line is looked at.
-ghost use Rattle.std.specs.Prelude.{◌≡◌, ◌∷◌, ◌++◌, ◌<◌, ◌+◌, [], false, vec_len, length, is_err, MatchOption, OnOk};
+ghost use Rattle.std.specs.Prelude.{◌≡◌, ◌∷◌, ◌++◌, ◌<◌, ◌+◌, [], false, length, is_err, MatchOption, OnOk};
 ghost use Rattle.at_engine.specs.Engines.{rules_of, slice_of, IsSound};
 ghost use Rattle.at_engine.specs.Ends.{Remembers};
 ghost use Rattle.at_engine.specs.Loop.{newline_at, IsOpen};
-ghost use Rattle.at_engine.specs.Going.{CanServe, FinishesAll, ServesLine, TakesBytes, Works};
+ghost use Rattle.at_engine.specs.Going.{CanGive, CanServe, CanServeLine, FinishesAll, ServesLine, TakesBytes, Works};
 ghost use Rattle.at_engine.specs.Taking.{Drains, GivesTurns, LeavesTurns, SettlesOne, Written};
 ghost use Rattle.at_engine.specs.Running.{RunsFor, max_reads};
 
@@ -49,14 +49,14 @@ fn serve<K: Keeper, W: Output>(
     desk: &mut Desk,
     writer: &mut W,
 ) -> Result<(), RunFault>
-    requires ready { CanServe K.contents engine.old desk.old 1 }
-    requires line { 0 < vec_len desk.old.line }
+    requires { CanServeLine K.contents engine.old desk.old }
     ensures { ServesLine K.exact K.contents W.contents W.failed W.waits engine.old engine.new desk.old desk.new writer.old writer.new result }
 {
     desk.reply.clear();
     match engine.serve(desk.line.as_slice(), &mut desk.reply) {
         Ok(wants) => {
-            desk.count(wants);
+            desk.count_line();
+            desk.count_answer(wants);
             write_whole(writer, desk.reply.as_slice())?;
             give_turns(engine, desk, writer)
         }
@@ -89,8 +89,7 @@ fn give_some<K: Keeper, W: Output>(
     writer: &mut W,
     limit: u64,
 ) -> Result<u64, RunFault>
-    requires ready { CanServe K.contents engine.old desk.old 0 }
-    requires some { 0 < limit }
+    requires { CanGive K.contents engine.old desk.old limit }
     ensures { Works K.exact K.contents W.contents W.failed W.waits engine.old engine.new desk.old desk.new writer.old writer.new
         (LeavesTurns result (rules_of engine.old) limit) result }
 {

@@ -2,7 +2,7 @@
 use Rattle.std.proofs.Common.{◌≡◌, ◌⊎◌, ℕ, ◌+◌, ◌-◌, ◌^◌, min, Option, Some, None, inl, inr, refl, sym, ap, ◌∙◌, subst, true≢false}
 use Rattle.std.specs.Prelude.{IsSome}
 use Rattle.at_model.specs.Paths.{Node}
-use Rattle.at_model.specs.Run.{Instance, Location}
+use Rattle.at_model.specs.Run.{Value, Instance, Location}
 use Rattle.at_model.specs.Rules.{Rules}
 use Rattle.at_model.specs.Meaning.{Among, content}
 use Rattle.at_model.specs.Alike.{InstanceLike, Names, IsInjective, AlikeAt}
@@ -12,21 +12,23 @@ use Rattle.at_store.specs.Memory.{class_in}
 use Rattle.at_store.specs.View.{memory_of}
 use Rattle.at_store.proofs.Found.{path_injective}
 use Rattle.at_store.proofs.Relabelled.{contents_alike}
-use Rattle.at_cache.specs.Kept.{Kept, Entries}
+use Rattle.at_cache.specs.Kept.{Entries}
+use Rattle.at_demand.specs.Known.{kept_values, IsKept}
 use Rattle.at_demand.specs.Sparing.{AddsWorthy, Counts}
 use Rattle.at_demand.specs.Called.{KeptBy}
 use Rattle.at_demand.proofs.of_keeping.CalledAsked.{one_number, one_path, worth_on}
 use Rattle.at_engine.specs.KeptOver.{Grows}
+use Rattle.at_demand.proofs.Entered.{kept_on}
 use Rattle.at_demand.proofs.Naming.{name_all}
 
 -- kept or not
-kept_or_not : (o : Option Kept) → IsSome o ⊎ (o ≡ None)
+kept_or_not : (o : Option (Value ℕ)) → IsSome o ⊎ (o ≡ None)
 kept_or_not None = inr refl
-kept_or_not (Some k) = inl refl
+kept_or_not (Some v) = inl refl
 
-not_both_kept : (o : Option Kept) → o ≡ None → IsSome o → ⊥
+not_both_kept : (o : Option (Value ℕ)) → o ≡ None → IsSome o → ⊥
 not_both_kept None e some = absurd (true≢false (sym some))
-not_both_kept (Some k) e some = absurd cc
+not_both_kept (Some v) e some = absurd cc
 
 module _ (rules : Rules) (s : Shown) (idle : IsIdle s) (q : Instance ℕ) (p : Instance Node) (asked : InstanceLike (Names (path s)) q p) (old new : Entries) (w x : ℕ) (adds : AddsWorthy rules (contents s) q old new) (counts : Counts old new w x) where
   once : IsInjective (path s)
@@ -48,12 +50,12 @@ module _ (rules : Rules) (s : Shown) (idle : IsIdle s) (q : Instance ℕ) (p : I
   grows_asked =
       let (js, c) = name_all (path s) path_is number_is counts.0 (λ i h. let (j, u, worth) = worthy i h in (j, u)) in
       record {
-        stays = λ j (i, some, u). (i, subst IsSome (sym (adds.stays i some)) some, u);
+        stays = λ j (i, some, u). (i, kept_on old new adds.stays i some, u);
         gained = js;
         distinct = c.distinct counts.1.distinct;
         exactly = λ j. (
-          λ h. (let (i, a, u) = c.of_one j h in let y = (counts.1.exactly i).0 a in ((i, y.0, u), λ (m, some, v). not_both_kept (old i) y.1 (subst (λ k. IsSome (old k)) (number_is m i j v u) some))),
-          λ ((i, some, u), none). elim (kept_or_not (old i)) [ inl was ↦ absurd (none (i, was, u)) | inr new ↦ c.each i j ((counts.1.exactly i).1 (some, new)) u ],
+          λ h. (let (i, a, u) = c.of_one j h in let y = (counts.1.exactly i).0 a in ((i, y.0, u), λ (m, some, v). not_both_kept (kept_values old i) y.1 (subst (IsKept old) (number_is m i j v u) some))),
+          λ ((i, some, u), none). elim (kept_or_not (kept_values old i)) [ inl was ↦ absurd (none (i, was, u)) | inr new ↦ c.each i j ((counts.1.exactly i).1 (some, new)) u ],
         );
         worth = λ j h. (let (i, a, u) = c.of_one j h in let (k, v, worth) = worthy i a in subst (IsWorthKeeping rules (tree s) p) (path_is i k j v u) worth);
         grows = λ small. counts.2 ∙ ap (λ n. min (w + n) (2 ^ 64 - 1)) (sym c.size);

@@ -23,7 +23,9 @@ use Rattle.at_store.specs.Shown.{contents, numbers, path, tree}
 use Rattle.at_store.specs.declared.edit.Refusal.{Refusal as EditRefusal}
 use Rattle.at_store.specs.declared.edit.Refusal.TheVariants as reason
 use Rattle.at_cache.specs.Kept.{Entries, Kept, KeepsAll}
+use Rattle.at_demand.specs.Known.{IsKept}
 use Rattle.at_demand.specs.Sparing.{AreSpare}
+use Rattle.at_demand.proofs.Entered.{entered}
 use Rattle.at_demand.specs.Called.{Keeps}
 use Rattle.at_demand.specs.declared.demand.Demand.{Demand}
 use Rattle.at_engine.specs.Engines.{rules_of, state_of}
@@ -62,7 +64,7 @@ quiet_keeps rules s (Waits number) before after w quiet same = record { kept = s
 module _ {K : Type 0} (entries : K → Entries) (old new : Engine K) (same_numbers : numbers new.store ≡ numbers old.store) (same_tree : tree new.store ≡ tree old.store) (same_rules : new.rules ≡ old.rules) (same_demand : new.demand ≡ old.demand) where
   kept_stays : (j : Instance Node) → kept_of entries new j ↔ kept_of entries old j
   kept_stays j =
-      let Kept : (ℕ → Option Node) → Demand K → Type 0 = λ look d. (i : Instance ℕ) × IsSome (entries d.keeper i) × InstanceLike (Names look) i j in
+      let Kept : (ℕ → Option Node) → Demand K → Type 0 = λ look d. (i : Instance ℕ) × IsKept (entries d.keeper) i × InstanceLike (Names look) i j in
       let paths = paths_stay old.store new.store same_numbers in (
         λ h. subst (λ (d : Demand K). Kept (path old.store) d) same_demand (subst (λ (look : ℕ → Option Node). Kept look new.demand) paths h),
         λ h. subst (λ (look : ℕ → Option Node). Kept look new.demand) (sym paths) (subst (λ (d : Demand K). Kept (path old.store) d) (sym same_demand) h),
@@ -97,7 +99,7 @@ module _ {K : Type 0} (entries : K → Entries) (old new : Engine K) (same_numbe
 pub spare_of_nothing : (rules : Rules) (look : Contents ℕ) (entries : Entries) → KeepsAll (λ _. None) entries → AreSpare rules look entries
 spare_of_nothing rules look entries none = record {
   only = λ i k is l covers. by (entries i) (none i) (subst IsSome (sym is) refl);
-  lazy = λ i some. by (entries i) (none i) some;
+  lazy = λ i some. by (entries i) (none i) (entered entries i some);
   deep = λ i j some leads lazy. by (entries i) (none i) some;
 }
   where

@@ -5,6 +5,7 @@ ghost use Rattle.at_engine.specs.Fitting.{is_text};
 ghost use Rattle.at_body.specs.Values.{value_view};
 
 use super::Engine;
+use super::view::View;
 use crate::marks::Lookup;
 use at_body::{Arguments, Inst, Value};
 use at_cache::Keeper;
@@ -32,26 +33,18 @@ fn is_text(value: &Value) -> bool
 }
 
 impl<K: Keeper> Engine<K> {
-    ghost use Rattle.std.specs.Prelude.{◌≡◌, map, option_map, IfOk};
+    ghost use Rattle.std.specs.Prelude.{◌≡◌, IfOk};
     ghost use Rattle.at_model.specs.Paths.{Node as NodeOf};
     ghost use Rattle.at_model.specs.Run.{Instance};
-    ghost use Rattle.at_model.specs.Instances.{AnyText};
-    ghost use Rattle.at_model.specs.TypedRuns.{IsWellTyped};
     ghost use Rattle.at_model.specs.Alike.{InstanceLike, Names};
     ghost use Rattle.at_model.specs.Lines.{Ask};
     ghost use Rattle.at_model.specs.Names.{IsName};
-    ghost use Rattle.at_model.specs.Machine.{Asks, each, obeyed, parameters_of, value_named};
-    ghost use Rattle.at_protocol.specs.LineView.{argument_view, arguments_view, place_view};
-    ghost use Rattle.at_rules.specs.Bodies.{kind_view};
-    ghost use Rattle.at_store.specs.Shown.{contents, path as path_shown};
-    ghost use Rattle.at_body.specs.Typed.{class_shown};
-    ghost use Rattle.at_body.specs.Values.{value_view};
-    ghost use Rattle.at_demand.specs.Right.{IsThere};
+    ghost use Rattle.at_model.specs.Machine.{Asks, obeyed};
+    ghost use Rattle.at_protocol.specs.LineView.{arguments_view, place_view};
+    ghost use Rattle.at_store.specs.Shown.{path as path_shown};
     ghost use Rattle.at_engine.specs.Commanding.{Commands, Fulfils};
-    ghost use Rattle.at_engine.specs.Engines.{rules_of, state_by, IsHeld, IsSound};
-    ghost use Rattle.at_engine.specs.Answered.{AreValuesOf, IsValueOf};
-    ghost use Rattle.at_engine.specs.Asking.{CanLookUp, IsAskedBy};
-    ghost use Rattle.at_engine.specs.Fitting.{fits_number, fit_numbers, is_of_class};
+    ghost use Rattle.at_engine.specs.Engines.{rules_of, state_by};
+    ghost use Rattle.at_engine.specs.Asking.{CanAsk, CanEvaluate, CanLookUp, IsAskedBy};
 
     /// What the attribute of the node is, or why there is no answer.
     pub(super) fn ask(
@@ -61,8 +54,7 @@ impl<K: Keeper> Engine<K> {
         attribute: &str,
         arguments: &[Argument<'_>],
     ) -> Result<Form, AllocError>
-        requires sound { IsSound K.contents self.old }
-        requires named { IsName attribute.now }
+        requires { CanAsk K.contents self.old attribute.now }
         ensures { Commands K.exact K.contents self.old session (Ask (place_view place.now) attribute.now (arguments_view arguments.now)) result self.new }
     {
         match self.asked(&self.marks, session, place, attribute, arguments)? {
@@ -73,9 +65,7 @@ impl<K: Keeper> Engine<K> {
 
     /// The answer to the question for an instance.
     fn answer(&mut self, inst: &Inst) -> Result<Form, AllocError>
-        requires sound { IsSound K.contents self.old }
-        requires there { IsThere self.old.store inst.now }
-        requires well_typed { IsWellTyped (rules_of self.old) (class_shown self.old.store) AnyText inst.now }
+        requires { CanEvaluate K.contents self.old inst.now }
         ensures { (q : Instance NodeOf) → InstanceLike (Names (path_shown self.old.store)) inst.now q
             → Fulfils K.exact K.contents self.old (Asks q) result self.new }
     {
@@ -92,16 +82,51 @@ impl<K: Keeper> Engine<K> {
         attribute: &str,
         arguments: &[Argument<'_>],
     ) -> Result<Asked, AllocError>
-        requires looks { CanLookUp K.contents self.now (M.marks marks.now) }
-        requires named { IsName attribute.now }
-        ensures { IfOk result (IsAskedBy (rules_of self.now) self.now.store
+        requires { CanLookUp K.contents self.now (M.marks marks.now) }
+        ensures { IsName attribute.now → IfOk result (IsAskedBy (rules_of self.now) self.now.store
             (obeyed (rules_of self.now) (state_by self.now (M.marks marks.now)) session
             (Ask (place_view place.now) attribute.now (arguments_view arguments.now)))) }
     {
-        let Some(node) = self.node_by(marks, session, place) else {
+        let view = View {
+            alloc: self.alloc,
+            rules: &self.rules,
+            store: &self.store,
+            marks,
+        };
+        view.asked(session, place, attribute, arguments)
+    }
+}
+
+impl<'e, M: Lookup> View<'e, M> {
+    ghost use Rattle.std.specs.Prelude.{◌≡◌, map, option_map, IfOk};
+    ghost use Rattle.at_model.specs.Lines.{Ask};
+    ghost use Rattle.at_model.specs.Names.{IsName};
+    ghost use Rattle.at_model.specs.Machine.{each, obeyed, parameters_of, value_named};
+    ghost use Rattle.at_protocol.specs.LineView.{argument_view, arguments_view, place_view};
+    ghost use Rattle.at_rules.specs.Bodies.{kind_view};
+    ghost use Rattle.at_store.specs.Shown.{contents, path as path_shown};
+    ghost use Rattle.at_body.specs.Values.{value_view};
+    ghost use Rattle.at_engine.specs.Answered.{AreValuesOf, IsValueOf};
+    ghost use Rattle.at_engine.specs.Asking.{IsAskedBy};
+    ghost use Rattle.at_engine.specs.Fitting.{fits_number, fit_numbers, is_of_class};
+    ghost use Rattle.at_engine.specs.Seen.{state_seen};
+
+    /// The instance for which the words of a session's question ask, or why they are refused.
+    pub(super) fn asked(
+        &self,
+        session: u16,
+        place: &Place<'_>,
+        attribute: &str,
+        arguments: &[Argument<'_>],
+    ) -> Result<Asked, AllocError>
+        ensures { IsName attribute.now → IfOk result (IsAskedBy self.now.rules.now self.now.store.now
+            (obeyed self.now.rules.now (state_seen self.now.store.now (M.marks self.now.marks.now)) session
+            (Ask (place_view place.now) attribute.now (arguments_view arguments.now)))) }
+    {
+        let Some(node) = self.node_named(session, place) else {
             return Ok(Asked::Refused(Refusal::Path));
         };
-        let Some(values) = self.values_named(marks, session, arguments)? else {
+        let Some(values) = self.values_named(session, arguments)? else {
             return Ok(Asked::Refused(Refusal::Path));
         };
         let Some(attribute) = self.rules.attribute(self.store.class(node), attribute) else {
@@ -110,24 +135,21 @@ impl<K: Keeper> Engine<K> {
         if !self.fit_parameters(attribute, values.as_slice()) {
             return Ok(Asked::Refused(Refusal::Arguments));
         }
-        Ok(Asked::Instance(Inst::new(node, attribute, values)))
+        Ok(Asked::Instance(Inst::new(node, attribute, Arguments::of(values)?)))
     }
 
     /// The values that the arguments name; none where a place of theirs leads to no node.
-    fn values_named<M: Lookup>(
+    fn values_named(
         &self,
-        marks: &M,
         session: u16,
         arguments: &[Argument<'_>],
-    ) -> Result<Option<Arguments>, AllocError>
-        requires { CanLookUp K.contents self.now (M.marks marks.now) }
-        ensures { IfOk result (λ o. AreValuesOf (path_shown self.now.store)
-            (each (map (value_named (rules_of self.now).classes (state_by self.now (M.marks marks.now)) session) (arguments_view arguments.now)))
-            (option_map (λ vs. vs.items) o)) }
+    ) -> Result<Option<Vec<Value>>, AllocError>
+        ensures { IfOk result (λ o. AreValuesOf (path_shown self.now.store.now) (each (map (value_named self.now.rules.now.classes
+            (state_seen self.now.store.now (M.marks self.now.marks.now)) session) (arguments_view arguments.now))) (option_map (λ vs. vs.items) o)) }
     {
-        let mut values = Arguments::new(self.alloc);
+        let mut values = Vec::new(self.alloc);
         for argument in arguments {
-            let Some(value) = self.value_named(marks, session, argument)? else {
+            let Some(value) = self.value_named(session, argument)? else {
                 return Ok(None);
             };
             values.push(value)?;
@@ -136,22 +158,20 @@ impl<K: Keeper> Engine<K> {
     }
 
     /// The value that the argument names; none where its place leads to no node.
-    fn value_named<M: Lookup>(
+    fn value_named(
         &self,
-        marks: &M,
         session: u16,
         argument: &Argument<'_>,
     ) -> Result<Option<Value>, AllocError>
-        requires { CanLookUp K.contents self.now (M.marks marks.now) }
-        ensures { IfOk result (IsValueOf (path_shown self.now.store)
-            (value_named (rules_of self.now).classes (state_by self.now (M.marks marks.now)) session (argument_view argument.now))) }
+        ensures { IfOk result (IsValueOf (path_shown self.now.store.now) (value_named self.now.rules.now.classes
+            (state_seen self.now.store.now (M.marks self.now.marks.now)) session (argument_view argument.now))) }
     {
         match argument {
             Argument::Text(text) => {
                 let text = String::from_str(self.alloc, text.as_str())?;
                 Ok(Some(Value::Text(text)))
             }
-            Argument::Node(place) => match self.node_by(marks, session, place) {
+            Argument::Node(place) => match self.node_named(session, place) {
                 Some(node) => Ok(Some(Value::Ref(Some(node)))),
                 None => Ok(None),
             },
@@ -161,9 +181,8 @@ impl<K: Keeper> Engine<K> {
 
     /// Whether there are as many values as parameters, each of its parameter's kind.
     fn fit_parameters(&self, attribute: AttrId, values: &[Value]) -> bool
-        requires sound { IsHeld K.contents self.now }
         ensures { result
-            ≡ fit_numbers (rules_of self.now).classes (contents self.now.store) (parameters_of (rules_of self.now) attribute) (map value_view values.now) }
+            ≡ fit_numbers self.now.rules.now.classes (contents self.now.store.now) (parameters_of self.now.rules.now attribute) (map value_view values.now) }
     {
         let mut kinds = self.rules.params(attribute);
         let mut rest = values;
@@ -182,8 +201,7 @@ impl<K: Keeper> Engine<K> {
 
     /// Null and the nodes of the class or below it fit a class, texts fit a text.
     fn fits_parameter(&self, kind: Kind, value: &Value) -> bool
-        requires sound { IsHeld K.contents self.now }
-        ensures { result ≡ fits_number (rules_of self.now).classes (contents self.now.store) (kind_view kind) (value_view value.now) }
+        ensures { result ≡ fits_number self.now.rules.now.classes (contents self.now.store.now) (kind_view kind) (value_view value.now) }
     {
         match kind {
             Kind::Text => is_text(value),
@@ -194,8 +212,7 @@ impl<K: Keeper> Engine<K> {
 
     /// Whether the value is null or a node of the class or one below it.
     fn is_of_class(&self, class: ClassId, value: &Value) -> bool
-        requires sound { IsHeld K.contents self.now }
-        ensures { result ≡ is_of_class (rules_of self.now).classes (contents self.now.store) class (value_view value.now) }
+        ensures { result ≡ is_of_class self.now.rules.now.classes (contents self.now.store.now) class (value_view value.now) }
     {
         match value {
             Value::Ref(None) => true,

@@ -1,9 +1,8 @@
 //! Replies as they are written: what is told, or `memory` where there is no room for that.
 
-ghost use Rattle.std.specs.Prelude.{◌≡◌, ◌++◌, ◌+◌, ◌≤◌, Ok, vec_len, vec_capacity, IfOk};
+ghost use Rattle.std.specs.Prelude.{◌≡◌, ◌++◌, ◌+◌, ◌≤◌, Ok, vec_len, vec_capacity};
 ghost use Rattle.at_model.specs.Replies.{reply_text};
-ghost use Rattle.at_protocol.specs.Writable.{IsWritable};
-ghost use Rattle.at_engine.specs.Telling.{IsSaid, memory_for};
+ghost use Rattle.at_engine.specs.Telling.{memory_for, CanSay, HasSaid};
 
 use at_protocol::reply::{Form, Posting, Reply, write_reply};
 use std::alloc::AllocError;
@@ -36,10 +35,8 @@ impl Told {
 
 /// Appends what is told; or `memory`, where memory ran out or is wanting now. Whether it is `memory`.
 pub(super) fn say(told: Told, out: &mut Vec<u8>) -> bool
-    requires room { vec_len out.old + 64 ≤ vec_capacity out.old }
-    requires writable { IfOk told.form IsWritable }
-    ensures said { IsSaid told result out.old.items out.new.items }
-    ensures room { vec_capacity out.old ≤ vec_capacity out.new }
+    requires { CanSay told out.old }
+    ensures { HasSaid told result out.old out.new }
 {
     let Told {
         session,
@@ -57,10 +54,8 @@ pub(super) fn say(told: Told, out: &mut Vec<u8>) -> bool
 
 /// Appends what is told, or `memory` where there is no room for it; whether it is `memory`.
 fn say_form(session: Option<u16>, done: Option<Posting>, form: Form, out: &mut Vec<u8>) -> bool
-    requires room { vec_len out.old + 64 ≤ vec_capacity out.old }
-    requires writable { IsWritable form }
-    ensures said { IsSaid (record { session = session; done = done; form = Ok form }) result out.old.items out.new.items }
-    ensures room { vec_capacity out.old ≤ vec_capacity out.new }
+    requires { CanSay (record { session = session; done = done; form = Ok form }) out.old }
+    ensures { HasSaid (record { session = session; done = done; form = Ok form }) result out.old out.new }
 {
     let reply = Reply {
         session,

@@ -57,7 +57,7 @@ impl<K: Keeper> Engine<K> {
     ghost use Rattle.at_protocol.specs.Writable.{IsWritable};
     ghost use Rattle.at_engine.specs.Serving.{Calls, HasGiven, HasSettledFirst};
     ghost use Rattle.at_engine.specs.Turned.{HasTurned};
-    ghost use Rattle.at_engine.specs.Turning.{Attends, Begins, BeginsSparing, CanTurn, HasGone, HasSettled, IsHeldAt, StandsAt, TakesOff, Tried, told_of};
+    ghost use Rattle.at_engine.specs.Turning.{Attends, Begins, BeginsSparing, CanGoOn, CanSpend, CanTurn, HasGone, HasSettled, IsHeldAt, StandsAt, TakesOff, Tried, told_of};
 
     /// Gives one turn to the open question with the least number, and appends the line with its answer, where it has one.
     /// Whether a question is open.
@@ -89,8 +89,7 @@ impl<K: Keeper> Engine<K> {
     /// Gives up to so many turns to the open question with the least number, and appends the line with its answer, where it
     /// has one.
     pub(crate) fn give(&mut self, limit: u64, out: &mut Vec<u8>) -> Result<Spent, AllocError>
-        requires sound { IsSound K.contents self.old }
-        requires some { 0 < limit }
+        requires { CanSpend K.contents self.old limit }
         ensures { Calls K.exact K.contents self.old self.new out.old out.new (HasGiven limit self.old self.new out.old.items out.new.items) result }
     {
         out.reserve(REPLY_ROOM)?;
@@ -190,8 +189,7 @@ impl<K: Keeper> Engine<K> {
 
     /// So many turns of the question at the position, or fewer where it is answered: how many they were, and its answer.
     fn go_on(&mut self, position: usize, limit: u64) -> Result<(u64, Option<Form>), AllocError>
-        requires ready { CanTurn K.contents self.old position }
-        requires some { 0 < limit }
+        requires { CanGoOn K.contents self.old position limit }
         ensures { Attends K.exact K.contents self.old self.new position (λ p. HasGone self.old self.new position limit p result) }
     {
         let begun = self.posts.take(position);

@@ -3,13 +3,14 @@
 ghost use Rattle.std.specs.Prelude.{◌≡◌, ◌+◌, ◌++◌, ◌∷◌, [], false, cond, not, nat_eq, nat_le, is_some, count_by, filter, List, IfOk, OnOk, OnErr, MatchOption, string_bytes};
 ghost use Rattle.std.specs.List.{list_any};
 ghost use Rattle.std.specs.Cow.{cow_str_bytes};
-ghost use Rattle.at_store.specs.Shown.{IsIdle, path};
+ghost use Rattle.at_store.specs.Shown.{path};
 ghost use Rattle.at_engine.specs.Marks.{AreThere, has_mark, has_node, is_named, listed, mark_of, Mark};
 ghost use Rattle.at_engine.specs.Tallied.{AreTallied, IsOf, IsPlaceOf, IsTaken, kept_up_to};
 
 use super::tally::Tally;
 use super::{Key, MAX_MARKS, Marks};
-use at_store::{Node, Store};
+use crate::nodes::Nodes;
+use at_store::Node;
 use indexmap::IndexMap;
 use std::alloc::{AllocError, Global};
 
@@ -89,28 +90,26 @@ impl Marks {
     }
 
     /// Forgets the marks of nodes that are gone. No mark is looked at where none is of such a node.
-    pub fn keep_live(&mut self, any_gone: bool, store: &Store)
-        requires idle { IsIdle store.now }
-        requires there { any_gone ≡ false → AreThere (path store.now) (listed self.old.items.entries) }
-        ensures { listed self.new.items.entries ≡ filter (λ m. is_some (path store.now m.node)) (listed self.old.items.entries) }
+    pub fn keep_live(&mut self, any_gone: bool, there: &Nodes<'_>)
+        requires { any_gone ≡ false → AreThere (path there.now.store.now) (listed self.old.items.entries) }
+        ensures { listed self.new.items.entries ≡ filter (λ m. is_some (path there.now.store.now m.node)) (listed self.old.items.entries) }
     {
         if any_gone {
-            self.forget_gone(store);
+            self.forget_gone(there);
         }
     }
 
     /// Forgets the marks of nodes that are gone.
-    fn forget_gone(&mut self, store: &Store)
-        requires { IsIdle store.now }
-        ensures { listed self.new.items.entries ≡ filter (λ m. is_some (path store.now m.node)) (listed self.old.items.entries) }
+    fn forget_gone(&mut self, there: &Nodes<'_>)
+        ensures { listed self.new.items.entries ≡ filter (λ m. is_some (path there.now.store.now m.node)) (listed self.old.items.entries) }
     {
         let Marks {
             items,
             sessions,
             nodes,
         } = self;
-        discount_all_gone(items, sessions, nodes, store);
-        keep(items, store);
+        discount_all_gone(items, sessions, nodes, there);
+        keep(items, there);
     }
 }
 
@@ -145,12 +144,17 @@ fn discount(sessions: &mut Tally, nodes: &mut Tally, session: u16, node: Node)
 }
 
 // One less, if the node is gone.
-fn discount_gone(sessions: &mut Tally, nodes: &mut Tally, session: u16, node: Node, store: &Store)
-    requires { IsIdle store.now }
+fn discount_gone(
+    sessions: &mut Tally,
+    nodes: &mut Tally,
+    session: u16,
+    node: Node,
+    there: &Nodes<'_>,
+)
     ensures { (front back : List Mark) (m : Mark) → IsOf session node m → AreTallied (front ++ m ∷ back) sessions.old nodes.old
-        → AreTallied (front ++ cond (is_some (path store.now m.node)) (m ∷ back) back) sessions.new nodes.new }
+        → AreTallied (front ++ cond (is_some (path there.now.store.now m.node)) (m ∷ back) back) sessions.new nodes.new }
 {
-    if !store.live(node) {
+    if !there.has(node) {
         discount(sessions, nodes, session, node);
     }
 }
@@ -160,15 +164,14 @@ fn discount_at(
     items: &IndexMap<Key<'static>, Node>,
     sessions: &mut Tally,
     nodes: &mut Tally,
-    store: &Store,
+    there: &Nodes<'_>,
     position: usize,
 )
-    requires { IsIdle store.now }
-    ensures { AreTallied (kept_up_to (path store.now) position (listed items.now.entries)) sessions.old nodes.old
-        → AreTallied (kept_up_to (path store.now) (position + 1) (listed items.now.entries)) sessions.new nodes.new }
+    ensures { AreTallied (kept_up_to (path there.now.store.now) position (listed items.now.entries)) sessions.old nodes.old
+        → AreTallied (kept_up_to (path there.now.store.now) (position + 1) (listed items.now.entries)) sessions.new nodes.new }
 {
     if let Some((key, node)) = items.get_index(position) {
-        discount_gone(sessions, nodes, key.session, *node, store);
+        discount_gone(sessions, nodes, key.session, *node, there);
     }
 }
 
@@ -177,23 +180,21 @@ fn discount_all_gone(
     items: &IndexMap<Key<'static>, Node>,
     sessions: &mut Tally,
     nodes: &mut Tally,
-    store: &Store,
+    there: &Nodes<'_>,
 )
-    requires { IsIdle store.now }
     ensures { AreTallied (listed items.now.entries) sessions.old nodes.old
-        → AreTallied (filter (λ m. is_some (path store.now m.node)) (listed items.now.entries)) sessions.new nodes.new }
+        → AreTallied (filter (λ m. is_some (path there.now.store.now m.node)) (listed items.now.entries)) sessions.new nodes.new }
 {
     for position in 0..items.len() {
-        discount_at(items, sessions, nodes, store, position);
+        discount_at(items, sessions, nodes, there, position);
     }
 }
 
 // Those are left whose nodes are there.
-fn keep(items: &mut IndexMap<Key<'static>, Node>, store: &Store)
-    requires { IsIdle store.now }
-    ensures { listed items.new.entries ≡ filter (λ m. is_some (path store.now m.node)) (listed items.old.entries) }
+fn keep(items: &mut IndexMap<Key<'static>, Node>, there: &Nodes<'_>)
+    ensures { listed items.new.entries ≡ filter (λ m. is_some (path there.now.store.now m.node)) (listed items.old.entries) }
 {
-    items.retain(|_, node| store.live(*node));
+    items.retain(|_, node| there.has(*node));
 }
 
 // A mark under a new key, behind the others.

@@ -1,11 +1,12 @@
 //! The marks in the words of a question.
 
 ghost use Rattle.std.specs.Prelude.{◌≡◌, ◌++◌, ◌∷◌, [], is_some, filter, IfOk, OnErr, string_bytes};
-ghost use Rattle.at_store.specs.Shown.{IsIdle, path};
+ghost use Rattle.at_store.specs.Shown.{path};
 ghost use Rattle.at_engine.specs.Marks.{is_named};
 
 use super::Lookup;
-use at_store::{Node, Store};
+use crate::nodes::Nodes;
+use at_store::Node;
 use std::alloc::{AllocError, Global};
 use std::marker::Model;
 
@@ -86,10 +87,9 @@ impl Noted {
     }
 
     /// Forgets the marks of nodes that are gone.
-    pub fn keep_live(&mut self, store: &Store)
-        requires { IsIdle store.now }
-        ensures { self.new.items.items ≡ filter (λ m. is_some (path store.now m.node)) self.old.items.items }
+    pub fn keep_live(&mut self, there: &Nodes<'_>)
+        ensures { self.new.items.items ≡ filter (λ m. is_some (path there.now.store.now m.node)) self.old.items.items }
     {
-        self.items.retain(|mark| store.live(mark.node()));
+        self.items.retain(|mark| there.has(mark.node()));
     }
 }

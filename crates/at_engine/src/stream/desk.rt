@@ -107,26 +107,20 @@ impl Desk {
         }
     }
 
-    /// One more line was answered; whether for want of memory.
-    pub fn count(&mut self, wants: bool)
-        requires lines { self.old.lines + 1 < 2 ^ 128 }
-        requires memory { self.old.memory + 1 < 2 ^ 128 }
+    /// One more line was answered.
+    pub fn count_line(&mut self)
+        requires { self.old.lines + 1 < 2 ^ 128 }
         ensures lines { self.new.lines ≡ self.old.lines + 1 }
-        ensures memory { self.new.memory ≡ self.old.memory + (if wants then 1 else 0) }
-        ensures line { self.new.line.items ≡ self.old.line.items }
-        ensures reply { self.new.reply.items ≡ self.old.reply.items }
+        ensures rest { (self.new.memory ≡ self.old.memory) × (self.new.line.items ≡ self.old.line.items) × (self.new.reply.items ≡ self.old.reply.items) }
     {
         self.lines += 1;
-        self.count_answer(wants);
     }
 
     /// A line or a question was answered; whether for want of memory.
     pub fn count_answer(&mut self, wants: bool)
         requires { self.old.memory + 1 < 2 ^ 128 }
         ensures memory { self.new.memory ≡ self.old.memory + (if wants then 1 else 0) }
-        ensures lines { self.new.lines ≡ self.old.lines }
-        ensures line { self.new.line.items ≡ self.old.line.items }
-        ensures reply { self.new.reply.items ≡ self.old.reply.items }
+        ensures rest { (self.new.lines ≡ self.old.lines) × (self.new.line.items ≡ self.old.line.items) × (self.new.reply.items ≡ self.old.reply.items) }
     {
         if wants {
             self.memory += 1;

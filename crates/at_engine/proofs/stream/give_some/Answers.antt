@@ -20,14 +20,14 @@ returns-in_err-write_whole-in-Some g c =
     let rules = rules_of c.args.engine.now in
     let call = c.in-Ok.ensures in
     let a = has_answer _ c.args.limit _ _ _ _ c.in-Ok.spent c.in-Some.wants c.in-Some.is call.done.spends in
-    let text = c.as_slice.ensures.value ∙ c.count_answer.ensures.reply ∙ a.text ∙ ap (λ l. l ++ reply_text a.said.1) c.clear.ensures.items in
+    let text = c.as_slice.ensures.value ∙ c.count_answer.ensures.rest.2 ∙ a.text ∙ ap (λ l. l ++ reply_text a.said.1) c.clear.ensures.items in
     let memory = c.count_answer.ensures.memory ∙ ap (λ b. c.args.desk.now.memory + (if b then 1 else 0)) (sym a.names) in
     record {
       done = rw (p.1, p.2) (w.0, stops_at_one rules c.in-Ok.spent.turns c.args.limit _ _ _ _ a.said w.1 w.2 a.within a.given (sym text ∙ w.3) w.4);
       none = call.done.none;
-      line = c.count_answer.ensures.line;
+      line = c.count_answer.ensures.rest.1;
       goes = goes_wrote g.K.Keeper.exact g.K.Keeper.contents g.W.Output.failed g.W.Output.waits _ _ c.args.desk.now _ _ _ 0 _ _ c.from_residual.result call (rw p.1 c.in_err-write_whole-in-Some.ensures.failed) (rw p.1 tt)
-          (omega (arith, c.count_answer.ensures.lines, memory, counts_one rules c.in-Ok.spent.turns _ _ a.said a.given));
+          (omega (arith, c.count_answer.ensures.rest.0, memory, counts_one rules c.in-Ok.spent.turns _ _ a.said a.given));
     }
 
 pub returns-in_ok-write_whole-in-Some : goal.returns-in_ok-write_whole-in-Some
@@ -37,17 +37,17 @@ returns-in_ok-write_whole-in-Some g c =
     let turns = c.in-Ok.spent.turns in
     let call = c.in-Ok.ensures in
     let a = has_answer _ c.args.limit _ _ _ _ c.in-Ok.spent c.in-Some.wants c.in-Some.is call.done.spends in
-    let text = c.as_slice.ensures.value ∙ c.count_answer.ensures.reply ∙ a.text ∙ ap (λ l. l ++ reply_text a.said.1) c.clear.ensures.items in
+    let text = c.as_slice.ensures.value ∙ c.count_answer.ensures.rest.2 ∙ a.text ∙ ap (λ l. l ++ reply_text a.said.1) c.clear.ensures.items in
     let written = subst (Appends (contents c.args.writer.now) (contents c.write_whole.new.writer)) text c.in_ok-write_whole-in-Some.ensures.written in
     let memory = c.count_answer.ensures.memory ∙ ap (λ b. c.args.desk.now.memory + (if b then 1 else 0)) (sym a.names) in
     let fewer : c.args.limit - turns < c.args.limit = omega (arith, a.some, a.within) in
     let same : turns ≡ c.args.limit - (c.args.limit - turns) = omega (arith, a.within) in
     record {
-      done = (fewer, as_many_given _ turns _ _ _ _ _ _ _ same (gave_one rules turns _ _ c.args.desk.now c.count_answer.new.self _ _ a.said a.given c.count_answer.ensures.lines memory written));
+      done = (fewer, as_many_given _ turns _ _ _ _ _ _ _ same (gave_one rules turns _ _ c.args.desk.now c.count_answer.new.self _ _ a.said a.given c.count_answer.ensures.rest.0 memory written));
       none = call.done.none;
-      line = c.count_answer.ensures.line;
+      line = c.count_answer.ensures.rest.1;
       goes = goes_wrote g.K.Keeper.exact g.K.Keeper.contents g.W.Output.failed g.W.Output.waits _ _ c.args.desk.now _ _ _ 0 _ _ _ call c.in_ok-write_whole-in-Some.ensures.failed c.in_ok-write_whole-in-Some.ensures.sent
-          (omega (arith, c.count_answer.ensures.lines, memory, counts_one rules turns _ _ a.said a.given));
+          (omega (arith, c.count_answer.ensures.rest.0, memory, counts_one rules turns _ _ a.said a.given));
     }
 
 pub returns-in-None : goal.returns-in-None

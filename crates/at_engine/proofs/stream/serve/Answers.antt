@@ -1,4 +1,4 @@
-use Rattle.std.proofs.Common.{◌∙◌, sym, ap, subst, List, ℕ, ◌++◌, arith, Ok, refl}
+use Rattle.std.proofs.Common.{◌∙◌, ◌+◌, if◌then◌else◌, sym, ap, subst, List, ℕ, ◌++◌, arith, Ok, refl}
 use Rattle.std.specs.Io.KnownBytes.{Appends}
 use Rattle.std.proofs.lemmas.Result.{err_from_is_err_and}
 use Rattle.at_model.specs.Machine.{Serves}
@@ -19,7 +19,7 @@ give_turns-requires g c =
     let serves = subst (λ (l : List ℕ). Serves (rules_of old) (state_of old) l (state_of c.serve.new.self) (c.in-Ok.wants, s.0)) c.as_slice.ensures.value s.1 in
     record {
       sound = call.sound;
-      few = omega (arith, c.requires.ready.few, counts_served (rules_of old) (state_of old) (state_of c.serve.new.self) c.args.desk.now.line.items (c.in-Ok.wants, s.0) c.args.desk.now c.count.new.self serves c.count.ensures.lines c.count.ensures.memory);
+      few = omega (arith, c.requires.ready.few, counts_served (rules_of old) (state_of old) (state_of c.serve.new.self) c.args.desk.now.line.items (c.in-Ok.wants, s.0) c.args.desk.now c.count_answer.new.self serves (c.count_answer.ensures.rest.0 ∙ c.count_line.ensures.lines) (c.count_answer.ensures.memory ∙ ap (λ n. n + (if c.in-Ok.wants then 1 else 0)) c.count_line.ensures.rest.0));
     }
 
 pub returns-in_err-write_whole-in-Ok : goal.returns-in_err-write_whole-in-Ok
@@ -29,14 +29,14 @@ returns-in_err-write_whole-in-Ok g c =
     let old = c.args.engine.now in
     let call = c.in-Ok.ensures in
     let s = call.done.served in
-    let text = c.as_slice-in-Ok.ensures.value ∙ c.count.ensures.reply ∙ s.2 ∙ ap (λ l. l ++ reply_text s.0) c.clear.ensures.items in
+    let text = c.as_slice-in-Ok.ensures.value ∙ c.count_answer.ensures.rest.2 ∙ c.count_line.ensures.rest.2 ∙ s.2 ∙ ap (λ l. l ++ reply_text s.0) c.clear.ensures.items in
     let serves = subst (λ (l : List ℕ). Serves (rules_of old) (state_of old) l (state_of c.serve.new.self) (c.in-Ok.wants, s.0)) c.as_slice.ensures.value s.1 in
     record {
       served = rw (p.1, p.2) (w.0, halts_in_line (rules_of old) (slice_of old) _ _ c.args.desk.now.line.items (c.in-Ok.wants, s.0) _ _ w.1 w.2 serves (sym text ∙ w.3) w.4);
       keeps = λ exact spare. rw p.1 tt;
-      line = c.count.ensures.line;
+      line = c.count_answer.ensures.rest.1 ∙ c.count_line.ensures.rest.1;
       goes = goes_wrote g.K.Keeper.exact g.K.Keeper.contents g.W.Output.failed g.W.Output.waits _ _ c.args.desk.now _ _ _ 1 _ _ c.from_residual.result call (rw p.1 c.in_err-write_whole-in-Ok.ensures.failed) (rw p.1 tt)
-          (omega (arith, counts_served (rules_of old) (state_of old) (state_of c.serve.new.self) c.args.desk.now.line.items (c.in-Ok.wants, s.0) c.args.desk.now c.count.new.self serves c.count.ensures.lines c.count.ensures.memory));
+          (omega (arith, counts_served (rules_of old) (state_of old) (state_of c.serve.new.self) c.args.desk.now.line.items (c.in-Ok.wants, s.0) c.args.desk.now c.count_answer.new.self serves (c.count_answer.ensures.rest.0 ∙ c.count_line.ensures.lines) (c.count_answer.ensures.memory ∙ ap (λ n. n + (if c.in-Ok.wants then 1 else 0)) c.count_line.ensures.rest.0)));
     }
 
 pub returns : goal.returns
@@ -46,20 +46,20 @@ returns g c =
     let mid = c.serve.new.self in
     let call = c.in-Ok.ensures in
     let s = call.done.served in
-    let text = c.as_slice-in-Ok.ensures.value ∙ c.count.ensures.reply ∙ s.2 ∙ ap (λ l. l ++ reply_text s.0) c.clear.ensures.items in
+    let text = c.as_slice-in-Ok.ensures.value ∙ c.count_answer.ensures.rest.2 ∙ c.count_line.ensures.rest.2 ∙ s.2 ∙ ap (λ l. l ++ reply_text s.0) c.clear.ensures.items in
     let serves = subst (λ (l : List ℕ). Serves (rules_of old) (state_of old) l (state_of mid) (c.in-Ok.wants, s.0)) c.as_slice.ensures.value s.1 in
     let written = subst (Appends (contents c.args.writer.now) (contents c.write_whole.new.writer)) text c.in_ok-write_whole-in-Ok.ensures.written in
     let turns = c.give_turns.ensures in
-    let counted = counts_served (rules_of old) (state_of old) (state_of mid) c.args.desk.now.line.items (c.in-Ok.wants, s.0) c.args.desk.now c.count.new.self serves c.count.ensures.lines c.count.ensures.memory in
+    let counted = counts_served (rules_of old) (state_of old) (state_of mid) c.args.desk.now.line.items (c.in-Ok.wants, s.0) c.args.desk.now c.count_answer.new.self serves (c.count_answer.ensures.rest.0 ∙ c.count_line.ensures.lines) (c.count_answer.ensures.memory ∙ ap (λ n. n + (if c.in-Ok.wants then 1 else 0)) c.count_line.ensures.rest.0) in
     record {
       served = then_turns c.give_turns.result (rules_of old) (rules_of mid) (slice_of old) (slice_of mid) (state_of old) (state_of mid) (state_of c.give_turns.new.engine) c.args.desk.now.line.items (c.in-Ok.wants, s.0) c.args.desk.now _ c.give_turns.new.desk _ _ _
-          turns.done call.rules call.slice serves c.count.ensures.lines c.count.ensures.memory written;
+          turns.done call.rules call.slice serves (c.count_answer.ensures.rest.0 ∙ c.count_line.ensures.lines) (c.count_answer.ensures.memory ∙ ap (λ n. n + (if c.in-Ok.wants then 1 else 0)) c.count_line.ensures.rest.0) written;
       keeps = λ exact spare.
           let keeps = subst (λ (l : List ℕ). KeepsServed g.K.Keeper.contents c.in-Ok.wants l old mid) c.as_slice.ensures.value (call.done.keeps exact spare) in
           kept_behind c.give_turns.result g.K.Keeper.contents old mid c.give_turns.new.engine (rules_of mid) (slice_of mid) c.args.desk.now.line.items (c.in-Ok.wants, s.0) c.args.desk.now _ c.give_turns.new.desk _ _
-          turns.done turns.none serves keeps c.count.ensures.memory;
-      line = turns.line ∙ c.count.ensures.line;
+          turns.done turns.none serves keeps (c.count_answer.ensures.memory ∙ ap (λ n. n + (if c.in-Ok.wants then 1 else 0)) c.count_line.ensures.rest.0);
+      line = turns.line ∙ c.count_answer.ensures.rest.1 ∙ c.count_line.ensures.rest.1;
       goes = goes_on g.K.Keeper.exact g.K.Keeper.contents g.W.Output.failed g.W.Output.waits _ _ _ _ _ _ _ _ _ _ 1 0 1 (tt {0}) c.give_turns.result
-          (goes_wrote g.K.Keeper.exact g.K.Keeper.contents g.W.Output.failed g.W.Output.waits _ _ c.args.desk.now c.count.new.self _ _ 1 _ _ (Ok (tt {0})) call c.in_ok-write_whole-in-Ok.ensures.failed c.in_ok-write_whole-in-Ok.ensures.sent (omega (arith, counted)))
+          (goes_wrote g.K.Keeper.exact g.K.Keeper.contents g.W.Output.failed g.W.Output.waits _ _ c.args.desk.now c.count_answer.new.self _ _ 1 _ _ (Ok (tt {0})) call c.in_ok-write_whole-in-Ok.ensures.failed c.in_ok-write_whole-in-Ok.ensures.sent (omega (arith, counted)))
           refl refl (omega arith) turns.goes;
     }

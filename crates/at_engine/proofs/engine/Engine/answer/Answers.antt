@@ -62,6 +62,15 @@ answer-requires-clause-formed g c = c.requires.sound.typed.formed
 pub answer-requires-clause-sound : goal.answer-requires-clause-sound
 answer-requires-clause-sound g c = record { conform = c.requires.sound.held.conforming; within = c.requires.sound.held.idle.limits; tokens = c.requires.sound.typed.tokens }
 
+pub answer-requires-clause-idle : goal.answer-requires-clause-idle
+answer-requires-clause-idle g c = c.requires.sound.held.idle
+
+pub answer-requires-clause-typed : goal.answer-requires-clause-typed
+answer-requires-clause-typed g c = c.requires.well_typed
+
+pub answer-requires-clause-plain : goal.answer-requires-clause-plain
+answer-requires-clause-plain g c = c.requires.sound.held.right.plain
+
 pub answer-requires-clause-right : goal.answer-requires-clause-right
 answer-requires-clause-right g c = c.requires.sound.held.right.values
 

@@ -19,26 +19,19 @@ pub returns-in-Refused : goal.returns-in-Refused
 returns-in-Refused g c =
     let e = c.args.self.now in
     let v = obeyed (rules_of e) (state_of e) c.args.session (Ask (place_view c.args.place.now) c.args.attribute.now (arguments_view c.args.arguments.now)) in
-    let is = subst (λ (x : Asked). IsAskedBy (rules_of e) e.store v x) c.in-Refused.is c.in_ok-inst.ensures in
+    let is = subst (λ (x : Asked). IsAskedBy (rules_of e) e.store v x) c.in-Refused.is (c.in_ok-inst.ensures c.requires.named) in
     refused_so g.K.Keeper.exact g.K.Keeper.contents e c.requires.sound.held v c.in-Refused.refusal (refuses (rules_of e) (state_of e) v c.in-Refused.refusal is)
 
-pub answer-requires-clause-there : goal.answer-requires-clause-there
-answer-requires-clause-there g c =
+pub answer-requires : goal.answer-requires
+answer-requires g c =
     let e = c.args.self.now in
     let v = obeyed (rules_of e) (state_of e) c.args.session (Ask (place_view c.args.place.now) c.args.attribute.now (arguments_view c.args.arguments.now)) in
-    let is = subst (λ (x : Asked). IsAskedBy (rules_of e) e.store v x) c.in-Instance.is c.in_ok-inst.ensures in
-    (is.named, is.like)
-
-pub answer-requires-clause-well_typed : goal.answer-requires-clause-well_typed
-answer-requires-clause-well_typed g c =
-    let e = c.args.self.now in
-    let v = obeyed (rules_of e) (state_of e) c.args.session (Ask (place_view c.args.place.now) c.args.attribute.now (arguments_view c.args.arguments.now)) in
-    let is = subst (λ (x : Asked). IsAskedBy (rules_of e) e.store v x) c.in-Instance.is c.in_ok-inst.ensures in
-    is.typed
+    let is = subst (λ (x : Asked). IsAskedBy (rules_of e) e.store v x) c.in-Instance.is (c.in_ok-inst.ensures c.requires.named) in
+    record { sound = c.requires.sound; there = (is.named, is.like); well_typed = is.typed }
 
 pub returns-in-Instance : goal.returns-in-Instance
 returns-in-Instance g c =
     let e = c.args.self.now in
     let v = obeyed (rules_of e) (state_of e) c.args.session (Ask (place_view c.args.place.now) c.args.attribute.now (arguments_view c.args.arguments.now)) in
-    let is = subst (λ (x : Asked). IsAskedBy (rules_of e) e.store v x) c.in-Instance.is c.in_ok-inst.ensures in
+    let is = subst (λ (x : Asked). IsAskedBy (rules_of e) e.store v x) c.in-Instance.is (c.in_ok-inst.ensures c.requires.named) in
     turned_so g.K.Keeper.exact g.K.Keeper.contents e c.answer.new.self v (Asks is.named) c.answer.result is.asks (c.answer.ensures is.named is.like)

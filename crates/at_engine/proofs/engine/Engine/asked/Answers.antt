@@ -1,37 +1,4 @@
-use Rattle.at_protocol.specs.LineView.{arguments_view, place_view}
-use Rattle.at_engine.specs.Engines.{rules_of, state_by}
-use Rattle.at_engine.proofs.Asked.{asked_fit, asked_no_attribute, asked_no_values, asked_unfit}
-use Rattle.at_engine.proofs.Questions.{asked_nowhere}
-use Rattle.at_engine.proofs.Valued.{values_none, values_some}
 use Rattle.at_engine.proofs.engine.Engine.asked.Goals as goal
 
-pub returns-in_default : goal.returns-in_default
-returns-in_default g c =
-    let e = c.args.self.now in
-    asked_nowhere (rules_of e) (state_by e (g.M.Lookup.marks c.args.marks.now)) c.args.session (place_view c.args.place.now) c.args.attribute.now (arguments_view c.args.arguments.now) c.in_default.ensures
-
-pub returns-in_default-2 : goal.returns-in_default-2
-returns-in_default-2 g c =
-    let e = c.args.self.now in
-    asked_no_values (rules_of e) e.store c.requires.looks.sound.idle e.version (g.M.Lookup.marks c.args.marks.now) e.posts c.args.session (place_view c.args.place.now) c.args.attribute.now (arguments_view c.args.arguments.now) c.in-Some.node c.in-Some.ensures
-    (values_none _ _ _ _ c.in_default-2.is c.in_ok-values.ensures)
-
-pub returns-in_default-attribute : goal.returns-in_default-attribute
-returns-in_default-attribute g c =
-    let e = c.args.self.now in
-    asked_no_attribute (rules_of e) e.store c.requires.looks.sound.idle e.version (g.M.Lookup.marks c.args.marks.now) e.posts c.args.session (place_view c.args.place.now) c.args.attribute.now (arguments_view c.args.arguments.now) c.in-Some.node c.in-Some.ensures
-    c.in-Some-2.values.items (values_some _ _ _ _ _ c.in-Some-2.is c.in_ok-values.ensures) c.class.result c.class.ensures c.requires.named c.in_default-attribute.ensures.named
-
-pub returns-then-not-fit_parameters : goal.returns-then-not-fit_parameters
-returns-then-not-fit_parameters g c =
-    let e = c.args.self.now in
-    asked_unfit (rules_of e) e.store c.requires.looks.sound.idle e.version (g.M.Lookup.marks c.args.marks.now) e.posts c.args.session (place_view c.args.place.now) c.args.attribute.now (arguments_view c.args.arguments.now) c.in-Some.node c.in-Some.ensures
-    c.in-Some-2.values.items (values_some _ _ _ _ _ c.in-Some-2.is c.in_ok-values.ensures) c.class.result c.class.ensures c.requires.named c.in-Some-attribute.attribute c.in-Some-attribute.ensures.named
-    c.as_slice.result.now c.as_slice.ensures.value c.if-not-fit_parameters.ensures
-
 pub returns : goal.returns
-returns g c =
-    let e = c.args.self.now in
-    asked_fit (rules_of e) e.store c.requires.looks.sound.idle e.version (g.M.Lookup.marks c.args.marks.now) e.posts c.args.session (place_view c.args.place.now) c.args.attribute.now (arguments_view c.args.arguments.now) c.in-Some.node c.in-Some.ensures
-    c.in-Some-2.values.items (values_some _ _ _ _ _ c.in-Some-2.is c.in_ok-values.ensures) c.class.result c.class.ensures c.requires.named c.in-Some-attribute.attribute c.in-Some-attribute.ensures.named
-    c.as_slice.result.now c.as_slice.ensures.value c.if-not-fit_parameters.ensures c.new.result c.new.ensures
+returns g c = c.asked.ensures

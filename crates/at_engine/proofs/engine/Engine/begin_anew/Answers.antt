@@ -29,18 +29,13 @@ returns-then-not-has_asked-clause-begins g c p there =
     subst (λ (x : Posted). words_verdict e.rules (tree e.store) (posted_view (path e.store) x) ≡ Refuses code.Mark) (same_there e.posts.items.items c.args.position q p c.at-posted.ensures there)
     (read_unmarked e.rules e.store e.version e.posts q marked none)
 
-pub asked-requires-clause-looks : goal.asked-requires-clause-looks
-asked-requires-clause-looks g c = record {
+pub asked-requires : goal.asked-requires
+asked-requires g c = record {
   sound = c.requires.sound;
   there =
       let e = c.args.self.now in
       (holds_at (IsPostedOn e.rules e.store (g.K.Keeper.contents e.demand.keeper)) e.posts.items.items c.args.position c.at-posted.result.now c.at-posted.ensures c.requires.sound.posted).marked;
 }
-
-pub asked-requires-clause-named : goal.asked-requires-clause-named
-asked-requires-clause-named g c =
-    let e = c.args.self.now in
-    subst IsName (sym c.as_str.ensures.value) (holds_at (IsPostedOn e.rules e.store (g.K.Keeper.contents e.demand.keeper)) e.posts.items.items c.args.position c.at-posted.result.now c.at-posted.ensures c.requires.sound.posted).named
 
 pub returns-in-Refused-clause-begins : goal.returns-in-Refused-clause-begins
 returns-in-Refused-clause-begins g c p there =
@@ -49,7 +44,8 @@ returns-in-Refused-clause-begins g c p there =
     let marked = (holds_at (IsPostedOn e.rules e.store (g.K.Keeper.contents e.demand.keeper)) e.posts.items.items c.args.position q c.at-posted.ensures c.requires.sound.posted).marked in
     let all = ap (λ (l : List Argument). list_all (has_mark q.marks.items.items q.session) (marks_in (place_view q.place) ++ flat_map marks_in_argument (arguments_view l))) (sym c.as_slice-arguments.ensures.value) ∙ sym c.if-not-has_asked.ensures in
     let v : List ℕ → List Argument → Verdict = λ text l. obeyed e.rules (state_by e q.marks.items.items) q.session (Ask (place_view q.place) text (arguments_view l)) in
-    let one = subst (λ (l : List Argument). IsAskedBy e.rules e.store (v c.as_str.result.now l) c.in_ok-asked.asked) c.as_slice-arguments.ensures.value c.in_ok-asked.ensures in
+    let named = subst IsName (sym c.as_str.ensures.value) (holds_at (IsPostedOn e.rules e.store (g.K.Keeper.contents e.demand.keeper)) e.posts.items.items c.args.position c.at-posted.result.now c.at-posted.ensures c.requires.sound.posted).named in
+    let one = subst (λ (l : List Argument). IsAskedBy e.rules e.store (v c.as_str.result.now l) c.in_ok-asked.asked) c.as_slice-arguments.ensures.value (c.in_ok-asked.ensures named) in
     let two = subst (λ (text : List ℕ). IsAskedBy e.rules e.store (v text q.arguments.items) c.in_ok-asked.asked) c.as_str.ensures.value one in
     let is = subst (λ (x : Asked). IsAskedBy e.rules e.store (v (string_bytes q.attribute) q.arguments.items) x) c.in-Refused.is two in
     subst (λ (x : Posted). words_verdict e.rules (tree e.store) (posted_view (path e.store) x) ≡ Refuses (code_view c.in-Refused.refusal)) (same_there e.posts.items.items c.args.position q p c.at-posted.ensures there)
@@ -63,7 +59,8 @@ returns-in_ok-post-in-Instance-clause-begins g c p there =
     let marked = (holds_at (IsPostedOn e.rules e.store k) e.posts.items.items c.args.position q c.at-posted.ensures c.requires.sound.posted).marked in
     let all = ap (λ (l : List Argument). list_all (has_mark q.marks.items.items q.session) (marks_in (place_view q.place) ++ flat_map marks_in_argument (arguments_view l))) (sym c.as_slice-arguments.ensures.value) ∙ sym c.if-not-has_asked.ensures in
     let v : List ℕ → List Argument → Verdict = λ text l. obeyed e.rules (state_by e q.marks.items.items) q.session (Ask (place_view q.place) text (arguments_view l)) in
-    let one = subst (λ (l : List Argument). IsAskedBy e.rules e.store (v c.as_str.result.now l) c.in_ok-asked.asked) c.as_slice-arguments.ensures.value c.in_ok-asked.ensures in
+    let named = subst IsName (sym c.as_str.ensures.value) (holds_at (IsPostedOn e.rules e.store (g.K.Keeper.contents e.demand.keeper)) e.posts.items.items c.args.position c.at-posted.result.now c.at-posted.ensures c.requires.sound.posted).named in
+    let one = subst (λ (l : List Argument). IsAskedBy e.rules e.store (v c.as_str.result.now l) c.in_ok-asked.asked) c.as_slice-arguments.ensures.value (c.in_ok-asked.ensures named) in
     let two = subst (λ (text : List ℕ). IsAskedBy e.rules e.store (v text q.arguments.items) c.in_ok-asked.asked) c.as_str.ensures.value one in
     let is = subst (λ (x : Asked). IsAskedBy e.rules e.store (v (string_bytes q.attribute) q.arguments.items) x) c.in-Instance.is two in
     let made = c.in_ok-post-in-Instance in

@@ -28,11 +28,10 @@ returns-then-is_empty g c = record {
   sound = c.requires.sound;
 }
 
-pub go_on-requires-clause-ready : goal.go_on-requires-clause-ready
-go_on-requires-clause-ready g c = record {
-  sound = c.requires.sound.held;
-  typed = c.requires.sound.typed;
-  within = c.if-is_empty.ensures;
+pub go_on-requires : goal.go_on-requires
+go_on-requires g c = record {
+  ready = record { sound = c.requires.sound.held; typed = c.requires.sound.typed; within = c.if-is_empty.ensures };
+  some = c.requires.some;
 }
 
 pub returns-in-Err : goal.returns-in-Err

@@ -19,12 +19,12 @@ begin-requires g c = record {
       let k = g.K.Keeper.contents in
       let (p, there) = there_at e.posts.items.items c.args.position c.requires.ready.within in
       let t = c.take-begun.new.self in
-      let at = c.take-begun.ensures p there in
+      let at = c.take-begun.ensures.1 p there in
       sound_taken k e c.requires.ready.sound c.args.position p there t at.1.count at.1.items;
   within =
       let e = c.args.self.now in
       let (p, there) = there_at e.posts.items.items c.args.position c.requires.ready.within in
-      let at = c.take-begun.ensures p there in
+      let at = c.take-begun.ensures.1 p there in
       subst (λ (l : List Posted). c.args.position < length l) (sym at.1.items) (within_set e.posts.items.items c.args.position p (record p { question = None }) there);
 }
 
@@ -34,7 +34,7 @@ returns-in_err-question g c = record {
       let e = c.args.self.now in
       let k = g.K.Keeper.contents in
       let t = c.take-begun.new.self in
-      let at = c.take-begun.ensures p there in
+      let at = c.take-begun.ensures.1 p there in
       let r = err_from_is_err_and c.from_residual.result c.from_residual.ensures.1 in
       gone_err k e c.requires.ready.sound c.args.position p there t at.1.count at.1.items (record e { posts = t }) c.args.limit c.from_residual.result r.0 r.1 refl;
   rest = refl;
@@ -43,14 +43,14 @@ returns-in_err-question g c = record {
       let k = g.K.Keeper.contents in
       let (p, there) = there_at e.posts.items.items c.args.position c.requires.ready.within in
       let t = c.take-begun.new.self in
-      let at = c.take-begun.ensures p there in
+      let at = c.take-begun.ensures.1 p there in
       spare_taken k e c.requires.ready.sound c.args.position p there t at.1.count at.1.items spare;
   sound =
       let e = c.args.self.now in
       let k = g.K.Keeper.contents in
       let (p, there) = there_at e.posts.items.items c.args.position c.requires.ready.within in
       let t = c.take-begun.new.self in
-      let at = c.take-begun.ensures p there in
+      let at = c.take-begun.ensures.1 p there in
       sound_taken k e c.requires.ready.sound c.args.position p there t at.1.count at.1.items;
 }
 
@@ -60,7 +60,7 @@ returns-in-Refused g c = record {
       let e = c.args.self.now in
       let k = g.K.Keeper.contents in
       let t = c.take-begun.new.self in
-      let at = c.take-begun.ensures p there in
+      let at = c.take-begun.ensures.1 p there in
       let words = subst (λ (x : Begun). Begins (rules_of e) e.store (k e.demand.keeper) (bare k e c.requires.ready.sound c.args.position p there t at.1.count at.1.items) c.take-begun.result x) c.in-Refused.is (c.in_ok-question.ensures.begins (bare k e c.requires.ready.sound c.args.position p there t at.1.count at.1.items) (there_still k e c.requires.ready.sound c.args.position p there t at.1.count at.1.items) (was_begun k e c.requires.ready.sound c.args.position p there t at.1.count at.1.items c.take-begun.result at.0)) in
       gone_refused k e c.requires.ready.sound c.args.position p there t at.1.count at.1.items (record e { posts = t }) c.args.limit c.in-Refused.refusal refl c.requires.some words;
   rest = refl;
@@ -69,14 +69,14 @@ returns-in-Refused g c = record {
       let k = g.K.Keeper.contents in
       let (p, there) = there_at e.posts.items.items c.args.position c.requires.ready.within in
       let t = c.take-begun.new.self in
-      let at = c.take-begun.ensures p there in
+      let at = c.take-begun.ensures.1 p there in
       spare_taken k e c.requires.ready.sound c.args.position p there t at.1.count at.1.items spare;
   sound =
       let e = c.args.self.now in
       let k = g.K.Keeper.contents in
       let (p, there) = there_at e.posts.items.items c.args.position c.requires.ready.within in
       let t = c.take-begun.new.self in
-      let at = c.take-begun.ensures p there in
+      let at = c.take-begun.ensures.1 p there in
       sound_taken k e c.requires.ready.sound c.args.position p there t at.1.count at.1.items;
 }
 
@@ -92,13 +92,16 @@ turns-requires-clause-sound g c = record { conform = c.requires.ready.sound.conf
 pub turns-requires-clause-right : goal.turns-requires-clause-right
 turns-requires-clause-right g c = c.requires.ready.sound.right.values
 
+pub turns-requires-clause-plain : goal.turns-requires-clause-plain
+turns-requires-clause-plain g c = c.requires.ready.sound.right.plain
+
 pub turns-requires-clause-standing : goal.turns-requires-clause-standing
 turns-requires-clause-standing g c =
     let e = c.args.self.now in
     let k = g.K.Keeper.contents in
     let (p, there) = there_at e.posts.items.items c.args.position c.requires.ready.within in
     let t = c.take-begun.new.self in
-    let at = c.take-begun.ensures p there in
+    let at = c.take-begun.ensures.1 p there in
     let b = subst (λ (x : Begun). Begins (rules_of e) e.store (k e.demand.keeper) (bare k e c.requires.ready.sound c.args.position p there t at.1.count at.1.items) c.take-begun.result x) c.in-Question.is (c.in_ok-question.ensures.begins (bare k e c.requires.ready.sound c.args.position p there t at.1.count at.1.items) (there_still k e c.requires.ready.sound c.args.position p there t at.1.count at.1.items) (was_begun k e c.requires.ready.sound c.args.position p there t at.1.count at.1.items c.take-begun.result at.0)) in
     b.begun.standing
 
@@ -108,7 +111,7 @@ told-requires g c =
     let k = g.K.Keeper.contents in
     let (p, there) = there_at e.posts.items.items c.args.position c.requires.ready.within in
     let t = c.take-begun.new.self in
-    let at = c.take-begun.ensures p there in
+    let at = c.take-begun.ensures.1 p there in
     let b = subst (λ (x : Begun). Begins (rules_of e) e.store (k e.demand.keeper) (bare k e c.requires.ready.sound c.args.position p there t at.1.count at.1.items) c.take-begun.result x) c.in-Question.is (c.in_ok-question.ensures.begins (bare k e c.requires.ready.sound c.args.position p there t at.1.count at.1.items) (there_still k e c.requires.ready.sound c.args.position p there t at.1.count at.1.items) (was_begun k e c.requires.ready.sound c.args.position p there t at.1.count at.1.items c.take-begun.result at.0)) in
     let d = c.turns.ensures in
     record { sound = sound_more k e c.requires.ready.sound c.args.position p there t at.1.count at.1.items (k c.turns.new.self.keeper) d.worthy.stays (d.stays (there_asked k e c.requires.ready.sound c.args.position p there t at.1.count at.1.items c.take-begun.result at.0 c.in-Question.question b) c.requires.ready.sound.right) }
@@ -119,7 +122,7 @@ returns-in_err-turns g c = record {
       let e = c.args.self.now in
       let k = g.K.Keeper.contents in
       let t = c.take-begun.new.self in
-      let at = c.take-begun.ensures p there in
+      let at = c.take-begun.ensures.1 p there in
       let r = err_from_is_err_and c.from_residual-in_err-turns.result c.from_residual-in_err-turns.ensures.1 in
       gone_err k e c.requires.ready.sound c.args.position p there t at.1.count at.1.items (record e { posts = t; demand = c.turns.new.self }) c.args.limit c.from_residual-in_err-turns.result r.0 r.1 refl;
   rest = refl;
@@ -128,7 +131,7 @@ returns-in_err-turns g c = record {
       let k = g.K.Keeper.contents in
       let (p, there) = there_at e.posts.items.items c.args.position c.requires.ready.within in
       let t = c.take-begun.new.self in
-      let at = c.take-begun.ensures p there in
+      let at = c.take-begun.ensures.1 p there in
       let d = c.turns.ensures in
       let was = was_sparing k e c.requires.ready.sound c.args.position p there t at.1.count at.1.items c.take-begun.result at.0 spare in
       let sparing = subst (λ (x : Begun). BeginsSparing (rules_of e) (contents e.store) (k e.demand.keeper) x) c.in-Question.is (c.in_ok-question.ensures.sparing was) in
@@ -138,7 +141,7 @@ returns-in_err-turns g c = record {
       let k = g.K.Keeper.contents in
       let (p, there) = there_at e.posts.items.items c.args.position c.requires.ready.within in
       let t = c.take-begun.new.self in
-      let at = c.take-begun.ensures p there in
+      let at = c.take-begun.ensures.1 p there in
       let b = subst (λ (x : Begun). Begins (rules_of e) e.store (k e.demand.keeper) (bare k e c.requires.ready.sound c.args.position p there t at.1.count at.1.items) c.take-begun.result x) c.in-Question.is (c.in_ok-question.ensures.begins (bare k e c.requires.ready.sound c.args.position p there t at.1.count at.1.items) (there_still k e c.requires.ready.sound c.args.position p there t at.1.count at.1.items) (was_begun k e c.requires.ready.sound c.args.position p there t at.1.count at.1.items c.take-begun.result at.0)) in
       let d = c.turns.ensures in
       sound_more k e c.requires.ready.sound c.args.position p there t at.1.count at.1.items (k c.turns.new.self.keeper) d.worthy.stays (d.stays (there_asked k e c.requires.ready.sound c.args.position p there t at.1.count at.1.items c.take-begun.result at.0 c.in-Question.question b) c.requires.ready.sound.right);
@@ -150,7 +153,7 @@ returns-in_err-told-in-Some g c = record {
       let e = c.args.self.now in
       let k = g.K.Keeper.contents in
       let t = c.take-begun.new.self in
-      let at = c.take-begun.ensures p there in
+      let at = c.take-begun.ensures.1 p there in
       let r = err_from_is_err_and c.from_residual-in_err-told-in-Some.result c.from_residual-in_err-told-in-Some.ensures.1 in
       gone_err k e c.requires.ready.sound c.args.position p there t at.1.count at.1.items (record e { posts = t; demand = c.turns.new.self }) c.args.limit c.from_residual-in_err-told-in-Some.result r.0 r.1 refl;
   rest = refl;
@@ -159,7 +162,7 @@ returns-in_err-told-in-Some g c = record {
       let k = g.K.Keeper.contents in
       let (p, there) = there_at e.posts.items.items c.args.position c.requires.ready.within in
       let t = c.take-begun.new.self in
-      let at = c.take-begun.ensures p there in
+      let at = c.take-begun.ensures.1 p there in
       let d = c.turns.ensures in
       let was = was_sparing k e c.requires.ready.sound c.args.position p there t at.1.count at.1.items c.take-begun.result at.0 spare in
       let sparing = subst (λ (x : Begun). BeginsSparing (rules_of e) (contents e.store) (k e.demand.keeper) x) c.in-Question.is (c.in_ok-question.ensures.sparing was) in
@@ -169,7 +172,7 @@ returns-in_err-told-in-Some g c = record {
       let k = g.K.Keeper.contents in
       let (p, there) = there_at e.posts.items.items c.args.position c.requires.ready.within in
       let t = c.take-begun.new.self in
-      let at = c.take-begun.ensures p there in
+      let at = c.take-begun.ensures.1 p there in
       let b = subst (λ (x : Begun). Begins (rules_of e) e.store (k e.demand.keeper) (bare k e c.requires.ready.sound c.args.position p there t at.1.count at.1.items) c.take-begun.result x) c.in-Question.is (c.in_ok-question.ensures.begins (bare k e c.requires.ready.sound c.args.position p there t at.1.count at.1.items) (there_still k e c.requires.ready.sound c.args.position p there t at.1.count at.1.items) (was_begun k e c.requires.ready.sound c.args.position p there t at.1.count at.1.items c.take-begun.result at.0)) in
       let d = c.turns.ensures in
       sound_more k e c.requires.ready.sound c.args.position p there t at.1.count at.1.items (k c.turns.new.self.keeper) d.worthy.stays (d.stays (there_asked k e c.requires.ready.sound c.args.position p there t at.1.count at.1.items c.take-begun.result at.0 c.in-Question.question b) c.requires.ready.sound.right);
@@ -181,7 +184,7 @@ returns-in_ok-told-in-Some g c = record {
       let e = c.args.self.now in
       let k = g.K.Keeper.contents in
       let t = c.take-begun.new.self in
-      let at = c.take-begun.ensures p there in
+      let at = c.take-begun.ensures.1 p there in
       let b = subst (λ (x : Begun). Begins (rules_of e) e.store (k e.demand.keeper) (bare k e c.requires.ready.sound c.args.position p there t at.1.count at.1.items) c.take-begun.result x) c.in-Question.is (c.in_ok-question.ensures.begins (bare k e c.requires.ready.sound c.args.position p there t at.1.count at.1.items) (there_still k e c.requires.ready.sound c.args.position p there t at.1.count at.1.items) (was_begun k e c.requires.ready.sound c.args.position p there t at.1.count at.1.items c.take-begun.result at.0)) in
       let d = c.in_ok-turns.ensures in
       let a = answer_view c.in-Some.answer in
@@ -196,7 +199,7 @@ returns-in_ok-told-in-Some g c = record {
       let k = g.K.Keeper.contents in
       let (p, there) = there_at e.posts.items.items c.args.position c.requires.ready.within in
       let t = c.take-begun.new.self in
-      let at = c.take-begun.ensures p there in
+      let at = c.take-begun.ensures.1 p there in
       let d = c.turns.ensures in
       let was = was_sparing k e c.requires.ready.sound c.args.position p there t at.1.count at.1.items c.take-begun.result at.0 spare in
       let sparing = subst (λ (x : Begun). BeginsSparing (rules_of e) (contents e.store) (k e.demand.keeper) x) c.in-Question.is (c.in_ok-question.ensures.sparing was) in
@@ -206,7 +209,7 @@ returns-in_ok-told-in-Some g c = record {
       let k = g.K.Keeper.contents in
       let (p, there) = there_at e.posts.items.items c.args.position c.requires.ready.within in
       let t = c.take-begun.new.self in
-      let at = c.take-begun.ensures p there in
+      let at = c.take-begun.ensures.1 p there in
       let b = subst (λ (x : Begun). Begins (rules_of e) e.store (k e.demand.keeper) (bare k e c.requires.ready.sound c.args.position p there t at.1.count at.1.items) c.take-begun.result x) c.in-Question.is (c.in_ok-question.ensures.begins (bare k e c.requires.ready.sound c.args.position p there t at.1.count at.1.items) (there_still k e c.requires.ready.sound c.args.position p there t at.1.count at.1.items) (was_begun k e c.requires.ready.sound c.args.position p there t at.1.count at.1.items c.take-begun.result at.0)) in
       let d = c.turns.ensures in
       sound_more k e c.requires.ready.sound c.args.position p there t at.1.count at.1.items (k c.turns.new.self.keeper) d.worthy.stays (d.stays (there_asked k e c.requires.ready.sound c.args.position p there t at.1.count at.1.items c.take-begun.result at.0 c.in-Question.question b) c.requires.ready.sound.right);
@@ -218,11 +221,11 @@ returns-in-None g c = record {
       let e = c.args.self.now in
       let k = g.K.Keeper.contents in
       let t = c.take-begun.new.self in
-      let at = c.take-begun.ensures p there in
+      let at = c.take-begun.ensures.1 p there in
       let b = subst (λ (x : Begun). Begins (rules_of e) e.store (k e.demand.keeper) (bare k e c.requires.ready.sound c.args.position p there t at.1.count at.1.items) c.take-begun.result x) c.in-Question.is (c.in_ok-question.ensures.begins (bare k e c.requires.ready.sound c.args.position p there t at.1.count at.1.items) (there_still k e c.requires.ready.sound c.args.position p there t at.1.count at.1.items) (was_begun k e c.requires.ready.sound c.args.position p there t at.1.count at.1.items c.take-begun.result at.0)) in
       let d = c.in_ok-turns.ensures in
       let given = subst (λ (o : Option AnswerCode). HasGiven (contents e.store) (meaning (rules_of e)) c.args.limit c.in_ok-turns.turns (under_way c.in-Question.question) (under_way c.turns.new.question) (option_map answer_view o)) c.in-None.is d.given in
-      let put = c.keep.ensures (bare k e c.requires.ready.sound c.args.position p there t at.1.count at.1.items) (there_still k e c.requires.ready.sound c.args.position p there t at.1.count at.1.items) in
+      let put = c.keep.ensures.1 (bare k e c.requires.ready.sound c.args.position p there t at.1.count at.1.items) (there_still k e c.requires.ready.sound c.args.position p there t at.1.count at.1.items) in
       gone_silent k e c.requires.ready.sound c.args.position p there t at.1.count at.1.items c.take-begun.result at.0 c.in-Question.question b (record e { posts = c.keep.new.self; demand = c.turns.new.self }) c.args.limit c.in_ok-turns.turns c.turns.new.question
       (reopened k e c.requires.ready.sound c.args.position p there t at.1.count at.1.items (k c.turns.new.self.keeper) c.turns.ensures.worthy.stays c.turns.new.question c.keep.new.self put.count put.items) given;
   rest = refl;
@@ -231,10 +234,10 @@ returns-in-None g c = record {
       let k = g.K.Keeper.contents in
       let (p, there) = there_at e.posts.items.items c.args.position c.requires.ready.within in
       let t = c.take-begun.new.self in
-      let at = c.take-begun.ensures p there in
+      let at = c.take-begun.ensures.1 p there in
       let d = c.in_ok-turns.ensures in
       let all = c.turns.ensures in
-      let put = c.keep.ensures (bare k e c.requires.ready.sound c.args.position p there t at.1.count at.1.items) (there_still k e c.requires.ready.sound c.args.position p there t at.1.count at.1.items) in
+      let put = c.keep.ensures.1 (bare k e c.requires.ready.sound c.args.position p there t at.1.count at.1.items) (there_still k e c.requires.ready.sound c.args.position p there t at.1.count at.1.items) in
       let was = was_sparing k e c.requires.ready.sound c.args.position p there t at.1.count at.1.items c.take-begun.result at.0 spare in
       let sparing = subst (λ (x : Begun). BeginsSparing (rules_of e) (contents e.store) (k e.demand.keeper) x) c.in-Question.is (c.in_ok-question.ensures.sparing was) in
       spare_put k e c.requires.ready.sound c.args.position p there t at.1.count at.1.items (k c.turns.new.self.keeper) all.worthy.stays c.turns.new.question c.keep.new.self put.count put.items (all.spare exact spare.kept sparing) (d.sparing exact spare.kept sparing) spare;
@@ -243,12 +246,12 @@ returns-in-None g c = record {
       let k = g.K.Keeper.contents in
       let (p, there) = there_at e.posts.items.items c.args.position c.requires.ready.within in
       let t = c.take-begun.new.self in
-      let at = c.take-begun.ensures p there in
+      let at = c.take-begun.ensures.1 p there in
       let b = subst (λ (x : Begun). Begins (rules_of e) e.store (k e.demand.keeper) (bare k e c.requires.ready.sound c.args.position p there t at.1.count at.1.items) c.take-begun.result x) c.in-Question.is (c.in_ok-question.ensures.begins (bare k e c.requires.ready.sound c.args.position p there t at.1.count at.1.items) (there_still k e c.requires.ready.sound c.args.position p there t at.1.count at.1.items) (was_begun k e c.requires.ready.sound c.args.position p there t at.1.count at.1.items c.take-begun.result at.0)) in
       let d = c.in_ok-turns.ensures in
       let all = c.turns.ensures in
       let given = subst (λ (o : Option AnswerCode). HasGiven (contents e.store) (meaning (rules_of e)) c.args.limit c.in_ok-turns.turns (under_way c.in-Question.question) (under_way c.turns.new.question) (option_map answer_view o)) c.in-None.is d.given in
-      let put = c.keep.ensures (bare k e c.requires.ready.sound c.args.position p there t at.1.count at.1.items) (there_still k e c.requires.ready.sound c.args.position p there t at.1.count at.1.items) in
+      let put = c.keep.ensures.1 (bare k e c.requires.ready.sound c.args.position p there t at.1.count at.1.items) (there_still k e c.requires.ready.sound c.args.position p there t at.1.count at.1.items) in
       let asks = silent_asked k e c.requires.ready.sound c.args.position p there t at.1.count at.1.items c.take-begun.result at.0 c.in-Question.question b c.in_ok-turns.turns (under_way c.turns.new.question) given.1 in
       sound_put k e c.requires.ready.sound c.args.position p there t at.1.count at.1.items (k c.turns.new.self.keeper) all.worthy.stays c.turns.new.question c.keep.new.self put.count put.items (all.stays (there_asked k e c.requires.ready.sound c.args.position p there t at.1.count at.1.items c.take-begun.result at.0 c.in-Question.question b) c.requires.ready.sound.right)
       (begun_after k e c.requires.ready.sound c.args.position p there t at.1.count at.1.items c.take-begun.result at.0 c.in-Question.question b (k c.turns.new.self.keeper) c.turns.new.question asks d.standing);

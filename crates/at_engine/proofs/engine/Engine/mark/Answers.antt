@@ -1,14 +1,20 @@
-use Rattle.std.proofs.Common.{◌∙◌, ◌++◌, ◌∷◌, [], nat_le, List, Ok, refl, sym, ap, subst, string_bytes, is_some}
+use Rattle.std.proofs.Common.{◌∙◌, ◌++◌, ◌∷◌, [], nat_le, List, None, Some, Ok, refl, sym, ap, subst, string_bytes, is_some}
 use Rattle.std.proofs.lemmas.Result.{err_from_is_err_and}
+use Rattle.at_model.specs.Machine.{node_named}
+use Rattle.at_model.specs.Rules.{Rules}
 use Rattle.at_protocol.specs.LineView.{place_view}
 use Rattle.at_protocol.specs.declared.reply.Form.TheVariants as form
 use Rattle.at_protocol.specs.declared.reply.Refusal.TheVariants as refusal
-use Rattle.at_store.specs.Shown.{path}
+use Rattle.at_store.specs.Shown.{Shown, path}
 use Rattle.at_engine.specs.Commanding.{Continues}
 use Rattle.at_engine.specs.Engines.{marks_of, rules_of, state_of}
-use Rattle.at_engine.specs.Marks.{Mark, AreThere, has_mark, marks_view}
+use Rattle.at_engine.specs.Marks.{Mark, AreThere, has_mark, listed, marks_view}
+use Rattle.at_engine.specs.Naming.{IsNumberOf}
+use Rattle.at_engine.specs.Seen.{state_seen}
+use Rattle.at_engine.specs.declared.marks.Marks.{Marks}
 use Rattle.at_engine.proofs.Commands.{mark_nowhere, mark_taken, mark_full, mark_made}
 use Rattle.at_engine.proofs.of_marks.Marked.{counted, pushed, there_pushed}
+use Rattle.at_engine.proofs.MeantLemmas.{along}
 use Rattle.at_engine.proofs.NamingLemmas.{marked_as}
 use Rattle.at_engine.proofs.Storing.{on_err, sound_marks}
 use Rattle.at_engine.proofs.of_keeping.Fulfilling.{failed_so, quiet_so, refused_so}
@@ -18,19 +24,23 @@ use Rattle.at_engine.proofs.engine.Engine.mark.Goals as goal
 pub returns-in_default : goal.returns-in_default
 returns-in_default g c =
     let e = c.args.self.now in
-    refused_so g.K.Keeper.exact g.K.Keeper.contents e c.requires.sound _ refusal.Path (mark_nowhere (rules_of e) (state_of e) c.args.session (place_view c.args.place.now) c.args.name.now c.in_default.ensures)
+    let Nowhere : Rules → Shown → List Mark → Type 0 = λ r s ms. IsNumberOf s (node_named r.classes (state_seen s ms) c.args.session (place_view c.args.place.now)) None in
+    let none = along Nowhere c.view.ensures.rules c.view.ensures.store (ap (λ (m : Marks). listed m.items.entries) c.view.ensures.marks) c.in_default.ensures in
+    refused_so g.K.Keeper.exact g.K.Keeper.contents e c.requires.sound _ refusal.Path (mark_nowhere (rules_of e) (state_of e) c.args.session (place_view c.args.place.now) c.args.name.now none)
 
 pub returns-then-has_mark : goal.returns-then-has_mark
 returns-then-has_mark g c =
     let e = c.args.self.now in
-    let (n, named, p) = c.in-Some.ensures in
+    let Here : Rules → Shown → List Mark → Type 0 = λ r s ms. IsNumberOf s (node_named r.classes (state_seen s ms) c.args.session (place_view c.args.place.now)) (Some c.in-Some.node) in
+    let (n, named, p) = along Here c.view.ensures.rules c.view.ensures.store (ap (λ (m : Marks). listed m.items.entries) c.view.ensures.marks) c.in-Some.ensures in
     let taken = sym (marked_as e.store c.args.session c.args.name.now (marks_of e) c.requires.sound.marked) ∙ sym c.has_mark.ensures ∙ c.if-has_mark.true in
     refused_so g.K.Keeper.exact g.K.Keeper.contents e c.requires.sound _ refusal.Taken (mark_taken (rules_of e) (state_of e) c.args.session (place_view c.args.place.now) c.args.name.now n named taken)
 
 pub returns-then-is_full : goal.returns-then-is_full
 returns-then-is_full g c =
     let e = c.args.self.now in
-    let (n, named, p) = c.in-Some.ensures in
+    let Here : Rules → Shown → List Mark → Type 0 = λ r s ms. IsNumberOf s (node_named r.classes (state_seen s ms) c.args.session (place_view c.args.place.now)) (Some c.in-Some.node) in
+    let (n, named, p) = along Here c.view.ensures.rules c.view.ensures.store (ap (λ (m : Marks). listed m.items.entries) c.view.ensures.marks) c.in-Some.ensures in
     let free = sym (marked_as e.store c.args.session c.args.name.now (marks_of e) c.requires.sound.marked) ∙ sym c.has_mark.ensures ∙ c.if-has_mark.false in
     let full = ap (nat_le 100) (counted (path e.store) c.args.session (marks_of e) c.requires.sound.marked) ∙ sym c.is_full.ensures ∙ c.if-is_full.true in
     refused_so g.K.Keeper.exact g.K.Keeper.contents e c.requires.sound _ refusal.Limit (mark_full (rules_of e) (state_of e) c.args.session (place_view c.args.place.now) c.args.name.now n named free full)
@@ -65,7 +75,8 @@ returns g c =
     let name = c.args.name.now in
     let place = place_view c.args.place.now in
     let new = record e { marks = c.push.new.self } in
-    let (n, named, p) = c.in-Some.ensures in
+    let Here : Rules → Shown → List Mark → Type 0 = λ r s ms. IsNumberOf s (node_named r.classes (state_seen s ms) c.args.session (place_view c.args.place.now)) (Some c.in-Some.node) in
+    let (n, named, p) = along Here c.view.ensures.rules c.view.ensures.store (ap (λ (m : Marks). listed m.items.entries) c.view.ensures.marks) c.in-Some.ensures in
     let free = sym (marked_as e.store c.args.session name (marks_of e) c.requires.sound.marked) ∙ sym c.has_mark.ensures ∙ c.if-has_mark.false in
     let few = ap (nat_le 100) (counted (path e.store) c.args.session (marks_of e) c.requires.sound.marked) ∙ sym c.is_full.ensures ∙ c.if-is_full.false in
     let m : Mark = record { session = c.args.session; name = name; node = c.in-Some.node } in

@@ -16,12 +16,12 @@ pub returns-then-not-has_used : goal.returns-then-not-has_used
 returns-then-not-has_used g c =
     let e = c.args.self.now in
     let l = c.args.line.now in
-    let used = sym (all_marked e.store l.session (marks_of e) c.requires.sound.marked (marks_used (command_view l.command))) ∙ sym c.has_used.ensures ∙ c.if-not-has_used.true in
+    let used = sym (all_marked e.store l.session (marks_of e) c.requires (marks_used (command_view l.command))) ∙ sym c.has_used.ensures ∙ c.if-not-has_used.true in
     meets_unmarked (rules_of e) (state_of e) (line_view l) (sym c.is_stale.ensures ∙ c.if-is_stale.false) used
 
 pub returns : goal.returns
 returns g c =
     let e = c.args.self.now in
     let l = c.args.line.now in
-    let used = sym (all_marked e.store l.session (marks_of e) c.requires.sound.marked (marks_used (command_view l.command))) ∙ sym c.has_used.ensures ∙ c.if-not-has_used.false in
+    let used = sym (all_marked e.store l.session (marks_of e) c.requires (marks_used (command_view l.command))) ∙ sym c.has_used.ensures ∙ c.if-not-has_used.false in
     at_obeyed (rules_of e) (state_of e) (line_view l) (sym c.is_stale.ensures ∙ c.if-is_stale.false) used

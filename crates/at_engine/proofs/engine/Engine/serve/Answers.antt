@@ -6,11 +6,14 @@ use Rattle.at_engine.proofs.of_keeping.KeepingLemmas.{kept_served, spare_line}
 use Rattle.at_engine.proofs.Typing.{typed_served}
 use Rattle.at_engine.proofs.engine.Engine.serve.Goals as goal
 
-pub say-requires-clause-writable : goal.say-requires-clause-writable
-say-requires-clause-writable g c =
+pub say-requires : goal.say-requires
+say-requires g c =
     let e = c.args.self.now in
     let t = c.outcome-told.result in
-    writable_so (rules_of e) (state_of e) (state_of c.outcome-told.new.self) c.args.line.now t.session t.done t.form c.outcome-told.ensures.gets
+    record {
+      room = c.in_ok-reserve.ensures.ok;
+      writable = writable_so (rules_of e) (state_of e) (state_of c.outcome-told.new.self) c.args.line.now t.session t.done t.form c.outcome-told.ensures.gets;
+    }
 
 pub returns : goal.returns
 returns g c =

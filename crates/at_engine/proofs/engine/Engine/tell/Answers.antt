@@ -5,10 +5,10 @@ use Rattle.at_engine.specs.declared.engine.saying.Told.{Told}
 use Rattle.at_engine.proofs.Positions.{there_at}
 use Rattle.at_engine.proofs.engine.Engine.tell.Goals as goal
 
-pub say-requires-clause-writable : goal.say-requires-clause-writable
-say-requires-clause-writable g c =
+pub say-requires : goal.say-requires
+say-requires g c =
     let (p, there) = there_at c.args.self.now.posts.items.items c.args.position c.requires.there.within in
-    subst (λ (t : Told). IfOk t.form IsWritable) (sym (c.close.ensures.told p there)) c.requires.writable
+    record { room = c.requires.room; writable = subst (λ (t : Told). IfOk t.form IsWritable) (sym (c.close.ensures.told p there)) c.requires.writable }
 
 pub returns-clause-off : goal.returns-clause-off
 returns-clause-off g c = record {

@@ -1,15 +1,15 @@
-use Rattle.at_store.specs.Shown.{path, tree}
-use Rattle.at_engine.specs.Engines.{rules_of}
-use Rattle.at_engine.proofs.AnswersTold.{told_value}
+use Rattle.std.proofs.Common.{IfOk, refl}
+use Rattle.at_model.specs.Alike.{AnswerLike, Names}
+use Rattle.at_model.specs.Meaning.{Answer}
+use Rattle.at_model.specs.Paths.{Node}
+use Rattle.at_model.specs.Rules.{Rules}
+use Rattle.at_store.specs.Shown.{Shown, path, tree}
+use Rattle.at_demand.specs.Known.{answer_view}
+use Rattle.at_engine.specs.Telling.{IsToldAs}
+use Rattle.at_engine.proofs.MeantLemmas.{along}
 use Rattle.at_engine.proofs.engine.Engine.told.Goals as goal
 
-pub returns-in_ok-shown-in-Value : goal.returns-in_ok-shown-in-Value
-returns-in_ok-shown-in-Value g c =
-    let e = c.args.self.now in
-    rw c.in-Value.is (λ a l. told_value (path e.store) (rules_of e) (tree e.store) c.in_ok-shown-in-Value.field-0 c.in_ok-shown-in-Value.ensures l)
-
-pub returns-in-Fault : goal.returns-in-Fault
-returns-in-Fault g c = rw c.in-Fault.is c.told_fault.ensures
-
-pub returns-in-Circular : goal.returns-in-Circular
-returns-in-Circular g c = rw c.in-Circular.is c.told_circle.ensures
+pub returns : goal.returns
+returns g c =
+    let Told : Rules → Shown → Unit {0} → Type 0 = λ r s u. (a : Answer Node) → AnswerLike (Names (path s)) (answer_view c.args.answer) a → IfOk c.told.result (IsToldAs r (tree s) a) in
+    along Told c.view.ensures.rules c.view.ensures.store refl c.told.ensures

@@ -24,12 +24,12 @@ begin-requires g c = record {
       let k = g.K.Keeper.contents in
       let (p, there) = there_at e.posts.items.items c.args.position c.requires.within in
       let t = c.take-begun.new.self in
-      let at = c.take-begun.ensures p there in
+      let at = c.take-begun.ensures.1 p there in
       sound_taken k e c.requires.sound c.args.position p there t at.1.count at.1.items;
   within =
       let e = c.args.self.now in
       let (p, there) = there_at e.posts.items.items c.args.position c.requires.within in
-      let at = c.take-begun.ensures p there in
+      let at = c.take-begun.ensures.1 p there in
       subst (λ (l : List Posted). c.args.position < length l) (sym at.1.items) (within_set e.posts.items.items c.args.position p (record p { question = None }) there);
 }
 
@@ -39,7 +39,7 @@ returns-in_err-question g c = record {
       let e = c.args.self.now in
       let k = g.K.Keeper.contents in
       let t = c.take-begun.new.self in
-      let at = c.take-begun.ensures p there in
+      let at = c.take-begun.ensures.1 p there in
       let r = err_from_is_err_and c.from_residual.result c.from_residual.ensures.1 in
       tried_unread k e c.requires.sound c.args.position p there t at.1.count at.1.items (record e { posts = t }) c.from_residual.result r.0 r.1 refl refl;
   rest = refl;
@@ -48,14 +48,14 @@ returns-in_err-question g c = record {
       let k = g.K.Keeper.contents in
       let (p, there) = there_at e.posts.items.items c.args.position c.requires.within in
       let t = c.take-begun.new.self in
-      let at = c.take-begun.ensures p there in
+      let at = c.take-begun.ensures.1 p there in
       spare_taken k e c.requires.sound c.args.position p there t at.1.count at.1.items spare;
   sound =
       let e = c.args.self.now in
       let k = g.K.Keeper.contents in
       let (p, there) = there_at e.posts.items.items c.args.position c.requires.within in
       let t = c.take-begun.new.self in
-      let at = c.take-begun.ensures p there in
+      let at = c.take-begun.ensures.1 p there in
       sound_taken k e c.requires.sound c.args.position p there t at.1.count at.1.items;
 }
 
@@ -65,7 +65,7 @@ returns-in-Refused g c = record {
       let e = c.args.self.now in
       let k = g.K.Keeper.contents in
       let t = c.take-begun.new.self in
-      let at = c.take-begun.ensures p there in
+      let at = c.take-begun.ensures.1 p there in
       let words = subst (λ (x : Begun). Begins (rules_of e) e.store (k e.demand.keeper) (bare k e c.requires.sound c.args.position p there t at.1.count at.1.items) c.take-begun.result x) c.in-Refused.is (c.in_ok-question.ensures.begins (bare k e c.requires.sound c.args.position p there t at.1.count at.1.items) (there_still k e c.requires.sound c.args.position p there t at.1.count at.1.items) (was_begun k e c.requires.sound c.args.position p there t at.1.count at.1.items c.take-begun.result at.0)) in
       tried_refused k e c.requires.sound c.args.position p there t at.1.count at.1.items (record e { posts = t }) c.in-Refused.refusal (Ok (Some (form.Refused c.in-Refused.refusal))) refl refl refl words;
   rest = refl;
@@ -74,14 +74,14 @@ returns-in-Refused g c = record {
       let k = g.K.Keeper.contents in
       let (p, there) = there_at e.posts.items.items c.args.position c.requires.within in
       let t = c.take-begun.new.self in
-      let at = c.take-begun.ensures p there in
+      let at = c.take-begun.ensures.1 p there in
       spare_taken k e c.requires.sound c.args.position p there t at.1.count at.1.items spare;
   sound =
       let e = c.args.self.now in
       let k = g.K.Keeper.contents in
       let (p, there) = there_at e.posts.items.items c.args.position c.requires.within in
       let t = c.take-begun.new.self in
-      let at = c.take-begun.ensures p there in
+      let at = c.take-begun.ensures.1 p there in
       sound_taken k e c.requires.sound c.args.position p there t at.1.count at.1.items;
 }
 
@@ -97,13 +97,16 @@ turn-requires-clause-sound g c = record { conform = c.requires.sound.conforming;
 pub turn-requires-clause-right : goal.turn-requires-clause-right
 turn-requires-clause-right g c = c.requires.sound.right.values
 
+pub turn-requires-clause-plain : goal.turn-requires-clause-plain
+turn-requires-clause-plain g c = c.requires.sound.right.plain
+
 pub turn-requires-clause-standing : goal.turn-requires-clause-standing
 turn-requires-clause-standing g c =
     let e = c.args.self.now in
     let k = g.K.Keeper.contents in
     let (p, there) = there_at e.posts.items.items c.args.position c.requires.within in
     let t = c.take-begun.new.self in
-    let at = c.take-begun.ensures p there in
+    let at = c.take-begun.ensures.1 p there in
     let b = subst (λ (x : Begun). Begins (rules_of e) e.store (k e.demand.keeper) (bare k e c.requires.sound c.args.position p there t at.1.count at.1.items) c.take-begun.result x) c.in-Question.is (c.in_ok-question.ensures.begins (bare k e c.requires.sound c.args.position p there t at.1.count at.1.items) (there_still k e c.requires.sound c.args.position p there t at.1.count at.1.items) (was_begun k e c.requires.sound c.args.position p there t at.1.count at.1.items c.take-begun.result at.0)) in
     b.begun.standing
 
@@ -113,7 +116,7 @@ told-requires g c =
     let k = g.K.Keeper.contents in
     let (p, there) = there_at e.posts.items.items c.args.position c.requires.within in
     let t = c.take-begun.new.self in
-    let at = c.take-begun.ensures p there in
+    let at = c.take-begun.ensures.1 p there in
     let b = subst (λ (x : Begun). Begins (rules_of e) e.store (k e.demand.keeper) (bare k e c.requires.sound c.args.position p there t at.1.count at.1.items) c.take-begun.result x) c.in-Question.is (c.in_ok-question.ensures.begins (bare k e c.requires.sound c.args.position p there t at.1.count at.1.items) (there_still k e c.requires.sound c.args.position p there t at.1.count at.1.items) (was_begun k e c.requires.sound c.args.position p there t at.1.count at.1.items c.take-begun.result at.0)) in
     let d = c.turn.ensures in
     record { sound = sound_more k e c.requires.sound c.args.position p there t at.1.count at.1.items (k c.turn.new.self.keeper) d.worthy.stays (d.stays (there_asked k e c.requires.sound c.args.position p there t at.1.count at.1.items c.take-begun.result at.0 c.in-Question.question b) c.requires.sound.right) }
@@ -124,7 +127,7 @@ returns-in_err-answer g c = record {
       let e = c.args.self.now in
       let k = g.K.Keeper.contents in
       let t = c.take-begun.new.self in
-      let at = c.take-begun.ensures p there in
+      let at = c.take-begun.ensures.1 p there in
       let b = subst (λ (x : Begun). Begins (rules_of e) e.store (k e.demand.keeper) (bare k e c.requires.sound c.args.position p there t at.1.count at.1.items) c.take-begun.result x) c.in-Question.is (c.in_ok-question.ensures.begins (bare k e c.requires.sound c.args.position p there t at.1.count at.1.items) (there_still k e c.requires.sound c.args.position p there t at.1.count at.1.items) (was_begun k e c.requires.sound c.args.position p there t at.1.count at.1.items c.take-begun.result at.0)) in
       let r = err_from_is_err_and c.from_residual-in_err-answer.result c.from_residual-in_err-answer.ensures.1 in
       tried_err k e c.requires.sound c.args.position p there t at.1.count at.1.items c.take-begun.result at.0 c.in-Question.question b (record e { posts = t; demand = c.turn.new.self }) c.turn.ensures.last c.from_residual-in_err-answer.result r.0 r.1 refl;
@@ -134,7 +137,7 @@ returns-in_err-answer g c = record {
       let k = g.K.Keeper.contents in
       let (p, there) = there_at e.posts.items.items c.args.position c.requires.within in
       let t = c.take-begun.new.self in
-      let at = c.take-begun.ensures p there in
+      let at = c.take-begun.ensures.1 p there in
       let d = c.turn.ensures in
       let was = was_sparing k e c.requires.sound c.args.position p there t at.1.count at.1.items c.take-begun.result at.0 spare in
       let sparing = subst (λ (x : Begun). BeginsSparing (rules_of e) (contents e.store) (k e.demand.keeper) x) c.in-Question.is (c.in_ok-question.ensures.sparing was) in
@@ -144,7 +147,7 @@ returns-in_err-answer g c = record {
       let k = g.K.Keeper.contents in
       let (p, there) = there_at e.posts.items.items c.args.position c.requires.within in
       let t = c.take-begun.new.self in
-      let at = c.take-begun.ensures p there in
+      let at = c.take-begun.ensures.1 p there in
       let b = subst (λ (x : Begun). Begins (rules_of e) e.store (k e.demand.keeper) (bare k e c.requires.sound c.args.position p there t at.1.count at.1.items) c.take-begun.result x) c.in-Question.is (c.in_ok-question.ensures.begins (bare k e c.requires.sound c.args.position p there t at.1.count at.1.items) (there_still k e c.requires.sound c.args.position p there t at.1.count at.1.items) (was_begun k e c.requires.sound c.args.position p there t at.1.count at.1.items c.take-begun.result at.0)) in
       let d = c.turn.ensures in
       sound_more k e c.requires.sound c.args.position p there t at.1.count at.1.items (k c.turn.new.self.keeper) d.worthy.stays (d.stays (there_asked k e c.requires.sound c.args.position p there t at.1.count at.1.items c.take-begun.result at.0 c.in-Question.question b) c.requires.sound.right);
@@ -156,7 +159,7 @@ returns-in_err-told-in-Some g c = record {
       let e = c.args.self.now in
       let k = g.K.Keeper.contents in
       let t = c.take-begun.new.self in
-      let at = c.take-begun.ensures p there in
+      let at = c.take-begun.ensures.1 p there in
       let b = subst (λ (x : Begun). Begins (rules_of e) e.store (k e.demand.keeper) (bare k e c.requires.sound c.args.position p there t at.1.count at.1.items) c.take-begun.result x) c.in-Question.is (c.in_ok-question.ensures.begins (bare k e c.requires.sound c.args.position p there t at.1.count at.1.items) (there_still k e c.requires.sound c.args.position p there t at.1.count at.1.items) (was_begun k e c.requires.sound c.args.position p there t at.1.count at.1.items c.take-begun.result at.0)) in
       let r = err_from_is_err_and c.from_residual-in_err-told-in-Some.result c.from_residual-in_err-told-in-Some.ensures.1 in
       tried_err k e c.requires.sound c.args.position p there t at.1.count at.1.items c.take-begun.result at.0 c.in-Question.question b (record e { posts = t; demand = c.turn.new.self }) c.turn.ensures.last c.from_residual-in_err-told-in-Some.result r.0 r.1 refl;
@@ -166,7 +169,7 @@ returns-in_err-told-in-Some g c = record {
       let k = g.K.Keeper.contents in
       let (p, there) = there_at e.posts.items.items c.args.position c.requires.within in
       let t = c.take-begun.new.self in
-      let at = c.take-begun.ensures p there in
+      let at = c.take-begun.ensures.1 p there in
       let d = c.turn.ensures in
       let was = was_sparing k e c.requires.sound c.args.position p there t at.1.count at.1.items c.take-begun.result at.0 spare in
       let sparing = subst (λ (x : Begun). BeginsSparing (rules_of e) (contents e.store) (k e.demand.keeper) x) c.in-Question.is (c.in_ok-question.ensures.sparing was) in
@@ -176,7 +179,7 @@ returns-in_err-told-in-Some g c = record {
       let k = g.K.Keeper.contents in
       let (p, there) = there_at e.posts.items.items c.args.position c.requires.within in
       let t = c.take-begun.new.self in
-      let at = c.take-begun.ensures p there in
+      let at = c.take-begun.ensures.1 p there in
       let b = subst (λ (x : Begun). Begins (rules_of e) e.store (k e.demand.keeper) (bare k e c.requires.sound c.args.position p there t at.1.count at.1.items) c.take-begun.result x) c.in-Question.is (c.in_ok-question.ensures.begins (bare k e c.requires.sound c.args.position p there t at.1.count at.1.items) (there_still k e c.requires.sound c.args.position p there t at.1.count at.1.items) (was_begun k e c.requires.sound c.args.position p there t at.1.count at.1.items c.take-begun.result at.0)) in
       let d = c.turn.ensures in
       sound_more k e c.requires.sound c.args.position p there t at.1.count at.1.items (k c.turn.new.self.keeper) d.worthy.stays (d.stays (there_asked k e c.requires.sound c.args.position p there t at.1.count at.1.items c.take-begun.result at.0 c.in-Question.question b) c.requires.sound.right);
@@ -188,7 +191,7 @@ returns-in_ok-told-in-Some g c = record {
       let e = c.args.self.now in
       let k = g.K.Keeper.contents in
       let t = c.take-begun.new.self in
-      let at = c.take-begun.ensures p there in
+      let at = c.take-begun.ensures.1 p there in
       let b = subst (λ (x : Begun). Begins (rules_of e) e.store (k e.demand.keeper) (bare k e c.requires.sound c.args.position p there t at.1.count at.1.items) c.take-begun.result x) c.in-Question.is (c.in_ok-question.ensures.begins (bare k e c.requires.sound c.args.position p there t at.1.count at.1.items) (there_still k e c.requires.sound c.args.position p there t at.1.count at.1.items) (was_begun k e c.requires.sound c.args.position p there t at.1.count at.1.items c.take-begun.result at.0)) in
       let d = c.in_ok-answer.ensures in
       let a = answer_view c.in-Some.answer in
@@ -203,7 +206,7 @@ returns-in_ok-told-in-Some g c = record {
       let k = g.K.Keeper.contents in
       let (p, there) = there_at e.posts.items.items c.args.position c.requires.within in
       let t = c.take-begun.new.self in
-      let at = c.take-begun.ensures p there in
+      let at = c.take-begun.ensures.1 p there in
       let d = c.turn.ensures in
       let was = was_sparing k e c.requires.sound c.args.position p there t at.1.count at.1.items c.take-begun.result at.0 spare in
       let sparing = subst (λ (x : Begun). BeginsSparing (rules_of e) (contents e.store) (k e.demand.keeper) x) c.in-Question.is (c.in_ok-question.ensures.sparing was) in
@@ -213,7 +216,7 @@ returns-in_ok-told-in-Some g c = record {
       let k = g.K.Keeper.contents in
       let (p, there) = there_at e.posts.items.items c.args.position c.requires.within in
       let t = c.take-begun.new.self in
-      let at = c.take-begun.ensures p there in
+      let at = c.take-begun.ensures.1 p there in
       let b = subst (λ (x : Begun). Begins (rules_of e) e.store (k e.demand.keeper) (bare k e c.requires.sound c.args.position p there t at.1.count at.1.items) c.take-begun.result x) c.in-Question.is (c.in_ok-question.ensures.begins (bare k e c.requires.sound c.args.position p there t at.1.count at.1.items) (there_still k e c.requires.sound c.args.position p there t at.1.count at.1.items) (was_begun k e c.requires.sound c.args.position p there t at.1.count at.1.items c.take-begun.result at.0)) in
       let d = c.turn.ensures in
       sound_more k e c.requires.sound c.args.position p there t at.1.count at.1.items (k c.turn.new.self.keeper) d.worthy.stays (d.stays (there_asked k e c.requires.sound c.args.position p there t at.1.count at.1.items c.take-begun.result at.0 c.in-Question.question b) c.requires.sound.right);
@@ -225,11 +228,11 @@ returns-in-None g c = record {
       let e = c.args.self.now in
       let k = g.K.Keeper.contents in
       let t = c.take-begun.new.self in
-      let at = c.take-begun.ensures p there in
+      let at = c.take-begun.ensures.1 p there in
       let b = subst (λ (x : Begun). Begins (rules_of e) e.store (k e.demand.keeper) (bare k e c.requires.sound c.args.position p there t at.1.count at.1.items) c.take-begun.result x) c.in-Question.is (c.in_ok-question.ensures.begins (bare k e c.requires.sound c.args.position p there t at.1.count at.1.items) (there_still k e c.requires.sound c.args.position p there t at.1.count at.1.items) (was_begun k e c.requires.sound c.args.position p there t at.1.count at.1.items c.take-begun.result at.0)) in
       let d = c.in_ok-answer.ensures in
       let turned = subst (λ (o : Option AnswerCode). Turned (contents e.store) (meaning (rules_of e)) (kept_values (k e.demand.keeper)) (under_way c.in-Question.question) (under_way c.turn.new.question) (option_map answer_view o)) c.in-None.is d.turned in
-      let put = c.keep.ensures (bare k e c.requires.sound c.args.position p there t at.1.count at.1.items) (there_still k e c.requires.sound c.args.position p there t at.1.count at.1.items) in
+      let put = c.keep.ensures.1 (bare k e c.requires.sound c.args.position p there t at.1.count at.1.items) (there_still k e c.requires.sound c.args.position p there t at.1.count at.1.items) in
       tried_silent k e c.requires.sound c.args.position p there t at.1.count at.1.items c.take-begun.result at.0 c.in-Question.question b (record e { posts = c.keep.new.self; demand = c.turn.new.self }) c.turn.ensures.last c.turn.new.question turned
       (reopened k e c.requires.sound c.args.position p there t at.1.count at.1.items (k c.turn.new.self.keeper) c.turn.ensures.worthy.stays c.turn.new.question c.keep.new.self put.count put.items);
   rest = refl;
@@ -238,10 +241,10 @@ returns-in-None g c = record {
       let k = g.K.Keeper.contents in
       let (p, there) = there_at e.posts.items.items c.args.position c.requires.within in
       let t = c.take-begun.new.self in
-      let at = c.take-begun.ensures p there in
+      let at = c.take-begun.ensures.1 p there in
       let d = c.in_ok-answer.ensures in
       let all = c.turn.ensures in
-      let put = c.keep.ensures (bare k e c.requires.sound c.args.position p there t at.1.count at.1.items) (there_still k e c.requires.sound c.args.position p there t at.1.count at.1.items) in
+      let put = c.keep.ensures.1 (bare k e c.requires.sound c.args.position p there t at.1.count at.1.items) (there_still k e c.requires.sound c.args.position p there t at.1.count at.1.items) in
       let was = was_sparing k e c.requires.sound c.args.position p there t at.1.count at.1.items c.take-begun.result at.0 spare in
       let sparing = subst (λ (x : Begun). BeginsSparing (rules_of e) (contents e.store) (k e.demand.keeper) x) c.in-Question.is (c.in_ok-question.ensures.sparing was) in
       spare_put k e c.requires.sound c.args.position p there t at.1.count at.1.items (k c.turn.new.self.keeper) all.worthy.stays c.turn.new.question c.keep.new.self put.count put.items (all.spare exact spare.kept sparing) (d.sparing exact spare.kept sparing) spare;
@@ -250,11 +253,11 @@ returns-in-None g c = record {
       let k = g.K.Keeper.contents in
       let (p, there) = there_at e.posts.items.items c.args.position c.requires.within in
       let t = c.take-begun.new.self in
-      let at = c.take-begun.ensures p there in
+      let at = c.take-begun.ensures.1 p there in
       let b = subst (λ (x : Begun). Begins (rules_of e) e.store (k e.demand.keeper) (bare k e c.requires.sound c.args.position p there t at.1.count at.1.items) c.take-begun.result x) c.in-Question.is (c.in_ok-question.ensures.begins (bare k e c.requires.sound c.args.position p there t at.1.count at.1.items) (there_still k e c.requires.sound c.args.position p there t at.1.count at.1.items) (was_begun k e c.requires.sound c.args.position p there t at.1.count at.1.items c.take-begun.result at.0)) in
       let d = c.in_ok-answer.ensures in
       let all = c.turn.ensures in
-      let put = c.keep.ensures (bare k e c.requires.sound c.args.position p there t at.1.count at.1.items) (there_still k e c.requires.sound c.args.position p there t at.1.count at.1.items) in
+      let put = c.keep.ensures.1 (bare k e c.requires.sound c.args.position p there t at.1.count at.1.items) (there_still k e c.requires.sound c.args.position p there t at.1.count at.1.items) in
       let asks = asked_same (rules_of e) e.store (k e.demand.keeper) c.in-Question.question b.begun.standing (under_way c.turn.new.question) c.in_ok-answer.field-0 d.turned in
       sound_put k e c.requires.sound c.args.position p there t at.1.count at.1.items (k c.turn.new.self.keeper) all.worthy.stays c.turn.new.question c.keep.new.self put.count put.items (all.stays (there_asked k e c.requires.sound c.args.position p there t at.1.count at.1.items c.take-begun.result at.0 c.in-Question.question b) c.requires.sound.right)
       (begun_after k e c.requires.sound c.args.position p there t at.1.count at.1.items c.take-begun.result at.0 c.in-Question.question b (k c.turn.new.self.keeper) c.turn.new.question asks d.standing);

@@ -22,6 +22,7 @@ loop-question-init g c =
     record {
       standing = c.requires.standing;
       right = c.requires.right;
+      plain = c.requires.plain;
       same = refl;
       worthy = worthy_none c.args.rules.now (contents c.args.store.now) (asked (under_way c.args.question)) entries;
       stays = λ there right. right;
@@ -43,6 +44,7 @@ loop-question-preserved g c =
     record {
       standing = e.standing;
       right = c.turns.ensures.right;
+      plain = c.turns.ensures.plain;
       same = still_asked rules s old q inv.standing 18446744073709551615 c.in_ok-answer.field-0-0 (under_way p) given ∙ inv.same;
       worthy = worthy_both rules (contents s) (asked (under_way c.args.question)) first old new inv.worthy (subst (λ (i : Instance ℕ). AddsWorthy rules (contents s) i old new) inv.same c.turns.ensures.worthy);
       stays = λ there right. c.turns.ensures.stays (subst (λ (i : Instance ℕ). IsThere s i) (sym inv.same) there) (inv.stays there right);

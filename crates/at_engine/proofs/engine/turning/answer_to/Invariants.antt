@@ -3,7 +3,7 @@ use Rattle.std.specs.Prelude.{IsTrue}
 use Rattle.at_model.specs.Meaning.{Right}
 use Rattle.at_model.specs.Turning.{asked, turns_of}
 use Rattle.at_store.specs.Shown.{contents}
-use Rattle.at_demand.specs.Known.{kept_values, meaning}
+use Rattle.at_demand.specs.Known.{kept_values, meaning, ArePlain}
 use Rattle.at_demand.specs.Right.{AreRight, IsThere}
 use Rattle.at_demand.specs.Sparing.{AddsWorthy, AreSpare}
 use Rattle.at_demand.specs.Turns.{IsSparingTurns, IsStanding, under_way}
@@ -14,6 +14,7 @@ abbrev pub invariant-loop-question : goal.invariant-loop-question
 invariant-loop-question g l = record {
   standing : IsStanding l.rules l.store (g.K.Keeper.contents l.demand.keeper) l.question;
   right : Right (contents l.store) (meaning l.rules) (kept_values (g.K.Keeper.contents l.demand.keeper));
+  plain : ArePlain l.rules (g.K.Keeper.contents l.demand.keeper);
   same : asked (under_way l.question) ≡ asked (under_way l.initial.question);
   worthy : AddsWorthy l.rules (contents l.store) (asked (under_way l.initial.question)) (g.K.Keeper.contents l.initial.demand.keeper) (g.K.Keeper.contents l.demand.keeper);
   stays : IsThere l.store (asked (under_way l.initial.question)) → AreRight l.rules l.store (g.K.Keeper.contents l.initial.demand.keeper) → AreRight l.rules l.store (g.K.Keeper.contents l.demand.keeper);

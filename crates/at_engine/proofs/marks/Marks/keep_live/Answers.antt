@@ -5,4 +5,4 @@ use Rattle.at_engine.proofs.of_marks.Leaving.{all_live}
 use Rattle.at_engine.proofs.marks.Marks.keep_live.Goals as goal
 
 pub returns-else-any_gone : goal.returns-else-any_gone
-returns-else-any_gone c = sym (all_live (path c.args.store.now) (listed c.args.self.now.items.entries) (c.requires.there c.if-any_gone.false))
+returns-else-any_gone c = sym (all_live (path c.args.there.now.store.now) (listed c.args.self.now.items.entries) (c.requires c.if-any_gone.false))

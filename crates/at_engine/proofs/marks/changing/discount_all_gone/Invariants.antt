@@ -6,4 +6,4 @@ use Rattle.at_engine.proofs.marks.changing.discount_all_gone.Given as goal
 -- those before whose nodes are gone are counted no more
 abbrev pub invariant-loop-position : goal.invariant-loop-position
 invariant-loop-position l =
-    AreTallied (listed l.items.entries) l.initial.sessions l.initial.nodes → AreTallied (kept_up_to (path l.store) l.position (listed l.items.entries)) l.sessions l.nodes
+    AreTallied (listed l.items.entries) l.initial.sessions l.initial.nodes → AreTallied (kept_up_to (path l.there.store.now) l.position (listed l.items.entries)) l.sessions l.nodes

@@ -7,5 +7,5 @@ use Rattle.at_engine.proofs.marks.changing.keep.Goals as goal
 
 pub returns : goal.returns
 returns c =
-    let look = path c.args.store.now in
+    let look = path c.args.there.now.store.now in
     ap listed (filter-RetainsPairs _ (λ e. is_some (look e.1)) _ (λ k v b w f' t. (search rules, search rules, search rules)) _ _ c.retain.ensures.filtered) ∙ listed_live look c.args.items.now.entries

@@ -9,10 +9,10 @@ loop-position-preserved c =
     let before = c.loop-position.self.items.items in
     let after = c.renew.new.self.items.items in (
       c.renew.ensures.count ∙ c.loop-position.invariant.0,
-      next_renewed (path c.args.store.now) c.loop-position.position c.args.self.now.items.items before after (slice_get before c.loop-position.position) refl c.renew.ensures.renewed c.renew.ensures.none c.loop-position.invariant.1,
+      next_renewed (path c.args.there.now.store.now) c.loop-position.position c.args.self.now.items.items before after (slice_get before c.loop-position.position) refl c.renew.ensures.renewed c.renew.ensures.none c.loop-position.invariant.1,
     )
 
 pub returns-clause-items : goal.returns-clause-items
 returns-clause-items c =
     let past : length c.args.self.now.items.items ≤ c.loop-position.position = omega (arith, c.loop-position-test.false, c.len-position-end.ensures, c.args.self.now.items.ok.0) in
-    all_begun_anew (path c.args.store.now) c.loop-position.position c.args.self.now.items.items c.loop-position.self.items.items past c.loop-position.invariant.1
+    all_begun_anew (path c.args.there.now.store.now) c.loop-position.position c.args.self.now.items.items c.loop-position.self.items.items past c.loop-position.invariant.1

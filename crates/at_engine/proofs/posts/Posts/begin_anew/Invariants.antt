@@ -5,4 +5,4 @@ use Rattle.at_engine.proofs.posts.Posts.begin_anew.Given as goal
 
 -- the questions before have begun anew
 abbrev pub invariant-loop-position : goal.invariant-loop-position
-invariant-loop-position l = (l.self.count ≡ l.initial.self.count) × HaveBegunAnew (path l.store) l.position l.initial.self.items.items l.self.items.items
+invariant-loop-position l = (l.self.count ≡ l.initial.self.count) × HaveBegunAnew (path l.there.store.now) l.position l.initial.self.items.items l.self.items.items

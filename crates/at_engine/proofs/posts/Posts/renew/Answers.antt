@@ -8,7 +8,7 @@ use Rattle.at_engine.proofs.posts.Posts.renew.Goals as goal
 pub returns-in-Some-clause-renewed : goal.returns-in-Some-clause-renewed
 returns-in-Some-clause-renewed c p there =
     let is = c.in-Some.ensures.value ∙ get_or_from_slice_get c.args.self.now.items.items c.args.position p c.in-Some.posted.now there in
-    record { again = c.begin_anew.new.self; anew = subst (λ (x : Posted). IsBegunAnew (path c.args.store.now) x c.begin_anew.new.self) is c.begin_anew.ensures; items = refl }
+    record { again = c.begin_anew.new.self; anew = subst (λ (x : Posted). IsBegunAnew (path c.args.there.now.store.now) x c.begin_anew.new.self) is c.begin_anew.ensures; items = refl }
 
 pub returns-in-Some-clause-none : goal.returns-in-Some-clause-none
 returns-in-Some-clause-none c none =

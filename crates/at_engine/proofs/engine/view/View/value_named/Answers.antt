@@ -1,0 +1,18 @@
+use Rattle.std.proofs.Common.{◌∙◌, Some, None, option_map, string_bytes, ap, refl}
+use Rattle.at_model.specs.Run.{Text, Ref}
+use Rattle.at_model.specs.Alike.{neither, both, ref}
+use Rattle.at_store.specs.Shown.{path}
+use Rattle.at_engine.proofs.Valued.{text_like}
+use Rattle.at_engine.proofs.engine.view.View.value_named.Goals as goal
+
+pub returns-in_ok-text-in-Text : goal.returns-in_ok-text-in-Text
+returns-in_ok-text-in-Text g c =
+    rw c.in-Text.is (Text (string_bytes c.in-Text.text), refl, text_like (path c.args.self.now.store.now) _ _ (c.in_ok-text-in-Text.ensures.ok ∙ c.as_str.ensures.value))
+
+pub returns-in-Some : goal.returns-in-Some
+returns-in-Some g c =
+    let (n, named, p) = c.in-Some.ensures in
+    rw c.in-Node.is (Ref (Some n), ap (option_map (λ m. Ref (Some m))) named, ref (both p))
+
+pub returns-in-Null : goal.returns-in-Null
+returns-in-Null g c = rw c.in-Null.is (Ref None, refl, ref neither)
