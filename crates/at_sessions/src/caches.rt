@@ -4,7 +4,7 @@ use crate::keepers::KeepRefused;
 use crate::keepers::chance::Chance;
 use crate::keepers::compared::KeepCompared;
 use at_body::{Arguments, Inst, Value};
-use at_cache::{KeepNone, KeepRecorded, KeepUntilEdit, Keeper};
+use at_cache::{KeepAtMost, KeepNone, KeepRecorded, KeepUntilEdit, Keeper};
 use at_rules::AttrId;
 use at_store::{Loc, Node};
 use std::alloc::{AllocError, Global};
@@ -16,8 +16,8 @@ fn numbered(number: usize) -> Node {
 }
 
 /// The first attribute of that node.
-fn inst(alloc: Global, node: usize) -> Inst {
-    Inst::new(numbered(node), AttrId::new(0), Arguments::new(alloc))
+fn inst(node: usize) -> Inst {
+    Inst::new(numbered(node), AttrId::new(0), Arguments::none())
 }
 
 /// A location of its own for each node.
@@ -29,29 +29,28 @@ fn own(node: usize) -> Loc {
 fn insts(alloc: Global, nodes: &[usize]) -> Result<Vec<Inst>, AllocError> {
     let mut all = Vec::new(alloc);
     for node in nodes {
-        all.push(inst(alloc, *node))?;
+        all.push(inst(*node))?;
     }
     Ok(all)
 }
 
-/// Puts an entry for an instance that isn't kept, which uses entries that are.
+/// Puts an entry for an instance that has none, which uses entries that are there.
 fn put_new<K: Keeper>(
-    alloc: Global,
     keeper: &mut K,
     inst: Inst,
-    value: Value,
+    value: Option<Value>,
     reads: &[Loc],
     uses: &[Inst],
 ) -> Result<(), AllocError> {
-    if keeper.get(&inst).is_some() {
+    if keeper.stands(&inst) {
         return Ok(());
     }
     for used in uses {
-        let Some(_) = keeper.get(used) else {
+        if !keeper.stands(used) {
             return Ok(());
-        };
+        }
     }
-    keeper.put(inst, value, Vec::from_slice(alloc, reads)?, uses)?;
+    keeper.put(inst, value, reads, uses)?;
     Ok(())
 }
 
@@ -61,10 +60,9 @@ fn recorded(alloc: Global, graph: &[&[usize]]) -> Result<KeepRecorded, AllocErro
     for (node, uses) in graph.iter().enumerate() {
         let uses = insts(alloc, uses)?;
         put_new(
-            alloc,
             &mut keeper,
-            inst(alloc, node),
-            Value::Bool(true),
+            inst(node),
+            Some(Value::Bool(true)),
             &[own(node)],
             uses.as_slice(),
         )?;
@@ -77,9 +75,9 @@ fn flush<K: Keeper>(keeper: &mut K, node: usize) {
     keeper.flush(&|location: Loc| location == own(node));
 }
 
-/// Whether an entry of that node is kept.
-fn has<K: Keeper>(alloc: Global, keeper: &K, node: usize) -> bool {
-    keeper.get(&inst(alloc, node)).is_some()
+/// Whether a value of that node is kept.
+fn has<K: Keeper>(keeper: &K, node: usize) -> bool {
+    keeper.get(&inst(node)).is_some()
 }
 
 /// How many entries a flush of that node's location leaves.
@@ -88,7 +86,7 @@ fn left_of(alloc: Global, graph: &[&[usize]], touched: usize) -> Result<usize, A
     flush(&mut keeper, touched);
     let mut left: usize = 0;
     for node in 0..graph.len() {
-        left = left.saturating_add(usize::from(has(alloc, &keeper, node)));
+        left = left.saturating_add(usize::from(has(&keeper, node)));
     }
     Ok(left)
 }
@@ -113,8 +111,9 @@ const GRAPHS: &[Graph] = &[
 #[test]
 fn what_uses_an_entry_goes_with_it(rt: HostRuntime) -> Result<(), Fail> {
     for graph in GRAPHS {
-        let stored = recorded(rt.alloc(), graph.uses)?.stored();
-        assert_eq!(rt; stored, graph.uses.len());
+        let keeper = recorded(rt.alloc(), graph.uses)?;
+        assert_eq!(rt; keeper.len(), graph.uses.len());
+        assert_eq!(rt; keeper.stored(), graph.uses.len());
         for (touched, left) in graph.left.iter().enumerate() {
             assert_eq!(rt; left_of(rt.alloc(), graph.uses, touched)?, *left);
         }
@@ -127,22 +126,115 @@ fn links_follow_their_entries(rt: HostRuntime) -> Result<(), Fail> {
     let alloc = rt.alloc();
     let mut keeper = recorded(alloc, &[&[], &[0], &[], &[2]])?;
     flush(&mut keeper, 0);
+    assert_eq!(rt; keeper.len(), 2);
     assert_eq!(rt; keeper.stored(), 2);
     let used = insts(alloc, &[3])?;
-    put_new(
-        alloc,
-        &mut keeper,
-        inst(alloc, 4),
-        Value::Int(7),
-        &[],
-        &used,
-    )?;
+    put_new(&mut keeper, inst(4), Some(Value::Int(7)), &[], &used)?;
+    assert_eq!(rt; keeper.len(), 3);
     assert_eq!(rt; keeper.stored(), 2);
     flush(&mut keeper, 0);
-    assert!(rt; keeper.get(&inst(alloc, 4)) == Some(&Value::Int(7)));
+    assert!(rt; keeper.get(&inst(4)) == Some(&Value::Int(7)));
     flush(&mut keeper, 2);
-    assert!(rt; !has(alloc, &keeper, 4));
+    assert!(rt; !has(&keeper, 4));
+    assert_eq!(rt; keeper.len(), 0);
     assert_eq!(rt; keeper.stored(), 0);
+    Ok(())
+}
+
+/// Puts entries of nodes 0 and 1 without a value, and of 2 and 3 with one, of which the one uses 0 and the other 1.
+fn put_pairs<K: Keeper>(alloc: Global, keeper: &mut K) -> Result<(), AllocError> {
+    for node in 0..2 {
+        put_new(keeper, inst(node), None, &[own(node)], &[])?;
+    }
+    for node in 2..4 {
+        put_new(
+            keeper,
+            inst(node),
+            Some(Value::Int(7)),
+            &[own(node)],
+            &insts(alloc, &[node - 2])?,
+        )?;
+    }
+    Ok(())
+}
+
+/// What is seen of a node.
+#[derive(Clone, Copy, PartialEq, Eq)]
+enum Sight {
+    Nothing,
+    Entry,
+    Value,
+}
+
+/// What is seen of that node.
+fn seen<K: Keeper>(keeper: &K, node: usize) -> Sight {
+    if has(keeper, node) {
+        return Sight::Value;
+    }
+    if keeper.stands(&inst(node)) {
+        return Sight::Entry;
+    }
+    Sight::Nothing
+}
+
+/// A flush of the location of a node, and what is seen of each node from 0 on behind it.
+struct Step {
+    touched: usize,
+    left: &'static [Sight],
+}
+
+const STEPS: &[Step] = &[
+    Step {
+        touched: 4,
+        left: &[Sight::Entry, Sight::Entry, Sight::Value, Sight::Value],
+    },
+    Step {
+        touched: 0,
+        left: &[Sight::Nothing, Sight::Entry, Sight::Nothing, Sight::Value],
+    },
+    Step {
+        touched: 1,
+        left: &[Sight::Nothing; 4],
+    },
+];
+
+/// Whether the keeper shows so much of the nodes from 0 on.
+fn shows<K: Keeper>(keeper: &K, nodes: &[Sight]) -> bool {
+    for (node, wanted) in nodes.iter().enumerate() {
+        if seen(keeper, node) != *wanted {
+            return false;
+        }
+    }
+    true
+}
+
+/// Whether entries without a value stand, and go with those that use them, and with none beside these.
+fn goes_with_its_users<K: Keeper>(alloc: Global, mut keeper: K) -> Result<bool, AllocError> {
+    put_pairs(alloc, &mut keeper)?;
+    for step in STEPS {
+        flush(&mut keeper, step.touched);
+        if !shows(&keeper, step.left) {
+            return Ok(false);
+        }
+    }
+    Ok(true)
+}
+
+#[test]
+fn an_entry_without_a_value_is_never_told(rt: HostRuntime) -> Result<(), Fail> {
+    let alloc = rt.alloc();
+    assert!(rt; goes_with_its_users(alloc, KeepRecorded::new(alloc))?);
+    assert!(rt; goes_with_its_users(alloc, KeepAtMost::new(alloc, 4))?);
+    assert!(rt; goes_with_its_users(alloc, KeepCompared::new(alloc, usize::MAX))?);
+    Ok(())
+}
+
+#[test]
+fn what_stands_for_everything_needs_no_entry_without_a_value(rt: HostRuntime) -> Result<(), Fail> {
+    let alloc = rt.alloc();
+    let mut keeper = KeepUntilEdit::new(alloc);
+    put_pairs(alloc, &mut keeper)?;
+    assert!(rt; shows(&keeper, &[Sight::Nothing; 4]));
     Ok(())
 }
 
@@ -161,7 +253,15 @@ fn location(chance: &mut Chance) -> Loc {
     }
 }
 
-/// Puts an entry of a node, where it has none, with reads and uses by chance.
+/// A value of that node, or none.
+fn value_by_chance(chance: &mut Chance, node: usize) -> Option<Value> {
+    if chance.below(3) == 0 {
+        return None;
+    }
+    Some(Value::Ref(Some(numbered(node))))
+}
+
+/// Puts an entry of a node, where it has none, with or without a value, with reads and uses by chance.
 fn put_by_chance(
     alloc: Global,
     keeper: &mut KeepCompared,
@@ -173,14 +273,8 @@ fn put_by_chance(
         reads.push(location(chance))?;
     }
     let uses = used(alloc, keeper, chance)?;
-    put_new(
-        alloc,
-        keeper,
-        inst(alloc, node),
-        Value::Int(node as i32),
-        reads.as_slice(),
-        uses.as_slice(),
-    )
+    let value = value_by_chance(chance, node);
+    put_new(keeper, inst(node), value, reads.as_slice(), uses.as_slice())
 }
 
 /// The instances of some of the nodes that have an entry.
@@ -191,8 +285,8 @@ fn used(
 ) -> Result<Vec<Inst>, AllocError> {
     let mut uses = Vec::new(alloc);
     for node in 0..NODES {
-        if chance.below(3) == 0 && has(alloc, keeper, node) {
-            uses.push(inst(alloc, node))?;
+        if chance.below(3) == 0 && keeper.stands(&inst(node)) {
+            uses.push(inst(node))?;
         }
     }
     Ok(uses)
@@ -217,27 +311,19 @@ fn the_index_forgets_what_plain_models_forget(rt: HostRuntime) -> Result<(), Fai
 }
 
 /// Whether the keeper takes an entry, or not; whether it keeps what it took; and whether it forgets it with any flush.
-fn is_as_told<K: Keeper>(alloc: Global, mut keeper: K, takes: bool, keeps: bool) -> bool {
-    let taken = put_new(
-        alloc,
-        &mut keeper,
-        inst(alloc, 1),
-        Value::Int(5),
-        &[own(1)],
-        &[],
-    )
-    .is_ok();
-    let kept = keeper.get(&inst(alloc, 1)) == Some(&Value::Int(5));
-    let is_other_kept = has(alloc, &keeper, 2);
+fn is_as_told<K: Keeper>(mut keeper: K, takes: bool, keeps: bool) -> bool {
+    let taken = put_new(&mut keeper, inst(1), Some(Value::Int(5)), &[own(1)], &[]).is_ok();
+    let kept = keeper.get(&inst(1)) == Some(&Value::Int(5));
+    let is_other_kept = has(&keeper, 2);
     flush(&mut keeper, 2);
-    taken == takes && kept == keeps && !is_other_kept && !has(alloc, &keeper, 1)
+    taken == takes && kept == keeps && !is_other_kept && !has(&keeper, 1)
 }
 
 #[test]
 fn what_records_nothing_keeps_until_an_edit_at_most(rt: HostRuntime) -> Result<(), Fail> {
     let alloc = rt.alloc();
-    assert!(rt; is_as_told(alloc, KeepUntilEdit::new(alloc), true, true));
-    assert!(rt; is_as_told(alloc, KeepNone::new(alloc), true, false));
-    assert!(rt; is_as_told(alloc, KeepRefused {}, false, false));
+    assert!(rt; is_as_told(KeepUntilEdit::new(alloc), true, true));
+    assert!(rt; is_as_told(KeepNone::new(alloc), true, false));
+    assert!(rt; is_as_told(KeepRefused {}, false, false));
     Ok(())
 }

@@ -13,8 +13,8 @@
 #![tactic(auto)]
 
 ghost use Rattle.std.specs.Prelude.{◌≡◌, None, IfOk, IfErr};
+ghost use Rattle.at_cache.specs.Keeping.{recorded_by};
 ghost use Rattle.at_cache.specs.Kept.{KeepsAll};
-ghost use Rattle.at_cache.specs.Recorded.{kept_in};
 ghost use Rattle.at_engine.specs.Engines.{rules_of, state_of, IsSound};
 ghost use Rattle.at_engine.specs.Keeping.{IsSpare, work_of};
 ghost use Rattle.at_start.specs.Starts.{Starts, IsReady, IsStartFault};
@@ -50,7 +50,7 @@ use tree::tree_of;
 pub fn start(alloc: Global, files: &Files) -> Result<Engine<KeepRecorded>, StartFault>
     ensures started { IfOk result (λ e. Starts files.now (rules_of e) (state_of e)) }
     ensures ready { IfOk result IsReady }
-    ensures spare { IfOk result (IsSpare (λ k. kept_in k.entries k.puts)) }
+    ensures spare { IfOk result (IsSpare recorded_by) }
     ensures work { IfOk result (λ e. work_of e ≡ 0) }
     ensures refused { IfErr result (IsStartFault files.now) }
 {

@@ -2,7 +2,7 @@
 
 ghost use Rattle.std.specs.Prelude.{◌≡◌, None};
 ghost use Rattle.at_cache.specs.Kept.{KeepsAll};
-ghost use Rattle.at_cache.specs.Recorded.{kept_in};
+ghost use Rattle.at_cache.specs.Keeping.{recorded_by};
 
 use super::flat::{Covering, Flat};
 use super::listed::List;
@@ -40,10 +40,18 @@ impl Drop for KeepCompared {
     }
 }
 
+/// The value once more, if there is one.
+fn copied(value: &Option<Value>) -> Result<Option<Value>, AllocError> {
+    match value {
+        Some(value) => Ok(Some(value.copy()?)),
+        None => Ok(None),
+    }
+}
+
 impl KeepCompared {
     /// A keeper that keeps nothing yet, and takes no entry any more behind so many that are gone.
     pub fn new(alloc: Global, most_gone: usize) -> KeepCompared
-        ensures { KeepsAll (λ _. None) (kept_in result.keeper.entries result.keeper.puts) }
+        ensures { KeepsAll (λ _. None) (recorded_by result.keeper) }
     {
         KeepCompared {
             alloc,
@@ -68,7 +76,7 @@ impl KeepCompared {
     }
 
     /// The models get an entry more. Where memory is wanting they differ from now on.
-    fn note(&mut self, inst: Inst, value: Value, reads: &[Loc], uses: &[Inst])
+    fn note(&mut self, inst: Inst, value: Option<Value>, reads: &[Loc], uses: &[Inst])
         ensures { self.new.keeper ≡ self.old.keeper }
     {
         if self.enter(inst, value, reads, uses).is_err() {
@@ -79,7 +87,7 @@ impl KeepCompared {
     fn enter(
         &mut self,
         inst: Inst,
-        value: Value,
+        value: Option<Value>,
         reads: &[Loc],
         uses: &[Inst],
     ) -> Result<(), AllocError>
@@ -119,7 +127,7 @@ impl KeepCompared {
 impl Keeper for KeepCompared {
     ghost use Rattle.std.specs.Prelude.{true};
 
-    ghost contents = { λ k. kept_in k.keeper.entries k.keeper.puts };
+    ghost contents = { λ k. recorded_by k.keeper };
 
     ghost exact = { true };
 
@@ -127,21 +135,24 @@ impl Keeper for KeepCompared {
         self.keeper.get(inst)
     }
 
+    fn stands(&self, inst: &Inst) -> bool {
+        self.keeper.stands(inst)
+    }
+
     fn put(
         &mut self,
         inst: Inst,
-        value: Value,
-        reads: Vec<Loc>,
+        value: Option<Value>,
+        reads: &[Loc],
         uses: &[Inst],
     ) -> Result<Put, AllocError> {
         if self.differs || self.gone > self.most_gone {
             return Err(AllocError);
         }
         let noted = inst.copy(self.alloc)?;
-        let told = value.copy()?;
-        let read = Vec::from_slice(self.alloc, reads.as_slice())?;
+        let told = copied(&value)?;
         let put = self.keeper.put(inst, value, reads, uses)?;
-        self.note(noted, told, read.as_slice(), uses);
+        self.note(noted, told, reads, uses);
         Ok(put)
     }
 

@@ -7,12 +7,12 @@ use at_store::Loc;
 use std::alloc::{AllocError, Global};
 use std::mem;
 
-/// An entry with its number, and the locations that it stands for.
+/// An entry with its number, its value, if it has one, and the locations that it stands for.
 #[derive(Drop)]
 pub struct Covering {
     pub number: usize,
     pub inst: Inst,
-    pub value: Value,
+    pub value: Option<Value>,
     pub covers: Vec<Loc>,
 }
 
@@ -36,10 +36,20 @@ impl Covering {
         false
     }
 
+    /// Whether the keeper tells its value just where it stays, and has one.
+    fn is_told(&self, keeper: &KeepRecorded, stays: bool) -> bool {
+        match keeper.get(&self.inst) {
+            Some(value) => stays && self.value.as_ref() == Some(value),
+            None => !stays || self.value.is_none(),
+        }
+    }
+
     /// Whether the keeper and the list have the entry just where it stays.
     fn is_alike(&self, keeper: &KeepRecorded, list: &List, stays: bool) -> bool {
-        let is_kept = keeper.get(&self.inst) == Some(&self.value);
-        is_kept == stays && list.has(self.number) == stays
+        if keeper.stands(&self.inst) != stays || list.has(self.number) != stays {
+            return false;
+        }
+        self.is_told(keeper, stays)
     }
 }
 
