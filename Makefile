@@ -38,6 +38,7 @@ run: tools
 # tests of the clients (in Neovim and Chromium, which are installed where they are missing and that may be; else their tests
 # name the package), and the examples of the manual, the tutorial, the samples and single tries.
 test: tools python
+	@python3 tools/counts.py --hold
 	@python3 tools/gate.py
 	@python3 tools/starve.py crates/starve/out/starve
 	@python3 tools/program.py crates/attrd/out/attrd
