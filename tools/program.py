@@ -265,7 +265,8 @@ def served_by(run, path, line, reply):
 
 def a_socket_on_which_nobody_answers_is_taken_over(runs):
     path = str(runs.folder / "s")
-    killed = runs.begin(["--socket", path, *THREE])
+    # it waits for another connection, so that it doesn't end by itself before it is killed
+    killed = runs.begin(["--socket", path, "--connections", "2", *THREE])
     connected(path, killed).close()
     killed.kill()
     killed.wait(SECONDS)
