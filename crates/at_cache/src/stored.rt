@@ -8,7 +8,7 @@ use crate::edge::Edge;
 use crate::facet::Readers;
 use crate::table::Table;
 
-/// How many locations the entries read, a location once for each of them; or the greatest `usize` if they are more.
+/// How many direct reads the entries have, each location as often as it was put; or the greatest `usize` if they are more.
 pub fn reads_held(entries: &Table, readers: &[Vec<Readers>]) -> usize
     ensures { result ≡ min (reads_held (memory_of entries.now) readers.now) (2 ^ 64 - 1) }
 {
