@@ -79,6 +79,7 @@ impl ClassTable {
     pub fn start(&self) -> ClassId
         ensures first { result ≡ 0 }
         ensures within { result < length self.now }
+        ensures sound { AreSound self.now }
     {
         self.start
     }

@@ -1,10 +1,9 @@
 -- What a contract sees of a store: the tree, and which number each node has.
-use Rattle.std.specs.Prelude.{◌≡◌, ℕ, Option, None, true, false}
-use Rattle.at_model.specs.Trees.{Tree, Truth}
+use Rattle.std.specs.Prelude.{◌≡◌, ℕ, Option, None, true}
+use Rattle.at_model.specs.Trees.{Tree}
 use Rattle.at_model.specs.Paths.{Node}
 use Rattle.at_model.specs.Run.{Contents}
 use Rattle.at_model.specs.Edits.{is_within_limits}
-use Rattle.at_tree.specs.Token.{token_view}
 use Rattle.at_store.specs.Numbers.{path_in, relabel, contents as shown_contents}
 use Rattle.at_store.specs.Memory.{Keeps, class_in}
 use Rattle.at_store.specs.Grown.{grown}
@@ -35,5 +34,4 @@ pub record IsIdle (s : Shown) : Type 0 where
   pub leaving : s.leaving ≡ None
   pub keeps : Keeps (memory_of s.slab) (numbers s) None
   pub limits : is_within_limits (tree s) ≡ true
-  pub absent : token_view s.absent ≡ Truth false
   pub unmarked : IsUnmarked s.slab

@@ -2,12 +2,12 @@
 ghost use Rattle.std.specs.Prelude.{◌≡◌, IfOk, Some, false, is_some, map, option_map};
 ghost use Rattle.std.specs.List.{slice_get};
 ghost use Rattle.std.specs.Option.{option_copied};
-ghost use Rattle.at_model.specs.Trees.{Truth};
-ghost use Rattle.at_tree.specs.Token.{token_view};
 ghost use Rattle.at_store.specs.Memory.{cell_in, cells_in, class_in, index_in, kids_in, numbers_in, token_in_cell, up_in};
+ghost use Rattle.at_store.specs.Tokens.{lent_view};
 ghost use Rattle.at_store.specs.View.{kept_view, leaves_in, memory_of};
 
 use crate::node::Node;
+use crate::token::Token;
 use at_class::ClassId;
 use at_tree::token::TokVal;
 use slab::Slab;
@@ -173,18 +173,12 @@ pub(crate) fn kid_at(slab: &Slab<Entry>, node: Node, part: usize, index: usize) 
     kids_at(slab, node, part).get(index).copied()
 }
 
-/// The value of a token of a node, or another one where there is no such token.
-pub(crate) fn token_at<'a>(
-    slab: &'a Slab<Entry>,
-    node: Node,
-    part: usize,
-    absent: &'a TokVal,
-) -> &'a TokVal
-    requires { token_view absent.now ≡ Truth false }
-    ensures { token_view result.now ≡ token_in_cell (memory_of slab.now node) part }
+/// The value of a token of a node; `false` where there is no such token.
+pub(crate) fn token_at(slab: &Slab<Entry>, node: Node, part: usize) -> Token<'_>
+    ensures { lent_view result ≡ token_in_cell (memory_of slab.now node) part }
 {
     match slot_at(slab, node, part) {
-        Some(Slot::Token(value)) => value,
-        _ => absent,
+        Some(Slot::Token(value)) => Token::of(value),
+        _ => Token::Bool(false),
     }
 }

@@ -47,20 +47,19 @@ module _ (before later : Shown) (memory_stays : IsAsBefore (memory_of before.sla
     same_tree : tree later ≡ tree before
     same_tree = ap (λ (m : ℕ → Option Info). relabel (class_in m) (numbers later)) (sym equal) ∙ ap (relabel (class_in (memory_of before.slab))) same_numbers
 
-    pub still_idle : IsIdle before → later.waiting ≡ before.waiting → later.leaving ≡ before.leaving → later.absent ≡ before.absent → MarksNoMore before.slab later.slab → IsIdle later
-    still_idle h waiting leaving absent marks = record {
+    pub still_idle : IsIdle before → later.waiting ≡ before.waiting → later.leaving ≡ before.leaving → MarksNoMore before.slab later.slab → IsIdle later
+    still_idle h waiting leaving marks = record {
       waiting = waiting ∙ h.waiting;
       leaving = leaving ∙ h.leaving;
       keeps = subst (λ (t : Tree). Keeps (memory_of later.slab) t None) (sym same_numbers) (subst (λ (m : ℕ → Option Info). Keeps m (numbers before) None) equal h.keeps);
       limits = ap model.is_within_limits same_tree ∙ h.limits;
-      absent = ap token_view absent ∙ h.absent;
       unmarked = unmarked_still before.slab later.slab marks h.unmarked;
     }
 
 -- a refused edit changes nothing
 pub refused : (classes : Classes) (old new : Shown) (e : model.Edit) (r : Refusal) → IsIdle old → IsStoreAsBefore old new → MarksNoMore old.slab new.slab → (r ≡ refusal.Memory) ⊎ IsRefusalOf (model.edited classes (tree old) e) (model.left_by (tree old) e) (Some r) → IsRefused classes old e new r
-refused classes old new e r idle (memory, waiting, (root, leaving, absent)) marks reason = record {
-  idle = still_idle old new memory root idle waiting leaving absent marks;
+refused classes old new e r idle (memory, waiting, (root, leaving)) marks reason = record {
+  idle = still_idle old new memory root idle waiting leaving marks;
   numbers_stay = same_numbers old new memory root;
   tree_stays = same_tree old new memory root;
   reason = reason;
@@ -73,19 +72,17 @@ pub record Brings (old new : Shown) (t : Tree) (root : ℕ) : Type 0 where
   pub planted : IsPlanted (memory_of old.slab) (memory_of new.slab) top t arrived
   pub waits : new.waiting ≡ Some root
   pub root_stays : new.root ≡ old.root
-  pub absent_stays : new.absent ≡ old.absent
 
 pub brings : (old new : Shown) (t : Tree) (root : ℕ) → IsBrought old new t root → Brings old new t root
-brings old new t root ((w, number, planted), waits, (root_stays, leaving, absent)) = record { arrived = w; number = number; planted = planted; waits = waits; root_stays = root_stays; absent_stays = absent }
+brings old new t root ((w, number, planted), waits, (root_stays, leaving)) = record { arrived = w; number = number; planted = planted; waits = waits; root_stays = root_stays }
 
 pub brings_marked : (old mid new : Shown) (t : Tree) (root : ℕ) → Brings old mid t root → IsMarking mid new → Brings old new t root
-brings_marked old mid new t root b (memory, root_same, waiting, absent) = record {
+brings_marked old mid new t root b (memory, root_same, waiting) = record {
   arrived = b.arrived;
   number = b.number;
   planted = subst (λ (m : ℕ → Option Info). IsPlanted (memory_of old.slab) m top t b.arrived) (equal mid new memory) b.planted;
   waits = waiting ∙ b.waits;
   root_stays = root_same ∙ b.root_stays;
-  absent_stays = absent ∙ b.absent_stays;
 }
 
 module _ (classes : Classes) (old new : Shown) (asked : Edit) (n m : Node) (h : IsAccepted classes old asked n m) where
@@ -109,8 +106,8 @@ module _ (classes : Classes) (old new : Shown) (asked : Edit) (n m : Node) (h : 
   Leaves numbered = (new.leaving ≡ option_map class_of (gone s numbered)) × ((k : ℕ) → leaves_in new.slab k ≡ stands_in k (gone s numbered))
 
   prepared : (Does : Tree → model.Edit → Type 0) (numbered : model.Edit) → relabel_edit (class_in later) numbered ≡ edit_at n m asked → new.root ≡ old.root → Keeps later s (brought numbered) → relabel (class_in later) s ≡ tree old →
-      new.waiting ≡ option_map class_of (brought numbered) → Leaves numbered → new.absent ≡ old.absent → IsRoomFor new.slab s numbered → Does s numbered → IsPrepared classes old (edit_at n m asked) Does new
-  prepared Does numbered same root keeps stay waits leaves absent room does =
+      new.waiting ≡ option_map class_of (brought numbered) → Leaves numbered → IsRoomFor new.slab s numbered → Does s numbered → IsPrepared classes old (edit_at n m asked) Does new
+  prepared Does numbered same root keeps stay waits leaves room does =
       let again : numbers new ≡ s = ap (grown later 512) (root ∙ sym (class-grown memory 512 old.root)) ∙ grown-stored later top 512 s keeps.stored keeps.shallow in
       record {
         numbered = numbered;
@@ -128,7 +125,6 @@ module _ (classes : Classes) (old new : Shown) (asked : Edit) (n m : Node) (h : 
         left = model.left_by (tree old) (edit_at n m asked);
         accepted = h.accepted;
         limits = (accepted_conforms classes (tree old) (edit_at n m asked) (model.left_by (tree old) (edit_at n m asked)) h.asked.conforming h.accepted).1;
-        absent = ap token_view absent ∙ h.asked.idle.absent;
       }
 
   -- with a tree that waits
@@ -141,14 +137,14 @@ module _ (classes : Classes) (old new : Shown) (asked : Edit) (n m : Node) (h : 
 
     with_tree : (Does : Tree → model.Edit → Type 0) (numbered : model.Edit) → brought numbered ≡ Some b.arrived → relabel_edit (class_in later) numbered ≡ edit_at n m asked → Leaves numbered → IsRoomFor new.slab s numbered → Does s numbered → IsPrepared classes old (edit_at n m asked) Does new
     with_tree Does numbered gives same leaves room does =
-        prepared Does numbered same b.root_stays (subst (Keeps later s) (sym gives) waiting_kept) same_classes (b.waits ∙ ap Some (sym b.number) ∙ ap (option_map class_of) (sym gives)) leaves b.absent_stays room does
+        prepared Does numbered same b.root_stays (subst (Keeps later s) (sym gives) waiting_kept) same_classes (b.waits ∙ ap Some (sym b.number) ∙ ap (option_map class_of) (sym gives)) leaves room does
 
   -- without one
   module _ (marking : IsMarking old new) where
     without_tree : (Does : Tree → model.Edit → Type 0) (numbered : model.Edit) → brought numbered ≡ None → relabel_edit (class_in later) numbered ≡ edit_at n m asked → Leaves numbered → IsRoomFor new.slab s numbered → Does s numbered → IsPrepared classes old (edit_at n m asked) Does new
     without_tree Does numbered gives same leaves room does =
         prepared Does numbered same marking.1 (subst (Keeps later s) (sym gives) (subst (λ (q : ℕ → Option Info). Keeps q s None) (equal old new marking.0) h.asked.idle.keeps))
-        (ap (λ (q : ℕ → Option Info). relabel (class_in q) s) (sym (equal old new marking.0))) (marking.2 ∙ h.asked.idle.waiting ∙ ap (option_map class_of) (sym gives)) leaves marking.3 room does
+        (ap (λ (q : ℕ → Option Info). relabel (class_in q) s) (sym (equal old new marking.0))) (marking.2 ∙ h.asked.idle.waiting ∙ ap (option_map class_of) (sym gives)) leaves room does
 
 pub set_prepared : (old mid new : Shown) (node root : ℕ) (t : Nested) → Brings old mid (tree_view t) root → MarksNoMore old.slab mid.slab → IsLeaving node mid new → Prepares old (edit.Set node t) new (plan.Set node root)
 set_prepared old mid new node root t arrives fresh m classes n target h =
@@ -220,12 +216,12 @@ token_prepared old node part v classes n target h =
     let found = stands.1 in
     let number = stands.2 in
     let (was, here) = token_cell classes (class_in (memory_of old.slab)) (numbers old) h.asked.conforming idle.limits n u found part (token_view v) (allows classes old old asked n target h) in
-    without_tree classes old old asked n target h ((λ k. refl), refl, refl, refl) (DoesToken node part (token_view v)) (model.Token n part (token_view v)) refl refl (idle.leaving, idle.unmarked)
+    without_tree classes old old asked n target h ((λ k. refl), refl, refl) (DoesToken node part (token_view v)) (model.Token n part (token_view v)) refl refl (idle.leaving, idle.unmarked)
     tt
     (record { place = n; parent = u; was = was; is = refl; found = found; number = number; here = here })
 
 pub move_prepared : (old new : Shown) (node to part index : ℕ) → IsStoreAsBefore old new → MarksNoMore old.slab new.slab → HasRoom new.slab to part → Prepares old (edit.Move node to part index) new (plan.Move node to part index)
-move_prepared old new node to part index (stays, waiting, (root, leaving, absent)) marks room classes n m h =
+move_prepared old new node to part index (stays, waiting, (root, leaving)) marks room classes n m h =
     let idle = h.asked.idle in
     let memory = memory_of old.slab in
     let asked : Edit = edit.Move node to part index in
@@ -235,7 +231,7 @@ move_prepared old new node to part index (stays, waiting, (root, leaving, absent
     let same_node : class_of d.moved ≡ node = (let f : Some d.moved ≡ Some stands.0 = sym d.there ∙ stands.1 in let g : d.moved ≡ stands.0 = cc in ap class_of g ∙ stands.2) in
     let (v, at_m, number) = number_found (numbers old) to m h.asked.target in
     let room' : HasRoom new.slab (number_at (numbers old) m) part = subst (λ (j : ℕ). HasRoom new.slab j part) (sym (ap (λ (o : Option Tree). elim o as (λ _. ℕ) [ None ↦ 0 | Some v ↦ class_of v ]) at_m ∙ number)) room in
-    without_tree classes old new asked n m h (stays, root, waiting, absent) (DoesMove node to part index) (model.Move n m part index) refl refl (leaving ∙ idle.leaving, unmarked_still old.slab new.slab marks idle.unmarked)
+    without_tree classes old new asked n m h (stays, root, waiting) (DoesMove node to part index) (model.Move n m part index) refl refl (leaving ∙ idle.leaving, unmarked_still old.slab new.slab marks idle.unmarked)
     room'
     (record {
       place = n;

@@ -4,7 +4,7 @@ use Rattle.std.specs.Prelude.{map}
 use Rattle.std.specs.List.{insert, remove, slice_get}
 use Rattle.std.proofs.lemmas.Bool.{cases_eq, eq-eqb, ne_eqb}
 use Rattle.at_model.specs.Classes.{Classes}
-use Rattle.at_model.specs.Trees.{Tree, Cell, Many, One, Truth, cells_of, children, class_of, from_cells, from_trees}
+use Rattle.at_model.specs.Trees.{Tree, Cell, Many, One, cells_of, children, class_of, from_cells, from_trees}
 use Rattle.at_model.specs.Edits.{Edit, Drop, Insert, Move, left_by, taken_out, past_drop, past_taking, put_in, without_child, with_one_more, with_cell, with_node}
 use Rattle.at_model.specs.Paths.{Node, tree_at, cell_at, children_at, step_eq, is_within, parent_of}
 use Rattle.at_model.proofs.of_edits.Moving.{Way}
@@ -14,7 +14,6 @@ use Rattle.at_model.proofs.of_edits.Ways.{drop_keeps}
 use Rattle.at_model.proofs.of_edits.Untouched.{in_cell as kids}
 use Rattle.at_model.proofs.of_edits.Untouching.{removed-behind}
 use Rattle.at_model.proofs.WithinTree.{tree_at-snoc}
-use Rattle.at_tree.specs.Token.{token_view}
 use Rattle.at_store.specs.Numbers.{path_in}
 use Rattle.at_store.specs.Memory.{Info, IsLifted, IsPlacedIn, IsShallow, Keeps, Kept, Kids, List_of, Place, Stored, cut_in, index_in, kept, kept_of, kids_in, is_waiting, numbers_in, place_at, placed, placed_in, relinked, renumbered, rewritten, taken_out as gap_closed, top, up_in, with_kept, with_kids, with_numbers, with_place}
 use Rattle.at_store.specs.Reserving.{ComesTo, HasRoom, IsRoomFor, KeepsRoom}
@@ -169,8 +168,8 @@ left_of_move s x place target goes part index there outside =
 
 pub move_committed : (classes : Classes) (old mid new : Shown) (middle : Slab Entry) (e : Edit) (node to part index : ℕ) → IsPrepared classes old e (DoesMove node to part index) mid →
     IsLifted node (memory_of mid.slab) (memory_of middle) → KeepsRoom mid.slab middle → ComesTo to part index node middle new.slab → ((k : ℕ) → leaves_in new.slab k ≡ leaves_in mid.slab k) →
-    new.root ≡ mid.root → new.waiting ≡ None → new.leaving ≡ None → token_view new.absent ≡ Truth false → IsCommitted old e new
-move_committed classes old mid new middle e node to part index p lifts roomy comes marks same_root waiting leaving absent =
+    new.root ≡ mid.root → new.waiting ≡ None → new.leaving ≡ None → IsCommitted old e new
+move_committed classes old mid new middle e node to part index p lifts roomy comes marks same_root waiting leaving =
     let memory = memory_of mid.slab in
     let later = memory_of new.slab in
     let s = numbers old in
@@ -217,4 +216,4 @@ move_committed classes old mid new middle e node to part index p lifts roomy com
     (λ k o. class_changed (drop (suc index) kids_then) (suc index) (class_of x) (Some (class_of w, part), index) (class_of w) part (Kids List_of kids_then) k _ ∙ class_placed (class_of x) top k _ ∙ class_renumbered (drop i left) i k _ ∙ class_rewritten pu d.way.0 c' k o)
     (λ k. second k ∙ ap (λ o. renumbered (drop (suc index) kids_then) (suc index) k (placed (class_of x) (Some (class_of w, part), index) k (rewritten (class_of w) part (Kids List_of kids_then) k o))) (first k))
     top (left_by s p.numbered) keeps.stored)
-    waiting leaving absent (unmarked_as classes old mid new e Does p marks (ap (gone s) d.is))
+    waiting leaving (unmarked_as classes old mid new e Does p marks (ap (gone s) d.is))

@@ -3,7 +3,7 @@ use Rattle.std.proofs.Common.{◌≡◌, ℕ, Bool, true, false, List, [], ◌�
 use Rattle.std.specs.List.{slice_get}
 use Rattle.std.proofs.lemmas.Bool.{cases_eq, eq-eqb, ne_eqb}
 use Rattle.at_model.specs.Classes.{Classes}
-use Rattle.at_model.specs.Trees.{Cell, Tree, Truth, cells_of, class_of, from_cells}
+use Rattle.at_model.specs.Trees.{Cell, Tree, cells_of, class_of, from_cells}
 use Rattle.at_model.specs.Edits.{Edit, changed_at, left_by, with_child, with_node}
 use Rattle.at_model.specs.Edits as edit
 use Rattle.at_model.specs.Paths.{Node, cell_at, children_at, parent_of, tree_at}
@@ -12,7 +12,6 @@ use Rattle.at_model.proofs.of_edits.Moving.{Way}
 use Rattle.at_model.proofs.Options.{led}
 use Rattle.at_model.proofs.of_edits.Surviving.{parent_is}
 use Rattle.at_model.proofs.of_edits.Untouched.{tree_at-append, in_cell as kids}
-use Rattle.at_tree.specs.Token.{token_view}
 use Rattle.at_store.specs.Numbers.{path_in}
 use Rattle.at_store.specs.Memory.{Info, IsFreed, IsReplaced, IsShallow, Keeps, Kept, Place, index_in, kept, kept_of, place_at, placed, relinked, replaced, rewritten, top, up_in, with_kept, with_kids, with_numbers, with_place}
 use Rattle.at_store.specs.View.{IsUnmarked, MarksNoMore, memory_of}
@@ -57,7 +56,7 @@ gone_first n part root place f k o q true e = by_tests (nat_eq k n) (nat_eq k ro
     by_tests false false = refl
 
 module _ (classes : Classes) (old mid new : Shown) (e : Edit) (node root : ℕ) (p : IsPrepared classes old e (DoesSet node root) mid)
-    (same_root : new.root ≡ cond (nat_eq node mid.root) root mid.root) (waiting : new.waiting ≡ None) (leaving : new.leaving ≡ None) (absent : token_view new.absent ≡ Truth false)
+    (same_root : new.root ≡ cond (nat_eq node mid.root) root mid.root) (waiting : new.waiting ≡ None) (leaving : new.leaving ≡ None)
     (fewer : MarksNoMore mid.slab new.slab) (freed : ℕ → Option Info) (free : IsFreed node (memory_of mid.slab) freed)
     (changes : (k : ℕ) → memory_of new.slab k ≡ replaced (up_in (memory_of mid.slab node)) (index_in (memory_of mid.slab node)) root freed k) where
   abbrev memory : ℕ → Option Info
@@ -127,7 +126,7 @@ module _ (classes : Classes) (old mid new : Shown) (e : Edit) (node root : ℕ) 
         let keeps : Keeps later (left_by s p.numbered) None = subst (λ (t : Tree). Keeps later t None) (sym left_is) done_root in
         committed classes old mid new e (DoesSet node root) p keeps (ap class_of left_is ∙ root_is)
         (classes_stay memory later (λ k. is_some (path_in k x)) (λ k o. o) (λ k o. refl) written_root top (left_by s p.numbered) keeps.stored)
-        waiting leaving absent (unmarked (λ k here. written_root k ∙ ap (λ b. cond b None (memory k)) here))
+        waiting leaving (unmarked (λ k here. written_root k ∙ ap (λ b. cond b None (memory k)) here))
 
   -- in the place of a node that is no root
   module _ (above : Node) (way : Way) (under : parent_of place ≡ Some (above, way)) where
@@ -184,12 +183,12 @@ module _ (classes : Classes) (old mid new : Shown) (e : Edit) (node root : ℕ) 
         committed classes old mid new e (DoesSet node root) p keeps
         (ap (λ (y : Edit). class_of (left_by s y)) p.does.is ∙ ap class_of (set_in_parent [] w place (above, way) under s) ∙ root_stays (with_child (λ u. w) way.1) way.0 s above ∙ root_remains)
         (classes_stay memory later (λ k. is_some (path_in k x)) (λ k o. placed (class_of w) spot k (rewritten (class_of u) way.0 now k o)) (λ k o. class_placed (class_of w) spot k (rewritten (class_of u) way.0 now k o) ∙ class_rewritten (class_of u) way.0 now k o) written top (left_by s p.numbered) keeps.stored)
-        waiting leaving absent (unmarked (λ k here. written k ∙ ap (λ b. cond b None (placed (class_of w) spot k (rewritten (class_of u) way.0 now k (memory k)))) here))
+        waiting leaving (unmarked (λ k here. written k ∙ ap (λ b. cond b None (placed (class_of w) spot k (rewritten (class_of u) way.0 now k (memory k)))) here))
 
 pub set_committed : (classes : Classes) (old mid new : Shown) (e : Edit) (node root : ℕ) → IsPrepared classes old e (DoesSet node root) mid →
-    IsReplaced node root (memory_of mid.slab) (memory_of new.slab) → MarksNoMore mid.slab new.slab → new.root ≡ cond (nat_eq node mid.root) root mid.root → new.waiting ≡ None → new.leaving ≡ None → token_view new.absent ≡ Truth false → IsCommitted old e new
-set_committed classes old mid new e node root p (freed, free, changes) fewer same_root waiting leaving absent = by_parent (parent_of p.does.place) refl
+    IsReplaced node root (memory_of mid.slab) (memory_of new.slab) → MarksNoMore mid.slab new.slab → new.root ≡ cond (nat_eq node mid.root) root mid.root → new.waiting ≡ None → new.leaving ≡ None → IsCommitted old e new
+set_committed classes old mid new e node root p (freed, free, changes) fewer same_root waiting leaving = by_parent (parent_of p.does.place) refl
   where
     by_parent : (o : Option (Node × Way)) → parent_of p.does.place ≡ o → IsCommitted old e new
-    by_parent None is = root_committed classes old mid new e node root p same_root waiting leaving absent fewer freed free changes is
-    by_parent (Some (above, way)) is = below_committed classes old mid new e node root p same_root waiting leaving absent fewer freed free changes above way is
+    by_parent None is = root_committed classes old mid new e node root p same_root waiting leaving fewer freed free changes is
+    by_parent (Some (above, way)) is = below_committed classes old mid new e node root p same_root waiting leaving fewer freed free changes above way is

@@ -4,11 +4,10 @@ use Rattle.std.specs.Prelude.{map}
 use Rattle.std.specs.List.{remove, slice_get}
 use Rattle.std.proofs.lemmas.Bool.{cases_eq, eq-eqb, ne_eqb}
 use Rattle.at_model.specs.Classes.{Classes}
-use Rattle.at_model.specs.Trees.{Cell, Empty, Filled, Holds, Many, One, Truth, cells_of, children, class_of, from_cells}
+use Rattle.at_model.specs.Trees.{Cell, Empty, Filled, Holds, Many, One, cells_of, children, class_of, from_cells}
 use Rattle.at_model.specs.Edits.{Edit, changed_at, left_by, without_child, with_cell, with_node}
 use Rattle.at_model.specs.Edits as edit
 use Rattle.at_model.specs.Paths.{Node}
-use Rattle.at_tree.specs.Token.{token_view}
 use Rattle.at_store.specs.Numbers.{path_in}
 use Rattle.at_store.specs.Memory.{Info, IsFreed, IsShallow, IsTakenAway, Keeps, Kept, Place, place_at, cut_in, index_in, kept, kept_of, kids_in, numbers_in, relinked, renumbered, rewritten, taken_out, top, up_in, with_kept, with_kids, with_index, with_numbers}
 use Rattle.at_store.specs.View.{MarksNoMore, memory_of}
@@ -63,8 +62,8 @@ by_gone ns i n part f k o q true e = ap (renumbered ns i k) (none_relinked n par
 by_gone ns i n part f k o q false e = ap (renumbered ns i k) e
 
 pub drop_committed : (classes : Classes) (old mid new : Shown) (e : Edit) (node : ℕ) → IsPrepared classes old e (DoesDrop node) mid →
-    IsTakenAway node (memory_of mid.slab) (memory_of new.slab) → MarksNoMore mid.slab new.slab → new.root ≡ mid.root → new.waiting ≡ None → new.leaving ≡ None → token_view new.absent ≡ Truth false → IsCommitted old e new
-drop_committed classes old mid new e node p (freed, free, changes) fewer same_root waiting leaving absent =
+    IsTakenAway node (memory_of mid.slab) (memory_of new.slab) → MarksNoMore mid.slab new.slab → new.root ≡ mid.root → new.waiting ≡ None → new.leaving ≡ None → IsCommitted old e new
+drop_committed classes old mid new e node p (freed, free, changes) fewer same_root waiting leaving =
     let memory = memory_of mid.slab in
     let later = memory_of new.slab in
     let s = numbers old in
@@ -105,5 +104,5 @@ drop_committed classes old mid new e node p (freed, free, changes) fewer same_ro
     committed classes old mid new e (DoesDrop node) p keeps
     (ap (λ (y : Edit). class_of (left_by s y)) d.is ∙ ap (λ (o : Option (Node × (ℕ × ℕ))). class_of (elim o [ None ↦ s | Some p ↦ with_node (with_cell (without_child p.1.1) p.1.0) s p.0 ])) d.under ∙ root_stays (without_child i) part s d.above ∙ root_was classes old mid new e (DoesDrop node) p ∙ sym same_root)
     (classes_stay memory later (λ k. is_some (path_in k x)) (λ k o. renumbered (drop i left) i k (rewritten pu part c' k o)) (λ k o. class_renumbered (drop i left) i k (rewritten pu part c' k o) ∙ class_rewritten pu part c' k o) written top (left_by s p.numbered) keeps.stored)
-    waiting leaving absent
+    waiting leaving
     (gone_unmarked mid.slab new.slab x fewer (λ k. p.marks k ∙ ap (λ y. stands_in k (gone s y)) d.is ∙ ap (stands_in k) d.there) (λ k here. written k ∙ ap (λ b. cond b None (renumbered (drop i left) i k (rewritten pu part c' k (memory k)))) here))

@@ -1,9 +1,8 @@
 -- A tree that is planted in an empty memory is kept there, and shown.
 use Rattle.std.proofs.Common.{◌≡◌, ℕ, zero, suc, [], get_or, ◌≤◌, Bool, true, false, ◌&&◌, nat_le, Option, Some, None, ◌⊎◌, inl, refl, sym, ap, ◌∙◌, subst, arith, is_some}
 use Rattle.std.proofs.lemmas.Bool.Decides.{nat_tests}
-use Rattle.at_model.specs.Trees.{Tree, Truth, class_of, nodes, depth}
+use Rattle.at_model.specs.Trees.{Tree, class_of, nodes, depth}
 use Rattle.at_model.specs.Edits.{is_within_limits, tokens_short}
-use Rattle.at_tree.specs.Token.{token_view}
 use Rattle.at_store.specs.Numbers.{path_in, relabel}
 use Rattle.at_store.specs.Memory.{Info, top, Keeps, class_in}
 use Rattle.at_store.specs.Planting.{IsPlanted}
@@ -44,7 +43,6 @@ planted_kept before after t w free p limits = record {
 pub record IsLoaded (s : Shown) (t : Tree) : Type 0 where
   pub waiting : s.waiting ≡ None
   pub leaving : s.leaving ≡ None
-  pub absent : token_view s.absent ≡ Truth false
   pub before : ℕ → Option Info
   pub free : (k : ℕ) → before k ≡ None
   pub planted : (w : Tree) × (class_of w ≡ s.root) × IsPlanted before (memory_of s.slab) top t w
@@ -70,7 +68,6 @@ module _ (s : Shown) (t : Tree) (h : IsLoaded s t) where
     leaving = h.leaving;
     keeps = subst (λ x. Keeps (memory_of s.slab) x None) (sym grown) kept;
     limits = ap is_within_limits loaded_tree ∙ h.limits;
-    absent = h.absent;
     unmarked = h.unmarked;
   }
 

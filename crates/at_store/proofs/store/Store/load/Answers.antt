@@ -1,6 +1,5 @@
-use Rattle.std.proofs.Common.{None, false, sym, refl, ap, is_some, ◌∙◌}
+use Rattle.std.proofs.Common.{None, sym, refl, ap, is_some, ◌∙◌}
 use Rattle.at_tree.specs.TreeView.{tree_view}
-use Rattle.at_tree.specs.declared.token.TokVal.TheVariants as token
 use Rattle.at_store.specs.Shown.{Shown}
 use Rattle.at_store.specs.View.{memory_of}
 use Rattle.at_store.proofs.of_planting.Loaded.{loaded_tree, loaded_idle, empty_memory, empty_unmarked}
@@ -9,11 +8,10 @@ use Rattle.at_store.proofs.store.Store.load.Goals as goal
 
 pub returns-clause-loaded : goal.returns-clause-loaded
 returns-clause-loaded c =
-    let s : Shown = record { slab = c.plant.new.slab; root = c.in_ok-root.root; waiting = None; leaving = None; absent = token.Bool false } in
+    let s : Shown = record { slab = c.plant.new.slab; root = c.in_ok-root.root; waiting = None; leaving = None } in
     loaded_tree s (tree_view c.args.tree) (record {
       waiting = refl;
       leaving = refl;
-      absent = refl;
       before = memory_of c.in_ok-slab.slab;
       free = empty_memory c.in_ok-slab.slab c.in_ok-slab.ensures.empty;
       planted = c.in_ok-root.ensures.planted;
@@ -23,11 +21,10 @@ returns-clause-loaded c =
 
 pub returns-clause-idle : goal.returns-clause-idle
 returns-clause-idle c =
-    let s : Shown = record { slab = c.plant.new.slab; root = c.in_ok-root.root; waiting = None; leaving = None; absent = token.Bool false } in
+    let s : Shown = record { slab = c.plant.new.slab; root = c.in_ok-root.root; waiting = None; leaving = None } in
     loaded_idle s (tree_view c.args.tree) (record {
       waiting = refl;
       leaving = refl;
-      absent = refl;
       before = memory_of c.in_ok-slab.slab;
       free = empty_memory c.in_ok-slab.slab c.in_ok-slab.ensures.empty;
       planted = c.in_ok-root.ensures.planted;

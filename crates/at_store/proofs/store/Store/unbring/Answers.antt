@@ -9,5 +9,5 @@ returns-in-Some-clause-unbrought c = (
       let same : c.in-Some.new ≡ new = cc in
       subst (λ (n : ℕ). IsFreed n (memory_of c.args.self.now.slab) (memory_of c.free.new.slab)) same c.free.ensures.freed),
   refl,
-  (refl, refl, refl),
+  (refl, refl),
 )
