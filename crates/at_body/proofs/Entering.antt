@@ -1,12 +1,13 @@
 -- The first thing to do for the value of an expression.
-use Rattle.std.proofs.Common.{◌≡◌, ◌<◌, ◌≤◌, ◌+◌, ℕ, List, [], ◌∷◌, ◌++◌, refl, ap, ◌∙◌, Result, Ok, Err, IfOk, Bor, arith, subst, Option, Some, None, map, length, append-nil}
+use Rattle.std.proofs.Common.{◌≡◌, ◌<◌, ◌≤◌, ◌+◌, ℕ, List, [], ◌∷◌, ◌++◌, refl, ap, sym, ◌∙◌, Result, Ok, Err, IfOk, Bor, arith, subst, map, length, append-nil}
 use Rattle.std.proofs.lemmas.List.{map-append}
 use Rattle.at_model.specs.Classes.{Classes}
 use Rattle.at_model.specs.Bodies.{Expr, Exprs, no_exprs, expr, Call, demand_of}
-use Rattle.at_model.specs.Run.{Value, Ref, Instance, Location, Contents, Null, Run, Gives, ◌>>=◌}
+use Rattle.at_model.specs.Run.{Value, Ref, Instance, Location, Contents, Run, Gives, ◌>>=◌}
 use Rattle.at_rules.specs.declared.body.Body.{Body, Row_of-Body, end_of-Body, more_of-Body, items-the_row-Body, Call'}
 use Rattle.at_body.specs.declared.value.Value.{Value as ValueCode}
 use Rattle.at_body.specs.Values.{value_view}
+use Rattle.at_body.specs.declared.todo.Asking.{Asking}
 use Rattle.at_body.specs.declared.todo.Todo.{Todo}
 use Rattle.at_body.specs.declared.todo.Fold.{Fold}
 use Rattle.at_body.specs.declared.todo.Fold.TheVariants as fold
@@ -15,8 +16,8 @@ use Rattle.at_body.specs.declared.todo.Now.TheVariants.{Ask, Enter}
 use Rattle.at_body.specs.declared.trial.Trial.{Trial}
 use Rattle.at_rules.specs.Bodies.{body_view, row_view, bodies_view}
 use Rattle.at_body.specs.Standing.{inside}
-use Rattle.at_model.specs.Follow.{Waits, Stops, follow}
-use Rattle.at_body.specs.Rest.{rest, ev, ev_all, begun, resumed, used, called, gone_over, settled, then, outer, after, place_of, weight, cost, load}
+use Rattle.at_model.specs.Follow.{Waits, follow}
+use Rattle.at_body.specs.Rest.{rest, ev, ev_all, begun, onto, resumed, used, called, gone_over, settled, then, outer, after, place_of, weight, cost, load}
 use Rattle.at_body.specs.Size.{size}
 use Rattle.at_body.proofs.Runs.{regroup, fun_ext}
 
@@ -71,17 +72,16 @@ pub bounded : {E : Type 0} (res : Result Now E) (new : Trial) (l m n : ℕ) → 
 bounded res new l m n h e = let P : ℕ → Type 0 = λ k. IfOk res (λ now. weight now new < k + l) in subst P e h
 
 -- the demand of a call
-pub demands : (tree : Contents ℕ) (seen : List (Location ℕ)) (classes : Classes) (t : Trial) (i : Instance ℕ) (n a : ℕ) (o : Option ℕ) (vs : List (Value ℕ)) →
-    o ≡ Some n → i ≡ record { node = n; attribute = a; arguments = vs } → follow tree seen (demand_of a (Ref o) vs >>= resumed classes t) ≡ (Waits i (resumed classes t), seen)
-demands tree seen classes t i n a o vs e f = rw (e, f) refl
+pub demands : (tree : Contents ℕ) (seen : List (Location ℕ)) (classes : Classes) (t : Trial) (i : Instance ℕ) (n a : ℕ) (vs : List ValueCode) →
+    i ≡ record { node = n; attribute = a; arguments = map value_view vs } → follow tree seen (rest classes (Ask a n vs) t) ≡ (Waits i (resumed classes t), seen)
+demands tree seen classes t i n a vs e = rw e refl
 
-pub demands_bare : (tree : Contents ℕ) (seen : List (Location ℕ)) (classes : Classes) (t : Trial) (i : Instance ℕ) (n a : ℕ) (vs : List ValueCode) →
-    vs ≡ [] → i ≡ record { node = n; attribute = a; arguments = map value_view vs } → follow tree seen (rest classes (Ask a n) t) ≡ (Waits i (resumed classes t), seen)
-demands_bare tree seen classes t i n a vs e f = rw (f, e) refl
-
-pub asks_null : (tree : Contents ℕ) (seen : List (Location ℕ)) (classes : Classes) (t : Trial) (a : ℕ) (o : Option ℕ) (vs : List (Value ℕ)) →
-    o ≡ None → follow tree seen (demand_of a (Ref o) vs >>= resumed classes t) ≡ (Stops Null, seen)
-asks_null tree seen classes t a o vs e = rw e refl
+-- all arguments of a call are there
+pub completed : (classes : Classes) (t : Trial) (call it : Asking) (vs : List ValueCode) (r : Run ℕ (Value ℕ)) → it ≡ call → vs ≡ it.done.items →
+    onto classes t (demand_of it.attribute (Ref it.node) (map value_view vs)) ≡ r → onto classes t (demand_of call.attribute (Ref call.node) (map value_view call.done.items)) ≡ r
+completed classes t call it vs r e f h =
+    ap (λ (x : Asking). onto classes t (demand_of x.attribute (Ref x.node) (map value_view x.done.items))) (sym e)
+    ∙ ap (λ ws. onto classes t (demand_of it.attribute (Ref it.node) (map value_view ws))) (sym f) ∙ h
 
 -- an expression is evaluated for a use of its value
 pub enters : {E : Type 0} (classes : Classes) (res : Result Now E) (t new : Trial) (r : Run ℕ (Value ℕ)) (part : Bor Body) (todo : Todo) →

@@ -1,6 +1,7 @@
 pub mod Runs
 pub mod Entering
 pub mod Naming
+pub mod HandedOn
 pub mod Uses
 pub mod Climbing
 pub mod Waiting

@@ -1,9 +1,9 @@
 -- Where a step that may want memory has come to.
-use Rattle.std.proofs.Common.{◌≡◌, ◌≤◌, ◌∙◌, ℕ, List, Result, Ok, Err, IfOk, arith}
+use Rattle.std.proofs.Common.{◌≡◌, ◌∙◌, ℕ, List, Result, Ok, Err, IfOk}
 use Rattle.at_model.specs.Classes.{Classes}
 use Rattle.at_model.specs.Follow.{Reached}
 use Rattle.at_model.specs.Run.{Location, Value}
-use Rattle.at_body.specs.Rest.{left, reached}
+use Rattle.at_body.specs.Rest.{reached}
 use Rattle.at_body.specs.declared.trial.Step.{Step}
 use Rattle.at_body.specs.declared.trial.Trial.{Trial}
 
@@ -11,7 +11,3 @@ pub behind_same : {E : Type 0} (res : Result Step E) (classes : Classes) (t : Tr
     x ≡ y → IfOk res (λ step. y ≡ (reached classes step t, seen)) → IfOk res (λ step. x ≡ (reached classes step t, seen))
 behind_same (Ok step) classes t x y seen e h = e ∙ h
 behind_same (Err e') classes t x y seen e h = tt
-
-pub behind_less : {E : Type 0} (res : Result Step E) (t : Trial) (m n : ℕ) → m ≤ n → IfOk res (λ step. left step t ≤ m) → IfOk res (λ step. left step t ≤ n)
-behind_less (Ok step) t m n h g = omega (arith, g, h)
-behind_less (Err e') t m n h g = tt

@@ -1,29 +1,29 @@
 -- What is done with values of the right kinds comes to what the trial may be told.
-use Rattle.std.proofs.Common.{◌≡◌, ℕ, false, nat_eq, List, [], ◌∷◌, map, None, refl, subst}
-use Rattle.at_model.specs.Bodies.{Expr, Scope, Name, Negate, Not, Arithmetic, Compare, Join, JoinInt, Same, Differ, Equals, InstanceOf, CastTo, Child, Element, Count, Has, TokenOf, eval}
-use Rattle.at_model.specs.Instances.{AnyText, literals}
-use Rattle.at_model.specs.Kinds.{HasKind, ScopeKinds}
+use Rattle.std.proofs.Common.{◌≡◌, ℕ, false, nat_eq, List, [], ◌∷◌, ◌++◌, append-nil, map, None, Some, refl, subst, sym, ◌∙◌, Result, Ok, Err, IfOk}
+use Rattle.at_model.specs.Bodies.{Expr, Exprs, no_exprs, Scope, Name, Negate, Not, Arithmetic, Compare, Join, JoinInt, Same, Differ, Equals, InstanceOf, CastTo, Child, Element, Count, Has, TokenOf, eval}
+use Rattle.at_model.specs.Instances.{AnyText, all_literals, literals}
+use Rattle.at_model.specs.Kinds.{HasKind, HaveKinds, ScopeKinds}
 use Rattle.at_model.specs.Kinds as form
 use Rattle.at_model.specs.Rules.{Rules, Kind}
 use Rattle.at_model.specs.Run.{Value, Int, Truth, Text, Ref, Contents, Run, Gives, Fails, Looks, Demands}
 use Rattle.at_model.specs.TypedRuns.{ClassAt, AreArguments, IsOfKind, IsOfScopeKinds, IsTypedRun}
 use Rattle.at_model.proofs.Chained.{chained}
 use Rattle.at_model.proofs.Everywhere.{all_any}
-use Rattle.at_model.proofs.of_typing.TypedExpressions.{typed as evaluated_typed}
+use Rattle.at_model.proofs.of_typing.TypedExpressions.{all_typed, typed as evaluated_typed}
 use Rattle.at_model.proofs.of_typing.TypedTogether.{any_text}
 use Rattle.at_rules.specs.Bodies.{body_view, operator_view, order_view}
 use Rattle.at_rules.specs.declared.body.Body.{Body}
 use Rattle.at_body.specs.declared.todo.Binary.{Binary}
 use Rattle.at_body.specs.declared.todo.Now.{Now}
-use Rattle.at_body.specs.declared.todo.Now.TheVariants.{Enter, Back, Fail, Ask, Call}
+use Rattle.at_body.specs.declared.todo.Now.TheVariants.{Enter, Back, Fail, Ask}
 use Rattle.at_body.specs.declared.todo.Todo.TheVariants as code
 use Rattle.at_body.specs.declared.todo.Unary.{Unary}
 use Rattle.at_body.specs.declared.trial.Trial.{Trial}
 use Rattle.at_body.specs.Values.{value_view}
 use Rattle.at_body.specs.Standing.{Place, names, scope}
-use Rattle.at_body.specs.Rest.{ev, place_of, with_one, with_two}
+use Rattle.at_body.specs.Rest.{ev, ev_all, place_of, with_one, with_two}
 use Rattle.at_body.specs.ValueKinds.{AreAlike}
-use Rattle.at_body.specs.Typed.{IsOperand, AreOperands, ComesTo, IsOver, PlaceKinds, name_kinds, scope_kinds, AreBound, IsPlaceOf, IsUse, IsOperation, IsTodo, AreTodos, Stands, Takes, Enters, Uses, Operates, IsTypedNow}
+use Rattle.at_body.specs.Typed.{IsOperand, AreOperands, ComesTo, IsOver, PlaceKinds, name_kinds, scope_kinds, AreBound, IsPlaceOf, IsUse, IsOperation, IsTodo, AreTodos, Stands, Takes, Enters, Uses, Operates, Calls, IsTypedNow}
 use Rattle.at_body.specs.Typed as typed
 use Rattle.at_body.proofs.TypedUses.{is_int, is_truth, is_text, is_ref}
 
@@ -51,19 +51,51 @@ module _ (rules : Rules) (at : ClassAt ℕ) (look : Contents ℕ) (over : IsOver
   evaluated : (s : ScopeKinds) (e : Expr) (k : Kind) (scope : Scope ℕ) → HasKind rules s e k → IsOfScopeKinds rules.classes at AnyText s scope → Typed k (eval rules.classes nat_eq e scope)
   evaluated s e k scope x h = evaluated_typed rules (chained rules.classes over.hierarchy) at AnyText look over.contents nat_eq s e k x scope (all_any AnyText (literals e) any_literal) h
 
+  -- arguments ---------------------------------------------------------------------------------------------------------
+
+  arguments_typed : (s : PlaceKinds) (p : Place) (es : Exprs) (ks : List Kind) (vs : List (Value ℕ)) → IsPlaceOf rules.classes at s p → HaveKinds rules (scope_kinds s) es ks → ev_all rules.classes es p ≡ Gives vs →
+      AreArguments rules.classes at AnyText vs ks
+  arguments_typed s p es ks vs place x e = subst (IsTypedRun rules at AnyText look (λ ws. AreArguments rules.classes at AnyText ws ks)) e
+      (all_typed rules (chained rules.classes over.hierarchy) at AnyText look over.contents nat_eq (scope_kinds s) es ks x (scope p) (all_any AnyText (all_literals es) any_literal) (scope_typed s p place))
+
+  -- a call hands on what was passed
+  hands_on : (t : Trial) (attribute n : ℕ) (es : Exprs) → ev_all rules.classes es (place_of t) ≡ Gives (map value_view t.arguments) → Calls rules at t attribute (Some n) [] es →
+      Calls rules at t attribute (Some n) (map value_view t.arguments) no_exprs
+  hands_on t attribute n es e h = record {
+    kinds = h.kinds;
+    class = h.class;
+    declaration = h.declaration;
+    first = h.others;
+    others = [];
+    attribute_is = h.attribute_is;
+    declared = h.declared;
+    parameters = none_first h.first h.arguments h.parameters;
+    node = h.node;
+    arguments = arguments_typed h.kinds (place_of t) es h.others (map value_view t.arguments) h.stands.place h.are e;
+    are = form.no_more;
+    stands = h.stands;
+  }
+    where
+      none_first : (first : List Kind) → AreArguments rules.classes at AnyText [] first → h.declaration.parameters ≡ first ++ h.others → h.declaration.parameters ≡ h.others ++ []
+      none_first [] a e = e ∙ sym (append-nil h.others)
+      none_first (k ∷ ks) a e = absurd a
+
+  pub handed_on : {E : Type 0} (res : Result Now E) (t : Trial) (attribute n : ℕ) (es : Exprs) → ev_all rules.classes es (place_of t) ≡ Gives (map value_view t.arguments) → IfOk res (λ now. now ≡ Ask attribute n t.arguments) →
+      Calls rules at t attribute (Some n) [] es → IfOk res (λ now. IsTypedNow rules at now t)
+  handed_on (Ok now) t attribute n es e is h = subst (λ (k : Now). IsTypedNow rules at k t) (sym is) (hands_on t attribute n es e h)
+  handed_on (Err e') t attribute n es e is h = tt
+
   -- what an evaluation comes to ---------------------------------------------------------------------------------------
 
   come_typed : (s : PlaceKinds) (k : Kind) (t : Trial) (r : Run ℕ (Value ℕ)) (now : Now) → Stands rules at s k t → Typed k r → ComesTo look r now → IsTypedNow rules at now t
   come_typed s k t (Gives v) (Back w) h x e = record { kinds = s; kind = k; is = subst (Is k) e x; stands = h }
   come_typed s k t (Gives v) (Enter b) h x e = absurd e
   come_typed s k t (Gives v) (Fail f) h x e = absurd e
-  come_typed s k t (Gives v) (Ask attribute node) h x e = absurd e
-  come_typed s k t (Gives v) (Call call) h x e = absurd e
+  come_typed s k t (Gives v) (Ask attribute node passed) h x e = absurd e
   come_typed s k t (Fails f) (Fail g) h x e = tt
   come_typed s k t (Fails f) (Back w) h x e = absurd e
   come_typed s k t (Fails f) (Enter b) h x e = absurd e
-  come_typed s k t (Fails f) (Ask attribute node) h x e = absurd e
-  come_typed s k t (Fails f) (Call call) h x e = absurd e
+  come_typed s k t (Fails f) (Ask attribute node passed) h x e = absurd e
   come_typed s k t (Looks l m) now h (there, x) e = come_typed s k t (m (look l)) now h x e
   come_typed s k t (Demands i m) now h x e = absurd e
 

@@ -255,6 +255,10 @@ module _ (rules : Rules) (at : ClassAt ℕ) where
         };
       }
 
+  -- all arguments are there
+  pub complete : (t : Trial) (call it : Asking) (vs : List ValueCode) → it ≡ call → vs ≡ it.done.items → Calls rules at t call.attribute call.node (map value_view call.done.items) no_exprs → Calls rules at t it.attribute it.node (map value_view vs) no_exprs
+  complete t call it vs e f h = subst (λ ws. Calls rules at t it.attribute it.node (map value_view ws) no_exprs) (sym f) (subst (λ (x : Asking). Calls rules at t x.attribute x.node (map value_view x.done.items) no_exprs) (sym e) h)
+
   -- the demand of a call waits
   pub demands_call : AreChained rules.classes → (t : Trial) (j : Instance ℕ) (n attribute : ℕ) (node : Option ℕ) (done : List (Value ℕ)) → node ≡ Some n → j ≡ record { node = n; attribute = attribute; arguments = done } → Calls rules at t attribute node done no_exprs → WaitsFor rules at t j
   demands_call lined t j n attribute node done is made h = subst (λ i. WaitsFor rules at t i) (sym made) (demands lined t attribute n done (subst (λ o. Calls rules at t attribute o done no_exprs) is h))

@@ -15,7 +15,7 @@ use Rattle.at_body.specs.declared.todo.Fold.TheVariants as fold
 use Rattle.at_body.specs.declared.todo.Todo.{Todo}
 use Rattle.at_body.specs.declared.todo.Todo.TheVariants.{Use, Right, Apply, And, Or, Choose, Arguments, Argument, Elements, Element}
 use Rattle.at_body.specs.declared.todo.Now.{Now}
-use Rattle.at_body.specs.declared.todo.Now.TheVariants.{Enter, Back, Fail, Ask, Call}
+use Rattle.at_body.specs.declared.todo.Now.TheVariants.{Enter, Back, Fail, Ask}
 use Rattle.at_body.specs.declared.trial.Trial.{Trial}
 use Rattle.at_body.specs.declared.trial.Step.{Step}
 use Rattle.at_body.specs.declared.trial.Step.TheVariants as step
@@ -133,8 +133,7 @@ abbrev pub rest : Classes → Now → Trial → Run ℕ (Value ℕ)
 rest classes (Enter b) t = begun classes t (body_view b.now)
 rest classes (Back v) t = resumed classes t (value_view v)
 rest classes (Fail f) t = Fails (fault_view f)
-rest classes (Ask attribute node) t = Demands (record { node = node; attribute = attribute; arguments = [] }) (resumed classes t)
-rest classes (Call call) t = demand_of call.value.attribute (Ref call.value.node) (map value_view call.value.done.items) >>= resumed classes t
+rest classes (Ask attribute node passed) t = Demands (record { node = node; attribute = attribute; arguments = map value_view passed }) (resumed classes t)
 
 -- what is now left to do means the same, behind what was read, as this evaluation did behind these reads
 abbrev pub GoesOn : Contents ℕ → Classes → List (Location ℕ) → Run ℕ (Value ℕ) → Now → Trial → Type 0
@@ -169,8 +168,7 @@ load (k ∷ ks) = cost k + load ks
 
 abbrev pub weight : Now → Trial → ℕ
 weight (Enter b) t = size (body_view b.now) + load t.todo
-weight (Ask attribute node) t = 1 + load t.todo
-weight (Call call) t = 1 + load t.todo
+weight (Ask attribute node passed) t = 1 + load t.todo
 weight _ t = load t.todo
 
 -- what is left once it waits

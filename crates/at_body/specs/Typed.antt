@@ -28,7 +28,7 @@ use Rattle.at_body.specs.declared.todo.Asking.{Asking}
 use Rattle.at_body.specs.declared.todo.Todo.{Todo}
 use Rattle.at_body.specs.declared.todo.Todo.TheVariants.{Use, Right, Apply, And, Or, Choose, Arguments, Argument, Elements, Element}
 use Rattle.at_body.specs.declared.todo.Now.{Now}
-use Rattle.at_body.specs.declared.todo.Now.TheVariants.{Enter, Back, Fail, Ask, Call}
+use Rattle.at_body.specs.declared.todo.Now.TheVariants.{Enter, Back, Fail, Ask}
 use Rattle.at_body.specs.declared.trial.Trial.{Trial}
 use Rattle.at_body.specs.declared.trial.Step.{Step}
 use Rattle.at_body.specs.declared.trial.Step.TheVariants as step
@@ -273,8 +273,7 @@ abbrev pub IsTypedNow : Rules → ClassAt ℕ → Now → Trial → Type 0
 IsTypedNow rules at (Enter b) t = Enters rules at t b.now
 IsTypedNow rules at (Back v) t = Takes rules at t (value_view v)
 IsTypedNow rules at (Fail f) t = ⊤
-IsTypedNow rules at (Ask attribute node) t = Calls rules at t attribute (Some node) [] no_exprs
-IsTypedNow rules at (Call call) t = Calls rules at t call.value.attribute call.value.node (map value_view call.value.done.items) no_exprs
+IsTypedNow rules at (Ask attribute node passed) t = Calls rules at t attribute (Some node) (map value_view passed) no_exprs
 
 -- and so is what it has come to
 abbrev pub IsTypedStep : Rules → ClassAt ℕ → Step → Trial → Type 0

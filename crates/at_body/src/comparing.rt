@@ -22,8 +22,7 @@ use super::todo::{Binary, Now};
 use super::trial::{Trial, at};
 use super::value::Value;
 use at_rules::Body;
-use at_store::{Loc, Node, Store};
-use at_tree::token::TokVal;
+use at_store::{Loc, Node, Store, Token};
 use std::alloc::AllocError;
 
 /// What is looked at for a text.
@@ -218,8 +217,8 @@ fn token_text(store: &Store, node: Node, part: usize) -> Option<&str>
     ensures { IfSome result (λ text. IsToken (contents store.now) node part text.now) }
 {
     match store.token(node, part) {
-        TokVal::Str(text) => Some(text.as_str()),
-        TokVal::Int(_) | TokVal::Bool(_) => None,
+        Token::Str(text) => Some(text.as_str()),
+        Token::Int(_) | Token::Bool(_) => None,
     }
 }
 

@@ -9,7 +9,7 @@
 //!
 //! **Where to begin:** `trial.rt` has the steps, `calling.rt` the receivers of calls, `comparing.rt` the texts of
 //! which no copy is made, `using.rt` and `folding.rt` what is done with values, `starting.rt` the way up to an
-//! inherited equation, `room.rt` the lists that the next trial uses again; `trying.rt` is one try with what is known.
+//! inherited equation; `trying.rt` is one try with what is known.
 //!
 //! **What it keeps true:** a trial goes exactly as far as `at_model`'s `Run` of the instance, notes just the
 //! locations that this looks at, and keeps to the kinds, so no code answers for a value of another one.
@@ -22,7 +22,6 @@ mod folding;
 mod inst;
 mod laws;
 mod reads;
-mod room;
 mod stack;
 mod starting;
 mod todo;
@@ -36,7 +35,6 @@ pub use arguments::Arguments;
 pub use inst::Inst;
 pub use laws::{comes, fails, gives, passes};
 pub use reads::Reads;
-pub use room::Room;
 pub use trial::{Step, Trial};
 pub use trying::{Known, Tried, try_body};
 pub use typing_laws::{

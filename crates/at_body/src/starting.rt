@@ -17,9 +17,9 @@ ghost use Rattle.at_body.specs.Starting.{own_of, by_rule};
 ghost use Rattle.at_body.specs.Typed.{IsOver, IsTypedNow, IsTypedStep, class_shown};
 ghost use Rattle.at_body.specs.TypedStart.{Begins, HasEquation};
 
+use super::arguments::Arguments;
 use super::inst::Inst;
 use super::reads::Reads;
-use super::room::Room;
 use super::todo::Now;
 use super::trial::{Step, Trial};
 use super::value::Value;
@@ -46,44 +46,52 @@ impl<'a> Trial<'a> {
             ≡ (reached rules.now.classes r.1 r.0, r.0.reads)) }
         ensures typed { IfOk result (λ r. IsTypedStep rules.now (class_shown store.now) r.1 r.0) }
     {
-        Trial::start_in(alloc, rules, store, inst, Room::new(alloc))
+        let mut trial = Trial::new(alloc);
+        let step = trial.restart(alloc, rules, store, inst)?;
+        Ok((trial, step))
     }
 
-    /// Begins the evaluation as `start` does, in the lists of a trial that has ended, so that it takes no memory for what they have room
-    /// for. An error where memory is wanting.
-    pub fn start_in(
+    /// Begins the evaluation of another instance as `start` does, in the lists of the trial, so that it takes no memory for what they
+    /// have room for. What the trial was counts for nothing. An error where memory is wanting.
+    pub fn restart(
+        &mut self,
         alloc: Global,
         rules: &'a Rules,
         store: &'a Store,
         inst: &Inst,
-        room: Room<'a>,
-    ) -> Result<(Trial<'a>, Step), AllocError>
+    ) -> Result<Step, AllocError>
         requires idle_store { IsIdle store.now }
         requires formed { AreWellFormed rules.now }
         requires sound { IsTreeSound rules.now.classes (tree store.now) }
         requires typed { IsWellTyped rules.now (class_shown store.now) AnyText inst.now }
-        ensures found { IfOk result (λ r. follow (contents store.now) [] (evaluation rules.now nat_eq inst.now)
-            ≡ (reached rules.now.classes r.1 r.0, r.0.reads)) }
-        ensures typed { IfOk result (λ r. IsTypedStep rules.now (class_shown store.now) r.1 r.0) }
+        ensures found { IfOk result (λ step. follow (contents store.now) [] (evaluation rules.now nat_eq inst.now)
+            ≡ (reached rules.now.classes step self.new, self.new.reads)) }
+        ensures typed { IfOk result (λ step. IsTypedStep rules.now (class_shown store.now) step self.new) }
     {
-        let (bound, todo, mut reads) = room.into_lists();
         let node = inst.node();
-        let attribute = inst.attribute();
         let arguments = inst.shared_arguments()?;
-        reads.push(Loc::Is(node))?;
-        look_at(arguments.as_slice(), &mut reads)?;
-        let class = store.class(node);
-        let mut trial = Trial {
-            this: node,
-            child: None,
-            bound,
-            arguments,
-            todo,
-            reads,
-        };
-        let now = trial.begin(rules, store, class, attribute)?;
-        let step = trial.advance(alloc, rules, store, now)?;
-        Ok((trial, step))
+        self.clear(node, arguments);
+        self.reads.push(Loc::Is(node))?;
+        look_at(self.arguments.as_slice(), &mut self.reads)?;
+        let now = self.begin(rules, store, store.class(node), inst.attribute())?;
+        self.advance(alloc, rules, store, now)
+    }
+
+    /// Stands at the node with these arguments, and has nothing to do and has looked at nothing.
+    fn clear(&mut self, node: Node, arguments: Arguments)
+        ensures this { self.new.this ≡ node }
+        ensures top { self.new.child ≡ None }
+        ensures arguments { self.new.arguments ≡ arguments }
+        ensures unbound { self.new.bound ≡ [] }
+        ensures idle { self.new.todo ≡ [] }
+        ensures unread { self.new.reads ≡ [] }
+    {
+        self.this = node;
+        self.child = None;
+        self.arguments = arguments;
+        self.bound.clear();
+        self.todo.clear();
+        self.reads.clear();
     }
 
     /// Begins with the equation.

@@ -1,5 +1,6 @@
 //! What is left to do.
 
+use super::arguments::Arguments;
 use super::value::{FaultKind, Value};
 use at_class::ClassId;
 use at_rules::{AttrId, Body, Operator, Order};
@@ -75,8 +76,6 @@ pub enum Now<'a> {
     Enter(&'a Body),
     Back(Value),
     Fail(FaultKind),
-    /// It demands this attribute of the node, without arguments.
-    Ask(AttrId, Node),
-    /// It demands this call.
-    Call(Box<Asking>),
+    /// It demands this attribute of the node, with these arguments.
+    Ask(AttrId, Node, Arguments),
 }

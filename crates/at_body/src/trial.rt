@@ -10,13 +10,13 @@ ghost use Rattle.at_model.specs.TypedRuns.{ClassAt};
 ghost use Rattle.at_model.specs.WellFormed.{IsHierarchy};
 ghost use Rattle.at_store.specs.Located.{loc_view};
 ghost use Rattle.at_store.specs.Shown.{contents, IsIdle};
-ghost use Rattle.at_body.specs.Size.{size, sizes, tests};
+ghost use Rattle.at_body.specs.Size.{size, sizes};
 ghost use Rattle.at_body.specs.Typed.{Calls, ComesTo, Enters, IsOver, IsTypedNow, IsTypedStep, Takes, Uses, class_shown};
 ghost use Rattle.at_body.specs.ValueKinds.{IsTruth};
 ghost use Rattle.at_body.specs.Values.{value_view};
 ghost use Rattle.at_rules.specs.Bodies.{body_view, bodies_view};
 ghost use Rattle.at_body.specs.Standing.{scope};
-ghost use Rattle.at_body.specs.declared.todo.Now.TheVariants.{Ask, Call, Enter};
+ghost use Rattle.at_body.specs.declared.todo.Now.TheVariants.{Ask, Enter};
 ghost use Rattle.at_body.specs.declared.todo.Todo.TheVariants.{And, Choose, Elements, Or, Right, Use};
 ghost use Rattle.at_body.specs.declared.trial.Trial.{Trial};
 ghost use Rattle.at_body.specs.Rest.{GoesOn, OnlyReads, ev, evaluated_for, rest, weight, place_of, onto, begun, resumed, used, called, reached, left, load, cost};
@@ -24,7 +24,6 @@ ghost use Rattle.at_body.specs.Rest.{GoesOn, OnlyReads, ev, evaluated_for, rest,
 use super::arguments::Arguments;
 use super::inst::Inst;
 use super::reads::Reads;
-use super::room::Room;
 use super::stack::Stack;
 use super::todo::{Asking, Binary, Fold, Now, Todo, Unary};
 use super::using::int_value;
@@ -70,6 +69,18 @@ pub enum Step {
 }
 
 impl<'a> Trial<'a> {
+    /// A trial of nothing yet, without memory.
+    pub fn new(alloc: Global) -> Trial<'a> {
+        Trial {
+            this: Node::default(),
+            child: None,
+            bound: Stack::new(alloc),
+            arguments: Arguments::none(),
+            todo: Stack::new(alloc),
+            reads: Reads::new(alloc),
+        }
+    }
+
     /// Goes on with the value that it waits for, which is of its kind, up to the end or to the next demand. An error where memory is
     /// wanting; then the trial is of no use any more.
     pub fn resume(
@@ -104,17 +115,9 @@ impl<'a> Trial<'a> {
         mem::replace(&mut self.reads, Reads::new(alloc)).into_vec()
     }
 
-    /// Its lists, for a trial that begins in their memory.
-    pub fn into_room(self) -> Room<'a> {
-        let Trial {
-            this: _,
-            child: _,
-            bound,
-            arguments: _,
-            todo,
-            reads,
-        } = self;
-        Room { bound, todo, reads }
+    /// Puts a list there, in whose memory it notes what it looks at once it begins anew. What is in it counts for nothing.
+    pub fn lend(&mut self, reads: Vec<Loc>) {
+        self.reads = Reads::of(reads);
     }
 
     /// Goes on up to the end or to a demand.
@@ -141,8 +144,9 @@ impl<'a> Trial<'a> {
                     None => return Ok(Step::Value(value)),
                 },
                 Now::Fail(kind) => return Ok(Step::Fault(kind)),
-                Now::Ask(attribute, node) => return Ok(asked(attribute, node)),
-                Now::Call(call) => return asked_with_arguments(call),
+                Now::Ask(attribute, node, arguments) => {
+                    return Ok(asked(attribute, node, arguments));
+                }
             };
         }
     }
@@ -476,7 +480,7 @@ impl<'a> Trial<'a> {
                 let boxed = Box::new(alloc, call)?;
                 self.then(Todo::Argument(boxed, others), argument)
             }
-            None => Ok(without_arguments(attribute, node)),
+            None => Ok(demand(attribute, node, Arguments::none())),
         }
     }
 
@@ -520,51 +524,40 @@ impl<'a> Trial<'a> {
     {
         match others.split_first() {
             Some((argument, others)) => self.then(Todo::Argument(call, others), argument),
-            None => Ok(Now::Call(call)),
+            None => {
+                let Asking {
+                    attribute,
+                    node,
+                    done,
+                } = Box::into_inner(call);
+                Ok(demand(attribute, node, Arguments::of(done)?))
+            }
         }
     }
 }
 
-/// The demand of an attribute without arguments, or the fault of one that is asked of null.
-fn without_arguments<'a>(attribute: AttrId, node: Option<Node>) -> Now<'a>
-    ensures same { (classes : Classes) (t : Trial) → onto classes t (demand_of attribute (Ref node) []) ≡ rest classes result t }
+/// The demand of an attribute of a node, with these arguments, or the fault of one that is asked of null.
+fn demand<'a>(attribute: AttrId, node: Option<Node>, arguments: Arguments) -> Now<'a>
+    ensures same { (classes : Classes) (t : Trial) → onto classes t (demand_of attribute (Ref node) (map value_view arguments)) ≡ rest classes result t }
     ensures less { (t : Trial) → weight result t < 2 + load t.todo }
-    ensures typed { (meant : Meant) (at : ClassAt ℕ) (t : Trial) → Calls meant at t attribute node [] no_exprs → IsTypedNow meant at result t }
+    ensures typed { (meant : Meant) (at : ClassAt ℕ) (t : Trial)
+        → Calls meant at t attribute node (map value_view arguments) no_exprs → IsTypedNow meant at result t }
 {
     match node {
-        Some(node) => Now::Ask(attribute, node),
+        Some(node) => Now::Ask(attribute, node, arguments),
         None => Now::Fail(FaultKind::Null),
     }
 }
 
-/// The demand of an attribute of a node, without arguments.
-fn asked(attribute: AttrId, node: Node) -> Step
+/// The step of a demand.
+fn asked(attribute: AttrId, node: Node, arguments: Arguments) -> Step
     ensures same { (tree : Contents ℕ) (seen : List (Location ℕ)) (classes : Classes) (t : Trial)
-        → follow tree seen (rest classes (Ask attribute node) t) ≡ (reached classes result t, seen) }
-    ensures less { (t : Trial) → left result t ≤ weight (Ask attribute node) t }
-    ensures typed { (meant : Meant) (at : ClassAt ℕ) (t : Trial) → IsHierarchy meant.classes → IsTypedNow meant at (Ask attribute node) t
-        → IsTypedStep meant at result t }
+        → follow tree seen (rest classes (Ask attribute node arguments) t) ≡ (reached classes result t, seen) }
+    ensures less { (t : Trial) → left result t ≤ weight (Ask attribute node arguments) t }
+    ensures typed { (meant : Meant) (at : ClassAt ℕ) (t : Trial) → IsHierarchy meant.classes
+        → IsTypedNow meant at (Ask attribute node arguments) t → IsTypedStep meant at result t }
 {
-    Step::Need(Inst::new(node, attribute, Arguments::none()))
-}
-
-/// The demand of a call, or the fault of one that is asked of null.
-fn asked_with_arguments(call: Box<Asking>) -> Result<Step, AllocError>
-    ensures same { (tree : Contents ℕ) (seen : List (Location ℕ)) (classes : Classes) (t : Trial)
-        → IfOk result (λ step. follow tree seen (rest classes (Call call) t) ≡ (reached classes step t, seen)) }
-    ensures less { (t : Trial) → IfOk result (λ step. left step t ≤ weight (Call call) t) }
-    ensures typed { (meant : Meant) (at : ClassAt ℕ) (t : Trial) → IsHierarchy meant.classes → IsTypedNow meant at (Call call) t
-        → IfOk result (λ step. IsTypedStep meant at step t) }
-{
-    let Asking {
-        attribute,
-        node,
-        done,
-    } = Box::into_inner(call);
-    match node {
-        Some(node) => Ok(Step::Need(Inst::new(node, attribute, Arguments::of(done)?))),
-        None => Ok(Step::Fault(FaultKind::Null)),
-    }
+    Step::Need(Inst::new(node, attribute, arguments))
 }
 
 /// The argument at a position.

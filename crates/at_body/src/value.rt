@@ -1,15 +1,14 @@
 //! Values and faults.
 
-ghost use Rattle.std.specs.Prelude.{◌≡◌, ◌++◌, ◌≤◌, ℕ, nat_eq, pos, not, length, string_bytes, IfOk, OnOk};
+ghost use Rattle.std.specs.Prelude.{◌≡◌, ◌≤◌, nat_eq, pos, not, string_bytes, IfOk};
 ghost use Rattle.std.specs.Int.{w32, int_wrapping_neg};
 ghost use Rattle.at_model.specs.Run.{Int};
 ghost use Rattle.at_model.specs.Bodies.{int_of, truth_of, text_of, ref_of, value_of, value_eq};
-ghost use Rattle.at_tree.specs.Token.{token_view};
+ghost use Rattle.at_store.specs.Tokens.{lent_view};
 ghost use Rattle.at_body.specs.Values.{value_view};
 ghost use Rattle.at_body.specs.ValueKinds.{AreAlike, IsInt, IsRef, IsText, IsTruth};
 
-use at_store::Node;
-use at_tree::token::TokVal;
+use at_store::{Node, Token};
 use std::alloc::AllocError;
 use std::hash::{Hash, Hasher};
 
@@ -167,13 +166,13 @@ impl Value {
     }
 
     /// The value of a token. An error where memory is wanting.
-    pub fn of_token(token: &TokVal) -> Result<Value, AllocError>
-        ensures { IfOk result (λ v. value_view v ≡ value_of (token_view token.now)) }
+    pub fn of_token(token: Token<'_>) -> Result<Value, AllocError>
+        ensures { IfOk result (λ v. value_view v ≡ value_of (lent_view token.entry)) }
     {
         match token {
-            TokVal::Str(text) => Ok(Value::Text(text.clone()?)),
-            TokVal::Int(n) => Ok(Value::Int(*n)),
-            TokVal::Bool(b) => Ok(Value::Bool(*b)),
+            Token::Str(text) => Ok(Value::Text(text.clone()?)),
+            Token::Int(n) => Ok(Value::Int(n)),
+            Token::Bool(b) => Ok(Value::Bool(b)),
         }
     }
 

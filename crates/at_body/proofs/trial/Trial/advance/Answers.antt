@@ -3,7 +3,6 @@ use Rattle.std.proofs.Common.{◌∙◌, arith}
 use Rattle.at_body.specs.Typed.{class_shown}
 use Rattle.at_body.specs.Values.{value_view}
 use Rattle.at_model.proofs.Chained.{chained}
-use Rattle.at_body.proofs.Steps.{behind_same, behind_less}
 use Rattle.at_body.proofs.TypedUses.{taken}
 use Rattle.at_body.proofs.trial.Trial.advance.Goals as goal
 
@@ -24,12 +23,3 @@ back-requires-clause-typed c = let h = rw c.in-Back.is at c.loop-now.invariant.t
 
 pub returns-in-Ask-clause-typed : goal.returns-in-Ask-clause-typed
 returns-in-Ask-clause-typed c = let h = rw c.in-Ask.is at c.loop-now.invariant.typed in c.asked.ensures.typed c.args.rules.now (class_shown c.args.store.now) c.loop-now.self c.requires.over.hierarchy h
-
-pub returns-in-Call-clause-found : goal.returns-in-Call-clause-found
-returns-in-Call-clause-found c = behind_same c.asked_with_arguments.result c.args.rules.now.classes c.loop-now.self _ _ c.loop-now.self.reads (rw c.in-Call.is at c.loop-now.invariant.same) (c.asked_with_arguments.ensures.same (contents c.args.store.now) c.loop-now.self.reads c.args.rules.now.classes c.loop-now.self)
-
-pub returns-in-Call-clause-less : goal.returns-in-Call-clause-less
-returns-in-Call-clause-less c = let h = rw c.in-Call.is at c.loop-now.invariant.less in behind_less c.asked_with_arguments.result c.loop-now.self _ _ h (c.asked_with_arguments.ensures.less c.loop-now.self)
-
-pub returns-in-Call-clause-typed : goal.returns-in-Call-clause-typed
-returns-in-Call-clause-typed c = let h = rw c.in-Call.is at c.loop-now.invariant.typed in c.asked_with_arguments.ensures.typed c.args.rules.now (class_shown c.args.store.now) c.loop-now.self c.requires.over.hierarchy h

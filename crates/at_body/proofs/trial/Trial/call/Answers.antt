@@ -15,8 +15,8 @@ use Rattle.at_body.proofs.trial.Trial.call.Goals as goal
 pub returns-in-Some-clause-same : goal.returns-in-Some-clause-same
 returns-in-Some-clause-same c = λ classes.
     let near = subst (IsReceiver (contents c.args.store.now) (body_view c.args.receiver.now) c.args.self.now c.receiver.new.self) c.in-Some.is c.in_ok-near.ensures in
-    receiver_seen classes (contents c.args.store.now) c.first_argument.result c.args.self.now c.receiver.new.self c.first_argument.new.self (body_view c.args.receiver.now) c.in-Some.node c.args.attribute c.args.arguments near
-    (c.first_argument.ensures.same classes) c.first_argument.ensures.reads
+    receiver_seen classes (contents c.args.store.now) c.call_at.result c.args.self.now c.receiver.new.self c.call_at.new.self (body_view c.args.receiver.now) c.in-Some.node c.args.attribute c.args.arguments near
+    (c.call_at.ensures.same classes) c.call_at.ensures.reads
 
 pub returns-in-None-clause-same : goal.returns-in-None-clause-same
 returns-in-None-clause-same c = λ classes.
@@ -27,7 +27,7 @@ returns-in-None-clause-same c = λ classes.
 pub returns-in-Some-clause-less : goal.returns-in-Some-clause-less
 returns-in-Some-clause-less c =
     let near = subst (IsReceiver (contents c.args.store.now) (body_view c.args.receiver.now) c.args.self.now c.receiver.new.self) c.in-Some.is c.in_ok-near.ensures in
-    let less = subst (λ (t : Trial). IfOk c.first_argument.result (λ now. weight now c.first_argument.new.self < sizes (bodies_view c.args.arguments.now) + 2 + load t.todo)) near.1 c.first_argument.ensures.less in
+    let less = subst (λ (t : Trial). IfOk c.call_at.result (λ now. weight now c.call_at.new.self < sizes (bodies_view c.args.arguments.now) + 2 + load t.todo)) near.1 c.call_at.ensures.less in
     below_more _ _ (load c.args.self.now.todo) (sizes (bodies_view c.args.arguments.now) + 2) (size (body_view c.args.receiver.now) + sizes (bodies_view c.args.arguments.now) + 3) less (omega arith)
 
 pub returns-in-None-clause-less : goal.returns-in-None-clause-less
@@ -39,7 +39,7 @@ returns-in-None-clause-less c =
 pub returns-in-Some-clause-typed : goal.returns-in-Some-clause-typed
 returns-in-Some-clause-typed c = λ r a o h.
     let near = subst (IsReceiver (contents c.args.store.now) (body_view c.args.receiver.now) c.args.self.now c.receiver.new.self) c.in-Some.is c.in_ok-near.ensures in
-    c.first_argument.ensures.typed r a (receiver_called r a (contents c.args.store.now) o c.args.self.now c.receiver.new.self c.args.receiver.now c.in-Some.node c.args.attribute c.args.arguments near h)
+    c.call_at.ensures.typed r a (contents c.args.store.now) o (receiver_called r a (contents c.args.store.now) o c.args.self.now c.receiver.new.self c.args.receiver.now c.in-Some.node c.args.attribute c.args.arguments near h)
 
 pub returns-in-None-clause-typed : goal.returns-in-None-clause-typed
 returns-in-None-clause-typed c = λ r a o h.
